@@ -1,0 +1,5 @@
+pub mod Links
+pub mod Joined
+pub mod Paths
+pub mod Faults
+pub mod Tests

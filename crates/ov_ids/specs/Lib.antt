@@ -1,0 +1,4 @@
+pub mod Members
+pub mod Sets
+pub mod Limits
+pub mod Steps
