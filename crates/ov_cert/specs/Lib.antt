@@ -1,3 +1,6 @@
 pub mod Number
 pub mod Valid
 pub mod Verdict
+pub mod Held
+pub mod Marks
+pub mod Tests

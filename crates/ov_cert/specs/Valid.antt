@@ -1,9 +1,10 @@
 -- When a certificate is valid for a graph: by Even's test its number is then the fewest (Even, SIAM J. Comput. 4, 1975).
-use Rattle.std.specs.Prelude.{◌≡◌, ◌↔◌, ◌⊎◌, ℕ, zero, suc, ◌+◌, ◌<◌, List, [], ◌∷◌, length, map, take, drop}
+use Rattle.std.specs.Prelude.{◌≡◌, ◌↔◌, ◌⊎◌, ℕ, zero, suc, ◌+◌, ◌<◌, List, [], ◌∷◌, length, map, drop}
 use Rattle.ov_ids.specs.Members.{Has, Ordered, Ascends}
 use Rattle.ov_graph.specs.Links.{LinkGraph, Linked, IsComplete}
 use Rattle.ov_graph.specs.Joined.{Stays, IsNodeSet, Splits}
 use Rattle.ov_graph.specs.Paths.{ArePaths, IsFan, nodes_below}
+use Rattle.ov_graph.specs.Even.{IsUnlinkedPair}
 use Rattle.ov_cert.specs.declared.cert.Cert.{Cert}
 use Rattle.ov_cert.specs.declared.cert.Cert.TheVariants.{Linked as AllLinked, Split as SplitBy}
 use Rattle.ov_cert.specs.declared.cert.Split.{Split}
@@ -29,10 +30,6 @@ pub record IsCutOff (g : LinkGraph) (c : Split) : Type 0 where
 -- by the second node, and then by the first
 abbrev pub PairPrecedes : ℕ × ℕ → ℕ × ℕ → Type 0
 PairPrecedes p q = (p.1 < q.1) ⊎ ((p.1 ≡ q.1) × (p.0 < q.0))
-
--- both are among the first k nodes, the lesser named first, and they are not linked
-abbrev pub IsUnlinkedPair : LinkGraph → ℕ → ℕ × ℕ → Type 0
-IsUnlinkedPair g k p = Has (take k g.nodes) p.0 × Has (take k g.nodes) p.1 × (p.0 < p.1) × ¬ Linked g p.0 p.1
 
 -- the unlinked pairs among the first k nodes, each once, in order
 pub record AreUnlinkedPairs (g : LinkGraph) (k : ℕ) (pairs : List (ℕ × ℕ)) : Type 0 where

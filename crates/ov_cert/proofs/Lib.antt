@@ -1,0 +1,9 @@
+pub mod Marking
+pub mod Ends
+pub mod Turns
+pub mod Frame
+pub mod Expected
+pub mod Fresh
+pub mod PathTests
+pub mod Looping
+pub mod Exact

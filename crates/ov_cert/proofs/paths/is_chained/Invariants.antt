@@ -1,0 +1,10 @@
+-- what is left decides
+use Rattle.std.proofs.Common.{◌≡◌, ◌∷◌, length}
+use Rattle.ov_cert.specs.Tests.{chained}
+use Rattle.ov_cert.proofs.paths.is_chained.Given as goal
+
+abbrev pub invariant-loop-next : goal.invariant-loop-next
+invariant-loop-next l = chained l.graph (l.at ∷ l.rest) ≡ chained l.graph l.path
+
+abbrev pub decreases-loop-next : goal.decreases-loop-next
+decreases-loop-next l = length l.rest

@@ -1,0 +1,10 @@
+-- what is left decides
+use Rattle.std.proofs.Common.{◌≡◌, not, drop}
+use Rattle.std.specs.List.{list_all}
+use Rattle.ov_ids.specs.Sets.{has}
+use Rattle.ov_graph.specs.Tests.{are_joined}
+use Rattle.ov_cert.specs.Tests.{stays_within}
+use Rattle.ov_cert.proofs.side.are_outside.Given as goal
+
+abbrev pub invariant-loop-id : goal.invariant-loop-id
+invariant-loop-id l = list_all (λ a. not (has l.set.members a)) (drop l.id-index l.ids) ≡ list_all (λ a. not (has l.set.members a)) l.ids

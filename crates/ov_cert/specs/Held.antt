@@ -1,0 +1,7 @@
+-- A graph with its certificate.
+use Rattle.ov_graph.specs.Links.{LinkGraph}
+use Rattle.ov_cert.specs.declared.cert.Cert.{Cert}
+
+pub record Certified : Type 0 where
+  pub graph : LinkGraph
+  pub cert : Cert

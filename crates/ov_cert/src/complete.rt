@@ -1,0 +1,33 @@
+ghost use Rattle.std.specs.Prelude.{◌≡◌};
+ghost use Rattle.std.specs.List.{list_all};
+ghost use Rattle.ov_graph.specs.Tests.{are_joined};
+ghost use Rattle.ov_cert.specs.Tests.{all_linked};
+
+use crate::paths::are_linked;
+use ov_graph::Graph;
+use ov_ids::NodeId;
+
+/// Whether every two nodes are linked.
+pub(crate) fn is_complete(graph: &Graph) -> bool
+    ensures { result ≡ all_linked graph.now graph.now.nodes }
+{
+    let mut left = graph.nodes();
+    while let Some((first, rest)) = left.split_first() {
+        if !is_linked_to_all(graph, *first, rest) {
+            return false;
+        }
+        left = rest;
+    }
+    true
+}
+
+fn is_linked_to_all(graph: &Graph, id: NodeId, others: &[NodeId]) -> bool
+    ensures { result ≡ list_all (λ b. are_joined graph.now.links id b) others.now }
+{
+    for other in others {
+        if !are_linked(graph, id, *other) {
+            return false;
+        }
+    }
+    true
+}

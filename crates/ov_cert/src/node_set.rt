@@ -1,0 +1,113 @@
+ghost use Rattle.std.specs.Prelude.{◌≡◌, ◌&&◌, not, [], length, IfSome, IfNone, false, true, if◌then◌else◌};
+ghost use Rattle.std.specs.List.{list_all};
+ghost use Rattle.ov_ids.specs.Sets.{has, adding};
+ghost use Rattle.ov_graph.specs.Links.{LinkGraph};
+ghost use Rattle.ov_cert.specs.Marks.{NodesOf};
+ghost use Rattle.ov_cert.specs.Tests.{fresh, entered, is_node_set};
+
+use ov_graph::Graph;
+use ov_ids::{NodeId, is_ascending};
+use std::marker::Model;
+
+/// A set of nodes of a graph, which takes no memory: a mark for each place. Contracts see the graph, and the members
+/// ascending.
+#[derive(Drop)]
+pub(crate) struct NodeSet<'g> {
+    graph: &'g Graph,
+    marks: [bool; Graph::MOST_NODES],
+}
+
+impl<'g> Model for NodeSet<'g> {
+    ghost use Rattle.std.specs.Prelude.{◌≡◌, length};
+    ghost use Rattle.ov_cert.specs.Marks.{NodesOf, marked};
+
+    ghost Value = { NodesOf };
+
+    ghost view = { λ s. record { graph = s.graph.now; members = marked s.graph.now.nodes s.marks } };
+
+    ghost invariant = { λ s. length s.marks ≡ 256 };
+}
+
+impl<'g> NodeSet<'g> {
+    /// The empty set.
+    pub(crate) fn new(graph: &'g Graph) -> NodeSet<'g>
+        ensures { result ≡ record { graph = graph.now; members = [] } }
+    {
+        NodeSet {
+            graph,
+            marks: no_marks(),
+        }
+    }
+
+    /// Whether the id is a member.
+    pub(crate) fn has(&self, id: NodeId) -> bool
+        ensures { result ≡ has self.now.members id }
+    {
+        let graph = self.graph;
+        match graph.place(id) {
+            Some(place) => self.marks[place],
+            None => false,
+        }
+    }
+
+    /// Takes a node in. Answers false, and changes nothing, where the id is no node or is a member.
+    pub(crate) fn enter(&mut self, id: NodeId) -> bool
+        ensures fresh { result ≡ has self.old.graph.nodes id && not (has self.old.members id) }
+        ensures entered { self.new ≡ (if result then record self.old { members = adding id self.old.members } else self.old) }
+    {
+        let graph = self.graph;
+        let Some(place) = graph.place(id) else {
+            return false;
+        };
+        if self.marks[place] {
+            return false;
+        }
+        self.marks[place] = true;
+        true
+    }
+
+    /// Takes all of these in, unless one is no node or is a member by then.
+    pub(crate) fn enter_all(&mut self, ids: &[NodeId]) -> bool
+        ensures graph { self.new.graph ≡ self.old.graph }
+        ensures fresh { result ≡ fresh self.old.graph self.old.members ids.now }
+        ensures entered { result ≡ true → self.new.members ≡ entered self.old.members ids.now }
+    {
+        for id in ids {
+            if !self.enter(*id) {
+                return false;
+            }
+        }
+        true
+    }
+}
+
+fn no_marks() -> [bool; Graph::MOST_NODES]
+    ensures none { list_all (λ mark. not mark) result ≡ true }
+    ensures wide { length result ≡ 256 }
+{
+    [false; Graph::MOST_NODES]
+}
+
+/// The set of these ids, where they are nodes in ascending order.
+pub(crate) fn node_set<'g>(graph: &'g Graph, ids: &[NodeId]) -> Option<NodeSet<'g>>
+    ensures some { IfSome result (λ s. s ≡ record { graph = graph.now; members = ids.now }) }
+    ensures set { IfSome result (λ s. is_node_set graph.now ids.now ≡ true) }
+    ensures none { IfNone result (is_node_set graph.now ids.now ≡ false) }
+{
+    if !is_ascending(ids) {
+        return None;
+    }
+    let mut set = NodeSet::new(graph);
+    if set.enter_all(ids) {
+        Some(set)
+    } else {
+        None
+    }
+}
+
+/// Whether the id is a node.
+pub(crate) fn is_node(graph: &Graph, id: NodeId) -> bool
+    ensures { result ≡ has graph.now.nodes id }
+{
+    graph.place(id).is_some()
+}

@@ -1,0 +1,147 @@
+ghost use Rattle.std.specs.Prelude.{◌≡◌, ◌≢◌, ◌≤◌, [], ◌∷◌, ◌++◌, length, nat_lt, true, MatchOption};
+ghost use Rattle.ov_ids.specs.Members.{Has};
+ghost use Rattle.ov_ids.specs.Sets.{adding};
+ghost use Rattle.ov_graph.specs.Tests.{are_joined};
+ghost use Rattle.ov_cert.specs.Tests.{chained, is_pair_path, are_pair_paths, is_fan_path, are_fan_paths, entered, inner, steps};
+
+use crate::node_set::NodeSet;
+use ov_graph::Graph;
+use ov_ids::{NodeId, Seq};
+
+/// Whether two nodes are linked, by the test that definitions compute.
+pub(crate) fn are_linked(graph: &Graph, a: NodeId, b: NodeId) -> bool
+    ensures { result ≡ are_joined graph.now.links a b }
+{
+    graph.linked(a, b)
+}
+
+/// Whether each node of a path is linked to the next.
+fn is_chained(graph: &Graph, path: &[NodeId]) -> bool
+    ensures { result ≡ chained graph.now path.now }
+{
+    let Some((first, mut rest)) = path.split_first() else {
+        return true;
+    };
+    let mut at = *first;
+    while let Some((next, more)) = rest.split_first() {
+        if !are_linked(graph, at, *next) {
+            return false;
+        }
+        at = *next;
+        rest = more;
+    }
+    true
+}
+
+/// The ends of a path, all nodes after the first, and those between the ends.
+#[derive(Drop)]
+struct Ends<'p> {
+    first: NodeId,
+    rest: &'p [NodeId],
+    inside: &'p [NodeId],
+    last: NodeId,
+}
+
+/// The ends of a path, if it has two nodes at least.
+fn ends_of(path: &[NodeId]) -> Option<Ends<'_>>
+    ensures { MatchOption result (length path.now ≤ 1) (λ e. (path.now ≡ e.first ∷ e.rest.now) × (e.rest.now ≡ e.inside.now ++ e.last ∷ [])) }
+{
+    let (first, rest) = path.split_first()?;
+    let (last, inside) = rest.split_last()?;
+    Some(Ends {
+        first: *first,
+        rest,
+        inside,
+        last: *last,
+    })
+}
+
+/// Whether the path goes from `i` to `j` over nodes that are not used, which then are.
+fn takes_pair_path(
+    graph: &Graph,
+    used: &mut NodeSet<'_>,
+    i: NodeId,
+    j: NodeId,
+    path: &[NodeId],
+) -> bool
+    requires { used.old.graph ≡ graph.now }
+    ensures graph { used.new.graph ≡ graph.now }
+    ensures path { result ≡ is_pair_path graph.now used.old.members i j path.now }
+    ensures used { result ≡ true → used.new.members ≡ entered used.old.members (inner path.now) }
+{
+    let Some(ends) = ends_of(path) else {
+        return false;
+    };
+    if ends.first != i {
+        return false;
+    }
+    if ends.last != j {
+        return false;
+    }
+    if !is_chained(graph, path) {
+        return false;
+    }
+    used.enter_all(ends.inside)
+}
+
+/// Whether the paths go from `i` to `j` and share only these.
+pub(crate) fn are_paths(graph: &Graph, i: NodeId, j: NodeId, paths: &[Seq<NodeId>]) -> bool
+    requires i { Has graph.now.nodes i }
+    requires j { Has graph.now.nodes j }
+    requires differ { i ≢ j }
+    ensures { result ≡ are_pair_paths graph.now (adding j (i ∷ [])) i j paths.now }
+{
+    let mut used = NodeSet::new(graph);
+    used.enter(i);
+    used.enter(j);
+    for path in paths {
+        if !takes_pair_path(graph, &mut used, i, j, path.as_slice()) {
+            return false;
+        }
+    }
+    true
+}
+
+/// Whether one node comes before another.
+fn is_below(a: NodeId, b: NodeId) -> bool
+    ensures { result ≡ nat_lt a b }
+{
+    a < b
+}
+
+/// Whether the path goes from `j` to a lower node over nodes that are not used, which then are.
+fn takes_fan_path(graph: &Graph, used: &mut NodeSet<'_>, j: NodeId, path: &[NodeId]) -> bool
+    requires { used.old.graph ≡ graph.now }
+    ensures graph { used.new.graph ≡ graph.now }
+    ensures path { result ≡ is_fan_path graph.now used.old.members j path.now }
+    ensures used { result ≡ true → used.new.members ≡ entered used.old.members (steps path.now) }
+{
+    let Some(ends) = ends_of(path) else {
+        return false;
+    };
+    if ends.first != j {
+        return false;
+    }
+    if !is_below(ends.last, j) {
+        return false;
+    }
+    if !is_chained(graph, path) {
+        return false;
+    }
+    used.enter_all(ends.rest)
+}
+
+/// Whether the paths go from `j` to lower nodes and share only `j`.
+pub(crate) fn is_fan(graph: &Graph, j: NodeId, paths: &[Seq<NodeId>]) -> bool
+    requires { Has graph.now.nodes j }
+    ensures { result ≡ are_fan_paths graph.now (j ∷ []) j paths.now }
+{
+    let mut used = NodeSet::new(graph);
+    used.enter(j);
+    for path in paths {
+        if !takes_fan_path(graph, &mut used, j, path.as_slice()) {
+            return false;
+        }
+    }
+    true
+}

@@ -1,0 +1,5 @@
+pub mod Tested
+pub mod Filtered
+pub mod Walks
+pub mod Escape
+pub mod Sufficing

@@ -1,0 +1,58 @@
+ghost use Rattle.std.specs.Prelude.{◌≡◌, ◌↔◌, IsTrue, None};
+ghost use Rattle.ov_graph.specs.Tests.{fault_of, links_fault, is_link, follows, are_joined};
+
+use crate::fault::GraphFault;
+use crate::graph::Graph;
+use ov_ids::{NodeId, is_ascending};
+
+/// Whether the links have one of these two, named one way round or the other.
+pub(crate) fn are_linked(links: &[(NodeId, NodeId)], a: NodeId, b: NodeId) -> bool
+    ensures { result ≡ are_joined links.now a b }
+{
+    links.contains(&(a, b)) || links.contains(&(b, a))
+}
+
+/// The first fault of nodes and links.
+pub(crate) fn first_fault(nodes: &[NodeId], links: &[(NodeId, NodeId)]) -> Option<GraphFault>
+    ensures { result ≡ fault_of nodes.now links.now }
+{
+    if nodes.len() > Graph::MOST_NODES {
+        return Some(GraphFault::TooManyNodes);
+    }
+    if !is_ascending(nodes) {
+        return Some(GraphFault::Unordered);
+    }
+    first_link_fault(nodes, links)
+}
+
+fn first_link_fault(nodes: &[NodeId], links: &[(NodeId, NodeId)]) -> Option<GraphFault>
+    ensures { result ≡ links_fault nodes.now None links.now }
+{
+    let mut before = None;
+    for link in links {
+        if !joins(nodes, *link) {
+            return Some(GraphFault::BadLink);
+        }
+        if !is_above(before, *link) {
+            return Some(GraphFault::Unordered);
+        }
+        before = Some(*link);
+    }
+    None
+}
+
+fn joins(nodes: &[NodeId], link: (NodeId, NodeId)) -> bool
+    ensures { result ≡ is_link nodes.now link }
+{
+    let (a, b) = link;
+    a < b && nodes.contains(&a) && nodes.contains(&b)
+}
+
+fn is_above(before: Option<(NodeId, NodeId)>, link: (NodeId, NodeId)) -> bool
+    ensures { result ≡ follows before link }
+{
+    match before {
+        Some((a, b)) => a < link.0 || a == link.0 && b < link.1,
+        None => true,
+    }
+}

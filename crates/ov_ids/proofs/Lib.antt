@@ -1,0 +1,4 @@
+pub mod Members
+pub mod Sets
+pub mod Rising
+pub mod Cases

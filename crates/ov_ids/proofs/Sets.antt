@@ -1,0 +1,174 @@
+-- What is in a set after a change, and where.
+use Rattle.std.proofs.Common.{subst, ap, zero, ◌≡◌, ◌≢◌, ℕ, suc, ◌<◌, ◌≤◌, ◌+◌, Bool, true, false, cond, not, IsTrue, ◌||◌, eqb, ltb, List, [], ◌∷◌, length, get_or, refl, ap, inl, inr, sym, ◌∙◌, arith, ◌⊎◌}
+use Rattle.std.specs.Prelude.{insert, remove}
+use Rattle.std.specs.List.{AllByRecursion}
+use Rattle.std.proofs.lemmas.Bool.{or_right, ltb-true, ltb-false, lt-ltb, le-ltb, eq-eqb, ne_eqb, eqb-false, eqb-true, or_parts, cases_order, both_ways}
+use Rattle.ov_ids.specs.Sets.{IsSet, has, IsIn, adding, without, count_below}
+
+All-map : (P Q : ℕ → Type 0) → ((y : ℕ) → P y → Q y) → (t : List ℕ) → AllByRecursion P t → AllByRecursion Q t
+All-map P Q f [] a = tt
+All-map P Q f (y ∷ t) a = (f y a.0, All-map P Q f t a.1)
+
+All-adding : (P : ℕ → Type 0) (x : ℕ) (t : List ℕ) → P x → AllByRecursion P t → AllByRecursion P (adding x t)
+All-adding P x [] p a = (p, tt)
+All-adding P x (y ∷ t) p a =
+    elim (ltb x y) as (λ b. AllByRecursion P (cond b (x ∷ y ∷ t) (y ∷ cond (ltb y x) (adding x t) t))) [
+      | true ↦ (p, a)
+      | false ↦ (a.0, elim (ltb y x) as (λ b. AllByRecursion P (cond b (adding x t) t)) [ true ↦ All-adding P x t p a.1 | false ↦ a.1 ])
+    ]
+
+IsSet-adding_cases : (x y : ℕ) (t : List ℕ) (a b : Bool) → ltb x y ≡ a → ltb y x ≡ b → IsSet (y ∷ t) → IsSet (adding x t) → IsSet (cond a (x ∷ y ∷ t) (y ∷ cond b (adding x t) t))
+IsSet-adding_cases x y t true b p q s u =
+    let h : x < y = ltb-true x y p in
+    ((h, All-map (λ z. y < z) (λ z. x < z) (λ z r. omega arith) t s.0), s)
+IsSet-adding_cases x y t false true p q s u = (All-adding (λ z. y < z) x t (ltb-true y x q) s.0, u)
+IsSet-adding_cases x y t false false p q s u = s
+
+pub IsSet-adding : (x : ℕ) (t : List ℕ) → IsSet t → IsSet (adding x t)
+IsSet-adding x [] s = (tt, tt)
+IsSet-adding x (y ∷ t) s = IsSet-adding_cases x y t (ltb x y) (ltb y x) refl refl s (IsSet-adding x t s.1)
+
+All-without : (P : ℕ → Type 0) (x : ℕ) (t : List ℕ) → AllByRecursion P t → AllByRecursion P (without x t)
+All-without P x [] a = tt
+All-without P x (y ∷ t) a =
+    elim (eqb y x) as (λ b. AllByRecursion P (cond (not b) (y ∷ without x t) (without x t))) [ true ↦ All-without P x t a.1 | false ↦ (a.0, All-without P x t a.1) ]
+
+pub IsSet-without : (x : ℕ) (t : List ℕ) → IsSet t → IsSet (without x t)
+IsSet-without x [] s = tt
+IsSet-without x (y ∷ t) s =
+    elim (eqb y x) as (λ b. IsSet (cond (not b) (y ∷ without x t) (without x t))) [ true ↦ IsSet-without x t s.1 | false ↦ (All-without (λ z. y < z) x t s.0, IsSet-without x t s.1) ]
+
+-- the first member is below x, or it is not
+count_below_cases : (x y : ℕ) (t : List ℕ) (P : ℕ → Type 0) → (y < x → P (suc (count_below x t))) → (x ≤ y → P 0) → P (count_below x (y ∷ t))
+count_below_cases x y t P below above =
+    elim (ltb y x) as (λ b. ltb y x ≡ b → P (cond b (suc (count_below x t)) 0)) [
+      | true ↦ λ e. below (ltb-true y x e)
+      | false ↦ λ e. above (ltb-false y x e)
+    ] refl
+
+pub count_below-le-length : (x : ℕ) (t : List ℕ) → count_below x t ≤ length t
+count_below-le-length x [] = omega arith
+count_below-le-length x (y ∷ t) = count_below_cases x y t (λ i. i ≤ suc (length t)) (λ _. omega (arith, count_below-le-length x t)) (λ _. omega arith)
+
+pub has_past_end : (x : ℕ) (t : List ℕ) → length t ≤ count_below x t → has t x ≡ false
+has_past_end x [] p = refl
+has_past_end x (y ∷ t) p =
+    count_below_cases x y t (λ i. suc (length t) ≤ i → has (y ∷ t) x ≡ false)
+    (λ below q. rw (ne_eqb y x (omega arith)) (has_past_end x t (omega arith))) (λ above q. absurd (omega arith)) p
+
+pub has_below_all : (x : ℕ) (t : List ℕ) → AllByRecursion (λ z. x < z) t → has t x ≡ false
+has_below_all x [] a = refl
+has_below_all x (y ∷ t) a = let p : x < y = a.0 in rw (ne_eqb y x (omega arith), has_below_all x t a.1)
+
+has_at_first : (x y : ℕ) (t : List ℕ) → IsSet (y ∷ t) → x ≤ y → eqb y x ≡ has (y ∷ t) x
+has_at_first x y t s p =
+    elim (cases_order x y) [
+      | inl e ↦ rw (eq-eqb y x (omega arith))
+      | inr q ↦ rw (ne_eqb y x (omega arith)) (sym (has_below_all x t (All-map (λ z. y < z) (λ z. x < z) (λ z r. omega arith) t s.0)))
+    ]
+
+pub has_at : (x : ℕ) (t : List ℕ) (d : ℕ) → IsSet t → count_below x t < length t → eqb (get_or t (count_below x t) d) x ≡ has t x
+has_at x [] d s p = absurd (omega arith)
+has_at x (y ∷ t) d s p =
+    count_below_cases x y t (λ i. i < suc (length t) → eqb (get_or (y ∷ t) i d) x ≡ has (y ∷ t) x)
+    (λ below q. rw (ne_eqb y x (omega arith)) (has_at x t d s.1 (omega arith))) (λ above q. has_at_first x y t s above) p
+
+pub adding_present : (x : ℕ) (t : List ℕ) → IsSet t → has t x ≡ true → adding x t ≡ t
+adding_present x [] s e = absurd (both_ways false refl e)
+adding_present x (y ∷ t) s e =
+    elim (cases_order x y) [
+      | inl same ↦ rw (le-ltb x y (omega arith), le-ltb y x (omega arith))
+      | inr (inl less) ↦ absurd (both_ways _ (has_below_all x (y ∷ t) (less, All-map (λ z. y < z) (λ z. x < z) (λ z r. omega arith) t s.0)) e)
+      | inr (inr more) ↦ rw (le-ltb x y (omega arith), lt-ltb y x more) (ap (λ z. y ∷ z) (adding_present x t s.1 (rw (ne_eqb y x (omega arith)) at e)))
+    ]
+
+pub adding_absent : (x : ℕ) (t : List ℕ) → has t x ≡ false → adding x t ≡ insert t (count_below x t) x
+adding_absent x [] e = refl
+adding_absent x (y ∷ t) e =
+    let parts = or_parts (eqb y x) (has t x) e in
+    let other = eqb-false y x parts.0 in
+    count_below_cases x y t (λ i. adding x (y ∷ t) ≡ insert (y ∷ t) i x)
+    (λ below. rw (le-ltb x y (omega arith), lt-ltb y x below) (ap (λ z. y ∷ z) (adding_absent x t parts.1))) (λ above. rw (lt-ltb x y (omega arith)))
+
+pub without_absent : (x : ℕ) (t : List ℕ) → has t x ≡ false → without x t ≡ t
+without_absent x [] e = refl
+without_absent x (y ∷ t) e =
+    let parts = or_parts (eqb y x) (has t x) e in
+    rw parts.0 (ap (λ z. y ∷ z) (without_absent x t parts.1))
+
+pub without_present : (x : ℕ) (t : List ℕ) → IsSet t → has t x ≡ true → without x t ≡ remove t (count_below x t)
+without_present x [] s e = absurd (both_ways false refl e)
+without_present x (y ∷ t) s e =
+    elim (cases_order x y) [
+      | inl same ↦ rw (eq-eqb y x (omega arith), le-ltb y x (omega arith)) (without_absent x t (rw same (has_below_all y t s.0)))
+      | inr (inl less) ↦ absurd (both_ways _ (has_below_all x (y ∷ t) (less, All-map (λ z. y < z) (λ z. x < z) (λ z r. omega arith) t s.0)) e)
+      | inr (inr more) ↦ rw (ne_eqb y x (omega arith), lt-ltb y x more) (ap (λ z. y ∷ z) (without_present x t s.1 (rw (ne_eqb y x (omega arith)) at e)))
+    ]
+
+pub length-adding : (x : ℕ) (t : List ℕ) → length (adding x t) ≤ length t + 1
+length-adding x [] = omega arith
+length-adding x (y ∷ t) =
+    elim (ltb x y) as (λ b. length (cond b (x ∷ y ∷ t) (y ∷ cond (ltb y x) (adding x t) t)) ≤ suc (length t) + 1) [
+      | true ↦ omega arith
+      | false ↦ elim (ltb y x) as (λ b. suc (length (cond b (adding x t) t)) ≤ suc (length t) + 1) [ true ↦ omega (arith, length-adding x t) | false ↦ omega arith ]
+    ]
+
+pub length-without : (x : ℕ) (t : List ℕ) → length (without x t) ≤ length t
+length-without x [] = omega arith
+length-without x (y ∷ t) =
+    elim (eqb y x) as (λ b. length (cond (not b) (y ∷ without x t) (without x t)) ≤ suc (length t)) [ true ↦ omega (arith, length-without x t) | false ↦ omega (arith, length-without x t) ]
+
+pub length-without_less : (x : ℕ) (t : List ℕ) → IsIn t x → length (without x t) < length t
+length-without_less x [] h = cc
+length-without_less x (y ∷ t) h =
+    elim (eqb y x) as (λ b. IsTrue (b || has t x) → length (cond (not b) (y ∷ without x t) (without x t)) < suc (length t)) [
+      | true ↦ λ _. omega (arith, length-without x t)
+      | false ↦ λ r. omega (arith, length-without_less x t r)
+    ] h
+
+-- who is in the set with x: x, and who was
+pub IsIn-adding : (x : ℕ) (t : List ℕ) (z : ℕ) → IsIn (adding x t) z → (z ≡ x) ⊎ IsIn t z
+IsIn-adding x [] z h = elim (eqb x z) as (λ b. eqb x z ≡ b → IsTrue (b || false) → (z ≡ x) ⊎ IsTrue false) [ true ↦ λ e _. inl (sym (eqb-true x z e)) | false ↦ λ _ f. cc ] refl h
+IsIn-adding x (y ∷ t) z h =
+    elim (ltb x y) as (λ b. IsIn (cond b (x ∷ y ∷ t) (y ∷ cond (ltb y x) (adding x t) t)) z → (z ≡ x) ⊎ IsIn (y ∷ t) z) [
+      | true ↦ λ k. elim (eqb x z) as (λ b. eqb x z ≡ b → IsTrue (b || has (y ∷ t) z) → (z ≡ x) ⊎ IsIn (y ∷ t) z) [ true ↦ λ e _. inl (sym (eqb-true x z e)) | false ↦ λ _ f. inr f ] refl k
+      | false ↦ λ k. elim (eqb y z) as (λ b. IsTrue (b || has (cond (ltb y x) (adding x t) t) z) → (z ≡ x) ⊎ IsTrue (b || has t z)) [
+        | true ↦ λ _. inr refl
+        | false ↦ λ f. elim (ltb y x) as (λ b. IsTrue (has (cond b (adding x t) t) z) → (z ≡ x) ⊎ IsTrue (has t z)) [ true ↦ λ g. IsIn-adding x t z g | false ↦ λ g. inr g ] f
+      ] k
+    ] h
+
+-- who is in the set without x: who was, but x
+pub IsIn-without : (x : ℕ) (t : List ℕ) (z : ℕ) → IsIn (without x t) z → (z ≢ x) × IsIn t z
+IsIn-without x [] z h = cc
+IsIn-without x (y ∷ t) z h =
+    elim (eqb y x) as (λ b. eqb y x ≡ b → IsIn (cond (not b) (y ∷ without x t) (without x t)) z → (z ≢ x) × IsTrue (eqb y z || has t z)) [
+      | true ↦ λ _ k. let r : (z ≢ x) × IsIn t z = IsIn-without x t z k in (r.0, elim (eqb y z) as (λ b. IsTrue (b || has t z)) [ true ↦ refl | false ↦ r.1 ])
+      | false ↦ λ e k. elim (eqb y z) as (λ b. eqb y z ≡ b → IsTrue (b || has (without x t) z) → (z ≢ x) × IsTrue (b || has t z)) [
+        | true ↦ λ f _. ((let ne : y ≢ x = eqb-false y x e in let yz : y ≡ z = eqb-true y z f in λ zx. ne (yz ∙ zx)), refl)
+        | false ↦ λ _ g. IsIn-without x t z g
+      ] refl k
+    ] refl h
+
+pub count_below-lt-length : (x : ℕ) (t : List ℕ) → has t x ≡ true → count_below x t < length t
+count_below-lt-length x t h =
+    elim (cases_order (count_below x t) (length t)) [
+      | inl e ↦ absurd (both_ways _ (has_past_end x t (omega arith)) h)
+      | inr (inl less) ↦ less
+      | inr (inr more) ↦ absurd (omega (arith, count_below-le-length x t))
+    ]
+
+-- what stands at a place is a member
+pub IsIn-get_or : (t : List ℕ) (i d : ℕ) → i < length t → IsIn t (get_or t i d)
+IsIn-get_or [] i d h = absurd (omega arith)
+IsIn-get_or (y ∷ t) zero d h = rw (eq-eqb y y refl)
+IsIn-get_or (y ∷ t) (suc i) d h = or_right _ _ (IsIn-get_or t i d (omega arith))
+
+-- a set loses one member at most
+pub length-without_set : (x : ℕ) (t : List ℕ) → IsSet t → length t ≤ length (without x t) + 1
+length-without_set x [] s = omega arith
+length-without_set x (y ∷ t) s =
+    elim (eqb y x) as (λ b. eqb y x ≡ b → suc (length t) ≤ length (cond (not b) (y ∷ without x t) (without x t)) + 1) [
+      | true ↦ λ e. let same : without x t ≡ t = without_absent x t (has_below_all x t (subst (λ (z : ℕ). AllByRecursion (λ w. z < w) t) (eqb-true y x e) s.0)) in omega (arith, ap length same)
+      | false ↦ λ _. omega (arith, length-without_set x t s.1)
+    ] refl

@@ -1,0 +1,6 @@
+-- The test of order says what the relation says.
+use Rattle.ov_ids.proofs.Rising.{ascends_tested}
+use Rattle.ov_ids.proofs.order.is_ascending.Goals as goal
+
+pub returns-clause-set : goal.returns-clause-set
+returns-clause-set c = ascends_tested c.args.ids.now c.rises.result c.rises.ensures

@@ -1,0 +1,17 @@
+//! What all crates share: ids of nodes and messages, lists and sets that contracts see as values, the parameters of a
+//! node, and the fault of a refused growth.
+#![tactic(auto)]
+
+mod id;
+mod id_set;
+mod memory;
+mod order;
+mod params;
+mod seq;
+
+pub use id::{MsgId, NodeId};
+pub use id_set::IdSet;
+pub use memory::OutOfMemory;
+pub use order::is_ascending;
+pub use params::{BadParams, Params};
+pub use seq::Seq;

@@ -1,0 +1,28 @@
+ghost use Rattle.std.specs.Prelude.{◌≡◌, ◌↔◌, IsTrue, None};
+ghost use Rattle.ov_ids.specs.Members.{Ascends};
+ghost use Rattle.ov_ids.specs.Sets.{ascends_after};
+
+use crate::NodeId;
+
+/// Whether each id is below all later ones, as in a set written in order.
+pub fn is_ascending(ids: &[NodeId]) -> bool
+    ensures set { IsTrue result ↔ Ascends ids.now }
+    ensures test { result ≡ ascends_after None ids.now }
+{
+    rises(ids)
+}
+
+fn rises(ids: &[NodeId]) -> bool
+    ensures { result ≡ ascends_after None ids.now }
+{
+    let mut before = None;
+    for id in ids {
+        if let Some(last) = before
+            && *id <= last
+        {
+            return false;
+        }
+        before = Some(*id);
+    }
+    true
+}

@@ -1,0 +1,141 @@
+ghost use Rattle.std.specs.Prelude.{◌≡◌, ◌≤◌, IfOk, IsOk, ◌↔◌};
+ghost use Rattle.ov_ids.specs.Limits.{AreWithinLimits, Limits};
+
+use std::marker::Model;
+use thiserror::Error;
+
+/// A parameter is out of its limits.
+#[derive(Clone, Copy, Debug, PartialEq, Eq, Error)]
+#[error("a parameter is out of its limits")]
+pub struct BadParams;
+
+impl BadParams {
+    /// The fault's number.
+    pub fn number(&self) -> u32
+        ensures { result ≡ 21 }
+    {
+        21
+    }
+}
+
+/// The parameters of a node in HyParView, each within its limits. Contracts see them as `Limits`.
+#[derive(Clone, Copy, Debug, PartialEq, Eq)]
+pub struct Params {
+    active: u32,
+    passive: u32,
+    arwl: u32,
+    prwl: u32,
+    ka: u32,
+    kp: u32,
+    shuffle_ttl: u32,
+}
+
+impl Model for Params {
+    ghost use Rattle.ov_ids.specs.Limits.{AreWithinLimits, Limits};
+    ghost use Rattle.ov_ids.specs.declared.params.Params.TheInside.{Inside};
+
+    ghost Value = { Limits };
+
+    ghost view = { λ a. record { active = a.active; passive = a.passive; arwl = a.arwl; prwl = a.prwl; ka = a.ka; kp = a.kp; shuffle_ttl = a.shuffle_ttl } };
+
+    ghost invariant = { λ a. AreWithinLimits (record { active = a.active; passive = a.passive; arwl = a.arwl; prwl = a.prwl; ka = a.ka; kp = a.kp; shuffle_ttl = a.shuffle_ttl }) };
+
+    ghost inverse = { λ p. record { active = p.active; passive = p.passive; arwl = p.arwl; prwl = p.prwl; ka = p.ka; kp = p.kp; shuffle_ttl = p.shuffle_ttl } };
+}
+
+impl Params {
+    /// The parameters, unless one is out of its limits.
+    pub fn new(
+        active: u32,
+        passive: u32,
+        arwl: u32,
+        prwl: u32,
+        ka: u32,
+        kp: u32,
+        shuffle_ttl: u32,
+    ) -> Result<Params, BadParams>
+        ensures within { let p : Limits = record { active = active; passive = passive; arwl = arwl; prwl = prwl; ka = ka; kp = kp; shuffle_ttl = shuffle_ttl }
+            in IsOk result ↔ AreWithinLimits p }
+        ensures kept { let p : Limits = record { active = active; passive = passive; arwl = arwl; prwl = prwl; ka = ka; kp = kp; shuffle_ttl = shuffle_ttl }
+            in IfOk result (λ q. q ≡ p) }
+    {
+        if active < 1
+            || active > 16
+            || passive < 1
+            || passive > 64
+            || arwl > 15
+            || prwl > arwl
+            || ka > 8
+            || kp > 8
+            || shuffle_ttl < 1
+            || shuffle_ttl > 15
+        {
+            return Err(BadParams);
+        }
+        Ok(Params {
+            active,
+            passive,
+            arwl,
+            prwl,
+            ka,
+            kp,
+            shuffle_ttl,
+        })
+    }
+
+    /// How many members the active view may have: 1 to 16.
+    pub fn active(&self) -> usize
+        ensures value { result ≡ self.now.active }
+        ensures limits { AreWithinLimits self.now }
+    {
+        self.active as usize
+    }
+
+    /// How many members the passive view may have: 1 to 64.
+    pub fn passive(&self) -> usize
+        ensures value { result ≡ self.now.passive }
+        ensures limits { AreWithinLimits self.now }
+    {
+        self.passive as usize
+    }
+
+    /// The active random walk length, with which FORWARDJOIN sets out: 0 to 15.
+    pub fn arwl(&self) -> u8
+        ensures value { result ≡ self.now.arwl }
+        ensures limits { AreWithinLimits self.now }
+    {
+        self.arwl as u8
+    }
+
+    /// The passive random walk length, at which FORWARDJOIN's node enters the passive view: 0 to `arwl`.
+    pub fn prwl(&self) -> u8
+        ensures value { result ≡ self.now.prwl }
+        ensures limits { AreWithinLimits self.now }
+    {
+        self.prwl as u8
+    }
+
+    /// How many active members a shuffle samples: 0 to 8.
+    pub fn ka(&self) -> usize
+        ensures value { result ≡ self.now.ka }
+        ensures limits { AreWithinLimits self.now }
+    {
+        self.ka as usize
+    }
+
+    /// How many passive members a shuffle samples: 0 to 8.
+    pub fn kp(&self) -> usize
+        ensures value { result ≡ self.now.kp }
+        ensures limits { AreWithinLimits self.now }
+    {
+        self.kp as usize
+    }
+
+    /// The time to live with which SHUFFLE sets out: 1 to 15.
+    pub fn shuffle_ttl(&self) -> u8
+        ensures value { result ≡ self.now.shuffle_ttl }
+        ensures limits { AreWithinLimits self.now }
+    {
+        self.shuffle_ttl as u8
+    }
+}

@@ -1,0 +1,39 @@
+use std::marker::Model;
+
+/// A list. Contracts see its items in order and nothing else, so that equal lists are equal values: of a `Vec` they would
+/// see its capacity too.
+#[derive(Debug, Drop)]
+pub struct Seq<T>(Vec<T>);
+
+impl<T> Model for Seq<T> {
+    ghost use Rattle.std.specs.Prelude.{List};
+
+    ghost Value = { List T };
+
+    ghost view = { λ a. a.0.items };
+}
+
+impl<T> Seq<T> {
+    ghost use Rattle.std.specs.Prelude.{◌≡◌};
+
+    /// The list of these items. It takes no memory.
+    pub fn new(items: Vec<T>) -> Seq<T>
+        ensures { result ≡ items.items }
+    {
+        Seq(items)
+    }
+
+    /// The items in order.
+    pub fn as_slice(&self) -> &[T]
+        ensures { result.now ≡ self.now }
+    {
+        &self.0
+    }
+
+    /// Gives the items back. It takes no memory.
+    pub fn into_vec(self) -> Vec<T>
+        ensures { result.items ≡ self }
+    {
+        self.0
+    }
+}
