@@ -1,0 +1,3 @@
+pub mod Neighbourhood
+pub mod Changes
+pub mod Shuffle

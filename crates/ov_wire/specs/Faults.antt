@@ -1,0 +1,49 @@
+-- The first field at fault from the left.
+use Rattle.std.specs.Prelude.{◌≡◌, ◌≢◌, ℕ, ◌+◌, ◌*◌, ◌<◌, ◌≤◌, ◌⊎◌, List, [], ◌∷◌, ◌++◌, length, take, slice_index}
+use Rattle.std.specs.Int.{Width, w8, w16, byte_len, from_be_bytes}
+use Rattle.ov_wire.specs.declared.fault.WireFault.{WireFault}
+use Rattle.ov_wire.specs.declared.fault.WireFault.TheVariants.{Short, BadVersion, BadKind, BadField, Trailing, OutOfMemory}
+use Rattle.ov_wire.specs.Fields.{Field, Number, Ids, Payload, Value, Fits, spelled}
+use Rattle.ov_wire.specs.Messages.{fields_of}
+
+-- the fault's number
+abbrev pub number_of : WireFault → ℕ
+number_of Short = 1
+number_of BadVersion = 2
+number_of BadKind = 3
+number_of BadField = 4
+number_of Trailing = 5
+number_of OutOfMemory = 99
+
+-- the number that the bytes begin with
+abbrev pub front : Width → List ℕ → ℕ
+front width bytes = from_be_bytes width (take (byte_len width) bytes)
+
+-- a number at the front isn't wholly there, or it isn't from least to most
+abbrev pub IsNumberAtFault : Width → ℕ → ℕ → WireFault → List ℕ → WireFault → Type 0
+IsNumberAtFault width least most otherwise bytes fault =
+    ((length bytes < byte_len width) × (fault ≡ Short))
+    ⊎ ((byte_len width ≤ length bytes) × ((front width bytes < least) ⊎ (most < front width bytes)) × (fault ≡ otherwise))
+
+-- The field at the front of the bytes is at fault. A count and a length are judged before what they count.
+abbrev pub IsAtFault : Field → List ℕ → WireFault → Type 0
+IsAtFault (Number width least most otherwise) bytes fault = IsNumberAtFault width least most otherwise bytes fault
+IsAtFault Ids bytes fault =
+    IsNumberAtFault w8 0 17 BadField bytes fault
+    ⊎ ((1 ≤ length bytes) × (front w8 bytes ≤ 17) × (length bytes < 1 + 4 * front w8 bytes) × (fault ≡ Short))
+IsAtFault Payload bytes fault =
+    IsNumberAtFault w16 0 1024 BadField bytes fault
+    ⊎ ((2 ≤ length bytes) × (front w16 bytes ≤ 1024) × (length bytes < 2 + front w16 bytes) × (fault ≡ Short))
+
+-- The first fault of bytes that are to spell these fields: the first field is at fault, or it is spelled and the first
+-- fault is one of what follows. After the last field nothing may follow.
+abbrev pub FirstOf : List Field → List ℕ → WireFault → Type 0
+FirstOf [] bytes fault = (bytes ≢ []) × (fault ≡ Trailing)
+FirstOf (field ∷ fields) bytes fault =
+    IsAtFault field bytes fault
+    ⊎ ((value : Value) × (rest : List ℕ) × Fits field value × (bytes ≡ spelled field value ++ rest) × FirstOf fields rest fault)
+
+-- The first fault of bytes that are to be a message, by the fields of the kind that their second byte says. Where they have
+-- no second byte, or it is no kind, the first fault comes before those fields.
+abbrev pub FirstFault : List ℕ → WireFault → Type 0
+FirstFault bytes fault = FirstOf (fields_of (slice_index bytes 1)) bytes fault

@@ -1,0 +1,5 @@
+pub mod Fields
+pub mod Messages
+pub mod Faults
+pub mod Laws
+pub mod Reading
