@@ -1,0 +1,4 @@
+pub mod Keeping
+pub mod Giving
+pub mod Sampling
+pub mod Integrating

@@ -1,0 +1,48 @@
+ghost use Rattle.std.specs.Prelude.{◌≡◌, ◌<◌, ◌≤◌, [], ◌∷◌, ◌++◌, length};
+
+use ov_ids::NodeId;
+use std::marker::Model;
+
+/// The ids of a sample in the order of picking, which take no memory. Contracts see them as a list.
+#[derive(Drop)]
+pub struct Sample {
+    ids: [NodeId; 64],
+    count: usize,
+}
+
+impl Model for Sample {
+    ghost use Rattle.std.specs.Prelude.{◌≤◌, List, ℕ, take};
+
+    ghost Value = { List ℕ };
+
+    ghost view = { λ a. take a.count a.ids };
+
+    ghost invariant = { λ a. a.count ≤ 64 };
+}
+
+impl Sample {
+    pub(crate) fn new() -> Sample
+        ensures { result ≡ [] }
+    {
+        Sample {
+            ids: [NodeId(0); 64],
+            count: 0,
+        }
+    }
+
+    pub(crate) fn push(&mut self, id: NodeId)
+        requires { length self.old < 64 }
+        ensures { self.new ≡ self.old ++ id ∷ [] }
+    {
+        self.ids[self.count] = id;
+        self.count += 1;
+    }
+
+    /// The ids in the order of picking.
+    pub fn as_slice(&self) -> &[NodeId]
+        ensures value { result.now ≡ self.now }
+        ensures fits { length self.now ≤ 64 }
+    {
+        &self.ids[..self.count]
+    }
+}

@@ -1,0 +1,295 @@
+ghost use Rattle.std.specs.Prelude.{◌≡◌, ◌≤◌, ◌<◌, ◌+◌, ℕ, List, [], ◌∷◌, ◌++◌, Some, None, length, min, MatchBool};
+ghost use Rattle.ov_ids.specs.Sets.{IsSet, IsIn, has, without, without_all};
+ghost use Rattle.ov_words.specs.Pick.{Drawn, Choice};
+ghost use Rattle.ov_views.specs.Neighbourhood.{Neighbourhood, AreViews, has_place, is_close, is_known, members};
+ghost use Rattle.ov_views.specs.Changes.{AddsPassive, DropsRandom, AddsActive, RemovesActive, Forgets, in_order};
+ghost use Rattle.ov_views.specs.Shuffle.{Samples, GivesUp, TakesIn, Integrates};
+
+use crate::{Changes, Sample};
+use ov_ids::{IdSet, NodeId, Params};
+use ov_words::Draws;
+use std::marker::Model;
+
+/// Which of a node's two views.
+#[derive(Clone, Copy, Debug, PartialEq, Eq)]
+pub enum View {
+    /// Those that the node talks with.
+    Active,
+    /// Those that it knows as their substitutes.
+    Passive,
+}
+
+/// A node's active and passive view, each within its size, without the node itself, and with nobody in both. Contracts see
+/// them as a `Neighbourhood`.
+#[derive(Drop)]
+pub struct Views {
+    me: NodeId,
+    params: Params,
+    active: IdSet,
+    passive: IdSet,
+}
+
+impl Model for Views {
+    ghost use Rattle.ov_views.specs.Neighbourhood.{Neighbourhood, AreViews};
+
+    ghost Value = { Neighbourhood };
+
+    ghost view = { λ a. record { me = a.me; params = a.params; active = a.active; passive = a.passive } };
+
+    ghost invariant = { λ a. AreViews (record { me = a.me; params = a.params; active = a.active; passive = a.passive }) };
+}
+
+impl Views {
+    /// The views of a node that knows nobody yet.
+    pub fn new(me: NodeId, params: Params) -> Views
+        ensures { result ≡ record { me = me; params = params; active = []; passive = [] } }
+    {
+        Views {
+            me,
+            params,
+            active: IdSet::new(),
+            passive: IdSet::new(),
+        }
+    }
+
+    /// Equal views.
+    pub fn copy(&self) -> Views
+        ensures { result ≡ self.now }
+    {
+        Views {
+            me: self.me,
+            params: self.params,
+            active: self.active.copy(),
+            passive: self.passive.copy(),
+        }
+    }
+
+    /// The node whose views these are.
+    pub fn me(&self) -> NodeId
+        ensures value { result ≡ self.now.me }
+        ensures views { AreViews self.now }
+    {
+        self.me
+    }
+
+    /// The node's parameters, which give the sizes of the views.
+    pub fn params(&self) -> Params
+        ensures value { result ≡ self.now.params }
+        ensures views { AreViews self.now }
+    {
+        self.params
+    }
+
+    /// The active view, ascending.
+    pub fn active(&self) -> &[NodeId]
+        ensures value { result.now ≡ self.now.active }
+        ensures views { AreViews self.now }
+    {
+        self.active.as_slice()
+    }
+
+    /// The passive view, ascending.
+    pub fn passive(&self) -> &[NodeId]
+        ensures value { result.now ≡ self.now.passive }
+        ensures views { AreViews self.now }
+    {
+        self.passive.as_slice()
+    }
+
+    /// Whether the node is active.
+    pub fn is_active(&self, id: NodeId) -> bool
+        ensures { result ≡ has self.now.active id }
+    {
+        self.active.contains(id)
+    }
+
+    /// Whether a place is free in the active view: it has fewer members than its size.
+    pub fn has_place(&self) -> bool
+        ensures { result ≡ has_place self.now }
+    {
+        self.active.len() < self.params.active()
+    }
+
+    /// The members of a view but these, as a set of its own.
+    pub fn all_but(&self, view: View, ids: &[NodeId]) -> IdSet
+        ensures value { result ≡ without_all ids.now (members view self.now) }
+        ensures set { IsSet result }
+        ensures fits { length result ≤ length (members view self.now) }
+        ensures most { length (members view self.now) ≤ length result + length ids.now }
+    {
+        let mut rest = match view {
+            View::Active => self.active.copy(),
+            View::Passive => self.passive.copy(),
+        };
+        for id in ids {
+            rest.remove(*id);
+        }
+        rest
+    }
+
+    /// Whether the id is the node itself or active.
+    fn is_close(&self, id: NodeId) -> bool
+        ensures close { result ≡ is_close self.now id }
+        ensures views { AreViews self.now }
+    {
+        id == self.me || self.active.contains(id)
+    }
+
+    /// Whether the id is the node itself, active or passive.
+    fn is_known(&self, id: NodeId) -> bool
+        ensures known { result ≡ is_known self.now id }
+        ensures views { AreViews self.now }
+    {
+        id == self.me || self.active.contains(id) || self.passive.contains(id)
+    }
+
+    /// Adds a node to the active view, unless it is the node itself or active. It leaves the passive view; where the active
+    /// view is full a random member is dropped first, as by `drop_random`. Answers who went down and who came up. At most two
+    /// words. (HyParView's `addNodeActiveView`; that the node leaves the passive view, and does so first, is chosen here.)
+    pub fn add_active(&mut self, id: NodeId, draws: &mut Draws<'_>) -> Changes
+        requires { 2 ≤ length draws.old }
+        ensures drawn { Drawn draws.old draws.new (λ choices. AddsActive self.old id choices self.new result) }
+        ensures words { length draws.old ≤ length draws.new + 2 }
+        ensures few { length result ≤ 2 }
+    {
+        if self.is_close(id) {
+            return Changes::new(None, None);
+        }
+        self.passive.remove(id);
+        if self.active.len() < self.params.active() {
+            self.active.insert(id);
+            return Changes::new(None, Some(id));
+        }
+        let down = self.drop_one(draws);
+        self.active.insert(id);
+        Changes::new(down, Some(id))
+    }
+
+    /// Drops a random active member, if there is one: it goes down, and then it is added to the passive view. Answers who went
+    /// down. At most two words. (HyParView's `dropRandomElementFromActiveView`.)
+    pub fn drop_random(&mut self, draws: &mut Draws<'_>) -> Changes
+        requires { 2 ≤ length draws.old }
+        ensures drawn { Drawn draws.old draws.new (λ choices. DropsRandom self.old choices self.new result) }
+        ensures words { length draws.old ≤ length draws.new + 2 }
+        ensures few { length result ≤ 1 }
+    {
+        Changes::new(self.drop_one(draws), None)
+    }
+
+    /// Drops a random active member, if there is one.
+    fn drop_one(&mut self, draws: &mut Draws<'_>) -> Option<NodeId>
+        requires { 2 ≤ length draws.old }
+        ensures drawn { Drawn draws.old draws.new (λ choices. DropsRandom self.old choices self.new (in_order result None)) }
+        ensures words { length draws.old ≤ length draws.new + 2 }
+    {
+        let dropped = draws.pick(self.active.as_slice())?;
+        self.active.remove(dropped);
+        self.add_passive(dropped, draws);
+        Some(dropped)
+    }
+
+    /// Takes a node out of the active view, if it is there. Answers that it went down.
+    pub fn remove_active(&mut self, id: NodeId) -> Changes
+        ensures removed { RemovesActive self.old id self.new result }
+        ensures few { length result ≤ 1 }
+    {
+        let down = self.active.contains(id).then_some(id);
+        self.active.remove(id);
+        Changes::new(down, None)
+    }
+
+    /// Takes a node out of whichever view has it. Where that was the active view, answers that it went down.
+    pub fn forget(&mut self, id: NodeId) -> Changes
+        ensures forgotten { Forgets self.old id self.new result }
+        ensures few { length result ≤ 1 }
+    {
+        self.passive.remove(id);
+        self.remove_active(id)
+    }
+
+    /// Adds a node to the passive view, unless it is the node itself, active or passive. Where that view is full a random
+    /// member goes out. At most one word. (HyParView's `addNodePassiveView`.)
+    pub fn add_passive(&mut self, id: NodeId, draws: &mut Draws<'_>)
+        requires { 1 ≤ length draws.old }
+        ensures drawn { Drawn draws.old draws.new (λ choices. AddsPassive self.old id choices self.new) }
+        ensures words { length draws.old ≤ length draws.new + 1 }
+    {
+        self.take_in(id, &[], draws);
+    }
+
+    /// Takes the ids of a shuffle into the passive view, in order, but for the node itself and members of either view. Where
+    /// the passive view is full an id takes the place of the next id of `sent` that is passive, and where none is left that of
+    /// a random member: `sent` is walked once, and ids passed over are used up. At most one word for each id. (That what was
+    /// sent goes first is HyParView's; the walk through it is chosen here.)
+    pub fn integrate(&mut self, ids: &[NodeId], sent: &[NodeId], draws: &mut Draws<'_>)
+        requires { length ids.now ≤ length draws.old }
+        ensures drawn { Drawn draws.old draws.new (λ choices. Integrates self.old ids.now sent.now choices self.new) }
+        ensures words { length draws.old ≤ length draws.new + length ids.now }
+    {
+        let mut left = sent;
+        for id in ids {
+            left = self.take_in(*id, left, draws);
+        }
+    }
+
+    /// Takes one id of a shuffle in, and answers what is left of `sent`.
+    fn take_in<'s>(&mut self, id: NodeId, sent: &'s [NodeId], draws: &mut Draws<'_>) -> &'s [NodeId]
+        requires { 1 ≤ length draws.old }
+        ensures drawn { Drawn draws.old draws.new (λ choices. TakesIn self.old id sent.now choices self.new result.now) }
+        ensures words { length draws.old ≤ length draws.new + 1 }
+    {
+        if self.is_known(id) {
+            return sent;
+        }
+        if self.passive.len() < self.params.passive() {
+            self.passive.insert(id);
+            return sent;
+        }
+        let (out, left) = give_up(&self.passive, sent, draws);
+        self.passive.remove(out);
+        self.passive.insert(id);
+        left
+    }
+
+    /// Picks `count` members of a view, or all where it has fewer, one after another and each from those not yet picked, with one
+    /// word each. (How HyParView's samples are drawn is chosen here.)
+    pub fn sample(&self, view: View, count: usize, draws: &mut Draws<'_>) -> Sample
+        requires { min count (length (members view self.now)) ≤ length draws.old }
+        ensures drawn { Drawn draws.old draws.new (λ choices. Samples (members view self.now) count choices result) }
+        ensures words { length draws.old ≡ length draws.new + length result }
+    {
+        let mut rest = self.all_but(view, &[]);
+        let mut picked = Sample::new();
+        for _ in 0..count.min(rest.len()) {
+            match draws.pick(rest.as_slice()) {
+                Some(id) => {
+                    rest.remove(id);
+                    picked.push(id);
+                }
+                None => unreachable!(),
+            }
+        }
+        picked
+    }
+}
+
+/// The passive member to give up for a new one, and what is left of `sent` then.
+fn give_up<'s>(passive: &IdSet, sent: &'s [NodeId], draws: &mut Draws<'_>) -> (NodeId, &'s [NodeId])
+    requires some { 0 < length passive.now }
+    requires words { 1 ≤ length draws.old }
+    ensures drawn { Drawn draws.old draws.new (λ choices. GivesUp passive.now sent.now result.0 result.1.now choices) }
+    ensures member { IsIn passive.now result.0 }
+    ensures words { length draws.old ≤ length draws.new + 1 }
+{
+    let mut left = sent;
+    while let Some((next, rest)) = left.split_first() {
+        if passive.contains(*next) {
+            return (*next, rest);
+        }
+        left = rest;
+    }
+    match draws.pick(passive.as_slice()) {
+        Some(out) => (out, left),
+        None => unreachable!(),
+    }
+}

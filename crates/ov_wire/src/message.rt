@@ -1,0 +1,130 @@
+ghost use Rattle.std.specs.Prelude.{◌≡◌, ◌≤◌, IfOk, IsErr};
+ghost use Rattle.ov_wire.specs.Messages.{kind_of};
+
+use ov_ids::{MsgId, NodeId, OutOfMemory, Seq};
+use std::alloc::Global;
+
+/// The longest time to live of a message that walks.
+pub const MAX_TTL: u8 = 15;
+
+/// How many ids a list may have.
+pub const MAX_IDS: u8 = 17;
+
+/// How many bytes a payload may have.
+pub const MAX_PAYLOAD: u16 = 1024;
+
+/// A message, from its sender.
+#[derive(Debug, Drop)]
+pub struct Message {
+    pub from: NodeId,
+    pub body: Body,
+}
+
+/// What a message says, by its kind: those of HyParView and of Plumtree.
+#[derive(Debug, Drop)]
+pub enum Body {
+    /// The sender asks to join the overlay.
+    Join,
+    /// A new node joins, handed on by a random walk with so many steps left: 0 to 15.
+    ForwardJoin {
+        node: NodeId,
+        ttl: u8,
+    },
+    /// The sender took the receiver, who joins, into its active view.
+    Joined,
+    /// The sender asks to be a neighbour.
+    Neighbor {
+        high: bool,
+    },
+    /// The answer to a request to be a neighbour.
+    NeighborReply {
+        accepted: bool,
+    },
+    /// The sender dropped the receiver from its active view.
+    Disconnect,
+    /// A sample of the origin's views, at most 17 ids, handed on by a random walk with so many steps left: 0 to 15.
+    Shuffle {
+        origin: NodeId,
+        ttl: u8,
+        ids: Seq<NodeId>,
+    },
+    /// The answer to a sample, at most 17 ids.
+    ShuffleReply {
+        ids: Seq<NodeId>,
+    },
+    /// A broadcast, after so many hops, with at most 1,024 bytes.
+    Gossip {
+        id: MsgId,
+        round: u16,
+        payload: Seq<u8>,
+    },
+    /// The sender has this broadcast.
+    IHave {
+        id: MsgId,
+    },
+    /// The sender asks for this broadcast, and for the link to carry further ones.
+    Graft {
+        id: MsgId,
+    },
+    /// The link is to carry no further broadcasts.
+    Prune,
+}
+
+impl Body {
+    /// An equal body. Memory is wanted for lists and payloads alone, which stand in the kinds 7, 8 and 9.
+    pub fn copy(&self, alloc: Global) -> Result<Body, OutOfMemory>
+        ensures ok { IfOk result (λ body. body ≡ self.now) }
+        ensures memory { IsErr result → (7 ≤ kind_of self.now) × (kind_of self.now ≤ 9) }
+    {
+        Ok(match self {
+            Body::Join => Body::Join,
+            Body::ForwardJoin { node, ttl } => Body::ForwardJoin {
+                node: *node,
+                ttl: *ttl,
+            },
+            Body::Joined => Body::Joined,
+            Body::Neighbor { high } => Body::Neighbor { high: *high },
+            Body::NeighborReply { accepted } => Body::NeighborReply {
+                accepted: *accepted,
+            },
+            Body::Disconnect => Body::Disconnect,
+            Body::Shuffle { origin, ttl, ids } => {
+                let ids = Seq::new(Vec::from_slice(alloc, ids.as_slice())?);
+                Body::Shuffle {
+                    origin: *origin,
+                    ttl: *ttl,
+                    ids,
+                }
+            }
+            Body::ShuffleReply { ids } => {
+                Body::ShuffleReply {
+                    ids: Seq::new(Vec::from_slice(alloc, ids.as_slice())?),
+                }
+            }
+            Body::Gossip { id, round, payload } => {
+                let payload = Seq::new(Vec::from_slice(alloc, payload.as_slice())?);
+                Body::Gossip {
+                    id: *id,
+                    round: *round,
+                    payload,
+                }
+            }
+            Body::IHave { id } => Body::IHave { id: *id },
+            Body::Graft { id } => Body::Graft { id: *id },
+            Body::Prune => Body::Prune,
+        })
+    }
+}
+
+impl Message {
+    /// An equal message. Memory is wanted for lists and payloads alone, which stand in the kinds 7, 8 and 9.
+    pub fn copy(&self, alloc: Global) -> Result<Message, OutOfMemory>
+        ensures ok { IfOk result (λ m. m ≡ self.now) }
+        ensures memory { IsErr result → (7 ≤ kind_of self.now.body) × (kind_of self.now.body ≤ 9) }
+    {
+        Ok(Message {
+            from: self.from,
+            body: self.body.copy(alloc)?,
+        })
+    }
+}

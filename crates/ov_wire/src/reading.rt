@@ -1,0 +1,250 @@
+ghost use Rattle.std.specs.Prelude.{◌≡◌, ◌-◌, ◌≤◌, ◌^◌, List, [], ◌∷◌, length, slice_index, IfOk, IsErrOf, OnOk, IfErr, ◌<◌, ◌⊎◌, ◌≢◌, Ok, Err, ℕ};
+ghost use Rattle.std.specs.Int.{w8, w16, w32};
+ghost use Rattle.ov_wire.specs.declared.fault.WireFault.TheVariants.{Short, BadVersion, BadKind, BadField, Trailing, OutOfMemory};
+ghost use Rattle.ov_wire.specs.declared.message.Message.{Message};
+ghost use Rattle.ov_wire.specs.Faults.{FirstFault};
+ghost use Rattle.ov_wire.specs.Fields.{up_to, any, Number, Ids, Payload, One, Many};
+ghost use Rattle.ov_wire.specs.Messages.{own_fields, fields_of, kind_of, said, flag, Spelling, AreInRange};
+ghost use Rattle.ov_wire.specs.Reading.{Reads, Gives, number_at, values_at, ids_in};
+
+use crate::fault::WireFault;
+use crate::message::{Body, MAX_IDS, MAX_PAYLOAD, MAX_TTL, Message};
+use ov_ids::{MsgId, NodeId, Seq};
+use std::alloc::{AllocError, Global};
+
+fn u32_at(bytes: &[u8]) -> Result<(u32, &[u8]), WireFault>
+    ensures { Reads (λ x. (x.0, x.1.now)) result (number_at w32 0 (256 ^ 4 - 1) BadField bytes.now) }
+{
+    match bytes.split_first_chunk::<4>() {
+        Some((number, rest)) => Ok((u32::from_be_bytes(*number), rest)),
+        None => Err(WireFault::Short),
+    }
+}
+
+fn u16_at(most: u16, bytes: &[u8]) -> Result<(u16, &[u8]), WireFault>
+    ensures { Reads (λ x. (x.0, x.1.now)) result (number_at w16 0 most BadField bytes.now) }
+{
+    match bytes.split_first_chunk::<2>() {
+        Some((number, rest)) => {
+            let number = u16::from_be_bytes(*number);
+            if number > most {
+                return Err(WireFault::BadField);
+            }
+            Ok((number, rest))
+        }
+        None => Err(WireFault::Short),
+    }
+}
+
+/// A byte from `least` to `most`.
+fn byte_at(
+    least: u8,
+    most: u8,
+    otherwise: WireFault,
+    bytes: &[u8],
+) -> Result<(u8, &[u8]), WireFault>
+    ensures value { Reads (λ x. (x.0, x.1.now)) result (number_at w8 least most otherwise bytes.now) }
+    ensures front { IfOk result (λ x. bytes.now ≡ x.0 ∷ x.1.now) }
+    ensures range { IfOk result (λ x. (least ≤ x.0) × (x.0 ≤ most)) }
+{
+    match bytes.split_first() {
+        Some((&number, rest)) => {
+            if number < least || number > most {
+                return Err(otherwise);
+            }
+            Ok((number, rest))
+        }
+        None => Err(WireFault::Short),
+    }
+}
+
+/// Nothing follows the last field.
+fn end(bytes: &[u8]) -> Result<(), WireFault>
+    ensures { Reads (λ _. []) result (values_at [] bytes.now) }
+{
+    if bytes.is_empty() {
+        Ok(())
+    } else {
+        Err(WireFault::Trailing)
+    }
+}
+
+/// These bytes are so many, neither fewer nor more.
+fn whole(count: usize, bytes: &[u8]) -> Result<(), WireFault>
+    ensures ok { OnOk result (length bytes.now ≡ count) }
+    ensures short { IfErr result (λ fault. length bytes.now < count → fault ≡ Short) }
+    ensures trailing { IfErr result (λ fault. count ≤ length bytes.now → (count < length bytes.now) × (fault ≡ Trailing)) }
+{
+    if bytes.len() < count {
+        return Err(WireFault::Short);
+    }
+    if bytes.len() > count {
+        return Err(WireFault::Trailing);
+    }
+    Ok(())
+}
+
+fn ids_of(alloc: Global, count: usize, bytes: &[u8]) -> Result<Seq<NodeId>, AllocError>
+    ensures { IfOk result (λ ids. ids ≡ ids_in bytes.now) }
+{
+    let mut ids = Vec::with_capacity(alloc, count)?;
+    let mut left = bytes;
+    while let Some((number, rest)) = left.split_first_chunk::<4>() {
+        ids.push(NodeId::new(u32::from_be_bytes(*number)))?;
+        left = rest;
+    }
+    Ok(Seq::new(ids))
+}
+
+/// The last field where it is a list of ids.
+fn last_ids(alloc: Global, bytes: &[u8]) -> Result<Seq<NodeId>, WireFault>
+    ensures { Gives (λ ids. Many ids ∷ []) result (values_at (Ids ∷ []) bytes.now) }
+{
+    let (count, rest) = byte_at(0, MAX_IDS, WireFault::BadField, bytes)?;
+    let count = count as usize;
+    whole(4 * count, rest)?;
+    Ok(ids_of(alloc, count, rest)?)
+}
+
+/// The last field where it is a payload.
+fn last_payload(alloc: Global, bytes: &[u8]) -> Result<Seq<u8>, WireFault>
+    ensures { Gives (λ payload. Many payload ∷ []) result (values_at (Payload ∷ []) bytes.now) }
+{
+    let (len, rest) = u16_at(MAX_PAYLOAD, bytes)?;
+    whole(len as usize, rest)?;
+    Ok(Seq::new(Vec::from_slice(alloc, rest)?))
+}
+
+/// The id of a broadcast, as the last field.
+fn last_id(bytes: &[u8]) -> Result<MsgId, WireFault>
+    ensures { Reads (λ id. One id.origin ∷ One id.seq ∷ []) result (values_at (any w32 ∷ any w32 ∷ []) bytes.now) }
+{
+    let (origin, rest) = u32_at(bytes)?;
+    let (seq, rest) = u32_at(rest)?;
+    end(rest)?;
+    Ok(MsgId {
+        origin: NodeId::new(origin),
+        seq,
+    })
+}
+
+fn forward_join(bytes: &[u8]) -> Result<Body, WireFault>
+    ensures read { Reads said result (values_at (own_fields 2) bytes.now) }
+    ensures kind { IfOk result (λ body. kind_of body ≡ 2) }
+{
+    let (node, rest) = u32_at(bytes)?;
+    let (ttl, rest) = byte_at(0, MAX_TTL, WireFault::BadField, rest)?;
+    end(rest)?;
+    Ok(Body::ForwardJoin {
+        node: NodeId::new(node),
+        ttl,
+    })
+}
+
+/// The last field where it is a flag.
+fn last_flag(bytes: &[u8]) -> Result<bool, WireFault>
+    ensures { Reads (λ x. One (flag x) ∷ []) result (values_at (up_to w8 1 ∷ []) bytes.now) }
+{
+    let (number, rest) = byte_at(0, 1, WireFault::BadField, bytes)?;
+    end(rest)?;
+    Ok(number == 1)
+}
+
+fn shuffle(alloc: Global, bytes: &[u8]) -> Result<Body, WireFault>
+    ensures read { Gives said result (values_at (own_fields 7) bytes.now) }
+    ensures kind { IfOk result (λ body. kind_of body ≡ 7) }
+{
+    let (origin, rest) = u32_at(bytes)?;
+    let (ttl, rest) = byte_at(0, MAX_TTL, WireFault::BadField, rest)?;
+    let ids = last_ids(alloc, rest)?;
+    Ok(Body::Shuffle {
+        origin: NodeId::new(origin),
+        ttl,
+        ids,
+    })
+}
+
+fn gossip(alloc: Global, bytes: &[u8]) -> Result<Body, WireFault>
+    ensures read { Gives said result (values_at (own_fields 9) bytes.now) }
+    ensures kind { IfOk result (λ body. kind_of body ≡ 9) }
+{
+    let (origin, rest) = u32_at(bytes)?;
+    let (seq, rest) = u32_at(rest)?;
+    let (round, rest) = u16_at(u16::MAX, rest)?;
+    let payload = last_payload(alloc, rest)?;
+    let id = MsgId {
+        origin: NodeId::new(origin),
+        seq,
+    };
+    Ok(Body::Gossip { id, round, payload })
+}
+
+/// The body of this kind.
+fn body_of(alloc: Global, kind: u8, bytes: &[u8]) -> Result<Body, WireFault>
+    requires low { 1 ≤ kind }
+    requires high { kind ≤ 12 }
+    ensures read { Gives said result (values_at (own_fields kind) bytes.now) }
+    ensures kind { IfOk result (λ body. kind_of body ≡ kind) }
+    ensures memory { IsErrOf result OutOfMemory → (7 ≤ kind) × (kind ≤ 9) }
+{
+    match kind {
+        2 => forward_join(bytes),
+        4 => Ok(Body::Neighbor {
+            high: last_flag(bytes)?,
+        }),
+        5 => Ok(Body::NeighborReply {
+            accepted: last_flag(bytes)?,
+        }),
+        7 => shuffle(alloc, bytes),
+        8 => Ok(Body::ShuffleReply {
+            ids: last_ids(alloc, bytes)?,
+        }),
+        9 => gossip(alloc, bytes),
+        10 => Ok(Body::IHave {
+            id: last_id(bytes)?,
+        }),
+        11 => Ok(Body::Graft {
+            id: last_id(bytes)?,
+        }),
+        _ => {
+            end(bytes)?;
+            Ok(match kind {
+                1 => Body::Join,
+                3 => Body::Joined,
+                6 => Body::Disconnect,
+                _ => Body::Prune,
+            })
+        }
+    }
+}
+
+/// The message whose bytes these are, read through.
+fn message_of(alloc: Global, bytes: &[u8]) -> Result<Message, WireFault>
+    ensures read { Gives (λ m. One 1 ∷ One (kind_of m.body) ∷ One m.from ∷ said m.body) result (values_at (fields_of (slice_index bytes.now 1)) bytes.now) }
+    ensures kind { IfOk result (λ m. kind_of m.body ≡ slice_index bytes.now 1) }
+    ensures memory { IsErrOf result OutOfMemory → (7 ≤ slice_index bytes.now 1) × (slice_index bytes.now 1 ≤ 9) }
+{
+    let (_, rest) = byte_at(1, 1, WireFault::BadVersion, bytes)?;
+    let (kind, rest) = byte_at(1, 12, WireFault::BadKind, rest)?;
+    let (from, rest) = u32_at(rest)?;
+    let body = body_of(alloc, kind, rest)?;
+    Ok(Message {
+        from: NodeId::new(from),
+        body,
+    })
+}
+
+/// The message that the bytes spell. The first field at fault from the left decides which fault it is; `OutOfMemory` is
+/// answered only of bytes that spell a message with a list or a payload.
+pub fn decode(alloc: Global, bytes: &[u8]) -> Result<Message, WireFault>
+    // What is answered is spelled so.
+    ensures ok { IfOk result (λ m. Spelling m bytes.now × AreInRange m) }
+    // What is spelled so is answered, unless memory is wanted.
+    ensures only { (m : Message) → Spelling m bytes.now → (result ≡ Ok m) ⊎ (result ≡ Err OutOfMemory) }
+    // Which fault it is.
+    ensures fault { IfErr result (λ fault. fault ≢ OutOfMemory → FirstFault bytes.now fault × ((m : Message) → ¬ Spelling m bytes.now)) }
+    // When memory is wanted: of the kinds 7, 8 and 9, whose messages have a list or a payload.
+    ensures memory { IsErrOf result OutOfMemory → (7 ≤ slice_index bytes.now 1) × (slice_index bytes.now 1 ≤ 9) × ((m : Message) × Spelling m bytes.now) }
+{
+    message_of(alloc, bytes)
+}

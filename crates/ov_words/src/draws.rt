@@ -1,0 +1,74 @@
+ghost use Rattle.std.specs.Prelude.{◌≡◌, ◌<◌, ◌+◌, ◌↔◌, [], ◌∷◌, length, IfNone, IfSome};
+ghost use Rattle.ov_ids.specs.Sets.{IsIn};
+ghost use Rattle.ov_words.specs.Pick.{AreDrawn};
+
+use crate::Words;
+use ov_ids::NodeId;
+use std::marker::Model;
+
+/// Draws random choices from an event's words, each word once and in order. Contracts see the words that are left.
+#[derive(Debug, Drop)]
+pub struct Draws<'a> {
+    words: &'a [u64],
+}
+
+impl<'a> Model for Draws<'a> {
+    ghost use Rattle.std.specs.Prelude.{List, ℕ};
+
+    ghost Value = { List ℕ };
+
+    ghost view = { λ d. d.words.now };
+}
+
+impl<'a> Draws<'a> {
+    /// All words of an event, none drawn yet.
+    pub fn new(words: &'a Words) -> Draws<'a>
+        ensures value { result ≡ words.now }
+        ensures count { length result ≡ 64 }
+    {
+        Draws {
+            words: words.as_slice(),
+        }
+    }
+
+    /// Draws that stand where these stand. Who gives a step up puts its draws back by a copy made before.
+    pub fn copy(&self) -> Draws<'a>
+        ensures { result ≡ self.now }
+    {
+        Draws { words: self.words }
+    }
+
+    /// How many words are left.
+    pub fn left(&self) -> usize
+        ensures { result ≡ length self.now }
+    {
+        self.words.len()
+    }
+
+    /// The next word, which is then used up.
+    pub fn next(&mut self) -> u64
+        requires { 0 < length self.old }
+        ensures { self.old ≡ result ∷ self.new }
+    {
+        let word = self.words[0];
+        self.words = &self.words[1..];
+        word
+    }
+
+    /// Picks a member of a set, whose members are handed in ascending: member number `word % size`, counted from 0, where
+    /// `word` is the next word. Of the empty set none, and then no word is used. (Chosen here.)
+    pub fn pick(&mut self, set: &[NodeId]) -> Option<NodeId>
+        requires { 0 < length self.old }
+        ensures drawn { IfSome result (λ d. AreDrawn (record { from = set.now; member = d } ∷ []) self.old self.new) }
+        ensures member { IfSome result (IsIn set.now) }
+        ensures one_word { IfSome result (λ _. length self.new + 1 ≡ length self.old) }
+        ensures empty { result ≡ None ↔ set.now ≡ [] }
+        ensures no_word { IfNone result (self.new ≡ self.old) }
+    {
+        if set.is_empty() {
+            return None;
+        }
+        let word = self.next();
+        Some(set[(word % set.len() as u64) as usize])
+    }
+}

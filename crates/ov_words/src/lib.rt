@@ -1,0 +1,10 @@
+//! The words of an event, and random choices drawn from them.
+#![tactic(auto)]
+
+mod draws;
+#[cfg(test)]
+mod tests;
+mod words;
+
+pub use draws::Draws;
+pub use words::Words;

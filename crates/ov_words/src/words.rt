@@ -1,0 +1,52 @@
+ghost use Rattle.std.specs.Prelude.{◌≡◌, length};
+ghost use Rattle.ov_words.specs.Stream.{AreOutputs};
+
+use rand_core::Rng;
+use std::marker::Model;
+
+/// The 64 words that are handed in with an event, from which it makes its random choices. Contracts see them in order.
+#[derive(Clone, Copy, Debug, PartialEq, Eq)]
+pub struct Words([u64; 64]);
+
+impl Model for Words {
+    ghost use Rattle.std.specs.Prelude.{◌≡◌, List, ℕ, length};
+
+    ghost Value = { List ℕ };
+
+    ghost view = { λ a. a.0 };
+
+    ghost invariant = { λ a. length a.0 ≡ 64 };
+
+    ghost inverse = { λ w. record { 0 = w } };
+}
+
+impl Words {
+    /// These words, in this order.
+    pub fn new(words: [u64; 64]) -> Words
+        ensures value { result ≡ words }
+        ensures count { length result ≡ 64 }
+    {
+        Words(words)
+    }
+
+    /// The next 64 words of a generator, each by one call of `next_u64`, and no other call of it.
+    #[tactic(auto, using(crate::proofs::Outputs::outputs_written))]
+    pub fn from_rng<R: Rng>(rng: &mut R) -> Words
+        ensures outputs { AreOutputs (R.stream rng.old) result (R.stream rng.new) }
+        ensures count { length result ≡ 64 }
+    {
+        let mut outputs = [0; 64];
+        for word in outputs.iter_mut() {
+            *word = rng.next_u64();
+        }
+        Words(outputs)
+    }
+
+    /// The words in order.
+    pub fn as_slice(&self) -> &[u64]
+        ensures value { result.now ≡ self.now }
+        ensures count { length self.now ≡ 64 }
+    {
+        &self.0
+    }
+}
