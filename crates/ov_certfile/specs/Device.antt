@@ -1,0 +1,20 @@
+-- What a call of a reader or a writer adds to the count of failures.
+use Rattle.std.specs.Prelude.{ℕ, Result, Ok, Err}
+use Rattle.ov_certfile.specs.declared.input.ReadFault.{ReadFault}
+use Rattle.ov_certfile.specs.declared.input.ReadFault.TheVariants.{Read, OutOfMemory}
+
+-- the number of each fault of a reader
+abbrev pub read_number : ReadFault → ℕ
+read_number Read = 71
+read_number OutOfMemory = 99
+
+-- a reader's failure ends the call, so it is the one of that call; want of memory is none of the reader
+abbrev pub read_failures : {A : Type 0} → Result A ReadFault → ℕ
+read_failures (Ok a) = 0
+read_failures (Err Read) = 1
+read_failures (Err OutOfMemory) = 0
+
+-- a writer's failure ends the call
+abbrev pub write_failures : {A E : Type 0} → Result A E → ℕ
+write_failures (Ok a) = 0
+write_failures (Err e) = 1

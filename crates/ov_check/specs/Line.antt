@@ -1,0 +1,42 @@
+-- The line that is printed of an outcome.
+use Rattle.std.specs.Prelude.{ℕ, List, [], ◌∷◌, ◌++◌, codes, decimal}
+use Rattle.std.specs.List.{join_by}
+use Rattle.ov_cert.specs.declared.cert.Cert.{Cert}
+use Rattle.ov_cert.specs.declared.cert.Cert.TheVariants.{Linked, Split}
+use Rattle.ov_cert.specs.declared.fault.CheckFault.{CheckFault}
+use Rattle.ov_cert.specs.declared.fault.CheckFault.TheVariants.{Pair, Fan}
+use Rattle.ov_cert.specs.Number as check_fault
+use Rattle.ov_certfile.specs.Number as file_fault
+use Rattle.ov_check.specs.declared.outcome.Outcome.{Outcome}
+use Rattle.ov_check.specs.declared.outcome.Outcome.TheVariants.{Holds, Fails, Refused}
+
+-- the ids with commas between them, or a dash where there are none
+abbrev pub ids_text : List ℕ → List ℕ
+ids_text [] = codes "-"
+ids_text (a ∷ rest) = join_by decimal (codes ",") (a ∷ rest)
+
+-- what a certificate says, without its paths
+unfoldable pub cert_text : Cert → List ℕ
+cert_text (Linked k) = codes "linked k " ++ decimal k
+cert_text (Split c) =
+    codes "split k " ++ (decimal c.k
+    ++ (codes " cut " ++ (ids_text c.cut
+    ++ (codes " near " ++ (decimal c.near
+    ++ (codes " far " ++ (decimal c.far
+    ++ (codes " side " ++ ids_text c.side))))))))
+
+-- the nodes that a fault names
+abbrev pub named_text : CheckFault → List ℕ
+named_text (Pair i j) = codes " " ++ (decimal i ++ (codes " " ++ decimal j))
+named_text (Fan j) = codes " " ++ decimal j
+named_text fault = []
+
+-- the fault's number, and then the nodes that it names
+unfoldable pub fault_text : CheckFault → List ℕ
+fault_text fault = decimal (check_fault.number_of fault) ++ named_text fault
+
+-- the line, without its line feed
+unfoldable pub line_of : Outcome → List ℕ
+line_of (Holds f) = codes "holds " ++ (decimal f.moment ++ (codes " " ++ cert_text f.cert))
+line_of (Fails fault) = codes "fails " ++ fault_text fault
+line_of (Refused fault) = codes "refused " ++ decimal (file_fault.number_of fault)
