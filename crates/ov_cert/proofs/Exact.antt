@@ -21,7 +21,8 @@ use Rattle.ov_cert.specs.declared.fault.CheckFault.TheVariants.{Count, Cut, Side
 use Rattle.ov_cert.specs.Valid.{k_of, IsCutOff, AreUnlinkedPairs, HavePaths, HaveFans, later_nodes, IsValidSplit, IsValid}
 use Rattle.ov_cert.specs.Verdict.{IsPairEntry, IsFanEntry, HasNoMore, EntriesJudged, Judged}
 use Rattle.ov_cert.specs.Tests.{is_node_set, is_cut_off, all_linked, is_pair_entry, is_fan_entry, expected_pairs, pairs_fault, fans_fault, no_more, entries_fault, split_fault, linked_fault, first, fault_of}
-use Rattle.ov_cert.proofs.Turns.{step_by, step_unless, step_none, step_passes, in_turn_pairs, in_turn_fans, passed_pairs, passed_fans, not_failed_first}
+use Rattle.ov_ids.proofs.Stepping.{step_by, step_unless, step_none, step_passes, not_failed_first}
+use Rattle.ov_cert.proofs.Turns.{in_turn_pairs, in_turn_fans, passed_pairs, passed_fans}
 use Rattle.ov_cert.proofs.Frame.{node_set_tested, cut_off_tested, complete_tested, cut_splits}
 use Rattle.ov_cert.proofs.Expected.{expected, unlinked_pairs_one}
 use Rattle.ov_cert.proofs.PathTests.{pair_entry_tested, fan_entry_tested}

@@ -69,8 +69,7 @@ column g k entries count next p j xs l is at none =
     let same : unlinked_before g (take p xs) j ≡ cs = ap (unlinked_before g (take p xs)) is in
     let n : pairs_fault g k entries count cs ≡ None = sym (ap (pairs_fault g k entries count) same) ∙ none in
     let m : next ≡ count + length cs = at ∙ ap (λ (ys : List (ℕ × ℕ)). count + length ys) same in
-    let f = pairs_fault_append g k entries count cs rest in
-    (
+    let f = pairs_fault_append g k entries count cs rest in (
       ap (λ (m : ℕ). pairs_fault g k entries m rest) m ∙ sym (ap (pairs_fault g k entries count) e ∙ f ∙ ap (λ (o : Option CheckFault). first o (pairs_fault g k entries (count + length cs) rest)) n),
       (let x : length (pairs_after g (take p xs) (drop p xs)) ≡ length (cs ++ rest) = ap length e in omega (arith, m, x, length-append cs rest)),
     )

@@ -98,11 +98,7 @@ pub(crate) fn node_set<'g>(graph: &'g Graph, ids: &[NodeId]) -> Option<NodeSet<'
         return None;
     }
     let mut set = NodeSet::new(graph);
-    if set.enter_all(ids) {
-        Some(set)
-    } else {
-        None
-    }
+    if set.enter_all(ids) { Some(set) } else { None }
 }
 
 /// Whether the id is a node.

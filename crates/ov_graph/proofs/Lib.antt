@@ -3,3 +3,7 @@ pub mod Filtered
 pub mod Walks
 pub mod Escape
 pub mod Sufficing
+pub mod Bits
+pub mod Halving
+pub mod Marked
+pub mod Read

@@ -1,13 +1,12 @@
 -- Even's test suffices: by induction on the ids each survivor is joined to a survivor among the first k nodes, and any two
 -- of these are joined.
-use Rattle.std.proofs.Common.{◌≡◌, ◌≢◌, ◌∙◌, ℕ, zero, suc, ◌<◌, ◌≤◌, ◌⊎◌, inl, inr, List, [], ◌∷◌, ◌++◌, length, take, drop, filter, nat_lt, refl, sym, ap, subst, arith}
-use Rattle.std.proofs.lemmas.Bool.{cases_lt, cases_order, ltb-true}
+use Rattle.std.proofs.Common.{ℕ, zero, suc, ◌<◌, ◌⊎◌, inl, inr, List, [], ◌∷◌, length, take, drop, nat_lt, subst, arith}
+use Rattle.std.proofs.lemmas.Bool.{cases_order, ltb-true}
 use Rattle.ov_ids.specs.Members.{Has, IsApart}
-use Rattle.ov_graph.specs.Links.{LinkGraph, IsGraph, Linked, IsComplete}
-use Rattle.ov_graph.specs.Joined.{Stays, Joined, IsWalk, IsNodeSet, Splits, Fewest}
+use Rattle.ov_graph.specs.Links.{LinkGraph, IsComplete}
+use Rattle.ov_graph.specs.Joined.{Stays, Joined, Splits}
 use Rattle.ov_graph.specs.Paths.{IsPath, ArePaths, IsFan, nodes_below}
-use Rattle.ov_graph.specs.Even.{IsUnlinkedPair, PassesEven, EvenSuffices}
-use Rattle.ov_ids.proofs.Members.{has_from_take}
+use Rattle.ov_graph.specs.Even.{PassesEven, EvenSuffices}
 use Rattle.ov_graph.proofs.Tested.{linked_or_not}
 use Rattle.ov_graph.proofs.Filtered.{has_filtered}
 use Rattle.ov_graph.proofs.Walks.{joined_self, joined_step, joined_trans, joined_sym, joined_end}

@@ -1,15 +1,16 @@
 -- The tests say what the relations say.
-use Rattle.std.proofs.Common.{◌≡◌, ◌∙◌, ◌≢◌, ◌↔◌, ◌⊎◌, ℕ, ◌<◌, ◌≤◌, inl, inr, List, [], ◌∷◌, Bool, true, false, ◌&&◌, ◌||◌, length, cond, nat_lt, eqb, Option, Some, None, refl, sym, ap, ap₂, subst, arith, IsTrue, eq-eqb, eqb-true}
-use Rattle.std.proofs.lemmas.Bool.{or_cases, or_left, or_right, and_parts, and_from, ltb-true, ltb-false, lt-ltb, cases_eq, both_ways}
+use Rattle.std.proofs.Common.{◌≡◌, ◌∙◌, ◌↔◌, ◌⊎◌, ℕ, ◌≤◌, inl, inr, List, [], ◌∷◌, Bool, true, ◌&&◌, length, cond, nat_lt, eqb, Option, Some, None, refl, sym, ap₂, subst, arith, IsTrue, eq-eqb, eqb-true}
+use Rattle.std.proofs.lemmas.Bool.{or_cases, or_left, or_right, and_parts, and_from, ltb-true, ltb-false, lt-ltb, cases_eq}
 use Rattle.std.specs.List.{list_any, AllByRecursion}
 use Rattle.ov_ids.specs.Members.{Has, Ordered, Ascends}
 use Rattle.ov_ids.specs.Sets.{has, ascends_after}
-use Rattle.ov_ids.specs.Steps.{Step, Passed}
+use Rattle.ov_ids.specs.Steps.{Step}
 use Rattle.ov_ids.proofs.Members.{has_from_any, any_from_has, has_tested, all_member, all_from_members}
 use Rattle.ov_ids.proofs.Rising.{ascends_tested}
-use Rattle.ov_graph.specs.Links.{LinkGraph, IsGraph, IsLink, Precedes, Linked, AreNeighbours, most_nodes}
+use Rattle.ov_ids.proofs.Stepping.{step_by, step_unless, step_none, step_passes}
+use Rattle.ov_graph.specs.Links.{LinkGraph, IsGraph, IsLink, Precedes, Linked, most_nodes}
 use Rattle.ov_graph.specs.Faults.{Judged, LinksJudged, Follows, IsRefusal}
-use Rattle.ov_graph.specs.Tests.{is_link, follows, links_fault, fault_of, are_joined, neighbours_in}
+use Rattle.ov_graph.specs.Tests.{is_link, follows, links_fault, fault_of, are_joined}
 use Rattle.ov_graph.specs.declared.fault.GraphFault.{GraphFault}
 use Rattle.ov_graph.specs.declared.fault.GraphFault.TheVariants.{TooManyNodes, Unordered, BadLink, OutOfMemory}
 
@@ -43,7 +44,7 @@ link_tested nodes l = (
       let q = and_parts (has nodes l.0) (has nodes l.1) p.1 in
       (ltb-true l.0 l.1 p.0, (has_tested nodes l.0 (has nodes l.0) refl).0 q.0, (has_tested nodes l.1 (has nodes l.1) refl).0 q.1)),
   (λ h. and_from (nat_lt l.0 l.1) (has nodes l.0 && has nodes l.1) (lt-ltb l.0 l.1 h.0)
-  (and_from (has nodes l.0) (has nodes l.1) ((has_tested nodes l.0 (has nodes l.0) refl).1 h.1) ((has_tested nodes l.1 (has nodes l.1) refl).1 h.2))),
+      (and_from (has nodes l.0) (has nodes l.1) ((has_tested nodes l.0 (has nodes l.0) refl).1 h.1) ((has_tested nodes l.1 (has nodes l.1) refl).1 h.2))),
 )
 
 follows_tested : (before : Option (ℕ × ℕ)) (l : ℕ × ℕ) → IsTrue (follows before l) ↔ Follows before l
@@ -59,21 +60,11 @@ follows_tested (Some b) l = (
   ]),
 )
 
--- a step judged by a test of it
-step_by : {E : Type 0} (P : Type 0) (b : Bool) (e : E) (After : Option E → Type 0) (x : Option E) → (IsTrue b ↔ P) → After x → Step P e After (cond b x (Some e))
-step_by P true e After x t a = inl (t.0 refl, a)
-step_by P false e After x t a = inr ((λ p. both_ways false refl (t.1 p)), refl)
-
 links_judged : (nodes : List ℕ) (before : Option (ℕ × ℕ)) (ls : List (ℕ × ℕ)) → LinksJudged nodes before ls (links_fault nodes before ls)
 links_judged nodes before [] = refl
 links_judged nodes before (l ∷ ls) =
     step_by (IsLink nodes l) (is_link nodes l) BadLink (Step (Follows before l) Unordered (LinksJudged nodes (Some l) ls)) (cond (follows before l) (links_fault nodes (Some l) ls) (Some Unordered)) (link_tested nodes l)
     (step_by (Follows before l) (follows before l) Unordered (LinksJudged nodes (Some l) ls) (links_fault nodes (Some l) ls) (follows_tested before l) (links_judged nodes (Some l) ls))
-
--- the same where the test is of the failure
-step_unless : {E : Type 0} (P : Type 0) (b : Bool) (e : E) (After : Option E → Type 0) (x : Option E) → (IsTrue b → ¬ P) → (b ≡ false → P) → After x → Step P e After (cond b (Some e) x)
-step_unless P true e After x t f a = inr (t refl, refl)
-step_unless P false e After x t f a = inl (f refl, a)
 
 -- the fault that the tests find is the first one
 pub judged : (nodes : List ℕ) (ls : List (ℕ × ℕ)) → Judged nodes ls (fault_of nodes ls)
@@ -81,14 +72,6 @@ judged nodes ls =
     step_unless (length nodes ≤ most_nodes) (nat_lt most_nodes (length nodes)) TooManyNodes (Step (Ascends nodes) Unordered (LinksJudged nodes None ls)) (cond (ascends_after None nodes) (links_fault nodes None ls) (Some Unordered))
     (λ t l. let m = ltb-true most_nodes (length nodes) t in omega (arith, l, m)) (λ f. ltb-false most_nodes (length nodes) f)
     (step_by (Ascends nodes) (ascends_after None nodes) Unordered (LinksJudged nodes None ls) (links_fault nodes None ls) (ascends_tested nodes (ascends_after None nodes) refl) (links_judged nodes None ls))
-
--- the step passed
-step_none : {E : Type 0} (P : Type 0) (e : E) (After : Option E → Type 0) → Step P e After None → P × After None
-step_none P e After s = elim s [ inl p ↦ p | inr n ↦ let h : None ≡ Some e = n.1 in absurd (cc) ]
-
--- it did not fail
-step_passes : {E : Type 0} (P : Type 0) (e : E) (After : Option E → Type 0) (x : Option E) → P → Step P e After x → After x
-step_passes P e After x p s = elim s [ inl q ↦ q.1 | inr n ↦ absurd (n.0 p) ]
 
 precedes_trans : (l m n : ℕ × ℕ) → Precedes l m → Precedes m n → Precedes l n
 precedes_trans l m n p q = elim p [
@@ -166,10 +149,6 @@ passed nodes ls h = subst (Judged nodes ls) h (judged nodes ls)
 
 pub graph_of : (nodes : List ℕ) (ls : List (ℕ × ℕ)) → fault_of nodes ls ≡ None → IsGraph (record { nodes = nodes; links = ls })
 graph_of nodes ls h = sound nodes ls (passed nodes ls h)
-
--- the same of copies of them
-pub graph_of_copies : (nodes nodes' : List ℕ) (ls ls' : List (ℕ × ℕ)) → nodes' ≡ nodes → ls' ≡ ls → fault_of nodes ls ≡ None → IsGraph (record { nodes = nodes'; links = ls' })
-graph_of_copies nodes nodes' ls ls' e f h = rw (e, f) (graph_of nodes ls h)
 
 has_pair_or_not : (ls : List (ℕ × ℕ)) (a b : ℕ) → Has ls (a, b) ⊎ (¬ Has ls (a, b))
 has_pair_or_not [] a b = inr (λ h. h)

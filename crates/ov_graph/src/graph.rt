@@ -1,13 +1,18 @@
-ghost use Rattle.std.specs.Prelude.{◌≡◌, ◌≢◌, ◌↔◌, ◌<◌, IfOk, IfSome, IfNone, IsTrue, MatchResult, Some, None, length};
+ghost use Rattle.std.specs.Prelude.{◌≡◌, ◌≢◌, ◌↔◌, ℕ, ◌<◌, length, slice_index, IfOk, IfSome, IfNone, IsTrue, MatchResult, Some, None};
 ghost use Rattle.ov_graph.specs.Links.{LinkGraph, IsGraph, Linked, AreNeighbours};
 ghost use Rattle.ov_graph.specs.Faults.{Judged, IsRefusal};
-ghost use Rattle.ov_graph.specs.Paths.{node_at};
 ghost use Rattle.ov_graph.specs.Tests.{fault_of};
+ghost use Rattle.ov_graph.specs.Paths.{node_at};
+ghost use Rattle.ov_graph.specs.Row.{HasBit};
+ghost use Rattle.ov_graph.specs.Kept.{IsMarked};
 ghost use Rattle.ov_ids.specs.Members.{Has};
 
 use crate::fault::GraphFault;
-use crate::judging::{are_linked, first_fault};
+use crate::judging::first_fault;
+use crate::marking::rows_of;
 use crate::neighbours::{Links, Neighbours};
+use crate::places::{place_in, place_of};
+use crate::row::{Row, WORDS, has};
 use ov_ids::{NodeId, OutOfMemory};
 use std::alloc::{AllocError, Global};
 use std::marker::Model;
@@ -16,17 +21,18 @@ use std::marker::Model;
 #[derive(Drop)]
 pub struct Graph {
     nodes: Vec<NodeId>,
-    links: Vec<(NodeId, NodeId)>,
+    rows: Vec<Row>,
 }
 
 impl Model for Graph {
-    ghost use Rattle.ov_graph.specs.Links.{LinkGraph, IsGraph};
+    ghost use Rattle.ov_graph.specs.Links.{LinkGraph};
+    ghost use Rattle.ov_graph.specs.Kept.{graph_kept, IsKept};
 
     ghost Value = { LinkGraph };
 
-    ghost view = { λ g. record { nodes = g.nodes.items; links = g.links.items } };
+    ghost view = { λ g. graph_kept g.nodes.items g.rows.items };
 
-    ghost invariant = { λ g. IsGraph (record { nodes = g.nodes.items; links = g.links.items }) };
+    ghost invariant = { λ g. IsKept g.nodes.items g.rows.items };
 }
 
 impl Graph {
@@ -48,8 +54,8 @@ impl Graph {
         if let Some(fault) = first_fault(nodes, links) {
             return Err(fault);
         }
-        match copies(alloc, nodes, links) {
-            Ok((nodes, links)) => Ok(Graph { nodes, links }),
+        match kept(alloc, nodes, links) {
+            Ok((nodes, rows)) => Ok(Graph { nodes, rows }),
             Err(_) => Err(GraphFault::OutOfMemory),
         }
     }
@@ -62,26 +68,12 @@ impl Graph {
         &self.nodes
     }
 
-    /// The place of a node, counted from 0 in the order of ids.
-    pub fn place(&self, a: NodeId) -> Option<usize>
-        ensures some { IfSome result (λ p. (p < length self.now.nodes) × (node_at self.now p ≡ a)) }
-        ensures none { IfNone result (¬ Has self.now.nodes a) }
-        ensures graph { IsGraph self.now }
-    {
-        for (place, node) in self.nodes.iter().enumerate() {
-            if *node == a {
-                return Some(place);
-            }
-        }
-        None
-    }
-
     /// The links, each named from its lower node, ascending.
     pub fn links(&self) -> Links<'_>
         ensures links { result ≡ self.now.links }
         ensures graph { IsGraph self.now }
     {
-        Links::new(&self.links)
+        Links::new(&self.nodes, &self.rows)
     }
 
     /// Whether two nodes are linked. A stranger is linked to nobody, and no node to itself.
@@ -89,7 +81,38 @@ impl Graph {
         ensures linked { IsTrue result ↔ Linked self.now a b }
         ensures graph { IsGraph self.now }
     {
-        are_linked(&self.links, a, b)
+        match (self.place(a), self.place(b)) {
+            (Some(p), Some(q)) => self.linked_at(p, q),
+            _ => false,
+        }
+    }
+
+    /// Whether the nodes at two places are linked.
+    pub fn linked_at(&self, p: usize, q: usize) -> bool
+        requires p { p < length self.now.nodes }
+        requires q { q < length self.now.nodes }
+        ensures linked { IsTrue result ↔ Linked self.now (node_at self.now p) (node_at self.now q) }
+        ensures graph { IsGraph self.now }
+    {
+        has(&self.rows[p], q)
+    }
+
+    /// The place of a node, counted from 0, in the order of ids; none of a stranger.
+    pub fn place(&self, a: NodeId) -> Option<usize>
+        ensures some { IfSome result (λ p. (p < length self.now.nodes) × (node_at self.now p ≡ a)) }
+        ensures none { IfNone result (¬ Has self.now.nodes a) }
+        ensures graph { IsGraph self.now }
+    {
+        place_of(&self.nodes, a)
+    }
+
+    /// The row of a node: bit `p` is set where it is linked to the node at place `p`.
+    pub fn row(&self, a: NodeId) -> &[u64; WORDS]
+        requires { Has self.now.nodes a }
+        ensures bits { (p : ℕ) → HasBit result.now p ↔ ((p < length self.now.nodes) × Linked self.now a (node_at self.now p)) }
+        ensures graph { IsGraph self.now }
+    {
+        &self.rows[place_in(&self.nodes, a)]
     }
 
     /// The nodes that a node is linked to, ascending.
@@ -98,7 +121,7 @@ impl Graph {
         ensures neighbours { AreNeighbours self.now a result }
         ensures graph { IsGraph self.now }
     {
-        Neighbours::new(a, &self.nodes, &self.links)
+        Neighbours::new(&self.nodes, self.row(a))
     }
 
     /// An equal graph.
@@ -107,19 +130,20 @@ impl Graph {
     {
         Ok(Graph {
             nodes: self.nodes.clone()?,
-            links: self.links.clone()?,
+            rows: self.rows.clone()?,
         })
     }
 }
 
-fn copies(
+fn kept(
     alloc: Global,
     nodes: &[NodeId],
     links: &[(NodeId, NodeId)],
-) -> Result<(Vec<NodeId>, Vec<(NodeId, NodeId)>), AllocError>
-    ensures { IfOk result (λ v. (v.0.items ≡ nodes.now) × (v.1.items ≡ links.now)) }
+) -> Result<(Vec<NodeId>, Vec<Row>), AllocError>
+    requires { IsGraph (record { nodes = nodes.now; links = links.now }) }
+    ensures { IfOk result (λ v. (v.0.items ≡ nodes.now) × IsMarked nodes.now links.now v.1.items) }
 {
-    let nodes = Vec::from_slice(alloc, nodes)?;
-    let links = Vec::from_slice(alloc, links)?;
-    Ok((nodes, links))
+    let kept = Vec::from_slice(alloc, nodes)?;
+    let rows = rows_of(alloc, nodes, links)?;
+    Ok((kept, rows))
 }

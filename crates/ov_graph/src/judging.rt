@@ -1,16 +1,11 @@
 ghost use Rattle.std.specs.Prelude.{◌≡◌, ◌↔◌, IsTrue, None};
-ghost use Rattle.ov_graph.specs.Tests.{fault_of, links_fault, is_link, follows, are_joined};
+ghost use Rattle.ov_ids.specs.Members.{Ascends};
+ghost use Rattle.ov_graph.specs.Tests.{fault_of, links_fault, is_link, follows};
 
 use crate::fault::GraphFault;
 use crate::graph::Graph;
+use crate::places::is_node;
 use ov_ids::{NodeId, is_ascending};
-
-/// Whether the links have one of these two, named one way round or the other.
-pub(crate) fn are_linked(links: &[(NodeId, NodeId)], a: NodeId, b: NodeId) -> bool
-    ensures { result ≡ are_joined links.now a b }
-{
-    links.contains(&(a, b)) || links.contains(&(b, a))
-}
 
 /// The first fault of nodes and links.
 pub(crate) fn first_fault(nodes: &[NodeId], links: &[(NodeId, NodeId)]) -> Option<GraphFault>
@@ -26,6 +21,7 @@ pub(crate) fn first_fault(nodes: &[NodeId], links: &[(NodeId, NodeId)]) -> Optio
 }
 
 fn first_link_fault(nodes: &[NodeId], links: &[(NodeId, NodeId)]) -> Option<GraphFault>
+    requires { Ascends nodes.now }
     ensures { result ≡ links_fault nodes.now None links.now }
 {
     let mut before = None;
@@ -42,10 +38,11 @@ fn first_link_fault(nodes: &[NodeId], links: &[(NodeId, NodeId)]) -> Option<Grap
 }
 
 fn joins(nodes: &[NodeId], link: (NodeId, NodeId)) -> bool
+    requires { Ascends nodes.now }
     ensures { result ≡ is_link nodes.now link }
 {
     let (a, b) = link;
-    a < b && nodes.contains(&a) && nodes.contains(&b)
+    a < b && is_node(nodes, a) && is_node(nodes, b)
 }
 
 fn is_above(before: Option<(NodeId, NodeId)>, link: (NodeId, NodeId)) -> bool

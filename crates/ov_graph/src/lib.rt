@@ -3,9 +3,15 @@
 
 mod fault;
 mod graph;
-mod neighbours;
 mod judging;
+mod marking;
+mod neighbours;
+mod places;
+pub mod row;
 
 pub use fault::GraphFault;
 pub use graph::Graph;
 pub use neighbours::{Links, Neighbours};
+
+#[cfg(test)]
+mod tests;

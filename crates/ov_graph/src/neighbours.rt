@@ -1,37 +1,42 @@
-ghost use Rattle.std.specs.Prelude.{◌≡◌};
+ghost use Rattle.std.specs.Prelude.{◌≡◌, ℕ, ◌<◌, length};
 ghost use Rattle.std.specs.Iterator.{YieldsFirst, item_count};
-ghost use Rattle.ov_graph.specs.Tests.{neighbours_in};
+ghost use Rattle.ov_graph.specs.Row.{HasBit};
+ghost use Rattle.ov_graph.specs.Kept.{picked, links_read, IsKept};
 
-use crate::judging::are_linked;
+use crate::row::{Row, first_from};
 use ov_ids::NodeId;
 use std::marker::Model;
 
 /// The nodes that a node is linked to, ascending. Contracts see those that are still to come.
 #[derive(Drop)]
 pub struct Neighbours<'a> {
-    of: NodeId,
     nodes: &'a [NodeId],
-    links: &'a [(NodeId, NodeId)],
+    row: &'a Row,
+    next: usize,
 }
 
 impl<'a> Model for Neighbours<'a> {
-    ghost use Rattle.std.specs.Prelude.{List, ℕ};
-    ghost use Rattle.ov_graph.specs.Tests.{neighbours_in};
+    ghost use Rattle.std.specs.Prelude.{List, ℕ, ◌<◌, length, drop};
+    ghost use Rattle.ov_graph.specs.Row.{HasBit};
+    ghost use Rattle.ov_graph.specs.Kept.{picked};
 
     ghost Value = { List ℕ };
 
-    ghost view = { λ n. neighbours_in n.links.now n.of n.nodes.now };
+    ghost view = { λ n. picked n.row.now n.next (drop n.next n.nodes.now) };
+
+    ghost invariant = { λ n. (p : ℕ) → HasBit n.row.now p → p < length n.nodes.now };
 }
 
 impl<'a> Neighbours<'a> {
-    pub(crate) fn new(
-        of: NodeId,
-        nodes: &'a [NodeId],
-        links: &'a [(NodeId, NodeId)],
-    ) -> Neighbours<'a>
-        ensures { result ≡ neighbours_in links.now of nodes.now }
+    pub(crate) fn new(nodes: &'a [NodeId], row: &'a Row) -> Neighbours<'a>
+        requires { (p : ℕ) → HasBit row.now p → p < length nodes.now }
+        ensures { result ≡ picked row.now 0 nodes.now }
     {
-        Neighbours { of, nodes, links }
+        Neighbours {
+            nodes,
+            row,
+            next: 0,
+        }
     }
 }
 
@@ -43,35 +48,43 @@ impl Iterator for Neighbours<'_> {
     ghost remaining = { item_count (λ n. n) };
 
     fn next(&mut self) -> Option<NodeId> {
-        while let Some((first, rest)) = self.nodes.split_first() {
-            self.nodes = rest;
-            if are_linked(self.links, self.of, *first) {
-                return Some(*first);
-            }
-        }
-        None
+        let place = first_from(self.row, self.next)?;
+        self.next = place + 1;
+        Some(self.nodes[place])
     }
 }
 
 /// The links of a graph, ascending. Contracts see those that are still to come.
 #[derive(Drop)]
 pub struct Links<'a> {
-    links: &'a [(NodeId, NodeId)],
+    nodes: &'a [NodeId],
+    rows: &'a [Row],
+    lower: usize,
+    next: usize,
 }
 
 impl<'a> Model for Links<'a> {
     ghost use Rattle.std.specs.Prelude.{List, ℕ};
+    ghost use Rattle.ov_graph.specs.Kept.{links_from, IsKept};
 
     ghost Value = { List (ℕ × ℕ) };
 
-    ghost view = { λ l. l.links.now };
+    ghost view = { λ l. links_from l.nodes.now l.rows.now l.lower l.next };
+
+    ghost invariant = { λ l. IsKept l.nodes.now l.rows.now };
 }
 
 impl<'a> Links<'a> {
-    pub(crate) fn new(links: &'a [(NodeId, NodeId)]) -> Links<'a>
-        ensures { result ≡ links.now }
+    pub(crate) fn new(nodes: &'a [NodeId], rows: &'a [Row]) -> Links<'a>
+        requires { IsKept nodes.now rows.now }
+        ensures { result ≡ links_read 0 nodes.now rows.now }
     {
-        Links { links }
+        Links {
+            nodes,
+            rows,
+            lower: 0,
+            next: 1,
+        }
     }
 }
 
@@ -83,8 +96,14 @@ impl Iterator for Links<'_> {
     ghost remaining = { item_count (λ l. l) };
 
     fn next(&mut self) -> Option<(NodeId, NodeId)> {
-        let (first, rest) = self.links.split_first()?;
-        self.links = rest;
-        Some(*first)
+        while self.lower < self.nodes.len() {
+            if let Some(higher) = first_from(&self.rows[self.lower], self.next) {
+                self.next = higher + 1;
+                return Some((self.nodes[self.lower], self.nodes[higher]));
+            }
+            self.lower += 1;
+            self.next = self.lower + 1;
+        }
+        None
     }
 }

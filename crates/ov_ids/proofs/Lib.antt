@@ -2,3 +2,4 @@ pub mod Members
 pub mod Sets
 pub mod Rising
 pub mod Cases
+pub mod Stepping

@@ -8,6 +8,8 @@ mod memory;
 mod order;
 mod params;
 mod seq;
+#[cfg(test)]
+mod tests;
 
 pub use id::{MsgId, NodeId};
 pub use id_set::IdSet;

@@ -1,10 +1,11 @@
--- The test says what the relation says.
-use Rattle.std.proofs.Common.{◌≡◌, rules}
-use Rattle.ov_graph.specs.Tests.{are_joined}
-use Rattle.ov_graph.proofs.Tested.{joined_tested}
+-- A stranger is linked to nobody.
+use Rattle.ov_graph.proofs.Read.{stranger, linked_node}
 use Rattle.ov_graph.proofs.graph.Graph.linked.Goals as goal
 
-pub returns-clause-linked : goal.returns-clause-linked
-returns-clause-linked c =
-    let e : c.are_linked.result ≡ are_joined c.args.self.now.links c.args.a c.args.b = search rules in
-    joined_tested c.args.self.now c.args.a c.args.b c.are_linked.result e
+pub returns-in_default-clause-linked : goal.returns-in_default-clause-linked
+returns-in_default-clause-linked c = ((λ h. absurd (cc)), (λ l. absurd (c.in_default.ensures'.none (linked_node c.args.self.now c.args.a c.args.b c.in_default.ensures.graph l))))
+
+pub returns-in_default-2-clause-linked : goal.returns-in_default-2-clause-linked
+returns-in_default-2-clause-linked c =
+    let none = rw c.in_default.is-0 at c.place.ensures.none in
+    ((λ h. absurd (cc)), (λ l. absurd (stranger c.args.self.now c.args.a c.args.b c.place.ensures.graph none l)))

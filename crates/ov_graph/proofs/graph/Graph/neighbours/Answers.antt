@@ -1,11 +1,12 @@
--- The nodes that pass the test are the neighbours.
-use Rattle.std.proofs.Common.{◌≡◌, subst, rules}
-use Rattle.ov_graph.specs.Links.{IsGraph, AreNeighbours}
-use Rattle.ov_graph.specs.Tests.{neighbours_in}
-use Rattle.ov_graph.proofs.Filtered.{are_neighbours}
+-- The nodes whose bits are set in its row.
+use Rattle.std.proofs.Common.{◌∙◌, sym, ap, subst}
+use Rattle.ov_graph.specs.Links.{LinkGraph, AreNeighbours}
+use Rattle.ov_graph.specs.Kept.{picked}
+use Rattle.ov_graph.proofs.Read.{are_neighbours}
 use Rattle.ov_graph.proofs.graph.Graph.neighbours.Goals as goal
 
 pub returns-clause-neighbours : goal.returns-clause-neighbours
 returns-clause-neighbours c =
-    let e : neighbours_in c.args.self.now.links c.args.a c.args.self.now.nodes ≡ c.new.result = search rules in
-    subst (AreNeighbours c.args.self.now c.args.a) e (are_neighbours c.args.self.now c.args.a (subst IsGraph c.self.view_is c.self.invariant))
+    let row = c.row.result.now in
+    let e = c.new.ensures ∙ ap (picked row 0) c.deref.ensures.value ∙ ap (λ (g : LinkGraph). picked row 0 g.nodes) c.self.view_is in
+    subst (AreNeighbours c.args.self.now c.args.a) (sym e) (are_neighbours c.args.self.now c.args.a row c.row.ensures.graph c.row.ensures.bits)

@@ -1,8 +1,9 @@
 -- What no test refuses is a graph, and what is refused is refused for the first fault.
-use Rattle.std.proofs.Common.{◌≡◌, None, Some, subst, rules}
-use Rattle.ov_graph.specs.Links.{LinkGraph, IsGraph}
-use Rattle.ov_graph.specs.Tests.{fault_of}
-use Rattle.ov_graph.proofs.Tested.{refused, passed, graph_of_copies}
+use Rattle.std.proofs.Common.{List, ℕ, sym, subst, rules}
+use Rattle.ov_graph.specs.Kept.{IsKept}
+use Rattle.ov_graph.proofs.Tested.{refused, passed, graph_of}
+use Rattle.ov_graph.proofs.Read.{is_graph}
+use Rattle.ov_graph.proofs.Marked.{is_kept, same_graph}
 use Rattle.ov_graph.proofs.graph.Graph.new.Goals as goal
 
 pub returns-in-Some-clause-judged : goal.returns-in-Some-clause-judged
@@ -14,8 +15,21 @@ returns-in-Ok-clause-judged c = passed c.args.nodes.now c.args.links.now (search
 pub returns-in-Err-clause-judged : goal.returns-in-Err-clause-judged
 returns-in-Err-clause-judged c = passed c.args.nodes.now c.args.links.now (search rules)
 
-pub returns-in-Ok-clause-is_graph : goal.returns-in-Ok-clause-is_graph
-returns-in-Ok-clause-is_graph c = graph_of_copies c.args.nodes.now c.in-Ok.nodes.items c.args.links.now c.in-Ok.links.items (search rules) (search rules) (search rules)
+pub kept-requires : goal.kept-requires
+kept-requires c = graph_of c.args.nodes.now c.args.links.now (search rules)
 
 pub invariant_of-result : goal.invariant_of-result
-invariant_of-result c = graph_of_copies c.args.nodes.now c.in-Ok.nodes.items c.args.links.now c.in-Ok.links.items (search rules) (search rules) (search rules)
+invariant_of-result c =
+    let nodes = c.args.nodes.now in
+    let links = c.args.links.now in
+    let graph = graph_of nodes links (search rules) in
+    subst (λ (ns : List ℕ). IsKept ns c.in-Ok.rows.items) (sym c.in-Ok.ensures.0) (is_kept nodes links c.in-Ok.rows.items graph c.in-Ok.ensures.1)
+
+pub returns-in-Ok-clause-graph : goal.returns-in-Ok-clause-graph
+returns-in-Ok-clause-graph c =
+    let nodes = c.args.nodes.now in
+    let links = c.args.links.now in
+    same_graph nodes c.in-Ok.nodes.items links c.in-Ok.rows.items c.in-Ok.ensures.0 (graph_of nodes links (search rules)) c.in-Ok.ensures.1
+
+pub returns-in-Ok-clause-is_graph : goal.returns-in-Ok-clause-is_graph
+returns-in-Ok-clause-is_graph c = is_graph _ _ (invariant_of-result c)

@@ -1,0 +1,150 @@
+-- Rows with the bits of links.
+use Rattle.std.proofs.Common.{◌≡◌, ◌∙◌, ◌↔◌, ◌⊎◌, ℕ, ◌+◌, ◌<◌, List, [], ◌∷◌, ◌++◌, length, replicate, set, slice_index, inl, inr, sym, ap, ap₂, subst, arith}
+use Rattle.std.proofs.lemmas.Bool.{cases_order, cases_eq}
+use Rattle.std.proofs.lemmas.List.{get_or-set_same, get_or-set_other, get_or-replicate, length-replicate}
+use Rattle.ov_ids.specs.Members.{Has, Ascends}
+use Rattle.ov_ids.proofs.Members.{has_append_left, has_append_right, has_append_cases, place_of, ordered_at, same_ordered}
+use Rattle.ov_graph.specs.Links.{LinkGraph, IsGraph, Precedes, Linked}
+use Rattle.ov_graph.specs.Row.{HasBit}
+use Rattle.ov_graph.specs.Kept.{row_at, links_read, graph_kept, IsKept, IsMarked}
+use Rattle.ov_graph.proofs.Bits.{bit_moved}
+use Rattle.ov_graph.proofs.Read.{has_read, in_read, ordered_read, one_place, row_below}
+
+abbrev graph_of : List ℕ → List (ℕ × ℕ) → LinkGraph
+graph_of nodes links = record { nodes = nodes; links = links }
+
+linked_either : (g : LinkGraph) (a b : ℕ) → Linked g a b → Linked g b a
+unfolding Linked
+linked_either g a b l = elim l [ inl h ↦ inr h | inr h ↦ inl h ]
+
+not_itself : (g : LinkGraph) (a : ℕ) → IsGraph g → Linked g a a → ⊥
+unfolding Linked
+not_itself g a graph l = elim l [ inl h ↦ let r : a < a = (graph.joins (a, a) h).0 in omega (arith, r) | inr h ↦ let r : a < a = (graph.joins (a, a) h).0 in omega (arith, r) ]
+
+-- rows with the bits of a graph's links keep it
+pub is_kept : (nodes : List ℕ) (links : List (ℕ × ℕ)) (rows : List (List ℕ)) → IsGraph (graph_of nodes links) → IsMarked nodes links rows → IsKept nodes rows
+is_kept nodes links rows graph marked = record {
+  few = graph.few;
+  ascend = graph.nodes_ascend;
+  each = marked.each;
+  within = λ p q h. ((marked.bits p q).0 h).1;
+  both = λ p q h. let m = (marked.bits p q).0 h in (marked.bits q p).1 (m.1, m.0, linked_either (graph_of nodes links) (slice_index nodes p) (slice_index nodes q) m.2);
+  apart = λ p h. not_itself (graph_of nodes links) (slice_index nodes p) graph ((marked.bits p p).0 h).2;
+}
+
+in_marked : (nodes : List ℕ) (links : List (ℕ × ℕ)) (rows : List (List ℕ)) (x y : ℕ) → IsGraph (graph_of nodes links) → IsMarked nodes links rows → Has links (x, y) → Has {X = ℕ × ℕ} (links_read 0 nodes rows) (x, y)
+unfolding Linked
+in_marked nodes links rows x y graph marked h =
+    let j = graph.joins (x, y) h in
+    let m = place_of nodes x j.1 in
+    let n = place_of nodes y j.2 in
+    let p = m.0 in
+    let q = n.0 in
+    let pl : p < length nodes = m.1 in
+    let ql : q < length nodes = n.1 in
+    let e : slice_index nodes p ≡ x = m.2 in
+    let f : slice_index nodes q ≡ y = n.2 in
+    let rising : x < y = j.0 in
+    let less : p < q = elim (cases_order p q) [
+      | inl s ↦ let t : slice_index nodes p ≡ slice_index nodes q = ap (λ (i : ℕ). slice_index nodes i) s in absurd (omega (arith, rising, e, f, t))
+      | inr (inl k) ↦ k
+      | inr (inr k) ↦ let t : slice_index nodes q < slice_index nodes p = ordered_at (λ x y. x < y) nodes q p 0 graph.nodes_ascend k pl in absurd (omega (arith, rising, e, f, t))
+    ] in
+    let l : Has links (slice_index nodes p, slice_index nodes q) = subst (λ (a : ℕ). Has links (a, slice_index nodes q)) (sym e) (subst (λ (b : ℕ). Has links (x, b)) (sym f) h) in
+    let r : Has {X = ℕ × ℕ} (links_read 0 nodes rows) (slice_index nodes p, slice_index nodes q) = in_read 0 nodes rows p q less ql (bit_moved (row_at rows p) q (0 + q) (omega arith) ((marked.bits p q).1 (pl, ql, inl l))) in
+    subst (λ (a : ℕ). Has {X = ℕ × ℕ} (links_read 0 nodes rows) (a, y)) e (subst (λ (b : ℕ). Has {X = ℕ × ℕ} (links_read 0 nodes rows) (slice_index nodes p, b)) f r)
+
+from_marked : (nodes : List ℕ) (links : List (ℕ × ℕ)) (rows : List (List ℕ)) (x y : ℕ) → IsGraph (graph_of nodes links) → IsMarked nodes links rows → Has {X = ℕ × ℕ} (links_read 0 nodes rows) (x, y) → Has links (x, y)
+unfolding Linked
+from_marked nodes links rows x y graph marked h =
+    let r = has_read 0 nodes rows x y h in
+    let b = (marked.bits r.lower r.higher).0 (bit_moved (row_at rows r.lower) (0 + r.higher) r.higher (omega arith) r.bit) in
+    let less : slice_index nodes r.lower < slice_index nodes r.higher = ordered_at (λ x y. x < y) nodes r.lower r.higher 0 graph.nodes_ascend r.less r.below in
+    let l : Has links (slice_index nodes r.lower, slice_index nodes r.higher) = elim b.2 [
+      | inl k ↦ k
+      | inr k ↦ let j : slice_index nodes r.higher < slice_index nodes r.lower = (graph.joins (slice_index nodes r.higher, slice_index nodes r.lower) k).0 in absurd (omega (arith, less, j))
+    ] in
+    subst (λ (a : ℕ). Has links (a, y)) r.first (subst (λ (b : ℕ). Has links (slice_index nodes r.lower, b)) r.second l)
+
+no_round : (l m : ℕ × ℕ) → Precedes l m → Precedes m l → ⊥
+no_round l m p q = elim p [
+  | inl a ↦ elim q [ inl b ↦ omega (arith, a, b) | inr b ↦ let c = b.0 in omega (arith, a, c) ]
+  | inr a ↦ elim q [ inl b ↦ let c = a.0 in omega (arith, c, b) | inr b ↦ let c = a.1 in let d = b.1 in omega (arith, c, d) ]
+]
+
+-- the links that are read off are the links that were marked
+pub read_back : (nodes : List ℕ) (links : List (ℕ × ℕ)) (rows : List (List ℕ)) → IsGraph (graph_of nodes links) → IsMarked nodes links rows → links_read 0 nodes rows ≡ links
+read_back nodes links rows graph marked =
+    same_ordered Precedes no_round (links_read 0 nodes rows) links (ordered_read 0 nodes rows graph.nodes_ascend) graph.links_ascend (λ l h. from_marked nodes links rows l.0 l.1 graph marked h) (λ l h. in_marked nodes links rows l.0 l.1 graph marked h)
+
+-- empty rows have the bits of no links
+pub none_marked : (nodes : List ℕ) (rows : List (List ℕ)) → length rows ≡ length nodes → ((p q : ℕ) → ¬ HasBit (row_at rows p) q) → IsMarked nodes [] rows
+unfolding Linked
+none_marked nodes rows e none = record { each = e; bits = λ p q. ((λ h. absurd (none p q h)), (λ m. absurd (elim m.2 [ inl h ↦ h | inr h ↦ h ]))) }
+
+-- the bits of one more link
+pub more_marked : (nodes : List ℕ) (links : List (ℕ × ℕ)) (rows rows1 rows2 : List (List ℕ)) (p q a b : ℕ) → Ascends nodes → p < length nodes → q < length nodes → slice_index nodes p ≡ a → slice_index nodes q ≡ b → length rows2 ≡ length rows →
+    ((r s : ℕ) → HasBit (row_at rows1 r) s ↔ (((r ≡ p) × (s ≡ q)) ⊎ HasBit (row_at rows r) s)) → ((r s : ℕ) → HasBit (row_at rows2 r) s ↔ (((r ≡ q) × (s ≡ p)) ⊎ HasBit (row_at rows1 r) s)) →
+    IsMarked nodes links rows → IsMarked nodes (links ++ (a, b) ∷ []) rows2
+unfolding Linked
+more_marked nodes links rows rows1 rows2 p q a b up pl ql e f same first second marked =
+    let new : (r s : ℕ) → r ≡ p → s ≡ q → Has (links ++ (a, b) ∷ []) (slice_index nodes r, slice_index nodes s) = λ r s u v.
+    has_append_right links ((a, b) ∷ []) (slice_index nodes r, slice_index nodes s)
+    (inl (ap₂ (λ (x y : ℕ). (x, y)) (sym e ∙ ap (λ (i : ℕ). slice_index nodes i) (sym u)) (sym f ∙ ap (λ (i : ℕ). slice_index nodes i) (sym v)))) in
+    let old : (l : ℕ × ℕ) → Has links l → Has (links ++ (a, b) ∷ []) l = λ l h. has_append_left links ((a, b) ∷ []) l h in
+    let ends : (r s : ℕ) → r < length nodes → s < length nodes → Has {X = ℕ × ℕ} ((a, b) ∷ []) (slice_index nodes r, slice_index nodes s) → (r ≡ p) × (s ≡ q) = λ r s rl sl h. elim h [
+      | inl t ↦ (
+        one_place nodes r p up rl pl (sym (ap (λ (l : ℕ × ℕ). l.0) t) ∙ sym e),
+        one_place nodes s q up sl ql (sym (ap (λ (l : ℕ × ℕ). l.1) t) ∙ sym f),
+      )
+      | inr w ↦ absurd w
+    ] in
+    record {
+      each = same ∙ marked.each;
+      bits = λ r s. (
+        (λ h. elim ((second r s).0 h) [
+          | inl t ↦ (subst (λ (i : ℕ). i < length nodes) (sym t.0) ql, subst (λ (i : ℕ). i < length nodes) (sym t.1) pl, inr (new s r t.1 t.0))
+          | inr k ↦ elim ((first r s).0 k) [
+            | inl t ↦ (subst (λ (i : ℕ). i < length nodes) (sym t.0) pl, subst (λ (i : ℕ). i < length nodes) (sym t.1) ql, inl (new r s t.0 t.1))
+            | inr m ↦ let b = (marked.bits r s).0 m in (b.0, b.1, elim b.2 [ inl g ↦ inl (old (slice_index nodes r, slice_index nodes s) g) | inr g ↦ inr (old (slice_index nodes s, slice_index nodes r) g) ])
+          ]
+        ]),
+        (λ h. elim h.2 [
+          | inl g ↦ elim (has_append_cases links ((a, b) ∷ []) (slice_index nodes r, slice_index nodes s) g) [
+            | inl k ↦ (second r s).1 (inr ((first r s).1 (inr ((marked.bits r s).1 (h.0, h.1, inl k)))))
+            | inr k ↦ (second r s).1 (inr ((first r s).1 (inl (ends r s h.0 h.1 k))))
+          ]
+          | inr g ↦ elim (has_append_cases links ((a, b) ∷ []) (slice_index nodes s, slice_index nodes r) g) [
+            | inl k ↦ (second r s).1 (inr ((first r s).1 (inr ((marked.bits r s).1 (h.0, h.1, inr k)))))
+            | inr k ↦ let t = ends s r h.1 h.0 k in (second r s).1 (inl (t.1, t.0))
+          ]
+        ]),
+      );
+    }
+
+-- one more bit of one row
+pub mark_row : (rows : List (List ℕ)) (p q : ℕ) (row : List ℕ) → p < length rows → ((s : ℕ) → HasBit row s ↔ ((s ≡ q) ⊎ HasBit (row_at rows p) s)) → (r s : ℕ) → HasBit (row_at (set rows p row) r) s ↔ (((r ≡ p) × (s ≡ q)) ⊎ HasBit (row_at rows r) s)
+mark_row rows p q row l put r s = elim (cases_eq r p) [
+  | inl e ↦
+      let w : row_at (set rows p row) r ≡ row = subst (λ (i : ℕ). row_at (set rows p row) i ≡ row) (sym e) (get_or-set_same rows p row [] l) in
+      let v : row_at rows p ≡ row_at rows r = ap (row_at rows) (sym e) in (
+        (λ h. elim ((put s).0 (subst (λ (t : List ℕ). HasBit t s) w h)) [ inl f ↦ inl (e, f) | inr k ↦ inr (subst (λ (t : List ℕ). HasBit t s) v k) ]),
+        (λ h. subst (λ (t : List ℕ). HasBit t s) (sym w) ((put s).1 (elim h [ inl f ↦ inl f.1 | inr k ↦ inr (subst (λ (t : List ℕ). HasBit t s) (sym v) k) ]))),
+      )
+  | inr d ↦
+      let w : row_at (set rows p row) r ≡ row_at rows r = get_or-set_other rows p r row [] d in (
+        (λ h. inr (subst (λ (t : List ℕ). HasBit t s) w h)),
+        (λ h. elim h [ inl f ↦ absurd (d f.0) | inr k ↦ subst (λ (t : List ℕ). HasBit t s) (sym w) k ]),
+      )
+]
+
+-- rows that are all empty have no bit
+pub empty_rows : (n : ℕ) (row : List ℕ) → ((q : ℕ) → ¬ HasBit row q) → (p q : ℕ) → ¬ HasBit (row_at (replicate n row) p) q
+empty_rows n row none p q h =
+    let l : p < length (replicate n row) = row_below (replicate n row) p q h in
+    let e : row_at (replicate n row) p ≡ row = get_or-replicate n p row [] (omega (arith, l, length-replicate n row)) in
+    none q (subst (λ (t : List ℕ). HasBit t q) e h)
+
+-- the graph that is kept is that of the links that were marked
+pub same_graph : (nodes nodes' : List ℕ) (links : List (ℕ × ℕ)) (rows : List (List ℕ)) → nodes' ≡ nodes → IsGraph (graph_of nodes links) → IsMarked nodes links rows → graph_kept nodes' rows ≡ graph_of nodes links
+same_graph nodes nodes' links rows e graph marked = ap (λ (ns : List ℕ). graph_kept ns rows) e ∙ ap (graph_of nodes) (read_back nodes links rows graph marked)

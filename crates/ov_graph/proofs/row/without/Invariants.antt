@@ -1,0 +1,7 @@
+-- the words so far have the bits of one that the other has not
+use Rattle.std.proofs.Common.{◌≡◌, ◌↔◌, ℕ, ◌<◌, ◌*◌, length}
+use Rattle.ov_graph.specs.Row.{HasBit}
+use Rattle.ov_graph.proofs.row.without.Given as goal
+
+abbrev pub invariant-loop-word : goal.invariant-loop-word
+invariant-loop-word l = record { wide : length l.kept ≡ length l.a; bits : (q : ℕ) → q < 64 * l.word → HasBit l.kept q ↔ (HasBit l.a q × ¬ HasBit l.b q) }

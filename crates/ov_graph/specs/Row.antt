@@ -1,0 +1,23 @@
+-- Rows of bits, in words of 64 bits.
+use Rattle.std.specs.Prelude.{◌≡◌, ℕ, ◌/◌, ◌%◌, ◌<◌, ◌≤◌, ◌==◌, Bool, IsTrue, List, slice_index}
+use Rattle.std.specs.Int.{bit_at}
+
+-- bit p of a row: bit p mod 64 of its word p / 64
+unfoldable pub has_bit : List ℕ → ℕ → Bool
+has_bit row p = bit_at (slice_index row (p / 64)) (p % 64) == 1
+
+-- bit p is set
+abbrev pub HasBit : List ℕ → ℕ → Type 0
+HasBit row p = IsTrue (has_bit row p)
+
+-- p is the first set bit from `from` on
+pub record IsFirstFrom (row : List ℕ) (from p : ℕ) : Type 0 where
+  pub reached : from ≤ p
+  pub set : HasBit row p
+  pub first : (q : ℕ) → from ≤ q → q < p → ¬ HasBit row q
+
+-- t is the first set bit of a word
+pub record IsLowest (word t : ℕ) : Type 0 where
+  pub below : t < 64
+  pub set : bit_at word t ≡ 1
+  pub first : (i : ℕ) → i < t → bit_at word i ≡ 0

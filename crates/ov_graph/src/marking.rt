@@ -1,0 +1,47 @@
+ghost use Rattle.std.specs.Prelude.{◌≡◌, ◌↔◌, ◌⊎◌, ℕ, ◌<◌, ◌*◌, [], length, IfOk};
+ghost use Rattle.ov_ids.specs.Members.{Has, Ascends};
+ghost use Rattle.ov_graph.specs.Links.{IsGraph};
+ghost use Rattle.ov_graph.specs.Row.{HasBit};
+ghost use Rattle.ov_graph.specs.Kept.{row_at, IsMarked};
+
+use crate::places::place_in;
+use crate::row::{EMPTY, Row, WORDS, put};
+use ov_ids::NodeId;
+use std::alloc::{AllocError, Global};
+
+/// The rows of a graph of these nodes and links.
+pub(crate) fn rows_of(
+    alloc: Global,
+    nodes: &[NodeId],
+    links: &[(NodeId, NodeId)],
+) -> Result<Vec<Row>, AllocError>
+    requires { IsGraph (record { nodes = nodes.now; links = links.now }) }
+    ensures { IfOk result (λ rows. IsMarked nodes.now links.now rows.items) }
+{
+    let mut rows = Vec::from_elem(alloc, EMPTY, nodes.len())?;
+    mark_all(nodes, links, &mut rows);
+    Ok(rows)
+}
+
+/// Sets the bits of the links in rows that have none.
+fn mark_all(nodes: &[NodeId], links: &[(NodeId, NodeId)], rows: &mut [Row])
+    requires graph { IsGraph (record { nodes = nodes.now; links = links.now }) }
+    requires none { IsMarked nodes.now [] rows.old }
+    ensures { IsMarked nodes.now links.now rows.new }
+{
+    for link in links {
+        let p = place_in(nodes, link.0);
+        let q = place_in(nodes, link.1);
+        mark(rows, p, q);
+        mark(rows, q, p);
+    }
+}
+
+/// Sets bit `q` of the row at `p`.
+fn mark(rows: &mut [Row], p: usize, q: usize)
+    requires row { p < length rows.old }
+    requires bit { q < 64 * WORDS }
+    ensures { (r s : ℕ) → HasBit (row_at rows.new r) s ↔ (((r ≡ p) × (s ≡ q)) ⊎ HasBit (row_at rows.old r) s) }
+{
+    put(&mut rows[p], q);
+}

@@ -1,0 +1,107 @@
+//! Rows of bits: sets of places of nodes.
+ghost use Rattle.std.specs.Prelude.{◌≡◌, ◌↔◌, ◌⊎◌, ℕ, ◌<◌, ◌≤◌, ◌*◌, IsTrue, IfSome, IfNone};
+ghost use Rattle.std.specs.Int.{bit_at};
+ghost use Rattle.ov_graph.specs.Row.{HasBit, IsFirstFrom, IsLowest};
+
+/// How many words a row has.
+pub const WORDS: usize = 4;
+
+/// A row of bits: bit `p` is bit `p % 64` of word `p / 64`.
+pub type Row = [u64; WORDS];
+
+/// The row with no bit set.
+pub const EMPTY: [u64; WORDS] = [0; WORDS];
+
+/// Whether bit `p` is set.
+pub fn has(row: &[u64; WORDS], p: usize) -> bool
+    requires { p < 64 * WORDS }
+    ensures { IsTrue result ↔ HasBit row.now p }
+{
+    row[p / 64] >> (p % 64) & 1 == 1
+}
+
+/// Sets bit `p`, and leaves the others.
+pub fn put(row: &mut [u64; WORDS], p: usize)
+    requires { p < 64 * WORDS }
+    ensures { (q : ℕ) → HasBit row.new q ↔ ((q ≡ p) ⊎ HasBit row.old q) }
+{
+    row[p / 64] = with_bit(row[p / 64], (p % 64) as u32);
+}
+
+/// The bits that are set in both rows.
+pub fn both(a: &[u64; WORDS], b: &[u64; WORDS]) -> [u64; WORDS]
+    ensures { (p : ℕ) → HasBit result p ↔ (HasBit a.now p × HasBit b.now p) }
+{
+    let mut kept = EMPTY;
+    for word in 0..WORDS {
+        kept[word] = a[word] & b[word];
+    }
+    kept
+}
+
+/// The bits that are set in `a` and not in `b`.
+pub fn without(a: &[u64; WORDS], b: &[u64; WORDS]) -> [u64; WORDS]
+    ensures { (p : ℕ) → HasBit result p ↔ (HasBit a.now p × ¬ HasBit b.now p) }
+{
+    let mut kept = EMPTY;
+    for word in 0..WORDS {
+        kept[word] = minus(a[word], b[word]);
+    }
+    kept
+}
+
+/// The first set bit from `from` on.
+pub fn first_from(row: &[u64; WORDS], from: usize) -> Option<usize>
+    ensures some { IfSome result (λ p. IsFirstFrom row.now from p) }
+    ensures fits { IfSome result (λ p. p < 64 * WORDS) }
+    ensures none { IfNone result ((p : ℕ) → from ≤ p → ¬ HasBit row.now p) }
+{
+    let word = from / 64;
+    if word >= WORDS {
+        return None;
+    }
+    if let Some(t) = lowest(row[word] >> (from % 64)) {
+        return Some(from + t as usize);
+    }
+    for later in word + 1..WORDS {
+        if let Some(t) = lowest(row[later]) {
+            return Some(64 * later + t as usize);
+        }
+    }
+    None
+}
+
+/// Whether no bit is set.
+pub fn is_empty(row: &[u64; WORDS]) -> bool
+    ensures { IsTrue result ↔ ((p : ℕ) → ¬ HasBit row.now p) }
+{
+    first_from(row, 0).is_none()
+}
+
+/// The bits of one word that are set in `a` and not in `b`.
+fn minus(a: u64, b: u64) -> u64
+    ensures { (i : ℕ) → i < 64 → (bit_at result i ≡ 1) ↔ ((bit_at a i ≡ 1) × ¬ (bit_at b i ≡ 1)) }
+{
+    a & !b
+}
+
+/// The word with bit `k` set.
+fn with_bit(word: u64, k: u32) -> u64
+    requires { k < 64 }
+    ensures set { bit_at result k ≡ 1 }
+    ensures others { (i : ℕ) → ¬ (i ≡ k) → bit_at result i ≡ bit_at word i }
+{
+    word | (1 << k)
+}
+
+/// The first set bit of a word.
+fn lowest(word: u64) -> Option<u32>
+    ensures some { IfSome result (λ t. IsLowest word t) }
+    ensures none { IfNone result (word ≡ 0) }
+{
+    if word == 0 {
+        None
+    } else {
+        Some(word.trailing_zeros())
+    }
+}
