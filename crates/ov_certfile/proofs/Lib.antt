@@ -1,0 +1,4 @@
+pub mod OtherKeys
+pub mod Listed
+pub mod Written
+pub mod Back

@@ -1,0 +1,59 @@
+ghost use Rattle.std.specs.Prelude.{◌≡◌};
+ghost use Rattle.ov_certfile.specs.Number.{number_of};
+ghost use Rattle.ov_certfile.specs.declared.fault.FileFault.TheVariants.{OutOfMemory};
+
+use ov_graph::GraphFault;
+use std::alloc::{AllocError, AllocFailed};
+use thiserror::Error;
+
+/// Why a text is no certificate file.
+#[derive(Clone, Copy, Debug, PartialEq, Eq, Error)]
+pub enum FileFault {
+    #[error("no JSON")]
+    NotJson,
+    #[error("a key is missing")]
+    MissingKey,
+    #[error("a key is unknown")]
+    UnknownKey,
+    #[error("a value has another form")]
+    BadValue,
+    #[error("another version")]
+    Version,
+    #[error("the graph: {0}")]
+    Graph(GraphFault),
+    #[error("out of memory")]
+    OutOfMemory,
+}
+
+impl FileFault {
+    /// The fault's number; a graph's fault keeps its own.
+    pub fn number(&self) -> u32
+        ensures { result ≡ number_of self.now }
+    {
+        match self {
+            FileFault::NotJson => 60,
+            FileFault::MissingKey => 61,
+            FileFault::UnknownKey => 62,
+            FileFault::BadValue => 63,
+            FileFault::Version => 64,
+            FileFault::Graph(fault) => fault.number(),
+            FileFault::OutOfMemory => 99,
+        }
+    }
+}
+
+impl From<AllocError> for FileFault {
+    ghost from_gives = { λ _ e. e ≡ OutOfMemory };
+
+    fn from(_error: AllocError) -> FileFault {
+        FileFault::OutOfMemory
+    }
+}
+
+impl<T: Drop> From<AllocFailed<T>> for FileFault {
+    ghost from_gives = { λ _ e. e ≡ OutOfMemory };
+
+    fn from(_error: AllocFailed<T>) -> FileFault {
+        FileFault::OutOfMemory
+    }
+}
