@@ -1,0 +1,109 @@
+use crate::outcome::Outcome;
+use ov_cert::{Cert, CheckFault};
+use ov_ids::NodeId;
+use std::fmt::{Display, Formatter, Result, Write};
+
+/// The line of an outcome, without its line feed.
+impl Display for Outcome {
+    ghost use Rattle.std.specs.Prelude.{Some};
+    ghost use Rattle.ov_check.specs.Line.{line_of};
+
+    ghost output = { λ o. Some (line_of o) };
+
+    #[tactic(auto, unfolding(crate::specs::Line::line_of))]
+    fn fmt<W: Write>(&self, f: &mut Formatter<W>) -> Result {
+        match self {
+            Outcome::Holds(filed) => {
+                let moment = filed.moment;
+                let cert = CertText(&filed.cert);
+                write!(f, "holds {moment} {cert}")
+            }
+            Outcome::Fails(fault) => {
+                let fault = FaultText(*fault);
+                write!(f, "fails {fault}")
+            }
+            Outcome::Refused(fault) => {
+                let number = fault.number();
+                write!(f, "refused {number}")
+            }
+        }
+    }
+}
+
+/// What a certificate says, without its paths.
+#[derive(Drop)]
+struct CertText<'a>(&'a Cert);
+
+impl<'a> Display for CertText<'a> {
+    ghost use Rattle.std.specs.Prelude.{Some};
+    ghost use Rattle.ov_check.specs.Line.{cert_text};
+
+    ghost output = { λ t. Some (cert_text t.0.now) };
+
+    #[tactic(auto, unfolding(crate::specs::Line::cert_text))]
+    fn fmt<W: Write>(&self, f: &mut Formatter<W>) -> Result {
+        match self.0 {
+            Cert::Linked { k } => write!(f, "linked k {k}"),
+            Cert::Split(split) => {
+                let k = split.k;
+                let cut = IdsText(split.cut.as_slice());
+                let near = split.near.number();
+                let far = split.far.number();
+                let side = IdsText(split.side.as_slice());
+                write!(f, "split k {k} cut {cut} near {near} far {far} side {side}")
+            }
+        }
+    }
+}
+
+/// The number of a fault, and then the nodes that it names.
+#[derive(Drop)]
+struct FaultText(CheckFault);
+
+impl Display for FaultText {
+    ghost use Rattle.std.specs.Prelude.{Some};
+    ghost use Rattle.ov_check.specs.Line.{fault_text};
+
+    ghost output = { λ t. Some (fault_text t.0) };
+
+    #[tactic(auto, unfolding(crate::specs::Line::fault_text))]
+    fn fmt<W: Write>(&self, f: &mut Formatter<W>) -> Result {
+        let number = self.0.number();
+        match self.0 {
+            CheckFault::Pair { i, j } => {
+                let i = i.number();
+                let j = j.number();
+                write!(f, "{number} {i} {j}")
+            }
+            CheckFault::Fan { j } => {
+                let j = j.number();
+                write!(f, "{number} {j}")
+            }
+            _ => write!(f, "{number}"),
+        }
+    }
+}
+
+/// Ids with commas between them, or a dash where there are none.
+#[derive(Drop)]
+struct IdsText<'a>(&'a [NodeId]);
+
+impl<'a> Display for IdsText<'a> {
+    ghost use Rattle.std.specs.Prelude.{Some};
+    ghost use Rattle.ov_check.specs.Line.{ids_text};
+
+    ghost output = { λ t. Some (ids_text t.0.now) };
+
+    fn fmt<W: Write>(&self, f: &mut Formatter<W>) -> Result {
+        let Some((first, rest)) = self.0.split_first() else {
+            return write!(f, "-");
+        };
+        let number = first.number();
+        write!(f, "{number}")?;
+        for id in rest {
+            let number = id.number();
+            write!(f, ",{number}")?;
+        }
+        Ok(())
+    }
+}
