@@ -83,9 +83,9 @@ judged g (SplitBy c) graph =
       pairs,
       expected g c.k graph,
       step_unless (0 < length g.nodes) (eqb (length g.nodes) 0) NoNodes (Step (length c.cut ≡ c.k) Count (Step (IsNodeSet g c.cut) Cut (Step (IsCutOff g c) Side (EntriesJudged g c pairs)))) (split_fault g c) (has_none (length g.nodes)) (has_some (length g.nodes))
-      (step_by (length c.cut ≡ c.k) (eqb (length c.cut) c.k) Count (Step (IsNodeSet g c.cut) Cut (Step (IsCutOff g c) Side (EntriesJudged g c pairs))) (cond (is_node_set g c.cut) (cond (is_cut_off g c) (entries_fault g c) (Some Side)) (Some Cut)) (count_tested (length c.cut) c.k)
-      (step_by (IsNodeSet g c.cut) (is_node_set g c.cut) Cut (Step (IsCutOff g c) Side (EntriesJudged g c pairs)) (cond (is_cut_off g c) (entries_fault g c) (Some Side)) (node_set_tested g c.cut)
-      (step_by (IsCutOff g c) (is_cut_off g c) Side (EntriesJudged g c pairs) (entries_fault g c) (cut_off_tested g c graph) (entries_judged g c graph)))),
+          (step_by (length c.cut ≡ c.k) (eqb (length c.cut) c.k) Count (Step (IsNodeSet g c.cut) Cut (Step (IsCutOff g c) Side (EntriesJudged g c pairs))) (cond (is_node_set g c.cut) (cond (is_cut_off g c) (entries_fault g c) (Some Side)) (Some Cut)) (count_tested (length c.cut) c.k)
+          (step_by (IsNodeSet g c.cut) (is_node_set g c.cut) Cut (Step (IsCutOff g c) Side (EntriesJudged g c pairs)) (cond (is_cut_off g c) (entries_fault g c) (Some Side)) (node_set_tested g c.cut)
+          (step_by (IsCutOff g c) (is_cut_off g c) Side (EntriesJudged g c pairs) (entries_fault g c) (cut_off_tested g c graph) (entries_judged g c graph)))),
     )
 
 -- entries that are there at each place, and no others: they name the items, and each is good
@@ -142,14 +142,16 @@ valid g (SplitBy c) j =
     let f = passed_fans g c.k c.fans (later_nodes g c.k) Last p.1 in
     let m = step_none (HasNoMore g c pairs) Extra Passed f.1 in
     let ps = matched pair_name (λ e. ArePaths g e.i e.j c.k e.paths) (IsPairEntry g c.k) (λ p h. h) (good_pair g c.k) c.pairs pairs p.0 m.0.0 in
-    let fs = matched fan_name (λ e. IsFan g e.j (nodes_below g e.j) c.k e.paths) (IsFanEntry g c.k) (λ j h. h) (good_fan g c.k) c.fans (later_nodes g c.k) f.0 m.0.1 in
-    (a.0, record {
-      count = b.0;
-      cut = d.0;
-      side = s.0;
-      pairs = record { names = subst (AreUnlinkedPairs g c.k) (sym ps.0) are; paths = λ e h. all_member (λ e. ArePaths g e.i e.j c.k e.paths) c.pairs e ps.1 h };
-      fans = record { names = fs.0; fans = λ e h. all_member (λ e. IsFan g e.j (nodes_below g e.j) c.k e.paths) c.fans e fs.1 h };
-    })
+    let fs = matched fan_name (λ e. IsFan g e.j (nodes_below g e.j) c.k e.paths) (IsFanEntry g c.k) (λ j h. h) (good_fan g c.k) c.fans (later_nodes g c.k) f.0 m.0.1 in (
+      a.0,
+      record {
+        count = b.0;
+        cut = d.0;
+        side = s.0;
+        pairs = record { names = subst (AreUnlinkedPairs g c.k) (sym ps.0) are; paths = λ e h. all_member (λ e. ArePaths g e.i e.j c.k e.paths) c.pairs e ps.1 h };
+        fans = record { names = fs.0; fans = λ e h. all_member (λ e. IsFan g e.j (nodes_below g e.j) c.k e.paths) c.fans e fs.1 h };
+      },
+    )
 
 length_names : {X E : Type 0} (name : E → X) (entries : List E) → length (map name entries) ≡ length entries
 length_names name [] = refl

@@ -315,36 +315,41 @@ fn cut_and_side_of_a_square(rt: HostRuntime) -> Result<(), Fail> {
 
 #[test]
 fn fans_of_a_square(rt: HostRuntime) -> Result<(), Fail> {
-    let rows: [(&'static [(u32, Lists)], Option<CheckFault>); 9] = [
-        (&[], fan_fault(3)),
-        (&[(3, &[&[3, 2], &[3, 4, 1]])], fan_fault(4)),
-        // The second path shares node 2 with the first.
+    let rows: [(&'static str, &'static [(u32, Lists)], Option<CheckFault>); 9] = [
+        ("no fans", &[], fan_fault(3)),
+        ("one fan", &[(3, &[&[3, 2], &[3, 4, 1]])], fan_fault(4)),
         (
+            "a shared node",
             &[(3, &[&[3, 2], &[3, 4, 1, 2]]), (4, &[&[4, 1], &[4, 3]])],
             fan_fault(3),
         ),
         (
-            &[(3, &[&[3, 2], &[3, 4, 1, 2]]), (4, &[&[4, 3, 1], &[4, 3]])],
+            "two wrong fans",
+            &[(3, &[&[3, 4, 1, 2], &[3, 2]]), (4, &[&[4, 3, 1], &[4, 3]])],
             fan_fault(3),
         ),
-        // The first path ends at a later node.
         (
+            "a later end",
             &[(3, &[&[3, 4], &[3, 2]]), (4, &[&[4, 1], &[4, 3]])],
             fan_fault(3),
         ),
         (
+            "another order",
             &[(4, &[&[4, 1], &[4, 3]]), (3, &[&[3, 2], &[3, 4, 1]])],
             fan_fault(3),
         ),
         (
+            "a path of one",
             &[(3, &[&[3, 2], &[3]]), (4, &[&[4, 1], &[4, 3]])],
             fan_fault(3),
         ),
         (
+            "an empty path",
             &[(3, &[&[3, 2], &[]]), (4, &[&[4, 1], &[4, 3]])],
             fan_fault(3),
         ),
         (
+            "a third fan",
             &[
                 (3, &[&[3, 2], &[3, 4, 1]]),
                 (4, &[&[4, 1], &[4, 3]]),
@@ -353,33 +358,46 @@ fn fans_of_a_square(rt: HostRuntime) -> Result<(), Fail> {
             Some(CheckFault::Extra),
         ),
     ];
-    for (fans, expected) in rows {
+    for (name, fans, expected) in rows {
         let said = Said {
             fans,
             ..SPLIT_OF_SQUARE
         };
-        assert_eq!(rt; fault(rt.alloc(), SQUARE, said)?, expected, "fans {fans:?}");
+        assert_eq!(rt; fault(rt.alloc(), SQUARE, said)?, expected, "{name}");
     }
     Ok(())
 }
 
 #[test]
 fn pairs_of_five_nodes_all_linked_but_two(rt: HostRuntime) -> Result<(), Fail> {
-    let rows: [(&'static [(u32, u32, Lists)], Option<CheckFault>); 7] = [
-        (&[(1, 2, &[&[1, 3, 2], &[1, 4, 2], &[1, 5, 2]])], None),
-        (&[], pair_fault(1, 2)),
+    let rows: [(
+        &'static str,
+        &'static [(u32, u32, Lists)],
+        Option<CheckFault>,
+    ); 7] = [
         (
+            "the pair",
+            &[(1, 2, &[&[1, 3, 2], &[1, 4, 2], &[1, 5, 2]])],
+            None,
+        ),
+        ("no pair", &[], pair_fault(1, 2)),
+        (
+            "names turned round",
             &[(2, 1, &[&[2, 3, 1], &[2, 4, 1], &[2, 5, 1]])],
             pair_fault(1, 2),
         ),
-        (&[(1, 2, &[&[1, 3, 2], &[1, 4, 2]])], pair_fault(1, 2)),
-        // Two paths share node 3.
         (
+            "two paths",
+            &[(1, 2, &[&[1, 3, 2], &[1, 4, 2]])],
+            pair_fault(1, 2),
+        ),
+        (
+            "a shared node",
             &[(1, 2, &[&[1, 3, 2], &[1, 4, 3, 2], &[1, 5, 2]])],
             pair_fault(1, 2),
         ),
-        // A superfluous pair in front, and one at the end.
         (
+            "a linked pair in front",
             &[
                 (1, 3, &[&[1, 3], &[1, 4, 3], &[1, 5, 3]]),
                 (1, 2, &[&[1, 3, 2], &[1, 4, 2], &[1, 5, 2]]),
@@ -387,6 +405,7 @@ fn pairs_of_five_nodes_all_linked_but_two(rt: HostRuntime) -> Result<(), Fail> {
             pair_fault(1, 2),
         ),
         (
+            "a linked pair at the end",
             &[
                 (1, 2, &[&[1, 3, 2], &[1, 4, 2], &[1, 5, 2]]),
                 (1, 3, &[&[1, 3], &[1, 4, 3], &[1, 5, 3]]),
@@ -394,16 +413,12 @@ fn pairs_of_five_nodes_all_linked_but_two(rt: HostRuntime) -> Result<(), Fail> {
             Some(CheckFault::Extra),
         ),
     ];
-    for (pairs, expected) in rows {
+    for (name, pairs, expected) in rows {
         let said = Said {
             pairs,
             ..SPLIT_OF_FIVE
         };
-        assert_eq!(rt;
-            fault(rt.alloc(), FIVE_BUT_ONE, said)?,
-            expected,
-            "pairs {pairs:?}"
-        );
+        assert_eq!(rt; fault(rt.alloc(), FIVE_BUT_ONE, said)?, expected, "{name}");
     }
     let four = Said {
         fans: &[
