@@ -1,5 +1,5 @@
 #!/usr/bin/env python3
-"""Makes the certificate files of the benchmark, with networkx, apart from the project's own analyser.
+"""Makes the certificate files of the benchmark, with networkx.
 
 usage: certify.py GRAPH [FILE]   writes the certificate of GRAPH to FILE, or to standard output
        certify.py                lists the graphs

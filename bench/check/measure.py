@@ -3,7 +3,9 @@
 
 usage: measure.py PROGRAM GRAPH..   PROGRAM is the executable of overlay-check
 
-Each time is the wall clock of a whole process, from its start to its end: the least of three runs.
+Each time is the wall clock of a whole process, from its start to its end: the least of three runs. What overlay-check needs
+to read and parse a file is its time on the same file with a k that is one too large: it parses all of it, and then answers
+the wrong count without a look at the paths.
 """
 
 import json
@@ -34,6 +36,11 @@ def row(program, graph):
     file = HERE / "out" / f"{graph}.json"
     certificate = json.loads(file.read_text())
     proved, proved_answer = timed([program, file])
+    miscounted = HERE / "out" / f"{graph}-miscounted.json"
+    miscounted.write_text(json.dumps(certificate | {"k": certificate["k"] + 1}, separators=(",", ":"), sort_keys=True))
+    reading, reading_answer = timed([program, miscounted])
+    if reading_answer != ("fails 40\n", 1):
+        sys.exit(f"{graph}: with a wrong count overlay-check answers {reading_answer}")
     plain, plain_answer = timed([sys.executable, HERE / "check.py", file])
     parsing, (_, parsing_status) = timed([sys.executable, "-c", PARSE, file])
     if proved_answer != plain_answer:
@@ -44,11 +51,11 @@ def row(program, graph):
         sys.exit(f"{graph}: does not hold: {proved_answer[0]}")
     return [graph, str(certificate["k"])] + [f"{number:,}" for number in (
         len(certificate["links"]), len(certificate["pairs"]), len(certificate["fans"]), file.stat().st_size)] + [
-        f"{milliseconds:,.0f}" for milliseconds in (proved, plain, parsing)]
+        f"{milliseconds:,.1f}" for milliseconds in (proved, reading, plain, parsing)]
 
 
 def main(words):
-    heads = ["graph", "k", "links", "pairs", "fans", "bytes", "overlay-check, ms", "check.py, ms", "json.load alone, ms"]
+    heads = ["graph", "k", "links", "pairs", "fans", "bytes", "overlay-check, ms", "reading and parsing of that, ms", "check.py, ms", "json.load alone, ms"]
     for cells in heads, ["---"] * len(heads):
         print("|", " | ".join(cells), "|")
     for graph in words[1:]:

@@ -3,7 +3,7 @@ ghost use Rattle.serde_json.specs.View.{view, members_view};
 ghost use Rattle.serde_json.specs.Written.{compact_text};
 ghost use Rattle.ov_certfile.specs.Fields.{list_at, link_at};
 ghost use Rattle.ov_certfile.specs.DataOf.{data_of, common_members, linked_data, split_data, list_data, link_data};
-ghost use Rattle.ov_certfile.specs.ReadsBack.{ReadsBack, GraphReadsBack};
+ghost use Rattle.ov_certfile.specs.ReadsBack.{ReadsBack, GraphReadsBack, TextReadsBack};
 
 use crate::fields::{Field, list_value};
 use ov_cert::{Cert, Split};
@@ -23,7 +23,7 @@ pub fn to_text(
 ) -> Result<String, OutOfMemory>
     requires { moment ≤ 65536 }
     ensures text { IfOk result (λ s. string_bytes s ≡ compact_text (data_of cert.now graph.now moment)) }
-    ensures reads_back { OnOk result (ReadsBack cert.now graph.now moment) }
+    ensures reads_back { IfOk result (λ s. TextReadsBack cert.now graph.now moment (string_bytes s)) }
 {
     let value = value_of(alloc, cert, graph, moment)?;
     let text = value.to_string(alloc)?;
