@@ -19,8 +19,10 @@ pub enum Outcome {
 
 /// What the bytes of a file come to. Where the file holds, its number is exact for its graph. Bytes that are no text are
 /// refused as no JSON.
+#[tactic(auto, using(crate::proofs::Outcomes::one_outcome))]
 pub fn outcome_of(alloc: Global, bytes: &[u8]) -> Result<Outcome, OutOfMemory>
     ensures outcome { IfOk result (λ o. IsOutcome bytes.now o) }
+    ensures only { IfOk result (λ o. (u : Outcome) → IsOutcome bytes.now u → u ≡ o) }
     ensures exact { IfOk result (λ o. status_of o ≡ 0 → IsExact bytes.now) }
 {
     let Ok(text) = str::from_utf8(bytes) else {
