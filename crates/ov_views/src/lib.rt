@@ -6,13 +6,11 @@
 #![tactic(auto)]
 
 mod change;
-mod moves;
 mod sample;
 #[cfg(test)]
 mod tests;
 mod views;
 
 pub use change::{Changes, ViewChange};
-pub use moves::Moves;
 pub use sample::Sample;
 pub use views::{View, Views};
