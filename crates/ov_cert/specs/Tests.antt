@@ -67,14 +67,17 @@ is_fan_path g used j [] = false
 is_fan_path g used j (a ∷ []) = false
 is_fan_path g used j (a ∷ b ∷ rest) = (a == j) && (nat_lt (last_of b rest) j && (chained g (a ∷ b ∷ rest) && fresh g used (b ∷ rest)))
 
+-- whether each path does, none over a node of another
 abbrev pub are_fan_paths : LinkGraph → List ℕ → ℕ → List (List ℕ) → Bool
 are_fan_paths g used j [] = true
 are_fan_paths g used j (p ∷ ps) = is_fan_path g used j p && are_fan_paths g (entered used (steps p)) j ps
 
+-- whether the entry is there, names the pair, and has its k paths
 abbrev pub is_pair_entry : LinkGraph → ℕ → ℕ × ℕ → Option PairPaths → Bool
 is_pair_entry g k p None = false
 is_pair_entry g k p (Some e) = (e.i == p.0) && ((e.j == p.1) && ((length e.paths == k) && are_pair_paths g (adding p.1 (p.0 ∷ [])) p.0 p.1 e.paths))
 
+-- whether the entry is there, names the node, and has its fan of k
 abbrev pub is_fan_entry : LinkGraph → ℕ → ℕ → Option FanPaths → Bool
 is_fan_entry g k j None = false
 is_fan_entry g k j (Some e) = (e.j == j) && ((length e.paths == k) && are_fan_paths g (j ∷ []) j e.paths)
@@ -115,6 +118,7 @@ stays g s x = has g.nodes x && not (has s x)
 abbrev pub stays_within : LinkGraph → List ℕ → List ℕ → ℕ → Bool
 stays_within g side cut a = list_all (λ b. has side b || has cut b) (neighbours_in g.links a g.nodes)
 
+-- whether near and far stay without the cut and the side parts them
 abbrev pub is_cut_off : LinkGraph → Split → Bool
 is_cut_off g c = stays g c.cut c.near && (stays g c.cut c.far && (is_node_set g c.side && (list_all (λ a. not (has c.cut a)) c.side && (has c.side c.near && (not (has c.side c.far) && list_all (λ a. stays_within g c.side c.cut a) c.side)))))
 
@@ -128,21 +132,26 @@ abbrev pub first : Option CheckFault → Option CheckFault → Option CheckFault
 first None later = later
 first (Some e) later = Some e
 
+-- whether there are no entries beyond those wanted
 abbrev pub no_more : LinkGraph → Split → Bool
 no_more g c = not (nat_lt (length (expected_pairs g c.k)) (length c.pairs)) && not (nat_lt (length (later_nodes g c.k)) (length c.fans))
 
+-- the first fault of the entries: of the pairs, then of the fans, then that there are more
 abbrev pub entries_fault : LinkGraph → Split → Option CheckFault
 entries_fault g c =
     first (pairs_fault g c.k c.pairs 0 (expected_pairs g c.k))
     (first (fans_fault g c.k c.fans 0 (later_nodes g c.k))
     (if no_more g c then None else Some Extra))
 
+-- the first fault of a certificate that says what splits
 abbrev pub split_fault : LinkGraph → Split → Option CheckFault
 split_fault g c = if length c.cut == c.k then (if is_node_set g c.cut then (if is_cut_off g c then entries_fault g c else Some Side) else Some Cut) else Some Count
 
+-- the first fault of a certificate that says that all are linked
 abbrev pub linked_fault : LinkGraph → ℕ → Option CheckFault
 linked_fault g k = if length g.nodes == k + 1 then (if all_linked g g.nodes then None else Some NotLinked) else Some Count
 
+-- the first fault of a certificate for a graph that has a node
 abbrev pub cert_fault : LinkGraph → Cert → Option CheckFault
 cert_fault g (AllLinked k) = linked_fault g k
 cert_fault g (SplitBy c) = split_fault g c

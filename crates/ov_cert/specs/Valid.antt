@@ -51,6 +51,8 @@ pub record HaveFans (g : LinkGraph) (k : ℕ) (entries : List FanPaths) : Type 0
   pub names : map (λ e. e.j) entries ≡ later_nodes g k
   pub fans : (e : FanPaths) → Has entries e → IsFan g e.j (nodes_below g e.j) k e.paths
 
+-- the cut is a set of k nodes that cuts the side off, so that k crashes split the graph; pairs and fans are as Even's test asks for
+-- at k, so that no fewer do
 pub record IsValidSplit (g : LinkGraph) (c : Split) : Type 0 where
   pub count : length c.cut ≡ c.k
   pub cut : IsNodeSet g c.cut
