@@ -90,3 +90,7 @@ IsBodyInRange Prune = Unit {0}
 -- each field of the message is within its range: the fields that are not named above are so by their types
 abbrev pub AreInRange : Message → Type 0
 AreInRange m = IsBodyInRange m.body
+
+-- the message in which a node says this
+abbrev pub say : ℕ → Body → Message
+say me body = record { from = me; body = body }

@@ -1,0 +1,80 @@
+-- The rows of a node's behaviour at NEIGHBOR, NEIGHBORREPLY, DISCONNECT and a crash report: v and a are the views and the
+-- attempt before, w and b those after. NEIGHBOR with its priorities and DISCONNECT are HyParView's (Leitão, Pereira,
+-- Rodrigues, DSN 2007); how an attempt goes on, and what an answer that nobody waits for does, are chosen here.
+use Rattle.std.specs.Prelude.{◌≡◌, ℕ, Bool, true, false, not, ◌||◌, ◌&&◌, ◌==◌, List, [], ◌∷◌, ◌++◌, length, Option, Some, None, MatchBool, if◌then◌else◌}
+use Rattle.ov_ids.specs.Sets.{has, without, without_all}
+use Rattle.ov_wire.specs.declared.Message.{Message}
+use Rattle.ov_wire.specs.declared.Body.TheVariants.{Neighbor, NeighborReply, Disconnect}
+use Rattle.ov_words.specs.Pick.{Choice}
+use Rattle.ov_views.specs.Neighbourhood.{Neighbourhood, has_place}
+use Rattle.ov_views.specs.Changes.{Keeps, Chosen, AddsPassive, AddsActive, RemovesActive, Forgets}
+use Rattle.ov_views.specs.Sending.{say, farewells, Idles}
+use Rattle.ov_views.specs.declared.change.ViewChange.{ViewChange}
+
+-- an attempt to find an active member: whom it asked and waits for, and whom it has tried, each once and in order
+pub record Asking : Type 0 where
+  pub asked : Option ℕ
+  pub tried : List ℕ
+
+-- no attempt
+abbrev pub idle : Asking
+idle = record { asked = None; tried = [] }
+
+-- the attempt waits for s
+abbrev pub awaits : Asking → ℕ → Bool
+awaits a s = is_asked a.asked s
+  where
+    is_asked : Option ℕ → ℕ → Bool
+    is_asked None s = false
+    is_asked (Some q) s = q == s
+
+-- the passive members that an attempt which tried these has not tried
+abbrev pub untried : Neighbourhood → List ℕ → List ℕ
+untried v tried = without_all tried v.passive
+
+-- it can ask nobody: the active view is full, or nobody is untried
+abbrev pub gives_up : Neighbourhood → List ℕ → Bool
+gives_up v tried = not (has_place v) || (length (untried v tried) == 0)
+
+-- an attempt that tried these goes on: it ends where it can ask nobody, and else a random untried passive member counts as
+-- tried and is asked by NEIGHBOR, with high priority where nobody is active
+abbrev pub GoesOn : Neighbourhood → List ℕ → List Choice → Asking → List (ℕ × Message) → Type 0
+GoesOn v tried choices b sends =
+    MatchBool (gives_up v tried) ((choices ≡ []) × (b ≡ idle) × (sends ≡ []))
+    ((q : ℕ) × Chosen (untried v tried) q choices []
+    × (b ≡ record { asked = Some q; tried = tried ++ q ∷ [] })
+    × (sends ≡ (q, say v.me (Neighbor (length v.active == 0))) ∷ []))
+
+-- NEIGHBOR from s: where s is active, has high priority or a place is free, s becomes active and is told yes. Else no
+abbrev pub AllowedNeighbor : Neighbourhood → ℕ → Bool → List Choice → Neighbourhood → List ViewChange → List (ℕ × Message) → Type 0
+AllowedNeighbor v s high choices w changes sends =
+    MatchBool (s == v.me) (Idles v choices w changes sends)
+    (MatchBool (has v.active s || (high || has_place v))
+    (AddsActive v s choices w changes × (sends ≡ farewells v.me changes ++ (s, say v.me (NeighborReply true)) ∷ []))
+    (Keeps v choices w × (changes ≡ []) × (sends ≡ (s, say v.me (NeighborReply false)) ∷ [])))
+
+-- NEIGHBORREPLY from s. Yes from the asked ends the attempt, and s becomes active; its no lets the attempt go on. Yes from
+-- anyone else who is not active is answered by DISCONNECT; any other reply does nothing
+abbrev pub AllowedReply : Neighbourhood → Asking → ℕ → Bool → List Choice → Neighbourhood → Asking → List ViewChange → List (ℕ × Message) → Type 0
+AllowedReply v a s accepted choices w b changes sends =
+    MatchBool (s == v.me) (Idles v choices w changes sends × (b ≡ a))
+    (MatchBool (awaits a s)
+    (MatchBool accepted
+    (AddsActive v s choices w changes × (b ≡ idle) × (sends ≡ farewells v.me changes))
+    (GoesOn v a.tried choices b sends × (w ≡ v) × (changes ≡ [])))
+    (Keeps v choices w × (b ≡ a) × (changes ≡ [])
+    × (sends ≡ (if accepted && not (has v.active s) then (s, say v.me Disconnect) ∷ [] else []))))
+
+-- DISCONNECT from s: where s is active it goes down, and then becomes passive. It starts no attempt
+abbrev pub AllowedDisconnect : Neighbourhood → ℕ → List Choice → Neighbourhood → List ViewChange → List (ℕ × Message) → Type 0
+AllowedDisconnect v s choices w changes sends =
+    MatchBool ((s == v.me) || not (has v.active s)) (Idles v choices w changes sends)
+    ((u : Neighbourhood) × RemovesActive v s u changes × AddsPassive u s choices w × (sends ≡ []))
+
+-- a report that p crashed: p leaves whichever view has it. Where it was active a new attempt begins, with nobody tried, in
+-- place of one that waits; else where the attempt waits for p, it goes on
+abbrev pub AllowedReport : Neighbourhood → Asking → ℕ → List Choice → Neighbourhood → Asking → List ViewChange → List (ℕ × Message) → Type 0
+AllowedReport v a p choices w b changes sends =
+    Forgets v p w changes
+    × MatchBool (has v.active p) (GoesOn w [] choices b sends)
+    (MatchBool (awaits a p) (GoesOn w a.tried choices b sends) ((choices ≡ []) × (b ≡ a) × (sends ≡ [])))
