@@ -1,0 +1,5 @@
+pub mod Faults
+pub mod Ids
+pub mod Tree
+pub mod Codes
+pub mod Spreading
