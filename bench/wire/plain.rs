@@ -1,5 +1,4 @@
 //! The same codec in plain Rust, measured as bench_wire measures: nanoseconds a message, the least of 20 batches.
-use std::hint::black_box;
 use std::time::Instant;
 
 const BATCHES: u32 = 20;
@@ -90,6 +89,7 @@ fn id(bytes: &mut &[u8]) -> Result<MsgId, Fault> {
     Ok(MsgId { origin: NodeId(word(bytes)?), seq: word(bytes)? })
 }
 
+#[inline(never)]
 fn decode(mut bytes: &[u8]) -> Result<Message, Fault> {
     let bytes = &mut bytes;
     byte(bytes, 1, 1, Fault::BadVersion)?;
@@ -135,8 +135,8 @@ fn put_id(out: &mut Vec<u8>, id: &MsgId) {
     out.extend_from_slice(&id.seq.to_be_bytes());
 }
 
-fn encode(message: &Message) -> Vec<u8> {
-    let (kind, len) = match &message.body {
+fn kind_and_len(body: &Body) -> (u8, usize) {
+    match body {
         Body::Join => (1, 6),
         Body::ForwardJoin { .. } => (2, 11),
         Body::Joined => (3, 6),
@@ -149,7 +149,12 @@ fn encode(message: &Message) -> Vec<u8> {
         Body::IHave { .. } => (10, 14),
         Body::Graft { .. } => (11, 14),
         Body::Prune => (12, 6),
-    };
+    }
+}
+
+#[inline(never)]
+fn encode(message: &Message) -> Vec<u8> {
+    let (kind, len) = kind_and_len(&message.body);
     let mut out = Vec::with_capacity(len);
     out.push(1);
     out.push(kind);
@@ -185,12 +190,12 @@ fn measure(name: &str, body: Body) {
     for _ in 0..BATCHES {
         let start = Instant::now();
         for _ in 0..ROUNDS {
-            sum += black_box(encode(black_box(&message))).len() as u64;
+            sum += encode(&message).len() as u64;
         }
         there = there.min(start.elapsed().as_nanos());
         let start = Instant::now();
         for _ in 0..ROUNDS {
-            sum += u64::from(black_box(decode(black_box(&bytes)).unwrap()).from.0);
+            sum += u64::from(decode(&bytes).unwrap().from.0);
         }
         back = back.min(start.elapsed().as_nanos());
     }
@@ -203,10 +208,15 @@ fn main() {
     let id = MsgId { origin: node, seq: 7 };
     measure("join", Body::Join);
     measure("forward-join", Body::ForwardJoin { node, ttl: 6 });
+    measure("joined", Body::Joined);
     measure("neighbor", Body::Neighbor { high: true });
+    measure("neighbor-reply", Body::NeighborReply { accepted: true });
+    measure("disconnect", Body::Disconnect);
     measure("shuffle-17", Body::Shuffle { origin: node, ttl: 6, ids: vec![node; 17] });
     measure("shuffle-reply-3", Body::ShuffleReply { ids: vec![node; 3] });
     measure("gossip-2", Body::Gossip { id, round: 3, payload: b"hi".to_vec() });
     measure("gossip-1024", Body::Gossip { id, round: 3, payload: vec![7; 1024] });
     measure("i-have", Body::IHave { id });
+    measure("graft", Body::Graft { id });
+    measure("prune", Body::Prune);
 }

@@ -1,7 +1,7 @@
 -- Paths by their ends.
-use Rattle.std.proofs.Common.{◌≡◌, ◌∙◌, ◌↔◌, ℕ, ◌≤◌, Bool, true, false, ◌&&◌, not, IsTrue, eqb, nat_lt, List, [], ◌∷◌, ◌++◌, length, refl, sym, ap, arith}
+use Rattle.std.proofs.Common.{◌≡◌, ◌∙◌, ◌↔◌, ℕ, ◌≤◌, Bool, true, false, ◌&&◌, not, IsTrue, eqb, nat_lt, List, [], ◌∷◌, ◌++◌, length, refl, ap, arith}
 use Rattle.ov_graph.specs.Links.{LinkGraph}
-use Rattle.ov_cert.specs.Tests.{chained, fresh, front, last_of, inner, steps, is_pair_path, is_fan_path}
+use Rattle.ov_cert.specs.Tests.{chained, fresh, front, last_of, inner, is_pair_path, is_fan_path}
 
 -- tests of one fact answer alike
 pub same_test : {P : Type 0} (b t : Bool) → IsTrue b ↔ P → IsTrue t ↔ P → b ≡ t

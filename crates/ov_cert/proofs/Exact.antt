@@ -1,12 +1,12 @@
 -- The verdict by tests is the verdict by relations; it has no fault exactly where the certificate is valid; and a valid
 -- certificate's number is the fewest.
-use Rattle.std.proofs.Common.{◌≡◌, ◌≢◌, ◌∙◌, ◌↔◌, ◌⊎◌, ℕ, zero, suc, ◌+◌, ◌<◌, ◌≤◌, inl, inr, Bool, true, false, ◌&&◌, not, cond, eqb, nat_lt, IsTrue, List, [], ◌∷◌, length, map, take, drop, get_or, slice_get, Option, Some, None, refl, sym, ap, ap₂, subst, arith}
-use Rattle.std.proofs.lemmas.Bool.{and_parts, and_from, ltb-true, ltb-false, lt-ltb, le-ltb, eq-eqb, eqb-true, eqb-false, both_ways}
+use Rattle.std.proofs.Common.{◌≡◌, ◌∙◌, ◌↔◌, ℕ, zero, suc, ◌+◌, ◌<◌, ◌≤◌, inl, inr, Bool, true, false, not, cond, eqb, nat_lt, IsTrue, List, [], ◌∷◌, length, map, get_or, slice_get, Option, Some, None, refl, sym, ap, ap₂, subst, arith}
+use Rattle.std.proofs.lemmas.Bool.{and_parts, and_from, ltb-false, le-ltb, eq-eqb, eqb-true, both_ways}
 use Rattle.std.specs.List.{AllByRecursion}
 use Rattle.ov_ids.specs.Members.{Has}
 use Rattle.ov_ids.specs.Steps.{Step, Passed, InTurn}
-use Rattle.ov_ids.proofs.Members.{has_from_take, all_member, all_from_members, place_of}
-use Rattle.ov_graph.specs.Links.{LinkGraph, IsGraph, Linked, IsComplete}
+use Rattle.ov_ids.proofs.Members.{has_from_take, all_member, all_from_members}
+use Rattle.ov_graph.specs.Links.{LinkGraph, IsGraph, IsComplete}
 use Rattle.ov_graph.specs.Joined.{IsNodeSet, Splits, Fewest}
 use Rattle.ov_graph.specs.Paths.{ArePaths, IsFan, nodes_below}
 use Rattle.ov_graph.specs.Even.{IsUnlinkedPair, PassesEven}
@@ -18,9 +18,9 @@ use Rattle.ov_cert.specs.declared.cert.PairPaths.{PairPaths}
 use Rattle.ov_cert.specs.declared.cert.FanPaths.{FanPaths}
 use Rattle.ov_cert.specs.declared.fault.CheckFault.{CheckFault}
 use Rattle.ov_cert.specs.declared.fault.CheckFault.TheVariants.{Count, Cut, Side, Pair, Fan, Extra, NotLinked, NoNodes}
-use Rattle.ov_cert.specs.Valid.{k_of, IsCutOff, AreUnlinkedPairs, HavePaths, HaveFans, later_nodes, IsValidSplit, IsValid}
+use Rattle.ov_cert.specs.Valid.{k_of, IsCutOff, AreUnlinkedPairs, later_nodes, IsValidSplit, IsValid}
 use Rattle.ov_cert.specs.Verdict.{IsPairEntry, IsFanEntry, HasNoMore, EntriesJudged, Judged}
-use Rattle.ov_cert.specs.Tests.{is_node_set, is_cut_off, all_linked, is_pair_entry, is_fan_entry, expected_pairs, pairs_fault, fans_fault, no_more, entries_fault, split_fault, linked_fault, first, fault_of}
+use Rattle.ov_cert.specs.Tests.{is_node_set, is_cut_off, all_linked, is_pair_entry, expected_pairs, fans_fault, no_more, entries_fault, split_fault, linked_fault, first, fault_of}
 use Rattle.ov_ids.proofs.Stepping.{step_by, step_unless, step_none, step_passes, not_failed_first}
 use Rattle.ov_cert.proofs.Turns.{in_turn_pairs, in_turn_fans, passed_pairs, passed_fans}
 use Rattle.ov_cert.proofs.Frame.{node_set_tested, cut_off_tested, complete_tested, cut_splits}

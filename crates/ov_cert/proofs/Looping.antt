@@ -1,17 +1,15 @@
 -- The judging of entries, one turn after another.
-use Rattle.std.proofs.Common.{◌≡◌, ◌≢◌, ◌∙◌, ℕ, zero, suc, ◌+◌, ◌<◌, Bool, true, false, cond, List, [], ◌∷◌, ◌++◌, length, take, drop, get_or, slice_get, Option, Some, None, refl, sym, ap, subst, arith, inl, inr, add-one, length-append}
+use Rattle.std.proofs.Common.{◌≡◌, ◌≢◌, ◌∙◌, ℕ, zero, suc, ◌+◌, ◌<◌, true, false, List, [], ◌∷◌, ◌++◌, length, take, drop, get_or, slice_get, Option, Some, None, refl, sym, ap, subst, arith, inr, add-one, length-append}
 use Rattle.std.proofs.Math.Seq.{drop-cons}
-use Rattle.ov_ids.specs.Members.{Has, Ordered, Ascends}
-use Rattle.ov_ids.proofs.Members.{has_from_take, has_place, ordered_at, place_in_take}
-use Rattle.ov_graph.specs.Links.{LinkGraph, IsGraph}
+use Rattle.ov_ids.specs.Members.{Has, Ascends}
+use Rattle.ov_ids.proofs.Members.{has_place, ordered_at, place_in_take}
+use Rattle.ov_graph.specs.Links.{LinkGraph}
 use Rattle.ov_graph.specs.Tests.{are_joined}
 use Rattle.ov_cert.specs.declared.cert.PairPaths.{PairPaths}
-use Rattle.ov_cert.specs.declared.cert.FanPaths.{FanPaths}
 use Rattle.ov_cert.specs.declared.fault.CheckFault.{CheckFault}
-use Rattle.ov_cert.specs.declared.fault.CheckFault.TheVariants.{Pair}
 use Rattle.ov_cert.specs.Valid.{later_nodes}
-use Rattle.ov_cert.specs.Tests.{is_pair_entry, unlinked_before, pairs_after, expected_pairs, pairs_fault, fans_fault, first}
-use Rattle.ov_cert.proofs.Expected.{pairs_after_at, pairs_fault_append, ascends_take}
+use Rattle.ov_cert.specs.Tests.{is_pair_entry, unlinked_before, pairs_after, pairs_fault, first}
+use Rattle.ov_cert.proofs.Expected.{pairs_after_at, pairs_fault_append}
 
 -- an unlinked earlier node whose entry holds
 pub record Turn (g : LinkGraph) (k : ℕ) (entries : List PairPaths) (next i j : ℕ) (rest : List ℕ) : Type 0 where

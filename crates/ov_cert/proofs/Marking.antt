@@ -1,15 +1,15 @@
 -- Sets of nodes as marks by place.
-use Rattle.std.proofs.Common.{◌≡◌, ◌≢◌, ◌∙◌, ℕ, zero, suc, ◌<◌, ◌≤◌, Bool, true, false, ◌&&◌, ◌||◌, not, cond, eqb, ltb, IsTrue, List, [], ◌∷◌, ◌++◌, length, get_or, slice_index_or, set, refl, sym, ap, subst, arith, inl, inr}
-use Rattle.std.proofs.lemmas.Bool.{le-ltb, lt-ltb, eq-eqb, ne_eqb, both_ways, and_parts, and_from}
+use Rattle.std.proofs.Common.{◌≡◌, ◌≢◌, ◌∙◌, ℕ, zero, suc, ◌<◌, Bool, true, false, ◌&&◌, not, cond, eqb, List, [], ◌∷◌, ◌++◌, length, get_or, set, refl, sym, ap, subst, arith, inl, inr}
+use Rattle.std.proofs.lemmas.Bool.{le-ltb, lt-ltb, eq-eqb, ne_eqb, and_parts}
 use Rattle.std.specs.List.{AllByRecursion, list_all}
-use Rattle.ov_ids.specs.Members.{Has, Ordered, Ascends}
-use Rattle.ov_ids.specs.Sets.{has, adding, ascends_after}
+use Rattle.ov_ids.specs.Members.{Has, Ascends}
+use Rattle.ov_ids.specs.Sets.{has, adding}
 use Rattle.ov_ids.proofs.Members.{has_tested, all_member, has_place}
 use Rattle.ov_ids.proofs.Sets.{has_below_all}
 use Rattle.ov_graph.specs.Links.{LinkGraph, IsGraph, most_nodes}
 use Rattle.ov_graph.specs.Paths.{node_at}
 use Rattle.ov_cert.specs.Marks.{NodesOf, marked}
-use Rattle.ov_cert.specs.Tests.{fresh, entered, is_node_set}
+use Rattle.ov_cert.specs.Tests.{fresh, entered}
 
 all_marked : (P : ℕ → Type 0) (xs : List ℕ) (marks : List Bool) → AllByRecursion P xs → AllByRecursion P (marked xs marks)
 all_marked P [] marks a = tt

@@ -1,5 +1,5 @@
 -- Faults found by tests, item by item, are steps in turn.
-use Rattle.std.proofs.Common.{◌≡◌, ◌∙◌, ◌↔◌, ℕ, zero, suc, ◌+◌, ◌<◌, inl, inr, List, [], ◌∷◌, ◌++◌, length, get_or, slice_get, Bool, true, false, cond, IsTrue, Option, Some, None, refl, sym, ap, subst, arith}
+use Rattle.std.proofs.Common.{◌≡◌, ◌∙◌, ◌↔◌, ℕ, suc, ◌+◌, ◌<◌, inl, inr, List, [], ◌∷◌, ◌++◌, length, get_or, slice_get, Bool, true, false, cond, IsTrue, Option, Some, None, refl, sym, ap, subst, arith}
 use Rattle.ov_ids.specs.Members.{Has}
 use Rattle.ov_ids.specs.Steps.{Step, InTurn}
 use Rattle.ov_ids.proofs.Stepping.{step_by, all_passed_first}

@@ -1,8 +1,8 @@
 -- When a certificate is valid for a graph: by Even's test its number is then the fewest (Even, SIAM J. Comput. 4, 1975).
-use Rattle.std.specs.Prelude.{◌≡◌, ◌↔◌, ◌⊎◌, ℕ, zero, suc, ◌+◌, ◌<◌, List, [], ◌∷◌, length, map, drop}
+use Rattle.std.specs.Prelude.{◌≡◌, ◌↔◌, ◌⊎◌, ℕ, zero, suc, ◌+◌, ◌<◌, List, [], length, map, drop}
 use Rattle.ov_ids.specs.Members.{Has, Ordered, Ascends}
 use Rattle.ov_graph.specs.Links.{LinkGraph, Linked, IsComplete}
-use Rattle.ov_graph.specs.Joined.{Stays, IsNodeSet, Splits}
+use Rattle.ov_graph.specs.Joined.{Stays, IsNodeSet}
 use Rattle.ov_graph.specs.Paths.{ArePaths, IsFan, nodes_below}
 use Rattle.ov_graph.specs.Even.{IsUnlinkedPair}
 use Rattle.ov_cert.specs.declared.cert.Cert.{Cert}

@@ -1,5 +1,6 @@
 -- What a call of a reader or a writer adds to the count of failures.
-use Rattle.std.specs.Prelude.{ℕ, Result, Ok, Err}
+use Rattle.std.specs.Prelude.{◌≡◌, ◌++◌, ℕ, List, Option, Result, Ok, Err}
+use Rattle.std.specs.Io.KnownBytes.{Appends}
 use Rattle.ov_certfile.specs.declared.input.ReadFault.{ReadFault}
 use Rattle.ov_certfile.specs.declared.input.ReadFault.TheVariants.{Read, OutOfMemory}
 
@@ -18,3 +19,7 @@ read_failures (Err OutOfMemory) = 0
 abbrev pub write_failures : {A E : Type 0} → Result A E → ℕ
 write_failures (Ok a) = 0
 write_failures (Err e) = 1
+
+-- what the writer took on are the first of these bytes, whether all, some or none
+abbrev pub AppendsFrontOf : List ℕ → Option (List ℕ) → Option (List ℕ) → Type 0
+AppendsFrontOf bytes before after = (front rest : List ℕ) × Appends before after front × (front ++ rest ≡ bytes)

@@ -1,6 +1,6 @@
 ghost use Rattle.std.specs.Prelude.{◌≡◌, ◌+◌, ◌-◌, ◌^◌, ◌<◌, OnOk};
 ghost use Rattle.std.specs.Io.KnownBytes.{Appends};
-ghost use Rattle.ov_certfile.specs.Device.{write_failures};
+ghost use Rattle.ov_certfile.specs.Device.{write_failures, AppendsFrontOf};
 
 use std::io::Write;
 use thiserror::Error;
@@ -50,11 +50,12 @@ impl<W: Write> Sink<W> {
         self.writer
     }
 
-    /// Writes all bytes. A write that fails, is interrupted or takes nothing is the fault of the call, and nothing is said of
-    /// how much the writer took before.
+    /// Writes all bytes. A write that fails, is interrupted or takes nothing is the fault of the call. What the writer took
+    /// before are the first of these bytes, and nothing is said of how many.
     pub fn write_all(&mut self, bytes: &[u8]) -> Result<(), WriteFault>
         requires { self.old.faults < 2 ^ 64 - 1 }
         ensures bytes { OnOk result (Appends (W.contents self.old.writer) (W.contents self.new.writer) bytes.now) }
+        ensures front { AppendsFrontOf bytes.now (W.contents self.old.writer) (W.contents self.new.writer) }
         ensures faults { self.new.faults ≡ self.old.faults + write_failures result }
     {
         let mut rest = bytes;

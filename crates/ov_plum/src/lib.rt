@@ -4,6 +4,14 @@
 //! come to form a tree, and only announces it over lazy ones; who misses one asks for it, and so mends the tree.
 #![tactic(auto)]
 
+mod by_id;
 mod fault;
+mod held;
+mod links;
+mod notes;
+mod plum;
+mod spread;
 
 pub use fault::TimerFault;
+pub use plum::Plum;
+pub use spread::Spread;

@@ -2,3 +2,4 @@ pub mod Keeping
 pub mod Giving
 pub mod Sampling
 pub mod Integrating
+pub mod Tracking

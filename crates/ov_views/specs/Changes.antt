@@ -61,3 +61,9 @@ in_order None None = []
 in_order None (Some x) = Up x ∷ []
 in_order (Some d) None = Down d ∷ []
 in_order (Some d) (Some x) = Down d ∷ Up x ∷ []
+
+-- the active view after these changes
+abbrev pub after_changes : List ViewChange → List ℕ → List ℕ
+after_changes [] active = active
+after_changes (Up x ∷ changes) active = after_changes changes (adding x active)
+after_changes (Down x ∷ changes) active = after_changes changes (without x active)

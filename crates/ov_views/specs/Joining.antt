@@ -1,6 +1,6 @@
 -- The rows of a node's behaviour at JOIN, FORWARDJOIN and JOINED: v are the views before and w those after. JOIN and
--- FORWARDJOIN are HyParView's (Leitão, Pereira, Rodrigues, DSN 2007, Algorithm 1); JOINED, and that a walk which can go
--- nowhere ends, are chosen here.
+-- FORWARDJOIN are HyParView's (Leitão, Pereira, Rodrigues, DSN 2007, Algorithm 1); JOINED, that a walk does not go to the new
+-- node itself, and that one which can go nowhere ends, are chosen here.
 use Rattle.std.specs.Prelude.{◌≡◌, ℕ, ◌-◌, Bool, ◌||◌, ◌==◌, nat_le, List, [], ◌∷◌, ◌++◌, length, map, MatchBool}
 use Rattle.ov_ids.specs.Sets.{without}
 use Rattle.ov_wire.specs.declared.Message.{Message}

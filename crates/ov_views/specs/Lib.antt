@@ -6,3 +6,4 @@ pub mod Joining
 pub mod Neighbouring
 pub mod Shuffling
 pub mod Allowed
+pub mod Room

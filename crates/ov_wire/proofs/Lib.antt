@@ -5,3 +5,4 @@ pub mod Faults
 pub mod Messages
 pub mod Made
 pub mod Decoded
+pub mod Ranges

@@ -40,7 +40,7 @@ pub enum Body {
     NeighborReply {
         accepted: bool,
     },
-    /// The sender dropped the receiver from its active view.
+    /// The receiver is not, or no longer, in the sender's active view.
     Disconnect,
     /// A sample of the origin's views, at most 17 ids, handed on by a random walk with so many steps left: 0 to 15.
     Shuffle {

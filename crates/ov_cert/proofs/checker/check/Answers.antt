@@ -1,5 +1,5 @@
 -- What the tests say is what the definitions say.
-use Rattle.std.proofs.Common.{◌≡◌, ◌∙◌, Some, None, sym, subst, refl}
+use Rattle.std.proofs.Common.{◌≡◌, Some, None, sym, subst, refl}
 use Rattle.ov_cert.specs.Verdict.{Judged}
 use Rattle.ov_cert.proofs.Exact.{judged, valid, no_fault, fewest}
 use Rattle.ov_cert.proofs.checker.check.Goals as goal

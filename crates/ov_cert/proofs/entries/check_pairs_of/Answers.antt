@@ -1,6 +1,5 @@
 -- One turn of the loop.
-use Rattle.std.proofs.Common.{◌≡◌, ◌∙◌, ◌+◌, ◌<◌, length, sym, arith, rules}
-use Rattle.ov_ids.specs.Members.{Has}
+use Rattle.std.proofs.Common.{◌∙◌, sym, arith}
 use Rattle.ov_cert.proofs.Looping.{turn_at, has_at}
 use Rattle.ov_cert.proofs.entries.check_pairs_of.Goals as goal
 

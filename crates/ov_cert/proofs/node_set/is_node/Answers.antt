@@ -1,5 +1,5 @@
 -- A node has a place, and what has none is no node.
-use Rattle.std.proofs.Common.{◌≡◌, ◌∙◌, ℕ, ◌<◌, ◌≤◌, Bool, true, false, length, Option, Some, None, IfSome, IfNone, sym, ap, subst}
+use Rattle.std.proofs.Common.{◌≡◌, ◌∙◌, ℕ, ◌<◌, true, length, Option, Some, None, IfSome, IfNone, sym, subst}
 use Rattle.std.specs.Option.{is_some}
 use Rattle.ov_ids.specs.Members.{Has}
 use Rattle.ov_ids.specs.Sets.{has}

@@ -1,5 +1,5 @@
 -- At first the two ends are used.
-use Rattle.std.proofs.Common.{◌≡◌, ap, refl}
+use Rattle.std.proofs.Common.{ap}
 use Rattle.ov_cert.specs.Marks.{NodesOf}
 use Rattle.ov_cert.specs.Tests.{are_pair_paths}
 use Rattle.ov_cert.proofs.Marking.{two_entered, node_tested}

@@ -1,5 +1,5 @@
 -- At first the source is used.
-use Rattle.std.proofs.Common.{◌≡◌, ap, refl}
+use Rattle.std.proofs.Common.{ap}
 use Rattle.ov_cert.specs.Marks.{NodesOf}
 use Rattle.ov_cert.specs.Tests.{are_fan_paths}
 use Rattle.ov_cert.proofs.Marking.{one_entered, node_tested}

@@ -1,6 +1,6 @@
 -- The tests of the ends, of the links and of the steps are those of the path.
-use Rattle.std.proofs.Common.{◌≡◌, ◌∙◌, Bool, true, false, nat_lt, sym, ap, rules}
-use Rattle.ov_cert.specs.Tests.{chained, fresh}
+use Rattle.std.proofs.Common.{◌∙◌, sym, ap}
+use Rattle.ov_cert.specs.Tests.{fresh}
 use Rattle.ov_graph.specs.Links.{LinkGraph}
 use Rattle.ov_cert.proofs.Ends.{fan_by_ends, not_false, second_fails, all_four}
 use Rattle.ov_cert.proofs.paths.takes_fan_path.Goals as goal

@@ -1,7 +1,6 @@
 -- The tests of the ends, of the links and of what lies between are those of the path.
-use Rattle.std.proofs.Common.{◌≡◌, ◌∙◌, ◌∷◌, Bool, true, false, eqb, sym, ap}
-use Rattle.ov_cert.specs.Tests.{chained, fresh, entered}
-use Rattle.ov_cert.specs.Marks.{NodesOf}
+use Rattle.std.proofs.Common.{◌∙◌, ◌∷◌, sym, ap}
+use Rattle.ov_cert.specs.Tests.{fresh, entered}
 use Rattle.ov_graph.specs.Links.{LinkGraph}
 use Rattle.ov_cert.proofs.Ends.{pair_by_ends, inner_of, not_false, not_true, second_fails, all_four}
 use Rattle.ov_cert.proofs.paths.takes_pair_path.Goals as goal

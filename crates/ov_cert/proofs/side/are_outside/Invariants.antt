@@ -2,8 +2,6 @@
 use Rattle.std.proofs.Common.{◌≡◌, not, drop}
 use Rattle.std.specs.List.{list_all}
 use Rattle.ov_ids.specs.Sets.{has}
-use Rattle.ov_graph.specs.Tests.{are_joined}
-use Rattle.ov_cert.specs.Tests.{stays_within}
 use Rattle.ov_cert.proofs.side.are_outside.Given as goal
 
 abbrev pub invariant-loop-id : goal.invariant-loop-id

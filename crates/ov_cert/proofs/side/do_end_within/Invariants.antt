@@ -1,8 +1,6 @@
 -- what is left decides
-use Rattle.std.proofs.Common.{◌≡◌, not, drop}
+use Rattle.std.proofs.Common.{◌≡◌, drop}
 use Rattle.std.specs.List.{list_all}
-use Rattle.ov_ids.specs.Sets.{has}
-use Rattle.ov_graph.specs.Tests.{are_joined}
 use Rattle.ov_cert.specs.Tests.{stays_within}
 use Rattle.ov_cert.proofs.side.do_end_within.Given as goal
 

@@ -1,8 +1,7 @@
 -- The neighbours are those that the test goes over.
-use Rattle.std.proofs.Common.{◌≡◌, ◌∙◌, ℕ, List, Bool, true, false, ◌||◌, ◌&&◌, ◌∷◌, refl, sym, ap}
+use Rattle.std.proofs.Common.{◌≡◌, ◌∙◌, ℕ, Bool, false, ◌||◌, ◌&&◌, refl, sym, ap}
 use Rattle.std.specs.List.{list_all}
 use Rattle.ov_ids.specs.Sets.{has}
-use Rattle.ov_graph.specs.Tests.{neighbours_in}
 use Rattle.ov_graph.proofs.Filtered.{neighbours_one}
 use Rattle.ov_cert.proofs.side.does_end_within.Goals as goal
 

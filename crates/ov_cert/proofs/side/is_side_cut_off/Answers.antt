@@ -1,7 +1,6 @@
 -- The tests in their order.
-use Rattle.std.proofs.Common.{◌≡◌, ◌∙◌, ℕ, List, Bool, true, false, not, refl, sym, ap, subst}
+use Rattle.std.proofs.Common.{◌≡◌, ◌∙◌, ℕ, List, not, sym, ap}
 use Rattle.std.specs.List.{list_all}
-use Rattle.ov_ids.specs.Members.{Has}
 use Rattle.ov_ids.specs.Sets.{has}
 use Rattle.ov_cert.specs.Marks.{NodesOf}
 use Rattle.ov_cert.specs.Tests.{stays, stays_within, is_node_set}

@@ -1,8 +1,8 @@
 -- To mark the place of a node is to take it in.
-use Rattle.std.proofs.Common.{◌≡◌, ℕ, List, ◌&&◌, not, Bool, sym, ap, ap₂, subst, ◌∙◌, false, rules}
+use Rattle.std.proofs.Common.{ℕ, List, sym, ap, ◌∙◌, false}
 use Rattle.ov_ids.specs.Sets.{has, adding}
 use Rattle.ov_cert.specs.Marks.{NodesOf}
-use Rattle.ov_cert.proofs.Marking.{at_place, stranger_out, stranger_unmarked, fresh_not, fresh_yes, fresh_stranger}
+use Rattle.ov_cert.proofs.Marking.{at_place, stranger_out, fresh_not, fresh_yes, fresh_stranger}
 use Rattle.ov_cert.proofs.node_set.NodeSet.enter.Goals as goal
 
 pub returns-in_default-clause-fresh : goal.returns-in_default-clause-fresh

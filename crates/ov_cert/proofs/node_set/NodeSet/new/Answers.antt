@@ -1,6 +1,5 @@
 -- Nothing is marked.
-use Rattle.std.proofs.Common.{◌≡◌, List, ℕ, ap, rules}
-use Rattle.ov_graph.specs.Links.{LinkGraph}
+use Rattle.std.proofs.Common.{List, ℕ, ap}
 use Rattle.ov_cert.specs.Marks.{NodesOf}
 use Rattle.ov_cert.proofs.Marking.{marked_none}
 use Rattle.ov_cert.proofs.node_set.NodeSet.new.Goals as goal

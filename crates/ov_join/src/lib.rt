@@ -1,0 +1,162 @@
+//! What a node does at JOIN, FORWARDJOIN and JOINED, by which a new node comes into the overlay.
+//!
+//! JOIN and FORWARDJOIN are HyParView's (Leitão, Pereira, Rodrigues, DSN 2007, Algorithm 1); JOINED, by which the new node
+//! hears who made it active, is chosen here. Every call makes all its room first, so after want of memory nothing has changed.
+#![tactic(auto)]
+
+ghost use Rattle.std.specs.Prelude.{◌≡◌, ◌≤◌, ◌<◌, ◌+◌, ◌++◌, ◌||◌, ◌==◌, nat_le, length, vec_len, IfOk, OnErr};
+ghost use Rattle.std.specs.List.{AllByRecursion};
+ghost use Rattle.ov_wire.specs.Messages.{AreInRange};
+ghost use Rattle.ov_words.specs.Pick.{Drawn};
+ghost use Rattle.ov_views.specs.Room.{HasRoom};
+ghost use Rattle.ov_views.specs.Joining.{Remembers, AllowedJoin, AllowedForwardJoin, AllowedJoined, forwards};
+
+#[cfg(test)]
+mod tests;
+
+use ov_ids::{IdSet, NodeId, OutOfMemory};
+use ov_views::{Moves, View, Views};
+use ov_wire::{Body, Message};
+use ov_words::Draws;
+use std::alloc::Global;
+
+/// At JOIN from a node: it becomes active and is told JOINED, and every other active member hears of it by FORWARDJOIN, in
+/// ascending order. At most two words and 17 messages.
+pub fn on_join(
+    alloc: Global,
+    views: &mut Views,
+    draws: &mut Draws<'_>,
+    from: NodeId,
+) -> Result<Moves, OutOfMemory>
+    requires { 40 ≤ length draws.old }
+    ensures allowed { IfOk result (λ m. Drawn draws.old draws.new
+        (λ choices. AllowedJoin views.old from choices views.new m.changes.items m.sends.items)) }
+    ensures words { length draws.old ≤ length draws.new + 2 }
+    ensures few { IfOk result (λ m. vec_len m.sends ≤ 17) }
+    ensures ranges { IfOk result (λ m. AllByRecursion (λ s. AreInRange s.1) m.sends.items) }
+    ensures err { OnErr result ((views.new ≡ views.old) × (draws.new ≡ draws.old)) }
+{
+    let mut moves = Moves::with_room(alloc, 17)?;
+    let me = views.me();
+    if from == me {
+        return Ok(moves);
+    }
+    let changes = views.add_active(from, draws);
+    moves.tell(me, changes);
+    let message = Message {
+        from: me,
+        body: Body::Joined,
+    };
+    moves.send(from, message);
+    let ttl = views.params().arwl();
+    let others = views.all_but(View::Active, &[from]);
+    forward(&mut moves, me, from, ttl, others.as_slice());
+    Ok(moves)
+}
+
+/// Sends FORWARDJOIN to each member.
+fn forward(moves: &mut Moves, me: NodeId, node: NodeId, ttl: u8, members: &[NodeId])
+    requires { HasRoom moves.old (length members.now) 0 }
+    ensures sends { moves.new.sends.items ≡ moves.old.sends.items ++ forwards me node ttl members.now }
+    ensures len { vec_len moves.new.sends ≡ vec_len moves.old.sends + length members.now }
+    ensures changes { moves.new.changes ≡ moves.old.changes }
+{
+    for member in members {
+        let message = Message {
+            from: me,
+            body: Body::ForwardJoin { node, ttl },
+        };
+        moves.send(*member, message);
+    }
+}
+
+/// At FORWARDJOIN for a node, from another: where the walk ends here the node becomes active and is told JOINED, and else the
+/// walk goes on to a random active member, and the node becomes passive where PRWL steps are left. At most two words and two
+/// messages.
+pub fn on_forward_join(
+    alloc: Global,
+    views: &mut Views,
+    draws: &mut Draws<'_>,
+    from: NodeId,
+    node: NodeId,
+    ttl: u8,
+) -> Result<Moves, OutOfMemory>
+    requires words { 40 ≤ length draws.old }
+    requires ttl { ttl ≤ 15 }
+    ensures allowed { IfOk result (λ m. Drawn draws.old draws.new
+        (λ choices. AllowedForwardJoin views.old from node ttl choices views.new m.changes.items m.sends.items)) }
+    ensures words { length draws.old ≤ length draws.new + 2 }
+    ensures few { IfOk result (λ m. vec_len m.sends ≤ 2) }
+    ensures ranges { IfOk result (λ m. AllByRecursion (λ s. AreInRange s.1) m.sends.items) }
+    ensures err { OnErr result ((views.new ≡ views.old) × (draws.new ≡ draws.old)) }
+{
+    let mut moves = Moves::with_room(alloc, 2)?;
+    let me = views.me();
+    if from == me || node == me {
+        return Ok(moves);
+    }
+    let others = views.all_but(View::Active, &[from, node]);
+    if ends_here(views, &others, ttl) {
+        moves.tell(me, views.add_active(node, draws));
+        let message = Message {
+            from: me,
+            body: Body::Joined,
+        };
+        moves.send(node, message);
+        return Ok(moves);
+    }
+    remember(views, draws, node, ttl);
+    match draws.pick(others.as_slice()) {
+        Some(to) => {
+            let message = Message {
+                from: me,
+                body: Body::ForwardJoin { node, ttl: ttl - 1 },
+            };
+            moves.send(to, message);
+        }
+        None => unreachable!(),
+    }
+    Ok(moves)
+}
+
+/// Takes a node into the passive view where PRWL steps are left.
+fn remember(views: &mut Views, draws: &mut Draws<'_>, node: NodeId, ttl: u8)
+    requires { 1 ≤ length draws.old }
+    ensures drawn { Drawn draws.old draws.new (λ choices. Remembers views.old node ttl choices views.new) }
+    ensures words { length draws.old ≤ length draws.new + 1 }
+{
+    if ttl == views.params().prwl() {
+        views.add_passive(node, draws);
+    }
+}
+
+/// Whether the walk of FORWARDJOIN ends, where it could go on to the others.
+fn ends_here(views: &Views, others: &IdSet, ttl: u8) -> bool
+    ensures { result ≡ (ttl == 0) || (nat_le (length views.now.active) 1 || (length others.now == 0)) }
+{
+    ttl == 0 || views.active().len() <= 1 || others.len() == 0
+}
+
+/// At JOINED from a node, which has made this one active: it becomes active here. At most two words and one message.
+pub fn on_joined(
+    alloc: Global,
+    views: &mut Views,
+    draws: &mut Draws<'_>,
+    from: NodeId,
+) -> Result<Moves, OutOfMemory>
+    requires { 40 ≤ length draws.old }
+    ensures allowed { IfOk result (λ m. Drawn draws.old draws.new
+        (λ choices. AllowedJoined views.old from choices views.new m.changes.items m.sends.items)) }
+    ensures words { length draws.old ≤ length draws.new + 2 }
+    ensures few { IfOk result (λ m. vec_len m.sends ≤ 1) }
+    ensures ranges { IfOk result (λ m. AllByRecursion (λ s. AreInRange s.1) m.sends.items) }
+    ensures err { OnErr result ((views.new ≡ views.old) × (draws.new ≡ draws.old)) }
+{
+    let mut moves = Moves::with_room(alloc, 1)?;
+    let me = views.me();
+    if from == me {
+        return Ok(moves);
+    }
+    moves.tell(me, views.add_active(from, draws));
+    Ok(moves)
+}

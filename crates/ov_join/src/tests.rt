@@ -1,0 +1,755 @@
+ghost use Rattle.std.specs.Prelude.{◌≡◌, ◌≤◌, length, OnErr};
+
+use crate::{on_forward_join, on_join, on_joined};
+use ov_ids::{NodeId, OutOfMemory, Params};
+use ov_views::{Moves, ViewChange, Views};
+use ov_wire::{Body, Message, encode};
+use ov_words::{Draws, Words};
+use std::alloc::Global;
+use std::process::Abort;
+use std::test::Fail;
+
+/// A node with these sizes, active and passive members, where ARWL is 6 and PRWL 3, and the words of the event: these first,
+/// and then zeros.
+#[derive(Clone, Copy, Drop)]
+struct Node {
+    me: u32,
+    sizes: (u32, u32),
+    active: &'static [u32],
+    passive: &'static [u32],
+    words: &'static [u64],
+}
+
+/// What comes to the node.
+#[derive(Clone, Copy, Drop)]
+enum Input {
+    Join { from: u32 },
+    Walk { from: u32, node: u32, ttl: u8 },
+    Joined { from: u32 },
+}
+
+/// A change of the active view.
+#[derive(Clone, Copy, Debug, PartialEq, Eq)]
+enum Change {
+    Up(u32),
+    Down(u32),
+}
+
+/// What a message says.
+#[derive(Clone, Copy, Debug, PartialEq, Eq)]
+enum Said {
+    Joined,
+    Walk { node: u32, ttl: u8 },
+    Disconnect,
+    Other,
+}
+
+/// What a node does at an input: the changes, to whom it sends what, the views after it, and how many of 64 words are left.
+#[derive(Clone, Copy, Drop)]
+struct Case {
+    name: &'static str,
+    node: Node,
+    input: Input,
+    changes: &'static [Change],
+    sends: &'static [(u32, Said)],
+    active: &'static [u32],
+    passive: &'static [u32],
+    left: usize,
+}
+
+fn effect(change: &ViewChange) -> Change {
+    match change {
+        ViewChange::Up(id) => Change::Up(id.number()),
+        ViewChange::Down(id) => Change::Down(id.number()),
+    }
+}
+
+fn content(body: &Body) -> Said {
+    match body {
+        Body::Joined => Said::Joined,
+        Body::ForwardJoin { node, ttl } => {
+            Said::Walk {
+                node: node.number(),
+                ttl: *ttl,
+            }
+        }
+        Body::Disconnect => Said::Disconnect,
+        _ => Said::Other,
+    }
+}
+
+fn words_of(node: &Node) -> Words {
+    let mut words = [0; 64];
+    for (word, given) in words.iter_mut().zip(node.words) {
+        *word = *given;
+    }
+    Words::new(words)
+}
+
+fn views_of(node: &Node) -> Result<Views, Fail> {
+    let params = Params::new(node.sizes.0, node.sizes.1, 6, 3, 3, 4, 4)?;
+    let mut views = Views::new(NodeId(node.me), params);
+    let words = words_of(node);
+    for id in node.active {
+        views.add_active(NodeId(*id), &mut Draws::new(&words));
+    }
+    for id in node.passive {
+        views.add_passive(NodeId(*id), &mut Draws::new(&words));
+    }
+    Ok(views)
+}
+
+fn handle(
+    alloc: Global,
+    views: &mut Views,
+    draws: &mut Draws<'_>,
+    input: Input,
+) -> Result<Moves, OutOfMemory>
+    requires { 40 ≤ length draws.old }
+    ensures { OnErr result (draws.new ≡ draws.old) }
+{
+    match input {
+        Input::Join { from } => on_join(alloc, views, draws, NodeId(from)),
+        Input::Walk { from, node, ttl } => {
+            on_forward_join(alloc, views, draws, NodeId(from), NodeId(node), ttl.min(15))
+        }
+        Input::Joined { from } => on_joined(alloc, views, draws, NodeId(from)),
+    }
+}
+
+fn are(rt: &impl Abort, name: &str, ids: &[NodeId], numbers: &[u32]) {
+    assert_eq!(rt; ids.len(), numbers.len(), "{name}");
+    for (id, number) in ids.iter().zip(numbers) {
+        assert_eq!(rt; id.number(), *number, "{name}");
+    }
+}
+
+/// What the node does. Where memory is refused nothing has changed, and the same call is made once more.
+fn moves_of(
+    rt: &impl Abort,
+    alloc: Global,
+    case: &Case,
+    views: &mut Views,
+    draws: &mut Draws<'_>,
+) -> Result<Moves, OutOfMemory>
+    requires { 40 ≤ length draws.old }
+{
+    if let Ok(moves) = handle(alloc, views, draws, case.input) {
+        return Ok(moves);
+    }
+    are(rt, case.name, views.active(), case.node.active);
+    are(rt, case.name, views.passive(), case.node.passive);
+    assert_eq!(rt; draws.left(), 64, "{}", case.name);
+    handle(alloc, views, draws, case.input)
+}
+
+fn changed(rt: &impl Abort, case: &Case, changes: &[ViewChange]) {
+    assert_eq!(rt; changes.len(), case.changes.len(), "{}", case.name);
+    for (change, expected) in changes.iter().zip(case.changes) {
+        assert_eq!(rt; effect(change), *expected, "{}", case.name);
+    }
+}
+
+fn sent(rt: &impl Abort, case: &Case, sends: &[(NodeId, Message)]) {
+    assert_eq!(rt; sends.len(), case.sends.len(), "{}", case.name);
+    for ((to, message), (receiver, what)) in sends.iter().zip(case.sends) {
+        assert_eq!(rt; to.number(), *receiver, "{}", case.name);
+        assert_eq!(rt; message.from.number(), case.node.me, "{}", case.name);
+        assert_eq!(rt; content(&message.body), *what, "{}", case.name);
+    }
+}
+
+fn does(rt: &impl Abort, alloc: Global, case: &Case) -> Result<(), Fail> {
+    let mut views = views_of(&case.node)?;
+    let words = words_of(&case.node);
+    let mut draws = Draws::new(&words);
+    let moves = moves_of(rt, alloc, case, &mut views, &mut draws)?;
+    changed(rt, case, moves.changes.as_slice());
+    sent(rt, case, moves.sends.as_slice());
+    are(rt, case.name, views.active(), case.active);
+    are(rt, case.name, views.passive(), case.passive);
+    assert_eq!(rt; draws.left(), case.left, "{}", case.name);
+    Ok(())
+}
+
+fn all_do(rt: &impl Abort, alloc: Global, cases: &[Case]) -> Result<(), Fail> {
+    for case in cases {
+        does(rt, alloc, case)?;
+    }
+    Ok(())
+}
+
+/// Node 1 with places free in both views.
+const ROOMY: Node = Node {
+    me: 1,
+    sizes: (5, 5),
+    active: &[3, 7],
+    passive: &[4, 6],
+    words: &[],
+};
+
+/// Node 1 with both views full. Its words pick the first and then the second of two.
+const FULL: Node = Node {
+    me: 1,
+    sizes: (2, 2),
+    active: &[3, 7],
+    passive: &[4, 6],
+    words: &[0, 1],
+};
+
+/// Node 1 with three active members and both views full. Its words pick the second of two, and then the first.
+const THREE: Node = Node {
+    me: 1,
+    sizes: (3, 2),
+    active: &[3, 5, 8],
+    passive: &[4, 6],
+    words: &[1, 2],
+};
+
+static JOINS: [Case; 8] = [
+    Case {
+        name: "a stranger enters a free place",
+        node: ROOMY,
+        input: Input::Join { from: 9 },
+        changes: &[Change::Up(9)],
+        sends: &[
+            (9, Said::Joined),
+            (3, Said::Walk { node: 9, ttl: 6 }),
+            (7, Said::Walk { node: 9, ttl: 6 }),
+        ],
+        active: &[3, 7, 9],
+        passive: &[4, 6],
+        left: 64,
+    },
+    Case {
+        name: "a passive member enters a free place",
+        node: ROOMY,
+        input: Input::Join { from: 4 },
+        changes: &[Change::Up(4)],
+        sends: &[
+            (4, Said::Joined),
+            (3, Said::Walk { node: 4, ttl: 6 }),
+            (7, Said::Walk { node: 4, ttl: 6 }),
+        ],
+        active: &[3, 4, 7],
+        passive: &[6],
+        left: 64,
+    },
+    Case {
+        name: "an active member is answered, and the others hear of it",
+        node: FULL,
+        input: Input::Join { from: 7 },
+        changes: &[],
+        sends: &[(7, Said::Joined), (3, Said::Walk { node: 7, ttl: 6 })],
+        active: &[3, 7],
+        passive: &[4, 6],
+        left: 64,
+    },
+    Case {
+        name: "a member is dropped, and another leaves the passive view for it",
+        node: FULL,
+        input: Input::Join { from: 9 },
+        changes: &[Change::Down(3), Change::Up(9)],
+        sends: &[
+            (3, Said::Disconnect),
+            (9, Said::Joined),
+            (7, Said::Walk { node: 9, ttl: 6 }),
+        ],
+        active: &[7, 9],
+        passive: &[3, 4],
+        left: 62,
+    },
+    Case {
+        name: "a passive member leaves its place to the dropped one",
+        node: FULL,
+        input: Input::Join { from: 4 },
+        changes: &[Change::Down(3), Change::Up(4)],
+        sends: &[
+            (3, Said::Disconnect),
+            (4, Said::Joined),
+            (7, Said::Walk { node: 4, ttl: 6 }),
+        ],
+        active: &[4, 7],
+        passive: &[3, 6],
+        left: 63,
+    },
+    Case {
+        name: "the second member is dropped",
+        node: Node {
+            me: 1,
+            sizes: (2, 30),
+            active: &[3, 7],
+            passive: &[],
+            words: &[5],
+        },
+        input: Input::Join { from: 9 },
+        changes: &[Change::Down(7), Change::Up(9)],
+        sends: &[
+            (7, Said::Disconnect),
+            (9, Said::Joined),
+            (3, Said::Walk { node: 9, ttl: 6 }),
+        ],
+        active: &[3, 9],
+        passive: &[7],
+        left: 63,
+    },
+    Case {
+        name: "nobody is active yet",
+        node: Node {
+            active: &[],
+            ..ROOMY
+        },
+        input: Input::Join { from: 9 },
+        changes: &[Change::Up(9)],
+        sends: &[(9, Said::Joined)],
+        active: &[9],
+        passive: &[4, 6],
+        left: 64,
+    },
+    Case {
+        name: "the node itself",
+        node: FULL,
+        input: Input::Join { from: 1 },
+        changes: &[],
+        sends: &[],
+        active: &[3, 7],
+        passive: &[4, 6],
+        left: 64,
+    },
+];
+
+#[test]
+fn who_joins_is_answered_and_the_others_hear_of_it(rt: HostRuntime) -> Result<(), Fail> {
+    all_do(&rt, rt.alloc(), &JOINS)
+}
+
+static JOINED: [Case; 6] = [
+    Case {
+        name: "a stranger enters a free place",
+        node: ROOMY,
+        input: Input::Joined { from: 9 },
+        changes: &[Change::Up(9)],
+        sends: &[],
+        active: &[3, 7, 9],
+        passive: &[4, 6],
+        left: 64,
+    },
+    Case {
+        name: "a passive member enters a free place",
+        node: ROOMY,
+        input: Input::Joined { from: 4 },
+        changes: &[Change::Up(4)],
+        sends: &[],
+        active: &[3, 4, 7],
+        passive: &[6],
+        left: 64,
+    },
+    Case {
+        name: "an active member",
+        node: FULL,
+        input: Input::Joined { from: 7 },
+        changes: &[],
+        sends: &[],
+        active: &[3, 7],
+        passive: &[4, 6],
+        left: 64,
+    },
+    Case {
+        name: "a member is dropped, and another leaves the passive view for it",
+        node: FULL,
+        input: Input::Joined { from: 9 },
+        changes: &[Change::Down(3), Change::Up(9)],
+        sends: &[(3, Said::Disconnect)],
+        active: &[7, 9],
+        passive: &[3, 4],
+        left: 62,
+    },
+    Case {
+        name: "a passive member leaves its place to the dropped one",
+        node: FULL,
+        input: Input::Joined { from: 4 },
+        changes: &[Change::Down(3), Change::Up(4)],
+        sends: &[(3, Said::Disconnect)],
+        active: &[4, 7],
+        passive: &[3, 6],
+        left: 63,
+    },
+    Case {
+        name: "the node itself",
+        node: FULL,
+        input: Input::Joined { from: 1 },
+        changes: &[],
+        sends: &[],
+        active: &[3, 7],
+        passive: &[4, 6],
+        left: 64,
+    },
+];
+
+#[test]
+fn who_joined_elsewhere_becomes_active(rt: HostRuntime) -> Result<(), Fail> {
+    all_do(&rt, rt.alloc(), &JOINED)
+}
+
+static ENDING: [Case; 9] = [
+    Case {
+        name: "no step is left: a stranger enters a free place",
+        node: ROOMY,
+        input: Input::Walk {
+            from: 3,
+            node: 9,
+            ttl: 0,
+        },
+        changes: &[Change::Up(9)],
+        sends: &[(9, Said::Joined)],
+        active: &[3, 7, 9],
+        passive: &[4, 6],
+        left: 64,
+    },
+    Case {
+        name: "no step is left: a member is dropped, and another leaves the passive view for it",
+        node: FULL,
+        input: Input::Walk {
+            from: 3,
+            node: 9,
+            ttl: 0,
+        },
+        changes: &[Change::Down(3), Change::Up(9)],
+        sends: &[(3, Said::Disconnect), (9, Said::Joined)],
+        active: &[7, 9],
+        passive: &[3, 4],
+        left: 62,
+    },
+    Case {
+        name: "no step is left: a passive member, from a stranger",
+        node: FULL,
+        input: Input::Walk {
+            from: 8,
+            node: 4,
+            ttl: 0,
+        },
+        changes: &[Change::Down(3), Change::Up(4)],
+        sends: &[(3, Said::Disconnect), (4, Said::Joined)],
+        active: &[4, 7],
+        passive: &[3, 6],
+        left: 63,
+    },
+    Case {
+        name: "no step is left: an active member is answered",
+        node: FULL,
+        input: Input::Walk {
+            from: 3,
+            node: 7,
+            ttl: 0,
+        },
+        changes: &[],
+        sends: &[(7, Said::Joined)],
+        active: &[3, 7],
+        passive: &[4, 6],
+        left: 64,
+    },
+    Case {
+        name: "one is active, and dropped",
+        node: Node {
+            me: 1,
+            sizes: (1, 5),
+            active: &[3],
+            passive: &[4, 6],
+            words: &[],
+        },
+        input: Input::Walk {
+            from: 8,
+            node: 9,
+            ttl: 6,
+        },
+        changes: &[Change::Down(3), Change::Up(9)],
+        sends: &[(3, Said::Disconnect), (9, Said::Joined)],
+        active: &[9],
+        passive: &[3, 4, 6],
+        left: 63,
+    },
+    Case {
+        name: "nobody is active, and the passive view, full, stays as it is at PRWL",
+        node: Node {
+            active: &[],
+            ..FULL
+        },
+        input: Input::Walk {
+            from: 3,
+            node: 9,
+            ttl: 3,
+        },
+        changes: &[Change::Up(9)],
+        sends: &[(9, Said::Joined)],
+        active: &[9],
+        passive: &[4, 6],
+        left: 64,
+    },
+    Case {
+        name: "only the sender and the new node are active",
+        node: ROOMY,
+        input: Input::Walk {
+            from: 3,
+            node: 7,
+            ttl: 6,
+        },
+        changes: &[],
+        sends: &[(7, Said::Joined)],
+        active: &[3, 7],
+        passive: &[4, 6],
+        left: 64,
+    },
+    Case {
+        name: "the node itself is new",
+        node: FULL,
+        input: Input::Walk {
+            from: 3,
+            node: 1,
+            ttl: 0,
+        },
+        changes: &[],
+        sends: &[],
+        active: &[3, 7],
+        passive: &[4, 6],
+        left: 64,
+    },
+    Case {
+        name: "the node itself has sent it",
+        node: FULL,
+        input: Input::Walk {
+            from: 1,
+            node: 9,
+            ttl: 0,
+        },
+        changes: &[],
+        sends: &[],
+        active: &[3, 7],
+        passive: &[4, 6],
+        left: 64,
+    },
+];
+
+#[test]
+fn a_walk_ends(rt: HostRuntime) -> Result<(), Fail> {
+    all_do(&rt, rt.alloc(), &ENDING)
+}
+
+static GOING_ON: [Case; 13] = [
+    Case {
+        name: "above ARWL",
+        node: THREE,
+        input: Input::Walk {
+            from: 3,
+            node: 9,
+            ttl: 15,
+        },
+        changes: &[],
+        sends: &[(8, Said::Walk { node: 9, ttl: 14 })],
+        active: &[3, 5, 8],
+        passive: &[4, 6],
+        left: 63,
+    },
+    Case {
+        name: "at ARWL",
+        node: THREE,
+        input: Input::Walk {
+            from: 3,
+            node: 9,
+            ttl: 6,
+        },
+        changes: &[],
+        sends: &[(8, Said::Walk { node: 9, ttl: 5 })],
+        active: &[3, 5, 8],
+        passive: &[4, 6],
+        left: 63,
+    },
+    Case {
+        name: "above PRWL, for a passive member",
+        node: THREE,
+        input: Input::Walk {
+            from: 3,
+            node: 4,
+            ttl: 4,
+        },
+        changes: &[],
+        sends: &[(8, Said::Walk { node: 4, ttl: 3 })],
+        active: &[3, 5, 8],
+        passive: &[4, 6],
+        left: 63,
+    },
+    Case {
+        name: "at PRWL another leaves the passive view for the new node, by the first word",
+        node: THREE,
+        input: Input::Walk {
+            from: 3,
+            node: 9,
+            ttl: 3,
+        },
+        changes: &[],
+        sends: &[(5, Said::Walk { node: 9, ttl: 2 })],
+        active: &[3, 5, 8],
+        passive: &[4, 9],
+        left: 62,
+    },
+    Case {
+        name: "at PRWL, for a passive member",
+        node: THREE,
+        input: Input::Walk {
+            from: 3,
+            node: 4,
+            ttl: 3,
+        },
+        changes: &[],
+        sends: &[(8, Said::Walk { node: 4, ttl: 2 })],
+        active: &[3, 5, 8],
+        passive: &[4, 6],
+        left: 63,
+    },
+    Case {
+        name: "at PRWL, for an active member",
+        node: THREE,
+        input: Input::Walk {
+            from: 9,
+            node: 3,
+            ttl: 3,
+        },
+        changes: &[],
+        sends: &[(8, Said::Walk { node: 3, ttl: 2 })],
+        active: &[3, 5, 8],
+        passive: &[4, 6],
+        left: 63,
+    },
+    Case {
+        name: "below PRWL",
+        node: THREE,
+        input: Input::Walk {
+            from: 3,
+            node: 9,
+            ttl: 1,
+        },
+        changes: &[],
+        sends: &[(8, Said::Walk { node: 9, ttl: 0 })],
+        active: &[3, 5, 8],
+        passive: &[4, 6],
+        left: 63,
+    },
+    Case {
+        name: "from a stranger, of three",
+        node: THREE,
+        input: Input::Walk {
+            from: 7,
+            node: 9,
+            ttl: 6,
+        },
+        changes: &[],
+        sends: &[(5, Said::Walk { node: 9, ttl: 5 })],
+        active: &[3, 5, 8],
+        passive: &[4, 6],
+        left: 63,
+    },
+    Case {
+        name: "from the new node",
+        node: THREE,
+        input: Input::Walk {
+            from: 3,
+            node: 3,
+            ttl: 5,
+        },
+        changes: &[],
+        sends: &[(8, Said::Walk { node: 3, ttl: 4 })],
+        active: &[3, 5, 8],
+        passive: &[4, 6],
+        left: 63,
+    },
+    Case {
+        name: "from one active member for another",
+        node: THREE,
+        input: Input::Walk {
+            from: 3,
+            node: 8,
+            ttl: 5,
+        },
+        changes: &[],
+        sends: &[(5, Said::Walk { node: 8, ttl: 4 })],
+        active: &[3, 5, 8],
+        passive: &[4, 6],
+        left: 63,
+    },
+    Case {
+        name: "node 3 remembers node 9",
+        node: Node {
+            me: 3,
+            sizes: (5, 30),
+            active: &[1, 5],
+            passive: &[],
+            words: &[],
+        },
+        input: Input::Walk {
+            from: 1,
+            node: 9,
+            ttl: 3,
+        },
+        changes: &[],
+        sends: &[(5, Said::Walk { node: 9, ttl: 2 })],
+        active: &[1, 5],
+        passive: &[9],
+        left: 63,
+    },
+    Case {
+        name: "the node itself is new",
+        node: THREE,
+        input: Input::Walk {
+            from: 3,
+            node: 1,
+            ttl: 3,
+        },
+        changes: &[],
+        sends: &[],
+        active: &[3, 5, 8],
+        passive: &[4, 6],
+        left: 64,
+    },
+    Case {
+        name: "the node itself has sent it",
+        node: THREE,
+        input: Input::Walk {
+            from: 1,
+            node: 9,
+            ttl: 3,
+        },
+        changes: &[],
+        sends: &[],
+        active: &[3, 5, 8],
+        passive: &[4, 6],
+        left: 64,
+    },
+];
+
+#[test]
+fn a_walk_goes_on(rt: HostRuntime) -> Result<(), Fail> {
+    all_do(&rt, rt.alloc(), &GOING_ON)
+}
+
+#[test]
+fn node_3_passes_the_walk_of_node_9_on(rt: HostRuntime) -> Result<(), Fail> {
+    let node = Node {
+        me: 3,
+        active: &[1, 5],
+        passive: &[],
+        ..ROOMY
+    };
+    let mut views = views_of(&node)?;
+    let words = words_of(&node);
+    let mut draws = Draws::new(&words);
+    let moves = on_forward_join(rt.alloc(), &mut views, &mut draws, NodeId(1), NodeId(9), 3)?;
+    are(&rt, "passive", views.passive(), &[9]);
+    assert_eq!(rt; moves.sends.len(), 1);
+    let (to, message) = &moves.sends[0];
+    assert_eq!(rt; *to, NodeId(5));
+    let bytes = encode(rt.alloc(), message)?;
+    assert_eq!(rt;
+        bytes.as_slice(),
+        [1, 2, 0, 0, 0, 3, 0, 0, 0, 9, 2].as_slice()
+    );
+    Ok(())
+}

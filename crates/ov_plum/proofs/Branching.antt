@@ -1,0 +1,39 @@
+-- What each change of the neighbours keeps.
+use Rattle.std.proofs.Common.{◌≡◌, ℕ, ◌<◌, ◌≤◌, ◌+◌, List, length, inl, inr, arith}
+use Rattle.ov_ids.specs.Sets.{IsIn, has, adding, without}
+use Rattle.ov_ids.proofs.Sets.{IsSet-adding, IsSet-without, IsIn-adding, IsIn-without, length-adding, length-without, length-without_less}
+use Rattle.ov_plum.specs.Tree.{Branches, AreBranches, up, down}
+
+-- the two sets may change places
+pub turned : (b : Branches) → AreBranches b → AreBranches (record { eager = b.lazy; lazy = b.eager })
+turned b a = record { eager_set = a.lazy_set; lazy_set = a.eager_set; apart = λ x h k. a.apart x k h; few = omega (arith, a.few) }
+
+pub down_keeps : (b : Branches) (x : ℕ) → AreBranches b → AreBranches (down x b)
+down_keeps b x a = record {
+  eager_set = IsSet-without x b.eager a.eager_set;
+  lazy_set = IsSet-without x b.lazy a.lazy_set;
+  apart = λ z h k. a.apart z (IsIn-without x b.eager z h).1 (IsIn-without x b.lazy z k).1;
+  few = omega (arith, length-without x b.eager, length-without x b.lazy, a.few);
+}
+
+pub up_keeps : (b : Branches) (x : ℕ) → AreBranches b → length b.eager + length (without x b.lazy) < 64 → AreBranches (up x b)
+up_keeps b x a room = record {
+  eager_set = IsSet-adding x b.eager a.eager_set;
+  lazy_set = IsSet-without x b.lazy a.lazy_set;
+  apart = λ z h k.
+      let old = IsIn-without x b.lazy z k in
+      elim (IsIn-adding x b.eager z h) [ inl e ↦ old.0 e | inr m ↦ a.apart z m old.1 ];
+  few = omega (arith, length-adding x b.eager, room);
+}
+
+-- with a place free
+pub comes_up : (b : Branches) (x : ℕ) → AreBranches b → length b.eager + length b.lazy < 64 → AreBranches (up x b)
+comes_up b x a room = up_keeps b x a (omega (arith, length-without x b.lazy, room))
+
+-- from the lazy
+pub turns_eager : (b : Branches) (x : ℕ) → AreBranches b → IsIn b.lazy x → AreBranches (up x b)
+turns_eager b x a h = up_keeps b x a (omega (arith, length-without_less x b.lazy h, a.few))
+
+-- from the eager
+pub turns_lazy : (b : Branches) (x : ℕ) → AreBranches b → IsIn b.eager x → AreBranches (record { eager = without x b.eager; lazy = adding x b.lazy })
+turns_lazy b x a h = turned _ (turns_eager (record { eager = b.lazy; lazy = b.eager }) x (turned b a) h)

@@ -1,0 +1,2 @@
+mod Branching
+mod Maps

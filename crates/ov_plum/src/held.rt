@@ -1,0 +1,64 @@
+ghost use Rattle.std.specs.Prelude.{◌≡◌, ◌≤◌, length, IfOk};
+
+use crate::by_id::TryCopy;
+use ov_ids::{OutOfMemory, Seq};
+use std::alloc::Global;
+use std::marker::Model;
+use std::sync::Arc;
+
+/// A message that is held: the round with which it is sent on, and its payload of at most 1,024 bytes, which copies share.
+#[derive(Drop)]
+pub(crate) struct Held {
+    round: u16,
+    payload: Arc<Seq<u8>>,
+}
+
+impl Model for Held {
+    ghost use Rattle.std.specs.Prelude.{◌≤◌, length};
+    ghost use Rattle.std.specs.Arc.{arc_value};
+    ghost use Rattle.ov_plum.specs.Tree.{Kept};
+
+    ghost Value = { Kept };
+
+    ghost view = { λ a. record { round = a.round; payload = arc_value a.payload } };
+
+    ghost invariant = { λ a. length (arc_value a.payload) ≤ 1024 };
+}
+
+impl Held {
+    /// Holds a message.
+    pub(crate) fn new(alloc: Global, round: u16, payload: Seq<u8>) -> Result<Held, OutOfMemory>
+        requires { length payload ≤ 1024 }
+        ensures { IfOk result (λ h. h ≡ record { round = round; payload = payload }) }
+    {
+        Ok(Held {
+            round,
+            payload: Arc::new(alloc, payload)?,
+        })
+    }
+
+    /// The round with which it is sent on.
+    pub(crate) fn round(&self) -> u16
+        ensures { result ≡ self.now.round }
+    {
+        self.round
+    }
+
+    /// A copy of its payload.
+    pub(crate) fn copy_payload(&self, alloc: Global) -> Result<Seq<u8>, OutOfMemory>
+        ensures value { IfOk result (λ p. p ≡ self.now.payload) }
+        ensures short { length self.now.payload ≤ 1024 }
+    {
+        Ok(Seq::new(Vec::from_slice(alloc, self.payload.as_slice())?))
+    }
+}
+
+impl TryCopy for Held {
+    /// The same message, with the payload shared.
+    fn try_copy(&self) -> Result<Held, OutOfMemory> {
+        Ok(Held {
+            round: self.round,
+            payload: Arc::try_clone(&self.payload)?,
+        })
+    }
+}

@@ -1,0 +1,259 @@
+ghost use Rattle.std.specs.Prelude.{◌≡◌, ◌<◌, ◌≤◌, ◌+◌, [], length, vec_len, None, Err, IfOk, IfErr, OnOk, OnErr};
+ghost use Rattle.std.specs.FinMap as map;
+ghost use Rattle.std.specs.List.{AllByRecursion};
+ghost use Rattle.ov_wire.specs.Messages.{AreInRange};
+ghost use Rattle.ov_wire.specs.declared.message.Body.TheVariants.{Gossip, IHave, Graft, Prune};
+ghost use Rattle.ov_plum.specs.Spreading.{AllowedTree, receives, broadcasts, fires, AllowedUp, AllowedDown};
+ghost use Rattle.ov_plum.specs.Tree.{AreBranches};
+ghost use Rattle.ov_plum.specs.declared.fault.TimerFault.TheVariants.{NoTimer};
+
+use crate::by_id::{ById, TryCopy};
+use crate::fault::TimerFault;
+use crate::held::Held;
+use crate::links::Links;
+use crate::notes::Notes;
+use crate::spread::{Spread, whole_message};
+use ov_ids::{MsgId, NodeId, OutOfMemory, Seq};
+use ov_wire::{Body, Message};
+use std::alloc::Global;
+use std::marker::Model;
+
+/// What Plumtree keeps at a node: its neighbours, eager or lazy, the messages that it holds, and those that it waits for.
+/// Contracts see it as a `Tree`. Every call makes all its room first, so after want of memory nothing has changed.
+#[derive(Drop)]
+pub struct Plum {
+    me: NodeId,
+    links: Links,
+    held: ById<Held>,
+    timers: ById<Notes>,
+    made: u32,
+}
+
+impl Model for Plum {
+    ghost use Rattle.ov_plum.specs.Codes.{tree_code};
+    ghost use Rattle.ov_plum.specs.Tree.{Tree};
+
+    ghost Value = { Tree };
+
+    ghost coded = { tree_code };
+
+    ghost view = { λ a. record { me = a.me; branches = a.links; held = a.held; timers = a.timers; made = a.made } };
+}
+
+impl Plum {
+    /// A node without neighbours that has seen no message. It takes no memory.
+    pub fn new(alloc: Global, me: NodeId) -> Plum
+        ensures { result ≡ record { me = me; branches = record { eager = []; lazy = [] }; held = map.empty; timers = map.empty; made = 0 } }
+    {
+        Plum {
+            me,
+            links: Links::new(),
+            held: ById::new(alloc),
+            timers: ById::new(alloc),
+            made: 0,
+        }
+    }
+
+    /// The same, with the payloads of held messages shared.
+    pub fn copy(&self) -> Result<Plum, OutOfMemory>
+        ensures { IfOk result (λ p. p ≡ self.now) }
+    {
+        Ok(Plum {
+            me: self.me,
+            links: self.links.copy(),
+            held: self.held.copy()?,
+            timers: self.timers.copy()?,
+            made: self.made,
+        })
+    }
+
+    /// The neighbours to whom whole messages go at once, ascending.
+    pub fn eager(&self) -> &[NodeId]
+        ensures value { result.now ≡ self.now.branches.eager }
+        ensures links { AreBranches self.now.branches }
+    {
+        self.links.eager()
+    }
+
+    /// The neighbours who are only told that there is a message, ascending.
+    pub fn lazy(&self) -> &[NodeId]
+        ensures value { result.now ≡ self.now.branches.lazy }
+        ensures links { AreBranches self.now.branches }
+    {
+        self.links.lazy()
+    }
+
+    /// The number of the next broadcast of the node's own.
+    pub fn made(&self) -> u32
+        ensures { result ≡ self.now.made }
+    {
+        self.made
+    }
+
+    /// Whether the timer of an id is set.
+    pub fn has_timer(&self, id: MsgId) -> bool
+        ensures { result ≡ map.contains_key self.now.timers id }
+    {
+        self.timers.contains(&id)
+    }
+
+    /// Makes a broadcast of the node's own, of at most 1,024 bytes: it is held, delivered and sent on.
+    pub fn broadcast(&mut self, payload: Seq<u8>) -> Result<Spread, OutOfMemory>
+        requires payload { length payload ≤ 1024 }
+        requires made { self.old.made < 4096 }
+        ensures allowed { IfOk result (λ s. AllowedTree self.old (broadcasts payload) self.new s.sends.items s.delivered) }
+        ensures few { IfOk result (λ s. vec_len s.sends ≤ length self.old.branches.eager + length self.old.branches.lazy) }
+        ensures ranges { IfOk result (λ s. AllByRecursion (λ t. AreInRange t.1) s.sends.items) }
+        ensures err { OnErr result (self.new ≡ self.old) }
+    {
+        let alloc = self.held.allocator();
+        let id = MsgId {
+            origin: self.me,
+            seq: self.made,
+        };
+        let held = Held::new(alloc, 0, payload)?;
+        let spread = Spread::whole(alloc, self.me, &id, &held, &self.links)?;
+        self.held.insert(id, held)?;
+        self.made += 1;
+        Ok(spread)
+    }
+
+    /// At GOSSIP from a node, of at most 1,024 bytes. Where the message is held, the sender becomes lazy and is told PRUNE. Else
+    /// it is delivered, its timer and notes are cleared, it is held and sent on to all but the sender, who becomes eager.
+    pub fn on_gossip(
+        &mut self,
+        from: NodeId,
+        id: MsgId,
+        round: u16,
+        payload: Seq<u8>,
+    ) -> Result<Spread, OutOfMemory>
+        requires { length payload ≤ 1024 }
+        ensures allowed { IfOk result (λ s. AllowedTree self.old (receives (record { from = from; body = Gossip id round payload })) self.new s.sends.items s.delivered) }
+        ensures few { IfOk result (λ s. vec_len s.sends ≤ 1 + length self.old.branches.eager + length self.old.branches.lazy) }
+        ensures ranges { IfOk result (λ s. AllByRecursion (λ t. AreInRange t.1) s.sends.items) }
+        ensures err { OnErr result (self.new ≡ self.old) }
+    {
+        let alloc = self.held.allocator();
+        if from == self.me {
+            return Ok(Spread::quiet(alloc));
+        }
+        if self.held.contains(&id) {
+            let spread = Spread::one(alloc, from, self.say(Body::Prune))?;
+            self.links.make_lazy(from);
+            return Ok(spread);
+        }
+        let held = Held::new(alloc, round.saturating_add(1), payload)?;
+        let mut others = self.links.copy();
+        others.down(from);
+        let spread = Spread::whole(alloc, self.me, &id, &held, &others)?;
+        self.held.insert(id, held)?;
+        self.timers.remove(&id);
+        self.links.make_eager(from);
+        Ok(spread)
+    }
+
+    /// At IHAVE from a node. Nothing where the message is held or the sender is no neighbour; else its note goes last, and the
+    /// timer is set.
+    pub fn on_ihave(&mut self, from: NodeId, id: MsgId) -> Result<Spread, OutOfMemory>
+        ensures allowed { IfOk result (λ s. AllowedTree self.old (receives (record { from = from; body = IHave id })) self.new s.sends.items s.delivered) }
+        ensures none { IfOk result (λ s. vec_len s.sends ≡ 0) }
+        ensures err { OnErr result (self.new ≡ self.old) }
+    {
+        let alloc = self.held.allocator();
+        if from == self.me || self.held.contains(&id) || !self.links.is_linked(from) {
+            return Ok(Spread::quiet(alloc));
+        }
+        let mut notes = match self.timers.get(&id) {
+            Some(notes) => notes.try_copy()?,
+            None => Notes::new(alloc),
+        };
+        notes.note(from)?;
+        self.timers.insert(id, notes)?;
+        Ok(Spread::quiet(alloc))
+    }
+
+    /// At GRAFT from a node: it becomes eager, and gets the message where that is held.
+    pub fn on_graft(&mut self, from: NodeId, id: MsgId) -> Result<Spread, OutOfMemory>
+        ensures allowed { IfOk result (λ s. AllowedTree self.old (receives (record { from = from; body = Graft id })) self.new s.sends.items s.delivered) }
+        ensures few { IfOk result (λ s. vec_len s.sends ≤ 1) }
+        ensures ranges { IfOk result (λ s. AllByRecursion (λ t. AreInRange t.1) s.sends.items) }
+        ensures err { OnErr result (self.new ≡ self.old) }
+    {
+        let alloc = self.held.allocator();
+        if from == self.me {
+            return Ok(Spread::quiet(alloc));
+        }
+        let spread = match self.held.get(&id) {
+            Some(held) => Spread::one(alloc, from, whole_message(alloc, self.me, id, held)?)?,
+            None => Spread::quiet(alloc),
+        };
+        self.links.make_eager(from);
+        Ok(spread)
+    }
+
+    /// At PRUNE from a node: it becomes lazy. It takes no memory.
+    pub fn on_prune(&mut self, from: NodeId) -> Spread
+        ensures allowed { AllowedTree self.old (receives (record { from = from; body = Prune })) self.new result.sends.items result.delivered }
+        ensures none { vec_len result.sends ≡ 0 }
+    {
+        if from != self.me {
+            self.links.make_lazy(from);
+        }
+        Spread::quiet(self.held.allocator())
+    }
+
+    /// The timer of an id fires: the oldest note is taken out, and who said so becomes eager and gets GRAFT. Without a note the
+    /// timer is cleared. NoTimer (18) where it is not set, and then nothing changes.
+    pub fn on_timer(&mut self, id: MsgId) -> Result<Spread, TimerFault>
+        ensures allowed { IfOk result (λ s. AllowedTree self.old (fires id) self.new s.sends.items s.delivered) }
+        ensures no_timer { map.get self.old.timers id ≡ None → result ≡ Err NoTimer }
+        ensures set { result ≡ Err NoTimer → map.get self.old.timers id ≡ None }
+        ensures few { IfOk result (λ s. vec_len s.sends ≤ 1) }
+        ensures ranges { IfOk result (λ s. AllByRecursion (λ t. AreInRange t.1) s.sends.items) }
+        ensures err { OnErr result (self.new ≡ self.old) }
+    {
+        let alloc = self.held.allocator();
+        let notes = match self.timers.get(&id) {
+            Some(notes) => notes,
+            None => return Err(TimerFault::NoTimer),
+        };
+        let sender = match notes.oldest() {
+            Some(sender) => sender,
+            None => {
+                self.timers.remove(&id);
+                return Ok(Spread::quiet(alloc));
+            }
+        };
+        let later = notes.later()?;
+        let spread = Spread::one(alloc, sender, self.say(Body::Graft { id }))?;
+        self.timers.insert(id, later)?;
+        self.links.make_eager(sender);
+        Ok(spread)
+    }
+
+    /// A node comes up: it is an eager neighbour. It takes no memory.
+    pub fn up(&mut self, id: NodeId)
+        requires { length self.old.branches.eager + length self.old.branches.lazy < 64 }
+        ensures { AllowedUp self.old id self.new }
+    {
+        self.links.up(id);
+    }
+
+    /// A node goes down: it is no neighbour, and its notes go. It takes no memory.
+    pub fn down(&mut self, id: NodeId)
+        ensures { AllowedDown self.old id self.new }
+    {
+        self.links.down(id);
+        self.timers.forget(id);
+    }
+
+    /// A message of this node.
+    fn say(&self, body: Body) -> Message
+        ensures { result ≡ record { from = self.now.me; body = body } }
+    {
+        Message {
+            from: self.me,
+            body,
+        }
+    }
+}

@@ -1,0 +1,28 @@
+-- A shuffle starts, walks on, or ends.
+use Rattle.std.proofs.Common.{◌≡◌, ℕ, ◌-◌, false, true, eqb, List, [], ◌∷◌, ◌++◌, length, refl, arith}
+use Rattle.std.proofs.lemmas.Bool.{ne_eqb}
+use Rattle.ov_ids.proofs.Cases.{where_true, where_false}
+use Rattle.ov_ids.specs.Sets.{IsIn, without}
+use Rattle.ov_ids.proofs.Sets.{length-without_less}
+use Rattle.ov_wire.specs.declared.Body.TheVariants.{Shuffle, ShuffleReply}
+use Rattle.ov_words.specs.Pick.{Choice}
+use Rattle.ov_views.specs.Neighbourhood.{Neighbourhood}
+use Rattle.ov_views.specs.Shuffle.{Samples, Integrates}
+use Rattle.ov_views.specs.Sending.{say}
+use Rattle.ov_views.specs.Shuffling.{AllowedStart, AllowedShuffle, walks_on}
+
+pub walks : (v : Neighbourhood) (s o ttl : ℕ) (ids : List ℕ) (b : ℕ) → eqb s v.me ≡ false → walks_on v ttl ≡ true → IsIn (without s v.active) b →
+    AllowedShuffle v s o ttl ids (record { from = without s v.active; member = b } ∷ []) v [] ((b, say v.me (Shuffle o (ttl - 1) ids)) ∷ [])
+walks v s o ttl ids b other on h = where_false _ _ _ other (where_true _ _ _ on (b, (h, refl), refl, refl, refl))
+
+pub ends : (v w : Neighbourhood) (s o ttl : ℕ) (ids those : List ℕ) (first last : List Choice) → eqb s v.me ≡ false → walks_on v ttl ≡ false → eqb o v.me ≡ false →
+    Samples v.passive (length ids) first those → Integrates v ids those last w →
+    AllowedShuffle v s o ttl ids (first ++ last) w [] ((o, say v.me (ShuffleReply those)) ∷ [])
+ends v w s o ttl ids those first last other on foreign samples integrates =
+    where_false _ _ _ other (where_false _ _ _ on (where_false _ _ _ foreign (first, last, those, refl, samples, integrates, refl, refl)))
+
+pub starts : (v : Neighbourhood) (sent : List ℕ) (b : ℕ) (first last : List Choice) (near far kept : List ℕ) → IsIn v.active b →
+    Samples v.active v.params.ka first near → Samples v.passive v.params.kp last far → kept ≡ v.me ∷ (near ++ far) →
+    AllowedStart v sent (record { from = v.active; member = b } ∷ (first ++ last)) kept ((b, say v.me (Shuffle v.me v.params.shuffle_ttl kept)) ∷ [])
+starts v sent b first last near far kept h s t e =
+    where_false _ _ _ (ne_eqb (length v.active) 0 (omega (arith, length-without_less b v.active h))) (b, first ++ last, first, last, near, far, (h, refl), refl, s, t, e, refl)

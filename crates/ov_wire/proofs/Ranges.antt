@@ -1,0 +1,19 @@
+-- Messages within their ranges, one after the other.
+use Rattle.std.proofs.Common.{ℕ, List, [], ◌∷◌, ◌++◌}
+use Rattle.std.specs.Prelude.{map}
+use Rattle.std.specs.List.{AllByRecursion}
+use Rattle.ov_wire.specs.Messages.{AreInRange}
+use Rattle.ov_wire.specs.declared.message.Message.{Message}
+
+-- each message that is sent has its fields within their ranges
+abbrev pub Ranged : List (ℕ × Message) → Type 0
+Ranged sends = AllByRecursion (λ (s : ℕ × Message). AreInRange s.1) sends
+
+pub Ranged-append : (xs ys : List (ℕ × Message)) → Ranged xs → Ranged ys → Ranged (xs ++ ys)
+Ranged-append [] ys a b = b
+Ranged-append (x ∷ xs) ys a b = (a.0, Ranged-append xs ys a.1 b)
+
+-- one message to each of these
+pub Ranged-each : (m : Message) → AreInRange m → (to : List ℕ) → Ranged (map (λ x. (x, m)) to)
+Ranged-each m fits [] = tt
+Ranged-each m fits (x ∷ to) = (fits, Ranged-each m fits to)
