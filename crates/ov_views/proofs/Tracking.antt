@@ -107,8 +107,8 @@ message n s (Neighbor high) cs m changes sends h =
 message n s (NeighborReply accepted) cs m changes sends h =
     either_way (eqb s n.views.me) _ _ _ (λ k. idle n.views cs m.views changes sends k.0)
     (either_way (awaits n.asking s) _ _ _
-      (either_way accepted _ _ _ (λ k. enters n.views s cs m.views changes k.0) (λ k. still n.views m.views changes k.1 k.2))
-      (λ k. still n.views m.views changes k.0.1 k.2)) h.1
+    (either_way accepted _ _ _ (λ k. enters n.views s cs m.views changes k.0) (λ k. still n.views m.views changes k.1 k.2))
+    (λ k. still n.views m.views changes k.0.1 k.2)) h.1
 message n s Disconnect cs m changes sends h =
     either_way (eqb s n.views.me || not (has n.views.active s)) _ _ _ (idle n.views cs m.views changes sends)
     (λ g. let gone = removes n.views s g.0 changes g.1 in let then = passive g.0 s cs m.views [] g.2 refl in record { me = then.me ∙ gone.me; active = then.active ∙ gone.active }) h.1
