@@ -1,0 +1,4 @@
+pub mod Whole
+pub mod Codes
+pub mod Step
+pub mod Faults

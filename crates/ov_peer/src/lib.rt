@@ -1,0 +1,8 @@
+//! A node whole: HyParView's handlers and Plumtree's, joined so that one input is one step.
+#![tactic(auto)]
+
+mod fault;
+mod input;
+
+pub use fault::PeerFault;
+pub use input::{Delivery, Input, Output};
