@@ -2,7 +2,11 @@
 #![tactic(auto)]
 
 mod fault;
+mod hearing;
 mod input;
+mod peer;
+mod telling;
 
 pub use fault::PeerFault;
 pub use input::{Delivery, Input, Output};
+pub use peer::Peer;

@@ -1,5 +1,5 @@
 -- The active view goes along with the changes that are told, at every step that a node may do.
-use Rattle.std.proofs.Common.{◌≡◌, ℕ, Bool, true, false, List, [], ◌∷◌, ◌++◌, ◌||◌, length, refl, sym, ap, ◌∙◌, eqb, ltb, nat_lt, nat_le, not, Option, None, Some}
+use Rattle.std.proofs.Common.{◌≡◌, ℕ, Bool, true, false, List, [], ◌∷◌, ◌++◌, ◌||◌, ◌≤◌, length, length-append, arith, refl, sym, ap, ◌∙◌, eqb, ltb, nat_lt, nat_le, not, Option, None, Some}
 use Rattle.std.specs.Prelude.{MatchBool, ◌&&◌}
 use Rattle.ov_ids.specs.Sets.{has, adding, without}
 use Rattle.ov_ids.proofs.Cases.{either_way}
@@ -20,14 +20,15 @@ use Rattle.ov_views.specs.declared.change.ViewChange.{ViewChange}
 use Rattle.ov_views.specs.declared.change.ViewChange.TheVariants.{Up, Down}
 use Rattle.ov_views.proofs.Keeping.{AddsPassive-keeps}
 
--- the node stays, and its active view is the one after these changes
+-- the node stays, its active view is the one after these changes, and they are two at most
 pub record Tracks (v : Neighbourhood) (changes : List ViewChange) (w : Neighbourhood) : Type 0 where
   pub me : w.me ≡ v.me
   pub active : w.active ≡ after_changes changes v.active
+  pub few : length changes ≤ 2
 
 -- nothing is told, and neither node nor active view changes
 quiet : (v w : Neighbourhood) (changes : List ViewChange) → w.me ≡ v.me → w.active ≡ v.active → changes ≡ [] → Tracks v changes w
-quiet v w changes me same none = record { me = me; active = same ∙ ap (λ c. after_changes c v.active) (sym none) }
+quiet v w changes me same none = record { me = me; active = same ∙ ap (λ c. after_changes c v.active) (sym none); few = omega (arith, ap length none) }
 
 still : (v w : Neighbourhood) (changes : List ViewChange) → w ≡ v → changes ≡ [] → Tracks v changes w
 still v w changes e none = quiet v w changes (ap (λ (u : Neighbourhood). u.me) e) (ap (λ (u : Neighbourhood). u.active) e) none
@@ -46,10 +47,15 @@ after_append (Down x ∷ xs) ys a = after_append xs ys (without x a)
 drops : (v : Neighbourhood) (cs : List Choice) (w : Neighbourhood) (changes : List ViewChange) → DropsRandom v cs w changes → Tracks v changes w
 drops v cs w changes =
     either_way (eqb (length v.active) 0) _ _ _ (λ k. still v w changes k.0.1 k.1)
-    (λ g. let k = AddsPassive-keeps _ _ _ _ g.3 in record { me = k.me; active = k.active ∙ ap (λ c. after_changes c v.active) (sym g.4) })
+    (λ g. let k = AddsPassive-keeps _ _ _ _ g.3 in record { me = k.me; active = k.active ∙ ap (λ c. after_changes c v.active) (sym g.4); few = omega (arith, ap length g.4) })
 
 room : (v : Neighbourhood) (cs : List Choice) (w : Neighbourhood) (changes : List ViewChange) → MakesRoom v cs w changes → Tracks v changes w
 room v cs w changes = either_way (has_place v) _ _ _ (λ k. still v w changes k.0.1 k.1) (drops v cs w changes)
+
+few_drops : (v : Neighbourhood) (cs : List Choice) (w : Neighbourhood) (changes : List ViewChange) → MakesRoom v cs w changes → length changes ≤ 1
+few_drops v cs w changes =
+    either_way (has_place v) _ _ _ (λ k. omega (arith, ap length k.1))
+    (either_way (eqb (length v.active) 0) _ _ _ (λ k. omega (arith, ap length k.1)) (λ g. omega (arith, ap length g.4)))
 
 enters : (v : Neighbourhood) (x : ℕ) (cs : List Choice) (w : Neighbourhood) (changes : List ViewChange) → AddsActive v x cs w changes → Tracks v changes w
 enters v x cs w changes =
@@ -57,11 +63,16 @@ enters v x cs w changes =
     (λ g. let t = room _ cs g.0 g.1 g.2 in record {
       me = ap (λ (u : Neighbourhood). u.me) g.3 ∙ t.me;
       active = ap (λ (u : Neighbourhood). u.active) g.3 ∙ ap (adding x) t.active ∙ sym (after_append g.1 (Up x ∷ []) v.active) ∙ ap (λ c. after_changes c v.active) (sym g.4);
+      few = omega (arith, few_drops (record v { passive = without x v.passive }) cs g.0 g.1 g.2, ap length g.4, length-append g.1 (Up x ∷ []));
     })
 
 -- x goes down, if it was active
 leaves : (v : Neighbourhood) (x : ℕ) (w : Neighbourhood) (changes : List ViewChange) → w.me ≡ v.me → w.active ≡ without x v.active → GoesDown v x changes → Tracks v changes w
-leaves v x w changes me gone h = record { me = me; active = gone ∙ by (has v.active x) refl h }
+leaves v x w changes me gone h = record {
+  me = me;
+  active = gone ∙ by (has v.active x) refl h;
+  few = either_way (has v.active x) _ _ _ (λ c. omega (arith, ap length c)) (λ c. omega (arith, ap length c)) h;
+}
   where
     by : (b : Bool) → has v.active x ≡ b → MatchBool b (changes ≡ Down x ∷ []) (changes ≡ []) → without x v.active ≡ after_changes changes v.active
     by true e c = ap (λ d. after_changes d v.active) (sym c)
@@ -111,7 +122,7 @@ message n s (NeighborReply accepted) cs m changes sends h =
     (λ k. still n.views m.views changes k.0.1 k.2)) h.1
 message n s Disconnect cs m changes sends h =
     either_way (eqb s n.views.me || not (has n.views.active s)) _ _ _ (idle n.views cs m.views changes sends)
-    (λ g. let gone = removes n.views s g.0 changes g.1 in let then = passive g.0 s cs m.views [] g.2 refl in record { me = then.me ∙ gone.me; active = then.active ∙ gone.active }) h.1
+    (λ g. let gone = removes n.views s g.0 changes g.1 in let then = passive g.0 s cs m.views [] g.2 refl in record { me = then.me ∙ gone.me; active = then.active ∙ gone.active; few = gone.few }) h.1
 message n s (Shuffle origin ttl ids) cs m changes sends h =
     either_way (eqb s n.views.me) _ _ _ (idle n.views cs m.views changes sends)
     (either_way (walks_on n.views ttl) _ _ _ (λ k. still n.views m.views changes k.2 k.3)

@@ -1,0 +1,4 @@
+mod Linking
+mod Counts
+mod Changing
+mod Steps
