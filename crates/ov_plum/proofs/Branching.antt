@@ -1,6 +1,6 @@
 -- What each change of the neighbours keeps.
-use Rattle.std.proofs.Common.{◌≡◌, ℕ, ◌<◌, ◌≤◌, ◌+◌, List, length, inl, inr, arith}
-use Rattle.ov_ids.specs.Sets.{IsIn, has, adding, without}
+use Rattle.std.proofs.Common.{ℕ, ◌<◌, ◌+◌, length, inl, inr, arith}
+use Rattle.ov_ids.specs.Sets.{IsIn, adding, without}
 use Rattle.ov_ids.proofs.Sets.{IsSet-adding, IsSet-without, IsIn-adding, IsIn-without, length-adding, length-without, length-without_less}
 use Rattle.ov_plum.specs.Tree.{Branches, AreBranches, up, down}
 

@@ -1,13 +1,13 @@
 -- What the entries of an `IndexMap` by ids stand for, as a finite map.
-use Rattle.std.proofs.Common.{◌≡◌, ℕ, suc, drop, slice_get, Bool, true, false, cond, List, [], ◌∷◌, ◌&&◌, Option, None, Some, refl, sym, ap, subst, ◌∙◌, is_some, nat_eq}
+use Rattle.std.proofs.Common.{◌≡◌, ℕ, suc, drop, slice_get, Bool, cond, List, [], ◌∷◌, ◌&&◌, Option, None, Some, refl, sym, ap, subst, ◌∙◌, nat_eq}
 use Rattle.std.proofs.Math.Seq.{drop-cons}
 use Rattle.std.proofs.lemmas.Option.{slice_get_within, get_or_from_slice_get}
 use Rattle.std.specs.declared.cmp.Ordering.{Ordering}
 use Rattle.std.specs.declared.cmp.Ordering.TheVariants.{Less, Equal, Greater}
-use Rattle.std.specs.Ordering.{nat_cmp, ordering_then, is_eq, on, eq_by_cmp}
+use Rattle.std.specs.Ordering.{nat_cmp, ordering_then, eq_by_cmp}
 use Rattle.std.specs.Cmp.{IsTotalOrder, eq_by_cmp_equiv, unsigned_ties, nat_cmp_total, then_total, on_total, both_tied}
 use Rattle.std.specs.Map.{lookup}
-use Rattle.std.specs.FinMap.{FinMap, IsAntisymmetric, find, from_entries, get, insert, remove, get-from_entries, get-insert, get-remove, same_map, nat_cmp-IsAntisymmetric}
+use Rattle.std.specs.FinMap.{IsAntisymmetric, find, from_entries, get, insert, remove, get-from_entries, get-insert, get-remove, same_map, nat_cmp-IsAntisymmetric}
 use Rattle.ov_ids.specs.declared.id.MsgId.{MsgId}
 use Rattle.ov_plum.specs.Ids.{id_cmp}
 

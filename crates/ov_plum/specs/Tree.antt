@@ -11,7 +11,7 @@ pub record Branches : Type 0 where
   pub eager : List ℕ
   pub lazy : List ℕ
 
--- both are sets, and have nobody in common
+-- both are sets, have nobody in common, and have at most 64 members together
 pub record AreBranches (b : Branches) : Type 0 where
   pub eager_set : IsSet b.eager
   pub lazy_set : IsSet b.lazy
@@ -43,8 +43,8 @@ pub record Kept : Type 0 where
   pub round : ℕ
   pub payload : List ℕ
 
--- the node and its neighbours; the messages that it holds; those that it waits for, each with a running timer and with notes:
--- who said to have it, each once, the oldest first; and the number of its next broadcast
+-- the node and its neighbours; the messages that it holds; the ids whose timers run, each with its notes: who said to have the
+-- message, each once, the oldest first; and the number of the node's next broadcast
 pub record Tree : Type 0 where
   pub me : ℕ
   pub branches : Branches

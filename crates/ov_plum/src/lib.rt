@@ -15,3 +15,6 @@ mod spread;
 pub use fault::TimerFault;
 pub use plum::Plum;
 pub use spread::Spread;
+
+#[cfg(test)]
+mod tests;

@@ -103,6 +103,7 @@ impl Plum {
         requires made { self.old.made < 4096 }
         ensures allowed { IfOk result (λ s. AllowedTree self.old (broadcasts payload) self.new s.sends.items s.delivered) }
         ensures few { IfOk result (λ s. vec_len s.sends ≤ length self.old.branches.eager + length self.old.branches.lazy) }
+        ensures most { IfOk result (λ s. vec_len s.sends ≤ 64) }
         ensures ranges { IfOk result (λ s. AllByRecursion (λ t. AreInRange t.1) s.sends.items) }
         ensures err { OnErr result (self.new ≡ self.old) }
     {
@@ -128,8 +129,10 @@ impl Plum {
         payload: Seq<u8>,
     ) -> Result<Spread, OutOfMemory>
         requires { length payload ≤ 1024 }
-        ensures allowed { IfOk result (λ s. AllowedTree self.old (receives (record { from = from; body = Gossip id round payload })) self.new s.sends.items s.delivered) }
+        ensures allowed { IfOk result (λ s. AllowedTree self.old (receives (record { from = from; body = Gossip id round payload }))
+            self.new s.sends.items s.delivered) }
         ensures few { IfOk result (λ s. vec_len s.sends ≤ 1 + length self.old.branches.eager + length self.old.branches.lazy) }
+        ensures most { IfOk result (λ s. vec_len s.sends ≤ 64) }
         ensures ranges { IfOk result (λ s. AllByRecursion (λ t. AreInRange t.1) s.sends.items) }
         ensures err { OnErr result (self.new ≡ self.old) }
     {
@@ -155,7 +158,8 @@ impl Plum {
     /// At IHAVE from a node. Nothing where the message is held or the sender is no neighbour; else its note goes last, and the
     /// timer is set.
     pub fn on_ihave(&mut self, from: NodeId, id: MsgId) -> Result<Spread, OutOfMemory>
-        ensures allowed { IfOk result (λ s. AllowedTree self.old (receives (record { from = from; body = IHave id })) self.new s.sends.items s.delivered) }
+        ensures allowed { IfOk result (λ s. AllowedTree self.old (receives (record { from = from; body = IHave id }))
+            self.new s.sends.items s.delivered) }
         ensures none { IfOk result (λ s. vec_len s.sends ≡ 0) }
         ensures err { OnErr result (self.new ≡ self.old) }
     {
@@ -174,7 +178,8 @@ impl Plum {
 
     /// At GRAFT from a node: it becomes eager, and gets the message where that is held.
     pub fn on_graft(&mut self, from: NodeId, id: MsgId) -> Result<Spread, OutOfMemory>
-        ensures allowed { IfOk result (λ s. AllowedTree self.old (receives (record { from = from; body = Graft id })) self.new s.sends.items s.delivered) }
+        ensures allowed { IfOk result (λ s. AllowedTree self.old (receives (record { from = from; body = Graft id }))
+            self.new s.sends.items s.delivered) }
         ensures few { IfOk result (λ s. vec_len s.sends ≤ 1) }
         ensures ranges { IfOk result (λ s. AllByRecursion (λ t. AreInRange t.1) s.sends.items) }
         ensures err { OnErr result (self.new ≡ self.old) }
@@ -193,7 +198,8 @@ impl Plum {
 
     /// At PRUNE from a node: it becomes lazy. It takes no memory.
     pub fn on_prune(&mut self, from: NodeId) -> Spread
-        ensures allowed { AllowedTree self.old (receives (record { from = from; body = Prune })) self.new result.sends.items result.delivered }
+        ensures allowed { AllowedTree self.old (receives (record { from = from; body = Prune }))
+            self.new result.sends.items result.delivered }
         ensures none { vec_len result.sends ≡ 0 }
     {
         if from != self.me {

@@ -55,6 +55,7 @@ impl Spread {
     ) -> Result<Spread, OutOfMemory>
         ensures sends { IfOk result (λ s. s.sends.items ≡ spread me id.now held.now links.now) }
         ensures len { IfOk result (λ s. vec_len s.sends ≡ length links.now.eager + length links.now.lazy) }
+        ensures most { IfOk result (λ s. vec_len s.sends ≤ 64) }
         ensures delivered { IfOk result (λ s. s.delivered ≡ Some (id.now, held.now.payload)) }
         ensures ranges { IfOk result (λ s. AllByRecursion (λ t. AreInRange t.1) s.sends.items) }
     {

@@ -1,4 +1,4 @@
-use Rattle.std.proofs.Common.{◌≡◌, ◌-◌, ◌+◌, suc, Some, length, drop, slice_get, sym, ap, ◌∙◌, arith}
+use Rattle.std.proofs.Common.{◌≡◌, ◌-◌, suc, drop, sym, ap, ◌∙◌, arith}
 use Rattle.std.proofs.Math.Seq.{drop-length}
 use Rattle.std.specs.FinMap as map
 use Rattle.ov_plum.proofs.Maps.{one_more}

@@ -1,4 +1,4 @@
-use Rattle.std.proofs.Common.{◌≡◌, ◌+◌, ◌++◌, length, take, vec_len}
+use Rattle.std.proofs.Common.{◌≡◌, ◌+◌, ◌++◌, take, vec_len}
 use Rattle.std.specs.Prelude.{map}
 use Rattle.ov_wire.specs.Messages.{say}
 use Rattle.ov_wire.specs.declared.message.Body.TheVariants.{IHave}
