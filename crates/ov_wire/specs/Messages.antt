@@ -1,6 +1,6 @@
--- The messages of the wire: the fields of each kind, and the spelling of each message. What the kinds 1 to 8 are for is
--- said by HyParView (Leitão, Pereira, Rodrigues, DSN 2007), what 9 to 12 are for by Plumtree (the same, SRDS 2007); the
--- bytes are this project's own.
+-- The messages of the wire: the fields of each kind, and the spelling of each message. What the kinds 1, 2, 4 and 6 to 8 are
+-- for is said by HyParView (Leitão, Pereira, Rodrigues, DSN 2007), what 9 to 12 are for by Plumtree (the same, SRDS 2007);
+-- JOINED (3), NEIGHBORREPLY (5) and the bytes are this project's own.
 use Rattle.std.specs.Prelude.{ℕ, ◌-◌, ◌≤◌, Bool, List, [], ◌∷◌, length, slice_index_or, if◌then◌else◌}
 use Rattle.std.specs.Int.{w8, w16, w32}
 use Rattle.ov_wire.specs.declared.fault.WireFault.TheVariants.{BadVersion, BadKind}
