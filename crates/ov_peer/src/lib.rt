@@ -10,3 +10,6 @@ mod telling;
 pub use fault::PeerFault;
 pub use input::{Delivery, Input, Output};
 pub use peer::Peer;
+
+#[cfg(test)]
+mod tests;
