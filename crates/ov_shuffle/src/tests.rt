@@ -1,407 +1,712 @@
+ghost use Rattle.std.specs.Prelude.{◌≡◌, ◌≤◌, length, OnErr};
+ghost use Rattle.std.specs.List.{AllByRecursion};
+ghost use Rattle.ov_wire.specs.Messages.{AreInRange};
+
 use crate::{Sent, on_reply, on_shuffle, start};
-use ov_ids::{NodeId, Params};
+use ov_ids::{NodeId, OutOfMemory, Params};
 use ov_views::{Moves, Views};
+use ov_wire::{Body, Message, encode};
 use ov_words::{Draws, Words};
 use std::alloc::Global;
+use std::process::Abort;
 use std::test::Fail;
 
-/// An event's words: these first, and then zeros.
-fn words(first: &[u64]) -> Words {
+/// A node with these sizes of its views, numbers of members that it samples of each, active and passive members, and list of
+/// its last shuffle, and the words of the event: these first, and then zeros. A shuffle sets out with 4 steps.
+#[derive(Clone, Copy, Drop)]
+struct Node {
+    me: u32,
+    sizes: (u32, u32),
+    samples: (u32, u32),
+    active: &'static [u32],
+    passive: &'static [u32],
+    sent: &'static [u32],
+    words: &'static [u64],
+}
+
+/// What happens to the node.
+#[derive(Clone, Copy, Drop)]
+enum Call {
+    Start,
+    Walk,
+    Reply,
+}
+
+/// What a message says, but for its list.
+#[derive(Clone, Copy, Debug, PartialEq, Eq)]
+enum Said {
+    Walk { origin: u32, ttl: u8 },
+    Reply,
+    Other,
+}
+
+/// What a node does where it starts a shuffle, or at SHUFFLE or SHUFFLEREPLY of these ids: to whom it sends what with which list, the passive members and the last shuffle's list after
+/// it, and how many of 64 words are left. The active view never changes.
+#[derive(Clone, Copy, Drop)]
+struct Case {
+    name: &'static str,
+    node: Node,
+    call: Call,
+    from: u32,
+    origin: u32,
+    ttl: u8,
+    ids: &'static [u32],
+    sends: &'static [(u32, Said)],
+    list: &'static [u32],
+    passive: &'static [u32],
+    sent: &'static [u32],
+    left: usize,
+}
+
+fn content(body: &Body) -> Said {
+    match body {
+        Body::Shuffle { origin, ttl, .. } => {
+            Said::Walk {
+                origin: origin.number(),
+                ttl: *ttl,
+            }
+        }
+        Body::ShuffleReply { .. } => Said::Reply,
+        _ => Said::Other,
+    }
+}
+
+fn list_in(body: &Body) -> &[NodeId] {
+    match body {
+        Body::Shuffle { ids, .. } => ids.as_slice(),
+        Body::ShuffleReply { ids } => ids.as_slice(),
+        _ => &[],
+    }
+}
+
+fn words_of(node: &Node) -> Words {
     let mut words = [0; 64];
-    for (word, given) in words.iter_mut().zip(first) {
+    for (word, given) in words.iter_mut().zip(node.words) {
         *word = *given;
     }
     Words::new(words)
 }
 
-/// Views of a node with this passive size and these members, and else with the default parameters.
-fn views(me: u32, passive: u32, near: &[u32], far: &[u32]) -> Result<Views, Fail> {
-    let mut views = Views::new(NodeId(me), Params::new(5, passive, 6, 3, 3, 4, 4)?);
-    let words = words(&[]);
-    for id in near {
+fn views_of(node: &Node) -> Result<Views, Fail> {
+    let (ka, kp) = node.samples;
+    let params = Params::new(node.sizes.0, node.sizes.1, 6, 3, ka, kp, 4)?;
+    let mut views = Views::new(NodeId(node.me), params);
+    let words = words_of(node);
+    for id in node.active {
         views.add_active(NodeId(*id), &mut Draws::new(&words));
     }
-    for id in far {
+    for id in node.passive {
         views.add_passive(NodeId(*id), &mut Draws::new(&words));
     }
     Ok(views)
 }
 
-/// These ids.
-fn list(alloc: Global, ids: &[u32]) -> Result<Vec<NodeId>, Fail> {
-    let mut list = Vec::new(alloc);
-    for id in ids {
-        list.push(NodeId(*id))?;
+fn sent_of(alloc: Global, node: &Node) -> Result<Sent, Fail> {
+    let mut ids = Vec::with_capacity(alloc, node.sent.len())?;
+    for id in node.sent {
+        ids.push(NodeId(*id))?;
     }
-    Ok(list)
+    let mut sent = Sent::new(alloc);
+    sent.keep(ids);
+    Ok(sent)
 }
 
-/// What is sent, and the passive view after it, as a text.
-fn told(alloc: Global, moves: &Moves, views: &Views) -> Result<String, Fail> {
-    Ok(format!(in alloc; "{:?} {:?}", moves.sends, views.passive())?)
+/// The first 17 of these ids, and zeros where they are fewer.
+fn ids_of(numbers: &[u32]) -> [NodeId; 17] {
+    let mut ids = [NodeId(0); 17];
+    for (id, number) in ids.iter_mut().zip(numbers) {
+        *id = NodeId(*number);
+    }
+    ids
 }
 
-#[test]
-fn a_shuffle_goes_there_and_back(rt: HostRuntime) -> Result<(), Fail> {
-    let mut first = views(1, 30, &[3, 8], &[4, 6])?;
-    let mut sent = Sent::new(rt.alloc());
-    let drawn = words(&[1, 0, 0, 1, 0]);
-    let mut draws = Draws::new(&drawn);
-    let moves = start(rt.alloc(), &first, &mut sent, &mut draws)?;
-    assert_eq!(rt;
-        told(rt.alloc(), &moves, &first)?.as_str(),
-        "[(NodeId(8), Message { from: NodeId(1), body: Shuffle { origin: NodeId(1), ttl: 4, ids: Seq([NodeId(1), NodeId(3), NodeId(8), NodeId(6), NodeId(4)]) } })] [NodeId(4), NodeId(6)]"
-    );
-    let list = [NodeId(1), NodeId(3), NodeId(8), NodeId(6), NodeId(4)];
-    assert_eq!(rt; sent.as_slice(), list.as_slice());
-    assert_eq!(rt; draws.left(), 59);
+fn handle(
+    alloc: Global,
+    case: &Case,
+    views: &mut Views,
+    sent: &mut Sent,
+    draws: &mut Draws<'_>,
+) -> Result<Moves, OutOfMemory>
+    requires { 40 ≤ length draws.old }
+    ensures { OnErr result (draws.new ≡ draws.old) }
+{
+    let from = NodeId(case.from);
+    let ids = ids_of(case.ids);
+    let ids = &ids[..case.ids.len().min(17)];
+    match case.call {
+        Call::Start => start(alloc, views, sent, draws),
+        Call::Walk => on_shuffle(
+            alloc,
+            views,
+            draws,
+            from,
+            NodeId(case.origin),
+            case.ttl.min(15),
+            ids,
+        ),
+        Call::Reply => on_reply(alloc, views, sent, draws, from, ids),
+    }
+}
 
-    let mut other = views(8, 30, &[1], &[2])?;
-    let zeros = words(&[]);
-    let moves = on_shuffle(
-        rt.alloc(),
-        &mut other,
-        &mut Draws::new(&zeros),
-        NodeId(1),
-        NodeId(1),
-        4,
-        &list,
-    )?;
-    assert_eq!(rt;
-        told(rt.alloc(), &moves, &other)?.as_str(),
-        "[(NodeId(1), Message { from: NodeId(8), body: ShuffleReply { ids: Seq([NodeId(2)]) } })] [NodeId(2), NodeId(3), NodeId(4), NodeId(6)]"
-    );
+fn are(rt: &impl Abort, name: &str, ids: &[NodeId], numbers: &[u32]) {
+    assert_eq!(rt; ids.len(), numbers.len(), "{name}");
+    for (id, number) in ids.iter().zip(numbers) {
+        assert_eq!(rt; id.number(), *number, "{name}");
+    }
+}
 
-    let kept = sent.copy()?;
-    assert_eq!(rt; kept.as_slice(), list.as_slice());
-    let moves = on_reply(
-        rt.alloc(),
-        &mut first,
-        &kept,
-        &mut Draws::new(&zeros),
-        NodeId(8),
-        &[NodeId(2)],
-    )?;
-    assert_eq!(rt;
-        told(rt.alloc(), &moves, &first)?.as_str(),
-        "[] [NodeId(2), NodeId(4), NodeId(6)]"
-    );
+/// The node has these active and passive members.
+fn has(rt: &impl Abort, name: &str, views: &Views, active: &[u32], passive: &[u32]) {
+    are(rt, name, views.active(), active);
+    are(rt, name, views.passive(), passive);
+}
+
+/// What the node does. Where memory is refused nothing has changed, and the same call is made once more.
+fn moves_of(
+    rt: &impl Abort,
+    alloc: Global,
+    case: &Case,
+    views: &mut Views,
+    sent: &mut Sent,
+    draws: &mut Draws<'_>,
+) -> Result<Moves, OutOfMemory>
+    requires { 40 ≤ length draws.old }
+{
+    if let Ok(moves) = handle(alloc, case, views, sent, draws) {
+        return Ok(moves);
+    }
+    has(rt, case.name, views, case.node.active, case.node.passive);
+    are(rt, case.name, sent.as_slice(), case.node.sent);
+    assert_eq!(rt; draws.left(), 64, "{}", case.name);
+    handle(alloc, case, views, sent, draws)
+}
+
+fn are_sent(rt: &impl Abort, case: &Case, sends: &[(NodeId, Message)]) {
+    assert_eq!(rt; sends.len(), case.sends.len(), "{}", case.name);
+    for ((to, message), (receiver, said)) in sends.iter().zip(case.sends) {
+        assert_eq!(rt; to.number(), *receiver, "{}", case.name);
+        assert_eq!(rt; message.from.number(), case.node.me, "{}", case.name);
+        assert_eq!(rt; content(&message.body), *said, "{}", case.name);
+        are(rt, case.name, list_in(&message.body), case.list);
+    }
+}
+
+fn does(rt: &impl Abort, alloc: Global, case: &Case) -> Result<(), Fail> {
+    let mut views = views_of(&case.node)?;
+    let mut sent = sent_of(alloc, &case.node)?;
+    let words = words_of(&case.node);
+    let mut draws = Draws::new(&words);
+    let moves = moves_of(rt, alloc, case, &mut views, &mut sent, &mut draws)?;
+    assert_eq!(rt; moves.changes.len(), 0, "{}", case.name);
+    are_sent(rt, case, moves.sends.as_slice());
+    has(rt, case.name, &views, case.node.active, case.passive);
+    are(rt, case.name, sent.as_slice(), case.sent);
+    assert_eq!(rt; draws.left(), case.left, "{}", case.name);
     Ok(())
 }
 
-/// A shuffle that node 1 starts with active and passive members: what it tells, its list and how many words are left.
-#[derive(Drop)]
-struct Start {
-    near: &'static [u32],
-    far: &'static [u32],
-    told: &'static str,
-    sent: &'static [u32],
-    left: usize,
+fn all_do(rt: &impl Abort, alloc: Global, cases: &[Case]) -> Result<(), Fail> {
+    for case in cases {
+        does(rt, alloc, case)?;
+    }
+    Ok(())
 }
+
+/// Node 1 with the default parameters.
+const DEFAULT: Node = Node {
+    me: 1,
+    sizes: (5, 30),
+    samples: (3, 4),
+    active: &[3, 8],
+    passive: &[4, 6],
+    sent: &[],
+    words: &[1, 0, 0, 1, 0],
+};
+
+/// Node 1 with a full passive view of 2.
+const FULL: Node = Node {
+    sizes: (5, 2),
+    active: &[3],
+    words: &[1],
+    ..DEFAULT
+};
+
+/// The shuffle of 5 and 9 that 3 hands on to node 1 goes on to 8.
+const GOES_ON: Case = Case {
+    name: "",
+    node: Node {
+        active: &[2, 3, 8],
+        ..FULL
+    },
+    call: Call::Walk,
+    from: 3,
+    origin: 7,
+    ttl: 2,
+    ids: &[5, 9],
+    sends: &[(8, Said::Walk { origin: 7, ttl: 1 })],
+    list: &[5, 9],
+    passive: &[4, 6],
+    sent: &[],
+    left: 63,
+};
+
+/// It ends here: 6 and 4 are sampled, and give their places up.
+const ENDS: Case = Case {
+    node: FULL,
+    ttl: 1,
+    sends: &[(7, Said::Reply)],
+    list: &[6, 4],
+    passive: &[5, 9],
+    left: 62,
+    ..GOES_ON
+};
+
+/// Nothing happens.
+const RESTS: Case = Case {
+    sends: &[],
+    left: 64,
+    ..GOES_ON
+};
+
+static STARTS: [Case; 5] = [
+    Case {
+        name: "3 of 5 active and 4 of 6 passive members",
+        node: Node {
+            active: &[2, 3, 4, 5, 6],
+            passive: &[11, 12, 13, 14, 15, 16],
+            sent: &[1, 9],
+            words: &[7, 4, 4, 5, 6, 8, 3, 4],
+            ..DEFAULT
+        },
+        call: Call::Start,
+        sends: &[(4, Said::Walk { origin: 1, ttl: 4 })],
+        list: &[1, 6, 2, 5, 11, 15, 16, 13],
+        passive: &[11, 12, 13, 14, 15, 16],
+        sent: &[1, 6, 2, 5, 11, 15, 16, 13],
+        left: 56,
+        ..RESTS
+    },
+    Case {
+        name: "nobody is active, and the last list stays",
+        node: Node {
+            active: &[],
+            sent: &[1, 9],
+            ..DEFAULT
+        },
+        call: Call::Start,
+        sent: &[1, 9],
+        ..RESTS
+    },
+    Case {
+        name: "one is active and nobody passive",
+        node: Node {
+            active: &[8],
+            passive: &[],
+            ..DEFAULT
+        },
+        call: Call::Start,
+        sends: &[(8, Said::Walk { origin: 1, ttl: 4 })],
+        list: &[1, 8],
+        passive: &[],
+        sent: &[1, 8],
+        left: 62,
+        ..RESTS
+    },
+    Case {
+        name: "no members are sampled",
+        node: Node {
+            samples: (0, 0),
+            ..DEFAULT
+        },
+        call: Call::Start,
+        sends: &[(8, Said::Walk { origin: 1, ttl: 4 })],
+        list: &[1],
+        sent: &[1],
+        ..GOES_ON
+    },
+    Case {
+        name: "8 of 9 members are sampled of each view",
+        node: Node {
+            sizes: (9, 30),
+            samples: (8, 8),
+            active: &[2, 3, 4, 5, 6, 7, 8, 9, 10],
+            passive: &[21, 22, 23, 24, 25, 26, 27, 28, 29],
+            words: &[4, 8, 7, 6, 5, 4, 3, 2, 1, 0, 1, 2, 3, 4, 3, 2, 1],
+            ..DEFAULT
+        },
+        call: Call::Start,
+        sends: &[(6, Said::Walk { origin: 1, ttl: 4 })],
+        list: &[1, 10, 9, 8, 7, 6, 5, 4, 3, 21, 23, 25, 27, 29, 28, 26, 24],
+        passive: &[21, 22, 23, 24, 25, 26, 27, 28, 29],
+        sent: &[1, 10, 9, 8, 7, 6, 5, 4, 3, 21, 23, 25, 27, 29, 28, 26, 24],
+        left: 47,
+        ..RESTS
+    },
+];
 
 #[test]
 fn a_shuffle_starts_where_somebody_is_active(rt: HostRuntime) -> Result<(), Fail> {
-    let starts = [
-        // 3 of 5 active and 4 of 6 passive members
-        Start {
-            near: &[2, 3, 4, 5, 6],
-            far: &[11, 12, 13, 14, 15, 16],
-            told: "[(NodeId(4), Message { from: NodeId(1), body: Shuffle { origin: NodeId(1), ttl: 4, ids: Seq([NodeId(1), NodeId(6), NodeId(2), NodeId(5), NodeId(11), NodeId(15), NodeId(16), NodeId(13)]) } })] [NodeId(11), NodeId(12), NodeId(13), NodeId(14), NodeId(15), NodeId(16)]",
-            sent: &[1, 6, 2, 5, 11, 15, 16, 13],
-            left: 56,
-        },
-        // nobody is active: the last list stays
-        Start {
-            near: &[],
-            far: &[4, 6],
-            told: "[] [NodeId(4), NodeId(6)]",
-            sent: &[1, 6, 2, 5, 11, 15, 16, 13],
-            left: 64,
-        },
-        Start {
-            near: &[8],
-            far: &[],
-            told: "[(NodeId(8), Message { from: NodeId(1), body: Shuffle { origin: NodeId(1), ttl: 4, ids: Seq([NodeId(1), NodeId(8)]) } })] []",
-            sent: &[1, 8],
-            left: 62,
-        },
-    ];
-    let mut sent = Sent::new(rt.alloc());
-    let words = words(&[7, 4, 4, 5, 6, 8, 3, 4]);
-    for start_of in &starts {
-        let views = views(1, 30, start_of.near, start_of.far)?;
-        let mut draws = Draws::new(&words);
-        let moves = start(rt.alloc(), &views, &mut sent, &mut draws)?;
-        assert_eq!(rt; told(rt.alloc(), &moves, &views)?.as_str(), start_of.told);
-        assert_eq!(rt;
-            sent.as_slice(),
-            list(rt.alloc(), start_of.sent)?.as_slice()
-        );
-        assert_eq!(rt; draws.left(), start_of.left);
-    }
-    Ok(())
+    all_do(&rt, rt.alloc(), &STARTS)
 }
 
-/// What node 1 with these active members does at SHUFFLE of 5 and 9, where the passive view has room for 2 and has 4 and 6,
-/// and the words are 1 and zeros: what it tells and how many words are left.
-#[derive(Drop)]
-struct Walk {
-    near: &'static [u32],
-    from: u32,
-    origin: u32,
-    ttl: u8,
-    told: &'static str,
-    left: usize,
-}
+static WALKS: [Case; 9] = [
+    Case {
+        name: "two others are active",
+        ..GOES_ON
+    },
+    Case {
+        name: "with the most steps",
+        ttl: 15,
+        sends: &[(8, Said::Walk { origin: 7, ttl: 14 })],
+        ..GOES_ON
+    },
+    Case {
+        name: "from a stranger",
+        node: Node {
+            active: &[2, 8],
+            ..FULL
+        },
+        ..GOES_ON
+    },
+    Case {
+        name: "to the only other one, its origin",
+        node: Node {
+            active: &[3, 8],
+            ..FULL
+        },
+        origin: 8,
+        sends: &[(8, Said::Walk { origin: 8, ttl: 1 })],
+        ..GOES_ON
+    },
+    Case {
+        name: "the node's own",
+        origin: 1,
+        sends: &[(8, Said::Walk { origin: 1, ttl: 1 })],
+        ..GOES_ON
+    },
+    Case {
+        name: "the node's own ends where only its sender is active",
+        node: FULL,
+        origin: 1,
+        ttl: 4,
+        ..RESTS
+    },
+    Case {
+        name: "the node's own ends without a step left",
+        origin: 1,
+        ttl: 1,
+        ..RESTS
+    },
+    Case {
+        name: "from the node itself, with steps left",
+        from: 1,
+        ..RESTS
+    },
+    Case {
+        name: "from the node itself, without steps left",
+        node: Node {
+            active: &[],
+            ..FULL
+        },
+        from: 1,
+        ttl: 0,
+        ..RESTS
+    },
+];
 
 #[test]
-fn a_walk_goes_on_or_ends(rt: HostRuntime) -> Result<(), Fail> {
-    let on =
-        "[(NodeId(8), Message { from: NodeId(1), body: Shuffle { origin: NodeId(7), ttl: 1, ids: Seq([NodeId(5), NodeId(9)]) } })] [NodeId(4), NodeId(6)]";
-    let far =
-        "[(NodeId(8), Message { from: NodeId(1), body: Shuffle { origin: NodeId(7), ttl: 14, ids: Seq([NodeId(5), NodeId(9)]) } })] [NodeId(4), NodeId(6)]";
-    let own =
-        "[(NodeId(8), Message { from: NodeId(1), body: Shuffle { origin: NodeId(1), ttl: 1, ids: Seq([NodeId(5), NodeId(9)]) } })] [NodeId(4), NodeId(6)]";
-    let ends =
-        "[(NodeId(7), Message { from: NodeId(1), body: ShuffleReply { ids: Seq([NodeId(6), NodeId(4)]) } })] [NodeId(5), NodeId(9)]";
-    let rests = "[] [NodeId(4), NodeId(6)]";
-    let walks = [
-        // to one of 2 and 8, but not to the sender
-        Walk {
-            near: &[2, 3, 8],
-            from: 3,
-            origin: 7,
-            ttl: 2,
-            told: on,
-            left: 63,
-        },
-        Walk {
-            near: &[2, 3, 8],
-            from: 3,
-            origin: 7,
-            ttl: 15,
-            told: far,
-            left: 63,
-        },
-        // of a stranger
-        Walk {
-            near: &[2, 8],
-            from: 3,
-            origin: 7,
-            ttl: 2,
-            told: on,
-            left: 63,
-        },
-        // to the only one that is not the sender
-        Walk {
-            near: &[3, 8],
-            from: 3,
-            origin: 7,
-            ttl: 2,
-            told: on,
-            left: 63,
-        },
-        // the node's own shuffle walks on too
-        Walk {
-            near: &[2, 3, 8],
-            from: 3,
-            origin: 1,
-            ttl: 2,
-            told: own,
-            left: 63,
-        },
-        // no step is left after this one
-        Walk {
-            near: &[2, 3, 8],
-            from: 3,
-            origin: 7,
-            ttl: 1,
-            told: ends,
-            left: 62,
-        },
-        Walk {
-            near: &[2, 3, 8],
-            from: 3,
-            origin: 7,
-            ttl: 0,
-            told: ends,
-            left: 62,
-        },
-        // one member at most is active: the sender, another, nobody
-        Walk {
-            near: &[3],
-            from: 3,
-            origin: 7,
-            ttl: 4,
-            told: ends,
-            left: 62,
-        },
-        Walk {
-            near: &[2],
-            from: 3,
-            origin: 7,
-            ttl: 4,
-            told: ends,
-            left: 62,
-        },
-        Walk {
-            near: &[],
-            from: 3,
-            origin: 7,
-            ttl: 4,
-            told: ends,
-            left: 62,
-        },
-        // the node's own shuffle ends here
-        Walk {
-            near: &[3],
-            from: 3,
-            origin: 1,
-            ttl: 4,
-            told: rests,
-            left: 64,
-        },
-        Walk {
-            near: &[2, 3, 8],
-            from: 3,
-            origin: 1,
-            ttl: 1,
-            told: rests,
-            left: 64,
-        },
-        // the node has sent this itself
-        Walk {
-            near: &[2, 8],
-            from: 1,
-            origin: 7,
-            ttl: 2,
-            told: rests,
-            left: 64,
-        },
-        Walk {
-            near: &[],
-            from: 1,
-            origin: 7,
-            ttl: 0,
-            told: rests,
-            left: 64,
-        },
-    ];
-    let words = words(&[1]);
-    for walk in &walks {
-        let mut views = views(1, 2, walk.near, &[4, 6])?;
-        let mut draws = Draws::new(&words);
-        let moves = on_shuffle(
-            rt.alloc(),
-            &mut views,
-            &mut draws,
-            NodeId(walk.from),
-            NodeId(walk.origin),
-            walk.ttl.min(15),
-            &[NodeId(5), NodeId(9)],
-        )?;
-        assert_eq!(rt; told(rt.alloc(), &moves, &views)?.as_str(), walk.told);
-        assert_eq!(rt; draws.left(), walk.left);
-    }
-    Ok(())
+fn a_walk_goes_on(rt: HostRuntime) -> Result<(), Fail> {
+    all_do(&rt, rt.alloc(), &WALKS)
 }
 
-/// A shuffle of 7 that comes from 3 and ends at node 1, where only 3 is active, the passive view has room for 2, and the words
-/// are 1 and zeros: the passive members, the list, what the node tells and how many words are left.
-#[derive(Drop)]
-struct Ending {
-    far: &'static [u32],
-    ids: &'static [u32],
-    told: &'static str,
-    left: usize,
+static ENDING: [Case; 7] = [
+    Case {
+        name: "no step is left after this one",
+        node: Node {
+            active: &[2, 3, 8],
+            ..FULL
+        },
+        ..ENDS
+    },
+    Case {
+        name: "no step is left",
+        node: Node {
+            active: &[2, 3, 8],
+            ..FULL
+        },
+        ttl: 0,
+        ..ENDS
+    },
+    Case {
+        name: "only the sender is active",
+        ttl: 4,
+        ..ENDS
+    },
+    Case {
+        name: "only another is active",
+        from: 2,
+        ttl: 4,
+        ..ENDS
+    },
+    Case {
+        name: "nobody is active",
+        node: Node {
+            active: &[],
+            ..FULL
+        },
+        ttl: 4,
+        ..ENDS
+    },
+    Case {
+        name: "the origin is active",
+        from: 2,
+        origin: 3,
+        sends: &[(3, Said::Reply)],
+        ..ENDS
+    },
+    Case {
+        name: "the origin is passive",
+        origin: 4,
+        sends: &[(4, Said::Reply)],
+        ..ENDS
+    },
+];
+
+#[test]
+fn a_walk_ends(rt: HostRuntime) -> Result<(), Fail> {
+    all_do(&rt, rt.alloc(), &ENDING)
 }
+
+static LISTS: [Case; 9] = [
+    Case {
+        name: "4, which goes in and out again, and 10 are more than the sampled: random members go out",
+        ids: &[5, 9, 4, 10],
+        passive: &[9, 10],
+        left: 60,
+        ..ENDS
+    },
+    Case {
+        name: "the node itself, the active 3 and the passive 6 do nothing",
+        ids: &[1, 3, 6, 5],
+        passive: &[4, 5],
+        ..ENDS
+    },
+    Case {
+        name: "an id stands there twice",
+        ids: &[5, 5],
+        passive: &[4, 5],
+        ..ENDS
+    },
+    Case {
+        name: "shorter than the passive view",
+        ids: &[5],
+        list: &[6],
+        passive: &[4, 5],
+        left: 63,
+        ..ENDS
+    },
+    Case {
+        name: "empty",
+        ids: &[],
+        list: &[],
+        passive: &[4, 6],
+        left: 64,
+        ..ENDS
+    },
+    Case {
+        name: "a place is free for 5, and then 9 takes that of 4",
+        node: Node {
+            passive: &[4],
+            ..FULL
+        },
+        list: &[4],
+        left: 63,
+        ..ENDS
+    },
+    Case {
+        name: "nobody is passive",
+        node: Node {
+            passive: &[],
+            ..FULL
+        },
+        list: &[],
+        left: 64,
+        ..ENDS
+    },
+    Case {
+        name: "17 ids in 2 places",
+        ids: &[
+            11, 12, 13, 14, 15, 16, 17, 18, 19, 20, 21, 22, 23, 24, 25, 26, 27,
+        ],
+        passive: &[26, 27],
+        left: 47,
+        ..ENDS
+    },
+    Case {
+        name: "17 ids for 17 members",
+        node: Node {
+            sizes: (5, 17),
+            passive: &[
+                31, 32, 33, 34, 35, 36, 37, 38, 39, 40, 41, 42, 43, 44, 45, 46, 47,
+            ],
+            ..FULL
+        },
+        ids: &[
+            11, 12, 13, 14, 15, 16, 17, 18, 19, 20, 21, 22, 23, 24, 25, 26, 27,
+        ],
+        list: &[
+            32, 31, 33, 34, 35, 36, 37, 38, 39, 40, 41, 42, 43, 44, 45, 46, 47,
+        ],
+        passive: &[
+            11, 12, 13, 14, 15, 16, 17, 18, 19, 20, 21, 22, 23, 24, 25, 26, 27,
+        ],
+        left: 47,
+        ..ENDS
+    },
+];
 
 #[test]
 fn a_list_is_taken_in_where_a_walk_ends(rt: HostRuntime) -> Result<(), Fail> {
-    let endings = [
-        // 4, which goes in and out again, and 10 are more than the sampled members: two random members go out
-        Ending {
-            far: &[4, 6],
-            ids: &[5, 9, 4, 10],
-            told: "[(NodeId(7), Message { from: NodeId(1), body: ShuffleReply { ids: Seq([NodeId(6), NodeId(4)]) } })] [NodeId(9), NodeId(10)]",
-            left: 60,
-        },
-        // the node itself, the active 3 and the passive 6 do nothing
-        Ending {
-            far: &[4, 6],
-            ids: &[1, 3, 6, 5],
-            told: "[(NodeId(7), Message { from: NodeId(1), body: ShuffleReply { ids: Seq([NodeId(6), NodeId(4)]) } })] [NodeId(4), NodeId(5)]",
-            left: 62,
-        },
-        // a list shorter than the passive view
-        Ending {
-            far: &[4, 6],
-            ids: &[5],
-            told: "[(NodeId(7), Message { from: NodeId(1), body: ShuffleReply { ids: Seq([NodeId(6)]) } })] [NodeId(4), NodeId(5)]",
-            left: 63,
-        },
-        // an empty one
-        Ending {
-            far: &[4, 6],
-            ids: &[],
-            told: "[(NodeId(7), Message { from: NodeId(1), body: ShuffleReply { ids: Seq([]) } })] [NodeId(4), NodeId(6)]",
-            left: 64,
-        },
-        // a place is free for 5, and then 9 takes that of 4
-        Ending {
-            far: &[4],
-            ids: &[5, 9],
-            told: "[(NodeId(7), Message { from: NodeId(1), body: ShuffleReply { ids: Seq([NodeId(4)]) } })] [NodeId(5), NodeId(9)]",
-            left: 63,
-        },
-        // nobody is passive
-        Ending {
-            far: &[],
-            ids: &[5, 9],
-            told: "[(NodeId(7), Message { from: NodeId(1), body: ShuffleReply { ids: Seq([]) } })] [NodeId(5), NodeId(9)]",
-            left: 64,
-        },
-    ];
-    let words = words(&[1]);
-    for ending in &endings {
-        let ids = list(rt.alloc(), ending.ids)?;
-        let mut views = views(1, 2, &[3], ending.far)?;
-        let mut draws = Draws::new(&words);
-        let moves = on_shuffle(
-            rt.alloc(),
-            &mut views,
-            &mut draws,
-            NodeId(3),
-            NodeId(7),
-            1,
-            &ids[..ids.len().min(17)],
-        )?;
-        assert_eq!(rt; told(rt.alloc(), &moves, &views)?.as_str(), ending.told);
-        assert_eq!(rt; draws.left(), ending.left);
-    }
-    Ok(())
+    all_do(&rt, rt.alloc(), &LISTS)
 }
+
+/// Node 1, which has sent itself, the active 8 and both passive members.
+const ASKED: Node = Node {
+    active: &[8],
+    sent: &[1, 8, 4, 6],
+    words: &[3],
+    ..FULL
+};
+
+/// The answer of 5 and 9 to it.
+const ANSWER: Case = Case {
+    node: ASKED,
+    call: Call::Reply,
+    from: 8,
+    sent: &[1, 8, 4, 6],
+    ..RESTS
+};
+
+static REPLIES: [Case; 6] = [
+    Case {
+        name: "what was sent goes out",
+        passive: &[5, 9],
+        ..ANSWER
+    },
+    Case {
+        name: "from the node itself",
+        from: 1,
+        ..ANSWER
+    },
+    Case {
+        name: "the node itself and the active 8 do nothing",
+        ids: &[1, 8, 5],
+        passive: &[5, 6],
+        ..ANSWER
+    },
+    Case {
+        name: "an id stands there twice",
+        ids: &[5, 5],
+        passive: &[5, 6],
+        ..ANSWER
+    },
+    Case {
+        name: "from a stranger, where nobody who was sent is passive any more",
+        node: Node {
+            passive: &[5, 9],
+            ..ASKED
+        },
+        from: 7,
+        ids: &[8, 10],
+        passive: &[5, 10],
+        left: 63,
+        ..ANSWER
+    },
+    Case {
+        name: "17 ids in 2 places, where nothing was sent",
+        node: Node { sent: &[], ..ASKED },
+        ids: &[
+            11, 12, 13, 14, 15, 16, 17, 18, 19, 20, 21, 22, 23, 24, 25, 26, 27,
+        ],
+        passive: &[26, 27],
+        sent: &[],
+        left: 47,
+        ..ANSWER
+    },
+];
 
 #[test]
 fn a_reply_takes_the_place_of_what_was_sent(rt: HostRuntime) -> Result<(), Fail> {
-    let mut node = views(1, 2, &[8], &[4, 6])?;
-    let mut sent = Sent::new(rt.alloc());
-    let zeros = words(&[]);
-    start(rt.alloc(), &node, &mut sent, &mut Draws::new(&zeros))?;
-    let kept = [NodeId(1), NodeId(8), NodeId(4), NodeId(6)];
-    assert_eq!(rt; sent.as_slice(), kept.as_slice());
-    let words = words(&[3]);
-    // from the node itself; then 4 and 6 go out; then nobody who was sent is passive, and 3 picks 9
-    for (from, ids, said, left) in [
-        (1, [NodeId(5), NodeId(9)], "[] [NodeId(4), NodeId(6)]", 64),
-        (8, [NodeId(5), NodeId(9)], "[] [NodeId(5), NodeId(9)]", 64),
-        (7, [NodeId(8), NodeId(10)], "[] [NodeId(5), NodeId(10)]", 63),
-    ] {
-        let mut draws = Draws::new(&words);
-        let moves = on_reply(rt.alloc(), &mut node, &sent, &mut draws, NodeId(from), &ids)?;
-        assert_eq!(rt; told(rt.alloc(), &moves, &node)?.as_str(), said);
-        assert_eq!(rt; draws.left(), left);
-        assert_eq!(rt; sent.as_slice(), kept.as_slice());
-    }
+    all_do(&rt, rt.alloc(), &REPLIES)
+}
+
+/// Nothing changes but what is sent: one message, with this spelling.
+fn is_spelt(
+    rt: &impl Abort,
+    alloc: Global,
+    moves: &Moves,
+    to: u32,
+    bytes: &[u8],
+) -> Result<(), Fail>
+    requires { AllByRecursion (λ s. AreInRange s.1) moves.now.sends.items }
+{
+    assert_eq!(rt; moves.changes.len(), 0);
+    assert_eq!(rt; moves.sends.len(), 1);
+    let (receiver, message) = &moves.sends[0];
+    assert_eq!(rt; receiver.number(), to);
+    assert_eq!(rt; encode(alloc, message)?.as_slice(), bytes);
+    Ok(())
+}
+
+/// Node 8 with the default parameters.
+const SECOND: Node = Node {
+    me: 8,
+    active: &[1],
+    passive: &[2],
+    words: &[],
+    ..DEFAULT
+};
+
+/// SHUFFLE of node 1 by itself with 4 steps left, of 1, 3, 8, 6 and 4.
+static SHUFFLE: [u8; 32] = [
+    1, 7, 0, 0, 0, 1, 0, 0, 0, 1, 4, 5, 0, 0, 0, 1, 0, 0, 0, 3, 0, 0, 0, 8, 0, 0, 0, 6, 0, 0, 0, 4,
+];
+
+#[test]
+fn a_shuffle_goes_there_and_back(rt: HostRuntime) -> Result<(), Fail> {
+    let alloc = rt.alloc();
+    let mut first = views_of(&DEFAULT)?;
+    let mut sent = Sent::new(alloc);
+    let words = words_of(&DEFAULT);
+    let moves = start(alloc, &first, &mut sent, &mut Draws::new(&words))?;
+    is_spelt(&rt, alloc, &moves, 8, &SHUFFLE)?;
+    let sent = sent.copy()?;
+    are(&rt, "sent", sent.as_slice(), &[1, 3, 8, 6, 4]);
+    let mut second = views_of(&SECOND)?;
+    let words = words_of(&SECOND);
+    let mut draws = Draws::new(&words);
+    let ids = ids_of(&[1, 3, 8, 6, 4]);
+    let moves = on_shuffle(
+        alloc,
+        &mut second,
+        &mut draws,
+        NodeId(1),
+        NodeId(1),
+        4,
+        &ids[..5],
+    )?;
+    is_spelt(&rt, alloc, &moves, 1, &[1, 8, 0, 0, 0, 8, 1, 0, 0, 0, 2])?;
+    has(&rt, "second", &second, &[1], &[2, 3, 4, 6]);
+    let moves = on_reply(
+        alloc,
+        &mut first,
+        &sent,
+        &mut draws,
+        NodeId(8),
+        &[NodeId(2)],
+    )?;
+    assert_eq!(rt; moves.sends.len(), 0);
+    assert_eq!(rt; moves.changes.len(), 0);
+    has(&rt, "first", &first, &[3, 8], &[2, 4, 6]);
     Ok(())
 }
