@@ -9,12 +9,13 @@ use std::alloc::Global;
 use std::process::Abort;
 use std::test::Fail;
 
-/// A node with these sizes, active and passive members, where ARWL is 6 and PRWL 3, and the words of the event: these first,
-/// and then zeros.
+/// A node with these sizes, ARWL and PRWL, active and passive members, and the words of the event: these first, and then
+/// zeros.
 #[derive(Clone, Copy, Drop)]
 struct Node {
     me: u32,
     sizes: (u32, u32),
+    walks: (u32, u32),
     active: &'static [u32],
     passive: &'static [u32],
     words: &'static [u64],
@@ -87,7 +88,15 @@ fn words_of(node: &Node) -> Words {
 }
 
 fn views_of(node: &Node) -> Result<Views, Fail> {
-    let params = Params::new(node.sizes.0, node.sizes.1, 6, 3, 3, 4, 4)?;
+    let params = Params::new(
+        node.sizes.0,
+        node.sizes.1,
+        node.walks.0,
+        node.walks.1,
+        3,
+        4,
+        4,
+    )?;
     let mut views = Views::new(NodeId(node.me), params);
     let words = words_of(node);
     for id in node.active {
@@ -159,7 +168,8 @@ fn sent(rt: &impl Abort, case: &Case, sends: &[(NodeId, Message)]) {
     }
 }
 
-fn does(rt: &impl Abort, alloc: Global, case: &Case) -> Result<(), Fail> {
+/// The node does what the case says; these are its moves.
+fn does(rt: &impl Abort, alloc: Global, case: &Case) -> Result<Moves, Fail> {
     let mut views = views_of(&case.node)?;
     let words = words_of(&case.node);
     let mut draws = Draws::new(&words);
@@ -169,7 +179,7 @@ fn does(rt: &impl Abort, alloc: Global, case: &Case) -> Result<(), Fail> {
     are(rt, case.name, views.active(), case.active);
     are(rt, case.name, views.passive(), case.passive);
     assert_eq!(rt; draws.left(), case.left, "{}", case.name);
-    Ok(())
+    Ok(moves)
 }
 
 fn all_do(rt: &impl Abort, alloc: Global, cases: &[Case]) -> Result<(), Fail> {
@@ -179,10 +189,39 @@ fn all_do(rt: &impl Abort, alloc: Global, cases: &[Case]) -> Result<(), Fail> {
     Ok(())
 }
 
+fn bytes_of(alloc: Global, message: &Message) -> Result<Vec<u8>, Fail> {
+    let is_sayable = match &message.body {
+        Body::ForwardJoin { ttl, .. } => *ttl <= 15,
+        Body::Joined | Body::Disconnect => true,
+        _ => false,
+    };
+    if !is_sayable {
+        return Err("none of the messages by which a node joins".into());
+    }
+    Ok(encode(alloc, message)?)
+}
+
+/// The sends are these bytes to these nodes.
+fn spelled(
+    rt: &impl Abort,
+    alloc: Global,
+    sends: &[(NodeId, Message)],
+    expected: &[(u32, &'static [u8])],
+) -> Result<(), Fail> {
+    assert_eq!(rt; sends.len(), expected.len());
+    for ((to, message), (receiver, bytes)) in sends.iter().zip(expected) {
+        assert_eq!(rt; to.number(), *receiver);
+        let written = bytes_of(alloc, message)?;
+        assert_eq!(rt; written.as_slice(), *bytes);
+    }
+    Ok(())
+}
+
 /// Node 1 with places free in both views.
 const ROOMY: Node = Node {
     me: 1,
     sizes: (5, 5),
+    walks: (6, 3),
     active: &[3, 7],
     passive: &[4, 6],
     words: &[],
@@ -192,6 +231,7 @@ const ROOMY: Node = Node {
 const FULL: Node = Node {
     me: 1,
     sizes: (2, 2),
+    walks: (6, 3),
     active: &[3, 7],
     passive: &[4, 6],
     words: &[0, 1],
@@ -201,12 +241,13 @@ const FULL: Node = Node {
 const THREE: Node = Node {
     me: 1,
     sizes: (3, 2),
+    walks: (6, 3),
     active: &[3, 5, 8],
     passive: &[4, 6],
     words: &[1, 2],
 };
 
-static JOINS: [Case; 8] = [
+static JOINS: [Case; 9] = [
     Case {
         name: "a stranger enters a free place",
         node: ROOMY,
@@ -274,26 +315,6 @@ static JOINS: [Case; 8] = [
         left: 63,
     },
     Case {
-        name: "the second member is dropped",
-        node: Node {
-            me: 1,
-            sizes: (2, 30),
-            active: &[3, 7],
-            passive: &[],
-            words: &[5],
-        },
-        input: Input::Join { from: 9 },
-        changes: &[Change::Down(7), Change::Up(9)],
-        sends: &[
-            (7, Said::Disconnect),
-            (9, Said::Joined),
-            (3, Said::Walk { node: 9, ttl: 6 }),
-        ],
-        active: &[3, 9],
-        passive: &[7],
-        left: 63,
-    },
-    Case {
         name: "nobody is active yet",
         node: Node {
             active: &[],
@@ -316,11 +337,97 @@ static JOINS: [Case; 8] = [
         passive: &[4, 6],
         left: 64,
     },
+    Case {
+        name: "ARWL is 0",
+        node: Node {
+            walks: (0, 0),
+            ..ROOMY
+        },
+        input: Input::Join { from: 9 },
+        changes: &[Change::Up(9)],
+        sends: &[
+            (9, Said::Joined),
+            (3, Said::Walk { node: 9, ttl: 0 }),
+            (7, Said::Walk { node: 9, ttl: 0 }),
+        ],
+        active: &[3, 7, 9],
+        passive: &[4, 6],
+        left: 64,
+    },
+    Case {
+        name: "16 are active, the most: number 24 mod 16 is dropped, and 15 hear of the new node",
+        node: Node {
+            me: 1,
+            sizes: (16, 30),
+            walks: (6, 3),
+            active: &[2, 3, 4, 5, 6, 7, 8, 9, 10, 11, 12, 13, 14, 15, 16, 17],
+            passive: &[],
+            words: &[24],
+        },
+        input: Input::Join { from: 20 },
+        changes: &[Change::Down(10), Change::Up(20)],
+        sends: &[
+            (10, Said::Disconnect),
+            (20, Said::Joined),
+            (2, Said::Walk { node: 20, ttl: 6 }),
+            (3, Said::Walk { node: 20, ttl: 6 }),
+            (4, Said::Walk { node: 20, ttl: 6 }),
+            (5, Said::Walk { node: 20, ttl: 6 }),
+            (6, Said::Walk { node: 20, ttl: 6 }),
+            (7, Said::Walk { node: 20, ttl: 6 }),
+            (8, Said::Walk { node: 20, ttl: 6 }),
+            (9, Said::Walk { node: 20, ttl: 6 }),
+            (11, Said::Walk { node: 20, ttl: 6 }),
+            (12, Said::Walk { node: 20, ttl: 6 }),
+            (13, Said::Walk { node: 20, ttl: 6 }),
+            (14, Said::Walk { node: 20, ttl: 6 }),
+            (15, Said::Walk { node: 20, ttl: 6 }),
+            (16, Said::Walk { node: 20, ttl: 6 }),
+            (17, Said::Walk { node: 20, ttl: 6 }),
+        ],
+        active: &[2, 3, 4, 5, 6, 7, 8, 9, 11, 12, 13, 14, 15, 16, 17, 20],
+        passive: &[10],
+        left: 63,
+    },
 ];
 
 #[test]
 fn who_joins_is_answered_and_the_others_hear_of_it(rt: HostRuntime) -> Result<(), Fail> {
     all_do(&rt, rt.alloc(), &JOINS)
+}
+
+static FULL_VIEW: Case = Case {
+    name: "full_view",
+    node: Node {
+        me: 1,
+        sizes: (2, 30),
+        walks: (6, 3),
+        active: &[3, 7],
+        passive: &[],
+        words: &[5],
+    },
+    input: Input::Join { from: 9 },
+    changes: &[Change::Down(7), Change::Up(9)],
+    sends: &[
+        (7, Said::Disconnect),
+        (9, Said::Joined),
+        (3, Said::Walk { node: 9, ttl: 6 }),
+    ],
+    active: &[3, 9],
+    passive: &[7],
+    left: 63,
+};
+
+static FULL_VIEW_BYTES: [(u32, &'static [u8]); 3] = [
+    (7, &[1, 6, 0, 0, 0, 1]),
+    (9, &[1, 3, 0, 0, 0, 1]),
+    (3, &[1, 2, 0, 0, 0, 1, 0, 0, 0, 9, 6]),
+];
+
+#[test]
+fn full_view(rt: HostRuntime) -> Result<(), Fail> {
+    let moves = does(&rt, rt.alloc(), &FULL_VIEW)?;
+    spelled(&rt, rt.alloc(), moves.sends.as_slice(), &FULL_VIEW_BYTES)
 }
 
 static JOINED: [Case; 6] = [
@@ -391,7 +498,28 @@ fn who_joined_elsewhere_becomes_active(rt: HostRuntime) -> Result<(), Fail> {
     all_do(&rt, rt.alloc(), &JOINED)
 }
 
-static ENDING: [Case; 9] = [
+/// Where one is active, and a place is free, the walk ends with whatever time to live, and whoever has sent it. The passive
+/// view, full, stays as it is.
+const FROM_ONE: Case = Case {
+    name: "one is active, below the size: from it",
+    node: Node {
+        sizes: (5, 2),
+        active: &[3],
+        ..ROOMY
+    },
+    input: Input::Walk {
+        from: 3,
+        node: 9,
+        ttl: 6,
+    },
+    changes: &[Change::Up(9)],
+    sends: &[(9, Said::Joined)],
+    active: &[3, 9],
+    passive: &[4, 6],
+    left: 64,
+};
+
+static ENDING: [Case; 14] = [
     Case {
         name: "no step is left: a stranger enters a free place",
         node: ROOMY,
@@ -453,6 +581,7 @@ static ENDING: [Case; 9] = [
         node: Node {
             me: 1,
             sizes: (1, 5),
+            walks: (6, 3),
             active: &[3],
             passive: &[4, 6],
             words: &[],
@@ -526,6 +655,52 @@ static ENDING: [Case; 9] = [
         active: &[3, 7],
         passive: &[4, 6],
         left: 64,
+    },
+    Case {
+        name: "PRWL is 0, and no step is left: the passive view, full, stays as it is",
+        node: Node {
+            sizes: (5, 2),
+            walks: (6, 0),
+            ..ROOMY
+        },
+        input: Input::Walk {
+            from: 3,
+            node: 9,
+            ttl: 0,
+        },
+        changes: &[Change::Up(9)],
+        sends: &[(9, Said::Joined)],
+        active: &[3, 7, 9],
+        passive: &[4, 6],
+        left: 64,
+    },
+    FROM_ONE,
+    Case {
+        name: "one is active, below the size: from it, at PRWL",
+        input: Input::Walk {
+            from: 3,
+            node: 9,
+            ttl: 3,
+        },
+        ..FROM_ONE
+    },
+    Case {
+        name: "one is active, below the size: from a stranger",
+        input: Input::Walk {
+            from: 8,
+            node: 9,
+            ttl: 6,
+        },
+        ..FROM_ONE
+    },
+    Case {
+        name: "one is active, below the size: from a stranger, at PRWL",
+        input: Input::Walk {
+            from: 8,
+            node: 9,
+            ttl: 3,
+        },
+        ..FROM_ONE
     },
 ];
 
@@ -676,26 +851,6 @@ static GOING_ON: [Case; 13] = [
         left: 63,
     },
     Case {
-        name: "node 3 remembers node 9",
-        node: Node {
-            me: 3,
-            sizes: (5, 30),
-            active: &[1, 5],
-            passive: &[],
-            words: &[],
-        },
-        input: Input::Walk {
-            from: 1,
-            node: 9,
-            ttl: 3,
-        },
-        changes: &[],
-        sends: &[(5, Said::Walk { node: 9, ttl: 2 })],
-        active: &[1, 5],
-        passive: &[9],
-        left: 63,
-    },
-    Case {
         name: "the node itself is new",
         node: THREE,
         input: Input::Walk {
@@ -723,6 +878,23 @@ static GOING_ON: [Case; 13] = [
         passive: &[4, 6],
         left: 64,
     },
+    Case {
+        name: "PRWL equal to ARWL, at both: the new node is remembered at the first step",
+        node: Node {
+            walks: (6, 6),
+            ..THREE
+        },
+        input: Input::Walk {
+            from: 3,
+            node: 9,
+            ttl: 6,
+        },
+        changes: &[],
+        sends: &[(5, Said::Walk { node: 9, ttl: 5 })],
+        active: &[3, 5, 8],
+        passive: &[4, 9],
+        left: 62,
+    },
 ];
 
 #[test]
@@ -730,26 +902,32 @@ fn a_walk_goes_on(rt: HostRuntime) -> Result<(), Fail> {
     all_do(&rt, rt.alloc(), &GOING_ON)
 }
 
-#[test]
-fn node_3_passes_the_walk_of_node_9_on(rt: HostRuntime) -> Result<(), Fail> {
-    let node = Node {
+static NODE_3: Case = Case {
+    name: "node 3 remembers node 9",
+    node: Node {
         me: 3,
+        sizes: (5, 30),
+        walks: (6, 3),
         active: &[1, 5],
         passive: &[],
-        ..ROOMY
-    };
-    let mut views = views_of(&node)?;
-    let words = words_of(&node);
-    let mut draws = Draws::new(&words);
-    let moves = on_forward_join(rt.alloc(), &mut views, &mut draws, NodeId(1), NodeId(9), 3)?;
-    are(&rt, "passive", views.passive(), &[9]);
-    assert_eq!(rt; moves.sends.len(), 1);
-    let (to, message) = &moves.sends[0];
-    assert_eq!(rt; *to, NodeId(5));
-    let bytes = encode(rt.alloc(), message)?;
-    assert_eq!(rt;
-        bytes.as_slice(),
-        [1, 2, 0, 0, 0, 3, 0, 0, 0, 9, 2].as_slice()
-    );
-    Ok(())
+        words: &[],
+    },
+    input: Input::Walk {
+        from: 1,
+        node: 9,
+        ttl: 3,
+    },
+    changes: &[],
+    sends: &[(5, Said::Walk { node: 9, ttl: 2 })],
+    active: &[1, 5],
+    passive: &[9],
+    left: 63,
+};
+
+static NODE_3_BYTES: [(u32, &'static [u8]); 1] = [(5, &[1, 2, 0, 0, 0, 3, 0, 0, 0, 9, 2])];
+
+#[test]
+fn node_3_passes_the_walk_of_node_9_on(rt: HostRuntime) -> Result<(), Fail> {
+    let moves = does(&rt, rt.alloc(), &NODE_3)?;
+    spelled(&rt, rt.alloc(), moves.sends.as_slice(), &NODE_3_BYTES)
 }
