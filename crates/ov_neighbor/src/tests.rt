@@ -1,9 +1,9 @@
-ghost use Rattle.std.specs.Prelude.{◌≤◌, length};
+ghost use Rattle.std.specs.Prelude.{◌≡◌, ◌≤◌, length, OnErr};
 
 use crate::{Attempt, on_disconnect, on_neighbor, on_reply, on_report};
 use ov_ids::{NodeId, OutOfMemory, Params};
 use ov_views::{Moves, ViewChange, Views};
-use ov_wire::Body;
+use ov_wire::{Body, Message, encode};
 use ov_words::{Draws, Words};
 use std::alloc::Global;
 use std::process::Abort;
@@ -70,6 +70,7 @@ fn handle(
     event: Event,
 ) -> Result<Moves, OutOfMemory>
     requires { 40 ≤ length draws.old }
+    ensures { OnErr result (draws.new ≡ draws.old) }
 {
     let views = &mut node.views;
     let attempt = &mut node.attempt;
@@ -81,6 +82,31 @@ fn handle(
         Event::Disconnect => on_disconnect(alloc, views, draws, from),
         Event::Crash => on_report(alloc, views, attempt, draws, from),
     }
+}
+
+/// What the node does. Where memory is refused it is as before, and the same call is made once more.
+fn moves_of(
+    rt: &impl Abort,
+    alloc: Global,
+    node: &mut Node,
+    draws: &mut Draws<'_>,
+    from: NodeId,
+    event: Event,
+) -> Result<Moves, Fail>
+    requires { 40 ≤ length draws.old }
+{
+    let views = node.views.copy();
+    let attempt = node.attempt.copy()?;
+    let left = draws.left();
+    if let Ok(moves) = handle(alloc, node, draws, from, event) {
+        return Ok(moves);
+    }
+    assert_eq!(rt; node.views.active(), views.active());
+    assert_eq!(rt; node.views.passive(), views.passive());
+    assert_eq!(rt; node.attempt.asked(), attempt.asked());
+    assert_eq!(rt; node.attempt.tried(), attempt.tried());
+    assert_eq!(rt; draws.left(), left);
+    Ok(handle(alloc, node, draws, from, event)?)
 }
 
 fn tell_changes(text: &mut String, changes: &[ViewChange]) -> Result<(), Fail> {
@@ -122,7 +148,7 @@ fn tell_ids(text: &mut String, ids: &[NodeId]) -> Result<(), Fail> {
 
 /// The changes and what is sent to whom | then who is active | who is passive | whom the attempt has tried | words left.
 fn told(alloc: Global, node: &Node, moves: &Moves, left: usize) -> Result<String, Fail> {
-    let mut text = String::new(alloc);
+    let mut text = String::with_capacity(alloc, 128)?;
     tell_changes(&mut text, moves.changes.as_slice())?;
     tell_sends(&mut text, node.views.me().number(), moves)?;
     tell_ids(&mut text, node.views.active())?;
@@ -138,7 +164,7 @@ fn play(rt: &impl Abort, alloc: Global, run: &Run) -> Result<(), Fail> {
     let mut node = node_of(alloc, run)?;
     for (from, event, want) in run.steps {
         let mut draws = Draws::new(&words);
-        let moves = handle(alloc, &mut node, &mut draws, NodeId(*from), *event)?;
+        let moves = moves_of(rt, alloc, &mut node, &mut draws, NodeId(*from), *event)?;
         node.attempt = node.attempt.copy()?;
         assert_eq!(rt; told(alloc, &node, &moves, draws.left())?.as_str(), *want);
         assert_eq!(rt; node.attempt.asked(), node.attempt.tried().last().copied());
@@ -153,8 +179,101 @@ fn play_all(rt: &impl Abort, alloc: Global, runs: &[Run]) -> Result<(), Fail> {
     Ok(())
 }
 
+/// Messages, to whom and as bytes.
+type Spelt = &'static [(u32, &'static [u8])];
+
+fn bytes_of(alloc: Global, message: &Message) -> Result<Vec<u8>, Fail> {
+    match &message.body {
+        Body::Neighbor { .. } | Body::NeighborReply { .. } | Body::Disconnect => {
+            Ok(encode(alloc, message)?)
+        }
+        _ => Err("another message".into()),
+    }
+}
+
+fn spells(rt: &impl Abort, alloc: Global, moves: &Moves, want: Spelt) -> Result<(), Fail> {
+    assert_eq!(rt; moves.sends.len(), want.len());
+    for ((to, message), (receiver, bytes)) in moves.sends.iter().zip(want) {
+        assert_eq!(rt; to.number(), *receiver);
+        assert_eq!(rt; bytes_of(alloc, message)?.as_slice(), *bytes);
+    }
+    Ok(())
+}
+
+/// The run is played, and then played once more with a look at the bytes of what is sent at each of its first steps.
+fn play_spelt(rt: &impl Abort, alloc: Global, run: &Run, sent: &[Spelt]) -> Result<(), Fail> {
+    play(rt, alloc, run)?;
+    let words = words_of(run);
+    let mut node = node_of(alloc, run)?;
+    for ((from, event, _), want) in run.steps.iter().zip(sent) {
+        let moves = handle(
+            alloc,
+            &mut node,
+            &mut Draws::new(&words),
+            NodeId(*from),
+            *event,
+        )?;
+        spells(rt, alloc, &moves, *want)?;
+    }
+    Ok(())
+}
+
+/// All places are taken, and the word 5 picks the second of two.
+static NEIGHBOR_ASKED: Run = Run {
+    me: 1,
+    sizes: (2, 30),
+    active: &[3, 7],
+    passive: &[],
+    words: &[5],
+    steps: &[
+        (9, Event::Low, "no to 9 | 3 7 | | | 64"),
+        (
+            9,
+            Event::High,
+            "down 7 up 9 disconnect to 7 yes to 9 | 3 9 | 7 | | 63",
+        ),
+        (7, Event::Low, "no to 7 | 3 9 | 7 | | 64"),
+    ],
+};
+
+static NO_YES: [Spelt; 2] = [
+    &[(9, &[1, 5, 0, 0, 0, 1, 0])],
+    &[(7, &[1, 6, 0, 0, 0, 1]), (9, &[1, 5, 0, 0, 0, 1, 1])],
+];
+
+#[test]
+fn neighbor_asked(rt: HostRuntime) -> Result<(), Fail> {
+    play_spelt(&rt, rt.alloc(), &NEIGHBOR_ASKED, &NO_YES)
+}
+
+/// The word 3 picks the second of two, and the first of one.
+static NEIGHBOR_REPLACED: Run = Run {
+    me: 1,
+    sizes: (5, 30),
+    active: &[3, 8],
+    passive: &[4, 6],
+    words: &[3],
+    steps: &[
+        (3, Event::Crash, "down 3 low to 6 | 8 | 4 6 | 6 | 63"),
+        (6, Event::No, "low to 4 | 8 | 4 6 | 6 4 | 63"),
+        (4, Event::No, "| 8 | 4 6 | | 64"),
+        (4, Event::No, "| 8 | 4 6 | | 64"),
+    ],
+};
+
+static LOW_TO_6_THEN_4: [Spelt; 3] = [
+    &[(6, &[1, 4, 0, 0, 0, 1, 0])],
+    &[(4, &[1, 4, 0, 0, 0, 1, 0])],
+    &[],
+];
+
+#[test]
+fn neighbor_replaced(rt: HostRuntime) -> Result<(), Fail> {
+    play_spelt(&rt, rt.alloc(), &NEIGHBOR_REPLACED, &LOW_TO_6_THEN_4)
+}
+
 static ASKED: [Run; 3] = [
-    // all places are taken, and the word 5 picks the second of two
+    // all places are taken, and an active one or the node itself asks
     Run {
         me: 1,
         sizes: (2, 30),
@@ -162,17 +281,10 @@ static ASKED: [Run; 3] = [
         passive: &[],
         words: &[5],
         steps: &[
-            (9, Event::Low, "no to 9 | 3 7 | | | 64"),
             (7, Event::Low, "yes to 7 | 3 7 | | | 64"),
             (7, Event::High, "yes to 7 | 3 7 | | | 64"),
             (1, Event::Low, "| 3 7 | | | 64"),
             (1, Event::High, "| 3 7 | | | 64"),
-            (
-                9,
-                Event::High,
-                "down 7 up 9 disconnect to 7 yes to 9 | 3 9 | 7 | | 63",
-            ),
-            (7, Event::Low, "no to 7 | 3 9 | 7 | | 64"),
         ],
     },
     // two places are free
@@ -247,21 +359,7 @@ fn who_disconnects_becomes_passive(rt: HostRuntime) -> Result<(), Fail> {
     play_all(&rt, rt.alloc(), &LEFT)
 }
 
-static CRASHED: [Run; 5] = [
-    // two to try, and both say no
-    Run {
-        me: 1,
-        sizes: (5, 30),
-        active: &[3, 8],
-        passive: &[4, 6],
-        words: &[3],
-        steps: &[
-            (3, Event::Crash, "down 3 low to 6 | 8 | 4 6 | 6 | 63"),
-            (6, Event::No, "low to 4 | 8 | 4 6 | 6 4 | 63"),
-            (4, Event::No, "| 8 | 4 6 | | 64"),
-            (4, Event::No, "| 8 | 4 6 | | 64"),
-        ],
-    },
+static CRASHED: [Run; 4] = [
     // three to try; the last neighbour crashes, so that all are tried anew and urgently
     Run {
         me: 1,
@@ -327,7 +425,7 @@ fn a_crashed_neighbour_is_replaced(rt: HostRuntime) -> Result<(), Fail> {
     play_all(&rt, rt.alloc(), &CRASHED)
 }
 
-static REPLIED: [Run; 3] = [
+static REPLIED: [Run; 5] = [
     // the asked has become active
     Run {
         me: 1,
@@ -377,6 +475,41 @@ static REPLIED: [Run; 3] = [
             (6, Event::Crash, "down 6 low to 9 | 5 | 4 9 | 9 | 63"),
             (7, Event::Low, "up 7 yes to 7 | 5 7 | 4 9 | 9 | 64"),
             (9, Event::Crash, "| 5 7 | 4 | | 64"),
+        ],
+    },
+    // the asked left the passive view: its no lets nobody active ask urgently, its yes is taken
+    Run {
+        me: 1,
+        sizes: (5, 2),
+        active: &[3, 8],
+        passive: &[4, 6],
+        words: &[1],
+        steps: &[
+            (3, Event::Crash, "down 3 low to 6 | 8 | 4 6 | 6 | 63"),
+            (8, Event::Disconnect, "down 8 | | 4 8 | 6 | 63"),
+            (6, Event::No, "high to 8 | | 4 8 | 6 8 | 63"),
+            (9, Event::Low, "up 9 yes to 9 | 9 | 4 8 | 6 8 | 64"),
+            (9, Event::Disconnect, "down 9 | | 4 9 | 6 8 | 63"),
+            (8, Event::Yes, "up 8 | 8 | 4 9 | | 64"),
+        ],
+    },
+    // and both views are full: yes drops one, which takes another's place
+    Run {
+        me: 1,
+        sizes: (2, 2),
+        active: &[3, 8],
+        passive: &[4, 6],
+        words: &[1],
+        steps: &[
+            (3, Event::Crash, "down 3 low to 6 | 8 | 4 6 | 6 | 63"),
+            (8, Event::Disconnect, "down 8 | | 4 8 | 6 | 63"),
+            (9, Event::Low, "up 9 yes to 9 | 9 | 4 8 | 6 | 64"),
+            (5, Event::Low, "up 5 yes to 5 | 5 9 | 4 8 | 6 | 64"),
+            (
+                6,
+                Event::Yes,
+                "down 9 up 6 disconnect to 9 | 5 6 | 8 9 | | 62",
+            ),
         ],
     },
 ];
