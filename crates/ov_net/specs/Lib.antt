@@ -1,0 +1,6 @@
+pub mod Net
+pub mod Journal
+pub mod NetStep
+pub mod Refusals
+pub mod World
+pub mod Codes

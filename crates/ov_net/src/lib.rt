@@ -1,0 +1,17 @@
+//! A world of nodes in one process: packets between them that are delivered, lost and repeated, nodes that crash, and a journal
+//! that tells what happened.
+#![tactic(auto)]
+
+mod entry;
+mod event;
+mod fault;
+mod member;
+mod packet;
+mod world;
+
+pub use entry::{Change, Entry};
+pub use event::Event;
+pub use fault::NetFault;
+pub use member::Member;
+pub use packet::Packet;
+pub use world::World;
