@@ -1,0 +1,13 @@
+mod Packets
+mod Members
+mod Lives
+mod Bringing
+mod After
+mod Tracked
+mod Outcomes
+pub mod Telling
+mod Quiet
+mod Places
+mod Holding
+mod Passing
+mod Tracing

@@ -4,3 +4,4 @@ pub mod NetStep
 pub mod Refusals
 pub mod World
 pub mod Codes
+pub mod Brought

@@ -22,3 +22,7 @@ LivesAs w a p = map.get w.nodes a ≡ Some (Live p)
 -- a was born and crashed
 abbrev pub IsGone : Net → ℕ → Type 0
 IsGone w a = map.get w.nodes a ≡ Some Gone
+
+-- each live node is kept under its own id
+abbrev pub HaveOwnIds : Net → Type 0
+HaveOwnIds w = (a : ℕ) (p : Whole) → LivesAs w a p → (p.node.views.me ≡ a) × (p.tree.me ≡ a)

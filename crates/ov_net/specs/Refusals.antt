@@ -1,5 +1,5 @@
 -- Why a world takes no step: the refusals of each event in their order, the first that stands decides.
-use Rattle.std.specs.Prelude.{◌≡◌, ◌≢◌, ℕ, ◌+◌, ◌<◌, ◌≤◌, length, Option, Some, None}
+use Rattle.std.specs.Prelude.{◌≡◌, ◌≢◌, ◌⊎◌, ℕ, ◌+◌, ◌<◌, ◌≤◌, length, Option, Some, None}
 use Rattle.std.specs.FinMap as map
 use Rattle.ov_ids.specs.Steps.{Step, Passed}
 use Rattle.ov_ids.specs.declared.id.MsgId.{MsgId}
@@ -40,6 +40,14 @@ MayBroadcast w a = (p : Whole) → LivesAs w a p → p.tree.made < 4096
 -- the timer of an id is set at node a
 abbrev pub HasTimer : Net → ℕ → MsgId → Type 0
 HasTimer w a id = (p : Whole) → LivesAs w a p → map.get p.tree.timers id ≢ None
+
+-- why a does not live
+abbrev pub IsAbsent : Net → ℕ → NetFault → Type 0
+IsAbsent w a fault = ((map.get w.nodes a ≡ None) × (fault ≡ UnknownNode)) ⊎ (IsGone w a × (fault ≡ CrashedNode))
+
+-- why a is not gone
+abbrev pub IsNotGone : Net → ℕ → NetFault → Type 0
+IsNotGone w a fault = ((map.get w.nodes a ≡ None) × (fault ≡ UnknownNode)) ⊎ (((p : Whole) × LivesAs w a p) × (fault ≡ NotCrashed))
 
 -- a was born and is not gone, and then
 abbrev pub LiveThen : Net → ℕ → (Option NetFault → Type 0) → Option NetFault → Type 0

@@ -8,7 +8,7 @@ use Rattle.ov_wire.specs.declared.message.Body.TheVariants.{Gossip}
 use Rattle.ov_peer.specs.Whole.{Whole}
 use Rattle.ov_plum.specs.Tree.{Kept}
 use Rattle.ov_net.specs.Journal.{changes_of, Held, Live, Delivers, DeliversOnce}
-use Rattle.ov_net.specs.Net.{Net, LivesAs}
+use Rattle.ov_net.specs.Net.{Net, LivesAs, HaveOwnIds}
 use Rattle.ov_net.specs.declared.entry.Change.{Change}
 use Rattle.ov_net.specs.declared.entry.Change.TheVariants.{Born, Up, Down, Gone}
 use Rattle.ov_net.specs.declared.entry.Entry.{Entry}
@@ -61,6 +61,6 @@ pub record Stands (c : Chronicle) : Type 0 where
   pub packets : length c.net.packets ≤ 65536
   pub entries : length c.journal ≤ 65536
   pub numbered : (i : ℕ) (e : Entry) → slice_get c.journal i ≡ Some e → e.number ≡ i + 1
-  pub own : (a : ℕ) (p : Whole) → LivesAs c.net a p → (p.node.views.me ≡ a) × (p.tree.me ≡ a)
+  pub own : HaveOwnIds c.net
   pub tells : TellsViews c
   pub traced : Traced c

@@ -2,10 +2,15 @@
 //! that tells what happened.
 #![tactic(auto)]
 
+mod brought;
 mod entry;
 mod event;
+mod events;
 mod fault;
+mod judging;
 mod member;
+mod moving;
+mod nodes;
 mod packet;
 mod world;
 

@@ -1,4 +1,4 @@
-mod Linking
+pub mod Linking
 mod Counts
 mod Changing
-mod Steps
+pub mod Steps

@@ -44,7 +44,7 @@ pub record Stays (t u : Tree) : Type 0 where
   pub me : u.me ≡ t.me
   pub neighbours : (x : ℕ) → is_linked u.branches x ≡ is_linked t.branches x
 
-told_me : (t : Tree) (changes : List ViewChange) (u : Tree) → Told t changes u → u.me ≡ t.me
+pub told_me : (t : Tree) (changes : List ViewChange) (u : Tree) → Told t changes u → u.me ≡ t.me
 told_me t [] u h = ap (λ (s : Tree). s.me) h
 told_me t (Up x ∷ changes) u h = told_me h.0 changes u h.2 ∙ ap (λ (s : Tree). s.me) h.1.0
 told_me t (Down x ∷ changes) u h = told_me h.0 changes u h.2 ∙ h.1.0.0

@@ -1,2 +1,2 @@
 mod Branching
-mod Maps
+pub mod Maps

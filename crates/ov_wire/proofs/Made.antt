@@ -10,7 +10,8 @@ use Rattle.ov_wire.specs.Laws.{SpelledOrAtFault}
 use Rattle.ov_wire.specs.Reading.{values_at}
 use Rattle.ov_wire.proofs.Numbers.{IsBytes}
 use Rattle.ov_wire.proofs.Faults.{values_read}
-use Rattle.ov_wire.proofs.Messages.{number_in, list_in, id_in, body_in, sound, is_first}
+use Rattle.ov_wire.specs.Meaning.{number_in, list_in, id_in, body_in}
+use Rattle.ov_wire.proofs.Messages.{sound, is_first}
 
 -- ---- what a body made of the values says
 

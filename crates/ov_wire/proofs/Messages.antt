@@ -1,14 +1,14 @@
 -- Messages: what is read is a message and is spelled so.
-use Rattle.std.proofs.Common.{◌≡◌, ℕ, zero, suc, ◌-◌, ◌%◌, true, false, eqb, List, [], ◌∷◌, ◌++◌, get_or, Result, Ok, Err, refl, sym, ap, ap₂, ◌∙◌, arith}
+use Rattle.std.proofs.Common.{◌≡◌, ℕ, zero, suc, ◌-◌, ◌%◌, true, false, List, [], ◌∷◌, ◌++◌, get_or, Result, Ok, Err, refl, sym, ap, ap₂, ◌∙◌, arith}
 use Rattle.std.specs.Prelude.{slice_index, slice_index_or}
-use Rattle.ov_ids.specs.declared.id.MsgId.{MsgId}
 use Rattle.ov_wire.specs.declared.fault.WireFault.{WireFault}
 use Rattle.ov_wire.specs.declared.message.Message.{Message}
 use Rattle.ov_wire.specs.declared.message.Body.{Body}
 use Rattle.ov_wire.specs.declared.message.Body.TheVariants.{Join, ForwardJoin, Joined, Neighbor, NeighborReply, Disconnect, Shuffle, ShuffleReply, Gossip, IHave, Graft, Prune}
-use Rattle.ov_wire.specs.Fields.{Field, Value, One, Many, AllFit}
+use Rattle.ov_wire.specs.Fields.{Field, Value, One, AllFit}
 use Rattle.ov_wire.specs.Messages.{kinds, fields_of, kind_of, said, Spelling, IsBodyInRange, AreInRange}
 use Rattle.ov_wire.specs.Faults.{FirstFault}
+use Rattle.ov_wire.specs.Meaning.{number_in, list_in, body_in, message_with, message_in}
 use Rattle.ov_wire.specs.Reading.{values_at}
 use Rattle.std.proofs.lemmas.List.{append-nil}
 use Rattle.ov_wire.proofs.Steps.{apart}
@@ -63,22 +63,6 @@ sound kind = (wide8, (wide8, (wide32, row_sound kinds kinds_sound (kind - 1))))
 abbrev pub values_of : Message → List Value
 values_of m = One 1 ∷ One (kind_of m.body) ∷ One m.from ∷ said m.body
 
-unfoldable pub number_in : List Value → ℕ → ℕ
-number_in vs i = elim (get_or vs i (One 0)) [ One n ↦ n | Many ns ↦ 0 ]
-
-unfoldable pub list_in : List Value → ℕ → List ℕ
-list_in vs i = elim (get_or vs i (One 0)) [ One n ↦ [] | Many ns ↦ ns ]
-
-abbrev pub id_in : List Value → MsgId
-id_in vs = record { origin = number_in vs 0; seq = number_in vs 1 }
-
-unfoldable pub body_in : ℕ → List Value → Body
-body_in kind vs = get_or
-    (Join ∷ ForwardJoin (number_in vs 0) (number_in vs 1) ∷ Joined ∷ Neighbor (eqb (number_in vs 0) 1)
-    ∷ NeighborReply (eqb (number_in vs 0) 1) ∷ Disconnect ∷ Shuffle (number_in vs 0) (number_in vs 1) (list_in vs 2)
-    ∷ ShuffleReply (list_in vs 0) ∷ Gossip (id_in vs) (number_in vs 2) (list_in vs 3) ∷ IHave (id_in vs) ∷ Graft (id_in vs)
-    ∷ Prune ∷ []) (kind - 1) Prune
-
 body_again : (b : Body) → body_in (kind_of b) (said b) ≡ b
 unfolding number_in list_in body_in
 body_again Join = refl
@@ -116,6 +100,11 @@ pub read_again : (m : Message) (bytes : List ℕ) → Spelling m bytes → value
 read_again m bytes s =
     let is : slice_index bytes 1 ≡ kind_of m.body = ap (λ (x : List ℕ). slice_index x 1) (sym (append-nil bytes)) ∙ kind_read m bytes [] s in
     ap (λ (k : ℕ). values_at (fields_of k) bytes) is ∙ values_again (fields_of (kind_of m.body)) (sound (kind_of m.body)) bytes (values_of m) s
+
+-- the meaning of a spelling is its message
+pub means : (m : Message) (bytes : List ℕ) → Spelling m bytes → message_in bytes ≡ m
+unfolding message_with number_in
+means m bytes s = ap message_with (read_again m bytes s) ∙ ap (λ (b : Body). record { from = m.from; body = b }) (body_again m.body)
 
 pub is_spelled : (m : Message) (bytes : List ℕ) → IsBytes bytes → kind_of m.body ≡ slice_index bytes 1 → values_at (fields_of (slice_index bytes 1)) bytes ≡ Ok (values_of m) → Spelling m bytes
 is_spelled m bytes fits is e =

@@ -3,3 +3,4 @@ pub mod Messages
 pub mod Faults
 pub mod Laws
 pub mod Reading
+pub mod Meaning

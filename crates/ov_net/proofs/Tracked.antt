@@ -1,0 +1,55 @@
+-- What a step of a node keeps: its ids, and an active view that goes along with the changes that are told.
+use Rattle.std.proofs.Common.{◌≡◌, ℕ, List, length, Option, sym, ap, ◌∙◌, arith}
+use Rattle.ov_wire.specs.declared.message.Message.{Message}
+use Rattle.ov_words.specs.Pick.{Choice}
+use Rattle.ov_views.specs.Allowed.{Node, Rests, boots, receives as hears, hears_of_crash, shuffles}
+use Rattle.ov_views.specs.Changes.{after_changes}
+use Rattle.ov_views.specs.declared.change.ViewChange.{ViewChange}
+use Rattle.ov_views.proofs.Tracking.{Tracks, tracked}
+use Rattle.ov_plum.specs.Spreading.{Delivered}
+use Rattle.ov_plum.specs.Tree.{Tree}
+use Rattle.ov_peer.specs.Step.{NodePart, TreePart, PeerStep}
+use Rattle.ov_peer.specs.Whole.{Whole}
+use Rattle.ov_peer.specs.declared.input.Delivery.{Delivery}
+use Rattle.ov_peer.specs.declared.input.Input.{Input}
+use Rattle.ov_peer.specs.declared.input.Input.TheVariants as input
+use Rattle.ov_peer.proofs.Steps.{told_me, received, broadcasted, timed}
+
+-- where nothing changes, no change is told
+views_rest : (n : Node) (choices : List Choice) (m : Node) (changes : List ViewChange) → Rests n choices m changes → Tracks n.views changes m.views
+views_rest n choices m changes h = record {
+  me = ap (λ (u : Node). u.views.me) h.1;
+  active = ap (λ (u : Node). u.views.active) h.1 ∙ ap (λ c. after_changes c n.views.active) (sym h.2);
+  few = omega (arith, ap length h.2);
+}
+
+-- HyParView's part of a step goes along with the changes that are told
+views_tracked : (n : Node) (i : Input) (choices : List Choice) (m : Node) (changes : List ViewChange) (heard : List (ℕ × Message)) → NodePart n i choices m changes heard → Tracks n.views changes m.views
+views_tracked n (input.Boot contact) choices m changes heard h = tracked n (boots contact) choices m changes heard h
+views_tracked n (input.Receive message) choices m changes heard h = tracked n (hears message) choices m changes heard h
+views_tracked n (input.Report p) choices m changes heard h = tracked n (hears_of_crash p) choices m changes heard h
+views_tracked n input.Shuffle choices m changes heard h = tracked n shuffles choices m changes heard h
+views_tracked n (input.Broadcast payload) choices m changes heard h = views_rest n choices m changes h.0
+views_tracked n (input.Timer id) choices m changes heard h = views_rest n choices m changes h.0
+
+-- Plumtree's part stays the node's
+tree_stays : (t : Tree) (i : Input) (u : Tree) (spread : List (ℕ × Message)) (delivered : Option Delivered) → TreePart t i u spread delivered → u.me ≡ t.me
+tree_stays t (input.Boot contact) u spread delivered h = ap (λ (s : Tree). s.me) h.0
+tree_stays t (input.Receive message) u spread delivered h = (received t message u spread delivered h).me
+tree_stays t (input.Report p) u spread delivered h = ap (λ (s : Tree). s.me) h.0
+tree_stays t input.Shuffle u spread delivered h = ap (λ (s : Tree). s.me) h.0
+tree_stays t (input.Broadcast payload) u spread delivered h = (broadcasted t payload u spread delivered h).me
+tree_stays t (input.Timer id) u spread delivered h = (timed t id u spread delivered h).me
+
+-- after a step a node has its own ids, and the active view after the changes that it told
+pub record PeerTracks (p : Whole) (told : List ViewChange) (q : Whole) : Type 0 where
+  pub views : Tracks p.node.views told q.node.views
+  pub tree : q.tree.me ≡ p.tree.me
+
+-- at every input
+pub peer_tracked : (p : Whole) (i : Input) (choices : List Choice) (q : Whole) (sends : List (ℕ × Message)) (told : List ViewChange) (delivery : Option Delivery)
+    → PeerStep p i choices q sends told delivery → PeerTracks p told q
+peer_tracked p i choices q sends told delivery h = record {
+  views = views_tracked p.node i choices q.node told h.0 h.4;
+  tree = told_me h.1 told q.tree h.6 ∙ tree_stays p.tree i h.1 h.2 h.3 h.5;
+}

@@ -1,0 +1,9 @@
+use Rattle.std.proofs.Common.{ap, ◌∙◌}
+use Rattle.ov_peer.specs.Whole.{newborn}
+use Rattle.ov_net.specs.World.{Chronicle}
+use Rattle.ov_net.proofs.Bringing.{each_ok, boot_step}
+use Rattle.ov_net.proofs.world.World.boot.Goals as goal
+
+pub returns : goal.returns
+returns c =
+    each_ok c.moved.result (λ b h. boot_step c.args.self.now.net c.args.node c.args.contact c.args.words.now c.new-peer.result b c.requires (c.new-peer.ensures ∙ ap (λ (w : Chronicle). newborn c.args.node w.net.params) c.self.view_is) h) c.moved.ensures
