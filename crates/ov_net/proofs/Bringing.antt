@@ -1,5 +1,5 @@
 -- What an event brings, and that it is a step of the world.
-use Rattle.std.proofs.Common.{◌≡◌, ◌≤◌, ◌<◌, ℕ, zero, suc, arith, append-nil, ◌∙◌, Bool, true, false, Result, Ok, Err, IfOk, List, [], ◌∷◌, ◌++◌, map as each, length, Option, None, Some, subst, refl, sym, if◌then◌else◌}
+use Rattle.std.proofs.Common.{◌≡◌, ◌≤◌, ◌<◌, ℕ, zero, suc, arith, append-nil, length-append, ap, ◌+◌, ◌∙◌, Bool, true, false, Result, Ok, Err, IfOk, List, [], ◌∷◌, ◌++◌, map as each, length, Option, None, Some, subst, refl, sym, if◌then◌else◌}
 use Rattle.std.specs.Prelude.{remove, slice_get}
 use Rattle.std.specs.FinMap as map
 use Rattle.ov_wire.specs.declared.message.Message.{Message}
@@ -10,18 +10,19 @@ use Rattle.ov_peer.specs.Whole.{Whole}
 use Rattle.ov_peer.specs.declared.input.Input.{Input}
 use Rattle.ov_peer.specs.Whole.{newborn}
 use Rattle.ov_peer.specs.declared.input.Input.TheVariants as input
-use Rattle.ov_net.specs.Brought.{HasMoved, taking, putting, after}
+use Rattle.ov_net.specs.Brought.{HasMoved, IsWithin, taking, putting, after}
 use Rattle.ov_net.specs.Net.{Net, LivesAs, IsGone}
 use Rattle.ov_ids.proofs.Stepping.{step_none}
-use Rattle.ov_ids.specs.Steps.{Step}
-use Rattle.ov_net.specs.Refusals.{IsBorn, MayBroadcast, PlacesLast, EventJudged, Judged}
-use Rattle.ov_net.specs.declared.fault.NetFault.TheVariants.{UnknownNode, CrashedNode, TooManyEntries, TooManyMessages, PayloadTooLong}
+use Rattle.ov_ids.specs.Steps.{Step, Passed}
+use Rattle.ov_net.specs.Refusals.{IsBorn, HasPlaces, MayBroadcast, HasTimer, LiveThen, ContactThen, PlacesLast, EventJudged, Judged}
+use Rattle.ov_net.specs.declared.fault.NetFault.{NetFault}
+use Rattle.ov_net.specs.declared.fault.NetFault.TheVariants.{UnknownNode, UsedId, CrashedNode, TooManyNodes, NoSuchPacket, BagFull, TooManyEntries, NotCrashed, NoTimer, TooManyMessages, PayloadTooLong}
 use Rattle.ov_net.specs.declared.event.Event.{Event}
 use Rattle.ov_net.specs.NetStep.{told_of, Moves, LiveMoves, Received, Happens}
 use Rattle.ov_net.specs.declared.brought.Brought.{Brought}
 use Rattle.ov_net.specs.declared.entry.Change.TheVariants.{Born}
 use Rattle.ov_net.specs.declared.entry.Change.TheVariants as change
-use Rattle.ov_net.specs.declared.event.Event.TheVariants.{Boot, Deliver, Lose, Crash, Broadcast}
+use Rattle.ov_net.specs.declared.event.Event.TheVariants.{Boot, Deliver, Lose, Repeat, Crash, Report, Shuffle, Broadcast, Timer, Snapshot}
 use Rattle.ov_net.specs.declared.member.Member.{Member}
 use Rattle.ov_net.specs.declared.member.Member.TheVariants.{Live, Gone}
 
@@ -115,3 +116,75 @@ broadcast_short w entries event a payload same judged =
     let all : Judged w entries (Broadcast a payload) None = subst (λ e. Judged w entries e None) same judged in
     let event_passes : EventJudged w (Broadcast a payload) None = (step_none (entries < 65536) TooManyEntries (EventJudged w (Broadcast a payload)) all).1 in
     passed_short (IsBorn w a) (¬ IsGone w a) (length payload ≤ 1024) UnknownNode CrashedNode PayloadTooLong (Step (MayBroadcast w a) TooManyMessages (PlacesLast w)) event_passes
+
+remove_few : {X : Type 0} (xs : List X) (i : ℕ) → length (remove xs i) ≤ length xs
+remove_few [] zero = omega arith
+remove_few [] (suc i) = omega arith
+remove_few (x ∷ xs) zero = omega arith
+remove_few (x ∷ xs) (suc i) = let r = remove_few xs i in omega (arith, r)
+
+few_after : (w : Net) (b : Brought) → length (after w b).packets ≤ length w.packets + length b.packets.items
+few_after w b = by b.taken
+  where
+    by : (taken : Option ℕ) → length (taking taken w.packets ++ b.packets.items) ≤ length w.packets + length b.packets.items
+    by None = omega (arith, length-append w.packets b.packets.items)
+    by (Some i) = omega (arith, length-append (remove w.packets i) b.packets.items, remove_few w.packets i)
+
+-- events that have places for packets where they are not refused
+abbrev pub Sends : Event → Type 0
+Sends (Boot a contact) = Unit {0}
+Sends (Deliver i) = Unit {0}
+Sends (Lose i) = ⊥
+Sends (Repeat i) = Unit {0}
+Sends (Crash a) = ⊥
+Sends (Report a crashed) = Unit {0}
+Sends (Shuffle a) = Unit {0}
+Sends (Broadcast a payload) = Unit {0}
+Sends (Timer a id) = Unit {0}
+Sends Snapshot = ⊥
+
+last_place : (w : Net) → PlacesLast w None → HasPlaces w
+last_place w h = (step_none (HasPlaces w) BagFull Passed h).0
+
+live_next : (w : Net) (a : ℕ) (After : Option NetFault → Type 0) → LiveThen w a After None → After None
+live_next w a After h = (step_none (¬ IsGone w a) CrashedNode After (step_none (IsBorn w a) UnknownNode (Step (¬ IsGone w a) CrashedNode After) h).1).1
+
+contact_next : (w : Net) (contact : Option ℕ) (After : Option NetFault → Type 0) → ContactThen w contact After None → After None
+contact_next w None After h = h
+contact_next w (Some c) After h = live_next w c After h
+
+places_of : (w : Net) (event : Event) → Sends event → EventJudged w event None → HasPlaces w
+places_of w (Boot a contact) sends h =
+    let room : Option NetFault → Type 0 = Step (map.len w.nodes < 256) TooManyNodes (PlacesLast w) in
+    let first = (step_none (map.get w.nodes a ≡ None) UsedId (ContactThen w contact room) h).1 in
+    last_place w (step_none (map.len w.nodes < 256) TooManyNodes (PlacesLast w) (contact_next w contact room first)).1
+places_of w (Deliver i) sends h = last_place w (step_none (i < length w.packets) NoSuchPacket (PlacesLast w) h).1
+places_of w (Lose i) sends h = absurd sends
+places_of w (Repeat i) sends h = last_place w (step_none (i < length w.packets) NoSuchPacket (PlacesLast w) h).1
+places_of w (Crash a) sends h = absurd sends
+places_of w (Report a crashed) sends h =
+    let gone : Option NetFault → Type 0 = Step (IsGone w crashed) NotCrashed (PlacesLast w) in
+    let known = live_next w a (Step (IsBorn w crashed) UnknownNode gone) h in
+    last_place w (step_none (IsGone w crashed) NotCrashed (PlacesLast w) (step_none (IsBorn w crashed) UnknownNode gone known).1).1
+places_of w (Shuffle a) sends h = last_place w (live_next w a (PlacesLast w) h)
+places_of w (Broadcast a payload) sends h =
+    let made : Option NetFault → Type 0 = Step (MayBroadcast w a) TooManyMessages (PlacesLast w) in
+    let short = live_next w a (Step (length payload ≤ 1024) PayloadTooLong made) h in
+    last_place w (step_none (MayBroadcast w a) TooManyMessages (PlacesLast w) (step_none (length payload ≤ 1024) PayloadTooLong made short).1).1
+places_of w (Timer a id) sends h = last_place w (step_none (HasTimer w a id) NoTimer (PlacesLast w) (live_next w a (Step (HasTimer w a id) NoTimer (PlacesLast w)) h)).1
+places_of w Snapshot sends h = absurd sends
+
+pub few_sent : (w : Net) (entries : ℕ) (event this : Event) (b : Brought) → event ≡ this → Sends this → Judged w entries event None → length b.packets.items ≤ 64 → length (after w b).packets ≤ 65536
+few_sent w entries event this b same sends judged few =
+    let all : Judged w entries this None = subst (λ e. Judged w entries e None) same judged in
+    let places = places_of w this sends (step_none (entries < 65536) TooManyEntries (EventJudged w this) all).1 in
+    omega (arith, few_after w b, places, few)
+
+pub none_sent : (w : Net) (b : Brought) → b.packets.items ≡ [] → length w.packets ≤ 65536 → length (after w b).packets ≤ 65536
+none_sent w b none few = let n : length b.packets.items ≡ 0 = ap length none in omega (arith, few_after w b, n, few)
+
+pub within_none : (b : Brought) (packets : List (ℕ × Message)) → b.taken ≡ None → IsWithin b.taken packets
+within_none b packets none = subst (λ t. IsWithin t packets) (sym none) tt
+
+pub within_some : (b : Brought) (packets : List (ℕ × Message)) (i : ℕ) → b.taken ≡ Some i → i < length packets → IsWithin b.taken packets
+within_some b packets i some within = subst (λ t. IsWithin t packets) (sym some) within

@@ -11,3 +11,4 @@ mod Places
 mod Holding
 mod Passing
 mod Tracing
+mod Standing

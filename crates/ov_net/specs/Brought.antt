@@ -1,5 +1,5 @@
 -- A world after what an event brings.
-use Rattle.std.specs.Prelude.{◌≡◌, ℕ, Bool, List, [], ◌∷◌, ◌++◌, map as each, remove, if◌then◌else◌, Option, Some, None, Result, Ok, Err}
+use Rattle.std.specs.Prelude.{◌≡◌, ◌<◌, ℕ, Bool, length, List, [], ◌∷◌, ◌++◌, map as each, remove, if◌then◌else◌, Option, Some, None, Result, Ok, Err}
 use Rattle.std.specs.Ordering.{nat_cmp}
 use Rattle.std.specs.FinMap as map
 use Rattle.ov_wire.specs.declared.message.Message.{Message}
@@ -21,6 +21,11 @@ use Rattle.ov_net.specs.declared.member.Member.TheVariants.{Live}
 abbrev pub taking : Option ℕ → List (ℕ × Message) → List (ℕ × Message)
 taking None packets = packets
 taking (Some i) packets = remove packets i
+
+-- the place that is named, if one is, has a packet
+abbrev pub IsWithin : Option ℕ → List (ℕ × Message) → Type 0
+IsWithin None packets = Unit {0}
+IsWithin (Some i) packets = i < length packets
 
 -- the nodes with this one as it is now, if one is named
 abbrev pub putting : Option (ℕ × Member) → map.FinMap nat_cmp Member → map.FinMap nat_cmp Member

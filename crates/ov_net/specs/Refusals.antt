@@ -81,3 +81,7 @@ EventJudged w Snapshot answer = Passed answer
 -- of every event: a place in the journal, which has 65,536, comes first
 abbrev pub Judged : Net → ℕ → Event → Option NetFault → Type 0
 Judged w entries event answer = Step (entries < 65536) TooManyEntries (EventJudged w event) answer
+
+-- the fault is the first refusal that stands; want of memory is told only where none does
+abbrev pub IsRefusal : Net → ℕ → Event → NetFault → Type 0
+IsRefusal w entries event fault = Judged w entries event (Some fault) ⊎ ((fault ≡ OutOfMemory) × Judged w entries event None)

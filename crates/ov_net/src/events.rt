@@ -2,7 +2,7 @@ ghost use Rattle.std.specs.Prelude.{◌≡◌, ◌<◌, ◌≤◌, ℕ, List, []
 ghost use Rattle.std.specs.Option.{option_copied};
 ghost use Rattle.std.specs.FinMap as map;
 
-ghost use Rattle.ov_net.specs.Brought.{after};
+ghost use Rattle.ov_net.specs.Brought.{IsWithin, after};
 ghost use Rattle.ov_net.specs.Net.{LivesAs, IsGone};
 ghost use Rattle.ov_net.specs.NetStep.{Happens};
 ghost use Rattle.ov_net.specs.Refusals.{Judged, IsBorn, MayBroadcast, HasTimer};
@@ -23,7 +23,9 @@ impl World {
     /// What an event brings to which no refusal stands.
     pub(crate) fn brings(&self, event: &Event, words: &Words) -> Result<Brought, OutOfMemory>
         requires { Judged self.now.net (length self.now.journal) event.now None }
-        ensures { IfOk result (λ b. Happens self.now.net event.now words.now (after self.now.net b) b.changes b.delivery) }
+        ensures happens { IfOk result (λ b. Happens self.now.net event.now words.now (after self.now.net b) b.changes b.delivery) }
+        ensures few { length self.now.net.packets ≤ 65536 → IfOk result (λ b. length (after self.now.net b).packets ≤ 65536) }
+        ensures within { IfOk result (λ b. IsWithin b.taken self.now.net.packets) }
     {
         match event {
             Event::Boot(node, contact) => self.boot(*node, *contact, words),
@@ -87,7 +89,9 @@ impl World {
         words: &Words,
     ) -> Result<Brought, OutOfMemory>
         requires { map.get self.now.net.nodes node ≡ None }
-        ensures { IfOk result (λ b. Happens self.now.net (Boot node contact) words.now (after self.now.net b) b.changes b.delivery) }
+        ensures happens { IfOk result (λ b. Happens self.now.net (Boot node contact) words.now (after self.now.net b) b.changes b.delivery) }
+        ensures few { IfOk result (λ b. length b.packets.items ≤ 64) }
+        ensures within { IfOk result (λ b. IsWithin b.taken self.now.net.packets) }
     {
         let peer = Peer::new(self.alloc, node, self.params);
         moved(self.alloc, node, true, None, &peer, Input::Boot(contact), words)
@@ -96,7 +100,9 @@ impl World {
     /// A packet reaches its receiver, who handles it where it lives.
     fn deliver(&self, place: u32, words: &Words) -> Result<Brought, OutOfMemory>
         requires { place < length self.now.net.packets }
-        ensures { IfOk result (λ b. Happens self.now.net (Deliver place) words.now (after self.now.net b) b.changes b.delivery) }
+        ensures happens { IfOk result (λ b. Happens self.now.net (Deliver place) words.now (after self.now.net b) b.changes b.delivery) }
+        ensures few { IfOk result (λ b. length b.packets.items ≤ 64) }
+        ensures within { IfOk result (λ b. IsWithin b.taken self.now.net.packets) }
     {
         let packet = self.packet(place);
         let to = packet.to();
@@ -114,7 +120,9 @@ impl World {
     /// A packet is lost.
     fn lose(&self, place: u32) -> Result<Brought, OutOfMemory>
         requires { place < length self.now.net.packets }
-        ensures { IfOk result (λ b. (words : List ℕ) → Happens self.now.net (Lose place) words (after self.now.net b) b.changes b.delivery) }
+        ensures happens { IfOk result (λ b. (words : List ℕ) → Happens self.now.net (Lose place) words (after self.now.net b) b.changes b.delivery) }
+        ensures none { IfOk result (λ b. b.packets.items ≡ []) }
+        ensures within { IfOk result (λ b. IsWithin b.taken self.now.net.packets) }
     {
         Ok(self.rests(Some(place as usize), Vec::new(self.alloc)))
     }
@@ -122,7 +130,9 @@ impl World {
     /// A packet is repeated.
     fn repeat(&self, place: u32) -> Result<Brought, OutOfMemory>
         requires { place < length self.now.net.packets }
-        ensures { IfOk result (λ b. (words : List ℕ) → Happens self.now.net (Repeat place) words (after self.now.net b) b.changes b.delivery) }
+        ensures happens { IfOk result (λ b. (words : List ℕ) → Happens self.now.net (Repeat place) words (after self.now.net b) b.changes b.delivery) }
+        ensures few { IfOk result (λ b. length b.packets.items ≤ 64) }
+        ensures within { IfOk result (λ b. IsWithin b.taken self.now.net.packets) }
     {
         let mut packets = Vec::with_capacity(self.alloc, 1)?;
         packets.push(self.packet(place).copy()?)?;
@@ -133,7 +143,9 @@ impl World {
     fn crash(&self, node: NodeId) -> Result<Brought, OutOfMemory>
         requires born { IsBorn self.now.net node }
         requires live { ¬ IsGone self.now.net node }
-        ensures { IfOk result (λ b. (words : List ℕ) → Happens self.now.net (Crash node) words (after self.now.net b) b.changes b.delivery) }
+        ensures happens { IfOk result (λ b. (words : List ℕ) → Happens self.now.net (Crash node) words (after self.now.net b) b.changes b.delivery) }
+        ensures none { IfOk result (λ b. b.packets.items ≡ []) }
+        ensures within { IfOk result (λ b. IsWithin b.taken self.now.net.packets) }
     {
         let mut changes = Vec::with_capacity(self.alloc, 1)?;
         changes.push(Change::Gone(node))?;
@@ -156,7 +168,9 @@ impl World {
         requires born { IsBorn self.now.net node }
         requires live { ¬ IsGone self.now.net node }
         requires gone { IsGone self.now.net crashed }
-        ensures { IfOk result (λ b. Happens self.now.net (Report node crashed) words.now (after self.now.net b) b.changes b.delivery) }
+        ensures happens { IfOk result (λ b. Happens self.now.net (Report node crashed) words.now (after self.now.net b) b.changes b.delivery) }
+        ensures few { IfOk result (λ b. length b.packets.items ≤ 64) }
+        ensures within { IfOk result (λ b. IsWithin b.taken self.now.net.packets) }
     {
         let peer = self.known(node);
         moved(self.alloc, node, false, None, peer, Input::Report(crashed), words)
@@ -166,7 +180,9 @@ impl World {
     fn shuffle(&self, node: NodeId, words: &Words) -> Result<Brought, OutOfMemory>
         requires born { IsBorn self.now.net node }
         requires live { ¬ IsGone self.now.net node }
-        ensures { IfOk result (λ b. Happens self.now.net (Shuffle node) words.now (after self.now.net b) b.changes b.delivery) }
+        ensures happens { IfOk result (λ b. Happens self.now.net (Shuffle node) words.now (after self.now.net b) b.changes b.delivery) }
+        ensures few { IfOk result (λ b. length b.packets.items ≤ 64) }
+        ensures within { IfOk result (λ b. IsWithin b.taken self.now.net.packets) }
     {
         let peer = self.known(node);
         moved(self.alloc, node, false, None, peer, Input::Shuffle, words)
@@ -183,7 +199,9 @@ impl World {
         requires live { ¬ IsGone self.now.net node }
         requires payload { length payload.now ≤ 1024 }
         requires made { MayBroadcast self.now.net node }
-        ensures { IfOk result (λ b. Happens self.now.net (Broadcast node payload.now) words.now (after self.now.net b) b.changes b.delivery) }
+        ensures happens { IfOk result (λ b. Happens self.now.net (Broadcast node payload.now) words.now (after self.now.net b) b.changes b.delivery) }
+        ensures few { IfOk result (λ b. length b.packets.items ≤ 64) }
+        ensures within { IfOk result (λ b. IsWithin b.taken self.now.net.packets) }
     {
         let peer = self.known(node);
         let input = Input::Broadcast(copy_bytes(self.alloc, payload)?);
@@ -195,7 +213,9 @@ impl World {
         requires born { IsBorn self.now.net node }
         requires live { ¬ IsGone self.now.net node }
         requires set { HasTimer self.now.net node id }
-        ensures { IfOk result (λ b. Happens self.now.net (Timer node id) words.now (after self.now.net b) b.changes b.delivery) }
+        ensures happens { IfOk result (λ b. Happens self.now.net (Timer node id) words.now (after self.now.net b) b.changes b.delivery) }
+        ensures few { IfOk result (λ b. length b.packets.items ≤ 64) }
+        ensures within { IfOk result (λ b. IsWithin b.taken self.now.net.packets) }
     {
         let peer = self.known(node);
         moved(self.alloc, node, false, None, peer, Input::Timer(id), words)

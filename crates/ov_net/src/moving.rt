@@ -1,4 +1,4 @@
-ghost use Rattle.std.specs.Prelude.{◌≡◌, ◌++◌, [], ◌∷◌, None, map, IfOk, OnOk, if◌then◌else◌};
+ghost use Rattle.std.specs.Prelude.{◌≡◌, ◌≤◌, length, ◌++◌, [], ◌∷◌, None, map, IfOk, OnOk, if◌then◌else◌};
 ghost use Rattle.std.specs.List.{AllByRecursion};
 ghost use Rattle.ov_wire.specs.Messages.{AreInRange};
 ghost use Rattle.ov_peer.specs.Faults.{fault_of, IsInputInRange};
@@ -29,7 +29,8 @@ pub(crate) fn moved(
 ) -> Result<Brought, OutOfMemory>
     requires range { IsInputInRange input }
     requires fault { fault_of peer.now input ≡ None }
-    ensures { IfOk result (λ b. HasMoved node is_born taken peer.now input words.now b) }
+    ensures moved { IfOk result (λ b. HasMoved node is_born taken peer.now input words.now b) }
+    ensures few { IfOk result (λ b. length b.packets.items ≤ 64) }
 {
     let mut next = peer.copy()?;
     let output = match next.step(input, words) {

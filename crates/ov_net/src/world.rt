@@ -1,10 +1,18 @@
-ghost use Rattle.std.specs.Prelude.{◌≡◌};
+ghost use Rattle.std.specs.Prelude.{◌≡◌, ◌≤◌, ◌<◌, ◌+◌, ◌++◌, [], ◌∷◌, None, IfOk, IfErr, OnOk, OnErr, length, vec_len, vec_capacity};
+ghost use Rattle.ov_net.specs.Brought.{IsWithin, taking, putting, after};
+ghost use Rattle.ov_net.specs.NetStep.{Happens, NetStep};
+ghost use Rattle.ov_net.specs.Refusals.{Judged, IsRefusal};
 ghost use Rattle.ov_net.specs.World.{opening};
 
+use crate::brought::Brought;
 use crate::entry::Entry;
+use crate::event::Event;
+use crate::fault::NetFault;
+use crate::member::Member;
 use crate::nodes::Nodes;
 use crate::packet::Packet;
-use ov_ids::Params;
+use ov_ids::{NodeId, OutOfMemory, Params};
+use ov_words::Words;
 use std::alloc::Global;
 use std::marker::Model;
 
@@ -35,17 +43,20 @@ pub struct World {
 
 impl Model for World {
     ghost use Rattle.ov_net.specs.Codes.{chronicle_code};
-    ghost use Rattle.ov_net.specs.World.{Chronicle};
+    ghost use Rattle.ov_net.specs.World.{Chronicle, Stands};
 
     ghost Value = { Chronicle };
 
     ghost coded = { chronicle_code };
 
     ghost view = { λ a. record { net = record { params = a.params; nodes = a.nodes; packets = a.packets.items }; journal = a.journal.items } };
+
+    ghost invariant = { λ a. Stands (record { net = record { params = a.params; nodes = a.nodes; packets = a.packets.items }; journal = a.journal.items }) };
 }
 
 impl World {
     /// A world in which nothing happened. It takes no memory.
+    #[tactic(auto, using(crate::proofs::Standing::stands_begun))]
     pub fn new(alloc: Global, params: Params) -> World
         ensures { result ≡ opening params }
     {
@@ -56,5 +67,91 @@ impl World {
             packets: Vec::new(alloc),
             journal: Vec::new(alloc),
         }
+    }
+
+    /// One event, with the words that random choices are made by. It answers the event's entry, which goes last in the journal;
+    /// or the first refusal that stands, or that memory was wanted (99), and then nothing changed.
+    pub fn step(&mut self, event: Event, words: &Words) -> Result<Entry, NetFault>
+        ensures judged { IfOk result (λ e. Judged self.old.net (length self.old.journal) event None) }
+        ensures step { IfOk result (λ e. NetStep self.old.net event words.now self.new.net e) }
+        ensures journal { IfOk result (λ e. self.new.journal ≡ self.old.journal ++ e ∷ []) }
+        ensures number { IfOk result (λ e. e.number ≡ length self.new.journal) }
+        ensures refused { IfErr result (λ f. IsRefusal self.old.net (length self.old.journal) event f) }
+        ensures err { OnErr result (self.new ≡ self.old) }
+    {
+        self.judge(&event)?;
+        let brought = self.brings(&event, words)?;
+        Ok(self.keep(event, words, brought)?)
+    }
+
+    /// Keeps what an event brought, and the entry that tells it.
+    #[tactic(auto, using(crate::proofs::Standing::stands_kept))]
+    fn keep(
+        &mut self,
+        event: Event,
+        words: &Words,
+        brought: Brought,
+    ) -> Result<Entry, OutOfMemory>
+        requires judged { Judged self.old.net (length self.old.journal) event None }
+        requires happens { Happens self.old.net event words.now (after self.old.net brought) brought.changes brought.delivery }
+        requires few { length (after self.old.net brought).packets ≤ 65536 }
+        requires within { IsWithin brought.taken self.old.net.packets }
+        ensures step { IfOk result (λ e. NetStep self.old.net event words.now self.new.net e) }
+        ensures journal { IfOk result (λ e. self.new.journal ≡ self.old.journal ++ e ∷ []) }
+        ensures number { IfOk result (λ e. e.number ≡ length self.new.journal) }
+        ensures err { OnErr result (self.new ≡ self.old) }
+    {
+        let entry = Entry {
+            number: self.journal.len() as u32 + 1,
+            event,
+            words: *words,
+            changes: brought.changes,
+            delivery: brought.delivery,
+        };
+        let answer = entry.copy(self.alloc)?;
+        self.packets.reserve(brought.packets.len())?;
+        self.journal.reserve(1)?;
+        put(&mut self.nodes, brought.node)?;
+        exchange(&mut self.packets, brought.taken, brought.packets);
+        record(&mut self.journal, entry);
+        Ok(answer)
+    }
+}
+
+/// Puts a node among the others, if one is named.
+fn put(nodes: &mut Nodes, node: Option<(NodeId, Member)>) -> Result<(), OutOfMemory>
+    ensures ok { OnOk result (nodes.new ≡ putting node nodes.old) }
+    ensures err { OnErr result (nodes.new ≡ nodes.old) }
+{
+    if let Some((id, member)) = node {
+        nodes.insert(id, member)?;
+    }
+    Ok(())
+}
+
+/// Takes a packet out, if its place is named, and puts more last. There is room for them.
+fn exchange(packets: &mut Vec<Packet>, taken: Option<usize>, more: Vec<Packet>)
+    requires within { IsWithin taken packets.old.items }
+    requires room { vec_len packets.old + vec_len more ≤ vec_capacity packets.old }
+    ensures { packets.new.items ≡ taking taken packets.old.items ++ more.items }
+{
+    if let Some(place) = taken {
+        packets.remove(place);
+    }
+    let mut more = more;
+    match packets.append(&mut more) {
+        Ok(()) => {}
+        Err(_) => unreachable!(),
+    }
+}
+
+/// Puts an entry last. There is room for it.
+fn record(journal: &mut Vec<Entry>, entry: Entry)
+    requires { vec_len journal.old < vec_capacity journal.old }
+    ensures { journal.new.items ≡ journal.old.items ++ entry ∷ [] }
+{
+    match journal.push(entry) {
+        Ok(()) => {}
+        Err(_) => unreachable!(),
     }
 }

@@ -1,26 +1,53 @@
-use Rattle.ov_net.proofs.Bringing.{at_event, at_any, broadcast_short}
+use Rattle.ov_net.proofs.Bringing.{each_ok, at_event, at_any, broadcast_short, few_sent, none_sent}
 use Rattle.ov_net.proofs.world.World.brings.Goals as goal
 
-pub returns-in-Boot : goal.returns-in-Boot
-returns-in-Boot c = at_event c.args.self.now.net c.args.event.now _ c.args.words.now c.boot.result c.in-Boot.is c.boot.ensures
+pub returns-in-Boot-clause-happens : goal.returns-in-Boot-clause-happens
+returns-in-Boot-clause-happens c = at_event c.args.self.now.net c.args.event.now _ c.args.words.now c.boot.result c.in-Boot.is c.boot.ensures.happens
 
-pub returns-in-Lose : goal.returns-in-Lose
-returns-in-Lose c = at_any c.args.self.now.net c.args.event.now _ c.args.words.now c.lose.result c.in-Lose.is c.lose.ensures
+pub returns-in-Lose-clause-happens : goal.returns-in-Lose-clause-happens
+returns-in-Lose-clause-happens c = at_any c.args.self.now.net c.args.event.now _ c.args.words.now c.lose.result c.in-Lose.is c.lose.ensures.happens
 
-pub returns-in-Repeat : goal.returns-in-Repeat
-returns-in-Repeat c = at_any c.args.self.now.net c.args.event.now _ c.args.words.now c.repeat.result c.in-Repeat.is c.repeat.ensures
+pub returns-in-Repeat-clause-happens : goal.returns-in-Repeat-clause-happens
+returns-in-Repeat-clause-happens c = at_any c.args.self.now.net c.args.event.now _ c.args.words.now c.repeat.result c.in-Repeat.is c.repeat.ensures.happens
 
-pub returns-in-Crash : goal.returns-in-Crash
-returns-in-Crash c = at_any c.args.self.now.net c.args.event.now _ c.args.words.now c.crash.result c.in-Crash.is c.crash.ensures
+pub returns-in-Crash-clause-happens : goal.returns-in-Crash-clause-happens
+returns-in-Crash-clause-happens c = at_any c.args.self.now.net c.args.event.now _ c.args.words.now c.crash.result c.in-Crash.is c.crash.ensures.happens
 
-pub returns-in-Report : goal.returns-in-Report
-returns-in-Report c = at_event c.args.self.now.net c.args.event.now _ c.args.words.now c.report.result c.in-Report.is c.report.ensures
+pub returns-in-Report-clause-happens : goal.returns-in-Report-clause-happens
+returns-in-Report-clause-happens c = at_event c.args.self.now.net c.args.event.now _ c.args.words.now c.report.result c.in-Report.is c.report.ensures.happens
 
-pub returns-in-Broadcast : goal.returns-in-Broadcast
-returns-in-Broadcast c = at_event c.args.self.now.net c.args.event.now _ c.args.words.now c.broadcast.result c.in-Broadcast.is c.broadcast.ensures
+pub returns-in-Broadcast-clause-happens : goal.returns-in-Broadcast-clause-happens
+returns-in-Broadcast-clause-happens c = at_event c.args.self.now.net c.args.event.now _ c.args.words.now c.broadcast.result c.in-Broadcast.is c.broadcast.ensures.happens
 
-pub returns-in-Timer : goal.returns-in-Timer
-returns-in-Timer c = at_event c.args.self.now.net c.args.event.now _ c.args.words.now c.timer.result c.in-Timer.is c.timer.ensures
+pub returns-in-Timer-clause-happens : goal.returns-in-Timer-clause-happens
+returns-in-Timer-clause-happens c = at_event c.args.self.now.net c.args.event.now _ c.args.words.now c.timer.result c.in-Timer.is c.timer.ensures.happens
 
 pub broadcast-requires-clause-payload : goal.broadcast-requires-clause-payload
 broadcast-requires-clause-payload c = broadcast_short c.args.self.now.net _ c.args.event.now _ _ c.in-Broadcast.is c.requires
+
+pub returns-in-Boot-clause-few : goal.returns-in-Boot-clause-few
+returns-in-Boot-clause-few c = λ small. each_ok c.boot.result (λ b h. few_sent c.args.self.now.net _ c.args.event.now _ b c.in-Boot.is tt c.requires h) c.boot.ensures.few
+
+pub returns-in-Deliver-clause-few : goal.returns-in-Deliver-clause-few
+returns-in-Deliver-clause-few c = λ small. each_ok c.deliver.result (λ b h. few_sent c.args.self.now.net _ c.args.event.now _ b c.in-Deliver.is tt c.requires h) c.deliver.ensures.few
+
+pub returns-in-Repeat-clause-few : goal.returns-in-Repeat-clause-few
+returns-in-Repeat-clause-few c = λ small. each_ok c.repeat.result (λ b h. few_sent c.args.self.now.net _ c.args.event.now _ b c.in-Repeat.is tt c.requires h) c.repeat.ensures.few
+
+pub returns-in-Report-clause-few : goal.returns-in-Report-clause-few
+returns-in-Report-clause-few c = λ small. each_ok c.report.result (λ b h. few_sent c.args.self.now.net _ c.args.event.now _ b c.in-Report.is tt c.requires h) c.report.ensures.few
+
+pub returns-in-Shuffle-clause-few : goal.returns-in-Shuffle-clause-few
+returns-in-Shuffle-clause-few c = λ small. each_ok c.shuffle.result (λ b h. few_sent c.args.self.now.net _ c.args.event.now _ b c.in-Shuffle.is tt c.requires h) c.shuffle.ensures.few
+
+pub returns-in-Broadcast-clause-few : goal.returns-in-Broadcast-clause-few
+returns-in-Broadcast-clause-few c = λ small. each_ok c.broadcast.result (λ b h. few_sent c.args.self.now.net _ c.args.event.now _ b c.in-Broadcast.is tt c.requires h) c.broadcast.ensures.few
+
+pub returns-in-Timer-clause-few : goal.returns-in-Timer-clause-few
+returns-in-Timer-clause-few c = λ small. each_ok c.timer.result (λ b h. few_sent c.args.self.now.net _ c.args.event.now _ b c.in-Timer.is tt c.requires h) c.timer.ensures.few
+
+pub returns-in-Lose-clause-few : goal.returns-in-Lose-clause-few
+returns-in-Lose-clause-few c = λ small. each_ok c.lose.result (λ b h. none_sent c.args.self.now.net b h small) c.lose.ensures.none
+
+pub returns-in-Crash-clause-few : goal.returns-in-Crash-clause-few
+returns-in-Crash-clause-few c = λ small. each_ok c.crash.result (λ b h. none_sent c.args.self.now.net b h small) c.crash.ensures.none

@@ -3,7 +3,7 @@ use Rattle.ov_net.specs.declared.entry.Change.TheVariants.{Gone}
 use Rattle.ov_net.proofs.Bringing.{crash_step}
 use Rattle.ov_net.proofs.world.World.crash.Goals as goal
 
-pub returns : goal.returns
-returns c =
+pub returns-clause-happens : goal.returns-clause-happens
+returns-clause-happens c =
     crash_step c.args.self.now.net c.args.node (record { taken = _; node = _; packets = c.new.result; changes = c.new-2.result; delivery = _ }) c.requires.born c.requires.live refl refl c.new.ensures.items
     (c.new-2.ensures ∙ c.in_ok-push.ensures.items ∙ ap (λ v. v ++ Gone c.args.node ∷ []) c.in_ok-changes.ensures.items) refl
