@@ -1,8 +1,8 @@
 -- What is in a set after a change, and where.
-use Rattle.std.proofs.Common.{subst, ap, zero, ◌≡◌, ◌≢◌, ℕ, suc, ◌<◌, ◌≤◌, ◌+◌, Bool, true, false, cond, not, IsTrue, ◌||◌, eqb, ltb, List, [], ◌∷◌, length, get_or, refl, ap, inl, inr, sym, ◌∙◌, arith, ◌⊎◌}
+use Rattle.std.proofs.Common.{subst, ap, zero, ◌≡◌, ◌≢◌, ℕ, suc, ◌<◌, ◌≤◌, ◌+◌, Bool, true, false, cond, not, IsTrue, ◌||◌, ◌&&◌, eqb, ltb, List, [], ◌∷◌, length, get_or, refl, ap, inl, inr, sym, ◌∙◌, arith, ◌⊎◌}
 use Rattle.std.specs.Prelude.{insert, remove}
 use Rattle.std.specs.List.{AllByRecursion}
-use Rattle.std.proofs.lemmas.Bool.{or_right, ltb-true, ltb-false, lt-ltb, le-ltb, eq-eqb, ne_eqb, eqb-false, eqb-true, or_parts, cases_order, both_ways}
+use Rattle.std.proofs.lemmas.Bool.{and_parts, not-true, or_cases, or_left, or_right, ltb-true, ltb-false, lt-ltb, le-ltb, eq-eqb, ne_eqb, eqb-false, eqb-true, or_parts, cases_order, both_ways}
 use Rattle.ov_ids.specs.Sets.{IsSet, has, IsIn, adding, without, count_below}
 
 All-map : (P Q : ℕ → Type 0) → ((y : ℕ) → P y → Q y) → (t : List ℕ) → AllByRecursion P t → AllByRecursion Q t
@@ -126,29 +126,35 @@ length-without_less x (y ∷ t) h =
       | false ↦ λ r. omega (arith, length-without_less x t r)
     ] h
 
+-- who is in the set with x, and without it, as equations of tests
+pub has_adding : (x : ℕ) (t : List ℕ) (z : ℕ) → has (adding x t) z ≡ (eqb x z || has t z)
+has_adding x [] z = refl
+has_adding x (y ∷ t) z = grind (arith, has_adding x t z)
+
+pub has_without : (x : ℕ) (t : List ℕ) (z : ℕ) → has (without x t) z ≡ (has t z && not (eqb x z))
+has_without x [] z = refl
+has_without x (y ∷ t) z = grind (arith, has_without x t z)
+
 -- who is in the set with x: x, and who was
 pub IsIn-adding : (x : ℕ) (t : List ℕ) (z : ℕ) → IsIn (adding x t) z → (z ≡ x) ⊎ IsIn t z
-IsIn-adding x [] z h = elim (eqb x z) as (λ b. eqb x z ≡ b → IsTrue (b || false) → (z ≡ x) ⊎ IsTrue false) [ true ↦ λ e _. inl (sym (eqb-true x z e)) | false ↦ λ _ f. cc ] refl h
-IsIn-adding x (y ∷ t) z h =
-    elim (ltb x y) as (λ b. IsIn (cond b (x ∷ y ∷ t) (y ∷ cond (ltb y x) (adding x t) t)) z → (z ≡ x) ⊎ IsIn (y ∷ t) z) [
-      | true ↦ λ k. elim (eqb x z) as (λ b. eqb x z ≡ b → IsTrue (b || has (y ∷ t) z) → (z ≡ x) ⊎ IsIn (y ∷ t) z) [ true ↦ λ e _. inl (sym (eqb-true x z e)) | false ↦ λ _ f. inr f ] refl k
-      | false ↦ λ k. elim (eqb y z) as (λ b. IsTrue (b || has (cond (ltb y x) (adding x t) t) z) → (z ≡ x) ⊎ IsTrue (b || has t z)) [
-        | true ↦ λ _. inr refl
-        | false ↦ λ f. elim (ltb y x) as (λ b. IsTrue (has (cond b (adding x t) t) z) → (z ≡ x) ⊎ IsTrue (has t z)) [ true ↦ λ g. IsIn-adding x t z g | false ↦ λ g. inr g ] f
-      ] k
-    ] h
+IsIn-adding x t z h =
+    elim (or_cases (eqb x z) (has t z) (sym (has_adding x t z) ∙ h)) as (λ _. (z ≡ x) ⊎ IsIn t z) [ inl e ↦ inl (sym (eqb-true x z e)) | inr k ↦ inr k ]
 
 -- who is in the set without x: who was, but x
 pub IsIn-without : (x : ℕ) (t : List ℕ) (z : ℕ) → IsIn (without x t) z → (z ≢ x) × IsIn t z
-IsIn-without x [] z h = cc
-IsIn-without x (y ∷ t) z h =
-    elim (eqb y x) as (λ b. eqb y x ≡ b → IsIn (cond (not b) (y ∷ without x t) (without x t)) z → (z ≢ x) × IsTrue (eqb y z || has t z)) [
-      | true ↦ λ _ k. let r : (z ≢ x) × IsIn t z = IsIn-without x t z k in (r.0, elim (eqb y z) as (λ b. IsTrue (b || has t z)) [ true ↦ refl | false ↦ r.1 ])
-      | false ↦ λ e k. elim (eqb y z) as (λ b. eqb y z ≡ b → IsTrue (b || has (without x t) z) → (z ≢ x) × IsTrue (b || has t z)) [
-        | true ↦ λ f _. ((let ne : y ≢ x = eqb-false y x e in let yz : y ≡ z = eqb-true y z f in λ zx. ne (yz ∙ zx)), refl)
-        | false ↦ λ _ g. IsIn-without x t z g
-      ] refl k
-    ] refl h
+IsIn-without x t z h =
+    let p = and_parts (has t z) (not (eqb x z)) (sym (has_without x t z) ∙ h) in
+    ((λ e. eqb-false x z (not-true (eqb x z) p.1) (sym e)), p.0)
+
+-- x is in the set with x, and who was in a set is in it with one more, and, if it is another, with one less
+pub IsIn-self : (x : ℕ) (t : List ℕ) → IsIn (adding x t) x
+IsIn-self x t = has_adding x t x ∙ or_left (eqb x x) (has t x) (eq-eqb x x refl)
+
+pub IsIn-added : (x : ℕ) (t : List ℕ) (z : ℕ) → IsIn t z → IsIn (adding x t) z
+IsIn-added x t z h = has_adding x t z ∙ or_right (eqb x z) (has t z) h
+
+pub IsIn-kept : (x : ℕ) (t : List ℕ) (z : ℕ) → z ≢ x → IsIn t z → IsIn (without x t) z
+IsIn-kept x t z ne h = let e = ne_eqb x z (λ s. ne (sym s)) in has_without x t z ∙ (λ i. h i && not (e i))
 
 pub count_below-lt-length : (x : ℕ) (t : List ℕ) → has t x ≡ true → count_below x t < length t
 count_below-lt-length x t h =

@@ -1,14 +1,12 @@
 -- What the handlers of joins send, and the step that passes FORWARDJOIN on.
-use Rattle.std.proofs.Common.{◌≡◌, ℕ, ◌+◌, ◌-◌, ◌≤◌, ◌||◌, false, true, cond, eqb, ltb, List, [], ◌∷◌, ◌++◌, length, refl, sym, subst, arith}
-use Rattle.std.proofs.lemmas.Bool.{eq-eqb, or_right, ltb-false, both_ways}
+use Rattle.std.proofs.Common.{◌≡◌, ℕ, ◌+◌, ◌-◌, ◌≤◌, ◌||◌, false, true, eqb, List, [], ◌∷◌, ◌++◌, length, refl, sym, subst, arith}
+use Rattle.std.proofs.lemmas.Bool.{both_ways}
 use Rattle.std.specs.Prelude.{MatchBool}
-use Rattle.std.specs.List.{AllByRecursion}
 use Rattle.ov_ids.proofs.Cases.{where_false}
 use Rattle.ov_ids.specs.Sets.{IsIn, has, adding, without}
-use Rattle.ov_ids.proofs.Sets.{length-without_less}
+use Rattle.ov_ids.proofs.Sets.{IsIn-self, length-without_less}
 use Rattle.ov_views.specs.Changes.{Keeps, Chosen, AddsPassive, MakesRoom, AddsActive}
 use Rattle.ov_wire.proofs.Ranges.{Ranged}
-use Rattle.ov_wire.specs.declared.Message.{Message}
 use Rattle.ov_wire.specs.declared.Body.TheVariants.{ForwardJoin}
 use Rattle.ov_words.specs.Pick.{Choice}
 use Rattle.ov_views.specs.Neighbourhood.{Neighbourhood, AreViews, has_place, is_close}
@@ -17,35 +15,23 @@ use Rattle.ov_views.specs.Joining.{Remembers, AllowedForwardJoin, walk_ends, wal
 use Rattle.ov_views.specs.declared.change.ViewChange.{ViewChange}
 use Rattle.ov_views.specs.declared.change.ViewChange.TheVariants.{Up, Down}
 
-pub goes_on : (v : Neighbourhood) (s n ttl : ℕ) (first : List Choice) (b : ℕ) (w : Neighbourhood) →
+pub goes_on : (v : Neighbourhood) (s n ttl : ℕ) (first : List Choice) (target : ℕ) (w : Neighbourhood) →
     eqb s v.me ≡ false → eqb n v.me ≡ false → walk_ends v s n ttl ≡ false →
-    Remembers v n ttl first w → IsIn (walk_targets v s n) b →
-    AllowedForwardJoin v s n ttl (first ++ record { from = walk_targets v s n; member = b } ∷ []) w [] ((b, say v.me (ForwardJoin n (ttl - 1))) ∷ [])
-goes_on v s n ttl first b w s_other n_other on maybe h =
+    Remembers v n ttl first w → IsIn (walk_targets v s n) target →
+    AllowedForwardJoin v s n ttl (first ++ record { from = walk_targets v s n; member = target } ∷ []) w [] ((target, say v.me (ForwardJoin n (ttl - 1))) ∷ [])
+goes_on v s n ttl first target w s_other n_other on maybe h =
     let others : (eqb s v.me || eqb n v.me) ≡ false = rw (s_other, n_other) refl in
     where_false _ _ _ others
-    (where_false _ _ _ on (first, record { from = walk_targets v s n; member = b } ∷ [], b, refl, maybe, (h, refl), refl, refl))
+    (where_false _ _ _ on (first, record { from = walk_targets v s n; member = target } ∷ [], target, refl, maybe, (h, refl), refl, refl))
 
-pub Ranged-forwards : (me node ttl : ℕ) (bs : List ℕ) → ttl ≤ 15 → Ranged (forwards me node ttl bs)
+pub Ranged-forwards : (me node ttl : ℕ) (members : List ℕ) → ttl ≤ 15 → Ranged (forwards me node ttl members)
 Ranged-forwards me node ttl [] low = tt
-Ranged-forwards me node ttl (b ∷ bs) low = (low, Ranged-forwards me node ttl bs low)
+Ranged-forwards me node ttl (target ∷ members) low = (low, Ranged-forwards me node ttl members low)
 
 pub Ranged-farewells : (me : ℕ) (changes : List ViewChange) → Ranged (farewells me changes)
 Ranged-farewells me [] = tt
 Ranged-farewells me (Up x ∷ changes) = Ranged-farewells me changes
 Ranged-farewells me (Down x ∷ changes) = (tt, Ranged-farewells me changes)
-
--- who is added is there
-adding_has : (x : ℕ) (t : List ℕ) → IsIn (adding x t) x
-adding_has x [] = rw (eq-eqb x x refl) refl
-adding_has x (y ∷ t) =
-    elim (ltb x y) as (λ b. ltb x y ≡ b → IsIn (cond b (x ∷ y ∷ t) (y ∷ cond (ltb y x) (adding x t) t)) x) [
-      | true ↦ λ _. rw (eq-eqb x x refl) refl
-      | false ↦ λ e. elim (ltb y x) as (λ b. ltb y x ≡ b → IsIn (y ∷ cond b (adding x t) t) x) [
-        | true ↦ λ _. or_right _ _ (adding_has x t)
-        | false ↦ λ f. let same : y ≡ x = omega (arith, ltb-false x y e, ltb-false y x f) in rw (eq-eqb y x same) refl
-      ] refl
-    ] refl
 
 -- who is added to the active view, and is not the node itself, is active then
 becomes_active : (v : Neighbourhood) (s : ℕ) (cs : List Choice) (w : Neighbourhood) (changes : List ViewChange) → eqb s v.me ≡ false → AddsActive v s cs w changes → IsIn w.active s
@@ -59,7 +45,7 @@ becomes_active v s cs w changes other h =
       | true ↦ λ e _. absurd (both_ways _ other e)
       | false ↦ λ _ k. elim (has v.active s) as (λ b. has v.active s ≡ b → MatchBool b Close Far → IsIn w.active s) [
         | true ↦ λ e j. subst P (sym j.0.1) e
-        | false ↦ λ _ j. subst P (sym j.3) (adding_has s j.0.active)
+        | false ↦ λ _ j. subst P (sym j.3) (IsIn-self s j.0.active)
       ] refl k
     ] refl h
 

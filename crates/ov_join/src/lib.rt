@@ -4,12 +4,14 @@
 //! hears who made it active, is chosen here. Every call makes all its room first, so after want of memory nothing has changed.
 #![tactic(auto)]
 
-ghost use Rattle.std.specs.Prelude.{◌≡◌, ◌≤◌, ◌<◌, ◌+◌, ◌++◌, ◌||◌, ◌==◌, nat_le, length, vec_len, IfOk, OnErr};
+ghost use Rattle.std.specs.Prelude.{◌≡◌, ◌≤◌, ◌<◌, ◌+◌, ◌++◌, ℕ, length, vec_len, IfOk, OnErr};
 ghost use Rattle.std.specs.List.{AllByRecursion};
 ghost use Rattle.ov_wire.specs.Messages.{AreInRange};
 ghost use Rattle.ov_words.specs.Pick.{Drawn};
 ghost use Rattle.ov_views.specs.Room.{HasRoom};
-ghost use Rattle.ov_views.specs.Joining.{Remembers, AllowedJoin, AllowedForwardJoin, AllowedJoined, forwards};
+ghost use Rattle.ov_views.specs.Allowed.{Node, Allowed, receives};
+ghost use Rattle.ov_views.specs.Joining.{Remembers, forwards, walk_ends, walk_targets};
+ghost use Rattle.ov_wire.specs.declared.message.Body.TheVariants.{Join, ForwardJoin, Joined};
 
 #[cfg(test)]
 mod tests;
@@ -30,7 +32,8 @@ pub fn on_join(
 ) -> Result<Moves, OutOfMemory>
     requires { 40 ≤ length draws.old }
     ensures allowed { IfOk result (λ m. Drawn draws.old draws.new
-        (λ choices. AllowedJoin views.old from choices views.new m.changes.items m.sends.items)) }
+        (λ choices. (n : Node) → Allowed (record n { views = views.old }) (receives from Join) choices
+        (record n { views = views.new }) m.changes.items m.sends.items)) }
     ensures words { length draws.old ≤ length draws.new + 2 }
     ensures few { IfOk result (λ m. vec_len m.sends ≤ 17) }
     ensures ranges { IfOk result (λ m. AllByRecursion (λ s. AreInRange s.1) m.sends.items) }
@@ -84,7 +87,8 @@ pub fn on_forward_join(
     requires words { 40 ≤ length draws.old }
     requires ttl { ttl ≤ 15 }
     ensures allowed { IfOk result (λ m. Drawn draws.old draws.new
-        (λ choices. AllowedForwardJoin views.old from node ttl choices views.new m.changes.items m.sends.items)) }
+        (λ choices. (n : Node) → Allowed (record n { views = views.old }) (receives from (ForwardJoin node ttl)) choices
+        (record n { views = views.new }) m.changes.items m.sends.items)) }
     ensures words { length draws.old ≤ length draws.new + 2 }
     ensures few { IfOk result (λ m. vec_len m.sends ≤ 2) }
     ensures ranges { IfOk result (λ m. AllByRecursion (λ s. AreInRange s.1) m.sends.items) }
@@ -132,7 +136,7 @@ fn remember(views: &mut Views, draws: &mut Draws<'_>, node: NodeId, ttl: u8)
 
 /// Whether the walk of FORWARDJOIN ends, where it could go on to the others.
 fn ends_here(views: &Views, others: &IdSet, ttl: u8) -> bool
-    ensures { result ≡ (ttl == 0) || (nat_le (length views.now.active) 1 || (length others.now == 0)) }
+    ensures { (s n : ℕ) → others.now ≡ walk_targets views.now s n → result ≡ walk_ends views.now s n ttl }
 {
     ttl == 0 || views.active().len() <= 1 || others.len() == 0
 }
@@ -146,7 +150,8 @@ pub fn on_joined(
 ) -> Result<Moves, OutOfMemory>
     requires { 40 ≤ length draws.old }
     ensures allowed { IfOk result (λ m. Drawn draws.old draws.new
-        (λ choices. AllowedJoined views.old from choices views.new m.changes.items m.sends.items)) }
+        (λ choices. (n : Node) → Allowed (record n { views = views.old }) (receives from Joined) choices
+        (record n { views = views.new }) m.changes.items m.sends.items)) }
     ensures words { length draws.old ≤ length draws.new + 2 }
     ensures few { IfOk result (λ m. vec_len m.sends ≤ 1) }
     ensures ranges { IfOk result (λ m. AllByRecursion (λ s. AreInRange s.1) m.sends.items) }

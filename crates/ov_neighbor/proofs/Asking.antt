@@ -1,15 +1,16 @@
 -- An attempt that goes on.
 use Rattle.std.proofs.Common.{◌≡◌, ℕ, false, eqb, List, [], ◌∷◌, ◌++◌, length, refl, sym, inl, inr}
+use Rattle.std.proofs.lemmas.Option.{none-some, same_Some}
 use Rattle.std.specs.Prelude.{Some}
 use Rattle.ov_ids.proofs.Cases.{where_false}
-use Rattle.ov_ids.proofs.Members.{has_append_cases}
+use Rattle.ov_ids.proofs.Members.{has_append_cases, has_append_right}
 use Rattle.ov_ids.proofs.Sets.{IsIn-without}
 use Rattle.ov_ids.specs.Members.{Has, IsDistinct}
 use Rattle.ov_ids.specs.Sets.{IsIn, without, without_all}
 use Rattle.ov_wire.specs.declared.message.Body.TheVariants.{Neighbor}
 use Rattle.ov_views.specs.Neighbourhood.{Neighbourhood}
 use Rattle.ov_views.specs.Sending.{say}
-use Rattle.ov_views.specs.Neighbouring.{GoesOn, gives_up, untried}
+use Rattle.ov_views.specs.Neighbouring.{GoesOn, IsAttempt, gives_up, untried}
 
 -- the next one is asked
 pub asks : (v : Neighbourhood) (tried : List ℕ) (q : ℕ) → gives_up v tried ≡ false → IsIn (untried v tried) q →
@@ -41,6 +42,10 @@ distinct_more (t ∷ ts) q d new = (
   distinct_more ts q d.1 (λ k. new (inr k)),
 )
 
--- the next one is tried once
-pub tried_once : (v : Neighbourhood) (tried : List ℕ) (q : ℕ) → IsDistinct tried → IsIn (untried v tried) q → IsDistinct (tried ++ q ∷ [])
-tried_once v tried q d h = distinct_more tried q d (left_untried tried v.passive q h)
+-- an attempt that asked the next one is as an attempt should be
+pub asked_attempt : (v : Neighbourhood) (tried : List ℕ) (q : ℕ) → IsDistinct tried → IsIn (untried v tried) q → IsAttempt (record { asked = Some q; tried = tried ++ q ∷ [] })
+asked_attempt v tried q d h = record {
+  once = distinct_more tried q d (left_untried tried v.passive q h);
+  among = λ p e. has_append_right tried (q ∷ []) p (inl (same_Some q p e));
+  none = λ e. absurd (none-some q (sym e));
+}

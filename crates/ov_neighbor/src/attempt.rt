@@ -1,9 +1,11 @@
 ghost use Rattle.std.specs.Prelude.{◌≡◌, ◌≤◌, ◌<◌, ◌+◌, [], length, vec_len, vec_capacity, IfOk, OnErr};
 ghost use Rattle.std.specs.List.{AllByRecursion};
 ghost use Rattle.ov_ids.specs.Members.{IsDistinct};
-ghost use Rattle.ov_views.specs.Neighbouring.{AllowedReply, AllowedReport, GoesOn};
+ghost use Rattle.ov_views.specs.Allowed.{Node, Allowed, receives, hears_of_crash};
+ghost use Rattle.ov_views.specs.Neighbouring.{GoesOn, IsAttempt};
 ghost use Rattle.ov_views.specs.Room.{HasRoom};
 ghost use Rattle.ov_wire.specs.Messages.{AreInRange};
+ghost use Rattle.ov_wire.specs.declared.message.Body.TheVariants.{NeighborReply};
 ghost use Rattle.ov_words.specs.Pick.{Drawn};
 
 use ov_ids::{NodeId, OutOfMemory};
@@ -14,7 +16,7 @@ use std::alloc::Global;
 use std::marker::Model;
 
 /// An attempt to find an active member, or none. Contracts see whom it asked and waits for, and whom it has tried in order,
-/// each once.
+/// each once. Who is asked is among the tried, and where nobody is asked nobody is tried.
 #[derive(Drop)]
 pub struct Attempt {
     asked: Option<NodeId>,
@@ -22,18 +24,17 @@ pub struct Attempt {
 }
 
 impl Model for Attempt {
-    ghost use Rattle.ov_ids.specs.Members.{IsDistinct};
-    ghost use Rattle.ov_views.specs.Neighbouring.{Asking};
+    ghost use Rattle.ov_views.specs.Neighbouring.{Asking, IsAttempt};
 
     ghost Value = { Asking };
 
     ghost view = { λ a. record { asked = a.asked; tried = a.tried.items } };
 
-    ghost invariant = { λ a. IsDistinct a.tried.items };
+    ghost invariant = { λ a. IsAttempt (record { asked = a.asked; tried = a.tried.items }) };
 }
 
 impl Attempt {
-    ghost use Rattle.ov_views.specs.Neighbouring.{idle, awaits};
+    ghost use Rattle.ov_views.specs.Neighbouring.{IsAttempt, idle, awaits};
 
     /// No attempt. It takes no memory.
     pub fn new(alloc: Global) -> Attempt
@@ -63,10 +64,10 @@ impl Attempt {
         self.asked
     }
 
-    /// Whom the attempt has tried, in order and nobody twice.
+    /// Whom the attempt has tried, in order and nobody twice. Nobody where there is no attempt.
     pub fn tried(&self) -> &[NodeId]
         ensures value { result.now ≡ self.now.tried }
-        ensures once { IsDistinct self.now.tried }
+        ensures attempt { IsAttempt self.now }
     {
         self.tried.as_slice()
     }
@@ -105,7 +106,7 @@ fn go_on(
     requires once { IsDistinct tried.old.items }
     ensures allowed { Drawn draws.old draws.new (λ choices. GoesOn views.now tried.old.items choices
         (record { asked = result; tried = tried.new.items }) moves.new.sends.items) }
-    ensures once { IsDistinct tried.new.items }
+    ensures attempt { IsAttempt (record { asked = result; tried = tried.new.items }) }
     ensures changes { moves.new.changes ≡ moves.old.changes }
     ensures words { length draws.old ≤ length draws.new + 1 }
     ensures few { vec_len moves.new.sends ≤ 1 }
@@ -147,7 +148,8 @@ pub fn on_reply(
 ) -> Result<Moves, OutOfMemory>
     requires { 40 ≤ length draws.old }
     ensures allowed { IfOk result (λ m. Drawn draws.old draws.new
-        (λ choices. AllowedReply views.old attempt.old from accepted choices views.new attempt.new m.changes.items m.sends.items)) }
+        (λ choices. (n : Node) → Allowed (record n { views = views.old; asking = attempt.old }) (receives from (NeighborReply accepted)) choices
+        (record n { views = views.new; asking = attempt.new }) m.changes.items m.sends.items)) }
     ensures words { length draws.old ≤ length draws.new + 2 }
     ensures few { IfOk result (λ m. vec_len m.sends ≤ 1) }
     ensures ranges { IfOk result (λ m. AllByRecursion (λ s. AreInRange s.1) m.sends.items) }
@@ -191,7 +193,8 @@ pub fn on_report(
 ) -> Result<Moves, OutOfMemory>
     requires { 40 ≤ length draws.old }
     ensures allowed { IfOk result (λ m. Drawn draws.old draws.new
-        (λ choices. AllowedReport views.old attempt.old crashed choices views.new attempt.new m.changes.items m.sends.items)) }
+        (λ choices. (n : Node) → Allowed (record n { views = views.old; asking = attempt.old }) (hears_of_crash crashed) choices
+        (record n { views = views.new; asking = attempt.new }) m.changes.items m.sends.items)) }
     ensures words { length draws.old ≤ length draws.new + 1 }
     ensures few { IfOk result (λ m. vec_len m.sends ≤ 1) }
     ensures ranges { IfOk result (λ m. AllByRecursion (λ s. AreInRange s.1) m.sends.items) }

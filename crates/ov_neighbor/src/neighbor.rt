@@ -1,8 +1,8 @@
 ghost use Rattle.std.specs.Prelude.{◌≡◌, ◌≤◌, ◌+◌, [], length, vec_len, IfOk, OnErr};
 ghost use Rattle.std.specs.List.{AllByRecursion};
-ghost use Rattle.ov_views.specs.Neighbouring.{AllowedNeighbor, AllowedDisconnect};
+ghost use Rattle.ov_views.specs.Allowed.{Node, Allowed, receives};
 ghost use Rattle.ov_views.specs.Sending.{say};
-ghost use Rattle.ov_wire.specs.declared.message.Body.TheVariants.{NeighborReply};
+ghost use Rattle.ov_wire.specs.declared.message.Body.TheVariants.{Neighbor, NeighborReply, Disconnect};
 ghost use Rattle.ov_wire.specs.Messages.{AreInRange};
 ghost use Rattle.ov_words.specs.Pick.{Drawn};
 
@@ -24,7 +24,8 @@ pub fn on_neighbor(
 ) -> Result<Moves, OutOfMemory>
     requires { 40 ≤ length draws.old }
     ensures allowed { IfOk result (λ m. Drawn draws.old draws.new
-        (λ choices. AllowedNeighbor views.old from high choices views.new m.changes.items m.sends.items)) }
+        (λ choices. (n : Node) → Allowed (record n { views = views.old }) (receives from (Neighbor high)) choices
+        (record n { views = views.new }) m.changes.items m.sends.items)) }
     ensures words { length draws.old ≤ length draws.new + 2 }
     ensures few { IfOk result (λ m. vec_len m.sends ≤ 2) }
     ensures ranges { IfOk result (λ m. AllByRecursion (λ s. AreInRange s.1) m.sends.items) }
@@ -65,7 +66,8 @@ pub fn on_disconnect(
 ) -> Result<Moves, OutOfMemory>
     requires { 40 ≤ length draws.old }
     ensures allowed { IfOk result (λ m. Drawn draws.old draws.new
-        (λ choices. AllowedDisconnect views.old from choices views.new m.changes.items m.sends.items)) }
+        (λ choices. (n : Node) → Allowed (record n { views = views.old }) (receives from Disconnect) choices
+        (record n { views = views.new }) m.changes.items m.sends.items)) }
     ensures words { length draws.old ≤ length draws.new + 1 }
     ensures few { IfOk result (λ m. vec_len m.sends ≡ 0) }
     ensures ranges { IfOk result (λ m. AllByRecursion (λ s. AreInRange s.1) m.sends.items) }

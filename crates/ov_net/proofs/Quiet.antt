@@ -10,7 +10,7 @@ use Rattle.ov_wire.specs.declared.message.Message.{Message}
 use Rattle.ov_wire.specs.declared.message.Body.{Body}
 use Rattle.ov_wire.specs.declared.message.Body.TheVariants.{Join, ForwardJoin, Joined, Neighbor, NeighborReply, Disconnect, Shuffle, ShuffleReply, Gossip, IHave, Graft, Prune}
 use Rattle.ov_words.specs.Pick.{Choice}
-use Rattle.ov_views.specs.Allowed.{Node, AllowedMessage}
+use Rattle.ov_views.specs.Allowed.{Node, Allowed, receives}
 use Rattle.ov_views.specs.Joining.{AllowedJoin, AllowedForwardJoin, AllowedJoined, walk_ends}
 use Rattle.ov_views.specs.Neighbourhood.{Neighbourhood, has_place}
 use Rattle.ov_views.specs.Neighbouring.{Asking, AllowedNeighbor, AllowedReply, AllowedDisconnect, AllowedReport, GoesOn, awaits, gives_up}
@@ -81,7 +81,9 @@ module _ (P : MsgId → List ℕ → Type 0) where
   neighbor : (v : Neighbourhood) (s : ℕ) (high : Bool) (cs : List Choice) (w : Neighbourhood) (changes : List ViewChange) (sends : List (ℕ × Message)) → AllowedNeighbor v s high cs w changes sends → AllCarry P sends
   neighbor v s high cs w changes sends =
       either_way (eqb s v.me) _ _ _ (idles v cs w changes sends)
-      (either_way (has v.active s || (high || has_place v)) _ _ _ (λ k. after_farewells v.me changes _ sends (tt, tt) k.1) (λ k. one_send sends _ tt k.2))
+      (either_way (has v.active s) _ _ _ (λ k. one_send sends _ tt k.2)
+      (either_way high _ _ _ (λ k. after_farewells v.me changes _ sends (tt, tt) k.1)
+      (either_way (has_place v) _ _ _ (λ k. after_farewells v.me changes _ sends (tt, tt) k.1) (λ k. one_send sends _ tt k.2))))
 
   goes_on : (v : Neighbourhood) (tried : List ℕ) (cs : List Choice) (b : Asking) (sends : List (ℕ × Message)) → GoesOn v tried cs b sends → AllCarry P sends
   goes_on v tried cs b sends = either_way (gives_up v tried) _ _ _ (λ k. no_sends sends k.2) (λ k. one_send sends _ tt k.3)
@@ -124,7 +126,7 @@ module _ (P : MsgId → List ℕ → Type 0) where
       AllowedShuffleReply v sent s ids cs w changes sends → AllCarry P sends
   shuffle_reply v sent s ids cs w changes sends = either_way (eqb s v.me) _ _ _ (idles v cs w changes sends) (λ k. no_sends sends k.2)
 
-  message : (n : Node) (s : ℕ) (body : Body) (cs : List Choice) (m : Node) (changes : List ViewChange) (sends : List (ℕ × Message)) → AllowedMessage n s body cs m changes sends → AllCarry P sends
+  message : (n : Node) (s : ℕ) (body : Body) (cs : List Choice) (m : Node) (changes : List ViewChange) (sends : List (ℕ × Message)) → Allowed n (receives s body) cs m changes sends → AllCarry P sends
   message n s Join cs m changes sends h = joins n.views s cs m.views changes sends h.1
   message n s (ForwardJoin node ttl) cs m changes sends h = forwards_join n.views s node ttl cs m.views changes sends h.1
   message n s Joined cs m changes sends h = joined n.views s cs m.views changes sends h.1

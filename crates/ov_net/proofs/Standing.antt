@@ -93,7 +93,7 @@ numbered_more (y ∷ journal) k e each last zero x at = each zero x at
 numbered_more (y ∷ journal) k e each last (suc i) x at =
     let r = numbered_more journal (suc k) e (λ j z h. let s = each (suc j) z h in omega (arith, s)) (omega (arith, last)) i x at in omega (arith, r)
 
-pub stands_begun : (params : Limits) → Stands (opening params)
+stands_begun : (params : Limits) → Stands (opening params)
 stands_begun params = record {
   nodes = omega (arith, map.len-empty nat_cmp Member);
   packets = omega arith;
@@ -103,6 +103,13 @@ stands_begun params = record {
   tells = tells_begun params;
   traced = traced_begun params;
 }
+
+pub stands_new : (params : Limits) (nodes : map.FinMap nat_cmp Member) (packets : List (ℕ × Message)) (journal : List Entry) → nodes ≡ map.empty → packets ≡ [] → journal ≡ []
+    → Stands (record { net = record { params = params; nodes = nodes; packets = packets }; journal = journal })
+stands_new params nodes packets journal n p j =
+    let e : ◌≡◌ {A = Chronicle} (record { net = record { params = params; nodes = nodes; packets = packets }; journal = journal }) (opening params) =
+        λ i. record { net = record { params = params; nodes = n i; packets = p i }; journal = j i } in
+    subst Stands (sym e) (stands_begun params)
 
 pub stands_kept : (c : Chronicle) (event : Event) (words : List ℕ) (u : Net) (e : Entry) → Stands c → Judged c.net (length c.journal) event None → NetStep c.net event words u e
     → e.number ≡ length c.journal + 1 → length u.packets ≤ 65536 → Stands (record { net = u; journal = c.journal ++ e ∷ [] })

@@ -26,7 +26,7 @@ views_rest n choices m changes h = record {
 -- HyParView's part of a step goes along with the changes that are told
 views_tracked : (n : Node) (i : Input) (choices : List Choice) (m : Node) (changes : List ViewChange) (heard : List (ℕ × Message)) → NodePart n i choices m changes heard → Tracks n.views changes m.views
 views_tracked n (input.Boot contact) choices m changes heard h = tracked n (boots contact) choices m changes heard h
-views_tracked n (input.Receive message) choices m changes heard h = tracked n (hears message) choices m changes heard h
+views_tracked n (input.Receive message) choices m changes heard h = tracked n (hears message.from message.body) choices m changes heard h
 views_tracked n (input.Report p) choices m changes heard h = tracked n (hears_of_crash p) choices m changes heard h
 views_tracked n input.Shuffle choices m changes heard h = tracked n shuffles choices m changes heard h
 views_tracked n (input.Broadcast payload) choices m changes heard h = views_rest n choices m changes h.0

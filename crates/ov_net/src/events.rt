@@ -24,7 +24,7 @@ impl World {
     pub(crate) fn brings(&self, event: &Event, words: &Words) -> Result<Brought, OutOfMemory>
         requires { Judged self.now.net (length self.now.journal) event.now None }
         ensures happens { IfOk result (λ b. Happens self.now.net event.now words.now (after self.now.net b) b.changes b.delivery) }
-        ensures few { length self.now.net.packets ≤ 65536 → IfOk result (λ b. length (after self.now.net b).packets ≤ 65536) }
+        ensures few { IfOk result (λ b. length (after self.now.net b).packets ≤ 65536) }
         ensures within { IfOk result (λ b. IsWithin b.taken self.now.net.packets) }
     {
         match event {

@@ -56,7 +56,6 @@ impl Model for World {
 
 impl World {
     /// A world in which nothing happened. It takes no memory.
-    #[tactic(auto, using(crate::proofs::Standing::stands_begun))]
     pub fn new(alloc: Global, params: Params) -> World
         ensures { result ≡ opening params }
     {

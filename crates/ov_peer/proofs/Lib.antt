@@ -2,3 +2,4 @@ pub mod Linking
 mod Counts
 mod Changing
 pub mod Steps
+mod Handed

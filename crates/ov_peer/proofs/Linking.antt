@@ -1,16 +1,9 @@
 -- Who is a neighbour after a step of the tree.
-use Rattle.std.proofs.Common.{◌≡◌, ℕ, Bool, true, false, cond, not, ◌||◌, ◌&&◌, List, [], ◌∷◌, refl, sym, ap, subst, ◌∙◌, eqb, arith}
+use Rattle.std.proofs.Common.{◌≡◌, ℕ, Bool, true, false, cond, not, ◌||◌, ◌&&◌, refl, sym, ap, subst, ◌∙◌, eqb}
 use Rattle.std.proofs.lemmas.Bool.{eqb-true}
 use Rattle.ov_ids.specs.Sets.{has, adding, without}
+use Rattle.ov_ids.proofs.Sets.{has_adding, has_without}
 use Rattle.ov_plum.specs.Tree.{Branches, is_linked, up, down, makes_eager, makes_lazy}
-
-pub has_adding : (x : ℕ) (t : List ℕ) (z : ℕ) → has (adding x t) z ≡ (eqb x z || has t z)
-has_adding x [] z = refl
-has_adding x (y ∷ t) z = grind (arith, has_adding x t z)
-
-pub has_without : (x : ℕ) (t : List ℕ) (z : ℕ) → has (without x t) z ≡ (has t z && not (eqb x z))
-has_without x [] z = refl
-has_without x (y ∷ t) z = grind (arith, has_without x t z)
 
 up_law : (e p q : Bool) → ((e || p) || (q && not e)) ≡ (e || (p || q))
 up_law true p q = refl

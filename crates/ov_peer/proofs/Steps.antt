@@ -5,6 +5,7 @@ use Rattle.std.specs.FinMap as map
 use Rattle.ov_ids.specs.Sets.{has, adding, without}
 use Rattle.ov_ids.specs.declared.id.MsgId.{MsgId}
 use Rattle.ov_ids.proofs.Cases.{either_way}
+use Rattle.ov_ids.proofs.Sets.{has_adding, has_without}
 use Rattle.ov_wire.specs.Messages.{kind_of}
 use Rattle.ov_wire.specs.declared.message.Message.{Message}
 use Rattle.ov_wire.specs.declared.message.Body.{Body}
@@ -23,7 +24,7 @@ use Rattle.ov_peer.specs.Whole.{Whole, IsWhole}
 use Rattle.ov_peer.specs.Step.{NodePart, TreePart, Told, PeerStep, delivery_at}
 use Rattle.ov_peer.specs.declared.input.Input.{Input}
 use Rattle.ov_peer.specs.declared.input.Output.{Output}
-use Rattle.ov_peer.proofs.Linking.{has_adding, has_without, linked_up, linked_down, linked_eager, linked_lazy}
+use Rattle.ov_peer.proofs.Linking.{linked_up, linked_down, linked_eager, linked_lazy}
 
 -- a node of these parts
 abbrev pub whole_of : Neighbourhood → Asking → List ℕ → Tree → Whole

@@ -18,7 +18,7 @@ use Rattle.ov_peer.specs.declared.input.Delivery.{Delivery}
 -- HyParView's part of a step. A broadcast and a timer are nothing to it
 abbrev pub NodePart : Node → Input → List Choice → Node → List ViewChange → List (ℕ × Message) → Type 0
 NodePart n (Boot contact) choices m changes sends = Allowed n (boots contact) choices m changes sends
-NodePart n (Receive message) choices m changes sends = Allowed n (hears message) choices m changes sends
+NodePart n (Receive message) choices m changes sends = Allowed n (hears message.from message.body) choices m changes sends
 NodePart n (Report p) choices m changes sends = Allowed n (hears_of_crash p) choices m changes sends
 NodePart n input.Shuffle choices m changes sends = Allowed n shuffles choices m changes sends
 NodePart n (Broadcast payload) choices m changes sends = Rests n choices m changes × (sends ≡ [])

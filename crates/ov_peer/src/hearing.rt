@@ -2,7 +2,7 @@ ghost use Rattle.std.specs.Prelude.{◌≡◌, ◌≤◌, ◌+◌, length, vec_l
 ghost use Rattle.std.specs.List.{AllByRecursion};
 ghost use Rattle.ov_wire.specs.Messages.{AreInRange};
 ghost use Rattle.ov_words.specs.Pick.{Drawn};
-ghost use Rattle.ov_views.specs.Allowed.{AllowedMessage};
+ghost use Rattle.ov_views.specs.Allowed.{Allowed, receives};
 
 use ov_ids::{NodeId, OutOfMemory};
 use ov_neighbor::Attempt;
@@ -24,8 +24,8 @@ pub(crate) fn hear(
 ) -> Result<Moves, OutOfMemory>
     requires words { 40 ≤ length draws.old }
     requires range { AreInRange (record { from = from; body = body.now }) }
-    ensures allowed { IfOk result (λ m. Drawn draws.old draws.new (λ choices. AllowedMessage
-        (record { views = views.old; asking = attempt.old; sent = sent.now }) from body.now choices
+    ensures allowed { IfOk result (λ m. Drawn draws.old draws.new (λ choices. Allowed
+        (record { views = views.old; asking = attempt.old; sent = sent.now }) (receives from body.now) choices
         (record { views = views.new; asking = attempt.new; sent = sent.now }) m.changes.items m.sends.items)) }
     ensures words { length draws.old ≤ length draws.new + 40 }
     ensures few { IfOk result (λ m. vec_len m.sends ≤ 17) }

@@ -1,32 +1,16 @@
 -- How many words a list of ids takes that is integrated after a sample: every sampled member saves one.
-use Rattle.std.proofs.Common.{◌≡◌, ℕ, suc, ◌≢◌, ◌≤◌, ◌+◌, ◌⊎◌, inl, inr, true, false, cond, List, [], ◌∷◌, ◌++◌, length, eqb, ltb, refl, sym, ap, ◌∙◌, subst, arith}
+use Rattle.std.proofs.Common.{◌≡◌, ℕ, suc, ◌≤◌, ◌+◌, ◌⊎◌, inl, inr, true, false, List, [], ◌∷◌, ◌++◌, length, refl, sym, ap, ◌∙◌, subst, arith}
 use Rattle.std.proofs.lemmas.List.{length-append}
-use Rattle.std.proofs.lemmas.Bool.{or_cases, or_left, or_right}
 use Rattle.std.specs.Prelude.{MatchBool}
 use Rattle.ov_ids.specs.Members.{Has, IsApart}
 use Rattle.ov_ids.specs.Sets.{has, IsIn, adding, without}
 use Rattle.ov_ids.proofs.Members.{has_tested}
-use Rattle.ov_ids.proofs.Sets.{IsIn-without}
+use Rattle.ov_ids.proofs.Sets.{IsIn-added, IsIn-kept, IsIn-without}
 use Rattle.ov_words.specs.Pick.{Choice, AreDrawn}
 use Rattle.ov_words.proofs.PickLemmas.{length-AreDrawn}
 use Rattle.ov_views.specs.Neighbourhood.{Neighbourhood, is_known, has_passive_place}
 use Rattle.ov_views.specs.Changes.{Keeps, Chosen}
 use Rattle.ov_views.specs.Shuffle.{AreChosen, Samples, GivesUp, TakesIn, Integrates}
-
-IsIn-added : (x : ℕ) (t : List ℕ) (z : ℕ) → IsIn t z → IsIn (adding x t) z
-IsIn-added x [] z h = cc
-IsIn-added x (y ∷ t) z h =
-    elim (ltb x y) as (λ b. IsIn (cond b (x ∷ y ∷ t) (y ∷ cond (ltb y x) (adding x t) t)) z) [
-      | true ↦ or_right (eqb x z) _ h
-      | false ↦ elim (or_cases (eqb y z) (has t z) h) [
-        | inl e ↦ or_left (eqb y z) _ e
-        | inr k ↦ or_right (eqb y z) _ (elim (ltb y x) as (λ b. IsIn (cond b (adding x t) t) z) [ true ↦ IsIn-added x t z k | false ↦ k ])
-      ]
-    ]
-
-IsIn-kept : (x : ℕ) (t : List ℕ) (z : ℕ) → z ≢ x → IsIn t z → IsIn (without x t) z
-IsIn-kept x [] z ne h = h
-IsIn-kept x (y ∷ t) z ne h = grind (arith, IsIn-kept x t z ne)
 
 -- these are members of the set, none twice
 abbrev AreMembers : List ℕ → List ℕ → Type 0

@@ -9,7 +9,9 @@ ghost use Rattle.std.specs.Prelude.{◌≡◌, ◌≤◌, ◌<◌, ◌+◌, ◌+
 ghost use Rattle.std.specs.List.{AllByRecursion};
 ghost use Rattle.ov_wire.specs.Messages.{AreInRange};
 ghost use Rattle.ov_words.specs.Pick.{Drawn};
-ghost use Rattle.ov_views.specs.Shuffling.{walks_on, AllowedStart, AllowedShuffle, AllowedShuffleReply};
+ghost use Rattle.ov_views.specs.Allowed.{Node, Allowed, receives, shuffles};
+ghost use Rattle.ov_views.specs.Shuffling.{walks_on};
+ghost use Rattle.ov_wire.specs.declared.message.Body.TheVariants.{Shuffle, ShuffleReply};
 
 mod sent;
 #[cfg(test)]
@@ -33,7 +35,8 @@ pub fn start(
 ) -> Result<Moves, OutOfMemory>
     requires { 40 ≤ length draws.old }
     ensures allowed { IfOk result (λ m. Drawn draws.old draws.new
-        (λ choices. AllowedStart views.now sent.old choices sent.new m.sends.items)) }
+        (λ choices. (n : Node) → Allowed (record n { views = views.now; sent = sent.old }) shuffles choices
+        (record n { views = views.now; sent = sent.new }) m.changes.items m.sends.items)) }
     ensures changes { IfOk result (λ m. m.changes.items ≡ []) }
     ensures words { length draws.old ≤ length draws.new + 17 }
     ensures few { IfOk result (λ m. vec_len m.sends ≤ 1) }
@@ -106,7 +109,8 @@ pub fn on_shuffle(
     requires ttl { ttl ≤ 15 }
     requires ids { length ids.now ≤ 17 }
     ensures allowed { IfOk result (λ m. Drawn draws.old draws.new
-        (λ choices. AllowedShuffle views.old from origin ttl ids.now choices views.new m.changes.items m.sends.items)) }
+        (λ choices. (n : Node) → Allowed (record n { views = views.old }) (receives from (Shuffle origin ttl ids.now)) choices
+        (record n { views = views.new }) m.changes.items m.sends.items)) }
     ensures words { length draws.old ≤ length draws.new + 17 }
     ensures few { IfOk result (λ m. vec_len m.sends ≤ 1) }
     ensures ranges { IfOk result (λ m. AllByRecursion (λ s. AreInRange s.1) m.sends.items) }
@@ -165,7 +169,8 @@ pub fn on_reply(
     requires words { 40 ≤ length draws.old }
     requires ids { length ids.now ≤ 17 }
     ensures allowed { IfOk result (λ m. Drawn draws.old draws.new
-        (λ choices. AllowedShuffleReply views.old sent.now from ids.now choices views.new m.changes.items m.sends.items)) }
+        (λ choices. (n : Node) → Allowed (record n { views = views.old; sent = sent.now }) (receives from (ShuffleReply ids.now)) choices
+        (record n { views = views.new; sent = sent.now }) m.changes.items m.sends.items)) }
     ensures words { length draws.old ≤ length draws.new + 17 }
     ensures none { IfOk result (λ m. vec_len m.sends ≡ 0) }
     ensures err { OnErr result ((views.new ≡ views.old) × (draws.new ≡ draws.old)) }

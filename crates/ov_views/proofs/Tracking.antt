@@ -1,6 +1,6 @@
 -- The active view goes along with the changes that are told, at every step that a node may do.
-use Rattle.std.proofs.Common.{◌≡◌, ℕ, Bool, true, false, List, [], ◌∷◌, ◌++◌, ◌||◌, ◌≤◌, length, length-append, arith, refl, sym, ap, ◌∙◌, eqb, ltb, nat_lt, nat_le, not, Option, None, Some}
-use Rattle.std.specs.Prelude.{MatchBool, ◌&&◌}
+use Rattle.std.proofs.Common.{◌≡◌, ℕ, Bool, true, false, List, [], ◌∷◌, ◌++◌, ◌||◌, ◌≤◌, length, length-append, arith, refl, sym, ap, ◌∙◌, eqb, not, None, Some}
+use Rattle.std.specs.Prelude.{MatchBool}
 use Rattle.ov_ids.specs.Sets.{has, adding, without}
 use Rattle.ov_ids.proofs.Cases.{either_way}
 use Rattle.ov_ids.proofs.Sets.{without_absent}
@@ -9,13 +9,13 @@ use Rattle.ov_wire.specs.declared.message.Body.{Body}
 use Rattle.ov_wire.specs.declared.message.Body.TheVariants.{Join, ForwardJoin, Joined, Neighbor, NeighborReply, Disconnect, Shuffle, ShuffleReply, Gossip, IHave, Graft, Prune}
 use Rattle.ov_words.specs.Pick.{Choice}
 use Rattle.ov_views.specs.Neighbourhood.{Neighbourhood, has_place, has_passive_place, is_close, is_known}
-use Rattle.ov_views.specs.Changes.{Keeps, Chosen, AddsPassive, DropsRandom, MakesRoom, AddsActive, GoesDown, RemovesActive, Forgets, after_changes}
-use Rattle.ov_views.specs.Shuffle.{TakesIn, GivesUp, Integrates}
+use Rattle.ov_views.specs.Changes.{AddsPassive, DropsRandom, MakesRoom, AddsActive, GoesDown, RemovesActive, Forgets, after_changes}
+use Rattle.ov_views.specs.Shuffle.{TakesIn, Integrates}
 use Rattle.ov_views.specs.Sending.{Idles}
-use Rattle.ov_views.specs.Joining.{AllowedJoin, AllowedForwardJoin, AllowedJoined, Remembers, walk_ends}
-use Rattle.ov_views.specs.Neighbouring.{Asking, AllowedNeighbor, AllowedReply, AllowedDisconnect, AllowedReport, awaits}
-use Rattle.ov_views.specs.Shuffling.{AllowedShuffle, AllowedShuffleReply, walks_on}
-use Rattle.ov_views.specs.Allowed.{Node, Prompt, boots, receives, hears_of_crash, shuffles, Rests, AllowedMessage, Allowed}
+use Rattle.ov_views.specs.Joining.{Remembers, walk_ends}
+use Rattle.ov_views.specs.Neighbouring.{awaits}
+use Rattle.ov_views.specs.Shuffling.{walks_on}
+use Rattle.ov_views.specs.Allowed.{Node, Prompt, boots, receives, hears_of_crash, shuffles, Allowed}
 use Rattle.ov_views.specs.declared.change.ViewChange.{ViewChange}
 use Rattle.ov_views.specs.declared.change.ViewChange.TheVariants.{Up, Down}
 use Rattle.ov_views.proofs.Keeping.{AddsPassive-keeps}
@@ -103,7 +103,7 @@ with_none v w changes none t = quiet v w changes t.me t.active none
 remembered : (v : Neighbourhood) (n ttl : ℕ) (cs : List Choice) (w : Neighbourhood) → Remembers v n ttl cs w → Tracks v [] w
 remembered v n ttl cs w = either_way (eqb ttl v.params.prwl) _ _ _ (λ k. passive v n cs w [] k refl) (λ k. still v w [] k.1 refl)
 
-message : (n : Node) (s : ℕ) (body : Body) (cs : List Choice) (m : Node) (changes : List ViewChange) (sends : List (ℕ × Message)) → AllowedMessage n s body cs m changes sends → Tracks n.views changes m.views
+message : (n : Node) (s : ℕ) (body : Body) (cs : List Choice) (m : Node) (changes : List ViewChange) (sends : List (ℕ × Message)) → Allowed n (receives s body) cs m changes sends → Tracks n.views changes m.views
 message n s Join cs m changes sends h =
     either_way (eqb s n.views.me) _ _ _ (idle n.views cs m.views changes sends) (λ k. enters n.views s cs m.views changes k.0) h.1
 message n s (ForwardJoin node ttl) cs m changes sends h =
@@ -114,7 +114,9 @@ message n s Joined cs m changes sends h =
     either_way (eqb s n.views.me) _ _ _ (idle n.views cs m.views changes sends) (λ k. enters n.views s cs m.views changes k.0) h.1
 message n s (Neighbor high) cs m changes sends h =
     either_way (eqb s n.views.me) _ _ _ (idle n.views cs m.views changes sends)
-    (either_way (has n.views.active s || (high || has_place n.views)) _ _ _ (λ k. enters n.views s cs m.views changes k.0) (λ k. still n.views m.views changes k.0.1 k.1)) h.1
+    (either_way (has n.views.active s) _ _ _ (λ k. still n.views m.views changes k.0.1 k.1)
+    (either_way high _ _ _ (λ k. enters n.views s cs m.views changes k.0)
+    (either_way (has_place n.views) _ _ _ (λ k. enters n.views s cs m.views changes k.0) (λ k. still n.views m.views changes k.0.1 k.1)))) h.1
 message n s (NeighborReply accepted) cs m changes sends h =
     either_way (eqb s n.views.me) _ _ _ (λ k. idle n.views cs m.views changes sends k.0)
     (either_way (awaits n.asking s) _ _ _
@@ -140,6 +142,6 @@ message n s Prune cs m changes sends h = still n.views m.views changes (ap (λ (
 pub tracked : (n : Node) (p : Prompt) (cs : List Choice) (m : Node) (changes : List ViewChange) (sends : List (ℕ × Message)) → Allowed n p cs m changes sends → Tracks n.views changes m.views
 tracked n (boots None) cs m changes sends h = still n.views m.views changes (ap (λ (u : Node). u.views) h.0.1) h.0.2
 tracked n (boots (Some contact)) cs m changes sends h = still n.views m.views changes (ap (λ (u : Node). u.views) h.0.1) h.0.2
-tracked n (receives msg) cs m changes sends h = message n msg.from msg.body cs m changes sends h
+tracked n (receives s body) cs m changes sends h = message n s body cs m changes sends h
 tracked n (hears_of_crash p) cs m changes sends h = forgets n.views p m.views changes h.1.0
 tracked n shuffles cs m changes sends h = still n.views m.views changes h.0 h.2

@@ -13,7 +13,7 @@ use Rattle.ov_views.specs.declared.change.ViewChange.{ViewChange}
 
 -- FORWARDJOIN of the new node to each of these
 abbrev pub forwards : ℕ → ℕ → ℕ → List ℕ → List (ℕ × Message)
-forwards me node ttl members = map (λ b. (b, say me (ForwardJoin node ttl))) members
+forwards me node ttl members = map (λ target. (target, say me (ForwardJoin node ttl))) members
 
 -- JOIN from s: s becomes active and is told JOINED, and every other active member hears of it by FORWARDJOIN with ARWL steps
 abbrev pub AllowedJoin : Neighbourhood → ℕ → List Choice → Neighbourhood → List ViewChange → List (ℕ × Message) → Type 0
@@ -41,10 +41,10 @@ AllowedForwardJoin v s n ttl choices w changes sends =
     MatchBool ((s == v.me) || (n == v.me)) (Idles v choices w changes sends)
     (MatchBool (walk_ends v s n ttl)
     (AddsActive v n choices w changes × (sends ≡ farewells v.me changes ++ (n, say v.me Joined) ∷ []))
-    ((first : List Choice) × (last : List Choice) × (b : ℕ) × (choices ≡ first ++ last)
+    ((first : List Choice) × (last : List Choice) × (target : ℕ) × (choices ≡ first ++ last)
     × Remembers v n ttl first w
-    × Chosen (walk_targets v s n) b last []
-    × (changes ≡ []) × (sends ≡ (b, say v.me (ForwardJoin n (ttl - 1))) ∷ [])))
+    × Chosen (walk_targets v s n) target last []
+    × (changes ≡ []) × (sends ≡ (target, say v.me (ForwardJoin n (ttl - 1))) ∷ [])))
 
 -- JOINED from s: s becomes active
 abbrev pub AllowedJoined : Neighbourhood → ℕ → List Choice → Neighbourhood → List ViewChange → List (ℕ × Message) → Type 0

@@ -17,14 +17,14 @@ use Rattle.ov_views.specs.declared.change.ViewChange.{ViewChange}
 abbrev pub AllowedStart : Neighbourhood → List ℕ → List Choice → List ℕ → List (ℕ × Message) → Type 0
 AllowedStart v sent choices kept sends =
     MatchBool (length v.active == 0) ((choices ≡ []) × (kept ≡ sent) × (sends ≡ []))
-    ((b : ℕ) × (rest : List Choice) × (first : List Choice) × (last : List Choice) × (near : List ℕ) × (far : List ℕ)
-    × Chosen v.active b choices rest × (rest ≡ first ++ last)
+    ((target : ℕ) × (rest : List Choice) × (first : List Choice) × (last : List Choice) × (near : List ℕ) × (far : List ℕ)
+    × Chosen v.active target choices rest × (rest ≡ first ++ last)
     × Samples v.active v.params.ka first near × Samples v.passive v.params.kp last far
-    × (kept ≡ v.me ∷ (near ++ far)) × (sends ≡ (b, say v.me (Shuffle v.me v.params.shuffle_ttl kept)) ∷ []))
+    × (kept ≡ v.me ∷ (near ++ far)) × (sends ≡ (target, say v.me (Shuffle v.me v.params.shuffle_ttl kept)) ∷ []))
 
--- the walk of a shuffle goes on: a step is left after this one, and more than one member is active
+-- the walk of a shuffle goes on: a step is left after this one, and more than one member is active. From 0 steps none are left
 abbrev pub walks_on : Neighbourhood → ℕ → Bool
-walks_on v ttl = nat_lt 1 ttl && nat_lt 1 (length v.active)
+walks_on v ttl = nat_lt 0 (ttl - 1) && nat_lt 1 (length v.active)
 
 -- SHUFFLE of o, from s: it walks on with one step less to a random active member other than s, or ends here. Where it ends,
 -- and o is not the node itself, o gets as many passive members as the list is long, or all, and then the list is integrated
@@ -32,7 +32,7 @@ abbrev pub AllowedShuffle : Neighbourhood → ℕ → ℕ → ℕ → List ℕ �
 AllowedShuffle v s o ttl ids choices w changes sends =
     MatchBool (s == v.me) (Idles v choices w changes sends)
     (MatchBool (walks_on v ttl)
-    ((b : ℕ) × Chosen (without s v.active) b choices [] × (w ≡ v) × (changes ≡ []) × (sends ≡ (b, say v.me (Shuffle o (ttl - 1) ids)) ∷ []))
+    ((target : ℕ) × Chosen (without s v.active) target choices [] × (w ≡ v) × (changes ≡ []) × (sends ≡ (target, say v.me (Shuffle o (ttl - 1) ids)) ∷ []))
     (MatchBool (o == v.me) (Idles v choices w changes sends)
     ((first : List Choice) × (last : List Choice) × (those : List ℕ) × (choices ≡ first ++ last)
     × Samples v.passive (length ids) first those × Integrates v ids those last w

@@ -1,4 +1,4 @@
-use Rattle.std.proofs.Common.{◌≡◌, ◌++◌, ◌∷◌, [], length, eqb, false, true, sym, ◌∙◌, ◌≤◌, ◌+◌, arith}
+use Rattle.std.proofs.Common.{◌≡◌, ◌++◌, ◌∷◌, [], length, eqb, false, true, refl, sym, ◌∙◌, ◌≤◌, ◌+◌, arith}
 use Rattle.ov_ids.specs.Sets.{without}
 use Rattle.ov_words.proofs.PickLemmas.{AreDrawn-append}
 use Rattle.ov_views.specs.Shuffling.{walks_on}
@@ -16,8 +16,11 @@ returns-then-walks_on-clause-allowed c =
     let drawn = rw set at c.in-Some.ensures.drawn in (
       record { from = without c.args.from v.active; member = c.in-Some.to } ∷ [],
       drawn,
-      rw (c.send.ensures.sends, c.send.ensures.changes, c.in_ok-moves.ensures.sends, c.in_ok-moves.ensures.changes, c.me-me.ensures.value, c.new.ensures, c.append.ensures.items, c.in_ok-list.ensures.items)
-          (walks v c.args.from c.args.origin c.args.ttl c.args.ids.now c.in-Some.to other on h),
+      (λ node. (
+        (refl, refl),
+        rw (c.send.ensures.sends, c.send.ensures.changes, c.in_ok-moves.ensures.sends, c.in_ok-moves.ensures.changes, c.me-me.ensures.value, c.new.ensures, c.append.ensures.items, c.in_ok-list.ensures.items)
+            (walks v c.args.from c.args.origin c.args.ttl c.args.ids.now c.in-Some.to other on h),
+      )),
     )
 
 pub returns-clause-allowed : goal.returns-clause-allowed
@@ -31,8 +34,11 @@ returns-clause-allowed c =
     let g = rw c.as_slice-3.ensures.value at c.integrate.ensures.drawn in (
       s.0 ++ g.0,
       AreDrawn-append s.0 g.0 _ _ _ s.1 g.1,
-      rw (c.send-2.ensures.sends, c.send-2.ensures.changes, c.in_ok-moves.ensures.sends, c.in_ok-moves.ensures.changes, c.me-me.ensures.value, c.new-2.ensures, c.append-2.ensures.items, c.in_ok-list.ensures.items, c.as_slice-2.ensures.value)
-          (ends v _ c.args.from c.args.origin c.args.ttl c.args.ids.now those s.0 g.0 other on foreign s.2 g.2),
+      (λ node. (
+        (refl, refl),
+        rw (c.send-2.ensures.sends, c.send-2.ensures.changes, c.in_ok-moves.ensures.sends, c.in_ok-moves.ensures.changes, c.me-me.ensures.value, c.new-2.ensures, c.append-2.ensures.items, c.in_ok-list.ensures.items, c.as_slice-2.ensures.value)
+            (ends v _ c.args.from c.args.origin c.args.ttl c.args.ids.now those s.0 g.0 other on foreign s.2 g.2),
+      )),
     )
 
 pub returns-clause-words : goal.returns-clause-words

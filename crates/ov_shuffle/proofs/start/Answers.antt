@@ -22,6 +22,11 @@ returns-clause-allowed c =
     let listed : c.new.result ≡ c.keep.new.self = rw (c.new.ensures, c.write-2.ensures, c.as_slice-3.ensures.value, c.as_slice-4.ensures.value, c.me-me.ensures.value, kept) refl in (
       one ++ (near.0 ++ far.0),
       AreDrawn-append one (near.0 ++ far.0) _ _ _ picked (AreDrawn-append near.0 far.0 _ _ _ near.1 far.1),
-      rw (c.send.ensures.sends, c.in_ok-moves.ensures.sends, listed, ttl, c.me-me.ensures.value)
-          (starts v c.args.sent.now c.in-Some.to near.0 far.0 c.sample-near.result c.sample-far.result c.keep.new.self h near.2 far.2 kept),
+      (λ node. (
+        refl,
+        refl,
+        rw (c.send.ensures.changes, c.in_ok-moves.ensures.changes) refl,
+        rw (c.send.ensures.sends, c.in_ok-moves.ensures.sends, listed, ttl, c.me-me.ensures.value)
+            (starts v c.args.sent.now c.in-Some.to near.0 far.0 c.sample-near.result c.sample-far.result c.keep.new.self h near.2 far.2 kept),
+      )),
     )

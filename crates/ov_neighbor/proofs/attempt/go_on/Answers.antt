@@ -3,7 +3,7 @@ use Rattle.std.proofs.lemmas.Bool.{ne_eqb}
 use Rattle.ov_ids.specs.Sets.{without_all}
 use Rattle.ov_views.specs.Neighbourhood.{has_place}
 use Rattle.ov_views.specs.Neighbouring.{gives_up, untried}
-use Rattle.ov_neighbor.proofs.Asking.{asks, tried_once}
+use Rattle.ov_neighbor.proofs.Asking.{asks, asked_attempt}
 use Rattle.ov_neighbor.proofs.attempt.go_on.Goals as goal
 
 pub returns-clause-allowed : goal.returns-clause-allowed
@@ -21,11 +21,11 @@ returns-clause-allowed c =
     let high : c.is_empty.result ≡ eqb (length v.active) 0 = c.is_empty.ensures ∙ ap (λ (xs : List _). eqb (length xs) 0) c.active.ensures.value in
     (record { from = untried v tried; member = c.in-Some.next } ∷ [], drawn, rw (pushed, c.send.ensures.sends, c.requires.none, c.me.ensures.value, high) (asks v tried c.in-Some.next on h))
 
-pub returns-clause-once : goal.returns-clause-once
-returns-clause-once c =
+pub returns-clause-attempt : goal.returns-clause-attempt
+returns-clause-attempt c =
     let v = c.args.views.now in
     let tried = c.args.tried.now.items in
     let set : c.all_but-untried.result ≡ untried v tried = c.all_but-untried.ensures.value ∙ ap (λ (ts : List _). without_all ts v.passive) c.as_slice.ensures.value in
     let h = rw (c.as_slice-2.ensures.value ∙ set) at c.in-Some.ensures.member in
     let pushed = rw (c.push.ensures.succeeds c.requires.room) at c.push.ensures.items in
-    rw pushed (tried_once v tried c.in-Some.next c.requires.once h)
+    rw pushed (asked_attempt v tried c.in-Some.next c.requires.once h)

@@ -1,3 +1,6 @@
+use Rattle.std.proofs.Common.{◌≤◌, length, subst, ap, ◌∙◌}
+use Rattle.ov_net.specs.World.{Chronicle}
+use Rattle.ov_net.specs.declared.brought.Brought.{Brought}
 use Rattle.ov_net.proofs.Bringing.{each_ok, at_event, at_any, broadcast_short, few_sent, none_sent}
 use Rattle.ov_net.proofs.world.World.brings.Goals as goal
 
@@ -26,28 +29,33 @@ pub broadcast-requires-clause-payload : goal.broadcast-requires-clause-payload
 broadcast-requires-clause-payload c = broadcast_short c.args.self.now.net _ c.args.event.now _ _ c.in-Broadcast.is c.requires
 
 pub returns-in-Boot-clause-few : goal.returns-in-Boot-clause-few
-returns-in-Boot-clause-few c = λ small. each_ok c.boot.result (λ b h. few_sent c.args.self.now.net _ c.args.event.now _ b c.in-Boot.is tt c.requires h) c.boot.ensures.few
+returns-in-Boot-clause-few c = each_ok c.boot.result (λ b h. few_sent c.args.self.now.net _ c.args.event.now _ b c.in-Boot.is tt c.requires h) c.boot.ensures.few
 
 pub returns-in-Deliver-clause-few : goal.returns-in-Deliver-clause-few
-returns-in-Deliver-clause-few c = λ small. each_ok c.deliver.result (λ b h. few_sent c.args.self.now.net _ c.args.event.now _ b c.in-Deliver.is tt c.requires h) c.deliver.ensures.few
+returns-in-Deliver-clause-few c = each_ok c.deliver.result (λ b h. few_sent c.args.self.now.net _ c.args.event.now _ b c.in-Deliver.is tt c.requires h) c.deliver.ensures.few
 
 pub returns-in-Repeat-clause-few : goal.returns-in-Repeat-clause-few
-returns-in-Repeat-clause-few c = λ small. each_ok c.repeat.result (λ b h. few_sent c.args.self.now.net _ c.args.event.now _ b c.in-Repeat.is tt c.requires h) c.repeat.ensures.few
+returns-in-Repeat-clause-few c = each_ok c.repeat.result (λ b h. few_sent c.args.self.now.net _ c.args.event.now _ b c.in-Repeat.is tt c.requires h) c.repeat.ensures.few
 
 pub returns-in-Report-clause-few : goal.returns-in-Report-clause-few
-returns-in-Report-clause-few c = λ small. each_ok c.report.result (λ b h. few_sent c.args.self.now.net _ c.args.event.now _ b c.in-Report.is tt c.requires h) c.report.ensures.few
+returns-in-Report-clause-few c = each_ok c.report.result (λ b h. few_sent c.args.self.now.net _ c.args.event.now _ b c.in-Report.is tt c.requires h) c.report.ensures.few
 
 pub returns-in-Shuffle-clause-few : goal.returns-in-Shuffle-clause-few
-returns-in-Shuffle-clause-few c = λ small. each_ok c.shuffle.result (λ b h. few_sent c.args.self.now.net _ c.args.event.now _ b c.in-Shuffle.is tt c.requires h) c.shuffle.ensures.few
+returns-in-Shuffle-clause-few c = each_ok c.shuffle.result (λ b h. few_sent c.args.self.now.net _ c.args.event.now _ b c.in-Shuffle.is tt c.requires h) c.shuffle.ensures.few
 
 pub returns-in-Broadcast-clause-few : goal.returns-in-Broadcast-clause-few
-returns-in-Broadcast-clause-few c = λ small. each_ok c.broadcast.result (λ b h. few_sent c.args.self.now.net _ c.args.event.now _ b c.in-Broadcast.is tt c.requires h) c.broadcast.ensures.few
+returns-in-Broadcast-clause-few c = each_ok c.broadcast.result (λ b h. few_sent c.args.self.now.net _ c.args.event.now _ b c.in-Broadcast.is tt c.requires h) c.broadcast.ensures.few
 
 pub returns-in-Timer-clause-few : goal.returns-in-Timer-clause-few
-returns-in-Timer-clause-few c = λ small. each_ok c.timer.result (λ b h. few_sent c.args.self.now.net _ c.args.event.now _ b c.in-Timer.is tt c.requires h) c.timer.ensures.few
+returns-in-Timer-clause-few c = each_ok c.timer.result (λ b h. few_sent c.args.self.now.net _ c.args.event.now _ b c.in-Timer.is tt c.requires h) c.timer.ensures.few
 
 pub returns-in-Lose-clause-few : goal.returns-in-Lose-clause-few
-returns-in-Lose-clause-few c = λ small. each_ok c.lose.result (λ b h. none_sent c.args.self.now.net b h small) c.lose.ensures.none
+returns-in-Lose-clause-few c = each_ok c.lose.result (λ b h. none_sent c.args.self.now.net b h (subst (λ (w : Chronicle). length w.net.packets ≤ 65536) c.self.view_is c.self.invariant.packets)) c.lose.ensures.none
 
 pub returns-in-Crash-clause-few : goal.returns-in-Crash-clause-few
-returns-in-Crash-clause-few c = λ small. each_ok c.crash.result (λ b h. none_sent c.args.self.now.net b h small) c.crash.ensures.none
+returns-in-Crash-clause-few c = each_ok c.crash.result (λ b h. none_sent c.args.self.now.net b h (subst (λ (w : Chronicle). length w.net.packets ≤ 65536) c.self.view_is c.self.invariant.packets)) c.crash.ensures.none
+
+pub returns-in-Snapshot-clause-few : goal.returns-in-Snapshot-clause-few
+returns-in-Snapshot-clause-few c =
+    none_sent c.args.self.now.net c.rests.result (ap (λ (b : Brought). b.packets.items) c.rests.ensures ∙ c.new.ensures.items)
+    (subst (λ (w : Chronicle). length w.net.packets ≤ 65536) c.self.view_is c.self.invariant.packets)

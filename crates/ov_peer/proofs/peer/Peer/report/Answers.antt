@@ -18,7 +18,7 @@ pub tell-requires : goal.tell-requires
 tell-requires c =
     let p = whole_of c.self.inside.views c.self.inside.attempt c.self.inside.sent c.self.inside.plum in
     let a = c.in_ok-moves.ensures.allowed in
-    let t = tracked p.node (hears_of_crash c.args.crashed) a.0 (record { views = c.on_report.new.views; asking = c.on_report.new.attempt; sent = p.node.sent }) _ _ (refl, a.2) in
+    let t = tracked p.node (hears_of_crash c.args.crashed) a.0 (record { views = c.on_report.new.views; asking = c.on_report.new.attempt; sent = p.node.sent }) _ _ (a.2 p.node) in
     let v = c.active.ensures.views in
     omega (arith, neighbours_fit p c.self.invariant c.eager.ensures.links, t.few, v.active_size, v.limits.active_high, ap length c.deref.ensures.value)
 
@@ -27,7 +27,7 @@ invariant_of-self-2 c =
     let p = whole_of c.self.inside.views c.self.inside.attempt c.self.inside.sent c.self.inside.plum in
     let m : Node = record { views = c.on_report.new.views; asking = c.on_report.new.attempt; sent = p.node.sent } in
     let a = c.in_ok-moves.ensures.allowed in
-    let t = tracked p.node (hears_of_crash c.args.crashed) a.0 m _ _ (refl, a.2) in
+    let t = tracked p.node (hears_of_crash c.args.crashed) a.0 m _ _ (a.2 p.node) in
     whole_told p.node m p.tree c.tell.new.plum _ c.self.invariant t (rw (← c.deref.ensures.value) c.tell.ensures)
 
 pub returns-clause-allowed : goal.returns-clause-allowed
@@ -35,12 +35,12 @@ returns-clause-allowed c =
     let p = whole_of c.self.inside.views c.self.inside.attempt c.self.inside.sent c.self.inside.plum in
     let m : Node = record { views = c.on_report.new.views; asking = c.on_report.new.attempt; sent = p.node.sent } in
     let a = c.in_ok-moves.ensures.allowed in
-    (a.0, a.1, rw (← c.self.view_is) (node_step p (Report c.args.crashed) a.0 m c.tell.new.plum _ _ (refl, a.2) (refl, (refl, refl)) (rw (← c.deref.ensures.value) c.tell.ensures)))
+    (a.0, a.1, rw (← c.self.view_is) (node_step p (Report c.args.crashed) a.0 m c.tell.new.plum _ _ (a.2 p.node) (refl, (refl, refl)) (rw (← c.deref.ensures.value) c.tell.ensures)))
 
 pub returns-clause-told : goal.returns-clause-told
 returns-clause-told c =
     let p = whole_of c.self.inside.views c.self.inside.attempt c.self.inside.sent c.self.inside.plum in
     let m : Node = record { views = c.on_report.new.views; asking = c.on_report.new.attempt; sent = p.node.sent } in
     let a = c.in_ok-moves.ensures.allowed in
-    let t = tracked p.node (hears_of_crash c.args.crashed) a.0 m _ _ (refl, a.2) in
+    let t = tracked p.node (hears_of_crash c.args.crashed) a.0 m _ _ (a.2 p.node) in
     t.active ∙ ap (λ (w : Whole). after_changes c.in_ok-moves.moves.changes.items w.node.views.active) c.self.view_is
