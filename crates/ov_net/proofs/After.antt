@@ -4,7 +4,7 @@ use Rattle.std.proofs.lemmas.Bool.{cases_eq, or_left, or_right, eq-eqb, ne_eqb}
 use Rattle.ov_ids.specs.Members.{Has}
 use Rattle.ov_ids.specs.Sets.{IsIn, adding, without}
 use Rattle.ov_ids.proofs.Sets.{IsIn-adding, IsIn-without}
-use Rattle.ov_peer.proofs.Linking.{has_adding, has_without}
+use Rattle.ov_ids.proofs.Sets.{has_adding, has_without}
 use Rattle.ov_ids.proofs.Members.{has_tested, has_append_left, has_append_right, has_append_cases}
 use Rattle.ov_views.specs.Changes.{after_changes}
 use Rattle.ov_views.specs.declared.change.ViewChange.{ViewChange}

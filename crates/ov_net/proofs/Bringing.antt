@@ -62,9 +62,12 @@ pub deliver_step : (w : Net) (i : ℕ) (packet : ℕ × Message) (to : ℕ) (mes
 deliver_step w i packet to message p words b there receiver said lives h =
     let v : Net = record w { packets = remove w.packets i } in
     let moves : Received v to message (map.get w.nodes to) words (after w b) b.changes b.delivery =
-        subst (λ m. Received v to message m words (after w b) b.changes b.delivery) (sym lives) (moves_as w v to p (input.Receive message) words b (Some i) refl h) in
-    (packet, there, subst (λ m. Received v packet.0 m (map.get w.nodes packet.0) words (after w b) b.changes b.delivery) said
-    (subst (λ a. Received v a message (map.get w.nodes a) words (after w b) b.changes b.delivery) receiver moves))
+    subst (λ m. Received v to message m words (after w b) b.changes b.delivery) (sym lives) (moves_as w v to p (input.Receive message) words b (Some i) refl h) in (
+      packet,
+      there,
+      subst (λ m. Received v packet.0 m (map.get w.nodes packet.0) words (after w b) b.changes b.delivery) said
+          (subst (λ a. Received v a message (map.get w.nodes a) words (after w b) b.changes b.delivery) receiver moves),
+    )
 
 there : {X : Type 0} (xs : List X) (i : ℕ) → i < length xs → (x : X) × slice_get xs i ≡ Some x
 there [] i h = absurd (omega arith)

@@ -1,5 +1,5 @@
 -- What stands in a world stands after each event.
-use Rattle.std.proofs.Common.{◌≡◌, ◌≤◌, ◌<◌, ◌+◌, ◌⊎◌, inl, inr, ℕ, zero, suc, Bool, true, false, cond, List, [], ◌∷◌, ◌++◌, length, length-append, Option, None, Some, is_some, refl, sym, ap, subst, ◌∙◌, arith}
+use Rattle.std.proofs.Common.{◌≡◌, ◌≤◌, ◌<◌, ◌+◌, ℕ, zero, suc, Bool, true, false, cond, List, [], ◌∷◌, ◌++◌, length, length-append, Option, None, Some, is_some, refl, sym, ap, subst, ◌∙◌, arith}
 use Rattle.std.specs.Prelude.{slice_get, remove}
 use Rattle.std.specs.Cmp.{nat_cmp_total}
 use Rattle.std.specs.FinMap as map
@@ -12,10 +12,12 @@ use Rattle.ov_peer.specs.Whole.{Whole}
 use Rattle.ov_peer.specs.declared.input.Delivery.{Delivery}
 use Rattle.ov_peer.specs.declared.input.Input.{Input}
 use Rattle.ov_peer.specs.declared.input.Input.TheVariants as input
+use Rattle.ov_net.specs.Brought.{putting, taking, after}
 use Rattle.ov_net.specs.Net.{Net, LivesAs}
 use Rattle.ov_net.specs.NetStep.{NetStep, Happens, Moves, LiveMoves, Received}
 use Rattle.ov_net.specs.Refusals.{Judged, EventJudged, ContactThen, PlacesLast}
 use Rattle.ov_net.specs.World.{Chronicle, Stands, opening}
+use Rattle.ov_net.specs.declared.brought.Brought.{Brought}
 use Rattle.ov_net.specs.declared.entry.Change.{Change}
 use Rattle.ov_net.specs.declared.entry.Entry.{Entry}
 use Rattle.ov_net.specs.declared.event.Event.{Event}
@@ -108,10 +110,10 @@ pub stands_new : (params : Limits) (nodes : map.FinMap nat_cmp Member) (packets 
     → Stands (record { net = record { params = params; nodes = nodes; packets = packets }; journal = journal })
 stands_new params nodes packets journal n p j =
     let e : ◌≡◌ {A = Chronicle} (record { net = record { params = params; nodes = nodes; packets = packets }; journal = journal }) (opening params) =
-        λ i. record { net = record { params = params; nodes = n i; packets = p i }; journal = j i } in
+    λ i. record { net = record { params = params; nodes = n i; packets = p i }; journal = j i } in
     subst Stands (sym e) (stands_begun params)
 
-pub stands_kept : (c : Chronicle) (event : Event) (words : List ℕ) (u : Net) (e : Entry) → Stands c → Judged c.net (length c.journal) event None → NetStep c.net event words u e
+stands_kept : (c : Chronicle) (event : Event) (words : List ℕ) (u : Net) (e : Entry) → Stands c → Judged c.net (length c.journal) event None → NetStep c.net event words u e
     → e.number ≡ length c.journal + 1 → length u.packets ≤ 65536 → Stands (record { net = u; journal = c.journal ++ e ∷ [] })
 stands_kept c event words u e s judged step number few =
     let j = step_none (length c.journal < 65536) TooManyEntries (EventJudged c.net event) judged in
@@ -124,3 +126,24 @@ stands_kept c event words u e s judged step number few =
       tells = tells_kept c event words u e s.tells s.own step;
       traced = traced_kept c event words u e s.traced s.own step;
     }
+
+-- the same of the parts that are kept, in a world as it is seen
+pub stands_next : (seen c : Chronicle) (event : Event) (words : List ℕ) (b : Brought) (e : Entry) (nodes : map.FinMap nat_cmp Member) (packets : List (ℕ × Message)) (journal : List Entry) → seen ≡ c → Stands seen
+    → Judged c.net (length c.journal) event None → Happens c.net event words (after c.net b) b.changes b.delivery → length (after c.net b).packets ≤ 65536
+    → (e.event ≡ event) × (e.words ≡ words) × (e.changes ≡ b.changes) × (e.delivery ≡ b.delivery) × (e.number ≡ length seen.journal + 1)
+    → nodes ≡ putting b.node seen.net.nodes → packets ≡ taking b.taken seen.net.packets ++ b.packets.items → journal ≡ seen.journal ++ e ∷ []
+    → Stands (record { net = record { params = seen.net.params; nodes = nodes; packets = packets }; journal = journal })
+stands_next seen c event words b e nodes packets journal same s judged_of happens_of few_of entry n p j =
+    let back = sym same in
+    let judged = subst (λ (x : Chronicle). Judged x.net (length x.journal) event None) back judged_of in
+    let happens = subst (λ (x : Chronicle). Happens x.net event words (after x.net b) b.changes b.delivery) back happens_of in
+    let few = subst (λ (x : Chronicle). length (after x.net b).packets ≤ 65536) back few_of in
+    let told : Happens seen.net event words (after seen.net b) e.changes e.delivery =
+    subst (λ d. Happens seen.net event words (after seen.net b) e.changes d) (sym entry.3) (subst (λ x. Happens seen.net event words (after seen.net b) x b.delivery) (sym entry.2) happens) in
+    let next : Stands (record { net = after seen.net b; journal = seen.journal ++ e ∷ [] }) = stands_kept seen event words (after seen.net b) e s judged (entry.0, entry.1, told) entry.4 few in
+    let kept : ◌≡◌ {A = Chronicle} (record { net = after seen.net b; journal = seen.journal ++ e ∷ [] }) (record { net = record { params = seen.net.params; nodes = nodes; packets = packets }; journal = journal }) =
+    λ i. record { net = record { params = seen.net.params; nodes = (sym n) i; packets = (sym p) i }; journal = (sym j) i } in
+    subst Stands kept next
+
+pub one_longer : (journal : List Entry) (e : Entry) → length (journal ++ e ∷ []) ≡ length journal + 1
+one_longer journal e = length-append journal (e ∷ [])

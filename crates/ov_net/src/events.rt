@@ -1,7 +1,6 @@
 ghost use Rattle.std.specs.Prelude.{◌≡◌, ◌<◌, ◌≤◌, ℕ, List, [], ◌∷◌, None, Some, IfOk, length, slice_get};
 ghost use Rattle.std.specs.Option.{option_copied};
 ghost use Rattle.std.specs.FinMap as map;
-
 ghost use Rattle.ov_net.specs.Brought.{IsWithin, after};
 ghost use Rattle.ov_net.specs.Net.{LivesAs, IsGone};
 ghost use Rattle.ov_net.specs.NetStep.{Happens};
@@ -94,7 +93,15 @@ impl World {
         ensures within { IfOk result (λ b. IsWithin b.taken self.now.net.packets) }
     {
         let peer = Peer::new(self.alloc, node, self.params);
-        moved(self.alloc, node, true, None, &peer, Input::Boot(contact), words)
+        moved(
+            self.alloc,
+            node,
+            true,
+            None,
+            &peer,
+            Input::Boot(contact),
+            words,
+        )
     }
 
     /// A packet reaches its receiver, who handles it where it lives.
@@ -159,12 +166,7 @@ impl World {
     }
 
     /// A node hears that another crashed.
-    fn report(
-        &self,
-        node: NodeId,
-        crashed: NodeId,
-        words: &Words,
-    ) -> Result<Brought, OutOfMemory>
+    fn report(&self, node: NodeId, crashed: NodeId, words: &Words) -> Result<Brought, OutOfMemory>
         requires born { IsBorn self.now.net node }
         requires live { ¬ IsGone self.now.net node }
         requires gone { IsGone self.now.net crashed }
@@ -173,7 +175,15 @@ impl World {
         ensures within { IfOk result (λ b. IsWithin b.taken self.now.net.packets) }
     {
         let peer = self.known(node);
-        moved(self.alloc, node, false, None, peer, Input::Report(crashed), words)
+        moved(
+            self.alloc,
+            node,
+            false,
+            None,
+            peer,
+            Input::Report(crashed),
+            words,
+        )
     }
 
     /// A node starts a shuffle.

@@ -1,8 +1,11 @@
-ghost use Rattle.std.specs.Prelude.{◌≡◌, ◌≤◌, ◌<◌, ◌+◌, ◌++◌, [], ◌∷◌, None, IfOk, IfErr, OnOk, OnErr, length, vec_len, vec_capacity};
+ghost use Rattle.std.specs.Prelude.{◌≡◌, ◌≤◌, ◌<◌, ◌+◌, ◌++◌, [], ◌∷◌, None, IfOk, IfErr, IfSome, IfNone, OnOk, OnErr, IsTrue, ◌↔◌, length, vec_len, vec_capacity};
+ghost use Rattle.ov_peer.specs.Whole.{Whole};
 ghost use Rattle.ov_net.specs.Brought.{IsWithin, taking, putting, after};
+ghost use Rattle.ov_net.specs.Journal.{DeliversOnce};
+ghost use Rattle.ov_net.specs.Net.{LivesAs};
 ghost use Rattle.ov_net.specs.NetStep.{Happens, NetStep};
-ghost use Rattle.ov_net.specs.Refusals.{Judged, IsRefusal};
-ghost use Rattle.ov_net.specs.World.{opening};
+ghost use Rattle.ov_net.specs.Refusals.{Judged, IsBorn, IsRefusal};
+ghost use Rattle.ov_net.specs.World.{Stands, opening};
 
 use crate::brought::Brought;
 use crate::entry::Entry;
@@ -12,6 +15,7 @@ use crate::member::Member;
 use crate::nodes::Nodes;
 use crate::packet::Packet;
 use ov_ids::{NodeId, OutOfMemory, Params};
+use ov_peer::Peer;
 use ov_words::Words;
 use std::alloc::Global;
 use std::marker::Model;
@@ -68,6 +72,43 @@ impl World {
         }
     }
 
+    /// All that happened, in order. The journal tells the views, and every message in it can be traced to its broadcast.
+    pub fn journal(&self) -> &[Entry]
+        ensures value { result.now ≡ self.now.journal }
+        ensures stands { Stands self.now }
+        ensures once { DeliversOnce self.now.journal }
+    {
+        &self.journal
+    }
+
+    /// The packets on their way, the oldest first.
+    pub fn packets(&self) -> &[Packet]
+        ensures value { result.now ≡ self.now.net.packets }
+        ensures few { length self.now.net.packets ≤ 65536 }
+    {
+        &self.packets
+    }
+
+    /// The node of this id, where it lives.
+    pub fn peer(&self, id: NodeId) -> Option<&Peer>
+        ensures some { IfSome result (λ p. LivesAs self.now.net id p.now) }
+        ensures none { IfNone result ((p : Whole) → ¬ LivesAs self.now.net id p) }
+        ensures stands { Stands self.now }
+    {
+        match self.nodes.get(id) {
+            Some(Member::Live(peer)) => Some(peer),
+            Some(Member::Gone) => None,
+            None => None,
+        }
+    }
+
+    /// Whether a node of this id was born. It may have crashed.
+    pub fn born(&self, id: NodeId) -> bool
+        ensures { IsTrue result ↔ IsBorn self.now.net id }
+    {
+        self.nodes.get(id).is_some()
+    }
+
     /// One event, with the words that random choices are made by. It answers the event's entry, which goes last in the journal;
     /// or the first refusal that stands, or that memory was wanted (99), and then nothing changed.
     pub fn step(&mut self, event: Event, words: &Words) -> Result<Entry, NetFault>
@@ -84,13 +125,7 @@ impl World {
     }
 
     /// Keeps what an event brought, and the entry that tells it.
-    #[tactic(auto, using(crate::proofs::Standing::stands_kept))]
-    fn keep(
-        &mut self,
-        event: Event,
-        words: &Words,
-        brought: Brought,
-    ) -> Result<Entry, OutOfMemory>
+    fn keep(&mut self, event: Event, words: &Words, brought: Brought) -> Result<Entry, OutOfMemory>
         requires judged { Judged self.old.net (length self.old.journal) event None }
         requires happens { Happens self.old.net event words.now (after self.old.net brought) brought.changes brought.delivery }
         requires few { length (after self.old.net brought).packets ≤ 65536 }
@@ -101,7 +136,7 @@ impl World {
         ensures err { OnErr result (self.new ≡ self.old) }
     {
         let entry = Entry {
-            number: self.journal.len() as u32 + 1,
+            number: next_number(&self.journal),
             event,
             words: *words,
             changes: brought.changes,
@@ -115,6 +150,14 @@ impl World {
         record(&mut self.journal, entry);
         Ok(answer)
     }
+}
+
+/// The number of the next entry.
+fn next_number(journal: &[Entry]) -> u32
+    requires { length journal.now < 65536 }
+    ensures { result ≡ length journal.now + 1 }
+{
+    journal.len() as u32 + 1
 }
 
 /// Puts a node among the others, if one is named.
