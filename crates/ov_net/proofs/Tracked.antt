@@ -1,19 +1,25 @@
 -- What a step of a node keeps: its ids, and an active view that goes along with the changes that are told.
-use Rattle.std.proofs.Common.{◌≡◌, ℕ, List, length, Option, sym, ap, ◌∙◌, arith}
+use Rattle.std.proofs.Common.{◌≡◌, ℕ, List, [], ◌∷◌, length, Option, None, Some, not, ◌||◌, eqb, sym, ap, ◌∙◌, arith}
+use Rattle.std.specs.Prelude.{MatchOption}
+use Rattle.std.specs.FinMap as map
+use Rattle.ov_ids.specs.declared.id.MsgId.{MsgId}
+use Rattle.ov_ids.proofs.Cases.{either_way}
 use Rattle.ov_wire.specs.declared.message.Message.{Message}
+use Rattle.ov_wire.specs.declared.message.Body.{Body}
+use Rattle.ov_wire.specs.declared.message.Body.TheVariants.{Join, ForwardJoin, Joined, Neighbor, NeighborReply, Disconnect, Shuffle, ShuffleReply, Gossip, IHave, Graft, Prune}
 use Rattle.ov_words.specs.Pick.{Choice}
 use Rattle.ov_views.specs.Allowed.{Node, Rests, boots, receives as hears, hears_of_crash, shuffles}
 use Rattle.ov_views.specs.Changes.{after_changes}
 use Rattle.ov_views.specs.declared.change.ViewChange.{ViewChange}
 use Rattle.ov_views.proofs.Tracking.{Tracks, tracked}
-use Rattle.ov_plum.specs.Spreading.{Delivered}
-use Rattle.ov_plum.specs.Tree.{Tree}
+use Rattle.ov_plum.specs.Spreading.{AllowedFrom, Delivered, Fires}
+use Rattle.ov_plum.specs.Tree.{Tree, is_linked}
 use Rattle.ov_peer.specs.Step.{NodePart, TreePart, PeerStep}
 use Rattle.ov_peer.specs.Whole.{Whole}
 use Rattle.ov_peer.specs.declared.input.Delivery.{Delivery}
 use Rattle.ov_peer.specs.declared.input.Input.{Input}
 use Rattle.ov_peer.specs.declared.input.Input.TheVariants as input
-use Rattle.ov_peer.proofs.Steps.{told_me, received, broadcasted, timed}
+use Rattle.ov_peer.proofs.Steps.{told_me}
 
 -- where nothing changes, no change is told
 views_rest : (n : Node) (choices : List Choice) (m : Node) (changes : List ViewChange) → Rests n choices m changes → Tracks n.views changes m.views
@@ -32,14 +38,39 @@ views_tracked n input.Shuffle choices m changes heard h = tracked n shuffles cho
 views_tracked n (input.Broadcast payload) choices m changes heard h = views_rest n choices m changes h.0
 views_tracked n (input.Timer id) choices m changes heard h = views_rest n choices m changes h.0
 
+-- a message leaves the tree to its node
+heard_me : (t : Tree) (s : ℕ) (body : Body) (u : Tree) (sends : List (ℕ × Message)) (delivery : Option Delivered) → AllowedFrom t s body u sends delivery → u.me ≡ t.me
+heard_me t s (Gossip id round payload) u sends delivery h = either_way (map.contains_key t.held id) _ _ _ (λ k. ap (λ (r : Tree). r.me) k.0) (λ k. ap (λ (r : Tree). r.me) k.0) h
+heard_me t s (IHave id) u sends delivery h = either_way (map.contains_key t.held id || not (is_linked t.branches s)) _ _ _ (λ k. ap (λ (r : Tree). r.me) k) (λ k. ap (λ (r : Tree). r.me) k) h.1
+heard_me t s (Graft id) u sends delivery h = ap (λ (r : Tree). r.me) h.0
+heard_me t s Prune u sends delivery h = ap (λ (r : Tree). r.me) h.0
+heard_me t s Join u sends delivery h = ap (λ (r : Tree). r.me) h.0
+heard_me t s (ForwardJoin node ttl) u sends delivery h = ap (λ (r : Tree). r.me) h.0
+heard_me t s Joined u sends delivery h = ap (λ (r : Tree). r.me) h.0
+heard_me t s (Neighbor high) u sends delivery h = ap (λ (r : Tree). r.me) h.0
+heard_me t s (NeighborReply accepted) u sends delivery h = ap (λ (r : Tree). r.me) h.0
+heard_me t s Disconnect u sends delivery h = ap (λ (r : Tree). r.me) h.0
+heard_me t s (Shuffle origin ttl ids) u sends delivery h = ap (λ (r : Tree). r.me) h.0
+heard_me t s (ShuffleReply ids) u sends delivery h = ap (λ (r : Tree). r.me) h.0
+
+-- and so does a timer
+fired_me : (t : Tree) (id : MsgId) (notes : List ℕ) (u : Tree) (sends : List (ℕ × Message)) → Fires t id notes u sends → u.me ≡ t.me
+fired_me t id [] u sends h = ap (λ (r : Tree). r.me) h.0
+fired_me t id (s ∷ notes) u sends h = ap (λ (r : Tree). r.me) h.0
+
+timed_me : (t : Tree) (id : MsgId) (running : Option (List ℕ)) (u : Tree) (sends : List (ℕ × Message)) → MatchOption running ⊥ (λ (notes : List ℕ). Fires t id notes u sends) → u.me ≡ t.me
+timed_me t id None u sends h = absurd h
+timed_me t id (Some notes) u sends h = fired_me t id notes u sends h
+
 -- Plumtree's part stays the node's
 tree_stays : (t : Tree) (i : Input) (u : Tree) (spread : List (ℕ × Message)) (delivered : Option Delivered) → TreePart t i u spread delivered → u.me ≡ t.me
 tree_stays t (input.Boot contact) u spread delivered h = ap (λ (s : Tree). s.me) h.0
-tree_stays t (input.Receive message) u spread delivered h = (received t message u spread delivered h).me
+tree_stays t (input.Receive message) u spread delivered h =
+    either_way (eqb message.from t.me) _ _ _ (λ k. ap (λ (s : Tree). s.me) k.0) (heard_me t message.from message.body u spread delivered) h
 tree_stays t (input.Report p) u spread delivered h = ap (λ (s : Tree). s.me) h.0
 tree_stays t input.Shuffle u spread delivered h = ap (λ (s : Tree). s.me) h.0
-tree_stays t (input.Broadcast payload) u spread delivered h = (broadcasted t payload u spread delivered h).me
-tree_stays t (input.Timer id) u spread delivered h = (timed t id u spread delivered h).me
+tree_stays t (input.Broadcast payload) u spread delivered h = ap (λ (s : Tree). s.me) h.0
+tree_stays t (input.Timer id) u spread delivered h = timed_me t id (map.get t.timers id) u spread h.1
 
 -- after a step a node has its own ids, and the active view after the changes that it told
 pub record PeerTracks (p : Whole) (told : List ViewChange) (q : Whole) : Type 0 where

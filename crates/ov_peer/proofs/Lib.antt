@@ -1,5 +1,6 @@
-pub mod Linking
+mod Linking
 mod Counts
 mod Changing
 pub mod Steps
+mod Following
 mod Handed

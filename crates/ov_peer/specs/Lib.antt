@@ -2,3 +2,4 @@ pub mod Whole
 pub mod Codes
 pub mod Step
 pub mod Faults
+pub mod Planning

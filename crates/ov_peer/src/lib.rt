@@ -5,11 +5,13 @@ mod fault;
 mod hearing;
 mod input;
 mod peer;
+mod plan;
 mod telling;
 
 pub use fault::PeerFault;
 pub use input::{Delivery, Input, Output};
 pub use peer::Peer;
+pub use plan::Plan;
 
 #[cfg(test)]
 mod tests;

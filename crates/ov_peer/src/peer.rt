@@ -1,15 +1,15 @@
-ghost use Rattle.std.specs.Prelude.{◌≡◌, ◌≤◌, ◌+◌, ℕ, List, [], length, vec_len, Some, None, Err, IfOk, IfErr, OnErr};
+ghost use Rattle.std.specs.Prelude.{◌≡◌, ◌≤◌, ◌+◌, ℕ, List, [], length, vec_len, Some, None, Err, IfOk, IfErr, OnOk, OnErr};
 ghost use Rattle.std.specs.FinMap as map;
 ghost use Rattle.std.specs.List.{AllByRecursion};
 ghost use Rattle.ov_wire.specs.Messages.{AreInRange, kind_of};
-ghost use Rattle.ov_wire.specs.declared.message.Body.TheVariants.{Gossip, IHave, Graft, Prune};
 ghost use Rattle.ov_words.specs.Pick.{Drawn};
 ghost use Rattle.ov_views.specs.Changes.{after_changes};
 ghost use Rattle.ov_views.specs.Neighbourhood.{AreViews};
 ghost use Rattle.ov_plum.specs.Tree.{AreBranches};
 ghost use Rattle.ov_peer.specs.Faults.{fault_of, IsInputInRange};
+ghost use Rattle.ov_peer.specs.Planning.{Fits, Follows, Plans};
 ghost use Rattle.ov_peer.specs.Step.{PeerStep};
-ghost use Rattle.ov_peer.specs.Whole.{IsWhole, newborn};
+ghost use Rattle.ov_peer.specs.Whole.{Whole, IsWhole, newborn};
 ghost use Rattle.ov_peer.specs.declared.fault.PeerFault.{PeerFault};
 ghost use Rattle.ov_peer.specs.declared.fault.PeerFault.TheVariants.{OutOfMemory as wants_memory};
 ghost use Rattle.ov_peer.specs.declared.input.Input.TheVariants as input;
@@ -18,10 +18,11 @@ ghost use Rattle.ov_peer.specs.declared.input.Input.TheVariants.{Boot, Receive, 
 use crate::fault::PeerFault;
 use crate::hearing::hear;
 use crate::input::{Input, Output};
-use crate::telling::{joins, spread_output, tell};
+use crate::plan::{Course, Near, Plan, follow};
+use crate::telling::{joins, tell};
 use ov_ids::{MsgId, NodeId, OutOfMemory, Params, Seq};
 use ov_neighbor::Attempt;
-use ov_plum::{Plum, Spread};
+use ov_plum::{Plum, Turn};
 use ov_shuffle::Sent;
 use ov_views::Views;
 use ov_wire::{Body, MAX_PAYLOAD, Message};
@@ -132,6 +133,57 @@ impl Peer {
         self.plum.has_timer(id)
     }
 
+    /// Plans one step: how the node takes an input, with random choices drawn from the words. It uses at most 40 of them, and at
+    /// most 64 messages are to be sent. But for what is sent, nothing that the node holds is copied. NoTimer (18) where the
+    /// timer is not set; of a broadcast PayloadTooLong (19) and then TooManyMessages (20).
+    pub fn plan(&self, input: Input, words: &Words) -> Result<Plan, PeerFault>
+        requires { IsInputInRange input }
+        ensures allowed { IfOk result (λ g. (q : Whole) → Follows self.now g q → (left : List ℕ) × (24 ≤ length left) × Drawn words.now left
+            (λ choices. PeerStep self.now input choices q g.sends.items g.changes.items g.delivered)) }
+        ensures fits { IfOk result (Fits self.now) }
+        ensures few { IfOk result (λ g. vec_len g.sends ≤ 64) }
+        ensures ranges { IfOk result (λ g. AllByRecursion (λ s. AreInRange s.1) g.sends.items) }
+        ensures fault { (f : PeerFault) → fault_of self.now input ≡ Some f → result ≡ Err f }
+        ensures memory { fault_of self.now input ≡ None → IfErr result (λ e. e ≡ wants_memory) }
+    {
+        let mut draws = Draws::new(words);
+        match input {
+            Input::Boot(contact) => Ok(self.boot(contact)?),
+            Input::Receive(message) => Ok(self.receive(message, &mut draws)?),
+            Input::Report(crashed) => Ok(self.report(crashed, &mut draws)?),
+            Input::Shuffle => Ok(self.shuffle(&mut draws)?),
+            Input::Broadcast(payload) => self.broadcast(payload),
+            Input::Timer(id) => self.timer(id),
+        }
+    }
+
+    /// Follows a plan, which must be one for this node as it is. The answer is the plan's. Without memory the node is as before.
+    pub fn apply(&mut self, plan: Plan) -> Result<Output, OutOfMemory>
+        requires { Fits self.old plan }
+        ensures follows { OnOk result (Follows self.old plan self.new) }
+        ensures sends { IfOk result (λ o. o.sends ≡ plan.sends) }
+        ensures changes { IfOk result (λ o. o.changes ≡ plan.changes) }
+        ensures delivered { IfOk result (λ o. o.delivered ≡ plan.delivered) }
+        ensures err { OnErr result (self.new ≡ self.old) }
+    {
+        let Plan {
+            sends,
+            changes,
+            delivered,
+            course,
+            turn,
+        } = plan;
+        self.plum.apply(turn)?;
+        prove!(self.plum.eager().len() + self.plum.lazy().len() <= self.views.active().len());
+        tell(&mut self.plum, &changes);
+        follow(&mut self.views, &mut self.attempt, &mut self.sent, course);
+        Ok(Output {
+            sends,
+            changes,
+            delivered,
+        })
+    }
+
     /// One step: the node takes an input, with random choices drawn from the words. It uses at most 40 of them and sends at most
     /// 64 messages. NoTimer (18) where the timer is not set; of a broadcast PayloadTooLong (19) and then TooManyMessages (20);
     /// after a fault the node is as before.
@@ -146,207 +198,114 @@ impl Peer {
         ensures memory { fault_of self.old input ≡ None → IfErr result (λ e. e ≡ wants_memory) }
         ensures err { OnErr result (self.new ≡ self.old) }
     {
-        let mut draws = Draws::new(words);
-        match input {
-            Input::Boot(contact) => Ok(self.boot(contact)?),
-            Input::Receive(message) => Ok(self.receive(message, &mut draws)?),
-            Input::Report(crashed) => Ok(self.report(crashed, &mut draws)?),
-            Input::Shuffle => Ok(self.shuffle(&mut draws)?),
-            Input::Broadcast(payload) => self.broadcast(payload),
-            Input::Timer(id) => self.timer(id),
-        }
+        let plan = self.plan(input, words)?;
+        Ok(self.apply(plan)?)
     }
 
-    /// The node starts: it sends JOIN to its contact, if there is one.
-    fn boot(&mut self, contact: Option<NodeId>) -> Result<Output, OutOfMemory>
-        ensures allowed { IfOk result (λ o. PeerStep self.old (Boot contact) []
-            self.new o.sends.items o.changes.items o.delivered) }
-        ensures none { IfOk result (λ o. o.changes.items ≡ []) }
-        ensures few { IfOk result (λ o. vec_len o.sends ≤ 1) }
-        ensures ranges { IfOk result (λ o. AllByRecursion (λ s. AreInRange s.1) o.sends.items) }
-        ensures same { self.new ≡ self.old }
+    /// The node starts: it is to send JOIN to its contact, if there is one.
+    fn boot(&self, contact: Option<NodeId>) -> Result<Plan, OutOfMemory>
+        ensures allowed { IfOk result (Plans self.now (Boot contact) []) }
+        ensures fits { IfOk result (Fits self.now) }
+        ensures few { IfOk result (λ g. vec_len g.sends ≤ 1) }
+        ensures ranges { IfOk result (λ g. AllByRecursion (λ s. AreInRange s.1) g.sends.items) }
     {
-        let me = self.views.me();
-        let spread = Spread {
-            sends: joins(self.alloc, me, contact)?,
+        Ok(Plan {
+            sends: joins(self.alloc, self.views.me(), contact)?,
+            changes: Vec::new(self.alloc),
             delivered: None,
-        };
-        Ok(spread_output(self.alloc, me, spread))
+            course: Course::Stays,
+            turn: Turn::Rests,
+        })
     }
 
     /// The node starts a shuffle.
-    fn shuffle(&mut self, draws: &mut Draws<'_>) -> Result<Output, OutOfMemory>
+    fn shuffle(&self, draws: &mut Draws<'_>) -> Result<Plan, OutOfMemory>
         requires { 40 ≤ length draws.old }
-        ensures allowed { IfOk result (λ o. Drawn draws.old draws.new
-            (λ choices. PeerStep self.old input.Shuffle choices self.new o.sends.items o.changes.items o.delivered)) }
+        ensures allowed { IfOk result (λ g. Drawn draws.old draws.new (λ choices. Plans self.now input.Shuffle choices g)) }
+        ensures fits { IfOk result (Fits self.now) }
         ensures words { length draws.old ≤ length draws.new + 40 }
-        ensures none { IfOk result (λ o. o.changes.items ≡ []) }
-        ensures same { self.new.node.views ≡ self.old.node.views }
-        ensures few { IfOk result (λ o. vec_len o.sends ≤ 64) }
-        ensures ranges { IfOk result (λ o. AllByRecursion (λ s. AreInRange s.1) o.sends.items) }
-        ensures err { OnErr result (self.new ≡ self.old) }
+        ensures few { IfOk result (λ g. vec_len g.sends ≤ 64) }
+        ensures ranges { IfOk result (λ g. AllByRecursion (λ s. AreInRange s.1) g.sends.items) }
     {
-        let moves = ov_shuffle::start(self.alloc, &self.views, &mut self.sent, draws)?;
-        Ok(Output {
-            sends: moves.sends,
-            changes: moves.changes,
-            delivered: None,
-        })
+        let mut sent = self.sent.copy()?;
+        let moves = ov_shuffle::start(self.alloc, &self.views, &mut sent, draws)?;
+        Ok(Plan::of_moves(moves, Course::Shuffles(sent)))
     }
 
     /// A node is reported to have crashed.
-    fn report(&mut self, crashed: NodeId, draws: &mut Draws<'_>) -> Result<Output, OutOfMemory>
+    fn report(&self, crashed: NodeId, draws: &mut Draws<'_>) -> Result<Plan, OutOfMemory>
         requires { 40 ≤ length draws.old }
-        ensures allowed { IfOk result (λ o. Drawn draws.old draws.new
-            (λ choices. PeerStep self.old (Report crashed) choices self.new o.sends.items o.changes.items o.delivered)) }
+        ensures allowed { IfOk result (λ g. Drawn draws.old draws.new (λ choices. Plans self.now (Report crashed) choices g)) }
+        ensures fits { IfOk result (Fits self.now) }
         ensures words { length draws.old ≤ length draws.new + 40 }
-        ensures told { IfOk result (λ o. self.new.node.views.active ≡ after_changes o.changes.items self.old.node.views.active) }
-        ensures few { IfOk result (λ o. vec_len o.sends ≤ 64) }
-        ensures ranges { IfOk result (λ o. AllByRecursion (λ s. AreInRange s.1) o.sends.items) }
-        ensures err { OnErr result (self.new ≡ self.old) }
+        ensures few { IfOk result (λ g. vec_len g.sends ≤ 64) }
+        ensures ranges { IfOk result (λ g. AllByRecursion (λ s. AreInRange s.1) g.sends.items) }
     {
-        prove!(self.plum.eager().len() + self.plum.lazy().len() <= self.views.active().len());
-        let attempt = &mut self.attempt;
-        let moves = ov_neighbor::on_report(self.alloc, &mut self.views, attempt, draws, crashed)?;
-        tell(&mut self.plum, &moves.changes);
-        Ok(Output {
-            sends: moves.sends,
-            changes: moves.changes,
-            delivered: None,
-        })
+        let mut views = self.views.copy();
+        let mut attempt = self.attempt.copy()?;
+        let moves = ov_neighbor::on_report(self.alloc, &mut views, &mut attempt, draws, crashed)?;
+        let near = Box::new(self.alloc, Near { views, attempt })?;
+        Ok(Plan::of_moves(moves, Course::Moves(near)))
     }
 
     /// A message comes.
-    fn receive(&mut self, message: Message, draws: &mut Draws<'_>) -> Result<Output, OutOfMemory>
+    fn receive(&self, message: Message, draws: &mut Draws<'_>) -> Result<Plan, OutOfMemory>
         requires words { 40 ≤ length draws.old }
         requires range { AreInRange message }
-        ensures allowed { IfOk result (λ o. Drawn draws.old draws.new
-            (λ choices. PeerStep self.old (Receive message) choices self.new o.sends.items o.changes.items o.delivered)) }
+        ensures allowed { IfOk result (λ g. Drawn draws.old draws.new (λ choices. Plans self.now (Receive message) choices g)) }
+        ensures fits { IfOk result (Fits self.now) }
         ensures words { length draws.old ≤ length draws.new + 40 }
-        ensures told { IfOk result (λ o. self.new.node.views.active ≡ after_changes o.changes.items self.old.node.views.active) }
-        ensures few { IfOk result (λ o. vec_len o.sends ≤ 64) }
-        ensures ranges { IfOk result (λ o. AllByRecursion (λ s. AreInRange s.1) o.sends.items) }
-        ensures err { OnErr result (self.new ≡ self.old) }
+        ensures few { IfOk result (λ g. vec_len g.sends ≤ 64) }
+        ensures ranges { IfOk result (λ g. AllByRecursion (λ s. AreInRange s.1) g.sends.items) }
     {
         let from = message.from;
-        match message.body {
-            Body::Gossip { id, round, payload } => self.gossip(from, id, round, payload),
-            Body::IHave { id } => self.ihave(from, id),
-            Body::Graft { id } => self.graft(from, id),
-            Body::Prune => Ok(self.prune(from)),
-            body => self.hear(from, &body, draws),
-        }
+        let planned = match message.body {
+            Body::Gossip { id, round, payload } => {
+                self.plum.plan_gossip(from, id, round, payload)?
+            }
+            Body::IHave { id } => self.plum.plan_ihave(from, id)?,
+            Body::Graft { id } => self.plum.plan_graft(from, id)?,
+            Body::Prune => self.plum.plan_prune(from),
+            body => return self.hear(from, &body, draws),
+        };
+        Ok(Plan::of_tree(self.alloc, self.views.me(), planned))
     }
 
     /// A message of HyParView comes.
-    fn hear(
-        &mut self,
-        from: NodeId,
-        body: &Body,
-        draws: &mut Draws<'_>,
-    ) -> Result<Output, OutOfMemory>
+    fn hear(&self, from: NodeId, body: &Body, draws: &mut Draws<'_>) -> Result<Plan, OutOfMemory>
         requires words { 40 ≤ length draws.old }
         requires range { AreInRange (record { from = from; body = body.now }) }
         requires kind { kind_of body.now ≤ 8 }
-        ensures allowed { IfOk result (λ o. Drawn draws.old draws.new
-            (λ choices. PeerStep self.old (Receive (record { from = from; body = body.now }))
-            choices self.new o.sends.items o.changes.items o.delivered)) }
+        ensures allowed { IfOk result (λ g. Drawn draws.old draws.new
+            (λ choices. Plans self.now (Receive (record { from = from; body = body.now })) choices g)) }
+        ensures fits { IfOk result (Fits self.now) }
         ensures words { length draws.old ≤ length draws.new + 40 }
-        ensures told { IfOk result (λ o. self.new.node.views.active ≡ after_changes o.changes.items self.old.node.views.active) }
-        ensures few { IfOk result (λ o. vec_len o.sends ≤ 64) }
-        ensures ranges { IfOk result (λ o. AllByRecursion (λ s. AreInRange s.1) o.sends.items) }
-        ensures err { OnErr result (self.new ≡ self.old) }
+        ensures few { IfOk result (λ g. vec_len g.sends ≤ 64) }
+        ensures ranges { IfOk result (λ g. AllByRecursion (λ s. AreInRange s.1) g.sends.items) }
     {
-        prove!(self.plum.eager().len() + self.plum.lazy().len() <= self.views.active().len());
-        let attempt = &mut self.attempt;
+        let mut views = self.views.copy();
+        let mut attempt = self.attempt.copy()?;
         let moves = hear(
             self.alloc,
-            &mut self.views,
-            attempt,
+            &mut views,
+            &mut attempt,
             &self.sent,
             draws,
             from,
             body,
         )?;
-        tell(&mut self.plum, &moves.changes);
-        Ok(Output {
-            sends: moves.sends,
-            changes: moves.changes,
-            delivered: None,
-        })
-    }
-
-    /// GOSSIP comes.
-    fn gossip(
-        &mut self,
-        from: NodeId,
-        id: MsgId,
-        round: u16,
-        payload: Seq<u8>,
-    ) -> Result<Output, OutOfMemory>
-        requires { length payload ≤ 1024 }
-        ensures allowed { IfOk result (λ o. PeerStep self.old (Receive (record { from = from; body = Gossip id round payload })) []
-            self.new o.sends.items o.changes.items o.delivered) }
-        ensures none { IfOk result (λ o. o.changes.items ≡ []) }
-        ensures same { self.new.node ≡ self.old.node }
-        ensures few { IfOk result (λ o. vec_len o.sends ≤ 64) }
-        ensures ranges { IfOk result (λ o. AllByRecursion (λ s. AreInRange s.1) o.sends.items) }
-        ensures err { OnErr result (self.new ≡ self.old) }
-    {
-        let spread = self.plum.on_gossip(from, id, round, payload)?;
-        Ok(spread_output(self.alloc, self.views.me(), spread))
-    }
-
-    /// IHAVE comes.
-    fn ihave(&mut self, from: NodeId, id: MsgId) -> Result<Output, OutOfMemory>
-        ensures allowed { IfOk result (λ o. PeerStep self.old (Receive (record { from = from; body = IHave id })) []
-            self.new o.sends.items o.changes.items o.delivered) }
-        ensures none { IfOk result (λ o. o.changes.items ≡ []) }
-        ensures same { self.new.node ≡ self.old.node }
-        ensures few { IfOk result (λ o. vec_len o.sends ≡ 0) }
-        ensures err { OnErr result (self.new ≡ self.old) }
-    {
-        let spread = self.plum.on_ihave(from, id)?;
-        Ok(spread_output(self.alloc, self.views.me(), spread))
-    }
-
-    /// GRAFT comes.
-    fn graft(&mut self, from: NodeId, id: MsgId) -> Result<Output, OutOfMemory>
-        ensures allowed { IfOk result (λ o. PeerStep self.old (Receive (record { from = from; body = Graft id })) []
-            self.new o.sends.items o.changes.items o.delivered) }
-        ensures none { IfOk result (λ o. o.changes.items ≡ []) }
-        ensures same { self.new.node ≡ self.old.node }
-        ensures few { IfOk result (λ o. vec_len o.sends ≤ 1) }
-        ensures ranges { IfOk result (λ o. AllByRecursion (λ s. AreInRange s.1) o.sends.items) }
-        ensures err { OnErr result (self.new ≡ self.old) }
-    {
-        let spread = self.plum.on_graft(from, id)?;
-        Ok(spread_output(self.alloc, self.views.me(), spread))
-    }
-
-    /// PRUNE comes.
-    fn prune(&mut self, from: NodeId) -> Output
-        ensures allowed { PeerStep self.old (Receive (record { from = from; body = Prune })) []
-            self.new result.sends.items result.changes.items result.delivered }
-        ensures none { result.changes.items ≡ [] }
-        ensures same { self.new.node ≡ self.old.node }
-        ensures few { vec_len result.sends ≡ 0 }
-    {
-        let spread = self.plum.on_prune(from);
-        spread_output(self.alloc, self.views.me(), spread)
+        let near = Box::new(self.alloc, Near { views, attempt })?;
+        Ok(Plan::of_moves(moves, Course::Moves(near)))
     }
 
     /// The node broadcasts.
-    fn broadcast(&mut self, payload: Seq<u8>) -> Result<Output, PeerFault>
-        ensures allowed { IfOk result (λ o. PeerStep self.old (Broadcast payload) []
-            self.new o.sends.items o.changes.items o.delivered) }
-        ensures none { IfOk result (λ o. o.changes.items ≡ []) }
-        ensures same { self.new.node ≡ self.old.node }
-        ensures few { IfOk result (λ o. vec_len o.sends ≤ 64) }
-        ensures ranges { IfOk result (λ o. AllByRecursion (λ s. AreInRange s.1) o.sends.items) }
-        ensures fault { (f : PeerFault) → fault_of self.old (Broadcast payload) ≡ Some f → result ≡ Err f }
-        ensures memory { fault_of self.old (Broadcast payload) ≡ None → IfErr result (λ e. e ≡ wants_memory) }
-        ensures err { OnErr result (self.new ≡ self.old) }
+    fn broadcast(&self, payload: Seq<u8>) -> Result<Plan, PeerFault>
+        ensures allowed { IfOk result (Plans self.now (Broadcast payload) []) }
+        ensures fits { IfOk result (Fits self.now) }
+        ensures few { IfOk result (λ g. vec_len g.sends ≤ 64) }
+        ensures ranges { IfOk result (λ g. AllByRecursion (λ s. AreInRange s.1) g.sends.items) }
+        ensures fault { (f : PeerFault) → fault_of self.now (Broadcast payload) ≡ Some f → result ≡ Err f }
+        ensures memory { fault_of self.now (Broadcast payload) ≡ None → IfErr result (λ e. e ≡ wants_memory) }
     {
         if payload.as_slice().len() > MAX_PAYLOAD as usize {
             return Err(PeerFault::PayloadTooLong);
@@ -354,22 +313,20 @@ impl Peer {
         if self.plum.made() >= MAX_MADE {
             return Err(PeerFault::TooManyMessages);
         }
-        let spread = self.plum.broadcast(payload)?;
-        Ok(spread_output(self.alloc, self.views.me(), spread))
+        let planned = self.plum.plan_broadcast(payload)?;
+        Ok(Plan::of_tree(self.alloc, self.views.me(), planned))
     }
 
     /// A timer fires.
-    fn timer(&mut self, id: MsgId) -> Result<Output, PeerFault>
-        ensures allowed { IfOk result (λ o. PeerStep self.old (Timer id) [] self.new o.sends.items o.changes.items o.delivered) }
-        ensures none { IfOk result (λ o. o.changes.items ≡ []) }
-        ensures same { self.new.node ≡ self.old.node }
-        ensures few { IfOk result (λ o. vec_len o.sends ≤ 1) }
-        ensures ranges { IfOk result (λ o. AllByRecursion (λ s. AreInRange s.1) o.sends.items) }
-        ensures fault { (f : PeerFault) → fault_of self.old (Timer id) ≡ Some f → result ≡ Err f }
-        ensures memory { fault_of self.old (Timer id) ≡ None → IfErr result (λ e. e ≡ wants_memory) }
-        ensures err { OnErr result (self.new ≡ self.old) }
+    fn timer(&self, id: MsgId) -> Result<Plan, PeerFault>
+        ensures allowed { IfOk result (Plans self.now (Timer id) []) }
+        ensures fits { IfOk result (Fits self.now) }
+        ensures few { IfOk result (λ g. vec_len g.sends ≤ 1) }
+        ensures ranges { IfOk result (λ g. AllByRecursion (λ s. AreInRange s.1) g.sends.items) }
+        ensures fault { (f : PeerFault) → fault_of self.now (Timer id) ≡ Some f → result ≡ Err f }
+        ensures memory { fault_of self.now (Timer id) ≡ None → IfErr result (λ e. e ≡ wants_memory) }
     {
-        let spread = self.plum.on_timer(id)?;
-        Ok(spread_output(self.alloc, self.views.me(), spread))
+        let planned = self.plum.plan_timer(id)?;
+        Ok(Plan::of_tree(self.alloc, self.views.me(), planned))
     }
 }

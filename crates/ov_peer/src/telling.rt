@@ -2,11 +2,10 @@ ghost use Rattle.std.specs.Prelude.{◌≡◌, ◌≤◌, ◌+◌, [], length, v
 ghost use Rattle.std.specs.List.{AllByRecursion};
 ghost use Rattle.ov_wire.specs.Messages.{AreInRange};
 ghost use Rattle.ov_views.specs.Allowed.{Node, Allowed, boots};
-ghost use Rattle.ov_peer.specs.Step.{Told, delivery_at};
+ghost use Rattle.ov_peer.specs.Step.{Told};
 
-use crate::input::{Delivery, Output};
 use ov_ids::{NodeId, OutOfMemory};
-use ov_plum::{Plum, Spread};
+use ov_plum::Plum;
 use ov_views::ViewChange;
 use ov_wire::{Body, Message};
 use std::alloc::Global;
@@ -27,26 +26,6 @@ pub(crate) fn tell(plum: &mut Plum, changes: &[ViewChange])
     }
 }
 
-/// What a node does whose active view does not change.
-pub(crate) fn spread_output(alloc: Global, me: NodeId, spread: Spread) -> Output
-    ensures sends { result.sends ≡ spread.sends }
-    ensures changes { result.changes.items ≡ [] }
-    ensures delivered { result.delivered ≡ delivery_at me spread.delivered }
-{
-    Output {
-        sends: spread.sends,
-        changes: Vec::new(alloc),
-        delivered: match spread.delivered {
-            Some((id, payload)) => Some(Delivery {
-                node: me,
-                id,
-                payload,
-            }),
-            None => None,
-        },
-    }
-}
-
 /// What a node sends that starts: JOIN to its contact, if there is one.
 pub(crate) fn joins(
     alloc: Global,
@@ -57,7 +36,7 @@ pub(crate) fn joins(
     ensures few { IfOk result (λ v. vec_len v ≤ 1) }
     ensures ranges { IfOk result (λ v. AllByRecursion (λ s. AreInRange s.1) v.items) }
 {
-    let mut sends = Vec::with_capacity(alloc, 1)?;
+    let mut sends = Vec::new(alloc);
     if let Some(contact) = contact {
         let message = Message {
             from: me,

@@ -1,7 +1,7 @@
 ghost use Rattle.std.specs.Prelude.{IfOk};
 ghost use Rattle.ov_peer.specs.Faults.{IsInputInRange};
 
-use crate::{Input, Output, Peer, PeerFault};
+use crate::{Delivery, Input, Output, Peer, PeerFault};
 use ov_ids::{MsgId, NodeId, Params, Seq};
 use ov_views::ViewChange;
 use ov_wire::{Body, Message, decode, encode};
@@ -107,14 +107,20 @@ fn put_changes(told: &mut String, changes: &[ViewChange]) -> Result<(), Fail> {
     Ok(())
 }
 
-fn put_output(alloc: Global, told: &mut String, output: &Output) -> Result<(), Fail> {
-    put_changes(told, output.changes.as_slice())?;
-    for (to, message) in &output.sends {
+fn put_output(
+    alloc: Global,
+    told: &mut String,
+    sends: &[(NodeId, Message)],
+    changes: &[ViewChange],
+    delivered: Option<&Delivery>,
+) -> Result<(), Fail> {
+    put_changes(told, changes)?;
+    for (to, message) in sends {
         let number = to.number();
         write!(told, ";to{number}:")?;
         put_hex(told, bytes_of(alloc, message)?.as_slice())?;
     }
-    if let Some(delivery) = &output.delivered {
+    if let Some(delivery) = delivered {
         let node = delivery.node.number();
         let origin = delivery.id.origin.number();
         let seq = delivery.id.seq;
@@ -124,19 +130,83 @@ fn put_output(alloc: Global, told: &mut String, output: &Output) -> Result<(), F
     Ok(())
 }
 
-/// One step, where each word of the event is 5. Where memory is refused the node is as before, and the step is taken anew.
+/// What an output says.
+fn done(alloc: Global, output: &Output) -> Result<String, Fail> {
+    let mut told = String::new(alloc);
+    put_output(
+        alloc,
+        &mut told,
+        &output.sends,
+        &output.changes,
+        output.delivered.as_ref(),
+    )?;
+    Ok(told)
+}
+
+/// How a step is taken: at once, or as it was planned.
+#[derive(Clone, Copy, Drop)]
+enum Way {
+    AtOnce,
+    Planned,
+}
+
+/// A step by a plan, which says beforehand what the node does.
+fn follow(
+    rt: &impl Abort,
+    alloc: Global,
+    peer: &mut Peer,
+    given: Given,
+    words: &Words,
+) -> Result<Result<Output, PeerFault>, Fail> {
+    let plan = match peer.plan(input_of(alloc, given)?, words) {
+        Ok(plan) => plan,
+        Err(fault) => return Ok(Err(fault)),
+    };
+    let mut planned = String::new(alloc);
+    put_output(
+        alloc,
+        &mut planned,
+        &plan.sends,
+        &plan.changes,
+        plan.delivered.as_ref(),
+    )?;
+    match peer.apply(plan) {
+        Ok(output) => {
+            assert_eq!(rt; done(alloc, &output)?.as_str(), planned.as_str());
+            Ok(Ok(output))
+        }
+        Err(_) => Ok(Err(PeerFault::OutOfMemory)),
+    }
+}
+
+/// One step, where each word of the event is 5.
+fn take(
+    rt: &impl Abort,
+    alloc: Global,
+    peer: &mut Peer,
+    given: Given,
+    way: Way,
+) -> Result<Result<Output, PeerFault>, Fail> {
+    let words = Words::new([5; 64]);
+    match way {
+        Way::AtOnce => Ok(peer.step(input_of(alloc, given)?, &words)),
+        Way::Planned => follow(rt, alloc, peer, given, &words),
+    }
+}
+
+/// One step. Where memory is refused the node is as before, and the step is taken anew.
 fn step(
     rt: &impl Abort,
     alloc: Global,
     peer: &mut Peer,
     given: Given,
+    way: Way,
 ) -> Result<Result<Output, PeerFault>, Fail> {
-    let words = Words::new([5; 64]);
     let before = state(alloc, peer)?;
-    match peer.step(input_of(alloc, given)?, &words) {
+    match take(rt, alloc, peer, given, way)? {
         Err(PeerFault::OutOfMemory) => {
             assert_eq!(rt; state(alloc, peer)?.as_str(), before.as_str());
-            Ok(peer.step(input_of(alloc, given)?, &words))
+            take(rt, alloc, peer, given, way)
         }
         answer => Ok(answer),
     }
@@ -149,12 +219,13 @@ fn goes(
     alloc: Global,
     peer: &mut Peer,
     rows: &[(Given, &'static str)],
+    way: Way,
 ) -> Result<(), Fail> {
     for (given, expected) in rows {
-        let answer = step(rt, alloc, peer, *given)?;
+        let answer = step(rt, alloc, peer, *given, way)?;
         let mut told = state(alloc, peer)?;
         match answer {
-            Ok(output) => put_output(alloc, &mut told, &output)?,
+            Ok(output) => told.push_str(&done(alloc, &output)?)?,
             Err(fault) => {
                 let number = fault.number();
                 write!(told, ";refused{number}")?;
@@ -241,8 +312,11 @@ static FULL_VIEW: [(Given, &str); 17] = [
 
 #[test]
 fn views_and_tree_go_together(rt: HostRuntime) -> Result<(), Fail> {
-    let mut peer = node(rt.alloc(), 1, 2)?;
-    goes(&rt, rt.alloc(), &mut peer, &FULL_VIEW)
+    for way in [Way::AtOnce, Way::Planned] {
+        let mut peer = node(rt.alloc(), 1, 2)?;
+        goes(&rt, rt.alloc(), &mut peer, &FULL_VIEW, way)?;
+    }
+    Ok(())
 }
 
 /// Node 2 comes to have neighbours 1 and 5, waits for (7, 0), and loses 1 with its note.
@@ -330,10 +404,172 @@ static GETS: [(Given, &str); 11] = [
 #[test]
 fn a_node_and_its_copy_go_their_own_ways(rt: HostRuntime) -> Result<(), Fail> {
     let mut peer = node(rt.alloc(), 2, 5)?;
-    goes(&rt, rt.alloc(), &mut peer, &WAITS)?;
+    goes(&rt, rt.alloc(), &mut peer, &WAITS, Way::AtOnce)?;
     let mut copy = peer.copy()?;
-    goes(&rt, rt.alloc(), &mut copy, &GETS)?;
-    goes(&rt, rt.alloc(), &mut peer, &GETS)
+    goes(&rt, rt.alloc(), &mut copy, &GETS, Way::Planned)?;
+    goes(&rt, rt.alloc(), &mut peer, &GETS, Way::AtOnce)
+}
+
+/// Node 1 with two active places, 3 and 7. The last note of a message goes with its sender, who disconnects or crashes; a boot
+/// asks for nothing.
+static WHOLE: [(Given, &str); 15] = [
+    (
+        Given::Hears(&[1, 3, 0, 0, 0, 3]),
+        "active 3 passive - eager 3 lazy - made 0; up 3",
+    ),
+    (
+        Given::Hears(&[1, 3, 0, 0, 0, 7]),
+        "active 3,7 passive - eager 3,7 lazy - made 0; up 7",
+    ),
+    (
+        Given::Hears(&[1, 1, 0, 0, 0, 9]),
+        "active 3,9 passive 7 eager 3,9 lazy - made 0; down 7; up 9; to 7: 01 06 00000001; to 9: 01 03 00000001; to 3: 01 02 00000001 00000009 06",
+    ),
+    (
+        Given::Hears(&[1, 12, 0, 0, 0, 3]),
+        "active 3,9 passive 7 eager 9 lazy 3 made 0",
+    ),
+    (
+        Given::Hears(&[1, 10, 0, 0, 0, 3, 0, 0, 0, 7, 0, 0, 0, 0]),
+        "active 3,9 passive 7 eager 9 lazy 3 made 0 timer",
+    ),
+    (
+        Given::Hears(&[1, 6, 0, 0, 0, 3]),
+        "active 9 passive 3,7 eager 9 lazy - made 0 timer; down 3",
+    ),
+    (
+        Given::Timer(7, 0),
+        "active 9 passive 3,7 eager 9 lazy - made 0",
+    ),
+    (
+        Given::Timer(7, 0),
+        "active 9 passive 3,7 eager 9 lazy - made 0; refused 18",
+    ),
+    (
+        Given::Broadcast(b"hi"),
+        "active 9 passive 3,7 eager 9 lazy - made 1; to 9: 01 09 00000001 00000001 00000000 0000 0002 6869; 1 delivers (1, 0) 6869",
+    ),
+    (
+        Given::Broadcast(&[0; 1025]),
+        "active 9 passive 3,7 eager 9 lazy - made 1; refused 19",
+    ),
+    (
+        Given::Hears(&[1, 11, 0, 0, 0, 9, 0, 0, 0, 1, 0, 0, 0, 0]),
+        "active 9 passive 3,7 eager 9 lazy - made 1; to 9: 01 09 00000001 00000001 00000000 0000 0002 6869",
+    ),
+    (
+        Given::Hears(&[1, 10, 0, 0, 0, 9, 0, 0, 0, 7, 0, 0, 0, 0]),
+        "active 9 passive 3,7 eager 9 lazy - made 1 timer",
+    ),
+    (
+        Given::Crash(9),
+        "active - passive 3,7 eager - lazy - made 1 timer; down 9; to 7: 01 04 00000001 01",
+    ),
+    (
+        Given::Timer(7, 0),
+        "active - passive 3,7 eager - lazy - made 1",
+    ),
+    (
+        Given::BootBy(1),
+        "active - passive 3,7 eager - lazy - made 1; to 1: 01 01 00000001",
+    ),
+];
+
+/// The note of a member that is dropped for another goes too.
+static DROPPED: [(Given, &str); 5] = [
+    (
+        Given::Hears(&[1, 3, 0, 0, 0, 3]),
+        "active 3 passive - eager 3 lazy - made 0; up 3",
+    ),
+    (
+        Given::Hears(&[1, 3, 0, 0, 0, 7]),
+        "active 3,7 passive - eager 3,7 lazy - made 0; up 7",
+    ),
+    (
+        Given::Hears(&[1, 10, 0, 0, 0, 7, 0, 0, 0, 7, 0, 0, 0, 0]),
+        "active 3,7 passive - eager 3,7 lazy - made 0 timer",
+    ),
+    (
+        Given::Hears(&[1, 1, 0, 0, 0, 9]),
+        "active 3,9 passive 7 eager 3,9 lazy - made 0 timer; down 7; up 9; to 7: 01 06 00000001; to 9: 01 03 00000001; to 3: 01 02 00000001 00000009 06",
+    ),
+    (
+        Given::Timer(7, 0),
+        "active 3,9 passive 7 eager 3,9 lazy - made 0",
+    ),
+];
+
+#[test]
+fn notes_go_with_their_senders(rt: HostRuntime) -> Result<(), Fail> {
+    let mut peer = node(rt.alloc(), 1, 2)?;
+    goes(&rt, rt.alloc(), &mut peer, &WHOLE, Way::Planned)?;
+    let mut peer = node(rt.alloc(), 1, 2)?;
+    goes(&rt, rt.alloc(), &mut peer, &DROPPED, Way::AtOnce)
+}
+
+/// As many bytes as a payload may have.
+static MOST: [u8; 1024] = [7; 1024];
+
+/// One message is sent, which begins with this head and ends with `MOST`, and that is delivered.
+fn brings(rt: &impl Abort, alloc: Global, output: &Output, head: &[u8]) -> Result<(), Fail> {
+    assert_eq!(rt; output.sends.len(), 1);
+    let bytes = bytes_of(alloc, &output.sends[0].1)?;
+    assert_eq!(rt; bytes.len(), 1042);
+    assert!(rt; bytes.starts_with(head));
+    assert!(rt; bytes.ends_with(&MOST));
+    let delivery = output.delivered.as_ref().ok_or("nothing is delivered")?;
+    assert_eq!(rt; delivery.payload.as_slice(), &MOST[..]);
+    Ok(())
+}
+
+#[test]
+fn a_gossip_of_1024_bytes(rt: HostRuntime) -> Result<(), Fail> {
+    let alloc = rt.alloc();
+    let mut peer = node(alloc, 1, 2)?;
+    goes(&rt, alloc, &mut peer, &DROPPED[..2], Way::AtOnce)?;
+    let from_three = [1, 9, 0, 0, 0, 3, 0, 0, 0, 7, 0, 0, 0, 0, 0, 0, 4, 0];
+    let mut gossip = Vec::from_slice(alloc, &from_three)?;
+    gossip.extend_from_slice(&MOST)?;
+    let input = Input::Receive(decode(alloc, &gossip)?);
+    let output = peer.step(input, &Words::new([5; 64]))?;
+    let sent_on = [1, 9, 0, 0, 0, 1, 0, 0, 0, 7, 0, 0, 0, 0, 0, 1, 4, 0];
+    brings(&rt, alloc, &output, &sent_on)
+}
+
+#[test]
+fn a_broadcast_of_1024_bytes(rt: HostRuntime) -> Result<(), Fail> {
+    let alloc = rt.alloc();
+    let mut peer = node(alloc, 1, 2)?;
+    goes(&rt, alloc, &mut peer, &DROPPED[..1], Way::AtOnce)?;
+    let most = Seq::new(Vec::from_slice(alloc, &MOST)?);
+    let output = peer.step(Input::Broadcast(most), &Words::new([5; 64]))?;
+    let sent = [1, 9, 0, 0, 0, 1, 0, 0, 0, 1, 0, 0, 0, 0, 0, 0, 4, 0];
+    brings(&rt, alloc, &output, &sent)
+}
+
+/// A node that has made all its broadcasts.
+static SPENT: [(Given, &str); 2] = [
+    (
+        Given::Broadcast(b"hi"),
+        "active - passive - eager - lazy - made 4096; refused 20",
+    ),
+    (
+        Given::Broadcast(&[7; 1025]),
+        "active - passive - eager - lazy - made 4096; refused 19",
+    ),
+];
+
+#[test]
+fn a_node_makes_4096_broadcasts(rt: HostRuntime) -> Result<(), Fail> {
+    let words = Words::new([5; 64]);
+    let mut peer = node(rt.alloc(), 1, 2)?;
+    for made in 0..4096_u32 {
+        let empty = Seq::new(Vec::new(rt.alloc()));
+        let output = peer.step(Input::Broadcast(empty), &words)?;
+        let delivery = output.delivered.as_ref().ok_or("nothing is delivered")?;
+        assert_eq!(&rt; delivery.id, message_id(1, made));
+    }
+    goes(&rt, rt.alloc(), &mut peer, &SPENT, Way::Planned)
 }
 
 #[test]

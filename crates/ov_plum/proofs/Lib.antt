@@ -1,2 +1,3 @@
 mod Branching
 pub mod Maps
+mod Noting

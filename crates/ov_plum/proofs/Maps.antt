@@ -1,5 +1,5 @@
 -- What the entries of an `IndexMap` by ids stand for, as a finite map.
-use Rattle.std.proofs.Common.{◌≡◌, ℕ, suc, drop, slice_get, Bool, cond, List, [], ◌∷◌, ◌&&◌, Option, None, Some, refl, sym, ap, subst, ◌∙◌, nat_eq}
+use Rattle.std.proofs.Common.{◌≡◌, ℕ, suc, drop, slice_get, Bool, true, false, cond, List, [], ◌∷◌, ◌&&◌, Option, None, Some, refl, sym, ap, subst, ◌∙◌, nat_eq}
 use Rattle.std.proofs.Math.Seq.{drop-cons}
 use Rattle.std.proofs.lemmas.Option.{slice_get_within, get_or_from_slice_get}
 use Rattle.std.specs.declared.cmp.Ordering.{Ordering}
@@ -7,8 +7,9 @@ use Rattle.std.specs.declared.cmp.Ordering.TheVariants.{Less, Equal, Greater}
 use Rattle.std.specs.Ordering.{nat_cmp, ordering_then, eq_by_cmp}
 use Rattle.std.specs.Cmp.{IsTotalOrder, eq_by_cmp_equiv, unsigned_ties, nat_cmp_total, then_total, on_total, both_tied}
 use Rattle.std.specs.Map.{lookup}
-use Rattle.std.specs.FinMap.{IsAntisymmetric, find, from_entries, get, insert, remove, get-from_entries, get-insert, get-remove, same_map, nat_cmp-IsAntisymmetric}
+use Rattle.std.specs.FinMap.{FinMap, IsAntisymmetric, find, from_entries, get, insert, remove, get-from_entries, get-insert, get-remove, same_map, nat_cmp-IsAntisymmetric}
 use Rattle.ov_ids.specs.declared.id.MsgId.{MsgId}
+use Rattle.std.proofs.lemmas.Map.Views.{tells_apart}
 use Rattle.ov_plum.specs.Ids.{id_cmp}
 
 pub id_cmp_total : IsTotalOrder id_cmp
@@ -70,3 +71,14 @@ module _ {X : Type 0} where
 -- entries from a place on, and the one at that place
 pub one_more : {X : Type 0} (es : List (MsgId × X)) (i : ℕ) (e : MsgId × X) → slice_get es i ≡ Some e → from_entries {R = id_cmp} (drop i es) ≡ insert (from_entries (drop (suc i) es)) e.0 e.1
 one_more es i e at = ap from_entries (drop-cons es i e (slice_get_within es i e at) ∙ ap (λ x. x ∷ drop (suc i) es) (get_or_from_slice_get es i e e at))
+
+-- what stands at an id may be put there again
+pub put_again : {X : Type 0} (m : FinMap id_cmp X) (k : MsgId) (v : X) → get m k ≡ Some v → insert m k v ≡ m
+put_again m k v at = same_map id_cmp_total id_cmp_same _ _ (λ q. get-insert id_cmp_total m k v q ∙ there q)
+  where
+    there : (q : MsgId) → cond (eq_by_cmp id_cmp q k) (Some v) (get m q) ≡ get m q
+    there q =
+        elim (eq_by_cmp id_cmp q k) as (λ b. eq_by_cmp id_cmp q k ≡ b → cond b (Some v) (get m q) ≡ get m q) [
+          | true ↦ λ e. sym at ∙ ap (get m) (sym (tells_apart id_cmp_same q k e))
+          | false ↦ λ _. refl
+        ] refl

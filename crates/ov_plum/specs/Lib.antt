@@ -3,3 +3,4 @@ pub mod Ids
 pub mod Tree
 pub mod Codes
 pub mod Spreading
+pub mod Turning

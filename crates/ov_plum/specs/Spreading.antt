@@ -104,16 +104,16 @@ AllowedFrom t s (Shuffle origin ttl ids) u sends delivery = (u ≡ t) × IsQuiet
 AllowedFrom t s (ShuffleReply ids) u sends delivery = (u ≡ t) × IsQuiet sends delivery
 
 -- what comes to the tree
-pub data Turn : Type 0 where
-  broadcasts : List ℕ → Turn
-  receives : Message → Turn
-  fires : MsgId → Turn
-  goes_up : ℕ → Turn
-  goes_down : ℕ → Turn
+pub data Prompt : Type 0 where
+  broadcasts : List ℕ → Prompt
+  receives : Message → Prompt
+  fires : MsgId → Prompt
+  goes_up : ℕ → Prompt
+  goes_down : ℕ → Prompt
 
 -- the tree t, what comes to it, the tree u afterwards, what the node sends to whom, in order, and what it delivers. A message
 -- whose sender is the node itself does nothing
-abbrev pub AllowedTree : Tree → Turn → Tree → List (ℕ × Message) → Option Delivered → Type 0
+abbrev pub AllowedTree : Tree → Prompt → Tree → List (ℕ × Message) → Option Delivered → Type 0
 AllowedTree t (broadcasts payload) u sends delivery = AllowedBroadcast t payload u sends delivery
 AllowedTree t (receives m) u sends delivery = MatchBool (m.from == t.me) ((u ≡ t) × IsQuiet sends delivery) (AllowedFrom t m.from m.body u sends delivery)
 AllowedTree t (fires id) u sends delivery = AllowedTimer t id u sends delivery

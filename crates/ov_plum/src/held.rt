@@ -8,7 +8,7 @@ use std::sync::Arc;
 
 /// A message that is held: the round with which it is sent on, and its payload of at most 1,024 bytes, which copies share.
 #[derive(Drop)]
-pub(crate) struct Held {
+pub struct Held {
     round: u16,
     payload: Arc<Seq<u8>>,
 }

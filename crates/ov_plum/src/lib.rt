@@ -11,10 +11,14 @@ mod links;
 mod notes;
 mod plum;
 mod spread;
+mod turn;
 
 pub use fault::TimerFault;
+pub use held::Held;
+pub use notes::Notes;
 pub use plum::Plum;
 pub use spread::Spread;
+pub use turn::{Planned, Turn};
 
 #[cfg(test)]
 mod tests;

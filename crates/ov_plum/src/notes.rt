@@ -1,6 +1,5 @@
-ghost use Rattle.std.specs.Prelude.{◌≡◌, ◌==◌, [], not, drop, slice_get, IfOk, OnOk, OnErr};
-ghost use Rattle.ov_ids.specs.Sets.{without};
-ghost use Rattle.ov_plum.specs.Tree.{noting};
+ghost use Rattle.std.specs.Prelude.{◌≡◌, ◌==◌, [], ◌∷◌, ◌++◌, not, drop, slice_get, IfOk};
+ghost use Rattle.ov_ids.specs.Sets.{has, without};
 
 use crate::by_id::TryCopy;
 use ov_ids::{NodeId, OutOfMemory};
@@ -9,7 +8,7 @@ use std::marker::Model;
 
 /// Who said to have a message, the oldest first. Contracts see the list.
 #[derive(Drop)]
-pub(crate) struct Notes {
+pub struct Notes {
     senders: Vec<NodeId>,
 }
 
@@ -22,24 +21,30 @@ impl Model for Notes {
 }
 
 impl Notes {
-    /// No notes. It takes no memory.
-    pub(crate) fn new(alloc: Global) -> Notes
-        ensures { result ≡ [] }
+    /// The note of one sender.
+    pub(crate) fn of(alloc: Global, sender: NodeId) -> Result<Notes, OutOfMemory>
+        ensures { IfOk result (λ n. n ≡ sender ∷ []) }
     {
-        Notes {
-            senders: Vec::new(alloc),
-        }
+        Ok(Notes {
+            senders: Vec::from_slice(alloc, &[sender])?,
+        })
     }
 
-    /// Notes a sender, as the last one unless it is there.
-    pub(crate) fn note(&mut self, sender: NodeId) -> Result<(), OutOfMemory>
-        ensures ok { OnOk result (self.new ≡ noting sender self.old) }
-        ensures err { OnErr result (self.new ≡ self.old) }
+    /// Whether there is a note of a sender.
+    pub(crate) fn contains(&self, sender: NodeId) -> bool
+        ensures { result ≡ has self.now sender }
     {
-        if !self.senders.contains(&sender) {
-            self.senders.push(sender)?;
-        }
-        Ok(())
+        self.senders.contains(&sender)
+    }
+
+    /// These notes, and that of one more sender as the last.
+    pub(crate) fn with(&self, sender: NodeId) -> Result<Notes, OutOfMemory>
+        ensures { IfOk result (λ n. n ≡ self.now ++ sender ∷ []) }
+    {
+        let mut senders = Vec::with_capacity(*self.senders.allocator(), self.senders.len() + 1)?;
+        senders.extend_from_slice(&self.senders)?;
+        senders.push(sender)?;
+        Ok(Notes { senders })
     }
 
     /// The oldest sender.

@@ -1,18 +1,20 @@
-ghost use Rattle.std.specs.Prelude.{◌≡◌, ◌<◌, ◌≤◌, ◌+◌, [], length, vec_len, None, Err, IfOk, IfErr, OnOk, OnErr};
+ghost use Rattle.std.specs.Prelude.{◌≡◌, ◌<◌, ◌≤◌, ◌+◌, [], false, length, vec_len, None, Ok, Err, IfOk, IfErr, OnOk, OnErr};
 ghost use Rattle.std.specs.FinMap as map;
 ghost use Rattle.std.specs.List.{AllByRecursion};
 ghost use Rattle.ov_wire.specs.Messages.{AreInRange};
 ghost use Rattle.ov_wire.specs.declared.message.Body.TheVariants.{Gossip, IHave, Graft, Prune};
 ghost use Rattle.ov_plum.specs.Spreading.{AllowedTree, receives, broadcasts, fires, AllowedUp, AllowedDown};
 ghost use Rattle.ov_plum.specs.Tree.{AreBranches};
+ghost use Rattle.ov_plum.specs.Turning.{turned, wants_room};
 ghost use Rattle.ov_plum.specs.declared.fault.TimerFault.TheVariants.{NoTimer};
 
-use crate::by_id::{ById, TryCopy};
+use crate::by_id::ById;
 use crate::fault::TimerFault;
 use crate::held::Held;
 use crate::links::Links;
 use crate::notes::Notes;
 use crate::spread::{Spread, whole_message};
+use crate::turn::{Planned, Turn};
 use ov_ids::{MsgId, NodeId, OutOfMemory, Seq};
 use ov_wire::{Body, Message};
 use std::alloc::Global;
@@ -97,6 +99,189 @@ impl Plum {
         self.timers.contains(&id)
     }
 
+    /// Plans a broadcast of the node's own, of at most 1,024 bytes: it is to be held, delivered and sent on.
+    pub fn plan_broadcast(&self, payload: Seq<u8>) -> Result<Planned, OutOfMemory>
+        requires payload { length payload ≤ 1024 }
+        requires made { self.now.made < 4096 }
+        ensures allowed { IfOk result (λ p. AllowedTree self.now (broadcasts payload)
+            (turned self.now p.turn) p.spread.sends.items p.spread.delivered) }
+        ensures few { IfOk result (λ p. vec_len p.spread.sends ≤ length self.now.branches.eager + length self.now.branches.lazy) }
+        ensures most { IfOk result (λ p. vec_len p.spread.sends ≤ 64) }
+        ensures ranges { IfOk result (λ p. AllByRecursion (λ t. AreInRange t.1) p.spread.sends.items) }
+    {
+        let alloc = self.held.allocator();
+        let id = MsgId {
+            origin: self.me,
+            seq: self.made,
+        };
+        let held = Held::new(alloc, 0, payload)?;
+        let spread = Spread::whole(alloc, self.me, &id, &held, &self.links)?;
+        let next = self.made + 1;
+        Ok(Planned {
+            spread,
+            turn: Turn::Makes { id, held, next },
+        })
+    }
+
+    /// Plans what GOSSIP from a node does, of at most 1,024 bytes. Where the message is held, the sender is to become lazy and
+    /// is told PRUNE. Else it is delivered, its timer and notes are to be cleared, it is to be held and sent on to all but the
+    /// sender, who is to become eager.
+    pub fn plan_gossip(
+        &self,
+        from: NodeId,
+        id: MsgId,
+        round: u16,
+        payload: Seq<u8>,
+    ) -> Result<Planned, OutOfMemory>
+        requires { length payload ≤ 1024 }
+        ensures allowed { IfOk result (λ p. AllowedTree self.now (receives (record { from = from; body = Gossip id round payload }))
+            (turned self.now p.turn) p.spread.sends.items p.spread.delivered) }
+        ensures few { IfOk result (λ p. vec_len p.spread.sends ≤ 1 + length self.now.branches.eager + length self.now.branches.lazy) }
+        ensures most { IfOk result (λ p. vec_len p.spread.sends ≤ 64) }
+        ensures ranges { IfOk result (λ p. AllByRecursion (λ t. AreInRange t.1) p.spread.sends.items) }
+    {
+        let alloc = self.held.allocator();
+        if from == self.me {
+            return Ok(quiet(alloc, Turn::Rests));
+        }
+        if self.held.contains(&id) {
+            return Ok(Planned {
+                spread: Spread::one(alloc, from, self.say(Body::Prune))?,
+                turn: Turn::Lazy(from),
+            });
+        }
+        let held = Held::new(alloc, round.saturating_add(1), payload)?;
+        let mut others = self.links.copy();
+        others.down(from);
+        let spread = Spread::whole(alloc, self.me, &id, &held, &others)?;
+        Ok(Planned {
+            spread,
+            turn: Turn::Holds { id, held, from },
+        })
+    }
+
+    /// Plans what IHAVE from a node does. Nothing where the message is held, the sender is no neighbour or its note is there;
+    /// else its note is to go last, and the timer to be set.
+    #[tactic(auto, using(crate::proofs::Noting::noted_again))]
+    pub fn plan_ihave(&self, from: NodeId, id: MsgId) -> Result<Planned, OutOfMemory>
+        ensures allowed { IfOk result (λ p. AllowedTree self.now (receives (record { from = from; body = IHave id }))
+            (turned self.now p.turn) p.spread.sends.items p.spread.delivered) }
+        ensures none { IfOk result (λ p. vec_len p.spread.sends ≡ 0) }
+    {
+        let alloc = self.held.allocator();
+        if from == self.me || self.held.contains(&id) || !self.links.is_linked(from) {
+            return Ok(quiet(alloc, Turn::Rests));
+        }
+        let notes = match self.timers.get(&id) {
+            Some(notes) => {
+                if notes.contains(from) {
+                    return Ok(quiet(alloc, Turn::Rests));
+                }
+                notes.with(from)?
+            }
+            None => Notes::of(alloc, from)?,
+        };
+        let turn = Turn::Puts {
+            id,
+            notes,
+            asked: None,
+        };
+        Ok(quiet(alloc, turn))
+    }
+
+    /// Plans what GRAFT from a node does: it is to become eager, and gets the message where that is held.
+    pub fn plan_graft(&self, from: NodeId, id: MsgId) -> Result<Planned, OutOfMemory>
+        ensures allowed { IfOk result (λ p. AllowedTree self.now (receives (record { from = from; body = Graft id }))
+            (turned self.now p.turn) p.spread.sends.items p.spread.delivered) }
+        ensures few { IfOk result (λ p. vec_len p.spread.sends ≤ 1) }
+        ensures ranges { IfOk result (λ p. AllByRecursion (λ t. AreInRange t.1) p.spread.sends.items) }
+    {
+        let alloc = self.held.allocator();
+        if from == self.me {
+            return Ok(quiet(alloc, Turn::Rests));
+        }
+        let spread = match self.held.get(&id) {
+            Some(held) => Spread::one(alloc, from, whole_message(alloc, self.me, id, held)?)?,
+            None => Spread::quiet(alloc),
+        };
+        Ok(Planned {
+            spread,
+            turn: Turn::Eager(from),
+        })
+    }
+
+    /// Plans what PRUNE from a node does: it is to become lazy. It takes no memory, and its turn takes none.
+    pub fn plan_prune(&self, from: NodeId) -> Planned
+        ensures allowed { AllowedTree self.now (receives (record { from = from; body = Prune }))
+            (turned self.now result.turn) result.spread.sends.items result.spread.delivered }
+        ensures none { vec_len result.spread.sends ≡ 0 }
+        ensures room { wants_room result.turn ≡ false }
+    {
+        let alloc = self.held.allocator();
+        if from == self.me {
+            return quiet(alloc, Turn::Rests);
+        }
+        quiet(alloc, Turn::Lazy(from))
+    }
+
+    /// Plans what the timer of an id does: the oldest note is to be taken out, and who said so is to become eager and gets
+    /// GRAFT. Without a note the timer is to be cleared. NoTimer (18) where it is not set.
+    pub fn plan_timer(&self, id: MsgId) -> Result<Planned, TimerFault>
+        ensures allowed { IfOk result (λ p. AllowedTree self.now (fires id)
+            (turned self.now p.turn) p.spread.sends.items p.spread.delivered) }
+        ensures no_timer { map.get self.now.timers id ≡ None → result ≡ Err NoTimer }
+        ensures set { result ≡ Err NoTimer → map.get self.now.timers id ≡ None }
+        ensures few { IfOk result (λ p. vec_len p.spread.sends ≤ 1) }
+        ensures ranges { IfOk result (λ p. AllByRecursion (λ t. AreInRange t.1) p.spread.sends.items) }
+    {
+        let alloc = self.held.allocator();
+        let notes = match self.timers.get(&id) {
+            Some(notes) => notes,
+            None => return Err(TimerFault::NoTimer),
+        };
+        let sender = match notes.oldest() {
+            Some(sender) => sender,
+            None => return Ok(quiet(alloc, Turn::Clears(id))),
+        };
+        let notes = notes.later()?;
+        let spread = Spread::one(alloc, sender, self.say(Body::Graft { id }))?;
+        let asked = Some(sender);
+        Ok(Planned {
+            spread,
+            turn: Turn::Puts { id, notes, asked },
+        })
+    }
+
+    /// Changes the tree as a turn says. Only a turn that puts something in takes memory.
+    pub fn apply(&mut self, turn: Turn) -> Result<(), OutOfMemory>
+        ensures ok { OnOk result (self.new ≡ turned self.old turn) }
+        ensures err { OnErr result (self.new ≡ self.old) }
+        ensures room { wants_room turn ≡ false → result ≡ Ok tt }
+    {
+        match turn {
+            Turn::Rests => {}
+            Turn::Makes { id, held, next } => {
+                self.held.insert(id, held)?;
+                self.made = next;
+            }
+            Turn::Holds { id, held, from } => {
+                self.held.insert(id, held)?;
+                self.timers.remove(&id);
+                self.links.make_eager(from);
+            }
+            Turn::Eager(id) => self.links.make_eager(id),
+            Turn::Lazy(id) => self.links.make_lazy(id),
+            Turn::Puts { id, notes, asked } => {
+                self.timers.insert(id, notes)?;
+                if let Some(asked) = asked {
+                    self.links.make_eager(asked);
+                }
+            }
+            Turn::Clears(id) => self.timers.remove(&id),
+        }
+        Ok(())
+    }
+
     /// Makes a broadcast of the node's own, of at most 1,024 bytes: it is held, delivered and sent on.
     pub fn broadcast(&mut self, payload: Seq<u8>) -> Result<Spread, OutOfMemory>
         requires payload { length payload ≤ 1024 }
@@ -107,15 +292,8 @@ impl Plum {
         ensures ranges { IfOk result (λ s. AllByRecursion (λ t. AreInRange t.1) s.sends.items) }
         ensures err { OnErr result (self.new ≡ self.old) }
     {
-        let alloc = self.held.allocator();
-        let id = MsgId {
-            origin: self.me,
-            seq: self.made,
-        };
-        let held = Held::new(alloc, 0, payload)?;
-        let spread = Spread::whole(alloc, self.me, &id, &held, &self.links)?;
-        self.held.insert(id, held)?;
-        self.made += 1;
+        let Planned { spread, turn } = self.plan_broadcast(payload)?;
+        self.apply(turn)?;
         Ok(spread)
     }
 
@@ -136,44 +314,22 @@ impl Plum {
         ensures ranges { IfOk result (λ s. AllByRecursion (λ t. AreInRange t.1) s.sends.items) }
         ensures err { OnErr result (self.new ≡ self.old) }
     {
-        let alloc = self.held.allocator();
-        if from == self.me {
-            return Ok(Spread::quiet(alloc));
-        }
-        if self.held.contains(&id) {
-            let spread = Spread::one(alloc, from, self.say(Body::Prune))?;
-            self.links.make_lazy(from);
-            return Ok(spread);
-        }
-        let held = Held::new(alloc, round.saturating_add(1), payload)?;
-        let mut others = self.links.copy();
-        others.down(from);
-        let spread = Spread::whole(alloc, self.me, &id, &held, &others)?;
-        self.held.insert(id, held)?;
-        self.timers.remove(&id);
-        self.links.make_eager(from);
+        let Planned { spread, turn } = self.plan_gossip(from, id, round, payload)?;
+        self.apply(turn)?;
         Ok(spread)
     }
 
-    /// At IHAVE from a node. Nothing where the message is held or the sender is no neighbour; else its note goes last, and the
-    /// timer is set.
+    /// At IHAVE from a node. Nothing where the message is held or the sender is no neighbour; else its note goes last, unless it
+    /// is there, and the timer is set.
     pub fn on_ihave(&mut self, from: NodeId, id: MsgId) -> Result<Spread, OutOfMemory>
         ensures allowed { IfOk result (λ s. AllowedTree self.old (receives (record { from = from; body = IHave id }))
             self.new s.sends.items s.delivered) }
         ensures none { IfOk result (λ s. vec_len s.sends ≡ 0) }
         ensures err { OnErr result (self.new ≡ self.old) }
     {
-        let alloc = self.held.allocator();
-        if from == self.me || self.held.contains(&id) || !self.links.is_linked(from) {
-            return Ok(Spread::quiet(alloc));
-        }
-        let mut notes = match self.timers.get(&id) {
-            Some(notes) => notes.try_copy()?,
-            None => Notes::new(alloc),
-        };
-        notes.note(from)?;
-        self.timers.insert(id, notes)?;
-        Ok(Spread::quiet(alloc))
+        let Planned { spread, turn } = self.plan_ihave(from, id)?;
+        self.apply(turn)?;
+        Ok(spread)
     }
 
     /// At GRAFT from a node: it becomes eager, and gets the message where that is held.
@@ -184,15 +340,8 @@ impl Plum {
         ensures ranges { IfOk result (λ s. AllByRecursion (λ t. AreInRange t.1) s.sends.items) }
         ensures err { OnErr result (self.new ≡ self.old) }
     {
-        let alloc = self.held.allocator();
-        if from == self.me {
-            return Ok(Spread::quiet(alloc));
-        }
-        let spread = match self.held.get(&id) {
-            Some(held) => Spread::one(alloc, from, whole_message(alloc, self.me, id, held)?)?,
-            None => Spread::quiet(alloc),
-        };
-        self.links.make_eager(from);
+        let Planned { spread, turn } = self.plan_graft(from, id)?;
+        self.apply(turn)?;
         Ok(spread)
     }
 
@@ -202,10 +351,11 @@ impl Plum {
             self.new result.sends.items result.delivered }
         ensures none { vec_len result.sends ≡ 0 }
     {
-        if from != self.me {
-            self.links.make_lazy(from);
+        let Planned { spread, turn } = self.plan_prune(from);
+        match self.apply(turn) {
+            Ok(()) => spread,
+            Err(_) => unreachable!(),
         }
-        Spread::quiet(self.held.allocator())
     }
 
     /// The timer of an id fires: the oldest note is taken out, and who said so becomes eager and gets GRAFT. Without a note the
@@ -218,22 +368,8 @@ impl Plum {
         ensures ranges { IfOk result (λ s. AllByRecursion (λ t. AreInRange t.1) s.sends.items) }
         ensures err { OnErr result (self.new ≡ self.old) }
     {
-        let alloc = self.held.allocator();
-        let notes = match self.timers.get(&id) {
-            Some(notes) => notes,
-            None => return Err(TimerFault::NoTimer),
-        };
-        let sender = match notes.oldest() {
-            Some(sender) => sender,
-            None => {
-                self.timers.remove(&id);
-                return Ok(Spread::quiet(alloc));
-            }
-        };
-        let later = notes.later()?;
-        let spread = Spread::one(alloc, sender, self.say(Body::Graft { id }))?;
-        self.timers.insert(id, later)?;
-        self.links.make_eager(sender);
+        let Planned { spread, turn } = self.plan_timer(id)?;
+        self.apply(turn)?;
         Ok(spread)
     }
 
@@ -261,5 +397,18 @@ impl Plum {
             from: self.me,
             body,
         }
+    }
+}
+
+/// A plan by which nothing is sent or delivered.
+fn quiet(alloc: Global, turn: Turn) -> Planned
+    ensures sends { result.spread.sends.items ≡ [] }
+    ensures len { vec_len result.spread.sends ≡ 0 }
+    ensures delivered { result.spread.delivered ≡ None }
+    ensures turn { result.turn ≡ turn }
+{
+    Planned {
+        spread: Spread::quiet(alloc),
+        turn,
     }
 }

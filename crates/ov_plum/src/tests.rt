@@ -7,16 +7,18 @@ use std::alloc::Global;
 use std::process::Abort;
 use std::test::Fail;
 
-/// What comes to a node. The payload of a GOSSIP is `hi`, that of a broadcast `ho`.
+/// What comes to a node. An id is a node and a number. The payload of a GOSSIP is `hi`, that of a broadcast `ho`.
 #[derive(Clone, Copy, Drop)]
 enum Input {
     Broadcast,
     /// The sender, the id and the round.
-    Gossip(u32, MsgId, u16),
-    IHave(u32, MsgId),
-    Graft(u32, MsgId),
+    Gossip(u32, u32, u32, u16),
+    /// The sender and the id.
+    IHave(u32, u32, u32),
+    /// The sender and the id.
+    Graft(u32, u32, u32),
     Prune(u32),
-    Timer(MsgId),
+    Timer(u32, u32),
     Up(u32),
     Down(u32),
 }
@@ -47,7 +49,14 @@ fn node(rt: &impl Abort, alloc: Global, near: &[u32]) -> Plum {
     plum
 }
 
-fn step(
+fn message_id(origin: u32, seq: u32) -> MsgId {
+    MsgId {
+        origin: NodeId(origin),
+        seq,
+    }
+}
+
+fn take(
     rt: &impl Abort,
     alloc: Global,
     plum: &mut Plum,
@@ -58,13 +67,14 @@ fn step(
             assert!(rt; plum.made() < 4096);
             plum.broadcast(payload(alloc, b"ho")?)?
         }
-        Input::Gossip(from, id, round) => {
+        Input::Gossip(from, origin, seq, round) => {
+            let id = message_id(origin, seq);
             plum.on_gossip(NodeId(from), id, round, payload(alloc, b"hi")?)?
         }
-        Input::IHave(from, id) => plum.on_ihave(NodeId(from), id)?,
-        Input::Graft(from, id) => plum.on_graft(NodeId(from), id)?,
+        Input::IHave(from, origin, seq) => plum.on_ihave(NodeId(from), message_id(origin, seq))?,
+        Input::Graft(from, origin, seq) => plum.on_graft(NodeId(from), message_id(origin, seq))?,
         Input::Prune(from) => plum.on_prune(NodeId(from)),
-        Input::Timer(id) => plum.on_timer(id)?,
+        Input::Timer(origin, seq) => plum.on_timer(message_id(origin, seq))?,
         Input::Up(id) => {
             comes_up(rt, plum, id);
             Spread::quiet(alloc)
@@ -110,19 +120,17 @@ fn put_ids(told: &mut String, name: &str, ids: &[NodeId]) -> Result<(), Fail> {
     Ok(())
 }
 
-fn put_node(told: &mut String, plum: &Plum) -> Result<(), Fail> {
-    put_ids(told, "eager", plum.eager())?;
-    put_ids(told, "lazy", plum.lazy())?;
+/// The node's neighbours, and which timers of (2,0), (2,1) and (7,0) are set.
+fn state(alloc: Global, plum: &Plum) -> Result<String, Fail> {
+    let mut told = String::new(alloc);
+    put_ids(&mut told, "eager", plum.eager())?;
+    put_ids(&mut told, "lazy", plum.lazy())?;
     for (origin, seq) in [(2, 0), (2, 1), (7, 0)] {
-        let id = MsgId {
-            origin: NodeId(origin),
-            seq,
-        };
-        if plum.has_timer(id) {
+        if plum.has_timer(message_id(origin, seq)) {
             write!(told, ",timer({origin},{seq})")?;
         }
     }
-    Ok(())
+    Ok(told)
 }
 
 fn put_spread(alloc: Global, told: &mut String, spread: &Spread) -> Result<(), Fail> {
@@ -140,247 +148,359 @@ fn put_spread(alloc: Global, told: &mut String, spread: &Spread) -> Result<(), F
     Ok(())
 }
 
-fn message_id(origin: u32, seq: u32) -> MsgId {
-    MsgId {
-        origin: NodeId::new(origin),
-        seq,
+/// One step. Where memory is refused the node is as before, and the step is taken anew.
+fn step(
+    rt: &impl Abort,
+    alloc: Global,
+    plum: &mut Plum,
+    input: Input,
+) -> Result<Result<Spread, TimerFault>, Fail> {
+    let before = state(alloc, plum)?;
+    let made = plum.made();
+    match take(rt, alloc, plum, input) {
+        Err(TimerFault::OutOfMemory) => {
+            assert_eq!(rt; state(alloc, plum)?.as_str(), before.as_str());
+            assert_eq!(rt; plum.made(), made);
+            Ok(take(rt, alloc, plum, input))
+        }
+        answer => Ok(answer),
     }
 }
 
-/// The sender, the id and the round that stand in a text, 0 where it ends before them.
-fn numbers(text: &str) -> Result<(u32, MsgId, u16), Fail> {
-    let mut numbers = [0; 4];
-    for (number, word) in numbers.iter_mut().zip(text.split_whitespace()) {
-        *number = word.parse::<u32>()?;
-    }
-    let id = message_id(numbers[1], numbers[2]);
-    Ok((numbers[0], id, u16::try_from(numbers[3])?))
-}
-
-/// The input that a text names by its kind and its numbers.
-fn read_input(text: &str) -> Result<Input, Fail> {
-    let (name, rest) = text.split_once(' ').ok_or("an input has numbers")?;
-    let (from, id, round) = numbers(rest)?;
-    Ok(if name == "broadcast" {
-        Input::Broadcast
-    } else if name == "gossip" {
-        Input::Gossip(from, id, round)
-    } else if name == "ihave" {
-        Input::IHave(from, id)
-    } else if name == "graft" {
-        Input::Graft(from, id)
-    } else if name == "prune" {
-        Input::Prune(from)
-    } else if name == "timer" {
-        Input::Timer(id)
-    } else if name == "up" {
-        Input::Up(from)
-    } else if name == "down" {
-        Input::Down(from)
-    } else {
-        return Err("no such input".into());
-    })
-}
-
-/// The node does as each row says, one after another. A row has what comes to the node; then the node's neighbours, which
-/// timers of (2,0), (2,1) and (7,0) are set, what it sends to whom, and what it delivers, where spaces do not count.
-fn goes(rt: &impl Abort, alloc: Global, plum: &mut Plum, rows: &str) -> Result<(), Fail> {
-    for row in rows.lines().skip(1) {
-        let (text, expected) = row.split_once(" => ").ok_or("a row has two parts")?;
-        let answer = step(rt, alloc, plum, read_input(text)?);
-        let mut told = String::new(alloc);
-        put_node(&mut told, plum)?;
+/// The node does as each row says, one after another. A row has what comes to the node; then its state afterwards, what it
+/// sends to whom, and what it delivers, where spaces do not count.
+fn goes(
+    rt: &impl Abort,
+    alloc: Global,
+    plum: &mut Plum,
+    rows: &[(Input, &'static str)],
+) -> Result<(), Fail> {
+    for (input, expected) in rows {
+        let answer = step(rt, alloc, plum, *input)?;
+        let mut told = state(alloc, plum)?;
         match answer {
             Err(TimerFault::NoTimer) => told.push_str(",refused18")?,
             spread => put_spread(alloc, &mut told, &spread?)?,
         }
         let expected = expected.replace(alloc, " ", "")?;
-        assert_eq!(rt; told.as_str(), expected.as_str(), "at {row}");
+        assert_eq!(rt; told.as_str(), expected.as_str());
     }
     Ok(())
 }
 
-const AWAITED: &str = r#"
-ihave 1 7 0 => eager 1,5 lazy -, timer (7,0)
-ihave 5 7 0 => eager 1,5 lazy -, timer (7,0)
-timer 0 7 0 => eager 1,5 lazy -, timer (7,0), to 1: 01 0b 00000002 00000007 00000000
-timer 0 7 0 => eager 1,5 lazy -, timer (7,0), to 5: 01 0b 00000002 00000007 00000000
-timer 0 7 0 => eager 1,5 lazy -
-timer 0 7 0 => eager 1,5 lazy -, refused 18
-gossip 5 7 0 0 => eager 1,5 lazy -, to 1: 01 09 00000002 00000007 00000000 0001 0002 6869, delivered (7,0): 6869
-gossip 1 7 0 0 => eager 5 lazy 1, to 1: 01 0c 00000002
-gossip 1 7 0 7 => eager 5 lazy 1, to 1: 01 0c 00000002
-graft 1 7 0 => eager 1,5 lazy -, to 1: 01 09 00000002 00000007 00000000 0001 0002 6869
-ihave 1 7 0 => eager 1,5 lazy -
-timer 0 7 0 => eager 1,5 lazy -, refused 18
-"#;
+static AWAITED: [(Input, &str); 12] = [
+    (Input::IHave(1, 7, 0), "eager 1,5 lazy -, timer (7,0)"),
+    (Input::IHave(5, 7, 0), "eager 1,5 lazy -, timer (7,0)"),
+    (
+        Input::Timer(7, 0),
+        "eager 1,5 lazy -, timer (7,0), to 1: 01 0b 00000002 00000007 00000000",
+    ),
+    (
+        Input::Timer(7, 0),
+        "eager 1,5 lazy -, timer (7,0), to 5: 01 0b 00000002 00000007 00000000",
+    ),
+    (Input::Timer(7, 0), "eager 1,5 lazy -"),
+    (Input::Timer(7, 0), "eager 1,5 lazy -, refused 18"),
+    (
+        Input::Gossip(5, 7, 0, 0),
+        "eager 1,5 lazy -, to 1: 01 09 00000002 00000007 00000000 0001 0002 6869, delivered (7,0): 6869",
+    ),
+    (
+        Input::Gossip(1, 7, 0, 0),
+        "eager 5 lazy 1, to 1: 01 0c 00000002",
+    ),
+    (
+        Input::Gossip(1, 7, 0, 7),
+        "eager 5 lazy 1, to 1: 01 0c 00000002",
+    ),
+    (
+        Input::Graft(1, 7, 0),
+        "eager 1,5 lazy -, to 1: 01 09 00000002 00000007 00000000 0001 0002 6869",
+    ),
+    (Input::IHave(1, 7, 0), "eager 1,5 lazy -"),
+    (Input::Timer(7, 0), "eager 1,5 lazy -, refused 18"),
+];
 
 #[test]
 fn an_awaited_message_comes(rt: HostRuntime) -> Result<(), Fail> {
     let mut plum = node(&rt, rt.alloc(), &[1, 5]);
-    goes(&rt, rt.alloc(), &mut plum, AWAITED)
+    goes(&rt, rt.alloc(), &mut plum, &AWAITED)
 }
 
 /// A note that stands there is not put twice. One that was taken out goes last, and who is then asked is eager.
-const NOTES: &str = r#"
-ihave 5 7 0 => eager 1,5 lazy -, timer (7,0)
-ihave 1 7 0 => eager 1,5 lazy -, timer (7,0)
-ihave 5 7 0 => eager 1,5 lazy -, timer (7,0)
-timer 0 7 0 => eager 1,5 lazy -, timer (7,0), to 5: 01 0b 00000002 00000007 00000000
-timer 0 7 0 => eager 1,5 lazy -, timer (7,0), to 1: 01 0b 00000002 00000007 00000000
-timer 0 7 0 => eager 1,5 lazy -
-ihave 1 7 0 => eager 1,5 lazy -, timer (7,0)
-ihave 5 7 0 => eager 1,5 lazy -, timer (7,0)
-prune 1 => eager 5 lazy 1, timer (7,0)
-timer 0 7 0 => eager 1,5 lazy -, timer (7,0), to 1: 01 0b 00000002 00000007 00000000
-ihave 1 7 0 => eager 1,5 lazy -, timer (7,0)
-timer 0 7 0 => eager 1,5 lazy -, timer (7,0), to 5: 01 0b 00000002 00000007 00000000
-timer 0 7 0 => eager 1,5 lazy -, timer (7,0), to 1: 01 0b 00000002 00000007 00000000
-ihave 5 7 0 => eager 1,5 lazy -, timer (7,0)
-gossip 1 7 0 1 => eager 1,5 lazy -, to 5: 01 09 00000002 00000007 00000000 0002 0002 6869, delivered (7,0): 6869
-timer 0 7 0 => eager 1,5 lazy -, refused 18
-"#;
+static NOTES: [(Input, &str); 16] = [
+    (Input::IHave(5, 7, 0), "eager 1,5 lazy -, timer (7,0)"),
+    (Input::IHave(1, 7, 0), "eager 1,5 lazy -, timer (7,0)"),
+    (Input::IHave(5, 7, 0), "eager 1,5 lazy -, timer (7,0)"),
+    (
+        Input::Timer(7, 0),
+        "eager 1,5 lazy -, timer (7,0), to 5: 01 0b 00000002 00000007 00000000",
+    ),
+    (
+        Input::Timer(7, 0),
+        "eager 1,5 lazy -, timer (7,0), to 1: 01 0b 00000002 00000007 00000000",
+    ),
+    (Input::Timer(7, 0), "eager 1,5 lazy -"),
+    (Input::IHave(1, 7, 0), "eager 1,5 lazy -, timer (7,0)"),
+    (Input::IHave(5, 7, 0), "eager 1,5 lazy -, timer (7,0)"),
+    (Input::Prune(1), "eager 5 lazy 1, timer (7,0)"),
+    (
+        Input::Timer(7, 0),
+        "eager 1,5 lazy -, timer (7,0), to 1: 01 0b 00000002 00000007 00000000",
+    ),
+    (Input::IHave(1, 7, 0), "eager 1,5 lazy -, timer (7,0)"),
+    (
+        Input::Timer(7, 0),
+        "eager 1,5 lazy -, timer (7,0), to 5: 01 0b 00000002 00000007 00000000",
+    ),
+    (
+        Input::Timer(7, 0),
+        "eager 1,5 lazy -, timer (7,0), to 1: 01 0b 00000002 00000007 00000000",
+    ),
+    (Input::IHave(5, 7, 0), "eager 1,5 lazy -, timer (7,0)"),
+    (
+        Input::Gossip(1, 7, 0, 1),
+        "eager 1,5 lazy -, to 5: 01 09 00000002 00000007 00000000 0002 0002 6869, delivered (7,0): 6869",
+    ),
+    (Input::Timer(7, 0), "eager 1,5 lazy -, refused 18"),
+];
 
 #[test]
 fn notes_keep_their_order(rt: HostRuntime) -> Result<(), Fail> {
     let mut plum = node(&rt, rt.alloc(), &[5, 1]);
-    goes(&rt, rt.alloc(), &mut plum, NOTES)
+    goes(&rt, rt.alloc(), &mut plum, &NOTES)
 }
 
 /// Of who goes down no note is left, at any id, and the timers run on.
-const GONE: &str = r#"
-ihave 1 2 0 => eager 1,5 lazy -, timer (2,0)
-ihave 1 7 0 => eager 1,5 lazy -, timer (2,0), timer (7,0)
-ihave 5 7 0 => eager 1,5 lazy -, timer (2,0), timer (7,0)
-down 1 => eager 5 lazy -, timer (2,0), timer (7,0)
-ihave 1 2 0 => eager 5 lazy -, timer (2,0), timer (7,0)
-timer 0 2 0 => eager 5 lazy -, timer (7,0)
-timer 0 7 0 => eager 5 lazy -, timer (7,0), to 5: 01 0b 00000002 00000007 00000000
-prune 5 => eager - lazy 5, timer (7,0)
-ihave 5 7 0 => eager - lazy 5, timer (7,0)
-down 5 => eager - lazy -, timer (7,0)
-up 5 => eager 5 lazy -, timer (7,0)
-timer 0 7 0 => eager 5 lazy -
-"#;
+static GONE: [(Input, &str); 12] = [
+    (Input::IHave(1, 2, 0), "eager 1,5 lazy -, timer (2,0)"),
+    (
+        Input::IHave(1, 7, 0),
+        "eager 1,5 lazy -, timer (2,0), timer (7,0)",
+    ),
+    (
+        Input::IHave(5, 7, 0),
+        "eager 1,5 lazy -, timer (2,0), timer (7,0)",
+    ),
+    (Input::Down(1), "eager 5 lazy -, timer (2,0), timer (7,0)"),
+    (
+        Input::IHave(1, 2, 0),
+        "eager 5 lazy -, timer (2,0), timer (7,0)",
+    ),
+    (Input::Timer(2, 0), "eager 5 lazy -, timer (7,0)"),
+    (
+        Input::Timer(7, 0),
+        "eager 5 lazy -, timer (7,0), to 5: 01 0b 00000002 00000007 00000000",
+    ),
+    (Input::Prune(5), "eager - lazy 5, timer (7,0)"),
+    (Input::IHave(5, 7, 0), "eager - lazy 5, timer (7,0)"),
+    (Input::Down(5), "eager - lazy -, timer (7,0)"),
+    (Input::Up(5), "eager 5 lazy -, timer (7,0)"),
+    (Input::Timer(7, 0), "eager 5 lazy -"),
+];
+
+/// Of three who said so the second goes down. The others are asked in their order.
+static LEFT: [(Input, &str); 8] = [
+    (Input::IHave(5, 7, 0), "eager 1,5,8 lazy -, timer (7,0)"),
+    (Input::IHave(1, 7, 0), "eager 1,5,8 lazy -, timer (7,0)"),
+    (Input::IHave(8, 7, 0), "eager 1,5,8 lazy -, timer (7,0)"),
+    (Input::Down(1), "eager 5,8 lazy -, timer (7,0)"),
+    (
+        Input::Timer(7, 0),
+        "eager 5,8 lazy -, timer (7,0), to 5: 01 0b 00000002 00000007 00000000",
+    ),
+    (
+        Input::Timer(7, 0),
+        "eager 5,8 lazy -, timer (7,0), to 8: 01 0b 00000002 00000007 00000000",
+    ),
+    (Input::Timer(7, 0), "eager 5,8 lazy -"),
+    (Input::Timer(7, 0), "eager 5,8 lazy -, refused 18"),
+];
+
+#[test]
+fn who_is_left_is_asked_in_order(rt: HostRuntime) -> Result<(), Fail> {
+    let mut plum = node(&rt, rt.alloc(), &[1, 5, 8]);
+    goes(&rt, rt.alloc(), &mut plum, &LEFT)
+}
 
 /// Who is no neighbour is answered, and does not become one.
-const STRANGE: &str = r#"
-ihave 9 7 0 => eager 1,5 lazy -
-graft 9 7 0 => eager 1,5 lazy -
-prune 9 => eager 1,5 lazy -
-gossip 9 7 0 0 => eager 1,5 lazy -, to 1: 01 09 00000002 00000007 00000000 0001 0002 6869, to 5: 01 09 00000002 00000007 00000000 0001 0002 6869, delivered (7,0): 6869
-gossip 9 7 0 0 => eager 1,5 lazy -, to 9: 01 0c 00000002
-graft 9 7 0 => eager 1,5 lazy -, to 9: 01 09 00000002 00000007 00000000 0001 0002 6869
-"#;
+static STRANGE: [(Input, &str); 6] = [
+    (Input::IHave(9, 7, 0), "eager 1,5 lazy -"),
+    (Input::Graft(9, 7, 0), "eager 1,5 lazy -"),
+    (Input::Prune(9), "eager 1,5 lazy -"),
+    (
+        Input::Gossip(9, 7, 0, 0),
+        "eager 1,5 lazy -, to 1: 01 09 00000002 00000007 00000000 0001 0002 6869, to 5: 01 09 00000002 00000007 00000000 0001 0002 6869, delivered (7,0): 6869",
+    ),
+    (
+        Input::Gossip(9, 7, 0, 0),
+        "eager 1,5 lazy -, to 9: 01 0c 00000002",
+    ),
+    (
+        Input::Graft(9, 7, 0),
+        "eager 1,5 lazy -, to 9: 01 09 00000002 00000007 00000000 0001 0002 6869",
+    ),
+];
 
 /// What the node seems to have sent itself does nothing, even if it were its own neighbour.
-const ITSELF: &str = r#"
-gossip 2 7 0 0 => eager 1,5 lazy -
-gossip 5 7 0 0 => eager 1,5 lazy -, to 1: 01 09 00000002 00000007 00000000 0001 0002 6869, delivered (7,0): 6869
-up 2 => eager 1,2,5 lazy -
-gossip 2 7 0 0 => eager 1,2,5 lazy -
-ihave 2 2 1 => eager 1,2,5 lazy -
-graft 2 7 0 => eager 1,2,5 lazy -
-prune 2 => eager 1,2,5 lazy -
-"#;
+static ITSELF: [(Input, &str); 7] = [
+    (Input::Gossip(2, 7, 0, 0), "eager 1,5 lazy -"),
+    (
+        Input::Gossip(5, 7, 0, 0),
+        "eager 1,5 lazy -, to 1: 01 09 00000002 00000007 00000000 0001 0002 6869, delivered (7,0): 6869",
+    ),
+    (Input::Up(2), "eager 1,2,5 lazy -"),
+    (Input::Gossip(2, 7, 0, 0), "eager 1,2,5 lazy -"),
+    (Input::IHave(2, 2, 1), "eager 1,2,5 lazy -"),
+    (Input::Graft(2, 7, 0), "eager 1,2,5 lazy -"),
+    (Input::Prune(2), "eager 1,2,5 lazy -"),
+];
 
 /// One whose message is not held is eager all the same. The last round is 65,535.
-const LINKS: &str = r#"
-prune 1 => eager 5 lazy 1
-prune 1 => eager 5 lazy 1
-graft 1 7 0 => eager 1,5 lazy -
-prune 5 => eager 1 lazy 5
-up 5 => eager 1,5 lazy -
-up 3 => eager 1,3,5 lazy -
-down 3 => eager 1,5 lazy -
-gossip 5 7 0 65535 => eager 1,5 lazy -, to 1: 01 09 00000002 00000007 00000000 ffff 0002 6869, delivered (7,0): 6869
-gossip 5 7 1 65534 => eager 1,5 lazy -, to 1: 01 09 00000002 00000007 00000001 ffff 0002 6869, delivered (7,1): 6869
-"#;
+static LINKS: [(Input, &str); 9] = [
+    (Input::Prune(1), "eager 5 lazy 1"),
+    (Input::Prune(1), "eager 5 lazy 1"),
+    (Input::Graft(1, 7, 0), "eager 1,5 lazy -"),
+    (Input::Prune(5), "eager 1 lazy 5"),
+    (Input::Up(5), "eager 1,5 lazy -"),
+    (Input::Up(3), "eager 1,3,5 lazy -"),
+    (Input::Down(3), "eager 1,5 lazy -"),
+    (
+        Input::Gossip(5, 7, 0, 65535),
+        "eager 1,5 lazy -, to 1: 01 09 00000002 00000007 00000000 ffff 0002 6869, delivered (7,0): 6869",
+    ),
+    (
+        Input::Gossip(5, 7, 1, 65534),
+        "eager 1,5 lazy -, to 1: 01 09 00000002 00000007 00000001 ffff 0002 6869, delivered (7,1): 6869",
+    ),
+];
 
 /// A broadcast of an id that is held is held anew; of one that is awaited the timer and the notes stay.
-const NUMBERED: &str = r#"
-gossip 1 2 0 4 => eager 1,5 lazy -, to 5: 01 09 00000002 00000002 00000000 0005 0002 6869, delivered (2,0): 6869
-broadcast 0 => eager 1,5 lazy -, to 1: 01 09 00000002 00000002 00000000 0000 0002 686f, to 5: 01 09 00000002 00000002 00000000 0000 0002 686f, delivered (2,0): 686f
-graft 5 2 0 => eager 1,5 lazy -, to 5: 01 09 00000002 00000002 00000000 0000 0002 686f
-ihave 1 2 1 => eager 1,5 lazy -, timer (2,1)
-ihave 5 2 1 => eager 1,5 lazy -, timer (2,1)
-broadcast 0 => eager 1,5 lazy -, timer (2,1), to 1: 01 09 00000002 00000002 00000001 0000 0002 686f, to 5: 01 09 00000002 00000002 00000001 0000 0002 686f, delivered (2,1): 686f
-timer 0 2 1 => eager 1,5 lazy -, timer (2,1), to 1: 01 0b 00000002 00000002 00000001
-timer 0 2 1 => eager 1,5 lazy -, timer (2,1), to 5: 01 0b 00000002 00000002 00000001
-timer 0 2 1 => eager 1,5 lazy -
-"#;
+static NUMBERED: [(Input, &str); 9] = [
+    (
+        Input::Gossip(1, 2, 0, 4),
+        "eager 1,5 lazy -, to 5: 01 09 00000002 00000002 00000000 0005 0002 6869, delivered (2,0): 6869",
+    ),
+    (
+        Input::Broadcast,
+        "eager 1,5 lazy -, to 1: 01 09 00000002 00000002 00000000 0000 0002 686f, to 5: 01 09 00000002 00000002 00000000 0000 0002 686f, delivered (2,0): 686f",
+    ),
+    (
+        Input::Graft(5, 2, 0),
+        "eager 1,5 lazy -, to 5: 01 09 00000002 00000002 00000000 0000 0002 686f",
+    ),
+    (Input::IHave(1, 2, 1), "eager 1,5 lazy -, timer (2,1)"),
+    (Input::IHave(5, 2, 1), "eager 1,5 lazy -, timer (2,1)"),
+    (
+        Input::Broadcast,
+        "eager 1,5 lazy -, timer (2,1), to 1: 01 09 00000002 00000002 00000001 0000 0002 686f, to 5: 01 09 00000002 00000002 00000001 0000 0002 686f, delivered (2,1): 686f",
+    ),
+    (
+        Input::Timer(2, 1),
+        "eager 1,5 lazy -, timer (2,1), to 1: 01 0b 00000002 00000002 00000001",
+    ),
+    (
+        Input::Timer(2, 1),
+        "eager 1,5 lazy -, timer (2,1), to 5: 01 0b 00000002 00000002 00000001",
+    ),
+    (Input::Timer(2, 1), "eager 1,5 lazy -"),
+];
 
 #[test]
 fn who_is_down_leaves_no_notes(rt: HostRuntime) -> Result<(), Fail> {
     let mut plum = node(&rt, rt.alloc(), &[1, 5]);
-    goes(&rt, rt.alloc(), &mut plum, GONE)
+    goes(&rt, rt.alloc(), &mut plum, &GONE)
 }
 
 #[test]
 fn strangers_stay_strangers(rt: HostRuntime) -> Result<(), Fail> {
     let mut plum = node(&rt, rt.alloc(), &[1, 5]);
-    goes(&rt, rt.alloc(), &mut plum, STRANGE)
+    goes(&rt, rt.alloc(), &mut plum, &STRANGE)
 }
 
 #[test]
 fn its_own_messages_do_nothing(rt: HostRuntime) -> Result<(), Fail> {
     let mut plum = node(&rt, rt.alloc(), &[1, 5]);
-    goes(&rt, rt.alloc(), &mut plum, ITSELF)
+    goes(&rt, rt.alloc(), &mut plum, &ITSELF)
 }
 
 #[test]
 fn links_and_rounds(rt: HostRuntime) -> Result<(), Fail> {
     let mut plum = node(&rt, rt.alloc(), &[1, 5]);
-    goes(&rt, rt.alloc(), &mut plum, LINKS)
+    goes(&rt, rt.alloc(), &mut plum, &LINKS)
 }
 
 #[test]
 fn broadcasts_are_numbered(rt: HostRuntime) -> Result<(), Fail> {
     let mut plum = node(&rt, rt.alloc(), &[1, 5]);
-    goes(&rt, rt.alloc(), &mut plum, NUMBERED)?;
+    goes(&rt, rt.alloc(), &mut plum, &NUMBERED)?;
     assert_eq!(rt; plum.made(), 2);
     Ok(())
 }
 
 /// Whole messages go before announcements, each in ascending order; neither goes back to the sender.
-const SPREAD: &str = r#"
-prune 8 => eager 1,3,5 lazy 8
-prune 3 => eager 1,5 lazy 3,8
-gossip 9 7 0 0 => eager 1,5 lazy 3,8, to 1: 01 09 00000002 00000007 00000000 0001 0002 6869, to 5: 01 09 00000002 00000007 00000000 0001 0002 6869, to 3: 01 0a 00000002 00000007 00000000, to 8: 01 0a 00000002 00000007 00000000, delivered (7,0): 6869
-gossip 3 7 1 1 => eager 1,3,5 lazy 8, to 1: 01 09 00000002 00000007 00000001 0002 0002 6869, to 5: 01 09 00000002 00000007 00000001 0002 0002 6869, to 8: 01 0a 00000002 00000007 00000001, delivered (7,1): 6869
-broadcast 0 => eager 1,3,5 lazy 8, to 1: 01 09 00000002 00000002 00000000 0000 0002 686f, to 3: 01 09 00000002 00000002 00000000 0000 0002 686f, to 5: 01 09 00000002 00000002 00000000 0000 0002 686f, to 8: 01 0a 00000002 00000002 00000000, delivered (2,0): 686f
-"#;
+static SPREAD: [(Input, &str); 5] = [
+    (Input::Prune(8), "eager 1,3,5 lazy 8"),
+    (Input::Prune(3), "eager 1,5 lazy 3,8"),
+    (
+        Input::Gossip(9, 7, 0, 0),
+        "eager 1,5 lazy 3,8, to 1: 01 09 00000002 00000007 00000000 0001 0002 6869, to 5: 01 09 00000002 00000007 00000000 0001 0002 6869, to 3: 01 0a 00000002 00000007 00000000, to 8: 01 0a 00000002 00000007 00000000, delivered (7,0): 6869",
+    ),
+    (
+        Input::Gossip(3, 7, 1, 1),
+        "eager 1,3,5 lazy 8, to 1: 01 09 00000002 00000007 00000001 0002 0002 6869, to 5: 01 09 00000002 00000007 00000001 0002 0002 6869, to 8: 01 0a 00000002 00000007 00000001, delivered (7,1): 6869",
+    ),
+    (
+        Input::Broadcast,
+        "eager 1,3,5 lazy 8, to 1: 01 09 00000002 00000002 00000000 0000 0002 686f, to 3: 01 09 00000002 00000002 00000000 0000 0002 686f, to 5: 01 09 00000002 00000002 00000000 0000 0002 686f, to 8: 01 0a 00000002 00000002 00000000, delivered (2,0): 686f",
+    ),
+];
 
 #[test]
 fn whole_messages_go_first(rt: HostRuntime) -> Result<(), Fail> {
     let mut plum = node(&rt, rt.alloc(), &[8, 5, 3, 1]);
-    goes(&rt, rt.alloc(), &mut plum, SPREAD)
+    goes(&rt, rt.alloc(), &mut plum, &SPREAD)
 }
 
-const BEFORE: &str = r#"
-prune 5 => eager 1 lazy 5
-broadcast 0 => eager 1 lazy 5, to 1: 01 09 00000002 00000002 00000000 0000 0002 686f, to 5: 01 0a 00000002 00000002 00000000, delivered (2,0): 686f
-ihave 5 7 0 => eager 1 lazy 5, timer (7,0)
-ihave 1 7 0 => eager 1 lazy 5, timer (7,0)
-"#;
+static BEFORE: [(Input, &str); 4] = [
+    (Input::Prune(5), "eager 1 lazy 5"),
+    (
+        Input::Broadcast,
+        "eager 1 lazy 5, to 1: 01 09 00000002 00000002 00000000 0000 0002 686f, to 5: 01 0a 00000002 00000002 00000000, delivered (2,0): 686f",
+    ),
+    (Input::IHave(5, 7, 0), "eager 1 lazy 5, timer (7,0)"),
+    (Input::IHave(1, 7, 0), "eager 1 lazy 5, timer (7,0)"),
+];
 
-const AFTER: &str = r#"
-timer 0 7 0 => eager 1,5 lazy -, timer (7,0), to 5: 01 0b 00000002 00000007 00000000
-timer 0 7 0 => eager 1,5 lazy -, timer (7,0), to 1: 01 0b 00000002 00000007 00000000
-graft 9 2 0 => eager 1,5 lazy -, timer (7,0), to 9: 01 09 00000002 00000002 00000000 0000 0002 686f
-down 1 => eager 5 lazy -, timer (7,0)
-broadcast 0 => eager 5 lazy -, timer (7,0), to 5: 01 09 00000002 00000002 00000001 0000 0002 686f, delivered (2,1): 686f
-"#;
+static AFTER: [(Input, &str); 5] = [
+    (
+        Input::Timer(7, 0),
+        "eager 1,5 lazy -, timer (7,0), to 5: 01 0b 00000002 00000007 00000000",
+    ),
+    (
+        Input::Timer(7, 0),
+        "eager 1,5 lazy -, timer (7,0), to 1: 01 0b 00000002 00000007 00000000",
+    ),
+    (
+        Input::Graft(9, 2, 0),
+        "eager 1,5 lazy -, timer (7,0), to 9: 01 09 00000002 00000002 00000000 0000 0002 686f",
+    ),
+    (Input::Down(1), "eager 5 lazy -, timer (7,0)"),
+    (
+        Input::Broadcast,
+        "eager 5 lazy -, timer (7,0), to 5: 01 09 00000002 00000002 00000001 0000 0002 686f, delivered (2,1): 686f",
+    ),
+];
 
 fn with_state(rt: &impl Abort, alloc: Global) -> Result<Plum, Fail> {
     let mut plum = node(rt, alloc, &[1, 5]);
-    goes(rt, alloc, &mut plum, BEFORE)?;
+    goes(rt, alloc, &mut plum, &BEFORE)?;
     Ok(plum)
 }
 
 fn go_both(rt: &impl Abort, alloc: Global, mut one: Plum, mut other: Plum) -> Result<(), Fail> {
-    goes(rt, alloc, &mut one, AFTER)?;
-    goes(rt, alloc, &mut other, AFTER)
+    goes(rt, alloc, &mut one, &AFTER)?;
+    goes(rt, alloc, &mut other, &AFTER)
 }
 
 #[test]

@@ -1,13 +1,22 @@
-use Rattle.std.proofs.Common.{[], None, refl, sym, subst}
+use Rattle.std.proofs.Common.{[], None, refl, sym, subst, append-nil, List}
+use Rattle.ov_views.specs.Allowed.{Allowed, boots}
+use Rattle.ov_views.specs.declared.change.ViewChange.{ViewChange}
+use Rattle.ov_plum.specs.declared.turn.Turn.TheVariants.{Rests}
 use Rattle.ov_peer.specs.Whole.{Whole}
-use Rattle.ov_peer.specs.Step.{PeerStep}
+use Rattle.ov_peer.specs.Planning.{Plans}
 use Rattle.ov_peer.specs.declared.input.Input.TheVariants.{Boot}
-use Rattle.ov_peer.proofs.Steps.{whole_of, node_step}
+use Rattle.ov_peer.specs.declared.plan.Course.TheVariants.{Stays}
+use Rattle.ov_peer.specs.declared.plan.Plan.{Plan}
+use Rattle.ov_peer.proofs.Steps.{whole_of}
+use Rattle.ov_peer.proofs.Following.{plans}
 use Rattle.ov_peer.proofs.peer.Peer.boot.Goals as goal
 
 pub returns-clause-allowed : goal.returns-clause-allowed
 returns-clause-allowed c =
     let p = whole_of c.self.inside.views c.self.inside.attempt c.self.inside.sent c.self.inside.plum in
-    let joins = c.in_ok-joins.ensures.allowed p.node (sym c.me-me.ensures.value) in
-    let step = node_step p (Boot c.args.contact) [] p.node p.tree _ [] joins (refl, (refl, refl)) refl in
-    rw (c.spread_output.ensures.sends, c.spread_output.ensures.changes, c.spread_output.ensures.delivered) (subst (λ (q : Whole). PeerStep q (Boot c.args.contact) [] q c.in_ok-joins.field-0.items [] None) c.self.view_is step)
+    let sends = c.in_ok-joins.field-0 in
+    let g : Plan = record { sends = sends; changes = c.new.result; delivered = None; course = Stays; turn = Rests } in
+    let joins = c.in_ok-joins.ensures.allowed p.node (sym c.me.ensures.value) in
+    let part = subst (λ (changes : List ViewChange). Allowed p.node (boots c.args.contact) [] p.node changes sends.items) (sym c.new.ensures.items) joins in
+    let plan = plans p (Boot c.args.contact) [] g sends.items [] None part (refl, (refl, refl)) (sym (append-nil sends.items)) refl in
+    subst (λ (w : Whole). Plans w (Boot c.args.contact) [] g) c.self.view_is plan

@@ -1,37 +1,41 @@
-use Rattle.std.proofs.Common.{◌≡◌, List, [], IfOk, refl, sym, subst}
-use Rattle.ov_wire.specs.declared.message.Body.{Body}
+use Rattle.std.proofs.Common.{◌≡◌, [], refl, ap, ◌∙◌, subst}
 use Rattle.ov_wire.specs.declared.message.Body.TheVariants.{Gossip, IHave, Graft, Prune}
-use Rattle.ov_words.specs.Pick.{Choice}
-use Rattle.ov_peer.specs.Step.{PeerStep}
+use Rattle.ov_peer.specs.Step.{delivery_at}
+use Rattle.ov_peer.specs.Whole.{Whole}
+use Rattle.ov_peer.specs.Planning.{Plans}
 use Rattle.ov_peer.specs.declared.input.Input.TheVariants.{Receive}
-use Rattle.ov_peer.specs.declared.input.Output.{Output}
-use Rattle.ov_peer.proofs.Steps.{rested}
+use Rattle.ov_peer.proofs.Steps.{whole_of}
+use Rattle.ov_peer.proofs.Following.{TreeHears, HeardByTree, heard_as, heard_plan}
+use Rattle.ov_peer.proofs.peer.Peer.receive.Goals.{in-Gossip+in_ok-planned-in-Gossip, in-IHave+in_ok-planned-in-IHave, in-Graft+in_ok-planned-in-Graft, in-Prune}
 use Rattle.ov_peer.proofs.peer.Peer.receive.Goals as goal
 
-pub returns-in-Gossip-clause-allowed : goal.returns-in-Gossip-clause-allowed
-returns-in-Gossip-clause-allowed c =
-    let P : Body → List Choice → Output → Type 0 = λ b cs o. PeerStep c.args.self.now (Receive (record { from = c.args.message.from; body = b })) cs c.gossip.new.self o.sends.items o.changes.items o.delivered in
-    let is : c.args.message.body ≡ Gossip c.in-Gossip.id c.in-Gossip.round c.in-Gossip.payload = c.in-Gossip.is in
-    let step : IfOk c.gossip.result (P (Gossip c.in-Gossip.id c.in-Gossip.round c.in-Gossip.payload) []) = rw c.in-Gossip.is at c.gossip.ensures.allowed in
-    rested c.args.draws.now (P c.args.message.body) c.gossip.result (subst (λ (b : Body). IfOk c.gossip.result (P b [])) (sym is) step)
-
-pub returns-in-IHave-clause-allowed : goal.returns-in-IHave-clause-allowed
-returns-in-IHave-clause-allowed c =
-    let P : Body → List Choice → Output → Type 0 = λ b cs o. PeerStep c.args.self.now (Receive (record { from = c.args.message.from; body = b })) cs c.ihave.new.self o.sends.items o.changes.items o.delivered in
-    let is : c.args.message.body ≡ IHave c.in-IHave.id = c.in-IHave.is in
-    let step : IfOk c.ihave.result (P (IHave c.in-IHave.id) []) = rw c.in-IHave.is at c.ihave.ensures.allowed in
-    rested c.args.draws.now (P c.args.message.body) c.ihave.result (subst (λ (b : Body). IfOk c.ihave.result (P b [])) (sym is) step)
-
-pub returns-in-Graft-clause-allowed : goal.returns-in-Graft-clause-allowed
-returns-in-Graft-clause-allowed c =
-    let P : Body → List Choice → Output → Type 0 = λ b cs o. PeerStep c.args.self.now (Receive (record { from = c.args.message.from; body = b })) cs c.graft.new.self o.sends.items o.changes.items o.delivered in
-    let is : c.args.message.body ≡ Graft c.in-Graft.id = c.in-Graft.is in
-    let step : IfOk c.graft.result (P (Graft c.in-Graft.id) []) = rw c.in-Graft.is at c.graft.ensures.allowed in
-    rested c.args.draws.now (P c.args.message.body) c.graft.result (subst (λ (b : Body). IfOk c.graft.result (P b [])) (sym is) step)
-
-pub returns-in-Prune-clause-allowed : goal.returns-in-Prune-clause-allowed
-returns-in-Prune-clause-allowed c =
-    let o = c.prune.result in
-    let P : Body → Type 0 = λ b. PeerStep c.args.self.now (Receive (record { from = c.args.message.from; body = b })) [] c.prune.new.self o.sends.items o.changes.items o.delivered in
-    let is : c.args.message.body ≡ Prune = c.in-Prune.is in
-    ([], refl, subst P (sym is) c.prune.ensures.allowed)
+pub returns-clause-allowed : goal.returns-clause-allowed
+returns-clause-allowed c =
+    let inside = c.self.inside in
+    let p = whole_of inside.views inside.attempt inside.sent inside.plum in
+    let from = c.args.message.from in
+    let body = c.args.message.body in
+    let planned = c.match-message.planned in
+    let heard : HeardByTree p from body planned =
+    elim c.match-message.branch [
+      | in-Gossip+in_ok-planned-in-Gossip w ↦
+          let is : body ≡ Gossip w.in-Gossip.id w.in-Gossip.round w.in-Gossip.payload = w.in-Gossip.is in
+          let t : TreeHears p.tree from (Gossip w.in-Gossip.id w.in-Gossip.round w.in-Gossip.payload) w.in_ok-planned-in-Gossip.planned = rw w.in-Gossip.is at w.in_ok-planned-in-Gossip.ensures.allowed in
+          heard_as p from (Gossip w.in-Gossip.id w.in-Gossip.round w.in-Gossip.payload) body w.in_ok-planned-in-Gossip.planned planned is w.planned-is ((refl, refl, refl), refl) t
+      | in-IHave+in_ok-planned-in-IHave w ↦
+          let is : body ≡ IHave w.in-IHave.id = w.in-IHave.is in
+          let t : TreeHears p.tree from (IHave w.in-IHave.id) w.in_ok-planned-in-IHave.planned = rw w.in-IHave.is at w.in_ok-planned-in-IHave.ensures.allowed in
+          heard_as p from (IHave w.in-IHave.id) body w.in_ok-planned-in-IHave.planned planned is w.planned-is ((refl, refl, refl), refl) t
+      | in-Graft+in_ok-planned-in-Graft w ↦
+          let is : body ≡ Graft w.in-Graft.id = w.in-Graft.is in
+          let t : TreeHears p.tree from (Graft w.in-Graft.id) w.in_ok-planned-in-Graft.planned = rw w.in-Graft.is at w.in_ok-planned-in-Graft.ensures.allowed in
+          heard_as p from (Graft w.in-Graft.id) body w.in_ok-planned-in-Graft.planned planned is w.planned-is ((refl, refl, refl), refl) t
+      | in-Prune w ↦
+          let is : body ≡ Prune = w.in-Prune.is in
+          let t : TreeHears p.tree from Prune w.plan_prune-planned.result = w.plan_prune-planned.ensures.allowed in
+          heard_as p from Prune body w.plan_prune-planned.result planned is w.planned-is ((refl, refl, refl), refl) t
+    ] in
+    let of = c.of_tree.ensures in
+    let delivered = of.delivered ∙ ap (λ me. delivery_at me planned.spread.delivered) c.me.ensures.value in
+    let plan = heard_plan p from body planned c.of_tree.result of.sends of.changes delivered of.course of.turn heard in
+    ([], refl, subst (λ (w : Whole). Plans w (Receive c.args.message) [] c.of_tree.result) c.self.view_is plan)

@@ -1,46 +1,46 @@
-use Rattle.std.proofs.Common.{◌∙◌, length, refl, ap, arith}
-use Rattle.ov_views.specs.Allowed.{Node}
-use Rattle.ov_views.specs.Changes.{after_changes}
+use Rattle.std.proofs.Common.{◌≡◌, refl, sym, subst}
+use Rattle.ov_views.specs.Allowed.{Node, hears_of_crash}
 use Rattle.ov_views.proofs.Tracking.{tracked}
-use Rattle.ov_views.specs.Allowed.{hears_of_crash}
-use Rattle.ov_peer.specs.declared.input.Input.TheVariants.{Report}
 use Rattle.ov_peer.specs.Whole.{Whole}
-use Rattle.ov_peer.proofs.Counts.{neighbours_fit}
-use Rattle.ov_peer.proofs.Steps.{whole_of, node_step, whole_told}
+use Rattle.ov_peer.specs.Step.{NodePart}
+use Rattle.ov_peer.specs.Planning.{Plans, Fits}
+use Rattle.ov_peer.specs.declared.input.Input.TheVariants.{Report}
+use Rattle.ov_peer.specs.declared.plan.Course.TheVariants.{Moves}
+use Rattle.ov_peer.proofs.Steps.{whole_of}
+use Rattle.ov_peer.proofs.Following.{moves_plan, fits}
 use Rattle.ov_peer.proofs.peer.Peer.report.Goals as goal
-
-pub prove-unreachable-requires : goal.prove-unreachable-requires
-prove-unreachable-requires c =
-    let p = whole_of c.self.inside.views c.self.inside.attempt c.self.inside.sent c.self.inside.plum in
-    absurd (omega (arith, neighbours_fit p c.self.invariant c.eager.ensures.links, ap length c.eager.ensures.value, ap length c.lazy.ensures.value, ap length c.active.ensures.value, c.if-prove.true))
-
-pub tell-requires : goal.tell-requires
-tell-requires c =
-    let p = whole_of c.self.inside.views c.self.inside.attempt c.self.inside.sent c.self.inside.plum in
-    let a = c.in_ok-moves.ensures.allowed in
-    let t = tracked p.node (hears_of_crash c.args.crashed) a.0 (record { views = c.on_report.new.views; asking = c.on_report.new.attempt; sent = p.node.sent }) _ _ (a.2 p.node) in
-    let v = c.active.ensures.views in
-    omega (arith, neighbours_fit p c.self.invariant c.eager.ensures.links, t.few, v.active_size, v.limits.active_high, ap length c.deref.ensures.value)
-
-pub invariant_of-self-2 : goal.invariant_of-self-2
-invariant_of-self-2 c =
-    let p = whole_of c.self.inside.views c.self.inside.attempt c.self.inside.sent c.self.inside.plum in
-    let m : Node = record { views = c.on_report.new.views; asking = c.on_report.new.attempt; sent = p.node.sent } in
-    let a = c.in_ok-moves.ensures.allowed in
-    let t = tracked p.node (hears_of_crash c.args.crashed) a.0 m _ _ (a.2 p.node) in
-    whole_told p.node m p.tree c.tell.new.plum _ c.self.invariant t (rw (← c.deref.ensures.value) c.tell.ensures)
 
 pub returns-clause-allowed : goal.returns-clause-allowed
 returns-clause-allowed c =
-    let p = whole_of c.self.inside.views c.self.inside.attempt c.self.inside.sent c.self.inside.plum in
-    let m : Node = record { views = c.on_report.new.views; asking = c.on_report.new.attempt; sent = p.node.sent } in
+    let inside = c.self.inside in
+    let p = whole_of inside.views inside.attempt inside.sent inside.plum in
+    let moves = c.in_ok-moves.moves in
+    let course = Moves c.in_ok-near.near in
+    let near = c.in_ok-near.near.value in
+    let m : Node = record { views = near.views; asking = near.attempt; sent = inside.sent } in
+    let moved : Node = record { views = c.on_report.new.views; asking = c.on_report.new.attempt; sent = inside.sent } in
+    let same : m ≡ moved = (λ i. record { views = (c.in_ok-near.ensures.ok i).views; asking = (c.in_ok-near.ensures.ok i).attempt; sent = inside.sent }) in
+    let views = c.copy-views.ensures in
+    let asking = c.in_ok-attempt.ensures in
     let a = c.in_ok-moves.ensures.allowed in
-    (a.0, a.1, rw (← c.self.view_is) (node_step p (Report c.args.crashed) a.0 m c.tell.new.plum _ _ (a.2 p.node) (refl, (refl, refl)) (rw (← c.deref.ensures.value) c.tell.ensures)))
+    let heard = subst (λ (n : Node). NodePart n (Report c.args.crashed) a.0 moved moves.changes.items moves.sends.items) (λ i. record { views = views i; asking = asking i; sent = inside.sent }) (a.2 p.node) in
+    let step = subst (λ (n : Node). NodePart p.node (Report c.args.crashed) a.0 n moves.changes.items moves.sends.items) (sym same) heard in
+    let plan = moves_plan p (Report c.args.crashed) a.0 moves course c.of_moves.result c.of_moves.ensures step (refl, (refl, refl)) in
+    (a.0, a.1, subst (λ (w : Whole). Plans w (Report c.args.crashed) a.0 c.of_moves.result) c.self.view_is plan)
 
-pub returns-clause-told : goal.returns-clause-told
-returns-clause-told c =
-    let p = whole_of c.self.inside.views c.self.inside.attempt c.self.inside.sent c.self.inside.plum in
-    let m : Node = record { views = c.on_report.new.views; asking = c.on_report.new.attempt; sent = p.node.sent } in
+pub returns-clause-fits : goal.returns-clause-fits
+returns-clause-fits c =
+    let inside = c.self.inside in
+    let p = whole_of inside.views inside.attempt inside.sent inside.plum in
+    let moves = c.in_ok-moves.moves in
+    let course = Moves c.in_ok-near.near in
+    let near = c.in_ok-near.near.value in
+    let m : Node = record { views = near.views; asking = near.attempt; sent = inside.sent } in
+    let moved : Node = record { views = c.on_report.new.views; asking = c.on_report.new.attempt; sent = inside.sent } in
+    let same : m ≡ moved = (λ i. record { views = (c.in_ok-near.ensures.ok i).views; asking = (c.in_ok-near.ensures.ok i).attempt; sent = inside.sent }) in
+    let views = c.copy-views.ensures in
+    let asking = c.in_ok-attempt.ensures in
     let a = c.in_ok-moves.ensures.allowed in
-    let t = tracked p.node (hears_of_crash c.args.crashed) a.0 m _ _ (a.2 p.node) in
-    t.active ∙ ap (λ (w : Whole). after_changes c.in_ok-moves.moves.changes.items w.node.views.active) c.self.view_is
+    let heard = subst (λ (n : Node). NodePart n (Report c.args.crashed) a.0 moved moves.changes.items moves.sends.items) (λ i. record { views = views i; asking = asking i; sent = inside.sent }) (a.2 p.node) in
+    let step = subst (λ (n : Node). NodePart p.node (Report c.args.crashed) a.0 n moves.changes.items moves.sends.items) (sym same) heard in
+    subst (λ (w : Whole). Fits w c.of_moves.result) c.self.view_is (fits p moves course c.of_moves.result c.of_moves.ensures (tracked p.node (hears_of_crash c.args.crashed) a.0 m _ _ step))

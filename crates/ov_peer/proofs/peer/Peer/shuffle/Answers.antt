@@ -1,11 +1,19 @@
-use Rattle.std.proofs.Common.{refl}
+use Rattle.std.proofs.Common.{refl, subst, List, ℕ}
+use Rattle.ov_peer.specs.Whole.{Whole}
+use Rattle.ov_peer.specs.Step.{NodePart}
+use Rattle.ov_peer.specs.Planning.{Plans}
 use Rattle.ov_peer.specs.declared.input.Input.TheVariants.{Shuffle}
-use Rattle.ov_peer.proofs.Steps.{whole_of, node_step}
+use Rattle.ov_peer.specs.declared.plan.Course.TheVariants.{Shuffles}
+use Rattle.ov_peer.proofs.Steps.{whole_of}
+use Rattle.ov_peer.proofs.Following.{moves_plan}
 use Rattle.ov_peer.proofs.peer.Peer.shuffle.Goals as goal
 
 pub returns-clause-allowed : goal.returns-clause-allowed
 returns-clause-allowed c =
+    let inside = c.self.inside in
+    let p = whole_of inside.views inside.attempt inside.sent inside.plum in
+    let moves = c.in_ok-moves.moves in
     let a = c.in_ok-moves.ensures.allowed in
-    let p = whole_of c.self.inside.views c.self.inside.attempt c.self.inside.sent c.self.inside.plum in
-    let step = node_step p Shuffle a.0 (record { views = p.node.views; asking = p.node.asking; sent = c.start.new.sent }) p.tree _ _ (a.2 p.node) (refl, (refl, refl)) (rw c.in_ok-moves.ensures.changes refl) in
-    (a.0, a.1, rw (← c.self.view_is) step)
+    let started = subst (λ (list : List ℕ). NodePart (record p.node { sent = list }) Shuffle a.0 (record p.node { sent = c.start.new.sent }) moves.changes.items moves.sends.items) c.in_ok-sent.ensures (a.2 p.node) in
+    let plan = moves_plan p Shuffle a.0 moves (Shuffles c.start.new.sent) c.of_moves.result c.of_moves.ensures started (refl, (refl, refl)) in
+    (a.0, a.1, subst (λ (w : Whole). Plans w Shuffle a.0 c.of_moves.result) c.self.view_is plan)

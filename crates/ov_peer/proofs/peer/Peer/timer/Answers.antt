@@ -1,15 +1,18 @@
-use Rattle.std.proofs.Common.{refl}
+use Rattle.std.proofs.Common.{[], refl, ap, ◌∙◌, subst}
+use Rattle.ov_peer.specs.Step.{delivery_at}
+use Rattle.ov_peer.specs.Whole.{Whole}
+use Rattle.ov_peer.specs.Planning.{Plans}
 use Rattle.ov_peer.specs.declared.input.Input.TheVariants.{Timer}
-use Rattle.ov_peer.proofs.Steps.{whole_of, tree_step, whole_tree, timed}
+use Rattle.ov_peer.proofs.Steps.{whole_of}
+use Rattle.ov_peer.proofs.Following.{tree_plan}
 use Rattle.ov_peer.proofs.peer.Peer.timer.Goals as goal
-
-pub invariant_of-self-2 : goal.invariant_of-self-2
-invariant_of-self-2 c =
-    let p = whole_of c.self.inside.views c.self.inside.attempt c.self.inside.sent c.self.inside.plum in
-    whole_tree p.node p.tree c.on_timer.new.self c.self.invariant (timed p.tree c.args.id c.on_timer.new.self _ _ c.in_ok-spread.ensures.allowed)
 
 pub returns-clause-allowed : goal.returns-clause-allowed
 returns-clause-allowed c =
-    let p = whole_of c.self.inside.views c.self.inside.attempt c.self.inside.sent c.self.inside.plum in
-    let step = tree_step p (Timer c.args.id) c.on_timer.new.self _ _ ((refl, refl, refl), refl) c.in_ok-spread.ensures.allowed in
-    rw (← c.self.view_is, c.spread_output.ensures.sends, c.spread_output.ensures.changes, c.spread_output.ensures.delivered, c.me.ensures.value) step
+    let inside = c.self.inside in
+    let p = whole_of inside.views inside.attempt inside.sent inside.plum in
+    let i = Timer c.args.id in
+    let of = c.of_tree.ensures in
+    let delivered = of.delivered ∙ ap (λ me. delivery_at me c.in_ok-planned.planned.spread.delivered) c.me.ensures.value in
+    let plan = tree_plan p i c.in_ok-planned.planned c.of_tree.result of.sends of.changes delivered of.course of.turn ((refl, refl, refl), refl) c.in_ok-planned.ensures.allowed in
+    subst (λ (w : Whole). Plans w i [] c.of_tree.result) c.self.view_is plan

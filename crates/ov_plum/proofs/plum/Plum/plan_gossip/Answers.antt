@@ -2,7 +2,7 @@ use Rattle.std.proofs.Common.{◌≡◌, ap, ◌∙◌, length, ◌+◌, arith}
 use Rattle.ov_ids.specs.Sets.{without}
 use Rattle.ov_ids.proofs.Sets.{length-without}
 use Rattle.ov_plum.specs.Tree.{Branches, down}
-use Rattle.ov_plum.proofs.plum.Plum.on_gossip.Goals as goal
+use Rattle.ov_plum.proofs.plum.Plum.plan_gossip.Goals as goal
 
 pub returns-clause-few : goal.returns-clause-few
 returns-clause-few c =
@@ -10,4 +10,4 @@ returns-clause-few c =
     let b = c.args.self.now.branches in
     let others : c.down.new.self ≡ down from b = c.down.ensures ∙ ap (down from) (c.copy-others.ensures ∙ ap (λ t. t.branches) c.self.view_is) in
     let count : length c.down.new.self.eager + length c.down.new.self.lazy ≡ length (without from b.eager) + length (without from b.lazy) = ap (λ (d : Branches). length d.eager + length d.lazy) others in
-    omega (arith, c.in_ok-spread-2.ensures.len, count, length-without from b.eager, length-without from b.lazy)
+    omega (arith, c.in_ok-spread.ensures.len, count, length-without from b.eager, length-without from b.lazy)

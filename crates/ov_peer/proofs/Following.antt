@@ -1,0 +1,121 @@
+-- Plans, and what comes of them.
+use Rattle.std.proofs.Common.{◌≡◌, ℕ, List, [], ◌++◌, Option, None, Result, Ok, Err, IfOk, length, ◌+◌, ◌≤◌, refl, sym, ap, subst, ◌∙◌, append-nil, arith}
+use Rattle.std.specs.Prelude.{Some}
+use Rattle.ov_wire.specs.declared.message.Message.{Message}
+use Rattle.ov_wire.specs.declared.message.Body.{Body}
+use Rattle.ov_words.specs.Pick.{Choice, AreDrawn, Drawn}
+use Rattle.ov_views.specs.Allowed.{Node}
+use Rattle.ov_views.specs.declared.change.ViewChange.{ViewChange}
+use Rattle.ov_views.specs.declared.moves.Moves.{Moves}
+use Rattle.ov_views.proofs.Tracking.{Tracks}
+use Rattle.ov_plum.specs.Tree.{Tree, is_linked}
+use Rattle.ov_plum.specs.Spreading.{AllowedTree, Delivered, receives}
+use Rattle.ov_plum.specs.Turning.{turned}
+use Rattle.ov_plum.specs.declared.turn.Planned.{Planned}
+use Rattle.ov_plum.specs.declared.turn.Turn.{Turn}
+use Rattle.ov_plum.specs.declared.turn.Turn.TheVariants.{Rests, Makes, Holds, Eager, Lazy, Puts, Clears}
+use Rattle.ov_peer.specs.Whole.{Whole, IsWhole}
+use Rattle.ov_peer.specs.Step.{NodePart, TreePart, Told, PeerStep, delivery_at}
+use Rattle.ov_peer.specs.Planning.{node_after, Follows, Plans, Fits}
+use Rattle.ov_peer.specs.declared.input.Input.{Input}
+use Rattle.ov_peer.specs.declared.input.Input.TheVariants.{Receive}
+use Rattle.ov_peer.specs.declared.plan.Plan.{Plan}
+use Rattle.ov_peer.specs.declared.plan.Course.{Course}
+use Rattle.ov_peer.specs.declared.plan.Course.TheVariants.{Stays}
+use Rattle.ov_peer.proofs.Linking.{linked_eager, linked_lazy}
+use Rattle.ov_peer.proofs.Steps.{whole_told}
+
+-- a plan of which both parts are steps
+pub plans : (p : Whole) (i : Input) (cs : List Choice) (g : Plan) (heard spread : List (ℕ × Message)) (delivered : Option Delivered) →
+    NodePart p.node i cs (node_after p.node g.course) g.changes.items heard → TreePart p.tree i (turned p.tree g.turn) spread delivered
+    → g.sends.items ≡ heard ++ spread → g.delivered ≡ delivery_at p.node.views.me delivered → Plans p i cs g
+plans p i cs g heard spread delivered n t sends delivery q f =
+    (heard, turned p.tree g.turn, spread, delivered, subst (λ (m : Node). NodePart p.node i cs m g.changes.items heard) (sym f.0) n, t, f.1, sends, delivery)
+
+-- the plan of a step of HyParView's part
+pub moves_plan : (p : Whole) (i : Input) (cs : List Choice) (moves : Moves) (course : Course) (g : Plan) →
+    g ≡ record { sends = moves.sends; changes = moves.changes; delivered = None; course = course; turn = Rests }
+    → NodePart p.node i cs (node_after p.node course) moves.changes.items moves.sends.items → TreePart p.tree i p.tree [] None → Plans p i cs g
+moves_plan p i cs moves course g is n t =
+    subst (λ (h : Plan). Plans p i cs h) (sym is) (plans p i cs (record { sends = moves.sends; changes = moves.changes; delivered = None; course = course; turn = Rests }) moves.sends.items [] None n t (sym (append-nil moves.sends.items)) refl)
+
+-- the plan of a step of Plumtree's part
+pub tree_plan : (p : Whole) (i : Input) (planned : Planned) (g : Plan) → g.sends ≡ planned.spread.sends → g.changes.items ≡ [] → g.delivered ≡ delivery_at p.node.views.me planned.spread.delivered
+    → g.course ≡ Stays → g.turn ≡ planned.turn → NodePart p.node i [] p.node [] [] → TreePart p.tree i (turned p.tree planned.turn) planned.spread.sends.items planned.spread.delivered → Plans p i [] g
+tree_plan p i planned g sends changes delivered course turn n t =
+    plans p i [] g [] planned.spread.sends.items planned.spread.delivered
+    (subst (λ (c : Course). NodePart p.node i [] (node_after p.node c) g.changes.items []) (sym course) (subst (λ (cs : List ViewChange). NodePart p.node i [] p.node cs []) (sym changes) n))
+    (subst (λ (r : Turn). TreePart p.tree i (turned p.tree r) planned.spread.sends.items planned.spread.delivered) (sym turn) t)
+    (ap (λ s. s.items) sends) delivered
+
+-- a plan whose active view goes along with its changes is one for the node
+pub fits : (p : Whole) (moves : Moves) (course : Course) (g : Plan) → g ≡ record { sends = moves.sends; changes = moves.changes; delivered = None; course = course; turn = Rests }
+    → Tracks p.node.views moves.changes.items (node_after p.node course).views → Fits p g
+fits p moves course g is tracks = subst (λ (h : Plan). Fits p h) (sym is) (record { me = tracks.me; active = tracks.active; few = tracks.few })
+
+-- a turn keeps whose tree it is
+turned_me : (t : Tree) (r : Turn) → (turned t r).me ≡ t.me
+turned_me t Rests = refl
+turned_me t (Makes id kept next) = refl
+turned_me t (Holds id kept s) = refl
+turned_me t (Eager s) = refl
+turned_me t (Lazy s) = refl
+turned_me t (Puts id notes None) = refl
+turned_me t (Puts id notes (Some s)) = refl
+turned_me t (Clears id) = refl
+
+-- and who is a neighbour
+turned_linked : (t : Tree) (r : Turn) (x : ℕ) → is_linked (turned t r).branches x ≡ is_linked t.branches x
+turned_linked t Rests x = refl
+turned_linked t (Makes id kept next) x = refl
+turned_linked t (Holds id kept s) x = linked_eager t.branches s x
+turned_linked t (Eager s) x = linked_eager t.branches s x
+turned_linked t (Lazy s) x = linked_lazy t.branches s x
+turned_linked t (Puts id notes None) x = refl
+turned_linked t (Puts id notes (Some s)) x = linked_eager t.branches s x
+turned_linked t (Clears id) x = refl
+
+-- so a node is whole after a turn
+pub whole_turned : (p : Whole) (r : Turn) (u : Tree) → IsWhole p → u ≡ turned p.tree r → IsWhole (record { node = p.node; tree = u })
+whole_turned p r u w is = record {
+  me = ap (λ (s : Tree). s.me) is ∙ turned_me p.tree r ∙ w.me;
+  neighbours = λ x. ap (λ (s : Tree). is_linked s.branches x) is ∙ turned_linked p.tree r x ∙ w.neighbours x;
+}
+
+-- and after it followed a plan
+pub whole_followed : (p : Whole) (g : Plan) (t u : Tree) (m : Node) → IsWhole p → Fits p g → t ≡ turned p.tree g.turn → Told t g.changes.items u → m ≡ node_after p.node g.course
+    → IsWhole (record { node = m; tree = u })
+whole_followed p g t u m w fits is told node =
+    whole_told p.node m t u g.changes.items (whole_turned p g.turn t w is)
+    (subst (λ (n : Node). Tracks p.node.views g.changes.items n.views) (sym node) (record { me = fits.me; active = fits.active; few = fits.few })) told
+
+-- a plan drawn from all words of an event
+pub drawn_plan : (words draws after : List ℕ) (p : Whole) (i j : Input) (g : Plan) → draws ≡ words → length draws ≡ 64 → length draws ≤ length after + 40 → j ≡ i → Drawn draws after (λ cs. Plans p i cs g)
+    → (q : Whole) → Follows p g q → (left : List ℕ) × (24 ≤ length left) × Drawn words left (λ cs. PeerStep p j cs q g.sends.items g.changes.items g.delivered)
+drawn_plan words draws after p i j g is long most same d q f =
+    (after, omega (arith, long, most), (d.0, subst (λ w. AreDrawn d.0 w after) is d.1, subst (λ k. PeerStep p k d.0 q g.sends.items g.changes.items g.delivered) (sym same) (d.2 q f)))
+
+-- a plan that draws nothing
+pub rested_plan : {E : Type 0} (words draws : List ℕ) (p : Whole) (i j : Input) (r : Result Plan E) → draws ≡ words → length draws ≡ 64 → j ≡ i → IfOk r (Plans p i [])
+    → IfOk r (λ g. (q : Whole) → Follows p g q → (left : List ℕ) × (24 ≤ length left) × Drawn words left (λ cs. PeerStep p j cs q g.sends.items g.changes.items g.delivered))
+rested_plan words draws p i j (Ok g) is long same h = drawn_plan words draws draws p i j g is long (omega arith) same ([], refl, h)
+rested_plan words draws p i j (Err e) is long same h = tt
+
+-- a step of the tree at a message is planned
+abbrev pub TreeHears : Tree → ℕ → Body → Planned → Type 0
+TreeHears t from body planned = AllowedTree t (receives (record { from = from; body = body })) (turned t planned.turn) planned.spread.sends.items planned.spread.delivered
+
+-- and the message is nothing to HyParView's part
+pub record HeardByTree (p : Whole) (from : ℕ) (body : Body) (planned : Planned) : Type 0 where
+  pub node : NodePart p.node (Receive (record { from = from; body = body })) [] p.node [] []
+  pub tree : TreeHears p.tree from body planned
+
+-- of one kind of message
+pub heard_as : (p : Whole) (from : ℕ) (kind body : Body) (by planned : Planned) → body ≡ kind → planned ≡ by → NodePart p.node (Receive (record { from = from; body = kind })) [] p.node [] [] → TreeHears p.tree from kind by
+    → HeardByTree p from body planned
+heard_as p from kind body by planned is same n t = subst (λ (b : Body). HeardByTree p from b planned) (sym is) (subst (HeardByTree p from kind) (sym same) (record { node = n; tree = t }))
+
+-- the plan of such a message
+pub heard_plan : (p : Whole) (from : ℕ) (body : Body) (planned : Planned) (g : Plan) → g.sends ≡ planned.spread.sends → g.changes.items ≡ [] → g.delivered ≡ delivery_at p.node.views.me planned.spread.delivered
+    → g.course ≡ Stays → g.turn ≡ planned.turn → HeardByTree p from body planned → Plans p (Receive (record { from = from; body = body })) [] g
+heard_plan p from body planned g sends changes delivered course turn heard = tree_plan p (Receive (record { from = from; body = body })) planned g sends changes delivered course turn heard.node heard.tree

@@ -1,0 +1,30 @@
+use Rattle.std.proofs.Common.{length, sym, ap, subst, arith}
+use Rattle.ov_views.specs.Allowed.{Node}
+use Rattle.ov_peer.specs.Whole.{Whole}
+use Rattle.ov_peer.specs.Planning.{Fits}
+use Rattle.ov_peer.proofs.Counts.{neighbours_fit}
+use Rattle.ov_peer.proofs.Steps.{whole_of}
+use Rattle.ov_peer.proofs.Following.{whole_turned, whole_followed}
+use Rattle.ov_peer.proofs.peer.Peer.apply.Goals as goal
+
+pub prove-unreachable-requires : goal.prove-unreachable-requires
+prove-unreachable-requires c =
+    let p = whole_of c.self.inside.views c.self.inside.attempt c.self.inside.sent c.self.inside.plum in
+    let middle : Whole = record { node = p.node; tree = c.apply.new.self } in
+    let few = neighbours_fit middle (whole_turned p c.args.plan.turn c.apply.new.self c.self.invariant c.in_ok-apply.ensures.ok) c.eager.ensures.links in
+    absurd (omega (arith, few, ap length c.eager.ensures.value, ap length c.lazy.ensures.value, ap length c.active.ensures.value, c.if-prove.true))
+
+pub tell-requires : goal.tell-requires
+tell-requires c =
+    let p = whole_of c.self.inside.views c.self.inside.attempt c.self.inside.sent c.self.inside.plum in
+    let middle : Whole = record { node = p.node; tree = c.apply.new.self } in
+    let few = neighbours_fit middle (whole_turned p c.args.plan.turn c.apply.new.self c.self.invariant c.in_ok-apply.ensures.ok) c.eager.ensures.links in
+    let v = c.active.ensures.views in
+    omega (arith, few, c.requires.few, v.active_size, v.limits.active_high, ap length c.deref.ensures.value)
+
+pub invariant_of-self-2 : goal.invariant_of-self-2
+invariant_of-self-2 c =
+    let p = whole_of c.self.inside.views c.self.inside.attempt c.self.inside.sent c.self.inside.plum in
+    let m : Node = record { views = c.follow.new.views; asking = c.follow.new.attempt; sent = c.follow.new.sent } in
+    let fits = subst (λ (w : Whole). Fits w c.args.plan) (sym c.self.view_is) c.requires in
+    whole_followed p c.args.plan c.apply.new.self c.tell.new.plum m c.self.invariant fits c.in_ok-apply.ensures.ok (rw (← c.deref.ensures.value) c.tell.ensures) c.follow.ensures

@@ -1,0 +1,27 @@
+-- What a turn makes of a tree.
+use Rattle.std.specs.Prelude.{Bool, true, false, Some, None}
+use Rattle.std.specs.FinMap as map
+use Rattle.ov_plum.specs.Tree.{Tree, makes_eager, makes_lazy}
+use Rattle.ov_plum.specs.declared.turn.Turn.{Turn}
+use Rattle.ov_plum.specs.declared.turn.Turn.TheVariants.{Rests, Makes, Holds, Eager, Lazy, Puts, Clears}
+
+-- the tree t after a turn
+abbrev pub turned : Tree → Turn → Tree
+turned t Rests = t
+turned t (Makes id kept next) = record t { held = map.insert t.held id kept; made = next }
+turned t (Holds id kept s) = record t { branches = makes_eager s t.branches; held = map.insert t.held id kept; timers = map.remove t.timers id }
+turned t (Eager s) = record t { branches = makes_eager s t.branches }
+turned t (Lazy s) = record t { branches = makes_lazy s t.branches }
+turned t (Puts id notes None) = record t { timers = map.insert t.timers id notes }
+turned t (Puts id notes (Some s)) = record t { branches = makes_eager s t.branches; timers = map.insert t.timers id notes }
+turned t (Clears id) = record t { timers = map.remove t.timers id }
+
+-- whether a turn puts something in, for which room is wanted
+abbrev pub wants_room : Turn → Bool
+wants_room Rests = false
+wants_room (Makes id kept next) = true
+wants_room (Holds id kept s) = true
+wants_room (Eager s) = false
+wants_room (Lazy s) = false
+wants_room (Puts id notes asked) = true
+wants_room (Clears id) = false
