@@ -12,3 +12,4 @@ mod Holding
 mod Passing
 mod Tracing
 mod Standing
+mod Scanned

@@ -5,3 +5,4 @@ pub mod Refusals
 pub mod World
 pub mod Codes
 pub mod Brought
+pub mod Scan

@@ -8,6 +8,7 @@ mod event;
 mod events;
 mod fault;
 mod judging;
+mod links;
 mod member;
 mod moving;
 mod nodes;

@@ -1,6 +1,7 @@
-ghost use Rattle.std.specs.Prelude.{◌≡◌, ◌≢◌, IsOk, OnOk, OnErr, None};
+ghost use Rattle.std.specs.Prelude.{◌≡◌, ◌≢◌, IfOk, IsOk, OnOk, OnErr, None};
 ghost use Rattle.std.specs.Option.{option_copied};
 ghost use Rattle.std.specs.FinMap as map;
+ghost use Rattle.ov_net.specs.Scan.{AreLive};
 
 use crate::member::Member;
 use ov_ids::{NodeId, OutOfMemory};
@@ -60,5 +61,18 @@ impl Nodes {
     {
         self.members.insert(id, member)?;
         Ok(())
+    }
+
+    /// The ids of those that live, ascending.
+    pub(crate) fn live_ids(&self, alloc: Global) -> Result<Vec<NodeId>, OutOfMemory>
+        ensures { IfOk result (λ ids. AreLive self.now ids.items) }
+    {
+        let mut ids = Vec::new(alloc);
+        for (id, member) in self.members.iter() {
+            if let Member::Live(_) = member {
+                ids.push(*id)?;
+            }
+        }
+        Ok(ids)
     }
 }

@@ -1,0 +1,22 @@
+use Rattle.std.proofs.Common.{length, sym, subst}
+use Rattle.ov_net.specs.Journal.{AreLinks}
+use Rattle.ov_net.proofs.Bringing.{each_ok}
+use Rattle.ov_net.proofs.Scanned.{has_scanned, graph_scanned, links_scanned}
+use Rattle.ov_net.proofs.world.World.links.Goals as goal
+
+pub graph_of-requires : goal.graph_of-requires
+graph_of-requires c =
+    let scan =
+    has_scanned _ c.args.self.now c.in_ok-nodes.nodes.items c.deref.result.now c.in_ok-links.links.items c.self.view_is c.self.invariant c.in_ok-nodes.ensures
+    c.deref.ensures.value c.in_ok-links.ensures.ascend c.in_ok-links.ensures.value in
+    rw (c.deref-2.ensures.value, c.deref-3.ensures.value) (graph_scanned c.args.self.now c.in_ok-nodes.nodes.items c.in_ok-links.links.items scan)
+
+pub returns : goal.returns
+returns c =
+    let scan =
+    has_scanned _ c.args.self.now c.in_ok-nodes.nodes.items c.deref.result.now c.in_ok-links.links.items c.self.view_is c.self.invariant c.in_ok-nodes.ensures
+    c.deref.ensures.value c.in_ok-links.ensures.ascend c.in_ok-links.ensures.value in
+    each_ok c.graph_of.result
+    (λ g is. subst (AreLinks c.args.self.now.journal (length c.args.self.now.journal)) (sym is)
+    (rw (c.deref-2.ensures.value, c.deref-3.ensures.value) (links_scanned c.args.self.now c.in_ok-nodes.nodes.items c.in_ok-links.links.items scan)))
+    c.graph_of.ensures
