@@ -1,5 +1,6 @@
 mod Packets
 mod Members
+mod Fates
 mod Lives
 mod Bringing
 mod After

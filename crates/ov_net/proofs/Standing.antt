@@ -12,7 +12,7 @@ use Rattle.ov_peer.specs.Whole.{Whole}
 use Rattle.ov_peer.specs.declared.input.Delivery.{Delivery}
 use Rattle.ov_peer.specs.declared.input.Input.{Input}
 use Rattle.ov_peer.specs.declared.input.Input.TheVariants as input
-use Rattle.ov_net.specs.Brought.{putting, taking, after}
+use Rattle.ov_net.specs.Brought.{IsBrought, IsAfter, packets_after}
 use Rattle.ov_net.specs.Net.{Net, LivesAs}
 use Rattle.ov_net.specs.NetStep.{NetStep, Happens, Moves, LiveMoves, Received}
 use Rattle.ov_net.specs.Refusals.{Judged, EventJudged, ContactThen, PlacesLast}
@@ -128,22 +128,27 @@ stands_kept c event words u e s judged step number few =
     }
 
 -- the same of the parts that are kept, in a world as it is seen
-pub stands_next : (seen c : Chronicle) (event : Event) (words : List ℕ) (b : Brought) (e : Entry) (nodes : map.FinMap nat_cmp Member) (packets : List (ℕ × Message)) (journal : List Entry) → seen ≡ c → Stands seen
-    → Judged c.net (length c.journal) event None → Happens c.net event words (after c.net b) b.changes b.delivery → length (after c.net b).packets ≤ 65536
+pub stands_next : (seen c : Chronicle) (event : Event) (words : List ℕ) (b : Brought) (e : Entry) (u : Net) (journal : List Entry) → seen ≡ c → Stands seen
+    → Judged c.net (length c.journal) event None → IsBrought c.net event words b → length (packets_after c.net b) ≤ 65536
     → (e.event ≡ event) × (e.words ≡ words) × (e.changes ≡ b.changes) × (e.delivery ≡ b.delivery) × (e.number ≡ length seen.journal + 1)
-    → nodes ≡ putting b.node seen.net.nodes → packets ≡ taking b.taken seen.net.packets ++ b.packets.items → journal ≡ seen.journal ++ e ∷ []
-    → Stands (record { net = record { params = seen.net.params; nodes = nodes; packets = packets }; journal = journal })
-stands_next seen c event words b e nodes packets journal same s judged_of happens_of few_of entry n p j =
+    → IsAfter seen.net b u → journal ≡ seen.journal ++ e ∷ [] → Stands (record { net = u; journal = journal })
+stands_next seen c event words b e u journal same s judged_of brought_of few_of entry after j =
     let back = sym same in
     let judged = subst (λ (x : Chronicle). Judged x.net (length x.journal) event None) back judged_of in
-    let happens = subst (λ (x : Chronicle). Happens x.net event words (after x.net b) b.changes b.delivery) back happens_of in
-    let few = subst (λ (x : Chronicle). length (after x.net b).packets ≤ 65536) back few_of in
-    let told : Happens seen.net event words (after seen.net b) e.changes e.delivery =
-    subst (λ d. Happens seen.net event words (after seen.net b) e.changes d) (sym entry.3) (subst (λ x. Happens seen.net event words (after seen.net b) x b.delivery) (sym entry.2) happens) in
-    let next : Stands (record { net = after seen.net b; journal = seen.journal ++ e ∷ [] }) = stands_kept seen event words (after seen.net b) e s judged (entry.0, entry.1, told) entry.4 few in
-    let kept : ◌≡◌ {A = Chronicle} (record { net = after seen.net b; journal = seen.journal ++ e ∷ [] }) (record { net = record { params = seen.net.params; nodes = nodes; packets = packets }; journal = journal }) =
-    λ i. record { net = record { params = seen.net.params; nodes = (sym n) i; packets = (sym p) i }; journal = (sym j) i } in
-    subst Stands kept next
+    let brought = subst (λ (x : Chronicle). IsBrought x.net event words b) back brought_of in
+    let few = subst (λ (x : Chronicle). length (packets_after x.net b) ≤ 65536) back few_of in
+    let happens = brought.happens u after in
+    let told : Happens seen.net event words u e.changes e.delivery =
+    subst (λ d. Happens seen.net event words u e.changes d) (sym entry.3) (subst (λ x. Happens seen.net event words u x b.delivery) (sym entry.2) happens) in
+    let next = stands_kept seen event words u e s judged (entry.0, entry.1, told) entry.4 (subst (λ (v : List (ℕ × Message)). length v ≤ 65536) (sym after.packets) few) in
+    subst (λ (k : List Entry). Stands (record { net = u; journal = k })) (sym j) next
+
+-- and it is a step, of a world that is the one seen
+pub step_next : (seen c : Chronicle) (event : Event) (words : List ℕ) (b : Brought) (e : Entry) (u : Net) → seen ≡ c → IsBrought c.net event words b
+    → (e.event ≡ event) × (e.words ≡ words) × (e.changes ≡ b.changes) × (e.delivery ≡ b.delivery) → IsAfter seen.net b u → NetStep c.net event words u e
+step_next seen c event words b e u same brought entry after =
+    let happens = brought.happens u (subst (λ (x : Chronicle). IsAfter x.net b u) same after) in
+    (entry.0, entry.1, subst (λ d. Happens c.net event words u e.changes d) (sym entry.3) (subst (λ x. Happens c.net event words u x b.delivery) (sym entry.2) happens))
 
 pub one_longer : (journal : List Entry) (e : Entry) → length (journal ++ e ∷ []) ≡ length journal + 1
 one_longer journal e = length-append journal (e ∷ [])

@@ -1,17 +1,16 @@
 ghost use Rattle.std.specs.Prelude.{◌≡◌, ◌<◌, ◌≤◌, ℕ, List, [], ◌∷◌, None, Some, IfOk, length, slice_get};
 ghost use Rattle.std.specs.Option.{option_copied};
 ghost use Rattle.std.specs.FinMap as map;
-ghost use Rattle.ov_net.specs.Brought.{IsWithin, after};
+ghost use Rattle.ov_net.specs.Brought.{IsBrought, packets_after};
 ghost use Rattle.ov_net.specs.Net.{LivesAs, IsGone};
-ghost use Rattle.ov_net.specs.NetStep.{Happens};
 ghost use Rattle.ov_net.specs.Refusals.{Judged, IsBorn, MayBroadcast, HasTimer};
 ghost use Rattle.ov_net.specs.declared.event.Event.TheVariants.{Boot, Deliver, Lose, Repeat, Crash, Report, Shuffle, Broadcast, Timer, Snapshot};
 
-use crate::brought::Brought;
+use crate::brought::{Brought, Fate};
 use crate::entry::Change;
 use crate::event::{Event, copy_bytes};
 use crate::member::Member;
-use crate::moving::moved;
+use crate::moving::{begun, planned};
 use crate::packet::Packet;
 use crate::world::World;
 use ov_ids::{MsgId, NodeId, OutOfMemory, Seq};
@@ -22,9 +21,8 @@ impl World {
     /// What an event brings to which no refusal stands.
     pub(crate) fn brings(&self, event: &Event, words: &Words) -> Result<Brought, OutOfMemory>
         requires { Judged self.now.net (length self.now.journal) event.now None }
-        ensures happens { IfOk result (λ b. Happens self.now.net event.now words.now (after self.now.net b) b.changes b.delivery) }
-        ensures few { IfOk result (λ b. length (after self.now.net b).packets ≤ 65536) }
-        ensures within { IfOk result (λ b. IsWithin b.taken self.now.net.packets) }
+        ensures brought { IfOk result (IsBrought self.now.net event.now words.now) }
+        ensures few { IfOk result (λ b. length (packets_after self.now.net b) ≤ 65536) }
     {
         match event {
             Event::Boot(node, contact) => self.boot(*node, *contact, words),
@@ -88,28 +86,17 @@ impl World {
         words: &Words,
     ) -> Result<Brought, OutOfMemory>
         requires { map.get self.now.net.nodes node ≡ None }
-        ensures happens { IfOk result (λ b. Happens self.now.net (Boot node contact) words.now (after self.now.net b) b.changes b.delivery) }
+        ensures brought { IfOk result (IsBrought self.now.net (Boot node contact) words.now) }
         ensures few { IfOk result (λ b. length b.packets.items ≤ 64) }
-        ensures within { IfOk result (λ b. IsWithin b.taken self.now.net.packets) }
     {
-        let peer = Peer::new(self.alloc, node, self.params);
-        moved(
-            self.alloc,
-            node,
-            true,
-            None,
-            &peer,
-            Input::Boot(contact),
-            words,
-        )
+        begun(self.alloc, node, self.params, contact, words)
     }
 
     /// A packet reaches its receiver, who handles it where it lives.
     fn deliver(&self, place: u32, words: &Words) -> Result<Brought, OutOfMemory>
         requires { place < length self.now.net.packets }
-        ensures happens { IfOk result (λ b. Happens self.now.net (Deliver place) words.now (after self.now.net b) b.changes b.delivery) }
+        ensures brought { IfOk result (IsBrought self.now.net (Deliver place) words.now) }
         ensures few { IfOk result (λ b. length b.packets.items ≤ 64) }
-        ensures within { IfOk result (λ b. IsWithin b.taken self.now.net.packets) }
     {
         let packet = self.packet(place);
         let to = packet.to();
@@ -117,7 +104,7 @@ impl World {
         match self.member(to) {
             Some(Member::Live(peer)) => {
                 let input = Input::Receive(packet.message(self.alloc)?);
-                moved(self.alloc, to, false, taken, peer, input, words)
+                planned(self.alloc, to, taken, peer, input, words)
             }
             Some(Member::Gone) => Ok(self.rests(taken, Vec::new(self.alloc))),
             None => Ok(self.rests(taken, Vec::new(self.alloc))),
@@ -127,9 +114,8 @@ impl World {
     /// A packet is lost.
     fn lose(&self, place: u32) -> Result<Brought, OutOfMemory>
         requires { place < length self.now.net.packets }
-        ensures happens { IfOk result (λ b. (words : List ℕ) → Happens self.now.net (Lose place) words (after self.now.net b) b.changes b.delivery) }
+        ensures brought { IfOk result (λ b. (words : List ℕ) → IsBrought self.now.net (Lose place) words b) }
         ensures none { IfOk result (λ b. b.packets.items ≡ []) }
-        ensures within { IfOk result (λ b. IsWithin b.taken self.now.net.packets) }
     {
         Ok(self.rests(Some(place as usize), Vec::new(self.alloc)))
     }
@@ -137,9 +123,8 @@ impl World {
     /// A packet is repeated.
     fn repeat(&self, place: u32) -> Result<Brought, OutOfMemory>
         requires { place < length self.now.net.packets }
-        ensures happens { IfOk result (λ b. (words : List ℕ) → Happens self.now.net (Repeat place) words (after self.now.net b) b.changes b.delivery) }
+        ensures brought { IfOk result (λ b. (words : List ℕ) → IsBrought self.now.net (Repeat place) words b) }
         ensures few { IfOk result (λ b. length b.packets.items ≤ 64) }
-        ensures within { IfOk result (λ b. IsWithin b.taken self.now.net.packets) }
     {
         let mut packets = Vec::with_capacity(self.alloc, 1)?;
         packets.push(self.packet(place).copy()?)?;
@@ -150,15 +135,14 @@ impl World {
     fn crash(&self, node: NodeId) -> Result<Brought, OutOfMemory>
         requires born { IsBorn self.now.net node }
         requires live { ¬ IsGone self.now.net node }
-        ensures happens { IfOk result (λ b. (words : List ℕ) → Happens self.now.net (Crash node) words (after self.now.net b) b.changes b.delivery) }
+        ensures brought { IfOk result (λ b. (words : List ℕ) → IsBrought self.now.net (Crash node) words b) }
         ensures none { IfOk result (λ b. b.packets.items ≡ []) }
-        ensures within { IfOk result (λ b. IsWithin b.taken self.now.net.packets) }
     {
         let mut changes = Vec::with_capacity(self.alloc, 1)?;
         changes.push(Change::Gone(node))?;
         Ok(Brought {
             taken: None,
-            node: Some((node, Member::Gone)),
+            node: Some((node, Fate::Crashes)),
             packets: Vec::new(self.alloc),
             changes: Seq::new(changes),
             delivery: None,
@@ -170,32 +154,22 @@ impl World {
         requires born { IsBorn self.now.net node }
         requires live { ¬ IsGone self.now.net node }
         requires gone { IsGone self.now.net crashed }
-        ensures happens { IfOk result (λ b. Happens self.now.net (Report node crashed) words.now (after self.now.net b) b.changes b.delivery) }
+        ensures brought { IfOk result (IsBrought self.now.net (Report node crashed) words.now) }
         ensures few { IfOk result (λ b. length b.packets.items ≤ 64) }
-        ensures within { IfOk result (λ b. IsWithin b.taken self.now.net.packets) }
     {
         let peer = self.known(node);
-        moved(
-            self.alloc,
-            node,
-            false,
-            None,
-            peer,
-            Input::Report(crashed),
-            words,
-        )
+        planned(self.alloc, node, None, peer, Input::Report(crashed), words)
     }
 
     /// A node starts a shuffle.
     fn shuffle(&self, node: NodeId, words: &Words) -> Result<Brought, OutOfMemory>
         requires born { IsBorn self.now.net node }
         requires live { ¬ IsGone self.now.net node }
-        ensures happens { IfOk result (λ b. Happens self.now.net (Shuffle node) words.now (after self.now.net b) b.changes b.delivery) }
+        ensures brought { IfOk result (IsBrought self.now.net (Shuffle node) words.now) }
         ensures few { IfOk result (λ b. length b.packets.items ≤ 64) }
-        ensures within { IfOk result (λ b. IsWithin b.taken self.now.net.packets) }
     {
         let peer = self.known(node);
-        moved(self.alloc, node, false, None, peer, Input::Shuffle, words)
+        planned(self.alloc, node, None, peer, Input::Shuffle, words)
     }
 
     /// A node broadcasts.
@@ -209,13 +183,12 @@ impl World {
         requires live { ¬ IsGone self.now.net node }
         requires payload { length payload.now ≤ 1024 }
         requires made { MayBroadcast self.now.net node }
-        ensures happens { IfOk result (λ b. Happens self.now.net (Broadcast node payload.now) words.now (after self.now.net b) b.changes b.delivery) }
+        ensures brought { IfOk result (IsBrought self.now.net (Broadcast node payload.now) words.now) }
         ensures few { IfOk result (λ b. length b.packets.items ≤ 64) }
-        ensures within { IfOk result (λ b. IsWithin b.taken self.now.net.packets) }
     {
         let peer = self.known(node);
         let input = Input::Broadcast(copy_bytes(self.alloc, payload)?);
-        moved(self.alloc, node, false, None, peer, input, words)
+        planned(self.alloc, node, None, peer, input, words)
     }
 
     /// A timer fires at a node.
@@ -223,11 +196,10 @@ impl World {
         requires born { IsBorn self.now.net node }
         requires live { ¬ IsGone self.now.net node }
         requires set { HasTimer self.now.net node id }
-        ensures happens { IfOk result (λ b. Happens self.now.net (Timer node id) words.now (after self.now.net b) b.changes b.delivery) }
+        ensures brought { IfOk result (IsBrought self.now.net (Timer node id) words.now) }
         ensures few { IfOk result (λ b. length b.packets.items ≤ 64) }
-        ensures within { IfOk result (λ b. IsWithin b.taken self.now.net.packets) }
     {
         let peer = self.known(node);
-        moved(self.alloc, node, false, None, peer, Input::Timer(id), words)
+        planned(self.alloc, node, None, peer, Input::Timer(id), words)
     }
 }

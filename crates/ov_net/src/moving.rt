@@ -1,27 +1,26 @@
-ghost use Rattle.std.specs.Prelude.{◌≡◌, ◌≤◌, length, ◌++◌, [], ◌∷◌, None, map, IfOk, OnOk, if◌then◌else◌};
+ghost use Rattle.std.specs.Prelude.{◌≡◌, ◌≤◌, ◌++◌, None, length, map, IfOk, OnOk};
 ghost use Rattle.std.specs.List.{AllByRecursion};
 ghost use Rattle.ov_wire.specs.Messages.{AreInRange};
 ghost use Rattle.ov_peer.specs.Faults.{fault_of, IsInputInRange};
-ghost use Rattle.ov_net.specs.Brought.{HasMoved};
+ghost use Rattle.ov_peer.specs.Whole.{newborn};
+ghost use Rattle.ov_peer.specs.declared.input.Input.TheVariants.{Boot};
+ghost use Rattle.ov_net.specs.Brought.{HasPlanned, HasBegun};
 ghost use Rattle.ov_net.specs.NetStep.{told_of};
-ghost use Rattle.ov_net.specs.declared.entry.Change.TheVariants.{Born};
 
-use crate::brought::Brought;
+use crate::brought::{Brought, Fate};
 use crate::entry::Change;
-use crate::member::Member;
 use crate::packet::Packet;
-use ov_ids::{NodeId, OutOfMemory, Seq};
+use ov_ids::{NodeId, OutOfMemory, Params, Seq};
 use ov_peer::{Input, Peer, PeerFault};
 use ov_views::ViewChange;
 use ov_wire::Message;
 use ov_words::Words;
 use std::alloc::Global;
 
-/// What a node's step brings. The node itself stays as it is: a copy of it moves.
-pub(crate) fn moved(
+/// What it brings that a live node takes an input. The node stays as it is: what becomes of it is a plan.
+pub(crate) fn planned(
     alloc: Global,
     node: NodeId,
-    is_born: bool,
     taken: Option<usize>,
     peer: &Peer,
     input: Input,
@@ -29,22 +28,53 @@ pub(crate) fn moved(
 ) -> Result<Brought, OutOfMemory>
     requires range { IsInputInRange input }
     requires fault { fault_of peer.now input ≡ None }
-    ensures moved { IfOk result (λ b. HasMoved node is_born taken peer.now input words.now b) }
+    ensures planned { IfOk result (λ b. HasPlanned node taken peer.now input words.now b) }
     ensures few { IfOk result (λ b. length b.packets.items ≤ 64) }
 {
-    let mut next = peer.copy()?;
-    let output = match next.step(input, words) {
+    let mut plan = match peer.plan(input, words) {
+        Ok(plan) => plan,
+        Err(PeerFault::OutOfMemory) => return Err(OutOfMemory),
+        Err(_) => unreachable!(),
+    };
+    let packets = packed(alloc, &plan.sends)?;
+    let mut changes = Vec::with_capacity(alloc, plan.changes.len())?;
+    tell(&mut changes, node, &plan.changes)?;
+    let delivery = plan.delivered.take();
+    Ok(Brought {
+        taken,
+        node: Some((node, Fate::Follows(plan))),
+        packets,
+        changes: Seq::new(changes),
+        delivery,
+    })
+}
+
+/// What it brings that a node is born and boots, by a contact or without.
+pub(crate) fn begun(
+    alloc: Global,
+    node: NodeId,
+    params: Params,
+    contact: Option<NodeId>,
+    words: &Words,
+) -> Result<Brought, OutOfMemory>
+    ensures begun { IfOk result (λ b. HasBegun node (newborn node params) (Boot contact) words.now b) }
+    ensures few { IfOk result (λ b. length b.packets.items ≤ 64) }
+{
+    let mut peer = Peer::new(alloc, node, params);
+    let output = match peer.step(Input::Boot(contact), words) {
         Ok(output) => output,
         Err(PeerFault::OutOfMemory) => return Err(OutOfMemory),
         Err(_) => unreachable!(),
     };
     let packets = packed(alloc, &output.sends)?;
-    let changes = told(alloc, node, is_born, &output.changes)?;
+    let mut changes = Vec::with_capacity(alloc, output.changes.len() + 1)?;
+    changes.push(Change::Born(node))?;
+    tell(&mut changes, node, &output.changes)?;
     Ok(Brought {
-        taken,
-        node: Some((node, Member::Live(next))),
+        taken: None,
+        node: Some((node, Fate::Born(peer))),
         packets,
-        changes,
+        changes: Seq::new(changes),
         delivery: output.delivered,
     })
 }
@@ -59,23 +89,6 @@ fn packed(alloc: Global, sends: &[(NodeId, Message)]) -> Result<Vec<Packet>, Out
         packets.push(Packet::new(alloc, send.0, &send.1)?)?;
     }
     Ok(packets)
-}
-
-/// The changes of a node's active view, as the journal tells them, after its birth where it is born.
-fn told(
-    alloc: Global,
-    node: NodeId,
-    is_born: bool,
-    changes: &[ViewChange],
-) -> Result<Seq<Change>, OutOfMemory>
-    ensures { IfOk result (λ c. c ≡ (if is_born then Born node ∷ [] else []) ++ map (told_of node) changes.now) }
-{
-    let mut told = Vec::with_capacity(alloc, changes.len() + 1)?;
-    if is_born {
-        told.push(Change::Born(node))?;
-    }
-    tell(&mut told, node, changes)?;
-    Ok(Seq::new(told))
 }
 
 /// Tells these changes of a node's active view.

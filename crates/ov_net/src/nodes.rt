@@ -1,10 +1,16 @@
-ghost use Rattle.std.specs.Prelude.{◌≡◌, ◌≢◌, IfOk, IsOk, OnOk, OnErr, None};
+ghost use Rattle.std.specs.Prelude.{◌≡◌, ◌≢◌, IsOk, IfOk, OnOk, OnErr, None, Some};
 ghost use Rattle.std.specs.Option.{option_copied};
 ghost use Rattle.std.specs.FinMap as map;
+ghost use Rattle.ov_peer.specs.Planning.{Fits};
+ghost use Rattle.ov_peer.specs.Whole.{Whole};
+ghost use Rattle.ov_net.specs.Brought.{Befalls};
+ghost use Rattle.ov_net.specs.declared.brought.Fate.TheVariants.{Follows};
+ghost use Rattle.ov_net.specs.declared.member.Member.TheVariants.{Live};
 ghost use Rattle.ov_net.specs.Scan.{AreLive};
 
 use crate::member::Member;
 use ov_ids::{NodeId, OutOfMemory};
+use ov_peer::Plan;
 use std::alloc::Global;
 use std::collections::BTreeMap;
 use std::marker::Model;
@@ -53,14 +59,38 @@ impl Nodes {
         self.members.get(&id)
     }
 
-    /// Puts a node at this id, in place of one that is there. Only a new id can want memory, and then nothing changes.
-    pub(crate) fn insert(&mut self, id: NodeId, member: Member) -> Result<(), OutOfMemory>
+    /// The live node of this id follows a plan, which is one for it. Without memory nothing changes.
+    pub(crate) fn follow(&mut self, id: NodeId, plan: Plan) -> Result<(), OutOfMemory>
+        requires { (p : Whole) × (map.get self.old id ≡ Some (Live p)) × Fits p plan }
+        ensures ok { OnOk result (Befalls id (Follows plan) self.old self.new) }
+        ensures err { OnErr result (self.new ≡ self.old) }
+    {
+        match self.insert(id, Member::Gone) {
+            Ok(Some(Member::Live(mut peer))) => {
+                let applied = peer.apply(plan);
+                match self.insert(id, Member::Live(peer)) {
+                    Ok(_) => {}
+                    Err(_) => unreachable!(),
+                }
+                applied?;
+                Ok(())
+            }
+            _ => unreachable!(),
+        }
+    }
+
+    /// Puts a node at this id, and answers the one that was there. Only a new id can want memory, and then nothing changes.
+    pub(crate) fn insert(
+        &mut self,
+        id: NodeId,
+        member: Member,
+    ) -> Result<Option<Member>, OutOfMemory>
+        ensures old { IfOk result (λ old. old ≡ map.get self.old id) }
         ensures ok { OnOk result (self.new ≡ map.insert self.old id member) }
         ensures present { map.get self.old id ≢ None → IsOk result }
         ensures err { OnErr result (self.new ≡ self.old) }
     {
-        self.members.insert(id, member)?;
-        Ok(())
+        Ok(self.members.insert(id, member)?)
     }
 
     /// The ids of those that live, ascending.

@@ -1,13 +1,13 @@
 ghost use Rattle.std.specs.Prelude.{◌≡◌, ◌≤◌, ◌<◌, ◌+◌, ◌++◌, [], ◌∷◌, None, IfOk, IfErr, IfSome, IfNone, OnOk, OnErr, IsTrue, ◌↔◌, length, vec_len, vec_capacity};
 ghost use Rattle.ov_peer.specs.Whole.{Whole};
-ghost use Rattle.ov_net.specs.Brought.{IsWithin, taking, putting, after};
+ghost use Rattle.ov_net.specs.Brought.{IsBrought, IsWithin, MayBefall, Befalls, MayTurn, Turns, taking, packets_after};
 ghost use Rattle.ov_net.specs.Journal.{DeliversOnce};
 ghost use Rattle.ov_net.specs.Net.{LivesAs};
-ghost use Rattle.ov_net.specs.NetStep.{Happens, NetStep};
+ghost use Rattle.ov_net.specs.NetStep.{NetStep};
 ghost use Rattle.ov_net.specs.Refusals.{Judged, IsBorn, IsRefusal};
 ghost use Rattle.ov_net.specs.World.{Stands, opening};
 
-use crate::brought::Brought;
+use crate::brought::{Brought, Fate};
 use crate::entry::Entry;
 use crate::event::Event;
 use crate::fault::NetFault;
@@ -127,9 +127,8 @@ impl World {
     /// Keeps what an event brought, and the entry that tells it.
     fn keep(&mut self, event: Event, words: &Words, brought: Brought) -> Result<Entry, OutOfMemory>
         requires judged { Judged self.old.net (length self.old.journal) event None }
-        requires happens { Happens self.old.net event words.now (after self.old.net brought) brought.changes brought.delivery }
-        requires few { length (after self.old.net brought).packets ≤ 65536 }
-        requires within { IsWithin brought.taken self.old.net.packets }
+        requires brought { IsBrought self.old.net event words.now brought }
+        requires few { length (packets_after self.old.net brought) ≤ 65536 }
         ensures step { IfOk result (λ e. NetStep self.old.net event words.now self.new.net e) }
         ensures journal { IfOk result (λ e. self.new.journal ≡ self.old.journal ++ e ∷ []) }
         ensures number { IfOk result (λ e. e.number ≡ length self.new.journal) }
@@ -145,7 +144,7 @@ impl World {
         let answer = entry.copy(self.alloc)?;
         self.packets.reserve(brought.packets.len())?;
         self.journal.reserve(1)?;
-        put(&mut self.nodes, brought.node)?;
+        turn(&mut self.nodes, brought.node)?;
         exchange(&mut self.packets, brought.taken, brought.packets);
         record(&mut self.journal, entry);
         Ok(answer)
@@ -160,13 +159,31 @@ fn next_number(journal: &[Entry]) -> u32
     journal.len() as u32 + 1
 }
 
-/// Puts a node among the others, if one is named.
-fn put(nodes: &mut Nodes, node: Option<(NodeId, Member)>) -> Result<(), OutOfMemory>
-    ensures ok { OnOk result (nodes.new ≡ putting node nodes.old) }
+/// Lets become of a node what is to, if one is named.
+fn turn(nodes: &mut Nodes, node: Option<(NodeId, Fate)>) -> Result<(), OutOfMemory>
+    requires { MayTurn node nodes.old }
+    ensures ok { OnOk result (Turns node nodes.old nodes.new) }
     ensures err { OnErr result (nodes.new ≡ nodes.old) }
 {
-    if let Some((id, member)) = node {
-        nodes.insert(id, member)?;
+    match node {
+        Some((id, fate)) => befall(nodes, id, fate),
+        None => Ok(()),
+    }
+}
+
+fn befall(nodes: &mut Nodes, id: NodeId, fate: Fate) -> Result<(), OutOfMemory>
+    requires { MayBefall id fate nodes.old }
+    ensures ok { OnOk result (Befalls id fate nodes.old nodes.new) }
+    ensures err { OnErr result (nodes.new ≡ nodes.old) }
+{
+    match fate {
+        Fate::Born(peer) => {
+            nodes.insert(id, Member::Live(peer))?;
+        }
+        Fate::Follows(plan) => nodes.follow(id, plan)?,
+        Fate::Crashes => {
+            nodes.insert(id, Member::Gone)?;
+        }
     }
     Ok(())
 }

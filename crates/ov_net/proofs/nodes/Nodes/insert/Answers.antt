@@ -10,3 +10,6 @@ returns-in_err-insert-clause-present c =
 pub returns-clause-ok : goal.returns-clause-ok
 returns-clause-ok c =
     inserted _ _ c.args.id c.args.member (c.in_ok-insert.ensures.updates.0) ∙ ap (λ m. map.insert m c.args.id c.args.member) c.self.view_is
+
+pub returns-clause-old : goal.returns-clause-old
+returns-clause-old c = c.in_ok-insert.ensures.old ∙ sym (found _ c.args.id) ∙ ap (λ m. map.get m c.args.id) c.self.view_is
