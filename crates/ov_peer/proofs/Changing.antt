@@ -1,9 +1,9 @@
 -- A tree that is told changes one after another.
-use Rattle.std.proofs.Common.{◌≡◌, ℕ, ◌+◌, ◌≤◌, List, [], ◌∷◌, length, refl, ap, arith}
+use Rattle.std.proofs.Common.{◌≡◌, ℕ, ◌+◌, ◌≤◌, List, [], ◌∷◌, None, length, refl, ap, arith}
 use Rattle.ov_ids.specs.Sets.{adding, without}
 use Rattle.ov_ids.proofs.Sets.{length-adding, length-without}
 use Rattle.ov_plum.specs.Tree.{Tree}
-use Rattle.ov_plum.specs.Spreading.{AllowedUp, AllowedDown}
+use Rattle.ov_plum.specs.Spreading.{AllowedTree, goes_up, goes_down}
 use Rattle.ov_peer.specs.Step.{Told}
 use Rattle.ov_views.specs.declared.change.ViewChange.{ViewChange}
 use Rattle.ov_views.specs.declared.change.ViewChange.TheVariants.{Up, Down}
@@ -16,21 +16,21 @@ pub record Telling (t : Tree) (all : List ViewChange) (now : Tree) (left : List 
 pub begun : (t : Tree) (all : List ViewChange) → length t.branches.eager + length t.branches.lazy + length all ≤ 64 → Telling t all t all
 begun t all room = record { later = λ u h. h; room = room }
 
-pub told_up : (t : Tree) (all : List ViewChange) (now next : Tree) (x : ℕ) (left : List ViewChange) → Telling t all now (Up x ∷ left) → AllowedUp now x next → Telling t all next left
+pub told_up : (t : Tree) (all : List ViewChange) (now next : Tree) (x : ℕ) (left : List ViewChange) → Telling t all now (Up x ∷ left) → AllowedTree now (goes_up x) next [] None → Telling t all next left
 told_up t all now next x left s h =
-    let eager : length next.branches.eager ≡ length (adding x now.branches.eager) = ap (λ (u : Tree). length u.branches.eager) h in
-    let lazy : length next.branches.lazy ≡ length (without x now.branches.lazy) = ap (λ (u : Tree). length u.branches.lazy) h in
+    let eager : length next.branches.eager ≡ length (adding x now.branches.eager) = ap (λ (u : Tree). length u.branches.eager) h.0 in
+    let lazy : length next.branches.lazy ≡ length (without x now.branches.lazy) = ap (λ (u : Tree). length u.branches.lazy) h.0 in
     record {
-      later = λ u k. s.later u (next, (h, (refl, refl)), k);
+      later = λ u k. s.later u (next, h, k);
       room = omega (arith, s.room, eager, lazy, length-adding x now.branches.eager, length-without x now.branches.lazy);
     }
 
-pub told_down : (t : Tree) (all : List ViewChange) (now next : Tree) (x : ℕ) (left : List ViewChange) → Telling t all now (Down x ∷ left) → AllowedDown now x next → Telling t all next left
+pub told_down : (t : Tree) (all : List ViewChange) (now next : Tree) (x : ℕ) (left : List ViewChange) → Telling t all now (Down x ∷ left) → AllowedTree now (goes_down x) next [] None → Telling t all next left
 told_down t all now next x left s h =
-    let eager : length next.branches.eager ≡ length (without x now.branches.eager) = ap (λ b. length b.eager) h.1 in
-    let lazy : length next.branches.lazy ≡ length (without x now.branches.lazy) = ap (λ b. length b.lazy) h.1 in
+    let eager : length next.branches.eager ≡ length (without x now.branches.eager) = ap (λ b. length b.eager) h.0.1 in
+    let lazy : length next.branches.lazy ≡ length (without x now.branches.lazy) = ap (λ b. length b.lazy) h.0.1 in
     record {
-      later = λ u k. s.later u (next, (h, (refl, refl)), k);
+      later = λ u k. s.later u (next, h, k);
       room = omega (arith, s.room, eager, lazy, length-without x now.branches.eager, length-without x now.branches.lazy);
     }
 

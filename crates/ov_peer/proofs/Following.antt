@@ -5,6 +5,8 @@ use Rattle.ov_wire.specs.declared.message.Message.{Message}
 use Rattle.ov_wire.specs.declared.message.Body.{Body}
 use Rattle.ov_words.specs.Pick.{Choice, AreDrawn, Drawn}
 use Rattle.ov_views.specs.Allowed.{Node}
+use Rattle.ov_views.specs.Neighbourhood.{Neighbourhood}
+use Rattle.ov_views.specs.Neighbouring.{Asking}
 use Rattle.ov_views.specs.declared.change.ViewChange.{ViewChange}
 use Rattle.ov_views.specs.declared.moves.Moves.{Moves}
 use Rattle.ov_views.proofs.Tracking.{Tracks}
@@ -20,6 +22,7 @@ use Rattle.ov_peer.specs.Planning.{node_after, Follows, Plans, Fits}
 use Rattle.ov_peer.specs.declared.input.Input.{Input}
 use Rattle.ov_peer.specs.declared.input.Input.TheVariants.{Receive}
 use Rattle.ov_peer.specs.declared.plan.Plan.{Plan}
+use Rattle.ov_peer.specs.declared.plan.Near.{Near}
 use Rattle.ov_peer.specs.declared.plan.Course.{Course}
 use Rattle.ov_peer.specs.declared.plan.Course.TheVariants.{Stays}
 use Rattle.ov_peer.proofs.Linking.{linked_eager, linked_lazy}
@@ -39,14 +42,25 @@ pub moves_plan : (p : Whole) (i : Input) (cs : List Choice) (moves : Moves) (cou
 moves_plan p i cs moves course g is n t =
     subst (λ (h : Plan). Plans p i cs h) (sym is) (plans p i cs (record { sends = moves.sends; changes = moves.changes; delivered = None; course = course; turn = Rests }) moves.sends.items [] None n t (sym (append-nil moves.sends.items)) refl)
 
+-- a step of HyParView's part, of copies of a node's views and attempt, is one of the node, which is then to have what is kept
+pub near_step : (v w : Neighbourhood) (a b : Asking) (sent : List ℕ) (i : Input) (cs : List Choice) (moves : Moves) (kept near : Near) → w ≡ v → b ≡ a → kept ≡ near
+    → NodePart (record { views = w; asking = b; sent = sent }) i cs (record { views = near.views; asking = near.attempt; sent = sent }) moves.changes.items moves.sends.items
+    → NodePart (record { views = v; asking = a; sent = sent }) i cs (record { views = kept.views; asking = kept.attempt; sent = sent }) moves.changes.items moves.sends.items
+near_step v w a b sent i cs moves kept near views asking same step =
+    let after : Near → Node = λ n. record { views = n.views; asking = n.attempt; sent = sent } in
+    let before = subst (λ (n : Node). NodePart n i cs (after near) moves.changes.items moves.sends.items) (λ j. record { views = views j; asking = asking j; sent = sent }) step in
+    subst (λ (n : Near). NodePart (record { views = v; asking = a; sent = sent }) i cs (after n) moves.changes.items moves.sends.items) (sym same) before
+
 -- the plan of a step of Plumtree's part
-pub tree_plan : (p : Whole) (i : Input) (planned : Planned) (g : Plan) → g.sends ≡ planned.spread.sends → g.changes.items ≡ [] → g.delivered ≡ delivery_at p.node.views.me planned.spread.delivered
-    → g.course ≡ Stays → g.turn ≡ planned.turn → NodePart p.node i [] p.node [] [] → TreePart p.tree i (turned p.tree planned.turn) planned.spread.sends.items planned.spread.delivered → Plans p i [] g
-tree_plan p i planned g sends changes delivered course turn n t =
-    plans p i [] g [] planned.spread.sends.items planned.spread.delivered
+pub tree_plan : (me : ℕ) (p q : Whole) (i : Input) (planned : Planned) (g : Plan) → p ≡ q → me ≡ p.node.views.me → g.sends ≡ planned.spread.sends → g.changes.items ≡ []
+    → g.delivered ≡ delivery_at me planned.spread.delivered → g.course ≡ Stays → g.turn ≡ planned.turn → NodePart p.node i [] p.node [] []
+    → TreePart p.tree i (turned p.tree planned.turn) planned.spread.sends.items planned.spread.delivered → Plans q i [] g
+tree_plan me p q i planned g whole mine sends changes delivered course turn n t =
+    let plan = plans p i [] g [] planned.spread.sends.items planned.spread.delivered
     (subst (λ (c : Course). NodePart p.node i [] (node_after p.node c) g.changes.items []) (sym course) (subst (λ (cs : List ViewChange). NodePart p.node i [] p.node cs []) (sym changes) n))
     (subst (λ (r : Turn). TreePart p.tree i (turned p.tree r) planned.spread.sends.items planned.spread.delivered) (sym turn) t)
-    (ap (λ s. s.items) sends) delivered
+    (ap (λ s. s.items) sends) (delivered ∙ ap (λ m. delivery_at m planned.spread.delivered) mine) in
+    subst (λ (w : Whole). Plans w i [] g) whole plan
 
 -- a plan whose active view goes along with its changes is one for the node
 pub fits : (p : Whole) (moves : Moves) (course : Course) (g : Plan) → g ≡ record { sends = moves.sends; changes = moves.changes; delivered = None; course = course; turn = Rests }
@@ -116,6 +130,7 @@ pub heard_as : (p : Whole) (from : ℕ) (kind body : Body) (by planned : Planned
 heard_as p from kind body by planned is same n t = subst (λ (b : Body). HeardByTree p from b planned) (sym is) (subst (HeardByTree p from kind) (sym same) (record { node = n; tree = t }))
 
 -- the plan of such a message
-pub heard_plan : (p : Whole) (from : ℕ) (body : Body) (planned : Planned) (g : Plan) → g.sends ≡ planned.spread.sends → g.changes.items ≡ [] → g.delivered ≡ delivery_at p.node.views.me planned.spread.delivered
-    → g.course ≡ Stays → g.turn ≡ planned.turn → HeardByTree p from body planned → Plans p (Receive (record { from = from; body = body })) [] g
-heard_plan p from body planned g sends changes delivered course turn heard = tree_plan p (Receive (record { from = from; body = body })) planned g sends changes delivered course turn heard.node heard.tree
+pub heard_plan : (me : ℕ) (p q : Whole) (from : ℕ) (body : Body) (planned : Planned) (g : Plan) → p ≡ q → me ≡ p.node.views.me → g.sends ≡ planned.spread.sends → g.changes.items ≡ []
+    → g.delivered ≡ delivery_at me planned.spread.delivered → g.course ≡ Stays → g.turn ≡ planned.turn → HeardByTree p from body planned → Plans q (Receive (record { from = from; body = body })) [] g
+heard_plan me p q from body planned g whole mine sends changes delivered course turn heard =
+    tree_plan me p q (Receive (record { from = from; body = body })) planned g whole mine sends changes delivered course turn heard.node heard.tree

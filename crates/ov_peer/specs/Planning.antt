@@ -26,7 +26,8 @@ Follows p g q = (q.node ≡ node_after p.node g.course) × Told (turned p.tree g
 abbrev pub Plans : Whole → Input → List Choice → Plan → Type 0
 Plans p i choices g = (q : Whole) → Follows p g q → PeerStep p i choices q g.sends.items g.changes.items g.delivered
 
--- the plan is one for the node p: it is that node's, its active view goes along with the changes, and these are two at most
+-- the plan is one for the node p: it is that node's, its active view goes along with the changes, and these are two at most. Of
+-- its turn nothing is asked: whether that does to the tree what some step does is known only while p is as it was planned for
 pub record Fits (p : Whole) (g : Plan) : Type 0 where
   pub me : (node_after p.node g.course).views.me ≡ p.node.views.me
   pub active : (node_after p.node g.course).views.active ≡ after_changes g.changes.items p.node.views.active

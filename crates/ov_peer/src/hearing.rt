@@ -49,9 +49,8 @@ pub(crate) fn hear(
         Body::ShuffleReply { ids } => {
             ov_shuffle::on_reply(alloc, views, sent, draws, from, ids.as_slice())
         }
-        Body::Gossip { .. } => Moves::with_room(alloc, 0),
-        Body::IHave { .. } => Moves::with_room(alloc, 0),
-        Body::Graft { .. } => Moves::with_room(alloc, 0),
-        Body::Prune => Moves::with_room(alloc, 0),
+        Body::Gossip { .. } | Body::IHave { .. } | Body::Graft { .. } | Body::Prune => {
+            Moves::with_room(alloc, 0)
+        }
     }
 }

@@ -134,8 +134,8 @@ impl Peer {
     }
 
     /// Plans one step: how the node takes an input, with random choices drawn from the words. It uses at most 40 of them, and at
-    /// most 64 messages are to be sent. But for what is sent, nothing that the node holds is copied. NoTimer (18) where the
-    /// timer is not set; of a broadcast PayloadTooLong (19) and then TooManyMessages (20).
+    /// most 64 messages are to be sent. No held message is copied, but into what is sent. NoTimer (18) where the timer is not
+    /// set; of a broadcast PayloadTooLong (19) and then TooManyMessages (20).
     pub fn plan(&self, input: Input, words: &Words) -> Result<Plan, PeerFault>
         requires { IsInputInRange input }
         ensures allowed { IfOk result (λ g. (q : Whole) → Follows self.now g q → (left : List ℕ) × (24 ≤ length left) × Drawn words.now left
@@ -157,7 +157,9 @@ impl Peer {
         }
     }
 
-    /// Follows a plan, which must be one for this node as it is. The answer is the plan's. Without memory the node is as before.
+    /// Follows a plan. It must be this node's, and the active view to come must be the one that the node now has after the plan's
+    /// changes. It is the step that was planned only while nothing changed in the node since: an old plan's turn may do to the
+    /// tree what no step does. The answer is the plan's. Without memory the node is as before.
     pub fn apply(&mut self, plan: Plan) -> Result<Output, OutOfMemory>
         requires { Fits self.old plan }
         ensures follows { OnOk result (Follows self.old plan self.new) }

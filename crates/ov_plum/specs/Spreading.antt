@@ -57,16 +57,6 @@ AllowedIHave t s id u sends delivery =
     × MatchBool (map.contains_key t.held id || not (is_linked t.branches s)) (u ≡ t)
     (u ≡ record t { timers = map.insert t.timers id (noting s (notes_of t id)) })
 
--- GRAFT from s: it becomes eager, and gets the message where that is held
-abbrev pub AllowedGraft : Tree → ℕ → MsgId → Tree → List (ℕ × Message) → Option Delivered → Type 0
-AllowedGraft t s id u sends delivery =
-    (u ≡ record t { branches = makes_eager s t.branches }) × (delivery ≡ None)
-    × MatchOption (map.get t.held id) (sends ≡ []) (λ kept. sends ≡ (s, say t.me (gossip id kept)) ∷ [])
-
--- PRUNE from s: it becomes lazy
-abbrev pub AllowedPrune : Tree → ℕ → Tree → List (ℕ × Message) → Option Delivered → Type 0
-AllowedPrune t s u sends delivery = (u ≡ record t { branches = makes_lazy s t.branches }) × IsQuiet sends delivery
-
 -- a timer that runs fires, with these notes. Without a note it is cleared; else the oldest note is taken out, and who said so
 -- becomes eager and gets GRAFT
 abbrev pub Fires : Tree → MsgId → List ℕ → Tree → List (ℕ × Message) → Type 0
@@ -77,6 +67,16 @@ Fires t id (s ∷ notes) u sends =
 -- the timer of an id fires, which only one that runs can do
 abbrev pub AllowedTimer : Tree → MsgId → Tree → List (ℕ × Message) → Option Delivered → Type 0
 AllowedTimer t id u sends delivery = (delivery ≡ None) × MatchOption (map.get t.timers id) ⊥ (λ notes. Fires t id notes u sends)
+
+-- GRAFT from s: it becomes eager, and gets the message where that is held
+abbrev pub AllowedGraft : Tree → ℕ → MsgId → Tree → List (ℕ × Message) → Option Delivered → Type 0
+AllowedGraft t s id u sends delivery =
+    (u ≡ record t { branches = makes_eager s t.branches }) × (delivery ≡ None)
+    × MatchOption (map.get t.held id) (sends ≡ []) (λ kept. sends ≡ (s, say t.me (gossip id kept)) ∷ [])
+
+-- PRUNE from s: it becomes lazy
+abbrev pub AllowedPrune : Tree → ℕ → Tree → List (ℕ × Message) → Option Delivered → Type 0
+AllowedPrune t s u sends delivery = (u ≡ record t { branches = makes_lazy s t.branches }) × IsQuiet sends delivery
 
 -- x comes up: it is eager
 abbrev pub AllowedUp : Tree → ℕ → Tree → Type 0

@@ -3,7 +3,7 @@ ghost use Rattle.std.specs.FinMap as map;
 ghost use Rattle.std.specs.List.{AllByRecursion};
 ghost use Rattle.ov_wire.specs.Messages.{AreInRange};
 ghost use Rattle.ov_wire.specs.declared.message.Body.TheVariants.{Gossip, IHave, Graft, Prune};
-ghost use Rattle.ov_plum.specs.Spreading.{AllowedTree, receives, broadcasts, fires, AllowedUp, AllowedDown};
+ghost use Rattle.ov_plum.specs.Spreading.{AllowedTree, receives, broadcasts, fires, goes_up, goes_down};
 ghost use Rattle.ov_plum.specs.Tree.{AreBranches};
 ghost use Rattle.ov_plum.specs.Turning.{turned, wants_room};
 ghost use Rattle.ov_plum.specs.declared.fault.TimerFault.TheVariants.{NoTimer};
@@ -252,7 +252,8 @@ impl Plum {
         })
     }
 
-    /// Changes the tree as a turn says. Only a turn that puts something in takes memory.
+    /// Changes the tree as a turn says, whatever turn it is: it is a step of the tree only while nothing changed since it was
+    /// planned. Only a turn that puts something in takes memory.
     pub fn apply(&mut self, turn: Turn) -> Result<(), OutOfMemory>
         ensures ok { OnOk result (self.new ≡ turned self.old turn) }
         ensures err { OnErr result (self.new ≡ self.old) }
@@ -376,14 +377,14 @@ impl Plum {
     /// A node comes up: it is an eager neighbour. It takes no memory.
     pub fn up(&mut self, id: NodeId)
         requires { length self.old.branches.eager + length self.old.branches.lazy < 64 }
-        ensures { AllowedUp self.old id self.new }
+        ensures { AllowedTree self.old (goes_up id) self.new [] None }
     {
         self.links.up(id);
     }
 
     /// A node goes down: it is no neighbour, and its notes go. It takes no memory.
     pub fn down(&mut self, id: NodeId)
-        ensures { AllowedDown self.old id self.new }
+        ensures { AllowedTree self.old (goes_down id) self.new [] None }
     {
         self.links.down(id);
         self.timers.forget(id);

@@ -36,6 +36,5 @@ returns-clause-allowed c =
           heard_as p from Prune body w.plan_prune-planned.result planned is w.planned-is ((refl, refl, refl), refl) t
     ] in
     let of = c.of_tree.ensures in
-    let delivered = of.delivered ∙ ap (λ me. delivery_at me planned.spread.delivered) c.me.ensures.value in
-    let plan = heard_plan p from body planned c.of_tree.result of.sends of.changes delivered of.course of.turn heard in
-    ([], refl, subst (λ (w : Whole). Plans w (Receive c.args.message) [] c.of_tree.result) c.self.view_is plan)
+    let plan = heard_plan _ p _ from body planned c.of_tree.result c.self.view_is c.me.ensures.value of.sends of.changes of.delivered of.course of.turn heard in
+    ([], refl, plan)

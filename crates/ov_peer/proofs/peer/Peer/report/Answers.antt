@@ -1,13 +1,12 @@
-use Rattle.std.proofs.Common.{◌≡◌, refl, sym, subst}
-use Rattle.ov_views.specs.Allowed.{Node, hears_of_crash}
+use Rattle.std.proofs.Common.{refl, subst}
+use Rattle.ov_views.specs.Allowed.{hears_of_crash}
 use Rattle.ov_views.proofs.Tracking.{tracked}
 use Rattle.ov_peer.specs.Whole.{Whole}
-use Rattle.ov_peer.specs.Step.{NodePart}
 use Rattle.ov_peer.specs.Planning.{Plans, Fits}
 use Rattle.ov_peer.specs.declared.input.Input.TheVariants.{Report}
 use Rattle.ov_peer.specs.declared.plan.Course.TheVariants.{Moves}
 use Rattle.ov_peer.proofs.Steps.{whole_of}
-use Rattle.ov_peer.proofs.Following.{moves_plan, fits}
+use Rattle.ov_peer.proofs.Following.{near_step, moves_plan, fits}
 use Rattle.ov_peer.proofs.peer.Peer.report.Goals as goal
 
 pub returns-clause-allowed : goal.returns-clause-allowed
@@ -15,17 +14,9 @@ returns-clause-allowed c =
     let inside = c.self.inside in
     let p = whole_of inside.views inside.attempt inside.sent inside.plum in
     let moves = c.in_ok-moves.moves in
-    let course = Moves c.in_ok-near.near in
-    let near = c.in_ok-near.near.value in
-    let m : Node = record { views = near.views; asking = near.attempt; sent = inside.sent } in
-    let moved : Node = record { views = c.on_report.new.views; asking = c.on_report.new.attempt; sent = inside.sent } in
-    let same : m ≡ moved = (λ i. record { views = (c.in_ok-near.ensures.ok i).views; asking = (c.in_ok-near.ensures.ok i).attempt; sent = inside.sent }) in
-    let views = c.copy-views.ensures in
-    let asking = c.in_ok-attempt.ensures in
     let a = c.in_ok-moves.ensures.allowed in
-    let heard = subst (λ (n : Node). NodePart n (Report c.args.crashed) a.0 moved moves.changes.items moves.sends.items) (λ i. record { views = views i; asking = asking i; sent = inside.sent }) (a.2 p.node) in
-    let step = subst (λ (n : Node). NodePart p.node (Report c.args.crashed) a.0 n moves.changes.items moves.sends.items) (sym same) heard in
-    let plan = moves_plan p (Report c.args.crashed) a.0 moves course c.of_moves.result c.of_moves.ensures step (refl, (refl, refl)) in
+    let step = near_step inside.views _ inside.attempt _ inside.sent (Report c.args.crashed) a.0 moves c.in_ok-near.near.value _ c.copy-views.ensures c.in_ok-attempt.ensures c.in_ok-near.ensures.ok (a.2 p.node) in
+    let plan = moves_plan p (Report c.args.crashed) a.0 moves (Moves c.in_ok-near.near) c.of_moves.result c.of_moves.ensures step (refl, (refl, refl)) in
     (a.0, a.1, subst (λ (w : Whole). Plans w (Report c.args.crashed) a.0 c.of_moves.result) c.self.view_is plan)
 
 pub returns-clause-fits : goal.returns-clause-fits
@@ -33,14 +24,6 @@ returns-clause-fits c =
     let inside = c.self.inside in
     let p = whole_of inside.views inside.attempt inside.sent inside.plum in
     let moves = c.in_ok-moves.moves in
-    let course = Moves c.in_ok-near.near in
-    let near = c.in_ok-near.near.value in
-    let m : Node = record { views = near.views; asking = near.attempt; sent = inside.sent } in
-    let moved : Node = record { views = c.on_report.new.views; asking = c.on_report.new.attempt; sent = inside.sent } in
-    let same : m ≡ moved = (λ i. record { views = (c.in_ok-near.ensures.ok i).views; asking = (c.in_ok-near.ensures.ok i).attempt; sent = inside.sent }) in
-    let views = c.copy-views.ensures in
-    let asking = c.in_ok-attempt.ensures in
     let a = c.in_ok-moves.ensures.allowed in
-    let heard = subst (λ (n : Node). NodePart n (Report c.args.crashed) a.0 moved moves.changes.items moves.sends.items) (λ i. record { views = views i; asking = asking i; sent = inside.sent }) (a.2 p.node) in
-    let step = subst (λ (n : Node). NodePart p.node (Report c.args.crashed) a.0 n moves.changes.items moves.sends.items) (sym same) heard in
-    subst (λ (w : Whole). Fits w c.of_moves.result) c.self.view_is (fits p moves course c.of_moves.result c.of_moves.ensures (tracked p.node (hears_of_crash c.args.crashed) a.0 m _ _ step))
+    let step = near_step inside.views _ inside.attempt _ inside.sent (Report c.args.crashed) a.0 moves c.in_ok-near.near.value _ c.copy-views.ensures c.in_ok-attempt.ensures c.in_ok-near.ensures.ok (a.2 p.node) in
+    subst (λ (w : Whole). Fits w c.of_moves.result) c.self.view_is (fits p moves (Moves c.in_ok-near.near) c.of_moves.result c.of_moves.ensures (tracked p.node (hears_of_crash c.args.crashed) a.0 _ _ _ step))
