@@ -249,7 +249,7 @@ const THREE: Node = Node {
     words: &[1, 2],
 };
 
-static JOINS: [Case; 9] = [
+static JOINS: [Case; 10] = [
     Case {
         name: "a stranger enters a free place",
         node: ROOMY,
@@ -276,6 +276,16 @@ static JOINS: [Case; 9] = [
         ],
         active: &[3, 4, 7],
         passive: &[6],
+        left: 64,
+    },
+    Case {
+        name: "an active member is answered, and the others hear of it, where places are free",
+        node: ROOMY,
+        input: Input::Join { from: 7 },
+        changes: &[],
+        sends: &[(7, Said::Joined), (3, Said::Walk { node: 7, ttl: 6 })],
+        active: &[3, 7],
+        passive: &[4, 6],
         left: 64,
     },
     Case {
@@ -432,7 +442,7 @@ fn full_view(rt: HostRuntime) -> Result<(), Fail> {
     spelled(&rt, rt.alloc(), moves.sends.as_slice(), &FULL_VIEW_BYTES)
 }
 
-static JOINED: [Case; 6] = [
+static JOINED: [Case; 7] = [
     Case {
         name: "a stranger enters a free place",
         node: ROOMY,
@@ -451,6 +461,16 @@ static JOINED: [Case; 6] = [
         sends: &[],
         active: &[3, 4, 7],
         passive: &[6],
+        left: 64,
+    },
+    Case {
+        name: "an active member, where places are free",
+        node: ROOMY,
+        input: Input::Joined { from: 7 },
+        changes: &[],
+        sends: &[],
+        active: &[3, 7],
+        passive: &[4, 6],
         left: 64,
     },
     Case {

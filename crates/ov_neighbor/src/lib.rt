@@ -1,8 +1,9 @@
 //! What a node does at NEIGHBOR, NEIGHBORREPLY, DISCONNECT and a crash report: how its active view is repaired, after
 //! HyParView (Leitão, Pereira, Rodrigues, DSN 2007).
 //!
-//! A node that lost an active member asks its passive members one after another, each once, until one accepts or nobody is
-//! left: that is an attempt. How an attempt goes on, and what answers that nobody waits for do, is chosen here.
+//! A node that lost an active member asks its passive members one after another, each once, until one accepts, nobody is left
+//! or the active view is full: that is an attempt. How an attempt goes on, and what answers that nobody waits for do, is
+//! chosen here.
 #![tactic(auto)]
 
 mod attempt;

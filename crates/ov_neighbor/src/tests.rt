@@ -287,7 +287,7 @@ static ASKED: [Run; 3] = [
             (1, Event::High, "| 3 7 | | | 64"),
         ],
     },
-    // two places are free
+    // two places are free, and an active one asks before the others
     Run {
         me: 1,
         sizes: (4, 30),
@@ -295,6 +295,8 @@ static ASKED: [Run; 3] = [
         passive: &[9],
         words: &[],
         steps: &[
+            (7, Event::Low, "yes to 7 | 3 7 | 9 | | 64"),
+            (7, Event::High, "yes to 7 | 3 7 | 9 | | 64"),
             (9, Event::Low, "up 9 yes to 9 | 3 7 9 | | | 64"),
             (4, Event::High, "up 4 yes to 4 | 3 4 7 9 | | | 64"),
             (5, Event::Low, "no to 5 | 3 4 7 9 | | | 64"),

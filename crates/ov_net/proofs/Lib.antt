@@ -1,5 +1,5 @@
 mod Packets
-mod Members
+pub mod Members
 mod Fates
 mod Lives
 mod Bringing
@@ -8,7 +8,7 @@ mod Tracked
 mod Outcomes
 pub mod Telling
 mod Quiet
-mod Places
+pub mod Places
 mod Holding
 mod Passing
 mod Tracing

@@ -587,10 +587,24 @@ const ANSWER: Case = Case {
     ..RESTS
 };
 
-static REPLIES: [Case; 6] = [
+static REPLIES: [Case; 8] = [
     Case {
         name: "what was sent goes out",
         passive: &[5, 9],
+        ..ANSWER
+    },
+    Case {
+        name: "a place is free for 5, and then 9 takes that of 4",
+        node: Node {
+            passive: &[4],
+            ..ASKED
+        },
+        passive: &[5, 9],
+        ..ANSWER
+    },
+    Case {
+        name: "empty",
+        ids: &[],
         ..ANSWER
     },
     Case {

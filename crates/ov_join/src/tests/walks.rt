@@ -23,12 +23,40 @@ const FROM_ONE: Case = Case {
     left: 64,
 };
 
-static ENDING: [Case; 14] = [
+static ENDING: [Case; 17] = [
     Case {
         name: "no step is left: a stranger enters a free place",
         node: ROOMY,
         input: Input::Walk {
             from: 3,
+            node: 9,
+            ttl: 0,
+        },
+        changes: &[Change::Up(9)],
+        sends: &[(9, Said::Joined)],
+        active: &[3, 7, 9],
+        passive: &[4, 6],
+        left: 64,
+    },
+    Case {
+        name: "no step is left: a passive member enters a free place",
+        node: ROOMY,
+        input: Input::Walk {
+            from: 3,
+            node: 4,
+            ttl: 0,
+        },
+        changes: &[Change::Up(4)],
+        sends: &[(4, Said::Joined)],
+        active: &[3, 4, 7],
+        passive: &[6],
+        left: 64,
+    },
+    Case {
+        name: "no step is left: from the new node",
+        node: ROOMY,
+        input: Input::Walk {
+            from: 9,
             node: 9,
             ttl: 0,
         },
@@ -186,6 +214,18 @@ static ENDING: [Case; 14] = [
             node: 9,
             ttl: 3,
         },
+        ..FROM_ONE
+    },
+    Case {
+        name: "one is active, below the size, and it is the new node: from a stranger",
+        input: Input::Walk {
+            from: 8,
+            node: 3,
+            ttl: 6,
+        },
+        changes: &[],
+        sends: &[(3, Said::Joined)],
+        active: &[3],
         ..FROM_ONE
     },
     Case {
