@@ -21,3 +21,6 @@ pub use fault::NetFault;
 pub use member::Member;
 pub use packet::Packet;
 pub use world::World;
+
+#[cfg(test)]
+mod tests;

@@ -1,0 +1,6 @@
+pub mod Draws
+pub mod Faults
+pub mod Printed
+pub mod Reading
+pub mod Spaced
+pub mod Wanted

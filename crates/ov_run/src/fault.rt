@@ -1,0 +1,67 @@
+ghost use Rattle.std.specs.Prelude.{◌≡◌};
+ghost use Rattle.ov_run.specs.Faults.{number_of, line_of};
+ghost use Rattle.ov_run.specs.declared.fault.RunFault.TheVariants.{OutOfMemory as wants_memory};
+
+use std::alloc::{AllocError, AllocFailed};
+use thiserror::Error;
+
+/// Why a scenario is not run to its end. It is shown as what is printed of it on standard error.
+#[derive(Clone, Copy, Debug, PartialEq, Eq, Error)]
+pub enum RunFault {
+    /// This line of the file, counted from 1, can't be read.
+    #[error("line {0}: refused 70")]
+    Line(u32),
+    /// The parameters on this line of the file, counted from 1, are out of their limits.
+    #[error("line {0}: refused 21")]
+    Params(u32),
+    /// The reader failed, or there is none.
+    #[error("refused 71")]
+    Read,
+    /// The writer failed.
+    #[error("refused 72")]
+    Write,
+    /// A growth was refused.
+    #[error("refused 99")]
+    OutOfMemory,
+}
+
+impl RunFault {
+    /// The fault's number.
+    pub fn number(&self) -> u32
+        ensures { result ≡ number_of self.now }
+    {
+        match self {
+            RunFault::Line(_) => 70,
+            RunFault::Params(_) => 21,
+            RunFault::Read => 71,
+            RunFault::Write => 72,
+            RunFault::OutOfMemory => 99,
+        }
+    }
+
+    /// The line of the file that is at fault, counted from 1, where one is.
+    pub fn line(&self) -> Option<u32>
+        ensures { result ≡ line_of self.now }
+    {
+        match self {
+            RunFault::Line(line) | RunFault::Params(line) => Some(*line),
+            RunFault::Read | RunFault::Write | RunFault::OutOfMemory => None,
+        }
+    }
+}
+
+impl From<AllocError> for RunFault {
+    ghost from_gives = { λ _ e. e ≡ wants_memory };
+
+    fn from(_error: AllocError) -> RunFault {
+        RunFault::OutOfMemory
+    }
+}
+
+impl<T: Drop> From<AllocFailed<T>> for RunFault {
+    ghost from_gives = { λ _ e. e ≡ wants_memory };
+
+    fn from(_error: AllocFailed<T>) -> RunFault {
+        RunFault::OutOfMemory
+    }
+}

@@ -1,0 +1,8 @@
+pub mod Moments
+pub mod OneGraph
+pub mod Resting
+pub mod Keeping
+pub mod Agreeing
+pub mod Finding
+pub mod Refusing
+pub mod Running

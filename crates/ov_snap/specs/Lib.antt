@@ -1,0 +1,6 @@
+pub mod Snapshots
+pub mod Exact
+pub mod Book
+pub mod Refusals
+pub mod Run
+pub mod Codes

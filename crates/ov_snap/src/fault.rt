@@ -1,0 +1,48 @@
+ghost use Rattle.std.specs.Prelude.{◌≡◌};
+ghost use Rattle.ov_snap.specs.Refusals.{number_of};
+ghost use Rattle.ov_snap.specs.declared.fault.BookFault.TheVariants.{OutOfMemory as wants_memory};
+
+use thiserror::Error;
+
+/// Why a book refused.
+#[derive(Clone, Copy, Debug, PartialEq, Eq, Error)]
+pub enum BookFault {
+    /// No snapshot was taken at this moment.
+    #[error("no snapshot was taken at this moment")]
+    NoSuchMoment,
+    /// Nobody lived at this moment.
+    #[error("nobody lived at this moment")]
+    NoNodes,
+    /// The graph is another one than that of the moment.
+    #[error("the graph is not that of the moment")]
+    OtherGraph,
+    /// A report is filed for this moment.
+    #[error("a report is filed for this moment")]
+    AlreadyFiled,
+    /// A growth was refused.
+    #[error("out of memory")]
+    OutOfMemory,
+}
+
+impl BookFault {
+    /// The fault's number: 50, 30, 51 and 52 in the order above, or 99 for want of memory.
+    pub fn number(&self) -> u32
+        ensures { result ≡ number_of self.now }
+    {
+        match self {
+            BookFault::NoSuchMoment => 50,
+            BookFault::NoNodes => 30,
+            BookFault::OtherGraph => 51,
+            BookFault::AlreadyFiled => 52,
+            BookFault::OutOfMemory => 99,
+        }
+    }
+}
+
+impl From<ov_ids::OutOfMemory> for BookFault {
+    ghost from_gives = { λ _ e. e ≡ wants_memory };
+
+    fn from(_error: ov_ids::OutOfMemory) -> BookFault {
+        BookFault::OutOfMemory
+    }
+}

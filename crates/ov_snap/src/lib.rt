@@ -1,0 +1,19 @@
+//! A world with the snapshots of its links and the reports that are filed for them, each of which is exact.
+#![tactic(auto)]
+
+mod book;
+mod fault;
+mod job;
+mod report;
+mod reports;
+mod same;
+mod snapshot;
+mod steps;
+#[cfg(test)]
+mod tests;
+
+pub use book::Core;
+pub use fault::BookFault;
+pub use job::Job;
+pub use report::Report;
+pub use steps::{CoreStep, run_core};

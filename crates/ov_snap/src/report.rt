@@ -1,0 +1,42 @@
+ghost use Rattle.std.specs.Prelude.{◌≡◌};
+
+use ov_cert::Checked;
+use std::marker::Model;
+
+/// A moment, and a graph with a certificate that is valid for it.
+#[derive(Drop)]
+pub struct Report {
+    moment: u32,
+    checked: Checked,
+}
+
+impl Model for Report {
+    ghost use Rattle.ov_snap.specs.Exact.{Reported};
+
+    ghost Value = { Reported };
+
+    ghost view = { λ r. record { moment = r.moment; graph = r.checked.graph; cert = r.checked.cert } };
+}
+
+impl Report {
+    /// A report of this moment. It takes no memory.
+    pub fn new(moment: u32, checked: Checked) -> Report
+        ensures { result ≡ record { moment = moment; graph = checked.graph; cert = checked.cert } }
+    {
+        Report { moment, checked }
+    }
+
+    /// The moment that it is of.
+    pub fn moment(&self) -> u32
+        ensures { result ≡ self.now.moment }
+    {
+        self.moment
+    }
+
+    /// The graph, and the certificate that is valid for it.
+    pub fn checked(&self) -> &Checked
+        ensures { result.now ≡ record { graph = self.now.graph; cert = self.now.cert } }
+    {
+        &self.checked
+    }
+}

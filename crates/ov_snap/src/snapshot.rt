@@ -1,0 +1,46 @@
+ghost use Rattle.std.specs.Prelude.{◌≡◌, ◌<◌, ◌++◌, [], ◌∷◌, IfSome, IfNone, OnOk, vec_len, vec_capacity};
+ghost use Rattle.ov_ids.specs.Members.{Has, Ordered};
+ghost use Rattle.ov_snap.specs.Snapshots.{WasBefore};
+ghost use Rattle.ov_snap.specs.declared.snapshot.Snapshot.{Snapshot as Kept};
+
+use ov_graph::Graph;
+use ov_ids::OutOfMemory;
+
+/// The links that both ends held at a moment.
+#[derive(Drop)]
+pub(crate) struct Snapshot {
+    pub(crate) moment: u32,
+    pub(crate) graph: Graph,
+}
+
+/// The snapshot of a moment, by halving.
+pub(crate) fn find(snapshots: &[Snapshot], moment: u32) -> Option<&Snapshot>
+    requires { Ordered WasBefore snapshots.now }
+    ensures some { IfSome result (λ s. Has snapshots.now s.now × (s.now.moment ≡ moment)) }
+    ensures none { IfNone result ((s : Kept) → Has snapshots.now s → ¬ (s.moment ≡ moment)) }
+{
+    match snapshots.binary_search_by_key(&moment, |snapshot| snapshot.moment) {
+        Ok(place) => Some(&snapshots[place]),
+        Err(_) => None,
+    }
+}
+
+/// Makes room for one more snapshot.
+pub(crate) fn make_room(snapshots: &mut Vec<Snapshot>) -> Result<(), OutOfMemory>
+    ensures items { snapshots.new.items ≡ snapshots.old.items }
+    ensures room { OnOk result (vec_len snapshots.new < vec_capacity snapshots.new) }
+{
+    snapshots.reserve(1)?;
+    Ok(())
+}
+
+/// Puts a snapshot last. There is room for it.
+pub(crate) fn put(snapshots: &mut Vec<Snapshot>, snapshot: Snapshot)
+    requires { vec_len snapshots.old < vec_capacity snapshots.old }
+    ensures { snapshots.new.items ≡ snapshots.old.items ++ snapshot ∷ [] }
+{
+    match snapshots.push(snapshot) {
+        Ok(()) => {}
+        Err(_) => unreachable!(),
+    }
+}
