@@ -16,13 +16,19 @@ use Rattle.ov_peer.specs.Whole.{Whole}
 use Rattle.ov_graph.specs.Links.{LinkGraph, IsGraph, IsLink, Precedes, Linked}
 use Rattle.ov_net.specs.Journal.{AreLinks}
 use Rattle.ov_net.specs.Net.{Net, LivesAs}
-use Rattle.ov_net.specs.Scan.{AreLive, live_among, active_of, active_at, is_held_above, links_above, links_from}
+use Rattle.ov_net.specs.Scan.{AreLive, active_of, active_at, is_held_above, links_above, links_from}
 use Rattle.ov_net.specs.World.{Chronicle, Stands}
 use Rattle.ov_net.specs.declared.member.Member.{Member}
 use Rattle.ov_net.specs.declared.member.Member.TheVariants.{Live, Gone}
 use Rattle.ov_net.proofs.Members.{found, counted}
 use Rattle.ov_net.proofs.Outcomes.{same_some}
 use Rattle.ov_net.proofs.Telling.{links_of}
+
+-- the ids of those that live, in their order
+abbrev pub live_among : List (ℕ × Member) → List ℕ
+live_among [] = []
+live_among ((a, Live p) ∷ members) = a ∷ live_among members
+live_among ((a, Gone) ∷ members) = live_among members
 
 -- those that live come after an id where all ids do
 live_after : (x : ℕ) (es : List (ℕ × Member)) → AllByRecursion (λ y. nat_cmp x y ≡ Less) (keys_of es) → AllByRecursion (λ y. x < y) (live_among es)

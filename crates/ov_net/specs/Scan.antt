@@ -1,4 +1,4 @@
--- What a scan of the views finds in a world, by definitions that compute: who lives, whom each holds, and the links that both ends
+-- What a scan of the views finds in a world: who lives, and by definitions that compute whom each holds and the links that both ends
 -- hold.
 use Rattle.std.specs.Prelude.{◌≡◌, ◌↔◌, ℕ, ◌≤◌, ◌&&◌, List, [], ◌∷◌, ◌++◌, length, nat_lt, Bool, if◌then◌else◌, Option, Some, None}
 use Rattle.std.specs.Ordering.{nat_cmp}
@@ -9,12 +9,6 @@ use Rattle.ov_peer.specs.Whole.{Whole}
 use Rattle.ov_net.specs.Net.{Net}
 use Rattle.ov_net.specs.declared.member.Member.{Member}
 use Rattle.ov_net.specs.declared.member.Member.TheVariants.{Live, Gone}
-
--- the ids of those that live, in their order
-abbrev pub live_among : List (ℕ × Member) → List ℕ
-live_among [] = []
-live_among ((a, Live p) ∷ members) = a ∷ live_among members
-live_among ((a, Gone) ∷ members) = live_among members
 
 -- the ids of the live nodes, ascending
 pub record AreLive (nodes : map.FinMap nat_cmp Member) (ids : List ℕ) : Type 0 where

@@ -1,6 +1,5 @@
 use Rattle.std.proofs.Common.{◌++◌, sym, ap, ◌∙◌, append-nil}
-use Rattle.ov_net.specs.Scan.{live_among}
-use Rattle.ov_net.proofs.Scanned.{live_scanned}
+use Rattle.ov_net.proofs.Scanned.{live_among, live_scanned}
 use Rattle.ov_net.proofs.nodes.Nodes.live_ids.Goals as goal
 
 pub returns : goal.returns
