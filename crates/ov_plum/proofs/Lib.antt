@@ -1,3 +1,4 @@
 mod Branching
 pub mod Maps
 mod Noting
+pub mod Showing

@@ -72,13 +72,13 @@ module _ {X : Type 0} where
 pub one_more : {X : Type 0} (es : List (MsgId × X)) (i : ℕ) (e : MsgId × X) → slice_get es i ≡ Some e → from_entries {R = id_cmp} (drop i es) ≡ insert (from_entries (drop (suc i) es)) e.0 e.1
 one_more es i e at = ap from_entries (drop-cons es i e (slice_get_within es i e at) ∙ ap (λ x. x ∷ drop (suc i) es) (get_or_from_slice_get es i e e at))
 
--- what stands at an id may be put there again
-pub put_again : {X : Type 0} (m : FinMap id_cmp X) (k : MsgId) (v : X) → get m k ≡ Some v → insert m k v ≡ m
-put_again m k v at = same_map id_cmp_total id_cmp_same _ _ (λ q. get-insert id_cmp_total m k v q ∙ there q)
+-- what stands at a key may be put there again
+pub put_again : {K X : Type 0} {R : K → K → Ordering} (total : IsTotalOrder R) (same : IsAntisymmetric R) (m : FinMap R X) (k : K) (v : X) → get m k ≡ Some v → insert m k v ≡ m
+put_again {K = K} {R = R} total same m k v at = same_map total same _ _ (λ q. get-insert total m k v q ∙ there q)
   where
-    there : (q : MsgId) → cond (eq_by_cmp id_cmp q k) (Some v) (get m q) ≡ get m q
+    there : (q : K) → cond (eq_by_cmp R q k) (Some v) (get m q) ≡ get m q
     there q =
-        elim (eq_by_cmp id_cmp q k) as (λ b. eq_by_cmp id_cmp q k ≡ b → cond b (Some v) (get m q) ≡ get m q) [
-          | true ↦ λ e. sym at ∙ ap (get m) (sym (tells_apart id_cmp_same q k e))
+        elim (eq_by_cmp R q k) as (λ b. eq_by_cmp R q k ≡ b → cond b (Some v) (get m q) ≡ get m q) [
+          | true ↦ λ e. sym at ∙ ap (get m) (sym (tells_apart same q k e))
           | false ↦ λ _. refl
         ] refl

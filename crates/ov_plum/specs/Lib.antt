@@ -4,3 +4,4 @@ pub mod Tree
 pub mod Codes
 pub mod Spreading
 pub mod Turning
+pub mod Noted

@@ -119,3 +119,10 @@ AllowedTree t (receives m) u sends delivery = MatchBool (m.from == t.me) ((u ≡
 AllowedTree t (fires id) u sends delivery = AllowedTimer t id u sends delivery
 AllowedTree t (goes_up x) u sends delivery = AllowedUp t x u × IsQuiet sends delivery
 AllowedTree t (goes_down x) u sends delivery = AllowedDown t x u × IsQuiet sends delivery
+
+-- some step leads from the tree t to u: something comes to t for which u is allowed, with what is then sent and delivered
+pub record IsStep (t u : Tree) : Type 0 where
+  pub prompt : Prompt
+  pub sends : List (ℕ × Message)
+  pub delivery : Option Delivered
+  pub allowed : AllowedTree t prompt u sends delivery

@@ -44,7 +44,7 @@ pub record Kept : Type 0 where
   pub payload : List ℕ
 
 -- the node and its neighbours; the messages that it holds; the ids whose timers run, each with its notes: who said to have the
--- message, each once, the oldest first; and the number of the node's next broadcast
+-- message, the oldest first; and the number of the node's next broadcast
 pub record Tree : Type 0 where
   pub me : ℕ
   pub branches : Branches

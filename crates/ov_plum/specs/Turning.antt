@@ -1,6 +1,7 @@
 -- What a turn makes of a tree.
 use Rattle.std.specs.Prelude.{Bool, true, false, Some, None}
 use Rattle.std.specs.FinMap as map
+use Rattle.ov_plum.specs.Spreading.{IsStep}
 use Rattle.ov_plum.specs.Tree.{Tree, makes_eager, makes_lazy}
 use Rattle.ov_plum.specs.declared.turn.Turn.{Turn}
 use Rattle.ov_plum.specs.declared.turn.Turn.TheVariants.{Rests, Makes, Holds, Eager, Lazy, Puts, Clears}
@@ -15,6 +16,10 @@ turned t (Lazy s) = record t { branches = makes_lazy s t.branches }
 turned t (Puts id notes None) = record t { timers = map.insert t.timers id notes }
 turned t (Puts id notes (Some s)) = record t { branches = makes_eager s t.branches; timers = map.insert t.timers id notes }
 turned t (Clears id) = record t { timers = map.remove t.timers id }
+
+-- the turn is one of a step of the tree t: what it makes of t is what some step makes of it
+abbrev pub IsTurn : Tree → Turn → Type 0
+IsTurn t turn = IsStep t (turned t turn)
 
 -- whether a turn puts something in, for which room is wanted
 abbrev pub wants_room : Turn → Bool

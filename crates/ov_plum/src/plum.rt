@@ -3,9 +3,10 @@ ghost use Rattle.std.specs.FinMap as map;
 ghost use Rattle.std.specs.List.{AllByRecursion};
 ghost use Rattle.ov_wire.specs.Messages.{AreInRange};
 ghost use Rattle.ov_wire.specs.declared.message.Body.TheVariants.{Gossip, IHave, Graft, Prune};
-ghost use Rattle.ov_plum.specs.Spreading.{AllowedTree, receives, broadcasts, fires, goes_up, goes_down};
+ghost use Rattle.ov_plum.specs.Noted.{NotesFollow, Shows, none_noted};
+ghost use Rattle.ov_plum.specs.Spreading.{AllowedTree, IsStep, receives, broadcasts, fires, goes_up, goes_down};
 ghost use Rattle.ov_plum.specs.Tree.{AreBranches};
-ghost use Rattle.ov_plum.specs.Turning.{turned, wants_room};
+ghost use Rattle.ov_plum.specs.Turning.{IsTurn, turned, wants_room};
 ghost use Rattle.ov_plum.specs.declared.fault.TimerFault.TheVariants.{NoTimer};
 
 use crate::by_id::ById;
@@ -44,8 +45,10 @@ impl Model for Plum {
 
 impl Plum {
     /// A node without neighbours that has seen no message. It takes no memory.
+    #[tactic(auto, using(crate::proofs::Showing::shows_nothing))]
     pub fn new(alloc: Global, me: NodeId) -> Plum
-        ensures { result ≡ record { me = me; branches = record { eager = []; lazy = [] }; held = map.empty; timers = map.empty; made = 0 } }
+        ensures value { result ≡ record { me = me; branches = record { eager = []; lazy = [] }; held = map.empty; timers = map.empty; made = 0 } }
+        ensures noted { Shows result none_noted }
     {
         Plum {
             me,
@@ -136,6 +139,7 @@ impl Plum {
         requires { length payload ≤ 1024 }
         ensures allowed { IfOk result (λ p. AllowedTree self.now (receives (record { from = from; body = Gossip id round payload }))
             (turned self.now p.turn) p.spread.sends.items p.spread.delivered) }
+        ensures noted { IfOk result (λ p. NotesFollow self.now (receives (record { from = from; body = Gossip id round payload })) (turned self.now p.turn)) }
         ensures few { IfOk result (λ p. vec_len p.spread.sends ≤ 1 + length self.now.branches.eager + length self.now.branches.lazy) }
         ensures most { IfOk result (λ p. vec_len p.spread.sends ≤ 64) }
         ensures ranges { IfOk result (λ p. AllByRecursion (λ t. AreInRange t.1) p.spread.sends.items) }
@@ -166,6 +170,7 @@ impl Plum {
     pub fn plan_ihave(&self, from: NodeId, id: MsgId) -> Result<Planned, OutOfMemory>
         ensures allowed { IfOk result (λ p. AllowedTree self.now (receives (record { from = from; body = IHave id }))
             (turned self.now p.turn) p.spread.sends.items p.spread.delivered) }
+        ensures noted { IfOk result (λ p. NotesFollow self.now (receives (record { from = from; body = IHave id })) (turned self.now p.turn)) }
         ensures none { IfOk result (λ p. vec_len p.spread.sends ≡ 0) }
     {
         let alloc = self.held.allocator();
@@ -229,6 +234,7 @@ impl Plum {
     pub fn plan_timer(&self, id: MsgId) -> Result<Planned, TimerFault>
         ensures allowed { IfOk result (λ p. AllowedTree self.now (fires id)
             (turned self.now p.turn) p.spread.sends.items p.spread.delivered) }
+        ensures noted { IfOk result (λ p. NotesFollow self.now (fires id) (turned self.now p.turn)) }
         ensures no_timer { map.get self.now.timers id ≡ None → result ≡ Err NoTimer }
         ensures set { result ≡ Err NoTimer → map.get self.now.timers id ≡ None }
         ensures few { IfOk result (λ p. vec_len p.spread.sends ≤ 1) }
@@ -252,10 +258,12 @@ impl Plum {
         })
     }
 
-    /// Changes the tree as a turn says, whatever turn it is: it is a step of the tree only while nothing changed since it was
-    /// planned. Only a turn that puts something in takes memory.
+    /// Changes the tree as a turn says, which must be that of a step of the tree as it now is. A plan's turn is one while nothing
+    /// changed since it was planned. Only a turn that puts something in takes memory.
     pub fn apply(&mut self, turn: Turn) -> Result<(), OutOfMemory>
+        requires { IsTurn self.old turn }
         ensures ok { OnOk result (self.new ≡ turned self.old turn) }
+        ensures step { OnOk result (IsStep self.old self.new) }
         ensures err { OnErr result (self.new ≡ self.old) }
         ensures room { wants_room turn ≡ false → result ≡ Ok tt }
     {
@@ -310,6 +318,7 @@ impl Plum {
         requires { length payload ≤ 1024 }
         ensures allowed { IfOk result (λ s. AllowedTree self.old (receives (record { from = from; body = Gossip id round payload }))
             self.new s.sends.items s.delivered) }
+        ensures noted { IfOk result (λ s. NotesFollow self.old (receives (record { from = from; body = Gossip id round payload })) self.new) }
         ensures few { IfOk result (λ s. vec_len s.sends ≤ 1 + length self.old.branches.eager + length self.old.branches.lazy) }
         ensures most { IfOk result (λ s. vec_len s.sends ≤ 64) }
         ensures ranges { IfOk result (λ s. AllByRecursion (λ t. AreInRange t.1) s.sends.items) }
@@ -325,6 +334,7 @@ impl Plum {
     pub fn on_ihave(&mut self, from: NodeId, id: MsgId) -> Result<Spread, OutOfMemory>
         ensures allowed { IfOk result (λ s. AllowedTree self.old (receives (record { from = from; body = IHave id }))
             self.new s.sends.items s.delivered) }
+        ensures noted { IfOk result (λ s. NotesFollow self.old (receives (record { from = from; body = IHave id })) self.new) }
         ensures none { IfOk result (λ s. vec_len s.sends ≡ 0) }
         ensures err { OnErr result (self.new ≡ self.old) }
     {
@@ -363,6 +373,7 @@ impl Plum {
     /// timer is cleared. NoTimer (18) where it is not set, and then nothing changes.
     pub fn on_timer(&mut self, id: MsgId) -> Result<Spread, TimerFault>
         ensures allowed { IfOk result (λ s. AllowedTree self.old (fires id) self.new s.sends.items s.delivered) }
+        ensures noted { IfOk result (λ s. NotesFollow self.old (fires id) self.new) }
         ensures no_timer { map.get self.old.timers id ≡ None → result ≡ Err NoTimer }
         ensures set { result ≡ Err NoTimer → map.get self.old.timers id ≡ None }
         ensures few { IfOk result (λ s. vec_len s.sends ≤ 1) }
@@ -384,7 +395,8 @@ impl Plum {
 
     /// A node goes down: it is no neighbour, and its notes go. It takes no memory.
     pub fn down(&mut self, id: NodeId)
-        ensures { AllowedTree self.old (goes_down id) self.new [] None }
+        ensures allowed { AllowedTree self.old (goes_down id) self.new [] None }
+        ensures noted { NotesFollow self.old (goes_down id) self.new }
     {
         self.links.down(id);
         self.timers.forget(id);

@@ -1,8 +1,19 @@
-use Rattle.std.proofs.Common.{◌≡◌, ap, ◌∙◌, length, ◌+◌, arith}
+use Rattle.std.proofs.Common.{◌≡◌, ap, ◌∙◌, length, ◌+◌, arith, rules}
 use Rattle.ov_ids.specs.Sets.{without}
 use Rattle.ov_ids.proofs.Sets.{length-without}
 use Rattle.ov_plum.specs.Tree.{Branches, down}
+use Rattle.ov_wire.specs.declared.message.Body.TheVariants.{Gossip}
+use Rattle.ov_plum.specs.Spreading.{Prompt, receives}
+use Rattle.ov_plum.proofs.Showing.{notes_follow}
 use Rattle.ov_plum.proofs.plum.Plum.plan_gossip.Goals as goal
+
+pub returns-clause-allowed : goal.returns-clause-allowed
+returns-clause-allowed c = search rules
+
+pub returns-clause-noted : goal.returns-clause-noted
+returns-clause-noted c =
+    let prompt : Prompt = receives (record { from = c.args.from; body = Gossip c.args.id c.args.round c.args.payload }) in
+    notes_follow _ _ prompt c.in_ok-spread.spread.sends.items c.in_ok-spread.spread.delivered (returns-clause-allowed c)
 
 pub returns-clause-few : goal.returns-clause-few
 returns-clause-few c =
