@@ -3,30 +3,31 @@ use Rattle.std.proofs.Common.{◌≡◌, ℕ, List, [], ◌++◌, Option, None, 
 use Rattle.std.specs.Prelude.{Some}
 use Rattle.ov_wire.specs.declared.message.Message.{Message}
 use Rattle.ov_wire.specs.declared.message.Body.{Body}
+use Rattle.ov_wire.specs.declared.message.Body.TheVariants.{Join}
 use Rattle.ov_words.specs.Pick.{Choice, AreDrawn, Drawn}
-use Rattle.ov_views.specs.Allowed.{Node}
+use Rattle.ov_views.specs.Allowed.{Node, boots, receives as hears, hears_of_crash, shuffles}
 use Rattle.ov_views.specs.Neighbourhood.{Neighbourhood}
 use Rattle.ov_views.specs.Neighbouring.{Asking}
 use Rattle.ov_views.specs.declared.change.ViewChange.{ViewChange}
 use Rattle.ov_views.specs.declared.moves.Moves.{Moves}
-use Rattle.ov_views.proofs.Tracking.{Tracks}
+use Rattle.ov_views.proofs.Tracking.{Tracks, tracked}
 use Rattle.ov_plum.specs.Tree.{Tree, is_linked}
-use Rattle.ov_plum.specs.Spreading.{AllowedTree, Delivered, receives}
-use Rattle.ov_plum.specs.Turning.{turned}
+use Rattle.ov_plum.specs.Spreading.{AllowedTree, Delivered, IsStep, receives, broadcasts, fires}
+use Rattle.ov_plum.specs.Turning.{IsTurn, turned}
 use Rattle.ov_plum.specs.declared.turn.Planned.{Planned}
 use Rattle.ov_plum.specs.declared.turn.Turn.{Turn}
 use Rattle.ov_plum.specs.declared.turn.Turn.TheVariants.{Rests, Makes, Holds, Eager, Lazy, Puts, Clears}
 use Rattle.ov_peer.specs.Whole.{Whole, IsWhole}
-use Rattle.ov_peer.specs.Step.{NodePart, TreePart, Told, PeerStep, delivery_at}
+use Rattle.ov_peer.specs.Step.{NodePart, TreePart, Told, PeerStep, IsPeerStep, delivery_at}
 use Rattle.ov_peer.specs.Planning.{node_after, Follows, Plans, Fits}
 use Rattle.ov_peer.specs.declared.input.Input.{Input}
-use Rattle.ov_peer.specs.declared.input.Input.TheVariants.{Receive}
+use Rattle.ov_peer.specs.declared.input.Input.TheVariants.{Boot, Receive, Report, Shuffle, Broadcast, Timer}
 use Rattle.ov_peer.specs.declared.plan.Plan.{Plan}
 use Rattle.ov_peer.specs.declared.plan.Near.{Near}
 use Rattle.ov_peer.specs.declared.plan.Course.{Course}
 use Rattle.ov_peer.specs.declared.plan.Course.TheVariants.{Stays}
 use Rattle.ov_peer.proofs.Linking.{linked_eager, linked_lazy}
-use Rattle.ov_peer.proofs.Steps.{whole_told}
+use Rattle.ov_peer.proofs.Steps.{whole_told, tree_rests}
 
 -- a plan of which both parts are steps
 pub plans : (p : Whole) (i : Input) (cs : List Choice) (g : Plan) (heard spread : List (ℕ × Message)) (delivered : Option Delivered) →
@@ -62,10 +63,82 @@ tree_plan me p q i planned g whole mine sends changes delivered course turn n t 
     (ap (λ s. s.items) sends) (delivered ∙ ap (λ m. delivery_at m planned.spread.delivered) mine) in
     subst (λ (w : Whole). Plans w i [] g) whole plan
 
--- a plan whose active view goes along with its changes is one for the node
-pub fits : (p : Whole) (moves : Moves) (course : Course) (g : Plan) → g ≡ record { sends = moves.sends; changes = moves.changes; delivered = None; course = course; turn = Rests }
-    → Tracks p.node.views moves.changes.items (node_after p.node course).views → Fits p g
-fits p moves course g is tracks = subst (λ (h : Plan). Fits p h) (sym is) (record { me = tracks.me; active = tracks.active; few = tracks.few })
+-- the turn that changes nothing is one of a step, as at a message of HyParView
+rests : (t : Tree) → IsTurn t Rests
+rests t = record { prompt = receives (record { from = t.me; body = Join }); sends = []; delivery = None; allowed = tree_rests t t.me Join (omega arith) }
+
+-- the plan of a step of HyParView's part is one for the node
+pub fits : (p : Whole) (i : Input) (cs : List Choice) (moves : Moves) (course : Course) (g : Plan) →
+    g ≡ record { sends = moves.sends; changes = moves.changes; delivered = None; course = course; turn = Rests }
+    → NodePart p.node i cs (node_after p.node course) moves.changes.items moves.sends.items → TreePart p.tree i p.tree [] None → Fits p g
+fits p i cs moves course g is n t =
+    subst (λ (h : Plan). Fits p h) (sym is) (record { input = i; choices = cs; heard = moves.sends.items; spread = []; delivered = None; course = n; turn = t })
+
+-- so is the plan of a step of Plumtree's part
+pub tree_fits : (p : Whole) (i : Input) (cs : List Choice) (g : Plan) → g.changes.items ≡ [] → Plans p i cs g → Fits p g
+tree_fits p i cs g changes plans =
+    let after : Tree = turned p.tree g.turn in
+    let told : Told after g.changes.items after = subst (λ (changes : List ViewChange). Told after changes after) (sym changes) refl in
+    let step = plans (record { node = node_after p.node g.course; tree = after }) (refl, told) in
+    let same : after ≡ step.1 = subst (λ (changes : List ViewChange). Told step.1 changes after) changes step.6 in
+    record {
+      input = i;
+      choices = cs;
+      heard = step.0;
+      spread = step.2;
+      delivered = step.3;
+      course = step.4;
+      turn = subst (λ (u : Tree). TreePart p.tree i u step.2 step.3) (sym same) step.5;
+    }
+
+-- what a step of a node does with its tree, before this is told changes, is a step of the tree
+tree_steps : (t : Tree) (i : Input) (u : Tree) (spread : List (ℕ × Message)) (delivered : Option Delivered) → TreePart t i u spread delivered → IsStep t u
+tree_steps t (Boot contact) u spread delivered h = subst (IsStep t) (sym h.0) (rests t)
+tree_steps t (Receive message) u spread delivered h = record { prompt = receives message; sends = spread; delivery = delivered; allowed = h }
+tree_steps t (Report crashed) u spread delivered h = subst (IsStep t) (sym h.0) (rests t)
+tree_steps t Shuffle u spread delivered h = subst (IsStep t) (sym h.0) (rests t)
+tree_steps t (Broadcast payload) u spread delivered h = record { prompt = broadcasts payload; sends = spread; delivery = delivered; allowed = h }
+tree_steps t (Timer id) u spread delivered h = record { prompt = fires id; sends = spread; delivery = delivered; allowed = h }
+
+-- so the turn of a plan for the node is one of a step of its tree
+pub fits_turn : (p : Whole) (g : Plan) → Fits p g → IsTurn p.tree g.turn
+fits_turn p g f = tree_steps p.tree f.input (turned p.tree g.turn) f.spread f.delivered f.turn
+
+-- the active view goes along with the changes, whatever the input is
+node_tracks : (n : Node) (i : Input) (cs : List Choice) (m : Node) (changes : List ViewChange) (sends : List (ℕ × Message)) → NodePart n i cs m changes sends → Tracks n.views changes m.views
+node_tracks n (Boot contact) cs m changes sends h = tracked n (boots contact) cs m changes sends h
+node_tracks n (Receive message) cs m changes sends h = tracked n (hears message.from message.body) cs m changes sends h
+node_tracks n (Report crashed) cs m changes sends h = tracked n (hears_of_crash crashed) cs m changes sends h
+node_tracks n Shuffle cs m changes sends h = tracked n shuffles cs m changes sends h
+node_tracks n (Broadcast payload) cs m changes sends h = tracked n (boots None) cs m changes sends h
+node_tracks n (Timer id) cs m changes sends h = tracked n (boots None) cs m changes sends h
+
+-- and so it does where a plan for the node is followed
+pub fits_tracks : (p : Whole) (g : Plan) → Fits p g → Tracks p.node.views g.changes.items (node_after p.node g.course).views
+fits_tracks p g f = node_tracks p.node f.input f.choices (node_after p.node g.course) g.changes.items f.heard f.course
+
+pub followed_tracks : (p q : Whole) (g : Plan) → Fits p g → Follows p g q → Tracks p.node.views g.changes.items q.node.views
+followed_tracks p q g f h = subst (λ (n : Node). Tracks p.node.views g.changes.items n.views) (sym h.0) (fits_tracks p g f)
+
+-- who follows a plan for the node takes a step of it
+pub fits_step : (p q : Whole) (g : Plan) → Fits p g → Follows p g q → IsPeerStep p g.changes.items q
+fits_step p q g f h = record {
+  input = f.input;
+  choices = f.choices;
+  sends = f.heard ++ f.spread;
+  delivery = delivery_at p.node.views.me f.delivered;
+  allowed = (
+    f.heard,
+    turned p.tree g.turn,
+    f.spread,
+    f.delivered,
+    subst (λ (m : Node). NodePart p.node f.input f.choices m g.changes.items f.heard) (sym h.0) f.course,
+    f.turn,
+    h.1,
+    refl,
+    refl,
+  );
+}
 
 -- a turn keeps whose tree it is
 turned_me : (t : Tree) (r : Turn) → (turned t r).me ≡ t.me
@@ -101,7 +174,7 @@ pub whole_followed : (p : Whole) (g : Plan) (t u : Tree) (m : Node) → IsWhole 
     → IsWhole (record { node = m; tree = u })
 whole_followed p g t u m w fits is told node =
     whole_told p.node m t u g.changes.items (whole_turned p g.turn t w is)
-    (subst (λ (n : Node). Tracks p.node.views g.changes.items n.views) (sym node) (record { me = fits.me; active = fits.active; few = fits.few })) told
+    (subst (λ (n : Node). Tracks p.node.views g.changes.items n.views) (sym node) (fits_tracks p g fits)) told
 
 -- a plan drawn from all words of an event
 pub drawn_plan : (words draws after : List ℕ) (p : Whole) (i j : Input) (g : Plan) → draws ≡ words → length draws ≡ 64 → length draws ≤ length after + 40 → j ≡ i → Drawn draws after (λ cs. Plans p i cs g)

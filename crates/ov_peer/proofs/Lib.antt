@@ -3,4 +3,5 @@ mod Counts
 mod Changing
 pub mod Steps
 mod Following
+mod Noting
 mod Handed

@@ -3,3 +3,4 @@ pub mod Codes
 pub mod Step
 pub mod Faults
 pub mod Planning
+pub mod Noted

@@ -1,11 +1,12 @@
 -- A step that is planned, and what it makes of a node.
-use Rattle.std.specs.Prelude.{◌≡◌, ◌≤◌, List, length}
+use Rattle.std.specs.Prelude.{◌≡◌, ℕ, List, Option}
+use Rattle.ov_wire.specs.declared.message.Message.{Message}
 use Rattle.ov_words.specs.Pick.{Choice}
 use Rattle.ov_views.specs.Allowed.{Node}
-use Rattle.ov_views.specs.Changes.{after_changes}
+use Rattle.ov_plum.specs.Spreading.{Delivered}
 use Rattle.ov_plum.specs.Turning.{turned}
 use Rattle.ov_peer.specs.Whole.{Whole}
-use Rattle.ov_peer.specs.Step.{Told, PeerStep}
+use Rattle.ov_peer.specs.Step.{NodePart, TreePart, Told, PeerStep}
 use Rattle.ov_peer.specs.declared.input.Input.{Input}
 use Rattle.ov_peer.specs.declared.plan.Plan.{Plan}
 use Rattle.ov_peer.specs.declared.plan.Course.{Course}
@@ -22,13 +23,17 @@ node_after n (Shuffles list) = record n { sent = list }
 abbrev pub Follows : Whole → Plan → Whole → Type 0
 Follows p g q = (q.node ≡ node_after p.node g.course) × Told (turned p.tree g.turn) g.changes.items q.tree
 
--- whoever follows the plan takes this step
+-- p takes this step when it follows the plan, whatever q it then is
 abbrev pub Plans : Whole → Input → List Choice → Plan → Type 0
 Plans p i choices g = (q : Whole) → Follows p g q → PeerStep p i choices q g.sends.items g.changes.items g.delivered
 
--- the plan is one for the node p: it is that node's, its active view goes along with the changes, and these are two at most. Of
--- its turn nothing is asked: whether that does to the tree what some step does is known only while p is as it was planned for
+-- the plan is one for the node p: what it makes of p, before the tree is told the changes, is what some step makes of it. Something
+-- comes to p for which both parts allow this, with these choices, and with what is then sent and delivered
 pub record Fits (p : Whole) (g : Plan) : Type 0 where
-  pub me : (node_after p.node g.course).views.me ≡ p.node.views.me
-  pub active : (node_after p.node g.course).views.active ≡ after_changes g.changes.items p.node.views.active
-  pub few : length g.changes.items ≤ 2
+  pub input : Input
+  pub choices : List Choice
+  pub heard : List (ℕ × Message)
+  pub spread : List (ℕ × Message)
+  pub delivered : Option Delivered
+  pub course : NodePart p.node input choices (node_after p.node g.course) g.changes.items heard
+  pub turn : TreePart p.tree input (turned p.tree g.turn) spread delivered

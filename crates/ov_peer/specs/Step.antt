@@ -52,3 +52,12 @@ PeerStep p i choices q sends changes delivery =
     × TreePart p.tree i middle spread delivered
     × Told middle changes q.tree
     × (sends ≡ heard ++ spread) × (delivery ≡ delivery_at p.node.views.me delivered)
+
+-- some step leads from the node p to q, with these changes of the active view: something comes to p for which q is allowed, with
+-- these choices and with what is then sent and delivered
+pub record IsPeerStep (p : Whole) (changes : List ViewChange) (q : Whole) : Type 0 where
+  pub input : Input
+  pub choices : List Choice
+  pub sends : List (ℕ × Message)
+  pub delivery : Option Delivery
+  pub allowed : PeerStep p input choices q sends changes delivery

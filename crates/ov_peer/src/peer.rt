@@ -5,10 +5,12 @@ ghost use Rattle.ov_wire.specs.Messages.{AreInRange, kind_of};
 ghost use Rattle.ov_words.specs.Pick.{Drawn};
 ghost use Rattle.ov_views.specs.Changes.{after_changes};
 ghost use Rattle.ov_views.specs.Neighbourhood.{AreViews};
+ghost use Rattle.ov_plum.specs.Noted.{Shows, none_noted};
 ghost use Rattle.ov_plum.specs.Tree.{AreBranches};
 ghost use Rattle.ov_peer.specs.Faults.{fault_of, IsInputInRange};
+ghost use Rattle.ov_peer.specs.Noted.{NotesStep};
 ghost use Rattle.ov_peer.specs.Planning.{Fits, Follows, Plans};
-ghost use Rattle.ov_peer.specs.Step.{PeerStep};
+ghost use Rattle.ov_peer.specs.Step.{PeerStep, IsPeerStep};
 ghost use Rattle.ov_peer.specs.Whole.{Whole, IsWhole, newborn};
 ghost use Rattle.ov_peer.specs.declared.fault.PeerFault.{PeerFault};
 ghost use Rattle.ov_peer.specs.declared.fault.PeerFault.TheVariants.{OutOfMemory as wants_memory};
@@ -60,7 +62,8 @@ impl Model for Peer {
 impl Peer {
     /// A node that has seen nothing. It takes no memory.
     pub fn new(alloc: Global, me: NodeId, params: Params) -> Peer
-        ensures { result ≡ newborn me params }
+        ensures value { result ≡ newborn me params }
+        ensures noted { Shows result.tree none_noted }
     {
         Peer {
             alloc,
@@ -157,12 +160,13 @@ impl Peer {
         }
     }
 
-    /// Follows a plan. It must be this node's, and the active view to come must be the one that the node now has after the plan's
-    /// changes. It is the step that was planned only while nothing changed in the node since: an old plan's turn may do to the
-    /// tree what no step does. The answer is the plan's. Without memory the node is as before.
+    /// Follows a plan. What the plan makes of the node as it now is must be what one step makes of it, so the node takes a step.
+    /// It is the step that was planned while nothing changed in the node since. The answer is the plan's. Without memory the node
+    /// is as before.
     pub fn apply(&mut self, plan: Plan) -> Result<Output, OutOfMemory>
         requires { Fits self.old plan }
         ensures follows { OnOk result (Follows self.old plan self.new) }
+        ensures step { OnOk result (IsPeerStep self.old plan.changes.items self.new) }
         ensures sends { IfOk result (λ o. o.sends ≡ plan.sends) }
         ensures changes { IfOk result (λ o. o.changes ≡ plan.changes) }
         ensures delivered { IfOk result (λ o. o.delivered ≡ plan.delivered) }
@@ -193,6 +197,7 @@ impl Peer {
         requires { IsInputInRange input }
         ensures allowed { IfOk result (λ o. (left : List ℕ) × (24 ≤ length left) × Drawn words.now left
             (λ choices. PeerStep self.old input choices self.new o.sends.items o.changes.items o.delivered)) }
+        ensures noted { IfOk result (λ o. NotesStep self.old.tree input o.changes.items self.new.tree) }
         ensures told { IfOk result (λ o. self.new.node.views.active ≡ after_changes o.changes.items self.old.node.views.active) }
         ensures few { IfOk result (λ o. vec_len o.sends ≤ 64) }
         ensures ranges { IfOk result (λ o. AllByRecursion (λ s. AreInRange s.1) o.sends.items) }

@@ -13,4 +13,4 @@ pub loop-change-preserved : goal.loop-change-preserved
 loop-change-preserved c =
     let later = c.in-Some.later.now in
     let first : c.loop-change.left.now ≡ Down c.in-Down.id ∷ later = c.in-Some.ensures.cases.0 ∙ ap (λ x. x ∷ later) c.in-Down.is in
-    told_down _ _ _ _ c.in-Down.id later (subst (Telling c.args.plum.now c.args.changes.now c.loop-change.plum) first c.loop-change.invariant) c.down.ensures
+    told_down _ _ _ _ c.in-Down.id later (subst (Telling c.args.plum.now c.args.changes.now c.loop-change.plum) first c.loop-change.invariant) c.down.ensures.allowed

@@ -8,7 +8,7 @@ use Rattle.ov_peer.specs.declared.input.Input.TheVariants.{Boot}
 use Rattle.ov_peer.specs.declared.plan.Course.TheVariants.{Stays}
 use Rattle.ov_peer.specs.declared.plan.Plan.{Plan}
 use Rattle.ov_peer.proofs.Steps.{whole_of}
-use Rattle.ov_peer.proofs.Following.{plans}
+use Rattle.ov_peer.proofs.Following.{plans, tree_fits}
 use Rattle.ov_peer.proofs.peer.Peer.boot.Goals as goal
 
 pub returns-clause-allowed : goal.returns-clause-allowed
@@ -20,3 +20,6 @@ returns-clause-allowed c =
     let part = subst (λ (changes : List ViewChange). Allowed p.node (boots c.args.contact) [] p.node changes sends.items) (sym c.new.ensures.items) joins in
     let plan = plans p (Boot c.args.contact) [] g sends.items [] None part (refl, (refl, refl)) (sym (append-nil sends.items)) refl in
     subst (λ (w : Whole). Plans w (Boot c.args.contact) [] g) c.self.view_is plan
+
+pub returns-clause-fits : goal.returns-clause-fits
+returns-clause-fits c = tree_fits _ (Boot c.args.contact) [] _ c.new.ensures.items (returns-clause-allowed c)

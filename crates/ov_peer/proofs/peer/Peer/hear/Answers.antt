@@ -1,7 +1,5 @@
 use Rattle.std.proofs.Common.{subst}
 use Rattle.ov_wire.specs.declared.message.Message.{Message}
-use Rattle.ov_views.specs.Allowed.{receives}
-use Rattle.ov_views.proofs.Tracking.{tracked}
 use Rattle.ov_peer.specs.Whole.{Whole}
 use Rattle.ov_peer.specs.Planning.{Plans, Fits}
 use Rattle.ov_peer.specs.declared.input.Input.TheVariants.{Receive}
@@ -29,4 +27,4 @@ returns-clause-fits c =
     let moves = c.in_ok-moves.moves in
     let a = c.in_ok-moves.ensures.allowed in
     let step = near_step inside.views _ inside.attempt _ inside.sent (Receive message) a.0 moves c.in_ok-near.near.value _ c.copy-views.ensures c.in_ok-attempt.ensures c.in_ok-near.ensures.ok a.2 in
-    subst (λ (w : Whole). Fits w c.of_moves.result) c.self.view_is (fits p moves (Moves c.in_ok-near.near) c.of_moves.result c.of_moves.ensures (tracked p.node (receives c.args.from c.args.body.now) a.0 _ _ _ step))
+    subst (λ (w : Whole). Fits w c.of_moves.result) c.self.view_is (fits p (Receive message) a.0 moves (Moves c.in_ok-near.near) c.of_moves.result c.of_moves.ensures step (tree_rests p.tree c.args.from c.args.body.now c.requires.kind))

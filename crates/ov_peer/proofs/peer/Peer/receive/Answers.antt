@@ -1,11 +1,8 @@
-use Rattle.std.proofs.Common.{◌≡◌, [], refl, ap, ◌∙◌, subst}
+use Rattle.std.proofs.Common.{◌≡◌, [], refl}
 use Rattle.ov_wire.specs.declared.message.Body.TheVariants.{Gossip, IHave, Graft, Prune}
-use Rattle.ov_peer.specs.Step.{delivery_at}
-use Rattle.ov_peer.specs.Whole.{Whole}
-use Rattle.ov_peer.specs.Planning.{Plans}
 use Rattle.ov_peer.specs.declared.input.Input.TheVariants.{Receive}
 use Rattle.ov_peer.proofs.Steps.{whole_of}
-use Rattle.ov_peer.proofs.Following.{TreeHears, HeardByTree, heard_as, heard_plan}
+use Rattle.ov_peer.proofs.Following.{TreeHears, HeardByTree, heard_as, heard_plan, tree_fits}
 use Rattle.ov_peer.proofs.peer.Peer.receive.Goals.{in-Gossip+in_ok-planned-in-Gossip, in-IHave+in_ok-planned-in-IHave, in-Graft+in_ok-planned-in-Graft, in-Prune}
 use Rattle.ov_peer.proofs.peer.Peer.receive.Goals as goal
 
@@ -38,3 +35,8 @@ returns-clause-allowed c =
     let of = c.of_tree.ensures in
     let plan = heard_plan _ p _ from body planned c.of_tree.result c.self.view_is c.me.ensures.value of.sends of.changes of.delivered of.course of.turn heard in
     ([], refl, plan)
+
+pub returns-clause-fits : goal.returns-clause-fits
+returns-clause-fits c =
+    let allowed = returns-clause-allowed c in
+    tree_fits _ (Receive c.args.message) allowed.0 _ c.of_tree.ensures.changes allowed.2

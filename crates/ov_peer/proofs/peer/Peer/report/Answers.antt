@@ -1,6 +1,4 @@
 use Rattle.std.proofs.Common.{refl, subst}
-use Rattle.ov_views.specs.Allowed.{hears_of_crash}
-use Rattle.ov_views.proofs.Tracking.{tracked}
 use Rattle.ov_peer.specs.Whole.{Whole}
 use Rattle.ov_peer.specs.Planning.{Plans, Fits}
 use Rattle.ov_peer.specs.declared.input.Input.TheVariants.{Report}
@@ -26,4 +24,4 @@ returns-clause-fits c =
     let moves = c.in_ok-moves.moves in
     let a = c.in_ok-moves.ensures.allowed in
     let step = near_step inside.views _ inside.attempt _ inside.sent (Report c.args.crashed) a.0 moves c.in_ok-near.near.value _ c.copy-views.ensures c.in_ok-attempt.ensures c.in_ok-near.ensures.ok (a.2 p.node) in
-    subst (λ (w : Whole). Fits w c.of_moves.result) c.self.view_is (fits p moves (Moves c.in_ok-near.near) c.of_moves.result c.of_moves.ensures (tracked p.node (hears_of_crash c.args.crashed) a.0 _ _ _ step))
+    subst (λ (w : Whole). Fits w c.of_moves.result) c.self.view_is (fits p (Report c.args.crashed) a.0 moves (Moves c.in_ok-near.near) c.of_moves.result c.of_moves.ensures step (refl, (refl, refl)))
