@@ -43,7 +43,7 @@ planned_by a p i words g d b node f allowed sends delivery changes = (
   record g { delivered = d },
   node,
   refl,
-  record { me = f.me; active = f.active; few = f.few },
+  record { input = f.input; choices = f.choices; heard = f.heard; spread = f.spread; delivered = f.delivered; course = f.course; turn = f.turn },
   (λ q follows.
       let s = allowed q follows in
       let sent = subst (λ x. Drawn words s.0 (λ cs. PeerStep p i cs q x g.changes.items g.delivered)) (sym sends) s.2 in

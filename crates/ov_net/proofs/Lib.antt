@@ -14,3 +14,4 @@ mod Passing
 mod Tracing
 mod Standing
 mod Scanned
+pub mod OneGraph

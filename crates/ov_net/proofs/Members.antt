@@ -2,13 +2,13 @@
 use Rattle.std.proofs.Common.{◌≡◌, Bool, true, false, Option, ℕ, ◌+◌, cond, List, [], ◌∷◌, length, None, Some, is_some, refl, sym, ap, ◌∙◌, arith}
 use Rattle.std.specs.List.{AllByRecursion}
 use Rattle.std.specs.List.Sorted.{IsStrictlySortedBy}
-use Rattle.std.proofs.lemmas.Map.Views.{tells_apart}
 use Rattle.std.specs.Map.{lookup, keys_of}
 use Rattle.std.specs.Ordering.{nat_cmp, is_eq, eq_by_cmp}
 use Rattle.std.specs.BTreeMap.{is_at}
 use Rattle.std.specs.Cmp.{nat_cmp_total, eq_by_cmp_equiv}
 use Rattle.std.specs.FinMap.{FinMap, find, from_entries, get, insert, len, contains_key, get-from_entries, get-insert, len-empty, len-insert, same_map, nat_cmp-IsAntisymmetric}
 use Rattle.std.specs.declared.cmp.Ordering.TheVariants.{Less}
+use Rattle.ov_plum.proofs.Maps.{put_again}
 
 module _ {X : Type 0} where
   looked : (es : List (ℕ × X)) (q : ℕ) → find nat_cmp q es ≡ lookup (is_at (nat_cmp q)) es
@@ -54,11 +54,4 @@ module _ {X : Type 0} where
 
   -- and what was there may be put back
   pub put_back : (m : FinMap nat_cmp X) (k : ℕ) (a b : X) → get m k ≡ Some b → insert (insert m k a) k b ≡ m
-  put_back m k a b at = put_over m k a b ∙ same_map nat_cmp_total nat_cmp-IsAntisymmetric _ _ (λ q. get-insert nat_cmp_total m k b q ∙ there q)
-    where
-      there : (q : ℕ) → cond (eq_by_cmp nat_cmp q k) (Some b) (get m q) ≡ get m q
-      there q =
-          elim (eq_by_cmp nat_cmp q k) as (λ t. eq_by_cmp nat_cmp q k ≡ t → cond t (Some b) (get m q) ≡ get m q) [
-            | true ↦ λ e. sym at ∙ ap (get m) (sym (tells_apart nat_cmp-IsAntisymmetric q k e))
-            | false ↦ λ _. refl
-          ] refl
+  put_back m k a b at = put_over m k a b ∙ put_again nat_cmp_total nat_cmp-IsAntisymmetric m k b at

@@ -1,5 +1,6 @@
 pub mod Net
 pub mod Journal
+pub mod Laws
 pub mod NetStep
 pub mod Refusals
 pub mod World

@@ -45,10 +45,6 @@ HasTimer w a id = (p : Whole) → LivesAs w a p → map.get p.tree.timers id ≢
 abbrev pub IsAbsent : Net → ℕ → NetFault → Type 0
 IsAbsent w a fault = ((map.get w.nodes a ≡ None) × (fault ≡ UnknownNode)) ⊎ (IsGone w a × (fault ≡ CrashedNode))
 
--- why a is not gone
-abbrev pub IsNotGone : Net → ℕ → NetFault → Type 0
-IsNotGone w a fault = ((map.get w.nodes a ≡ None) × (fault ≡ UnknownNode)) ⊎ (((p : Whole) × LivesAs w a p) × (fault ≡ NotCrashed))
-
 -- a was born and is not gone, and then
 abbrev pub LiveThen : Net → ℕ → (Option NetFault → Type 0) → Option NetFault → Type 0
 LiveThen w a After answer = Step (IsBorn w a) UnknownNode (Step (¬ IsGone w a) CrashedNode After) answer

@@ -8,6 +8,7 @@ mod event;
 mod events;
 mod fault;
 mod judging;
+mod laws;
 mod links;
 mod member;
 mod moving;
@@ -18,9 +19,10 @@ mod world;
 pub use entry::{Change, Entry};
 pub use event::Event;
 pub use fault::NetFault;
+pub use laws::{links_stay, one_graph};
 pub use member::Member;
 pub use packet::Packet;
-pub use world::World;
+pub use world::{MAX_ENTRIES, World};
 
 #[cfg(test)]
 mod tests;

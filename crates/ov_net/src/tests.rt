@@ -6,6 +6,7 @@ use std::process::Abort;
 use std::test::Fail;
 
 mod full;
+mod memory;
 mod refusals;
 mod rows;
 
@@ -30,6 +31,8 @@ enum Line {
     Show(u32),
     /// The packets on their way.
     Packets,
+    /// The graph of this moment.
+    Links,
 }
 
 /// The words of every event: 5, and then zeros.
@@ -69,6 +72,7 @@ fn event_of(alloc: Global, line: Line) -> Result<Option<Event>, Fail> {
         Line::Snapshot => Event::Snapshot,
         Line::Show(_) => return Ok(None),
         Line::Packets => return Ok(None),
+        Line::Links => return Ok(None),
     }))
 }
 
@@ -109,6 +113,18 @@ fn put_packets(told: &mut String, world: &World, most: usize) -> Result<(), Fail
             write!(told, "{byte:02x}")?;
         }
         told.push_str("; ")?;
+    }
+    Ok(())
+}
+
+/// The nodes of the graph of this moment, and its links.
+fn put_links(told: &mut String, world: &World) -> Result<(), Fail> {
+    let graph = world.links()?;
+    put_ids(told, "nodes ", graph.nodes())?;
+    told.push_str(" links")?;
+    for (one, other) in graph.links() {
+        let (one, other) = (one.number(), other.number());
+        write!(told, " {one}-{other}")?;
     }
     Ok(())
 }
@@ -175,14 +191,13 @@ fn kept(rt: &impl Abort, alloc: Global, world: &World, entry: &Entry) -> Result<
     Ok(told)
 }
 
-/// What comes of an event. Where it is refused the world is as before; where memory was refused it is tried anew.
+/// What comes of a copy of an event. Where it is refused the world is as before; where memory was refused the event is tried.
 fn answer(rt: &impl Abort, alloc: Global, world: &mut World, event: Event) -> Result<String, Fail> {
     let before = state(alloc, world)?;
-    let again = event.copy(alloc)?;
-    let mut answer = world.step(event, &words());
+    let mut answer = world.step(event.copy(alloc)?, &words());
     if matches!(&answer, Err(NetFault::OutOfMemory)) {
         assert_eq!(rt; state(alloc, world)?.as_str(), before.as_str());
-        answer = world.step(again, &words());
+        answer = world.step(event, &words());
     }
     match answer {
         Ok(entry) => kept(rt, alloc, world, &entry),
@@ -217,9 +232,30 @@ fn look(alloc: Global, world: &World, line: Line) -> Result<String, Fail> {
     let mut told = String::new(alloc);
     match line {
         Line::Show(node) => put_node(&mut told, world, node)?,
+        Line::Links => put_links(&mut told, world)?,
         _ => put_packets(&mut told, world, usize::MAX)?,
     }
     Ok(told)
+}
+
+#[test]
+fn a_copied_entry_tells_the_same(rt: HostRuntime) -> Result<(), Fail> {
+    let alloc = rt.alloc();
+    let mut world = world(alloc, 5)?;
+    world.step(Event::Boot(NodeId(1), None), &words())?;
+    let payload = Seq::new(Vec::from_slice(alloc, b"hi")?);
+    let entry = world.step(Event::Broadcast(NodeId(1), payload), &words())?;
+    let copy = entry.copy(alloc)?;
+    assert_eq!(rt; copy.number, 2);
+    let Event::Broadcast(node, payload) = &copy.event else {
+        return Err("another event".into());
+    };
+    assert_eq!(rt; *node, NodeId(1));
+    assert_eq!(rt; payload.as_slice(), b"hi".as_slice());
+    assert_eq!(rt; copy.words.as_slice(), words().as_slice());
+    let delivery = copy.delivery.as_ref().ok_or("no delivery")?;
+    assert_eq!(rt; delivery.payload.as_slice(), b"hi".as_slice());
+    Ok(())
 }
 
 #[test]

@@ -30,7 +30,7 @@ pub(crate) const MAX_PACKETS: usize = 65_536;
 pub(crate) const STEP_PACKETS: usize = 64;
 
 /// How many entries the journal may have.
-pub(crate) const MAX_ENTRIES: usize = 65_536;
+pub const MAX_ENTRIES: usize = 65_536;
 
 /// How many broadcasts a node may make.
 pub(crate) const MAX_BROADCASTS: u32 = 4096;

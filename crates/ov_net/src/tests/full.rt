@@ -123,3 +123,50 @@ fn a_world_has_its_limits(rt: HostRuntime) -> Result<(), Fail> {
     times(alloc, &mut world, Snapshot, 32)?;
     goes(&rt, alloc, &mut world, &JOURNAL_FULL)
 }
+
+/// Node 1 with 16 neighbours has made 4,092 broadcasts, and there are 65,472 packets.
+static SIXTEEN_EACH: [(Line, &str); 3] = [
+    (Broadcast(1, b""), "entry 4262 delivered 1 1 4092"),
+    (Broadcast(1, b""), "refused 15"),
+    (Broadcast(1, &[0; 1025]), "refused 19"),
+];
+
+/// There are places for its last three broadcasts, and after the repeat too few.
+static LAST_BROADCASTS: [(Line, &str); 13] = [
+    (Broadcast(1, b""), "entry 4327 delivered 1 1 4093"),
+    (Broadcast(1, b""), "entry 4328 delivered 1 1 4094"),
+    (Broadcast(1, b""), "entry 4329 delivered 1 1 4095"),
+    (Broadcast(1, b""), "refused 20"),
+    (Broadcast(1, &[0; 1025]), "refused 19"),
+    (Repeat(0), "entry 4330"),
+    (Broadcast(1, b""), "refused 20"),
+    (Broadcast(1, &[0; 1025]), "refused 19"),
+    (Broadcast(2, b""), "refused 15"),
+    (Broadcast(2, &[0; 1025]), "refused 19"),
+    (Crash(1), "entry 4331 gone 1"),
+    (Broadcast(1, &[0; 1025]), "refused 12"),
+    (Broadcast(99, &[0; 1025]), "refused 10"),
+];
+
+/// Node 1 gets neighbours 2 to 17, and nothing is on its way.
+fn gathers(alloc: Global, world: &mut World) -> Result<(), Fail> {
+    times(alloc, world, Boot(1), 1)?;
+    for node in 2..18 {
+        times(alloc, world, BootBy(node, 1), 1)?;
+        times(alloc, world, Deliver(0), 1)?;
+        times(alloc, world, Lose(0), node - 1)?;
+    }
+    Ok(())
+}
+
+/// The bag fills by broadcasts, up to the last that a node may make.
+#[test]
+fn a_node_has_its_limit(rt: HostRuntime) -> Result<(), Fail> {
+    let alloc = rt.alloc();
+    let mut world = world(alloc, 16)?;
+    gathers(alloc, &mut world)?;
+    times(alloc, &mut world, Broadcast(1, b""), 4092)?;
+    goes(&rt, alloc, &mut world, &SIXTEEN_EACH)?;
+    times(alloc, &mut world, Lose(0), 64)?;
+    goes(&rt, alloc, &mut world, &LAST_BROADCASTS)
+}

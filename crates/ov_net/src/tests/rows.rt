@@ -1,5 +1,5 @@
 use super::Line::{
-    Boot, BootBy, Broadcast, Crash, Deliver, Lose, Packets, Repeat, Report, Show, Shuffle,
+    Boot, BootBy, Broadcast, Crash, Deliver, Links, Lose, Packets, Repeat, Report, Show, Shuffle,
     Snapshot, Timer,
 };
 use super::{Line, goes, world};
@@ -37,25 +37,30 @@ static BROADCAST_REPEAT: [(Line, &str); 12] = [
     (Packets, ""),
 ];
 
-/// Two moments of a join.
-static TWO_JOIN: [(Line, &str); 6] = [
+/// Two moments of a join. There is a link once both ends hold it.
+static TWO_JOIN: [(Line, &str); 8] = [
     (Boot(1), "entry 1 born 1"),
     (BootBy(2, 1), "entry 2 born 2"),
     (Deliver(0), "entry 3 up 1 2"),
+    (Links, "nodes 1,2 links"),
     (Snapshot, "entry 4"),
     (Deliver(0), "entry 5 up 2 1"),
+    (Links, "nodes 1,2 links 1-2"),
     (Snapshot, "entry 6"),
 ];
 
 /// An answer that comes twice, and a crash that nobody hears of.
-static REPEAT_AND_CRASH: [(Line, &str); 10] = [
+static REPEAT_AND_CRASH: [(Line, &str); 13] = [
     (Boot(1), "entry 1 born 1"),
     (BootBy(2, 1), "entry 2 born 2"),
     (Deliver(0), "entry 3 up 1 2"),
     (Repeat(0), "entry 4"),
+    (Links, "nodes 1,2 links"),
     (Deliver(0), "entry 5 up 2 1"),
     (Deliver(0), "entry 6"),
+    (Links, "nodes 1,2 links 1-2"),
     (Crash(1), "entry 7 gone 1"),
+    (Links, "nodes 2 links"),
     (Snapshot, "entry 8"),
     (Show(1), "refused 12"),
     (Show(2), "node 2 active 1 passive - eager 1 lazy -"),
