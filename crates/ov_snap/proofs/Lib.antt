@@ -1,5 +1,4 @@
 pub mod Moments
-pub mod OneGraph
 pub mod Resting
 pub mod Keeping
 pub mod Agreeing

@@ -13,7 +13,7 @@ use Rattle.ov_snap.specs.Refusals.{BeginJudged, FilingJudged, IsBeginRefusal}
 use Rattle.ov_snap.specs.Snapshots.{IsMoment}
 use Rattle.ov_snap.specs.declared.fault.BookFault.{BookFault}
 use Rattle.ov_snap.specs.declared.fault.BookFault.TheVariants.{NoSuchMoment, NoNodes, OtherGraph, AlreadyFiled}
-use Rattle.ov_snap.proofs.OneGraph.{links_one}
+use Rattle.ov_net.proofs.OneGraph.{links_one}
 
 some_node : (ns : List ℕ) (b : Bool) → b ≡ eqb (length ns) 0 → b ≡ false → (a : ℕ) × Has ns a
 some_node [] b is isnt = absurd (true≢false (sym is ∙ isnt))

@@ -19,14 +19,12 @@ use crate::report::Report;
 use crate::reports::Reports;
 use crate::same::are_same;
 use crate::snapshot::{Snapshot, find, make_room, put};
-use ov_ids::Params;
-use ov_net::{Entry, Event, NetFault, World};
+use ov_graph::Graph;
+use ov_ids::{OutOfMemory, Params};
+use ov_net::{Entry, Event, MAX_ENTRIES, NetFault, World};
 use ov_words::Words;
 use std::alloc::Global;
 use std::marker::Model;
-
-/// How many entries the journal may have.
-const MAX_ENTRIES: usize = 65_536;
 
 /// A world, the snapshots of its links, and the reports that are filed for them. Its type keeps that each report is exact.
 #[derive(Drop)]
@@ -107,12 +105,19 @@ impl Core {
         if self.world.journal().len() >= MAX_ENTRIES {
             return Err(NetFault::TooManyEntries);
         }
-        let graph = self.world.links()?;
+        let graph = self.links_now()?;
         make_room(&mut self.snapshots)?;
         let entry = self.world.step(Event::Snapshot, words)?;
         let moment = entry.number;
         put(&mut self.snapshots, Snapshot { moment, graph });
         Ok(entry)
+    }
+
+    /// The links that both ends hold now.
+    fn links_now(&self) -> Result<Graph, OutOfMemory>
+        ensures { IfOk result (λ g. AreLinks self.now.world.journal (length self.now.world.journal) g) }
+    {
+        self.world.links()
     }
 
     /// What an analysis of this moment is given. It refuses where no snapshot was taken at this moment (50), then where nobody

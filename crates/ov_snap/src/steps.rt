@@ -7,7 +7,7 @@ use crate::book::Core;
 use crate::fault::BookFault;
 use crate::report::Report;
 use ov_ids::{OutOfMemory, Params};
-use ov_net::{Event, NetFault};
+use ov_net::{Event, MAX_ENTRIES, NetFault};
 use ov_words::Words;
 use std::alloc::Global;
 
@@ -31,7 +31,7 @@ pub fn run_core(alloc: Global, params: Params, steps: Vec<CoreStep>) -> Result<C
     for step in steps {
         take(&mut core, step)?;
     }
-    prove!(core.world().journal().len() <= 65_536);
+    prove!(core.world().journal().len() <= MAX_ENTRIES);
     Ok(core)
 }
 

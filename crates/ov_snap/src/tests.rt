@@ -2,7 +2,7 @@ use crate::{BookFault, Core, CoreStep, Report, run_core};
 use ov_cert::{Cert, Checked, Split};
 use ov_graph::Graph;
 use ov_ids::{NodeId, Params, Seq};
-use ov_net::Event;
+use ov_net::{Event, NetFault};
 use ov_words::Words;
 use std::alloc::Global;
 use std::test::Fail;
@@ -114,6 +114,23 @@ fn nobody_lives_in_an_empty_world(rt: HostRuntime) -> Result<(), Fail> {
     assert_eq!(rt; core.snapshot()?, 1);
     assert_eq!(rt; core.begin(1).err(), Some(BookFault::NoNodes));
     assert_eq!(rt; core.begin(2).err(), Some(BookFault::NoSuchMoment));
+    Ok(())
+}
+
+#[test]
+fn a_full_journal_takes_no_snapshot(rt: HostRuntime) -> Result<(), Fail> {
+    let mut core = Core::new(rt.alloc(), params()?);
+    core.step(Event::Boot(NodeId(1), None), &Words::new(ZEROS))?;
+    for _ in 0..65_534 {
+        core.step(Event::Shuffle(NodeId(1)), &Words::new(ZEROS))?;
+    }
+    assert_eq!(rt; core.snapshot()?, 65_536);
+    assert_eq!(rt; core.snapshot().err(), Some(NetFault::TooManyEntries));
+    let answer = core.step(Event::Snapshot, &Words::new(ZEROS));
+    assert_eq!(rt; answer.err(), Some(NetFault::TooManyEntries));
+    assert_eq!(rt; core.world().journal().len(), 65_536);
+    assert_eq!(rt; core.begin(65_536)?.graph.nodes().len(), 1);
+    assert_eq!(rt; core.begin(65_537).err(), Some(BookFault::NoSuchMoment));
     Ok(())
 }
 

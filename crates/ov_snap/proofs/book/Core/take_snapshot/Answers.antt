@@ -1,4 +1,5 @@
-use Rattle.std.proofs.Common.{◌∙◌, ◌++◌, ◌∷◌, [], List, ap, subst}
+use Rattle.std.proofs.Common.{◌∙◌, ◌++◌, ◌∷◌, [], List, length, sym, ap, subst}
+use Rattle.ov_net.specs.Journal.{AreLinks}
 use Rattle.ov_net.specs.declared.event.Event.TheVariants as event
 use Rattle.ov_snap.specs.Book.{Book}
 use Rattle.ov_snap.specs.Run.{Happened}
@@ -12,8 +13,9 @@ invariant_of-self-2 c =
     let b : Book = record { world = c.self.inside.world; snapshots = c.self.inside.snapshots.items; reports = c.self.inside.reports } in
     let s : Snapshot = record { moment = c.in_ok-entry.entry.number; graph = c.in_ok-graph.graph } in
     let ok = c.in_ok-entry.ensures in
+    let links = subst (λ (x : Book). AreLinks x.world.journal (length x.world.journal) c.in_ok-graph.graph) (sym c.self.view_is) c.in_ok-graph.ensures in
     sound_happened b event.Snapshot c.args.words.now c.in_ok-entry.entry _ c.self.invariant
-    (snapshot_happened b c.args.words.now c.in_ok-entry.entry c.step.new.self c.in_ok-graph.graph c.put.new.snapshots.items ok.judged ok.step ok.journal ok.number c.in_ok-graph.ensures
+    (snapshot_happened b c.args.words.now c.in_ok-entry.entry c.step.new.self c.in_ok-graph.graph c.put.new.snapshots.items ok.judged ok.step ok.journal ok.number links
     (c.put.ensures ∙ ap (λ (l : List Snapshot). l ++ s ∷ []) c.make_room.ensures.items))
 
 -- src/book.rt
@@ -23,6 +25,7 @@ returns-clause-happened c =
     let u : Book = record { world = c.step.new.self; snapshots = c.put.new.snapshots.items; reports = c.self.inside.reports } in
     let s : Snapshot = record { moment = c.in_ok-entry.entry.number; graph = c.in_ok-graph.graph } in
     let ok = c.in_ok-entry.ensures in
+    let links = subst (λ (x : Book). AreLinks x.world.journal (length x.world.journal) c.in_ok-graph.graph) (sym c.self.view_is) c.in_ok-graph.ensures in
     subst (λ (x : Book). Happened x event.Snapshot c.args.words.now c.in_ok-entry.entry u) c.self.view_is
-    (snapshot_happened b c.args.words.now c.in_ok-entry.entry c.step.new.self c.in_ok-graph.graph c.put.new.snapshots.items ok.judged ok.step ok.journal ok.number c.in_ok-graph.ensures
+    (snapshot_happened b c.args.words.now c.in_ok-entry.entry c.step.new.self c.in_ok-graph.graph c.put.new.snapshots.items ok.judged ok.step ok.journal ok.number links
     (c.put.ensures ∙ ap (λ (l : List Snapshot). l ++ s ∷ []) c.make_room.ensures.items))
