@@ -1,2 +1,9 @@
+pub mod Running
 pub mod Drawn
+pub mod Filling
+pub mod Limits
+pub mod Lined
+pub mod Numbers
 pub mod Numerals
+pub mod Parted
+pub mod Sayings

@@ -1,5 +1,7 @@
--- The numbers of the faults, and the lines that they name.
-use Rattle.std.specs.Prelude.{ℕ, Option, Some, None}
+-- The numbers of the faults, the lines that they name, and what a run adds to the counts of failures of its reader and its writer.
+use Rattle.std.specs.Prelude.{◌≡◌, ◌⊎◌, ℕ, Option, Some, None, Result, Ok, Err}
+use Rattle.ov_certfile.specs.declared.input.ReadFault.{ReadFault}
+use Rattle.ov_certfile.specs.declared.input.ReadFault.TheVariants as read
 use Rattle.ov_run.specs.declared.fault.RunFault.{RunFault}
 use Rattle.ov_run.specs.declared.fault.RunFault.TheVariants.{Line, Params, Read, Write, OutOfMemory}
 
@@ -17,3 +19,30 @@ line_of (Params n) = Some n
 line_of Read = None
 line_of Write = None
 line_of OutOfMemory = None
+
+-- why nothing was read
+abbrev pub fault_of_read : ReadFault → RunFault
+fault_of_read read.Read = Read
+fault_of_read read.OutOfMemory = OutOfMemory
+
+-- a reader that fails ends the run, so it fails once
+abbrev pub read_failures : {A : Type 0} → Result A RunFault → ℕ
+read_failures (Ok a) = 0
+read_failures (Err (Line n)) = 0
+read_failures (Err (Params n)) = 0
+read_failures (Err Read) = 1
+read_failures (Err Write) = 0
+read_failures (Err OutOfMemory) = 0
+
+-- a writer that fails ends the run
+abbrev pub write_failures : {A : Type 0} → Result A RunFault → ℕ
+write_failures (Ok a) = 0
+write_failures (Err (Line n)) = 0
+write_failures (Err (Params n)) = 0
+write_failures (Err Read) = 0
+write_failures (Err Write) = 1
+write_failures (Err OutOfMemory) = 0
+
+-- the fault is the writer's, or want of memory
+abbrev pub IsOfWriting : RunFault → Type 0
+IsOfWriting fault = (fault ≡ Write) ⊎ (fault ≡ OutOfMemory)

@@ -2,5 +2,10 @@ pub mod Draws
 pub mod Faults
 pub mod Printed
 pub mod Reading
+pub mod Running
+pub mod Scenarios
 pub mod Spaced
+pub mod Statements
+pub mod Taking
+pub mod Tells
 pub mod Wanted

@@ -1,5 +1,5 @@
 -- The faults of a scenario file, and the lines that they name.
-use Rattle.std.specs.Prelude.{ℕ, ◌≤◌, ◌≡◌, ⊤, List, [], ◌∷◌, length, Option, IfSome}
+use Rattle.std.specs.Prelude.{ℕ, ◌≤◌, ⊤, List, length, Option, IfSome}
 use Rattle.ov_ids.specs.Limits.{Limits}
 use Rattle.ov_run.specs.declared.fault.RunFault.{RunFault}
 use Rattle.ov_run.specs.declared.fault.RunFault.TheVariants.{Line, Params, Read, Write, OutOfMemory}
@@ -16,13 +16,17 @@ IsUpTo last OutOfMemory = ⊤
 abbrev pub IsOfALine : List ℕ → RunFault → Type 0
 IsOfALine bytes fault = IsUpTo (length bytes) fault
 
+-- the fault of a line, and not want of memory
+abbrev pub NamesLine : RunFault → Type 0
+NamesLine (Line n) = ⊤
+NamesLine (Params n) = ⊤
+NamesLine Read = ⊥
+NamesLine Write = ⊥
+NamesLine OutOfMemory = ⊥
+
 -- where words wait for an event, they stand on one of the lines up to this one
 abbrev pub WaitsUpTo : ℕ → Option (ℕ × List ℕ) → Type 0
 WaitsUpTo last words = IfSome words (λ w. (1 ≤ w.0) × (w.0 ≤ last))
-
--- the numbers of a line of parameters, in the order of the line
-abbrev pub AreInOrder : List ℕ → Limits → Type 0
-AreInOrder ns p = ns ≡ p.active ∷ p.passive ∷ p.arwl ∷ p.prwl ∷ p.ka ∷ p.kp ∷ p.shuffle_ttl ∷ []
 
 -- the parameters where no line gives any
 abbrev pub default_limits : Limits

@@ -1,7 +1,8 @@
-ghost use Rattle.std.specs.Prelude.{◌≡◌, not, is_some, option_map, IfSome};
-ghost use Rattle.ov_run.specs.Spaced.{first_word};
+ghost use Rattle.std.specs.Prelude.{◌≡◌, ◌==◌, ◌∷◌, [], length, drop, IfSome, MatchOption};
+ghost use Rattle.ov_run.specs.Statements.{words_of, behind_word, without_space, one, two, three};
+ghost use Rattle.ov_run.specs.Tells.{first_number};
 
-use crate::number::read_number;
+use crate::number::{read_number, read_short_number};
 use crate::splitting::split_word;
 use ov_ids::NodeId;
 
@@ -20,9 +21,11 @@ impl<'a> Cursor<'a> {
     }
 
     /// Reads the next word, if there is one.
+    #[tactic(auto, using(crate::proofs::Parted::words_none, crate::proofs::Parted::words_some))]
     pub(crate) fn word(&mut self) -> Option<&'a [u8]>
-        ensures word { option_map (λ w. w.now) result ≡ option_map (λ p. p.0) (first_word self.old.rest.now) }
-        ensures rest { IfSome (first_word self.old.rest.now) (λ p. self.new.rest.now ≡ p.1) }
+        ensures word { MatchOption result (words_of self.old.rest.now ≡ []) (λ w. words_of self.old.rest.now ≡ w.now ∷ words_of self.new.rest.now) }
+        ensures left { words_of self.new.rest.now ≡ drop 1 (words_of self.old.rest.now) }
+        ensures behind { IfSome result (λ _. self.new.rest.now ≡ behind_word self.old.rest.now) }
     {
         let (word, rest) = split_word(self.rest)?;
         self.rest = rest;
@@ -31,28 +34,84 @@ impl<'a> Cursor<'a> {
 
     /// Whether nothing but spaces is left.
     pub(crate) fn is_at_end(&self) -> bool
-        ensures { result ≡ not (is_some (first_word self.now.rest.now)) }
+        ensures { result ≡ (length (words_of self.now.rest.now) == 0) }
     {
         split_word(self.rest).is_none()
     }
 
     /// All bytes that are left behind one space.
-    pub(crate) fn after_space(self) -> &'a [u8] {
+    pub(crate) fn after_space(&self) -> &'a [u8]
+        ensures { result.now ≡ without_space self.now.rest.now }
+    {
         self.rest.strip_prefix(b" ").unwrap_or(self.rest)
     }
 
     /// Reads a word of digits, whose number fits 64 bits.
-    pub(crate) fn number(&mut self) -> Option<u64> {
+    pub(crate) fn number(&mut self) -> Option<u64>
+        ensures number { result ≡ first_number 64 (words_of self.old.rest.now) }
+        ensures left { words_of self.new.rest.now ≡ drop 1 (words_of self.old.rest.now) }
+    {
         read_number(self.word()?)
     }
 
     /// Reads a word of digits, whose number fits 32 bits.
-    pub(crate) fn short_number(&mut self) -> Option<u32> {
-        u32::try_from(self.number()?).ok()
+    pub(crate) fn short_number(&mut self) -> Option<u32>
+        ensures number { result ≡ first_number 32 (words_of self.old.rest.now) }
+        ensures left { words_of self.new.rest.now ≡ drop 1 (words_of self.old.rest.now) }
+        ensures behind { IfSome result (λ _. self.new.rest.now ≡ behind_word self.old.rest.now) }
+    {
+        read_short_number(self.word()?)
     }
 
     /// Reads a node's id.
-    pub(crate) fn id(&mut self) -> Option<NodeId> {
+    pub(crate) fn id(&mut self) -> Option<NodeId>
+        ensures id { result ≡ first_number 32 (words_of self.old.rest.now) }
+        ensures left { words_of self.new.rest.now ≡ drop 1 (words_of self.old.rest.now) }
+        ensures behind { IfSome result (λ _. self.new.rest.now ≡ behind_word self.old.rest.now) }
+    {
         Some(NodeId::new(self.short_number()?))
+    }
+
+    /// Reads the last word of the line, which spells a number that fits 64 bits.
+    #[tactic(auto, using(crate::proofs::Numbers::one_number))]
+    pub(crate) fn last_number(&mut self) -> Option<u64>
+        ensures { result ≡ one 64 (words_of self.old.rest.now) }
+    {
+        let number = self.number()?;
+        self.is_at_end().then_some(number)
+    }
+
+    /// The same with a number that fits 32 bits.
+    #[tactic(auto, using(crate::proofs::Numbers::one_number))]
+    pub(crate) fn last_short_number(&mut self) -> Option<u32>
+        ensures { result ≡ one 32 (words_of self.old.rest.now) }
+    {
+        let number = self.short_number()?;
+        self.is_at_end().then_some(number)
+    }
+
+    /// The same with a node's id.
+    pub(crate) fn last_id(&mut self) -> Option<NodeId>
+        ensures { result ≡ one 32 (words_of self.old.rest.now) }
+    {
+        Some(NodeId::new(self.last_short_number()?))
+    }
+
+    /// Reads the last two words of the line, which spell numbers that fit 32 bits.
+    #[tactic(auto, using(crate::proofs::Numbers::two_numbers))]
+    pub(crate) fn last_two(&mut self) -> Option<(u32, u32)>
+        ensures { result ≡ two (words_of self.old.rest.now) }
+    {
+        let first = self.short_number()?;
+        Some((first, self.last_short_number()?))
+    }
+
+    /// Reads the last three words of the line, which spell numbers that fit 32 bits.
+    #[tactic(auto, using(crate::proofs::Numbers::three_numbers))]
+    pub(crate) fn last_three(&mut self) -> Option<(u32, (u32, u32))>
+        ensures { result ≡ three (words_of self.old.rest.now) }
+    {
+        let first = self.short_number()?;
+        Some((first, self.last_two()?))
     }
 }

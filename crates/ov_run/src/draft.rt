@@ -1,6 +1,8 @@
-ghost use Rattle.std.specs.Prelude.{◌≡◌, ◌≤◌, ◌<◌, ◌||◌, ◌++◌, ◌∷◌, [], if◌then◌else◌, true, is_some, option_map, unwrap_or, IfErr, IfOk, IfSome, IsOk, OnOk, OnErr, MatchOption, MatchResult, false};
-ghost use Rattle.ov_ids.specs.Limits.{Limits, AreWithinLimits};
-ghost use Rattle.ov_run.specs.Reading.{IsUpTo, WaitsUpTo, AreInOrder, default_limits};
+ghost use Rattle.std.specs.Prelude.{◌≡◌, ◌≤◌, ◌++◌, ◌∷◌, [], true, option_map, IfErr, OnOk, OnErr};
+ghost use Rattle.ov_run.specs.Scenarios.{nothing, says_next, line_more, at_end};
+ghost use Rattle.ov_run.specs.Taking.{said_of, Fails, Takes, Ends};
+ghost use Rattle.ov_run.specs.declared.statement.Statement.TheVariants as says;
+ghost use Rattle.ov_run.specs.Reading.{IsUpTo, NamesLine, WaitsUpTo, default_limits};
 
 use crate::fault::RunFault;
 use crate::line::{Line, Scenario};
@@ -24,7 +26,8 @@ pub(crate) struct Draft {
 impl Draft {
     /// The scenario of no line.
     pub(crate) fn new(alloc: Global) -> Draft
-        ensures { result.words ≡ None }
+        ensures words { result.words ≡ None }
+        ensures said { said_of result ≡ nothing }
     {
         Draft {
             params: None,
@@ -36,6 +39,7 @@ impl Draft {
     }
 
     /// Takes the line of this number in.
+    #[tactic(auto, using(crate::proofs::Sayings::event_taken), unfolding(crate::specs::Scenarios::line_more))]
     pub(crate) fn read_line(
         &mut self,
         alloc: Global,
@@ -44,6 +48,7 @@ impl Draft {
     ) -> Result<(), RunFault>
         requires counted { 1 ≤ number }
         requires waits { WaitsUpTo number self.old.words }
+        ensures said { Takes result (said_of self.new) (line_more number text.now (said_of self.old)) }
         ensures waits { OnOk result (WaitsUpTo number self.new.words) }
         ensures fault { IfErr result (IsUpTo number) }
     {
@@ -56,12 +61,13 @@ impl Draft {
     }
 
     /// The fault of a line that can't be read. Where words wait for an event it is that of their line.
+    #[tactic(auto, unfolding(crate::specs::Scenarios::says_next))]
     fn unreadable(&self, number: u32) -> RunFault
         requires counted { 1 ≤ number }
         requires waits { WaitsUpTo number self.now.words }
-        ensures waiting { IfSome self.now.words (λ w. result ≡ RunFault.Line w.0) }
-        ensures own { self.now.words ≡ None → result ≡ RunFault.Line number }
+        ensures said { Fails result (says_next number None self.now.words (said_of self.now)) }
         ensures fault { IsUpTo number result }
+        ensures no_memory { NamesLine result }
     {
         match &self.words {
             Some((line, _)) => RunFault::Line(*line),
@@ -69,9 +75,12 @@ impl Draft {
         }
     }
 
+    /// Takes in what the line of this number says.
+    #[tactic(auto, unfolding(crate::specs::Scenarios::says_next))]
     fn take(&mut self, number: u32, statement: Statement) -> Result<(), RunFault>
         requires counted { 1 ≤ number }
         requires waits { WaitsUpTo number self.old.words }
+        ensures said { Takes result (said_of self.new) (says_next number (Some statement) self.old.words (said_of self.old)) }
         ensures waits { OnOk result (WaitsUpTo number self.new.words) }
         ensures fault { IfErr result (IsUpTo number) }
     {
@@ -106,12 +115,12 @@ impl Draft {
         Ok(())
     }
 
+    #[tactic(auto, using(crate::proofs::Limits::within_tested, crate::proofs::Limits::tested_within), unfolding(crate::specs::Scenarios::says_next))]
     fn take_params(&mut self, number: u32, params: [u32; 7]) -> Result<(), RunFault>
         requires { 1 ≤ number }
-        ensures late { self.old.has_events || is_some self.old.params ≡ true → result ≡ Err (RunFault.Line number) }
-        ensures limits { self.old.has_events || is_some self.old.params ≡ false → (p : Limits) → AreInOrder params p → MatchResult result (λ _. AreWithinLimits p) (λ f. (f ≡ RunFault.Params number) × (AreWithinLimits p → ⊥)) }
+        ensures said { Takes result (said_of self.new) (says_next number (Some (says.Params params)) None (said_of self.old)) }
         ensures fault { IfErr result (IsUpTo number) }
-        ensures ok { OnOk result ((p : Limits) × AreInOrder params p × (self.new ≡ record self.old { params = Some p })) }
+        ensures no_memory { IfErr result NamesLine }
         ensures err { OnErr result (self.new ≡ self.old) }
     {
         if self.has_events || self.params.is_some() {
@@ -125,12 +134,13 @@ impl Draft {
         Ok(())
     }
 
+    #[tactic(auto, unfolding(crate::specs::Scenarios::says_next))]
     fn take_seed(&mut self, number: u32, seed: u64) -> Result<(), RunFault>
         requires { 1 ≤ number }
-        ensures late { result ≡ (if self.old.has_events || is_some self.old.seed then Err (RunFault.Line number) else Ok tt) }
-        ensures ok { OnOk result (self.new ≡ record self.old { seed = Some seed }) }
+        ensures said { Takes result (said_of self.new) (says_next number (Some (says.Seed seed)) None (said_of self.old)) }
         ensures err { OnErr result (self.new ≡ self.old) }
         ensures fault { IfErr result (IsUpTo number) }
+        ensures no_memory { IfErr result NamesLine }
     {
         if self.has_events || self.seed.is_some() {
             return Err(RunFault::Line(number));
@@ -142,9 +152,9 @@ impl Draft {
     /// The scenario, after the last line. Words that wait for an event are at fault.
     pub(crate) fn finish(self, number: u32) -> Result<Scenario, RunFault>
         requires { WaitsUpTo number self.words }
-        ensures scenario { IfOk result (λ s. (s.params ≡ unwrap_or self.params default_limits) × (s.seed ≡ unwrap_or self.seed 0) × (s.lines ≡ self.lines)) }
-        ensures waiting { MatchOption self.words (IsOk result) (λ w. result ≡ Err (RunFault.Line w.0)) }
+        ensures said { Ends result (said_of self) (at_end self.words (said_of self)) }
         ensures fault { IfErr result (IsUpTo number) }
+        ensures no_memory { IfErr result NamesLine }
     {
         match self.words {
             Some((line, _)) => Err(RunFault::Line(line)),

@@ -1,7 +1,9 @@
 ghost use Rattle.std.specs.Prelude.{◌≡◌};
-ghost use Rattle.ov_run.specs.Faults.{number_of, line_of};
-ghost use Rattle.ov_run.specs.declared.fault.RunFault.TheVariants.{OutOfMemory as wants_memory};
+ghost use Rattle.ov_run.specs.Faults.{number_of, line_of, fault_of_read};
+ghost use Rattle.ov_run.specs.declared.fault.RunFault.TheVariants.{OutOfMemory as wants_memory, Write as not_written};
 
+use ov_certfile::{ReadFault, WriteFault};
+use ov_ids::OutOfMemory;
 use std::alloc::{AllocError, AllocFailed};
 use thiserror::Error;
 
@@ -63,5 +65,32 @@ impl<T: Drop> From<AllocFailed<T>> for RunFault {
 
     fn from(_error: AllocFailed<T>) -> RunFault {
         RunFault::OutOfMemory
+    }
+}
+
+impl From<OutOfMemory> for RunFault {
+    ghost from_gives = { λ _ e. e ≡ wants_memory };
+
+    fn from(_fault: OutOfMemory) -> RunFault {
+        RunFault::OutOfMemory
+    }
+}
+
+impl From<ReadFault> for RunFault {
+    ghost from_gives = { λ fault e. e ≡ fault_of_read fault };
+
+    fn from(fault: ReadFault) -> RunFault {
+        match fault {
+            ReadFault::Read => RunFault::Read,
+            ReadFault::OutOfMemory => RunFault::OutOfMemory,
+        }
+    }
+}
+
+impl From<WriteFault> for RunFault {
+    ghost from_gives = { λ _ e. e ≡ not_written };
+
+    fn from(_fault: WriteFault) -> RunFault {
+        RunFault::Write
     }
 }

@@ -1,5 +1,6 @@
 ghost use Rattle.std.specs.Prelude.{◌≡◌, ◌<◌, ◌^◌, IfSome, IfNone};
 ghost use Rattle.std.specs.Str.Parse.{IsNumeral, digits_value};
+ghost use Rattle.ov_run.specs.Statements.{number_within};
 
 /// The number that a word of decimal digits spells, where it fits 64 bits. Zeros may lead, and no sign.
 #[tactic(auto, using(crate::proofs::Numerals::numeral_is_text))]
@@ -14,4 +15,12 @@ pub(crate) fn read_number(word: &[u8]) -> Option<u64>
         return None;
     }
     text.parse().ok()
+}
+
+/// The same where it fits 32 bits.
+#[tactic(auto, using(crate::proofs::Numerals::numbered, crate::proofs::Numerals::not_numbered))]
+pub(crate) fn read_short_number(word: &[u8]) -> Option<u32>
+    ensures { result ≡ number_within 32 word.now }
+{
+    u32::try_from(read_number(word)?).ok()
 }

@@ -1,5 +1,6 @@
-ghost use Rattle.std.specs.Prelude.{◌≡◌, ◌≤◌, IfErr};
+ghost use Rattle.std.specs.Prelude.{◌≡◌, ◌⊎◌, IfOk, IfErr};
 ghost use Rattle.ov_run.specs.Reading.{IsOfALine};
+ghost use Rattle.ov_run.specs.Scenarios.{IsScenario, IsFaulty};
 
 use crate::draft::Draft;
 use crate::fault::RunFault;
@@ -10,8 +11,11 @@ use std::alloc::Global;
 /// Reads a scenario file. All of it is read before anything runs, and the first line at fault decides: Line where it can't be
 /// read, Params where it gives parameters out of their limits. Words that no event follows are at fault at their line. A file of
 /// more than 4,294,967,295 lines is refused as want of memory.
+#[tactic(auto, using(crate::proofs::Sayings::goes_on, crate::proofs::Sayings::ends, crate::proofs::Sayings::refused, crate::proofs::Sayings::refused_at))]
 pub fn read_scenario(alloc: Global, bytes: &[u8]) -> Result<Scenario, RunFault>
-    ensures fault { IfErr result (IsOfALine bytes.now) }
+    ensures scenario { IfOk result (λ s. IsScenario bytes.now s) }
+    ensures fault { IfErr result (λ f. IsFaulty bytes.now f ⊎ (f ≡ RunFault.OutOfMemory)) }
+    ensures line { IfErr result (IsOfALine bytes.now) }
 {
     let mut draft = Draft::new(alloc);
     let mut number: u32 = 0;

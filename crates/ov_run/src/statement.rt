@@ -1,4 +1,6 @@
-ghost use Rattle.std.specs.Prelude.{◌≡◌};
+ghost use Rattle.std.specs.Prelude.{◌≡◌, option_map};
+ghost use Rattle.ov_run.specs.Statements.{words_of, same, two, three, seven_numbers, event_words, report_of, timer_of, boot_of, broadcast_of, event_of, named};
+ghost use Rattle.ov_run.specs.Tells.{Tells, TellsOf};
 ghost use Rattle.ov_run.specs.declared.statement.StatementFault.TheVariants.{OutOfMemory as wants_memory};
 
 use crate::cursor::Cursor;
@@ -40,7 +42,9 @@ impl From<AllocError> for StatementFault {
 pub(crate) fn read_statement(
     alloc: Global,
     text: &[u8],
-) -> Result<Option<Statement>, StatementFault> {
+) -> Result<Option<Statement>, StatementFault>
+    ensures { Tells text.now result }
+{
     let mut cursor = Cursor::new(text);
     let Some(name) = cursor.word() else {
         return Ok(None);
@@ -48,84 +52,152 @@ pub(crate) fn read_statement(
     if name.starts_with(b"#") {
         return Ok(None);
     }
-    if name == b"broadcast".as_slice() {
-        return Ok(Some(read_broadcast(alloc, cursor)?));
+    if is_word(name, b"broadcast") {
+        return Ok(Some(read_broadcast(alloc, &mut cursor)?));
     }
     match read_named(name, &mut cursor) {
-        Some(statement) if cursor.is_at_end() => Ok(Some(statement)),
-        _ => Err(StatementFault::Unreadable),
+        Some(statement) => Ok(Some(statement)),
+        None => Err(StatementFault::Unreadable),
     }
 }
 
+/// Whether two words are the same.
+fn is_word(word: &[u8], name: &[u8]) -> bool
+    ensures { result ≡ same word.now name.now }
+{
+    word == name
+}
+
 /// Reads what follows the name `broadcast`: the node, and the payload as it stands behind one space.
-fn read_broadcast(alloc: Global, mut cursor: Cursor) -> Result<Statement, StatementFault> {
-    let node = cursor.id().ok_or(StatementFault::Unreadable)?;
+fn read_broadcast(alloc: Global, cursor: &mut Cursor) -> Result<Statement, StatementFault>
+    ensures { TellsOf result (broadcast_of cursor.old.rest.now (words_of cursor.old.rest.now)) }
+{
+    let Some(node) = cursor.id() else {
+        return Err(StatementFault::Unreadable);
+    };
     let payload = Vec::from_slice(alloc, cursor.after_space())?;
     Ok(Statement::Event(Event::Broadcast(node, Seq::new(payload))))
 }
 
-/// Reads what follows the name of any other line, as far as the line has to go on.
-fn read_named(name: &[u8], cursor: &mut Cursor) -> Option<Statement> {
-    match name {
-        b"params" => Some(Statement::Params(read_params(cursor)?)),
-        b"seed" => Some(Statement::Seed(cursor.number()?)),
-        b"words" => Some(Statement::Words(read_words(cursor)?)),
-        b"show" => Some(Statement::Look(Line::Show(cursor.id()?))),
-        b"packets" => Some(Statement::Look(Line::Packets)),
-        b"certificate" => Some(Statement::Look(Line::Certificate(cursor.short_number()?))),
-        _ => Some(Statement::Event(read_event(name, cursor)?)),
+/// Reads what follows the name of any other line.
+fn read_named(name: &[u8], cursor: &mut Cursor) -> Option<Statement>
+    ensures { result ≡ named name.now (words_of cursor.old.rest.now) }
+{
+    if is_word(name, b"params") {
+        return Some(Statement::Params(read_params(cursor)?));
     }
+    if is_word(name, b"seed") {
+        return Some(Statement::Seed(cursor.last_number()?));
+    }
+    if is_word(name, b"words") {
+        return Some(Statement::Words(read_event_words(cursor)?));
+    }
+    if is_word(name, b"certificate") {
+        return Some(Statement::Look(Line::Certificate(cursor.last_short_number()?)));
+    }
+    if is_word(name, b"show") {
+        return Some(Statement::Look(Line::Show(cursor.last_id()?)));
+    }
+    if is_word(name, b"packets") {
+        return cursor.is_at_end().then_some(Statement::Look(Line::Packets));
+    }
+    Some(Statement::Event(read_event(name, cursor)?))
 }
 
 /// Reads what follows the name of an event without a payload.
-fn read_event(name: &[u8], cursor: &mut Cursor) -> Option<Event> {
-    match name {
-        b"boot" => read_boot(cursor),
-        b"deliver" => Some(Event::Deliver(cursor.short_number()?)),
-        b"lose" => Some(Event::Lose(cursor.short_number()?)),
-        b"repeat" => Some(Event::Repeat(cursor.short_number()?)),
-        b"crash" => Some(Event::Crash(cursor.id()?)),
-        b"report" => Some(Event::Report(cursor.id()?, cursor.id()?)),
-        b"shuffle" => Some(Event::Shuffle(cursor.id()?)),
-        b"timer" => Some(Event::Timer(cursor.id()?, read_message_id(cursor)?)),
-        b"snapshot" => Some(Event::Snapshot),
-        _ => None,
+fn read_event(name: &[u8], cursor: &mut Cursor) -> Option<Event>
+    ensures { result ≡ event_of name.now (words_of cursor.old.rest.now) }
+{
+    if is_word(name, b"boot") {
+        return read_boot(cursor);
     }
+    if is_word(name, b"deliver") {
+        return Some(Event::Deliver(cursor.last_short_number()?));
+    }
+    if is_word(name, b"lose") {
+        return Some(Event::Lose(cursor.last_short_number()?));
+    }
+    if is_word(name, b"repeat") {
+        return Some(Event::Repeat(cursor.last_short_number()?));
+    }
+    if is_word(name, b"crash") {
+        return Some(Event::Crash(cursor.last_id()?));
+    }
+    if is_word(name, b"report") {
+        return read_report(cursor);
+    }
+    if is_word(name, b"shuffle") {
+        return Some(Event::Shuffle(cursor.last_id()?));
+    }
+    if is_word(name, b"timer") {
+        return read_timer(cursor);
+    }
+    if is_word(name, b"snapshot") {
+        return cursor.is_at_end().then_some(Event::Snapshot);
+    }
+    None
 }
 
-fn read_boot(cursor: &mut Cursor) -> Option<Event> {
+fn read_report(cursor: &mut Cursor) -> Option<Event>
+    ensures { result ≡ option_map report_of (two (words_of cursor.old.rest.now)) }
+{
+    let (node, crashed) = cursor.last_two()?;
+    Some(Event::Report(NodeId::new(node), NodeId::new(crashed)))
+}
+
+fn read_timer(cursor: &mut Cursor) -> Option<Event>
+    ensures { result ≡ option_map timer_of (three (words_of cursor.old.rest.now)) }
+{
+    let (node, (origin, seq)) = cursor.last_three()?;
+    let id = MsgId {
+        origin: NodeId::new(origin),
+        seq,
+    };
+    Some(Event::Timer(NodeId::new(node), id))
+}
+
+fn read_boot(cursor: &mut Cursor) -> Option<Event>
+    ensures { result ≡ boot_of (words_of cursor.old.rest.now) }
+{
     let node = cursor.id()?;
-    match cursor.word() {
-        None => Some(Event::Boot(node, None)),
-        Some(b"by") => Some(Event::Boot(node, Some(cursor.id()?))),
-        Some(_) => None,
+    let Some(by) = cursor.word() else {
+        return Some(Event::Boot(node, None));
+    };
+    if !is_word(by, b"by") {
+        return None;
     }
+    Some(Event::Boot(node, Some(cursor.last_id()?)))
 }
 
-fn read_message_id(cursor: &mut Cursor) -> Option<MsgId> {
-    Some(MsgId {
-        origin: cursor.id()?,
-        seq: cursor.short_number()?,
-    })
-}
-
-fn read_params(cursor: &mut Cursor) -> Option<[u32; 7]> {
-    let mut params = [0; 7];
-    for param in params.iter_mut() {
-        *param = cursor.short_number()?;
-    }
-    Some(params)
+fn read_params(cursor: &mut Cursor) -> Option<[u32; 7]>
+    ensures { result ≡ seven_numbers (words_of cursor.old.rest.now) }
+{
+    let active = cursor.short_number()?;
+    let passive = cursor.short_number()?;
+    let arwl = cursor.short_number()?;
+    let prwl = cursor.short_number()?;
+    let ka = cursor.short_number()?;
+    let kp = cursor.short_number()?;
+    let shuffle_ttl = cursor.last_short_number()?;
+    Some([active, passive, arwl, prwl, ka, kp, shuffle_ttl])
 }
 
 /// Reads 1 to 64 words. Zeros follow them.
-fn read_words(cursor: &mut Cursor) -> Option<Words> {
+#[tactic(auto, using(crate::proofs::Filling::begun, crate::proofs::Filling::more, crate::proofs::Filling::unread, crate::proofs::Filling::full, crate::proofs::Filling::all_read))]
+fn read_event_words(cursor: &mut Cursor) -> Option<Words>
+    ensures { result ≡ event_words (words_of cursor.old.rest.now) }
+{
     let mut words = [0; 64];
-    words[0] = cursor.number()?;
-    for word in words.iter_mut().skip(1) {
-        if cursor.is_at_end() {
-            break;
+    let mut count = 0;
+    while !cursor.is_at_end() {
+        if count == 64 {
+            return None;
         }
-        *word = cursor.number()?;
+        words[count] = cursor.number()?;
+        count += 1;
+    }
+    if count == 0 {
+        return None;
     }
     Some(Words::new(words))
 }

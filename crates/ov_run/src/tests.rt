@@ -1,8 +1,11 @@
 //! Scenario files line by line.
 mod asked;
 mod printed;
+mod runs;
 
-use crate::{Line, RunFault, Scenario, read_scenario};
+use crate::fault::RunFault;
+use crate::line::{Line, Scenario};
+use crate::reading::read_scenario;
 use ov_ids::{MsgId, NodeId, Params, Seq};
 use ov_net::Event;
 use ov_words::Words;

@@ -1,5 +1,6 @@
 //! The words of the command line, and the words that a seed gives.
-use crate::{Wanted, WordsFault, draw, read_words};
+use crate::drawing::draw;
+use crate::words::{Wanted, WordsFault, read_words};
 use std::alloc::Global;
 use std::process::Abort;
 use std::test::Fail;
@@ -76,55 +77,57 @@ fn words_that_ask_for_an_analysis(rt: HostRuntime) -> Result<(), Fail> {
     Ok(())
 }
 
+/// Words that are no words of the command, or ask for help.
+const REFUSED: [&str; 44] = [
+    "fly",
+    "-",
+    "--",
+    "g",
+    "Run",
+    "analys",
+    "run a b",
+    "run -x",
+    "run -- g",
+    "run --",
+    "run --workers 4",
+    "run --certificate",
+    "analyse a b",
+    "analyse -w 4",
+    "analyse --workers 0",
+    "analyse --workers 65",
+    "analyse --workers",
+    "analyse --workers=",
+    "analyse --workers 4x",
+    "analyse --workers x",
+    "analyse --workers +4",
+    "analyse --workers -4",
+    "analyse --workers=-4",
+    "analyse --workers -",
+    "analyse --workers 4294967297",
+    "analyse --workers 18446744073709551617",
+    "analyse --workers 4 --workers 4",
+    "analyse --workers=4 --workers 5",
+    "analyse --work 4",
+    "analyse g --certificate --certificate",
+    "analyse g --certificate=yes",
+    "analyse g --certificate yes",
+    "analyse -- g",
+    "--workers 4",
+    "--help",
+    "-h",
+    "help",
+    "help run",
+    "run --help",
+    "run -h",
+    "analyse --help",
+    "--version",
+    "-V",
+    "analyse g --help",
+];
+
 #[test]
 fn words_that_are_refused(rt: HostRuntime) -> Result<(), Fail> {
-    let lines = [
-        "fly",
-        "-",
-        "--",
-        "g",
-        "Run",
-        "analys",
-        "run a b",
-        "run -x",
-        "run -- g",
-        "run --",
-        "run --workers 4",
-        "run --certificate",
-        "analyse a b",
-        "analyse -w 4",
-        "analyse --workers 0",
-        "analyse --workers 65",
-        "analyse --workers",
-        "analyse --workers=",
-        "analyse --workers 4x",
-        "analyse --workers x",
-        "analyse --workers +4",
-        "analyse --workers -4",
-        "analyse --workers=-4",
-        "analyse --workers -",
-        "analyse --workers 4294967297",
-        "analyse --workers 18446744073709551617",
-        "analyse --workers 4 --workers 4",
-        "analyse --workers=4 --workers 5",
-        "analyse --work 4",
-        "analyse g --certificate --certificate",
-        "analyse g --certificate=yes",
-        "analyse g --certificate yes",
-        "analyse -- g",
-        "--workers 4",
-        "--help",
-        "-h",
-        "help",
-        "help run",
-        "run --help",
-        "run -h",
-        "analyse --help",
-        "--version",
-        "-V",
-        "analyse g --help",
-    ];
-    for line in lines {
+    for line in REFUSED {
         assert_eq!(rt;
             asked(rt.alloc(), line)?,
             Err(WordsFault::Words),

@@ -1,6 +1,6 @@
 //! The lines that are printed.
 use super::{message_id, payload, words};
-use crate::{entry_line, node_line, packet_line, refused_line};
+use crate::printing::{entry_line, node_line, packet_line, refused_line};
 use ov_ids::{NodeId, Params, Seq};
 use ov_net::{Change, Entry, Event};
 use ov_peer::{Delivery, Input, Peer};

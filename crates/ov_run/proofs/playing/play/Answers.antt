@@ -1,0 +1,45 @@
+-- One line more, and all of them.
+use Rattle.std.proofs.Common.{◌≡◌, ◌++◌, [], ◌∙◌, List, ℕ, subst, sym, arith}
+use Rattle.std.proofs.KnownBytes.{Appends-trans}
+use Rattle.std.proofs.lemmas.List.{nil_from_length}
+use Rattle.ov_snap.specs.Book.{unwritten}
+use Rattle.ov_run.specs.declared.line.Line.{Line}
+use Rattle.ov_run.proofs.Running.{SoFar, Suffice, more, ended, suffice_more, none_left}
+use Rattle.ov_run.proofs.playing.play.Goals as goal
+
+pub loop-line-preserved : goal.loop-line-preserved
+loop-line-preserved g c =
+    let start = unwritten c.args.params in
+    let words = c.args.words.now in
+    let all = c.args.lines.items in
+    let now = c.loop-line.core in
+    let left = c.loop-line.supply.rest.now in
+    let next = c.play_line.new.core in
+    let rest = c.play_line.new.supply.rest.now in
+    let line = c.in-Some.line in
+    let lines = c.next.new.self.rest.items in
+    let said = c.loop-line.invariant.printed in
+    let own = c.in_ok-play_line.ensures.prints in
+    let front = subst (λ (ls : List Line). SoFar start words all now left ls said.0) c.in-Some.ensures.steps.0 said.1 in
+    let enough = subst (λ (ls : List Line). Suffice left ls) c.in-Some.ensures.steps.0 c.loop-line.invariant.suffice in
+    let failed = c.in_ok-play_line.ensures.faults in
+    let none = c.loop-line.invariant.faults in
+    record {
+      printed = (said.0 ++ own.0, more start words all now next left rest line lines said.0 own.0 front own.1, Appends-trans _ _ _ _ _ said.2 own.2);
+      suffice = suffice_more now next left rest line lines own.0 enough own.1;
+      faults = omega (arith, failed, none);
+    }
+
+pub returns-clause-prints : goal.returns-clause-prints
+returns-clause-prints g c =
+    let start = unwritten c.args.params in
+    let words = c.args.words.now in
+    let all = c.args.lines.items in
+    let now = c.loop-line.core in
+    let left = c.loop-line.supply.rest.now in
+    let said = c.loop-line.invariant.printed in
+    let lines = c.loop-line.line-iterator.rest in
+    let empty : lines.items ≡ [] = nil_from_length lines.items (sym lines.ok.0 ∙ c.in-None.ensures.steps.0) in
+    let front = subst (λ (ls : List Line). SoFar start words all now left ls said.0) empty said.1 in
+    let none = none_left left (subst (λ (ls : List Line). Suffice left ls) empty c.loop-line.invariant.suffice) in
+    (now, said.0, ended start words all now said.0 (subst (λ (ds : List (List ℕ)). SoFar start words all now ds [] said.0) none front), said.2)

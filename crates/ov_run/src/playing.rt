@@ -1,0 +1,123 @@
+ghost use Rattle.std.specs.Prelude.{◌≡◌, ◌≤◌, ◌<◌, ◌+◌, ◌-◌, ◌^◌, ℕ, List, IfOk, IfErr, IsTrue, OnOk, filter, length, string_bytes};
+ghost use Rattle.std.specs.Io.KnownBytes.{Appends};
+ghost use Rattle.ov_snap.specs.Book.{Book, unwritten};
+ghost use Rattle.ov_run.specs.Faults.{write_failures, IsOfWriting};
+ghost use Rattle.ov_run.specs.Running.{PrintsEvent, PrintsNode, PrintsPackets, PrintsReport, PrintsLine, PrintsLines, wants_words};
+
+use crate::fault::RunFault;
+use crate::line::Line;
+use crate::printing::{entry_line, node_line, packet_line, refused_line};
+use crate::supply::Supply;
+use ov_certfile::{Sink, to_text};
+use ov_ids::{NodeId, OutOfMemory, Params};
+use ov_net::{Event, NetFault, Packet, World};
+use ov_snap::{BookFault, Core};
+use ov_words::Words;
+use std::alloc::Global;
+use std::io::Write;
+
+/// Runs these lines in a world in which nothing happened, and writes what they print.
+pub(crate) fn play<W: Write>(
+    alloc: Global,
+    params: Params,
+    lines: Vec<Line>,
+    words: &[Words],
+    sink: &mut Sink<W>,
+) -> Result<(), RunFault>
+    requires faults { sink.old.faults < 2 ^ 64 - 1 }
+    requires words { length words.now ≡ length (filter wants_words lines.items) }
+    ensures prints { OnOk result ((book : Book) × (text : List ℕ) × PrintsLines (unwritten params) words.now lines.items book text
+        × Appends (W.contents sink.old.writer) (W.contents sink.new.writer) text) }
+    ensures faults { sink.new.faults ≡ sink.old.faults + write_failures result }
+    ensures kind { IfErr result IsOfWriting }
+{
+    let mut core = Core::new(alloc, params);
+    let mut supply = Supply::new(words);
+    for line in lines {
+        play_line(alloc, &mut core, &mut supply, line, sink)?;
+    }
+    Ok(())
+}
+
+/// Runs one line, and writes what it prints.
+fn play_line<W: Write>(
+    alloc: Global,
+    core: &mut Core,
+    supply: &mut Supply,
+    line: Line,
+    sink: &mut Sink<W>,
+) -> Result<(), RunFault>
+    requires faults { sink.old.faults < 2 ^ 64 - 1 }
+    requires words { IsTrue (wants_words line) → 0 < length supply.old.rest.now }
+    ensures prints { OnOk result ((text : List ℕ) × PrintsLine core.old supply.old.rest.now line core.new supply.new.rest.now text
+        × Appends (W.contents sink.old.writer) (W.contents sink.new.writer) text) }
+    ensures faults { sink.new.faults ≡ sink.old.faults + write_failures result }
+    ensures kind { IfErr result IsOfWriting }
+{
+    let text = match line {
+        Line::Step { event, words } => event_text(alloc, core, event, &supply.words_of(words))?,
+        Line::Show(id) => node_text(alloc, core.world(), id)?,
+        Line::Packets => return write_packets(alloc, core.world().packets(), sink),
+        Line::Certificate(moment) => report_text(alloc, core, moment)?,
+    };
+    Ok(sink.write_all(text.as_bytes())?)
+}
+
+/// Lets an event happen, or be refused. It answers what is printed of that.
+fn event_text(
+    alloc: Global,
+    core: &mut Core,
+    event: Event,
+    words: &Words,
+) -> Result<String, OutOfMemory>
+    ensures { IfOk result (λ text. PrintsEvent core.old event words.now core.new (string_bytes text)) }
+{
+    match core.step(event, words) {
+        Ok(entry) => entry_line(alloc, &entry),
+        Err(fault) => refused_line(alloc, fault.number()),
+    }
+}
+
+/// What is printed of a node.
+fn node_text(alloc: Global, world: &World, id: NodeId) -> Result<String, OutOfMemory>
+    ensures { IfOk result (λ text. PrintsNode world.now.net id (string_bytes text)) }
+{
+    match world.peer(id) {
+        Some(peer) => Ok(node_line(alloc, id, peer)?),
+        None if world.born(id) => Ok(refused_line(alloc, NetFault::CrashedNode.number())?),
+        None => Ok(refused_line(alloc, NetFault::UnknownNode.number())?),
+    }
+}
+
+/// What is printed of the report that is filed for a moment.
+fn report_text(alloc: Global, core: &Core, moment: u32) -> Result<String, OutOfMemory>
+    ensures { IfOk result (λ text. PrintsReport core.now moment (string_bytes text)) }
+{
+    let Some(report) = core.report(moment) else {
+        return refused_line(alloc, BookFault::NoSuchMoment.number());
+    };
+    prove!(core.world().journal().len() <= 65_536);
+    let checked = report.checked();
+    let text = to_text(alloc, checked.cert(), checked.graph(), report.moment())?;
+    Ok(format!(in alloc; "{text}\n")?)
+}
+
+/// Writes the lines of packets.
+fn write_packets<W: Write>(
+    alloc: Global,
+    packets: &[Packet],
+    sink: &mut Sink<W>,
+) -> Result<(), RunFault>
+    requires faults { sink.old.faults < 2 ^ 64 - 1 }
+    requires few { length packets.now ≤ 65536 }
+    ensures prints { OnOk result ((text : List ℕ) × PrintsPackets 0 packets.now text
+        × Appends (W.contents sink.old.writer) (W.contents sink.new.writer) text) }
+    ensures faults { sink.new.faults ≡ sink.old.faults + write_failures result }
+    ensures kind { IfErr result IsOfWriting }
+{
+    for (place, packet) in packets.iter().enumerate() {
+        let line = packet_line(alloc, place as u32, packet.to(), packet.bytes())?;
+        sink.write_all(line.as_bytes())?;
+    }
+    Ok(())
+}

@@ -1,0 +1,303 @@
+//! What scenarios print, and what devices that fail come to.
+use crate::engine::run;
+use crate::fault::RunFault;
+use ov_certfile::{Sink, Source};
+use std::alloc::Global;
+use std::io::{Error, ErrorKind, Read, Write};
+use std::process::Abort;
+use std::test::Fail;
+
+/// Each scenario, and all that it prints.
+const SCENARIOS: [(&str, &str); 9] = [
+    ("", ""),
+    (
+        "snapshot\ncertificate 1\nshow 1\npackets\n",
+        "entry 1\nrefused 50\nrefused 10\n",
+    ),
+    (TWO_JOIN, TWO_JOIN_PRINTS),
+    (
+        "boot 1\nboot 2 by 1\ndeliver 0\nrepeat 0\ndeliver 0\ndeliver 0\ncrash 1\nsnapshot\nshow 1\nreport 2 1\nshow 2",
+        "entry 1 born 1\nentry 2 born 2\nentry 3 up 1 2\nentry 4\nentry 5 up 2 1\nentry 6\nentry 7 gone 1\nentry 8\nrefused 12\nentry 9 down 2 1\nnode 2 active - passive - eager - lazy -\n",
+    ),
+    (
+        "snapshot\ndeliver 0\nboot 1\nboot 1\ncrash 2\nreport 1 1\ntimer 1 1 0\nsnapshot\ncertificate 3\ncertificate 2\n",
+        "entry 1\nrefused 14\nentry 2 born 1\nrefused 11\nrefused 10\nrefused 17\nrefused 18\nentry 3\nrefused 50\nrefused 50\n",
+    ),
+    (FULL_VIEW, FULL_VIEW_PRINTS),
+    (FOUR_NODES, FOUR_NODES_PRINTS),
+    (
+        "boot 1\nboot 2 by 1\ndeliver 0\ndeliver 0\nbroadcast 1 hi\nrepeat 0\ndeliver 0\ndeliver 0\npackets\ndeliver 0\nshow 1\n",
+        "entry 1 born 1\nentry 2 born 2\nentry 3 up 1 2\nentry 4 up 2 1\nentry 5 delivered 1 1 0\nentry 6\nentry 7 delivered 2 1 0\nentry 8\npacket 0 to 1 010c00000002\nentry 9\nnode 1 active 2 passive - eager - lazy 2\n",
+    ),
+    (
+        "# a joke\r\n  boot   01 \r\n\n   \nlose 0\nshuffle 1\npackets\n",
+        "entry 1 born 1\nrefused 14\nentry 2\n",
+    ),
+];
+
+const TWO_JOIN: &str = "boot 1\nboot 2 by 1\ndeliver 0\nsnapshot\ndeliver 0\nsnapshot\n";
+
+const TWO_JOIN_PRINTS: &str =
+    "entry 1 born 1\nentry 2 born 2\nentry 3 up 1 2\nentry 4\nentry 5 up 2 1\nentry 6\n";
+
+/// A view of two places, in which the words decide who makes room.
+const FULL_VIEW: &str = "params 2 30 6 3 3 4 4
+boot 1
+boot 3 by 1
+deliver 0
+boot 7 by 1
+deliver 1
+boot 9 by 1
+words 5
+deliver 3
+show 1
+packets
+";
+
+const FULL_VIEW_PRINTS: &str = "entry 1 born 1
+entry 2 born 3
+entry 3 up 1 3
+entry 4 born 7
+entry 5 up 1 7
+entry 6 born 9
+entry 7 down 1 7 up 1 9
+node 1 active 3,9 passive 7 eager 3,9 lazy -
+packet 0 to 3 010300000001
+packet 1 to 7 010300000001
+packet 2 to 3 0102000000010000000706
+packet 3 to 7 010600000001
+packet 4 to 9 010300000001
+packet 5 to 3 0102000000010000000906
+";
+
+/// Four nodes meet, one broadcasts, a packet is lost and another comes twice, and a node crashes.
+const FOUR_NODES: &str = "params 5 30 2 1 3 4 4
+seed 7
+boot 1
+boot 2 by 1
+boot 3 by 1
+packets
+deliver 0
+deliver 0
+show 1
+deliver 0
+deliver 0
+deliver 0
+deliver 0
+boot 4 by 3
+deliver 0
+deliver 0
+packets
+lose 1
+deliver 0
+deliver 0
+deliver 0
+deliver 0
+show 2
+snapshot
+broadcast 1 hello
+repeat 0
+lose 1
+deliver 0
+deliver 0
+deliver 0
+deliver 0
+deliver 0
+deliver 0
+deliver 0
+packets
+show 1
+crash 3
+report 2 3
+deliver 0
+deliver 0
+report 1 3
+report 4 3
+snapshot
+show 1
+show 2
+show 3
+show 4
+";
+
+const FOUR_NODES_PRINTS: &str = "entry 1 born 1
+entry 2 born 2
+entry 3 born 3
+packet 0 to 1 010100000002
+packet 1 to 1 010100000003
+entry 4 up 1 2
+entry 5 up 1 3
+node 1 active 2,3 passive - eager 2,3 lazy -
+entry 6 up 2 1
+entry 7 up 3 1
+entry 8 up 2 3
+entry 9 up 3 2
+entry 10 born 4
+entry 11 up 3 4
+entry 12 up 4 3
+packet 0 to 1 0102000000030000000402
+packet 1 to 2 0102000000030000000402
+entry 13
+entry 14
+entry 15
+entry 16
+entry 17
+node 2 active 1,3 passive 4 eager 1,3 lazy -
+entry 18
+entry 19 delivered 1 1 0
+entry 20
+entry 21
+entry 22 delivered 2 1 0
+entry 23
+entry 24 delivered 3 1 0
+entry 25
+entry 26
+entry 27 delivered 4 1 0
+entry 28
+node 1 active 2,3 passive - eager - lazy 2,3
+entry 29 gone 3
+entry 30 down 2 3
+entry 31 up 4 2
+entry 32 up 2 4
+entry 33 down 1 3
+entry 34 down 4 3
+entry 35
+node 1 active 2 passive - eager - lazy 2
+node 2 active 1,4 passive - eager 4 lazy 1
+refused 12
+node 4 active 2 passive - eager 2 lazy -
+";
+
+#[test]
+fn scenarios_print_their_lines(rt: HostRuntime) -> Result<(), Fail> {
+    for (scenario, prints) in SCENARIOS {
+        let mut source = Source::new(scenario.as_bytes());
+        let mut sink = Sink::new(Vec::new(rt.alloc()));
+        assert_eq!(rt;
+            run(rt.alloc(), &mut source, &mut sink)?,
+            0,
+            "at {scenario}"
+        );
+        assert_eq!(rt;
+            sink.into_writer().as_slice(),
+            prints.as_bytes(),
+            "at {scenario}"
+        );
+    }
+    Ok(())
+}
+
+#[test]
+fn a_file_at_fault_runs_nothing(rt: HostRuntime) {
+    let rows = [
+        ("boot 1\nfly\n", RunFault::Line(2)),
+        ("boot 1\n\nanalyse 1\n", RunFault::Line(3)),
+        ("boot 1\ntogether\nend\n", RunFault::Line(2)),
+        ("boot 1\nend\n", RunFault::Line(2)),
+        ("boot 1\nwords 5\n", RunFault::Line(2)),
+        (
+            "# first\nparams 17 64 0 0 0 0 1\nboot 1\n",
+            RunFault::Params(2),
+        ),
+    ];
+    for (scenario, fault) in rows {
+        let mut source = Source::new(scenario.as_bytes());
+        let mut sink = Sink::new(Vec::new(rt.alloc()));
+        assert_eq!(rt;
+            run(rt.alloc(), &mut source, &mut sink),
+            Err(fault),
+            "at {scenario}"
+        );
+        assert_eq!(rt; sink.into_writer().len(), 0, "at {scenario}");
+    }
+}
+
+/// A device that gives or takes one byte a call, and is interrupted once it has done so many calls.
+#[derive(Drop)]
+struct Slow<'a> {
+    rest: &'a [u8],
+    calls_left: usize,
+}
+
+impl<'a> Slow<'a> {
+    fn call(&mut self) -> std::io::Result<()> {
+        if self.calls_left == 0 {
+            return Err(Error::from(ErrorKind::Interrupted));
+        }
+        self.calls_left -= 1;
+        Ok(())
+    }
+}
+
+impl<'a> Read for Slow<'a> {
+    fn read(&mut self, buf: &mut [u8]) -> std::io::Result<usize> {
+        self.call()?;
+        let Some((first, rest)) = self.rest.split_first() else {
+            return Ok(0);
+        };
+        let Some(place) = buf.first_mut() else {
+            return Ok(0);
+        };
+        *place = *first;
+        self.rest = rest;
+        Ok(1)
+    }
+}
+
+impl<'a> Write for Slow<'a> {
+    fn write(&mut self, buf: &[u8]) -> std::io::Result<usize> {
+        self.call()?;
+        Ok(buf.len().min(1))
+    }
+
+    fn flush(&mut self) -> std::io::Result<()> {
+        Ok(())
+    }
+}
+
+#[test]
+fn a_reader_is_interrupted_at_each_read(rt: HostRuntime) {
+    let reads = TWO_JOIN.len() + 1;
+    for calls_left in 0..=reads {
+        let mut source = Source::new(Slow {
+            rest: TWO_JOIN.as_bytes(),
+            calls_left,
+        });
+        let mut sink = Sink::new(Vec::new(rt.alloc()));
+        let answer = run(rt.alloc(), &mut source, &mut sink);
+        let is_cut_off = calls_left < reads;
+        let (expected, prints) = if is_cut_off {
+            (Err(RunFault::Read), "")
+        } else {
+            (Ok(0), TWO_JOIN_PRINTS)
+        };
+        assert_eq!(rt; answer, expected, "at {calls_left}");
+        assert_eq!(rt; source.faults(), u64::from(is_cut_off), "at {calls_left}");
+        assert_eq!(rt;
+            sink.into_writer().as_slice(),
+            prints.as_bytes(),
+            "at {calls_left}"
+        );
+    }
+}
+
+#[test]
+fn a_writer_is_interrupted_at_each_write(rt: HostRuntime) {
+    for calls_left in 0..=TWO_JOIN_PRINTS.len() {
+        let mut source = Source::new(TWO_JOIN.as_bytes());
+        let mut sink = Sink::new(Slow {
+            rest: &[],
+            calls_left,
+        });
+        let answer = run(rt.alloc(), &mut source, &mut sink);
+        let is_cut_off = calls_left < TWO_JOIN_PRINTS.len();
+        let expected = if is_cut_off {
+            Err(RunFault::Write)
+        } else {
+            Ok(0)
+        };
+        assert_eq!(rt; answer, expected, "at {calls_left}");
+        assert_eq!(rt; source.faults(), 0, "at {calls_left}");
+        assert_eq!(rt; sink.faults(), u64::from(is_cut_off), "at {calls_left}");
+    }
+}
