@@ -1,5 +1,5 @@
--- The journal of a world, and what it tells: whom each node held in its active view at a moment, who lived, and the links that
--- both ends held. A moment is the number of an entry; entries are numbered from 1. Definitions of this project, over the views of
+-- The journal of a world, and what its first m entries tell: whom each node held in its active view then, who lived, and the links
+-- that both ends held. Entries are numbered from 1, so entry m is the last of them. Definitions of this project, over the views of
 -- HyParView (Leitão, Pereira, Rodrigues, DSN 2007).
 use Rattle.std.specs.Prelude.{◌≡◌, ◌≢◌, ◌↔◌, ◌⊎◌, ℕ, ◌≤◌, List, [], ◌∷◌, ◌++◌, take, slice_get, Some}
 use Rattle.ov_ids.specs.Members.{Has}
@@ -36,7 +36,7 @@ Held journal m a b = HoldsAfter (changes_of (take m journal)) a b
 abbrev pub Live : List Entry → ℕ → ℕ → Type 0
 Live journal m a = LivesAfter (changes_of (take m journal)) a
 
--- the graph of a moment: its nodes are those that live, and two of them are linked where each holds the other
+-- the graph after the first m entries: its nodes are those that live, and two of them are linked where each holds the other
 pub record AreLinks (journal : List Entry) (m : ℕ) (g : LinkGraph) : Type 0 where
   pub graph : IsGraph g
   pub nodes : (a : ℕ) → Has g.nodes a ↔ Live journal m a

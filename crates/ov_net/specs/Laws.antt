@@ -4,10 +4,10 @@ use Rattle.ov_graph.specs.Links.{LinkGraph}
 use Rattle.ov_net.specs.Journal.{AreLinks}
 use Rattle.ov_net.specs.declared.entry.Entry.{Entry}
 
--- whatever entries come later, a graph is that of a moment within the journal exactly where it was so before
+-- whatever entries come later, a graph is that after the first m entries exactly where it was so before
 abbrev pub LinksStay : Type 0
 LinksStay = (journal more : List Entry) (m : ℕ) (g : LinkGraph) → m ≤ length journal → AreLinks journal m g ↔ AreLinks (journal ++ more) m g
 
--- a moment has one graph
+-- after the first m entries there is one graph
 abbrev pub OneGraph : Type 0
 OneGraph = (journal : List Entry) (m : ℕ) (g h : LinkGraph) → AreLinks journal m g → AreLinks journal m h → g ≡ h

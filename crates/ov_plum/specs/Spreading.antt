@@ -1,6 +1,6 @@
 -- The rows of Plumtree at a node: t is what it keeps before and u after. GOSSIP, IHAVE, GRAFT and PRUNE with their purposes are
--- Plumtree's (Leitão, Pereira, Rodrigues, SRDS 2007); that IHAVE and GRAFT carry no round, and what is said where nobody waits
--- for it, is chosen here.
+-- Plumtree's (Leitão, Pereira, Rodrigues, SRDS 2007). Chosen here: that IHAVE and GRAFT carry no round, and that a node which is
+-- no neighbour is answered too, where it sends GOSSIP again or asks by GRAFT.
 use Rattle.std.specs.Prelude.{◌≡◌, ℕ, ◌+◌, min, not, ◌||◌, ◌==◌, List, [], ◌∷◌, ◌++◌, map as each, MatchBool, MatchOption, Option, Some, None}
 use Rattle.std.specs.FinMap as map
 use Rattle.std.specs.Option.{option_map}

@@ -70,7 +70,8 @@ packet 4 to 9 010300000001
 packet 5 to 3 0102000000010000000906
 ";
 
-/// Four nodes meet, one broadcasts, a packet is lost and another comes twice, and a node crashes.
+/// Four nodes meet, one broadcasts, a packet is lost and another comes twice, and a node crashes: `examples/four-nodes.scenario`
+/// without its comments, whose output is `examples/four-nodes.txt`.
 const FOUR_NODES: &str = "params 5 30 2 1 3 4 4
 seed 7
 boot 1
