@@ -143,6 +143,7 @@ impl Peer {
         requires { IsInputInRange input }
         ensures allowed { IfOk result (λ g. (q : Whole) → Follows self.now g q → (left : List ℕ) × (24 ≤ length left) × Drawn words.now left
             (λ choices. PeerStep self.now input choices q g.sends.items g.changes.items g.delivered)) }
+        ensures noted { IfOk result (λ g. (q : Whole) → Follows self.now g q → NotesStep self.now.tree input g.changes.items q.tree) }
         ensures fits { IfOk result (Fits self.now) }
         ensures few { IfOk result (λ g. vec_len g.sends ≤ 64) }
         ensures ranges { IfOk result (λ g. AllByRecursion (λ s. AreInRange s.1) g.sends.items) }
@@ -167,6 +168,7 @@ impl Peer {
         requires { Fits self.old plan }
         ensures follows { OnOk result (Follows self.old plan self.new) }
         ensures step { OnOk result (IsPeerStep self.old plan.changes.items self.new) }
+        ensures noted { OnOk result ((s : IsPeerStep self.old plan.changes.items self.new) × NotesStep self.old.tree s.input plan.changes.items self.new.tree) }
         ensures sends { IfOk result (λ o. o.sends ≡ plan.sends) }
         ensures changes { IfOk result (λ o. o.changes ≡ plan.changes) }
         ensures delivered { IfOk result (λ o. o.delivered ≡ plan.delivered) }

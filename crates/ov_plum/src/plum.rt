@@ -1,4 +1,4 @@
-ghost use Rattle.std.specs.Prelude.{◌≡◌, ◌<◌, ◌≤◌, ◌+◌, [], false, length, vec_len, None, Ok, Err, IfOk, IfErr, OnOk, OnErr};
+ghost use Rattle.std.specs.Prelude.{◌≡◌, ◌<◌, ◌≤◌, ◌+◌, [], false, length, max, vec_len, None, Ok, Err, IfOk, IfErr, OnOk, OnErr};
 ghost use Rattle.std.specs.FinMap as map;
 ghost use Rattle.std.specs.List.{AllByRecursion};
 ghost use Rattle.ov_wire.specs.Messages.{AreInRange};
@@ -108,6 +108,7 @@ impl Plum {
         requires made { self.now.made < 4096 }
         ensures allowed { IfOk result (λ p. AllowedTree self.now (broadcasts payload)
             (turned self.now p.turn) p.spread.sends.items p.spread.delivered) }
+        ensures noted { IfOk result (λ p. NotesFollow self.now (broadcasts payload) (turned self.now p.turn)) }
         ensures few { IfOk result (λ p. vec_len p.spread.sends ≤ length self.now.branches.eager + length self.now.branches.lazy) }
         ensures most { IfOk result (λ p. vec_len p.spread.sends ≤ 64) }
         ensures ranges { IfOk result (λ p. AllByRecursion (λ t. AreInRange t.1) p.spread.sends.items) }
@@ -140,7 +141,7 @@ impl Plum {
         ensures allowed { IfOk result (λ p. AllowedTree self.now (receives (record { from = from; body = Gossip id round payload }))
             (turned self.now p.turn) p.spread.sends.items p.spread.delivered) }
         ensures noted { IfOk result (λ p. NotesFollow self.now (receives (record { from = from; body = Gossip id round payload })) (turned self.now p.turn)) }
-        ensures few { IfOk result (λ p. vec_len p.spread.sends ≤ 1 + length self.now.branches.eager + length self.now.branches.lazy) }
+        ensures few { IfOk result (λ p. vec_len p.spread.sends ≤ max 1 (length self.now.branches.eager + length self.now.branches.lazy)) }
         ensures most { IfOk result (λ p. vec_len p.spread.sends ≤ 64) }
         ensures ranges { IfOk result (λ p. AllByRecursion (λ t. AreInRange t.1) p.spread.sends.items) }
     {
@@ -198,6 +199,7 @@ impl Plum {
     pub fn plan_graft(&self, from: NodeId, id: MsgId) -> Result<Planned, OutOfMemory>
         ensures allowed { IfOk result (λ p. AllowedTree self.now (receives (record { from = from; body = Graft id }))
             (turned self.now p.turn) p.spread.sends.items p.spread.delivered) }
+        ensures noted { IfOk result (λ p. NotesFollow self.now (receives (record { from = from; body = Graft id })) (turned self.now p.turn)) }
         ensures few { IfOk result (λ p. vec_len p.spread.sends ≤ 1) }
         ensures ranges { IfOk result (λ p. AllByRecursion (λ t. AreInRange t.1) p.spread.sends.items) }
     {
@@ -219,6 +221,7 @@ impl Plum {
     pub fn plan_prune(&self, from: NodeId) -> Planned
         ensures allowed { AllowedTree self.now (receives (record { from = from; body = Prune }))
             (turned self.now result.turn) result.spread.sends.items result.spread.delivered }
+        ensures noted { NotesFollow self.now (receives (record { from = from; body = Prune })) (turned self.now result.turn) }
         ensures none { vec_len result.spread.sends ≡ 0 }
         ensures room { wants_room result.turn ≡ false }
     {
@@ -296,6 +299,7 @@ impl Plum {
         requires payload { length payload ≤ 1024 }
         requires made { self.old.made < 4096 }
         ensures allowed { IfOk result (λ s. AllowedTree self.old (broadcasts payload) self.new s.sends.items s.delivered) }
+        ensures noted { IfOk result (λ s. NotesFollow self.old (broadcasts payload) self.new) }
         ensures few { IfOk result (λ s. vec_len s.sends ≤ length self.old.branches.eager + length self.old.branches.lazy) }
         ensures most { IfOk result (λ s. vec_len s.sends ≤ 64) }
         ensures ranges { IfOk result (λ s. AllByRecursion (λ t. AreInRange t.1) s.sends.items) }
@@ -319,7 +323,7 @@ impl Plum {
         ensures allowed { IfOk result (λ s. AllowedTree self.old (receives (record { from = from; body = Gossip id round payload }))
             self.new s.sends.items s.delivered) }
         ensures noted { IfOk result (λ s. NotesFollow self.old (receives (record { from = from; body = Gossip id round payload })) self.new) }
-        ensures few { IfOk result (λ s. vec_len s.sends ≤ 1 + length self.old.branches.eager + length self.old.branches.lazy) }
+        ensures few { IfOk result (λ s. vec_len s.sends ≤ max 1 (length self.old.branches.eager + length self.old.branches.lazy)) }
         ensures most { IfOk result (λ s. vec_len s.sends ≤ 64) }
         ensures ranges { IfOk result (λ s. AllByRecursion (λ t. AreInRange t.1) s.sends.items) }
         ensures err { OnErr result (self.new ≡ self.old) }
@@ -347,6 +351,7 @@ impl Plum {
     pub fn on_graft(&mut self, from: NodeId, id: MsgId) -> Result<Spread, OutOfMemory>
         ensures allowed { IfOk result (λ s. AllowedTree self.old (receives (record { from = from; body = Graft id }))
             self.new s.sends.items s.delivered) }
+        ensures noted { IfOk result (λ s. NotesFollow self.old (receives (record { from = from; body = Graft id })) self.new) }
         ensures few { IfOk result (λ s. vec_len s.sends ≤ 1) }
         ensures ranges { IfOk result (λ s. AllByRecursion (λ t. AreInRange t.1) s.sends.items) }
         ensures err { OnErr result (self.new ≡ self.old) }
@@ -360,6 +365,7 @@ impl Plum {
     pub fn on_prune(&mut self, from: NodeId) -> Spread
         ensures allowed { AllowedTree self.old (receives (record { from = from; body = Prune }))
             self.new result.sends.items result.delivered }
+        ensures noted { NotesFollow self.old (receives (record { from = from; body = Prune })) self.new }
         ensures none { vec_len result.sends ≡ 0 }
     {
         let Planned { spread, turn } = self.plan_prune(from);
@@ -388,7 +394,8 @@ impl Plum {
     /// A node comes up: it is an eager neighbour. It takes no memory.
     pub fn up(&mut self, id: NodeId)
         requires { length self.old.branches.eager + length self.old.branches.lazy < 64 }
-        ensures { AllowedTree self.old (goes_up id) self.new [] None }
+        ensures allowed { AllowedTree self.old (goes_up id) self.new [] None }
+        ensures noted { NotesFollow self.old (goes_up id) self.new }
     {
         self.links.up(id);
     }

@@ -7,7 +7,7 @@ pub loop-change-preserved-in-Up : goal.loop-change-preserved-in-Up
 loop-change-preserved-in-Up c =
     let later = c.in-Some.later.now in
     let first : c.loop-change.left.now ≡ Up c.in-Up.id ∷ later = c.in-Some.ensures.cases.0 ∙ ap (λ x. x ∷ later) c.in-Up.is in
-    told_up _ _ _ _ c.in-Up.id later (subst (Telling c.args.plum.now c.args.changes.now c.loop-change.plum) first c.loop-change.invariant) c.up.ensures
+    told_up _ _ _ _ c.in-Up.id later (subst (Telling c.args.plum.now c.args.changes.now c.loop-change.plum) first c.loop-change.invariant) c.up.ensures.allowed
 
 pub loop-change-preserved : goal.loop-change-preserved
 loop-change-preserved c =

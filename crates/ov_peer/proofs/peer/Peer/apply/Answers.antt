@@ -7,6 +7,7 @@ use Rattle.ov_plum.specs.Tree.{Tree}
 use Rattle.ov_peer.proofs.Counts.{neighbours_fit}
 use Rattle.ov_peer.proofs.Steps.{whole_of}
 use Rattle.ov_peer.proofs.Following.{whole_turned, whole_followed, fits_turn, fits_tracks, fits_step}
+use Rattle.ov_peer.proofs.Noting.{step_noted}
 use Rattle.ov_peer.proofs.peer.Peer.apply.Goals as goal
 
 pub apply-requires : goal.apply-requires
@@ -45,3 +46,8 @@ returns-clause-step c =
     let told : Told c.apply.new.self plan.changes.items q.tree = rw (← c.deref.ensures.value) c.tell.ensures in
     let follows : Follows p plan q = (c.follow.ensures, subst (λ (t : Tree). Told t plan.changes.items q.tree) c.in_ok-apply.ensures.ok told) in
     subst (λ (w : Whole). IsPeerStep w plan.changes.items q) c.self.view_is (fits_step p q plan fits follows)
+
+pub returns-clause-noted : goal.returns-clause-noted
+returns-clause-noted c =
+    let s = returns-clause-step c in
+    (s, step_noted c.args.self.now s.input s.choices (whole_of c.follow.new.views c.follow.new.attempt c.follow.new.sent c.tell.new.plum) s.sends c.args.plan.changes.items s.delivery s.allowed)
