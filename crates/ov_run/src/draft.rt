@@ -18,7 +18,7 @@ pub(crate) struct Draft {
     params: Option<Params>,
     seed: Option<u64>,
     /// The words of the next event, and the line that they stand on.
-    words: Option<(u32, Words)>,
+    words: Option<(usize, Words)>,
     has_events: bool,
     lines: Vec<Line>,
 }
@@ -43,7 +43,7 @@ impl Draft {
     pub(crate) fn read_line(
         &mut self,
         alloc: Global,
-        number: u32,
+        number: usize,
         text: &[u8],
     ) -> Result<(), RunFault>
         requires counted { 1 ≤ number }
@@ -62,7 +62,7 @@ impl Draft {
 
     /// The fault of a line that can't be read. Where words wait for an event it is that of their line.
     #[tactic(auto, unfolding(crate::specs::Scenarios::says_next))]
-    fn unreadable(&self, number: u32) -> RunFault
+    fn unreadable(&self, number: usize) -> RunFault
         requires counted { 1 ≤ number }
         requires waits { WaitsUpTo number self.now.words }
         ensures said { Fails result (says_next number None self.now.words (said_of self.now)) }
@@ -77,7 +77,7 @@ impl Draft {
 
     /// Takes in what the line of this number says.
     #[tactic(auto, unfolding(crate::specs::Scenarios::says_next))]
-    fn take(&mut self, number: u32, statement: Statement) -> Result<(), RunFault>
+    fn take(&mut self, number: usize, statement: Statement) -> Result<(), RunFault>
         requires counted { 1 ≤ number }
         requires waits { WaitsUpTo number self.old.words }
         ensures said { Takes result (said_of self.new) (says_next number (Some statement) self.old.words (said_of self.old)) }
@@ -116,7 +116,7 @@ impl Draft {
     }
 
     #[tactic(auto, using(crate::proofs::Limits::within_tested, crate::proofs::Limits::tested_within), unfolding(crate::specs::Scenarios::says_next))]
-    fn take_params(&mut self, number: u32, params: [u32; 7]) -> Result<(), RunFault>
+    fn take_params(&mut self, number: usize, params: [u32; 7]) -> Result<(), RunFault>
         requires { 1 ≤ number }
         ensures said { Takes result (said_of self.new) (says_next number (Some (says.Params params)) None (said_of self.old)) }
         ensures fault { IfErr result (IsUpTo number) }
@@ -135,7 +135,7 @@ impl Draft {
     }
 
     #[tactic(auto, unfolding(crate::specs::Scenarios::says_next))]
-    fn take_seed(&mut self, number: u32, seed: u64) -> Result<(), RunFault>
+    fn take_seed(&mut self, number: usize, seed: u64) -> Result<(), RunFault>
         requires { 1 ≤ number }
         ensures said { Takes result (said_of self.new) (says_next number (Some (says.Seed seed)) None (said_of self.old)) }
         ensures err { OnErr result (self.new ≡ self.old) }
@@ -150,7 +150,7 @@ impl Draft {
     }
 
     /// The scenario, after the last line. Words that wait for an event are at fault.
-    pub(crate) fn finish(self, number: u32) -> Result<Scenario, RunFault>
+    pub(crate) fn finish(self, number: usize) -> Result<Scenario, RunFault>
         requires { WaitsUpTo number self.words }
         ensures said { Ends result (said_of self) (at_end self.words (said_of self)) }
         ensures fault { IfErr result (IsUpTo number) }

@@ -12,10 +12,10 @@ use thiserror::Error;
 pub enum RunFault {
     /// This line of the file, counted from 1, can't be read.
     #[error("line {0}: refused 70")]
-    Line(u32),
+    Line(usize),
     /// The parameters on this line of the file, counted from 1, are out of their limits.
     #[error("line {0}: refused 21")]
-    Params(u32),
+    Params(usize),
     /// The reader failed, or there is none.
     #[error("refused 71")]
     Read,
@@ -42,7 +42,7 @@ impl RunFault {
     }
 
     /// The line of the file that is at fault, counted from 1, where one is.
-    pub fn line(&self) -> Option<u32>
+    pub fn line(&self) -> Option<usize>
         ensures { result ≡ line_of self.now }
     {
         match self {

@@ -365,7 +365,7 @@ fn is_shown(
     alloc: Global,
     fault: RunFault,
     number: u32,
-    line: Option<u32>,
+    line: Option<usize>,
     text: &str,
 ) -> Result<(), Fail> {
     assert_eq!(rt; fault.number(), number, "at {text}");

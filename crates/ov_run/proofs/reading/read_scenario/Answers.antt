@@ -1,5 +1,5 @@
 -- The fault of a line.
-use Rattle.std.proofs.Common.{rules, ◌≡◌, ◌<◌, ◌+◌, ◌⊎◌, length, Err, IfErr, subst, sym}
+use Rattle.std.proofs.Common.{rules, refl, ◌≡◌, ◌<◌, ◌+◌, ◌⊎◌, length, Err, IfErr, subst, sym}
 use Rattle.ov_run.specs.Scenarios.{IsFaulty}
 use Rattle.ov_run.specs.Taking.{said_of}
 use Rattle.ov_run.specs.declared.fault.RunFault.TheVariants.{OutOfMemory}
@@ -9,7 +9,6 @@ use Rattle.ov_run.proofs.reading.read_scenario.Goals as goal
 pub returns-in_err-read_line-clause-fault : goal.returns-in_err-read_line-clause-fault
 returns-in_err-read_line-clause-fault c =
     let some : 0 < length c.loop-rest.rest.now = search rules in
-    let count : c.in_ok-number.number ≡ c.loop-rest.number + 1 = search rules in
-    let same : c.from_residual-in_err-read_line.result ≡ Err c.in_err-read_line.field-0.0 = search rules in
+    let same : c.from_residual.result ≡ Err c.in_err-read_line.field-0.0 = search rules in
     subst (λ r. IfErr r (λ f. IsFaulty c.args.bytes.now f ⊎ (f ≡ OutOfMemory))) (sym same)
-    (refused_at c.args.bytes.now c.loop-rest.rest.now c.split_line.result.0.now c.split_line.result.1.now c.loop-rest.number c.in_ok-number.number (said_of c.loop-rest.draft) c.in_err-read_line.field-0.0 c.loop-rest.invariant.said some c.split_line.ensures.line count c.in_err-read_line.ensures.said)
+    (refused_at c.args.bytes.now c.loop-rest.rest.now c.split_line.result.0.now c.split_line.result.1.now c.loop-rest.number (c.loop-rest.number + 1) (said_of c.loop-rest.draft) c.in_err-read_line.field-0.0 c.loop-rest.invariant.said some c.split_line.ensures.line refl c.in_err-read_line.ensures.said)
