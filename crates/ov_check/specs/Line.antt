@@ -1,19 +1,14 @@
 -- The line that is printed of an outcome.
-use Rattle.std.specs.Prelude.{ℕ, List, [], ◌∷◌, ◌++◌, codes, decimal}
-use Rattle.std.specs.List.{join_by}
+use Rattle.std.specs.Prelude.{ℕ, List, [], ◌++◌, codes, decimal}
 use Rattle.ov_cert.specs.declared.cert.Cert.{Cert}
 use Rattle.ov_cert.specs.declared.cert.Cert.TheVariants.{Linked, Split}
 use Rattle.ov_cert.specs.declared.fault.CheckFault.{CheckFault}
 use Rattle.ov_cert.specs.declared.fault.CheckFault.TheVariants.{Pair, Fan}
 use Rattle.ov_cert.specs.Number as check_fault
 use Rattle.ov_certfile.specs.Number as file_fault
+use Rattle.ov_ids.specs.Text.{ids_text}
 use Rattle.ov_check.specs.declared.outcome.Outcome.{Outcome}
 use Rattle.ov_check.specs.declared.outcome.Outcome.TheVariants.{Holds, Fails, Refused}
-
--- the ids with commas between them, or a dash where there are none
-abbrev pub ids_text : List ℕ → List ℕ
-ids_text [] = codes "-"
-ids_text (a ∷ rest) = join_by decimal (codes ",") (a ∷ rest)
 
 -- what a certificate says, without its paths
 unfoldable pub cert_text : Cert → List ℕ

@@ -1,6 +1,6 @@
 use crate::outcome::Outcome;
 use ov_cert::{Cert, CheckFault};
-use ov_ids::NodeId;
+use ov_ids::IdsText;
 use std::fmt::{Display, Formatter, Result, Write};
 
 /// The line of an outcome, without its line feed.
@@ -81,29 +81,5 @@ impl Display for FaultText {
             }
             _ => write!(f, "{number}"),
         }
-    }
-}
-
-/// Ids with commas between them, or a dash where there are none.
-#[derive(Drop)]
-struct IdsText<'a>(&'a [NodeId]);
-
-impl<'a> Display for IdsText<'a> {
-    ghost use Rattle.std.specs.Prelude.{Some};
-    ghost use Rattle.ov_check.specs.Line.{ids_text};
-
-    ghost output = { λ t. Some (ids_text t.0.now) };
-
-    fn fmt<W: Write>(&self, f: &mut Formatter<W>) -> Result {
-        let Some((first, rest)) = self.0.split_first() else {
-            return write!(f, "-");
-        };
-        let number = first.number();
-        write!(f, "{number}")?;
-        for id in rest {
-            let number = id.number();
-            write!(f, ",{number}")?;
-        }
-        Ok(())
     }
 }

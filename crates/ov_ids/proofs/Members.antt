@@ -2,7 +2,7 @@
 use Rattle.std.proofs.Common.{◌≡◌, ℕ, zero, suc, ◌<◌, ◌↔◌, ◌⊎◌, inl, inr, List, [], ◌∷◌, ◌++◌, Bool, true, IsTrue, length, get_or, take, eqb, refl, sym, ap, ap₂, ◌∙◌, subst, arith, eq-eqb, eqb-true}
 use Rattle.std.proofs.lemmas.Bool.{cases_eq, or_cases, or_left, or_right}
 use Rattle.std.specs.List.{AllByRecursion, list_any}
-use Rattle.ov_ids.specs.Members.{Has, IsDistinct, IsApart, Ordered, Ascends}
+use Rattle.ov_ids.specs.Members.{Has, IsDistinct, Ordered, Ascends}
 use Rattle.ov_ids.specs.Sets.{has}
 
 pub has_or_not : (xs : List ℕ) (x : ℕ) → Has xs x ⊎ (¬ Has xs x)

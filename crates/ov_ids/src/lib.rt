@@ -1,5 +1,5 @@
-//! What all crates share: ids of nodes and messages, lists and sets that contracts see as values, the parameters of a
-//! node, and the fault of a refused growth.
+//! What all crates share: ids of nodes and messages, how a list of ids is printed, lists and sets that contracts see as
+//! values, the parameters of a node, and the fault of a refused growth.
 #![tactic(auto)]
 
 mod id;
@@ -10,6 +10,7 @@ mod params;
 mod seq;
 #[cfg(test)]
 mod tests;
+mod text;
 
 pub use id::{MsgId, NodeId};
 pub use id_set::IdSet;
@@ -17,3 +18,4 @@ pub use memory::OutOfMemory;
 pub use order::is_ascending;
 pub use params::{BadParams, Params};
 pub use seq::Seq;
+pub use text::IdsText;

@@ -1,4 +1,5 @@
-use crate::{BadParams, IdSet, NodeId, Params, is_ascending};
+use crate::{BadParams, IdSet, IdsText, NodeId, Params, is_ascending};
+use std::alloc::AllocError;
 
 /// Parameters, each at its highest.
 const HIGHEST: [u32; 7] = [16, 64, 15, 15, 8, 8, 15];
@@ -82,4 +83,22 @@ fn ascending_means_each_above_the_last(rt: HostRuntime) {
     assert!(rt; is_ascending(&[NodeId(1), NodeId(2)]));
     assert!(rt; !is_ascending(&[NodeId(1), NodeId(1)]));
     assert!(rt; !is_ascending(&[NodeId(2), NodeId(1)]));
+}
+
+#[test]
+fn ids_stand_between_commas(rt: HostRuntime) -> Result<(), AllocError> {
+    let rows: [(&[NodeId], &str); 3] = [
+        (&[], "-"),
+        (&[NodeId(7)], "7"),
+        (
+            &[NodeId(0), NodeId(30), NodeId(4_294_967_295)],
+            "0,30,4294967295",
+        ),
+    ];
+    for (ids, expected) in rows {
+        let ids = IdsText(ids);
+        let text = format!(in rt.alloc(); "{ids}")?;
+        assert_eq!(rt; text.as_str(), expected);
+    }
+    Ok(())
 }

@@ -10,9 +10,9 @@ ghost use Rattle.ov_net.specs.declared.event.Event.TheVariants.{Boot, Deliver, L
 use crate::event::Event;
 use crate::fault::NetFault;
 use crate::member::Member;
-use crate::world::{MAX_BROADCASTS, MAX_ENTRIES, MAX_NODES, MAX_PACKETS, STEP_PACKETS, World};
+use crate::world::{MAX_ENTRIES, MAX_NODES, MAX_PACKETS, STEP_PACKETS, World};
 use ov_ids::{MsgId, NodeId};
-use ov_peer::Peer;
+use ov_peer::{MAX_BROADCASTS, Peer};
 use ov_wire::MAX_PAYLOAD;
 
 impl World {

@@ -32,9 +32,6 @@ pub(crate) const STEP_PACKETS: usize = 64;
 /// How many entries the journal may have.
 pub const MAX_ENTRIES: usize = 65_536;
 
-/// How many broadcasts a node may make.
-pub(crate) const MAX_BROADCASTS: u32 = 4096;
-
 /// A world of nodes, and its journal.
 #[derive(Drop)]
 pub struct World {
@@ -146,7 +143,7 @@ impl World {
         self.journal.reserve(1)?;
         turn(&mut self.nodes, brought.node)?;
         exchange(&mut self.packets, brought.taken, brought.packets);
-        record(&mut self.journal, entry);
+        self.journal.push_reserved(entry);
         Ok(answer)
     }
 }
@@ -199,17 +196,6 @@ fn exchange(packets: &mut Vec<Packet>, taken: Option<usize>, more: Vec<Packet>)
     }
     let mut more = more;
     match packets.append(&mut more) {
-        Ok(()) => {}
-        Err(_) => unreachable!(),
-    }
-}
-
-/// Puts an entry last. There is room for it.
-fn record(journal: &mut Vec<Entry>, entry: Entry)
-    requires { vec_len journal.old < vec_capacity journal.old }
-    ensures { journal.new.items ≡ journal.old.items ++ entry ∷ [] }
-{
-    match journal.push(entry) {
         Ok(()) => {}
         Err(_) => unreachable!(),
     }

@@ -10,7 +10,7 @@ mod telling;
 
 pub use fault::PeerFault;
 pub use input::{Delivery, Input, Output};
-pub use peer::Peer;
+pub use peer::{MAX_BROADCASTS, Peer};
 pub use plan::Plan;
 
 #[cfg(test)]

@@ -33,7 +33,7 @@ use std::alloc::Global;
 use std::marker::Model;
 
 /// How many broadcasts a node may make.
-const MAX_MADE: u32 = 4096;
+pub const MAX_BROADCASTS: u32 = 4096;
 
 /// A node: its views, its attempt, the list of its last shuffle, and its part of Plumtree's tree, whose neighbours are always the
 /// active members. Contracts see it as a `Whole`.
@@ -319,7 +319,7 @@ impl Peer {
         if payload.as_slice().len() > MAX_PAYLOAD as usize {
             return Err(PeerFault::PayloadTooLong);
         }
-        if self.plum.made() >= MAX_MADE {
+        if self.plum.made() >= MAX_BROADCASTS {
             return Err(PeerFault::TooManyMessages);
         }
         let planned = self.plum.plan_broadcast(payload)?;

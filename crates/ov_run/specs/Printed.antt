@@ -1,7 +1,7 @@
 -- The lines that are printed of a scenario, each ended by a line feed.
-use Rattle.std.specs.Prelude.{ℕ, List, [], ◌∷◌, ◌++◌, Option, Some, None, codes, decimal, flat_map}
-use Rattle.std.specs.List.{join_by}
+use Rattle.std.specs.Prelude.{ℕ, List, [], ◌++◌, Option, Some, None, codes, decimal, flat_map}
 use Rattle.hex.specs.Hex.{encode_lower}
+use Rattle.ov_ids.specs.Text.{ids_text}
 use Rattle.ov_net.specs.declared.entry.Change.{Change}
 use Rattle.ov_net.specs.declared.entry.Change.TheVariants.{Born, Up, Down, Gone}
 use Rattle.ov_net.specs.declared.entry.Entry.{Entry}
@@ -26,11 +26,6 @@ entry_line e = codes "entry " ++ (decimal e.number ++ (flat_map change_text e.ch
 -- a refusal, with its number
 unfoldable pub refused_line : ℕ → List ℕ
 refused_line number = codes "refused " ++ (decimal number ++ codes "\n")
-
--- the ids with commas between them, or a dash where there are none
-abbrev pub ids_text : List ℕ → List ℕ
-ids_text [] = codes "-"
-ids_text (a ∷ rest) = join_by decimal (codes ",") (a ∷ rest)
 
 -- a node's id, its views, and its neighbours in the tree
 unfoldable pub node_line : ℕ → Whole → List ℕ

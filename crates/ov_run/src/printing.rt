@@ -1,8 +1,8 @@
 ghost use Rattle.std.specs.Prelude.{◌≡◌, IfOk, string_bytes};
 ghost use Rattle.ov_run.specs.Printed.{entry_line, refused_line, node_line, packet_line};
 
-use crate::text::{ChangesText, DeliveryText, IdsText};
-use ov_ids::{NodeId, OutOfMemory};
+use crate::text::{ChangesText, DeliveryText};
+use ov_ids::{IdsText, NodeId, OutOfMemory};
 use ov_net::Entry;
 use ov_peer::Peer;
 use std::alloc::Global;

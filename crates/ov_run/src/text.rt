@@ -1,4 +1,3 @@
-use ov_ids::NodeId;
 use ov_net::Change;
 use ov_peer::Delivery;
 use std::fmt::{Display, Formatter, Result, Write};
@@ -74,29 +73,5 @@ impl<'a> Display for DeliveryText<'a> {
         let origin = delivery.id.origin.number();
         let seq = delivery.id.seq;
         write!(f, " delivered {node} {origin} {seq}")
-    }
-}
-
-/// Ids with commas between them, or a dash where there are none.
-#[derive(Drop)]
-pub(crate) struct IdsText<'a>(pub(crate) &'a [NodeId]);
-
-impl<'a> Display for IdsText<'a> {
-    ghost use Rattle.std.specs.Prelude.{Some};
-    ghost use Rattle.ov_run.specs.Printed.{ids_text};
-
-    ghost output = { λ t. Some (ids_text t.0.now) };
-
-    fn fmt<W: Write>(&self, f: &mut Formatter<W>) -> Result {
-        let Some((first, rest)) = self.0.split_first() else {
-            return write!(f, "-");
-        };
-        let number = first.number();
-        write!(f, "{number}")?;
-        for id in rest {
-            let number = id.number();
-            write!(f, ",{number}")?;
-        }
-        Ok(())
     }
 }

@@ -18,7 +18,7 @@ use crate::job::Job;
 use crate::report::Report;
 use crate::reports::Reports;
 use crate::same::are_same;
-use crate::snapshot::{Snapshot, find, make_room, put};
+use crate::snapshot::{Snapshot, find, make_room};
 use ov_graph::Graph;
 use ov_ids::{OutOfMemory, Params};
 use ov_net::{Entry, Event, MAX_ENTRIES, NetFault, World};
@@ -109,7 +109,7 @@ impl Core {
         make_room(&mut self.snapshots)?;
         let entry = self.world.step(Event::Snapshot, words)?;
         let moment = entry.number;
-        put(&mut self.snapshots, Snapshot { moment, graph });
+        self.snapshots.push_reserved(Snapshot { moment, graph });
         Ok(entry)
     }
 

@@ -1,4 +1,4 @@
-ghost use Rattle.std.specs.Prelude.{◌≡◌, ◌<◌, ◌++◌, [], ◌∷◌, IfSome, IfNone, OnOk, vec_len, vec_capacity};
+ghost use Rattle.std.specs.Prelude.{◌≡◌, ◌<◌, IfSome, IfNone, OnOk, vec_len, vec_capacity};
 ghost use Rattle.ov_ids.specs.Members.{Has, Ordered};
 ghost use Rattle.ov_snap.specs.Snapshots.{WasBefore};
 ghost use Rattle.ov_snap.specs.declared.snapshot.Snapshot.{Snapshot as Kept};
@@ -32,15 +32,4 @@ pub(crate) fn make_room(snapshots: &mut Vec<Snapshot>) -> Result<(), OutOfMemory
 {
     snapshots.reserve(1)?;
     Ok(())
-}
-
-/// Puts a snapshot last. There is room for it.
-pub(crate) fn put(snapshots: &mut Vec<Snapshot>, snapshot: Snapshot)
-    requires { vec_len snapshots.old < vec_capacity snapshots.old }
-    ensures { snapshots.new.items ≡ snapshots.old.items ++ snapshot ∷ [] }
-{
-    match snapshots.push(snapshot) {
-        Ok(()) => {}
-        Err(_) => unreachable!(),
-    }
 }

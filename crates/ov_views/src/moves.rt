@@ -36,10 +36,7 @@ impl Moves {
         ensures changes { self.new.changes ≡ self.old.changes }
         ensures capacity { vec_capacity self.old.sends ≤ vec_capacity self.new.sends }
     {
-        match self.sends.push((to, message)) {
-            Ok(()) => {}
-            Err(_) => unreachable!(),
-        }
+        self.sends.push_reserved((to, message));
     }
 
     fn change(&mut self, change: ViewChange)
@@ -49,10 +46,7 @@ impl Moves {
         ensures sends { self.new.sends ≡ self.old.sends }
         ensures capacity { vec_capacity self.old.changes ≤ vec_capacity self.new.changes }
     {
-        match self.changes.push(change) {
-            Ok(()) => {}
-            Err(_) => unreachable!(),
-        }
+        self.changes.push_reserved(change);
     }
 
     /// Tells the changes of one operation.

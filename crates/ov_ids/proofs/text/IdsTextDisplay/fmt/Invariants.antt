@@ -1,7 +1,7 @@
 -- what has been written after the first id
 use Rattle.std.proofs.Common.{◌++◌, codes, decimal, flat_map, take}
 use Rattle.std.specs.Fmt.{HasWritten, IsPlainFormatter}
-use Rattle.ov_check.proofs.line.IdsTextDisplay.fmt.Given as goal
+use Rattle.ov_ids.proofs.text.IdsTextDisplay.fmt.Given as goal
 
 abbrev pub invariant-loop-id : goal.invariant-loop-id
 invariant-loop-id g l =
