@@ -1,3 +1,4 @@
+pub mod Begun
 pub mod Running
 pub mod Drawn
 pub mod Filling

@@ -1,14 +1,15 @@
 -- What was printed so far, and what is left to print.
-use Rattle.std.proofs.Common.{◌⊎◌, inl, inr, IsTrue, is_some, arith, ◌<◌, drop, get_or, ◌≡◌, ◌≢◌, Option, ◌∙◌, ℕ, suc, ◌+◌, List, [], ◌∷◌, ◌++◌, append_assoc, filter, length, Some, None, ap, sym, subst, refl}
-use Rattle.std.proofs.lemmas.List.{append-nil, nil_from_length}
+use Rattle.std.proofs.Common.{◌⊎◌, inl, inr, IsTrue, is_some, arith, ◌<◌, take, get_or, ◌≡◌, ◌≢◌, Option, ◌∙◌, ℕ, suc, ◌+◌, List, [], ◌∷◌, ◌++◌, append_assoc, filter, length, Some, None, ap, sym, subst, refl}
+use Rattle.std.proofs.lemmas.List.{append-nil, length-take-le, nil_from_length}
 use Rattle.std.proofs.Math.Numerals.{suc-eq-add-one}
-use Rattle.std.proofs.Math.Seq.{drop-cons}
+use Rattle.std.proofs.Math.Seq.{take-suc}
 use Rattle.ov_wire.specs.Messages.{Spelling}
 use Rattle.ov_wire.specs.declared.message.Message.{Message}
 use Rattle.ov_net.specs.declared.member.Member.{Member}
 use Rattle.ov_net.specs.declared.member.Member.TheVariants.{Live, Gone}
 use Rattle.ov_peer.specs.Whole.{Whole}
 use Rattle.ov_snap.specs.Book.{Book}
+use Rattle.ov_run.specs.Begun.{BeginsLines}
 use Rattle.ov_run.specs.Faults.{line_of}
 use Rattle.ov_run.specs.Printed.{packet_line}
 use Rattle.ov_run.specs.Running.{PrintsLine, PrintsLines, PrintsPackets, wants_words}
@@ -18,26 +19,32 @@ use Rattle.ov_run.specs.declared.fault.RunFault.TheVariants.{OutOfMemory}
 use Rattle.ov_run.specs.declared.line.Line.{Line}
 use Rattle.ov_run.specs.declared.line.Line.TheVariants.{Step, Show, Packets, Certificate}
 
--- with what these lines print now, all lines print this text before it
-abbrev pub SoFar : Book → List (List ℕ) → List Line → Book → List (List ℕ) → List Line → List ℕ → Type 0
-SoFar b drawn all now left lines text =
-    (u : Book) (later : List ℕ) → PrintsLines now left lines u later → PrintsLines b drawn all u (text ++ later)
+-- this text was printed of all lines, and these are left: with what they print now, whole or up to some point, all lines print this
+-- text before it
+pub record SoFar (b : Book) (drawn : List (List ℕ)) (all : List Line) (now : Book) (left : List (List ℕ)) (lines : List Line) (text : List ℕ) : Type 0 where
+  pub whole : (u : Book) (later : List ℕ) → PrintsLines now left lines u later → PrintsLines b drawn all u (text ++ later)
+  pub front : (later : List ℕ) → BeginsLines now left lines later → BeginsLines b drawn all (text ++ later)
 
 pub begun : (b : Book) (drawn : List (List ℕ)) (lines : List Line) → SoFar b drawn lines b drawn lines []
-begun b drawn lines = λ u later prints. prints
+begun b drawn lines = record { whole = λ u later prints. prints; front = λ later begins. begins }
 
 pub more :
     (b : Book) (drawn : List (List ℕ)) (all : List Line) (now next : Book) (left rest : List (List ℕ)) (line : Line) (lines : List Line) (text own : List ℕ)
     → SoFar b drawn all now left (line ∷ lines) text → PrintsLine now left line next rest own
     → SoFar b drawn all next rest lines (text ++ own)
-more b drawn all now next left rest line lines text own so_far prints = λ u later others.
-    subst (λ t. PrintsLines b drawn all u t) (sym (append_assoc text own later))
-    (so_far u (own ++ later) (next, rest, own, later, prints, others, refl))
+more b drawn all now next left rest line lines text own so_far prints = record {
+  whole = λ u later others.
+      subst (λ t. PrintsLines b drawn all u t) (sym (append_assoc text own later))
+      (so_far.whole u (own ++ later) (next, rest, own, later, prints, others, refl));
+  front = λ later others.
+      subst (λ t. BeginsLines b drawn all t) (sym (append_assoc text own later))
+      (so_far.front (own ++ later) (inr (next, rest, own, later, prints, others, refl)));
+}
 
 pub ended :
     (b : Book) (drawn : List (List ℕ)) (all : List Line) (now : Book) (text : List ℕ) → SoFar b drawn all now [] [] text → PrintsLines b drawn all now text
 ended b drawn all now text so_far =
-    subst (λ t. PrintsLines b drawn all now t) (append-nil text) (so_far now [] (refl, refl, refl))
+    subst (λ t. PrintsLines b drawn all now t) (append-nil text) (so_far.whole now [] (refl, refl, refl))
 
 -- a line that wants words finds some, and what is left is as many as the other lines want
 abbrev pub Suffice : List (List ℕ) → List Line → Type 0
@@ -52,20 +59,22 @@ suffice_more now next left rest (Show id) lines own suffice (b, e, p) = ap lengt
 suffice_more now next left rest Packets lines own suffice (b, e, p) = ap length e ∙ suffice
 suffice_more now next left rest (Certificate moment) lines own suffice (b, e, p) = ap length e ∙ suffice
 
--- the same of packets, whose places are counted
-abbrev pub PacketsSoFar : List (ℕ × Message) → ℕ → List (ℕ × Message) → List ℕ → Type 0
-PacketsSoFar all place packets text = (later : List ℕ) → PrintsPackets place packets later → PrintsPackets 0 all (text ++ later)
-
+-- one packet more is printed, at the place behind these
 pub packets_more :
-    (all : List (ℕ × Message)) (place : ℕ) (packet : ℕ × Message) (packets : List (ℕ × Message)) (text bytes : List ℕ)
-    → PacketsSoFar all place (packet ∷ packets) text → Spelling packet.1 bytes
-    → PacketsSoFar all (place + 1) packets (text ++ packet_line place packet.0 bytes)
-packets_more all place packet packets text bytes so_far spelling = λ later others.
-    subst (λ t. PrintsPackets 0 all t) (sym (append_assoc text (packet_line place packet.0 bytes) later))
-    (so_far (packet_line place packet.0 bytes ++ later) (bytes, later, spelling, others, refl))
-
-pub packets_ended : (all : List (ℕ × Message)) (place : ℕ) (text : List ℕ) → PacketsSoFar all place [] text → PrintsPackets 0 all text
-packets_ended all place text so_far = subst (λ t. PrintsPackets 0 all t) (append-nil text) (so_far [] refl)
+    (place : ℕ) (packets : List (ℕ × Message)) (packet : ℕ × Message) (text bytes : List ℕ)
+    → PrintsPackets place packets text → Spelling packet.1 bytes
+    → PrintsPackets place (packets ++ packet ∷ []) (text ++ packet_line (place + length packets) packet.0 bytes)
+packets_more place [] packet text bytes prints spelling =
+    let at : place + 0 ≡ place = omega arith in
+    let line : text ++ packet_line (place + 0) packet.0 bytes ≡ packet_line place packet.0 bytes =
+    ap (λ t. t ++ packet_line (place + 0) packet.0 bytes) prints ∙ ap (λ n. packet_line n packet.0 bytes) at in
+    (bytes, [], spelling, refl, line ∙ sym (append-nil (packet_line place packet.0 bytes)))
+packets_more place (first ∷ packets) packet text bytes (own, others, spelled, prints, is) spelling =
+    let at : place + 1 + length packets ≡ place + suc (length packets) = omega arith in
+    let last = packet_line (place + suc (length packets)) packet.0 bytes in
+    let behind = subst (λ n. PrintsPackets (place + 1) (packets ++ packet ∷ []) (others ++ packet_line n packet.0 bytes)) at
+    (packets_more (place + 1) packets packet others bytes prints spelling) in
+    (own, others ++ last, spelled, behind, ap (λ t. t ++ last) is ∙ append_assoc (packet_line place first.0 own) others last)
 
 -- who was born and does not live crashed
 pub gone : (o : Option Member) → o ≢ None → ((p : Whole) → ¬ (o ≡ Some (Live p))) → o ≡ Some Gone
@@ -73,16 +82,20 @@ gone None born absent = absurd (born refl)
 gone (Some (Live p)) born absent = absurd (absent p refl)
 gone (Some Gone) born absent = refl
 
--- the packet at the next place is printed
+-- the packet at the next place is printed, and this is its line
 pub packets_next :
-    (all : List (ℕ × Message)) (place : ℕ) (packet : ℕ × Message) (text bytes : List ℕ) → place < length all → packet ≡ get_or all place packet
-    → PacketsSoFar all place (drop place all) text → Spelling packet.1 bytes
-    → PacketsSoFar all (place + 1) (drop (place + 1) all) (text ++ packet_line place packet.0 bytes)
-packets_next all place packet text bytes within is so_far spelling =
-    let next : drop place all ≡ packet ∷ drop (suc place) all = drop-cons all place packet within ∙ ap (λ p. p ∷ drop (suc place) all) (sym is) in
-    let front : PacketsSoFar all place (packet ∷ drop (suc place) all) text = subst (λ ps. PacketsSoFar all place ps text) next so_far in
-    subst (λ n. PacketsSoFar all (place + 1) (drop n all) (text ++ packet_line place packet.0 bytes)) (suc-eq-add-one place)
-    (packets_more all place packet (drop (suc place) all) text bytes front spelling)
+    (all : List (ℕ × Message)) (place to : ℕ) (packet : ℕ × Message) (text bytes line : List ℕ) → place < length all → packet ≡ get_or all place packet
+    → to ≡ packet.0 → Spelling packet.1 bytes → line ≡ packet_line place to bytes → PrintsPackets 0 (take place all) text
+    → PrintsPackets 0 (take (place + 1) all) (text ++ line)
+packets_next all place to packet text bytes line within is its spelling line_is prints =
+    let long = length-take-le place all (omega (arith, within)) in
+    let count : 0 + length (take place all) ≡ place = omega (arith, long) in
+    let next : take place all ++ packet ∷ [] ≡ take (place + 1) all =
+    sym (ap (λ n. take n all) (sym (suc-eq-add-one place)) ∙ take-suc all place packet within ∙ ap (λ p. take place all ++ p ∷ []) (sym is)) in
+    let own : packet_line (0 + length (take place all)) packet.0 bytes ≡ line =
+    ap (λ n. packet_line n packet.0 bytes) count ∙ ap (λ a. packet_line place a bytes) (sym its) ∙ sym line_is in
+    subst (λ ps. PrintsPackets 0 ps (text ++ line)) next
+    (subst (λ t. PrintsPackets 0 (take place all ++ packet ∷ []) (text ++ t)) own (packets_more 0 (take place all) packet text bytes prints spelling))
 
 pub none_left : (left : List (List ℕ)) → Suffice left [] → left ≡ []
 none_left left suffice = nil_from_length left suffice

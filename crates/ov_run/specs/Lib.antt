@@ -1,3 +1,4 @@
+pub mod Begun
 pub mod Draws
 pub mod Faults
 pub mod Printed

@@ -1,4 +1,5 @@
-ghost use Rattle.std.specs.Prelude.{◌≡◌, ◌+◌, ◌-◌, ◌^◌, ◌<◌, IfOk, IfErr, IfSome, OnOk, IsErrOf, IsTrue, is_some};
+ghost use Rattle.std.specs.Prelude.{◌≡◌, ◌⊎◌, ◌+◌, ◌-◌, ◌^◌, ◌<◌, IfOk, IfErr, IfSome, OnOk, IsErrOf, IsTrue, is_some};
+ghost use Rattle.ov_run.specs.Begun.{Begins};
 ghost use Rattle.ov_run.specs.Faults.{line_of, read_failures, write_failures};
 ghost use Rattle.ov_run.specs.Running.{Prints};
 ghost use Rattle.ov_run.specs.Scenarios.{IsFaulty};
@@ -17,7 +18,7 @@ use std::io::{Read, Write};
 ///
 /// Line and Params are answered where the file can't be read as a scenario, and Read where the reader failed in this call: then
 /// nothing ran and nothing was written. Write is answered where the writer failed in this call. OutOfMemory is answered where
-/// memory was wanted outside of an event. Nothing is said of what went out before either.
+/// memory was wanted outside of an event. Whatever is answered, nothing was written, or a front of what the scenario prints.
 #[tactic(auto, using(crate::proofs::Running::of_the_file))]
 pub fn run<R: Read, W: Write>(
     alloc: Global,
@@ -28,6 +29,7 @@ pub fn run<R: Read, W: Write>(
     requires writes { sink.old.faults < 2 ^ 64 - 1 }
     ensures status { IfOk result (λ status. status ≡ 0) }
     ensures prints { OnOk result (Prints (R.remaining source.old.reader) (W.contents sink.old.writer) (W.contents sink.new.writer)) }
+    ensures begun { (sink.new ≡ sink.old) ⊎ Begins (R.remaining source.old.reader) (W.contents sink.old.writer) (W.contents sink.new.writer) }
     ensures source { source.new.faults ≡ source.old.faults + read_failures result }
     ensures sink { sink.new.faults ≡ sink.old.faults + write_failures result }
     ensures no_bytes { IsErrOf result RunFault.Read → sink.new ≡ sink.old }

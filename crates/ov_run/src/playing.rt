@@ -1,6 +1,8 @@
-ghost use Rattle.std.specs.Prelude.{◌≡◌, ◌≤◌, ◌<◌, ◌+◌, ◌-◌, ◌^◌, ℕ, List, IfOk, IfErr, IsTrue, OnOk, filter, length, string_bytes};
+ghost use Rattle.std.specs.Prelude.{◌≡◌, ◌≤◌, ◌<◌, ◌+◌, ◌-◌, ◌^◌, ℕ, List, [], ◌∷◌, IfOk, IfErr, IsTrue, OnOk, filter, length, string_bytes};
 ghost use Rattle.std.specs.Io.KnownBytes.{Appends};
+ghost use Rattle.ov_certfile.specs.Device.{AppendsFrontOf};
 ghost use Rattle.ov_snap.specs.Book.{Book, unwritten};
+ghost use Rattle.ov_run.specs.Begun.{BeginsLines, BeginsPackets};
 ghost use Rattle.ov_run.specs.Faults.{write_failures, IsOfWriting};
 ghost use Rattle.ov_run.specs.Running.{PrintsEvent, PrintsNode, PrintsPackets, PrintsReport, PrintsLine, PrintsLines, wants_words};
 
@@ -28,6 +30,8 @@ pub(crate) fn play<W: Write>(
     requires words { length words.now ≡ length (filter wants_words lines.items) }
     ensures prints { OnOk result ((book : Book) × (text : List ℕ) × PrintsLines (unwritten params) words.now lines.items book text
         × Appends (W.contents sink.old.writer) (W.contents sink.new.writer) text) }
+    ensures begun { (text : List ℕ) × BeginsLines (unwritten params) words.now lines.items text
+        × AppendsFrontOf text (W.contents sink.old.writer) (W.contents sink.new.writer) }
     ensures faults { sink.new.faults ≡ sink.old.faults + write_failures result }
     ensures kind { IfErr result IsOfWriting }
 {
@@ -51,6 +55,8 @@ fn play_line<W: Write>(
     requires words { IsTrue (wants_words line) → 0 < length supply.old.rest.now }
     ensures prints { OnOk result ((text : List ℕ) × PrintsLine core.old supply.old.rest.now line core.new supply.new.rest.now text
         × Appends (W.contents sink.old.writer) (W.contents sink.new.writer) text) }
+    ensures begun { (text : List ℕ) × BeginsLines core.old supply.old.rest.now (line ∷ []) text
+        × AppendsFrontOf text (W.contents sink.old.writer) (W.contents sink.new.writer) }
     ensures faults { sink.new.faults ≡ sink.old.faults + write_failures result }
     ensures kind { IfErr result IsOfWriting }
 {
@@ -112,6 +118,7 @@ fn write_packets<W: Write>(
     requires few { length packets.now ≤ 65536 }
     ensures prints { OnOk result ((text : List ℕ) × PrintsPackets 0 packets.now text
         × Appends (W.contents sink.old.writer) (W.contents sink.new.writer) text) }
+    ensures begun { (text : List ℕ) × BeginsPackets packets.now text × AppendsFrontOf text (W.contents sink.old.writer) (W.contents sink.new.writer) }
     ensures faults { sink.new.faults ≡ sink.old.faults + write_failures result }
     ensures kind { IfErr result IsOfWriting }
 {

@@ -1,8 +1,10 @@
--- What was read is a scenario, and what it prints was written.
-use Rattle.std.proofs.Common.{subst}
+-- What was read is a scenario, and what it prints was written; where the run ended early, a front of it.
+use Rattle.std.proofs.Common.{inr, subst}
 use Rattle.ov_snap.specs.Book.{unwritten}
+use Rattle.ov_run.specs.Begun.{BeginsLines}
 use Rattle.ov_run.specs.Running.{PrintsLines}
 use Rattle.ov_run.specs.Scenarios.{IsScenario}
+use Rattle.ov_run.proofs.Begun.{output_begun, all_went}
 use Rattle.ov_run.proofs.engine.run.Goals as goal
 
 pub returns-clause-prints : goal.returns-clause-prints
@@ -21,4 +23,28 @@ returns-clause-prints g c =
         lines = subst (λ drawn. PrintsLines (unwritten scenario.params) drawn scenario.lines.items played.0 played.1) c.deref-3.ensures.value played.2;
       },
       played.3,
+    )
+
+pub returns-clause-begun : goal.returns-clause-begun
+returns-clause-begun g c =
+    let went = returns-clause-prints g c in
+    inr (went.0, went.1, went.2, output_begun went.0 went.1 went.3, all_went _ _ went.1 went.4)
+
+pub returns-in_err-play-clause-begun : goal.returns-in_err-play-clause-begun
+returns-in_err-play-clause-begun g c =
+    let begun = c.in_err-play.ensures.begun in
+    let scenario = c.in_ok-scenario.scenario in
+    let words = c.in_ok-words in
+    inr (
+      c.in_ok-bytes.bytes.items,
+      begun.0,
+      c.in_ok-bytes.ensures.bytes,
+      record {
+        scenario = scenario;
+        says = subst (λ bytes. IsScenario bytes scenario) c.deref.ensures.value c.in_ok-scenario.ensures.scenario;
+        drawn = words.words.items;
+        draws = words.ensures.draws;
+        lines = subst (λ drawn. BeginsLines (unwritten scenario.params) drawn scenario.lines.items begun.0) c.deref-3.ensures.value begun.1;
+      },
+      begun.2,
     )
