@@ -57,10 +57,11 @@ PrintsPackets place (packet ∷ packets) text =
     (bytes : List ℕ) × (others : List ℕ) × Spelling packet.1 bytes × PrintsPackets (place + 1) packets others
     × (text ≡ packet_line place packet.0 bytes ++ others)
 
--- the certificate file of the report that is filed for this moment; without one it is refused with 50
+-- the certificate file of the report that is filed for this moment, or 99 where memory was wanted for the file; without a report it is
+-- refused with 50
 abbrev pub PrintsReport : Book → ℕ → List ℕ → Type 0
 PrintsReport b moment text =
-    ((r : Reported) × HasReport b moment r × (text ≡ compact_text (data_of r.cert r.graph r.moment) ++ codes "\n"))
+    ((r : Reported) × HasReport b moment r × ((text ≡ compact_text (data_of r.cert r.graph r.moment) ++ codes "\n") ⊎ (text ≡ refused_line 99)))
     ⊎ ((map.get b.reports moment ≡ None) × (text ≡ refused_line 50))
 
 -- one line of a scenario, by what stands drawn before it and what is left afterwards

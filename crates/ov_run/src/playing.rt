@@ -12,7 +12,7 @@ use crate::printing::{entry_line, node_line, packet_line, refused_line};
 use crate::supply::Supply;
 use ov_certfile::{Sink, to_text};
 use ov_ids::{NodeId, OutOfMemory, Params};
-use ov_net::{Event, NetFault, Packet, World};
+use ov_net::{Event, MAX_ENTRIES, NetFault, Packet, World};
 use ov_snap::{BookFault, Core};
 use ov_words::Words;
 use std::alloc::Global;
@@ -95,17 +95,19 @@ fn node_text(alloc: Global, world: &World, id: NodeId) -> Result<String, OutOfMe
     }
 }
 
-/// What is printed of the report that is filed for a moment.
+/// What is printed of the report that is filed for a moment: its file, or that there is none, or that memory was wanted for the file.
 fn report_text(alloc: Global, core: &Core, moment: u32) -> Result<String, OutOfMemory>
     ensures { IfOk result (λ text. PrintsReport core.now moment (string_bytes text)) }
 {
     let Some(report) = core.report(moment) else {
-        return refused_line(alloc, BookFault::NoSuchMoment.number());
+        return Ok(refused_line(alloc, BookFault::NoSuchMoment.number())?);
     };
-    prove!(core.world().journal().len() <= 65_536);
+    prove!(core.world().journal().len() <= MAX_ENTRIES);
     let checked = report.checked();
-    let text = to_text(alloc, checked.cert(), checked.graph(), report.moment())?;
-    Ok(format!(in alloc; "{text}\n")?)
+    match to_text(alloc, checked.cert(), checked.graph(), report.moment()) {
+        Ok(text) => Ok(format!(in alloc; "{text}\n")?),
+        Err(fault) => Ok(refused_line(alloc, fault.number())?),
+    }
 }
 
 /// Writes the lines of packets.
