@@ -2,3 +2,4 @@ mod Branching
 pub mod Maps
 mod Noting
 pub mod Showing
+pub mod Shown

@@ -1,14 +1,16 @@
--- The notes and the timers of a node as a list and a set, and what each step does to them. Plumtree has one list of announcements
--- and a timer for each message that is missing. A `Tree` keeps both in one map, with the notes of each id at that id.
-use Rattle.std.specs.Prelude.{◌≡◌, ℕ, Bool, not, ◌||◌, ◌==◌, List, [], ◌∷◌, ◌++◌, map as each, filter, if◌then◌else◌}
+-- The notes and the timers of a node as a list and a set, what each step does to them, and whom a timer asks. Plumtree has one list
+-- of announcements and a timer for each message that is missing. A `Tree` keeps both in one map, with the notes of each id at that id.
+use Rattle.std.specs.Prelude.{◌≡◌, ℕ, Bool, not, ◌||◌, ◌==◌, List, [], ◌∷◌, ◌++◌, map as each, filter, slice_get, if◌then◌else◌, MatchOption, Option}
 use Rattle.std.specs.FinMap as map
 use Rattle.std.specs.FinSet as set
 use Rattle.std.specs.List.{list_any}
 use Rattle.std.specs.Ordering.{eq_by_cmp}
 use Rattle.ov_ids.specs.Sets.{has}
 use Rattle.ov_ids.specs.declared.id.MsgId.{MsgId}
+use Rattle.ov_wire.specs.Messages.{say}
+use Rattle.ov_wire.specs.declared.message.Message.{Message}
 use Rattle.ov_wire.specs.declared.message.Body.{Body}
-use Rattle.ov_wire.specs.declared.message.Body.TheVariants.{Gossip, IHave}
+use Rattle.ov_wire.specs.declared.message.Body.TheVariants.{Gossip, IHave, Graft}
 use Rattle.ov_plum.specs.Ids.{id_cmp}
 use Rattle.ov_plum.specs.Tree.{Tree, is_linked, notes_of}
 use Rattle.ov_plum.specs.Spreading.{Prompt, broadcasts, receives, fires, goes_up, goes_down}
@@ -30,11 +32,19 @@ is_of id note = eq_by_cmp id_cmp id note.0
 abbrev pub senders : MsgId → List Note → List ℕ
 senders id notes = each (λ n. n.1) (filter (is_of id) notes)
 
+-- the sender of the oldest note of an id, if there is one
+abbrev pub oldest : MsgId → Noted → Option ℕ
+oldest id w = slice_get (senders id w.notes) 0
+
 -- the tree t has these notes and timers: the ids of its map are those whose timers run, and at each stand its senders in order. So
 -- a note's timer runs, since an id that is not in the map has no senders
 pub record Shows (t : Tree) (w : Noted) : Type 0 where
   pub running : (id : MsgId) → set.contains w.running id ≡ map.contains_key t.timers id
   pub notes : (id : MsgId) → senders id w.notes ≡ notes_of t id
+
+-- each tree has notes and timers, so what is said of whatever notes and timers a tree has is said of something
+abbrev pub NotesShown : Type 0
+NotesShown = (t : Tree) → (w : Noted) × Shows t w
 
 -- no message is waited for
 abbrev pub none_noted : Noted
@@ -84,3 +94,8 @@ noted_after t (goes_down x) w = when_gone x w
 -- whatever notes and timers t has, u has those that come of them
 abbrev pub NotesFollow : Tree → Prompt → Tree → Type 0
 NotesFollow t prompt u = (w : Noted) → Shows t w → Shows u (noted_after t prompt w)
+
+-- whatever notes and timers t has, when the timer of an id fires this is sent: GRAFT of that id to the sender of its oldest note
+-- alone, or nothing where it has no note
+abbrev pub AsksOldest : Tree → MsgId → List (ℕ × Message) → Type 0
+AsksOldest t id sends = (w : Noted) → Shows t w → MatchOption (oldest id w) (sends ≡ []) (λ s. sends ≡ (s, say t.me (Graft id)) ∷ [])

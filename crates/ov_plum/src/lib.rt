@@ -7,6 +7,7 @@
 mod by_id;
 mod fault;
 mod held;
+mod laws;
 mod links;
 mod notes;
 mod plum;
@@ -15,6 +16,7 @@ mod turn;
 
 pub use fault::TimerFault;
 pub use held::Held;
+pub use laws::notes_shown;
 pub use notes::Notes;
 pub use plum::Plum;
 pub use spread::Spread;

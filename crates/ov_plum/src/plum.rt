@@ -3,7 +3,7 @@ ghost use Rattle.std.specs.FinMap as map;
 ghost use Rattle.std.specs.List.{AllByRecursion};
 ghost use Rattle.ov_wire.specs.Messages.{AreInRange};
 ghost use Rattle.ov_wire.specs.declared.message.Body.TheVariants.{Gossip, IHave, Graft, Prune};
-ghost use Rattle.ov_plum.specs.Noted.{NotesFollow, Shows, none_noted};
+ghost use Rattle.ov_plum.specs.Noted.{AsksOldest, NotesFollow, Shows, none_noted};
 ghost use Rattle.ov_plum.specs.Spreading.{AllowedTree, IsStep, receives, broadcasts, fires, goes_up, goes_down};
 ghost use Rattle.ov_plum.specs.Tree.{AreBranches};
 ghost use Rattle.ov_plum.specs.Turning.{IsTurn, turned, wants_room};
@@ -238,6 +238,7 @@ impl Plum {
         ensures allowed { IfOk result (λ p. AllowedTree self.now (fires id)
             (turned self.now p.turn) p.spread.sends.items p.spread.delivered) }
         ensures noted { IfOk result (λ p. NotesFollow self.now (fires id) (turned self.now p.turn)) }
+        ensures asks { IfOk result (λ p. AsksOldest self.now id p.spread.sends.items) }
         ensures no_timer { map.get self.now.timers id ≡ None → result ≡ Err NoTimer }
         ensures set { result ≡ Err NoTimer → map.get self.now.timers id ≡ None }
         ensures few { IfOk result (λ p. vec_len p.spread.sends ≤ 1) }
@@ -380,6 +381,7 @@ impl Plum {
     pub fn on_timer(&mut self, id: MsgId) -> Result<Spread, TimerFault>
         ensures allowed { IfOk result (λ s. AllowedTree self.old (fires id) self.new s.sends.items s.delivered) }
         ensures noted { IfOk result (λ s. NotesFollow self.old (fires id) self.new) }
+        ensures asks { IfOk result (λ s. AsksOldest self.old id s.sends.items) }
         ensures no_timer { map.get self.old.timers id ≡ None → result ≡ Err NoTimer }
         ensures set { result ≡ Err NoTimer → map.get self.old.timers id ≡ None }
         ensures few { IfOk result (λ s. vec_len s.sends ≤ 1) }
