@@ -18,7 +18,8 @@ use std::io::{Read, Write};
 ///
 /// Line and Params are answered where the file can't be read as a scenario, and Read where the reader failed in this call: then
 /// nothing ran and nothing was written. Write is answered where the writer failed in this call. OutOfMemory is answered where
-/// memory was wanted outside of an event. Whatever is answered, nothing was written, or a front of what the scenario prints.
+/// memory was wanted outside of what a line asks for. Whatever is answered, nothing was written, or a front of what the scenario
+/// prints.
 #[tactic(auto, using(crate::proofs::Running::of_the_file))]
 pub fn run<R: Read, W: Write>(
     alloc: Global,
