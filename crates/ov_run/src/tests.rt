@@ -1,5 +1,6 @@
 //! Scenario files line by line.
 mod asked;
+mod memory;
 mod printed;
 mod runs;
 

@@ -1,7 +1,9 @@
+mod memory;
+
 use crate::{BookFault, Core, CoreStep, Report, run_core};
 use ov_cert::{Cert, Checked, Split};
 use ov_graph::Graph;
-use ov_ids::{NodeId, Params, Seq};
+use ov_ids::{NodeId, OutOfMemory, Params, Seq};
 use ov_net::{Event, NetFault};
 use ov_words::Words;
 use std::alloc::Global;
@@ -27,7 +29,7 @@ fn two_join() -> [Event; 6] {
 
 fn joined(alloc: Global) -> Result<Core, Fail> {
     let mut core = Core::new(alloc, params()?);
-    for event in Vec::from_array(alloc, two_join())? {
+    for event in two_join() {
         core.step(event, &Words::new(ZEROS))?;
     }
     Ok(core)
@@ -78,6 +80,9 @@ fn a_report_is_filed_once_for_its_own_moment(rt: HostRuntime) -> Result<(), Fail
             unlinked(alloc)?
         };
         let fault = core.file(Report::new(moment, checked)).err();
+        if fault == Some(BookFault::OutOfMemory) {
+            return Err(BookFault::OutOfMemory.into());
+        }
         assert_eq!(rt; fault, expected, "moment {moment} linked {is_linked}");
         assert_eq!(rt; core.report(moment).is_some(), is_filed, "moment {moment}");
     }
@@ -134,18 +139,30 @@ fn a_full_journal_takes_no_snapshot(rt: HostRuntime) -> Result<(), Fail> {
     Ok(())
 }
 
-#[test]
-fn a_run_files_what_its_steps_file(rt: HostRuntime) -> Result<(), Fail> {
-    let alloc = rt.alloc();
-    let mut steps = Vec::new(alloc);
-    for event in Vec::from_array(alloc, two_join())? {
+/// Two nodes join, one boots again and is refused, and reports are filed, of which the first is refused.
+fn steps(alloc: Global) -> Result<Vec<CoreStep>, Fail> {
+    let mut steps = Vec::with_capacity(alloc, 10)?;
+    for event in two_join() {
         steps.push(CoreStep::Net(event, Words::new(ZEROS)))?;
     }
     steps.push(CoreStep::Net(Event::Boot(NodeId(1), None), Words::new(ZEROS)))?;
     steps.push(CoreStep::File(Report::new(4, linked(alloc)?)))?;
     steps.push(CoreStep::File(Report::new(4, unlinked(alloc)?)))?;
     steps.push(CoreStep::File(Report::new(6, linked(alloc)?)))?;
-    let core = run_core(alloc, params()?, steps)?;
+    Ok(steps)
+}
+
+/// Where memory is wanted there is no core, and the same steps make it when they are run once more.
+#[test]
+fn a_run_files_what_its_steps_file(rt: HostRuntime) -> Result<(), Fail> {
+    let alloc = rt.alloc();
+    let core = match run_core(alloc, params()?, steps(alloc)?) {
+        Ok(core) => core,
+        Err(OutOfMemory) => {
+            let answer = run_core(alloc, params()?, steps(alloc)?);
+            answer.ok().ok_or("memory was wanted twice")?
+        }
+    };
     assert_eq!(rt; core.world().journal().len(), 6);
     for (moment, is_filed) in [(4, true), (5, false), (6, true)] {
         assert_eq!(rt; core.report(moment).is_some(), is_filed, "moment {moment}");

@@ -35,9 +35,9 @@ const SCENARIOS: [(&str, &str); 9] = [
     ),
 ];
 
-const TWO_JOIN: &str = "boot 1\nboot 2 by 1\ndeliver 0\nsnapshot\ndeliver 0\nsnapshot\n";
+pub(super) const TWO_JOIN: &str = "boot 1\nboot 2 by 1\ndeliver 0\nsnapshot\ndeliver 0\nsnapshot\n";
 
-const TWO_JOIN_PRINTS: &str =
+pub(super) const TWO_JOIN_PRINTS: &str =
     "entry 1 born 1\nentry 2 born 2\nentry 3 up 1 2\nentry 4\nentry 5 up 2 1\nentry 6\n";
 
 /// A view of two places, in which the words decide who makes room.
