@@ -2,9 +2,11 @@ pub mod Begun
 pub mod Running
 pub mod Drawn
 pub mod Filling
+pub mod Folded
 pub mod Limits
 pub mod Lined
 pub mod Numbers
 pub mod Numerals
 pub mod Parted
+pub mod Placed
 pub mod Sayings

@@ -1,15 +1,17 @@
 -- What the lines of a file say, one after the other.
-use Rattle.std.proofs.Common.{◌≡◌, ◌∙◌, ◌<◌, ◌+◌, ◌⊎◌, inl, inr, ℕ, List, [], ◌∷◌, length, Ok, Err, refl, ap, sym, arith, Option, Some, None, IsOk}
+use Rattle.std.proofs.Common.{◌≡◌, ◌∙◌, ◌<◌, ◌+◌, ◌⊎◌, inl, inr, ℕ, List, [], ◌∷◌, length, Result, Ok, Err, refl, ap, sym, arith, Option, Some, None, IsOk, IfOk}
 use Rattle.std.specs.Str.Lines.{lines}
 use Rattle.ov_run.specs.Spaced.{first_line}
-use Rattle.ov_run.specs.Scenarios.{◌>>=◌, Said, line_more, at_end, all_said, file_says, IsScenario, IsFaulty, says_next}
-use Rattle.ov_run.specs.Taking.{Fails}
+use Rattle.ov_run.specs.Folding.{◌>>=◌, Said, says_next, line_more, at_end, all_said, file_says}
+use Rattle.ov_run.specs.Scenarios.{IsScenario, IsFaulty}
+use Rattle.ov_run.specs.Taking.{Fails, Ends}
 use Rattle.ov_run.specs.Tells.{IsEvent}
 use Rattle.ov_run.specs.declared.statement.Statement.{Statement}
 use Rattle.ov_run.specs.declared.statement.Statement.TheVariants as says
 use Rattle.ov_run.specs.declared.fault.RunFault.{RunFault}
 use Rattle.ov_run.specs.declared.line.Scenario.{Scenario}
 use Rattle.ov_run.specs.declared.fault.RunFault.TheVariants.{Line, Params, Read, Write, OutOfMemory}
+use Rattle.ov_run.proofs.Folded.{faulty_of, scenario_of}
 use Rattle.ov_run.proofs.Lined.{lines_first}
 
 one_line : (n : ℕ) (bytes line later : List ℕ) (said : Said) → 0 < length bytes → (line, later) ≡ first_line bytes → all_said n (lines bytes) said ≡ (line_more (n + 1) line said >>= λ next. all_said (n + 1) (lines later) next)
@@ -48,24 +50,26 @@ event_taken n None waiting said event = absurd event
 
 -- a fault is the file's, or want of memory
 pub refused : (bytes : List ℕ) (f : RunFault) → Fails f (file_says bytes) → IsFaulty bytes f ⊎ (f ≡ OutOfMemory)
-refused bytes (Line n) fails = inl fails
-refused bytes (Params n) fails = inl fails
-refused bytes Read fails = inl fails
-refused bytes Write fails = inl fails
+refused bytes (Line n) fails = inl (faulty_of bytes (Line n) fails)
+refused bytes (Params n) fails = inl (faulty_of bytes (Params n) fails)
+refused bytes Read fails = inl (faulty_of bytes Read fails)
+refused bytes Write fails = inl (faulty_of bytes Write fails)
 refused bytes OutOfMemory fails = inr refl
 
 -- the fault of a line that is taken in is the file's, or want of memory
 pub refused_at : (all bytes line later : List ℕ) (n m : ℕ) (said : Said) (f : RunFault) → all_said n (lines bytes) said ≡ file_says all → 0 < length bytes → (line, later) ≡ first_line bytes → m ≡ n + 1 → Fails f (line_more m line said) → IsFaulty all f ⊎ (f ≡ OutOfMemory)
-refused_at all bytes line later n m said (Line k) so_far some first count fails = inl (sym so_far ∙ stops n m bytes line later said (Line k) some first count fails)
-refused_at all bytes line later n m said (Params k) so_far some first count fails = inl (sym so_far ∙ stops n m bytes line later said (Params k) some first count fails)
-refused_at all bytes line later n m said Read so_far some first count fails = inl (sym so_far ∙ stops n m bytes line later said Read some first count fails)
-refused_at all bytes line later n m said Write so_far some first count fails = inl (sym so_far ∙ stops n m bytes line later said Write some first count fails)
-refused_at all bytes line later n m said OutOfMemory so_far some first count fails = inr refl
+refused_at all bytes line later n m said f so_far some first count fails = by f fails where
+  stopped : (g : RunFault) → line_more m line said ≡ Err g → IsFaulty all g
+  stopped g fault = faulty_of all g (sym so_far ∙ stops n m bytes line later said g some first count fault)
 
--- a file says one scenario or has one fault: not both
-pub scenario_or_fault : (bytes : List ℕ) (s : Scenario) (f : RunFault) → IsScenario bytes s → IsFaulty bytes f → ⊥
-scenario_or_fault bytes s f says faulty = let read = says.1 in cc
+  by : (g : RunFault) → Fails g (line_more m line said) → IsFaulty all g ⊎ (g ≡ OutOfMemory)
+  by (Line k) fault = inl (stopped (Line k) fault)
+  by (Params k) fault = inl (stopped (Params k) fault)
+  by Read fault = inl (stopped Read fault)
+  by Write fault = inl (stopped Write fault)
+  by OutOfMemory fault = inr refl
 
--- its fault is one
-pub one_fault : (bytes : List ℕ) (f g : RunFault) → IsFaulty bytes f → IsFaulty bytes g → f ≡ g
-one_fault bytes f g faulty also = cc
+-- a scenario that is made of all that the file says is the file's
+pub told : (bytes : List ℕ) (r : Result Scenario RunFault) (said : Said) → Ends r said (file_says bytes) → IfOk r (λ s. IsScenario bytes s)
+told bytes (Ok s) said ends = scenario_of bytes said s ends.0 ends.1
+told bytes (Err f) said ends = tt

@@ -1,6 +1,7 @@
 pub mod Begun
 pub mod Draws
 pub mod Faults
+pub mod Folding
 pub mod Printed
 pub mod Reading
 pub mod Running

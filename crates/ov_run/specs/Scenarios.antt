@@ -1,7 +1,10 @@
--- What a scenario file says, and the first fault of one that says nothing.
-use Rattle.std.specs.Prelude.{◌≡◌, ℕ, ◌+◌, Bool, true, false, nat_le, ◌&&◌, ◌||◌, List, [], ◌∷◌, ◌++◌, Option, Some, None, is_some, unwrap_or, option_map, Result, Ok, Err, if◌then◌else◌}
+-- What a scenario file says, and the first fault of one that says nothing. Both are said of its lines that are not skipped, each with
+-- those before it and those behind it.
+use Rattle.std.specs.Prelude.{◌≡◌, ◌⊎◌, ℕ, ◌+◌, ◌<◌, List, [], ◌∷◌, ◌++◌, length, Option, Some, None, if◌then◌else◌}
 use Rattle.std.specs.Str.Lines.{lines}
-use Rattle.ov_ids.specs.Limits.{Limits}
+use Rattle.ov_ids.specs.Limits.{Limits, AreWithinLimits}
+use Rattle.ov_ids.specs.Members.{Has}
+use Rattle.ov_net.specs.declared.event.Event.{Event}
 use Rattle.ov_run.specs.Reading.{default_limits}
 use Rattle.ov_run.specs.Statements.{is_skipped, statement_of}
 use Rattle.ov_run.specs.declared.fault.RunFault.{RunFault}
@@ -10,96 +13,89 @@ use Rattle.ov_run.specs.declared.line.Line.{Line}
 use Rattle.ov_run.specs.declared.line.Line.TheVariants.{Step}
 use Rattle.ov_run.specs.declared.line.Scenario.{Scenario}
 use Rattle.ov_run.specs.declared.statement.Statement.{Statement}
-use Rattle.ov_run.specs.declared.statement.Statement.TheVariants.{Params, Seed, Words, Event, Look}
+use Rattle.ov_run.specs.declared.statement.Statement.TheVariants as says
 
--- each of the parameters is within its limits
-abbrev pub are_within : Limits → Bool
-are_within p =
-    nat_le 1 p.active && (nat_le p.active 16 && (nat_le 1 p.passive && (nat_le p.passive 64 && (nat_le p.arwl 15
-    && (nat_le p.prwl p.arwl && (nat_le p.ka 8 && (nat_le p.kp 8 && (nat_le 1 p.shuffle_ttl && nat_le p.shuffle_ttl 15))))))))
+-- a line that is not skipped: its number, and what it says, none where it can't be read
+abbrev pub Stated : Type 0
+Stated = ℕ × Option Statement
 
--- the parameters if they are within their limits
-abbrev pub within : Limits → Option Limits
-within p = if are_within p then Some p else None
+-- those of these lines that are not skipped, in order, where the first of all has this number
+unfoldable pub stated_from : ℕ → List (List ℕ) → List Stated
+stated_from n [] = []
+stated_from n (line ∷ more) = (if is_skipped line then [] else (n, statement_of line) ∷ []) ++ stated_from (n + 1) more
 
--- the parameters with these numbers, in the order of the line, if they are within their limits
-abbrev pub params_of : List ℕ → Option Limits
-params_of (a ∷ p ∷ w ∷ r ∷ ka ∷ kp ∷ t ∷ []) =
-    within (record { active = a; passive = p; arwl = w; prwl = r; ka = ka; kp = kp; shuffle_ttl = t })
-params_of other = None
+-- the lines of a file that are not skipped. All lines are counted, from 1. They end by a line feed, which the last may lack, and one
+-- carriage return right before it is dropped
+unfoldable pub stated_lines : List ℕ → List Stated
+stated_lines bytes = stated_from 1 (lines bytes)
 
--- what the lines of a file said so far: the parameters and the seed if a line gave them, the words that wait for the next event and
--- the number of their line, whether an event was there, and what is to be done
-pub record Said : Type 0 where
-  pub params : Option Limits
-  pub seed : Option ℕ
-  pub waiting : Option (ℕ × List ℕ)
-  pub begun : Bool
-  pub lines : List Line
+-- one of these lines is of this kind
+abbrev pub HasKind : {A : Type 0} → (A → Statement) → List Stated → Type 0
+HasKind {A} kind lines = (n : ℕ) × (x : A) × Has lines (n, Some (kind x))
 
--- what no line says
-abbrev pub nothing : Said
-nothing = record { params = None; seed = None; waiting = None; begun = false; lines = [] }
+-- the first of these lines is an event
+abbrev pub BeginWithEvent : List Stated → Type 0
+BeginWithEvent lines = (n : ℕ) × (event : Event) × (more : List Stated) × (lines ≡ (n, Some (says.Event event)) ∷ more)
 
-infixl 10 ◌>>=◌
--- the value goes on, and the first fault stays
-abbrev pub ◌>>=◌ : {A B : Type 0} → Result A RunFault → (A → Result B RunFault) → Result B RunFault
-(Ok x) >>= f = f x
-(Err e) >>= f = Err e
+-- a line of this kind comes too late behind these lines: one of them is an event, or of this kind too
+abbrev pub ComesTooLate : {A : Type 0} → (A → Statement) → List Stated → Type 0
+ComesTooLate kind before = HasKind says.Event before ⊎ HasKind kind before
 
--- what is there, or this fault
-abbrev pub or_fault : {A : Type 0} → RunFault → Option A → Result A RunFault
-or_fault f None = Err f
-or_fault f (Some x) = Ok x
+-- these are the parameters with these numbers, in the order of the line, and they are within their limits
+abbrev pub AreParams : List ℕ → Limits → Type 0
+AreParams numbers p =
+    (numbers ≡ p.active ∷ p.passive ∷ p.arwl ∷ p.prwl ∷ p.ka ∷ p.kp ∷ p.shuffle_ttl ∷ []) × AreWithinLimits p
 
--- what is said with one line more, or that line's fault: its number, what it says, with none where it can't be read, the words that
--- wait, and what the lines before it said
-unfoldable pub says_next : ℕ → Option Statement → Option (ℕ × List ℕ) → Said → Result Said RunFault
--- an event happens with the words that wait
-says_next n (Some (Event e)) waiting said =
-    Ok (record said { waiting = None; begun = true; lines = said.lines ++ Step e (option_map (λ w. w.1) waiting) ∷ [] })
--- words that no event follows are at fault
-says_next n other (Some words) said = Err (fault.Line words.0)
-says_next n None None said = Err (fault.Line n)
--- parameters and a seed are given once, and before any event
-says_next n (Some (Params numbers)) None said =
-    if said.begun || is_some said.params
-    then Err (fault.Line n)
-    else (or_fault (fault.Params n) (params_of numbers) >>= λ p. Ok (record said { params = Some p }))
-says_next n (Some (Seed seed)) None said =
-    if said.begun || is_some said.seed then Err (fault.Line n) else Ok (record said { seed = Some seed })
-says_next n (Some (Words words)) None said = Ok (record said { waiting = Some (n, words) })
-says_next n (Some (Look line)) None said = Ok (record said { lines = said.lines ++ line ∷ [] })
+-- the line that has these before it and these behind it is at fault, and this is its fault
+abbrev pub IsAtFault : List Stated → Stated → List Stated → RunFault → Type 0
+-- a line that can't be read
+IsAtFault before (n, None) behind f = f ≡ fault.Line n
+-- words that no event follows
+IsAtFault before (n, Some (says.Words words)) behind f = (¬ BeginWithEvent behind) × (f ≡ fault.Line n)
+-- a seed that comes too late
+IsAtFault before (n, Some (says.Seed seed)) behind f = ComesTooLate says.Seed before × (f ≡ fault.Line n)
+-- parameters that come too late, or do not and are out of their limits
+IsAtFault before (n, Some (says.Params numbers)) behind f =
+    (ComesTooLate says.Params before × (f ≡ fault.Line n))
+    ⊎ ((¬ ComesTooLate says.Params before) × (¬ ((p : Limits) × AreParams numbers p)) × (f ≡ fault.Params n))
+-- an event and a look never are
+IsAtFault before (n, Some (says.Event event)) behind f = ⊥
+IsAtFault before (n, Some (says.Look line)) behind f = ⊥
 
--- the same of the bytes of a line: one that is skipped says nothing
-unfoldable pub line_more : ℕ → List ℕ → Said → Result Said RunFault
-line_more n line said = if is_skipped line then Ok said else says_next n (statement_of line) said.waiting said
+-- the line that has so many before it is at fault, and this is its fault
+unfoldable pub IsFaultAt : List Stated → ℕ → RunFault → Type 0
+IsFaultAt lines place f =
+    (before : List Stated) × (line : Stated) × (behind : List Stated)
+    × (lines ≡ before ++ line ∷ behind) × (length before ≡ place) × IsAtFault before line behind f
 
--- all that is said at the end of a file; words that no event follows are at fault
-abbrev pub at_end : Option (ℕ × List ℕ) → Said → Result Said RunFault
-at_end None said = Ok said
-at_end (Some words) said = Err (fault.Line words.0)
+-- the first line at fault has this fault: a line has it, and none before that line is at fault
+pub record IsFaulty (bytes : List ℕ) (f : RunFault) : Type 0 where
+  pub place : ℕ
+  pub at_fault : IsFaultAt (stated_lines bytes) place f
+  pub first : (earlier : ℕ) (other : RunFault) → earlier < place → ¬ IsFaultAt (stated_lines bytes) earlier other
 
--- all that is said where these lines follow so many lines that said this, or the fault of the first line at fault
-unfoldable pub all_said : ℕ → List (List ℕ) → Said → Result Said RunFault
-all_said n [] said = at_end said.waiting said
-all_said n (line ∷ more) said = line_more (n + 1) line said >>= λ next. all_said (n + 1) more next
+-- what these lines ask for: the events and the looks, in order, each event with the words that stand right before it if any do
+abbrev pub to_do : List Stated → List Line
+to_do [] = []
+to_do ((n, Some (says.Words words)) ∷ (m, Some (says.Event event)) ∷ more) = Step event (Some words) ∷ to_do more
+to_do ((n, Some (says.Event event)) ∷ more) = Step event None ∷ to_do more
+to_do ((n, Some (says.Look line)) ∷ more) = line ∷ to_do more
+to_do (other ∷ more) = to_do more
 
--- all that a file says, or the fault of its first line at fault. Lines end by a line feed, which the last may lack, and one carriage
--- return right before it is dropped
-abbrev pub file_says : List ℕ → Result Said RunFault
-file_says bytes = all_said 0 (lines bytes) nothing
+-- the parameters by these lines: those that one of them gives, or the usual ones where none gives any
+unfoldable pub AreParamsOf : List Stated → Limits → Type 0
+AreParamsOf lines p =
+    ((n : ℕ) × (numbers : List ℕ) × Has lines (n, Some (says.Params numbers)) × AreParams numbers p)
+    ⊎ ((¬ HasKind says.Params lines) × (p ≡ default_limits))
 
--- the scenario of what was said: without a line of parameters these are the usual ones, and without a line of a seed it is 0
-pub record IsMadeOf (said : Said) (s : Scenario) : Type 0 where
-  pub same_params : s.params ≡ unwrap_or said.params default_limits
-  pub same_seed : s.seed ≡ unwrap_or said.seed 0
-  pub same_lines : s.lines.items ≡ said.lines
+-- the seed by these lines: the one that one of them gives, or 0 where none does
+unfoldable pub IsSeedOf : List Stated → ℕ → Type 0
+IsSeedOf lines seed = ((n : ℕ) × Has lines (n, Some (says.Seed seed))) ⊎ ((¬ HasKind says.Seed lines) × (seed ≡ 0))
 
--- the bytes of a file say this scenario: each line can be read and stands where it may
-abbrev pub IsScenario : List ℕ → Scenario → Type 0
-IsScenario bytes s = (said : Said) × (file_says bytes ≡ Ok said) × IsMadeOf said s
-
--- the first line at fault has this fault
-abbrev pub IsFaulty : List ℕ → RunFault → Type 0
-IsFaulty bytes f = file_says bytes ≡ Err f
+-- the bytes of a file say this scenario: no line is at fault, the parameters and the seed are those by the lines, and what is to be done
+-- is what the lines ask for
+pub record IsScenario (bytes : List ℕ) (s : Scenario) : Type 0 where
+  pub faultless : (place : ℕ) (f : RunFault) → ¬ IsFaultAt (stated_lines bytes) place f
+  pub params : AreParamsOf (stated_lines bytes) s.params
+  pub seed : IsSeedOf (stated_lines bytes) s.seed
+  pub same_lines : s.lines.items ≡ to_do (stated_lines bytes)

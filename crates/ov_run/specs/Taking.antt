@@ -1,6 +1,6 @@
 -- What the contracts of the private functions that take lines in speak of.
 use Rattle.std.specs.Prelude.{◌≡◌, Result, Ok, Err, IsOk}
-use Rattle.ov_run.specs.Scenarios.{Said, IsMadeOf}
+use Rattle.ov_run.specs.Folding.{Said, IsMadeOf}
 use Rattle.ov_run.specs.declared.draft.Draft.{Draft}
 use Rattle.ov_run.specs.declared.line.Scenario.{Scenario}
 use Rattle.ov_run.specs.declared.fault.RunFault.{RunFault}

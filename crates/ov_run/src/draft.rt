@@ -1,5 +1,5 @@
 ghost use Rattle.std.specs.Prelude.{◌≡◌, ◌≤◌, ◌++◌, ◌∷◌, [], true, option_map, IfErr, OnOk, OnErr};
-ghost use Rattle.ov_run.specs.Scenarios.{nothing, says_next, line_more, at_end};
+ghost use Rattle.ov_run.specs.Folding.{nothing, says_next, line_more, at_end};
 ghost use Rattle.ov_run.specs.Taking.{said_of, Fails, Takes, Ends};
 ghost use Rattle.ov_run.specs.declared.statement.Statement.TheVariants as says;
 ghost use Rattle.ov_run.specs.Reading.{IsUpTo, NamesLine, WaitsUpTo, default_limits};
@@ -39,7 +39,7 @@ impl Draft {
     }
 
     /// Takes the line of this number in.
-    #[tactic(auto, using(crate::proofs::Sayings::event_taken), unfolding(crate::specs::Scenarios::line_more))]
+    #[tactic(auto, using(crate::proofs::Sayings::event_taken), unfolding(crate::specs::Folding::line_more))]
     pub(crate) fn read_line(
         &mut self,
         alloc: Global,
@@ -61,7 +61,7 @@ impl Draft {
     }
 
     /// The fault of a line that can't be read. Where words wait for an event it is that of their line.
-    #[tactic(auto, unfolding(crate::specs::Scenarios::says_next))]
+    #[tactic(auto, unfolding(crate::specs::Folding::says_next))]
     fn unreadable(&self, number: usize) -> RunFault
         requires counted { 1 ≤ number }
         requires waits { WaitsUpTo number self.now.words }
@@ -76,7 +76,7 @@ impl Draft {
     }
 
     /// Takes in what the line of this number says.
-    #[tactic(auto, unfolding(crate::specs::Scenarios::says_next))]
+    #[tactic(auto, unfolding(crate::specs::Folding::says_next))]
     fn take(&mut self, number: usize, statement: Statement) -> Result<(), RunFault>
         requires counted { 1 ≤ number }
         requires waits { WaitsUpTo number self.old.words }
@@ -115,7 +115,7 @@ impl Draft {
         Ok(())
     }
 
-    #[tactic(auto, using(crate::proofs::Limits::within_tested, crate::proofs::Limits::tested_within), unfolding(crate::specs::Scenarios::says_next))]
+    #[tactic(auto, using(crate::proofs::Limits::within_tested, crate::proofs::Limits::tested_within), unfolding(crate::specs::Folding::says_next))]
     fn take_params(&mut self, number: usize, params: [u32; 7]) -> Result<(), RunFault>
         requires { 1 ≤ number }
         ensures said { Takes result (said_of self.new) (says_next number (Some (says.Params params)) None (said_of self.old)) }
@@ -134,7 +134,7 @@ impl Draft {
         Ok(())
     }
 
-    #[tactic(auto, unfolding(crate::specs::Scenarios::says_next))]
+    #[tactic(auto, unfolding(crate::specs::Folding::says_next))]
     fn take_seed(&mut self, number: usize, seed: u64) -> Result<(), RunFault>
         requires { 1 ≤ number }
         ensures said { Takes result (said_of self.new) (says_next number (Some (says.Seed seed)) None (said_of self.old)) }

@@ -1,7 +1,7 @@
 use Rattle.std.proofs.Common.{◌≡◌, ◌≤◌, ◌+◌, length}
 use Rattle.std.specs.Str.Lines.{lines}
 use Rattle.ov_run.specs.Reading.{WaitsUpTo}
-use Rattle.ov_run.specs.Scenarios.{all_said, file_says}
+use Rattle.ov_run.specs.Folding.{all_said, file_says}
 use Rattle.ov_run.specs.Taking.{said_of}
 use Rattle.ov_run.proofs.reading.read_scenario.Given as goal
 
