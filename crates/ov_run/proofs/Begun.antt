@@ -1,6 +1,6 @@
 -- What is printed up to some point.
 use Rattle.std.proofs.Common.{inl, inr, ℕ, Option, List, [], ◌∷◌, ◌++◌, append_assoc, ap, sym, ◌∙◌, refl}
-use Rattle.std.proofs.KnownBytes.{Appends-nil, Appends-trans}
+use Rattle.std.proofs.KnownBytes.{Appends-trans}
 use Rattle.std.proofs.lemmas.List.{append-nil}
 use Rattle.std.specs.Io.KnownBytes.{Appends}
 use Rattle.ov_certfile.specs.Device.{AppendsFrontOf}
@@ -56,10 +56,6 @@ output_begun bytes text o = record {
 -- all of it went
 pub all_went : (a b : Option (List ℕ)) (text : List ℕ) → Appends a b text → AppendsFrontOf text a b
 all_went a b text appends = (text, [], appends, append-nil text)
-
--- nothing went
-pub none_went : (a : Option (List ℕ)) → AppendsFrontOf [] a a
-none_went a = ([], [], Appends-nil a, refl)
 
 -- all of a text went, and then a front of another
 pub front_went :
