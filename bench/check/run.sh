@@ -3,7 +3,7 @@
 set -e
 here=$(cd "$(dirname "$0")" && pwd)
 root=$(cd "$here/../.." && pwd)
-program=$root/crates/ov_check/out/ov_check
+program=$root/crates/overlay_check/out/overlay_check
 
 mkdir -p "$here/out"
 graphs="ring-200 regular-256 all-but-one-256 half-256"
@@ -16,7 +16,7 @@ for graph in $graphs; do
 done
 
 if [ ! -x "$program" ]; then
-    "$root/bin/overlay-check" "$root/examples/ring-200.json" > "$here/out/build.log"
+    "$root/bin/build" overlay-check > "$here/out/build.log"
 fi
 
 python3 "$here/measure.py" "$program" $graphs

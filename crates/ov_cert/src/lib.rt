@@ -10,8 +10,6 @@ mod fault;
 mod node_set;
 mod paths;
 mod side;
-#[cfg(test)]
-mod tests;
 
 pub use cert::{Cert, FanPaths, PairPaths, Paths, Split};
 pub use checked::Checked;

@@ -8,8 +8,6 @@ mod input;
 mod keys;
 mod output;
 mod reading;
-#[cfg(test)]
-mod tests;
 mod verdict;
 mod writing;
 

@@ -1,4 +1,4 @@
-ghost use Rattle.std.specs.Prelude.{◌≡◌, codes};
+ghost use Rattle.std.specs.Prelude.{◌≡◌, codes, Ok};
 ghost use Rattle.serde_json.specs.View.{view};
 ghost use Rattle.ov_certfile.specs.Gives.{Gives};
 ghost use Rattle.ov_certfile.specs.Keys.{keys_fit, at};
@@ -100,15 +100,25 @@ fn values(alloc: Global, verdict: Verdict, value: &Value) -> Result<Filed, FileF
     ensures { Gives (λ f. f) result (values_of verdict (view value.now)) }
 {
     let cert = cert(alloc, verdict, value)?;
-    let moment = whole_of(member(value, "moment")?, 65_537)?;
-    let nodes: Seq<NodeId> = read_at(alloc, value, "nodes")?;
-    let links: Seq<(NodeId, NodeId)> = read_at(alloc, value, "links")?;
-    let graph = graph(alloc, nodes.as_slice(), links.as_slice())?;
+    let (moment, graph) = dated_graph(alloc, value)?;
     Ok(Filed {
         moment,
         graph,
         cert,
     })
+}
+
+/// The moment and the graph of a file. With its certificate they are all that it says.
+#[tactic(auto, unfolding(crate::specs::FileOf::values_of))]
+fn dated_graph(alloc: Global, value: &Value) -> Result<(u32, Graph), FileFault>
+    ensures { (verdict : Verdict) (cert : Cert) → cert_of verdict (view value.now) ≡ Ok cert
+        → Gives (λ d. record { moment = d.0; graph = d.1; cert = cert }) result (values_of verdict (view value.now)) }
+{
+    let moment = whole_of(member(value, "moment")?, 65_537)?;
+    let nodes: Seq<NodeId> = read_at(alloc, value, "nodes")?;
+    let links: Seq<(NodeId, NodeId)> = read_at(alloc, value, "links")?;
+    let graph = graph(alloc, nodes.as_slice(), links.as_slice())?;
+    Ok((moment, graph))
 }
 
 fn graph(alloc: Global, nodes: &[NodeId], links: &[(NodeId, NodeId)]) -> Result<Graph, FileFault>

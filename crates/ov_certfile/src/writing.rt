@@ -1,6 +1,8 @@
-ghost use Rattle.std.specs.Prelude.{◌≡◌, ◌≤◌, map, IfOk, OnOk, Ok, string_bytes};
+ghost use Rattle.std.specs.Prelude.{◌≡◌, ◌<◌, ◌≤◌, ◌^◌, ℕ, map, codes, IfOk, OnOk, Ok, string_bytes};
+ghost use Rattle.serde_json.specs.Data.{object, put as with_member};
 ghost use Rattle.serde_json.specs.View.{view, members_view};
 ghost use Rattle.serde_json.specs.Written.{compact_text};
+ghost use Rattle.ov_graph.specs.Links.{LinkGraph};
 ghost use Rattle.ov_certfile.specs.Fields.{list_at, link_at};
 ghost use Rattle.ov_certfile.specs.DataOf.{data_of, common_members, linked_data, split_data, list_data, link_data};
 ghost use Rattle.ov_certfile.specs.ReadsBack.{ReadsBack, GraphReadsBack, TextReadsBack};
@@ -64,19 +66,43 @@ fn split_value(
 {
     let k = split.k;
     let mut members = common_members(alloc, "split", k, graph, moment)?;
-    let cut = split.cut.to_value(alloc)?;
-    let near = split.near.to_value(alloc)?;
-    let far = split.far.to_value(alloc)?;
-    let side = split.side.to_value(alloc)?;
-    let pairs = split.pairs.to_value(alloc)?;
-    let fans = split.fans.to_value(alloc)?;
-    put(&mut members, alloc, "cut", cut)?;
-    put(&mut members, alloc, "near", near)?;
-    put(&mut members, alloc, "far", far)?;
-    put(&mut members, alloc, "side", side)?;
-    put(&mut members, alloc, "pairs", pairs)?;
-    put(&mut members, alloc, "fans", fans)?;
+    put_split(&mut members, alloc, split)?;
     Ok(Value::Object(members))
+}
+
+/// Puts in what only files that say what splits have, beside what files of both verdicts have.
+fn put_split(
+    members: &mut Map<String, Value>,
+    alloc: Global,
+    split: &Split,
+) -> Result<(), AllocError>
+    ensures members { OnOk result ((g : LinkGraph) (moment : ℕ)
+        → members_view members.old.entries ≡ common_members (codes "split") split.now.k g moment
+        → object (members_view members.new.entries) ≡ split_data split.now g moment) }
+    ensures reads_back { OnOk result ((g : LinkGraph) (moment : ℕ)
+        → split.now.k < 2 ^ 32 → moment ≤ 65536 → GraphReadsBack g → ReadsBack (Cert.Split split.now) g moment) }
+{
+    put_field(members, alloc, "cut", &split.cut)?;
+    put_field(members, alloc, "near", &split.near)?;
+    put_field(members, alloc, "far", &split.far)?;
+    put_field(members, alloc, "side", &split.side)?;
+    put_field(members, alloc, "pairs", &split.pairs)?;
+    Ok(put_field(members, alloc, "fans", &split.fans)?)
+}
+
+/// Puts in the value for a field at its key.
+fn put_field<T: Field>(
+    members: &mut Map<String, Value>,
+    alloc: Global,
+    key: &str,
+    field: &T,
+) -> Result<(), AllocError>
+    ensures members { OnOk result (members_view members.new.entries
+        ≡ with_member key.now (T.as_data field.now) (members_view members.old.entries)) }
+    ensures reads_back { OnOk result (T.reads (T.as_data field.now) ≡ Ok field.now) }
+{
+    let value = field.to_value(alloc)?;
+    put(members, alloc, key, value)
 }
 
 /// What files of both verdicts have.

@@ -13,5 +13,3 @@ pub use fault::GraphFault;
 pub use graph::Graph;
 pub use neighbours::{Links, Neighbours};
 
-#[cfg(test)]
-mod tests;

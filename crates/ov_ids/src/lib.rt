@@ -8,8 +8,6 @@ mod memory;
 mod order;
 mod params;
 mod seq;
-#[cfg(test)]
-mod tests;
 mod text;
 
 pub use id::{MsgId, NodeId};

@@ -8,8 +8,6 @@
 
 mod attempt;
 mod neighbor;
-#[cfg(test)]
-mod tests;
 
 pub use attempt::{Attempt, on_reply, on_report};
 pub use neighbor::{on_disconnect, on_neighbor};

@@ -24,5 +24,3 @@ pub use member::Member;
 pub use packet::Packet;
 pub use world::{MAX_ENTRIES, World};
 
-#[cfg(test)]
-mod tests;

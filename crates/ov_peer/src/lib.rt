@@ -13,5 +13,3 @@ pub use input::{Delivery, Input, Output};
 pub use peer::{MAX_BROADCASTS, Peer};
 pub use plan::Plan;
 
-#[cfg(test)]
-mod tests;

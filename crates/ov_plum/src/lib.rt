@@ -22,5 +22,3 @@ pub use plum::Plum;
 pub use spread::Spread;
 pub use turn::{Planned, Turn};
 
-#[cfg(test)]
-mod tests;

@@ -14,8 +14,6 @@ ghost use Rattle.ov_views.specs.Shuffling.{walks_on};
 ghost use Rattle.ov_wire.specs.declared.message.Body.TheVariants.{Shuffle, ShuffleReply};
 
 mod sent;
-#[cfg(test)]
-mod tests;
 
 use ov_ids::{NodeId, OutOfMemory, Seq};
 use ov_views::{Moves, View, Views};

@@ -45,7 +45,7 @@ impl Sent {
     }
 
     /// Puts the list of a new shuffle in place of the last one.
-    pub(crate) fn keep(&mut self, ids: Vec<NodeId>)
+    pub fn keep(&mut self, ids: Vec<NodeId>)
         ensures { self.new ≡ ids.items }
     {
         self.ids = ids;

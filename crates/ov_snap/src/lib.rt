@@ -9,8 +9,6 @@ mod reports;
 mod same;
 mod snapshot;
 mod steps;
-#[cfg(test)]
-mod tests;
 
 pub use book::Core;
 pub use fault::BookFault;

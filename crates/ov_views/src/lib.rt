@@ -9,8 +9,6 @@
 mod change;
 mod moves;
 mod sample;
-#[cfg(test)]
-mod tests;
 mod views;
 
 pub use change::{Changes, ViewChange};

@@ -15,5 +15,3 @@ pub use message::{Body, MAX_IDS, MAX_PAYLOAD, MAX_TTL, Message};
 pub use reading::decode;
 pub use writing::encode;
 
-#[cfg(test)]
-mod tests;

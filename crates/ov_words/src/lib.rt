@@ -2,8 +2,6 @@
 #![tactic(auto)]
 
 mod draws;
-#[cfg(test)]
-mod tests;
 mod words;
 
 pub use draws::Draws;

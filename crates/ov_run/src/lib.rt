@@ -1,0 +1,26 @@
+//! Scenarios of overlay nodes: how they are read, run and printed, and what the words of the command ask for.
+#![tactic(auto)]
+
+mod cursor;
+mod draft;
+mod drawing;
+mod engine;
+mod fault;
+mod line;
+mod number;
+mod playing;
+mod printing;
+mod reading;
+mod splitting;
+mod statement;
+mod supply;
+mod text;
+mod words;
+
+pub use drawing::draw;
+pub use engine::run;
+pub use fault::RunFault;
+pub use line::{Line, Scenario};
+pub use printing::{entry_line, node_line, packet_line, refused_line};
+pub use reading::read_scenario;
+pub use words::{Wanted, WordsFault, read_words};

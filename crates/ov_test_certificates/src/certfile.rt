@@ -1,0 +1,138 @@
+//! Certificate files: their texts, their faults, and the devices that they come from and go to.
+use crate::drawn::{
+    Drawn, SPLIT_OF_SQUARE, SPLIT_OF_TWO, SQUARE, Said, TWO_LINKED, TWO_UNLINKED, graph, split,
+};
+use crate::files;
+use ov_certfile::{ReadFault, Sink, Source, WriteFault, from_text, to_text};
+use ov_cert::Cert;
+use ov_test_kit::Interrupted;
+use std::alloc::Global;
+use std::test::Fail;
+
+/// The certificate with its graph and moment is written as this text.
+fn is_written(
+    alloc: Global,
+    drawn: Drawn,
+    cert: &Cert,
+    moment: u16,
+    text: &str,
+) -> Result<bool, Fail> {
+    let graph = graph(alloc, drawn)?;
+    let written = to_text(alloc, cert, &graph, u32::from(moment))?;
+    Ok(written.as_str() == text)
+}
+
+/// The split certificate with its graph and moment is written as this text.
+fn is_split_written(
+    alloc: Global,
+    drawn: Drawn,
+    said: Said,
+    moment: u16,
+    text: &str,
+) -> Result<bool, Fail> {
+    let cert = split(alloc, said)?;
+    is_written(alloc, drawn, &cert, moment, text)
+}
+
+/// The text says a graph and a certificate that are written so again.
+fn is_kept(alloc: Global, text: &str) -> Result<bool, Fail> {
+    let filed = from_text(alloc, text)?;
+    if filed.moment > 65_536 {
+        return Ok(false);
+    }
+    let again = to_text(alloc, &filed.cert, &filed.graph, filed.moment)?;
+    Ok(again.as_str() == text)
+}
+
+#[test]
+fn two_nodes_linked_and_unlinked(rt: HostRuntime) -> Result<(), Fail> {
+    let alloc = rt.alloc();
+    let linked = Cert::Linked { k: 1 };
+    assert!(rt; is_written(alloc, TWO_LINKED, &linked, 6, files::TWO_LINKED)?);
+    assert!(rt; is_split_written(alloc, TWO_UNLINKED, SPLIT_OF_TWO, 4, files::TWO_UNLINKED)?);
+    assert!(rt; is_kept(alloc, files::TWO_LINKED)?);
+    assert!(rt; is_kept(alloc, files::TWO_UNLINKED)?);
+    Ok(())
+}
+
+#[test]
+fn a_square_with_its_fans(rt: HostRuntime) -> Result<(), Fail> {
+    let alloc = rt.alloc();
+    assert!(rt; is_split_written(alloc, SQUARE, SPLIT_OF_SQUARE, 0, files::SQUARE)?);
+    assert!(rt; is_kept(alloc, files::SQUARE)?);
+    assert!(rt; is_kept(alloc, files::FIVE_BUT_ONE)?);
+    Ok(())
+}
+
+static FAULTS: [(&str, u32); 7] = [
+    ("{", 60),
+    ("[]", 63),
+    ("{}", 61),
+    ("{\"version\":1.0}", 64),
+    (
+        "{\"k\":1,\"links\":[],\"moment\":65537,\"nodes\":[],\"verdict\":\"linked\",\"version\":1}",
+        63,
+    ),
+    (
+        "{\"k\":1,\"links\":[],\"moment\":1,\"nodes\":[2,1],\"verdict\":\"linked\",\"version\":1}",
+        32,
+    ),
+    (
+        "{\"k\":1,\"links\":[],\"moment\":1,\"nodes\":[],\"side\":[],\"verdict\":\"linked\",\"version\":1}",
+        62,
+    ),
+];
+
+/// The number of the text's fault.
+fn number_of(alloc: Global, text: &str) -> Option<u32> {
+    Some(from_text(alloc, text).err()?.number())
+}
+
+#[test]
+fn faults_have_their_numbers(rt: HostRuntime) {
+    for (text, number) in &FAULTS {
+        assert_eq!(rt; number_of(rt.alloc(), text), Some(*number), "at {text}");
+    }
+}
+
+/// An interrupted read is a fault and is counted, and the next read is none.
+fn counts_reads(alloc: Global) -> bool {
+    let mut source = Source::new(Interrupted::new());
+    let first = source.read_all(alloc).err();
+    let faults = source.faults();
+    let second = source.read_all(alloc).err();
+    first == Some(ReadFault::Read) && faults == 1 && second.is_none() && source.faults() == 1
+}
+
+/// An interrupted write is a fault and is counted, and the next write is none.
+fn counts_writes() -> bool {
+    let mut sink = Sink::new(Interrupted::new());
+    let first = sink.write_all(b"ab");
+    let faults = sink.faults();
+    let second = sink.write_all(b"ab");
+    first == Err(WriteFault) && faults == 1 && second.is_ok() && sink.faults() == 1
+}
+
+#[test]
+fn an_interrupted_call_is_a_fault(rt: HostRuntime) {
+    assert!(rt; counts_reads(rt.alloc()));
+    assert!(rt; counts_writes());
+}
+
+fn is_read(alloc: Global, bytes: &[u8]) -> Result<bool, ReadFault> {
+    let mut source = Source::new(bytes);
+    Ok(source.read_all(alloc)?.as_slice() == bytes)
+}
+
+fn is_taken(alloc: Global, bytes: &[u8]) -> Result<bool, WriteFault> {
+    let mut sink = Sink::new(Vec::new(alloc));
+    sink.write_all(bytes)?;
+    Ok(sink.into_writer().as_slice() == bytes)
+}
+
+#[test]
+fn all_bytes_are_read_and_written(rt: HostRuntime) -> Result<(), Fail> {
+    assert!(rt; is_read(rt.alloc(), files::SQUARE.as_bytes())?);
+    assert!(rt; is_taken(rt.alloc(), files::SQUARE.as_bytes())?);
+    Ok(())
+}

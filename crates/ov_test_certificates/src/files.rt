@@ -1,0 +1,19 @@
+//! The files of worked graphs and certificates.
+
+pub(crate) const TWO_LINKED: &str =
+    r#"{"k":1,"links":[[1,2]],"moment":6,"nodes":[1,2],"verdict":"linked","version":1}"#;
+
+pub(crate) const TWO_UNLINKED: &str =
+    r#"{"cut":[],"fans":[],"far":1,"k":0,"links":[],"moment":4,"near":2,"nodes":[1,2],"pairs":[],"side":[2],"verdict":"split","version":1}"#;
+
+/// Four nodes in a ring.
+pub(crate) const SQUARE: &str =
+    r#"{"cut":[2,4],"fans":[{"j":3,"paths":[[3,2],[3,4,1]]},{"j":4,"paths":[[4,1],[4,3]]}],"far":3,"k":2,"links":[[1,2],[1,4],[2,3],[3,4]],"moment":0,"near":1,"nodes":[1,2,3,4],"pairs":[],"side":[1],"verdict":"split","version":1}"#;
+
+/// Five nodes, every two linked but 1 and 2.
+pub(crate) const FIVE_BUT_ONE: &str =
+    r#"{"cut":[3,4,5],"fans":[{"j":4,"paths":[[4,1],[4,2],[4,3]]},{"j":5,"paths":[[5,1],[5,2],[5,3]]}],"far":2,"k":3,"links":[[1,3],[1,4],[1,5],[2,3],[2,4],[2,5],[3,4],[3,5],[4,5]],"moment":0,"near":1,"nodes":[1,2,3,4,5],"pairs":[{"i":1,"j":2,"paths":[[1,3,2],[1,4,2],[1,5,2]]}],"side":[1],"verdict":"split","version":1}"#;
+
+/// The triangles 1, 2, 3 and 3, 4, 5, with one node more in the cut than it takes.
+pub(crate) const TWO_TRIANGLES: &str =
+    r#"{"cut":[3,4],"fans":[],"far":1,"k":2,"links":[[1,2],[1,3],[2,3],[3,4],[3,5],[4,5]],"moment":0,"near":5,"nodes":[1,2,3,4,5],"pairs":[],"side":[5],"verdict":"split","version":1}"#;

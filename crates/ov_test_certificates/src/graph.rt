@@ -1,0 +1,235 @@
+//! Graphs at their limits, and what is read back from one.
+use crate::drawn::{Drawn, graph};
+use ov_graph::{Graph, GraphFault};
+use ov_graph::row::{EMPTY, Row, both, first_from, has, is_empty, put, without};
+use ov_ids::NodeId;
+use std::alloc::{AllocError, Global};
+use std::test::Fail;
+
+const NODES: [NodeId; 4] = [NodeId(1), NodeId(2), NodeId(3), NodeId(9)];
+
+const LINKS: [(NodeId, NodeId); 3] = [
+    (NodeId(1), NodeId(3)),
+    (NodeId(1), NodeId(9)),
+    (NodeId(2), NodeId(3)),
+];
+
+/// The number of the fault; 0 where there is none.
+fn number_of(graph: Result<Graph, GraphFault>) -> u32 {
+    match graph {
+        Ok(_) => 0,
+        Err(fault) => fault.number(),
+    }
+}
+
+/// The number of the fault of so many nodes, which ascend or else fall, without links.
+fn fault_of_many(alloc: Global, count: u32, ascend: bool) -> Result<u32, AllocError> {
+    let mut nodes = Vec::new(alloc);
+    for number in 0..count {
+        let node = if ascend { number } else { count - number };
+        nodes.push(NodeId(node))?;
+    }
+    Ok(number_of(Graph::new(alloc, &nodes, &[])))
+}
+
+/// How many nodes, whether they ascend, and the number of their fault.
+static MANY: [(u32, bool, u32); 4] = [
+    (256, true, 0),
+    (256, false, 32),
+    (257, true, 31),
+    (257, false, 31),
+];
+
+#[test]
+fn a_graph_has_at_most_256_nodes(rt: HostRuntime) -> Result<(), Fail> {
+    for (count, ascend, number) in &MANY {
+        let fault = fault_of_many(rt.alloc(), *count, *ascend)?;
+        assert!(rt; fault == *number, "{count} nodes, ascending {ascend}");
+    }
+    Ok(())
+}
+
+/// Nodes, links, and the number of their fault; 0 where there is none.
+type FaultRow = (&'static [u32], &'static [(u32, u32)], u32);
+
+static FAULTS: [FaultRow; 11] = [
+    (&[], &[], 0),
+    (&[1, 2, 3, 9], &[(1, 3), (1, 9), (2, 3)], 0),
+    (&[2, 1], &[], 32),
+    (&[2, 2], &[], 32),
+    (&[1, 2, 3, 9], &[(2, 1)], 33),
+    (&[1, 2, 3, 9], &[(2, 2)], 33),
+    (&[1, 2, 3, 9], &[(3, 4)], 33),
+    (&[1, 2, 3, 9], &[(1, 3), (1, 2)], 32),
+    (&[1, 2, 3, 9], &[(1, 2), (1, 2)], 32),
+    (&[1, 2, 3, 9], &[(2, 1), (1, 2), (1, 2)], 33),
+    (&[1, 2, 3, 9], &[(1, 3), (1, 2), (2, 1)], 32),
+];
+
+#[test]
+fn the_first_fault_is_told(rt: HostRuntime) {
+    for (i, (nodes, links, number)) in FAULTS.iter().enumerate() {
+        let fault = number_of(graph(rt.alloc(), Drawn { nodes, links }));
+        assert_eq!(rt; fault, *number, "in row {i}");
+    }
+}
+
+/// Two nodes or strangers, and whether they are linked.
+static LINKED: [(u32, u32, bool); 6] = [
+    (1, 9, true),
+    (9, 1, true),
+    (1, 2, false),
+    (1, 1, false),
+    (1, 4, false),
+    (4, 1, false),
+];
+
+/// A node or a stranger, and its place.
+static PLACES: [(u32, Option<usize>); 4] = [(1, Some(0)), (9, Some(3)), (4, None), (10, None)];
+
+fn are_linked_so(graph: &Graph) -> bool {
+    for (a, b, is_linked) in &LINKED {
+        if graph.linked(NodeId(*a), NodeId(*b)) != *is_linked {
+            return false;
+        }
+    }
+    true
+}
+
+fn stand_so(graph: &Graph) -> bool {
+    for (node, place) in &PLACES {
+        if graph.place(NodeId(*node)) != *place {
+            return false;
+        }
+    }
+    true
+}
+
+#[test]
+fn links_join_either_way_round(rt: HostRuntime) -> Result<(), Fail> {
+    let graph = Graph::new(rt.alloc(), &NODES, &LINKS)?;
+    assert!(rt; are_linked_so(&graph));
+    assert!(rt; stand_so(&graph));
+    Ok(())
+}
+
+/// Of the places 0, 1, 2, 3, 4 and 255 the row has those that are told.
+fn is_row(row: &Row, told: [bool; 6]) -> bool {
+    let places: [u8; 6] = [0, 1, 2, 3, 4, 255];
+    for (place, told) in places.iter().zip(&told) {
+        if has(row, usize::from(*place)) != *told {
+            return false;
+        }
+    }
+    true
+}
+
+#[test]
+fn a_row_has_the_places_of_neighbours(rt: HostRuntime) -> Result<(), Fail> {
+    let graph = Graph::new(rt.alloc(), &NODES, &LINKS)?;
+    let first = is_row(graph.row(NodeId(1)), [false, false, true, true, false, false]);
+    let last = is_row(graph.row(NodeId(9)), [true, false, false, false, false, false]);
+    assert!(rt; first && last);
+    Ok(())
+}
+
+/// The links, from the first one to the last.
+fn links_of(alloc: Global, graph: &Graph) -> Result<Vec<(NodeId, NodeId)>, AllocError> {
+    let mut links = Vec::new(alloc);
+    for link in graph.links() {
+        links.push(link)?;
+    }
+    Ok(links)
+}
+
+/// A copy of the graph has its nodes and its links.
+fn comes_back(alloc: Global, graph: &Graph) -> Result<bool, Fail> {
+    let copy = graph.copy()?;
+    let links = links_of(alloc, &copy)?;
+    Ok(copy.nodes() == NODES.as_slice() && links.as_slice() == LINKS.as_slice())
+}
+
+#[test]
+fn links_come_back_in_order(rt: HostRuntime) -> Result<(), Fail> {
+    let graph = Graph::new(rt.alloc(), &NODES, &LINKS)?;
+    assert!(rt; comes_back(rt.alloc(), &graph)?);
+    Ok(())
+}
+
+/// The neighbours of the node at a place.
+fn neighbours_at(alloc: Global, graph: &Graph, place: usize) -> Result<Vec<u32>, AllocError> {
+    let mut numbers = Vec::new(alloc);
+    let nodes = graph.nodes();
+    if place < nodes.len() {
+        let node = nodes[place];
+        for neighbour in graph.neighbours(node) {
+            numbers.push(neighbour.number())?;
+        }
+    }
+    Ok(numbers)
+}
+
+/// Nodes 1 to 65, of which the last is linked to all others.
+fn star(alloc: Global) -> Result<Graph, GraphFault> {
+    let mut nodes = Vec::new(alloc);
+    let mut links = Vec::new(alloc);
+    for number in 1..65 {
+        nodes.push(NodeId(number))?;
+        links.push((NodeId(number), NodeId(65)))?;
+    }
+    nodes.push(NodeId(65))?;
+    Graph::new(alloc, &nodes, &links)
+}
+
+/// These are 1 to 64.
+fn are_counted(numbers: &[u32]) -> bool {
+    for (i, number) in numbers.iter().enumerate() {
+        if *number as usize != i + 1 {
+            return false;
+        }
+    }
+    numbers.len() == 64
+}
+
+/// The last node has all others as its neighbours, and the first one has the last.
+fn is_star(alloc: Global, graph: &Graph) -> Result<bool, AllocError> {
+    let of_first = neighbours_at(alloc, graph, 0)?;
+    let of_last = neighbours_at(alloc, graph, 64)?;
+    Ok(of_first.as_slice() == [65].as_slice() && are_counted(&of_last))
+}
+
+#[test]
+fn neighbours_stand_in_several_words(rt: HostRuntime) -> Result<(), Fail> {
+    let graph = star(rt.alloc())?;
+    assert!(rt; is_star(rt.alloc(), &graph)?);
+    Ok(())
+}
+
+fn row_of(places: &[u8]) -> Row {
+    let mut row = EMPTY;
+    for place in places {
+        put(&mut row, usize::from(*place));
+    }
+    row
+}
+
+/// From each of these places on, the row has this first one.
+fn has_firsts(row: &Row, firsts: &[(usize, Option<usize>)]) -> bool {
+    for (from, first) in firsts {
+        if first_from(row, *from) != *first {
+            return false;
+        }
+    }
+    true
+}
+
+#[test]
+fn sets_of_places(rt: HostRuntime) {
+    let odd = row_of(&[1, 63, 65, 127, 255]);
+    let low = row_of(&[0, 1, 64, 65]);
+    let shared = both(&odd, &low);
+    let left = without(&odd, &low);
+    assert!(rt; is_empty(&EMPTY) && is_empty(&without(&shared, &low)));
+    assert!(rt; has_firsts(&shared, &[(0, Some(1)), (2, Some(65)), (66, None)]));
+    assert!(rt; has_firsts(&left, &[(0, Some(63)), (64, Some(127)), (128, Some(255)), (256, None)]));
+}

@@ -1,0 +1,237 @@
+use ov_wire::{Body, Message, WireFault, decode};
+use ov_ids::{NodeId, OutOfMemory};
+use ov_test_kit::{ids, is_spelt, message_id, payload};
+use std::alloc::Global;
+use std::process::Abort;
+use std::test::Fail;
+
+fn message(from: u32, body: Body) -> Message {
+    Message {
+        from: NodeId(from),
+        body,
+    }
+}
+
+/// The number of the fault of these bytes, or 0 where they are a message.
+fn fault(alloc: Global, bytes: &[u8]) -> u32 {
+    match decode(alloc, bytes) {
+        Ok(_) => 0,
+        Err(fault) => fault.number(),
+    }
+}
+
+/// Each part of the bytes is too short, and one byte more is too long.
+fn ends_there(alloc: Global, bytes: &[u8]) -> Result<bool, OutOfMemory> {
+    for len in 0..bytes.len() {
+        if fault(alloc, &bytes[..len]) != 1 {
+            return Ok(false);
+        }
+    }
+    let mut longer = Vec::from_slice(alloc, bytes)?;
+    longer.push(0)?;
+    Ok(fault(alloc, &longer) == 5)
+}
+
+/// The message has these bytes, and so do its copy and what is read of them.
+fn is_read_back(alloc: Global, message: &Message, bytes: &[u8]) -> Result<bool, WireFault> {
+    let read = decode(alloc, bytes)?;
+    let copy = message.copy(alloc).map_err(|_| WireFault::OutOfMemory)?;
+    for message in [message, &read, &copy] {
+        if !is_spelt(alloc, message, bytes)? {
+            return Ok(false);
+        }
+    }
+    Ok(true)
+}
+
+/// Both ways between the message and its bytes; each part of the bytes is too short, and one byte more is too long.
+fn both_ways(rt: &impl Abort, alloc: Global, message: &Message, bytes: &[u8]) -> Result<(), Fail> {
+    assert!(rt; is_read_back(alloc, message, bytes)? && ends_there(alloc, bytes)?);
+    Ok(())
+}
+
+/// Bytes, and the number of their fault or 0.
+type Judged = (&'static [u8], u32);
+
+fn are_judged(rt: &impl Abort, alloc: Global, rows: &[Judged]) {
+    for (bytes, number) in rows {
+        assert!(rt; fault(alloc, *bytes) == *number, "of {bytes:?}");
+    }
+}
+
+static OF_JOIN: [Judged; 5] = [
+    (&[1, 1, 0, 0, 0], 1),
+    (&[1, 1, 0, 0, 0, 2, 0], 5),
+    (&[], 1),
+    (&[2], 2),
+    (&[1, 0x0d], 3),
+];
+
+#[test]
+fn join_bytes(rt: HostRuntime) -> Result<(), Fail> {
+    let alloc = rt.alloc();
+    both_ways(&rt, alloc, &message(2, Body::Join), &[1, 1, 0, 0, 0, 2])?;
+    are_judged(&rt, alloc, &OF_JOIN);
+    Ok(())
+}
+
+fn shuffle(alloc: Global, ttl: u8, numbers: &[u32]) -> Result<Message, OutOfMemory> {
+    let origin = NodeId(1);
+    let ids = ids(alloc, numbers)?;
+    Ok(message(1, Body::Shuffle { origin, ttl, ids }))
+}
+
+/// The bytes of SHUFFLE with the most steps and ids, each of which is 0x01020304.
+fn full_shuffle() -> [u8; 80] {
+    let mut bytes = [0; 80];
+    bytes[..12].copy_from_slice(&[1, 7, 0, 0, 0, 1, 0, 0, 0, 1, 15, 17]);
+    for i in 12..80 {
+        bytes[i] = (i % 4 + 1) as u8;
+    }
+    bytes
+}
+
+#[test]
+fn shuffle_bytes(rt: HostRuntime) -> Result<(), Fail> {
+    let alloc = rt.alloc();
+    let empty = shuffle(alloc, 4, &[])?;
+    both_ways(&rt, alloc, &empty, &[1, 7, 0, 0, 0, 1, 0, 0, 0, 1, 4, 0])?;
+    let full = shuffle(alloc, 15, &[0x0102_0304; 17])?;
+    let mut bytes = full_shuffle();
+    both_ways(&rt, alloc, &full, &bytes)?;
+    bytes[11] = 18;
+    for len in 12..80 {
+        assert!(&rt; fault(alloc, &bytes[..len]) == 4, "of a list of 18 in {len} bytes");
+    }
+    Ok(())
+}
+
+/// A message of each kind without a list, and its bytes.
+fn plain() -> [(Message, &'static [u8]); 10] {
+    let node = NodeId(9);
+    let id = message_id(0x0102_0304, 0x0506_0708);
+    let first = message_id(1, 0);
+    [
+        (
+            message(1, Body::ForwardJoin { node, ttl: 6 }),
+            &[1, 2, 0, 0, 0, 1, 0, 0, 0, 9, 6],
+        ),
+        (message(3, Body::Joined), &[1, 3, 0, 0, 0, 3]),
+        (message(1, Body::Neighbor { high: true }), &[1, 4, 0, 0, 0, 1, 1]),
+        (message(1, Body::Neighbor { high: false }), &[1, 4, 0, 0, 0, 1, 0]),
+        (message(1, Body::NeighborReply { accepted: true }), &[1, 5, 0, 0, 0, 1, 1]),
+        (message(1, Body::NeighborReply { accepted: false }), &[1, 5, 0, 0, 0, 1, 0]),
+        (message(0xffff_fffe, Body::Disconnect), &[1, 6, 255, 255, 255, 254]),
+        (
+            message(5, Body::IHave { id }),
+            &[1, 10, 0, 0, 0, 5, 1, 2, 3, 4, 5, 6, 7, 8],
+        ),
+        (
+            message(2, Body::Graft { id: first }),
+            &[1, 0x0b, 0, 0, 0, 2, 0, 0, 0, 1, 0, 0, 0, 0],
+        ),
+        (message(2, Body::Prune), &[1, 0x0c, 0, 0, 0, 2]),
+    ]
+}
+
+#[test]
+fn the_bytes_of_each_kind(rt: HostRuntime) -> Result<(), Fail> {
+    let rows = plain();
+    for (message, bytes) in &rows {
+        both_ways(&rt, rt.alloc(), message, *bytes)?;
+    }
+    Ok(())
+}
+
+fn gossip(alloc: Global, round: u16, bytes: &[u8]) -> Result<Message, OutOfMemory> {
+    let id = message_id(1, 0);
+    let payload = payload(alloc, bytes)?;
+    Ok(message(1, Body::Gossip { id, round, payload }))
+}
+
+static SHORT_GOSSIP: [u8; 20] = [
+    1, 9, 0, 0, 0, 1, 0, 0, 0, 1, 0, 0, 0, 0, 0, 0, 0, 2, 0x68, 0x69,
+];
+
+#[test]
+fn the_bytes_of_lists(rt: HostRuntime) -> Result<(), Fail> {
+    let alloc = rt.alloc();
+    let ids = ids(alloc, &[5, 9])?;
+    let reply = message(3, Body::ShuffleReply { ids });
+    both_ways(&rt, alloc, &reply, &[1, 8, 0, 0, 0, 3, 2, 0, 0, 0, 5, 0, 0, 0, 9])?;
+    both_ways(&rt, alloc, &gossip(alloc, 0, b"hi")?, &SHORT_GOSSIP)?;
+    let long = gossip(alloc, 0x0203, &[7; 1024])?;
+    let mut bytes = [7; 1042];
+    bytes[..18].copy_from_slice(&[1, 9, 0, 0, 0, 1, 0, 0, 0, 1, 0, 0, 0, 0, 2, 3, 4, 0]);
+    both_ways(&rt, alloc, &long, &bytes)?;
+    bytes[17] = 1;
+    assert!(&rt; fault(alloc, &bytes) == 4 && fault(alloc, &bytes[..18]) == 4);
+    Ok(())
+}
+
+/// The byte as a version, alone and before another byte, and as a kind, alone and before half a sender.
+fn heads_are_judged(alloc: Global, byte: u8) -> bool {
+    let version = if byte == 1 { 1 } else { 2 };
+    let before_another = if byte == 1 { 3 } else { 2 };
+    let kind = if byte >= 1 && byte <= 12 { 1 } else { 3 };
+    fault(alloc, &[byte]) == version
+        && fault(alloc, &[byte, 0]) == before_another
+        && fault(alloc, &[1, byte]) == kind
+        && fault(alloc, &[1, byte, 0, 0, 0]) == kind
+}
+
+#[test]
+fn a_byte_that_is_no_version_or_kind(rt: HostRuntime) {
+    for byte in 0..=255 {
+        assert!(rt; heads_are_judged(rt.alloc(), byte), "at {byte}");
+    }
+}
+
+/// The byte as a time to live of FORWARDJOIN and SHUFFLE, a flag of NEIGHBOR and NEIGHBORREPLY, and a count.
+fn fields_are_judged(alloc: Global, byte: u8) -> bool {
+    let ttl = if byte <= 15 { 0 } else { 4 };
+    let flag = if byte <= 1 { 0 } else { 4 };
+    let count = if byte == 0 {
+        0
+    } else if byte <= 17 {
+        1
+    } else {
+        4
+    };
+    fault(alloc, &[1, 2, 0, 0, 0, 1, 0, 0, 0, 9, byte]) == ttl
+        && fault(alloc, &[1, 7, 0, 0, 0, 1, 0, 0, 0, 9, byte, 0]) == ttl
+        && fault(alloc, &[1, 4, 0, 0, 0, 1, byte]) == flag
+        && fault(alloc, &[1, 5, 0, 0, 0, 1, byte]) == flag
+        && fault(alloc, &[1, 8, 0, 0, 0, 1, byte]) == count
+}
+
+#[test]
+fn a_field_out_of_its_range(rt: HostRuntime) {
+    for byte in 0..=255 {
+        assert!(rt; fields_are_judged(rt.alloc(), byte), "at {byte}");
+    }
+}
+
+/// A time to live out of range stands before a count out of range, and both before what is missing or follows.
+static FIRST_FAULTS: [Judged; 10] = [
+    (&[1, 2, 0, 0, 0, 1, 0, 0, 0, 9, 0x10], 4),
+    (&[1, 4, 0, 0, 0, 1, 2], 4),
+    (&[1, 9, 0, 0, 0, 1, 0, 0, 0, 1, 0, 0, 0, 0, 0, 0, 4, 1], 4),
+    (&[1, 9, 0, 0, 0, 1, 0, 0, 0, 1, 0, 0, 0, 0, 0, 0, 4], 1),
+    (&[1, 9, 0, 0, 0, 1, 0, 0, 0, 1, 0, 0, 0, 0, 0, 0, 4, 0], 1),
+    (&[1, 7, 0, 0, 0, 1, 0, 0, 0, 9, 16, 18], 4),
+    (&[1, 4, 0, 0, 0, 1, 2, 0], 4),
+    (&[1, 8, 0, 0, 0, 1, 1, 0, 0, 0], 1),
+    (&[1, 8, 0, 0, 0, 1, 1, 0, 0, 0, 0, 0], 5),
+    (&[2, 13, 0], 2),
+];
+
+#[test]
+fn the_first_fault_decides(rt: HostRuntime) {
+    are_judged(&rt, rt.alloc(), &FIRST_FAULTS);
+}
+
+#[test]
+fn the_numbers_of_the_faults(rt: HostRuntime) {
+    assert!(rt; WireFault::OutOfMemory.number() == 99 && WireFault::BadField.number() == 4);
+}

@@ -1,0 +1,7 @@
+//! Tests of Plumtree, and of a node whole.
+#![tactic(auto)]
+
+#[cfg(test)]
+mod peer;
+#[cfg(test)]
+mod plum;

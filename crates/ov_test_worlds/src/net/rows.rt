@@ -1,0 +1,233 @@
+use super::Line::{
+    Boot, BootBy, Broadcast, Crash, Deliver, Links, Lose, Packets, Repeat, Report, Show, Shuffle,
+    Snapshot, Timer,
+};
+use super::{Line, all_go, goes, world};
+use ov_net::World;
+use std::test::Fail;
+
+/// Node 1 has two active places. At its third join the word 5 picks the second of two members.
+static FULL_VIEW: [(Line, &str); 9] = [
+    (Boot(1), "entry 1 born 1"),
+    (BootBy(3, 1), "entry 2 born 3"),
+    (Deliver(0), "entry 3 up 1 3"),
+    (BootBy(7, 1), "entry 4 born 7"),
+    (Deliver(1), "entry 5 up 1 7"),
+    (BootBy(9, 1), "entry 6 born 9"),
+    (Deliver(3), "entry 7 down 1 7 up 1 9"),
+    (Show(1), "node 1 active 3,9 passive 7 eager 3,9 lazy -"),
+    (
+        Packets,
+        "packet 0 to 3 010300000001; packet 1 to 7 010300000001; packet 2 to 3 0102000000010000000706; packet 3 to 7 010600000001; packet 4 to 9 010300000001; packet 5 to 3 0102000000010000000906; ",
+    ),
+];
+
+/// A broadcast that reaches its receiver twice.
+static BROADCAST_REPEAT: [(Line, &str); 12] = [
+    (Boot(1), "entry 1 born 1"),
+    (BootBy(2, 1), "entry 2 born 2"),
+    (Deliver(0), "entry 3 up 1 2"),
+    (Deliver(0), "entry 4 up 2 1"),
+    (Broadcast(1, b"hi"), "entry 5 delivered 1 1 0"),
+    (Repeat(0), "entry 6"),
+    (Deliver(0), "entry 7 delivered 2 1 0"),
+    (Deliver(0), "entry 8"),
+    (Packets, "packet 0 to 1 010c00000002; "),
+    (Deliver(0), "entry 9"),
+    (Show(1), "node 1 active 2 passive - eager - lazy 2"),
+    (Packets, ""),
+];
+
+/// Two moments of a join. There is a link once both ends hold it.
+static TWO_JOIN: [(Line, &str); 8] = [
+    (Boot(1), "entry 1 born 1"),
+    (BootBy(2, 1), "entry 2 born 2"),
+    (Deliver(0), "entry 3 up 1 2"),
+    (Links, "nodes 1,2 links"),
+    (Snapshot, "entry 4"),
+    (Deliver(0), "entry 5 up 2 1"),
+    (Links, "nodes 1,2 links 1-2"),
+    (Snapshot, "entry 6"),
+];
+
+/// An answer that comes twice, and a crash that nobody hears of.
+static REPEAT_AND_CRASH: [(Line, &str); 13] = [
+    (Boot(1), "entry 1 born 1"),
+    (BootBy(2, 1), "entry 2 born 2"),
+    (Deliver(0), "entry 3 up 1 2"),
+    (Repeat(0), "entry 4"),
+    (Links, "nodes 1,2 links"),
+    (Deliver(0), "entry 5 up 2 1"),
+    (Deliver(0), "entry 6"),
+    (Links, "nodes 1,2 links 1-2"),
+    (Crash(1), "entry 7 gone 1"),
+    (Links, "nodes 2 links"),
+    (Snapshot, "entry 8"),
+    (Show(1), "refused 12"),
+    (Show(2), "node 2 active 1 passive - eager 1 lazy -"),
+];
+
+/// The first refusals of a world.
+static REFUSALS: [(Line, &str); 8] = [
+    (Snapshot, "entry 1"),
+    (Deliver(0), "refused 14"),
+    (Boot(1), "entry 2 born 1"),
+    (Boot(1), "refused 11"),
+    (Crash(2), "refused 10"),
+    (Report(1, 1), "refused 17"),
+    (Timer(1, 1, 0), "refused 18"),
+    (Snapshot, "entry 3"),
+];
+
+/// A moment of a world in which nothing happened.
+static EMPTY_WORLD: [(Line, &str); 3] = [
+    (Snapshot, "entry 1"),
+    (Packets, ""),
+    (Show(1), "refused 10"),
+];
+
+/// A packet comes to a node that crashed.
+static NOBODY_HEARS: [(Line, &str); 6] = [
+    (Boot(1), "entry 1 born 1"),
+    (BootBy(2, 1), "entry 2 born 2"),
+    (Packets, "packet 0 to 1 010100000002; "),
+    (Crash(1), "entry 3 gone 1"),
+    (Deliver(0), "entry 4"),
+    (Packets, ""),
+];
+
+#[test]
+fn full_view(rt: HostRuntime) -> Result<(), Fail> {
+    all_go(&rt, rt.alloc(), 2, &[&FULL_VIEW])
+}
+
+#[test]
+fn small_worlds(rt: HostRuntime) -> Result<(), Fail> {
+    let stories: [&[(Line, &str)]; 5] = [
+        &TWO_JOIN,
+        &REPEAT_AND_CRASH,
+        &REFUSALS,
+        &EMPTY_WORLD,
+        &NOBODY_HEARS,
+    ];
+    for lines in stories {
+        all_go(&rt, rt.alloc(), 5, &[lines])?;
+    }
+    Ok(())
+}
+
+/// How many entries deliver `hi`; none where one delivers something else.
+fn deliveries(world: &World) -> Option<u32> {
+    let mut count = 0_u32;
+    for entry in world.journal() {
+        if let Some(delivery) = &entry.delivery {
+            if delivery.payload.as_slice() != b"hi".as_slice() {
+                return None;
+            }
+            count = count.saturating_add(1);
+        }
+    }
+    Some(count)
+}
+
+#[test]
+fn a_broadcast_is_delivered_once(rt: HostRuntime) -> Result<(), Fail> {
+    let mut world = world(rt.alloc(), 5)?;
+    goes(&rt, rt.alloc(), &mut world, &BROADCAST_REPEAT)?;
+    assert_eq!(rt; deliveries(&world), Some(2));
+    Ok(())
+}
+
+/// Nodes 1, 3 and 7 come to hold each other.
+pub(super) static TRIANGLE: [(Line, &str); 14] = [
+    (Boot(1), "entry 1 born 1"),
+    (BootBy(3, 1), "entry 2 born 3"),
+    (Deliver(0), "entry 3 up 1 3"),
+    (Deliver(0), "entry 4 up 3 1"),
+    (BootBy(7, 1), "entry 5 born 7"),
+    (Deliver(0), "entry 6 up 1 7"),
+    (
+        Packets,
+        "packet 0 to 7 010300000001; packet 1 to 3 0102000000010000000706; ",
+    ),
+    (Deliver(0), "entry 7 up 7 1"),
+    (Deliver(0), "entry 8 up 3 7"),
+    (Repeat(0), "entry 9"),
+    (
+        Packets,
+        "packet 0 to 7 010300000003; packet 1 to 7 010300000003; ",
+    ),
+    (Lose(0), "entry 10"),
+    (Deliver(0), "entry 11 up 7 3"),
+    (Packets, ""),
+];
+
+/// A broadcast goes round, and the third side falls silent.
+pub(super) static SPREAD: [(Line, &str); 11] = [
+    (Broadcast(1, b"hi"), "entry 12 delivered 1 1 0"),
+    (Deliver(0), "entry 13 delivered 3 1 0"),
+    (
+        Packets,
+        "packet 0 to 7 0109000000010000000100000000000000026869; packet 1 to 7 0109000000030000000100000000000100026869; ",
+    ),
+    (Deliver(0), "entry 14 delivered 7 1 0"),
+    (Deliver(0), "entry 15"),
+    (Deliver(0), "entry 16"),
+    (
+        Packets,
+        "packet 0 to 3 010c00000007; packet 1 to 7 010c00000003; ",
+    ),
+    (Deliver(0), "entry 17"),
+    (Deliver(0), "entry 18"),
+    (Show(3), "node 3 active 1,7 passive - eager 1 lazy 7"),
+    (Show(7), "node 7 active 1,3 passive - eager 1 lazy 3"),
+];
+
+/// Node 7 misses the next one, and waits for it.
+pub(super) static MISSED: [(Line, &str); 5] = [
+    (Broadcast(1, b""), "entry 19 delivered 1 1 1"),
+    (Lose(1), "entry 20"),
+    (Deliver(0), "entry 21 delivered 3 1 1"),
+    (Packets, "packet 0 to 7 010a000000030000000100000001; "),
+    (Deliver(0), "entry 22"),
+];
+
+/// It asks for it and gets it; node 3 crashes, which node 1 hears, and node 1 shuffles.
+static ASKED: [(Line, &str); 20] = [
+    (Timer(7, 1, 1), "entry 23"),
+    (Show(7), "node 7 active 1,3 passive - eager 1,3 lazy -"),
+    (Packets, "packet 0 to 3 010b000000070000000100000001; "),
+    (Deliver(0), "entry 24"),
+    (
+        Packets,
+        "packet 0 to 7 010900000003000000010000000100010000; ",
+    ),
+    (Deliver(0), "entry 25 delivered 7 1 1"),
+    (Deliver(0), "entry 26"),
+    (Show(1), "node 1 active 3,7 passive - eager 3 lazy 7"),
+    (Timer(7, 1, 1), "refused 18"),
+    (Crash(3), "entry 27 gone 3"),
+    (Report(1, 3), "entry 28 down 1 3"),
+    (Shuffle(1), "entry 29"),
+    (Snapshot, "entry 30"),
+    (Show(1), "node 1 active 7 passive - eager - lazy 7"),
+    (
+        Packets,
+        "packet 0 to 7 010c00000001; packet 1 to 7 0107000000010000000104020000000100000007; ",
+    ),
+    (Deliver(1), "entry 31"),
+    (
+        Packets,
+        "packet 0 to 7 010c00000001; packet 1 to 3 0107000000070000000103020000000100000007; ",
+    ),
+    (Deliver(1), "entry 32"),
+    (Packets, "packet 0 to 7 010c00000001; "),
+    (Broadcast(3, b"hi"), "refused 12"),
+];
+
+/// Each kind of event in one run.
+#[test]
+fn every_kind_of_event(rt: HostRuntime) -> Result<(), Fail> {
+    let parts: [&[(Line, &str)]; 4] = [&TRIANGLE, &SPREAD, &MISSED, &ASKED];
+    all_go(&rt, rt.alloc(), 2, &parts)
+}

@@ -1,0 +1,378 @@
+//! Scenario files line by line.
+mod asked;
+mod memory;
+mod printed;
+mod runs;
+
+use ov_run::{Line, RunFault, Scenario, read_scenario};
+use ov_ids::{NodeId, Params};
+use ov_net::Event;
+use ov_test_kit::{message_id, payload, sized, words};
+use std::alloc::Global;
+use std::process::Abort;
+use std::test::Fail;
+
+/// The file has exactly these lines.
+fn has_lines(
+    rt: &impl Abort,
+    alloc: Global,
+    bytes: &[u8],
+    expected: &[Line],
+) -> Result<Scenario, Fail> {
+    let scenario = read_scenario(alloc, bytes)?;
+    let told = format!(in alloc; "{:?}", scenario.lines.as_slice())?;
+    let expected = format!(in alloc; "{expected:?}")?;
+    assert_eq!(rt; told.as_str(), expected.as_str(), "at {bytes:?}");
+    Ok(scenario)
+}
+
+/// The file is one event without words of its own.
+fn is_event(rt: &impl Abort, alloc: Global, bytes: &[u8], event: Event) -> Result<(), Fail> {
+    let _ = has_lines(rt, alloc, bytes, &[Line::Step { event, words: None }])?;
+    Ok(())
+}
+
+fn is_refused(rt: &impl Abort, alloc: Global, bytes: &[u8], fault: RunFault) {
+    assert_eq!(rt;
+        read_scenario(alloc, bytes).err(),
+        Some(fault),
+        "at {bytes:?}"
+    );
+}
+
+#[test]
+fn each_event_is_read(rt: HostRuntime) -> Result<(), Fail> {
+    let alloc = rt.alloc();
+    let four = NodeId(4);
+    is_event(&rt, alloc, b"boot 4", Event::Boot(four, None))?;
+    is_event(
+        &rt,
+        alloc,
+        b"boot 4 by 7",
+        Event::Boot(four, Some(NodeId(7))),
+    )?;
+    is_event(&rt, alloc, b"deliver 4", Event::Deliver(4))?;
+    is_event(&rt, alloc, b"lose 4", Event::Lose(4))?;
+    is_event(&rt, alloc, b"repeat 4", Event::Repeat(4))?;
+    is_event(&rt, alloc, b"crash 4", Event::Crash(four))?;
+    is_event(&rt, alloc, b"report 4 7", Event::Report(four, NodeId(7)))?;
+    is_event(&rt, alloc, b"shuffle 4", Event::Shuffle(four))?;
+    is_event(
+        &rt,
+        alloc,
+        b"timer 4 7 9",
+        Event::Timer(four, message_id(7, 9)),
+    )?;
+    is_event(&rt, alloc, b"snapshot", Event::Snapshot)
+}
+
+#[test]
+fn spaces_zeros_and_ends_of_lines_do_not_count(rt: HostRuntime) -> Result<(), Fail> {
+    let alloc = rt.alloc();
+    let spellings = [
+        "boot 4 by 7\n",
+        "boot 4 by 7\r\n",
+        "boot 4 by 7 \r\n",
+        "  boot   4  by 7  ",
+        "\n\r\n   \n# fly\n  #fly\n#\nboot 4 by 7\n\n",
+        "boot 0000000000000000000000004 by 07",
+        "#\r\nboot 4 by 7\n#",
+    ];
+    for spelling in spellings {
+        let boot = Event::Boot(NodeId(4), Some(NodeId(7)));
+        is_event(&rt, alloc, spelling.as_bytes(), boot)?;
+    }
+    let nothing = ["", "\n", " ", "\r\n", "# boot 4", " \n\n#"];
+    for text in nothing {
+        let _ = has_lines(&rt, alloc, text.as_bytes(), &[])?;
+    }
+    Ok(())
+}
+
+#[test]
+fn numbers_at_their_limits(rt: HostRuntime) -> Result<(), Fail> {
+    let alloc = rt.alloc();
+    let most = NodeId(4_294_967_295);
+    is_event(&rt, alloc, b"crash 4294967295", Event::Crash(most))?;
+    is_event(&rt, alloc, b"lose 4294967295", Event::Lose(4_294_967_295))?;
+    is_event(&rt, alloc, b"crash 0", Event::Crash(NodeId(0)))?;
+    let scenario = has_lines(&rt, alloc, b"seed 18446744073709551615", &[])?;
+    assert_eq!(rt; scenario.seed, u64::MAX);
+    let step = Line::Step {
+        event: Event::Snapshot,
+        words: Some(words(&[u64::MAX])),
+    };
+    let _ = has_lines(&rt, alloc, b"words 18446744073709551615\nsnapshot", &[step])?;
+    Ok(())
+}
+
+#[test]
+fn what_is_looked_at_is_read(rt: HostRuntime) -> Result<(), Fail> {
+    let alloc = rt.alloc();
+    let expected = [Line::Show(NodeId(4)), Line::Packets, Line::Certificate(7)];
+    let text = b"show 4\npackets\ncertificate 7\nseed 2\nparams 2 30 6 3 3 4 4\n";
+    let scenario = has_lines(&rt, alloc, text, &expected)?;
+    assert_eq!(rt; scenario.seed, 2);
+    assert_eq!(rt; scenario.params, sized(2, 30)?);
+    Ok(())
+}
+
+#[test]
+fn a_payload_is_all_bytes_behind_one_space(rt: HostRuntime) -> Result<(), Fail> {
+    let alloc = rt.alloc();
+    let rows: [(&[u8], &[u8]); 12] = [
+        (b"broadcast 4", b""),
+        (b"broadcast 4 ", b""),
+        (b"broadcast 4 hi", b"hi"),
+        (b"  broadcast   4 hi\n", b"hi"),
+        (b"broadcast 4  hi  ", b" hi  "),
+        (b"broadcast 4 # hi\r\n", b"# hi"),
+        (b"broadcast 4 hi\r\r\n", b"hi\r"),
+        (b"broadcast 4 hi\r", b"hi\r"),
+        (b"broadcast 4 \xff\x00\x80\t\xc3\n", b"\xff\x00\x80\t\xc3"),
+        (b"broadcast 4 5 6", b"5 6"),
+        (b"broadcast 4 \r\n", b""),
+        (b"broadcast 4\r\n", b""),
+    ];
+    for (bytes, expected) in rows {
+        let event = Event::Broadcast(NodeId(4), payload(alloc, expected)?);
+        is_event(&rt, alloc, bytes, event)?;
+    }
+    Ok(())
+}
+
+#[test]
+fn a_payload_may_be_too_long_for_a_broadcast(rt: HostRuntime) -> Result<(), Fail> {
+    let alloc = rt.alloc();
+    let mut bytes = Vec::from_slice(alloc, b"broadcast 4 ")?;
+    bytes.extend_from_slice(&[b'x'; 1025])?;
+    let event = Event::Broadcast(NodeId(4), payload(alloc, &[b'x'; 1025])?);
+    is_event(&rt, alloc, bytes.as_slice(), event)
+}
+
+/// Texts of which each line alone is unreadable.
+const UNREADABLE: [&str; 9] = [
+    "params\nparams 5 30 6 3 3 4\nparams 5 30 6 3 3 4 4 4\nparams 5 30 6 3 3 4 x\nparams 5 30 6 3 3 4 4294967296\nparams 5 30 6 3 3 4 -4\nparams +5 30 6 3 3 4 4\nparams 0 30 6 3 3 4",
+    "seed\nseed x\nseed 1 2\nseed 18446744073709551616\nseed 100000000000000000000000\nseed -1\nseed +1\nseed 0x1\nseed 1.0\nseed 1e1",
+    "words\nwords x\nwords 5 x\nwords 18446744073709551616\nwords 5",
+    "boot\nboot x\nboot 1 by\nboot 1 2\nboot 1 by x\nboot 1 by 2 3\nboot by 1\nboot 1 to 2\nboot 4294967296\nboot 1 by 4294967296",
+    "deliver\ndeliver x\ndeliver 1 2\ndeliver 4294967296\nlose\nlose x\nlose 1 2\nlose 4294967296\nrepeat\nrepeat x\nrepeat 1 2\nrepeat 4294967296",
+    "crash\ncrash x\ncrash 1 2\ncrash 4294967296\nreport\nreport 1\nreport 1 2 3\nreport x 1\nreport 1 x\nreport 1 4294967296\nshuffle\nshuffle x\nshuffle 1 2\nshuffle 4294967296",
+    "broadcast\nbroadcast \nbroadcast x\nbroadcast x hi\nbroadcast 4294967296\nbroadcast 1\thi\nbroadcasts 1 hi\ntimer\ntimer 1\ntimer 1 2\ntimer 1 2 3 4\ntimer x 2 3\ntimer 1 x 3\ntimer 1 2 4294967296\nsnapshot 1",
+    "show\nshow x\nshow 1 2\nshow 4294967296\npackets 1\ncertificate\ncertificate x\ncertificate 1 2\ncertificate 4294967296",
+    "analyse 1\nanalyse 1 workers 2\ntogether\nalso\nend\nfly\nBoot 1\nboot1\n1 boot\n\tboot 1\nboot\t1\nboot 1 # first\nboot 1\r\r\n\r\r",
+];
+
+#[test]
+fn unreadable_lines(rt: HostRuntime) -> Result<(), Fail> {
+    let alloc = rt.alloc();
+    for texts in UNREADABLE {
+        for text in texts.split('\n') {
+            is_refused(&rt, alloc, text.as_bytes(), RunFault::Line(1));
+            let later = format!(in alloc; "boot 1\n\n{text}\nfly\n")?;
+            is_refused(&rt, alloc, later.as_bytes(), RunFault::Line(3));
+        }
+    }
+    is_refused(&rt, alloc, b"boot 1\r", RunFault::Line(1));
+    is_refused(&rt, alloc, b"boot \xff", RunFault::Line(1));
+    is_refused(&rt, alloc, b"\xff", RunFault::Line(1));
+    is_refused(&rt, alloc, b"boot \xb2", RunFault::Line(1));
+    Ok(())
+}
+
+#[test]
+fn the_first_line_at_fault_decides(rt: HostRuntime) {
+    let rows = [
+        ("boot 1\n\nfly\nfly\n", RunFault::Line(3)),
+        ("fly\nparams 0 30 6 3 3 4 4", RunFault::Line(1)),
+        ("params 0 30 6 3 3 4 4\nfly", RunFault::Params(1)),
+        ("\n# 1\n  \nparams 17 30 6 3 3 4 4", RunFault::Params(4)),
+        ("boot 1\nparams 5 30 6 3 3 4 4", RunFault::Line(2)),
+        ("snapshot\nparams 0 30 6 3 3 4 4", RunFault::Line(2)),
+        (
+            "params 5 30 6 3 3 4 4\nparams 5 30 6 3 3 4 4",
+            RunFault::Line(2),
+        ),
+        (
+            "params 5 30 6 3 3 4 4\nparams 0 30 6 3 3 4 4",
+            RunFault::Line(2),
+        ),
+        ("seed 1\nseed 1", RunFault::Line(2)),
+        ("boot 1\nseed 1", RunFault::Line(2)),
+        ("snapshot\nseed 1", RunFault::Line(2)),
+        ("words 5\nboot 1\nseed 1", RunFault::Line(3)),
+    ];
+    for (text, fault) in rows {
+        is_refused(&rt, rt.alloc(), text.as_bytes(), fault);
+    }
+}
+
+#[test]
+fn parameters_out_of_limits(rt: HostRuntime) -> Result<(), Fail> {
+    let alloc = rt.alloc();
+    let beyond = [
+        "0 30 6 3 3 4 4",
+        "17 30 6 3 3 4 4",
+        "5 0 6 3 3 4 4",
+        "5 65 6 3 3 4 4",
+        "5 30 16 3 3 4 4",
+        "5 30 6 7 3 4 4",
+        "5 30 6 3 9 4 4",
+        "5 30 6 3 3 9 4",
+        "5 30 6 3 3 4 0",
+        "5 30 6 3 3 4 16",
+        "5 30 6 3 3 4 4294967295",
+    ];
+    for numbers in beyond {
+        let text = format!(in alloc; "seed 1\nparams {numbers}\n")?;
+        is_refused(&rt, alloc, text.as_bytes(), RunFault::Params(2));
+    }
+    Ok(())
+}
+
+/// The file has these parameters, and its seed is 0.
+fn has_params(rt: &impl Abort, alloc: Global, text: &str, p: [u32; 7]) -> Result<(), Fail> {
+    let scenario = read_scenario(alloc, text.as_bytes())?;
+    let params = Params::new(p[0], p[1], p[2], p[3], p[4], p[5], p[6])?;
+    assert_eq!(rt; scenario.params, params, "at {text}");
+    assert_eq!(rt; scenario.seed, 0, "at {text}");
+    Ok(())
+}
+
+#[test]
+fn parameters_within_limits(rt: HostRuntime) -> Result<(), Fail> {
+    let alloc = rt.alloc();
+    has_params(
+        &rt,
+        alloc,
+        "params 16 64 15 15 8 8 15",
+        [16, 64, 15, 15, 8, 8, 15],
+    )?;
+    has_params(&rt, alloc, "params 1 1 0 0 0 0 1", [1, 1, 0, 0, 0, 0, 1])?;
+    has_params(&rt, alloc, "params 1 2 4 3 5 6 7", [1, 2, 4, 3, 5, 6, 7])?;
+    has_params(&rt, alloc, "boot 1", [5, 30, 6, 3, 3, 4, 4])
+}
+
+#[test]
+fn words_stand_right_before_an_event(rt: HostRuntime) -> Result<(), Fail> {
+    let alloc = rt.alloc();
+    let rows = [
+        ("words 5\nshow 1", 1),
+        ("words 5\npackets\nboot 1", 1),
+        ("words 5\ncertificate 1\nboot 1", 1),
+        ("words 5\nseed 1\nboot 1", 1),
+        ("words 5\nparams 0 30 6 3 3 4 4", 1),
+        ("words 5\nwords 6\nboot 1", 1),
+        ("words 5\nfly", 1),
+        ("words 5\nboot x", 1),
+        ("boot 1\nwords 5\n", 2),
+        ("boot 1\nwords 5\n# boot 2", 2),
+        ("boot 1\n\nwords 5\n\nfly", 3),
+    ];
+    for (text, line) in rows {
+        is_refused(&rt, alloc, text.as_bytes(), RunFault::Line(line));
+    }
+    let accepted = [
+        "words 5 6\nsnapshot",
+        "words 5 6\n\n# boot 2\n  \n snapshot\n",
+    ];
+    for text in accepted {
+        let step = Line::Step {
+            event: Event::Snapshot,
+            words: Some(words(&[5, 6])),
+        };
+        let _ = has_lines(&rt, alloc, text.as_bytes(), &[step])?;
+    }
+    Ok(())
+}
+
+#[test]
+fn words_are_for_one_event(rt: HostRuntime) -> Result<(), Fail> {
+    let alloc = rt.alloc();
+    let expected = [
+        Line::Step {
+            event: Event::Deliver(3),
+            words: Some(words(&[5])),
+        },
+        Line::Step {
+            event: Event::Deliver(3),
+            words: None,
+        },
+        Line::Step {
+            event: Event::Broadcast(NodeId(4), payload(alloc, b"5")?),
+            words: Some(words(&[0, 7])),
+        },
+    ];
+    let text = b"words 5\ndeliver 3\ndeliver 3\nwords 0 7\nbroadcast 4 5";
+    let _ = has_lines(&rt, alloc, text, &expected)?;
+    Ok(())
+}
+
+/// A file of one event with so many words, which are 1, 2, 3 and so on.
+fn with_words(alloc: Global, count: u64) -> Result<String, Fail> {
+    let mut text = String::from_str(alloc, "words")?;
+    for number in 1..=count {
+        write!(text, " {number}")?;
+    }
+    text.push_str(" \nboot 1")?;
+    Ok(text)
+}
+
+#[test]
+fn one_to_sixty_four_words(rt: HostRuntime) -> Result<(), Fail> {
+    let alloc = rt.alloc();
+    let mut all = [0; 64];
+    for (number, word) in (1..).zip(all.iter_mut()) {
+        *word = number;
+    }
+    for count in [1, 2, 63, 64] {
+        let step = Line::Step {
+            event: Event::Boot(NodeId(1), None),
+            words: Some(words(&all[..count])),
+        };
+        let text = with_words(alloc, count as u64)?;
+        let _ = has_lines(&rt, alloc, text.as_bytes(), &[step])?;
+    }
+    let text = with_words(alloc, 65)?;
+    is_refused(&rt, alloc, text.as_bytes(), RunFault::Line(1));
+    Ok(())
+}
+
+/// The fault has this number, names this line and is shown as this text.
+fn is_shown(
+    rt: &impl Abort,
+    alloc: Global,
+    fault: RunFault,
+    number: u32,
+    line: Option<usize>,
+    text: &str,
+) -> Result<(), Fail> {
+    assert_eq!(rt; fault.number(), number, "at {text}");
+    assert_eq!(rt; fault.line(), line, "at {text}");
+    assert_eq!(rt; fault.to_string(alloc)?.as_str(), text);
+    Ok(())
+}
+
+#[test]
+fn faults_have_their_numbers_and_lines(rt: HostRuntime) -> Result<(), Fail> {
+    let alloc = rt.alloc();
+    is_shown(
+        &rt,
+        alloc,
+        RunFault::Line(7),
+        70,
+        Some(7),
+        "line 7: refused 70",
+    )?;
+    is_shown(
+        &rt,
+        alloc,
+        RunFault::Params(7),
+        21,
+        Some(7),
+        "line 7: refused 21",
+    )?;
+    is_shown(&rt, alloc, RunFault::Read, 71, None, "refused 71")?;
+    is_shown(&rt, alloc, RunFault::Write, 72, None, "refused 72")?;
+    is_shown(&rt, alloc, RunFault::OutOfMemory, 99, None, "refused 99")
+}
