@@ -35,15 +35,17 @@ impl Entry {
     pub fn copy(&self, alloc: Global) -> Result<Entry, OutOfMemory>
         ensures { IfOk result (λ e. e ≡ self.now) }
     {
+        let changes = Vec::from_slice(alloc, self.changes.as_slice())?;
+        let delivery = match &self.delivery {
+            Some(delivery) => Some(copy_delivery(alloc, delivery)?),
+            None => None,
+        };
         Ok(Entry {
             number: self.number,
             event: self.event.copy(alloc)?,
             words: self.words,
-            changes: Seq::new(Vec::from_slice(alloc, self.changes.as_slice())?),
-            delivery: match &self.delivery {
-                Some(delivery) => Some(copy_delivery(alloc, delivery)?),
-                None => None,
-            },
+            changes: Seq::new(changes),
+            delivery,
         })
     }
 }

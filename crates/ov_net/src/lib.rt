@@ -23,4 +23,3 @@ pub use laws::{links_stay, one_graph};
 pub use member::Member;
 pub use packet::Packet;
 pub use world::{MAX_ENTRIES, World};
-

@@ -5,12 +5,12 @@ ghost use Rattle.ov_peer.specs.Planning.{Fits};
 ghost use Rattle.ov_peer.specs.Whole.{Whole};
 ghost use Rattle.ov_net.specs.Brought.{Befalls};
 ghost use Rattle.ov_net.specs.declared.brought.Fate.TheVariants.{Follows};
-ghost use Rattle.ov_net.specs.declared.member.Member.TheVariants.{Live};
+ghost use Rattle.ov_net.specs.declared.member.Member.TheVariants.{Live, Gone};
 ghost use Rattle.ov_net.specs.Scan.{AreLive};
 
 use crate::member::Member;
 use ov_ids::{NodeId, OutOfMemory};
-use ov_peer::Plan;
+use ov_peer::{Peer, Plan};
 use std::alloc::Global;
 use std::collections::BTreeMap;
 use std::marker::Model;
@@ -65,26 +65,48 @@ impl Nodes {
         ensures ok { OnOk result (Befalls id (Follows plan) self.old self.new) }
         ensures err { OnErr result (self.new ≡ self.old) }
     {
+        let mut peer = self.take_out(id);
+        let applied = peer.apply(plan);
+        self.put_back(id, peer);
+        applied?;
+        Ok(())
+    }
+
+    /// Takes the live node of this id out, which stands there as gone then.
+    fn take_out(&mut self, id: NodeId) -> Peer
+        requires { (p : Whole) × (map.get self.old id ≡ Some (Live p)) }
+        ensures value { map.get self.old id ≡ Some (Live result) }
+        ensures after { self.new ≡ map.insert self.old id Gone }
+    {
         match self.insert(id, Member::Gone) {
-            Ok(Some(Member::Live(mut peer))) => {
-                let applied = peer.apply(plan);
-                match self.insert(id, Member::Live(peer)) {
-                    Ok(_) => {}
-                    Err(_) => unreachable!(),
-                }
-                applied?;
-                Ok(())
-            }
+            Ok(Some(Member::Live(peer))) => peer,
             _ => unreachable!(),
         }
     }
 
+    /// Puts a live node at an id where one is.
+    fn put_back(&mut self, id: NodeId, peer: Peer)
+        requires { map.get self.old id ≢ None }
+        ensures { self.new ≡ map.insert self.old id (Live peer) }
+    {
+        match self.put(id, Member::Live(peer)) {
+            Ok(()) => {}
+            Err(_) => unreachable!(),
+        }
+    }
+
+    /// Puts a node at this id. Only a new id can want memory, and then nothing changes.
+    pub(crate) fn put(&mut self, id: NodeId, member: Member) -> Result<(), OutOfMemory>
+        ensures ok { OnOk result (self.new ≡ map.insert self.old id member) }
+        ensures present { map.get self.old id ≢ None → IsOk result }
+        ensures err { OnErr result (self.new ≡ self.old) }
+    {
+        self.insert(id, member)?;
+        Ok(())
+    }
+
     /// Puts a node at this id, and answers the one that was there. Only a new id can want memory, and then nothing changes.
-    pub(crate) fn insert(
-        &mut self,
-        id: NodeId,
-        member: Member,
-    ) -> Result<Option<Member>, OutOfMemory>
+    fn insert(&mut self, id: NodeId, member: Member) -> Result<Option<Member>, OutOfMemory>
         ensures old { IfOk result (λ old. old ≡ map.get self.old id) }
         ensures ok { OnOk result (self.new ≡ map.insert self.old id member) }
         ensures present { map.get self.old id ≢ None → IsOk result }

@@ -131,21 +131,77 @@ impl World {
         ensures number { IfOk result (λ e. e.number ≡ length self.new.journal) }
         ensures err { OnErr result (self.new ≡ self.old) }
     {
+        let Brought {
+            taken,
+            node,
+            packets,
+            changes,
+            delivery,
+        } = brought;
         let entry = Entry {
             number: next_number(&self.journal),
             event,
             words: *words,
-            changes: brought.changes,
-            delivery: brought.delivery,
+            changes,
+            delivery,
         };
-        let answer = entry.copy(self.alloc)?;
-        self.packets.reserve(brought.packets.len())?;
-        self.journal.reserve(1)?;
-        turn(&mut self.nodes, brought.node)?;
-        exchange(&mut self.packets, brought.taken, brought.packets);
+        let answer = prepare(
+            self.alloc,
+            &mut self.nodes,
+            &mut self.packets,
+            &mut self.journal,
+            node,
+            packets.len(),
+            &entry,
+        )?;
+        exchange(&mut self.packets, taken, packets);
         self.journal.push_reserved(entry);
         Ok(answer)
     }
+}
+
+/// Makes room for an entry and so many packets, lets become of a node what is to, and answers an equal entry. Without
+/// memory nothing changes.
+fn prepare(
+    alloc: Global,
+    nodes: &mut Nodes,
+    packets: &mut Vec<Packet>,
+    journal: &mut Vec<Entry>,
+    node: Option<(NodeId, Fate)>,
+    count: usize,
+    entry: &Entry,
+) -> Result<Entry, OutOfMemory>
+    requires { MayTurn node nodes.old }
+    ensures copy { IfOk result (λ e. e ≡ entry.now) }
+    ensures ok { OnOk result (Turns node nodes.old nodes.new) }
+    ensures err { OnErr result (nodes.new ≡ nodes.old) }
+    ensures packets { packets.new.items ≡ packets.old.items }
+    ensures journal { journal.new.items ≡ journal.old.items }
+    ensures places { OnOk result (vec_len packets.new + count ≤ vec_capacity packets.new) }
+    ensures place { OnOk result (vec_len journal.new < vec_capacity journal.new) }
+{
+    let answer = ready(alloc, packets, journal, count, entry)?;
+    turn(nodes, node)?;
+    Ok(answer)
+}
+
+/// Makes room for an entry and so many packets, and answers an equal entry. What is there stays.
+fn ready(
+    alloc: Global,
+    packets: &mut Vec<Packet>,
+    journal: &mut Vec<Entry>,
+    count: usize,
+    entry: &Entry,
+) -> Result<Entry, OutOfMemory>
+    ensures copy { IfOk result (λ e. e ≡ entry.now) }
+    ensures packets { packets.new.items ≡ packets.old.items }
+    ensures journal { journal.new.items ≡ journal.old.items }
+    ensures places { OnOk result (vec_len packets.new + count ≤ vec_capacity packets.new) }
+    ensures place { OnOk result (vec_len journal.new < vec_capacity journal.new) }
+{
+    packets.reserve(count)?;
+    journal.reserve(1)?;
+    entry.copy(alloc)
 }
 
 /// The number of the next entry.
@@ -174,15 +230,10 @@ fn befall(nodes: &mut Nodes, id: NodeId, fate: Fate) -> Result<(), OutOfMemory>
     ensures err { OnErr result (nodes.new ≡ nodes.old) }
 {
     match fate {
-        Fate::Born(peer) => {
-            nodes.insert(id, Member::Live(peer))?;
-        }
-        Fate::Follows(plan) => nodes.follow(id, plan)?,
-        Fate::Crashes => {
-            nodes.insert(id, Member::Gone)?;
-        }
+        Fate::Born(peer) => nodes.put(id, Member::Live(peer)),
+        Fate::Follows(plan) => nodes.follow(id, plan),
+        Fate::Crashes => nodes.put(id, Member::Gone),
     }
-    Ok(())
 }
 
 /// Takes a packet out, if its place is named, and puts more last. There is room for them.

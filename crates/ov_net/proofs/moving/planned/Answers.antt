@@ -1,11 +1,13 @@
-use Rattle.std.proofs.Common.{◌++◌, map, refl, ap, ◌∙◌}
-use Rattle.ov_net.specs.NetStep.{told_of}
+use Rattle.std.proofs.Common.{None, Some, ap}
+use Rattle.ov_peer.specs.declared.plan.Plan.{Plan}
+use Rattle.ov_net.specs.declared.brought.Fate.TheVariants as fate
 use Rattle.ov_net.proofs.Bringing.{planned_by}
 use Rattle.ov_net.proofs.moving.planned.Goals as goal
 
 pub returns-clause-planned : goal.returns-clause-planned
 returns-clause-planned c =
-    planned_by c.args.node c.args.peer.now c.args.input c.args.words.now c.in-Ok.plan c.take-delivery.new.self
-    (record { taken = c.args.taken; node = _; packets = c.in_ok-packets.packets; changes = c.new.result; delivery = c.take-delivery.result })
-    refl c.in-Ok.ensures.fits c.in-Ok.ensures.allowed (c.in_ok-packets.ensures ∙ c.deref.ensures.value) c.take-delivery.ensures.value
-    (c.new.ensures ∙ c.in_ok-tell.ensures ∙ ap (λ v. v ++ map (told_of c.args.node) c.deref-2.result.now) c.in_ok-changes.ensures.items ∙ ap (map (told_of c.args.node)) c.deref-2.ensures.value)
+    let did = c.in_ok-packets.field-0 in
+    planned_by c.args.node c.args.peer.now c.args.input c.args.words.now c.in_ok-plan.plan None
+    (record { taken = c.args.taken; node = Some (c.args.node, fate.Follows c.deeds_of.new.plan); packets = did.packets; changes = did.changes; delivery = did.delivery })
+    (ap (λ (g : Plan). Some (c.args.node, fate.Follows g)) c.in_ok-packets.ensures.plan) c.in_ok-plan.ensures.fits c.in_ok-plan.ensures.allowed
+    c.in_ok-packets.ensures.packets c.in_ok-packets.ensures.delivery c.in_ok-packets.ensures.changes
