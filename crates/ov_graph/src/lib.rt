@@ -12,4 +12,3 @@ pub mod row;
 pub use fault::GraphFault;
 pub use graph::Graph;
 pub use neighbours::{Links, Neighbours};
-

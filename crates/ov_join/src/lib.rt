@@ -13,7 +13,6 @@ ghost use Rattle.ov_views.specs.Allowed.{Node, Allowed, receives};
 ghost use Rattle.ov_views.specs.Joining.{Remembers, forwards, walk_ends, walk_targets};
 ghost use Rattle.ov_wire.specs.declared.message.Body.TheVariants.{Join, ForwardJoin, Joined};
 
-
 use ov_ids::{IdSet, NodeId, OutOfMemory};
 use ov_views::{Moves, View, Views};
 use ov_wire::{Body, Message};

@@ -12,4 +12,3 @@ pub use fault::PeerFault;
 pub use input::{Delivery, Input, Output};
 pub use peer::{MAX_BROADCASTS, Peer};
 pub use plan::Plan;
-

@@ -21,4 +21,3 @@ pub use notes::Notes;
 pub use plum::Plum;
 pub use spread::Spread;
 pub use turn::{Planned, Turn};
-

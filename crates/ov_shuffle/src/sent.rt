@@ -44,7 +44,7 @@ impl Sent {
         &self.ids
     }
 
-    /// Puts the list of a new shuffle in place of the last one.
+    /// Puts a list in place of the last one.
     pub fn keep(&mut self, ids: Vec<NodeId>)
         ensures { self.new ≡ ids.items }
     {

@@ -25,10 +25,15 @@ enum Instead {
 type Row = (&'static str, Instead, Option<CheckFault>);
 
 const COUNT: Option<CheckFault> = Some(CheckFault::Count);
+
 const CUT: Option<CheckFault> = Some(CheckFault::Cut);
+
 const SIDE: Option<CheckFault> = Some(CheckFault::Side);
+
 const EXTRA: Option<CheckFault> = Some(CheckFault::Extra);
+
 const NOT_LINKED: Option<CheckFault> = Some(CheckFault::NotLinked);
+
 const NOBODY: Option<CheckFault> = Some(CheckFault::NoNodes);
 
 /// The fault of the pair of 1 and 2.
@@ -39,7 +44,9 @@ const PAIR: Option<CheckFault> = Some(CheckFault::Pair {
 
 /// The faults of the fans of 3, of 4 and of 5.
 const FAN_3: Option<CheckFault> = Some(CheckFault::Fan { j: NodeId(3) });
+
 const FAN_4: Option<CheckFault> = Some(CheckFault::Fan { j: NodeId(4) });
+
 const FAN_5: Option<CheckFault> = Some(CheckFault::Fan { j: NodeId(5) });
 
 /// The certificate with these words in place of its own.
@@ -66,7 +73,7 @@ fn fault(alloc: Global, drawn: Drawn, said: Said) -> Result<Option<CheckFault>, 
     Ok(check(&graph, &cert).err())
 }
 
-/// Each row's certificate has its fault for the graph. Else the name of the first row is answered for which that is not so.
+/// Each row's certificate has its fault for the graph. The first row that has another one is answered by its name.
 fn have_faults(alloc: Global, drawn: Drawn, own: Said, rows: &[Row]) -> Result<(), Fail> {
     for (name, instead, expected) in rows {
         if fault(alloc, drawn, with(own, *instead))? != *expected {
@@ -115,8 +122,18 @@ const SIDES_OF_TWO: [Row; 3] = [
 fn two_unlinked_nodes_split_at_zero(rt: HostRuntime) -> Result<(), Fail> {
     let alloc = rt.alloc();
     have_faults(alloc, TWO_UNLINKED, SPLIT_OF_TWO, &SIDES_OF_TWO)?;
-    have_faults(alloc, TWO_LINKED, SPLIT_OF_TWO, &[("linked", All(SPLIT_OF_TWO), SIDE)])?;
-    have_faults(alloc, NO_NODES, SPLIT_OF_TWO, &[("nobody", All(SPLIT_OF_TWO), NOBODY)])
+    have_faults(
+        alloc,
+        TWO_LINKED,
+        SPLIT_OF_TWO,
+        &[("linked", All(SPLIT_OF_TWO), SIDE)],
+    )?;
+    have_faults(
+        alloc,
+        NO_NODES,
+        SPLIT_OF_TWO,
+        &[("nobody", All(SPLIT_OF_TWO), NOBODY)],
+    )
 }
 
 const CUTS_OF_SQUARE: [Row; 18] = [
@@ -206,7 +223,11 @@ const PAIRS_OF_FIVE: [Row; 8] = [
         Pairs(&[(2, 1, &[&[2, 3, 1], &[2, 4, 1], &[2, 5, 1]])]),
         PAIR,
     ),
-    ("two paths", Pairs(&[(1, 2, &[&[1, 3, 2], &[1, 4, 2]])]), PAIR),
+    (
+        "two paths",
+        Pairs(&[(1, 2, &[&[1, 3, 2], &[1, 4, 2]])]),
+        PAIR,
+    ),
     (
         "a shared node",
         Pairs(&[(1, 2, &[&[1, 3, 2], &[1, 4, 3, 2], &[1, 5, 2]])]),
@@ -259,7 +280,12 @@ const CUTS_OF_TRIANGLES: [Row; 3] = [
 
 #[test]
 fn two_triangles_split_at_one_and_not_at_two(rt: HostRuntime) -> Result<(), Fail> {
-    have_faults(rt.alloc(), TWO_TRIANGLES, TRIANGLES_AT_TWO, &CUTS_OF_TRIANGLES)
+    have_faults(
+        rt.alloc(),
+        TWO_TRIANGLES,
+        TRIANGLES_AT_TWO,
+        &CUTS_OF_TRIANGLES,
+    )
 }
 
 /// The square and its certificate are kept.

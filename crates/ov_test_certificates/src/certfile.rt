@@ -3,8 +3,8 @@ use crate::drawn::{
     Drawn, SPLIT_OF_SQUARE, SPLIT_OF_TWO, SQUARE, Said, TWO_LINKED, TWO_UNLINKED, graph, split,
 };
 use crate::files;
-use ov_certfile::{ReadFault, Sink, Source, WriteFault, from_text, to_text};
 use ov_cert::Cert;
+use ov_certfile::{ReadFault, Sink, Source, WriteFault, from_text, to_text};
 use ov_test_kit::Interrupted;
 use std::alloc::Global;
 use std::test::Fail;

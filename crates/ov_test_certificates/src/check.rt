@@ -1,7 +1,7 @@
 //! The lines of worked files, and what devices that fail come to.
 use crate::files::{FIVE_BUT_ONE, SQUARE, TWO_LINKED, TWO_TRIANGLES, TWO_UNLINKED};
-use ov_check::{JudgeFault, judge};
 use ov_certfile::{Sink, Source};
+use ov_check::{JudgeFault, judge};
 use ov_test_kit::Slow;
 use std::alloc::Global;
 use std::process::Abort;

@@ -1,7 +1,7 @@
 //! Graphs at their limits, and what is read back from one.
 use crate::drawn::{Drawn, graph};
-use ov_graph::{Graph, GraphFault};
 use ov_graph::row::{EMPTY, Row, both, first_from, has, is_empty, put, without};
+use ov_graph::{Graph, GraphFault};
 use ov_ids::NodeId;
 use std::alloc::{AllocError, Global};
 use std::test::Fail;
@@ -127,8 +127,14 @@ fn is_row(row: &Row, told: [bool; 6]) -> bool {
 #[test]
 fn a_row_has_the_places_of_neighbours(rt: HostRuntime) -> Result<(), Fail> {
     let graph = Graph::new(rt.alloc(), &NODES, &LINKS)?;
-    let first = is_row(graph.row(NodeId(1)), [false, false, true, true, false, false]);
-    let last = is_row(graph.row(NodeId(9)), [true, false, false, false, false, false]);
+    let first = is_row(
+        graph.row(NodeId(1)),
+        [false, false, true, true, false, false],
+    );
+    let last = is_row(
+        graph.row(NodeId(9)),
+        [true, false, false, false, false, false],
+    );
     assert!(rt; first && last);
     Ok(())
 }
@@ -231,5 +237,15 @@ fn sets_of_places(rt: HostRuntime) {
     let left = without(&odd, &low);
     assert!(rt; is_empty(&EMPTY) && is_empty(&without(&shared, &low)));
     assert!(rt; has_firsts(&shared, &[(0, Some(1)), (2, Some(65)), (66, None)]));
-    assert!(rt; has_firsts(&left, &[(0, Some(63)), (64, Some(127)), (128, Some(255)), (256, None)]));
+    assert!(rt;
+        has_firsts(
+            &left,
+            &[
+                (0, Some(63)),
+                (64, Some(127)),
+                (128, Some(255)),
+                (256, None)
+            ]
+        )
+    );
 }

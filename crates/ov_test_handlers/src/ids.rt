@@ -70,7 +70,10 @@ fn full(rt: &impl Abort) -> IdSet {
 /// A set of as many ids ascends from the first to the last.
 fn ascends(set: &IdSet, len: usize, first: NodeId, last: NodeId) -> bool {
     let ids = set.as_slice();
-    set.len() == len && is_ascending(ids) && ids.first() == Some(&first) && ids.last() == Some(&last)
+    set.len() == len
+        && is_ascending(ids)
+        && ids.first() == Some(&first)
+        && ids.last() == Some(&last)
 }
 
 /// The number 63 alone.

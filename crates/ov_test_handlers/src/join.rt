@@ -1,8 +1,8 @@
 ghost use Rattle.std.specs.Prelude.{◌≡◌, ◌≤◌, length, OnErr};
 
 use crate::nodes::{Change, Spelt, are_spelt, has, numbered, views_with};
-use ov_join::{on_forward_join, on_join, on_joined};
 use ov_ids::{BadParams, NodeId, OutOfMemory, Params};
+use ov_join::{on_forward_join, on_join, on_joined};
 use ov_test_kit::words;
 use ov_views::{Moves, ViewChange, Views};
 use ov_wire::{Body, Message};
@@ -13,8 +13,8 @@ use std::test::Fail;
 
 mod walks;
 
-/// A node with these sizes, ARWL and PRWL, active and passive members, and the words of the event: these first, and then
-/// zeros.
+/// A node with these sizes, ARWL and PRWL, active and passive members, and the words of the event: these first, and
+/// then zeros.
 #[derive(Clone, Copy, Drop)]
 struct Node {
     me: u32,
@@ -42,7 +42,8 @@ enum Said {
     Other,
 }
 
-/// What a node does at an input: the changes, to whom it sends what, the views after it, and how many of 64 words are left.
+/// What a node does at an input: the changes, to whom it sends what, the views after it, and how many of 64 words are
+/// left.
 #[derive(Clone, Copy, Drop)]
 struct Case {
     name: &'static str,
@@ -73,7 +74,13 @@ fn views_of(node: &Node) -> Result<Views, BadParams> {
     let (active, passive) = node.sizes;
     let (arwl, prwl) = node.walks;
     let params = Params::new(active, passive, arwl, prwl, 3, 4, 4)?;
-    Ok(views_with(node.me, params, node.active, node.passive, &words(node.words)))
+    Ok(views_with(
+        node.me,
+        params,
+        node.active,
+        node.passive,
+        &words(node.words),
+    ))
 }
 
 fn handle(
@@ -152,7 +159,11 @@ fn does(rt: &impl Abort, alloc: Global, case: &Case) -> Result<Moves, Fail> {
     let words = words(case.node.words);
     let mut draws = Draws::new(&words);
     let moves = moves_of(rt, alloc, case, &mut views, &mut draws)?;
-    assert!(rt; is_done(case, &moves, &views, draws.left()), "{}", case.name);
+    assert!(rt;
+        is_done(case, &moves, &views, draws.left()),
+        "{}",
+        case.name
+    );
     Ok(moves)
 }
 

@@ -1,8 +1,8 @@
 ghost use Rattle.std.specs.Prelude.{◌≡◌, ◌≤◌, length, OnErr};
 
 use crate::nodes::{Spelt, are_spelt, views_with};
-use ov_neighbor::{Attempt, on_disconnect, on_neighbor, on_reply, on_report};
 use ov_ids::{BadParams, NodeId, OutOfMemory};
+use ov_neighbor::{Attempt, on_disconnect, on_neighbor, on_reply, on_report};
 use ov_test_kit::{sized, words};
 use ov_views::{Moves, ViewChange, Views};
 use ov_wire::Body;
@@ -18,7 +18,8 @@ struct Node {
     attempt: Attempt,
 }
 
-/// What comes to a node: NEIGHBOR with low or high priority, NEIGHBORREPLY of yes or no, DISCONNECT, or the report of a crash.
+/// What comes to a node: NEIGHBOR with low or high priority, NEIGHBORREPLY of yes or no, DISCONNECT, or the report of
+/// a crash.
 #[derive(Clone, Copy)]
 enum Event {
     Low,
@@ -29,8 +30,8 @@ enum Event {
     Crash,
 }
 
-/// A node with these sizes and members of its views, and what comes to it in turn: from whom or of whom, what, and what is told
-/// of that step. Each step's words are these first, and then zeros.
+/// A node with these sizes and members of its views, and what comes to it in turn: from whom or of whom, what, and
+/// what is told of that step. Each step's words are these first, and then zeros.
 struct Run {
     me: u32,
     sizes: (u32, u32),
@@ -138,7 +139,8 @@ fn tell_ids(text: &mut String, ids: &[NodeId]) -> Result<(), AllocError> {
     Ok(())
 }
 
-/// The changes and what is sent to whom | then who is active | who is passive | whom the attempt has tried | words left.
+/// The changes and what is sent to whom | then who is active | who is passive | whom the attempt has tried | words
+/// left.
 fn told(alloc: Global, node: &Node, moves: &Moves, left: usize) -> Result<String, AllocError> {
     let mut text = String::with_capacity(alloc, 128)?;
     tell_changes(&mut text, moves.changes.as_slice())?;
@@ -188,15 +190,26 @@ fn play_all(rt: &impl Abort, alloc: Global, runs: &[Run]) -> Result<(), Fail> {
     Ok(())
 }
 
+/// One step of the node, at which it sends these bytes.
+fn step_spells(
+    alloc: Global,
+    node: &mut Node,
+    words: &Words,
+    from: NodeId,
+    event: Event,
+    want: Spelt,
+) -> Result<bool, Fail> {
+    let moves = handle(alloc, node, &mut Draws::new(words), from, event)?;
+    Ok(are_spelt(alloc, &moves.sends, want)?)
+}
+
 /// The run is played, and then played once more with a look at the bytes of what is sent at each of its first steps.
 fn play_spelt(rt: &impl Abort, alloc: Global, run: &Run, sent: &[Spelt]) -> Result<(), Fail> {
     play(rt, alloc, run)?;
     let words = words(run.words);
     let mut node = node_of(alloc, run)?;
     for ((from, event, _), want) in run.steps.iter().zip(sent) {
-        let draws = &mut Draws::new(&words);
-        let moves = handle(alloc, &mut node, draws, NodeId(*from), *event)?;
-        assert!(rt; are_spelt(alloc, &moves.sends, *want)?);
+        assert!(rt; step_spells(alloc, &mut node, &words, NodeId(*from), *event, *want)?);
     }
     Ok(())
 }

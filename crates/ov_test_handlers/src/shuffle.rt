@@ -1,18 +1,19 @@
 ghost use Rattle.std.specs.Prelude.{◌≡◌, ◌≤◌, length, OnErr};
 
-use crate::nodes::{are, are_spelt, has, views_with};
-use ov_shuffle::{Sent, on_reply, on_shuffle, start};
+use crate::nodes::{Spelt, are, are_spelt, has, views_with};
 use ov_ids::{BadParams, NodeId, OutOfMemory, Params};
+use ov_shuffle::{Sent, on_reply, on_shuffle, start};
 use ov_test_kit::{ids, words};
 use ov_views::{Moves, Views};
-use ov_wire::{Body, Message};
+use ov_wire::{Body, Message, WireFault};
 use ov_words::Draws;
 use std::alloc::Global;
 use std::process::Abort;
 use std::test::Fail;
 
-/// A node with these sizes of its views, numbers of members that it samples of each, active and passive members, and list of
-/// its last shuffle, and the words of the event: these first, and then zeros. A shuffle sets out with 4 steps.
+/// A node with these sizes of its views, numbers of members that it samples of each, active and passive members, and
+/// list of its last shuffle, and the words of the event: these first, and then zeros. A shuffle sets out with 4
+/// steps.
 #[derive(Clone, Copy, Drop)]
 struct Node {
     me: u32,
@@ -40,8 +41,9 @@ enum Said {
     Other,
 }
 
-/// What a node does where it starts a shuffle, or at SHUFFLE or SHUFFLEREPLY of these ids: to whom it sends what with which list, the passive members and the last shuffle's list after
-/// it, and how many of 64 words are left. The active view never changes.
+/// What a node does where it starts a shuffle, or at SHUFFLE or SHUFFLEREPLY of these ids: to whom it sends what with
+/// which list, the passive members and the last shuffle's list after it, and how many of 64 words are left. The
+/// active view never changes.
 #[derive(Clone, Copy, Drop)]
 struct Case {
     name: &'static str,
@@ -83,7 +85,13 @@ fn views_of(node: &Node) -> Result<Views, BadParams> {
     let (active, passive) = node.sizes;
     let (ka, kp) = node.samples;
     let params = Params::new(active, passive, 6, 3, ka, kp, 4)?;
-    Ok(views_with(node.me, params, node.active, node.passive, &words(node.words)))
+    Ok(views_with(
+        node.me,
+        params,
+        node.active,
+        node.passive,
+        &words(node.words),
+    ))
 }
 
 fn sent_of(alloc: Global, node: &Node) -> Result<Sent, OutOfMemory> {
@@ -183,7 +191,11 @@ fn does(rt: &impl Abort, alloc: Global, case: &Case) -> Result<(), Fail> {
     let words = words(case.node.words);
     let mut draws = Draws::new(&words);
     let moves = moves_of(rt, alloc, case, &mut views, &mut sent, &mut draws)?;
-    assert!(rt; is_done(case, &moves, &views, &sent, draws.left()), "{}", case.name);
+    assert!(rt;
+        is_done(case, &moves, &views, &sent, draws.left()),
+        "{}",
+        case.name
+    );
     Ok(())
 }
 
@@ -649,42 +661,56 @@ const SECOND: Node = Node {
 static SHUFFLE: [(u32, &'static [u8]); 1] = [(
     8,
     &[
-        1, 7, 0, 0, 0, 1, 0, 0, 0, 1, 4, 5, 0, 0, 0, 1, 0, 0, 0, 3, 0, 0, 0, 8, 0, 0, 0, 6, 0, 0, 0, 4,
+        1, 7, 0, 0, 0, 1, 0, 0, 0, 1, 4, 5, 0, 0, 0, 1, 0, 0, 0, 3, 0, 0, 0, 8, 0, 0, 0, 6, 0, 0,
+        0, 4,
     ],
 )];
 
 /// To node 1, the answer of node 8, of 2 alone.
 static REPLY: [(u32, &'static [u8]); 1] = [(1, &[1, 8, 0, 0, 0, 8, 1, 0, 0, 0, 2])];
 
+/// The moves are these sends alone.
+fn are_only(alloc: Global, moves: &Moves, expected: Spelt) -> Result<bool, WireFault> {
+    if !moves.changes.is_empty() {
+        return Ok(false);
+    }
+    are_spelt(alloc, &moves.sends, expected)
+}
+
 /// Node 1 starts a shuffle, and sends `SHUFFLE`. This is a copy of its list.
 fn starts(rt: &impl Abort, alloc: Global, first: &Views) -> Result<Sent, Fail> {
     let mut sent = Sent::new(alloc);
     let words = words(DEFAULT.words);
     let moves = start(alloc, first, &mut sent, &mut Draws::new(&words))?;
-    assert!(rt; moves.changes.is_empty() && are_spelt(alloc, &moves.sends, &SHUFFLE)?);
+    assert!(rt; are_only(alloc, &moves, &SHUFFLE)?);
     Ok(sent.copy()?)
 }
 
 /// Node 8 takes the list of node 1 in, and sends `REPLY`.
-fn answers(rt: &impl Abort, alloc: Global) -> Result<(), Fail> {
+fn is_answered(alloc: Global) -> Result<bool, Fail> {
     let mut second = views_of(&SECOND)?;
     let words = words(SECOND.words);
     let ids = ids_of(&[1, 3, 8, 6, 4]);
     let draws = &mut Draws::new(&words);
-    let moves = on_shuffle(alloc, &mut second, draws, NodeId(1), NodeId(1), 4, &ids[..5])?;
-    assert!(rt; moves.changes.is_empty() && are_spelt(alloc, &moves.sends, &REPLY)?);
-    assert!(rt; has(&second, &[1], &[2, 3, 4, 6]));
-    Ok(())
+    let moves = on_shuffle(
+        alloc,
+        &mut second,
+        draws,
+        NodeId(1),
+        NodeId(1),
+        4,
+        &ids[..5],
+    )?;
+    Ok(has(&second, &[1], &[2, 3, 4, 6]) && are_only(alloc, &moves, &REPLY)?)
 }
 
 /// Node 1 takes 2 in, and sends nothing.
-fn ends(rt: &impl Abort, alloc: Global, first: &mut Views, sent: &Sent) -> Result<(), Fail> {
+fn is_taken_in(alloc: Global, first: &mut Views, sent: &Sent) -> Result<bool, OutOfMemory> {
     let words = words(SECOND.words);
     let draws = &mut Draws::new(&words);
     let moves = on_reply(alloc, first, sent, draws, NodeId(8), &[NodeId(2)])?;
-    assert!(rt; moves.sends.is_empty() && moves.changes.is_empty());
-    assert!(rt; has(first, &[3, 8], &[2, 4, 6]));
-    Ok(())
+    let is_silent = moves.sends.is_empty() && moves.changes.is_empty();
+    Ok(is_silent && has(first, &[3, 8], &[2, 4, 6]))
 }
 
 #[test]
@@ -693,6 +719,7 @@ fn a_shuffle_goes_there_and_back(rt: HostRuntime) -> Result<(), Fail> {
     let mut first = views_of(&DEFAULT)?;
     let sent = starts(&rt, alloc, &first)?;
     assert!(&rt; are(sent.as_slice(), &[1, 3, 8, 6, 4]));
-    answers(&rt, alloc)?;
-    ends(&rt, alloc, &mut first, &sent)
+    assert!(&rt; is_answered(alloc)?);
+    assert!(&rt; is_taken_in(alloc, &mut first, &sent)?);
+    Ok(())
 }

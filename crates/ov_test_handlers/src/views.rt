@@ -2,9 +2,9 @@ ghost use Rattle.std.specs.Prelude.{◌≤◌, length};
 
 use crate::ids::is_refused;
 use crate::nodes::{Change, are, has, numbered, views_with};
-use ov_views::{Changes, View, Views};
 use ov_ids::{BadParams, NodeId, Params};
 use ov_test_kit::{sized, words};
+use ov_views::{Changes, View, Views};
 use ov_words::Draws;
 use std::process::Abort;
 use std::test::Fail;
@@ -20,7 +20,13 @@ enum Call {
 }
 
 /// A call and the changes that it tells, then the active and the passive members after it, and how many words are left.
-type Step = (Call, &'static [Change], &'static [u32], &'static [u32], usize);
+type Step = (
+    Call,
+    &'static [Change],
+    &'static [u32],
+    &'static [u32],
+    usize,
+);
 
 /// Views of node 1 with these sizes.
 fn views(active: u32, passive: u32) -> Result<Views, BadParams> {
@@ -63,7 +69,9 @@ fn go(rt: &impl Abort, views: &mut Views, draws: &mut Draws<'_>, steps: &[Step])
     for (call, changes, active, passive, left) in steps {
         assert!(rt; draws.left() >= 2);
         let told = take(views, draws, *call);
-        assert!(rt; are_told(told, *changes) && has(views, *active, *passive) && draws.left() == *left);
+        assert!(rt;
+            are_told(told, *changes) && has(views, *active, *passive) && draws.left() == *left
+        );
     }
 }
 
@@ -169,16 +177,22 @@ fn who_goes_is_told_where_it_was_active(rt: HostRuntime) -> Result<(), Fail> {
     Ok(())
 }
 
+/// Of the active members two are sampled, and then all, and of the passive ones, of whom there are none, nobody.
+fn are_sampled(views: &Views, draws: &mut Draws<'_>) -> bool
+    requires { 40 ≤ length draws.old }
+{
+    let two = views.sample(View::Active, 2, draws);
+    let all = views.sample(View::Active, 8, draws);
+    let nobody = views.sample(View::Passive, 8, draws);
+    are(two.as_slice(), &[9, 3]) && are(all.as_slice(), &[3, 7, 9]) && nobody.as_slice().is_empty()
+}
+
 #[test]
 fn a_sample_is_in_the_order_of_picking(rt: HostRuntime) -> Result<(), Fail> {
     let words = words(&[5, 4]);
     let views = views_with(1, sized(5, 30)?, &[3, 7, 9], &[], &words);
     let mut draws = Draws::new(&words);
-    let two = views.sample(View::Active, 2, &mut draws);
-    let all = views.sample(View::Active, 8, &mut draws);
-    let nobody = views.sample(View::Passive, 8, &mut draws);
-    assert!(rt; are(two.as_slice(), &[9, 3]) && are(all.as_slice(), &[3, 7, 9]));
-    assert!(rt; nobody.as_slice().is_empty() && draws.left() == 59);
+    assert!(rt; are_sampled(&views, &mut draws) && draws.left() == 59);
     Ok(())
 }
 

@@ -1,6 +1,6 @@
-use ov_wire::{Body, Message, WireFault, decode};
 use ov_ids::{NodeId, OutOfMemory};
 use ov_test_kit::{ids, is_spelt, message_id, payload};
+use ov_wire::{Body, Message, WireFault, decode};
 use std::alloc::Global;
 use std::process::Abort;
 use std::test::Fail;
@@ -46,8 +46,19 @@ fn is_read_back(alloc: Global, message: &Message, bytes: &[u8]) -> Result<bool, 
 
 /// Both ways between the message and its bytes; each part of the bytes is too short, and one byte more is too long.
 fn both_ways(rt: &impl Abort, alloc: Global, message: &Message, bytes: &[u8]) -> Result<(), Fail> {
-    assert!(rt; is_read_back(alloc, message, bytes)? && ends_there(alloc, bytes)?);
+    assert!(rt; is_read_back(alloc, message, bytes)?);
+    assert!(rt; ends_there(alloc, bytes)?);
     Ok(())
+}
+
+/// The same of a message with a list.
+fn list_both_ways(
+    rt: &impl Abort,
+    alloc: Global,
+    message: Message,
+    bytes: &[u8],
+) -> Result<(), Fail> {
+    both_ways(rt, alloc, &message, bytes)
 }
 
 /// Bytes, and the number of their fault or 0.
@@ -81,28 +92,35 @@ fn shuffle(alloc: Global, ttl: u8, numbers: &[u32]) -> Result<Message, OutOfMemo
     Ok(message(1, Body::Shuffle { origin, ttl, ids }))
 }
 
-/// The bytes of SHUFFLE with the most steps and ids, each of which is 0x01020304.
-fn full_shuffle() -> [u8; 80] {
+/// The bytes of SHUFFLE with the most steps and this count of ids, where 17 follow. Each is 0x01020304.
+fn full_shuffle(count: u8) -> [u8; 80] {
     let mut bytes = [0; 80];
-    bytes[..12].copy_from_slice(&[1, 7, 0, 0, 0, 1, 0, 0, 0, 1, 15, 17]);
+    bytes[..12].copy_from_slice(&[1, 7, 0, 0, 0, 1, 0, 0, 0, 1, 15, count]);
     for i in 12..80 {
         bytes[i] = (i % 4 + 1) as u8;
     }
     bytes
 }
 
+/// A list of 18 is refused before its ids are read.
+fn refuses_18(rt: &impl Abort, alloc: Global) {
+    let bytes = full_shuffle(18);
+    for len in 12..80 {
+        assert!(rt;
+            fault(alloc, &bytes[..len]) == 4,
+            "of a list of 18 in {len} bytes"
+        );
+    }
+}
+
 #[test]
 fn shuffle_bytes(rt: HostRuntime) -> Result<(), Fail> {
     let alloc = rt.alloc();
     let empty = shuffle(alloc, 4, &[])?;
-    both_ways(&rt, alloc, &empty, &[1, 7, 0, 0, 0, 1, 0, 0, 0, 1, 4, 0])?;
+    list_both_ways(&rt, alloc, empty, &[1, 7, 0, 0, 0, 1, 0, 0, 0, 1, 4, 0])?;
     let full = shuffle(alloc, 15, &[0x0102_0304; 17])?;
-    let mut bytes = full_shuffle();
-    both_ways(&rt, alloc, &full, &bytes)?;
-    bytes[11] = 18;
-    for len in 12..80 {
-        assert!(&rt; fault(alloc, &bytes[..len]) == 4, "of a list of 18 in {len} bytes");
-    }
+    list_both_ways(&rt, alloc, full, &full_shuffle(17))?;
+    refuses_18(&rt, alloc);
     Ok(())
 }
 
@@ -117,11 +135,26 @@ fn plain() -> [(Message, &'static [u8]); 10] {
             &[1, 2, 0, 0, 0, 1, 0, 0, 0, 9, 6],
         ),
         (message(3, Body::Joined), &[1, 3, 0, 0, 0, 3]),
-        (message(1, Body::Neighbor { high: true }), &[1, 4, 0, 0, 0, 1, 1]),
-        (message(1, Body::Neighbor { high: false }), &[1, 4, 0, 0, 0, 1, 0]),
-        (message(1, Body::NeighborReply { accepted: true }), &[1, 5, 0, 0, 0, 1, 1]),
-        (message(1, Body::NeighborReply { accepted: false }), &[1, 5, 0, 0, 0, 1, 0]),
-        (message(0xffff_fffe, Body::Disconnect), &[1, 6, 255, 255, 255, 254]),
+        (
+            message(1, Body::Neighbor { high: true }),
+            &[1, 4, 0, 0, 0, 1, 1],
+        ),
+        (
+            message(1, Body::Neighbor { high: false }),
+            &[1, 4, 0, 0, 0, 1, 0],
+        ),
+        (
+            message(1, Body::NeighborReply { accepted: true }),
+            &[1, 5, 0, 0, 0, 1, 1],
+        ),
+        (
+            message(1, Body::NeighborReply { accepted: false }),
+            &[1, 5, 0, 0, 0, 1, 0],
+        ),
+        (
+            message(0xffff_fffe, Body::Disconnect),
+            &[1, 6, 255, 255, 255, 254],
+        ),
         (
             message(5, Body::IHave { id }),
             &[1, 10, 0, 0, 0, 5, 1, 2, 3, 4, 5, 6, 7, 8],
@@ -143,29 +176,44 @@ fn the_bytes_of_each_kind(rt: HostRuntime) -> Result<(), Fail> {
     Ok(())
 }
 
+fn reply(alloc: Global, numbers: &[u32]) -> Result<Message, OutOfMemory> {
+    let ids = ids(alloc, numbers)?;
+    Ok(message(3, Body::ShuffleReply { ids }))
+}
+
 fn gossip(alloc: Global, round: u16, bytes: &[u8]) -> Result<Message, OutOfMemory> {
     let id = message_id(1, 0);
     let payload = payload(alloc, bytes)?;
     Ok(message(1, Body::Gossip { id, round, payload }))
 }
 
-static SHORT_GOSSIP: [u8; 20] = [
+static OF_REPLY: [u8; 15] = [1, 8, 0, 0, 0, 3, 2, 0, 0, 0, 5, 0, 0, 0, 9];
+
+static OF_GOSSIP: [u8; 20] = [
     1, 9, 0, 0, 0, 1, 0, 0, 0, 1, 0, 0, 0, 0, 0, 0, 0, 2, 0x68, 0x69,
 ];
+
+/// The bytes of GOSSIP of round 0x0203, by which the payload has 1,024 bytes and so many more. 1,024 follow.
+fn long_gossip(more: u8) -> [u8; 1042] {
+    let mut bytes = [7; 1042];
+    bytes[..18].copy_from_slice(&[1, 9, 0, 0, 0, 1, 0, 0, 0, 1, 0, 0, 0, 0, 2, 3, 4, more]);
+    bytes
+}
+
+/// A payload of 1,025 bytes is refused before its bytes are read.
+fn refuses_1025(alloc: Global) -> bool {
+    let bytes = long_gossip(1);
+    fault(alloc, &bytes) == 4 && fault(alloc, &bytes[..18]) == 4
+}
 
 #[test]
 fn the_bytes_of_lists(rt: HostRuntime) -> Result<(), Fail> {
     let alloc = rt.alloc();
-    let ids = ids(alloc, &[5, 9])?;
-    let reply = message(3, Body::ShuffleReply { ids });
-    both_ways(&rt, alloc, &reply, &[1, 8, 0, 0, 0, 3, 2, 0, 0, 0, 5, 0, 0, 0, 9])?;
-    both_ways(&rt, alloc, &gossip(alloc, 0, b"hi")?, &SHORT_GOSSIP)?;
+    list_both_ways(&rt, alloc, reply(alloc, &[5, 9])?, &OF_REPLY)?;
+    list_both_ways(&rt, alloc, gossip(alloc, 0, b"hi")?, &OF_GOSSIP)?;
     let long = gossip(alloc, 0x0203, &[7; 1024])?;
-    let mut bytes = [7; 1042];
-    bytes[..18].copy_from_slice(&[1, 9, 0, 0, 0, 1, 0, 0, 0, 1, 0, 0, 0, 0, 2, 3, 4, 0]);
-    both_ways(&rt, alloc, &long, &bytes)?;
-    bytes[17] = 1;
-    assert!(&rt; fault(alloc, &bytes) == 4 && fault(alloc, &bytes[..18]) == 4);
+    list_both_ways(&rt, alloc, long, &long_gossip(0))?;
+    assert!(&rt; refuses_1025(alloc));
     Ok(())
 }
 

@@ -1,9 +1,9 @@
 ghost use Rattle.std.specs.Prelude.{◌+◌, ◌%◌, ◌^◌};
 ghost use Rattle.rand_core.specs.Steps.{stream_of, steps_u64_low};
 
-use ov_words::{Draws, Words};
 use ov_ids::NodeId;
 use ov_test_kit::words;
+use ov_words::{Draws, Words};
 use rand_core::Rng;
 use rand_core::utils::{self, NextWord};
 use std::marker::Model;

@@ -1,5 +1,5 @@
-//! What the tests of several crates share: ids, words and payloads from numbers, ids and bytes as text, and devices that
-//! fail.
+//! What the tests of several crates share: ids, words and payloads from numbers, ids and bytes as text, and devices
+//! that fail.
 #![tactic(auto)]
 
 mod devices;

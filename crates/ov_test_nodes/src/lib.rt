@@ -5,3 +5,5 @@
 mod peer;
 #[cfg(test)]
 mod plum;
+#[cfg(test)]
+mod told;

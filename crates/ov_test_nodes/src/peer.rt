@@ -1,37 +1,32 @@
 ghost use Rattle.std.specs.Prelude.{IfOk};
 ghost use Rattle.ov_peer.specs.Faults.{IsInputInRange};
 
+use crate::told::{is_whole, put_sends};
+use ov_ids::{BadParams, NodeId};
 use ov_peer::{Delivery, Input, Output, Peer, PeerFault};
-use ov_ids::{MsgId, NodeId, Params, Seq};
+use ov_test_kit::{message_id, payload, put_hex, put_ids, sized};
 use ov_views::ViewChange;
-use ov_wire::{Body, Message, decode, encode};
+use ov_wire::{Message, WireFault, decode};
 use ov_words::Words;
-use std::alloc::Global;
+use std::alloc::{AllocError, Global};
 use std::process::Abort;
 use std::test::Fail;
 
 /// What comes to a node.
 #[derive(Clone, Copy, Drop)]
-enum Given {
+enum Given<'a> {
     Boot,
     BootBy(u32),
     /// A message of these bytes.
-    Hears(&'static [u8]),
+    Hears(&'a [u8]),
     Crash(u32),
     Shuffle,
-    Broadcast(&'static [u8]),
+    Broadcast(&'a [u8]),
     /// The timer of the message with this origin and number.
     Timer(u32, u32),
 }
 
-fn message_id(origin: u32, seq: u32) -> MsgId {
-    MsgId {
-        origin: NodeId(origin),
-        seq,
-    }
-}
-
-fn input_of(alloc: Global, given: Given) -> Result<Input, Fail>
+fn input_of(alloc: Global, given: Given<'_>) -> Result<Input, Fail>
     ensures { IfOk result (λ i. IsInputInRange i) }
 {
     Ok(match given {
@@ -40,49 +35,13 @@ fn input_of(alloc: Global, given: Given) -> Result<Input, Fail>
         Given::Hears(bytes) => Input::Receive(decode(alloc, bytes)?),
         Given::Crash(id) => Input::Report(NodeId(id)),
         Given::Shuffle => Input::Shuffle,
-        Given::Broadcast(bytes) => Input::Broadcast(Seq::new(Vec::from_slice(alloc, bytes)?)),
+        Given::Broadcast(bytes) => Input::Broadcast(payload(alloc, bytes)?),
         Given::Timer(origin, seq) => Input::Timer(message_id(origin, seq)),
     })
 }
 
-/// The bytes of a message whose fields are within their ranges.
-fn bytes_of(alloc: Global, message: &Message) -> Result<Vec<u8>, Fail> {
-    let is_in_range = match &message.body {
-        Body::ForwardJoin { ttl, .. } => *ttl <= 15,
-        Body::Shuffle { ttl, ids, .. } => *ttl <= 15 && ids.as_slice().len() <= 17,
-        Body::ShuffleReply { ids } => ids.as_slice().len() <= 17,
-        Body::Gossip { payload, .. } => payload.as_slice().len() <= 1024,
-        _ => true,
-    };
-    if !is_in_range {
-        return Err("a field is out of its range".into());
-    }
-    Ok(encode(alloc, message)?)
-}
-
-fn put_hex(told: &mut String, bytes: &[u8]) -> Result<(), Fail> {
-    for byte in bytes {
-        write!(told, "{byte:02x}")?;
-    }
-    Ok(())
-}
-
-fn put_ids(told: &mut String, name: &str, ids: &[NodeId]) -> Result<(), Fail> {
-    told.push_str(name)?;
-    if ids.is_empty() {
-        told.push_str("-")?;
-    }
-    let mut separator = "";
-    for id in ids {
-        let number = id.number();
-        write!(told, "{separator}{number}")?;
-        separator = ",";
-    }
-    Ok(())
-}
-
 /// The node's views and branches, the number of its next broadcast, and whether the timer of (7, 0) is set.
-fn state(alloc: Global, peer: &Peer) -> Result<String, Fail> {
+fn state(alloc: Global, peer: &Peer) -> Result<String, AllocError> {
     let mut told = String::new(alloc);
     put_ids(&mut told, "active", peer.active())?;
     put_ids(&mut told, "passive", peer.passive())?;
@@ -96,7 +55,7 @@ fn state(alloc: Global, peer: &Peer) -> Result<String, Fail> {
     Ok(told)
 }
 
-fn put_changes(told: &mut String, changes: &[ViewChange]) -> Result<(), Fail> {
+fn put_changes(told: &mut String, changes: &[ViewChange]) -> Result<(), AllocError> {
     for change in changes {
         let (name, id) = match *change {
             ViewChange::Up(id) => ("up", id.number()),
@@ -107,40 +66,42 @@ fn put_changes(told: &mut String, changes: &[ViewChange]) -> Result<(), Fail> {
     Ok(())
 }
 
-fn put_output(
+fn put_delivery(told: &mut String, delivery: &Delivery) -> Result<(), AllocError> {
+    let node = delivery.node.number();
+    let origin = delivery.id.origin.number();
+    let seq = delivery.id.seq;
+    write!(told, ";{node}delivers({origin},{seq})")?;
+    put_hex(told, delivery.payload.as_slice())
+}
+
+/// What an output or a plan says.
+fn told_of(
     alloc: Global,
-    told: &mut String,
     sends: &[(NodeId, Message)],
     changes: &[ViewChange],
     delivered: Option<&Delivery>,
-) -> Result<(), Fail> {
-    put_changes(told, changes)?;
-    for (to, message) in sends {
-        let number = to.number();
-        write!(told, ";to{number}:")?;
-        put_hex(told, bytes_of(alloc, message)?.as_slice())?;
-    }
+) -> Result<String, WireFault> {
+    let mut told = String::new(alloc);
+    put_changes(&mut told, changes)?;
+    put_sends(alloc, &mut told, ";", sends)?;
     if let Some(delivery) = delivered {
-        let node = delivery.node.number();
-        let origin = delivery.id.origin.number();
-        let seq = delivery.id.seq;
-        write!(told, ";{node}delivers({origin},{seq})")?;
-        put_hex(told, delivery.payload.as_slice())?;
+        put_delivery(&mut told, delivery)?;
     }
-    Ok(())
+    Ok(told)
 }
 
-/// What an output says.
-fn done(alloc: Global, output: &Output) -> Result<String, Fail> {
-    let mut told = String::new(alloc);
-    put_output(
+fn done(alloc: Global, output: &Output) -> Result<String, WireFault> {
+    told_of(
         alloc,
-        &mut told,
         &output.sends,
         &output.changes,
         output.delivered.as_ref(),
-    )?;
-    Ok(told)
+    )
+}
+
+fn is_done(alloc: Global, output: &Output, planned: &str) -> Result<bool, WireFault> {
+    let done = done(alloc, output)?;
+    Ok(done.as_str() == planned)
 }
 
 /// How a step is taken: at once, or as it was planned.
@@ -155,28 +116,27 @@ fn follow(
     rt: &impl Abort,
     alloc: Global,
     peer: &mut Peer,
-    given: Given,
+    input: Input,
     words: &Words,
-) -> Result<Result<Output, PeerFault>, Fail> {
-    let plan = match peer.plan(input_of(alloc, given)?, words) {
+) -> Result<Result<Output, PeerFault>, WireFault>
+    requires { IsInputInRange input }
+{
+    let plan = match peer.plan(input, words) {
         Ok(plan) => plan,
         Err(fault) => return Ok(Err(fault)),
     };
-    let mut planned = String::new(alloc);
-    put_output(
-        alloc,
-        &mut planned,
-        &plan.sends,
-        &plan.changes,
-        plan.delivered.as_ref(),
-    )?;
+    let planned = told_of(alloc, &plan.sends, &plan.changes, plan.delivered.as_ref())?;
     match peer.apply(plan) {
         Ok(output) => {
-            assert_eq!(rt; done(alloc, &output)?.as_str(), planned.as_str());
+            assert!(rt; is_done(alloc, &output, planned.as_str())?);
             Ok(Ok(output))
         }
         Err(_) => Ok(Err(PeerFault::OutOfMemory)),
     }
+}
+
+fn fives() -> Words {
+    Words::new([5; 64])
 }
 
 /// One step, where each word of the event is 5.
@@ -184,14 +144,20 @@ fn take(
     rt: &impl Abort,
     alloc: Global,
     peer: &mut Peer,
-    given: Given,
+    given: Given<'_>,
     way: Way,
 ) -> Result<Result<Output, PeerFault>, Fail> {
-    let words = Words::new([5; 64]);
+    let words = fives();
+    let input = input_of(alloc, given)?;
     match way {
-        Way::AtOnce => Ok(peer.step(input_of(alloc, given)?, &words)),
-        Way::Planned => follow(rt, alloc, peer, given, &words),
+        Way::AtOnce => Ok(peer.step(input, &words)),
+        Way::Planned => Ok(follow(rt, alloc, peer, input, &words)?),
     }
+}
+
+fn is_as(alloc: Global, peer: &Peer, before: &str) -> Result<bool, AllocError> {
+    let now = state(alloc, peer)?;
+    Ok(now.as_str() == before)
 }
 
 /// One step. Where memory is refused the node is as before, and the step is taken anew.
@@ -199,50 +165,62 @@ fn step(
     rt: &impl Abort,
     alloc: Global,
     peer: &mut Peer,
-    given: Given,
+    given: Given<'_>,
     way: Way,
 ) -> Result<Result<Output, PeerFault>, Fail> {
     let before = state(alloc, peer)?;
     match take(rt, alloc, peer, given, way)? {
         Err(PeerFault::OutOfMemory) => {
-            assert_eq!(rt; state(alloc, peer)?.as_str(), before.as_str());
+            assert!(rt; is_as(alloc, peer, before.as_str())?);
             take(rt, alloc, peer, given, way)
         }
         answer => Ok(answer),
     }
 }
 
-/// The node does as each row says, one after another. A row has what comes to the node; then its state afterwards, its changes,
-/// what it sends to whom, and what it delivers, where spaces do not count.
+/// What is told of one step: the state after it, and what it brought.
+fn told_after(
+    rt: &impl Abort,
+    alloc: Global,
+    peer: &mut Peer,
+    given: Given<'_>,
+    way: Way,
+) -> Result<String, Fail> {
+    let answer = step(rt, alloc, peer, given, way)?;
+    let mut told = state(alloc, peer)?;
+    match answer {
+        Ok(output) => told.push_str(&done(alloc, &output)?)?,
+        Err(fault) => {
+            let number = fault.number();
+            write!(told, ";refused{number}")?;
+        }
+    }
+    Ok(told)
+}
+
+/// The node does as each row says, one after another. A row has what comes to the node; then its state afterwards,
+/// its changes, what it sends to whom, and what it delivers, where spaces do not count.
 fn goes(
     rt: &impl Abort,
     alloc: Global,
     peer: &mut Peer,
-    rows: &[(Given, &'static str)],
+    rows: &[(Given<'static>, &'static str)],
     way: Way,
 ) -> Result<(), Fail> {
     for (given, expected) in rows {
-        let answer = step(rt, alloc, peer, *given, way)?;
-        let mut told = state(alloc, peer)?;
-        match answer {
-            Ok(output) => told.push_str(&done(alloc, &output)?)?,
-            Err(fault) => {
-                let number = fault.number();
-                write!(told, ";refused{number}")?;
-            }
-        }
+        let told = told_after(rt, alloc, peer, *given, way)?;
         let expected = expected.replace(alloc, " ", "")?;
         assert_eq!(rt; told.as_str(), expected.as_str());
     }
     Ok(())
 }
 
-fn node(alloc: Global, me: u32, active: u32) -> Result<Peer, Fail> {
-    Ok(Peer::new(alloc, NodeId(me), Params::new(active, 30, 6, 3, 3, 4, 4)?))
+fn node(alloc: Global, me: u32, active: u32) -> Result<Peer, BadParams> {
+    Ok(Peer::new(alloc, NodeId(me), sized(active, 30)?))
 }
 
 /// Node 1 with two active places. Word 5 picks the second of two.
-static FULL_VIEW: [(Given, &str); 17] = [
+static FULL_VIEW: [(Given<'static>, &'static str); 17] = [
     (Given::Boot, "active - passive - eager - lazy - made 0"),
     (
         Given::BootBy(4),
@@ -310,17 +288,25 @@ static FULL_VIEW: [(Given, &str); 17] = [
     ),
 ];
 
+/// Node 1 with two active places does as each row says.
+fn small_node_goes(
+    rt: &impl Abort,
+    alloc: Global,
+    rows: &[(Given<'static>, &'static str)],
+    way: Way,
+) -> Result<(), Fail> {
+    let mut peer = node(alloc, 1, 2)?;
+    goes(rt, alloc, &mut peer, rows, way)
+}
+
 #[test]
 fn views_and_tree_go_together(rt: HostRuntime) -> Result<(), Fail> {
-    for way in [Way::AtOnce, Way::Planned] {
-        let mut peer = node(rt.alloc(), 1, 2)?;
-        goes(&rt, rt.alloc(), &mut peer, &FULL_VIEW, way)?;
-    }
-    Ok(())
+    small_node_goes(&rt, rt.alloc(), &FULL_VIEW, Way::AtOnce)?;
+    small_node_goes(&rt, rt.alloc(), &FULL_VIEW, Way::Planned)
 }
 
 /// Node 2 comes to have neighbours 1 and 5, waits for (7, 0), and loses 1 with its note.
-static WAITS: [(Given, &str); 6] = [
+static WAITS: [(Given<'static>, &'static str); 6] = [
     (
         Given::Hears(&[1, 3, 0, 0, 0, 1]),
         "active 1 passive - eager 1 lazy - made 0; up 1",
@@ -348,7 +334,7 @@ static WAITS: [(Given, &str); 6] = [
 ];
 
 /// Node 2 asks 5 for (7, 0), broadcasts, takes 1 in anew, and gets (7, 0) twice.
-static GETS: [(Given, &str); 11] = [
+static GETS: [(Given<'static>, &'static str); 11] = [
     (
         Given::Timer(7, 0),
         "active 5 passive 1 eager 5 lazy - made 0 timer; to 5: 01 0b 00000002 00000007 00000000",
@@ -401,18 +387,26 @@ static GETS: [(Given, &str); 11] = [
     ),
 ];
 
+fn copy_goes(rt: &impl Abort, alloc: Global, peer: &Peer) -> Result<(), Fail> {
+    let mut copy = peer.copy()?;
+    goes(rt, alloc, &mut copy, &GETS, Way::Planned)
+}
+
+fn both_go(rt: &impl Abort, alloc: Global, peer: &mut Peer) -> Result<(), Fail> {
+    goes(rt, alloc, peer, &WAITS, Way::AtOnce)?;
+    copy_goes(rt, alloc, peer)?;
+    goes(rt, alloc, peer, &GETS, Way::AtOnce)
+}
+
 #[test]
 fn a_node_and_its_copy_go_their_own_ways(rt: HostRuntime) -> Result<(), Fail> {
     let mut peer = node(rt.alloc(), 2, 5)?;
-    goes(&rt, rt.alloc(), &mut peer, &WAITS, Way::AtOnce)?;
-    let mut copy = peer.copy()?;
-    goes(&rt, rt.alloc(), &mut copy, &GETS, Way::Planned)?;
-    goes(&rt, rt.alloc(), &mut peer, &GETS, Way::AtOnce)
+    both_go(&rt, rt.alloc(), &mut peer)
 }
 
-/// Node 1 with two active places, 3 and 7. The last note of a message goes with its sender, who disconnects or crashes; a boot
-/// asks for nothing.
-static WHOLE: [(Given, &str); 15] = [
+/// Node 1 with two active places, 3 and 7. The last note of a message goes with its sender, who disconnects or
+/// crashes; a boot asks for nothing.
+static WHOLE: [(Given<'static>, &'static str); 15] = [
     (
         Given::Hears(&[1, 3, 0, 0, 0, 3]),
         "active 3 passive - eager 3 lazy - made 0; up 3",
@@ -476,7 +470,7 @@ static WHOLE: [(Given, &str); 15] = [
 ];
 
 /// The note of a member that is dropped for another goes too.
-static DROPPED: [(Given, &str); 5] = [
+static DROPPED: [(Given<'static>, &'static str); 5] = [
     (
         Given::Hears(&[1, 3, 0, 0, 0, 3]),
         "active 3 passive - eager 3 lazy - made 0; up 3",
@@ -501,54 +495,82 @@ static DROPPED: [(Given, &str); 5] = [
 
 #[test]
 fn notes_go_with_their_senders(rt: HostRuntime) -> Result<(), Fail> {
-    let mut peer = node(rt.alloc(), 1, 2)?;
-    goes(&rt, rt.alloc(), &mut peer, &WHOLE, Way::Planned)?;
-    let mut peer = node(rt.alloc(), 1, 2)?;
-    goes(&rt, rt.alloc(), &mut peer, &DROPPED, Way::AtOnce)
+    small_node_goes(&rt, rt.alloc(), &WHOLE, Way::Planned)?;
+    small_node_goes(&rt, rt.alloc(), &DROPPED, Way::AtOnce)
 }
 
 /// As many bytes as a payload may have.
 static MOST: [u8; 1024] = [7; 1024];
 
-/// One message is sent, which begins with this head and ends with `MOST`, and that is delivered.
-fn brings(rt: &impl Abort, alloc: Global, output: &Output, head: &[u8]) -> Result<(), Fail> {
-    assert_eq!(rt; output.sends.len(), 1);
-    let bytes = bytes_of(alloc, &output.sends[0].1)?;
-    assert_eq!(rt; bytes.len(), 1042);
-    assert!(rt; bytes.starts_with(head));
-    assert!(rt; bytes.ends_with(&MOST));
-    let delivery = output.delivered.as_ref().ok_or("nothing is delivered")?;
-    assert_eq!(rt; delivery.payload.as_slice(), &MOST[..]);
+fn most() -> &'static [u8] {
+    &MOST
+}
+
+fn is_delivered(output: &Output, payload: &[u8]) -> bool {
+    match &output.delivered {
+        Some(delivery) => delivery.payload.as_slice() == payload,
+        None => false,
+    }
+}
+
+/// One message is sent, whose bytes are this head and then the payload, and that is delivered.
+fn brings(alloc: Global, output: &Output, head: &[u8], payload: &[u8]) -> Result<bool, WireFault> {
+    if output.sends.len() != 1 || !is_delivered(output, payload) {
+        return Ok(false);
+    }
+    is_whole(alloc, &output.sends[0].1, head, payload)
+}
+
+/// The node takes this in and sends one message: this head and then `MOST`.
+fn sends_most(
+    rt: &impl Abort,
+    alloc: Global,
+    peer: &mut Peer,
+    given: Given<'_>,
+    head: &[u8],
+) -> Result<bool, Fail> {
+    match take(rt, alloc, peer, given, Way::AtOnce)? {
+        Ok(output) => Ok(brings(alloc, &output, head, most())?),
+        Err(_) => Ok(false),
+    }
+}
+
+/// A GOSSIP of `MOST` comes from node 3, and is handed on.
+fn hands_on(rt: &impl Abort, alloc: Global, peer: &mut Peer) -> Result<bool, Fail> {
+    let from_three = [1, 9, 0, 0, 0, 3, 0, 0, 0, 7, 0, 0, 0, 0, 0, 0, 4, 0];
+    let mut gossip = Vec::from_slice(alloc, &from_three)?;
+    gossip.extend_from_slice(most())?;
+    let sent_on = [1, 9, 0, 0, 0, 1, 0, 0, 0, 7, 0, 0, 0, 0, 0, 1, 4, 0];
+    sends_most(rt, alloc, peer, Given::Hears(&gossip), &sent_on)
+}
+
+fn hands_most_on(rt: &impl Abort, alloc: Global, peer: &mut Peer) -> Result<(), Fail> {
+    goes(rt, alloc, peer, &DROPPED[..2], Way::AtOnce)?;
+    assert!(rt; hands_on(rt, alloc, peer)?);
+    Ok(())
+}
+
+fn broadcasts_most(rt: &impl Abort, alloc: Global, peer: &mut Peer) -> Result<(), Fail> {
+    goes(rt, alloc, peer, &DROPPED[..1], Way::AtOnce)?;
+    let sent = [1, 9, 0, 0, 0, 1, 0, 0, 0, 1, 0, 0, 0, 0, 0, 0, 4, 0];
+    assert!(rt; sends_most(rt, alloc, peer, Given::Broadcast(most()), &sent)?);
     Ok(())
 }
 
 #[test]
 fn a_gossip_of_1024_bytes(rt: HostRuntime) -> Result<(), Fail> {
-    let alloc = rt.alloc();
-    let mut peer = node(alloc, 1, 2)?;
-    goes(&rt, alloc, &mut peer, &DROPPED[..2], Way::AtOnce)?;
-    let from_three = [1, 9, 0, 0, 0, 3, 0, 0, 0, 7, 0, 0, 0, 0, 0, 0, 4, 0];
-    let mut gossip = Vec::from_slice(alloc, &from_three)?;
-    gossip.extend_from_slice(&MOST)?;
-    let input = Input::Receive(decode(alloc, &gossip)?);
-    let output = peer.step(input, &Words::new([5; 64]))?;
-    let sent_on = [1, 9, 0, 0, 0, 1, 0, 0, 0, 7, 0, 0, 0, 0, 0, 1, 4, 0];
-    brings(&rt, alloc, &output, &sent_on)
+    let mut peer = node(rt.alloc(), 1, 2)?;
+    hands_most_on(&rt, rt.alloc(), &mut peer)
 }
 
 #[test]
 fn a_broadcast_of_1024_bytes(rt: HostRuntime) -> Result<(), Fail> {
-    let alloc = rt.alloc();
-    let mut peer = node(alloc, 1, 2)?;
-    goes(&rt, alloc, &mut peer, &DROPPED[..1], Way::AtOnce)?;
-    let most = Seq::new(Vec::from_slice(alloc, &MOST)?);
-    let output = peer.step(Input::Broadcast(most), &Words::new([5; 64]))?;
-    let sent = [1, 9, 0, 0, 0, 1, 0, 0, 0, 1, 0, 0, 0, 0, 0, 0, 4, 0];
-    brings(&rt, alloc, &output, &sent)
+    let mut peer = node(rt.alloc(), 1, 2)?;
+    broadcasts_most(&rt, rt.alloc(), &mut peer)
 }
 
 /// A node that has made all its broadcasts.
-static SPENT: [(Given, &str); 2] = [
+static SPENT: [(Given<'static>, &'static str); 2] = [
     (
         Given::Broadcast(b"hi"),
         "active - passive - eager - lazy - made 4096; refused 20",
@@ -559,34 +581,55 @@ static SPENT: [(Given, &str); 2] = [
     ),
 ];
 
+/// The output delivers the broadcast of node 1 with this number.
+fn is_made(output: &Output, made: u32) -> bool {
+    match &output.delivered {
+        Some(delivery) => delivery.id == message_id(1, made),
+        None => false,
+    }
+}
+
+/// Node 1 makes a broadcast of no bytes, with this number of its own.
+fn broadcasts(rt: &impl Abort, alloc: Global, peer: &mut Peer, made: u32) -> Result<bool, Fail> {
+    match take(rt, alloc, peer, Given::Broadcast(&[]), Way::AtOnce)? {
+        Ok(output) => Ok(is_made(&output, made)),
+        Err(_) => Ok(false),
+    }
+}
+
+fn spends_all(rt: &impl Abort, alloc: Global, peer: &mut Peer) -> Result<(), Fail> {
+    for made in 0..4096_u32 {
+        assert!(rt; broadcasts(rt, alloc, peer, made)?);
+    }
+    goes(rt, alloc, peer, &SPENT, Way::Planned)
+}
+
 #[test]
 fn a_node_makes_4096_broadcasts(rt: HostRuntime) -> Result<(), Fail> {
-    let words = Words::new([5; 64]);
     let mut peer = node(rt.alloc(), 1, 2)?;
-    for made in 0..4096_u32 {
-        let empty = Seq::new(Vec::new(rt.alloc()));
-        let output = peer.step(Input::Broadcast(empty), &words)?;
-        let delivery = output.delivered.as_ref().ok_or("nothing is delivered")?;
-        assert_eq!(&rt; delivery.id, message_id(1, made));
-    }
-    goes(&rt, rt.alloc(), &mut peer, &SPENT, Way::Planned)
+    spends_all(&rt, rt.alloc(), &mut peer)
+}
+
+static FAULTS: [(PeerFault, u32, &'static str); 4] = [
+    (PeerFault::NoTimer, 18, "the timer is not set"),
+    (PeerFault::PayloadTooLong, 19, "the payload is too long"),
+    (
+        PeerFault::TooManyMessages,
+        20,
+        "the node has made too many broadcasts",
+    ),
+    (PeerFault::OutOfMemory, 99, "out of memory"),
+];
+
+fn is_shown(alloc: Global, fault: PeerFault, number: u32, text: &str) -> Result<bool, AllocError> {
+    let shown = fault.to_string(alloc)?;
+    Ok(fault.number() == number && shown.as_str() == text)
 }
 
 #[test]
 fn faults_have_their_numbers(rt: HostRuntime) -> Result<(), Fail> {
-    let rows = [
-        (PeerFault::NoTimer, 18, "the timer is not set"),
-        (PeerFault::PayloadTooLong, 19, "the payload is too long"),
-        (
-            PeerFault::TooManyMessages,
-            20,
-            "the node has made too many broadcasts",
-        ),
-        (PeerFault::OutOfMemory, 99, "out of memory"),
-    ];
-    for (fault, number, text) in rows {
-        assert_eq!(rt; fault.number(), number);
-        assert_eq!(rt; fault.to_string(rt.alloc())?.as_str(), text);
+    for (fault, number, text) in &FAULTS {
+        assert!(&rt; is_shown(rt.alloc(), *fault, *number, *text)?, "{text}");
     }
     Ok(())
 }

@@ -1,9 +1,11 @@
-ghost use Rattle.std.specs.Prelude.{◌≡◌, ◌≤◌, length, IfOk};
+ghost use Rattle.std.specs.Prelude.{◌≤◌, length};
 
+use crate::told::{is_whole, put_sends};
+use ov_ids::{MsgId, NodeId, OutOfMemory};
 use ov_plum::{Plum, Spread, TimerFault};
-use ov_ids::{MsgId, NodeId, OutOfMemory, Seq};
-use ov_wire::{Body, Message, encode};
-use std::alloc::Global;
+use ov_test_kit::{message_id, payload, put_hex, put_ids};
+use ov_wire::{Message, WireFault};
+use std::alloc::{AllocError, Global};
 use std::process::Abort;
 use std::test::Fail;
 
@@ -29,12 +31,6 @@ const OWN: MsgId = MsgId {
     seq: 0,
 };
 
-fn payload(alloc: Global, bytes: &[u8]) -> Result<Seq<u8>, OutOfMemory>
-    ensures { IfOk result (λ p. p ≡ bytes.now) }
-{
-    Ok(Seq::new(Vec::from_slice(alloc, bytes)?))
-}
-
 fn comes_up(rt: &impl Abort, plum: &mut Plum, id: u32) {
     assert!(rt; plum.eager().len() + plum.lazy().len() < 64);
     plum.up(NodeId(id));
@@ -47,13 +43,6 @@ fn node(rt: &impl Abort, alloc: Global, near: &[u32]) -> Plum {
         comes_up(rt, &mut plum, *id);
     }
     plum
-}
-
-fn message_id(origin: u32, seq: u32) -> MsgId {
-    MsgId {
-        origin: NodeId(origin),
-        seq,
-    }
 }
 
 /// Nothing is sent or delivered.
@@ -94,42 +83,8 @@ fn take(
     })
 }
 
-/// The bytes of a message of Plumtree.
-fn bytes_of(alloc: Global, message: &Message) -> Result<Vec<u8>, Fail> {
-    let is_plain = match &message.body {
-        Body::Gossip { payload, .. } => payload.as_slice().len() <= 1024,
-        Body::IHave { .. } | Body::Graft { .. } | Body::Prune => true,
-        _ => false,
-    };
-    if !is_plain {
-        return Err("not a message of Plumtree".into());
-    }
-    Ok(encode(alloc, message)?)
-}
-
-fn put_hex(told: &mut String, bytes: &[u8]) -> Result<(), Fail> {
-    for byte in bytes {
-        write!(told, "{byte:02x}")?;
-    }
-    Ok(())
-}
-
-fn put_ids(told: &mut String, name: &str, ids: &[NodeId]) -> Result<(), Fail> {
-    told.push_str(name)?;
-    if ids.is_empty() {
-        told.push_str("-")?;
-    }
-    let mut separator = "";
-    for id in ids {
-        let number = id.number();
-        write!(told, "{separator}{number}")?;
-        separator = ",";
-    }
-    Ok(())
-}
-
 /// The node's neighbours, and which timers of (2,0), (2,1) and (7,0) are set.
-fn state(alloc: Global, plum: &Plum) -> Result<String, Fail> {
+fn state(alloc: Global, plum: &Plum) -> Result<String, AllocError> {
     let mut told = String::new(alloc);
     put_ids(&mut told, "eager", plum.eager())?;
     put_ids(&mut told, "lazy", plum.lazy())?;
@@ -141,19 +96,25 @@ fn state(alloc: Global, plum: &Plum) -> Result<String, Fail> {
     Ok(told)
 }
 
-fn put_spread(alloc: Global, told: &mut String, spread: &Spread) -> Result<(), Fail> {
-    for (to, message) in &spread.sends {
-        let number = to.number();
-        write!(told, ",to{number}:")?;
-        put_hex(told, bytes_of(alloc, message)?.as_slice())?;
-    }
+fn put_delivered(told: &mut String, id: MsgId, payload: &[u8]) -> Result<(), AllocError> {
+    let origin = id.origin.number();
+    let seq = id.seq;
+    write!(told, ",delivered({origin},{seq}):")?;
+    put_hex(told, payload)
+}
+
+fn put_spread(alloc: Global, told: &mut String, spread: &Spread) -> Result<(), WireFault> {
+    put_sends(alloc, told, ",", &spread.sends)?;
     if let Some((id, payload)) = &spread.delivered {
-        let origin = id.origin.number();
-        let seq = id.seq;
-        write!(told, ",delivered({origin},{seq}):")?;
-        put_hex(told, payload.as_slice())?;
+        put_delivered(told, *id, payload.as_slice())?;
     }
     Ok(())
+}
+
+/// The node's state and number of broadcasts are these.
+fn is_as(alloc: Global, plum: &Plum, before: &str, made: u32) -> Result<bool, AllocError> {
+    let now = state(alloc, plum)?;
+    Ok(now.as_str() == before && plum.made() == made)
 }
 
 /// One step. Where memory is refused the node is as before, and the step is taken anew.
@@ -162,21 +123,31 @@ fn step(
     alloc: Global,
     plum: &mut Plum,
     input: Input,
-) -> Result<Result<Spread, TimerFault>, Fail> {
+) -> Result<Result<Spread, TimerFault>, AllocError> {
     let before = state(alloc, plum)?;
     let made = plum.made();
     match take(rt, alloc, plum, input) {
         Err(TimerFault::OutOfMemory) => {
-            assert_eq!(rt; state(alloc, plum)?.as_str(), before.as_str());
-            assert_eq!(rt; plum.made(), made);
+            assert!(rt; is_as(alloc, plum, before.as_str(), made)?);
             Ok(take(rt, alloc, plum, input))
         }
         answer => Ok(answer),
     }
 }
 
-/// The node does as each row says, one after another. A row has what comes to the node; then its state afterwards, what it
-/// sends to whom, and what it delivers, where spaces do not count.
+/// What is told of one step.
+fn told_of(rt: &impl Abort, alloc: Global, plum: &mut Plum, input: Input) -> Result<String, Fail> {
+    let answer = step(rt, alloc, plum, input)?;
+    let mut told = state(alloc, plum)?;
+    match answer {
+        Err(TimerFault::NoTimer) => told.push_str(",refused18")?,
+        spread => put_spread(alloc, &mut told, &spread?)?,
+    }
+    Ok(told)
+}
+
+/// The node does as each row says, one after another. A row has what comes to the node; then its state afterwards,
+/// what it sends to whom, and what it delivers, where spaces do not count.
 fn goes(
     rt: &impl Abort,
     alloc: Global,
@@ -184,16 +155,22 @@ fn goes(
     rows: &[(Input, &'static str)],
 ) -> Result<(), Fail> {
     for (input, expected) in rows {
-        let answer = step(rt, alloc, plum, *input)?;
-        let mut told = state(alloc, plum)?;
-        match answer {
-            Err(TimerFault::NoTimer) => told.push_str(",refused18")?,
-            spread => put_spread(alloc, &mut told, &spread?)?,
-        }
+        let told = told_of(rt, alloc, plum, *input)?;
         let expected = expected.replace(alloc, " ", "")?;
         assert_eq!(rt; told.as_str(), expected.as_str());
     }
     Ok(())
+}
+
+/// Node 2 with these neighbours does as each row says.
+fn node_goes(
+    rt: &impl Abort,
+    alloc: Global,
+    near: &[u32],
+    rows: &[(Input, &'static str)],
+) -> Result<(), Fail> {
+    let mut plum = node(rt, alloc, near);
+    goes(rt, alloc, &mut plum, rows)
 }
 
 static AWAITED: [(Input, &str); 12] = [
@@ -231,8 +208,7 @@ static AWAITED: [(Input, &str); 12] = [
 
 #[test]
 fn an_awaited_message_comes(rt: HostRuntime) -> Result<(), Fail> {
-    let mut plum = node(&rt, rt.alloc(), &[1, 5]);
-    goes(&rt, rt.alloc(), &mut plum, &AWAITED)
+    node_goes(&rt, rt.alloc(), &[1, 5], &AWAITED)
 }
 
 /// A note that stands there is not put twice. One that was taken out goes last, and who is then asked is eager.
@@ -275,8 +251,7 @@ static NOTES: [(Input, &str); 16] = [
 
 #[test]
 fn notes_keep_their_order(rt: HostRuntime) -> Result<(), Fail> {
-    let mut plum = node(&rt, rt.alloc(), &[5, 1]);
-    goes(&rt, rt.alloc(), &mut plum, &NOTES)
+    node_goes(&rt, rt.alloc(), &[5, 1], &NOTES)
 }
 
 /// Of who goes down no note is left, at any id, and the timers run on.
@@ -327,8 +302,7 @@ static LEFT: [(Input, &str); 8] = [
 
 #[test]
 fn who_is_left_is_asked_in_order(rt: HostRuntime) -> Result<(), Fail> {
-    let mut plum = node(&rt, rt.alloc(), &[1, 5, 8]);
-    goes(&rt, rt.alloc(), &mut plum, &LEFT)
+    node_goes(&rt, rt.alloc(), &[1, 5, 8], &LEFT)
 }
 
 /// Who is no neighbour is answered, and does not become one.
@@ -416,34 +390,34 @@ static NUMBERED: [(Input, &str); 9] = [
 
 #[test]
 fn who_is_down_leaves_no_notes(rt: HostRuntime) -> Result<(), Fail> {
-    let mut plum = node(&rt, rt.alloc(), &[1, 5]);
-    goes(&rt, rt.alloc(), &mut plum, &GONE)
+    node_goes(&rt, rt.alloc(), &[1, 5], &GONE)
 }
 
 #[test]
 fn strangers_stay_strangers(rt: HostRuntime) -> Result<(), Fail> {
-    let mut plum = node(&rt, rt.alloc(), &[1, 5]);
-    goes(&rt, rt.alloc(), &mut plum, &STRANGE)
+    node_goes(&rt, rt.alloc(), &[1, 5], &STRANGE)
 }
 
 #[test]
 fn its_own_messages_do_nothing(rt: HostRuntime) -> Result<(), Fail> {
-    let mut plum = node(&rt, rt.alloc(), &[1, 5]);
-    goes(&rt, rt.alloc(), &mut plum, &ITSELF)
+    node_goes(&rt, rt.alloc(), &[1, 5], &ITSELF)
 }
 
 #[test]
 fn links_and_rounds(rt: HostRuntime) -> Result<(), Fail> {
-    let mut plum = node(&rt, rt.alloc(), &[1, 5]);
-    goes(&rt, rt.alloc(), &mut plum, &LINKS)
+    node_goes(&rt, rt.alloc(), &[1, 5], &LINKS)
+}
+
+fn makes_two(rt: &impl Abort, alloc: Global, plum: &mut Plum) -> Result<(), Fail> {
+    goes(rt, alloc, plum, &NUMBERED)?;
+    assert!(rt; plum.made() == 2);
+    Ok(())
 }
 
 #[test]
 fn broadcasts_are_numbered(rt: HostRuntime) -> Result<(), Fail> {
     let mut plum = node(&rt, rt.alloc(), &[1, 5]);
-    goes(&rt, rt.alloc(), &mut plum, &NUMBERED)?;
-    assert_eq!(rt; plum.made(), 2);
-    Ok(())
+    makes_two(&rt, rt.alloc(), &mut plum)
 }
 
 /// Whole messages go before announcements, each in ascending order; neither goes back to the sender.
@@ -466,8 +440,7 @@ static SPREAD: [(Input, &str); 5] = [
 
 #[test]
 fn whole_messages_go_first(rt: HostRuntime) -> Result<(), Fail> {
-    let mut plum = node(&rt, rt.alloc(), &[8, 5, 3, 1]);
-    goes(&rt, rt.alloc(), &mut plum, &SPREAD)
+    node_goes(&rt, rt.alloc(), &[8, 5, 3, 1], &SPREAD)
 }
 
 static BEFORE: [(Input, &str); 4] = [
@@ -500,30 +473,81 @@ static AFTER: [(Input, &str); 5] = [
     ),
 ];
 
-fn with_state(rt: &impl Abort, alloc: Global) -> Result<Plum, Fail> {
-    let mut plum = node(rt, alloc, &[1, 5]);
-    goes(rt, alloc, &mut plum, &BEFORE)?;
-    Ok(plum)
+/// A copy of the node goes on.
+fn copy_goes(rt: &impl Abort, alloc: Global, plum: &Plum) -> Result<(), Fail> {
+    let mut copy = plum.copy()?;
+    assert!(rt; copy.made() == 1);
+    goes(rt, alloc, &mut copy, &AFTER)
 }
 
-fn go_both(rt: &impl Abort, alloc: Global, mut one: Plum, mut other: Plum) -> Result<(), Fail> {
-    goes(rt, alloc, &mut one, &AFTER)?;
-    goes(rt, alloc, &mut other, &AFTER)
+fn copy_goes_first(rt: &impl Abort, alloc: Global, plum: &mut Plum) -> Result<(), Fail> {
+    goes(rt, alloc, plum, &BEFORE)?;
+    copy_goes(rt, alloc, plum)?;
+    goes(rt, alloc, plum, &AFTER)
 }
 
 #[test]
 fn a_copy_goes_its_own_way(rt: HostRuntime) -> Result<(), Fail> {
-    let plum = with_state(&rt, rt.alloc())?;
-    let copy = plum.copy()?;
-    assert_eq!(rt; copy.made(), 1);
-    go_both(&rt, rt.alloc(), copy, plum)
+    let mut plum = node(&rt, rt.alloc(), &[1, 5]);
+    copy_goes_first(&rt, rt.alloc(), &mut plum)
+}
+
+fn copy_goes_last(rt: &impl Abort, alloc: Global, plum: &mut Plum) -> Result<(), Fail> {
+    goes(rt, alloc, plum, &BEFORE)?;
+    let mut copy = plum.copy()?;
+    goes(rt, alloc, plum, &AFTER)?;
+    goes(rt, alloc, &mut copy, &AFTER)
 }
 
 #[test]
 fn a_node_goes_on_beside_its_copy(rt: HostRuntime) -> Result<(), Fail> {
-    let plum = with_state(&rt, rt.alloc())?;
-    let copy = plum.copy()?;
-    go_both(&rt, rt.alloc(), plum, copy)
+    let mut plum = node(&rt, rt.alloc(), &[1, 5]);
+    copy_goes_last(&rt, rt.alloc(), &mut plum)
+}
+
+/// One message is sent, to node 1, and its bytes are this head and then the payload.
+fn is_sent_whole(
+    alloc: Global,
+    sends: &[(NodeId, Message)],
+    head: &[u8],
+    payload: &[u8],
+) -> Result<bool, WireFault> {
+    if sends.len() != 1 || sends[0].0 != NodeId(1) {
+        return Ok(false);
+    }
+    is_whole(alloc, &sends[0].1, head, payload)
+}
+
+/// The node's first broadcast is delivered with this payload.
+fn is_delivered(spread: &Spread, given: &[u8]) -> bool {
+    match &spread.delivered {
+        Some((id, payload)) => *id == OWN && payload.as_slice() == given,
+        None => false,
+    }
+}
+
+/// The node makes its first broadcast, of these bytes, which is delivered and goes whole to node 1.
+fn broadcasts(alloc: Global, plum: &mut Plum, given: &[u8], head: &[u8]) -> Result<bool, Fail>
+    requires { length given.now ≤ 1024 }
+{
+    if plum.made() != 0 {
+        return Ok(false);
+    }
+    let spread = plum.broadcast(payload(alloc, given)?)?;
+    Ok(is_delivered(&spread, given) && is_sent_whole(alloc, &spread.sends, head, given)?)
+}
+
+/// Node 1 asks for it, and it goes whole to it once more.
+fn is_answered(alloc: Global, plum: &mut Plum, given: &[u8], head: &[u8]) -> Result<bool, Fail> {
+    let spread = plum.on_graft(NodeId(1), OWN)?;
+    Ok(is_sent_whole(alloc, &spread.sends, head, given)?)
+}
+
+/// The node makes that broadcast, and sends it again where it is asked.
+fn goes_twice(alloc: Global, plum: &mut Plum, given: &[u8], head: &[u8]) -> Result<bool, Fail>
+    requires { length given.now ≤ 1024 }
+{
+    Ok(broadcasts(alloc, plum, given, head)? && is_answered(alloc, plum, given, head)?)
 }
 
 /// One broadcast of as many bytes, which goes whole to node 1.
@@ -531,21 +555,7 @@ fn goes_whole(rt: &impl Abort, alloc: Global, given: &[u8], head: &[u8]) -> Resu
     requires { length given.now ≤ 1024 }
 {
     let mut plum = node(rt, alloc, &[1]);
-    let made = plum.made();
-    assert_eq!(rt; made, 0);
-    let spread = plum.broadcast(payload(alloc, given)?)?;
-    let delivered = spread.delivered.as_ref().ok_or("nothing is delivered")?;
-    assert_eq!(rt; delivered.0, OWN);
-    assert_eq!(rt; delivered.1.as_slice(), given);
-    let grafted = plum.on_graft(NodeId(1), OWN)?;
-    for sends in [&spread.sends, &grafted.sends] {
-        assert_eq!(rt; sends.len(), 1);
-        assert_eq!(rt; sends[0].0, NodeId(1));
-        let bytes = bytes_of(alloc, &sends[0].1)?;
-        assert_eq!(rt; bytes.len(), head.len() + given.len());
-        assert!(rt; bytes.starts_with(head));
-        assert!(rt; bytes.ends_with(given));
-    }
+    assert!(rt; goes_twice(alloc, &mut plum, given, head)?);
     Ok(())
 }
 
@@ -561,15 +571,15 @@ fn payloads_of_none_and_of_1024_bytes(rt: HostRuntime) -> Result<(), Fail> {
     goes_whole(&rt, rt.alloc(), &most, &head)
 }
 
+fn is_shown(alloc: Global, fault: TimerFault, number: u32, text: &str) -> Result<bool, AllocError> {
+    let shown = fault.to_string(alloc)?;
+    Ok(fault.number() == number && shown.as_str() == text)
+}
+
 #[test]
 fn faults_have_their_numbers(rt: HostRuntime) -> Result<(), Fail> {
-    let rows = [
-        (TimerFault::NoTimer, 18, "the timer is not set"),
-        (TimerFault::OutOfMemory, 99, "out of memory"),
-    ];
-    for (fault, number, text) in rows {
-        assert_eq!(rt; fault.number(), number);
-        assert_eq!(rt; fault.to_string(rt.alloc())?.as_str(), text);
-    }
+    let alloc = rt.alloc();
+    assert!(&rt; is_shown(alloc, TimerFault::NoTimer, 18, "the timer is not set")?);
+    assert!(&rt; is_shown(alloc, TimerFault::OutOfMemory, 99, "out of memory")?);
     Ok(())
 }

@@ -1,6 +1,6 @@
 //! Worlds of nodes: what events come to, and what is refused.
-use ov_net::{Change, Entry, Event, NetFault, World};
 use ov_ids::NodeId;
+use ov_net::{Change, Entry, Event, NetFault, World};
 use ov_test_kit::{message_id, payload, put_hex, put_ids, sized, words};
 use std::alloc::Global;
 use std::process::Abort;
@@ -173,7 +173,7 @@ fn is_as(alloc: Global, world: &World, before: &str) -> Result<bool, Fail> {
     Ok(state(alloc, world)?.as_str() == before)
 }
 
-/// What a copy of an event is answered. Where memory was refused the world is as before, and the event is tried once more.
+/// What a copy of an event is answered. Where memory was refused the world is as before, and the event is tried again.
 fn answer(
     rt: &impl Abort,
     alloc: Global,
@@ -189,24 +189,37 @@ fn answer(
     Ok(step(world, event.copy(alloc)?))
 }
 
-fn refused(alloc: Global, fault: NetFault) -> Result<String, Fail> {
+/// What is told of an entry, which the world keeps.
+fn kept(rt: &impl Abort, alloc: Global, world: &World, entry: &Entry) -> Result<String, Fail> {
+    let told = told_of(alloc, entry)?;
+    assert!(rt; is_kept(alloc, world, entry, &told)?);
+    Ok(told)
+}
+
+/// What is told of a refusal, after which the world is as before.
+fn refused(
+    rt: &impl Abort,
+    alloc: Global,
+    world: &World,
+    fault: NetFault,
+    before: &str,
+) -> Result<String, Fail> {
+    assert!(rt; is_as(alloc, world, before)?);
     let number = fault.number();
     Ok(format!(in alloc; "refused {number}")?)
 }
 
-/// What is told of an event's answer. Where it is an entry the world keeps that, and where it is refused the world is as before.
-fn happens(rt: &impl Abort, alloc: Global, world: &mut World, event: &Event) -> Result<String, Fail> {
+/// What is told of an event's answer.
+fn happens(
+    rt: &impl Abort,
+    alloc: Global,
+    world: &mut World,
+    event: &Event,
+) -> Result<String, Fail> {
     let before = state(alloc, world)?;
     match answer(rt, alloc, world, event, &before)? {
-        Ok(entry) => {
-            let told = told_of(alloc, &entry)?;
-            assert!(rt; is_kept(alloc, world, &entry, &told)?);
-            Ok(told)
-        }
-        Err(fault) => {
-            assert!(rt; is_as(alloc, world, &before)?);
-            refused(alloc, fault)
-        }
+        Ok(entry) => kept(rt, alloc, world, &entry),
+        Err(fault) => refused(rt, alloc, world, fault, &before),
     }
 }
 
@@ -257,11 +270,10 @@ fn all_go(
 }
 
 /// The copy of a broadcast's entry.
-fn copied_broadcast(alloc: Global) -> Result<Entry, Fail> {
-    let mut world = world(alloc, 5)?;
-    step(&mut world, Event::Boot(NodeId(1), None))?;
-    let event = Event::Broadcast(NodeId(1), payload(alloc, b"hi")?);
-    let entry = step(&mut world, event)?;
+fn copied_broadcast(alloc: Global, world: &mut World) -> Result<Entry, Fail> {
+    step(world, Event::Boot(NodeId(1), None))?;
+    let payload = payload(alloc, b"hi")?;
+    let entry = step(world, Event::Broadcast(NodeId(1), payload))?;
     Ok(entry.copy(alloc)?)
 }
 
@@ -282,7 +294,7 @@ fn is_broadcast(entry: &Entry) -> bool {
 
 #[test]
 fn a_copied_entry_tells_the_same(rt: HostRuntime) -> Result<(), Fail> {
-    let copy = copied_broadcast(rt.alloc())?;
+    let copy = copied_broadcast(rt.alloc(), &mut world(rt.alloc(), 5)?)?;
     assert!(rt; is_broadcast(&copy));
     Ok(())
 }
@@ -313,8 +325,11 @@ static FAULTS: [(NetFault, u32, &str); 12] = [
 #[test]
 fn faults_have_their_numbers(rt: HostRuntime) -> Result<(), Fail> {
     for (fault, number, text) in &FAULTS {
-        assert_eq!(rt; fault.number(), *number);
-        assert_eq!(rt; fault.to_string(rt.alloc())?.as_str(), *text);
+        let shown = fault.to_string(rt.alloc())?;
+        assert!(rt;
+            fault.number() == *number && shown.as_str() == *text,
+            "{text}"
+        );
     }
     Ok(())
 }

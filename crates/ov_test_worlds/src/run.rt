@@ -4,13 +4,20 @@ mod memory;
 mod printed;
 mod runs;
 
-use ov_run::{Line, RunFault, Scenario, read_scenario};
 use ov_ids::{NodeId, Params};
 use ov_net::Event;
+use ov_run::{Line, RunFault, Scenario, read_scenario};
 use ov_test_kit::{message_id, payload, sized, words};
 use std::alloc::Global;
 use std::process::Abort;
 use std::test::Fail;
+
+/// These are the lines of the scenario.
+fn are_lines(alloc: Global, scenario: &Scenario, expected: &[Line]) -> Result<bool, Fail> {
+    let told = format!(in alloc; "{:?}", scenario.lines.as_slice())?;
+    let expected = format!(in alloc; "{expected:?}")?;
+    Ok(told.as_str() == expected.as_str())
+}
 
 /// The file has exactly these lines.
 fn has_lines(
@@ -20,9 +27,7 @@ fn has_lines(
     expected: &[Line],
 ) -> Result<Scenario, Fail> {
     let scenario = read_scenario(alloc, bytes)?;
-    let told = format!(in alloc; "{:?}", scenario.lines.as_slice())?;
-    let expected = format!(in alloc; "{expected:?}")?;
-    assert_eq!(rt; told.as_str(), expected.as_str(), "at {bytes:?}");
+    assert!(rt; are_lines(alloc, &scenario, expected)?, "at {bytes:?}");
     Ok(scenario)
 }
 
@@ -98,12 +103,12 @@ fn numbers_at_their_limits(rt: HostRuntime) -> Result<(), Fail> {
     is_event(&rt, alloc, b"crash 0", Event::Crash(NodeId(0)))?;
     let scenario = has_lines(&rt, alloc, b"seed 18446744073709551615", &[])?;
     assert_eq!(rt; scenario.seed, u64::MAX);
-    let step = Line::Step {
-        event: Event::Snapshot,
-        words: Some(words(&[u64::MAX])),
-    };
-    let _ = has_lines(&rt, alloc, b"words 18446744073709551615\nsnapshot", &[step])?;
-    Ok(())
+    is_snapshot(
+        &rt,
+        alloc,
+        b"words 18446744073709551615\nsnapshot",
+        &[u64::MAX],
+    )
 }
 
 #[test]
@@ -151,7 +156,7 @@ fn a_payload_may_be_too_long_for_a_broadcast(rt: HostRuntime) -> Result<(), Fail
 }
 
 /// Texts of which each line alone is unreadable.
-const UNREADABLE: [&str; 9] = [
+static UNREADABLE: [&str; 9] = [
     "params\nparams 5 30 6 3 3 4\nparams 5 30 6 3 3 4 4 4\nparams 5 30 6 3 3 4 x\nparams 5 30 6 3 3 4 4294967296\nparams 5 30 6 3 3 4 -4\nparams +5 30 6 3 3 4 4\nparams 0 30 6 3 3 4",
     "seed\nseed x\nseed 1 2\nseed 18446744073709551616\nseed 100000000000000000000000\nseed -1\nseed +1\nseed 0x1\nseed 1.0\nseed 1e1",
     "words\nwords x\nwords 5 x\nwords 18446744073709551616\nwords 5",
@@ -163,69 +168,77 @@ const UNREADABLE: [&str; 9] = [
     "analyse 1\nanalyse 1 workers 2\ntogether\nalso\nend\nfly\nBoot 1\nboot1\n1 boot\n\tboot 1\nboot\t1\nboot 1 # first\nboot 1\r\r\n\r\r",
 ];
 
-#[test]
-fn unreadable_lines(rt: HostRuntime) -> Result<(), Fail> {
-    let alloc = rt.alloc();
-    for texts in UNREADABLE {
-        for text in texts.split('\n') {
-            is_refused(&rt, alloc, text.as_bytes(), RunFault::Line(1));
-            let later = format!(in alloc; "boot 1\n\n{text}\nfly\n")?;
-            is_refused(&rt, alloc, later.as_bytes(), RunFault::Line(3));
-        }
-    }
-    is_refused(&rt, alloc, b"boot 1\r", RunFault::Line(1));
-    is_refused(&rt, alloc, b"boot \xff", RunFault::Line(1));
-    is_refused(&rt, alloc, b"\xff", RunFault::Line(1));
-    is_refused(&rt, alloc, b"boot \xb2", RunFault::Line(1));
+/// The line is refused where it is the first one, and where it is a later one.
+fn is_unreadable(rt: &impl Abort, alloc: Global, text: &str) -> Result<(), Fail> {
+    is_refused(rt, alloc, text.as_bytes(), RunFault::Line(1));
+    let later = format!(in alloc; "boot 1\n\n{text}\nfly\n")?;
+    is_refused(rt, alloc, later.as_bytes(), RunFault::Line(3));
     Ok(())
 }
 
+/// Bytes that are unreadable as one line.
+static UNREADABLE_BYTES: [&[u8]; 4] = [b"boot 1\r", b"boot \xff", b"\xff", b"boot \xb2"];
+
+#[test]
+fn unreadable_lines(rt: HostRuntime) -> Result<(), Fail> {
+    for texts in &UNREADABLE {
+        for text in texts.split('\n') {
+            is_unreadable(&rt, rt.alloc(), text)?;
+        }
+    }
+    for bytes in &UNREADABLE_BYTES {
+        is_refused(&rt, rt.alloc(), bytes, RunFault::Line(1));
+    }
+    Ok(())
+}
+
+static FIRST_FAULTS: [(&str, RunFault); 12] = [
+    ("boot 1\n\nfly\nfly\n", RunFault::Line(3)),
+    ("fly\nparams 0 30 6 3 3 4 4", RunFault::Line(1)),
+    ("params 0 30 6 3 3 4 4\nfly", RunFault::Params(1)),
+    ("\n# 1\n  \nparams 17 30 6 3 3 4 4", RunFault::Params(4)),
+    ("boot 1\nparams 5 30 6 3 3 4 4", RunFault::Line(2)),
+    ("snapshot\nparams 0 30 6 3 3 4 4", RunFault::Line(2)),
+    (
+        "params 5 30 6 3 3 4 4\nparams 5 30 6 3 3 4 4",
+        RunFault::Line(2),
+    ),
+    (
+        "params 5 30 6 3 3 4 4\nparams 0 30 6 3 3 4 4",
+        RunFault::Line(2),
+    ),
+    ("seed 1\nseed 1", RunFault::Line(2)),
+    ("boot 1\nseed 1", RunFault::Line(2)),
+    ("snapshot\nseed 1", RunFault::Line(2)),
+    ("words 5\nboot 1\nseed 1", RunFault::Line(3)),
+];
+
 #[test]
 fn the_first_line_at_fault_decides(rt: HostRuntime) {
-    let rows = [
-        ("boot 1\n\nfly\nfly\n", RunFault::Line(3)),
-        ("fly\nparams 0 30 6 3 3 4 4", RunFault::Line(1)),
-        ("params 0 30 6 3 3 4 4\nfly", RunFault::Params(1)),
-        ("\n# 1\n  \nparams 17 30 6 3 3 4 4", RunFault::Params(4)),
-        ("boot 1\nparams 5 30 6 3 3 4 4", RunFault::Line(2)),
-        ("snapshot\nparams 0 30 6 3 3 4 4", RunFault::Line(2)),
-        (
-            "params 5 30 6 3 3 4 4\nparams 5 30 6 3 3 4 4",
-            RunFault::Line(2),
-        ),
-        (
-            "params 5 30 6 3 3 4 4\nparams 0 30 6 3 3 4 4",
-            RunFault::Line(2),
-        ),
-        ("seed 1\nseed 1", RunFault::Line(2)),
-        ("boot 1\nseed 1", RunFault::Line(2)),
-        ("snapshot\nseed 1", RunFault::Line(2)),
-        ("words 5\nboot 1\nseed 1", RunFault::Line(3)),
-    ];
-    for (text, fault) in rows {
-        is_refused(&rt, rt.alloc(), text.as_bytes(), fault);
+    for (text, fault) in &FIRST_FAULTS {
+        is_refused(&rt, rt.alloc(), text.as_bytes(), *fault);
     }
 }
 
+static BEYOND: [&str; 11] = [
+    "0 30 6 3 3 4 4",
+    "17 30 6 3 3 4 4",
+    "5 0 6 3 3 4 4",
+    "5 65 6 3 3 4 4",
+    "5 30 16 3 3 4 4",
+    "5 30 6 7 3 4 4",
+    "5 30 6 3 9 4 4",
+    "5 30 6 3 3 9 4",
+    "5 30 6 3 3 4 0",
+    "5 30 6 3 3 4 16",
+    "5 30 6 3 3 4 4294967295",
+];
+
 #[test]
 fn parameters_out_of_limits(rt: HostRuntime) -> Result<(), Fail> {
-    let alloc = rt.alloc();
-    let beyond = [
-        "0 30 6 3 3 4 4",
-        "17 30 6 3 3 4 4",
-        "5 0 6 3 3 4 4",
-        "5 65 6 3 3 4 4",
-        "5 30 16 3 3 4 4",
-        "5 30 6 7 3 4 4",
-        "5 30 6 3 9 4 4",
-        "5 30 6 3 3 9 4",
-        "5 30 6 3 3 4 0",
-        "5 30 6 3 3 4 16",
-        "5 30 6 3 3 4 4294967295",
-    ];
-    for numbers in beyond {
-        let text = format!(in alloc; "seed 1\nparams {numbers}\n")?;
-        is_refused(&rt, alloc, text.as_bytes(), RunFault::Params(2));
+    for numbers in &BEYOND {
+        let text = format!(in rt.alloc(); "seed 1\nparams {numbers}\n")?;
+        is_refused(&rt, rt.alloc(), text.as_bytes(), RunFault::Params(2));
     }
     Ok(())
 }
@@ -234,8 +247,10 @@ fn parameters_out_of_limits(rt: HostRuntime) -> Result<(), Fail> {
 fn has_params(rt: &impl Abort, alloc: Global, text: &str, p: [u32; 7]) -> Result<(), Fail> {
     let scenario = read_scenario(alloc, text.as_bytes())?;
     let params = Params::new(p[0], p[1], p[2], p[3], p[4], p[5], p[6])?;
-    assert_eq!(rt; scenario.params, params, "at {text}");
-    assert_eq!(rt; scenario.seed, 0, "at {text}");
+    assert!(rt;
+        scenario.params == params && scenario.seed == 0,
+        "at {text}"
+    );
     Ok(())
 }
 
@@ -253,42 +268,50 @@ fn parameters_within_limits(rt: HostRuntime) -> Result<(), Fail> {
     has_params(&rt, alloc, "boot 1", [5, 30, 6, 3, 3, 4, 4])
 }
 
+/// Texts whose words stand before no event, and the line of these words.
+static MISPLACED: [(&str, usize); 11] = [
+    ("words 5\nshow 1", 1),
+    ("words 5\npackets\nboot 1", 1),
+    ("words 5\ncertificate 1\nboot 1", 1),
+    ("words 5\nseed 1\nboot 1", 1),
+    ("words 5\nparams 0 30 6 3 3 4 4", 1),
+    ("words 5\nwords 6\nboot 1", 1),
+    ("words 5\nfly", 1),
+    ("words 5\nboot x", 1),
+    ("boot 1\nwords 5\n", 2),
+    ("boot 1\nwords 5\n# boot 2", 2),
+    ("boot 1\n\nwords 5\n\nfly", 3),
+];
+
+/// The file is a snapshot with these words, and zeros after them.
+fn is_snapshot(rt: &impl Abort, alloc: Global, bytes: &[u8], first: &[u64]) -> Result<(), Fail> {
+    let step = Line::Step {
+        event: Event::Snapshot,
+        words: Some(words(first)),
+    };
+    let _ = has_lines(rt, alloc, bytes, &[step])?;
+    Ok(())
+}
+
 #[test]
 fn words_stand_right_before_an_event(rt: HostRuntime) -> Result<(), Fail> {
     let alloc = rt.alloc();
-    let rows = [
-        ("words 5\nshow 1", 1),
-        ("words 5\npackets\nboot 1", 1),
-        ("words 5\ncertificate 1\nboot 1", 1),
-        ("words 5\nseed 1\nboot 1", 1),
-        ("words 5\nparams 0 30 6 3 3 4 4", 1),
-        ("words 5\nwords 6\nboot 1", 1),
-        ("words 5\nfly", 1),
-        ("words 5\nboot x", 1),
-        ("boot 1\nwords 5\n", 2),
-        ("boot 1\nwords 5\n# boot 2", 2),
-        ("boot 1\n\nwords 5\n\nfly", 3),
-    ];
-    for (text, line) in rows {
-        is_refused(&rt, alloc, text.as_bytes(), RunFault::Line(line));
+    for (text, line) in &MISPLACED {
+        is_refused(&rt, alloc, text.as_bytes(), RunFault::Line(*line));
     }
-    let accepted = [
-        "words 5 6\nsnapshot",
-        "words 5 6\n\n# boot 2\n  \n snapshot\n",
-    ];
-    for text in accepted {
-        let step = Line::Step {
-            event: Event::Snapshot,
-            words: Some(words(&[5, 6])),
-        };
-        let _ = has_lines(&rt, alloc, text.as_bytes(), &[step])?;
-    }
-    Ok(())
+    is_snapshot(&rt, alloc, b"words 5 6\nsnapshot", &[5, 6])?;
+    is_snapshot(
+        &rt,
+        alloc,
+        b"words 5 6\n\n# boot 2\n  \n snapshot\n",
+        &[5, 6],
+    )
 }
 
 #[test]
 fn words_are_for_one_event(rt: HostRuntime) -> Result<(), Fail> {
     let alloc = rt.alloc();
+    let five = payload(alloc, b"5")?;
     let expected = [
         Line::Step {
             event: Event::Deliver(3),
@@ -299,7 +322,7 @@ fn words_are_for_one_event(rt: HostRuntime) -> Result<(), Fail> {
             words: None,
         },
         Line::Step {
-            event: Event::Broadcast(NodeId(4), payload(alloc, b"5")?),
+            event: Event::Broadcast(NodeId(4), five),
             words: Some(words(&[0, 7])),
         },
     ];
@@ -318,61 +341,46 @@ fn with_words(alloc: Global, count: u64) -> Result<String, Fail> {
     Ok(text)
 }
 
+/// The file with so many words, which are these, has them before its event.
+fn is_boot_with(rt: &impl Abort, alloc: Global, numbers: &[u64]) -> Result<(), Fail> {
+    let step = Line::Step {
+        event: Event::Boot(NodeId(1), None),
+        words: Some(words(numbers)),
+    };
+    let text = with_words(alloc, numbers.len() as u64)?;
+    let _ = has_lines(rt, alloc, text.as_bytes(), &[step])?;
+    Ok(())
+}
+
 #[test]
 fn one_to_sixty_four_words(rt: HostRuntime) -> Result<(), Fail> {
-    let alloc = rt.alloc();
     let mut all = [0; 64];
     for (number, word) in (1..).zip(all.iter_mut()) {
         *word = number;
     }
     for count in [1, 2, 63, 64] {
-        let step = Line::Step {
-            event: Event::Boot(NodeId(1), None),
-            words: Some(words(&all[..count])),
-        };
-        let text = with_words(alloc, count as u64)?;
-        let _ = has_lines(&rt, alloc, text.as_bytes(), &[step])?;
+        is_boot_with(&rt, rt.alloc(), &all[..count])?;
     }
-    let text = with_words(alloc, 65)?;
-    is_refused(&rt, alloc, text.as_bytes(), RunFault::Line(1));
+    let text = with_words(rt.alloc(), 65)?;
+    is_refused(&rt, rt.alloc(), text.as_bytes(), RunFault::Line(1));
     Ok(())
 }
 
-/// The fault has this number, names this line and is shown as this text.
-fn is_shown(
-    rt: &impl Abort,
-    alloc: Global,
-    fault: RunFault,
-    number: u32,
-    line: Option<usize>,
-    text: &str,
-) -> Result<(), Fail> {
-    assert_eq!(rt; fault.number(), number, "at {text}");
-    assert_eq!(rt; fault.line(), line, "at {text}");
-    assert_eq!(rt; fault.to_string(alloc)?.as_str(), text);
-    Ok(())
-}
+/// The number of a fault, the line that it names, and the text that it is shown as.
+static SHOWN: [(RunFault, u32, Option<usize>, &str); 5] = [
+    (RunFault::Line(7), 70, Some(7), "line 7: refused 70"),
+    (RunFault::Params(7), 21, Some(7), "line 7: refused 21"),
+    (RunFault::Read, 71, None, "refused 71"),
+    (RunFault::Write, 72, None, "refused 72"),
+    (RunFault::OutOfMemory, 99, None, "refused 99"),
+];
 
 #[test]
 fn faults_have_their_numbers_and_lines(rt: HostRuntime) -> Result<(), Fail> {
-    let alloc = rt.alloc();
-    is_shown(
-        &rt,
-        alloc,
-        RunFault::Line(7),
-        70,
-        Some(7),
-        "line 7: refused 70",
-    )?;
-    is_shown(
-        &rt,
-        alloc,
-        RunFault::Params(7),
-        21,
-        Some(7),
-        "line 7: refused 21",
-    )?;
-    is_shown(&rt, alloc, RunFault::Read, 71, None, "refused 71")?;
-    is_shown(&rt, alloc, RunFault::Write, 72, None, "refused 72")?;
-    is_shown(&rt, alloc, RunFault::OutOfMemory, 99, None, "refused 99")
+    for (fault, number, line, text) in &SHOWN {
+        let shown = fault.to_string(rt.alloc())?;
+        let is_named = fault.number() == *number && fault.line() == *line;
+        assert!(rt; is_named && shown.as_str() == *text, "at {text}");
+    }
+    Ok(())
 }

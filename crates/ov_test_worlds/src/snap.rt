@@ -1,11 +1,11 @@
 //! Snapshots of a world, and the reports that are filed for them.
 mod memory;
 
-use ov_snap::{BookFault, Core, CoreStep, Report, run_core};
 use ov_cert::{Cert, Checked, Split};
 use ov_graph::Graph;
 use ov_ids::{NodeId, Seq};
 use ov_net::{Entry, Event, NetFault};
+use ov_snap::{BookFault, Core, CoreStep, Report, run_core};
 use ov_test_kit::{sized, words};
 use std::alloc::Global;
 use std::process::Abort;
@@ -73,7 +73,7 @@ fn report(alloc: Global, moment: u32, is_linked: bool) -> Result<Report, Fail> {
     Ok(Report::new(moment, checked))
 }
 
-/// A moment, whether its report says that nodes 1 and 2 are linked, the fault of filing it, and whether one is filed then.
+/// A moment, whether its report says that nodes 1 and 2 are linked, the fault of filing it, and whether one is filed.
 static FILINGS: [(u32, bool, Option<BookFault>, bool); 8] = [
     (4, true, Some(BookFault::OtherGraph), false),
     (4, false, None, true),
@@ -86,34 +86,45 @@ static FILINGS: [(u32, bool, Option<BookFault>, bool); 8] = [
 ];
 
 /// The fault of a filing, but for want of memory.
-fn filing(alloc: Global, core: &mut Core, moment: u32, is_linked: bool) -> Result<Option<BookFault>, Fail> {
+fn filing(
+    alloc: Global,
+    core: &mut Core,
+    moment: u32,
+    is_linked: bool,
+) -> Result<Option<BookFault>, Fail> {
     match core.file(report(alloc, moment, is_linked)?) {
         Err(BookFault::OutOfMemory) => Err(BookFault::OutOfMemory.into()),
         answer => Ok(answer.err()),
     }
 }
 
+/// The report of moment 4 is of that moment, and has a cut of nobody.
+fn has_split(core: &Core) -> bool {
+    let Some(report) = core.report(4) else {
+        return false;
+    };
+    report.moment() == 4 && matches!(report.checked().cert(), Cert::Split(split) if split.k == 0)
+}
+
+/// Two nodes join, and reports are filed.
 fn files(rt: &impl Abort, alloc: Global, core: &mut Core) -> Result<(), Fail> {
+    join(core)?;
     for (moment, is_linked, expected, is_filed) in &FILINGS {
         let fault = filing(alloc, core, *moment, *is_linked)?;
         assert_eq!(rt; fault, *expected, "moment {moment} linked {is_linked}");
-        assert_eq!(rt; core.report(*moment).is_some(), *is_filed, "moment {moment}");
+        assert_eq!(rt;
+            core.report(*moment).is_some(),
+            *is_filed,
+            "moment {moment}"
+        );
     }
+    assert!(rt; has_split(core));
     Ok(())
-}
-
-/// This is a report of moment 4 with a cut of nobody.
-fn is_split(report: &Report) -> bool {
-    report.moment() == 4 && matches!(report.checked().cert(), Cert::Split(split) if split.k == 0)
 }
 
 #[test]
 fn a_report_is_filed_once_for_its_own_moment(rt: HostRuntime) -> Result<(), Fail> {
-    let mut core = new_core(rt.alloc())?;
-    join(&mut core)?;
-    files(&rt, rt.alloc(), &mut core)?;
-    assert!(rt; core.report(4).is_some_and(|report| is_split(report)));
-    Ok(())
+    files(&rt, rt.alloc(), &mut new_core(rt.alloc())?)
 }
 
 /// Two nodes join, one crashes, and a last snapshot is taken: its moment.
@@ -126,29 +137,42 @@ fn crashes(core: &mut Core) -> Result<u32, NetFault> {
 /// An analysis of this moment has so many nodes, and 1 and 2 are linked or not.
 fn begins(core: &Core, moment: u32, nodes: usize, is_linked: bool) -> Result<bool, BookFault> {
     let job = core.begin(moment)?;
-    Ok(job.moment == moment
-        && job.graph.nodes().len() == nodes
-        && job.graph.linked(NodeId(1), NodeId(2)) == is_linked)
+    Ok(
+        job.moment == moment
+            && job.graph.nodes().len() == nodes
+            && job.graph.linked(NodeId(1), NodeId(2)) == is_linked,
+    )
+}
+
+/// The fault of an analysis of this moment.
+fn fault_of(core: &Core, moment: u32) -> Option<BookFault> {
+    core.begin(moment).err()
+}
+
+fn analyses(rt: &impl Abort, core: &mut Core) -> Result<(), Fail> {
+    assert_eq!(rt; crashes(core)?, 8);
+    for (moment, nodes, is_linked) in [(4, 2, false), (6, 2, true), (8, 1, false)] {
+        assert!(rt; begins(core, moment, nodes, is_linked)?, "moment {moment}");
+    }
+    assert!(rt; fault_of(core, 7) == Some(BookFault::NoSuchMoment));
+    Ok(())
 }
 
 #[test]
 fn an_analysis_begins_with_the_links_of_its_moment(rt: HostRuntime) -> Result<(), Fail> {
-    let mut core = new_core(rt.alloc())?;
-    assert_eq!(rt; crashes(&mut core)?, 8);
-    for (moment, nodes, is_linked) in [(4, 2, false), (6, 2, true), (8, 1, false)] {
-        assert!(rt; begins(&core, moment, nodes, is_linked)?, "moment {moment}");
-    }
-    assert_eq!(rt; core.begin(7).err(), Some(BookFault::NoSuchMoment));
+    analyses(&rt, &mut new_core(rt.alloc())?)
+}
+
+fn has_nobody(rt: &impl Abort, core: &mut Core) -> Result<(), Fail> {
+    assert_eq!(rt; core.snapshot()?, 1);
+    assert!(rt; fault_of(core, 1) == Some(BookFault::NoNodes));
+    assert!(rt; fault_of(core, 2) == Some(BookFault::NoSuchMoment));
     Ok(())
 }
 
 #[test]
 fn nobody_lives_in_an_empty_world(rt: HostRuntime) -> Result<(), Fail> {
-    let mut core = new_core(rt.alloc())?;
-    assert_eq!(rt; core.snapshot()?, 1);
-    assert_eq!(rt; core.begin(1).err(), Some(BookFault::NoNodes));
-    assert_eq!(rt; core.begin(2).err(), Some(BookFault::NoSuchMoment));
-    Ok(())
+    has_nobody(&rt, &mut new_core(rt.alloc())?)
 }
 
 /// One node comes to life, and shuffles until there is room for one entry more.
@@ -168,15 +192,18 @@ fn takes_none(core: &mut Core) -> bool {
     by_itself == full && as_event == full && core.world().journal().len() == 65_536
 }
 
+fn is_full(rt: &impl Abort, core: &mut Core) -> Result<(), Fail> {
+    fill(core)?;
+    assert_eq!(rt; core.snapshot()?, 65_536);
+    assert!(rt; takes_none(core));
+    assert!(rt; begins(core, 65_536, 1, false)?);
+    assert!(rt; fault_of(core, 65_537) == Some(BookFault::NoSuchMoment));
+    Ok(())
+}
+
 #[test]
 fn a_full_journal_takes_no_snapshot(rt: HostRuntime) -> Result<(), Fail> {
-    let mut core = new_core(rt.alloc())?;
-    fill(&mut core)?;
-    assert_eq!(rt; core.snapshot()?, 65_536);
-    assert!(rt; takes_none(&mut core));
-    assert!(rt; begins(&core, 65_536, 1, false)?);
-    assert_eq!(rt; core.begin(65_537).err(), Some(BookFault::NoSuchMoment));
-    Ok(())
+    is_full(&rt, &mut new_core(rt.alloc())?)
 }
 
 /// Two nodes join, one boots again and is refused, and reports are filed, of which the first is refused.
@@ -202,13 +229,18 @@ fn run_twice(alloc: Global) -> Result<Core, Fail> {
     Err("memory was wanted twice".into())
 }
 
+/// Six entries, and a report for each of the moments 4 and 6 and for no other.
+fn is_filed(core: &Core) -> bool {
+    core.world().journal().len() == 6
+        && core.report(4).is_some()
+        && core.report(5).is_none()
+        && core.report(6).is_some()
+}
+
 #[test]
 fn a_run_files_what_its_steps_file(rt: HostRuntime) -> Result<(), Fail> {
     let core = run_twice(rt.alloc())?;
-    assert_eq!(rt; core.world().journal().len(), 6);
-    for (moment, is_filed) in [(4, true), (5, false), (6, true)] {
-        assert_eq!(rt; core.report(moment).is_some(), is_filed, "moment {moment}");
-    }
+    assert!(rt; is_filed(&core));
     Ok(())
 }
 

@@ -14,4 +14,3 @@ pub use laws::{
 pub use message::{Body, MAX_IDS, MAX_PAYLOAD, MAX_TTL, Message};
 pub use reading::decode;
 pub use writing::encode;
-

@@ -3,8 +3,8 @@ use super::{Case, FULL, Input, Node, ROOMY, Said, THREE, all_do, spells};
 use crate::nodes::Change;
 use std::test::Fail;
 
-/// Where one is active, and a place is free, the walk ends with whatever time to live, and whoever has sent it. The passive
-/// view, full, stays as it is.
+/// Where one is active, and a place is free, the walk ends with whatever time to live, and whoever has sent it. The
+/// passive view, full, stays as it is.
 const FROM_ONE: Case = Case {
     name: "one is active, below the size: from it",
     node: Node {

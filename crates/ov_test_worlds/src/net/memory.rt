@@ -1,7 +1,7 @@
 use super::Line::{Boot, BootBy, Broadcast, Deliver, Repeat};
 use super::{Line, event_of, step, world};
-use ov_net::{Change, Entry, NetFault, World};
 use ov_ids::NodeId;
+use ov_net::{Change, Entry, NetFault, World};
 use std::alloc::Global;
 use std::process::Abort;
 use std::test::Fail;
@@ -24,7 +24,7 @@ fn rows() -> [(Line, Option<Change>, Option<NodeId>); 9] {
 }
 
 /// What is first in a node's views and branches, and how many broadcasts it made.
-#[derive(Clone, Copy, Debug, PartialEq, Eq)]
+#[derive(Clone, Copy, PartialEq, Eq)]
 struct SeenNode {
     active: Option<NodeId>,
     passive: Option<NodeId>,
@@ -34,7 +34,7 @@ struct SeenNode {
 }
 
 /// What is seen of a world of nodes 1 and 2 without memory: how long journal and bag are, and the nodes, where they live.
-#[derive(Clone, Copy, Debug, PartialEq, Eq)]
+#[derive(Clone, Copy, PartialEq, Eq)]
 struct Seen {
     entries: usize,
     packets: usize,
@@ -90,7 +90,7 @@ fn taken(rt: &impl Abort, alloc: Global, world: &mut World, line: Line) -> Resul
     for _ in 0..2 {
         let event = event_of(alloc, line)?.ok_or("a line without an event")?;
         match step(world, event) {
-            Err(NetFault::OutOfMemory) => assert_eq!(rt; seen_in(world), before),
+            Err(NetFault::OutOfMemory) => assert!(rt; seen_in(world) == before),
             answer => return Ok(answer?),
         }
     }
@@ -99,17 +99,20 @@ fn taken(rt: &impl Abort, alloc: Global, world: &mut World, line: Line) -> Resul
 
 /// This is the first change that the entry tells, and this is the node that delivers.
 fn tells(entry: &Entry, change: Option<Change>, delivers: Option<NodeId>) -> bool {
-    let node = entry.delivery.as_ref().map(|delivery| delivery.node);
+    let node = match &entry.delivery {
+        Some(delivery) => Some(delivery.node),
+        None => None,
+    };
     entry.changes.as_slice().first().copied() == change && node == delivers
 }
 
 /// All rows happen in the world, which comes to be the last one.
 fn happen(rt: &impl Abort, alloc: Global, world: &mut World) -> Result<(), Fail> {
-    for (line, change, delivers) in rows() {
-        let entry = taken(rt, alloc, world, line)?;
-        assert!(rt; tells(&entry, change, delivers));
+    for (i, (line, change, delivers)) in rows().iter().enumerate() {
+        let entry = taken(rt, alloc, world, *line)?;
+        assert!(rt; tells(&entry, *change, *delivers), "in row {i}");
     }
-    assert_eq!(rt; seen_in(world), last());
+    assert!(rt; seen_in(world) == last());
     Ok(())
 }
 

@@ -1,6 +1,6 @@
 //! What scenarios print, and what devices that fail come to.
-use ov_run::{RunFault, run};
 use ov_certfile::{Sink, Source};
+use ov_run::{RunFault, run};
 use ov_test_kit::Slow;
 use std::alloc::Global;
 
@@ -178,7 +178,10 @@ fn comes_to(alloc: Global, scenario: &str, answer: Result<u8, RunFault>, text: &
 #[test]
 fn scenarios_print_their_lines(rt: HostRuntime) {
     for (scenario, prints) in &SCENARIOS {
-        assert!(rt; comes_to(rt.alloc(), scenario, Ok(0), prints), "at {scenario}");
+        assert!(rt;
+            comes_to(rt.alloc(), scenario, Ok(0), prints),
+            "at {scenario}"
+        );
     }
 }
 
@@ -198,7 +201,10 @@ static AT_FAULT: [(&str, RunFault); 6] = [
 #[test]
 fn a_file_at_fault_runs_nothing(rt: HostRuntime) {
     for (scenario, fault) in &AT_FAULT {
-        assert!(rt; comes_to(rt.alloc(), scenario, Err(*fault), ""), "at {scenario}");
+        assert!(rt;
+            comes_to(rt.alloc(), scenario, Err(*fault), ""),
+            "at {scenario}"
+        );
     }
 }
 
