@@ -1,5 +1,6 @@
-"""What the scripts of this folder share: where the repository is, and which of its crates uses which."""
+"""What the scripts of this folder share: where the repository is, which of its crates uses which, what is built."""
 
+import os
 import pathlib
 
 ROOT = pathlib.Path(__file__).resolve().parent.parent
@@ -32,8 +33,28 @@ def below(name):
 def lay_out_root(room, names):
     """Makes a folder the top of a repository of these crates alone, whose own folders are still to be filled."""
     (room / "crates").mkdir(parents=True)
-    lines = [line for line in (ROOT / "crates.txt").read_text().splitlines() if line.split(":")[0] in names]
+    lines = (ROOT / "crates.txt").read_text().splitlines()
+    lines = [line for line in lines if ":" in line and line.split("#")[0].split(":")[0].split()[:1] and line.split()[0].rstrip(":") in names]
     (room / "crates.txt").write_text("\n".join(lines) + "\n")
     (room / "HANDLES").write_bytes((ROOT / "HANDLES").read_bytes())
     # so that the search for the top ends here
     (room / ".git").mkdir()
+
+
+def is_current(crate):
+    """Whether the program of a crate is built, and nothing that it is made from has changed since."""
+    program = ROOT / "crates" / crate / "out" / crate
+    if not os.access(program, os.X_OK):
+        return False
+    built = program.stat().st_mtime
+    begun, by_gate = ROOT / ".git" / "rt-ci.lock", program.with_suffix(".by-rattle")
+    if by_gate.exists() and begun.exists():
+        # the gate built it, and read the sources from when it began
+        built = min(built, begun.stat().st_mtime)
+    paths = [str(ROOT / "crates.txt")]
+    for name in [crate, *below(crate)]:
+        for part in ("src", "specs", "proofs"):
+            for at, _, files in os.walk(ROOT / "crates" / name / part):
+                # a folder is newer where a file in it was removed
+                paths += [at, *(os.path.join(at, file) for file in files)]
+    return all(os.lstat(path).st_mtime <= built for path in paths)
