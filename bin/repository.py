@@ -6,14 +6,16 @@ import pathlib
 ROOT = pathlib.Path(__file__).resolve().parent.parent
 
 
+def lines():
+    """The line of each crate in crates.txt, by the crate's name."""
+    texts = [line.split("#")[0] for line in (ROOT / "crates.txt").read_text().splitlines()]
+    return {line.split()[0].rstrip(":"): line for line in texts if ":" in line}
+
+
 def uses():
     """The libraries of this repository that each crate uses, by the crate's name."""
-    rows = {}
-    for line in (ROOT / "crates.txt").read_text().splitlines():
-        name, colon, words = line.split("#")[0].partition(":")
-        if colon:
-            rows[name.split()[0]] = words.split()
-    return {name: [it for it in words if it in rows] for name, words in rows.items()}
+    rows = lines()
+    return {name: [it for it in line.partition(":")[2].split() if it in rows] for name, line in rows.items()}
 
 
 def below(name):
@@ -33,9 +35,8 @@ def below(name):
 def lay_out_root(room, names):
     """Makes a folder the top of a repository of these crates alone, whose own folders are still to be filled."""
     (room / "crates").mkdir(parents=True)
-    lines = (ROOT / "crates.txt").read_text().splitlines()
-    lines = [line for line in lines if ":" in line and line.split("#")[0].split(":")[0].split()[:1] and line.split()[0].rstrip(":") in names]
-    (room / "crates.txt").write_text("\n".join(lines) + "\n")
+    rows = lines()
+    (room / "crates.txt").write_text("".join(f"{rows[name]}\n" for name in names))
     (room / "HANDLES").write_bytes((ROOT / "HANDLES").read_bytes())
     # so that the search for the top ends here
     (room / ".git").mkdir()
