@@ -85,7 +85,7 @@ static FILINGS: [(u32, bool, Option<BookFault>, bool); 8] = [
     (7, true, Some(BookFault::NoSuchMoment), false),
 ];
 
-/// The fault of a filing, but for want of memory.
+/// The fault of a filing, unless it is out of memory.
 fn filing(
     alloc: Global,
     core: &mut Core,
