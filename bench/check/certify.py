@@ -1,26 +1,27 @@
 #!/usr/bin/env python3
-"""Makes the certificate files of the benchmark, with networkx.
+"""Makes the certificate files of the benchmark.
 
 usage: certify.py GRAPH [FILE]   writes the certificate of GRAPH to FILE, or to standard output
        certify.py                lists the graphs
 
-A certificate says that k crashes split the graph and no fewer do. By Even's test (SIAM J. Comput. 4, 1975) that needs a cut
-of k nodes, k paths between every two unlinked nodes among the first k, and from every later node k paths to nodes before it.
+A certificate says that k crashes split a group of nodes, and no fewer do. By Even's test (SIAM J. Comput. 4, 1975) that
+needs a cut of k nodes, k paths between every two unlinked members among the first k, and from every later member k paths to
+members before it. The paths run in the whole graph. For most graphs here the group is all nodes.
 """
 
 import json
 import random
 import sys
 import time
+from dataclasses import dataclass
 from itertools import combinations
+from typing import Callable
 
 import networkx as nx
-from networkx.algorithms.connectivity import build_auxiliary_node_connectivity
-from networkx.algorithms.flow import build_residual_network, shortest_augmenting_path
 
+from finders import DenseFinder, NetworkxFinder, TooFewPaths
 
-class TooFewPaths(Exception):
-    """Some pair or fan has fewer than k paths: k is greater than the connectivity."""
+MOST_NODES_OF_VERSION_1 = 256
 
 
 def ring(n):
@@ -44,86 +45,84 @@ def half(n, seed):
     return random.Random(seed).sample(every, len(every) // 2)
 
 
-GRAPHS = {
-    "ring-24": lambda: ring(24),
-    "ring-200": lambda: ring(200),
-    "regular-256": lambda: regular(256, 5, seed=1),
-    "all-but-one-256": lambda: all_but_one(256),
-    "half-256": lambda: half(256, seed=1),
+@dataclass
+class Task:
+    links: Callable
+    finder: type
+    group: range | None = None  # None is all nodes
+
+
+TASKS = {
+    "ring-24": Task(lambda: ring(24), NetworkxFinder),
+    "ring-200": Task(lambda: ring(200), NetworkxFinder),
+    "regular-256": Task(lambda: regular(256, 5, seed=1), NetworkxFinder),
+    "regular-256-group": Task(lambda: regular(256, 5, seed=1), NetworkxFinder, group=range(8, 257, 8)),
+    "all-but-one-256": Task(lambda: all_but_one(256), NetworkxFinder),
+    "half-256": Task(lambda: half(256, seed=1), DenseFinder),
+    "regular-1024": Task(lambda: regular(1024, 5, seed=1), DenseFinder),
+    "dense-1024": Task(lambda: regular(1024, 250, seed=1), DenseFinder),
 }
 
 
-class PathFinder:
-    """Finds disjoint paths in one graph; networkx's flow network is built once for all calls."""
-
-    def __init__(self, graph):
-        self.graph = graph
-        self.auxiliary = build_auxiliary_node_connectivity(graph)
-        self.residual = build_residual_network(self.auxiliary, "capacity")
-
-    def paths(self, source, target, k):
-        """k paths from source to target, two unlinked nodes, that share only these."""
-        try:
-            found = list(nx.node_disjoint_paths(
-                self.graph, source, target, flow_func=shortest_augmenting_path, cutoff=k,
-                auxiliary=self.auxiliary, residual=self.residual))
-        except nx.NetworkXNoPath:
-            found = []
-        if len(found) < k:
-            raise TooFewPaths(f"{source} to {target}: {len(found)} of {k} paths")
-        return found
+def unlinked_pairs(graph, nodes):
+    """The unlinked pairs of these nodes, by the second node and then the first."""
+    return [(i, j) for place, j in enumerate(nodes) for i in nodes[:place] if not graph.has_edge(i, j)]
 
 
-def pair_entries(graph, k):
-    """The unlinked pairs among the first k nodes, by the second node and then the first, each with its k paths."""
-    finder = PathFinder(graph)
-    unlinked = [(i, j) for j in range(1, k + 1) for i in range(1, j) if not graph.has_edge(i, j)]
-    return [{"i": i, "j": j, "paths": finder.paths(i, j, k)} for i, j in unlinked]
+def pair_entries(graph, finder, group, k):
+    """The unlinked pairs among the first k members, each with its k paths."""
+    return [{"i": i, "j": j, "paths": finder.pair(i, j, k)} for i, j in unlinked_pairs(graph, group[:k])]
 
 
-def fan_entries(graph, k):
-    """The nodes after the first k, each with k paths to distinct earlier nodes that share only it.
-
-    Node 0 stands for "an earlier node": it is linked to each of these, and is cut off the end of each path again.
-    """
-    entries = []
-    for j in range(k + 1, len(graph) + 1) if k > 0 else ():
-        joined = graph.copy()
-        joined.add_edges_from((earlier, 0) for earlier in range(1, j))
-        paths = PathFinder(joined).paths(j, 0, k)
-        entries.append({"j": j, "paths": [path[:-1] for path in paths]})
-    return entries
+def fan_entries(finder, group, k):
+    """The members after the first k, each with k paths to distinct earlier members that share only it."""
+    later = range(k, len(group)) if k > 0 else ()
+    return [{"j": group[place], "paths": finder.fan(group[place], group[:place], k)} for place in later]
 
 
-def split_certificate(graph, cut, near):
-    """The certificate of a graph that `cut` splits, as the object that the file holds."""
+def split_certificate(graph, finder, group, cut, near):
+    """The certificate of a group that `cut` splits, as the object that the file holds."""
     k = len(cut)
     rest = graph.subgraph(set(graph) - set(cut))
     side = nx.node_connected_component(rest, near)
-    return {
-        "cut": sorted(cut), "fans": fan_entries(graph, k), "far": min(set(rest) - side), "k": k,
+    certificate = {
+        "cut": sorted(cut), "fans": fan_entries(finder, group, k), "far": min(set(group) - set(cut) - side), "k": k,
         "links": sorted(sorted(link) for link in graph.edges), "moment": 0, "near": near, "nodes": sorted(graph),
-        "pairs": pair_entries(graph, k), "side": sorted(side), "verdict": "split", "version": 1,
+        "pairs": pair_entries(graph, finder, group, k), "side": sorted(side), "verdict": "split", "version": 1,
     }
+    if len(graph) > MOST_NODES_OF_VERSION_1 or group != sorted(graph):
+        certificate |= {"group": group, "version": 2}
+    return certificate
 
 
-def certify(links):
-    """Tries the neighbours of a node with the fewest links as the cut; where these are not the fewest, asks networkx."""
+def least_cut(graph, group):
+    """The fewest nodes that part two members, by networkx."""
+    if len(group) == len(graph):
+        return nx.minimum_node_cut(graph)
+    return min((nx.minimum_node_cut(graph, i, j) for i, j in unlinked_pairs(graph, group)), key=len)
+
+
+def certify(links, finder_of, group):
+    """Tries the neighbours of a member with the fewest links as the cut; where these are not the fewest, asks networkx."""
     graph = nx.Graph(links)
-    near = min(graph, key=lambda a: (graph.degree(a), a))
+    group = sorted(group or graph)
+    finder = finder_of(graph)
+    parted = {a for pair in unlinked_pairs(graph, group) for a in pair}
+    near = min(parted, key=lambda a: (graph.degree(a), a))
     try:
-        return split_certificate(graph, set(graph[near]), near)
+        return split_certificate(graph, finder, group, set(graph[near]), near)
     except TooFewPaths:
-        cut = nx.minimum_node_cut(graph)
-        return split_certificate(graph, cut, min(set(graph) - cut))
+        cut = least_cut(graph, group)
+        return split_certificate(graph, finder, group, cut, min(set(group) - cut))
 
 
 def main(words):
-    if not 1 <= len(words) <= 2 or words[0] not in GRAPHS:
-        print("graphs:", *GRAPHS, file=sys.stderr)
+    if not 1 <= len(words) <= 2 or words[0] not in TASKS:
+        print("graphs:", *TASKS, file=sys.stderr)
         return 2
     started = time.perf_counter()
-    certificate = certify(GRAPHS[words[0]]())
+    task = TASKS[words[0]]
+    certificate = certify(task.links(), task.finder, task.group)
     text = json.dumps(certificate, separators=(",", ":"), sort_keys=True)
     if len(words) == 2:
         with open(words[1], "w", encoding="ascii") as file:

@@ -12,6 +12,8 @@ import sys
 
 LINKED = {"k", "links", "moment", "nodes", "verdict", "version"}
 SPLIT = LINKED | {"cut", "fans", "far", "near", "pairs", "side"}
+KEYS_OF_VERSION = {1: set(), 2: {"group"}}
+MOST_NODES = {1: 256, 2: 1024}
 
 
 class Answer(Exception):
@@ -53,8 +55,9 @@ def entry(*names):
 is_id = whole(2**32 - 1)
 ids = listed(is_id)
 FORMS = {
-    "cut": ids, "fans": listed(entry("j")), "far": is_id, "k": is_id, "links": listed(lambda x: ids(x) and len(x) == 2),
-    "moment": whole(65536), "near": is_id, "nodes": ids, "pairs": listed(entry("i", "j")), "side": ids,
+    "cut": ids, "fans": listed(entry("j")), "far": is_id, "group": ids, "k": is_id,
+    "links": listed(lambda x: ids(x) and len(x) == 2), "moment": whole(65536), "near": is_id, "nodes": ids,
+    "pairs": listed(entry("i", "j")), "side": ids,
 }
 
 
@@ -65,17 +68,17 @@ def ascends(items):
 def judge_form(c):
     demand(type(c) is dict, "refused 63")
     demand("version" in c, "refused 61")
-    demand(type(c["version"]) is int and c["version"] == 1, "refused 64")
+    demand(type(c["version"]) is int and c["version"] in (1, 2), "refused 64")
     demand("verdict" in c, "refused 61")
     demand(c["verdict"] in ("linked", "split"), "refused 63")
-    keys = LINKED if c["verdict"] == "linked" else SPLIT
+    keys = (LINKED if c["verdict"] == "linked" else SPLIT) | KEYS_OF_VERSION[c["version"]]
     demand(keys <= c.keys(), "refused 61")
     demand(c.keys() <= keys, "refused 62")
     demand(all(FORMS[key](c[key]) for key in keys & FORMS.keys()), "refused 63")
 
 
-def judge_graph(nodes, links):
-    demand(len(nodes) <= 256, "refused 31")
+def judge_graph(nodes, links, most):
+    demand(len(nodes) <= most, "refused 31")
     demand(ascends(nodes), "refused 32")
     known = set(nodes)
     for place, (a, b) in enumerate(links):
@@ -91,43 +94,54 @@ def are_paths(paths, k, source, targets, neighbours, shared):
                     and all(b in neighbours.get(a, ()) for a, b in zip(path, path[1:])) for path in paths))
 
 
-def judge_split(c, nodes, neighbours):
+def judge_linked(c, group, neighbours):
+    demand(c["k"] == len(group) - 1, "fails 40")
+    demand(all(set(group) <= neighbours[a] | {a} for a in group), "fails 46")
+
+
+def judge_split(c, nodes, group, neighbours):
     k, near, far, cut, side = c["k"], c["near"], c["far"], set(c["cut"]), set(c["side"])
     demand(len(c["cut"]) == k, "fails 40")
     demand(ascends(c["cut"]) and cut <= set(nodes), "fails 41")
     rest = set(nodes) - cut
-    demand(near in rest and far in rest and ascends(c["side"]) and side <= rest and near in side and far not in side
+    demand({near, far} <= rest & set(group) and ascends(c["side"]) and side <= rest and near in side and far not in side
            and all(neighbours[a] <= side | cut for a in side), "fails 42")
-    pairs = [(i, j) for place, j in enumerate(nodes[:k]) for i in nodes[:place] if i not in neighbours[j]]
+    pairs = [(i, j) for place, j in enumerate(group[:k]) for i in group[:place] if i not in neighbours[j]]
     for place, (i, j) in enumerate(pairs):
         found = c["pairs"][place] if place < len(c["pairs"]) else {}
         demand(found and (found["i"], found["j"]) == (i, j)
                and are_paths(found["paths"], k, i, {j}, neighbours, {i, j}), f"fails 43 {i} {j}")
-    fans = nodes[k:] if k > 0 else []
+    fans = group[k:] if k > 0 else []
     for place, j in enumerate(fans):
         found = c["fans"][place] if place < len(c["fans"]) else {}
-        earlier = set(nodes[:k + place])
+        earlier = set(group[:k + place])
         demand(found and found["j"] == j and are_paths(found["paths"], k, j, earlier, neighbours, {j}), f"fails 44 {j}")
     demand(len(c["pairs"]) == len(pairs) and len(c["fans"]) == len(fans), "fails 45")
+
+
+def words(ids):
+    return ",".join(map(str, ids)) or "-"
 
 
 def judge(data):
     c = read(data)
     judge_form(c)
     nodes = c["nodes"]
-    judge_graph(nodes, c["links"])
+    judge_graph(nodes, c["links"], MOST_NODES[c["version"]])
     demand(nodes, "fails 47")
+    group = c.get("group", nodes)
+    demand(group and ascends(group) and set(group) <= set(nodes), "fails 49")
     neighbours = {a: set() for a in nodes}
     for a, b in c["links"]:
         neighbours[a].add(b)
         neighbours[b].add(a)
+    line = f"holds {c['moment']} {c['verdict']} k {c['k']}"
     if c["verdict"] == "linked":
-        demand(c["k"] == len(nodes) - 1, "fails 40")
-        demand(all(len(near) == len(nodes) - 1 for near in neighbours.values()), "fails 46")
-        return f"holds {c['moment']} linked k {c['k']}"
-    judge_split(c, nodes, neighbours)
-    cut, side = (",".join(map(str, c[key])) or "-" for key in ("cut", "side"))
-    return f"holds {c['moment']} split k {c['k']} cut {cut} near {c['near']} far {c['far']} side {side}"
+        judge_linked(c, group, neighbours)
+    else:
+        judge_split(c, nodes, group, neighbours)
+        line += f" cut {words(c['cut'])} near {c['near']} far {c['far']} side {words(c['side'])}"
+    return line if group == nodes else f"{line} group {words(group)}"
 
 
 def main(file):

@@ -1,7 +1,8 @@
 -- Paths by their ends.
-use Rattle.std.proofs.Common.{◌≡◌, ◌∙◌, ◌↔◌, ℕ, ◌≤◌, Bool, true, false, ◌&&◌, not, IsTrue, eqb, nat_lt, List, [], ◌∷◌, ◌++◌, length, refl, ap, arith}
+use Rattle.std.proofs.Common.{◌≡◌, ◌∙◌, ◌↔◌, ℕ, ◌≤◌, Bool, true, false, ◌&&◌, not, IsTrue, eqb, List, [], ◌∷◌, ◌++◌}
+use Rattle.std.proofs.Common.{length, refl, ap, arith}
 use Rattle.ov_graph.specs.Links.{LinkGraph}
-use Rattle.ov_cert.specs.Tests.{chained, fresh, front, last_of, inner, is_pair_path, is_fan_path}
+use Rattle.ov_cert.specs.Code.Tests.{chained, fresh, front, last_of, inner, is_pair_path, is_earlier, is_fan_path}
 
 -- tests of one fact answer alike
 pub same_test : {P : Type 0} (b t : Bool) → IsTrue b ↔ P → IsTrue t ↔ P → b ≡ t
@@ -20,13 +21,15 @@ last_of_last a [] z = refl
 last_of_last a (x ∷ xs) z = last_of_last x xs z
 
 -- a path of one node leads to no other
-pub short_pair : (g : LinkGraph) (used : List ℕ) (i j : ℕ) (path : List ℕ) → length path ≤ 1 → is_pair_path g used i j path ≡ false
+pub short_pair : (g : LinkGraph) (used : List ℕ) (i j : ℕ) (path : List ℕ) → length path ≤ 1
+    → is_pair_path g used i j path ≡ false
 short_pair g used i j [] l = refl
 short_pair g used i j (a ∷ []) l = refl
 short_pair g used i j (a ∷ b ∷ rest) l = absurd (omega arith)
 
 -- the test of a path by its ends and what lies between
-pub pair_by_ends : (g : LinkGraph) (used : List ℕ) (i j a z : ℕ) (inside path : List ℕ) → path ≡ a ∷ (inside ++ z ∷ []) →
+pub pair_by_ends : (g : LinkGraph) (used : List ℕ) (i j a z : ℕ) (inside path : List ℕ)
+    → path ≡ a ∷ (inside ++ z ∷ []) →
     is_pair_path g used i j path ≡ (eqb a i && (eqb z j && (chained g path && fresh g used inside)))
 pair_by_ends g used i j a z [] path e = rw e refl
 pair_by_ends g used i j a z (x ∷ inside) path e = rw (e, last_of_last x inside z, front_last (x ∷ inside) z) refl
@@ -35,14 +38,11 @@ pub inner_of : (a z : ℕ) (inside path : List ℕ) → path ≡ a ∷ (inside +
 inner_of a z inside path e = ap inner e ∙ front_last inside z
 
 -- the test of a fan's path by its first node and those after it
-pub fan_by_ends : (g : LinkGraph) (used : List ℕ) (j a z : ℕ) (inside rest path : List ℕ) → path ≡ a ∷ rest → rest ≡ inside ++ z ∷ [] →
-    is_fan_path g used j path ≡ (eqb a j && (nat_lt z j && (chained g path && fresh g used rest)))
-fan_by_ends g used j a z [] rest path e f = rw (e, f) refl
-fan_by_ends g used j a z (x ∷ inside) rest path e f = rw (e, f, last_of_last x inside z) refl
-
-pub short_fan : (g : LinkGraph) (used : List ℕ) (j a : ℕ) (rest path : List ℕ) → path ≡ a ∷ rest → length rest ≡ 0 → is_fan_path g used j path ≡ false
-short_fan g used j a [] path e l = rw e refl
-short_fan g used j a (x ∷ rest) path e l = absurd (omega arith)
+pub fan_by_ends : (g : LinkGraph) (q used : List ℕ) (j a z : ℕ) (inside rest path : List ℕ) → path ≡ a ∷ rest
+    → rest ≡ inside ++ z ∷ [] →
+    is_fan_path g q used j path ≡ (eqb a j && (is_earlier q j z && (chained g path && fresh g used rest)))
+fan_by_ends g q used j a z [] rest path e f = rw (e, f) refl
+fan_by_ends g q used j a z (x ∷ inside) rest path e f = rw (e, f, last_of_last x inside z) refl
 
 -- the tests in order, as far as one fails
 pub all_four : (p q r t b : Bool) → p ≡ true → q ≡ true → r ≡ true → b ≡ t → b ≡ (p && (q && (r && t)))
@@ -66,5 +66,6 @@ not_true true h = absurd cc
 not_true false h = refl
 
 -- tests that pass leave the last to answer
-pub all_seven : (p q r s t u v b : Bool) → p ≡ true → q ≡ true → r ≡ true → s ≡ true → t ≡ true → u ≡ true → b ≡ v → b ≡ (p && (q && (r && (s && (t && (u && v))))))
+pub all_seven : (p q r s t u v b : Bool) → p ≡ true → q ≡ true → r ≡ true → s ≡ true → t ≡ true → u ≡ true → b ≡ v
+    → b ≡ (p && (q && (r && (s && (t && (u && v))))))
 all_seven p q r s t u v b hp hq hr hs ht hu e = rw (hp, hq, hr, hs, ht, hu) e

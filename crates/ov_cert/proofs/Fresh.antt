@@ -1,15 +1,17 @@
 -- Fresh nodes: nodes outside a set, none of them twice, and lists that are taken one after another.
-use Rattle.std.proofs.Common.{◌≡◌, ◌∙◌, ◌↔◌, ◌⊎◌, ℕ, inl, inr, List, [], ◌∷◌, Bool, true, false, ◌&&◌, not, cond, ltb, IsTrue, refl, sym, subst, arith}
-use Rattle.std.proofs.lemmas.Bool.{and_parts, and_from, both_ways, not-true, not_from_false, false_from_ne_true, ltb-false}
+use Rattle.std.proofs.Common.{◌≡◌, ◌∙◌, ◌↔◌, ◌⊎◌, ℕ, inl, inr, List, [], ◌∷◌, Bool, true, false, ◌&&◌, not, cond, ltb}
+use Rattle.std.proofs.Common.{IsTrue, refl, sym, subst, arith}
+use Rattle.std.proofs.lemmas.Bool.{and_parts, and_from, both_ways, not-true, not_from_false, false_from_ne_true}
+use Rattle.std.proofs.lemmas.Bool.{ltb-false}
 use Rattle.ov_ids.specs.Members.{Has, IsDistinct}
 use Rattle.ov_ids.specs.Sets.{has, adding}
 use Rattle.ov_ids.proofs.Members.{has_tested}
 use Rattle.ov_ids.proofs.Sets.{IsIn-adding}
 use Rattle.ov_graph.specs.Links.{LinkGraph}
-use Rattle.ov_graph.specs.Joined.{Stays}
+use Rattle.ov_graph.specs.Joined.{Survives}
 use Rattle.ov_graph.specs.Paths.{ShareOnly}
-use Rattle.ov_graph.proofs.Walks.{AllStay}
-use Rattle.ov_cert.specs.Tests.{fresh, entered}
+use Rattle.ov_graph.proofs.Walks.{AllSurvive}
+use Rattle.ov_cert.specs.Code.Tests.{fresh, entered}
 
 -- who is in a set with x: x, and who was
 pub adding_new : (x : ℕ) (t : List ℕ) → Has (adding x t) x
@@ -62,7 +64,7 @@ entered_cases used (x ∷ xs) z h = elim (entered_cases (adding x used) xs z h) 
 
 -- all are nodes outside the set, none of them twice
 abbrev pub IsFresh : LinkGraph → List ℕ → List ℕ → Type 0
-IsFresh g used xs = AllStay g used xs × IsDistinct xs
+IsFresh g used xs = AllSurvive g used xs × IsDistinct xs
 
 pub fresh_tested : (g : LinkGraph) (used xs : List ℕ) → IsTrue (fresh g used xs) ↔ IsFresh g used xs
 fresh_tested g used [] = ((λ h. ((λ x m. absurd m), tt)), (λ h. refl))
@@ -71,9 +73,10 @@ fresh_tested g used (x ∷ xs) = (
       let p = and_parts (has g.nodes x) (not (has used x) && fresh g (adding x used) xs) h in
       let q = and_parts (not (has used x)) (fresh g (adding x used) xs) p.1 in
       let r = (fresh_tested g (adding x used) xs).0 q.1 in
-      let out : ¬ Has used x = λ m. both_ways (has used x) (not-true (has used x) q.0) ((has_tested used x (has used x) refl).1 m) in (
+      let out : ¬ Has used x = λ m. both_ways (has used x) (not-true (has used x) q.0)
+          ((has_tested used x (has used x) refl).1 m) in (
         (λ y m. elim m [
-          | inl e ↦ subst (Stays g used) e ((has_tested g.nodes x (has g.nodes x) refl).0 p.0, out)
+          | inl e ↦ subst (Survives g.nodes used) e ((has_tested g.nodes x (has g.nodes x) refl).0 p.0, out)
           | inr k ↦ ((r.0 y k).0, λ u. (r.0 y k).1 (adding_old x used y u))
         ]),
         ((λ m. (r.0 x m).1 (adding_new x used)), r.1),
@@ -87,9 +90,11 @@ fresh_tested g used (x ∷ xs) = (
         )),
         h.1.1,
       ) in
-      and_from (has g.nodes x) (not (has used x) && fresh g (adding x used) xs) ((has_tested g.nodes x (has g.nodes x) refl).1 here.0)
+      and_from (has g.nodes x) (not (has used x) && fresh g (adding x used) xs)
+          ((has_tested g.nodes x (has g.nodes x) refl).1 here.0)
       (and_from (not (has used x)) (fresh g (adding x used) xs)
-      (not_from_false (has used x) (false_from_ne_true (has used x) (λ t. here.1 ((has_tested used x (has used x) refl).0 t))))
+      (not_from_false (has used x) (false_from_ne_true (has used x)
+          (λ t. here.1 ((has_tested used x (has used x) refl).0 t))))
       ((fresh_tested g (adding x used) xs).1 rest))),
 )
 
@@ -97,29 +102,37 @@ fresh_tested g used (x ∷ xs) = (
 abbrev pub AllFresh : LinkGraph → (List ℕ → Type 0) → (List ℕ → List ℕ) → List ℕ → List (List ℕ) → Type 0
 AllFresh g Is own used ps = (p : List ℕ) → Has ps p → Is p × IsFresh g used (own p)
 
--- A test that takes one list after another, with the own nodes of those before it in the set, says that each is so by itself
+-- A test that takes one list after another, with the own nodes of those before it in the set, says that each is so by
+-- itself
 -- and any two share only what is in `shared`: if a list has no more than its own nodes and these.
-module _ (g : LinkGraph) (Is : List ℕ → Type 0) (own : List ℕ → List ℕ) (shared : List ℕ) (within : (p : List ℕ) (x : ℕ) → Has (own p) x → Has p x) (cover : (p : List ℕ) (x : ℕ) → Is p → Has p x → Has shared x ⊎ Has (own p) x) where
-  all_more : (used p : List ℕ) (ps : List (List ℕ)) → (Is p × IsFresh g used (own p)) → AllFresh g Is own (entered used (own p)) ps → AllFresh g Is own used (p ∷ ps)
+module _ (g : LinkGraph) (Is : List ℕ → Type 0) (own : List ℕ → List ℕ) (shared : List ℕ)
+    (within : (p : List ℕ) (x : ℕ) → Has (own p) x → Has p x)
+    (cover : (p : List ℕ) (x : ℕ) → Is p → Has p x → Has shared x ⊎ Has (own p) x) where
+  all_more : (used p : List ℕ) (ps : List (List ℕ)) → (Is p × IsFresh g used (own p))
+      → AllFresh g Is own (entered used (own p)) ps → AllFresh g Is own used (p ∷ ps)
   all_more used p ps here each q h = elim h [
     | inl e ↦ subst (λ (r : List ℕ). Is r × IsFresh g used (own r)) e here
-    | inr k ↦ let r = each q k in (r.0, ((λ x m. ((r.1.0 x m).0, λ u. (r.1.0 x m).1 (entered_old used (own p) x u))), r.1.1))
+    | inr k ↦ let r = each q k in (r.0, ((λ x m. ((r.1.0 x m).0, λ u. (r.1.0 x m).1 (entered_old used (own p) x u))),
+        r.1.1))
   ]
 
-  all_rest : (used p : List ℕ) (ps : List (List ℕ)) → ((x : ℕ) → Has shared x → Has used x) → AllFresh g Is own used (p ∷ ps) → ShareOnly shared (p ∷ ps) → AllFresh g Is own (entered used (own p)) ps
+  all_rest : (used p : List ℕ) (ps : List (List ℕ)) → ((x : ℕ) → Has shared x → Has used x)
+      → AllFresh g Is own used (p ∷ ps) → ShareOnly shared (p ∷ ps) → AllFresh g Is own (entered used (own p)) ps
   all_rest used p ps sub each only q h =
       let r = each q (inr h) in (
         r.0,
         (
           (λ x m. (
             (r.1.0 x m).0,
-            λ n. (r.1.0 x m).1 (elim (entered_cases used (own p) x n) [ inl u ↦ u | inr o ↦ sub x (only.0 q x h (within p x o) (within q x m)) ]),
+            λ n. (r.1.0 x m).1 (elim (entered_cases used (own p) x n)
+                [ inl u ↦ u | inr o ↦ sub x (only.0 q x h (within p x o) (within q x m)) ]),
           )),
           r.1.1,
         ),
       )
 
-  shares_only : (used p : List ℕ) (ps : List (List ℕ)) → Is p → AllFresh g Is own (entered used (own p)) ps → (q : List ℕ) (x : ℕ) → Has ps q → Has p x → Has q x → Has shared x
+  shares_only : (used p : List ℕ) (ps : List (List ℕ)) → Is p → AllFresh g Is own (entered used (own p)) ps
+      → (q : List ℕ) (x : ℕ) → Has ps q → Has p x → Has q x → Has shared x
   shares_only used p ps is each q x h m n =
       let r = each q h in
       elim (cover p x is m) [
@@ -127,15 +140,22 @@ module _ (g : LinkGraph) (Is : List ℕ → Type 0) (own : List ℕ → List ℕ
         | inr a ↦ elim (cover q x r.0 n) [ inl s ↦ s | inr b ↦ absurd ((r.1.0 x b).1 (entered_new used (own p) x a)) ]
       ]
 
-  pub in_turn_tested : (test : List ℕ → List ℕ → Bool) (tests : List ℕ → List (List ℕ) → Bool) → ((used : List ℕ) → tests used [] ≡ true) → ((used p : List ℕ) (ps : List (List ℕ)) → tests used (p ∷ ps) ≡ (test used p && tests (entered used (own p)) ps)) → ((used p : List ℕ) → IsTrue (test used p) ↔ (Is p × IsFresh g used (own p))) → (used : List ℕ) (ps : List (List ℕ)) → ((x : ℕ) → Has shared x → Has used x) → IsTrue (tests used ps) ↔ (AllFresh g Is own used ps × ShareOnly shared ps)
+  pub in_turn_tested : (test : List ℕ → List ℕ → Bool) (tests : List ℕ → List (List ℕ) → Bool)
+      → ((used : List ℕ) → tests used [] ≡ true) → ((used p : List ℕ) (ps : List (List ℕ))
+      → tests used (p ∷ ps) ≡ (test used p && tests (entered used (own p)) ps))
+      → ((used p : List ℕ) → IsTrue (test used p) ↔ (Is p × IsFresh g used (own p)))
+      → (used : List ℕ) (ps : List (List ℕ)) → ((x : ℕ) → Has shared x → Has used x)
+      → IsTrue (tests used ps) ↔ (AllFresh g Is own used ps × ShareOnly shared ps)
   in_turn_tested test tests none more one used [] sub = ((λ h. ((λ p m. absurd m), tt)), (λ h. none used))
   in_turn_tested test tests none more one used (p ∷ ps) sub =
-      let after = in_turn_tested test tests none more one (entered used (own p)) ps (λ x s. entered_old used (own p) x (sub x s)) in (
+      let after = in_turn_tested test tests none more one (entered used (own p)) ps
+          (λ x s. entered_old used (own p) x (sub x s)) in (
         (λ h.
             let r = and_parts (test used p) (tests (entered used (own p)) ps) (sym (more used p ps) ∙ h) in
             let here = (one used p).0 r.0 in
             let rest = after.0 r.1 in
             (all_more used p ps here rest.0, (shares_only used p ps here.0 rest.0, rest.1))),
         (λ h.
-            more used p ps ∙ and_from (test used p) (tests (entered used (own p)) ps) ((one used p).1 (h.0 p (inl refl))) (after.1 (all_rest used p ps sub h.0 h.1, h.1.1))),
+            more used p ps ∙ and_from (test used p) (tests (entered used (own p)) ps)
+                ((one used p).1 (h.0 p (inl refl))) (after.1 (all_rest used p ps sub h.0 h.1, h.1.1))),
       )

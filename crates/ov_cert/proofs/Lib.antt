@@ -1,9 +1,11 @@
-pub mod Marking
+pub mod NodeSets
 pub mod Ends
-pub mod Turns
-pub mod Frame
-pub mod Expected
+pub mod Finding
+pub mod Parting
+pub mod Columns
 pub mod Fresh
 pub mod PathTests
 pub mod Looping
+pub mod Listed
+pub mod Verdicts
 pub mod Exact

@@ -1,6 +1,7 @@
 pub mod Number
 pub mod Valid
 pub mod Verdict
-pub mod Held
-pub mod Marks
-pub mod Tests
+pub mod Entries
+pub mod Laws
+pub mod State
+pub mod Code

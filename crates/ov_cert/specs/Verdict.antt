@@ -1,49 +1,102 @@
--- The verdict on a certificate: its steps in order, and the fault of the first that fails.
-use Rattle.std.specs.Prelude.{◌≡◌, ℕ, ◌+◌, ◌<◌, ◌≤◌, List, length, slice_get, Option, Some, None}
-use Rattle.ov_ids.specs.Steps.{Step, Passed, InTurn}
-use Rattle.ov_graph.specs.Links.{LinkGraph, IsComplete}
+-- The verdict on a certificate: valid, or its first fault. A fault is the first where its own condition fails and all
+-- before it
+-- hold; each fault has a line.
+use Rattle.std.specs.Prelude.{◌≡◌, ℕ, ◌+◌, ◌⊎◌, ◌<◌, ◌≤◌, List, length, slice_get, Option, Some, None}
+use Rattle.ov_graph.specs.Links.{LinkGraph, AreAllLinked, IsGroup}
 use Rattle.ov_graph.specs.Joined.{IsNodeSet}
-use Rattle.ov_graph.specs.Paths.{ArePaths, IsFan, nodes_below}
+use Rattle.ov_graph.specs.Paths.{ArePaths, IsFan}
+use Rattle.ov_graph.specs.Even.{later_members, members_below}
 use Rattle.ov_cert.specs.declared.cert.Cert.{Cert}
 use Rattle.ov_cert.specs.declared.cert.Cert.TheVariants.{Linked as AllLinked, Split as SplitBy}
 use Rattle.ov_cert.specs.declared.cert.Split.{Split}
 use Rattle.ov_cert.specs.declared.cert.PairPaths.{PairPaths}
 use Rattle.ov_cert.specs.declared.cert.FanPaths.{FanPaths}
 use Rattle.ov_cert.specs.declared.fault.CheckFault.{CheckFault}
-use Rattle.ov_cert.specs.declared.fault.CheckFault.TheVariants.{Count, Cut, Side, Pair, Fan, Extra, NotLinked, NoNodes}
-use Rattle.ov_cert.specs.Valid.{IsCutOff, AreUnlinkedPairs, later_nodes}
+use Rattle.ov_cert.specs.declared.fault.CheckFault.TheVariants.{NoNodes, BadGroup, Count, NotLinked, Cut, Side, Pair}
+use Rattle.ov_cert.specs.declared.fault.CheckFault.TheVariants.{Fan, Extra}
+use Rattle.ov_cert.specs.Valid.{IsCutOff, AreUnlinkedPairs, IsValidForGroup}
+
+-- every item holds at its place
+abbrev pub AllHold : {X : Type 0} → (ℕ → X → Type 0) → List X → Type 0
+AllHold {X = X} Holds xs = (p : ℕ) (x : X) → slice_get xs p ≡ Some x → Holds p x
+
+-- x stands at a place of the list and does not hold there, and every item before it holds at its place
+pub record IsFirstAtFault {X : Type 0} (Holds : ℕ → X → Type 0) (xs : List X) (x : X) : Type 0 where
+  pub place : ℕ
+  pub there : slice_get xs place ≡ Some x
+  pub fails : ¬ Holds place x
+  pub before : (p : ℕ) (y : X) → p < place → slice_get xs p ≡ Some y → Holds p y
+
+-- THE FRAME: what is judged before the entries
+
+-- the graph has a node
+abbrev pub HasNode : LinkGraph → Type 0
+HasNode g = 0 < length g.nodes
+
+-- k is one less than the number of members, or the number of the cut's nodes
+abbrev pub IsCounted : List ℕ → Cert → Type 0
+IsCounted q (AllLinked k) = length q ≡ k + 1
+IsCounted q (SplitBy c) = length c.cut ≡ c.k
+
+-- the fault is the first of the frame
+abbrev pub IsFrameFault : LinkGraph → List ℕ → Cert → CheckFault → Type 0
+IsFrameFault g q c NoNodes = ¬ HasNode g
+IsFrameFault g q c BadGroup = HasNode g × ¬ IsGroup g q
+IsFrameFault g q c Count = HasNode g × IsGroup g q × ¬ IsCounted q c
+IsFrameFault g q (AllLinked k) NotLinked = HasNode g × IsGroup g q × IsCounted q (AllLinked k) × ¬ AreAllLinked g q
+IsFrameFault g q (SplitBy c) Cut = HasNode g × IsGroup g q × IsCounted q (SplitBy c) × ¬ IsNodeSet g c.cut
+IsFrameFault g q (SplitBy c) Side = HasNode g × IsGroup g q × IsCounted q (SplitBy c) × IsNodeSet g c.cut
+    × ¬ IsCutOff g q c
+IsFrameFault g q c other = ⊥
+
+-- the frame has no fault
+abbrev pub PassesFrame : LinkGraph → List ℕ → Cert → Type 0
+PassesFrame g q (AllLinked k) = HasNode g × IsGroup g q × IsCounted q (AllLinked k) × AreAllLinked g q
+PassesFrame g q (SplitBy c) = HasNode g × IsGroup g q × IsCounted q (SplitBy c) × IsNodeSet g c.cut × IsCutOff g q c
+
+-- THE ENTRIES: one at the place of each expected pair and fan
 
 -- the entry is there, names the pair, and has its k paths
 abbrev pub IsPairEntry : LinkGraph → ℕ → ℕ × ℕ → Option PairPaths → Type 0
 IsPairEntry g k p None = ⊥
 IsPairEntry g k p (Some e) = (e.i ≡ p.0) × (e.j ≡ p.1) × ArePaths g p.0 p.1 k e.paths
 
--- the entry is there, names the node, and has its fan of k
-abbrev pub IsFanEntry : LinkGraph → ℕ → ℕ → Option FanPaths → Type 0
-IsFanEntry g k j None = ⊥
-IsFanEntry g k j (Some e) = (e.j ≡ j) × IsFan g j (nodes_below g j) k e.paths
+-- the entry is there, names the member, and has its fan of k to the members below it
+abbrev pub IsFanEntry : LinkGraph → List ℕ → ℕ → ℕ → Option FanPaths → Type 0
+IsFanEntry g q k j None = ⊥
+IsFanEntry g q k j (Some e) = (e.j ≡ j) × IsFan g j (members_below q j) k e.paths
 
--- no entries beyond those wanted
-abbrev pub HasNoMore : LinkGraph → Split → List (ℕ × ℕ) → Type 0
-HasNoMore g c pairs = (length c.pairs ≤ length pairs) × (length c.fans ≤ length (later_nodes g c.k))
+-- the entry at a place is that of the pair
+abbrev pub HoldsPair : LinkGraph → Split → ℕ → ℕ × ℕ → Type 0
+HoldsPair g c place p = IsPairEntry g c.k p (slice_get c.pairs place)
 
--- every expected pair has its entry at its place, and then every later node its fan, and nothing is left over
-abbrev pub EntriesJudged : LinkGraph → Split → List (ℕ × ℕ) → Option CheckFault → Type 0
-EntriesJudged g c pairs =
-    InTurn (λ place p. IsPairEntry g c.k p (slice_get c.pairs place)) (λ p. Pair p.0 p.1) 0 pairs
-    (InTurn (λ place j. IsFanEntry g c.k j (slice_get c.fans place)) (λ j. Fan j) 0 (later_nodes g c.k)
-    (Step (HasNoMore g c pairs) Extra Passed))
+-- the entry at a place is the fan of the member
+abbrev pub HoldsFan : LinkGraph → List ℕ → Split → ℕ → ℕ → Type 0
+HoldsFan g q c place j = IsFanEntry g q c.k j (slice_get c.fans place)
 
--- the first fault of a certificate, if it has one
+-- the fault is the first of the entries: of the expected pairs, then of the expected fans, then that there are more
+abbrev pub IsEntryFault : LinkGraph → List ℕ → Split → List (ℕ × ℕ) → CheckFault → Type 0
+IsEntryFault g q c pairs (Pair i j) = IsFirstAtFault (HoldsPair g c) pairs (i, j)
+IsEntryFault g q c pairs (Fan j) = AllHold (HoldsPair g c) pairs
+    × IsFirstAtFault (HoldsFan g q c) (later_members q c.k) j
+IsEntryFault g q c pairs Extra = AllHold (HoldsPair g c) pairs × AllHold (HoldsFan g q c) (later_members q c.k)
+    × ¬ ((length c.pairs ≤ length pairs) × (length c.fans ≤ length (later_members q c.k)))
+IsEntryFault g q c pairs other = ⊥
+
+-- THE VERDICT
+
+-- the fault is the first of the certificate: of the frame, or where that has none of the entries
+abbrev pub IsFirstFault : LinkGraph → List ℕ → Cert → CheckFault → Type 0
+IsFirstFault g q (AllLinked k) fault = IsFrameFault g q (AllLinked k) fault
+IsFirstFault g q (SplitBy c) fault = IsFrameFault g q (SplitBy c) fault
+    ⊎ (PassesFrame g q (SplitBy c) × ((pairs : List (ℕ × ℕ)) × AreUnlinkedPairs g q c.k pairs
+        × IsEntryFault g q c pairs fault))
+
+-- the verdict on a certificate for a group: none where it is valid, and else its first fault
+abbrev pub JudgedForGroup : LinkGraph → List ℕ → Cert → Option CheckFault → Type 0
+JudgedForGroup g q c None = IsValidForGroup g q c
+JudgedForGroup g q c (Some fault) = IsFirstFault g q c fault
+
+-- the verdict on a certificate for the group of all nodes
 abbrev pub Judged : LinkGraph → Cert → Option CheckFault → Type 0
-Judged g (AllLinked k) answer =
-    Step (0 < length g.nodes) NoNodes
-    (Step (length g.nodes ≡ k + 1) Count
-    (Step (IsComplete g) NotLinked Passed)) answer
-Judged g (SplitBy c) answer =
-    (pairs : List (ℕ × ℕ)) × AreUnlinkedPairs g c.k pairs
-    × Step (0 < length g.nodes) NoNodes
-    (Step (length c.cut ≡ c.k) Count
-    (Step (IsNodeSet g c.cut) Cut
-    (Step (IsCutOff g c) Side
-    (EntriesJudged g c pairs)))) answer
+Judged g c = JudgedForGroup g g.nodes c

@@ -3,12 +3,12 @@ use ov_ids::{NodeId, Seq};
 /// A list of paths, each a list of ids. Contracts see a list of lists.
 pub type Paths = Seq<Seq<NodeId>>;
 
-/// What a certificate says of its graph: the fewest node crashes that split it.
+/// What a certificate says of a group of nodes of its graph: the fewest node crashes that split it.
 #[derive(Debug, Drop)]
 pub enum Cert {
-    /// Every two nodes are linked, and k is one less than their number.
+    /// Every two members are linked, and k is one less than their number.
     Linked { k: u32 },
-    /// The cut's k nodes split the graph, and no fewer do.
+    /// The cut's k nodes split the group, and no fewer do.
     Split(Split),
 }
 
@@ -17,17 +17,17 @@ pub enum Cert {
 pub struct Split {
     /// How many nodes the cut has.
     pub k: u32,
-    /// The nodes whose crash splits the graph, ascending.
+    /// The nodes whose crash splits the group, ascending.
     pub cut: Seq<NodeId>,
-    /// A node on the side.
+    /// A member on the side.
     pub near: NodeId,
-    /// A node that is neither on the side nor in the cut.
+    /// A member that is neither on the side nor in the cut.
     pub far: NodeId,
     /// The nodes that are cut off from all others, ascending.
     pub side: Seq<NodeId>,
-    /// The unlinked pairs among the first k nodes, each with k paths.
+    /// The unlinked pairs among the first k members, each with k paths.
     pub pairs: Seq<PairPaths>,
-    /// The later nodes, each with k paths to earlier ones.
+    /// The later members, each with k paths to members below it.
     pub fans: Seq<FanPaths>,
 }
 
@@ -39,7 +39,7 @@ pub struct PairPaths {
     pub paths: Paths,
 }
 
-/// A node, named by its id, and paths from it to distinct earlier nodes that share only it.
+/// A member, named by its id, and paths from it to distinct members below it that share only it.
 #[derive(Debug, Drop)]
 pub struct FanPaths {
     pub j: NodeId,

@@ -1,57 +1,99 @@
 use crate::cert::Cert;
-use crate::checker::check;
+use crate::checker::{check, check_group};
 use crate::fault::CheckFault;
 use ov_graph::Graph;
+use ov_ids::NodeId;
 use std::marker::Model;
 
-/// A graph with a certificate that is valid for it, which its type keeps.
+/// A graph with a group and a certificate that is valid for them, which its type keeps.
 #[derive(Drop)]
 pub struct Checked {
     graph: Graph,
+    /// None is the group of all nodes.
+    group: Option<Vec<NodeId>>,
     cert: Cert,
 }
 
 impl Model for Checked {
-    ghost use Rattle.ov_cert.specs.Held.{Certified};
-    ghost use Rattle.ov_cert.specs.Valid.{IsValid};
+    ghost use Rattle.ov_cert.specs.State.{CheckedState};
+    ghost use Rattle.ov_cert.specs.Valid.{IsValidForGroup};
+    ghost use Rattle.ov_cert.specs.Code.Kept.{members_kept};
 
-    ghost Value = { Certified };
+    ghost Value = { CheckedState };
 
-    ghost view = { λ c. record { graph = c.graph; cert = c.cert } };
+    ghost view = { λ c. record { graph = c.graph; members = members_kept c.graph c.group; cert = c.cert } };
 
-    ghost invariant = { λ c. IsValid c.graph c.cert };
+    ghost invariant = { λ c. IsValidForGroup c.graph (members_kept c.graph c.group) c.cert };
 }
 
 impl Checked {
     ghost use Rattle.std.specs.Prelude.{◌≡◌, ◌↔◌, Some, IsOk, IfOk, IfErr};
-    ghost use Rattle.ov_cert.specs.Held.{Certified};
-    ghost use Rattle.ov_cert.specs.Valid.{IsValid};
-    ghost use Rattle.ov_cert.specs.Verdict.{Judged};
+    ghost use Rattle.ov_cert.specs.State.{CheckedState};
+    ghost use Rattle.ov_cert.specs.Valid.{IsValid, IsValidForGroup};
+    ghost use Rattle.ov_cert.specs.Verdict.{Judged, JudgedForGroup};
 
-    /// Keeps the two where the certificate is valid, and else hands them back with the first fault. It takes no memory.
+    /// Keeps the two, with the group of all nodes, where the certificate is valid, and else hands them back with the
+    /// first fault. It takes no memory.
     pub fn new(graph: Graph, cert: Cert) -> Result<Checked, (CheckFault, Graph, Cert)>
         ensures valid { IsOk result ↔ IsValid graph cert }
-        ensures kept { IfOk result (λ c. c ≡ record { graph = graph; cert = cert }) }
+        ensures kept { IfOk result (λ c. c ≡ record { graph = graph; members = graph.nodes; cert = cert }) }
         ensures back { IfErr result (λ e. Judged graph cert (Some e.0) × (e.1 ≡ graph) × (e.2 ≡ cert)) }
     {
         match check(&graph, &cert) {
-            Ok(()) => Ok(Checked { graph, cert }),
+            Ok(()) => Ok(Checked {
+                graph,
+                group: None,
+                cert,
+            }),
             Err(fault) => Err((fault, graph, cert)),
+        }
+    }
+
+    /// Keeps the three where the certificate is valid for the group, and else hands them back with the first fault. It
+    /// takes no memory.
+    pub fn for_group(
+        graph: Graph,
+        group: Vec<NodeId>,
+        cert: Cert,
+    ) -> Result<Checked, (CheckFault, Graph, Vec<NodeId>, Cert)>
+        ensures valid { IsOk result ↔ IsValidForGroup graph group.items cert }
+        ensures kept { IfOk result (λ c. c ≡ record { graph = graph; members = group.items; cert = cert }) }
+        ensures back { IfErr result (λ e. JudgedForGroup graph group.items cert (Some e.0) × (e.1 ≡ graph)
+            × (e.2 ≡ group) × (e.3 ≡ cert)) }
+    {
+        match check_group(&graph, &group, &cert) {
+            Ok(()) => Ok(Checked {
+                graph,
+                group: Some(group),
+                cert,
+            }),
+            Err(fault) => Err((fault, graph, group, cert)),
         }
     }
 
     /// The graph.
     pub fn graph(&self) -> &Graph
         ensures graph { result.now ≡ self.now.graph }
-        ensures valid { IsValid self.now.graph self.now.cert }
+        ensures valid { IsValidForGroup self.now.graph self.now.members self.now.cert }
     {
         &self.graph
     }
 
-    /// The certificate, which is valid for the graph.
+    /// The members of the group, ascending.
+    pub fn members(&self) -> &[NodeId]
+        ensures members { result.now ≡ self.now.members }
+        ensures valid { IsValidForGroup self.now.graph self.now.members self.now.cert }
+    {
+        match &self.group {
+            Some(group) => group,
+            None => self.graph.nodes(),
+        }
+    }
+
+    /// The certificate, which is valid for the group.
     pub fn cert(&self) -> &Cert
         ensures cert { result.now ≡ self.now.cert }
-        ensures valid { IsValid self.now.graph self.now.cert }
+        ensures valid { IsValidForGroup self.now.graph self.now.members self.now.cert }
     {
         &self.cert
     }

@@ -1,17 +1,17 @@
 ghost use Rattle.std.specs.Prelude.{◌≡◌};
 ghost use Rattle.std.specs.List.{list_all};
-ghost use Rattle.ov_graph.specs.Tests.{are_joined};
-ghost use Rattle.ov_cert.specs.Tests.{all_linked};
+ghost use Rattle.ov_graph.specs.Code.Tests.{are_joined};
+ghost use Rattle.ov_cert.specs.Code.Tests.{all_linked};
 
 use crate::paths::are_linked;
 use ov_graph::Graph;
 use ov_ids::NodeId;
 
-/// Whether every two nodes are linked.
-pub(crate) fn is_complete(graph: &Graph) -> bool
-    ensures { result ≡ all_linked graph.now graph.now.nodes }
+/// Whether every two members are linked.
+pub(crate) fn are_all_linked(graph: &Graph, group: &[NodeId]) -> bool
+    ensures { result ≡ all_linked graph.now group.now }
 {
-    let mut left = graph.nodes();
+    let mut left = group;
     while let Some((first, rest)) = left.split_first() {
         if !is_linked_to_all(graph, *first, rest) {
             return false;

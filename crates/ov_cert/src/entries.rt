@@ -1,11 +1,14 @@
-ghost use Rattle.std.specs.Prelude.{◌≡◌, ◌≢◌, ◌+◌, ℕ, ◌<◌, length, take, true, false, Some, None, slice_get, MatchBool, MatchResult, OnOk};
+ghost use Rattle.std.specs.Prelude.{◌≡◌, ◌≢◌, ◌+◌, ℕ, ◌<◌, length, true, false, Some, None, slice_get, MatchBool, MatchResult};
+ghost use Rattle.std.specs.Prelude.{OnOk};
 ghost use Rattle.ov_ids.specs.Members.{Has, Ascends};
-ghost use Rattle.ov_graph.specs.Links.{IsGraph};
-ghost use Rattle.ov_cert.specs.Tests.{is_pair_entry, is_fan_entry, unlinked_before, pairs_after, expected_pairs, pairs_fault, fans_fault};
-ghost use Rattle.ov_cert.specs.Valid.{later_nodes};
+ghost use Rattle.ov_graph.specs.Links.{IsGroup};
+ghost use Rattle.ov_graph.specs.Even.{later_members};
+ghost use Rattle.ov_cert.specs.Code.Tests.{is_pair_entry, is_fan_entry, unlinked_before, pairs_after, expected_pairs};
+ghost use Rattle.ov_cert.specs.Code.Tests.{pairs_fault, fans_fault};
 
 use crate::cert::{FanPaths, PairPaths};
 use crate::fault::CheckFault;
+use crate::members::{first_members, later_members};
 use crate::paths::{are_linked, are_paths, is_fan};
 use ov_graph::Graph;
 use ov_ids::NodeId;
@@ -22,16 +25,17 @@ fn is_entry_of_pair(graph: &Graph, k: usize, i: NodeId, j: NodeId, entry: &PairP
 }
 
 /// Whether the entry names the node and has its fan of k.
-fn is_entry_of_fan(graph: &Graph, k: usize, j: NodeId, entry: &FanPaths) -> bool
-    requires { Has graph.now.nodes j }
-    ensures { result ≡ is_fan_entry graph.now k j (Some entry.now) }
+fn is_entry_of_fan(graph: &Graph, group: &[NodeId], k: usize, j: NodeId, entry: &FanPaths) -> bool
+    requires group { Ascends group.now }
+    requires j { Has graph.now.nodes j }
+    ensures { result ≡ is_fan_entry graph.now group.now k j (Some entry.now) }
 {
     let paths = entry.paths.as_slice();
-    entry.j == j && paths.len() == k && is_fan(graph, j, paths)
+    entry.j == j && paths.len() == k && is_fan(graph, group, j, paths)
 }
 
 /// Whether the entry at a place is that of the pair.
-fn has_pair(
+pub(crate) fn has_pair(
     graph: &Graph,
     k: usize,
     entries: &[PairPaths],
@@ -52,18 +56,26 @@ fn has_pair(
 }
 
 /// Whether the entry at a place is the fan of the node.
-fn has_fan(graph: &Graph, k: usize, entries: &[FanPaths], place: usize, j: NodeId) -> bool
-    requires { Has graph.now.nodes j }
-    ensures { result ≡ is_fan_entry graph.now k j (slice_get entries.now place) }
+pub(crate) fn has_fan(
+    graph: &Graph,
+    group: &[NodeId],
+    k: usize,
+    entries: &[FanPaths],
+    place: usize,
+    j: NodeId,
+) -> bool
+    requires group { Ascends group.now }
+    requires j { Has graph.now.nodes j }
+    ensures { result ≡ is_fan_entry graph.now group.now k j (slice_get entries.now place) }
 {
     match entries.get(place) {
-        Some(entry) => is_entry_of_fan(graph, k, j, entry),
+        Some(entry) => is_entry_of_fan(graph, group, k, j, entry),
         None => false,
     }
 }
 
-/// Judges the entries, from a place on, of the pairs of `j` and an earlier node that it is not linked to. Answers the place
-/// after them.
+/// Judges the entries, from a place on, of the pairs of `j` and an earlier node that it is not linked to. Answers the
+/// place after them.
 fn check_pairs_of(
     graph: &Graph,
     k: usize,
@@ -75,7 +87,8 @@ fn check_pairs_of(
     requires earlier { (i : ℕ) → Has earlier.now i → Has graph.now.nodes i × (i ≢ j) }
     requires j { Has graph.now.nodes j }
     ensures { MatchResult result
-        (λ next. (next ≡ place + length (unlinked_before graph.now earlier.now j)) × (pairs_fault graph.now k entries.now place (unlinked_before graph.now earlier.now j) ≡ None))
+        (λ next. (next ≡ place + length (unlinked_before graph.now earlier.now j))
+            × (pairs_fault graph.now k entries.now place (unlinked_before graph.now earlier.now j) ≡ None))
         (λ fault. pairs_fault graph.now k entries.now place (unlinked_before graph.now earlier.now j) ≡ Some fault) }
 {
     let mut next = place;
@@ -91,17 +104,20 @@ fn check_pairs_of(
     Ok(next)
 }
 
-/// Judges the entries of the unlinked pairs among the first k nodes. Answers how many there are.
+/// Judges the entries of the unlinked pairs among the first k members. Answers how many there are.
 pub(crate) fn check_pairs(
     graph: &Graph,
+    group: &[NodeId],
     k: usize,
     entries: &[PairPaths],
 ) -> Result<usize, CheckFault>
+    requires { IsGroup graph.now group.now }
     ensures { MatchResult result
-        (λ count. (count ≡ length (expected_pairs graph.now k)) × (pairs_fault graph.now k entries.now 0 (expected_pairs graph.now k) ≡ None))
-        (λ fault. pairs_fault graph.now k entries.now 0 (expected_pairs graph.now k) ≡ Some fault) }
+        (λ count. (count ≡ length (expected_pairs graph.now group.now k))
+            × (pairs_fault graph.now k entries.now 0 (expected_pairs graph.now group.now k) ≡ None))
+        (λ fault. pairs_fault graph.now k entries.now 0 (expected_pairs graph.now group.now k) ≡ Some fault) }
 {
-    let first = first_nodes(graph, k);
+    let first = first_members(group, k);
     let mut count = 0;
     for (place, j) in first.iter().enumerate() {
         match check_pairs_of(graph, k, entries, count, &first[..place], *j) {
@@ -112,37 +128,24 @@ pub(crate) fn check_pairs(
     Ok(count)
 }
 
-/// The first k nodes, or all where there are fewer.
-fn first_nodes(graph: &Graph, k: usize) -> &[NodeId]
-    ensures nodes { result.now ≡ take k graph.now.nodes }
-    ensures graph { IsGraph graph.now }
-{
-    let nodes = graph.nodes();
-    &nodes[..k.min(nodes.len())]
-}
-
-/// Judges the entries of the fans of the nodes after the first k. Answers how many there are.
-pub(crate) fn check_fans(graph: &Graph, k: usize, entries: &[FanPaths]) -> Result<usize, CheckFault>
+/// Judges the entries of the fans of the members after the first k. Answers how many there are.
+pub(crate) fn check_fans(
+    graph: &Graph,
+    group: &[NodeId],
+    k: usize,
+    entries: &[FanPaths],
+) -> Result<usize, CheckFault>
+    requires { IsGroup graph.now group.now }
     ensures { MatchResult result
-        (λ count. (count ≡ length (later_nodes graph.now k)) × (fans_fault graph.now k entries.now 0 (later_nodes graph.now k) ≡ None))
-        (λ fault. fans_fault graph.now k entries.now 0 (later_nodes graph.now k) ≡ Some fault) }
+        (λ count. (count ≡ length (later_members group.now k))
+            × (fans_fault graph.now group.now k entries.now 0 (later_members group.now k) ≡ None))
+        (λ fault. fans_fault graph.now group.now k entries.now 0 (later_members group.now k) ≡ Some fault) }
 {
-    let later = nodes_after(graph, k);
+    let later = later_members(group, k);
     for (place, j) in later.iter().enumerate() {
-        if !has_fan(graph, k, entries, place, *j) {
+        if !has_fan(graph, group, k, entries, place, *j) {
             return Err(CheckFault::Fan { j: *j });
         }
     }
     Ok(later.len())
-}
-
-/// The nodes that want a fan at k.
-fn nodes_after(graph: &Graph, k: usize) -> &[NodeId]
-    ensures { result.now ≡ later_nodes graph.now k }
-{
-    let nodes = graph.nodes();
-    if k == 0 {
-        return &[];
-    }
-    &nodes[k.min(nodes.len())..]
 }

@@ -19,10 +19,12 @@ pub enum CheckFault {
     Fan { j: NodeId },
     #[error("more entries than are expected")]
     Extra,
-    #[error("two nodes are not linked")]
+    #[error("two members are not linked")]
     NotLinked,
     #[error("no node")]
     NoNodes,
+    #[error("no group of the graph")]
+    BadGroup,
 }
 
 impl CheckFault {
@@ -39,6 +41,7 @@ impl CheckFault {
             CheckFault::Extra => 45,
             CheckFault::NotLinked => 46,
             CheckFault::NoNodes => 47,
+            CheckFault::BadGroup => 49,
         }
     }
 }

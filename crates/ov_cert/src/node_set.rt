@@ -1,31 +1,29 @@
-ghost use Rattle.std.specs.Prelude.{◌≡◌, ◌&&◌, not, [], length, IfSome, IfNone, false, true, if◌then◌else◌};
-ghost use Rattle.std.specs.List.{list_all};
+ghost use Rattle.std.specs.Prelude.{◌≡◌, ◌&&◌, not, [], IfSome, IfNone, false, true, if◌then◌else◌};
 ghost use Rattle.ov_ids.specs.Sets.{has, adding};
 ghost use Rattle.ov_graph.specs.Links.{LinkGraph};
-ghost use Rattle.ov_cert.specs.Marks.{NodesOf};
-ghost use Rattle.ov_cert.specs.Tests.{fresh, entered, is_node_set};
+ghost use Rattle.ov_cert.specs.Code.Kept.{NodesOf};
+ghost use Rattle.ov_cert.specs.Code.Tests.{fresh, entered, is_node_set};
 
 use ov_graph::Graph;
+use ov_graph::row::{EMPTY, Row, has, put};
 use ov_ids::{NodeId, is_ascending};
 use std::marker::Model;
 
-/// A set of nodes of a graph, which takes no memory: a mark for each place. Contracts see the graph, and the members
-/// ascending.
+/// A set of nodes of a graph, which takes no memory: a row with a bit for each place. Contracts see the graph, and the
+/// members ascending.
 #[derive(Drop)]
 pub(crate) struct NodeSet<'g> {
     graph: &'g Graph,
-    marks: [bool; Graph::MOST_NODES],
+    row: Row,
 }
 
 impl<'g> Model for NodeSet<'g> {
-    ghost use Rattle.std.specs.Prelude.{◌≡◌, length};
-    ghost use Rattle.ov_cert.specs.Marks.{NodesOf, marked};
+    ghost use Rattle.ov_graph.specs.Code.Kept.{picked};
+    ghost use Rattle.ov_cert.specs.Code.Kept.{NodesOf};
 
     ghost Value = { NodesOf };
 
-    ghost view = { λ s. record { graph = s.graph.now; members = marked s.graph.now.nodes s.marks } };
-
-    ghost invariant = { λ s. length s.marks ≡ 256 };
+    ghost view = { λ s. record { graph = s.graph.now; members = picked s.row 0 s.graph.now.nodes } };
 }
 
 impl<'g> NodeSet<'g> {
@@ -35,7 +33,7 @@ impl<'g> NodeSet<'g> {
     {
         NodeSet {
             graph,
-            marks: no_marks(),
+            row: EMPTY,
         }
     }
 
@@ -45,7 +43,7 @@ impl<'g> NodeSet<'g> {
     {
         let graph = self.graph;
         match graph.place(id) {
-            Some(place) => self.marks[place],
+            Some(place) => has(&self.row, place),
             None => false,
         }
     }
@@ -53,16 +51,17 @@ impl<'g> NodeSet<'g> {
     /// Takes a node in. Answers false, and changes nothing, where the id is no node or is a member.
     pub(crate) fn enter(&mut self, id: NodeId) -> bool
         ensures fresh { result ≡ has self.old.graph.nodes id && not (has self.old.members id) }
-        ensures entered { self.new ≡ (if result then record self.old { members = adding id self.old.members } else self.old) }
+        ensures entered { self.new ≡ (if result then record self.old { members = adding id self.old.members } else
+            self.old) }
     {
         let graph = self.graph;
         let Some(place) = graph.place(id) else {
             return false;
         };
-        if self.marks[place] {
+        if has(&self.row, place) {
             return false;
         }
-        self.marks[place] = true;
+        put(&mut self.row, place);
         true
     }
 
@@ -81,13 +80,6 @@ impl<'g> NodeSet<'g> {
     }
 }
 
-fn no_marks() -> [bool; Graph::MOST_NODES]
-    ensures none { list_all (λ mark. not mark) result ≡ true }
-    ensures wide { length result ≡ 256 }
-{
-    [false; Graph::MOST_NODES]
-}
-
 /// The set of these ids, where they are nodes in ascending order.
 pub(crate) fn node_set<'g>(graph: &'g Graph, ids: &[NodeId]) -> Option<NodeSet<'g>>
     ensures some { IfSome result (λ s. s ≡ record { graph = graph.now; members = ids.now }) }
@@ -99,11 +91,4 @@ pub(crate) fn node_set<'g>(graph: &'g Graph, ids: &[NodeId]) -> Option<NodeSet<'
     }
     let mut set = NodeSet::new(graph);
     if set.enter_all(ids) { Some(set) } else { None }
-}
-
-/// Whether the id is a node.
-pub(crate) fn is_node(graph: &Graph, id: NodeId) -> bool
-    ensures { result ≡ has graph.now.nodes id }
-{
-    graph.place(id).is_some()
 }

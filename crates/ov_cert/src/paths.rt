@@ -1,9 +1,11 @@
-ghost use Rattle.std.specs.Prelude.{◌≡◌, ◌≢◌, ◌≤◌, [], ◌∷◌, ◌++◌, length, nat_lt, true, MatchOption};
-ghost use Rattle.ov_ids.specs.Members.{Has};
+ghost use Rattle.std.specs.Prelude.{◌≡◌, ◌≢◌, ◌≤◌, [], ◌∷◌, ◌++◌, length, true, MatchOption};
+ghost use Rattle.ov_ids.specs.Members.{Has, Ascends};
 ghost use Rattle.ov_ids.specs.Sets.{adding};
-ghost use Rattle.ov_graph.specs.Tests.{are_joined};
-ghost use Rattle.ov_cert.specs.Tests.{chained, is_pair_path, are_pair_paths, is_fan_path, are_fan_paths, entered, inner, steps};
+ghost use Rattle.ov_graph.specs.Code.Tests.{are_joined};
+ghost use Rattle.ov_cert.specs.Code.Tests.{chained, is_pair_path, are_pair_paths, is_fan_path, are_fan_paths, entered, inner};
+ghost use Rattle.ov_cert.specs.Code.Tests.{steps};
 
+use crate::members::is_earlier;
 use crate::node_set::NodeSet;
 use ov_graph::Graph;
 use ov_ids::{NodeId, Seq};
@@ -44,7 +46,8 @@ struct Ends<'p> {
 
 /// The ends of a path, if it has two nodes at least.
 fn ends_of(path: &[NodeId]) -> Option<Ends<'_>>
-    ensures { MatchOption result (length path.now ≤ 1) (λ e. (path.now ≡ e.first ∷ e.rest.now) × (e.rest.now ≡ e.inside.now ++ e.last ∷ [])) }
+    ensures { MatchOption result (length path.now ≤ 1) (λ e. (path.now ≡ e.first ∷ e.rest.now)
+        × (e.rest.now ≡ e.inside.now ++ e.last ∷ [])) }
 {
     let (first, rest) = path.split_first()?;
     let (last, inside) = rest.split_last()?;
@@ -102,18 +105,18 @@ pub(crate) fn are_paths(graph: &Graph, i: NodeId, j: NodeId, paths: &[Seq<NodeId
     true
 }
 
-/// Whether one node comes before another.
-fn is_below(a: NodeId, b: NodeId) -> bool
-    ensures { result ≡ nat_lt a b }
-{
-    a < b
-}
-
-/// Whether the path goes from `j` to a lower node over nodes that are not used, which then are.
-fn takes_fan_path(graph: &Graph, used: &mut NodeSet<'_>, j: NodeId, path: &[NodeId]) -> bool
-    requires { used.old.graph ≡ graph.now }
+/// Whether the path goes from `j` to a member below it over nodes that are not used, which then are.
+fn takes_fan_path(
+    graph: &Graph,
+    group: &[NodeId],
+    used: &mut NodeSet<'_>,
+    j: NodeId,
+    path: &[NodeId],
+) -> bool
+    requires graph { used.old.graph ≡ graph.now }
+    requires group { Ascends group.now }
     ensures graph { used.new.graph ≡ graph.now }
-    ensures path { result ≡ is_fan_path graph.now used.old.members j path.now }
+    ensures path { result ≡ is_fan_path graph.now group.now used.old.members j path.now }
     ensures used { result ≡ true → used.new.members ≡ entered used.old.members (steps path.now) }
 {
     let Some(ends) = ends_of(path) else {
@@ -122,7 +125,7 @@ fn takes_fan_path(graph: &Graph, used: &mut NodeSet<'_>, j: NodeId, path: &[Node
     if ends.first != j {
         return false;
     }
-    if !is_below(ends.last, j) {
+    if !is_earlier(group, j, ends.last) {
         return false;
     }
     if !is_chained(graph, path) {
@@ -131,15 +134,16 @@ fn takes_fan_path(graph: &Graph, used: &mut NodeSet<'_>, j: NodeId, path: &[Node
     used.enter_all(ends.rest)
 }
 
-/// Whether the paths go from `j` to lower nodes and share only `j`.
-pub(crate) fn is_fan(graph: &Graph, j: NodeId, paths: &[Seq<NodeId>]) -> bool
-    requires { Has graph.now.nodes j }
-    ensures { result ≡ are_fan_paths graph.now (j ∷ []) j paths.now }
+/// Whether the paths go from `j` to members below it and share only `j`.
+pub(crate) fn is_fan(graph: &Graph, group: &[NodeId], j: NodeId, paths: &[Seq<NodeId>]) -> bool
+    requires group { Ascends group.now }
+    requires j { Has graph.now.nodes j }
+    ensures { result ≡ are_fan_paths graph.now group.now (j ∷ []) j paths.now }
 {
     let mut used = NodeSet::new(graph);
     used.enter(j);
     for path in paths {
-        if !takes_fan_path(graph, &mut used, j, path.as_slice()) {
+        if !takes_fan_path(graph, group, &mut used, j, path.as_slice()) {
             return false;
         }
     }

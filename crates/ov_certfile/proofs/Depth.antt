@@ -1,5 +1,5 @@
 -- What is written lies few lists and objects deep, so that the reader of JSON reads its text again.
-use Rattle.std.proofs.Common.{◌≡◌, ◌∙◌, ℕ, ◌+◌, ◌≤◌, max, List, [], ◌∷◌, Option, Some, Ok, refl, ap, arith}
+use Rattle.std.proofs.Common.{◌≡◌, ◌∙◌, ℕ, ◌+◌, ◌≤◌, List, [], ◌∷◌, Some, ap, arith}
 use Rattle.serde_json.specs.Data.{Data, depth}
 use Rattle.serde_json.specs.Read.{read, max_depth}
 use Rattle.ov_graph.specs.Links.{LinkGraph}
@@ -7,14 +7,15 @@ use Rattle.ov_cert.specs.declared.cert.Cert.{Cert}
 use Rattle.ov_cert.specs.declared.cert.Cert.TheVariants as cert
 use Rattle.ov_cert.specs.declared.cert.PairPaths.{PairPaths}
 use Rattle.ov_cert.specs.declared.cert.FanPaths.{FanPaths}
-use Rattle.ov_certfile.specs.DataOf.{data_of, whole_data, list_data, ids_data, link_data, paths_data, pair_data, fan_data}
-use Rattle.ov_certfile.specs.FileOf.{file_of, file_of_text}
-use Rattle.ov_certfile.specs.Gives.{◌>>=◌, or_fault}
-use Rattle.ov_certfile.specs.declared.fault.FileFault.TheVariants.{NotJson}
+use Rattle.ov_certfile.specs.DataOf.{data_of, data_in, version_for, whole_data, list_data, ids_data, link_data}
+use Rattle.ov_certfile.specs.DataOf.{paths_data, pair_data, fan_data}
 use Rattle.ov_certfile.specs.ReadsBack.{ReadsBack, TextReadsBack}
+use Rattle.ov_certfile.specs.declared.version.Version.{Version}
+use Rattle.ov_certfile.specs.declared.version.Version.TheVariants.{One, Two}
 
 -- a list of what lies no deeper than d lies one deeper
-list_depth : {X : Type 0} (as_data : X → Data) (d : ℕ) → ((x : X) → depth (as_data x) ≤ d) → (xs : List X) → depth (list_data as_data xs) ≤ d + 1
+list_depth : {X : Type 0} (as_data : X → Data) (d : ℕ) → ((x : X) → depth (as_data x) ≤ d)
+    → (xs : List X) → depth (list_data as_data xs) ≤ d + 1
 list_depth as_data d h [] = omega arith
 list_depth as_data d h (x ∷ xs) = let a = h x in let b = list_depth as_data d h xs in omega (arith, a, b)
 
@@ -35,10 +36,19 @@ fan_depth p = let a = paths_depth p.paths in omega (arith, a)
 links_depth : (ls : List (ℕ × ℕ)) → depth (list_data link_data ls) ≤ 2
 links_depth = list_depth link_data 1 (λ l. omega arith)
 
-depth_within : (c : Cert) (g : LinkGraph) (m : ℕ) → depth (data_of c g m) ≤ max_depth
-unfolding data_of
-depth_within (cert.Linked k) g m = let a = links_depth g.links in let b = ids_depth g.nodes in omega (arith, a, b)
-depth_within (cert.Split c) g m =
+version_depth : (version : Version) (c : Cert) (g : LinkGraph) (q : List ℕ) (m : ℕ)
+    → depth (data_in version c g q m) ≤ max_depth
+unfolding data_in
+version_depth One (cert.Linked k) g q m =
+    let a = links_depth g.links in
+    let b = ids_depth g.nodes in
+    omega (arith, a, b)
+version_depth Two (cert.Linked k) g q m =
+    let a = links_depth g.links in
+    let b = ids_depth g.nodes in
+    let i = ids_depth q in
+    omega (arith, a, b, i)
+version_depth One (cert.Split c) g q m =
     let a = links_depth g.links in
     let b = ids_depth g.nodes in
     let d = ids_depth c.cut in
@@ -46,9 +56,23 @@ depth_within (cert.Split c) g m =
     let f = list_depth pair_data 3 pair_depth c.pairs in
     let h = ids_depth c.side in
     omega (arith, a, b, d, e, f, h)
+version_depth Two (cert.Split c) g q m =
+    let a = links_depth g.links in
+    let b = ids_depth g.nodes in
+    let d = ids_depth c.cut in
+    let e = list_depth fan_data 3 fan_depth c.fans in
+    let f = list_depth pair_data 3 pair_depth c.pairs in
+    let h = ids_depth c.side in
+    let i = ids_depth q in
+    omega (arith, a, b, d, e, f, h, i)
+
+depth_within : (c : Cert) (g : LinkGraph) (q : List ℕ) (m : ℕ) → depth (data_of c g q m) ≤ max_depth
+unfolding data_of
+depth_within c g q m = version_depth (version_for g q) c g q m
 
 -- the text of the object says what the object says
-pub text_reads_back : (c : Cert) (g : LinkGraph) (m : ℕ) (d : Data) (text : List ℕ) → d ≡ data_of c g m → (depth d ≤ max_depth → read text ≡ Some d) → ReadsBack c g m → TextReadsBack c g m text
-text_reads_back c g m d text e reads back =
-    let t : read text ≡ Some d = reads (rw e (depth_within c g m)) in
-    record { says = ap (λ (o : Option Data). or_fault NotJson o >>= file_of) (t ∙ ap Some e) ∙ back.says }
+pub text_reads_back : (c : Cert) (g : LinkGraph) (q : List ℕ) (m : ℕ) (d : Data) (text : List ℕ) → d ≡ data_of c g q m
+    → (depth d ≤ max_depth → read text ≡ Some d) → ReadsBack c g q m → TextReadsBack c g q m text
+text_reads_back c g q m d text e reads back =
+    let t : read text ≡ Some (data_of c g q m) = reads (rw e (depth_within c g q m)) ∙ ap Some e in
+    record { says = record { json = rw t (back.says); no_json = rw t tt } }

@@ -2,4 +2,9 @@ pub mod OtherKeys
 pub mod Listed
 pub mod Written
 pub mod Back
+pub mod Headed
+pub mod Parts
+pub mod Told
+pub mod OneAnswer
+pub mod Rewritten
 pub mod Depth

@@ -1,13 +1,20 @@
 -- The object that is written for a certificate: its keys in the order of their bytes.
-use Rattle.std.specs.Prelude.{ℕ, List, [], ◌∷◌, map, codes}
+use Rattle.std.specs.Prelude.{ℕ, ◌&&◌, List, [], ◌∷◌, length, map, codes, nat_eq, nat_le, if◌then◌else◌}
+use Rattle.std.specs.Cmp.Lexicographic.{pointwise}
 use Rattle.serde_json.specs.View.{items_of}
 use Rattle.serde_json.specs.Data.{Data, number, string, array, object, unsigned, Members, no_members, member}
+use Rattle.serde_json.specs.Data.{put as with_member}
 use Rattle.ov_graph.specs.Links.{LinkGraph}
 use Rattle.ov_cert.specs.declared.cert.Cert.{Cert}
 use Rattle.ov_cert.specs.declared.cert.Cert.TheVariants as cert
 use Rattle.ov_cert.specs.declared.cert.Split.{Split}
 use Rattle.ov_cert.specs.declared.cert.PairPaths.{PairPaths}
 use Rattle.ov_cert.specs.declared.cert.FanPaths.{FanPaths}
+use Rattle.ov_certfile.specs.Kinds.{version_number, verdict_text, most_nodes_of}
+use Rattle.ov_certfile.specs.declared.version.Version.{Version}
+use Rattle.ov_certfile.specs.declared.version.Version.TheVariants.{One, Two}
+use Rattle.ov_certfile.specs.declared.verdict.Verdict.{Verdict}
+use Rattle.ov_certfile.specs.declared.verdict.Verdict.TheVariants.{Linked, Split as Splits}
 
 -- a whole number
 abbrev pub whole_data : ℕ → Data
@@ -42,24 +49,29 @@ fan_data p = object
     (member (codes "j") (whole_data p.j)
     (member (codes "paths") (paths_data p.paths) no_members))
 
+-- version 1 exactly where the group is all nodes, and these are as many as it may have at most
+unfoldable pub version_for : LinkGraph → List ℕ → Version
+version_for g group = if pointwise nat_eq group g.nodes && nat_le (length g.nodes) (most_nodes_of One) then One else Two
+
+-- version 2 has the group too, at its place in the order of keys
+abbrev pub with_group : Version → List ℕ → Members → Members
+with_group One group members = members
+with_group Two group members = with_member (codes "group") (ids_data group) members
+
 -- what files of both verdicts have
-abbrev pub common_members : List ℕ → ℕ → LinkGraph → ℕ → Members
-common_members verdict k g moment =
+abbrev pub common_members : Version → Verdict → ℕ → LinkGraph → ℕ → Members
+common_members version verdict k g moment =
     member (codes "k") (whole_data k)
     (member (codes "links") (list_data link_data g.links)
     (member (codes "moment") (whole_data moment)
     (member (codes "nodes") (ids_data g.nodes)
-    (member (codes "verdict") (string verdict)
-    (member (codes "version") (whole_data 1) no_members)))))
+    (member (codes "verdict") (string (verdict_text verdict))
+    (member (codes "version") (whole_data (version_number version)) no_members)))))
 
--- the six keys of a file that says that all are linked
-abbrev pub linked_data : ℕ → LinkGraph → ℕ → Data
-linked_data k g moment = object (common_members (codes "linked") k g moment)
-
--- the twelve keys of a file that says what splits
-abbrev pub split_data : Split → LinkGraph → ℕ → Data
-split_data c g moment = object
-    (member (codes "cut") (ids_data c.cut)
+-- what a file that says what splits has
+abbrev pub split_members : Version → Split → LinkGraph → ℕ → Members
+split_members version c g moment =
+    member (codes "cut") (ids_data c.cut)
     (member (codes "fans") (list_data fan_data c.fans)
     (member (codes "far") (whole_data c.far)
     (member (codes "k") (whole_data c.k)
@@ -69,10 +81,18 @@ split_data c g moment = object
     (member (codes "nodes") (ids_data g.nodes)
     (member (codes "pairs") (list_data pair_data c.pairs)
     (member (codes "side") (ids_data c.side)
-    (member (codes "verdict") (string (codes "split"))
-    (member (codes "version") (whole_data 1) no_members))))))))))))
+    (member (codes "verdict") (string (verdict_text Splits))
+    (member (codes "version") (whole_data (version_number version)) no_members)))))))))))
 
--- the object for a certificate, its graph and the moment of the graph
-unfoldable pub data_of : Cert → LinkGraph → ℕ → Data
-data_of (cert.Linked k) g moment = linked_data k g moment
-data_of (cert.Split c) g moment = split_data c g moment
+-- what the file of a certificate has, beside its group
+abbrev pub cert_members : Version → Cert → LinkGraph → ℕ → Members
+cert_members version (cert.Linked k) g moment = common_members version Linked k g moment
+cert_members version (cert.Split c) g moment = split_members version c g moment
+
+-- the object of a version
+unfoldable pub data_in : Version → Cert → LinkGraph → List ℕ → ℕ → Data
+data_in version c g group moment = object (with_group version group (cert_members version c g moment))
+
+-- the object for a certificate, its graph and group, and the moment of the graph
+unfoldable pub data_of : Cert → LinkGraph → List ℕ → ℕ → Data
+data_of c g group moment = data_in (version_for g group) c g group moment

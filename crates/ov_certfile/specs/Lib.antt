@@ -1,8 +1,11 @@
 pub mod Number
-pub mod Gives
 pub mod Keys
-pub mod Fields
-pub mod FileOf
+pub mod Forms
+pub mod Kinds
+pub mod Demands
+pub mod Says
 pub mod DataOf
 pub mod ReadsBack
+pub mod CertLine
 pub mod Device
+pub mod Code

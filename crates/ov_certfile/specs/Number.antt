@@ -2,7 +2,8 @@
 use Rattle.std.specs.Prelude.{ℕ}
 use Rattle.ov_graph.specs.Faults as graph
 use Rattle.ov_certfile.specs.declared.fault.FileFault.{FileFault}
-use Rattle.ov_certfile.specs.declared.fault.FileFault.TheVariants.{NotJson, MissingKey, UnknownKey, BadValue, Version, Graph, OutOfMemory}
+use Rattle.ov_certfile.specs.declared.fault.FileFault.TheVariants.{NotJson, MissingKey, UnknownKey, BadValue, Version}
+use Rattle.ov_certfile.specs.declared.fault.FileFault.TheVariants.{Graph, OutOfMemory}
 
 -- a graph's fault keeps its own number
 abbrev pub number_of : FileFault → ℕ

@@ -1,26 +1,25 @@
-ghost use Rattle.std.specs.Prelude.{◌≡◌, ◌≤◌, ◌^◌, map, IfOk, OnOk, Ok};
-ghost use Rattle.serde_json.specs.View.{view, items_view};
-ghost use Rattle.ov_certfile.specs.Gives.{Gives};
-ghost use Rattle.ov_certfile.specs.Keys.{at};
-ghost use Rattle.ov_certfile.specs.Fields.{whole_at, each_in, list_at};
+ghost use Rattle.std.specs.Prelude.{◌≡◌, ◌≤◌, ◌^◌, map, IfOk, OnOk, Some};
+ghost use Rattle.serde_json.specs.View.{view, items_view, members_view};
+ghost use Rattle.serde_json.specs.Data.{put as with_member};
+ghost use Rattle.ov_certfile.specs.Keys.{said};
+ghost use Rattle.ov_certfile.specs.Forms.{whole_below, each_in, list_in};
 ghost use Rattle.ov_certfile.specs.DataOf.{list_data};
+ghost use Rattle.ov_certfile.specs.Code.Reading.{Reads};
 
 use crate::fault::FileFault;
-use crate::keys::member;
 use ov_ids::{NodeId, Seq};
-use serde_json::{Value, json};
+use serde_json::{Map, Value, json, put};
 use std::alloc::{AllocError, Global};
 
-/// What stands in a file as a value of JSON: `reads` is what a value says as such a field, and `as_data` the value that is
-/// written for one.
+/// What stands in a file as a value of JSON: `form` is what a value says as such a field, if it has the form of one,
+/// and `as_data` the value that is written for one.
 pub(crate) trait Field: Drop {
-    ghost use Rattle.std.specs.Prelude.{◌≡◌, Result, IfOk, OnOk, Ok};
+    ghost use Rattle.std.specs.Prelude.{◌≡◌, Option, IfOk, OnOk, Some};
     ghost use Rattle.serde_json.specs.Data.{Data};
     ghost use Rattle.serde_json.specs.View.{view};
-    ghost use Rattle.ov_certfile.specs.Gives.{Gives};
-    ghost use Rattle.ov_certfile.specs.declared.fault.FileFault.{FileFault};
+    ghost use Rattle.ov_certfile.specs.Code.Reading.{Reads};
 
-    ghost reads: { Data → Result Self FileFault };
+    ghost form: { Data → Option Self };
 
     ghost as_data: { Self → Data };
 
@@ -28,18 +27,18 @@ pub(crate) trait Field: Drop {
     fn from_value(alloc: Global, value: &Value) -> Result<Self, FileFault>
     where
         Self: Sized,
-        ensures { Gives (λ x. x) result (reads (view value.now)) };
+        ensures { Reads (λ x. x) result (form (view value.now)) };
 
     /// The value for a field, which says the field again.
     fn to_value(&self, alloc: Global) -> Result<Value, AllocError>
         ensures value { IfOk result (λ v. view v ≡ as_data self.now) }
-        ensures reads_back { OnOk result (reads (as_data self.now) ≡ Ok self.now) };
+        ensures reads_back { OnOk result (form (as_data self.now) ≡ Some self.now) };
 }
 
 /// A whole number below a limit.
-pub(crate) fn whole_of(value: &Value, limit: u64) -> Result<u32, FileFault>
+fn whole_of(value: &Value, limit: u64) -> Result<u32, FileFault>
     requires { limit ≤ 2 ^ 32 }
-    ensures { Gives (λ n. n) result (whole_at limit (view value.now)) }
+    ensures { Reads (λ n. n) result (whole_below limit (view value.now)) }
 {
     match value.as_u64() {
         Some(number) if number < limit => Ok(number as u32),
@@ -48,10 +47,10 @@ pub(crate) fn whole_of(value: &Value, limit: u64) -> Result<u32, FileFault>
 }
 
 impl Field for NodeId {
-    ghost use Rattle.ov_certfile.specs.Fields.{id_at};
+    ghost use Rattle.ov_certfile.specs.Forms.{id_in};
     ghost use Rattle.ov_certfile.specs.DataOf.{whole_data};
 
-    ghost reads = { id_at };
+    ghost form = { id_in };
 
     ghost as_data = { whole_data };
 
@@ -66,10 +65,10 @@ impl Field for NodeId {
 }
 
 impl Field for (NodeId, NodeId) {
-    ghost use Rattle.ov_certfile.specs.Fields.{link_at};
+    ghost use Rattle.ov_certfile.specs.Forms.{link_in};
     ghost use Rattle.ov_certfile.specs.DataOf.{link_data};
 
-    ghost reads = { link_at };
+    ghost form = { link_in };
 
     ghost as_data = { link_data };
 
@@ -90,10 +89,10 @@ impl Field for (NodeId, NodeId) {
 }
 
 impl<T: Field> Field for Seq<T> {
-    ghost use Rattle.ov_certfile.specs.Fields.{list_at};
+    ghost use Rattle.ov_certfile.specs.Forms.{list_in};
     ghost use Rattle.ov_certfile.specs.DataOf.{list_data};
 
-    ghost reads = { list_at T.reads };
+    ghost form = { list_in T.form };
 
     ghost as_data = { list_data T.as_data };
 
@@ -108,7 +107,7 @@ impl<T: Field> Field for Seq<T> {
 }
 
 fn list_from<T: Field>(alloc: Global, value: &Value) -> Result<Vec<T>, FileFault>
-    ensures { Gives (λ v. v.items) result (list_at T.reads (view value.now)) }
+    ensures { Reads (λ v. v.items) result (list_in T.form (view value.now)) }
 {
     match value.as_array() {
         Some(values) => each_from(alloc, values.as_slice()),
@@ -117,7 +116,7 @@ fn list_from<T: Field>(alloc: Global, value: &Value) -> Result<Vec<T>, FileFault
 }
 
 fn each_from<T: Field>(alloc: Global, values: &[Value]) -> Result<Vec<T>, FileFault>
-    ensures { Gives (λ v. v.items) result (each_in T.reads (items_view values.now)) }
+    ensures { Reads (λ v. v.items) result (each_in T.form (items_view values.now)) }
 {
     let mut fields = Vec::new(alloc);
     for value in values {
@@ -130,7 +129,7 @@ fn each_from<T: Field>(alloc: Global, values: &[Value]) -> Result<Vec<T>, FileFa
 /// The list of the values for these fields.
 pub(crate) fn list_value<T: Field>(alloc: Global, fields: &[T]) -> Result<Value, AllocError>
     ensures value { IfOk result (λ v. view v ≡ list_data T.as_data fields.now) }
-    ensures reads_back { OnOk result (list_at T.reads (list_data T.as_data fields.now) ≡ Ok fields.now) }
+    ensures reads_back { OnOk result (list_in T.form (list_data T.as_data fields.now) ≡ Some fields.now) }
 {
     let values = each_value(alloc, fields)?;
     Ok(Value::Array(values))
@@ -138,7 +137,7 @@ pub(crate) fn list_value<T: Field>(alloc: Global, fields: &[T]) -> Result<Value,
 
 fn each_value<T: Field>(alloc: Global, fields: &[T]) -> Result<Vec<Value>, AllocError>
     ensures values { IfOk result (λ v. map view v.items ≡ map T.as_data fields.now) }
-    ensures reads_back { OnOk result (list_at T.reads (list_data T.as_data fields.now) ≡ Ok fields.now) }
+    ensures reads_back { OnOk result (list_in T.form (list_data T.as_data fields.now) ≡ Some fields.now) }
 {
     let mut values = Vec::new(alloc);
     for field in fields {
@@ -150,7 +149,36 @@ fn each_value<T: Field>(alloc: Global, fields: &[T]) -> Result<Vec<Value>, Alloc
 
 /// The value of a key, read as a field.
 pub(crate) fn read_at<T: Field>(alloc: Global, value: &Value, key: &str) -> Result<T, FileFault>
-    ensures { Gives (λ x. x) result (at key.now T.reads (view value.now)) }
+    ensures { Reads (λ x. x) result (said T.form key.now (view value.now)) }
 {
-    T::from_value(alloc, member(value, key)?)
+    match value.get(key) {
+        Some(value) => T::from_value(alloc, value),
+        None => Err(FileFault::BadValue),
+    }
+}
+
+/// The value of a key, read as a whole number below a limit.
+pub(crate) fn whole_at(value: &Value, key: &str, limit: u64) -> Result<u32, FileFault>
+    requires { limit ≤ 2 ^ 32 }
+    ensures { Reads (λ n. n) result (said (whole_below limit) key.now (view value.now)) }
+{
+    match value.get(key) {
+        Some(value) => whole_of(value, limit),
+        None => Err(FileFault::BadValue),
+    }
+}
+
+/// Puts in the value for a field at its key.
+pub(crate) fn put_field<T: Field>(
+    members: &mut Map<String, Value>,
+    alloc: Global,
+    key: &str,
+    field: &T,
+) -> Result<(), AllocError>
+    ensures members { OnOk result (members_view members.new.entries
+        ≡ with_member key.now (T.as_data field.now) (members_view members.old.entries)) }
+    ensures reads_back { OnOk result (T.form (T.as_data field.now) ≡ Some field.now) }
+{
+    let value = field.to_value(alloc)?;
+    put(members, alloc, key, value)
 }

@@ -61,8 +61,8 @@ impl<R: Read> Source<R> {
         self.faults
     }
 
-    /// All bytes that the reader still has. A read that fails, or is interrupted, is the fault of the call; so is a reader
-    /// that has not ended after 4,294,967,295 reads.
+    /// All bytes that the reader still has. A read that fails, or is interrupted, is the fault of the call; so is a
+    /// reader that has not ended after 4,294,967,295 reads.
     pub fn read_all(&mut self, alloc: Global) -> Result<Vec<u8>, ReadFault>
         requires { self.old.faults < 2 ^ 64 - 1 }
         ensures bytes { IfOk result (λ v. IfSome (R.remaining self.old.reader) (λ xs. v.items ≡ xs)) }

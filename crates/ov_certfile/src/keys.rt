@@ -2,10 +2,8 @@ ghost use Rattle.std.specs.Prelude.{◌≡◌, map, string_bytes};
 ghost use Rattle.std.specs.List.{list_all};
 ghost use Rattle.std.specs.BTreeMap.{keys};
 ghost use Rattle.serde_json.specs.View.{view};
-ghost use Rattle.ov_certfile.specs.Gives.{Gives};
-ghost use Rattle.ov_certfile.specs.Keys.{is_among, has_all, has_no_other, keys_fit, has_exactly, value_of};
+ghost use Rattle.ov_certfile.specs.Keys.{is_among, has_all, has_no_other, has_just};
 
-use crate::fault::FileFault;
 use serde_json::{Map, Value};
 
 fn is_among(texts: &[&str], text: &str) -> bool
@@ -19,7 +17,8 @@ fn is_among(texts: &[&str], text: &str) -> bool
     false
 }
 
-fn has_all(keys: &[&str], value: &Value) -> bool
+/// Whether an object has all of these keys.
+pub(crate) fn has_all(keys: &[&str], value: &Value) -> bool
     ensures { result ≡ has_all (map (λ k. k.now) keys.now) (view value.now) }
 {
     for key in keys {
@@ -30,7 +29,8 @@ fn has_all(keys: &[&str], value: &Value) -> bool
     true
 }
 
-fn has_no_other(keys: &[&str], value: &Value) -> bool
+/// Whether an object has no key but these.
+pub(crate) fn has_no_other(keys: &[&str], value: &Value) -> bool
     ensures { result ≡ has_no_other (map (λ k. k.now) keys.now) (view value.now) }
 {
     match value.as_object() {
@@ -45,33 +45,9 @@ fn are_among(wanted: &[&str], members: &Map<String, Value>) -> bool
     members.keys().all(|key| is_among(wanted, key.as_str()))
 }
 
-/// Checks that an object has these keys and no others.
-pub(crate) fn check_keys(keys: &[&str], value: &Value) -> Result<(), FileFault>
-    ensures { Gives (λ u. u) result (keys_fit (map (λ k. k.now) keys.now) (view value.now)) }
+/// Whether an object has these keys and no others.
+pub(crate) fn has_just(keys: &[&str], value: &Value) -> bool
+    ensures { result ≡ has_just (map (λ k. k.now) keys.now) (view value.now) }
 {
-    if !has_all(keys, value) {
-        return Err(FileFault::MissingKey);
-    }
-    if !has_no_other(keys, value) {
-        return Err(FileFault::UnknownKey);
-    }
-    Ok(())
-}
-
-/// Checks that an object inside a file has exactly these keys.
-pub(crate) fn check_exactly(keys: &[&str], value: &Value) -> Result<(), FileFault>
-    ensures { Gives (λ u. u) result (has_exactly (map (λ k. k.now) keys.now) (view value.now)) }
-{
-    if has_all(keys, value) && has_no_other(keys, value) {
-        Ok(())
-    } else {
-        Err(FileFault::BadValue)
-    }
-}
-
-/// The value of a key.
-pub(crate) fn member<'v>(value: &'v Value, key: &str) -> Result<&'v Value, FileFault>
-    ensures { Gives (λ v. view v.now) result (value_of key.now (view value.now)) }
-{
-    value.get(key).ok_or(FileFault::MissingKey)
+    has_all(keys, value) && has_no_other(keys, value)
 }

@@ -50,8 +50,8 @@ impl<W: Write> Sink<W> {
         self.writer
     }
 
-    /// Writes all bytes. A write that fails, is interrupted or takes nothing is the fault of the call. What the writer took
-    /// before are the first of these bytes, and nothing is said of how many.
+    /// Writes all bytes. A write that fails, is interrupted or takes nothing is the fault of the call. What the writer
+    /// took before are the first of these bytes, and nothing is said of how many.
     pub fn write_all(&mut self, bytes: &[u8]) -> Result<(), WriteFault>
         requires { self.old.faults < 2 ^ 64 - 1 }
         ensures bytes { OnOk result (Appends (W.contents self.old.writer) (W.contents self.new.writer) bytes.now) }

@@ -1,13 +1,19 @@
-ghost use Rattle.std.specs.Prelude.{◌≡◌, codes, Ok};
+ghost use Rattle.std.specs.Prelude.{◌≡◌, ◌≢◌, codes, None, Result, Err, IfOk, MatchResult};
 ghost use Rattle.serde_json.specs.View.{view};
-ghost use Rattle.ov_certfile.specs.Gives.{Gives};
-ghost use Rattle.ov_certfile.specs.Keys.{keys_fit, at};
-ghost use Rattle.ov_certfile.specs.FileOf.{object_in, version_in, verdict_in, keys_of, count_at, moment_at, graph_of, linked_cert, split_cert, cert_of, values_of, file_of, file_of_text};
+ghost use Rattle.ov_graph.specs.Links.{LinkGraph};
+ghost use Rattle.ov_certfile.specs.Keys.{said};
+ghost use Rattle.ov_certfile.specs.Forms.{count_in};
+ghost use Rattle.ov_certfile.specs.Kinds.{version_keys};
+ghost use Rattle.ov_certfile.specs.Demands.{GraphJudged};
+ghost use Rattle.ov_certfile.specs.Says.{SaysFile, SaysText};
+ghost use Rattle.ov_certfile.specs.Code.Reading.{Reads, IsHeaded, IsCert, IsGraphed, IsDated, IsNamed, LacksForm, IsUndated};
+ghost use Rattle.ov_certfile.specs.Code.Reading.{IsGraphFault, cert_keys, graph_keys, dated_keys};
 
 use crate::fault::FileFault;
-use crate::fields::{read_at, whole_of};
-use crate::keys::{check_keys, member};
+use crate::fields::{read_at, whole_at};
+use crate::heading::heading_of;
 use crate::verdict::Verdict;
+use crate::version::Version;
 use ov_cert::{Cert, Split};
 use ov_graph::{Graph, GraphFault};
 use ov_ids::{NodeId, Seq};
@@ -20,15 +26,29 @@ pub struct Filed {
     /// The number of the journal's entry whose graph it is, at most 65,536; 0 is a graph that was given by hand.
     pub moment: u32,
     pub graph: Graph,
+    /// The nodes that must not be parted, as they stand in the file: whether they are a group is not asked.
+    pub group: Seq<NodeId>,
     pub cert: Cert,
 }
 
-/// What a text says as a certificate file, or its first fault: it is not read as JSON, or not an object, or has no
-/// version or another one, or no verdict or another one, or lacks a key of its verdict, or has one that is none of
-/// these, or a value has not its form, or nodes and links are no graph. Whether the certificate is valid is not asked.
-/// Want of memory is answered wherever it comes.
+/// What a text says as a certificate file, of version 1 or 2. Version 1 names no group: its group is all nodes. Whether
+/// the group is one of the graph, and whether the certificate is valid, is not asked. The first fault in this order is
+/// told:
+///
+/// 1. the text is not read as JSON: `NotJson`;
+/// 2. it is not an object: `BadValue`;
+/// 3. it has no `version`: `MissingKey`; a version other than the whole numbers 1 and 2: `Version`;
+/// 4. it has no `verdict`: `MissingKey`; a verdict other than `"linked"` and `"split"`: `BadValue`;
+/// 5. it lacks a key of its version and verdict: `MissingKey`;
+/// 6. it has a key that is none of these: `UnknownKey`;
+/// 7. a value has not the form of its key: `BadValue`;
+/// 8. nodes and links are no graph, or in version 1 there are more than 256 nodes: the fault of `Graph::new`.
+///
+/// `OutOfMemory` is told wherever it comes.
 pub fn from_text(alloc: Global, text: &str) -> Result<Filed, FileFault>
-    ensures { Gives (λ f. f) result (file_of_text text.now) }
+    ensures says { result ≢ Err FileFault.OutOfMemory → SaysText text.now result }
+    ensures only { (answer : Result Filed FileFault) → result ≢ Err FileFault.OutOfMemory
+        → SaysText text.now answer → answer ≡ result }
 {
     match Value::from_str(alloc, text) {
         Ok(value) => file(alloc, &value),
@@ -37,93 +57,98 @@ pub fn from_text(alloc: Global, text: &str) -> Result<Filed, FileFault>
     }
 }
 
-#[tactic(auto, unfolding(crate::specs::FileOf::file_of))]
 fn file(alloc: Global, value: &Value) -> Result<Filed, FileFault>
-    ensures { Gives (λ f. f) result (file_of (view value.now)) }
+    ensures { result ≢ Err FileFault.OutOfMemory → SaysFile (view value.now) result }
 {
-    check_object(value)?;
-    check_version(member(value, "version")?)?;
-    let verdict = verdict_of(member(value, "verdict")?)?;
-    check_keys_of(verdict, value)?;
-    values(alloc, verdict, value)
+    let (version, verdict) = heading_of(value)?;
+    values(alloc, version, verdict, value)
 }
 
-fn check_object(value: &Value) -> Result<(), FileFault>
-    ensures { Gives (λ u. u) result (object_in (view value.now)) }
-{
-    if value.is_object() {
-        Ok(())
-    } else {
-        Err(FileFault::BadValue)
-    }
-}
-
-fn check_version(value: &Value) -> Result<(), FileFault>
-    ensures { Gives (λ u. u) result (version_in (view value.now)) }
-{
-    match value.as_u64() {
-        Some(1) => Ok(()),
-        _ => Err(FileFault::Version),
-    }
-}
-
-fn verdict_of(value: &Value) -> Result<Verdict, FileFault>
-    ensures { Gives (λ v. v) result (verdict_in (view value.now)) }
-{
-    match value.as_str() {
-        Some("linked") => Ok(Verdict::Linked),
-        Some("split") => Ok(Verdict::Split),
-        _ => Err(FileFault::BadValue),
-    }
-}
-
-fn check_keys_of(verdict: Verdict, value: &Value) -> Result<(), FileFault>
-    ensures { Gives (λ u. u) result (keys_fit (keys_of verdict) (view value.now)) }
-{
-    match verdict {
-        Verdict::Linked => check_keys(
-            &["k", "links", "moment", "nodes", "verdict", "version"],
-            value,
-        ),
-        Verdict::Split => check_keys(
-            &[
-                "cut", "fans", "far", "k", "links", "moment", "near", "nodes", "pairs", "side",
-                "verdict", "version",
-            ],
-            value,
-        ),
-    }
-}
-
-#[tactic(auto, unfolding(crate::specs::FileOf::values_of))]
-fn values(alloc: Global, verdict: Verdict, value: &Value) -> Result<Filed, FileFault>
-    ensures { Gives (λ f. f) result (values_of verdict (view value.now)) }
+/// What a file with a heading says.
+fn values(
+    alloc: Global,
+    version: Version,
+    verdict: Verdict,
+    value: &Value,
+) -> Result<Filed, FileFault>
+    ensures { IsHeaded version verdict (view value.now) → result ≢ Err FileFault.OutOfMemory
+        → SaysFile (view value.now) result }
 {
     let cert = cert(alloc, verdict, value)?;
-    let (moment, graph) = dated_graph(alloc, value)?;
+    let (moment, graph, group) = dated(alloc, version, value)?;
     Ok(Filed {
         moment,
         graph,
+        group,
         cert,
     })
 }
 
-/// The moment and the graph of a file. With its certificate they are all that it says.
-#[tactic(auto, unfolding(crate::specs::FileOf::values_of))]
-fn dated_graph(alloc: Global, value: &Value) -> Result<(u32, Graph), FileFault>
-    ensures { (verdict : Verdict) (cert : Cert) → cert_of verdict (view value.now) ≡ Ok cert
-        → Gives (λ d. record { moment = d.0; graph = d.1; cert = cert }) result (values_of verdict (view value.now)) }
+/// The moment, the graph and the group of a file.
+fn dated(
+    alloc: Global,
+    version: Version,
+    value: &Value,
+) -> Result<(u32, Graph, Seq<NodeId>), FileFault>
+    ensures { MatchResult result (λ r. IsDated version (view value.now) r.0 r.1 r.2)
+        (IsUndated version (dated_keys version) (view value.now)) }
 {
-    let moment = whole_of(member(value, "moment")?, 65_537)?;
-    let nodes: Seq<NodeId> = read_at(alloc, value, "nodes")?;
-    let links: Seq<(NodeId, NodeId)> = read_at(alloc, value, "links")?;
-    let graph = graph(alloc, nodes.as_slice(), links.as_slice())?;
-    Ok((moment, graph))
+    let moment = whole_at(value, "moment", 65_537)?;
+    let named = named_group(alloc, version, value)?;
+    let (nodes, graph) = graph_of(alloc, version, value)?;
+    let group = match named {
+        Some(group) => group,
+        None => nodes,
+    };
+    Ok((moment, graph, group))
 }
 
-fn graph(alloc: Global, nodes: &[NodeId], links: &[(NodeId, NodeId)]) -> Result<Graph, FileFault>
-    ensures { Gives (λ g. g) result (graph_of nodes.now links.now) }
+/// The group that a file names.
+fn named_group(
+    alloc: Global,
+    version: Version,
+    value: &Value,
+) -> Result<Option<Seq<NodeId>>, FileFault>
+    ensures { MatchResult result (IsNamed version (view value.now))
+        (LacksForm (version_keys version) (view value.now)) }
 {
+    match version {
+        Version::One => Ok(None),
+        Version::Two => {
+            let group = read_at(alloc, value, "group")?;
+            Ok(Some(group))
+        }
+    }
+}
+
+/// The nodes of a file, and the graph of these and its links.
+fn graph_of(
+    alloc: Global,
+    version: Version,
+    value: &Value,
+) -> Result<(Seq<NodeId>, Graph), FileFault>
+    ensures { MatchResult result (λ r. IsGraphed version (view value.now) r.0 r.1)
+        (IsUndated version graph_keys (view value.now)) }
+{
+    let nodes: Seq<NodeId> = read_at(alloc, value, "nodes")?;
+    let links: Seq<(NodeId, NodeId)> = read_at(alloc, value, "links")?;
+    let graph = graph(alloc, version, nodes.as_slice(), links.as_slice())?;
+    Ok((nodes, graph))
+}
+
+fn graph(
+    alloc: Global,
+    version: Version,
+    nodes: &[NodeId],
+    links: &[(NodeId, NodeId)],
+) -> Result<Graph, FileFault>
+    ensures graph { IfOk result (λ g. g ≡ record { nodes = nodes.now; links = links.now }) }
+    ensures judged { let given : LinkGraph = record { nodes = nodes.now; links = links.now }
+        in MatchResult result (λ _. GraphJudged version given None) (IsGraphFault version given) }
+{
+    if nodes.len() > version.most_nodes() {
+        return Err(FileFault::Graph(GraphFault::TooManyNodes));
+    }
     match Graph::new(alloc, nodes, links) {
         Ok(graph) => Ok(graph),
         Err(GraphFault::OutOfMemory) => Err(FileFault::OutOfMemory),
@@ -132,7 +157,7 @@ fn graph(alloc: Global, nodes: &[NodeId], links: &[(NodeId, NodeId)]) -> Result<
 }
 
 fn cert(alloc: Global, verdict: Verdict, value: &Value) -> Result<Cert, FileFault>
-    ensures { Gives (λ c. c) result (cert_of verdict (view value.now)) }
+    ensures { MatchResult result (IsCert verdict (view value.now)) (LacksForm (cert_keys verdict) (view value.now)) }
 {
     match verdict {
         Verdict::Linked => linked(value),
@@ -141,21 +166,22 @@ fn cert(alloc: Global, verdict: Verdict, value: &Value) -> Result<Cert, FileFaul
 }
 
 fn linked(value: &Value) -> Result<Cert, FileFault>
-    ensures { Gives (λ c. c) result (linked_cert (view value.now)) }
+    ensures { MatchResult result (IsCert Verdict.Linked (view value.now))
+        (LacksForm (cert_keys Verdict.Linked) (view value.now)) }
 {
     let k = count(value)?;
     Ok(Cert::Linked { k })
 }
 
 fn count(value: &Value) -> Result<u32, FileFault>
-    ensures { Gives (λ k. k) result (at (codes "k") count_at (view value.now)) }
+    ensures { Reads (λ k. k) result (said count_in (codes "k") (view value.now)) }
 {
-    whole_of(member(value, "k")?, 1 << 32)
+    whole_at(value, "k", 1 << 32)
 }
 
-#[tactic(auto, unfolding(crate::specs::FileOf::split_cert))]
 fn split(alloc: Global, value: &Value) -> Result<Cert, FileFault>
-    ensures { Gives (λ c. c) result (split_cert (view value.now)) }
+    ensures { MatchResult result (IsCert Verdict.Split (view value.now))
+        (LacksForm (cert_keys Verdict.Split) (view value.now)) }
 {
     let k = count(value)?;
     let cut = read_at(alloc, value, "cut")?;

@@ -1,6 +1,21 @@
+ghost use Rattle.std.specs.Prelude.{◌≡◌};
+ghost use Rattle.ov_certfile.specs.Kinds.{verdict_text};
+
 /// What a file says of its graph, by the text of its key `verdict`.
 #[derive(Clone, Copy, Debug, PartialEq, Eq)]
 pub(crate) enum Verdict {
     Linked,
     Split,
+}
+
+impl Verdict {
+    /// The verdict's text.
+    pub(crate) fn text(self) -> &'static str
+        ensures { result.now ≡ verdict_text self }
+    {
+        match self {
+            Verdict::Linked => "linked",
+            Verdict::Split => "split",
+        }
+    }
 }

@@ -1,142 +1,125 @@
-ghost use Rattle.std.specs.Prelude.{◌≡◌, ◌<◌, ◌≤◌, ◌^◌, ℕ, map, codes, IfOk, OnOk, Ok, string_bytes};
-ghost use Rattle.serde_json.specs.Data.{object, put as with_member};
+ghost use Rattle.std.specs.Prelude.{◌≡◌, ◌≤◌, IfOk, OnOk, Some, string_bytes};
+ghost use Rattle.serde_json.specs.Data.{object, no_members};
 ghost use Rattle.serde_json.specs.View.{view, members_view};
 ghost use Rattle.serde_json.specs.Written.{compact_text};
-ghost use Rattle.ov_graph.specs.Links.{LinkGraph};
-ghost use Rattle.ov_certfile.specs.Fields.{list_at, link_at};
-ghost use Rattle.ov_certfile.specs.DataOf.{data_of, common_members, linked_data, split_data, list_data, link_data};
-ghost use Rattle.ov_certfile.specs.ReadsBack.{ReadsBack, GraphReadsBack, TextReadsBack};
+ghost use Rattle.ov_certfile.specs.Forms.{last_moment};
+ghost use Rattle.ov_certfile.specs.DataOf.{data_of, version_for, with_group};
+ghost use Rattle.ov_certfile.specs.ReadsBack.{ReadsBack, TextReadsBack};
+ghost use Rattle.ov_certfile.specs.Code.Writing.{GroupReadsBack};
 
-use crate::fields::{Field, list_value};
-use ov_cert::{Cert, Split};
+use crate::cert_members::put_cert;
+use crate::graph_members::{put_graph, put_ids};
+use crate::version::Version;
+use ov_cert::Cert;
 use ov_graph::Graph;
-use ov_ids::OutOfMemory;
-use serde_json::{Map, Value, put};
+use ov_ids::{NodeId, OutOfMemory};
+use serde_json::{Map, Value};
 use std::alloc::{AllocError, Global};
 
-/// The text of the certificate file of a certificate and its graph at a moment, at most 65,536: one JSON object, its keys
-/// in the order of their bytes, with no white space and no line feed. It is read as these again.
-#[tactic(auto, using(crate::proofs::Written::no_float))]
+/// The text of the certificate file of a certificate and its graph at a moment, at most 65,536. It is that of
+/// `to_text_group` for the group of all nodes.
 pub fn to_text(
     alloc: Global,
     cert: &Cert,
     graph: &Graph,
     moment: u32,
 ) -> Result<String, OutOfMemory>
-    requires { moment ≤ 65536 }
-    ensures text { IfOk result (λ s. string_bytes s ≡ compact_text (data_of cert.now graph.now moment)) }
-    ensures reads_back { IfOk result (λ s. TextReadsBack cert.now graph.now moment (string_bytes s)) }
+    requires { moment ≤ last_moment }
+    ensures text { IfOk result (λ s. string_bytes s
+        ≡ compact_text (data_of cert.now graph.now graph.now.nodes moment)) }
+    ensures object_back { OnOk result (ReadsBack cert.now graph.now graph.now.nodes moment) }
+    ensures reads_back { IfOk result (λ s. TextReadsBack cert.now graph.now graph.now.nodes moment (string_bytes s)) }
 {
-    let value = value_of(alloc, cert, graph, moment)?;
+    to_text_group(alloc, cert, graph, graph.nodes(), moment)
+}
+
+/// The text of the certificate file of a certificate, its graph and a group at a moment, at most 65,536: one JSON
+/// object, its keys in the order of their bytes, with no white space and no line feed. It is of version 1, which names
+/// no group, exactly where the group is all nodes and these are at most 256, and else of version 2. It is read as these
+/// again.
+#[tactic(auto, using(crate::proofs::Written::no_float))]
+pub fn to_text_group(
+    alloc: Global,
+    cert: &Cert,
+    graph: &Graph,
+    group: &[NodeId],
+    moment: u32,
+) -> Result<String, OutOfMemory>
+    requires { moment ≤ last_moment }
+    ensures text { IfOk result (λ s. string_bytes s ≡ compact_text (data_of cert.now graph.now group.now moment)) }
+    ensures object_back { OnOk result (ReadsBack cert.now graph.now group.now moment) }
+    ensures reads_back { IfOk result (λ s. TextReadsBack cert.now graph.now group.now moment (string_bytes s)) }
+{
+    let value = value_of(alloc, cert, graph, group, moment)?;
     let text = value.to_string(alloc)?;
     Ok(text)
 }
 
-#[tactic(auto, unfolding(crate::specs::DataOf::data_of))]
-fn value_of(alloc: Global, cert: &Cert, graph: &Graph, moment: u32) -> Result<Value, AllocError>
-    requires { moment ≤ 65536 }
-    ensures value { IfOk result (λ v. view v ≡ data_of cert.now graph.now moment) }
-    ensures reads_back { OnOk result (ReadsBack cert.now graph.now moment) }
-{
-    match cert {
-        Cert::Linked { k } => linked_value(alloc, *k, graph, moment),
-        Cert::Split(split) => split_value(alloc, split, graph, moment),
-    }
-}
-
-#[tactic(auto, using(crate::proofs::Back::linked_reads_back))]
-fn linked_value(alloc: Global, k: u32, graph: &Graph, moment: u32) -> Result<Value, AllocError>
-    requires { moment ≤ 65536 }
-    ensures value { IfOk result (λ v. view v ≡ linked_data k graph.now moment) }
-    ensures reads_back { OnOk result (ReadsBack (Cert.Linked k) graph.now moment) }
-{
-    let members = common_members(alloc, "linked", k, graph, moment)?;
-    Ok(Value::Object(members))
-}
-
-fn split_value(
+fn value_of(
     alloc: Global,
-    split: &Split,
+    cert: &Cert,
     graph: &Graph,
+    group: &[NodeId],
     moment: u32,
 ) -> Result<Value, AllocError>
-    requires { moment ≤ 65536 }
-    ensures value { IfOk result (λ v. view v ≡ split_data split.now graph.now moment) }
-    ensures reads_back { OnOk result (ReadsBack (Cert.Split split.now) graph.now moment) }
+    requires { moment ≤ last_moment }
+    ensures value { IfOk result (λ v. view v ≡ data_of cert.now graph.now group.now moment) }
+    ensures reads_back { OnOk result (ReadsBack cert.now graph.now group.now moment) }
 {
-    let k = split.k;
-    let mut members = common_members(alloc, "split", k, graph, moment)?;
-    put_split(&mut members, alloc, split)?;
+    let mut members = Map::new(alloc);
+    put_file(&mut members, alloc, cert, graph, group, moment)?;
     Ok(Value::Object(members))
 }
 
-/// Puts in what only files that say what splits have, beside what files of both verdicts have.
-fn put_split(
+/// Puts in all that a file says.
+fn put_file(
     members: &mut Map<String, Value>,
     alloc: Global,
-    split: &Split,
+    cert: &Cert,
+    graph: &Graph,
+    group: &[NodeId],
+    moment: u32,
 ) -> Result<(), AllocError>
-    ensures members { OnOk result ((g : LinkGraph) (moment : ℕ)
-        → members_view members.old.entries ≡ common_members (codes "split") split.now.k g moment
-        → object (members_view members.new.entries) ≡ split_data split.now g moment) }
-    ensures reads_back { OnOk result ((g : LinkGraph) (moment : ℕ)
-        → split.now.k < 2 ^ 32 → moment ≤ 65536 → GraphReadsBack g → ReadsBack (Cert.Split split.now) g moment) }
+    requires { moment ≤ last_moment }
+    ensures members { OnOk result (members_view members.old.entries ≡ no_members
+        → object (members_view members.new.entries) ≡ data_of cert.now graph.now group.now moment) }
+    ensures reads_back { OnOk result (ReadsBack cert.now graph.now group.now moment) }
 {
-    put_field(members, alloc, "cut", &split.cut)?;
-    put_field(members, alloc, "near", &split.near)?;
-    put_field(members, alloc, "far", &split.far)?;
-    put_field(members, alloc, "side", &split.side)?;
-    put_field(members, alloc, "pairs", &split.pairs)?;
-    Ok(put_field(members, alloc, "fans", &split.fans)?)
+    let version = version_for(graph, group);
+    put_graph(members, alloc, version, graph, moment)?;
+    put_cert(members, alloc, cert)?;
+    Ok(put_group(members, alloc, version, group)?)
 }
 
-/// Puts in the value for a field at its key.
-fn put_field<T: Field>(
+/// The version of the file of a graph and a group.
+#[tactic(auto, unfolding(crate::specs::DataOf::version_for))]
+fn version_for(graph: &Graph, group: &[NodeId]) -> Version
+    ensures { result ≡ version_for graph.now group.now }
+{
+    let nodes = graph.nodes();
+    if group != nodes {
+        return Version::Two;
+    }
+    if nodes.len() <= Version::One.most_nodes() {
+        Version::One
+    } else {
+        Version::Two
+    }
+}
+
+/// Puts in the group, where the version names one.
+fn put_group(
     members: &mut Map<String, Value>,
     alloc: Global,
-    key: &str,
-    field: &T,
+    version: Version,
+    group: &[NodeId],
 ) -> Result<(), AllocError>
     ensures members { OnOk result (members_view members.new.entries
-        ≡ with_member key.now (T.as_data field.now) (members_view members.old.entries)) }
-    ensures reads_back { OnOk result (T.reads (T.as_data field.now) ≡ Ok field.now) }
+        ≡ with_group version group.now (members_view members.old.entries)) }
+    ensures reads_back { OnOk result (GroupReadsBack version group.now) }
 {
-    let value = field.to_value(alloc)?;
-    put(members, alloc, key, value)
-}
-
-/// What files of both verdicts have.
-fn common_members(
-    alloc: Global,
-    verdict: &str,
-    k: u32,
-    graph: &Graph,
-    moment: u32,
-) -> Result<Map<String, Value>, AllocError>
-    ensures members { IfOk result (λ m. members_view m.entries ≡ common_members verdict.now k graph.now moment) }
-    ensures reads_back { OnOk result (GraphReadsBack graph.now) }
-{
-    let links = links_value(alloc, graph)?;
-    let nodes = list_value(alloc, graph.nodes())?;
-    let verdict = String::from_str(alloc, verdict)?;
-    let mut members = Map::new(alloc);
-    put(&mut members, alloc, "k", Value::from(k))?;
-    put(&mut members, alloc, "links", links)?;
-    put(&mut members, alloc, "moment", Value::from(moment))?;
-    put(&mut members, alloc, "nodes", nodes)?;
-    put(&mut members, alloc, "verdict", Value::String(verdict))?;
-    put(&mut members, alloc, "version", Value::from(1u32))?;
-    Ok(members)
-}
-
-fn links_value(alloc: Global, graph: &Graph) -> Result<Value, AllocError>
-    ensures value { IfOk result (λ v. view v ≡ list_data link_data graph.now.links) }
-    ensures reads_back { OnOk result (list_at link_at (list_data link_data graph.now.links) ≡ Ok graph.now.links) }
-{
-    let mut values = Vec::new(alloc);
-    for link in graph.links() {
-        let value = link.to_value(alloc)?;
-        values.push(value)?;
+    match version {
+        Version::One => Ok(()),
+        Version::Two => put_ids(members, alloc, "group", group),
     }
-    Ok(Value::Array(values))
 }

@@ -1,1 +1,4 @@
+pub mod Firsts
+pub mod Placed
 pub mod Outcomes
+pub mod Running

@@ -1,3 +1,5 @@
 pub mod Device
 pub mod Outcome
 pub mod Line
+pub mod Run
+pub mod Parallel

@@ -1,24 +1,12 @@
 -- The line that is printed of an outcome.
 use Rattle.std.specs.Prelude.{ℕ, List, [], ◌++◌, codes, decimal}
-use Rattle.ov_cert.specs.declared.cert.Cert.{Cert}
-use Rattle.ov_cert.specs.declared.cert.Cert.TheVariants.{Linked, Split}
 use Rattle.ov_cert.specs.declared.fault.CheckFault.{CheckFault}
 use Rattle.ov_cert.specs.declared.fault.CheckFault.TheVariants.{Pair, Fan}
 use Rattle.ov_cert.specs.Number as check_fault
+use Rattle.ov_certfile.specs.CertLine.{cert_text}
 use Rattle.ov_certfile.specs.Number as file_fault
-use Rattle.ov_ids.specs.Text.{ids_text}
 use Rattle.ov_check.specs.declared.outcome.Outcome.{Outcome}
 use Rattle.ov_check.specs.declared.outcome.Outcome.TheVariants.{Holds, Fails, Refused}
-
--- what a certificate says, without its paths
-unfoldable pub cert_text : Cert → List ℕ
-cert_text (Linked k) = codes "linked k " ++ decimal k
-cert_text (Split c) =
-    codes "split k " ++ (decimal c.k
-    ++ (codes " cut " ++ (ids_text c.cut
-    ++ (codes " near " ++ (decimal c.near
-    ++ (codes " far " ++ (decimal c.far
-    ++ (codes " side " ++ ids_text c.side))))))))
 
 -- the nodes that a fault names
 abbrev pub named_text : CheckFault → List ℕ
@@ -32,6 +20,10 @@ fault_text fault = decimal (check_fault.number_of fault) ++ named_text fault
 
 -- the line, without its line feed
 unfoldable pub line_of : Outcome → List ℕ
-line_of (Holds f) = codes "holds " ++ (decimal f.moment ++ (codes " " ++ cert_text f.cert))
+line_of (Holds f) = codes "holds " ++ (decimal f.moment ++ (codes " " ++ cert_text f.cert f.graph f.group))
 line_of (Fails fault) = codes "fails " ++ fault_text fault
 line_of (Refused fault) = codes "refused " ++ decimal (file_fault.number_of fault)
+
+-- what goes out: the line, ended by a line feed
+abbrev pub printed_of : Outcome → List ℕ
+printed_of o = line_of o ++ codes "\n"

@@ -1,17 +1,23 @@
-ghost use Rattle.std.specs.Prelude.{◌≡◌, ◌+◌, ◌-◌, ◌^◌, ◌<◌, IfOk, IfSome, IsErrOf};
-ghost use Rattle.ov_check.specs.Device.{read_failures, write_failures};
-ghost use Rattle.ov_check.specs.Outcome.{IsExact, Prints};
+ghost use Rattle.std.specs.Prelude.{◌≡◌, ◌≢◌, ◌+◌, ◌-◌, ◌^◌, ◌<◌, Err, IfOk, OnOk, IsErrOf};
+ghost use Rattle.std.specs.Io.KnownBytes.{Appends};
+ghost use Rattle.ov_certfile.specs.Device.{AppendsFrontOf};
+ghost use Rattle.ov_check.specs.Device.{write_failures};
+ghost use Rattle.ov_check.specs.Line.{printed_of};
+ghost use Rattle.ov_check.specs.Outcome.{status_of};
+ghost use Rattle.ov_check.specs.Run.{IsRun};
 
 use crate::fault::JudgeFault;
-use crate::outcome::outcome_of;
+use crate::outcome::{Outcome, outcome_of, outcome_parallel};
 use ov_certfile::{Sink, Source};
 use std::alloc::Global;
 use std::io::{Read, Write};
+use std::thread::Threads;
 
 /// Reads a certificate file to its end, writes the one line of what it comes to, ended by a line feed, and answers the
-/// program's status: 0 where the file holds, so that its number is exact for its graph, and 1 where it fails or is refused.
+/// program's status: 0 where the file holds, so that its number is exact for its group, and 1 where it fails or is
+/// refused.
 /// Read and Write are answered where the reader or the writer failed in this call; nothing is written after Read and
-/// OutOfMemory, and nothing is said of how much went out after Write.
+/// OutOfMemory, and after Write a prefix of the line went out.
 pub fn judge<R: Read, W: Write>(
     alloc: Global,
     source: &mut Source<R>,
@@ -19,15 +25,44 @@ pub fn judge<R: Read, W: Write>(
 ) -> Result<u8, JudgeFault>
     requires reads { source.old.faults < 2 ^ 64 - 1 }
     requires writes { sink.old.faults < 2 ^ 64 - 1 }
-    ensures line { IfOk result (λ status. Prints (R.remaining source.old.reader) (W.contents sink.old.writer) (W.contents sink.new.writer) status) }
-    ensures exact { IfOk result (λ status. IfSome (R.remaining source.old.reader) (λ bytes. status ≡ 0 → IsExact bytes)) }
-    ensures source { source.new.faults ≡ source.old.faults + read_failures result }
-    ensures sink { sink.new.faults ≡ sink.old.faults + write_failures result }
-    ensures no_bytes { IsErrOf result JudgeFault.Read → sink.new ≡ sink.old }
-    ensures no_memory { IsErrOf result JudgeFault.OutOfMemory → sink.new ≡ sink.old }
+    ensures { IsRun R.remaining W.contents source.old sink.old source.new sink.new result }
 {
     let bytes = source.read_all(alloc)?;
     let outcome = outcome_of(alloc, &bytes)?;
+    write_line(alloc, &outcome, sink)
+}
+
+/// As `judge`, with the certificate judged by as many threads as `rayon` takes.
+pub fn judge_parallel<R: Read, W: Write>(
+    rt: &(impl AllocGlobal + Threads + Sync),
+    source: &mut Source<R>,
+    sink: &mut Sink<W>,
+) -> Result<u8, JudgeFault>
+    requires reads { source.old.faults < 2 ^ 64 - 1 }
+    requires writes { sink.old.faults < 2 ^ 64 - 1 }
+    ensures { IsRun R.remaining W.contents source.old sink.old source.new sink.new result }
+{
+    let bytes = source.read_all(rt.alloc())?;
+    let outcome = outcome_parallel(rt, &bytes)?;
+    write_line(rt.alloc(), &outcome, sink)
+}
+
+/// Writes the line of an outcome, ended by a line feed, and answers its status.
+fn write_line<W: Write>(
+    alloc: Global,
+    outcome: &Outcome,
+    sink: &mut Sink<W>,
+) -> Result<u8, JudgeFault>
+    requires { sink.old.faults < 2 ^ 64 - 1 }
+    ensures line { OnOk result (Appends (W.contents sink.old.writer) (W.contents sink.new.writer)
+        (printed_of outcome.now)) }
+    ensures status { IfOk result (λ status. status ≡ status_of outcome.now) }
+    ensures prefix { IsErrOf result JudgeFault.Write → AppendsFrontOf (printed_of outcome.now)
+        (W.contents sink.old.writer) (W.contents sink.new.writer) }
+    ensures faults { sink.new.faults ≡ sink.old.faults + write_failures result }
+    ensures unread { result ≢ Err JudgeFault.Read }
+    ensures no_memory { IsErrOf result JudgeFault.OutOfMemory → sink.new ≡ sink.old }
+{
     let line = format!(in alloc; "{outcome}\n")?;
     sink.write_all(line.as_bytes())?;
     Ok(outcome.status())

@@ -1,6 +1,6 @@
 use crate::outcome::Outcome;
-use ov_cert::{Cert, CheckFault};
-use ov_ids::IdsText;
+use ov_cert::CheckFault;
+use ov_certfile::CertText;
 use std::fmt::{Display, Formatter, Result, Write};
 
 /// The line of an outcome, without its line feed.
@@ -15,7 +15,11 @@ impl Display for Outcome {
         match self {
             Outcome::Holds(filed) => {
                 let moment = filed.moment;
-                let cert = CertText(&filed.cert);
+                let cert = CertText {
+                    cert: &filed.cert,
+                    graph: &filed.graph,
+                    group: filed.group.as_slice(),
+                };
                 write!(f, "holds {moment} {cert}")
             }
             Outcome::Fails(fault) => {
@@ -25,32 +29,6 @@ impl Display for Outcome {
             Outcome::Refused(fault) => {
                 let number = fault.number();
                 write!(f, "refused {number}")
-            }
-        }
-    }
-}
-
-/// What a certificate says, without its paths.
-#[derive(Drop)]
-struct CertText<'a>(&'a Cert);
-
-impl<'a> Display for CertText<'a> {
-    ghost use Rattle.std.specs.Prelude.{Some};
-    ghost use Rattle.ov_check.specs.Line.{cert_text};
-
-    ghost output = { λ t. Some (cert_text t.0.now) };
-
-    #[tactic(auto, unfolding(crate::specs::Line::cert_text))]
-    fn fmt<W: Write>(&self, f: &mut Formatter<W>) -> Result {
-        match self.0 {
-            Cert::Linked { k } => write!(f, "linked k {k}"),
-            Cert::Split(split) => {
-                let k = split.k;
-                let cut = IdsText(split.cut.as_slice());
-                let near = split.near.number();
-                let far = split.far.number();
-                let side = IdsText(split.side.as_slice());
-                write!(f, "split k {k} cut {cut} near {near} far {far} side {side}")
             }
         }
     }

@@ -1,15 +1,18 @@
-ghost use Rattle.std.specs.Prelude.{◌≡◌, ℕ, List, IfOk};
+ghost use Rattle.std.specs.Prelude.{◌≡◌, List, ℕ, Ok, IfOk};
 ghost use Rattle.ov_check.specs.Outcome.{Says, IsOutcome, IsExact, status_of};
 
-use ov_cert::{CheckFault, check};
+use crate::parallel::check_group_parallel;
+use crate::parallel_fault::ParallelFault;
+use ov_cert::{CheckFault, check_group};
 use ov_certfile::{FileFault, Filed, from_text};
 use ov_ids::OutOfMemory;
 use std::alloc::Global;
+use std::thread::Threads;
 
 /// What a file comes to.
 #[derive(Drop)]
 pub enum Outcome {
-    /// The certificate is valid for its graph.
+    /// The certificate is valid for its group.
     Holds(Filed),
     /// The certificate's first fault.
     Fails(CheckFault),
@@ -17,21 +20,47 @@ pub enum Outcome {
     Refused(FileFault),
 }
 
-/// What the bytes of a file come to. Where the file holds, its number is exact for its graph. Bytes that are no text are
-/// refused as no JSON.
+/// What the bytes of a file come to. Where the file holds, its number is exact for its group. Bytes that are no text
+/// are refused as no JSON.
 #[tactic(auto, using(crate::proofs::Outcomes::one_outcome))]
 pub fn outcome_of(alloc: Global, bytes: &[u8]) -> Result<Outcome, OutOfMemory>
     ensures outcome { IfOk result (λ o. IsOutcome bytes.now o) }
     ensures only { IfOk result (λ o. (u : Outcome) → IsOutcome bytes.now u → u ≡ o) }
     ensures exact { IfOk result (λ o. status_of o ≡ 0 → IsExact bytes.now) }
 {
+    match said_by(alloc, bytes)? {
+        Ok(filed) => Ok(verdict_on(filed)),
+        Err(fault) => Ok(Outcome::Refused(fault)),
+    }
+}
+
+/// As `outcome_of`, with the certificate judged by many threads.
+pub(crate) fn outcome_parallel(
+    rt: &(impl AllocGlobal + Threads + Sync),
+    bytes: &[u8],
+) -> Result<Outcome, OutOfMemory>
+    ensures outcome { IfOk result (λ o. IsOutcome bytes.now o) }
+    ensures exact { IfOk result (λ o. status_of o ≡ 0 → IsExact bytes.now) }
+{
+    match said_by(rt.alloc(), bytes)? {
+        Ok(filed) => verdict_parallel(rt, filed),
+        Err(fault) => Ok(Outcome::Refused(fault)),
+    }
+}
+
+/// What the bytes say as a certificate file, or its first fault.
+fn said_by(alloc: Global, bytes: &[u8]) -> Result<Result<Filed, FileFault>, OutOfMemory>
+    ensures { IfOk result (λ answer. Says bytes.now answer) }
+{
     let Ok(text) = str::from_utf8(bytes) else {
-        return Ok(Outcome::Refused(FileFault::NotJson));
+        return Ok(Err(FileFault::NotJson));
     };
     match from_text(alloc, text) {
-        Ok(filed) => Ok(verdict_on(filed)),
-        Err(FileFault::OutOfMemory) => Err(OutOfMemory),
-        Err(fault) => Ok(Outcome::Refused(fault)),
+        Ok(filed) => Ok(Ok(filed)),
+        Err(fault) => match fault {
+            FileFault::OutOfMemory => Err(OutOfMemory),
+            _ => Ok(Err(fault)),
+        },
     }
 }
 
@@ -39,9 +68,25 @@ fn verdict_on(filed: Filed) -> Outcome
     ensures outcome { (bytes : List ℕ) → Says bytes (Ok filed) → IsOutcome bytes result }
     ensures exact { (bytes : List ℕ) → Says bytes (Ok filed) → status_of result ≡ 0 → IsExact bytes }
 {
-    match check(&filed.graph, &filed.cert) {
+    match check_group(&filed.graph, filed.group.as_slice(), &filed.cert) {
         Ok(()) => Outcome::Holds(filed),
         Err(fault) => Outcome::Fails(fault),
+    }
+}
+
+fn verdict_parallel(
+    rt: &(impl AllocGlobal + Threads + Sync),
+    filed: Filed,
+) -> Result<Outcome, OutOfMemory>
+    ensures outcome { (bytes : List ℕ) → Says bytes (Ok filed) → IfOk result (λ o. IsOutcome bytes o) }
+    ensures exact { (bytes : List ℕ) → Says bytes (Ok filed) → IfOk result (λ o. status_of o ≡ 0 → IsExact bytes) }
+{
+    match check_group_parallel(rt, &filed.graph, filed.group.as_slice(), &filed.cert) {
+        Ok(()) => Ok(Outcome::Holds(filed)),
+        Err(fault) => match fault {
+            ParallelFault::Check(fault) => Ok(Outcome::Fails(fault)),
+            ParallelFault::OutOfMemory => Err(OutOfMemory),
+        },
     }
 }
 

@@ -27,17 +27,26 @@ pub less : (s : List ℕ) (x : ℕ) → Has s x → Less s x
 less [] x h = absurd h
 less (z ∷ zs) x h =
     elim h [
-      | inl e ↦ record { rest = zs; shorter = refl; within = λ y k. inr k; others = λ y k. elim k [ inl f ↦ inl (sym e ∙ f) | inr m ↦ inr m ] }
+      | inl e ↦ record {
+        rest = zs;
+        shorter = refl;
+        within = λ y k. inr k;
+        others = λ y k. elim k [ inl f ↦ inl (sym e ∙ f) | inr m ↦ inr m ];
+      }
       | inr k ↦ let r = less zs x k in record {
         rest = z ∷ r.rest;
         shorter = ap suc r.shorter;
         within = λ y m. elim m [ inl f ↦ inl f | inr q ↦ inr (r.within y q) ];
-        others = λ y m. elim m [ inl f ↦ inr (inl f) | inr q ↦ elim (r.others y q) [ inl f ↦ inl f | inr w ↦ inr (inr w) ] ];
+        others = λ y m. elim m [
+          | inl f ↦ inr (inl f)
+          | inr q ↦ elim (r.others y q) [ inl f ↦ inl f | inr w ↦ inr (inr w) ]
+        ];
       }
     ]
 
 -- more lists than s has members, which share nothing of s: one of them has nothing of s (the pigeonhole)
-pub escape : (shared s : List ℕ) (ps : List (List ℕ)) → IsApart s shared → ShareOnly shared ps → length s < length ps → (p : List ℕ) × Has ps p × IsApart s p
+pub escape : (shared s : List ℕ) (ps : List (List ℕ)) → IsApart s shared → ShareOnly shared ps → length s < length ps
+    → (p : List ℕ) × Has ps p × IsApart s p
 escape shared s [] off only l = absurd (omega arith)
 escape shared s (p ∷ ps) off only l =
     elim (meets_or_apart s p) [

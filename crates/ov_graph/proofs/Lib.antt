@@ -7,3 +7,8 @@ pub mod Bits
 pub mod Halving
 pub mod Marked
 pub mod Read
+pub mod Alike
+pub mod Grouped
+pub mod Shifts
+pub mod ChangedLinks
+pub mod ChangedNodes

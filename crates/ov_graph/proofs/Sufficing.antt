@@ -1,12 +1,14 @@
--- Even's test suffices: by induction on the ids each survivor is joined to a survivor among the first k nodes, and any two
+-- Even's test suffices: by induction on the ids each survivor is joined to a survivor among the first k members, and
+-- any two
 -- of these are joined.
 use Rattle.std.proofs.Common.{ℕ, zero, suc, ◌<◌, ◌⊎◌, inl, inr, List, [], ◌∷◌, length, take, drop, nat_lt, subst, arith}
-use Rattle.std.proofs.lemmas.Bool.{cases_order, ltb-true}
+use Rattle.std.proofs.lemmas.Bool.{cases_order, cases_eq, ltb-true}
 use Rattle.ov_ids.specs.Members.{Has, IsApart}
-use Rattle.ov_graph.specs.Links.{LinkGraph, IsComplete}
-use Rattle.ov_graph.specs.Joined.{Stays, Joined, Splits}
-use Rattle.ov_graph.specs.Paths.{IsPath, ArePaths, IsFan, nodes_below}
-use Rattle.ov_graph.specs.Even.{PassesEven, EvenSuffices}
+use Rattle.ov_graph.specs.Links.{LinkGraph, AreAllLinked}
+use Rattle.ov_graph.specs.Joined.{Survives, Joined, SplitsGroup, FewestForGroup}
+use Rattle.ov_graph.specs.Paths.{IsPath, ArePaths, IsFan}
+use Rattle.ov_graph.specs.Even.{later_members, members_below, PassesEven}
+use Rattle.ov_graph.specs.Laws.{EvenSuffices, OneNumber}
 use Rattle.ov_graph.proofs.Tested.{linked_or_not}
 use Rattle.ov_graph.proofs.Filtered.{has_filtered}
 use Rattle.ov_graph.proofs.Walks.{joined_self, joined_step, joined_trans, joined_sym, joined_end}
@@ -34,40 +36,52 @@ take_or_drop (y ∷ ys) (suc k) x h = elim h [
   | inr m ↦ elim (take_or_drop ys k x m) [ inl t ↦ inl (inr t) | inr d ↦ inr d ]
 ]
 
-module _ (g : LinkGraph) (k : ℕ) (even : PassesEven g k) (s : List ℕ) (few : length s < k) where
-  -- x is joined to one of the first k nodes
-  Settled : ℕ → Type 0
-  Settled x = (y : ℕ) × Has (take k g.nodes) y × Joined g s x y
+-- a member is among the first k or one of the later ones, where k is not 0
+first_or_later : (q : List ℕ) (k x : ℕ) → 0 < k → Has q x → Has (take k q) x ⊎ Has (later_members q k) x
+first_or_later q zero x l h = absurd (omega arith)
+first_or_later q (suc k) x l h = take_or_drop q (suc k) x h
 
-  settled : (n x : ℕ) → x < n → Stays g s x → Settled x
+module _ (g : LinkGraph) (q : List ℕ) (k : ℕ) (nodes : (x : ℕ) → Has q x → Has g.nodes x) (even : PassesEven g q k)
+    (s : List ℕ) (few : length s < k) where
+  -- a surviving member is a surviving node
+  node : (x : ℕ) → Survives q s x → Survives g.nodes s x
+  node x m = (nodes x m.0, m.1)
+
+  -- x is joined to one of the first k members
+  Settled : ℕ → Type 0
+  Settled x = (y : ℕ) × Has (take k q) y × Joined g s x y
+
+  settled : (n x : ℕ) → x < n → Survives q s x → Settled x
   unfolding Settled
-  settled zero x l n = absurd (omega arith)
-  settled (suc n) x l stays = elim (take_or_drop g.nodes k x stays.0) [
-    | inl h ↦ (x, h, joined_self g s x stays)
+  settled zero x l m = absurd (omega arith)
+  settled (suc n) x l m = elim (first_or_later q k x (omega (arith, few)) m.0) [
+    | inl h ↦ (x, h, joined_self g s x (node x m))
     | inr h ↦
         let f = even.fans x h in
-        let fan : IsFan g x (nodes_below g x) k f.0 = f.1 in
-        let q = escape (x ∷ []) s f.0 (off_one s x stays.1) fan.apart (omega (arith, fan.count)) in
-        let e = fan.each q.0 q.1 in
-        let j : Joined g s x e.0 = path_joins g s x e.0 q.0 e.2 q.2 in
-        let b = has_filtered (λ y. nat_lt y x) g.nodes e.0 e.1 in
+        let fan : IsFan g x (members_below q x) k f.0 = f.1 in
+        let p = escape (x ∷ []) s f.0 (off_one s x m.1) fan.apart (omega (arith, fan.count)) in
+        let e = fan.each p.0 p.1 in
+        let j : Joined g s x e.0 = path_joins g s x e.0 p.0 e.2 p.2 in
+        let b = has_filtered (λ y. nat_lt y x) q e.0 e.1 in
         let below : e.0 < x = ltb-true e.0 x b.1 in
-        let r = settled n e.0 (omega (arith, below)) (joined_end g s x e.0 j) in
+        let r = settled n e.0 (omega (arith, below)) (b.0, (joined_end g s x e.0 j).1) in
         (r.0, r.1, joined_trans g s x e.0 r.0 j r.2)
   ]
 
   -- an unlinked pair, or a linked one
-  pair_joined : (x y : ℕ) → Has (take k g.nodes) x → Has (take k g.nodes) y → x < y → Stays g s x → Stays g s y → Joined g s x y
+  pair_joined : (x y : ℕ) → Has (take k q) x → Has (take k q) y → x < y → Survives g.nodes s x → Survives g.nodes s y
+      → Joined g s x y
   pair_joined x y hx hy l nx ny = elim (linked_or_not g x y) [
     | inl e ↦ joined_step g s x y y e nx (joined_self g s y ny)
     | inr n ↦
         let r = even.pairs x y (hx, hy, l, n) in
         let a : ArePaths g x y k r.0 = r.1 in
-        let q = escape (x ∷ y ∷ []) s r.0 (off_two s x y nx.1 ny.1) a.apart (omega (arith, a.count)) in
-        path_joins g s x y q.0 (a.each q.0 q.1) q.2
+        let p = escape (x ∷ y ∷ []) s r.0 (off_two s x y nx.1 ny.1) a.apart (omega (arith, a.count)) in
+        path_joins g s x y p.0 (a.each p.0 p.1) p.2
   ]
 
-  first_joined : (x y : ℕ) → Has (take k g.nodes) x → Has (take k g.nodes) y → Stays g s x → Stays g s y → Joined g s x y
+  first_joined : (x y : ℕ) → Has (take k q) x → Has (take k q) y → Survives g.nodes s x → Survives g.nodes s y
+      → Joined g s x y
   first_joined x y hx hy nx ny = elim (cases_order x y) [
     | inl e ↦ subst (Joined g s x) e (joined_self g s x nx)
     | inr o ↦ elim o [
@@ -76,17 +90,43 @@ module _ (g : LinkGraph) (k : ℕ) (even : PassesEven g k) (s : List ℕ) (few :
     ]
   ]
 
-pub even_suffices : EvenSuffices
-unfolding Settled
-even_suffices g k even s few split =
-    let u = settled g k even s few (suc split.a) split.a (omega arith) split.a_stays in
-    let v = settled g k even s few (suc split.b) split.b (omega arith) split.b_stays in
-    let nu = joined_end g s split.a u.0 u.2 in
-    let nv = joined_end g s split.b v.0 v.2 in
-    split.parted (joined_trans g s split.a u.0 split.b u.2
-    (joined_trans g s u.0 v.0 split.b (first_joined g k even s few u.0 v.0 u.1 v.1 nu nv) (joined_sym g s split.b v.0 v.2)))
+  pub members_joined : (a b : ℕ) → Survives q s a → Survives q s b → Joined g s a b
+  unfolding Settled
+  members_joined a b ma mb =
+      let u = settled (suc a) a (omega arith) ma in
+      let v = settled (suc b) b (omega arith) mb in
+      let nu = joined_end g s a u.0 u.2 in
+      let nv = joined_end g s b v.0 v.2 in
+      joined_trans g s a u.0 b u.2
+      (joined_trans g s u.0 v.0 b (first_joined u.0 v.0 u.1 v.1 nu nv) (joined_sym g s b v.0 v.2))
 
--- no nodes split a graph in which every two are linked
-pub complete_whole : (g : LinkGraph) → IsComplete g → (s : List ℕ) → ¬ Splits g s
-complete_whole g all s d =
-    d.parted (joined_step g s d.a d.b d.b (all d.a d.b d.a_stays.0 d.b_stays.0 d.differ) d.a_stays (joined_self g s d.b d.b_stays))
+pub even_suffices : EvenSuffices
+even_suffices g q k group even s few a b ma mb = members_joined g q k group.nodes even s few a b ma mb
+
+-- where every two members are linked, every two surviving ones are joined
+pub linked_joined : (g : LinkGraph) (q : List ℕ) → ((x : ℕ) → Has q x → Has g.nodes x) → AreAllLinked g q
+    → (s : List ℕ) (a b : ℕ) → Survives q s a → Survives q s b → Joined g s a b
+linked_joined g q nodes all s a b ma mb = elim (cases_eq a b) [
+  | inl e ↦ subst (Joined g s a) e (joined_self g s a (nodes a ma.0, ma.1))
+  | inr ne ↦ joined_step g s a b b (all a b ma.0 mb.0 ne) (nodes a ma.0, ma.1) (joined_self g s b (nodes b mb.0, mb.1))
+]
+
+-- no nodes split a group in which every two are linked
+pub linked_whole : (g : LinkGraph) (q : List ℕ) → ((x : ℕ) → Has q x → Has g.nodes x) → AreAllLinked g q → (s : List ℕ)
+    → ¬ SplitsGroup g q s
+linked_whole g q nodes all s d = d.parted (linked_joined g q nodes all s d.a d.b d.a_survives d.b_survives)
+
+not_below : (g : LinkGraph) (q : List ℕ) (k l : ℕ) → FewestForGroup g q k → FewestForGroup g q l → k < l → ⊥
+not_below g q k l f h lt = elim f.reached [
+  | inl r ↦ h.least r.0 (omega (arith, r.1, lt)) r.2
+  | inr c ↦ elim h.reached [
+    | inl r ↦ linked_whole g q f.group.nodes c.0 r.0 r.2
+    | inr d ↦ let m = c.1 in let n = d.1 in absurd (omega (arith, m, n, lt))
+  ]
+]
+
+pub one_number : OneNumber
+one_number g q k l f h = elim (cases_order k l) [
+  | inl e ↦ e
+  | inr o ↦ elim o [ inl lt ↦ absurd (not_below g q k l f h lt) | inr gt ↦ absurd (not_below g q l k h f gt) ]
+]

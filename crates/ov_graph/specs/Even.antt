@@ -1,20 +1,25 @@
--- Even's test of node connectivity (Even, SIAM J. Comput. 4, 1975), over the nodes in the order of their ids.
-use Rattle.std.specs.Prelude.{ℕ, ◌<◌, List, length, take, drop}
+-- Even's test of node connectivity (Even, SIAM J. Comput. 4, 1975), of a group: over its members in the order of their
+-- ids, by paths through the whole graph.
+use Rattle.std.specs.Prelude.{ℕ, zero, suc, ◌<◌, List, [], take, drop, filter, nat_lt}
 use Rattle.ov_ids.specs.Members.{Has}
 use Rattle.ov_graph.specs.Links.{LinkGraph, Linked}
-use Rattle.ov_graph.specs.Joined.{Splits}
-use Rattle.ov_graph.specs.Paths.{ArePaths, IsFan, nodes_below}
+use Rattle.ov_graph.specs.Paths.{ArePaths, IsFan}
 
--- both are among the first k nodes, the lesser named first, and they are not linked
-abbrev pub IsUnlinkedPair : LinkGraph → ℕ → ℕ × ℕ → Type 0
-IsUnlinkedPair g k p = Has (take k g.nodes) p.0 × Has (take k g.nodes) p.1 × (p.0 < p.1) × ¬ Linked g p.0 p.1
+-- both are among the first k members, the lesser named first, and they are not linked
+abbrev pub IsUnlinkedPair : LinkGraph → List ℕ → ℕ → ℕ × ℕ → Type 0
+IsUnlinkedPair g q k p = Has (take k q) p.0 × Has (take k q) p.1 × (p.0 < p.1) × ¬ Linked g p.0 p.1
 
--- every two unlinked nodes among the first k have k paths that share only their ends, and each later node has a fan of k to
--- the nodes before it
-pub record PassesEven (g : LinkGraph) (k : ℕ) : Type 0 where
-  pub pairs : (i j : ℕ) → IsUnlinkedPair g k (i, j) → (paths : List (List ℕ)) × ArePaths g i j k paths
-  pub fans : (j : ℕ) → Has (drop k g.nodes) j → (paths : List (List ℕ)) × IsFan g j (nodes_below g j) k paths
+-- the members after the first k; at k = 0 nothing is asked of them
+abbrev pub later_members : List ℕ → ℕ → List ℕ
+later_members q zero = []
+later_members q (suc k) = drop (suc k) q
 
--- where the test passes at k, no set of fewer than k nodes splits the graph
-abbrev pub EvenSuffices : Type 0
-EvenSuffices = (g : LinkGraph) (k : ℕ) → PassesEven g k → (s : List ℕ) → length s < k → ¬ Splits g s
+-- the members with ids below a: those that come before it
+abbrev pub members_below : List ℕ → ℕ → List ℕ
+members_below q a = filter (λ x. nat_lt x a) q
+
+-- every two unlinked members among the first k have k paths that share only their ends, and each later member has a fan
+-- of k to the members before it
+pub record PassesEven (g : LinkGraph) (q : List ℕ) (k : ℕ) : Type 0 where
+  pub pairs : (i j : ℕ) → IsUnlinkedPair g q k (i, j) → (paths : List (List ℕ)) × ArePaths g i j k paths
+  pub fans : (j : ℕ) → Has (later_members q k) j → (paths : List (List ℕ)) × IsFan g j (members_below q j) k paths

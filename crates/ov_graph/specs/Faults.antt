@@ -28,7 +28,7 @@ abbrev pub Judged : List ℕ → List (ℕ × ℕ) → Option GraphFault → Typ
 Judged nodes links answer =
     Step (length nodes ≤ most_nodes) TooManyNodes (Step (Ascends nodes) Unordered (LinksJudged nodes None links)) answer
 
--- the fault is the first one; want of memory is told only where there is none
+-- the fault is the first one; out of memory is told only where there is none
 abbrev pub IsRefusal : List ℕ → List (ℕ × ℕ) → GraphFault → Type 0
 IsRefusal nodes links TooManyNodes = Judged nodes links (Some TooManyNodes)
 IsRefusal nodes links Unordered = Judged nodes links (Some Unordered)

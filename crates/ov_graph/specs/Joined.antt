@@ -1,8 +1,9 @@
--- Walks, the sets of nodes that split a graph, and the fewest that do (Menger, Fund. Math. 10, 1927; Even, SIAM J. Comput.
--- 4, 1975: "An algorithm for determining whether the connectivity of a graph is at least k").
+-- Walks, the sets of nodes that split a group, and the fewest that do (Menger, Fund. Math. 10, 1927; Even, SIAM J.
+-- Comput. 4, 1975: "An algorithm for determining whether the connectivity of a graph is at least k"). The plain words,
+-- Splits and Fewest, are those of the group of all nodes.
 use Rattle.std.specs.Prelude.{◌≡◌, ◌≢◌, ◌⊎◌, ℕ, ◌+◌, ◌<◌, List, [], ◌∷◌, length}
 use Rattle.ov_ids.specs.Members.{Has, Ascends}
-use Rattle.ov_graph.specs.Links.{LinkGraph, Linked, IsComplete}
+use Rattle.ov_graph.specs.Links.{LinkGraph, Linked, AreAllLinked, IsGroup}
 
 -- from a, each step of the list is by R from the one before, and the last is b
 abbrev pub Leads : (ℕ → ℕ → Type 0) → ℕ → List ℕ → ℕ → Type 0
@@ -14,31 +15,41 @@ abbrev pub IsWalk : LinkGraph → ℕ → List ℕ → ℕ → Type 0
 IsWalk g a [] b = ⊥
 IsWalk g a (x ∷ rest) b = (x ≡ a) × Leads (Linked g) a rest b
 
--- x is a node of g outside s
-abbrev pub Stays : LinkGraph → List ℕ → ℕ → Type 0
-Stays g s x = Has g.nodes x × ¬ Has s x
+-- x is one of these, and survives where the nodes of s crash
+abbrev pub Survives : List ℕ → List ℕ → ℕ → Type 0
+Survives xs s x = Has xs x × ¬ Has s x
 
--- without s, a is joined to b: a walk leads from a to b over nodes of g outside s
+-- without s, a is joined to b: a walk leads from a to b over surviving nodes
 abbrev pub Joined : LinkGraph → List ℕ → ℕ → ℕ → Type 0
-Joined g s a b = (walk : List ℕ) × IsWalk g a walk b × ((x : ℕ) → Has walk x → Stays g s x)
+Joined g s a b = (walk : List ℕ) × IsWalk g a walk b × ((x : ℕ) → Has walk x → Survives g.nodes s x)
 
 -- a set of nodes of g, written ascending
 pub record IsNodeSet (g : LinkGraph) (s : List ℕ) : Type 0 where
   pub ascends : Ascends s
   pub nodes : (x : ℕ) → Has s x → Has g.nodes x
 
--- s is a set of nodes, and without it two different other nodes are not joined
-pub record Splits (g : LinkGraph) (s : List ℕ) : Type 0 where
+-- s is a set of nodes, and without it two different surviving members of q are not joined
+pub record SplitsGroup (g : LinkGraph) (q s : List ℕ) : Type 0 where
   pub set : IsNodeSet g s
   pub a : ℕ
   pub b : ℕ
-  pub a_stays : Stays g s a
-  pub b_stays : Stays g s b
+  pub a_survives : Survives q s a
+  pub b_survives : Survives q s b
   pub differ : a ≢ b
   pub parted : ¬ Joined g s a b
 
--- k is the size of the smallest set of nodes that splits g, or one less than the number of nodes where every two are linked
-pub record Fewest (g : LinkGraph) (k : ℕ) : Type 0 where
-  pub some_node : 0 < length g.nodes
-  pub reached : ((s : List ℕ) × (length s ≡ k) × Splits g s) ⊎ (IsComplete g × (k + 1 ≡ length g.nodes))
-  pub least : (s : List ℕ) → length s < k → ¬ Splits g s
+-- q is a group, and k is the size of the smallest set of nodes that splits it, or one less than its members where every
+-- two are linked
+pub record FewestForGroup (g : LinkGraph) (q : List ℕ) (k : ℕ) : Type 0 where
+  pub group : IsGroup g q
+  pub reached : ((s : List ℕ) × (length s ≡ k) × SplitsGroup g q s) ⊎ (AreAllLinked g q × (k + 1 ≡ length q))
+  pub least : (s : List ℕ) → length s < k → ¬ SplitsGroup g q s
+
+-- s splits the graph: without it two different surviving nodes are not joined
+abbrev pub Splits : LinkGraph → List ℕ → Type 0
+Splits g s = SplitsGroup g g.nodes s
+
+-- k is the size of the smallest set of nodes that splits the graph, or one less than its nodes where every two are
+-- linked
+abbrev pub Fewest : LinkGraph → ℕ → Type 0
+Fewest g k = FewestForGroup g g.nodes k

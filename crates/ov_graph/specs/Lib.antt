@@ -2,7 +2,8 @@ pub mod Links
 pub mod Joined
 pub mod Paths
 pub mod Even
+pub mod Laws
 pub mod Faults
-pub mod Tests
+pub mod Changes
 pub mod Row
-pub mod Kept
+pub mod Code

@@ -1,5 +1,5 @@
 -- Paths that share only their ends, and fans (Menger, Fund. Math. 10, 1927; Even, SIAM J. Comput. 4, 1975).
-use Rattle.std.specs.Prelude.{◌≡◌, ℕ, List, [], ◌∷◌, length, filter, nat_lt, slice_index}
+use Rattle.std.specs.Prelude.{◌≡◌, ℕ, List, [], ◌∷◌, length, slice_index}
 use Rattle.ov_ids.specs.Members.{Has, IsDistinct}
 use Rattle.ov_graph.specs.Links.{LinkGraph}
 use Rattle.ov_graph.specs.Joined.{IsWalk}
@@ -21,7 +21,8 @@ pub record ArePaths (g : LinkGraph) (a b k : ℕ) (paths : List (List ℕ)) : Ty
   pub each : (p : List ℕ) → Has paths p → IsPath g a p b
   pub apart : ShareOnly (a ∷ b ∷ []) paths
 
--- a fan: k paths from a to members of `targets`, among which a is not, any two sharing only a. So they end at k different members
+-- a fan: k paths from a to members of `targets`, among which a is not, any two sharing only a. So they end at k
+-- different members
 pub record IsFan (g : LinkGraph) (a : ℕ) (targets : List ℕ) (k : ℕ) (paths : List (List ℕ)) : Type 0 where
   pub count : length paths ≡ k
   pub outside : ¬ Has targets a
@@ -31,7 +32,3 @@ pub record IsFan (g : LinkGraph) (a : ℕ) (targets : List ℕ) (k : ℕ) (paths
 -- the node at a place, counted from 0, in the order of ids
 abbrev pub node_at : LinkGraph → ℕ → ℕ
 node_at g place = slice_index g.nodes place
-
--- the nodes with ids below a: those that come before it
-abbrev pub nodes_below : LinkGraph → ℕ → List ℕ
-nodes_below g a = filter (λ x. nat_lt x a) g.nodes

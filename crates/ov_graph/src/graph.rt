@@ -1,19 +1,22 @@
-ghost use Rattle.std.specs.Prelude.{◌≡◌, ◌≢◌, ◌↔◌, ℕ, ◌<◌, length, slice_index, IfOk, IfSome, IfNone, IsTrue, MatchResult, Some, None};
-ghost use Rattle.ov_graph.specs.Links.{LinkGraph, IsGraph, Linked, AreNeighbours};
+ghost use Rattle.std.specs.Prelude.{◌≡◌, ◌≢◌, ◌↔◌, ℕ, ◌<◌, ◌≤◌, length, slice_index, Some, None, IsTrue};
+ghost use Rattle.std.specs.Prelude.{IfOk, IfSome, IfNone, MatchResult, OnOk, OnErr};
+ghost use Rattle.ov_graph.specs.Links.{LinkGraph, IsGraph, IsWithinLimit, Linked, AreNeighbours, IsGroup, most_nodes};
+ghost use Rattle.ov_graph.specs.Changes.{GainsNode, LosesNode, GainsLink, LosesLink};
 ghost use Rattle.ov_graph.specs.Faults.{Judged, IsRefusal};
-ghost use Rattle.ov_graph.specs.Tests.{fault_of};
 ghost use Rattle.ov_graph.specs.Paths.{node_at};
-ghost use Rattle.ov_graph.specs.Row.{HasBit};
-ghost use Rattle.ov_graph.specs.Kept.{IsMarked};
+ghost use Rattle.ov_graph.specs.Row.{HasBit, AreWordsFor};
+ghost use Rattle.ov_graph.specs.Code.Kept.{IsMarked};
 ghost use Rattle.ov_ids.specs.Members.{Has};
 
+use crate::changing::{join, part, put_in, take_out};
 use crate::fault::GraphFault;
 use crate::judging::first_fault;
 use crate::marking::rows_of;
 use crate::neighbours::{Links, Neighbours};
-use crate::places::{place_in, place_of};
-use crate::row::{Row, WORDS, has};
-use ov_ids::{NodeId, OutOfMemory};
+use crate::places::{are_nodes, place_in, place_of};
+use crate::row::{Row, WORDS, has, words_for};
+use crate::same::{are_equal, have_same_rows};
+use ov_ids::{NodeId, OutOfMemory, is_ascending};
 use std::alloc::{AllocError, Global};
 use std::marker::Model;
 
@@ -26,7 +29,7 @@ pub struct Graph {
 
 impl Model for Graph {
     ghost use Rattle.ov_graph.specs.Links.{LinkGraph};
-    ghost use Rattle.ov_graph.specs.Kept.{graph_kept, IsKept};
+    ghost use Rattle.ov_graph.specs.Code.Kept.{graph_kept, IsKept};
 
     ghost Value = { LinkGraph };
 
@@ -37,10 +40,10 @@ impl Model for Graph {
 
 impl Graph {
     /// As many nodes as a graph may have.
-    pub const MOST_NODES: usize = 256;
+    pub const MOST_NODES: usize = 64 * WORDS;
 
-    /// The graph of these nodes and links, or the first fault: more than 256 nodes, nodes that do not ascend, or link by
-    /// link one that joins no node to a higher one, or that is not above the link before it.
+    /// The graph of these nodes and links, or the first fault: more than 1,024 nodes, nodes that do not ascend, or link
+    /// by link one that joins no node to a higher one, or that is not above the link before it.
     pub fn new(
         alloc: Global,
         nodes: &[NodeId],
@@ -48,8 +51,8 @@ impl Graph {
     ) -> Result<Graph, GraphFault>
         ensures graph { IfOk result (λ g. g ≡ record { nodes = nodes.now; links = links.now }) }
         ensures is_graph { IfOk result IsGraph }
+        ensures within { IfOk result IsWithinLimit }
         ensures judged { MatchResult result (λ _. Judged nodes.now links.now None) (IsRefusal nodes.now links.now) }
-        ensures computed { MatchResult result (λ _. fault_of nodes.now links.now ≡ None) (λ e. e ≢ GraphFault.OutOfMemory → fault_of nodes.now links.now ≡ Some e) }
     {
         if let Some(fault) = first_fault(nodes, links) {
             return Err(fault);
@@ -64,6 +67,7 @@ impl Graph {
     pub fn nodes(&self) -> &[NodeId]
         ensures nodes { result.now ≡ self.now.nodes }
         ensures graph { IsGraph self.now }
+        ensures within { IsWithinLimit self.now }
     {
         &self.nodes
     }
@@ -102,6 +106,7 @@ impl Graph {
         ensures some { IfSome result (λ p. (p < length self.now.nodes) × (node_at self.now p ≡ a)) }
         ensures none { IfNone result (¬ Has self.now.nodes a) }
         ensures graph { IsGraph self.now }
+        ensures within { IsWithinLimit self.now }
     {
         place_of(&self.nodes, a)
     }
@@ -109,10 +114,19 @@ impl Graph {
     /// The row of a node: bit `p` is set where it is linked to the node at place `p`.
     pub fn row(&self, a: NodeId) -> &[u64; WORDS]
         requires { Has self.now.nodes a }
-        ensures bits { (p : ℕ) → HasBit result.now p ↔ ((p < length self.now.nodes) × Linked self.now a (node_at self.now p)) }
+        ensures bits { (p : ℕ) → HasBit result.now p
+            ↔ ((p < length self.now.nodes) × Linked self.now a (node_at self.now p)) }
         ensures graph { IsGraph self.now }
     {
         &self.rows[place_in(&self.nodes, a)]
+    }
+
+    /// How many words of the rows are in use: no row has a bit beyond them.
+    pub fn words(&self) -> usize
+        ensures words { AreWordsFor (length self.now.nodes) result }
+        ensures fits { result ≤ WORDS }
+    {
+        words_for(self.nodes.len())
     }
 
     /// The nodes that a node is linked to, ascending.
@@ -122,6 +136,72 @@ impl Graph {
         ensures graph { IsGraph self.now }
     {
         Neighbours::new(&self.nodes, self.row(a))
+    }
+
+    /// Whether these ids are a group: one or more nodes, ascending.
+    pub fn is_group(&self, group: &[NodeId]) -> bool
+        ensures { IsTrue result ↔ IsGroup self.now group.now }
+    {
+        if group.is_empty() {
+            return false;
+        }
+        if !is_ascending(group) {
+            return false;
+        }
+        are_nodes(&self.nodes, group)
+    }
+
+    /// Whether two graphs have the same nodes and the same links.
+    pub fn is_same(&self, other: &Graph) -> bool
+        ensures { IsTrue result ↔ self.now ≡ other.now }
+    {
+        if !are_equal(&self.nodes, &other.nodes) {
+            return false;
+        }
+        have_same_rows(&self.rows, &other.rows, self.words())
+    }
+
+    /// Takes in a node that is linked to nobody. Out of memory leaves the graph as it was.
+    pub fn add_node(&mut self, id: NodeId) -> Result<(), OutOfMemory>
+        requires stranger { ¬ Has self.old.nodes id }
+        requires few { length self.old.nodes < most_nodes }
+        ensures ok { OnOk result (GainsNode self.old id self.new) }
+        ensures err { OnErr result (self.new ≡ self.old) }
+        ensures graph { IsGraph self.new }
+    {
+        put_in(&mut self.nodes, &mut self.rows, id)
+    }
+
+    /// Takes out a node, with its links. It takes no memory.
+    pub fn remove_node(&mut self, id: NodeId)
+        requires { Has self.old.nodes id }
+        ensures node { LosesNode self.old id self.new }
+        ensures graph { IsGraph self.new }
+    {
+        take_out(&mut self.nodes, &mut self.rows, id);
+    }
+
+    /// Links two different nodes. Where they are linked it changes nothing. It takes no memory.
+    pub fn link(&mut self, a: NodeId, b: NodeId)
+        requires a { Has self.old.nodes a }
+        requires b { Has self.old.nodes b }
+        requires differ { a ≢ b }
+        ensures link { GainsLink self.old a b self.new }
+        ensures graph { IsGraph self.new }
+    {
+        join(&self.nodes, &mut self.rows, a, b);
+    }
+
+    /// Takes the link between two different nodes away. Where they are not linked it changes nothing. It takes no
+    /// memory.
+    pub fn unlink(&mut self, a: NodeId, b: NodeId)
+        requires a { Has self.old.nodes a }
+        requires b { Has self.old.nodes b }
+        requires differ { a ≢ b }
+        ensures link { LosesLink self.old a b self.new }
+        ensures graph { IsGraph self.new }
+    {
+        part(&self.nodes, &mut self.rows, a, b);
     }
 
     /// An equal graph.
@@ -140,7 +220,8 @@ fn kept(
     nodes: &[NodeId],
     links: &[(NodeId, NodeId)],
 ) -> Result<(Vec<NodeId>, Vec<Row>), AllocError>
-    requires { IsGraph (record { nodes = nodes.now; links = links.now }) }
+    requires graph { IsGraph (record { nodes = nodes.now; links = links.now }) }
+    requires few { length nodes.now ≤ most_nodes }
     ensures { IfOk result (λ v. (v.0.items ≡ nodes.now) × IsMarked nodes.now links.now v.1.items) }
 {
     let kept = Vec::from_slice(alloc, nodes)?;

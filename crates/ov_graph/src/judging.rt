@@ -1,10 +1,10 @@
 ghost use Rattle.std.specs.Prelude.{◌≡◌, ◌↔◌, IsTrue, None};
 ghost use Rattle.ov_ids.specs.Members.{Ascends};
-ghost use Rattle.ov_graph.specs.Tests.{fault_of, links_fault, is_link, follows};
+ghost use Rattle.ov_graph.specs.Code.Tests.{fault_of, links_fault, is_link, follows};
 
 use crate::fault::GraphFault;
 use crate::graph::Graph;
-use crate::places::is_node;
+use crate::places::is_member;
 use ov_ids::{NodeId, is_ascending};
 
 /// The first fault of nodes and links.
@@ -42,7 +42,7 @@ fn joins(nodes: &[NodeId], link: (NodeId, NodeId)) -> bool
     ensures { result ≡ is_link nodes.now link }
 {
     let (a, b) = link;
-    a < b && is_node(nodes, a) && is_node(nodes, b)
+    a < b && is_member(nodes, a) && is_member(nodes, b)
 }
 
 fn is_above(before: Option<(NodeId, NodeId)>, link: (NodeId, NodeId)) -> bool

@@ -1,14 +1,20 @@
 //! Graphs over ids: the nodes, and which of them are linked.
 #![tactic(auto)]
 
+mod changing;
 mod fault;
 mod graph;
 mod judging;
+mod laws;
 mod marking;
 mod neighbours;
 mod places;
 pub mod row;
+mod row_shift;
+mod same;
 
 pub use fault::GraphFault;
 pub use graph::Graph;
+pub use laws::{even_suffices, one_number};
 pub use neighbours::{Links, Neighbours};
+pub use places::is_member;

@@ -1,11 +1,11 @@
-ghost use Rattle.std.specs.Prelude.{◌≡◌, ◌↔◌, ◌⊎◌, ℕ, ◌<◌, ◌*◌, [], length, IfOk};
+ghost use Rattle.std.specs.Prelude.{◌≡◌, ◌↔◌, ◌⊎◌, ℕ, ◌<◌, ◌≤◌, ◌*◌, [], length, IfOk};
 ghost use Rattle.ov_ids.specs.Members.{Has, Ascends};
-ghost use Rattle.ov_graph.specs.Links.{IsGraph};
+ghost use Rattle.ov_graph.specs.Links.{IsGraph, most_nodes};
 ghost use Rattle.ov_graph.specs.Row.{HasBit};
-ghost use Rattle.ov_graph.specs.Kept.{row_at, IsMarked};
+ghost use Rattle.ov_graph.specs.Code.Kept.{row_at, IsMarked};
 
 use crate::places::place_in;
-use crate::row::{EMPTY, Row, WORDS, put};
+use crate::row::{EMPTY, Row, WORDS, clear, put};
 use ov_ids::NodeId;
 use std::alloc::{AllocError, Global};
 
@@ -15,7 +15,8 @@ pub(crate) fn rows_of(
     nodes: &[NodeId],
     links: &[(NodeId, NodeId)],
 ) -> Result<Vec<Row>, AllocError>
-    requires { IsGraph (record { nodes = nodes.now; links = links.now }) }
+    requires graph { IsGraph (record { nodes = nodes.now; links = links.now }) }
+    requires few { length nodes.now ≤ most_nodes }
     ensures { IfOk result (λ rows. IsMarked nodes.now links.now rows.items) }
 {
     let mut rows = Vec::from_elem(alloc, EMPTY, nodes.len())?;
@@ -26,6 +27,7 @@ pub(crate) fn rows_of(
 /// Sets the bits of the links in rows that have none.
 fn mark_all(nodes: &[NodeId], links: &[(NodeId, NodeId)], rows: &mut [Row])
     requires graph { IsGraph (record { nodes = nodes.now; links = links.now }) }
+    requires few { length nodes.now ≤ most_nodes }
     requires none { IsMarked nodes.now [] rows.old }
     ensures { IsMarked nodes.now links.now rows.new }
 {
@@ -38,10 +40,19 @@ fn mark_all(nodes: &[NodeId], links: &[(NodeId, NodeId)], rows: &mut [Row])
 }
 
 /// Sets bit `q` of the row at `p`.
-fn mark(rows: &mut [Row], p: usize, q: usize)
+pub(crate) fn mark(rows: &mut [Row], p: usize, q: usize)
     requires row { p < length rows.old }
     requires bit { q < 64 * WORDS }
     ensures { (r s : ℕ) → HasBit (row_at rows.new r) s ↔ (((r ≡ p) × (s ≡ q)) ⊎ HasBit (row_at rows.old r) s) }
 {
     put(&mut rows[p], q);
+}
+
+/// Clears bit `q` of the row at `p`.
+pub(crate) fn unmark(rows: &mut [Row], p: usize, q: usize)
+    requires row { p < length rows.old }
+    requires bit { q < 64 * WORDS }
+    ensures { (r s : ℕ) → HasBit (row_at rows.new r) s ↔ (¬ ((r ≡ p) × (s ≡ q)) × HasBit (row_at rows.old r) s) }
+{
+    clear(&mut rows[p], q);
 }

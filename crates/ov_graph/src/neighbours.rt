@@ -1,9 +1,8 @@
-ghost use Rattle.std.specs.Prelude.{◌≡◌, ℕ, ◌<◌, length};
+ghost use Rattle.std.specs.Prelude.{◌≡◌};
 ghost use Rattle.std.specs.Iterator.{YieldsFirst, item_count};
-ghost use Rattle.ov_graph.specs.Row.{HasBit};
-ghost use Rattle.ov_graph.specs.Kept.{picked, links_read, IsKept};
+ghost use Rattle.ov_graph.specs.Code.Kept.{picked, links_read, IsRowOf, IsKept};
 
-use crate::row::{Row, first_from};
+use crate::row::{Row, first_from, words_for};
 use ov_ids::NodeId;
 use std::marker::Model;
 
@@ -12,29 +11,31 @@ use std::marker::Model;
 pub struct Neighbours<'a> {
     nodes: &'a [NodeId],
     row: &'a Row,
+    words: usize,
     next: usize,
 }
 
 impl<'a> Model for Neighbours<'a> {
-    ghost use Rattle.std.specs.Prelude.{List, ℕ, ◌<◌, length, drop};
-    ghost use Rattle.ov_graph.specs.Row.{HasBit};
-    ghost use Rattle.ov_graph.specs.Kept.{picked};
+    ghost use Rattle.std.specs.Prelude.{List, ℕ, length, drop};
+    ghost use Rattle.ov_graph.specs.Row.{AreWordsFor};
+    ghost use Rattle.ov_graph.specs.Code.Kept.{picked, IsRowOf};
 
     ghost Value = { List ℕ };
 
     ghost view = { λ n. picked n.row.now n.next (drop n.next n.nodes.now) };
 
-    ghost invariant = { λ n. (p : ℕ) → HasBit n.row.now p → p < length n.nodes.now };
+    ghost invariant = { λ n. IsRowOf n.nodes.now n.row.now × AreWordsFor (length n.nodes.now) n.words };
 }
 
 impl<'a> Neighbours<'a> {
     pub(crate) fn new(nodes: &'a [NodeId], row: &'a Row) -> Neighbours<'a>
-        requires { (p : ℕ) → HasBit row.now p → p < length nodes.now }
+        requires { IsRowOf nodes.now row.now }
         ensures { result ≡ picked row.now 0 nodes.now }
     {
         Neighbours {
             nodes,
             row,
+            words: words_for(nodes.len()),
             next: 0,
         }
     }
@@ -48,7 +49,7 @@ impl Iterator for Neighbours<'_> {
     ghost remaining = { item_count (λ n. n) };
 
     fn next(&mut self) -> Option<NodeId> {
-        let place = first_from(self.row, self.next)?;
+        let place = first_from(self.row, self.next, self.words)?;
         self.next = place + 1;
         Some(self.nodes[place])
     }
@@ -59,19 +60,21 @@ impl Iterator for Neighbours<'_> {
 pub struct Links<'a> {
     nodes: &'a [NodeId],
     rows: &'a [Row],
+    words: usize,
     lower: usize,
     next: usize,
 }
 
 impl<'a> Model for Links<'a> {
-    ghost use Rattle.std.specs.Prelude.{List, ℕ};
-    ghost use Rattle.ov_graph.specs.Kept.{links_from, IsKept};
+    ghost use Rattle.std.specs.Prelude.{List, ℕ, length};
+    ghost use Rattle.ov_graph.specs.Row.{AreWordsFor};
+    ghost use Rattle.ov_graph.specs.Code.Kept.{links_from, IsKept};
 
     ghost Value = { List (ℕ × ℕ) };
 
     ghost view = { λ l. links_from l.nodes.now l.rows.now l.lower l.next };
 
-    ghost invariant = { λ l. IsKept l.nodes.now l.rows.now };
+    ghost invariant = { λ l. IsKept l.nodes.now l.rows.now × AreWordsFor (length l.nodes.now) l.words };
 }
 
 impl<'a> Links<'a> {
@@ -82,6 +85,7 @@ impl<'a> Links<'a> {
         Links {
             nodes,
             rows,
+            words: words_for(nodes.len()),
             lower: 0,
             next: 1,
         }
@@ -97,7 +101,7 @@ impl Iterator for Links<'_> {
 
     fn next(&mut self) -> Option<(NodeId, NodeId)> {
         while self.lower < self.nodes.len() {
-            if let Some(higher) = first_from(&self.rows[self.lower], self.next) {
+            if let Some(higher) = first_from(&self.rows[self.lower], self.next, self.words) {
                 self.next = higher + 1;
                 return Some((self.nodes[self.lower], self.nodes[higher]));
             }

@@ -1,6 +1,7 @@
 ghost use Rattle.std.specs.Prelude.{◌≡◌, ◌<◌, IfSome, IfNone, length, slice_index};
+ghost use Rattle.std.specs.List.{list_all};
 ghost use Rattle.ov_ids.specs.Members.{Has, Ascends};
-ghost use Rattle.ov_ids.specs.Sets.{has};
+ghost use Rattle.ov_ids.specs.Sets.{has, count_below};
 
 use ov_ids::NodeId;
 
@@ -26,10 +27,34 @@ pub(crate) fn place_in(nodes: &[NodeId], a: NodeId) -> usize
     }
 }
 
-/// Whether it is one of the nodes, which ascend.
-pub(crate) fn is_node(nodes: &[NodeId], a: NodeId) -> bool
+/// How many nodes are below `a`, by halving.
+pub(crate) fn place_for(nodes: &[NodeId], a: NodeId) -> usize
     requires { Ascends nodes.now }
-    ensures { result ≡ has nodes.now a }
+    ensures { result ≡ count_below a nodes.now }
 {
-    place_of(nodes, a).is_some()
+    match nodes.binary_search(&a) {
+        Ok(p) => p,
+        Err(p) => p,
+    }
+}
+
+/// Whether an id is one of these, which ascend, by halving.
+pub fn is_member(ids: &[NodeId], id: NodeId) -> bool
+    requires { Ascends ids.now }
+    ensures { result ≡ has ids.now id }
+{
+    place_of(ids, id).is_some()
+}
+
+/// Whether all of these are nodes.
+pub(crate) fn are_nodes(nodes: &[NodeId], ids: &[NodeId]) -> bool
+    requires { Ascends nodes.now }
+    ensures { result ≡ list_all (has nodes.now) ids.now }
+{
+    for id in ids {
+        if !is_member(nodes, *id) {
+            return false;
+        }
+    }
+    true
 }

@@ -1,10 +1,10 @@
-//! Rows of bits: sets of places of nodes.
-ghost use Rattle.std.specs.Prelude.{◌≡◌, ◌↔◌, ◌⊎◌, ℕ, ◌<◌, ◌≤◌, ◌*◌, IsTrue, IfSome, IfNone};
+//! Rows of bits: sets of places of nodes. Functions over many words take how many are in use, and look at no more.
+ghost use Rattle.std.specs.Prelude.{◌≡◌, ◌≢◌, ◌↔◌, ◌⊎◌, ℕ, ◌<◌, ◌≤◌, ◌*◌, IsTrue, IfSome, IfNone};
 ghost use Rattle.std.specs.Int.{bit_at};
-ghost use Rattle.ov_graph.specs.Row.{HasBit, IsFirstFrom, IsLowest};
+ghost use Rattle.ov_graph.specs.Row.{HasBit, IsFirstFrom, IsLowest, AreWordsFor};
 
 /// How many words a row has.
-pub const WORDS: usize = 4;
+pub const WORDS: usize = 16;
 
 /// A row of bits: bit `p` is bit `p % 64` of word `p / 64`.
 pub type Row = [u64; WORDS];
@@ -28,42 +28,53 @@ pub fn put(row: &mut [u64; WORDS], p: usize)
     row[p / 64] = with_bit(row[p / 64], (p % 64) as u32);
 }
 
-/// The bits that are set in both rows.
-pub fn both(a: &[u64; WORDS], b: &[u64; WORDS]) -> [u64; WORDS]
-    ensures { (p : ℕ) → HasBit result p ↔ (HasBit a.now p × HasBit b.now p) }
+/// Clears bit `p`, and leaves the others.
+pub fn clear(row: &mut [u64; WORDS], p: usize)
+    requires { p < 64 * WORDS }
+    ensures { (q : ℕ) → HasBit row.new q ↔ ((q ≢ p) × HasBit row.old q) }
+{
+    row[p / 64] = without_bit(row[p / 64], (p % 64) as u32);
+}
+
+/// The bits of the first `words` words that are set in both rows.
+pub fn both(a: &[u64; WORDS], b: &[u64; WORDS], words: usize) -> [u64; WORDS]
+    requires { words ≤ WORDS }
+    ensures { (p : ℕ) → HasBit result p ↔ ((p < 64 * words) × HasBit a.now p × HasBit b.now p) }
 {
     let mut kept = EMPTY;
-    for word in 0..WORDS {
+    for word in 0..words {
         kept[word] = a[word] & b[word];
     }
     kept
 }
 
-/// The bits that are set in `a` and not in `b`.
-pub fn without(a: &[u64; WORDS], b: &[u64; WORDS]) -> [u64; WORDS]
-    ensures { (p : ℕ) → HasBit result p ↔ (HasBit a.now p × ¬ HasBit b.now p) }
+/// The bits of the first `words` words that are set in `a` and not in `b`.
+pub fn without(a: &[u64; WORDS], b: &[u64; WORDS], words: usize) -> [u64; WORDS]
+    requires { words ≤ WORDS }
+    ensures { (p : ℕ) → HasBit result p ↔ ((p < 64 * words) × HasBit a.now p × ¬ HasBit b.now p) }
 {
     let mut kept = EMPTY;
-    for word in 0..WORDS {
+    for word in 0..words {
         kept[word] = minus(a[word], b[word]);
     }
     kept
 }
 
-/// The first set bit from `from` on.
-pub fn first_from(row: &[u64; WORDS], from: usize) -> Option<usize>
+/// The first set bit from `from` on, in the first `words` words.
+pub fn first_from(row: &[u64; WORDS], from: usize, words: usize) -> Option<usize>
+    requires { words ≤ WORDS }
     ensures some { IfSome result (λ p. IsFirstFrom row.now from p) }
-    ensures fits { IfSome result (λ p. p < 64 * WORDS) }
-    ensures none { IfNone result ((p : ℕ) → from ≤ p → ¬ HasBit row.now p) }
+    ensures fits { IfSome result (λ p. p < 64 * words) }
+    ensures none { IfNone result ((p : ℕ) → from ≤ p → p < 64 * words → ¬ HasBit row.now p) }
 {
     let word = from / 64;
-    if word >= WORDS {
+    if word >= words {
         return None;
     }
     if let Some(t) = lowest(row[word] >> (from % 64)) {
         return Some(from + t as usize);
     }
-    for later in word + 1..WORDS {
+    for later in word + 1..words {
         if let Some(t) = lowest(row[later]) {
             return Some(64 * later + t as usize);
         }
@@ -71,11 +82,34 @@ pub fn first_from(row: &[u64; WORDS], from: usize) -> Option<usize>
     None
 }
 
-/// Whether no bit is set.
-pub fn is_empty(row: &[u64; WORDS]) -> bool
-    ensures { IsTrue result ↔ ((p : ℕ) → ¬ HasBit row.now p) }
+/// Whether no bit of the first `words` words is set.
+pub fn is_empty(row: &[u64; WORDS], words: usize) -> bool
+    requires { words ≤ WORDS }
+    ensures { IsTrue result ↔ ((p : ℕ) → p < 64 * words → ¬ HasBit row.now p) }
 {
-    first_from(row, 0).is_none()
+    first_from(row, 0, words).is_none()
+}
+
+/// Whether the first `words` words of two rows have the same bits.
+pub fn agree(a: &[u64; WORDS], b: &[u64; WORDS], words: usize) -> bool
+    requires { words ≤ WORDS }
+    ensures { IsTrue result ↔ ((p : ℕ) → p < 64 * words → HasBit a.now p ↔ HasBit b.now p) }
+{
+    for word in 0..words {
+        if a[word] != b[word] {
+            return false;
+        }
+    }
+    true
+}
+
+/// How many words have bits for `n` places.
+pub fn words_for(n: usize) -> usize
+    requires { n ≤ 64 * WORDS }
+    ensures words { AreWordsFor n result }
+    ensures fits { result ≤ WORDS }
+{
+    (n + 63) / 64
 }
 
 /// The bits of one word that are set in `a` and not in `b`.
@@ -92,6 +126,15 @@ fn with_bit(word: u64, k: u32) -> u64
     ensures others { (i : ℕ) → ¬ (i ≡ k) → bit_at result i ≡ bit_at word i }
 {
     word | (1 << k)
+}
+
+/// The word with bit `k` cleared.
+fn without_bit(word: u64, k: u32) -> u64
+    requires { k < 64 }
+    ensures cleared { bit_at result k ≡ 0 }
+    ensures others { (i : ℕ) → i < 64 → ¬ (i ≡ k) → bit_at result i ≡ bit_at word i }
+{
+    word & !(1 << k)
 }
 
 /// The first set bit of a word.

@@ -194,9 +194,8 @@ abbrev scanned : Net → List ℕ → LinkGraph
 scanned w ns = record { nodes = ns; links = links_from w ns }
 
 -- they are a graph
-scanned_graph : (w : Net) (ns : List ℕ) → map.len w.nodes ≤ 256 → AreLive w.nodes ns → AllByRecursion (λ a. Ascends (active_at w a)) ns → IsGraph (scanned w ns)
-scanned_graph w ns few live views = record {
-  few = let m = live.few in omega (arith, m, few);
+scanned_graph : (w : Net) (ns : List ℕ) → AreLive w.nodes ns → AllByRecursion (λ a. Ascends (active_at w a)) ns → IsGraph (scanned w ns)
+scanned_graph w ns live views = record {
   nodes_ascend = live.ascend;
   links_ascend = from_ordered w ns live.ascend views;
   joins = joins;
@@ -241,7 +240,7 @@ scanned_linked w ns a b live = (
 scanned_links : (c : Chronicle) (ns : List ℕ) → Stands c → AreLive c.net.nodes ns → AllByRecursion (λ a. Ascends (active_at c.net a)) ns
     → AreLinks c.journal (length c.journal) (scanned c.net ns)
 scanned_links c ns stands live views =
-    links_of c (scanned c.net ns) stands.tells (scanned_graph c.net ns stands.nodes live views) live.each (λ a b. scanned_linked c.net ns a b live)
+    links_of c (scanned c.net ns) stands.tells (scanned_graph c.net ns live views) live.each (λ a b. scanned_linked c.net ns a b live)
 
 -- what a scan of a world has found: its nodes, and the links from them
 pub record HasScanned (c : Chronicle) (nodes : List ℕ) (links : List (ℕ × ℕ)) : Type 0 where
@@ -260,7 +259,11 @@ has_scanned b c nodes given links same stands live are views found = record {
 }
 
 pub graph_scanned : (c : Chronicle) (nodes : List ℕ) (links : List (ℕ × ℕ)) → HasScanned c nodes links → IsGraph (record { nodes = nodes; links = links })
-graph_scanned c nodes links h = subst (λ l. IsGraph (record { nodes = nodes; links = l })) (sym h.found) (scanned_graph c.net nodes h.stands.nodes h.live h.views)
+graph_scanned c nodes links h = subst (λ l. IsGraph (record { nodes = nodes; links = l })) (sym h.found) (scanned_graph c.net nodes h.live h.views)
+
+-- a world has few nodes
+pub few_scanned : (c : Chronicle) (nodes : List ℕ) (links : List (ℕ × ℕ)) → HasScanned c nodes links → length nodes ≤ 256
+few_scanned c nodes links h = let m = h.live.few in let n = h.stands.nodes in omega (arith, m, n)
 
 pub links_scanned : (c : Chronicle) (nodes : List ℕ) (links : List (ℕ × ℕ)) → HasScanned c nodes links → AreLinks c.journal (length c.journal) (record { nodes = nodes; links = links })
 links_scanned c nodes links h =

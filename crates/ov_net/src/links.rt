@@ -1,4 +1,4 @@
-ghost use Rattle.std.specs.Prelude.{◌≡◌, ◌++◌, length, IfOk, OnOk};
+ghost use Rattle.std.specs.Prelude.{◌≡◌, ◌≤◌, ◌++◌, length, IfOk, OnOk};
 ghost use Rattle.std.specs.List.{AllByRecursion};
 ghost use Rattle.ov_ids.specs.Members.{Ascends};
 ghost use Rattle.ov_graph.specs.Links.{IsGraph};
@@ -75,7 +75,8 @@ fn graph_of(
     nodes: &[NodeId],
     links: &[(NodeId, NodeId)],
 ) -> Result<Graph, OutOfMemory>
-    requires { IsGraph (record { nodes = nodes.now; links = links.now }) }
+    requires graph { IsGraph (record { nodes = nodes.now; links = links.now }) }
+    requires few { length nodes.now ≤ 256 }
     ensures { IfOk result (λ g. g ≡ record { nodes = nodes.now; links = links.now }) }
 {
     match Graph::new(alloc, nodes, links) {

@@ -61,7 +61,7 @@ PrintsPackets place (packet ∷ packets) text =
 -- refused with 50
 abbrev pub PrintsReport : Book → ℕ → List ℕ → Type 0
 PrintsReport b moment text =
-    ((r : Reported) × HasReport b moment r × ((text ≡ compact_text (data_of r.cert r.graph r.moment) ++ codes "\n") ⊎ (text ≡ refused_line 99)))
+    ((r : Reported) × HasReport b moment r × ((text ≡ compact_text (data_of r.cert r.graph r.members r.moment) ++ codes "\n") ⊎ (text ≡ refused_line 99)))
     ⊎ ((map.get b.reports moment ≡ None) × (text ≡ refused_line 50))
 
 -- one line of a scenario, by what stands drawn before it and what is left afterwards

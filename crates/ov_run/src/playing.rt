@@ -10,7 +10,7 @@ use crate::fault::RunFault;
 use crate::line::Line;
 use crate::printing::{entry_line, node_line, packet_line, refused_line};
 use crate::supply::Supply;
-use ov_certfile::{Sink, to_text};
+use ov_certfile::{Sink, to_text_group};
 use ov_ids::{NodeId, OutOfMemory, Params};
 use ov_net::{Event, MAX_ENTRIES, NetFault, Packet, World};
 use ov_snap::{BookFault, Core};
@@ -104,7 +104,8 @@ fn report_text(alloc: Global, core: &Core, moment: u32) -> Result<String, OutOfM
     };
     prove!(core.world().journal().len() <= MAX_ENTRIES);
     let checked = report.checked();
-    match to_text(alloc, checked.cert(), checked.graph(), report.moment()) {
+    let (cert, graph, group) = (checked.cert(), checked.graph(), checked.members());
+    match to_text_group(alloc, cert, graph, group, report.moment()) {
         Ok(text) => Ok(format!(in alloc; "{text}\n")?),
         Err(fault) => Ok(refused_line(alloc, fault.number())?),
     }

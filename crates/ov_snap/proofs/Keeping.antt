@@ -10,7 +10,7 @@ use Rattle.ov_ids.specs.Steps.{Step, Passed}
 use Rattle.ov_ids.proofs.Members.{has_append_cases, has_append_left, has_append_right}
 use Rattle.ov_ids.proofs.Stepping.{step_none}
 use Rattle.ov_graph.specs.Links.{LinkGraph}
-use Rattle.ov_cert.specs.Valid.{IsValid}
+use Rattle.ov_cert.specs.Valid.{IsValidForGroup}
 use Rattle.ov_cert.proofs.Exact.{fewest}
 use Rattle.ov_net.specs.Journal.{AreLinks}
 use Rattle.ov_net.specs.declared.entry.Entry.{Entry}
@@ -126,7 +126,7 @@ filing_passed b r h =
     let third = step_none (map.get b.reports r.moment ≡ None) AlreadyFiled Passed second.1 in
     (first.0, second.0, third.0)
 
-pub sound_filed : (b : Book) (r : Reported) → IsSound b → IsValid r.graph r.cert → FilingJudged b r None → IsSound (record b { reports = map.insert b.reports r.moment r })
+pub sound_filed : (b : Book) (r : Reported) → IsSound b → IsValidForGroup r.graph r.members r.cert → FilingJudged b r None → IsSound (record b { reports = map.insert b.reports r.moment r })
 sound_filed b r sound valid judged = record {
   snapshots = sound.snapshots;
   own = λ m x k. elim (there m x k) [ inl new ↦ ap (λ (y : Reported). y.moment) (sym new.1) ∙ new.0 | inr was ↦ sound.own m x was.1 ];
@@ -140,10 +140,10 @@ sound_filed b r sound valid judged = record {
     passed = filing_passed b r judged
 
     exact : IsExact b.world.journal r
-    exact = record { moment = passed.0; links = passed.1; valid = valid; fewest = fewest r.graph r.cert valid }
+    exact = record { moment = passed.0; links = passed.1; valid = valid; fewest = fewest r.graph r.members r.cert valid }
 
 -- the parts of a book in which a report was filed
-pub filed_sound : (b u : Book) (r : Reported) (m : ℕ) (reports : map.FinMap nat_cmp Reported) → b ≡ u → IsSound b → IsValid r.graph r.cert → FilingJudged u r None → m ≡ r.moment
+pub filed_sound : (b u : Book) (r : Reported) (m : ℕ) (reports : map.FinMap nat_cmp Reported) → b ≡ u → IsSound b → IsValidForGroup r.graph r.members r.cert → FilingJudged u r None → m ≡ r.moment
     → reports ≡ map.insert b.reports m r → IsSound (record { world = b.world; snapshots = b.snapshots; reports = reports })
 filed_sound b u r m reports same sound valid judged at is =
     subst (λ (x : map.FinMap nat_cmp Reported). IsSound (record { world = b.world; snapshots = b.snapshots; reports = x })) (ap (λ n. map.insert b.reports n r) (sym at) ∙ sym is)

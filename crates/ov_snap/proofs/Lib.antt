@@ -1,7 +1,6 @@
 pub mod Moments
 pub mod Resting
 pub mod Keeping
-pub mod Agreeing
 pub mod Finding
 pub mod Refusing
 pub mod Running

@@ -1,24 +1,25 @@
 -- Reports, and which are exact (Menger, Fund. Math. 10, 1927; Even, SIAM J. Comput. 4, 1975).
 use Rattle.std.specs.Prelude.{ℕ, List}
 use Rattle.ov_graph.specs.Links.{LinkGraph}
-use Rattle.ov_graph.specs.Joined.{Fewest}
-use Rattle.ov_cert.specs.Valid.{IsValid, k_of}
+use Rattle.ov_graph.specs.Joined.{FewestForGroup}
+use Rattle.ov_cert.specs.Valid.{IsValidForGroup, k_of}
 use Rattle.ov_cert.specs.declared.cert.Cert.{Cert}
 use Rattle.ov_net.specs.Journal.{AreLinks}
 use Rattle.ov_net.specs.declared.entry.Entry.{Entry}
 use Rattle.ov_snap.specs.Snapshots.{IsMoment}
 
--- a report: the moment that it is of, a graph, and a certificate
+-- a report: the moment that it is of, a graph, the members of a group of its nodes, and a certificate
 pub record Reported : Type 0 where
   pub moment : ℕ
   pub graph : LinkGraph
+  pub members : List ℕ
   pub cert : Cert
 
 -- a report is exact for a journal: it names a moment, its graph has the links that both ends held then, its certificate is valid
--- for that graph, and the certificate's number is the fewest crashes that split the graph, or one less than its nodes where every
--- two are linked
+-- for that graph and the group, and the certificate's number is the fewest crashes that split the group, or one less than its
+-- members where every two are linked
 pub record IsExact (journal : List Entry) (r : Reported) : Type 0 where
   pub moment : IsMoment journal r.moment
   pub links : AreLinks journal r.moment r.graph
-  pub valid : IsValid r.graph r.cert
-  pub fewest : Fewest r.graph (k_of r.cert)
+  pub valid : IsValidForGroup r.graph r.members r.cert
+  pub fewest : FewestForGroup r.graph r.members (k_of r.cert)

@@ -1,7 +1,7 @@
 ghost use Rattle.std.specs.Prelude.{◌≡◌, ◌↔◌, ℕ, length, replicate, None, Some, IfOk, IfErr, IfSome, OnOk, OnErr, IsTrue};
 ghost use Rattle.std.specs.Option.{option_copied};
 ghost use Rattle.std.specs.FinMap as map;
-ghost use Rattle.ov_cert.specs.Valid.{IsValid};
+ghost use Rattle.ov_cert.specs.Valid.{IsValidForGroup};
 ghost use Rattle.ov_net.specs.Journal.{AreLinks};
 ghost use Rattle.ov_net.specs.Refusals.{IsRefusal};
 ghost use Rattle.ov_net.specs.declared.entry.Entry.{Entry as Told};
@@ -17,7 +17,6 @@ use crate::fault::BookFault;
 use crate::job::Job;
 use crate::report::Report;
 use crate::reports::Reports;
-use crate::same::are_same;
 use crate::snapshot::{Snapshot, find, make_room};
 use ov_graph::Graph;
 use ov_ids::{OutOfMemory, Params};
@@ -169,11 +168,11 @@ impl Core {
     #[tactic(auto, using(crate::proofs::Refusing::filing_no_moment, crate::proofs::Refusing::filing_other, crate::proofs::Refusing::filing_again, crate::proofs::Refusing::filing_passes))]
     fn judge(&self, report: &Report) -> Result<(), BookFault>
         ensures ok { OnOk result (FilingJudged self.now report.now None) }
-        ensures valid { OnOk result (IsValid report.now.graph report.now.cert) }
+        ensures valid { OnOk result (IsValidForGroup report.now.graph report.now.members report.now.cert) }
         ensures err { IfErr result (λ f. FilingJudged self.now report.now (Some f)) }
     {
         let snapshot = self.kept(report.moment())?;
-        if !are_same(report.checked().graph(), &snapshot.graph) {
+        if !report.checked().graph().is_same(&snapshot.graph) {
             return Err(BookFault::OtherGraph);
         }
         if self.reports.get(report.moment()).is_some() {

@@ -6,7 +6,6 @@ mod fault;
 mod job;
 mod report;
 mod reports;
-mod same;
 mod snapshot;
 mod steps;
 

@@ -3,7 +3,7 @@ ghost use Rattle.std.specs.Prelude.{◌≡◌};
 use ov_cert::Checked;
 use std::marker::Model;
 
-/// A moment, and a graph with a certificate that is valid for it.
+/// A moment, and a graph with a group and a certificate that is valid for them.
 #[derive(Drop)]
 pub struct Report {
     moment: u32,
@@ -15,13 +15,13 @@ impl Model for Report {
 
     ghost Value = { Reported };
 
-    ghost view = { λ r. record { moment = r.moment; graph = r.checked.graph; cert = r.checked.cert } };
+    ghost view = { λ r. record { moment = r.moment; graph = r.checked.graph; members = r.checked.members; cert = r.checked.cert } };
 }
 
 impl Report {
     /// A report of this moment. It takes no memory.
     pub fn new(moment: u32, checked: Checked) -> Report
-        ensures { result ≡ record { moment = moment; graph = checked.graph; cert = checked.cert } }
+        ensures { result ≡ record { moment = moment; graph = checked.graph; members = checked.members; cert = checked.cert } }
     {
         Report { moment, checked }
     }
@@ -33,9 +33,9 @@ impl Report {
         self.moment
     }
 
-    /// The graph, and the certificate that is valid for it.
+    /// The graph, the group, and the certificate that is valid for them.
     pub fn checked(&self) -> &Checked
-        ensures { result.now ≡ record { graph = self.now.graph; cert = self.now.cert } }
+        ensures { result.now ≡ record { graph = self.now.graph; members = self.now.members; cert = self.now.cert } }
     {
         &self.checked
     }

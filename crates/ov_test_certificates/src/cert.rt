@@ -13,7 +13,7 @@ use std::test::Fail;
 
 /// What a certificate says in place of what the graph's own one does.
 #[derive(Clone, Copy)]
-enum Instead {
+pub(crate) enum Instead {
     /// The number, the cut, near and far node, and the side.
     Cut(u32, &'static [u32], u32, u32, &'static [u32]),
     Pairs(&'static [(u32, u32, Lists)]),
@@ -24,17 +24,17 @@ enum Instead {
 /// What is wrong or right with a certificate, what it says, and its fault.
 type Row = (&'static str, Instead, Option<CheckFault>);
 
-const COUNT: Option<CheckFault> = Some(CheckFault::Count);
+pub(crate) const COUNT: Option<CheckFault> = Some(CheckFault::Count);
 
 const CUT: Option<CheckFault> = Some(CheckFault::Cut);
 
-const SIDE: Option<CheckFault> = Some(CheckFault::Side);
+pub(crate) const SIDE: Option<CheckFault> = Some(CheckFault::Side);
 
-const EXTRA: Option<CheckFault> = Some(CheckFault::Extra);
+pub(crate) const EXTRA: Option<CheckFault> = Some(CheckFault::Extra);
 
-const NOT_LINKED: Option<CheckFault> = Some(CheckFault::NotLinked);
+pub(crate) const NOT_LINKED: Option<CheckFault> = Some(CheckFault::NotLinked);
 
-const NOBODY: Option<CheckFault> = Some(CheckFault::NoNodes);
+pub(crate) const NOBODY: Option<CheckFault> = Some(CheckFault::NoNodes);
 
 /// The fault of the pair of 1 and 2.
 const PAIR: Option<CheckFault> = Some(CheckFault::Pair {
@@ -43,14 +43,14 @@ const PAIR: Option<CheckFault> = Some(CheckFault::Pair {
 });
 
 /// The faults of the fans of 3, of 4 and of 5.
-const FAN_3: Option<CheckFault> = Some(CheckFault::Fan { j: NodeId(3) });
+pub(crate) const FAN_3: Option<CheckFault> = Some(CheckFault::Fan { j: NodeId(3) });
 
 const FAN_4: Option<CheckFault> = Some(CheckFault::Fan { j: NodeId(4) });
 
-const FAN_5: Option<CheckFault> = Some(CheckFault::Fan { j: NodeId(5) });
+pub(crate) const FAN_5: Option<CheckFault> = Some(CheckFault::Fan { j: NodeId(5) });
 
 /// The certificate with these words in place of its own.
-fn with(own: Said, instead: Instead) -> Said {
+pub(crate) fn with(own: Said, instead: Instead) -> Said {
     match instead {
         Cut(k, cut, near, far, side) => Said {
             k,
@@ -327,7 +327,7 @@ fn what_is_checked_is_kept_and_else_comes_back(rt: HostRuntime) -> Result<(), Fa
     Ok(())
 }
 
-const NUMBERS: [(CheckFault, u32); 8] = [
+const NUMBERS: [(CheckFault, u32); 9] = [
     (CheckFault::Count, 40),
     (CheckFault::Cut, 41),
     (CheckFault::Side, 42),
@@ -342,6 +342,7 @@ const NUMBERS: [(CheckFault, u32); 8] = [
     (CheckFault::Extra, 45),
     (CheckFault::NotLinked, 46),
     (CheckFault::NoNodes, 47),
+    (CheckFault::BadGroup, 49),
 ];
 
 #[test]

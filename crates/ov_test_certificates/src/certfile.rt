@@ -4,7 +4,7 @@ use crate::drawn::{
 };
 use crate::files;
 use ov_cert::Cert;
-use ov_certfile::{ReadFault, Sink, Source, WriteFault, from_text, to_text};
+use ov_certfile::{ReadFault, Sink, Source, WriteFault, from_text, to_text, to_text_group};
 use ov_test_kit::Interrupted;
 use std::alloc::Global;
 use std::test::Fail;
@@ -34,13 +34,14 @@ fn is_split_written(
     is_written(alloc, drawn, &cert, moment, text)
 }
 
-/// The text says a graph and a certificate that are written so again.
+/// The text says a graph, a group and a certificate that are written so again.
 fn is_kept(alloc: Global, text: &str) -> Result<bool, Fail> {
     let filed = from_text(alloc, text)?;
     if filed.moment > 65_536 {
         return Ok(false);
     }
-    let again = to_text(alloc, &filed.cert, &filed.graph, filed.moment)?;
+    let group = filed.group.as_slice();
+    let again = to_text_group(alloc, &filed.cert, &filed.graph, group, filed.moment)?;
     Ok(again.as_str() == text)
 }
 
@@ -61,6 +62,12 @@ fn a_square_with_its_fans(rt: HostRuntime) -> Result<(), Fail> {
     assert!(rt; is_split_written(alloc, SQUARE, SPLIT_OF_SQUARE, 0, files::SQUARE)?);
     assert!(rt; is_kept(alloc, files::SQUARE)?);
     assert!(rt; is_kept(alloc, files::FIVE_BUT_ONE)?);
+    Ok(())
+}
+
+#[test]
+fn a_group_of_three_nodes_of_a_square(rt: HostRuntime) -> Result<(), Fail> {
+    assert!(rt; is_kept(rt.alloc(), files::SQUARE_GROUP)?);
     Ok(())
 }
 

@@ -1,5 +1,7 @@
 //! The lines of worked files, and what devices that fail come to.
-use crate::files::{FIVE_BUT_ONE, SQUARE, TWO_LINKED, TWO_TRIANGLES, TWO_UNLINKED};
+use crate::files::{
+    FIVE_BUT_ONE, SQUARE, SQUARE_GROUP, TWO_LINKED, TWO_LINKED_GROUP, TWO_TRIANGLES, TWO_UNLINKED,
+};
 use ov_certfile::{Sink, Source};
 use ov_check::{JudgeFault, judge};
 use ov_test_kit::Slow;
@@ -34,8 +36,9 @@ const TWO_LINKED_ROWS: &str = r#"
 "moment":6 => "moment":-0 => refused 63
 "linked" => "split" => refused 61
 "linked" => "whole" => refused 63
-"version":1 => "version":2 => refused 64
+"version":1 => "version":2 => refused 61
 "version":1 => "version":1.0 => refused 64
+"version":1 => "version":0 => refused 64
 "k":1,"links":[[1,2]],"moment":6,"nodes":[1,2] => "k":0,"links":[],"moment":1,"nodes":[] => fails 47
 "#;
 
@@ -48,6 +51,9 @@ const TWO_UNLINKED_ROWS: &str = r#"
 
 const SQUARE_ROWS: &str = r#"
 "version":1 => "version":1 => holds 0 split k 2 cut 2,4 near 1 far 3 side 1
+"version":1 => "version":2 => refused 61
+"version":1 => "version":3 => refused 64
+"version":1 => "group":[1,2,3,4],"version":2 => holds 0 split k 2 cut 2,4 near 1 far 3 side 1
 "k":2 => "k":3 => fails 40
 "cut":[2,4] => "cut":[4,2] => fails 41
 "cut":[2,4] => "cut":[2,9] => fails 41
@@ -71,6 +77,33 @@ const SQUARE_ROWS: &str = r#"
 [4,3]]} => [4,3]]},{"j":4,"paths":[[4,1],[4,3]]} => fails 45
 "pairs":[] => "pairs":[{"i":1,"j":3,"paths":[[1,2,3],[1,4,3]]}] => fails 45
 "pairs":[] => "pairs":[{"i":1,"j":3,"paths":[],"k":2}] => refused 63
+"#;
+
+const SQUARE_GROUP_ROWS: &str = r#"
+"version":2 => "version":2 => holds 0 split k 2 cut 2,4 near 1 far 3 side 1 group 1,2,3
+"version":2 => "version":1 => refused 62
+"version":2 => "version":2.0 => refused 64
+"group":[1,2,3] => "group":[] => fails 49
+"group":[1,2,3] => "group":[2,1] => fails 49
+"group":[1,2,3] => "group":[1,7] => fails 49
+"group":[1,2,3] => "group":[1,2,3,4] => fails 44 4
+"group":[1,2,3] => "group":[1,3] => fails 43 1 3
+"group":[1,2,3] => "group":[1,2] => fails 42
+"group":[1,2,3] => "group":[1,2,3.0] => refused 63
+"group":[1,2,3] => "group":3 => refused 63
+"group":[1,2,3] => "groups":[1,2,3] => refused 61
+"group":[1,2,3] => "group":[2,1],"group":[1,2,3] => holds 0 split k 2 cut 2,4 near 1 far 3 side 1 group 1,2,3
+"fans":[{"j":3,"paths":[[3,2],[3,4,1]]}] => "fans":[] => fails 44 3
+[3,4,1]] => [3,4]] => fails 44 3
+[3,4,1]]} => [3,4,1]]},{"j":4,"paths":[[4,1],[4,3]]} => fails 45
+"#;
+
+const TWO_LINKED_GROUP_ROWS: &str = r#"
+"version":2 => "version":2 => holds 6 linked k 1
+"version":2 => "version":1 => refused 62
+"group":[1,2],"k":1 => "group":[2],"k":0 => holds 6 linked k 0 group 2
+"group":[1,2],"k":1 => "group":[2],"k":1 => fails 40
+"group":[1,2],"k":1,"links":[[1,2]],"moment":6,"nodes":[1,2] => "group":[],"k":0,"links":[],"moment":1,"nodes":[] => fails 47
 "#;
 
 const FIVE_BUT_ONE_ROWS: &str = r#"
@@ -111,15 +144,10 @@ fn is_line(text: &[u8], line: &str) -> bool {
     matches!(text.split_last(), Some((b'\n', before)) if before == line.as_bytes())
 }
 
-/// The bytes come to this line and this status.
-fn is_told(
-    rt: &impl Abort,
-    alloc: Global,
-    bytes: &[u8],
-    status: u8,
-    line: &str,
-) -> Result<(), Fail> {
+/// The bytes come to this line and to its status.
+fn is_told(rt: &impl Abort, alloc: Global, bytes: &[u8], line: &str) -> Result<(), Fail> {
     let (answer, text) = told(alloc, bytes)?;
+    let status = if line.starts_with("holds ") { 0 } else { 1 };
     assert!(rt; answer == status && is_line(&text, line), "at {line}");
     Ok(())
 }
@@ -136,8 +164,7 @@ fn is_told_with(rt: &impl Abort, alloc: Global, file: &str, row: &str) -> Result
     let (old, new, line) = parts(row).ok_or("a row has three parts")?;
     assert!(rt; file.contains(old), "at {row}");
     let text = file.replace(alloc, old, new)?;
-    let status = if line.starts_with("holds ") { 0 } else { 1 };
-    is_told(rt, alloc, text.as_bytes(), status, line)
+    is_told(rt, alloc, text.as_bytes(), line)
 }
 
 /// Each row of the table after its first line has its line.
@@ -158,19 +185,75 @@ fn files_have_their_lines(rt: HostRuntime) -> Result<(), Fail> {
     have_lines(&rt, alloc, TWO_TRIANGLES, TWO_TRIANGLES_ROWS)
 }
 
-/// Two linked nodes, and those from 3 to the last as well.
-fn with_nodes_to(alloc: Global, last: u32) -> Result<String, Fail> {
+#[test]
+fn files_of_groups_have_their_lines(rt: HostRuntime) -> Result<(), Fail> {
+    let alloc = rt.alloc();
+    have_lines(&rt, alloc, SQUARE_GROUP, SQUARE_GROUP_ROWS)?;
+    have_lines(&rt, alloc, TWO_LINKED_GROUP, TWO_LINKED_GROUP_ROWS)
+}
+
+/// The file of two linked nodes, with those from 3 to the last as well.
+fn with_nodes_to(alloc: Global, file: &str, last: u32) -> Result<String, Fail> {
     let mut nodes = String::from_str(alloc, "\"nodes\":[1,2")?;
     for number in 3..=last {
         write!(nodes, ",{number}")?;
     }
-    Ok(TWO_LINKED.replace(alloc, "\"nodes\":[1,2", nodes.as_str())?)
+    Ok(file.replace(alloc, "\"nodes\":[1,2", nodes.as_str())?)
 }
 
-/// So many nodes of which only two are linked come to this line.
-fn are_told(rt: &impl Abort, alloc: Global, last: u32, line: &str) -> Result<(), Fail> {
-    let text = with_nodes_to(alloc, last)?;
-    is_told(rt, alloc, text.as_bytes(), 1, line)
+/// A file of two linked nodes, how many nodes there are, and the line.
+static MANY: [(&str, u32, &str); 5] = [
+    (TWO_LINKED, 256, "fails 40"),
+    (TWO_LINKED, 257, "refused 31"),
+    (TWO_LINKED_GROUP, 257, "holds 6 linked k 1 group 1,2"),
+    (TWO_LINKED_GROUP, 1_024, "holds 6 linked k 1 group 1,2"),
+    (TWO_LINKED_GROUP, 1_025, "refused 31"),
+];
+
+#[test]
+fn each_version_has_its_most_nodes(rt: HostRuntime) -> Result<(), Fail> {
+    for (file, last, line) in &MANY {
+        let text = with_nodes_to(rt.alloc(), file, *last)?;
+        is_told(&rt, rt.alloc(), text.as_bytes(), line)?;
+    }
+    Ok(())
+}
+
+/// So many arrays, one in the other.
+fn nested(alloc: Global, depth: u32) -> Result<String, Fail> {
+    let mut inner = String::new(alloc);
+    for _ in 0..depth {
+        let mut outer = String::new(alloc);
+        write!(outer, "[{inner}]")?;
+        inner = outer;
+    }
+    Ok(inner)
+}
+
+/// Two linked nodes, and so many nested arrays under a key that no file has.
+fn with_nested(alloc: Global, depth: u32) -> Result<String, Fail> {
+    let inner = nested(alloc, depth)?;
+    let mut first = String::from_str(alloc, "{\"deep\":")?;
+    write!(first, "{inner},\"k\"")?;
+    Ok(TWO_LINKED.replace(alloc, "{\"k\"", first.as_str())?)
+}
+
+#[test]
+fn values_are_nested_up_to_127(rt: HostRuntime) -> Result<(), Fail> {
+    let alloc = rt.alloc();
+    is_told(&rt, alloc, nested(alloc, 200)?.as_bytes(), "refused 60")?;
+    is_told(
+        &rt,
+        alloc,
+        with_nested(alloc, 126)?.as_bytes(),
+        "refused 62",
+    )?;
+    is_told(
+        &rt,
+        alloc,
+        with_nested(alloc, 127)?.as_bytes(),
+        "refused 60",
+    )
 }
 
 static HOSTILE: [(&[u8], &str); 4] = [
@@ -184,13 +267,43 @@ static HOSTILE: [(&[u8], &str); 4] = [
 fn hostile_bytes(rt: HostRuntime) -> Result<(), Fail> {
     let alloc = rt.alloc();
     for length in 0..SQUARE.len() {
-        is_told(&rt, alloc, &SQUARE.as_bytes()[..length], 1, "refused 60")?;
+        is_told(&rt, alloc, &SQUARE.as_bytes()[..length], "refused 60")?;
     }
     for (bytes, line) in &HOSTILE {
-        is_told(&rt, alloc, bytes, 1, line)?;
+        is_told(&rt, alloc, bytes, line)?;
     }
-    are_told(&rt, alloc, 256, "fails 40")?;
-    are_told(&rt, alloc, 257, "refused 31")
+    Ok(())
+}
+
+/// The square, with so many pairs that are not expected.
+fn with_pairs(alloc: Global, count: u32) -> Result<String, Fail> {
+    let entry = r#"{"i":1,"j":3,"paths":[[1,2,3],[1,4,3]]}"#;
+    let mut pairs = String::from_str(alloc, "\"pairs\":[")?;
+    for _ in 1..count {
+        write!(pairs, "{entry},")?;
+    }
+    write!(pairs, "{entry}]")?;
+    Ok(SQUARE.replace(alloc, "\"pairs\":[]", pairs.as_str())?)
+}
+
+/// The status and the text that bytes come to where the reader gives them one by one.
+fn told_slowly(alloc: Global, bytes: &[u8]) -> Result<(u8, Vec<u8>), JudgeFault> {
+    let mut source = Source::new(Slow {
+        rest: bytes,
+        calls_left: usize::MAX,
+    });
+    let mut sink = Sink::new(Vec::new(alloc));
+    let status = judge(alloc, &mut source, &mut sink)?;
+    Ok((status, sink.into_writer()))
+}
+
+#[test]
+fn a_large_file_comes_to_one_answer_byte_by_byte(rt: HostRuntime) -> Result<(), Fail> {
+    let alloc = rt.alloc();
+    let text = with_pairs(alloc, 2_460)?;
+    let (status, line) = told_slowly(alloc, text.as_bytes())?;
+    assert!(rt; text.len() > 98_000 && status == 1 && is_line(&line, "fails 45"));
+    is_told(&rt, alloc, text.as_bytes(), "fails 45")
 }
 
 /// The line of two linked nodes.

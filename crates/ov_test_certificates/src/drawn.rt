@@ -57,6 +57,17 @@ pub(crate) const SPLIT_OF_TWO: Said = Said {
     fans: &[],
 };
 
+pub(crate) const PATH_OF_THREE: Drawn = Drawn {
+    nodes: &[1, 2, 3],
+    links: &[(1, 2), (2, 3)],
+};
+
+/// Five nodes in a ring, and one more that is linked to 2.
+pub(crate) const RING_WITH_TAIL: Drawn = Drawn {
+    nodes: &[1, 2, 3, 4, 5, 6],
+    links: &[(1, 2), (1, 5), (2, 3), (2, 6), (3, 4), (4, 5)],
+};
+
 /// Four nodes in a ring.
 pub(crate) const SQUARE: Drawn = Drawn {
     nodes: &[1, 2, 3, 4],

@@ -3,12 +3,19 @@
 pub(crate) const TWO_LINKED: &str =
     r#"{"k":1,"links":[[1,2]],"moment":6,"nodes":[1,2],"verdict":"linked","version":1}"#;
 
+pub(crate) const TWO_LINKED_GROUP: &str =
+    r#"{"group":[1,2],"k":1,"links":[[1,2]],"moment":6,"nodes":[1,2],"verdict":"linked","version":2}"#;
+
 pub(crate) const TWO_UNLINKED: &str =
     r#"{"cut":[],"fans":[],"far":1,"k":0,"links":[],"moment":4,"near":2,"nodes":[1,2],"pairs":[],"side":[2],"verdict":"split","version":1}"#;
 
 /// Four nodes in a ring.
 pub(crate) const SQUARE: &str =
     r#"{"cut":[2,4],"fans":[{"j":3,"paths":[[3,2],[3,4,1]]},{"j":4,"paths":[[4,1],[4,3]]}],"far":3,"k":2,"links":[[1,2],[1,4],[2,3],[3,4]],"moment":0,"near":1,"nodes":[1,2,3,4],"pairs":[],"side":[1],"verdict":"split","version":1}"#;
+
+/// Three of these nodes.
+pub(crate) const SQUARE_GROUP: &str =
+    r#"{"cut":[2,4],"fans":[{"j":3,"paths":[[3,2],[3,4,1]]}],"far":3,"group":[1,2,3],"k":2,"links":[[1,2],[1,4],[2,3],[3,4]],"moment":0,"near":1,"nodes":[1,2,3,4],"pairs":[],"side":[1],"verdict":"split","version":2}"#;
 
 /// Five nodes, every two linked but 1 and 2.
 pub(crate) const FIVE_BUT_ONE: &str =

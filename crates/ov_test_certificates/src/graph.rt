@@ -1,8 +1,11 @@
 //! Graphs at their limits, and what is read back from one.
 use crate::drawn::{Drawn, graph};
-use ov_graph::row::{EMPTY, Row, both, first_from, has, is_empty, put, without};
+use ov_graph::row::{
+    EMPTY, Row, WORDS, agree, both, first_from, has, is_empty, put, without, words_for,
+};
 use ov_graph::{Graph, GraphFault};
-use ov_ids::NodeId;
+use ov_ids::{NodeId, OutOfMemory};
+use ov_test_kit::ids;
 use std::alloc::{AllocError, Global};
 use std::test::Fail;
 
@@ -33,15 +36,16 @@ fn fault_of_many(alloc: Global, count: u32, ascend: bool) -> Result<u32, AllocEr
 }
 
 /// How many nodes, whether they ascend, and the number of their fault.
-static MANY: [(u32, bool, u32); 4] = [
-    (256, true, 0),
-    (256, false, 32),
-    (257, true, 31),
-    (257, false, 31),
+static MANY: [(u32, bool, u32); 5] = [
+    (257, true, 0),
+    (1_024, true, 0),
+    (1_024, false, 32),
+    (1_025, true, 31),
+    (1_025, false, 31),
 ];
 
 #[test]
-fn a_graph_has_at_most_256_nodes(rt: HostRuntime) -> Result<(), Fail> {
+fn a_graph_has_at_most_1024_nodes(rt: HostRuntime) -> Result<(), Fail> {
     for (count, ascend, number) in &MANY {
         let fault = fault_of_many(rt.alloc(), *count, *ascend)?;
         assert!(rt; fault == *number, "{count} nodes, ascending {ascend}");
@@ -110,6 +114,42 @@ fn links_join_either_way_round(rt: HostRuntime) -> Result<(), Fail> {
     let graph = Graph::new(rt.alloc(), &NODES, &LINKS)?;
     assert!(rt; are_linked_so(&graph));
     assert!(rt; stand_so(&graph));
+    Ok(())
+}
+
+/// Ids, and whether they are a group of the nodes 1, 2, 3 and 9.
+static GROUPS: [(&[u32], bool); 9] = [
+    (&[], false),
+    (&[9], true),
+    (&[1, 3], true),
+    (&[1, 2, 3, 9], true),
+    (&[3, 1], false),
+    (&[2, 2], false),
+    (&[1, 4], false),
+    (&[0, 1], false),
+    (&[9, 10], false),
+];
+
+/// That the ids are a group is told so.
+fn is_told_so(
+    alloc: Global,
+    graph: &Graph,
+    numbers: &[u32],
+    told: bool,
+) -> Result<bool, OutOfMemory> {
+    let group = ids(alloc, numbers)?;
+    Ok(graph.is_group(group.as_slice()) == told)
+}
+
+#[test]
+fn a_group_is_some_nodes_ascending(rt: HostRuntime) -> Result<(), Fail> {
+    let graph = Graph::new(rt.alloc(), &NODES, &LINKS)?;
+    for (i, (numbers, told)) in GROUPS.iter().enumerate() {
+        assert!(rt;
+            is_told_so(rt.alloc(), &graph, numbers, *told)?,
+            "in row {i}"
+        );
+    }
     Ok(())
 }
 
@@ -222,7 +262,7 @@ fn row_of(places: &[u8]) -> Row {
 /// From each of these places on, the row has this first one.
 fn has_firsts(row: &Row, firsts: &[(usize, Option<usize>)]) -> bool {
     for (from, first) in firsts {
-        if first_from(row, *from) != *first {
+        if first_from(row, *from, WORDS) != *first {
             return false;
         }
     }
@@ -231,11 +271,12 @@ fn has_firsts(row: &Row, firsts: &[(usize, Option<usize>)]) -> bool {
 
 #[test]
 fn sets_of_places(rt: HostRuntime) {
-    let odd = row_of(&[1, 63, 65, 127, 255]);
+    let mut odd = row_of(&[1, 63, 65, 127, 255]);
+    put(&mut odd, 1_023);
     let low = row_of(&[0, 1, 64, 65]);
-    let shared = both(&odd, &low);
-    let left = without(&odd, &low);
-    assert!(rt; is_empty(&EMPTY) && is_empty(&without(&shared, &low)));
+    let shared = both(&odd, &low, WORDS);
+    let left = without(&odd, &low, WORDS);
+    assert!(rt; is_empty(&EMPTY, WORDS) && is_empty(&without(&shared, &low, WORDS), WORDS));
     assert!(rt; has_firsts(&shared, &[(0, Some(1)), (2, Some(65)), (66, None)]));
     assert!(rt;
         has_firsts(
@@ -244,8 +285,24 @@ fn sets_of_places(rt: HostRuntime) {
                 (0, Some(63)),
                 (64, Some(127)),
                 (128, Some(255)),
-                (256, None)
+                (256, Some(1_023)),
+                (1_024, None)
             ]
         )
+    );
+}
+
+#[test]
+fn words_that_are_not_in_use_are_not_looked_at(rt: HostRuntime) {
+    let row = row_of(&[65, 255]);
+    let first = row_of(&[65]);
+    assert!(rt; is_empty(&row, 1) && !is_empty(&row, 2));
+    assert!(rt; first_from(&row, 66, 3).is_none() && first_from(&row, 66, 4) == Some(255));
+    assert!(rt;
+        is_empty(&both(&row, &row, 1), WORDS) && is_empty(&without(&row, &first, 3), WORDS)
+    );
+    assert!(rt; agree(&row, &first, 3) && !agree(&row, &first, 4));
+    assert!(rt;
+        words_for(0) == 0 && words_for(64) == 1 && words_for(65) == 2 && words_for(1_024) == 16
     );
 }

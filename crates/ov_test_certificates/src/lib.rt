@@ -13,3 +13,5 @@ mod drawn;
 mod files;
 #[cfg(test)]
 mod graph;
+#[cfg(test)]
+mod groups;

@@ -2,11 +2,17 @@
 #![tactic(auto)]
 
 use ov_certfile::{Sink, Source};
-use ov_check::{JudgeFault, judge};
-use std::env;
+use ov_check::{JudgeFault, judge_parallel};
+use std::env::FillError;
 use std::fs::File;
-use std::io::{Error, ErrorKind, Read};
+use std::io;
+use std::io::Read;
 use std::process::ExitCode;
+use std::rt::{Env, Files, Runtime};
+use std::thread::Threads;
+
+/// The longest path that the system opens, in bytes.
+const LONGEST_PATH: usize = 4096;
 
 fn main(rt: HostRuntime) -> ExitCode {
     match run(&rt) {
@@ -18,38 +24,53 @@ fn main(rt: HostRuntime) -> ExitCode {
     }
 }
 
-/// Judges the file that the words name, or standard input, and answers the status.
-fn run(rt: &HostRuntime) -> Result<u8, JudgeFault> {
-    let words = env::args(rt).map_err(words_fault)?;
-    let words: Vec<String> = words.collect(rt.alloc())?;
-    match words.as_slice() {
-        [] | [_] => judge_from(rt, rt.stdin()),
-        [_, file] if file.as_str() == "-" => judge_from(rt, rt.stdin()),
-        [_, file] => judge_file(rt, file.as_str()),
-        _ => {
-            let _ = eprintln!(rt; "usage: overlay-check [FILE]");
-            Ok(2)
-        }
+/// Judges the file that the word names, or standard input, and answers the status. Word 0, the program's own path, is
+/// not looked at.
+fn run<R: Runtime + AllocGlobal + Threads + Sync>(rt: &R) -> Result<u8, JudgeFault> {
+    if has_word(rt, 2) {
+        let _ = eprintln!(rt; "usage: overlay-check [FILE]");
+        return Ok(2);
+    }
+    let mut room = [0u8; LONGEST_PATH];
+    match rt.arg(1, &mut room) {
+        Ok(length) => judge_named(rt, &room[..length]),
+        Err(FillError::NotPresent) => judge_from(rt, rt.reader()),
+        Err(FillError::TooLong) => Err(JudgeFault::Read),
     }
 }
 
-/// A word that is no text names no file that could be opened.
-fn words_fault(error: Error) -> JudgeFault {
-    match error.kind() {
-        ErrorKind::InvalidData => JudgeFault::Read,
-        _ => JudgeFault::OutOfMemory,
+/// Whether there is a word at a place, whatever bytes it has.
+fn has_word(rt: &impl Env, place: usize) -> bool {
+    !matches!(rt.arg(place, &mut []), Err(FillError::NotPresent))
+}
+
+/// Judges the file of a name; `-` is standard input. A name that is no text names no file that can be opened here.
+fn judge_named<R: Runtime + AllocGlobal + Threads + Sync>(
+    rt: &R,
+    name: &[u8],
+) -> Result<u8, JudgeFault> {
+    match str::from_utf8(name) {
+        Ok("-") => judge_from(rt, rt.reader()),
+        Ok(path) => judge_file(rt, path),
+        Err(_) => Err(JudgeFault::Read),
     }
 }
 
-fn judge_file(rt: &HostRuntime, path: &str) -> Result<u8, JudgeFault> {
+fn judge_file<R: Runtime + AllocGlobal + Threads + Sync>(
+    rt: &R,
+    path: &str,
+) -> Result<u8, JudgeFault> {
     match File::open(rt, path) {
         Ok(file) => judge_from(rt, file),
         Err(_) => Err(JudgeFault::Read),
     }
 }
 
-fn judge_from<R: Read + Drop>(rt: &HostRuntime, reader: R) -> Result<u8, JudgeFault> {
+fn judge_from<R: Runtime + AllocGlobal + Threads + Sync>(
+    rt: &R,
+    reader: impl Read + Drop,
+) -> Result<u8, JudgeFault> {
     let mut source = Source::new(reader);
-    let mut sink = Sink::new(rt.stdout());
-    judge(rt.alloc(), &mut source, &mut sink)
+    let mut sink = Sink::new(io::writer(rt));
+    judge_parallel(rt, &mut source, &mut sink)
 }

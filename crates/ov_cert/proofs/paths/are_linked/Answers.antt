@@ -1,6 +1,6 @@
 -- The graph's answer is the test's.
 use Rattle.std.proofs.Common.{refl}
-use Rattle.ov_graph.specs.Tests.{are_joined}
+use Rattle.ov_graph.specs.Code.Tests.{are_joined}
 use Rattle.ov_graph.proofs.Tested.{joined_tested}
 use Rattle.ov_cert.proofs.Ends.{same_test}
 use Rattle.ov_cert.proofs.paths.are_linked.Goals as goal
@@ -8,4 +8,5 @@ use Rattle.ov_cert.proofs.paths.are_linked.Goals as goal
 pub returns : goal.returns
 returns c =
     let g = c.args.graph.now in
-    same_test c.linked.result (are_joined g.links c.args.a c.args.b) c.linked.ensures.linked (joined_tested g c.args.a c.args.b (are_joined g.links c.args.a c.args.b) refl)
+    same_test c.linked.result (are_joined g.links c.args.a c.args.b) c.linked.ensures.linked
+        (joined_tested g c.args.a c.args.b (are_joined g.links c.args.a c.args.b) refl)

@@ -1,6 +1,6 @@
 -- what is left decides
 use Rattle.std.proofs.Common.{◌≡◌, ◌∷◌, length}
-use Rattle.ov_cert.specs.Tests.{chained}
+use Rattle.ov_cert.specs.Code.Tests.{chained}
 use Rattle.ov_cert.proofs.paths.is_chained.Given as goal
 
 abbrev pub invariant-loop-next : goal.invariant-loop-next

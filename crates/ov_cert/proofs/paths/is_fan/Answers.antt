@@ -1,15 +1,16 @@
 -- At first the source is used.
 use Rattle.std.proofs.Common.{ap}
-use Rattle.ov_cert.specs.Marks.{NodesOf}
-use Rattle.ov_cert.specs.Tests.{are_fan_paths}
-use Rattle.ov_cert.proofs.Marking.{one_entered, node_tested}
+use Rattle.ov_cert.specs.Code.Kept.{NodesOf}
+use Rattle.ov_cert.specs.Code.Tests.{are_fan_paths}
+use Rattle.ov_cert.proofs.NodeSets.{one_entered, node_tested}
 use Rattle.ov_cert.proofs.paths.is_fan.Goals as goal
 
 pub loop-path-init : goal.loop-path-init
 loop-path-init c =
     let g = c.args.graph.now in
-    let e = one_entered g c.args.j c.new-used.result c.enter.new.self c.enter.result (node_tested g c.args.j c.requires) c.new-used.ensures c.enter.ensures.fresh c.enter.ensures.entered in
+    let e = one_entered g c.args.j c.new-used.result c.enter.new.self c.enter.result
+        (node_tested g c.args.j c.requires.j) c.new-used.ensures c.enter.ensures.fresh c.enter.ensures.entered in
     record {
       graph = ap (λ (v : NodesOf). v.graph) e;
-      left = ap (λ (v : NodesOf). are_fan_paths g v.members c.args.j c.args.paths.now) e;
+      left = ap (λ (v : NodesOf). are_fan_paths g c.args.group.now v.members c.args.j c.args.paths.now) e;
     }

@@ -5,4 +5,5 @@ use Rattle.ov_ids.specs.Sets.{has}
 use Rattle.ov_cert.proofs.side.are_outside.Given as goal
 
 abbrev pub invariant-loop-id : goal.invariant-loop-id
-invariant-loop-id l = list_all (λ a. not (has l.set.members a)) (drop l.id-index l.ids) ≡ list_all (λ a. not (has l.set.members a)) l.ids
+invariant-loop-id l = list_all (λ a. not (has l.set.members a)) (drop l.id-index l.ids) ≡ list_all
+    (λ a. not (has l.set.members a)) l.ids

@@ -2,10 +2,10 @@
 use Rattle.std.proofs.Common.{◌≡◌, ◌∙◌, ℕ, List, not, sym, ap}
 use Rattle.std.specs.List.{list_all}
 use Rattle.ov_ids.specs.Sets.{has}
-use Rattle.ov_cert.specs.Marks.{NodesOf}
-use Rattle.ov_cert.specs.Tests.{stays, stays_within, is_node_set}
+use Rattle.ov_cert.specs.Code.Kept.{NodesOf}
+use Rattle.ov_cert.specs.Code.Tests.{survives, ends_within, is_node_set}
 use Rattle.ov_cert.proofs.Ends.{all_seven}
-use Rattle.ov_cert.proofs.Frame.{node_set_tested}
+use Rattle.ov_cert.proofs.Parting.{node_set_tested}
 use Rattle.ov_cert.proofs.side.is_side_cut_off.Goals as goal
 
 pub do_end_within-requires : goal.do_end_within-requires
@@ -18,12 +18,19 @@ returns c =
     let s = c.args.split.now in
     let ids : c.as_slice-ids.result.now ≡ s.side = c.as_slice-ids.ensures in
     let side : c.in-Some.side.members ≡ s.side = ap (λ (v : NodesOf). v.members) c.in-Some.ensures.some ∙ ids in
-    all_seven (stays g s.cut s.near) (stays g s.cut s.far) (is_node_set g s.side) (list_all (λ a. not (has s.cut a)) s.side) (has s.side s.near) (not (has s.side s.far)) (list_all (λ a. stays_within g s.side s.cut a) s.side) c.do_end_within.result
-    (ap (λ (xs : List ℕ). stays g xs s.near) (sym c.requires.cut) ∙ sym c.does_stay.ensures ∙ c.if-not-does_stay.false)
-    (ap (λ (xs : List ℕ). stays g xs s.far) (sym c.requires.cut) ∙ sym c.does_stay-else-not-does_stay.ensures ∙ c.if-not-does_stay-2.false)
+    all_seven (survives c.args.group.now s.cut s.near) (survives c.args.group.now s.cut s.far) (is_node_set g s.side)
+        (list_all (λ a. not (has s.cut a)) s.side) (has s.side s.near) (not (has s.side s.far))
+        (list_all (λ a. ends_within g s.side s.cut a) s.side) c.do_end_within.result
+    (ap (λ (xs : List ℕ). survives c.args.group.now xs s.near) (sym c.requires.cut) ∙ sym c.does_survive.ensures
+        ∙ c.if-not-does_survive.false)
+    (ap (λ (xs : List ℕ). survives c.args.group.now xs s.far) (sym c.requires.cut)
+        ∙ sym c.does_survive-else-not-does_survive.ensures ∙ c.if-not-does_survive-2.false)
     (ap (is_node_set g) (sym ids) ∙ c.in-Some.ensures.set)
-    (ap (λ (xs : List ℕ). list_all (λ a. not (has xs a)) s.side) (sym c.requires.cut) ∙ ap (list_all (λ a. not (has c.args.cut.now.members a))) (sym ids) ∙ sym c.are_outside.ensures ∙ c.if-not-are_outside.false)
+    (ap (λ (xs : List ℕ). list_all (λ a. not (has xs a)) s.side) (sym c.requires.cut)
+        ∙ ap (list_all (λ a. not (has c.args.cut.now.members a))) (sym ids) ∙ sym c.are_outside.ensures
+        ∙ c.if-not-are_outside.false)
     (ap (λ (xs : List ℕ). has xs s.near) (sym side) ∙ sym c.has.ensures ∙ c.if-not-has.false)
     (ap (λ (xs : List ℕ). not (has xs s.far)) (sym side) ∙ ap not (sym c.has-else-not-has.ensures ∙ c.if-has.false))
-    (c.do_end_within.ensures ∙ ap (list_all (λ a. stays_within g c.in-Some.side.members c.args.cut.now.members a)) ids
-    ∙ ap (λ (xs : List ℕ). list_all (λ a. stays_within g xs c.args.cut.now.members a) s.side) side ∙ ap (λ (xs : List ℕ). list_all (λ a. stays_within g s.side xs a) s.side) c.requires.cut)
+    (c.do_end_within.ensures ∙ ap (list_all (λ a. ends_within g c.in-Some.side.members c.args.cut.now.members a)) ids
+    ∙ ap (λ (xs : List ℕ). list_all (λ a. ends_within g xs c.args.cut.now.members a) s.side) side
+        ∙ ap (λ (xs : List ℕ). list_all (λ a. ends_within g s.side xs a) s.side) c.requires.cut)

@@ -1,9 +1,11 @@
 -- what was read, and what is left to read
 use Rattle.std.proofs.Common.{◌≡◌, drop}
 use Rattle.serde_json.specs.View.{items_view}
-use Rattle.ov_certfile.specs.Fields.{each_in}
+use Rattle.ov_certfile.specs.Forms.{each_in}
 use Rattle.ov_certfile.proofs.Listed.{with_front}
 use Rattle.ov_certfile.proofs.fields.each_from.Given as goal
 
 abbrev pub invariant-loop-value : goal.invariant-loop-value
-invariant-loop-value g l = with_front l.fields.items (each_in g.T.Field.reads (items_view (drop l.value-index l.values))) ≡ each_in g.T.Field.reads (items_view l.values)
+invariant-loop-value g l =
+    with_front l.fields.items (each_in g.T.Field.form (items_view (drop l.value-index l.values)))
+    ≡ each_in g.T.Field.form (items_view l.values)

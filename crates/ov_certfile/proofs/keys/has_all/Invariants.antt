@@ -5,4 +5,6 @@ use Rattle.ov_certfile.specs.Keys.{has_all}
 use Rattle.ov_certfile.proofs.keys.has_all.Given as goal
 
 abbrev pub invariant-loop-key : goal.invariant-loop-key
-invariant-loop-key l = has_all (map (λ k. k.now) l.keys) (view l.value) ≡ has_all (map (λ k. k.now) (drop l.key-index l.keys)) (view l.value)
+invariant-loop-key l =
+    has_all (map (λ k. k.now) l.keys) (view l.value)
+    ≡ has_all (map (λ k. k.now) (drop l.key-index l.keys)) (view l.value)

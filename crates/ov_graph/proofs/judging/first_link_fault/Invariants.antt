@@ -1,6 +1,6 @@
 -- what is left decides
 use Rattle.std.proofs.Common.{◌≡◌, None, drop}
-use Rattle.ov_graph.specs.Tests.{links_fault}
+use Rattle.ov_graph.specs.Code.Tests.{links_fault}
 use Rattle.ov_graph.proofs.judging.first_link_fault.Given as goal
 
 abbrev pub invariant-loop-link : goal.invariant-loop-link

@@ -4,4 +4,9 @@ use Rattle.ov_graph.specs.Row.{HasBit}
 use Rattle.ov_graph.proofs.row.without.Given as goal
 
 abbrev pub invariant-loop-word : goal.invariant-loop-word
-invariant-loop-word l = record { wide : length l.kept ≡ length l.a; bits : (q : ℕ) → q < 64 * l.word → HasBit l.kept q ↔ (HasBit l.a q × ¬ HasBit l.b q) }
+invariant-loop-word l =
+    record {
+      wide : length l.kept ≡ length l.a;
+      bits : (q : ℕ)
+          → HasBit l.kept q ↔ ((q < 64 * l.word) × (HasBit l.a q × ¬ HasBit l.b q));
+    }

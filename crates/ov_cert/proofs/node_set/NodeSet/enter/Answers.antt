@@ -1,8 +1,8 @@
--- To mark the place of a node is to take it in.
-use Rattle.std.proofs.Common.{ℕ, List, sym, ap, ◌∙◌, false}
+-- To set the bit of a node's place is to take it in.
+use Rattle.std.proofs.Common.{ℕ, List, sym, ap, ◌∙◌}
 use Rattle.ov_ids.specs.Sets.{has, adding}
-use Rattle.ov_cert.specs.Marks.{NodesOf}
-use Rattle.ov_cert.proofs.Marking.{at_place, stranger_out, fresh_not, fresh_yes, fresh_stranger}
+use Rattle.ov_cert.specs.Code.Kept.{NodesOf}
+use Rattle.ov_cert.proofs.NodeSets.{at_place, stranger_out, fresh_not, fresh_yes, fresh_stranger}
 use Rattle.ov_cert.proofs.node_set.NodeSet.enter.Goals as goal
 
 pub returns-in_default-clause-fresh : goal.returns-in_default-clause-fresh
@@ -11,20 +11,29 @@ returns-in_default-clause-fresh c =
     let no = stranger_out g.nodes c.args.id c.in_default.ensures.none in
     fresh_stranger _ _ (ap (λ (v : NodesOf). has v.graph.nodes c.args.id) (sym c.self.view_is) ∙ no)
 
-pub returns-then-self-place-clause-fresh : goal.returns-then-self-place-clause-fresh
-returns-then-self-place-clause-fresh c =
-    let at = at_place c.self.inside.graph.now c.self.inside.marks c.in-Some.place c.args.id false c.in-Some.ensures.graph c.self.told c.in-Some.ensures.some.0 c.in-Some.ensures.some.1 in
+pub returns-then-has-clause-fresh : goal.returns-then-has-clause-fresh
+returns-then-has-clause-fresh c =
+    let s = c.self.inside in
+    let at = at_place s.graph.now s.row c.in-Some.place c.args.id c.in-Some.ensures.graph c.in-Some.ensures.some.0
+        c.in-Some.ensures.some.1 in
     fresh_not _ _ (ap (λ (v : NodesOf). has v.graph.nodes c.args.id) (sym c.self.view_is) ∙ at.node)
-    (ap (λ (v : NodesOf). has v.members c.args.id) (sym c.self.view_is) ∙ at.member ∙ c.if-self-place.true)
+    (ap (λ (v : NodesOf). has v.members c.args.id) (sym c.self.view_is) ∙ sym (at.member c.has.result c.has.ensures)
+        ∙ c.if-has.true)
 
 pub returns-clause-fresh : goal.returns-clause-fresh
 returns-clause-fresh c =
-    let at = at_place c.self.inside.graph.now c.self.inside.marks c.in-Some.place c.args.id false c.in-Some.ensures.graph c.self.told c.in-Some.ensures.some.0 c.in-Some.ensures.some.1 in
+    let s = c.self.inside in
+    let at = at_place s.graph.now s.row c.in-Some.place c.args.id c.in-Some.ensures.graph c.in-Some.ensures.some.0
+        c.in-Some.ensures.some.1 in
     fresh_yes _ _ (ap (λ (v : NodesOf). has v.graph.nodes c.args.id) (sym c.self.view_is) ∙ at.node)
-    (ap (λ (v : NodesOf). has v.members c.args.id) (sym c.self.view_is) ∙ at.member ∙ c.if-self-place.false)
+    (ap (λ (v : NodesOf). has v.members c.args.id) (sym c.self.view_is) ∙ sym (at.member c.has.result c.has.ensures)
+        ∙ c.if-has.false)
 
 pub returns-clause-entered : goal.returns-clause-entered
 returns-clause-entered c =
-    let at = at_place c.self.inside.graph.now c.self.inside.marks c.in-Some.place c.args.id false c.in-Some.ensures.graph c.self.told c.in-Some.ensures.some.0 c.in-Some.ensures.some.1 in
-    let of : List ℕ → NodesOf = λ ms. record { graph = c.self.inside.graph.now; members = ms } in
-    ap of at.taken ∙ ap (λ (v : NodesOf). record v { members = adding c.args.id v.members }) c.self.view_is
+    let s = c.self.inside in
+    let at = at_place s.graph.now s.row c.in-Some.place c.args.id c.in-Some.ensures.graph c.in-Some.ensures.some.0
+        c.in-Some.ensures.some.1 in
+    let of : List ℕ → NodesOf = λ ms. record { graph = s.graph.now; members = ms } in
+    ap of (at.taken c.put.new.row c.put.ensures) ∙ ap (λ (v : NodesOf). record v
+        { members = adding c.args.id v.members }) c.self.view_is

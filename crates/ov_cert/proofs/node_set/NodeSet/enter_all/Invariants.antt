@@ -1,6 +1,6 @@
 -- what is left decides
 use Rattle.std.proofs.Common.{◌≡◌, drop}
-use Rattle.ov_cert.specs.Tests.{fresh, entered}
+use Rattle.ov_cert.specs.Code.Tests.{fresh, entered}
 use Rattle.ov_cert.proofs.node_set.NodeSet.enter_all.Given as goal
 
 abbrev pub invariant-loop-id : goal.invariant-loop-id

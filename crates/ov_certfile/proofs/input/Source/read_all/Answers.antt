@@ -6,7 +6,8 @@ use Rattle.ov_certfile.proofs.input.Source.read_all.Goals as goal
 
 pub returns-in-Ok-eq0-clause-bytes : goal.returns-in-Ok-eq0-clause-bytes
 returns-in-Ok-eq0-clause-bytes g c =
-    let none : c.loop.bytes.items ++ take c.in-Ok-eq0.field-0 c.read.new.buf ≡ c.loop.bytes.items = rw c.in-Ok-eq0.field-0-test (grind (arith, common_steps)) in
+    let none : c.loop.bytes.items ++ take c.in-Ok-eq0.field-0 c.read.new.buf ≡ c.loop.bytes.items =
+    rw c.in-Ok-eq0.field-0-test (grind (arith, common_steps)) in
     Consumes-whole _ _ _ (λ xs. c.loop.bytes.items ≡ xs)
     (Consumes-trans _ _ _ _ _ c.loop.invariant.consumed c.in-Ok-eq0.ensures.bytes.0)
     (c.in-Ok-eq0.ensures.bytes.1 c.in-Ok-eq0.field-0-test (omega arith))

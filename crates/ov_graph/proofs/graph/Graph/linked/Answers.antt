@@ -3,7 +3,11 @@ use Rattle.ov_graph.proofs.Read.{stranger, linked_node}
 use Rattle.ov_graph.proofs.graph.Graph.linked.Goals as goal
 
 pub returns-in_default-clause-linked : goal.returns-in_default-clause-linked
-returns-in_default-clause-linked c = ((λ h. absurd (cc)), (λ l. absurd (c.in_default.ensures'.none (linked_node c.args.self.now c.args.a c.args.b c.in_default.ensures.graph l))))
+returns-in_default-clause-linked c = (
+  (λ h. absurd (cc)),
+  (λ l. absurd
+      (c.in_default.ensures'.none (linked_node c.args.self.now c.args.a c.args.b c.in_default.ensures.graph l))),
+)
 
 pub returns-in_default-2-clause-linked : goal.returns-in_default-2-clause-linked
 returns-in_default-2-clause-linked c =

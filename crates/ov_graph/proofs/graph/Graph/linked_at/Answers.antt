@@ -15,5 +15,8 @@ returns-clause-linked c =
     let q = c.args.q in
     let l = subst (λ (g : LinkGraph). p < length g.nodes) (sym c.self.view_is) c.requires.p in
     let m = subst (λ (g : LinkGraph). q < length g.nodes) (sym c.self.view_is) c.requires.q in
-    let b = subst (λ (g : LinkGraph). HasBit c.index.result.now q ↔ Linked g (slice_index g.nodes p) (slice_index g.nodes q)) c.self.view_is (bit_linked s.nodes.items s.rows.items p q c.index.result.now c.self.invariant l m c.index.ensures) in
+    let b = subst
+    (λ (g : LinkGraph). HasBit c.index.result.now q ↔ Linked g (slice_index g.nodes p) (slice_index g.nodes q))
+    c.self.view_is
+    (bit_linked s.nodes.items s.rows.items p q c.index.result.now c.self.invariant l m c.index.ensures) in
     ((λ h. b.0 (c.has.ensures.0 h)), (λ h. c.has.ensures.1 (b.1 h)))

@@ -16,4 +16,6 @@ returns-clause-bits c =
     let d = c.deref.ensures.value in
     let l = subst (λ (ns : List ℕ). p < length ns) d c.place_in.ensures.below in
     let e = subst (λ (ns : List ℕ). slice_index ns p ≡ c.args.a) d c.place_in.ensures.there in
-    subst (λ (g : LinkGraph). (q : ℕ) → HasBit row q ↔ ((q < length g.nodes) × Linked g c.args.a (slice_index g.nodes q))) c.self.view_is (row_bits s.nodes.items s.rows.items c.args.a p row c.self.invariant l e c.index.ensures)
+    subst (λ (g : LinkGraph). (q : ℕ) → HasBit row q
+    ↔ ((q < length g.nodes) × Linked g c.args.a (slice_index g.nodes q))) c.self.view_is
+    (row_bits s.nodes.items s.rows.items c.args.a p row c.self.invariant l e c.index.ensures)

@@ -1,15 +1,22 @@
 use Rattle.std.proofs.Common.{length, sym, subst}
 use Rattle.ov_net.specs.Journal.{AreLinks}
 use Rattle.ov_net.proofs.Bringing.{each_ok}
-use Rattle.ov_net.proofs.Scanned.{has_scanned, graph_scanned, links_scanned}
+use Rattle.ov_net.proofs.Scanned.{has_scanned, graph_scanned, few_scanned, links_scanned}
 use Rattle.ov_net.proofs.world.World.links.Goals as goal
 
-pub graph_of-requires : goal.graph_of-requires
-graph_of-requires c =
+pub graph_of-requires-clause-graph : goal.graph_of-requires-clause-graph
+graph_of-requires-clause-graph c =
     let scan =
     has_scanned _ c.args.self.now c.in_ok-nodes.nodes.items c.deref.result.now c.in_ok-links.links.items c.self.view_is c.self.invariant c.in_ok-nodes.ensures
     c.deref.ensures.value c.in_ok-links.ensures.ascend c.in_ok-links.ensures.value in
     rw (c.deref-2.ensures.value, c.deref-3.ensures.value) (graph_scanned c.args.self.now c.in_ok-nodes.nodes.items c.in_ok-links.links.items scan)
+
+pub graph_of-requires-clause-few : goal.graph_of-requires-clause-few
+graph_of-requires-clause-few c =
+    let scan =
+    has_scanned _ c.args.self.now c.in_ok-nodes.nodes.items c.deref.result.now c.in_ok-links.links.items c.self.view_is c.self.invariant c.in_ok-nodes.ensures
+    c.deref.ensures.value c.in_ok-links.ensures.ascend c.in_ok-links.ensures.value in
+    rw c.deref-2.ensures.value (few_scanned c.args.self.now c.in_ok-nodes.nodes.items c.in_ok-links.links.items scan)
 
 pub returns : goal.returns
 returns c =

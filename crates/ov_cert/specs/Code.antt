@@ -1,0 +1,3 @@
+-- What the code computes and how it keeps a set of nodes; its proofs tie this to the definitions, which do not use it.
+pub mod Kept
+pub mod Tests

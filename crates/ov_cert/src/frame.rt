@@ -1,0 +1,84 @@
+ghost use Rattle.std.specs.Prelude.{◌≡◌, MatchResult};
+ghost use Rattle.ov_ids.specs.Members.{Ascends};
+ghost use Rattle.ov_graph.specs.Links.{IsGraph};
+ghost use Rattle.ov_cert.specs.declared.cert.Cert.TheVariants.{Linked as AllLinked, Split as SplitBy};
+ghost use Rattle.ov_cert.specs.Verdict.{PassesFrame, IsFrameFault};
+ghost use Rattle.ov_cert.specs.Code.Tests.{claim_fault, frame_fault};
+
+use crate::cert::{Cert, Split};
+use crate::complete::are_all_linked;
+use crate::fault::CheckFault;
+use crate::members::is_group;
+use crate::node_set::node_set;
+use crate::side::is_side_cut_off;
+use ov_graph::Graph;
+use ov_ids::NodeId;
+
+/// Judges what of a certificate for the group of all nodes is judged before its entries, without memory.
+pub fn check_frame(graph: &Graph, cert: &Cert) -> Result<(), CheckFault>
+    ensures { MatchResult result
+        (λ _. PassesFrame graph.now graph.now.nodes cert.now)
+        (λ fault. IsFrameFault graph.now graph.now.nodes cert.now fault) }
+{
+    check_group_frame(graph, graph.nodes(), cert)
+}
+
+/// Judges what of a certificate for a group is judged before its entries, without memory: the graph has a node, the
+/// members are a group, k is their number less one or that of the cut's nodes, all are linked or the cut parts near and
+/// far. The first fault is answered, as by `check_group`.
+pub fn check_group_frame(graph: &Graph, group: &[NodeId], cert: &Cert) -> Result<(), CheckFault>
+    ensures { MatchResult result
+        (λ _. PassesFrame graph.now group.now cert.now)
+        (λ fault. IsFrameFault graph.now group.now cert.now fault) }
+{
+    match frame_fault(graph, group, cert) {
+        Some(fault) => Err(fault),
+        None => Ok(()),
+    }
+}
+
+/// The first fault of the frame.
+pub(crate) fn frame_fault(graph: &Graph, group: &[NodeId], cert: &Cert) -> Option<CheckFault>
+    ensures fault { result ≡ frame_fault graph.now group.now cert.now }
+    ensures graph { IsGraph graph.now }
+{
+    if graph.nodes().is_empty() {
+        return Some(CheckFault::NoNodes);
+    }
+    if !is_group(graph, group) {
+        return Some(CheckFault::BadGroup);
+    }
+    match cert {
+        Cert::Linked { k } => fault_of_linked(graph, group, *k),
+        Cert::Split(split) => fault_of_split(graph, group, split),
+    }
+}
+
+fn fault_of_linked(graph: &Graph, group: &[NodeId], k: u32) -> Option<CheckFault>
+    ensures { result ≡ claim_fault graph.now group.now (AllLinked k) }
+{
+    if group.len() as u64 != k as u64 + 1 {
+        return Some(CheckFault::Count);
+    }
+    if !are_all_linked(graph, group) {
+        return Some(CheckFault::NotLinked);
+    }
+    None
+}
+
+fn fault_of_split(graph: &Graph, group: &[NodeId], split: &Split) -> Option<CheckFault>
+    requires { Ascends group.now }
+    ensures { result ≡ claim_fault graph.now group.now (SplitBy split.now) }
+{
+    let ids = split.cut.as_slice();
+    if ids.len() != split.k as usize {
+        return Some(CheckFault::Count);
+    }
+    let Some(cut) = node_set(graph, ids) else {
+        return Some(CheckFault::Cut);
+    };
+    if !is_side_cut_off(graph, group, &cut, split) {
+        return Some(CheckFault::Side);
+    }
+    None
+}

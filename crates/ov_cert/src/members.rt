@@ -1,0 +1,39 @@
+ghost use Rattle.std.specs.Prelude.{◌≡◌, take};
+ghost use Rattle.ov_ids.specs.Members.{Ascends};
+ghost use Rattle.ov_graph.specs.Even.{later_members};
+ghost use Rattle.ov_cert.specs.Code.Tests.{is_earlier, is_group};
+
+use ov_graph::{Graph, is_member};
+use ov_ids::NodeId;
+
+/// Whether the ids are a group, by the test that definitions compute.
+pub(crate) fn is_group(graph: &Graph, group: &[NodeId]) -> bool
+    ensures { result ≡ is_group graph.now group.now }
+{
+    graph.is_group(group)
+}
+
+/// Whether an id is a member below another.
+pub(crate) fn is_earlier(group: &[NodeId], j: NodeId, id: NodeId) -> bool
+    requires { Ascends group.now }
+    ensures { result ≡ is_earlier group.now j id }
+{
+    id < j && is_member(group, id)
+}
+
+/// The first k members, or all where there are fewer.
+pub(crate) fn first_members(group: &[NodeId], k: usize) -> &[NodeId]
+    ensures { result.now ≡ take k group.now }
+{
+    &group[..k.min(group.len())]
+}
+
+/// The members after the first k, of each of which a fan is asked at k; none at k = 0.
+pub(crate) fn later_members(group: &[NodeId], k: usize) -> &[NodeId]
+    ensures { result.now ≡ later_members group.now k }
+{
+    if k == 0 {
+        return &[];
+    }
+    &group[k.min(group.len())..]
+}

@@ -1,0 +1,168 @@
+-- A value, and a text, say one thing alone.
+use Rattle.std.proofs.Common.{◌≡◌, ◌∙◌, ◌⊎◌, inl, inr, ℕ, ◌≤◌, List, [], ◌∷◌, length, Option, Some, None, Result, Ok}
+use Rattle.std.proofs.Common.{Err, refl, sym, subst, ap, codes, IfSome, IfNone}
+use Rattle.serde_json.specs.Data.{Data}
+use Rattle.serde_json.specs.Read.{read}
+use Rattle.ov_ids.specs.Members.{Ascends}
+use Rattle.ov_ids.specs.Steps.{Step, Passed}
+use Rattle.ov_graph.specs.Links.{LinkGraph, IsLink, most_nodes}
+use Rattle.ov_graph.specs.Faults.{Judged, LinksJudged, Follows}
+use Rattle.ov_graph.specs.declared.fault.GraphFault.{GraphFault}
+use Rattle.ov_graph.specs.declared.fault.GraphFault.TheVariants.{TooManyNodes, Unordered, BadLink}
+use Rattle.ov_cert.specs.declared.cert.Cert.{Cert}
+use Rattle.ov_cert.specs.declared.cert.Cert.TheVariants as cert
+use Rattle.ov_cert.specs.declared.cert.Split.{Split}
+use Rattle.ov_certfile.specs.Keys.{said}
+use Rattle.ov_certfile.specs.Kinds.{version_in, most_nodes_of}
+use Rattle.ov_certfile.specs.Demands.{demands, first_unmet, GraphJudged}
+use Rattle.ov_certfile.specs.Says.{SaysGraph, SaysGroup, SaysCert, Says, IsNoGraph, IsFault, SaysFile, SaysText}
+use Rattle.ov_certfile.specs.declared.fault.FileFault.{FileFault}
+use Rattle.ov_certfile.specs.declared.fault.FileFault.TheVariants.{NotJson, MissingKey, UnknownKey, BadValue}
+use Rattle.ov_certfile.specs.declared.fault.FileFault.TheVariants.{Version as AnotherVersion, Graph, OutOfMemory}
+use Rattle.ov_certfile.specs.declared.version.Version.{Version}
+use Rattle.ov_certfile.specs.declared.version.Version.TheVariants.{One, Two}
+use Rattle.ov_certfile.specs.declared.verdict.Verdict.TheVariants.{Linked, Split as Splits}
+use Rattle.ov_certfile.specs.declared.reading.Filed.{Filed}
+
+-- what comes to one answer alone
+abbrev pub IsOne : {E : Type 0} → (Option E → Type 0) → Type 0
+IsOne {E = E} P = (x y : Option E) → P x → P y → x ≡ y
+
+pub passed_one : {E : Type 0} → IsOne (Passed {E = E})
+passed_one x y p q = p ∙ sym q
+
+pub step_one : {E : Type 0} (P : Type 0) (fault : E) (After : Option E → Type 0) → IsOne After
+    → IsOne (Step P fault After)
+step_one P fault After one x y (inl p) (inl q) = one x y p.1 q.1
+step_one P fault After one x y (inl p) (inr q) = absurd (q.0 p.0)
+step_one P fault After one x y (inr p) (inl q) = absurd (p.0 q.0)
+step_one P fault After one x y (inr p) (inr q) = p.1 ∙ sym q.1
+
+links_one : (nodes : List ℕ) (before : Option (ℕ × ℕ)) (links : List (ℕ × ℕ)) → IsOne (LinksJudged nodes before links)
+links_one nodes before [] = passed_one
+links_one nodes before (l ∷ links) =
+    step_one (IsLink nodes l) BadLink (Step (Follows before l) Unordered (LinksJudged nodes (Some l) links))
+    (step_one (Follows before l) Unordered (LinksJudged nodes (Some l) links) (links_one nodes (Some l) links))
+
+graph_one : (nodes : List ℕ) (links : List (ℕ × ℕ)) → IsOne (Judged nodes links)
+graph_one nodes links =
+    step_one (length nodes ≤ most_nodes) TooManyNodes (Step (Ascends nodes) Unordered (LinksJudged nodes None links))
+    (step_one (Ascends nodes) Unordered (LinksJudged nodes None links) (links_one nodes None links))
+
+judged_one : (version : Version) (g : LinkGraph) → IsOne (GraphJudged version g)
+judged_one version g =
+    step_one (length g.nodes ≤ most_nodes_of version) TooManyNodes (Judged g.nodes g.links) (graph_one g.nodes g.links)
+
+-- what is read at one key is one thing
+same : {X : Type 0} (o : Option X) (x y : X) → o ≡ Some x → o ≡ Some y → x ≡ y
+same o x y p q = let e : Some x ≡ Some y = sym p ∙ q in cc
+
+graph_same : (d : Data) (g h : LinkGraph) → SaysGraph d g → SaysGraph d h → g ≡ h
+graph_same d g h p q =
+    let nodes : g.nodes ≡ h.nodes = same _ _ _ p.nodes q.nodes in
+    let links : g.links ≡ h.links = same _ _ _ p.links q.links in
+    let e : record { nodes = g.nodes; links = g.links } ≡ h = rw (nodes, links) refl in e
+
+group_same : (d : Data) (version : Version) (g : LinkGraph) (a b : List ℕ) → SaysGroup d version g a
+    → SaysGroup d version g b → a ≡ b
+group_same d One g a b p q = p ∙ sym q
+group_same d Two g a b p q = same _ _ _ p q
+
+split_same : (a b : Split) → a.k ≡ b.k → a.cut ≡ b.cut → a.near ≡ b.near → a.far ≡ b.far → a.side ≡ b.side
+    → a.pairs ≡ b.pairs → a.fans ≡ b.fans → a ≡ b
+split_same a b k cut near far side pairs fans =
+    let e
+    : record { k = a.k; cut = a.cut; near = a.near; far = a.far; side = a.side; pairs = a.pairs; fans = a.fans } ≡ b =
+    rw (k, cut, near, far, side, pairs, fans) refl in e
+
+cert_same : (d : Data) (a b : Cert) → SaysCert d a → SaysCert d b → a ≡ b
+cert_same d (cert.Linked k) (cert.Linked l) p q = ap (λ n. cert.Linked n) (same _ _ _ p.count q.count)
+cert_same d (cert.Linked k) (cert.Split c) p q = let e : Linked ≡ Splits = same _ _ _ p.verdict q.verdict in absurd (cc)
+cert_same d (cert.Split c) (cert.Linked k) p q = let e : Splits ≡ Linked = same _ _ _ p.verdict q.verdict in absurd (cc)
+cert_same d (cert.Split a) (cert.Split b) p q =
+    ap (λ c. cert.Split c)
+    (split_same a b (same _ _ _ p.k q.k) (same _ _ _ p.cut q.cut) (same _ _ _ p.near q.near) (same _ _ _ p.far q.far)
+    (same _ _ _ p.side q.side) (same _ _ _ p.pairs q.pairs) (same _ _ _ p.fans q.fans))
+
+file_same : (d : Data) (f h : Filed) → Says d f → Says d h → f ≡ h
+file_same d f h p q =
+    let version : p.version ≡ q.version = same _ _ _ p.version_said q.version_said in
+    let graph : f.graph ≡ h.graph = graph_same d f.graph h.graph p.graph q.graph in
+    let there : SaysGroup d q.version h.graph f.group =
+    subst (λ v. SaysGroup d v h.graph f.group) version
+    (subst (λ g. SaysGroup d p.version g f.group) graph p.group) in
+    let group : f.group ≡ h.group = group_same d q.version h.graph f.group h.group there q.group in
+    let moment : f.moment ≡ h.moment = same _ _ _ p.moment q.moment in
+    let cert : f.cert ≡ h.cert = cert_same d f.cert h.cert p.cert q.cert in
+    let e : record { moment = f.moment; graph = f.graph; group = f.group; cert = f.cert } ≡ h =
+    rw (moment, graph, group, cert) refl in e
+
+-- what nodes and links come to as a graph
+abbrev GraphComesTo : Data → Option GraphFault → Type 0
+GraphComesTo d x =
+    (version : Version) × (g : LinkGraph) × (said version_in (codes "version") d ≡ Some version)
+    × SaysGraph d g × GraphJudged version g x
+
+comes_same : (d : Data) (x y : Option GraphFault) → GraphComesTo d x → GraphComesTo d y → x ≡ y
+comes_same d x y p q =
+    let version : p.0 ≡ q.0 = same _ _ _ p.2 q.2 in
+    let graph : p.1 ≡ q.1 = graph_same d p.1 q.1 p.3 q.3 in
+    judged_one q.0 q.1 x y (subst (λ v. GraphJudged v q.1 x) version (subst (λ g. GraphJudged p.0 g x) graph p.4)) q.4
+
+-- a fault is that of a demand, or that of the graph
+cases : (d : Data) (e : FileFault) → IsFault d e
+    → (first_unmet (demands d) ≡ Some e) ⊎ ((f : GraphFault) × (e ≡ Graph f) × IsNoGraph d f)
+cases d NotJson h = inl h
+cases d MissingKey h = inl h
+cases d UnknownKey h = inl h
+cases d BadValue h = inl h
+cases d AnotherVersion h = inl h
+cases d (Graph f) h = inr (f, refl, h)
+cases d OutOfMemory h = inl h
+
+no_graph_comes : (d : Data) (f : GraphFault) → IsNoGraph d f → GraphComesTo d (Some f)
+no_graph_comes d f h = (h.version, h.given, h.version_said, h.graph, h.judged)
+
+graph_comes : (d : Data) (f : Filed) → Says d f → GraphComesTo d None
+graph_comes d f h = (h.version, f.graph, h.version_said, h.graph, h.judged)
+
+fault_same : (d : Data) (e u : FileFault) → IsFault d e → IsFault d u → e ≡ u
+fault_same d e u p q = elim (cases d e p) [
+  | inl a ↦ elim (cases d u q) [
+    | inl b ↦ same _ _ _ a b
+    | inr b ↦ let x : Some e ≡ None = sym a ∙ b.2.met in absurd (cc)
+  ]
+  | inr a ↦ elim (cases d u q) [
+    | inl b ↦ let x : Some u ≡ None = sym b ∙ a.2.met in absurd (cc)
+    | inr b ↦
+        let x : Some a.0 ≡ Some b.0 =
+        comes_same d (Some a.0) (Some b.0) (no_graph_comes d a.0 a.2) (no_graph_comes d b.0 b.2) in
+        let y : a.0 ≡ b.0 = cc in
+        a.1 ∙ ap (λ f. Graph f) y ∙ sym b.1
+  ]
+]
+
+says_no_fault : (d : Data) (f : Filed) (e : FileFault) → Says d f → IsFault d e → ⊥
+says_no_fault d f e p q = elim (cases d e q) [
+  | inl a ↦ let x : Some e ≡ None = sym a ∙ p.met in cc
+  | inr a ↦ let x : None ≡ Some a.0 = comes_same d None (Some a.0) (graph_comes d f p) (no_graph_comes d a.0 a.2) in cc
+]
+
+pub file_one : (d : Data) (a b : Result Filed FileFault) → SaysFile d a → SaysFile d b → a ≡ b
+file_one d (Ok f) (Ok h) p q = ap (λ f. Ok f) (file_same d f h p q)
+file_one d (Ok f) (Err e) p q = absurd (says_no_fault d f e p q)
+file_one d (Err e) (Ok f) p q = absurd (says_no_fault d f e q p)
+file_one d (Err e) (Err u) p q = ap (λ e. Err e) (fault_same d e u p q)
+
+read_one : (o : Option Data) (a b : Result Filed FileFault) → IfSome o (λ d. SaysFile d a) → IfNone o (a ≡ Err NotJson)
+    → IfSome o (λ d. SaysFile d b) → IfNone o (b ≡ Err NotJson) → a ≡ b
+read_one None a b p n q m = n ∙ sym m
+read_one (Some d) a b p n q m = file_one d a b p q
+
+pub text_one : (text : List ℕ) (a b : Result Filed FileFault) → SaysText text a → SaysText text b → a ≡ b
+text_one text a b p q = read_one (read text) a b p.json p.no_json q.json q.no_json
+
+-- what the value of a text says is all that the text says
+pub read_text_one : (text : List ℕ) (d : Data) (a b : Result Filed FileFault) → read text ≡ Some d → SaysFile d b
+    → SaysText text a → a ≡ b
+read_text_one text d a b e f h = text_one text a b h (record { json = rw e f; no_json = rw e tt })

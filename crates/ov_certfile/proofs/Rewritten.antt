@@ -1,0 +1,171 @@
+-- What is written for a certificate, its graph and group, and a moment is read as just these again.
+use Rattle.std.proofs.Common.{◌≡◌, ℕ, ◌≤◌, ◌+◌, List, length, true, false, Bool, ◌&&◌, cond, Some, None, refl, sym}
+use Rattle.std.proofs.Common.{subst, arith, inl, nat_lt, nat_eq, nat_le}
+use Rattle.std.specs.Cmp.Lexicographic.{pointwise, same_text}
+use Rattle.std.proofs.lemmas.Grind.{common_steps}
+use Rattle.std.proofs.lemmas.Bool.{leb-true}
+use Rattle.serde_json.specs.Data.{Members, no_members, object}
+use Rattle.serde_json.proofs.OnLiterals.{serde_json_on_literals}
+use Rattle.ov_graph.specs.Links.{LinkGraph, IsGraph, most_nodes}
+use Rattle.ov_graph.proofs.Tested.{no_fault_found, passed}
+use Rattle.ov_cert.specs.declared.cert.Cert.{Cert}
+use Rattle.ov_cert.specs.declared.cert.Cert.TheVariants as cert
+use Rattle.ov_cert.specs.declared.cert.Split.{Split}
+use Rattle.ov_certfile.specs.Keys.{said}
+use Rattle.ov_certfile.specs.Forms.{moment_in, last_moment}
+use Rattle.ov_certfile.specs.Kinds.{most_nodes_of}
+use Rattle.ov_certfile.specs.Demands.{demands, first_unmet, GraphJudged}
+use Rattle.ov_certfile.specs.Says.{Says}
+use Rattle.ov_certfile.specs.DataOf.{whole_data, version_for, with_group, data_in, data_of}
+use Rattle.ov_certfile.specs.ReadsBack.{ReadsBack}
+use Rattle.ov_certfile.specs.Code.Writing.{with_graph, with_cert, GraphReadsBack, CertReadsBack, GroupReadsBack}
+use Rattle.ov_certfile.specs.declared.version.Version.{Version}
+use Rattle.ov_certfile.specs.declared.version.Version.TheVariants.{One, Two}
+
+-- ---- what is put in is the object
+
+put_in : (version : Version) (c : Cert) (g : LinkGraph) (q : List ℕ) (m : ℕ)
+    → object (with_group version q (with_cert c (with_graph version g m no_members))) ≡ data_in version c g q m
+unfolding data_in
+put_in version (cert.Linked k) g q m = refl
+put_in version (cert.Split c) g q m = refl
+
+pub all_put_in : (version : Version) (c : Cert) (g : LinkGraph) (q : List ℕ) (m : ℕ) (none graph said all : Members)
+    → version ≡ version_for g q → none ≡ no_members → graph ≡ with_graph version g m none → said ≡ with_cert c graph
+    → all ≡ with_group version q said → object all ≡ data_of c g q m
+unfolding data_of
+all_put_in version c g q m none graph said all v n a b e =
+    let As : Version → Type 0 =
+    λ w. object (with_group version q (with_cert c (with_graph version g m no_members))) ≡ data_in w c g q m in
+    rw (e, b, a, n) (subst As v (put_in version c g q m))
+
+-- ---- it says just what was written
+
+-- the nodes are as few as the version asks for
+abbrev IsFew : Version → LinkGraph → Type 0
+IsFew version g = length g.nodes ≤ most_nodes_of version
+
+-- a graph within the limit of all graphs, and of the version, has no fault
+graph_judged : (version : Version) (g : LinkGraph) → IsGraph g → length g.nodes ≤ most_nodes → IsFew version g
+    → GraphJudged version g None
+graph_judged version g graph within few = inl (few, passed g.nodes g.links (no_fault_found g graph within))
+
+one_linked_met : (k m : ℕ) (g : LinkGraph) (q : List ℕ) → GraphReadsBack g → CertReadsBack (cert.Linked k)
+    → moment_in (whole_data m) ≡ Some m → first_unmet (demands (data_in One (cert.Linked k) g q m)) ≡ None
+unfolding demands data_in serde_json_on_literals
+one_linked_met k m g q h c t = rw (c, t, h.nodes, h.links) refl
+
+two_linked_met : (k m : ℕ) (g : LinkGraph) (q : List ℕ) → GraphReadsBack g → CertReadsBack (cert.Linked k)
+    → GroupReadsBack Two q → moment_in (whole_data m) ≡ Some m
+    → first_unmet (demands (data_in Two (cert.Linked k) g q m)) ≡ None
+unfolding demands data_in serde_json_on_literals
+two_linked_met k m g q h c p t = rw (c, t, p, h.nodes, h.links) refl
+
+one_split_met : (c : Split) (m : ℕ) (g : LinkGraph) (q : List ℕ) → GraphReadsBack g → CertReadsBack (cert.Split c)
+    → moment_in (whole_data m) ≡ Some m → first_unmet (demands (data_in One (cert.Split c) g q m)) ≡ None
+unfolding demands data_in serde_json_on_literals
+one_split_met c m g q h b t =
+    rw (b.0, b.1.cut, b.1.near, b.1.far, b.1.side, b.2.pairs, b.2.fans, t, h.nodes, h.links) refl
+
+two_split_met : (c : Split) (m : ℕ) (g : LinkGraph) (q : List ℕ) → GraphReadsBack g → CertReadsBack (cert.Split c)
+    → GroupReadsBack Two q → moment_in (whole_data m) ≡ Some m
+    → first_unmet (demands (data_in Two (cert.Split c) g q m)) ≡ None
+unfolding demands data_in serde_json_on_literals
+two_split_met c m g q h b p t =
+    rw (b.0, b.1.cut, b.1.near, b.1.far, b.1.side, b.2.pairs, b.2.fans, p, t, h.nodes, h.links) refl
+
+-- the group is all nodes in version 1
+abbrev IsGroupOf : Version → LinkGraph → List ℕ → Type 0
+IsGroupOf One g q = q ≡ g.nodes
+IsGroupOf Two g q = Unit {0}
+
+in_version : (version : Version) (c : Cert) (g : LinkGraph) (q : List ℕ) (m : ℕ) → GraphReadsBack g → CertReadsBack c
+    → GroupReadsBack version q → IsGroupOf version g q → IsFew version g → moment_in (whole_data m) ≡ Some m
+    → Says (data_in version c g q m) (record { moment = m; graph = g; group = q; cert = c })
+unfolding data_in serde_json_on_literals
+in_version One (cert.Linked k) g q m h c p all few t = record {
+  met = one_linked_met k m g q h c t;
+  version = One;
+  version_said = refl;
+  graph = record { nodes = h.nodes; links = h.links };
+  judged = graph_judged One g h.is_graph h.within few;
+  moment = t;
+  group = all;
+  cert = record { verdict = refl; count = c };
+}
+in_version Two (cert.Linked k) g q m h c p all few t = record {
+  met = two_linked_met k m g q h c p t;
+  version = Two;
+  version_said = refl;
+  graph = record { nodes = h.nodes; links = h.links };
+  judged = graph_judged Two g h.is_graph h.within few;
+  moment = t;
+  group = p;
+  cert = record { verdict = refl; count = c };
+}
+in_version One (cert.Split c) g q m h b p all few t = record {
+  met = one_split_met c m g q h b t;
+  version = One;
+  version_said = refl;
+  graph = record { nodes = h.nodes; links = h.links };
+  judged = graph_judged One g h.is_graph h.within few;
+  moment = t;
+  group = all;
+  cert = record {
+    verdict = refl;
+    k = b.0;
+    cut = b.1.cut;
+    near = b.1.near;
+    far = b.1.far;
+    side = b.1.side;
+    pairs = b.2.pairs;
+    fans = b.2.fans;
+  };
+}
+in_version Two (cert.Split c) g q m h b p all few t = record {
+  met = two_split_met c m g q h b p t;
+  version = Two;
+  version_said = refl;
+  graph = record { nodes = h.nodes; links = h.links };
+  judged = graph_judged Two g h.is_graph h.within few;
+  moment = t;
+  group = p;
+  cert = record {
+    verdict = refl;
+    k = b.0;
+    cut = b.1.cut;
+    near = b.1.near;
+    far = b.1.far;
+    side = b.1.side;
+    pairs = b.2.pairs;
+    fans = b.2.fans;
+  };
+}
+
+-- what the rule for the version asks for
+few_and_all : (same fits : Bool) (g : LinkGraph) (q : List ℕ) → (same ≡ true → q ≡ g.nodes)
+    → (fits ≡ true → length g.nodes ≤ most_nodes_of One) → length g.nodes ≤ most_nodes
+    → (let version : Version = cond (same && fits) One Two in IsGroupOf version g q × IsFew version g)
+few_and_all true true g q s f n = (s refl, f refl)
+few_and_all true false g q s f n = (tt, n)
+few_and_all false fits g q s f n = (tt, n)
+
+ruled : (g : LinkGraph) (q : List ℕ) → length g.nodes ≤ most_nodes
+    → IsGroupOf (version_for g q) g q × IsFew (version_for g q) g
+unfolding version_for
+ruled g q n =
+    few_and_all (pointwise nat_eq q g.nodes) (nat_le (length g.nodes) (most_nodes_of One)) g q
+    (λ e. same_text q g.nodes (sym e)) (leb-true (length g.nodes) (most_nodes_of One)) n
+
+moment_back : (m : ℕ) → m ≤ last_moment → moment_in (whole_data m) ≡ Some m
+moment_back m h = let e : nat_lt m (last_moment + 1) ≡ true = grind (arith, common_steps) in rw e refl
+
+pub reads_back : (version : Version) (c : Cert) (g : LinkGraph) (q : List ℕ) (m : ℕ) → version ≡ version_for g q
+    → GraphReadsBack g → CertReadsBack c → GroupReadsBack version q → m ≤ last_moment → ReadsBack c g q m
+unfolding data_of
+reads_back version c g q m v h b p t =
+    let r = ruled g q h.within in
+    record {
+      says =
+          in_version (version_for g q) c g q m h b (subst (λ w. GroupReadsBack w q) v p) r.0 r.1 (moment_back m t);
+    }

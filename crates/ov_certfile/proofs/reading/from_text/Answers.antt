@@ -1,0 +1,8 @@
+-- A text says one thing alone.
+use Rattle.serde_json.specs.View.{view}
+use Rattle.ov_certfile.proofs.OneAnswer.{read_text_one}
+use Rattle.ov_certfile.proofs.reading.from_text.Goals as goal
+
+pub returns-in-Ok-clause-only : goal.returns-in-Ok-clause-only
+returns-in-Ok-clause-only c = λ answer told h.
+    read_text_one c.args.text.now (view c.in-Ok.value) answer c.file.result c.in-Ok.ensures.ok (c.file.ensures told) h

@@ -1,0 +1,25 @@
+-- What is printed of a certificate.
+use Rattle.std.specs.Prelude.{ℕ, List, [], ◌++◌, codes, decimal, nat_eq, if◌then◌else◌}
+use Rattle.std.specs.Cmp.Lexicographic.{pointwise}
+use Rattle.ov_ids.specs.Text.{ids_text}
+use Rattle.ov_graph.specs.Links.{LinkGraph}
+use Rattle.ov_cert.specs.declared.cert.Cert.{Cert}
+use Rattle.ov_cert.specs.declared.cert.Cert.TheVariants.{Linked, Split}
+
+-- what it says, without its paths
+unfoldable pub claim_text : Cert → List ℕ
+claim_text (Linked k) = codes "linked k " ++ decimal k
+claim_text (Split c) =
+    codes "split k " ++ (decimal c.k
+    ++ (codes " cut " ++ (ids_text c.cut
+    ++ (codes " near " ++ (decimal c.near
+    ++ (codes " far " ++ (decimal c.far
+    ++ (codes " side " ++ ids_text c.side))))))))
+
+-- the group, where it is not all nodes
+abbrev pub group_text : List ℕ → List ℕ → List ℕ
+group_text nodes group = if pointwise nat_eq group nodes then [] else codes " group " ++ ids_text group
+
+-- what it says of the group of its graph, without its paths
+unfoldable pub cert_text : Cert → LinkGraph → List ℕ → List ℕ
+cert_text c g group = claim_text c ++ group_text g.nodes group

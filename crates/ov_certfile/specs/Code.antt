@@ -1,0 +1,3 @@
+-- What the contracts of private functions say; the definitions do not use it.
+pub mod Reading
+pub mod Writing

@@ -1,0 +1,95 @@
+-- The forms of the values of a file: what a value says in a form, or nothing where it has not this form.
+use Rattle.std.specs.Prelude.{◌^◌, ◌+◌, ℕ, List, [], ◌∷◌, nat_lt, codes, if◌then◌else◌, Option, Some, None}
+use Rattle.std.specs.Prelude.{option_and_then}
+use Rattle.serde_json.specs.Data.{Data, Items, no_items, item}
+use Rattle.serde_json.specs.Find.{as_number, as_u64, as_array}
+use Rattle.ov_cert.specs.declared.cert.PairPaths.{PairPaths}
+use Rattle.ov_cert.specs.declared.cert.FanPaths.{FanPaths}
+use Rattle.ov_certfile.specs.Keys.{has_just, said}
+
+infixl 10 ◌>>=◌
+-- the kit's option_and_then, its parts in the order in which they go
+abbrev pub ◌>>=◌ : {X Y : Type 0} → Option X → (X → Option Y) → Option Y
+x >>= f = option_and_then f x
+
+-- ids and counts are below this
+abbrev pub number_limit : ℕ
+number_limit = 2 ^ 32
+
+-- the greatest moment
+abbrev pub last_moment : ℕ
+last_moment = 65536
+
+-- a whole number that is not negative, written without fraction and exponent
+abbrev pub whole_in : Data → Option ℕ
+whole_in d = as_number d >>= as_u64
+
+-- a whole number below a limit
+abbrev pub whole_below : ℕ → Data → Option ℕ
+whole_below limit d = whole_in d >>= λ n. if nat_lt n limit then Some n else None
+
+-- how many nodes must crash
+abbrev pub count_in : Data → Option ℕ
+count_in d = whole_below number_limit d
+
+-- the number of the journal's entry whose graph it is; 0 is a graph that was given by hand
+abbrev pub moment_in : Data → Option ℕ
+moment_in d = whole_below (last_moment + 1) d
+
+-- an id
+abbrev pub id_in : Data → Option ℕ
+id_in d = whole_below number_limit d
+
+-- each of the items in a form, in order
+abbrev pub each_in : {X : Type 0} → (Data → Option X) → Items → Option (List X)
+each_in form no_items = Some []
+each_in form (item d ds) = form d >>= λ x. each_in form ds >>= λ xs. Some (x ∷ xs)
+
+-- a list, each of its items in a form
+abbrev pub list_in : {X : Type 0} → (Data → Option X) → Data → Option (List X)
+list_in form d = as_array d >>= each_in form
+
+-- a list of ids
+abbrev pub ids_in : Data → Option (List ℕ)
+ids_in d = list_in id_in d
+
+-- the two ids of a list of exactly two
+abbrev pub both_of : List ℕ → Option (ℕ × ℕ)
+both_of [] = None
+both_of (a ∷ []) = None
+both_of (a ∷ b ∷ []) = Some (a, b)
+both_of (a ∷ b ∷ c ∷ rest) = None
+
+-- a link: a list of exactly two ids
+abbrev pub link_in : Data → Option (ℕ × ℕ)
+link_in d = ids_in d >>= both_of
+
+-- the links
+abbrev pub links_in : Data → Option (List (ℕ × ℕ))
+links_in d = list_in link_in d
+
+-- paths: a list of lists of ids
+abbrev pub paths_in : Data → Option (List (List ℕ))
+paths_in d = list_in ids_in d
+
+-- the entry of a pair: an object with its two nodes and its paths, and nothing else
+unfoldable pub pair_in : Data → Option PairPaths
+pair_in d = if has_just (codes "i" ∷ codes "j" ∷ codes "paths" ∷ []) d then (
+    said id_in (codes "i") d >>= λ i.
+    said id_in (codes "j") d >>= λ j.
+    said paths_in (codes "paths") d >>= λ paths.
+    Some (record { i = i; j = j; paths = paths })) else None
+
+-- the entry of a fan: an object with its node and its paths, and nothing else
+unfoldable pub fan_in : Data → Option FanPaths
+fan_in d = if has_just (codes "j" ∷ codes "paths" ∷ []) d then (
+    said id_in (codes "j") d >>= λ j.
+    said paths_in (codes "paths") d >>= λ paths.
+    Some (record { j = j; paths = paths })) else None
+
+-- the entries
+abbrev pub pairs_in : Data → Option (List PairPaths)
+pairs_in d = list_in pair_in d
+
+abbrev pub fans_in : Data → Option (List FanPaths)
+fans_in d = list_in fan_in d

@@ -1,0 +1,57 @@
+use ov_cert::Cert;
+use ov_graph::Graph;
+use ov_ids::{IdsText, NodeId};
+use std::fmt::{Display, Formatter, Result, Write};
+
+/// What a certificate says of a group of a graph, without its paths: `linked k K`, or
+/// `split k K cut C near A far B side S`, and then ` group G` where the group is not all nodes. Ids have commas between
+/// them, and a list without ids is a dash.
+#[derive(Drop)]
+pub struct CertText<'a> {
+    pub cert: &'a Cert,
+    pub graph: &'a Graph,
+    pub group: &'a [NodeId],
+}
+
+impl<'a> Display for CertText<'a> {
+    ghost use Rattle.std.specs.Prelude.{Some};
+    ghost use Rattle.ov_certfile.specs.CertLine.{cert_text};
+
+    ghost output = { λ t. Some (cert_text t.cert.now t.graph.now t.group.now) };
+
+    #[tactic(auto, unfolding(crate::specs::CertLine::cert_text))]
+    fn fmt<W: Write>(&self, f: &mut Formatter<W>) -> Result {
+        let claim = ClaimText(self.cert);
+        if self.group == self.graph.nodes() {
+            return write!(f, "{claim}");
+        }
+        let group = IdsText(self.group);
+        write!(f, "{claim} group {group}")
+    }
+}
+
+/// What a certificate says, without its paths and its group.
+#[derive(Drop)]
+struct ClaimText<'a>(&'a Cert);
+
+impl<'a> Display for ClaimText<'a> {
+    ghost use Rattle.std.specs.Prelude.{Some};
+    ghost use Rattle.ov_certfile.specs.CertLine.{claim_text};
+
+    ghost output = { λ t. Some (claim_text t.0.now) };
+
+    #[tactic(auto, unfolding(crate::specs::CertLine::claim_text))]
+    fn fmt<W: Write>(&self, f: &mut Formatter<W>) -> Result {
+        match self.0 {
+            Cert::Linked { k } => write!(f, "linked k {k}"),
+            Cert::Split(split) => {
+                let k = split.k;
+                let cut = IdsText(split.cut.as_slice());
+                let near = split.near.number();
+                let far = split.far.number();
+                let side = IdsText(split.side.as_slice());
+                write!(f, "split k {k} cut {cut} near {near} far {far} side {side}")
+            }
+        }
+    }
+}

@@ -1,0 +1,35 @@
+ghost use Rattle.std.specs.Prelude.{◌≡◌};
+ghost use Rattle.ov_certfile.specs.Kinds.{version_number, most_nodes_of};
+
+use ov_graph::Graph;
+
+/// The version of a file, by the number of its key `version`.
+#[derive(Clone, Copy, Debug, PartialEq, Eq)]
+pub(crate) enum Version {
+    /// Its group is all nodes, which are at most 256.
+    One,
+    /// It names its group.
+    Two,
+}
+
+impl Version {
+    /// The version's number.
+    pub(crate) fn number(self) -> u32
+        ensures { result ≡ version_number self }
+    {
+        match self {
+            Version::One => 1,
+            Version::Two => 2,
+        }
+    }
+
+    /// As many nodes as a file of this version may have.
+    pub(crate) fn most_nodes(self) -> usize
+        ensures { result ≡ most_nodes_of self }
+    {
+        match self {
+            Version::One => 256,
+            Version::Two => Graph::MOST_NODES,
+        }
+    }
+}

@@ -1,0 +1,69 @@
+-- A run of a judge that came to the line of its outcome.
+use Rattle.std.proofs.Common.{◌≡◌, ◌≢◌, ◌+◌, ◌∙◌, ℕ, List, Option, IfSome, IfOk, Result, Ok, Err, refl, sym}
+use Rattle.std.specs.Io.KnownBytes.{Appends}
+use Rattle.ov_certfile.specs.Device.{AppendsFrontOf}
+use Rattle.ov_certfile.specs.declared.input.Source.{Source}
+use Rattle.ov_certfile.specs.declared.output.Sink.{Sink}
+use Rattle.ov_check.specs.declared.outcome.Outcome.{Outcome}
+use Rattle.ov_check.specs.declared.fault.JudgeFault.{JudgeFault}
+use Rattle.ov_check.specs.declared.fault.JudgeFault.TheVariants.{Read, Write, OutOfMemory}
+use Rattle.ov_check.specs.Device.{write_failures}
+use Rattle.ov_check.specs.Line.{printed_of}
+use Rattle.ov_check.specs.Outcome.{IsOutcome, IsExact, status_of}
+use Rattle.ov_check.specs.Run.{Judgement, IsRun}
+
+-- the bytes that were read come to the outcome, which is exact
+pub record IsRead (reader : Option (List ℕ)) (bytes : List ℕ) (o : Outcome) : Type 0 where
+  pub all : IfSome reader (λ xs. bytes ≡ xs)
+  pub comes_to : IsOutcome bytes o
+  pub exact : status_of o ≡ 0 → IsExact bytes
+
+-- what a call that writes the line of an outcome answers, and does to the sink
+pub record IsWritten {W : Type 0} (contents : W → Option (List ℕ)) (o : Outcome) (sink sink' : Sink W)
+    (result : Result ℕ JudgeFault) : Type 0 where
+  pub line : IfOk result (λ status. Appends (contents sink.writer) (contents sink'.writer) (printed_of o))
+  pub status : IfOk result (λ status. status ≡ status_of o)
+  pub prefix : result ≡ Err Write → AppendsFrontOf (printed_of o) (contents sink.writer) (contents sink'.writer)
+  pub faults : sink'.faults ≡ sink.faults + write_failures result
+  pub unread : result ≢ Err Read
+  pub no_memory : result ≡ Err OutOfMemory → sink' ≡ sink
+
+module _ {R W : Type 0} (remaining : R → Option (List ℕ)) (contents : W → Option (List ℕ))
+    (source source' : Source R) (sink sink' : Sink W) (bytes : List ℕ) (o : Outcome)
+    (is : IsRead (remaining source.reader) bytes o) (faults : source'.faults ≡ source.faults + 0) where
+  abbrev the_judgement : Judgement (remaining source.reader)
+  the_judgement = record { bytes = bytes; read = is.all; outcome = o; comes_to = is.comes_to }
+
+  -- the line was written, or as much as the writer took
+  pub written : (result : Result ℕ JudgeFault) → IsWritten contents o sink sink' result
+      → IsRun remaining contents source sink source' sink' result
+  written (Ok status) w = record {
+    prints = record {
+      judgement = the_judgement;
+      line = w.line;
+      answer = w.status;
+      exact = λ e. is.exact (sym w.status ∙ e);
+    };
+    prefix = λ e. absurd cc;
+    reads = faults;
+    writes = w.faults;
+    unread = λ e. absurd cc;
+    no_memory = λ e. absurd cc;
+  }
+  written (Err Write) w = record {
+    prints = tt;
+    prefix = λ e. record { judgement = the_judgement; prefix = w.prefix refl };
+    reads = faults;
+    writes = w.faults;
+    unread = λ e. absurd cc;
+    no_memory = λ e. absurd cc;
+  }
+  written (Err Read) w = absurd (w.unread refl)
+  written (Err OutOfMemory) w = record {
+    prints = tt;
+    prefix = λ e. absurd cc;
+    reads = faults;
+    writes = w.faults;
+    unread = λ e. absurd cc;
+    no_memory = w.no_memory;
+  }

@@ -1,0 +1,148 @@
+ghost use Rattle.std.specs.Prelude.{◌≡◌, ◌≢◌, ◌↔◌, ◌^◌, ◌<◌, ◌≤◌, Err, length, slice_get, IsTrue, IsOk, IfOk, OnOk};
+ghost use Rattle.std.specs.Prelude.{MatchOption};
+ghost use Rattle.ov_graph.specs.Joined.{Fewest, FewestForGroup};
+ghost use Rattle.ov_graph.specs.Even.{later_members};
+ghost use Rattle.ov_cert.specs.declared.cert.Cert.TheVariants.{Split as SplitBy};
+ghost use Rattle.ov_cert.specs.Valid.{IsValid, IsValidForGroup, k_of};
+ghost use Rattle.ov_cert.specs.Verdict.{AllHold, IsFirstAtFault, PassesFrame, Judged, JudgedForGroup};
+ghost use Rattle.ov_cert.specs.Entries.{AreExpected, IsExpected, HoldsEntry};
+ghost use Rattle.ov_check.specs.Parallel.{SaysVerdict, Misses};
+
+use crate::parallel_fault::ParallelFault;
+use ov_cert::{
+    Cert, CheckFault, Expected, Split, check_group_frame, expected_group, judge_group_entry,
+};
+use ov_graph::Graph;
+use ov_ids::{NodeId, OutOfMemory};
+use rayon::prelude::*;
+use std::thread::Threads;
+
+/// The fewest entries of a thread. Fewer than twice as many are judged in one thread: few entries are cheap ones, and a
+/// thread takes longer to start.
+const LEAST_SHARE: usize = 32;
+
+/// Judges a certificate for the group of all nodes by many threads: as `check_group_parallel`, which says more.
+pub fn check_parallel(
+    rt: &(impl AllocGlobal + Threads + Sync),
+    graph: &Graph,
+    cert: &Cert,
+) -> Result<(), ParallelFault>
+    ensures verdict { SaysVerdict (Judged graph.now cert.now) result }
+    ensures valid { IsOk result → IsValid graph.now cert.now }
+    ensures exactly { result ≢ Err ParallelFault.OutOfMemory → (IsOk result ↔ IsValid graph.now cert.now) }
+    ensures fewest { OnOk result (Fewest graph.now (k_of cert.now)) }
+{
+    check_group_parallel(rt, graph, graph.nodes(), cert)
+}
+
+/// Judges a certificate for a group, its entries by as many threads as `rayon` takes. It answers what `check_group`
+/// answers, the first fault included, or that it is out of memory.
+pub fn check_group_parallel(
+    rt: &(impl AllocGlobal + Threads + Sync),
+    graph: &Graph,
+    group: &[NodeId],
+    cert: &Cert,
+) -> Result<(), ParallelFault>
+    ensures verdict { SaysVerdict (JudgedForGroup graph.now group.now cert.now) result }
+    ensures valid { IsOk result → IsValidForGroup graph.now group.now cert.now }
+    ensures exactly { result ≢ Err ParallelFault.OutOfMemory
+        → (IsOk result ↔ IsValidForGroup graph.now group.now cert.now) }
+    ensures fewest { OnOk result (FewestForGroup graph.now group.now (k_of cert.now)) }
+{
+    prove!(graph.nodes().len() <= Graph::MOST_NODES);
+    match verdict(rt, graph, group, cert)? {
+        Some(fault) => Err(ParallelFault::Check(fault)),
+        None => Ok(()),
+    }
+}
+
+/// The first fault of a certificate, or none where it is valid.
+fn verdict(
+    rt: &(impl AllocGlobal + Threads + Sync),
+    graph: &Graph,
+    group: &[NodeId],
+    cert: &Cert,
+) -> Result<Option<CheckFault>, OutOfMemory>
+    ensures { IfOk result (λ fault. JudgedForGroup graph.now group.now cert.now fault) }
+{
+    if let Err(fault) = check_group_frame(graph, group, cert) {
+        return Ok(Some(fault));
+    }
+    match cert {
+        Cert::Linked { .. } => Ok(None),
+        Cert::Split(split) => verdict_on_entries(rt, graph, group, split),
+    }
+}
+
+/// The first fault of a certificate whose frame passes, or none where it is valid.
+fn verdict_on_entries(
+    rt: &(impl AllocGlobal + Threads + Sync),
+    graph: &Graph,
+    group: &[NodeId],
+    split: &Split,
+) -> Result<Option<CheckFault>, OutOfMemory>
+    requires { PassesFrame graph.now group.now (SplitBy split.now) }
+    ensures { IfOk result (λ fault. JudgedForGroup graph.now group.now (SplitBy split.now) fault) }
+{
+    let entries = expected_group(rt.alloc(), graph, group, split)?;
+    let count = entries.len();
+    if let Some(entry) = first_missing(rt, graph, group, split, &entries) {
+        return Ok(Some(entry.fault()));
+    }
+    let fans = count_fans(group, split.k as usize);
+    if !has_no_more(split, count - fans, fans) {
+        return Ok(Some(CheckFault::Extra));
+    }
+    Ok(None)
+}
+
+/// The first of the expected entries that the certificate has not, if there is one. Those behind it are judged too.
+fn first_missing(
+    rt: &(impl Threads + Sync),
+    graph: &Graph,
+    group: &[NodeId],
+    split: &Split,
+    entries: &[Expected],
+) -> Option<Expected>
+    requires frame { PassesFrame graph.now group.now (SplitBy split.now) }
+    requires expected { AreExpected graph.now group.now split.now.k entries.now }
+    requires few { length entries.now < 2 ^ 63 }
+    ensures { MatchOption result
+        (AllHold (λ _ entry. HoldsEntry graph.now group.now split.now entry) entries.now)
+        (IsFirstAtFault (λ _ entry. HoldsEntry graph.now group.now split.now entry) entries.now) }
+{
+    let place = entries.par_iter().with_min_len(LEAST_SHARE).position_first(
+        rt,
+        |wanted: &Expected| -> bool
+            requires frame { PassesFrame graph.now group.now (SplitBy split.now) }
+            requires expected { IsExpected graph.now group.now split.now.k wanted.now }
+            ensures { Misses (HoldsEntry graph.entry.now group.entry.now split.entry.now) wanted.now result }
+        { judge_group_entry(graph, group, split, *wanted).is_err() },
+    )?;
+    entry_at(entries, place)
+}
+
+/// The entry at a place, counted from 0, if there is one.
+fn entry_at(entries: &[Expected], place: usize) -> Option<Expected>
+    ensures { result ≡ slice_get entries.now place }
+{
+    entries.get(place).copied()
+}
+
+/// How many fans are expected at k.
+fn count_fans(group: &[NodeId], k: usize) -> usize
+    ensures { result ≡ length (later_members group.now k) }
+{
+    if k == 0 {
+        0
+    } else {
+        group.len().saturating_sub(k)
+    }
+}
+
+/// Whether there are no more entries than so many pairs and fans.
+fn has_no_more(split: &Split, pairs: usize, fans: usize) -> bool
+    ensures { IsTrue result ↔ ((length split.now.pairs ≤ pairs) × (length split.now.fans ≤ fans)) }
+{
+    split.pairs.as_slice().len() <= pairs && split.fans.as_slice().len() <= fans
+}

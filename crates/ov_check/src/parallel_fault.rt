@@ -1,0 +1,37 @@
+ghost use Rattle.std.specs.Prelude.{◌≡◌};
+ghost use Rattle.ov_check.specs.Parallel.{number_of};
+ghost use Rattle.ov_check.specs.declared.parallel_fault.ParallelFault.TheVariants.{OutOfMemory as Wanted};
+
+use ov_cert::CheckFault;
+use ov_ids::OutOfMemory;
+use thiserror::Error;
+
+/// Why a certificate was not found valid.
+#[derive(Clone, Copy, Debug, PartialEq, Eq, Error)]
+pub enum ParallelFault {
+    /// The certificate's first fault.
+    #[error("{0}")]
+    Check(CheckFault),
+    #[error("out of memory")]
+    OutOfMemory,
+}
+
+impl ParallelFault {
+    /// The fault's number; a fault of the certificate keeps its own.
+    pub fn number(&self) -> u32
+        ensures { result ≡ number_of self.now }
+    {
+        match self {
+            ParallelFault::Check(fault) => fault.number(),
+            ParallelFault::OutOfMemory => 99,
+        }
+    }
+}
+
+impl From<OutOfMemory> for ParallelFault {
+    ghost from_gives = { λ _ e. e ≡ Wanted };
+
+    fn from(_fault: OutOfMemory) -> ParallelFault {
+        ParallelFault::OutOfMemory
+    }
+}

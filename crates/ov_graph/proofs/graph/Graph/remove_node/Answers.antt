@@ -1,0 +1,5 @@
+use Rattle.ov_graph.proofs.Read.{is_graph}
+use Rattle.ov_graph.proofs.graph.Graph.remove_node.Goals as goal
+
+pub returns-clause-graph : goal.returns-clause-graph
+returns-clause-graph c = is_graph _ _ c.take_out.ensures.kept

@@ -1,6 +1,0 @@
-use Rattle.std.proofs.Common.{◌∙◌}
-use Rattle.ov_graph.proofs.Halving.{found_test}
-use Rattle.ov_graph.proofs.places.is_node.Goals as goal
-
-pub returns : goal.returns
-returns c = c.is_some.ensures ∙ found_test c.args.nodes.now c.args.a c.place_of.result c.place_of.ensures.some c.place_of.ensures.none

@@ -1,0 +1,115 @@
+//! Changes of a graph as it is kept.
+ghost use Rattle.std.specs.Prelude.{◌≡◌, ◌≢◌, ◌↔◌, ℕ, ◌+◌, ◌*◌, ◌<◌, ◌≤◌, length, vec_len, vec_capacity, OnOk, OnErr};
+ghost use Rattle.std.specs.List.{insert};
+ghost use Rattle.ov_ids.specs.Members.{Has};
+ghost use Rattle.ov_graph.specs.Links.{LinkGraph, most_nodes};
+ghost use Rattle.ov_graph.specs.Changes.{GainsNode, LosesNode, GainsLink, LosesLink};
+ghost use Rattle.ov_graph.specs.Row.{HasBit, HasOpened, HasClosed};
+ghost use Rattle.ov_graph.specs.Code.Kept.{row_at, graph_kept, IsKept};
+ghost use Rattle.ov_graph.specs.declared.row.TheConstants.{EMPTY};
+
+use crate::marking::{mark, unmark};
+use crate::places::{place_for, place_in};
+use crate::row::{EMPTY, Row, WORDS, words_for};
+use crate::row_shift::{closed, opened};
+use ov_ids::{NodeId, OutOfMemory};
+
+/// Takes a node in, with no links. Out of memory changes nothing.
+pub(crate) fn put_in(
+    nodes: &mut Vec<NodeId>,
+    rows: &mut Vec<Row>,
+    id: NodeId,
+) -> Result<(), OutOfMemory>
+    requires kept { IsKept nodes.old.items rows.old.items }
+    requires stranger { ¬ Has nodes.old.items id }
+    requires few { length nodes.old.items < most_nodes }
+    ensures kept { OnOk result (IsKept nodes.new.items rows.new.items) }
+    ensures gains { OnOk result
+        (GainsNode (graph_kept nodes.old.items rows.old.items) id (graph_kept nodes.new.items rows.new.items)) }
+    ensures err { OnErr result ((nodes.new.items ≡ nodes.old.items) × (rows.new.items ≡ rows.old.items)) }
+{
+    rows.reserve(1)?;
+    let p = place_for(nodes, id);
+    nodes.insert(p, id)?;
+    insert_empty(rows, p);
+    open_all(rows, p, words_for(nodes.len()));
+    Ok(())
+}
+
+/// Takes a node out, with its links.
+pub(crate) fn take_out(nodes: &mut Vec<NodeId>, rows: &mut Vec<Row>, id: NodeId)
+    requires kept { IsKept nodes.old.items rows.old.items }
+    requires node { Has nodes.old.items id }
+    ensures kept { IsKept nodes.new.items rows.new.items }
+    ensures loses { LosesNode (graph_kept nodes.old.items rows.old.items) id
+        (graph_kept nodes.new.items rows.new.items) }
+{
+    let words = words_for(nodes.len());
+    let p = place_in(nodes, id);
+    nodes.remove(p);
+    rows.remove(p);
+    close_all(rows, p, words);
+}
+
+/// Links two nodes.
+pub(crate) fn join(nodes: &[NodeId], rows: &mut [Row], a: NodeId, b: NodeId)
+    requires kept { IsKept nodes.now rows.old }
+    requires a { Has nodes.now a }
+    requires b { Has nodes.now b }
+    requires apart { a ≢ b }
+    ensures kept { IsKept nodes.now rows.new }
+    ensures gains { GainsLink (graph_kept nodes.now rows.old) a b (graph_kept nodes.now rows.new) }
+{
+    let p = place_in(nodes, a);
+    let q = place_in(nodes, b);
+    mark(rows, p, q);
+    mark(rows, q, p);
+}
+
+/// Takes the link between two nodes away.
+pub(crate) fn part(nodes: &[NodeId], rows: &mut [Row], a: NodeId, b: NodeId)
+    requires kept { IsKept nodes.now rows.old }
+    requires a { Has nodes.now a }
+    requires b { Has nodes.now b }
+    ensures kept { IsKept nodes.now rows.new }
+    ensures loses { LosesLink (graph_kept nodes.now rows.old) a b (graph_kept nodes.now rows.new) }
+{
+    let p = place_in(nodes, a);
+    let q = place_in(nodes, b);
+    unmark(rows, p, q);
+    unmark(rows, q, p);
+}
+
+/// An empty row more, where there is room for it.
+fn insert_empty(rows: &mut Vec<Row>, p: usize)
+    requires place { p ≤ length rows.old.items }
+    requires room { vec_len rows.old < vec_capacity rows.old }
+    ensures { rows.new.items ≡ insert rows.old.items p EMPTY }
+{
+    match rows.insert(p, EMPTY) {
+        Ok(()) => {}
+        Err(_) => unreachable!(),
+    }
+}
+
+/// Puts a bit into each row at place `p`, which is not set.
+fn open_all(rows: &mut [Row], p: usize, words: usize)
+    requires { words ≤ WORDS }
+    ensures each { length rows.new ≡ length rows.old }
+    ensures bits { (r q : ℕ) → HasBit (row_at rows.new r) q ↔ ((q < 64 * words) × HasOpened (row_at rows.old r) p q) }
+{
+    for place in 0..rows.len() {
+        rows[place] = opened(&rows[place], p, words);
+    }
+}
+
+/// Takes the bit at place `p` out of each row.
+fn close_all(rows: &mut [Row], p: usize, words: usize)
+    requires { words ≤ WORDS }
+    ensures each { length rows.new ≡ length rows.old }
+    ensures bits { (r q : ℕ) → HasBit (row_at rows.new r) q ↔ ((q < 64 * words) × HasClosed (row_at rows.old r) p q) }
+{
+    for place in 0..rows.len() {
+        rows[place] = closed(&rows[place], p, words);
+    }
+}
