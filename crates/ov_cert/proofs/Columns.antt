@@ -60,13 +60,16 @@ before_sound : (g : LinkGraph) (earlier : List ℕ) (j : ℕ) (p : ℕ × ℕ) �
 before_sound g [] j p h = absurd h
 before_sound g (i ∷ earlier) j p h =
     elim (are_joined g.links i j) as (λ b. are_joined g.links i j ≡ b
-        → Has (cond b (unlinked_before g earlier j) ((i, j) ∷ unlinked_before g earlier j)) p
-        → IsUnlinkedBefore g (i ∷ earlier) j p) [
+    → Has (cond b (unlinked_before g earlier j) ((i, j) ∷ unlinked_before g earlier j)) p
+    → IsUnlinkedBefore g (i ∷ earlier) j p) [
       | true ↦ λ t k. let r = before_sound g earlier j p k in (inr r.0, r.1, r.2)
       | false ↦ λ t k. elim k [
-        | inl e ↦ subst (IsUnlinkedBefore g (i ∷ earlier) j) e
-            (inl refl, refl, λ l. both_ways (are_joined g.links i j) t
-            ((joined_tested g i j (are_joined g.links i j) refl).1 l))
+        | inl e ↦ subst (IsUnlinkedBefore g (i ∷ earlier) j) e (
+          inl refl,
+          refl,
+          λ l. both_ways (are_joined g.links i j) t
+              ((joined_tested g i j (are_joined g.links i j) refl).1 l),
+        )
         | inr m ↦ let r = before_sound g earlier j p m in (inr r.0, r.1, r.2)
       ]
     ] refl h
@@ -76,7 +79,7 @@ before_complete : (g : LinkGraph) (earlier : List ℕ) (i j : ℕ) → Has earli
 before_complete g [] i j h n = absurd h
 before_complete g (x ∷ earlier) i j h n =
     elim (are_joined g.links x j) as (λ b. are_joined g.links x j ≡ b
-        → Has (cond b (unlinked_before g earlier j) ((x, j) ∷ unlinked_before g earlier j)) (i, j)) [
+    → Has (cond b (unlinked_before g earlier j) ((x, j) ∷ unlinked_before g earlier j)) (i, j)) [
       | true ↦ λ t. elim h [
         | inl e ↦ absurd (n (subst (λ (z : ℕ). Linked g z j) e ((joined_tested g x j true (sym t)).0 refl)))
         | inr m ↦ before_complete g earlier i j m n
@@ -95,8 +98,8 @@ before_ordered g (i ∷ earlier) j up =
     let below = all_from_members (PairPrecedes (i, j)) (unlinked_before g earlier j)
     (λ p h. let r = before_sound g earlier j p h in inr (sym r.1, all_member (λ z. i < z) earlier p.0 up.0 r.0)) in
     elim (are_joined g.links i j) as (λ b. Ordered PairPrecedes
-        (cond b (unlinked_before g earlier j) ((i, j) ∷ unlinked_before g earlier j)))
-        [ true ↦ rest | false ↦ (below, rest) ]
+    (cond b (unlinked_before g earlier j) ((i, j) ∷ unlinked_before g earlier j)))
+    [ true ↦ rest | false ↦ (below, rest) ]
 
 pub unlinked_before_append : (g : LinkGraph) (xs ys : List ℕ) (j : ℕ)
     → unlinked_before g (xs ++ ys) j ≡ unlinked_before g xs j ++ unlinked_before g ys j
@@ -104,8 +107,8 @@ unlinked_before_append g [] ys j = refl
 unlinked_before_append g (x ∷ xs) ys j =
     let e = unlinked_before_append g xs ys j in
     elim (are_joined g.links x j) as (λ b. cond b (unlinked_before g (xs ++ ys) j)
-        ((x, j) ∷ unlinked_before g (xs ++ ys) j) ≡ cond b (unlinked_before g xs j) ((x, j) ∷ unlinked_before g xs j) ++
-        unlinked_before g ys j) [
+    ((x, j) ∷ unlinked_before g (xs ++ ys) j) ≡ cond b (unlinked_before g xs j) ((x, j) ∷ unlinked_before g xs j) ++
+    unlinked_before g ys j) [
       | true ↦ e
       | false ↦ ap (λ ps. (x, j) ∷ ps) e
     ]
@@ -120,9 +123,9 @@ pub expected_append : (g : LinkGraph) (earlier xs ys : List ℕ)
 expected_append g earlier [] ys = ap (λ l. pairs_after g l ys) (sym (append-nil earlier))
 expected_append g earlier (j ∷ xs) ys =
     ap (λ l. unlinked_before g earlier j ++ l) (expected_append g (earlier ++ j ∷ []) xs ys
-        ∙ ap (λ l. pairs_after g (earlier ++ j ∷ []) xs ++ pairs_after g l ys) (append_assoc earlier (j ∷ []) xs))
+    ∙ ap (λ l. pairs_after g (earlier ++ j ∷ []) xs ++ pairs_after g l ys) (append_assoc earlier (j ∷ []) xs))
     ∙ sym (append_assoc (unlinked_before g earlier j) (pairs_after g (earlier ++ j ∷ []) xs)
-        (pairs_after g (earlier ++ j ∷ xs) ys))
+    (pairs_after g (earlier ++ j ∷ xs) ys))
 
 -- the same at a place of the list
 pub pairs_after_at : (g : LinkGraph) (xs : List ℕ) (i d : ℕ) → i < length xs
@@ -131,7 +134,7 @@ pub pairs_after_at : (g : LinkGraph) (xs : List ℕ) (i d : ℕ) → i < length 
 pairs_after_at g xs i d l =
     at_drop_more (pairs_after g (take i xs)) xs i d l
     ∙ ap (λ before. unlinked_before g (take i xs) (get_or xs i d) ++ pairs_after g before (drop (i + 1) xs))
-        (sym (take_more xs i d l))
+    (sym (take_more xs i d l))
 
 -- the nodes before and the nodes from j on ascend: the same with j among those before
 moved : (earlier : List ℕ) (j : ℕ) (rest : List ℕ) → Ascends (earlier ++ j ∷ rest)
@@ -143,14 +146,14 @@ after_sound : (g : LinkGraph) (earlier rest : List ℕ) (p : ℕ × ℕ) → Asc
 after_sound g earlier [] p up h = absurd h
 after_sound g earlier (j ∷ rest) p up h = elim (has_append_cases (unlinked_before g earlier j)
     (pairs_after g (earlier ++ j ∷ []) rest) p h) [
-  | inl k ↦
-      let r = before_sound g earlier j p k in
-      let l : p.0 < j = ordered_across (λ x y. x < y) earlier (j ∷ rest) p.0 j up r.0 (inl refl) in
-      (has_append_left earlier (j ∷ rest) p.0 r.0, inl (sym r.1), subst (λ (z : ℕ). p.0 < z) (sym r.1) l, r.2)
-  | inr k ↦
-      let r = after_sound g (earlier ++ j ∷ []) rest p (moved earlier j rest up) k in
-      (subst (λ (l : List ℕ). Has l p.0) (append_assoc earlier (j ∷ []) rest) r.0, inr r.1, r.2, r.3)
-]
+      | inl k ↦
+          let r = before_sound g earlier j p k in
+          let l : p.0 < j = ordered_across (λ x y. x < y) earlier (j ∷ rest) p.0 j up r.0 (inl refl) in
+          (has_append_left earlier (j ∷ rest) p.0 r.0, inl (sym r.1), subst (λ (z : ℕ). p.0 < z) (sym r.1) l, r.2)
+      | inr k ↦
+          let r = after_sound g (earlier ++ j ∷ []) rest p (moved earlier j rest up) k in
+          (subst (λ (l : List ℕ). Has l p.0) (append_assoc earlier (j ∷ []) rest) r.0, inr r.1, r.2, r.3)
+    ]
 
 after_complete : (g : LinkGraph) (earlier rest : List ℕ) (i j : ℕ) → Ascends (earlier ++ rest) → Has (earlier ++ rest) i
     → Has rest j → i < j → ¬ Linked g i j → Has (pairs_after g earlier rest) (i, j)
@@ -158,16 +161,16 @@ after_complete g earlier [] i j up h k l n = absurd k
 after_complete g earlier (x ∷ rest) i j up h k l n = elim k [
   | inl e ↦ has_append_left (unlinked_before g earlier x) (pairs_after g (earlier ++ x ∷ []) rest) (i, j)
       (elim (has_append_cases earlier (x ∷ rest) i h) [
-    | inl m ↦ subst (λ (z : ℕ). Has (unlinked_before g earlier z) (i, j)) (sym e) (before_complete g earlier i j m n)
-    | inr m ↦ absurd (elim m [
-      | inl f ↦ omega (arith, e, f, l)
-      | inr q ↦ let o : x < i = ordered_across (λ y z. y < z) (x ∷ []) rest x i
-          (ordered_right (λ y z. y < z) earlier (x ∷ rest) up) (inl refl) q in omega (arith, e, o, l)
-    ])
-  ])
+        | inl m ↦ subst (λ (z : ℕ). Has (unlinked_before g earlier z) (i, j)) (sym e) (before_complete g earlier i j m n)
+        | inr m ↦ absurd (elim m [
+          | inl f ↦ omega (arith, e, f, l)
+          | inr q ↦ let o : x < i = ordered_across (λ y z. y < z) (x ∷ []) rest x i
+              (ordered_right (λ y z. y < z) earlier (x ∷ rest) up) (inl refl) q in omega (arith, e, o, l)
+        ])
+      ])
   | inr m ↦ has_append_right (unlinked_before g earlier x) (pairs_after g (earlier ++ x ∷ []) rest) (i, j)
       (after_complete g (earlier ++ x ∷ []) rest i j (moved earlier x rest up)
-          (subst (λ (s : List ℕ). Has s i) (sym (append_assoc earlier (x ∷ []) rest)) h) m l n)
+      (subst (λ (s : List ℕ). Has s i) (sym (append_assoc earlier (x ∷ []) rest)) h) m l n)
 ]
 
 after_ordered : (g : LinkGraph) (earlier rest : List ℕ) → Ascends (earlier ++ rest)
@@ -176,13 +179,13 @@ after_ordered g earlier [] up = tt
 after_ordered g earlier (j ∷ rest) up =
     let up' = moved earlier j rest up in
     ordered_append PairPrecedes (unlinked_before g earlier j) (pairs_after g (earlier ++ j ∷ []) rest)
-        (before_ordered g earlier j (ordered_left (λ x y. x < y) earlier (j ∷ rest) up))
-        (after_ordered g (earlier ++ j ∷ []) rest up')
+    (before_ordered g earlier j (ordered_left (λ x y. x < y) earlier (j ∷ rest) up))
+    (after_ordered g (earlier ++ j ∷ []) rest up')
     (λ p q h k.
     let r = before_sound g earlier j p h in
     let s = after_sound g (earlier ++ j ∷ []) rest q up' k in
     let l : j < q.1 = ordered_across (λ x y. x < y) (earlier ++ j ∷ []) rest j q.1 up'
-        (has_append_right earlier (j ∷ []) j (inl refl)) s.1 in
+    (has_append_right earlier (j ∷ []) j (inl refl)) s.1 in
     inl (subst (λ (z : ℕ). z < q.1) (sym r.1) l))
 
 pub expected : (g : LinkGraph) (q : List ℕ) (k : ℕ) → Ascends q → AreUnlinkedPairs g q k (expected_pairs g q k)
@@ -198,15 +201,18 @@ expected g q k ascends =
 precedes_once : (p q : ℕ × ℕ) → PairPrecedes p q → PairPrecedes q p → ⊥
 precedes_once p q a b = elim a [
   | inl l ↦ elim b [ inl m ↦ omega (arith, l, m) | inr m ↦ let e = m.0 in omega (arith, l, e) ]
-  | inr l ↦ let e = l.0 in let f = l.1 in elim b [ inl m ↦ omega (arith, e, m) | inr m ↦ let o = m.1 in omega
-      (arith, f, o) ]
+  | inr l ↦ let e = l.0 in let f = l.1 in elim b [
+    | inl m ↦ omega (arith, e, m)
+    | inr m ↦ let o = m.1 in omega
+        (arith, f, o)
+  ]
 ]
 
 pub unlinked_pairs_one : (g : LinkGraph) (q : List ℕ) (k : ℕ) (ps qs : List (ℕ × ℕ)) → AreUnlinkedPairs g q k ps
     → AreUnlinkedPairs g q k qs → ps ≡ qs
 unlinked_pairs_one g q k ps qs a b =
     same_ordered PairPrecedes precedes_once ps qs a.order b.order (λ p h. (b.each p).1 ((a.each p).0 h))
-        (λ p h. (a.each p).1 ((b.each p).0 h))
+    (λ p h. (a.each p).1 ((b.each p).0 h))
 
 pub pairs_fault_append : (g : LinkGraph) (k : ℕ) (entries : List PairPaths) (place : ℕ) (xs ys : List (ℕ × ℕ))
     → pairs_fault g k entries place (xs ++ ys) ≡ first (pairs_fault g k entries place xs)

@@ -41,7 +41,7 @@ matched {X = X} name Good Is none good (e ∷ es) (x ∷ xs) each few =
 at_place : {X E : Type 0} (name : E → X) (Good : E → Type 0) (Is : X → Option E → Type 0)
     → ((e : E) → Good e → Is (name e) (Some e))
     → (entries : List E) → AllByRecursion Good entries → (p : ℕ) (x : X) → slice_get (map name entries) p ≡ Some x
-        → Is x (slice_get entries p)
+    → Is x (slice_get entries p)
 at_place name Good Is good [] all p x h = absurd cc
 at_place name Good Is good (e ∷ es) all zero x h =
     let s : Some (name e) ≡ Some x = h in
@@ -76,9 +76,9 @@ pub valid_split : (g : LinkGraph) (q : List ℕ) (c : Split) (pairs : List (ℕ 
     → EntriesSay g q c pairs None → IsValidForGroup g q (SplitBy c)
 valid_split g q c pairs frame are h =
     let ps = matched pair_name (λ e. ArePaths g e.i e.j c.k e.paths) (IsPairEntry g c.k) (λ p n. n) (good_pair g c.k)
-        c.pairs pairs h.0 h.2.0 in
+    c.pairs pairs h.0 h.2.0 in
     let fs = matched fan_name (λ e. IsFan g e.j (members_below q e.j) c.k e.paths) (IsFanEntry g q c.k) (λ j n. n)
-        (good_fan g q c.k) c.fans (later_members q c.k) h.1 h.2.1 in (
+    (good_fan g q c.k) c.fans (later_members q c.k) h.1 h.2.1 in (
       frame.1,
       record {
         count = frame.2;
@@ -88,8 +88,11 @@ valid_split g q c pairs frame are h =
           names = subst (AreUnlinkedPairs g q c.k) (sym ps.0) are;
           paths = λ e m. all_member (λ e. ArePaths g e.i e.j c.k e.paths) c.pairs e ps.1 m;
         };
-        fans = record { names = fs.0; fans = λ e m. all_member (λ e. IsFan g e.j (members_below q e.j) c.k e.paths)
-            c.fans e fs.1 m };
+        fans = record {
+          names = fs.0;
+          fans = λ e m. all_member (λ e. IsFan g e.j (members_below q e.j) c.k e.paths)
+              c.fans e fs.1 m;
+        };
       },
     )
 
@@ -115,13 +118,13 @@ valid_entries g q c v =
     let w = v.1 in
     let pairs = expected_pairs g q c.k in
     let same : map pair_name c.pairs ≡ pairs = unlinked_pairs_one g q c.k (map pair_name c.pairs) pairs w.pairs.names
-        (expected g q c.k v.0.ascends) in (
+    (expected g q c.k v.0.ascends) in (
       subst (λ (ps : List (ℕ × ℕ)). (p : ℕ) (x : ℕ × ℕ) → slice_get ps p ≡ Some x → HoldsPair g c p x) same
           (at_place pair_name (λ e. ArePaths g e.i e.j c.k e.paths) (IsPairEntry g c.k) (λ e h. (refl, refl, h)) c.pairs
           (all_from_members (λ e. ArePaths g e.i e.j c.k e.paths) c.pairs w.pairs.paths)),
       subst (λ (js : List ℕ). (p x : ℕ) → slice_get js p ≡ Some x → HoldsFan g q c p x) w.fans.names
           (at_place fan_name (λ e. IsFan g e.j (members_below q e.j) c.k e.paths) (IsFanEntry g q c.k)
-              (λ e h. (refl, h)) c.fans
+          (λ e h. (refl, h)) c.fans
           (all_from_members (λ e. IsFan g e.j (members_below q e.j) c.k e.paths) c.fans w.fans.fans)),
       (
         (let n = length_names pair_name c.pairs in let m = ap length same in omega (arith, n, m)),
@@ -144,7 +147,7 @@ computed g q (AllLinked k) graph (Some fault) h = first_some _ _ fault
     (frame_found g q (AllLinked k) graph (Some fault) h)
 computed g q (SplitBy c) graph None v =
     first_none _ _ (frame_found g q (SplitBy c) graph None (valid_frame g q (SplitBy c) v))
-        ∙ entries_found g q v.0 c None (valid_entries g q c v)
+    ∙ entries_found g q v.0 c None (valid_entries g q c v)
 computed g q (SplitBy c) graph (Some fault) (inl h) = first_some _ _ fault
     (frame_found g q (SplitBy c) graph (Some fault) h)
 computed g q (SplitBy c) graph (Some fault) (inr h) =
@@ -167,11 +170,18 @@ behind_frame g q (AllLinked k) frame (Some fault) e = absurd cc
 behind_frame g q (SplitBy c) frame None e =
     let pairs = expected_pairs g q c.k in
     valid_split g q c pairs frame (expected g q c.k frame.1.ascends)
-        (subst (EntriesSay g q c pairs) e (entries_judged g q frame.1 c))
+    (subst (EntriesSay g q c pairs) e (entries_judged g q frame.1 c))
 behind_frame g q (SplitBy c) frame (Some fault) e =
     let pairs = expected_pairs g q c.k in
-    inr (frame, (pairs, expected g q c.k frame.1.ascends, subst (EntriesSay g q c pairs) e
-        (entries_judged g q frame.1 c)))
+    inr (
+      frame,
+      (
+        pairs,
+        expected g q c.k frame.1.ascends,
+        subst (EntriesSay g q c pairs) e
+            (entries_judged g q frame.1 c),
+      ),
+    )
 
 frame_fails : (g : LinkGraph) (q : List ℕ) (c : Cert) (fault : CheckFault) → FrameSays g q c (Some fault)
     → IsFirstFault g q c fault
@@ -190,8 +200,10 @@ judged g q c graph =
 entry_named : (entries : List PairPaths) (p : ℕ × ℕ) → Has (map pair_name entries) p → (e : PairPaths) × Has entries e
     × (pair_name e ≡ p)
 entry_named [] p h = absurd h
-entry_named (e ∷ es) p h = elim h [ inl s ↦ (e, inl refl, s) | inr m ↦ let r = entry_named es p m in (r.0, inr r.1, r.2)
-    ]
+entry_named (e ∷ es) p h = elim h [
+  | inl s ↦ (e, inl refl, s)
+  | inr m ↦ let r = entry_named es p m in (r.0, inr r.1, r.2)
+]
 
 fan_named : (entries : List FanPaths) (j : ℕ) → Has (map fan_name entries) j → (e : FanPaths) × Has entries e
     × (e.j ≡ j)
@@ -209,7 +221,7 @@ passes_even g q c w = record {
       let r = fan_named c.fans j (subst (λ (js : List ℕ). Has js j) (sym w.fans.names) h) in
       let a : IsFan g r.0.j (members_below q r.0.j) c.k r.0.paths = w.fans.fans r.0 r.1 in
       let b : IsFan g j (members_below q j) c.k r.0.paths = subst
-          (λ (a : ℕ). IsFan g a (members_below q a) c.k r.0.paths) r.2 a in
+      (λ (a : ℕ). IsFan g a (members_below q a) c.k r.0.paths) r.2 a in
       (r.0.paths, b);
 }
 
@@ -232,8 +244,12 @@ valid_means g q c v = (reached g q c v, no_fewer g q c v)
 
 -- a valid certificate's number is the fewest
 pub fewest : (g : LinkGraph) (q : List ℕ) (c : Cert) → IsValidForGroup g q c → FewestForGroup g q (k_of c)
-fewest g q (AllLinked k) v = record { group = v.0; reached = inr (v.2, sym v.1); least = λ s few. linked_whole g q
-    v.0.nodes v.2 s }
+fewest g q (AllLinked k) v = record {
+  group = v.0;
+  reached = inr (v.2, sym v.1);
+  least = λ s few. linked_whole g q
+      v.0.nodes v.2 s;
+}
 fewest g q (SplitBy c) v = record {
   group = v.0;
   reached = inl (c.cut, v.1.count, cut_splits g q c v.1.cut v.1.side);

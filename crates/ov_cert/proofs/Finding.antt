@@ -46,7 +46,7 @@ module _ {X : Type 0} (test : ℕ → X → Bool) (fault : X → CheckFault) (fi
       finds.next place x (xs ++ ys) ∙ ap (λ o. cond (test place x) o (Some (fault x))) (found_append (suc place) xs ys)
       ∙ sym (first_cond (test place x) (find (suc place) xs) later (fault x))
       ∙ ap (λ o. first o later) (sym (finds.next place x xs))
-          ∙ ap (λ n. first (find place (x ∷ xs)) (find n ys)) (sym e)
+      ∙ ap (λ n. first (find place (x ∷ xs)) (find n ys)) (sym e)
 
   passed : (place : ℕ) (x : X) (xs : List X) (o : Option CheckFault) → test place x ≡ true → find (suc place) xs ≡ o
       → find place (x ∷ xs) ≡ o
@@ -76,7 +76,7 @@ module _ {X : Type 0} (test : ℕ → X → Bool) (fault : X → CheckFault) (fi
   all_found place [] all = finds.none place
   all_found place (x ∷ xs) all =
       passed place x xs None (here place x true (all 0 x refl))
-          (all_found (suc place) xs (λ p y e. moved_back place p y true (all (suc p) y e)))
+      (all_found (suc place) xs (λ p y e. moved_back place p y true (all (suc p) y e)))
 
   one_found : (place : ℕ) (xs : List X) (p : ℕ) (x : X) → slice_get xs p ≡ Some x → test (place + p) x ≡ false
       → ((r : ℕ) (y : X) → r < p → slice_get xs r ≡ Some y → test (place + r) y ≡ true) → find place xs ≡ Some (fault x)
@@ -88,7 +88,7 @@ module _ {X : Type 0} (test : ℕ → X → Bool) (fault : X → CheckFault) (fi
   one_found place (y ∷ ys) (suc p) x e f before =
       passed place y ys (Some (fault x)) (here place y true (before 0 y (omega arith) refl))
       (one_found (suc place) ys p x e (moved_back place p x false f)
-          (λ r z l k. moved_back place r z true (before (suc r) z (omega (arith, l)) k)))
+      (λ r z l k. moved_back place r z true (before (suc r) z (omega (arith, l)) k)))
 
   -- the first item that does not pass
   record FirstFail (place : ℕ) (xs : List X) : Type 0 where
@@ -124,10 +124,19 @@ module _ {X : Type 0} (test : ℕ → X → Bool) (fault : X → CheckFault) (fi
   looked place [] = inl (λ p x e. absurd cc)
   looked place (x ∷ xs) =
       elim (test place x) as (λ b. test place x ≡ b → AllPass place (x ∷ xs) ⊎ FirstFail place (x ∷ xs)) [
-        | true ↦ λ t. elim (looked (suc place) xs) [ inl all ↦ inl (all_more place x xs t all) | inr f ↦ inr
-            (fail_more place x xs t f) ]
-        | false ↦ λ f. inr (record { at = 0; item = x; there_is = refl; fails = there place x false f; before =
-            λ r y l e. absurd (omega (arith, l)) })
+        | true ↦ λ t. elim (looked (suc place) xs) [
+          | inl all ↦ inl (all_more place x xs t all)
+          | inr f ↦ inr
+              (fail_more place x xs t f)
+        ]
+        | false ↦ λ f. inr (record {
+          at = 0;
+          item = x;
+          there_is = refl;
+          fails = there place x false f;
+          before =
+              λ r y l e. absurd (omega (arith, l));
+        })
       ] refl
 
   module _ (Holds : ℕ → X → Type 0) (xs : List X) (tested : (at : ℕ) (x : X) → Has xs x
@@ -152,12 +161,15 @@ module _ {X : Type 0} (test : ℕ → X → Bool) (fault : X → CheckFault) (fi
     unfolding AllPass
     found = elim (looked 0 xs) [
       | inl all ↦ inl (λ p x e. holds_at p x e (all p x e))
-      | inr f ↦ inr (f.item, record {
-        place = f.at;
-        there = f.there_is;
-        fails = λ h. both_ways (test (0 + f.at) f.item) f.fails (passes_at f.at f.item f.there_is h);
-        before = λ r y l e. holds_at r y e (f.before r y l e);
-      })
+      | inr f ↦ inr (
+        f.item,
+        record {
+          place = f.at;
+          there = f.there_is;
+          fails = λ h. both_ways (test (0 + f.at) f.item) f.fails (passes_at f.at f.item f.there_is h);
+          before = λ r y l e. holds_at r y e (f.before r y l e);
+        },
+      )
     ]
 
 pub pairs_found : (g : LinkGraph) (k : ℕ) (entries : List PairPaths)

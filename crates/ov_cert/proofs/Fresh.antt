@@ -74,7 +74,7 @@ fresh_tested g used (x ∷ xs) = (
       let q = and_parts (not (has used x)) (fresh g (adding x used) xs) p.1 in
       let r = (fresh_tested g (adding x used) xs).0 q.1 in
       let out : ¬ Has used x = λ m. both_ways (has used x) (not-true (has used x) q.0)
-          ((has_tested used x (has used x) refl).1 m) in (
+      ((has_tested used x (has used x) refl).1 m) in (
         (λ y m. elim m [
           | inl e ↦ subst (Survives g.nodes used) e ((has_tested g.nodes x (has g.nodes x) refl).0 p.0, out)
           | inr k ↦ ((r.0 y k).0, λ u. (r.0 y k).1 (adding_old x used y u))
@@ -91,10 +91,10 @@ fresh_tested g used (x ∷ xs) = (
         h.1.1,
       ) in
       and_from (has g.nodes x) (not (has used x) && fresh g (adding x used) xs)
-          ((has_tested g.nodes x (has g.nodes x) refl).1 here.0)
+      ((has_tested g.nodes x (has g.nodes x) refl).1 here.0)
       (and_from (not (has used x)) (fresh g (adding x used) xs)
       (not_from_false (has used x) (false_from_ne_true (has used x)
-          (λ t. here.1 ((has_tested used x (has used x) refl).0 t))))
+      (λ t. here.1 ((has_tested used x (has used x) refl).0 t))))
       ((fresh_tested g (adding x used) xs).1 rest))),
 )
 
@@ -112,8 +112,13 @@ module _ (g : LinkGraph) (Is : List ℕ → Type 0) (own : List ℕ → List ℕ
       → AllFresh g Is own (entered used (own p)) ps → AllFresh g Is own used (p ∷ ps)
   all_more used p ps here each q h = elim h [
     | inl e ↦ subst (λ (r : List ℕ). Is r × IsFresh g used (own r)) e here
-    | inr k ↦ let r = each q k in (r.0, ((λ x m. ((r.1.0 x m).0, λ u. (r.1.0 x m).1 (entered_old used (own p) x u))),
-        r.1.1))
+    | inr k ↦ let r = each q k in (
+      r.0,
+      (
+        (λ x m. ((r.1.0 x m).0, λ u. (r.1.0 x m).1 (entered_old used (own p) x u))),
+        r.1.1,
+      ),
+    )
   ]
 
   all_rest : (used p : List ℕ) (ps : List (List ℕ)) → ((x : ℕ) → Has shared x → Has used x)
@@ -149,7 +154,7 @@ module _ (g : LinkGraph) (Is : List ℕ → Type 0) (own : List ℕ → List ℕ
   in_turn_tested test tests none more one used [] sub = ((λ h. ((λ p m. absurd m), tt)), (λ h. none used))
   in_turn_tested test tests none more one used (p ∷ ps) sub =
       let after = in_turn_tested test tests none more one (entered used (own p)) ps
-          (λ x s. entered_old used (own p) x (sub x s)) in (
+      (λ x s. entered_old used (own p) x (sub x s)) in (
         (λ h.
             let r = and_parts (test used p) (tests (entered used (own p)) ps) (sym (more used p ps) ∙ h) in
             let here = (one used p).0 r.0 in
@@ -157,5 +162,5 @@ module _ (g : LinkGraph) (Is : List ℕ → Type 0) (own : List ℕ → List ℕ
             (all_more used p ps here rest.0, (shares_only used p ps here.0 rest.0, rest.1))),
         (λ h.
             more used p ps ∙ and_from (test used p) (tests (entered used (own p)) ps)
-                ((one used p).1 (h.0 p (inl refl))) (after.1 (all_rest used p ps sub h.0 h.1, h.1.1))),
+            ((one used p).1 (h.0 p (inl refl))) (after.1 (all_rest used p ps sub h.0 h.1, h.1.1))),
       )

@@ -25,7 +25,7 @@ of_pairs_append n [] ys = let e : n ≡ n + 0 = omega arith in ap (λ (m : ℕ).
 of_pairs_append n (x ∷ xs) ys =
     let e : suc n + length xs ≡ n + suc (length xs) = omega arith in
     ap (λ t. Pair n x.0 x.1 ∷ t) (of_pairs_append (suc n) xs ys
-        ∙ ap (λ (m : ℕ). of_pairs (suc n) xs ++ of_pairs m ys) e)
+    ∙ ap (λ (m : ℕ). of_pairs (suc n) xs ++ of_pairs m ys) e)
 
 length_of_pairs : (n : ℕ) (xs : List (ℕ × ℕ)) → length (of_pairs n xs) ≡ length xs
 length_of_pairs n [] = refl
@@ -41,7 +41,7 @@ pub with_more : (entries : List Expected) (xs ys : List (ℕ × ℕ))
 with_more entries xs ys =
     let n = length entries in
     let e : length (with_pairs entries xs) ≡ n + length xs = length-append entries (of_pairs n xs)
-        ∙ ap (λ (m : ℕ). n + m) (length_of_pairs n xs) in
+    ∙ ap (λ (m : ℕ). n + m) (length_of_pairs n xs) in
     ap (λ (m : ℕ). with_pairs entries xs ++ of_pairs m ys) e
     ∙ append_assoc entries (of_pairs n xs) (of_pairs (n + length xs) ys)
     ∙ ap (λ t. entries ++ t) (sym (of_pairs_append n xs ys))
@@ -53,7 +53,7 @@ at_drop xs p x l is = drop-cons xs p x l ∙ rw (← is, add-one p) refl
 pub pair_skipped : (g : LinkGraph) (entries : List Expected) (earlier : List ℕ) (p i j : ℕ) → p < length earlier
     → i ≡ get_or earlier p i → are_joined g.links i j ≡ true
     → with_pairs entries (unlinked_before g (drop (p + 1) earlier) j) ≡ with_pairs entries
-        (unlinked_before g (drop p earlier) j)
+    (unlinked_before g (drop p earlier) j)
 pair_skipped g entries earlier p i j l is on =
     let e = at_drop earlier p i l is in
     sym (ap (λ (xs : List ℕ). with_pairs entries (unlinked_before g xs j)) e ∙ rw on refl)
@@ -62,23 +62,23 @@ pair_skipped g entries earlier p i j l is on =
 pub pair_added : (g : LinkGraph) (entries : List Expected) (earlier : List ℕ) (p i j : ℕ) → p < length earlier
     → i ≡ get_or earlier p i → are_joined g.links i j ≡ false
     → with_pairs (entries ++ Pair (length entries) i j ∷ []) (unlinked_before g (drop (p + 1) earlier) j) ≡ with_pairs
-        entries (unlinked_before g (drop p earlier) j)
+    entries (unlinked_before g (drop p earlier) j)
 pair_added g entries earlier p i j l is off =
     let e = at_drop earlier p i l is in
     let rest = unlinked_before g (drop (p + 1) earlier) j in
     with_more entries ((i, j) ∷ []) rest ∙ sym (ap (λ (xs : List ℕ). with_pairs entries (unlinked_before g xs j)) e
-        ∙ rw off refl)
+    ∙ rw off refl)
 
 -- the pairs of one more member
 pub column_added : (g : LinkGraph) (entries : List Expected) (xs : List ℕ) (p j : ℕ) → p < length xs → j ≡ get_or xs p j
     → with_pairs (with_pairs entries (unlinked_before g (take p xs) j))
-        (pairs_after g (take (p + 1) xs) (drop (p + 1) xs))
-      ≡ with_pairs entries (pairs_after g (take p xs) (drop p xs))
+    (pairs_after g (take (p + 1) xs) (drop (p + 1) xs))
+    ≡ with_pairs entries (pairs_after g (take p xs) (drop p xs))
 column_added g entries xs p j l is =
     let before = unlinked_before g (take p xs) j in
     let rest = pairs_after g (take (p + 1) xs) (drop (p + 1) xs) in
     let e : pairs_after g (take p xs) (drop p xs) ≡ before ++ rest = pairs_after_at g xs p j l
-        ∙ ap (λ (x : ℕ). unlinked_before g (take p xs) x ++ rest) (sym is) in
+    ∙ ap (λ (x : ℕ). unlinked_before g (take p xs) x ++ rest) (sym is) in
     with_more entries before rest ∙ ap (with_pairs entries) (sym e)
 
 -- one more fan
@@ -88,7 +88,7 @@ fan_added entries xs p j l is =
     let e = at_drop xs p j l is in
     append_assoc entries (Fan p j ∷ []) (of_fans (p + 1) (drop (p + 1) xs))
     ∙ ap (λ t. entries ++ t) (sym (ap (of_fans p) e ∙ ap (λ (m : ℕ). Fan p j ∷ of_fans m (drop (p + 1) xs))
-        (sym (add-one p))))
+    (sym (add-one p))))
 
 frame_group : (g : LinkGraph) (q : List ℕ) (c : Split) → PassesFrame g q (SplitBy c) → IsGroup g q
 frame_group g q c p = p.1
@@ -113,8 +113,13 @@ pair_at g q c entry at i j frame expected e = subst (λ (x : Expected). PairAt g
         let ni = group.nodes i (has_from_take q c.k i u.0) in
         let nj = group.nodes j (has_from_take q c.k j u.1) in
         let ne : i ≢ j = λ s. let l = u.2 in omega (arith, l, s) in
-        record { i_node = ni; j_node = nj; differ = ne; tested = pair_entry_tested g c.k (i, j) ni nj ne
-            (slice_get c.pairs at) }
+        record {
+          i_node = ni;
+          j_node = nj;
+          differ = ne;
+          tested = pair_entry_tested g c.k (i, j) ni nj ne
+              (slice_get c.pairs at);
+        }
 
 -- an expected fan: its member, and the test of its entry
 pub record FanAt (g : LinkGraph) (q : List ℕ) (c : Split) (entry : Expected) (at j : ℕ) : Type 0 where

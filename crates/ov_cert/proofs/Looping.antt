@@ -31,13 +31,15 @@ pub turn_at : (g : LinkGraph) (k : ℕ) (entries : List PairPaths) (next i j x :
     → x < length earlier → i ≡ get_or earlier x i → are_joined g.links i j ≡ false
     → is_pair_entry g k (i, j) (slice_get entries next) ≡ true →
     (pairs_fault g k entries (next + 1) (unlinked_before g (drop (x + 1) earlier) j) ≡ pairs_fault g k entries next
-        (unlinked_before g (drop x earlier) j))
+    (unlinked_before g (drop x earlier) j))
     × (length (unlinked_before g (drop x earlier) j) ≡ length (unlinked_before g (drop (x + 1) earlier) j) + 1)
 turn_at g k entries next i j x earlier l is off holds =
     let e : drop x earlier ≡ i ∷ drop (x + 1) earlier = drop-cons earlier x i l ∙ rw (← is, add-one x) refl in
-    let t = turn g k entries next i j (drop (x + 1) earlier) off holds in
-    (sym (ap (λ (ys : List ℕ). pairs_fault g k entries next (unlinked_before g ys j)) e ∙ t.left), ap
-        (λ (ys : List ℕ). length (unlinked_before g ys j)) e ∙ t.count)
+    let t = turn g k entries next i j (drop (x + 1) earlier) off holds in (
+      sym (ap (λ (ys : List ℕ). pairs_fault g k entries next (unlinked_before g ys j)) e ∙ t.left),
+      ap
+          (λ (ys : List ℕ). length (unlinked_before g ys j)) e ∙ t.count,
+    )
 
 -- an earlier one of the first members is another
 pub earlier_differ : (xs : List ℕ) (p i j : ℕ) → Ascends xs → p < length xs → j ≡ get_or xs p j → Has (take p xs) i
@@ -69,11 +71,11 @@ later_member q (suc k) x h = has_drop (suc k) q x h
 pub column : (g : LinkGraph) (k : ℕ) (entries : List PairPaths) (count next p j : ℕ) (xs : List ℕ) → p < length xs
     → j ≡ get_or xs p j →
     next ≡ count + length (unlinked_before g (take p xs) j) → pairs_fault g k entries count
-        (unlinked_before g (take p xs) j) ≡ None →
+    (unlinked_before g (take p xs) j) ≡ None →
     (pairs_fault g k entries next (pairs_after g (take (p + 1) xs) (drop (p + 1) xs)) ≡ pairs_fault g k entries count
-        (pairs_after g (take p xs) (drop p xs)))
+    (pairs_after g (take p xs) (drop p xs)))
     × (next + length (pairs_after g (take (p + 1) xs) (drop (p + 1) xs)) ≡ count + length
-        (pairs_after g (take p xs) (drop p xs)))
+    (pairs_after g (take p xs) (drop p xs)))
 column g k entries count next p j xs l is at none =
     let e = pairs_after_at g xs p j l in
     let cs = unlinked_before g (take p xs) (get_or xs p j) in
@@ -93,12 +95,12 @@ column g k entries count next p j xs l is at none =
 pub column_fault : (g : LinkGraph) (k : ℕ) (entries : List PairPaths) (count p j : ℕ) (xs : List ℕ) (fault : CheckFault)
     → p < length xs → j ≡ get_or xs p j →
     pairs_fault g k entries count (unlinked_before g (take p xs) j) ≡ Some fault
-        → pairs_fault g k entries count (pairs_after g (take p xs) (drop p xs)) ≡ Some fault
+    → pairs_fault g k entries count (pairs_after g (take p xs) (drop p xs)) ≡ Some fault
 column_fault g k entries count p j xs fault l is some =
     let e = pairs_after_at g xs p j l in
     let cs = unlinked_before g (take p xs) (get_or xs p j) in
     let rest = pairs_after g (take (p + 1) xs) (drop (p + 1) xs) in
     let n : pairs_fault g k entries count cs ≡ Some fault = sym
-        (ap (λ (x : ℕ). pairs_fault g k entries count (unlinked_before g (take p xs) x)) is) ∙ some in
+    (ap (λ (x : ℕ). pairs_fault g k entries count (unlinked_before g (take p xs) x)) is) ∙ some in
     ap (pairs_fault g k entries count) e ∙ pairs_fault_append g k entries count cs rest
-        ∙ ap (λ (o : Option CheckFault). first o (pairs_fault g k entries (count + length cs) rest)) n
+    ∙ ap (λ (o : Option CheckFault). first o (pairs_fault g k entries (count + length cs) rest)) n

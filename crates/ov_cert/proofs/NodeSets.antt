@@ -38,7 +38,7 @@ picked_put old new nodes p up l put =
     let id = get_or nodes p 0 in
     let was = ascends_picked old 0 nodes up in
     same_ascending (picked new 0 nodes) (adding id (picked old 0 nodes)) (ascends_picked new 0 nodes up)
-        (IsSet-adding id (picked old 0 nodes) was)
+    (IsSet-adding id (picked old 0 nodes) was)
     (λ x h.
     let k = has_picked new 0 nodes x h in
     let z : 0 + k.place ≡ k.place = omega arith in
@@ -54,7 +54,7 @@ picked_put old new nodes p up l put =
           let k = has_picked old 0 nodes x m in
           let z : 0 + k.place ≡ k.place = omega arith in
           subst (Has (picked new 0 nodes)) k.node ((picked_at new nodes k.place up k.below).1
-              ((put k.place).1 (inr (bit_moved old (0 + k.place) k.place z k.bit))))
+          ((put k.place).1 (inr (bit_moved old (0 + k.place) k.place z k.bit))))
     ])
 
 -- the empty row has no members
@@ -146,7 +146,7 @@ pub at_place : (g : LinkGraph) (row : List ℕ) (p id : ℕ) → IsGraph g → p
 at_place g row p id graph l e =
     let members = picked row 0 g.nodes in
     let bit : Has members id ↔ HasBit row p = subst (λ (x : ℕ). Has members x ↔ HasBit row p) e
-        (picked_at row g.nodes p graph.nodes_ascend l) in
+    (picked_at row g.nodes p graph.nodes_ascend l) in
     let is = has_tested members id (has members id) refl in
     record {
       node = subst (λ (x : ℕ). has g.nodes x ≡ true) e (node_in g.nodes p l);
@@ -180,16 +180,16 @@ pub one_entered : (g : LinkGraph) (x : ℕ) (u v : NodesOf) (b : Bool) → has g
     → v ≡ cond b (record u { members = adding x u.members }) u → v ≡ record { graph = g; members = x ∷ [] }
 one_entered g x u v b node e f h =
     taken u v x b (ap (λ (w : NodesOf). has w.graph.nodes x) e ∙ node) (ap (λ (w : NodesOf). has w.members x) e) f h
-        ∙ ap (λ (w : NodesOf). record w { members = adding x w.members }) e
+    ∙ ap (λ (w : NodesOf). record w { members = adding x w.members }) e
 
 pub two_entered : (g : LinkGraph) (i j : ℕ) (u v w : NodesOf) (b d : Bool) → has g.nodes i ≡ true → has g.nodes j ≡ true
     → i ≢ j → u ≡ record { graph = g; members = [] } →
     b ≡ (has u.graph.nodes i && not (has u.members i)) → v ≡ cond b (record u { members = adding i u.members }) u →
     d ≡ (has v.graph.nodes j && not (has v.members j)) → w ≡ cond d (record v { members = adding j v.members }) v
-        → w ≡ record { graph = g; members = adding j (i ∷ []) }
+    → w ≡ record { graph = g; members = adding j (i ∷ []) }
 two_entered g i j u v w b d ni nj ne e f h k l =
     let first = one_entered g i u v b ni e f h in
     let out : has (i ∷ []) j ≡ false = rw (ne_eqb i j ne) refl in
     taken v w j d (ap (λ (t : NodesOf). has t.graph.nodes j) first ∙ nj)
-        (ap (λ (t : NodesOf). has t.members j) first ∙ out) k l
-        ∙ ap (λ (t : NodesOf). record t { members = adding j t.members }) first
+    (ap (λ (t : NodesOf). has t.members j) first ∙ out) k l
+    ∙ ap (λ (t : NodesOf). record t { members = adding j t.members }) first

@@ -49,7 +49,7 @@ set_parts : (g : LinkGraph) (ids : List ℕ) → IsTrue (is_node_set g ids) ↔ 
     × ((x : ℕ) → Has ids x → Has g.nodes x)
 set_parts g ids =
     and_tested (ascends_after None ids) (list_all (λ x. has g.nodes x) ids)
-        (ascends_tested ids (ascends_after None ids) refl)
+    (ascends_tested ids (ascends_after None ids) refl)
     (all_tested (λ x. has g.nodes x) (Has g.nodes) ids (member_tested g.nodes))
 
 pub node_set_tested : (g : LinkGraph) (ids : List ℕ) → IsTrue (is_node_set g ids) ↔ IsNodeSet g ids
@@ -93,12 +93,12 @@ within_tested g side cut a graph =
 pub cut_off_tested : (g : LinkGraph) (q : List ℕ) (c : Split) → IsGraph g → IsTrue (is_cut_off g q c) ↔ IsCutOff g q c
 cut_off_tested g q c graph =
     let closed = all_tested (λ a. ends_within g c.side c.cut a) (EndsWithin g c.side c.cut) c.side
-        (λ a. within_tested g c.side c.cut a graph) in
+    (λ a. within_tested g c.side c.cut a graph) in
     let apart = and_tested (not (has c.side c.far)) (list_all (λ a. ends_within g c.side c.cut a) c.side)
-        (outside_tested c.side c.far) closed in
+    (outside_tested c.side c.far) closed in
     let holds = and_tested (has c.side c.near) _ (member_tested c.side c.near) apart in
     let off = and_tested (list_all (λ a. not (has c.cut a)) c.side) _
-        (all_tested (λ a. not (has c.cut a)) (λ a. ¬ Has c.cut a) c.side (outside_tested c.cut)) holds in
+    (all_tested (λ a. not (has c.cut a)) (λ a. ¬ Has c.cut a) c.side (outside_tested c.cut)) holds in
     let set = and_tested (is_node_set g c.side) _ (node_set_tested g c.side) off in
     let far = and_tested (survives q c.cut c.far) _ (survives_tested q c.cut c.far) set in
     let near = and_tested (survives q c.cut c.near) _ (survives_tested q c.cut c.near) far in (
@@ -115,8 +115,13 @@ cut_off_tested g q c graph =
           }),
       (λ h. near.1 (
         h.near_survives,
-        (h.far_survives, (record { ascends = h.side_ascends; nodes = λ a k. (h.side_survives a k).0 },
-            ((λ a k. (h.side_survives a k).1), (h.near_inside, (h.far_outside, λ a k b l. h.closed a b k l))))),
+        (
+          h.far_survives,
+          (
+            record { ascends = h.side_ascends; nodes = λ a k. (h.side_survives a k).0 },
+            ((λ a k. (h.side_survives a k).1), (h.near_inside, (h.far_outside, λ a k b l. h.closed a b k l))),
+          ),
+        ),
       )),
     )
 
@@ -139,9 +144,8 @@ linked_tested : (g : LinkGraph) (xs : List ℕ) → IsTrue (all_linked g xs) ↔
 linked_tested g [] = ((λ h. tt), (λ h. refl))
 linked_tested g (a ∷ rest) =
     let each = all_tested (λ b. are_joined g.links a b) (Linked g a) rest
-        (λ b. joined_tested g a b (are_joined g.links a b) refl) in
-    let r = and_tested (list_all (λ b. are_joined g.links a b) rest) (all_linked g rest) each (linked_tested g rest) in
-        (
+    (λ b. joined_tested g a b (are_joined g.links a b) refl) in
+    let r = and_tested (list_all (λ b. are_joined g.links a b) rest) (all_linked g rest) each (linked_tested g rest) in (
       (λ h. let p = r.0 h in (all_from_members (Linked g a) rest p.0, p.1)),
       (λ h. r.1 ((λ b k. all_member (Linked g a) rest b h.0 k), h.1)),
     )

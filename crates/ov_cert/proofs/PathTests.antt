@@ -47,7 +47,7 @@ legs_tested g used own i ends a b rest =
           (and_from ends (chained g (a ∷ b ∷ rest) && fresh g used own) h.0
           (and_from (chained g (a ∷ b ∷ rest)) (fresh g used own)
           (chain.1 (subst (λ (z : ℕ). Leads (Linked g) z (b ∷ rest) (last_of b rest)) (sym h.1.0) h.1.1))
-              (new.1 h.2)))),
+          (new.1 h.2)))),
     )
 
 leads_last : (R : ℕ → ℕ → Type 0) (a : ℕ) (xs : List ℕ) (b : ℕ) → Leads R a xs b → last_of a xs ≡ b
@@ -110,8 +110,11 @@ module _ (g : LinkGraph) (i j : ℕ) (differ : i ≢ j) where
   inner_cover (a ∷ []) x w h = absurd (differ w.1)
   inner_cover (a ∷ b ∷ rest) x w h = elim h [
     | inl e ↦ inl (inl (sym w.0 ∙ e))
-    | inr k ↦ elim (front_or_last b rest x k) [ inl e ↦ inl (inr
-        (inl (sym (leads_last (Linked g) i (b ∷ rest) j w.1) ∙ e))) | inr m ↦ inr m ]
+    | inr k ↦ elim (front_or_last b rest x k) [
+      | inl e ↦ inl (inr
+          (inl (sym (leads_last (Linked g) i (b ∷ rest) j w.1) ∙ e)))
+      | inr m ↦ inr m
+    ]
   ]
 
   -- the two ends as the tests have them
@@ -128,8 +131,11 @@ module _ (g : LinkGraph) (i j : ℕ) (differ : i ≢ j) where
       → IsPath g i p j
   path_from_inner p ni nj w f = record {
     nodes = λ x h. elim (inner_cover p x w h) [
-      | inl s ↦ elim s [ inl e ↦ subst (Has g.nodes) e ni | inr k ↦ elim k
-          [ inl e ↦ subst (Has g.nodes) e nj | inr m ↦ absurd m ] ]
+      | inl s ↦ elim s [
+        | inl e ↦ subst (Has g.nodes) e ni
+        | inr k ↦ elim k
+            [ inl e ↦ subst (Has g.nodes) e nj | inr m ↦ absurd m ]
+      ]
       | inr m ↦ (f.0 x m).0
     ];
     walk = w;
@@ -145,8 +151,11 @@ module _ (g : LinkGraph) (i j : ℕ) (differ : i ≢ j) where
               | inl e ↦ differ (sym w.0 ∙ (sym e ∙ end))
               | inr k ↦ (f.0 a k).1 (in_ends a (inl (sym w.0)))
             ]),
-            (distinct_front b rest).1 ((λ m. (f.0 (last_of b rest) m).1
-                (in_ends (last_of b rest) (inr (inl (sym end))))), f.1),
+            (distinct_front b rest).1 (
+              (λ m. (f.0 (last_of b rest) m).1
+                  (in_ends (last_of b rest) (inr (inl (sym end))))),
+              f.1,
+            ),
           )
 
   inner_fresh : (p : List ℕ) → IsPath g i p j → IsFresh g ends (inner p)
@@ -159,8 +168,11 @@ module _ (g : LinkGraph) (i j : ℕ) (differ : i ≢ j) where
           path.nodes x (inr (in_front (b ∷ rest) x m)),
           λ u. elim (adding_cases j (i ∷ []) x u) [
             | inl e ↦ parts.0 (subst (Has (front (b ∷ rest))) (e ∙ sym end) m)
-            | inr k ↦ elim k [ inl e ↦ path.distinct.0 (in_front (b ∷ rest) a
-                (subst (Has (front (b ∷ rest))) (sym (path.walk.0 ∙ e)) m)) | inr n ↦ absurd n ]
+            | inr k ↦ elim k [
+              | inl e ↦ path.distinct.0 (in_front (b ∷ rest) a
+                  (subst (Has (front (b ∷ rest))) (sym (path.walk.0 ∙ e)) m))
+              | inr n ↦ absurd n
+            ]
           ],
         )),
         parts.1,
@@ -170,8 +182,8 @@ module _ (g : LinkGraph) (i j : ℕ) (differ : i ≢ j) where
       → ((length ps ≡ k) × IsTrue (are_pair_paths g ends i j ps)) ↔ ArePaths g i j k ps
   pair_paths_tested k ps ni nj =
       let all = in_turn_tested g (λ p. IsWalk g i p j) inner (i ∷ j ∷ []) inner_within inner_cover
-          (λ used p. is_pair_path g used i j p) (λ used ps. are_pair_paths g used i j ps) (λ used. refl)
-          (λ used p ps. refl) pair_path_tested ends ps in_ends in (
+      (λ used p. is_pair_path g used i j p) (λ used ps. are_pair_paths g used i j ps) (λ used. refl)
+      (λ used p ps. refl) pair_path_tested ends ps in_ends in (
         (λ h.
             let r = all.0 h.1 in
             record { count = h.0; each = λ p m. let q = r.0 p m in path_from_inner p ni nj q.0 q.1; apart = r.1 }),
@@ -207,8 +219,12 @@ module _ (g : LinkGraph) (q : List ℕ) (members : (x : ℕ) → Has q x → Has
         (λ h. let r = legs.0 h in ((last_of b rest, (earlier_tested (last_of b rest)).0 r.0, r.1), r.2)),
         (λ h.
             let end : last_of b rest ≡ h.0.0 = leads_last (Linked g) j (b ∷ rest) h.0.0 h.0.2.1 in
-            legs.1 ((earlier_tested (last_of b rest)).1 (subst (Has (members_below q j)) (sym end) h.0.1), subst
-                (IsWalk g j (a ∷ b ∷ rest)) (sym end) h.0.2, h.1)),
+            legs.1 (
+              (earlier_tested (last_of b rest)).1 (subst (Has (members_below q j)) (sym end) h.0.1),
+              subst
+                  (IsWalk g j (a ∷ b ∷ rest)) (sym end) h.0.2,
+              h.1,
+            )),
       )
 
   steps_within : (p : List ℕ) (x : ℕ) → Has (steps p) x → Has p x
@@ -249,8 +265,8 @@ module _ (g : LinkGraph) (q : List ℕ) (members : (x : ℕ) → Has q x → Has
       → ((length ps ≡ k) × IsTrue (are_fan_paths g q (j ∷ []) j ps)) ↔ IsFan g j (members_below q j) k ps
   fan_paths_tested k ps nj =
       let all = in_turn_tested g Descends steps (j ∷ []) steps_within steps_cover (λ used p. is_fan_path g q used j p)
-          (λ used ps. are_fan_paths g q used j ps) (λ used. refl) (λ used p ps. refl) fan_path_tested (j ∷ []) ps
-          (λ x s. s) in (
+      (λ used ps. are_fan_paths g q used j ps) (λ used. refl) (λ used p ps. refl) fan_path_tested (j ∷ []) ps
+      (λ x s. s) in (
         (λ h.
             let r = all.0 h.1 in
             record {
@@ -271,17 +287,17 @@ pair_entry_tested g k p ni nj differ (Some e) =
     let are = pair_paths_tested g p.0 p.1 differ k e.paths ni nj in (
       (λ h.
           let q = and_parts (eqb e.i p.0) (eqb e.j p.1 && (eqb (length e.paths) k && are_pair_paths g used p.0 p.1
-              e.paths)) h in
+          e.paths)) h in
           let r = and_parts (eqb e.j p.1) (eqb (length e.paths) k && are_pair_paths g used p.0 p.1 e.paths) q.1 in
           let s = and_parts (eqb (length e.paths) k) (are_pair_paths g used p.0 p.1 e.paths) r.1 in
           (eqb-true e.i p.0 q.0, eqb-true e.j p.1 r.0, are.0 (eqb-true (length e.paths) k s.0, s.1))),
       (λ h.
           let t = are.1 h.2 in
           and_from (eqb e.i p.0) (eqb e.j p.1 && (eqb (length e.paths) k && are_pair_paths g used p.0 p.1 e.paths))
-              (eq-eqb e.i p.0 h.0)
+          (eq-eqb e.i p.0 h.0)
           (and_from (eqb e.j p.1) (eqb (length e.paths) k && are_pair_paths g used p.0 p.1 e.paths) (eq-eqb e.j p.1 h.1)
           (and_from (eqb (length e.paths) k) (are_pair_paths g used p.0 p.1 e.paths) (eq-eqb (length e.paths) k t.0)
-              t.1))),
+          t.1))),
     )
 
 -- the test of a fan's entry
@@ -299,5 +315,5 @@ fan_entry_tested g q members k j nj (Some e) =
           let t = are.1 h.1 in
           and_from (eqb e.j j) (eqb (length e.paths) k && are_fan_paths g q (j ∷ []) j e.paths) (eq-eqb e.j j h.0)
           (and_from (eqb (length e.paths) k) (are_fan_paths g q (j ∷ []) j e.paths) (eq-eqb (length e.paths) k t.0)
-              t.1)),
+          t.1)),
     )

@@ -35,8 +35,10 @@ count_tested n m = ((λ t. eqb-true n m t), (λ e. eq-eqb n m e))
 
 none_tested : (n : ℕ) → IsTrue (eqb n 0) ↔ (¬ (0 < n))
 none_tested zero = ((λ t l. omega (arith, l)), (λ m. refl))
-none_tested (suc n) = ((λ t. absurd (both_ways (eqb (suc n) 0) (ne_eqb (suc n) 0 (omega arith)) t)),
-    (λ m. absurd (m (omega arith))))
+none_tested (suc n) = (
+  (λ t. absurd (both_ways (eqb (suc n) 0) (ne_eqb (suc n) 0 (omega arith)) t)),
+  (λ m. absurd (m (omega arith))),
+)
 
 some : (n : ℕ) → eqb n 0 ≡ false → 0 < n
 some zero f = let t : eqb 0 0 ≡ true = eq-eqb 0 0 refl in absurd (both_ways (eqb 0 0) f t)
@@ -71,7 +73,7 @@ claim_judged g q (AllLinked k) graph node group =
     let counted = count_tested (length q) (k + 1) in
     let linked = all_linked_tested g q group.ascends in
     cond_says (FrameSays g q (AllLinked k)) (eqb (length q) (k + 1)) (cond (all_linked g q) None (Some NotLinked))
-        (Some Count)
+    (Some Count)
     (λ t. cond_says (FrameSays g q (AllLinked k)) (all_linked g q) None (Some NotLinked)
     (λ u. (node, group, counted.0 t, linked.0 u)) (λ f. (node, group, counted.0 t, no (all_linked g q) linked f)))
     (λ f. (node, group, no (eqb (length q) (k + 1)) counted f))
@@ -80,12 +82,12 @@ claim_judged g q (SplitBy c) graph node group =
     let cut = node_set_tested g c.cut in
     let side = cut_off_tested g q c graph in
     cond_says (FrameSays g q (SplitBy c)) (eqb (length c.cut) c.k)
-        (cond (is_node_set g c.cut) (cond (is_cut_off g q c) None (Some Side)) (Some Cut)) (Some Count)
+    (cond (is_node_set g c.cut) (cond (is_cut_off g q c) None (Some Side)) (Some Cut)) (Some Count)
     (λ t. cond_says (FrameSays g q (SplitBy c)) (is_node_set g c.cut) (cond (is_cut_off g q c) None (Some Side))
-        (Some Cut)
+    (Some Cut)
     (λ u. cond_says (FrameSays g q (SplitBy c)) (is_cut_off g q c) None (Some Side)
     (λ v. (node, group, counted.0 t, cut.0 u, side.0 v)) (λ f.
-        (node, group, counted.0 t, cut.0 u, no (is_cut_off g q c) side f)))
+    (node, group, counted.0 t, cut.0 u, no (is_cut_off g q c) side f)))
     (λ f. (node, group, counted.0 t, no (is_node_set g c.cut) cut f)))
     (λ f. (node, group, no (eqb (length c.cut) c.k) counted f))
 
@@ -95,7 +97,7 @@ group_judged g q c node n = (node, n)
 pub frame_judged : (g : LinkGraph) (q : List ℕ) (c : Cert) → IsGraph g → FrameSays g q c (frame_fault g q c)
 frame_judged g q c graph =
     cond_says (FrameSays g q c) (eqb (length g.nodes) 0) (Some NoNodes)
-        (cond (is_group g q) (claim_fault g q c) (Some BadGroup))
+    (cond (is_group g q) (claim_fault g q c) (Some BadGroup))
     (λ t. (none_tested (length g.nodes)).0 t)
     (λ f. cond_says (FrameSays g q c) (is_group g q) (claim_fault g q c) (Some BadGroup)
     (λ t. claim_judged g q c graph (some (length g.nodes) f) ((group_tested g q).0 t))
@@ -131,8 +133,12 @@ split_fault_found g q c graph Cut p =
     ∙ rw ((count_tested (length c.cut) c.k).1 p.2, off (is_node_set g c.cut) (node_set_tested g c.cut) p.3) refl
 split_fault_found g q c graph Side p =
     claim_at g q (SplitBy c) p.0 p.1
-    ∙ rw ((count_tested (length c.cut) c.k).1 p.2, (node_set_tested g c.cut).1 p.3, off (is_cut_off g q c)
-        (cut_off_tested g q c graph) p.4) refl
+    ∙ rw (
+      (count_tested (length c.cut) c.k).1 p.2,
+      (node_set_tested g c.cut).1 p.3,
+      off (is_cut_off g q c)
+          (cut_off_tested g q c graph) p.4,
+    ) refl
 split_fault_found g q c graph NotLinked p = absurd p
 split_fault_found g q c graph (Pair i j) p = absurd p
 split_fault_found g q c graph (Fan j) p = absurd p
@@ -141,13 +147,15 @@ split_fault_found g q c graph Extra p = absurd p
 pub frame_found : (g : LinkGraph) (q : List ℕ) (c : Cert) → IsGraph g → (x : Option CheckFault) → FrameSays g q c x
     → frame_fault g q c ≡ x
 frame_found g q (AllLinked k) graph None p =
-    claim_at g q (AllLinked k) p.0 p.1 ∙ rw ((count_tested (length q) (k + 1)).1 p.2,
-        (all_linked_tested g q p.1.ascends).1 p.3) refl
+    claim_at g q (AllLinked k) p.0 p.1 ∙ rw (
+      (count_tested (length q) (k + 1)).1 p.2,
+      (all_linked_tested g q p.1.ascends).1 p.3,
+    ) refl
 frame_found g q (AllLinked k) graph (Some fault) p = linked_fault_found g q k fault p
 frame_found g q (SplitBy c) graph None p =
     claim_at g q (SplitBy c) p.0 p.1
     ∙ rw ((count_tested (length c.cut) c.k).1 p.2, (node_set_tested g c.cut).1 p.3, (cut_off_tested g q c graph).1 p.4)
-        refl
+    refl
 frame_found g q (SplitBy c) graph (Some fault) p = split_fault_found g q c graph fault p
 
 -- a frame that passes has a group
@@ -184,7 +192,7 @@ module _ (g : LinkGraph) (q : List ℕ) (group : IsGroup g q) (c : Split) where
   pair_tested at p h =
       let u : IsUnlinkedPair g q c.k p = ((expected g q c.k group.ascends).each p).0 h in
       pair_entry_tested g c.k p (group.nodes p.0 (has_from_take q c.k p.0 u.0))
-          (group.nodes p.1 (has_from_take q c.k p.1 u.1))
+      (group.nodes p.1 (has_from_take q c.k p.1 u.1))
       (λ e. let l = u.2 in omega (arith, l, e)) (slice_get c.pairs at)
 
   fan_tested : (at : ℕ) (j : ℕ) → Has (later_members q c.k) j
@@ -231,14 +239,14 @@ module _ (g : LinkGraph) (q : List ℕ) (group : IsGroup g q) (c : Split) where
   pub entries_judged : EntriesSay g q c the_pairs (entries_fault g q c)
   entries_judged = elim (found _ _ (pairs_fault g c.k c.pairs) (pairs_found g c.k c.pairs) (HoldsPair g c) the_pairs
       pair_tested) [
-    | inr f ↦ said (Some (Pair f.0.0 f.0.1)) f.1
-    | inl ps ↦ elim (found _ _ (fans_fault g q c.k c.fans) (fans_found g q c.k c.fans) (HoldsFan g q c) the_fans
-        fan_tested) [
-      | inr f ↦ said (Some (Fan f.0)) (ps, f.1)
-      | inl fs ↦
-          elim (no_more g q c) as (λ b. no_more g q c ≡ b → EntriesSay g q c the_pairs (entries_fault g q c)) [
-            | true ↦ λ t. said None (ps, fs, (no_more_tested g q c).0 t)
-            | false ↦ λ f. said (Some Extra) (ps, fs, no (no_more g q c) (no_more_tested g q c) f)
-          ] refl
-    ]
-  ]
+        | inr f ↦ said (Some (Pair f.0.0 f.0.1)) f.1
+        | inl ps ↦ elim (found _ _ (fans_fault g q c.k c.fans) (fans_found g q c.k c.fans) (HoldsFan g q c) the_fans
+            fan_tested) [
+              | inr f ↦ said (Some (Fan f.0)) (ps, f.1)
+              | inl fs ↦
+                  elim (no_more g q c) as (λ b. no_more g q c ≡ b → EntriesSay g q c the_pairs (entries_fault g q c)) [
+                    | true ↦ λ t. said None (ps, fs, (no_more_tested g q c).0 t)
+                    | false ↦ λ f. said (Some Extra) (ps, fs, no (no_more g q c) (no_more_tested g q c) f)
+                  ] refl
+            ]
+      ]

@@ -26,7 +26,7 @@ of_fans place (j ∷ js) = Fan place j ∷ of_fans (suc place) js
 abbrev pub AreExpected : LinkGraph → List ℕ → ℕ → List Expected → Type 0
 AreExpected g q k entries =
     (pairs : List (ℕ × ℕ)) × AreUnlinkedPairs g q k pairs × (entries ≡ of_pairs 0 pairs ++ of_fans 0
-        (later_members q k))
+    (later_members q k))
 
 -- the entry is one of those that are expected
 abbrev pub IsExpected : LinkGraph → List ℕ → ℕ → Expected → Type 0

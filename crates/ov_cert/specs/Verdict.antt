@@ -90,7 +90,7 @@ abbrev pub IsFirstFault : LinkGraph → List ℕ → Cert → CheckFault → Typ
 IsFirstFault g q (AllLinked k) fault = IsFrameFault g q (AllLinked k) fault
 IsFirstFault g q (SplitBy c) fault = IsFrameFault g q (SplitBy c) fault
     ⊎ (PassesFrame g q (SplitBy c) × ((pairs : List (ℕ × ℕ)) × AreUnlinkedPairs g q c.k pairs
-        × IsEntryFault g q c pairs fault))
+    × IsEntryFault g q c pairs fault))
 
 -- the verdict on a certificate for a group: none where it is valid, and else its first fault
 abbrev pub JudgedForGroup : LinkGraph → List ℕ → Cert → Option CheckFault → Type 0

@@ -88,7 +88,7 @@ fn check_pairs_of(
     requires j { Has graph.now.nodes j }
     ensures { MatchResult result
         (λ next. (next ≡ place + length (unlinked_before graph.now earlier.now j))
-            × (pairs_fault graph.now k entries.now place (unlinked_before graph.now earlier.now j) ≡ None))
+        × (pairs_fault graph.now k entries.now place (unlinked_before graph.now earlier.now j) ≡ None))
         (λ fault. pairs_fault graph.now k entries.now place (unlinked_before graph.now earlier.now j) ≡ Some fault) }
 {
     let mut next = place;
@@ -114,7 +114,7 @@ pub(crate) fn check_pairs(
     requires { IsGroup graph.now group.now }
     ensures { MatchResult result
         (λ count. (count ≡ length (expected_pairs graph.now group.now k))
-            × (pairs_fault graph.now k entries.now 0 (expected_pairs graph.now group.now k) ≡ None))
+        × (pairs_fault graph.now k entries.now 0 (expected_pairs graph.now group.now k) ≡ None))
         (λ fault. pairs_fault graph.now k entries.now 0 (expected_pairs graph.now group.now k) ≡ Some fault) }
 {
     let first = first_members(group, k);
@@ -138,7 +138,7 @@ pub(crate) fn check_fans(
     requires { IsGroup graph.now group.now }
     ensures { MatchResult result
         (λ count. (count ≡ length (later_members group.now k))
-            × (fans_fault graph.now group.now k entries.now 0 (later_members group.now k) ≡ None))
+        × (fans_fault graph.now group.now k entries.now 0 (later_members group.now k) ≡ None))
         (λ fault. fans_fault graph.now group.now k entries.now 0 (later_members group.now k) ≡ Some fault) }
 {
     let later = later_members(group, k);

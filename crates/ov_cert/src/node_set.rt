@@ -31,10 +31,7 @@ impl<'g> NodeSet<'g> {
     pub(crate) fn new(graph: &'g Graph) -> NodeSet<'g>
         ensures { result ≡ record { graph = graph.now; members = [] } }
     {
-        NodeSet {
-            graph,
-            row: EMPTY,
-        }
+        NodeSet { graph, row: EMPTY }
     }
 
     /// Whether the id is a member.

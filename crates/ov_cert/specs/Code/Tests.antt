@@ -138,7 +138,7 @@ ends_within g side cut a = list_all (λ b. has side b || has cut b) (neighbours_
 abbrev pub is_cut_off : LinkGraph → List ℕ → Split → Bool
 is_cut_off g q c =
     survives q c.cut c.near && (survives q c.cut c.far && (is_node_set g c.side &&
-        (list_all (λ a. not (has c.cut a)) c.side
+    (list_all (λ a. not (has c.cut a)) c.side
     && (has c.side c.near && (not (has c.side c.far) && list_all (λ a. ends_within g c.side c.cut a) c.side)))))
 
 -- whether every two of the list are linked

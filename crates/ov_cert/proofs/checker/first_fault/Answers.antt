@@ -9,4 +9,4 @@ fault_of_entries-requires c =
     let q = c.args.group.now in
     let cert = c.args.cert.now in
     frame_group g q cert (subst (FrameSays g q cert) (sym c.in_default.ensures.fault)
-        (frame_judged g q cert c.in_default.ensures.graph))
+    (frame_judged g q cert c.in_default.ensures.graph))

@@ -8,6 +8,6 @@ pub has_fan-requires-clause-j : goal.has_fan-requires-clause-j
 has_fan-requires-clause-j c =
     let j = c.index-later-place.result in
     let at = has_at c.later_members-later.result.now c.loop-place.place j c.loop-place-test.true
-        c.index-later-place.is in
+    c.index-later-place.is in
     c.requires.nodes j (later_member c.args.group.now c.args.k j
-        (subst (λ xs. Has xs j) c.later_members-later.ensures at))
+    (subst (λ xs. Has xs j) c.later_members-later.ensures at))

@@ -14,7 +14,7 @@ has_pair-requires-clause-differ c = (c.requires.earlier c.i-item.result
 pub loop-i-preserved : goal.loop-i-preserved
 loop-i-preserved c =
     let t = turn_at c.args.graph.now c.args.k c.args.entries.now c.loop-i.next c.i-item.result c.args.j c.loop-i.i-index
-        c.args.earlier.now c.loop-i-test.true c.i-item.is
+    c.args.earlier.now c.loop-i-test.true c.i-item.is
     (sym c.are_linked.ensures ∙ c.if-are_linked.false) (sym c.has_pair.ensures.entry ∙ c.if-not-has_pair.false) in
     record {
       left = t.0 ∙ c.loop-i.invariant.left;

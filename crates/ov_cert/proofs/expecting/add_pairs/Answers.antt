@@ -13,5 +13,5 @@ loop-place-preserved c =
     let later = pairs_after g (take (p + 1) first) (drop (p + 1) first) in
     ap (λ (es : List Expected). with_pairs es later) c.in_ok-add_pairs_of.ensures
     ∙ column_added g c.loop-place.entries.items first p c.index-first-place.result c.loop-place-test.true
-        c.index-first-place.is
+    c.index-first-place.is
     ∙ c.loop-place.invariant

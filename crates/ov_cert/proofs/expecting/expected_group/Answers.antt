@@ -12,6 +12,9 @@ returns c =
     let q = c.args.group.now in
     let k = c.args.split.now.k in
     let pairs = c.in_ok-add_pairs.ensures ∙ ap (λ (xs : List ℕ). of_pairs 0 (pairs_after g [] xs))
-        c.first_members.ensures in
-    (expected_pairs g q k, expected g q k c.requires.ascends, c.in_ok-add_fans.ensures
-        ∙ ap₂ (λ (es : List Expected) (js : List ℕ). es ++ of_fans 0 js) pairs c.later_members.ensures)
+    c.first_members.ensures in (
+      expected_pairs g q k,
+      expected g q k c.requires.ascends,
+      c.in_ok-add_fans.ensures
+          ∙ ap₂ (λ (es : List Expected) (js : List ℕ). es ++ of_fans 0 js) pairs c.later_members.ensures,
+    )

@@ -9,17 +9,17 @@ use Rattle.ov_cert.proofs.expecting.holds_entry.Goals as goal
 pub has_pair-requires-clause-i : goal.has_pair-requires-clause-i
 has_pair-requires-clause-i c =
     (pair_at c.args.graph.now c.args.group.now c.args.split.now c.args.entry c.in-Pair.at c.in-Pair.i c.in-Pair.j
-        c.requires.frame c.requires.expected c.in-Pair.is).i_node
+    c.requires.frame c.requires.expected c.in-Pair.is).i_node
 
 pub has_pair-requires-clause-j : goal.has_pair-requires-clause-j
 has_pair-requires-clause-j c =
     (pair_at c.args.graph.now c.args.group.now c.args.split.now c.args.entry c.in-Pair.at c.in-Pair.i c.in-Pair.j
-        c.requires.frame c.requires.expected c.in-Pair.is).j_node
+    c.requires.frame c.requires.expected c.in-Pair.is).j_node
 
 pub has_pair-requires-clause-differ : goal.has_pair-requires-clause-differ
 has_pair-requires-clause-differ c =
     (pair_at c.args.graph.now c.args.group.now c.args.split.now c.args.entry c.in-Pair.at c.in-Pair.i c.in-Pair.j
-        c.requires.frame c.requires.expected c.in-Pair.is).differ
+    c.requires.frame c.requires.expected c.in-Pair.is).differ
 
 pub has_fan-requires-clause-group : goal.has_fan-requires-clause-group
 has_fan-requires-clause-group c = c.requires.frame.1.ascends
@@ -27,7 +27,7 @@ has_fan-requires-clause-group c = c.requires.frame.1.ascends
 pub has_fan-requires-clause-j : goal.has_fan-requires-clause-j
 has_fan-requires-clause-j c =
     (fan_at c.args.graph.now c.args.group.now c.args.split.now c.args.entry c.in-Fan.at c.in-Fan.j c.requires.frame
-        c.requires.expected c.in-Fan.is).node
+    c.requires.expected c.in-Fan.is).node
 
 -- a test that answers as another does says the same
 same_fact : {P : Type 0} (a b : Bool) → a ≡ b → IsTrue b ↔ P → IsTrue a ↔ P
@@ -39,9 +39,9 @@ returns-in-Pair c =
     let k = c.args.split.now.k in
     let at = c.in-Pair.at in
     same_fact _ _ (c.has_pair.ensures.entry ∙ ap (λ (es : List PairPaths). is_pair_entry g k (c.in-Pair.i, c.in-Pair.j)
-        (slice_get es at)) c.as_slice.ensures)
+    (slice_get es at)) c.as_slice.ensures)
     (pair_at c.args.graph.now c.args.group.now c.args.split.now c.args.entry c.in-Pair.at c.in-Pair.i c.in-Pair.j
-        c.requires.frame c.requires.expected c.in-Pair.is).tested
+    c.requires.frame c.requires.expected c.in-Pair.is).tested
 
 pub returns-in-Fan : goal.returns-in-Fan
 returns-in-Fan c =
@@ -50,6 +50,6 @@ returns-in-Fan c =
     let k = c.args.split.now.k in
     let at = c.in-Fan.at in
     same_fact _ _ (c.has_fan.ensures ∙ ap (λ (es : List FanPaths). is_fan_entry g q k c.in-Fan.j (slice_get es at))
-        c.as_slice-in-Fan.ensures)
+    c.as_slice-in-Fan.ensures)
     (fan_at c.args.graph.now c.args.group.now c.args.split.now c.args.entry c.in-Fan.at c.in-Fan.j c.requires.frame
-        c.requires.expected c.in-Fan.is).tested
+    c.requires.expected c.in-Fan.is).tested

@@ -15,7 +15,7 @@ returns-then-enter_all-clause-some c =
     let of : LinkGraph → List ℕ → NodesOf = λ g ms. record { graph = g; members = ms } in
     ap₂ of (c.enter_all.ensures.graph ∙ ap (λ (v : NodesOf). v.graph) c.new-set.ensures)
     (c.enter_all.ensures.entered c.if-enter_all.true ∙ ap (λ (v : NodesOf). entered v.members c.args.ids.now)
-        c.new-set.ensures ∙ (entered_set c.args.graph.now c.args.ids.now up).1)
+    c.new-set.ensures ∙ (entered_set c.args.graph.now c.args.ids.now up).1)
 
 all_nodes : (g : LinkGraph) (ids : List ℕ) (old : NodesOf) (b : Bool) → old ≡ record { graph = g; members = [] }
     → Ascends ids → b ≡ fresh old.graph old.members ids → list_all (λ x. has g.nodes x) ids ≡ b
@@ -28,11 +28,11 @@ both a b t p q = rw (← p) q
 pub returns-then-enter_all-clause-set : goal.returns-then-enter_all-clause-set
 returns-then-enter_all-clause-set c =
     both _ _ true c.if-not-is_ascending.ensures.test (all_nodes c.args.graph.now c.args.ids.now c.new-set.result
-        c.enter_all.result c.new-set.ensures (c.if-not-is_ascending.ensures.set.0 refl) c.enter_all.ensures.fresh
-        ∙ c.if-enter_all.true)
+    c.enter_all.result c.new-set.ensures (c.if-not-is_ascending.ensures.set.0 refl) c.enter_all.ensures.fresh
+    ∙ c.if-enter_all.true)
 
 pub returns-else-enter_all-clause-none : goal.returns-else-enter_all-clause-none
 returns-else-enter_all-clause-none c =
     both _ _ false c.if-not-is_ascending.ensures.test (all_nodes c.args.graph.now c.args.ids.now c.new-set.result
-        c.enter_all.result c.new-set.ensures (c.if-not-is_ascending.ensures.set.0 refl) c.enter_all.ensures.fresh
-        ∙ c.if-enter_all.false)
+    c.enter_all.result c.new-set.ensures (c.if-not-is_ascending.ensures.set.0 refl) c.enter_all.ensures.fresh
+    ∙ c.if-enter_all.false)

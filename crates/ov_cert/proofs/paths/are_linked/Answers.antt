@@ -9,4 +9,4 @@ pub returns : goal.returns
 returns c =
     let g = c.args.graph.now in
     same_test c.linked.result (are_joined g.links c.args.a c.args.b) c.linked.ensures.linked
-        (joined_tested g c.args.a c.args.b (are_joined g.links c.args.a c.args.b) refl)
+    (joined_tested g c.args.a c.args.b (are_joined g.links c.args.a c.args.b) refl)

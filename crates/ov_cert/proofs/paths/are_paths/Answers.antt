@@ -9,9 +9,9 @@ pub loop-path-init : goal.loop-path-init
 loop-path-init c =
     let g = c.args.graph.now in
     let e = two_entered g c.args.i c.args.j c.new-used.result c.enter.new.self c.enter-2.new.self c.enter.result
-        c.enter-2.result
+    c.enter-2.result
     (node_tested g c.args.i c.requires.i) (node_tested g c.args.j c.requires.j) c.requires.differ c.new-used.ensures
-        c.enter.ensures.fresh c.enter.ensures.entered c.enter-2.ensures.fresh c.enter-2.ensures.entered in
+    c.enter.ensures.fresh c.enter.ensures.entered c.enter-2.ensures.fresh c.enter-2.ensures.entered in
     record {
       graph = ap (λ (v : NodesOf). v.graph) e;
       left = ap (λ (v : NodesOf). are_pair_paths g v.members c.args.i c.args.j c.args.paths.now) e;

@@ -9,7 +9,7 @@ pub loop-path-init : goal.loop-path-init
 loop-path-init c =
     let g = c.args.graph.now in
     let e = one_entered g c.args.j c.new-used.result c.enter.new.self c.enter.result
-        (node_tested g c.args.j c.requires.j) c.new-used.ensures c.enter.ensures.fresh c.enter.ensures.entered in
+    (node_tested g c.args.j c.requires.j) c.new-used.ensures c.enter.ensures.fresh c.enter.ensures.entered in
     record {
       graph = ap (λ (v : NodesOf). v.graph) e;
       left = ap (λ (v : NodesOf). are_fan_paths g c.args.group.now v.members c.args.j c.args.paths.now) e;

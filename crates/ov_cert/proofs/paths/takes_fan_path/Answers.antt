@@ -10,8 +10,8 @@ returns-then-not-is_earlier-clause-path c =
     second_fails _ _ _ (not_false _ (sym c.ne.ensures ∙ c.if-ne.false))
     (sym c.is_earlier.ensures ∙ c.if-not-is_earlier.true)
     ∙ sym (fan_by_ends c.args.graph.now c.args.group.now c.args.used.now.members c.args.j c.in-Some.ends.first
-        c.in-Some.ends.last c.in-Some.ends.inside.now c.in-Some.ends.rest.now c.args.path.now c.in-Some.ensures.0
-        c.in-Some.ensures.1)
+    c.in-Some.ends.last c.in-Some.ends.inside.now c.in-Some.ends.rest.now c.args.path.now c.in-Some.ensures.0
+    c.in-Some.ensures.1)
 
 pub returns-clause-path : goal.returns-clause-path
 returns-clause-path c =
@@ -19,7 +19,7 @@ returns-clause-path c =
     (sym c.is_earlier.ensures ∙ c.if-not-is_earlier.false)
     (sym c.is_chained.ensures ∙ c.if-not-is_chained.false)
     (c.enter_all.ensures.fresh ∙ ap (λ (g : LinkGraph). fresh g c.args.used.now.members c.in-Some.ends.rest.now)
-        c.requires.graph)
+    c.requires.graph)
     ∙ sym (fan_by_ends c.args.graph.now c.args.group.now c.args.used.now.members c.args.j c.in-Some.ends.first
-        c.in-Some.ends.last c.in-Some.ends.inside.now c.in-Some.ends.rest.now c.args.path.now c.in-Some.ensures.0
-        c.in-Some.ensures.1)
+    c.in-Some.ends.last c.in-Some.ends.inside.now c.in-Some.ends.rest.now c.args.path.now c.in-Some.ensures.0
+    c.in-Some.ensures.1)

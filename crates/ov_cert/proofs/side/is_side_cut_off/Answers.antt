@@ -19,18 +19,18 @@ returns c =
     let ids : c.as_slice-ids.result.now ≡ s.side = c.as_slice-ids.ensures in
     let side : c.in-Some.side.members ≡ s.side = ap (λ (v : NodesOf). v.members) c.in-Some.ensures.some ∙ ids in
     all_seven (survives c.args.group.now s.cut s.near) (survives c.args.group.now s.cut s.far) (is_node_set g s.side)
-        (list_all (λ a. not (has s.cut a)) s.side) (has s.side s.near) (not (has s.side s.far))
-        (list_all (λ a. ends_within g s.side s.cut a) s.side) c.do_end_within.result
+    (list_all (λ a. not (has s.cut a)) s.side) (has s.side s.near) (not (has s.side s.far))
+    (list_all (λ a. ends_within g s.side s.cut a) s.side) c.do_end_within.result
     (ap (λ (xs : List ℕ). survives c.args.group.now xs s.near) (sym c.requires.cut) ∙ sym c.does_survive.ensures
-        ∙ c.if-not-does_survive.false)
+    ∙ c.if-not-does_survive.false)
     (ap (λ (xs : List ℕ). survives c.args.group.now xs s.far) (sym c.requires.cut)
-        ∙ sym c.does_survive-else-not-does_survive.ensures ∙ c.if-not-does_survive-2.false)
+    ∙ sym c.does_survive-else-not-does_survive.ensures ∙ c.if-not-does_survive-2.false)
     (ap (is_node_set g) (sym ids) ∙ c.in-Some.ensures.set)
     (ap (λ (xs : List ℕ). list_all (λ a. not (has xs a)) s.side) (sym c.requires.cut)
-        ∙ ap (list_all (λ a. not (has c.args.cut.now.members a))) (sym ids) ∙ sym c.are_outside.ensures
-        ∙ c.if-not-are_outside.false)
+    ∙ ap (list_all (λ a. not (has c.args.cut.now.members a))) (sym ids) ∙ sym c.are_outside.ensures
+    ∙ c.if-not-are_outside.false)
     (ap (λ (xs : List ℕ). has xs s.near) (sym side) ∙ sym c.has.ensures ∙ c.if-not-has.false)
     (ap (λ (xs : List ℕ). not (has xs s.far)) (sym side) ∙ ap not (sym c.has-else-not-has.ensures ∙ c.if-has.false))
     (c.do_end_within.ensures ∙ ap (list_all (λ a. ends_within g c.in-Some.side.members c.args.cut.now.members a)) ids
     ∙ ap (λ (xs : List ℕ). list_all (λ a. ends_within g xs c.args.cut.now.members a) s.side) side
-        ∙ ap (λ (xs : List ℕ). list_all (λ a. ends_within g s.side xs a) s.side) c.requires.cut)
+    ∙ ap (λ (xs : List ℕ). list_all (λ a. ends_within g s.side xs a) s.side) c.requires.cut)

@@ -15,25 +15,25 @@ pub returns-then-has-clause-fresh : goal.returns-then-has-clause-fresh
 returns-then-has-clause-fresh c =
     let s = c.self.inside in
     let at = at_place s.graph.now s.row c.in-Some.place c.args.id c.in-Some.ensures.graph c.in-Some.ensures.some.0
-        c.in-Some.ensures.some.1 in
+    c.in-Some.ensures.some.1 in
     fresh_not _ _ (ap (λ (v : NodesOf). has v.graph.nodes c.args.id) (sym c.self.view_is) ∙ at.node)
     (ap (λ (v : NodesOf). has v.members c.args.id) (sym c.self.view_is) ∙ sym (at.member c.has.result c.has.ensures)
-        ∙ c.if-has.true)
+    ∙ c.if-has.true)
 
 pub returns-clause-fresh : goal.returns-clause-fresh
 returns-clause-fresh c =
     let s = c.self.inside in
     let at = at_place s.graph.now s.row c.in-Some.place c.args.id c.in-Some.ensures.graph c.in-Some.ensures.some.0
-        c.in-Some.ensures.some.1 in
+    c.in-Some.ensures.some.1 in
     fresh_yes _ _ (ap (λ (v : NodesOf). has v.graph.nodes c.args.id) (sym c.self.view_is) ∙ at.node)
     (ap (λ (v : NodesOf). has v.members c.args.id) (sym c.self.view_is) ∙ sym (at.member c.has.result c.has.ensures)
-        ∙ c.if-has.false)
+    ∙ c.if-has.false)
 
 pub returns-clause-entered : goal.returns-clause-entered
 returns-clause-entered c =
     let s = c.self.inside in
     let at = at_place s.graph.now s.row c.in-Some.place c.args.id c.in-Some.ensures.graph c.in-Some.ensures.some.0
-        c.in-Some.ensures.some.1 in
+    c.in-Some.ensures.some.1 in
     let of : List ℕ → NodesOf = λ ms. record { graph = s.graph.now; members = ms } in
     ap of (at.taken c.put.new.row c.put.ensures) ∙ ap (λ (v : NodesOf). record v
-        { members = adding c.args.id v.members }) c.self.view_is
+    { members = adding c.args.id v.members }) c.self.view_is

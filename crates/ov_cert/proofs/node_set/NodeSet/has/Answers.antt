@@ -9,11 +9,11 @@ pub returns-in-Some : goal.returns-in-Some
 returns-in-Some c =
     let s = c.self.inside in
     let at = at_place s.graph.now s.row c.in-Some.place c.args.id c.in-Some.ensures.graph c.in-Some.ensures.some.0
-        c.in-Some.ensures.some.1 in
+    c.in-Some.ensures.some.1 in
     at.member c.has.result c.has.ensures ∙ ap (λ (v : NodesOf). has v.members c.args.id) c.self.view_is
 
 pub returns-in-None : goal.returns-in-None
 returns-in-None c =
     let s = c.self.inside in
     sym (stranger_unmarked s.row s.graph.now.nodes c.args.id c.in-None.ensures.none)
-        ∙ ap (λ (v : NodesOf). has v.members c.args.id) c.self.view_is
+    ∙ ap (λ (v : NodesOf). has v.members c.args.id) c.self.view_is

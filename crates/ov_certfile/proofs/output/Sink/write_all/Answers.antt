@@ -10,9 +10,13 @@ loop-rest-preserved g c =
     let taken = take c.in-Ok.count c.loop-rest.rest.now in
     let whole : (done ++ taken) ++ drop c.in-Ok.count c.loop-rest.rest.now ≡ c.args.bytes.now =
     append_assoc done taken (drop c.in-Ok.count c.loop-rest.rest.now)
-        ∙ ap (λ l. done ++ l) (take-append-drop c.in-Ok.count c.loop-rest.rest.now) ∙ c.loop-rest.invariant.taken.2 in
+    ∙ ap (λ l. done ++ l) (take-append-drop c.in-Ok.count c.loop-rest.rest.now) ∙ c.loop-rest.invariant.taken.2 in
     record {
-      taken = (done ++ taken, Appends-trans _ _ _ _ _ c.loop-rest.invariant.taken.1 c.in-Ok.ensures.bytes, grind
-          (arith, common_steps, whole));
+      taken = (
+        done ++ taken,
+        Appends-trans _ _ _ _ _ c.loop-rest.invariant.taken.1 c.in-Ok.ensures.bytes,
+        grind
+            (arith, common_steps, whole),
+      );
       faults = c.loop-rest.invariant.faults;
     }
