@@ -121,6 +121,16 @@ impl Graph {
         &self.rows[place_in(&self.nodes, a)]
     }
 
+    /// The row of the node at a place: bit `q` is set where it is linked to the node at place `q`.
+    pub fn row_at(&self, p: usize) -> &[u64; WORDS]
+        requires { p < length self.now.nodes }
+        ensures bits { (q : ℕ) → HasBit result.now q
+            ↔ ((q < length self.now.nodes) × Linked self.now (node_at self.now p) (node_at self.now q)) }
+        ensures graph { IsGraph self.now }
+    {
+        &self.rows[p]
+    }
+
     /// How many words of the rows are in use: no row has a bit beyond them.
     pub fn words(&self) -> usize
         ensures words { AreWordsFor (length self.now.nodes) result }
