@@ -1,9 +1,10 @@
 #!/bin/sh
-# run.sh BENCH [FOLDER]: lays the program of bench/BENCH and the crates that it uses into FOLDER, or into a new folder, proves and
-# builds it there, and runs it. Where the bench has the same in plain Rust, that is built too, and runs first.
-# The bench's uses.txt is its program's line in crates.txt; what those crates use is found in the crates.txt of this repository.
+# run.sh BENCH [FOLDER]: lays the program of bench/BENCH and the crates that it uses into FOLDER, or into a new folder,
+# proves and builds it there, and runs it. Where the bench has the same in plain Rust, that is built too, and runs
+# first. The bench's uses.txt is its program's line in crates.txt; what those crates use is found in the crates.txt of
+# this repository.
 set -e
-root=$(cd "$(dirname "$0")/.." && pwd)
+root=$(readlink -f -- "$(dirname -- "$(readlink -f -- "$0")")/..")
 bench=$root/bench/$1
 if [ -z "$1" ] || [ ! -f "$bench/uses.txt" ]; then
     echo 'usage: run.sh net|peer|wire [FOLDER]' >&2

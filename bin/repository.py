@@ -54,8 +54,15 @@ def is_current(crate):
         built = min(built, begun.stat().st_mtime)
     paths = [str(ROOT / "crates.txt")]
     for name in [crate, *below(crate)]:
+        folder = ROOT / "crates" / name
+        if not (folder / "src").is_dir():
+            return False
         for part in ("src", "specs", "proofs"):
-            for at, _, files in os.walk(ROOT / "crates" / name / part):
+            for at, _, files in os.walk(folder / part):
                 # a folder is newer where a file in it was removed
                 paths += [at, *(os.path.join(at, file) for file in files)]
+            if name != crate and not (folder / part).is_dir():
+                # the crate's own folder is newer where this one was removed. It is newer where out/ was made, too, so
+                # that it is asked here alone; a program's own crate, whose out/ each build makes, may have neither
+                paths.append(folder)
     return all(os.lstat(path).st_mtime <= built for path in paths)

@@ -4,9 +4,9 @@
 usage: certify.py GRAPH [FILE]   writes the certificate of GRAPH to FILE, or to standard output
        certify.py                lists the graphs
 
-A certificate says that k crashes split a group of nodes, and no fewer do. By Even's test (SIAM J. Comput. 4, 1975) that
-needs a cut of k nodes, k paths between every two unlinked members among the first k, and from every later member k paths to
-members before it. The paths run in the whole graph. For most graphs here the group is all nodes.
+A certificate says that k crashes split a group of nodes, and no fewer do. By Even's test (SIAM J. Comput. 4, 1975)
+that needs a cut of k nodes, k paths between every two unlinked members among the first k, and from every later member
+k paths to members before it. The paths run in the whole graph. For most graphs here the group is all nodes.
 """
 
 import json
@@ -103,7 +103,7 @@ def least_cut(graph, group):
 
 
 def certify(links, finder_of, group):
-    """Tries the neighbours of a member with the fewest links as the cut; where these are not the fewest, asks networkx."""
+    """Tries the neighbours of a member with the fewest links as the cut; where these are too many, asks networkx."""
     graph = nx.Graph(links)
     group = sorted(group or graph)
     finder = finder_of(graph)

@@ -3,8 +3,9 @@
 
 usage: check.py FILE   status 0 where the certificate holds, 1 where it fails or the file is refused
 
-What is JSON is left to Python's json. It reads lists nested 128 deep, numbers beyond every float and halves of surrogate
-pairs, which the format refuses as no JSON (`refused 60`): about a text that has one of these, believe overlay-check.
+What is JSON is left to Python's json. It reads lists nested 128 deep, numbers beyond every float and halves of
+surrogate pairs, which the format refuses as no JSON (`refused 60`): about a text that has one of these, believe
+overlay-check.
 """
 
 import json
@@ -32,7 +33,7 @@ def no_number(text):
 def read(data):
     try:
         text = data.decode("utf-8")
-        # "-0" is no whole number of the format, but Python's 0; files that hold have no "-" and are read without this test
+        # "-0" is no whole number of the format, but Python's 0; files that hold have no "-", and are read without this
         whole_number = (lambda digits: int(digits) if digits.isdigit() else float(digits)) if "-" in text else int
         return json.loads(text, parse_int=whole_number, parse_constant=no_number)
     except (ValueError, RecursionError):

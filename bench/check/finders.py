@@ -1,7 +1,8 @@
 """Two finders of disjoint paths for certify.py: one asks networkx, one is quick where a graph has many links.
 
-Both have pair(i, j, k), which gives k paths from i to j, two unlinked nodes, that share only these, and fan(j, earlier, k),
-which gives k paths from j to distinct nodes of `earlier` that share only j. Nodes are numbered from 1.
+Both have pair(i, j, k), which gives k paths from i to j, two unlinked nodes, that share only these, and
+fan(j, earlier, k), which gives k paths from j to distinct nodes of `earlier` that share only j. Nodes are numbered
+from 1.
 """
 
 import networkx as nx
@@ -42,10 +43,10 @@ class NetworkxFinder:
 
 
 class DenseFinder:
-    """Takes the paths of two steps, then those of three that a matching gives, and searches only for what is still missing.
+    """Takes the paths of two steps, then those of three that a matching gives, and searches only for what is missing.
 
-    A set of nodes is a whole number here, with bit x set where node x is a member: two sets of a thousand nodes are met in
-    one operation. links[x] is the set of the nodes that x is linked to.
+    A set of nodes is a whole number here, with bit x set where node x is a member: two sets of a thousand nodes are met
+    in one operation. links[x] is the set of the nodes that x is linked to.
     """
 
     def __init__(self, graph):
@@ -142,8 +143,8 @@ def exactly(k, paths, links, source, sink):
 def one_path_more(links, source, sink, paths):
     """As many paths and one more, others or the same ones; None where there are not so many.
 
-    This is the search of Ford and Fulkerson, in breadth, over nodes that are split in two: a node is come into ("in") and
-    gone out of ("out"), and a node of a path can't be come into and gone out of once more.
+    This is the search of Ford and Fulkerson, in breadth, over nodes that are split in two: a node is come into ("in")
+    and gone out of ("out"), and a node of a path can't be come into and gone out of once more.
     """
     steps = {step for path in paths for step in zip(path, path[1:])}
     before = {b: a for a, b in steps if b != sink}

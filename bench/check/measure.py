@@ -3,13 +3,15 @@
 
 usage: measure.py [--before PROGRAM] NOW GRAPH..
 
-NOW is the executable of overlay-check, PROGRAM an earlier one that is measured beside it, on 1 core. Each time is the wall
-clock of a whole process, from its start to its end, and the least of several runs: at least three, and more until twenty
-seconds have passed, but one of what takes longer than that. The sides take turns, so that a busy moment strikes all of them.
-Of the processors that this process may use, the first four are "4 cores" and the last of these is "1 core".
+NOW is the executable of overlay-check, PROGRAM an earlier one that is measured beside it, on 1 core. Each time is the
+wall clock of a whole process, from its start to its end, and the least of several runs: at least three, and more until
+twenty seconds have passed, but one of what takes longer than that. The sides take turns, so that a busy moment strikes
+all of them. Of the processors that this process may use, the first four are "4 cores" and the last of these is
+"1 core".
 
-What overlay-check needs to read and parse a file is its time on the same file with a k that is one too large: it parses all
-of it, makes the graph, and then answers the wrong count without a look at the paths. Judging is the whole less that.
+What overlay-check needs to read and parse a file is its time on the same file with a k that is one too large: it parses
+all of it, makes the graph, and then answers the wrong count without a look at the paths. Judging is the whole less
+that.
 """
 
 import argparse

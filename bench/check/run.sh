@@ -1,6 +1,7 @@
 #!/bin/sh
 # run.sh [GRAPH..]: makes the certificates that are missing, and prints the table of times; without words of all graphs.
-# NOW=PROGRAM measures that executable of overlay-check, in place of this repository's, which is built where it is missing.
+# NOW=PROGRAM measures that executable of overlay-check, in place of this repository's, which is built where it is
+# missing.
 # BEFORE=PROGRAM measures an earlier executable beside it.
 set -e
 here=$(dirname "$(readlink -f "$0")")
