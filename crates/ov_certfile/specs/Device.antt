@@ -9,7 +9,7 @@ abbrev pub read_number : ReadFault → ℕ
 read_number Read = 71
 read_number OutOfMemory = 99
 
--- a reader's failure ends the call, so it is the one of that call; want of memory is none of the reader
+-- a reader's failure ends the call, so it is the one of that call; out of memory is none of the reader
 abbrev pub read_failures : {A : Type 0} → Result A ReadFault → ℕ
 read_failures (Ok a) = 0
 read_failures (Err Read) = 1
