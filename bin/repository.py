@@ -2,6 +2,9 @@
 
 import os
 import pathlib
+import signal
+import subprocess
+import time
 
 ROOT = pathlib.Path(__file__).resolve().parent.parent
 
@@ -42,15 +45,52 @@ def lay_out_root(room, names):
     (room / ".git").mkdir()
 
 
+def members_of(session):
+    """The processes of a session that still run."""
+    found = []
+    for stat in pathlib.Path("/proc").glob("[0-9]*/stat"):
+        try:
+            state, _, _, its_session = stat.read_text(errors="replace").rpartition(")")[2].split()[:4]
+        except OSError:
+            continue
+        if int(its_session) == session and state not in "ZX":
+            found.append(int(stat.parent.name))
+    return found
+
+
+def end_session(session):
+    """Ends the processes of a session, and waits until none of them is left."""
+    while members := members_of(session):
+        for process in members:
+            try:
+                os.kill(process, signal.SIGKILL)
+            except ProcessLookupError:
+                pass
+        time.sleep(0.05)
+
+
+def git_folder():
+    """The folder of git, which in a work tree of its own stands elsewhere."""
+    if (ROOT / ".git").is_dir():
+        return ROOT / ".git"
+    command = ["git", "rev-parse", "--absolute-git-dir"]
+    try:
+        return pathlib.Path(subprocess.run(command, cwd=ROOT, capture_output=True, text=True).stdout.strip() or ".git")
+    except FileNotFoundError:
+        return ROOT / ".git"
+
+
 def is_current(crate):
     """Whether the program of a crate is built, and nothing that it is made from has changed since."""
     program = ROOT / "crates" / crate / "out" / crate
     if not os.access(program, os.X_OK):
         return False
     built = program.stat().st_mtime
-    begun, by_gate = ROOT / ".git" / "rt-ci.lock", program.with_suffix(".by-rattle")
-    if by_gate.exists() and begun.exists():
+    if program.with_suffix(".by-rattle").exists():
         # the gate built it, and read the sources from when it began
+        begun = git_folder() / "rt-ci.lock"
+        if not begun.exists():
+            return False
         built = min(built, begun.stat().st_mtime)
     paths = [str(ROOT / "crates.txt")]
     for name in [crate, *below(crate)]:
