@@ -22,11 +22,11 @@ pub(crate) enum Instead {
 }
 
 /// What is wrong or right with a certificate, what it says, and its fault.
-type Row = (&'static str, Instead, Option<CheckFault>);
+pub(crate) type Row = (&'static str, Instead, Option<CheckFault>);
 
 pub(crate) const COUNT: Option<CheckFault> = Some(CheckFault::Count);
 
-const CUT: Option<CheckFault> = Some(CheckFault::Cut);
+pub(crate) const CUT: Option<CheckFault> = Some(CheckFault::Cut);
 
 pub(crate) const SIDE: Option<CheckFault> = Some(CheckFault::Side);
 
@@ -136,7 +136,7 @@ fn two_unlinked_nodes_split_at_zero(rt: HostRuntime) -> Result<(), Fail> {
     )
 }
 
-const CUTS_OF_SQUARE: [Row; 18] = [
+pub(crate) const CUTS_OF_SQUARE: [Row; 18] = [
     ("its own", Cut(2, &[2, 4], 1, 3, &[1]), None),
     ("one more in the number", Cut(3, &[2, 4], 1, 3, &[1]), COUNT),
     ("one more in the cut", Cut(2, &[4, 2, 9], 1, 3, &[1]), COUNT),
@@ -162,7 +162,7 @@ fn cut_and_side_of_a_square(rt: HostRuntime) -> Result<(), Fail> {
     have_faults(rt.alloc(), SQUARE, SPLIT_OF_SQUARE, &CUTS_OF_SQUARE)
 }
 
-const FANS_OF_SQUARE: [Row; 9] = [
+pub(crate) const FANS_OF_SQUARE: [Row; 9] = [
     ("no fans", Fans(&[]), FAN_3),
     ("one fan", Fans(&[(3, &[&[3, 2], &[3, 4, 1]])]), FAN_4),
     (
@@ -211,7 +211,7 @@ fn fans_of_a_square(rt: HostRuntime) -> Result<(), Fail> {
     have_faults(rt.alloc(), SQUARE, SPLIT_OF_SQUARE, &FANS_OF_SQUARE)
 }
 
-const PAIRS_OF_FIVE: [Row; 8] = [
+pub(crate) const PAIRS_OF_FIVE: [Row; 8] = [
     (
         "the pair",
         Pairs(&[(1, 2, &[&[1, 3, 2], &[1, 4, 2], &[1, 5, 2]])]),
@@ -288,10 +288,11 @@ fn two_triangles_split_at_one_and_not_at_two(rt: HostRuntime) -> Result<(), Fail
     )
 }
 
-/// The square and its certificate are kept.
+/// The square, all its nodes as members, and its certificate are kept.
 fn is_square(checked: &Checked) -> bool {
     let nodes = [NodeId(1), NodeId(2), NodeId(3), NodeId(4)];
     checked.graph().nodes() == nodes.as_slice()
+        && checked.members() == nodes.as_slice()
         && matches!(checked.cert(), Cert::Split(kept) if kept.k == 2 && kept.fans.as_slice().len() == 2)
 }
 

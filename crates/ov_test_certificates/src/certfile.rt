@@ -5,7 +5,7 @@ use crate::drawn::{
 use crate::files;
 use ov_cert::Cert;
 use ov_certfile::{ReadFault, Sink, Source, WriteFault, from_text, to_text, to_text_group};
-use ov_test_kit::Interrupted;
+use ov_test_kit::{Interrupted, ids};
 use std::alloc::Global;
 use std::test::Fail;
 
@@ -65,9 +65,55 @@ fn a_square_with_its_fans(rt: HostRuntime) -> Result<(), Fail> {
     Ok(())
 }
 
+/// The split certificate of members of the square is written as this text.
+fn is_group_written(alloc: Global, members: &[u32], said: Said, text: &str) -> Result<bool, Fail> {
+    let graph = graph(alloc, SQUARE)?;
+    let group = ids(alloc, members)?;
+    let cert = split(alloc, said)?;
+    let written = to_text_group(alloc, &cert, &graph, group.as_slice(), 0)?;
+    Ok(written.as_str() == text)
+}
+
+/// Of the members 1, 2 and 3 of the square.
+const SPLIT_OF_THREE: Said = Said {
+    fans: &[(3, &[&[3, 2], &[3, 4, 1]])],
+    ..SPLIT_OF_SQUARE
+};
+
 #[test]
 fn a_group_of_three_nodes_of_a_square(rt: HostRuntime) -> Result<(), Fail> {
-    assert!(rt; is_kept(rt.alloc(), files::SQUARE_GROUP)?);
+    let alloc = rt.alloc();
+    let all = [1, 2, 3, 4];
+    assert!(rt; is_group_written(alloc, &[1, 2, 3], SPLIT_OF_THREE, files::SQUARE_GROUP)?);
+    assert!(rt; is_group_written(alloc, &all, SPLIT_OF_SQUARE, files::SQUARE)?);
+    assert!(rt; is_kept(alloc, files::SQUARE_GROUP)?);
+    Ok(())
+}
+
+/// A file, and the group that it is read with.
+static GROUPS: [(&str, &[u32]); 4] = [
+    (files::SQUARE, &[1, 2, 3, 4]),
+    (files::SQUARE_GROUP, &[1, 2, 3]),
+    (files::TWO_LINKED_GROUP, &[1, 2]),
+    (STRANGERS, &[9, 1]),
+];
+
+/// The group falls, and has a stranger.
+const STRANGERS: &str =
+    r#"{"group":[9,1],"k":1,"links":[[1,2]],"moment":6,"nodes":[1,2],"verdict":"linked","version":2}"#;
+
+/// The text is read with this group.
+fn is_of_group(alloc: Global, text: &str, members: &[u32]) -> Result<bool, Fail> {
+    let group = ids(alloc, members)?;
+    let filed = from_text(alloc, text)?;
+    Ok(filed.group.as_slice() == group.as_slice())
+}
+
+#[test]
+fn the_group_of_version_1_is_all_nodes(rt: HostRuntime) -> Result<(), Fail> {
+    for (i, (text, members)) in GROUPS.iter().enumerate() {
+        assert!(rt; is_of_group(rt.alloc(), text, members)?, "in row {i}");
+    }
     Ok(())
 }
 

@@ -140,7 +140,7 @@ fn told(alloc: Global, bytes: &[u8]) -> Result<(u8, Vec<u8>), JudgeFault> {
 }
 
 /// The text is this line.
-fn is_line(text: &[u8], line: &str) -> bool {
+pub(crate) fn is_line(text: &[u8], line: &str) -> bool {
     matches!(text.split_last(), Some((b'\n', before)) if before == line.as_bytes())
 }
 
@@ -153,7 +153,7 @@ fn is_told(rt: &impl Abort, alloc: Global, bytes: &[u8], line: &str) -> Result<(
 }
 
 /// The three parts of a row.
-fn parts(row: &str) -> Option<(&str, &str, &str)> {
+pub(crate) fn parts(row: &str) -> Option<(&str, &str, &str)> {
     let (old, rest) = row.split_once(" => ")?;
     let (new, line) = rest.split_once(" => ")?;
     Some((old, new, line))

@@ -306,3 +306,26 @@ fn words_that_are_not_in_use_are_not_looked_at(rt: HostRuntime) {
         words_for(0) == 0 && words_for(64) == 1 && words_for(65) == 2 && words_for(1_024) == 16
     );
 }
+
+/// How many nodes, and how many words of their rows are in use.
+static WORDS_OF_MANY: [(u32, usize); 6] = [(0, 0), (1, 1), (64, 1), (65, 2), (128, 2), (1_024, 16)];
+
+/// How many words of the rows of so many nodes are in use.
+fn words_of_many(alloc: Global, count: u32) -> Result<usize, GraphFault> {
+    let mut nodes = Vec::new(alloc);
+    for number in 0..count {
+        nodes.push(NodeId(number))?;
+    }
+    Ok(Graph::new(alloc, &nodes, &[])?.words())
+}
+
+#[test]
+fn a_word_has_64_nodes(rt: HostRuntime) -> Result<(), Fail> {
+    for (count, words) in &WORDS_OF_MANY {
+        assert!(rt;
+            words_of_many(rt.alloc(), *count)? == *words,
+            "{count} nodes"
+        );
+    }
+    Ok(())
+}

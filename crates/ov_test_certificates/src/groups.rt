@@ -11,7 +11,7 @@ use ov_test_kit::ids;
 use std::alloc::Global;
 use std::test::Fail;
 
-const BAD_GROUP: Option<CheckFault> = Some(CheckFault::BadGroup);
+pub(crate) const BAD_GROUP: Option<CheckFault> = Some(CheckFault::BadGroup);
 
 /// The fault of the pair of 1 and 3.
 const PAIR: Option<CheckFault> = Some(CheckFault::Pair {
@@ -71,7 +71,7 @@ fn have_faults(alloc: Global, drawn: Drawn, own: Said, rows: &[Row]) -> Result<(
 }
 
 /// Of the members 1, 3 and 5.
-const SPLIT_OF_RING: Said = Said {
+pub(crate) const SPLIT_OF_RING: Said = Said {
     k: 2,
     cut: &[2, 5],
     near: 1,
@@ -81,7 +81,7 @@ const SPLIT_OF_RING: Said = Said {
     fans: &[(5, &[&[5, 1], &[5, 4, 3]])],
 };
 
-const GROUPS_OF_RING: [Row; 11] = [
+pub(crate) const GROUPS_OF_RING: [Row; 11] = [
     ("its own", &[1, 3, 5], All(SPLIT_OF_RING), None),
     ("no members", &[], All(SPLIT_OF_RING), BAD_GROUP),
     ("one twice", &[1, 3, 3, 5], All(SPLIT_OF_RING), BAD_GROUP),

@@ -6,12 +6,20 @@ mod cert;
 #[cfg(test)]
 mod certfile;
 #[cfg(test)]
+mod changes;
+#[cfg(test)]
 mod check;
 #[cfg(test)]
 mod drawn;
+#[cfg(test)]
+mod entries;
 #[cfg(test)]
 mod files;
 #[cfg(test)]
 mod graph;
 #[cfg(test)]
 mod groups;
+#[cfg(test)]
+mod parallel;
+#[cfg(test)]
+mod sixteens;
