@@ -1,0 +1,34 @@
+-- A net by places: its nodes are the places of the nodes, counted from 0.
+use Rattle.std.specs.Prelude.{ℕ, zero, suc, List, [], ◌∷◌, ◌++◌, map, length}
+use Rattle.ov_ids.specs.Sets.{count_below}
+use Rattle.ov_graph.specs.Links.{LinkGraph}
+use Rattle.ov_split.specs.Net.{Net}
+
+-- the places below n
+unfoldable pub places : ℕ → List ℕ
+places zero = []
+places (suc n) = places n ++ n ∷ []
+
+-- the place of a node: as many nodes are below it
+abbrev pub place_in : LinkGraph → ℕ → ℕ
+place_in g x = count_below x g.nodes
+
+-- a link, by the places of its nodes
+abbrev pub link_by_place : LinkGraph → ℕ × ℕ → ℕ × ℕ
+link_by_place g l = (place_in g l.0, place_in g l.1)
+
+-- the same graph, by place
+unfoldable pub graph_by_place : LinkGraph → LinkGraph
+graph_by_place g = record {
+  nodes = places (length g.nodes);
+  links = map (link_by_place g) g.links;
+}
+
+-- the same net, by place
+unfoldable pub net_by_place : Net → Net
+net_by_place n = record {
+  graph = graph_by_place n.graph;
+  avoided = map (place_in n.graph) n.avoided;
+  source = place_in n.graph n.source;
+  targets = map (place_in n.graph) n.targets;
+}

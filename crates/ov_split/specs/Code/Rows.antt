@@ -1,0 +1,31 @@
+-- How a net is kept: a graph, the place of the source, and rows of bits, for the places of the avoided nodes and of the
+-- targets.
+use Rattle.std.specs.Prelude.{ℕ, ◌<◌, List, [], ◌∷◌, length, Option, Some, None}
+use Rattle.ov_graph.specs.Links.{LinkGraph, IsGraph}
+use Rattle.ov_graph.specs.Paths.{node_at}
+use Rattle.ov_graph.specs.Row.{HasBit}
+use Rattle.ov_graph.specs.Code.Kept.{picked}
+use Rattle.ov_split.specs.Net.{Net}
+
+-- the net that is kept so
+abbrev pub net_kept : LinkGraph → List ℕ → ℕ → List ℕ → Net
+net_kept g avoided source targets = record {
+  graph = g;
+  avoided = picked avoided 0 g.nodes;
+  source = node_at g source;
+  targets = picked targets 0 g.nodes;
+}
+
+-- the source has a place, and the bits are of places of nodes other than the source
+pub record IsNetKept (g : LinkGraph) (avoided : List ℕ) (source : ℕ) (targets : List ℕ) : Type 0 where
+  pub graph : IsGraph g
+  pub source_below : source < length g.nodes
+  pub avoided_below : (p : ℕ) → HasBit avoided p → p < length g.nodes
+  pub targets_below : (p : ℕ) → HasBit targets p → p < length g.nodes
+  pub not_avoided : ¬ HasBit avoided source
+  pub no_target : ¬ HasBit targets source
+
+-- the node at a place, if one is given
+abbrev pub node_if : LinkGraph → Option ℕ → List ℕ
+node_if g None = []
+node_if g (Some p) = node_at g p ∷ []
