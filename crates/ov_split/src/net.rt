@@ -1,0 +1,119 @@
+ghost use Rattle.std.specs.Prelude.{◌≡◌, ◌≢◌, ◌↔◌, ℕ, ◌<◌, ◌*◌, length, IfSome, Some};
+ghost use Rattle.ov_ids.specs.Members.{Has};
+ghost use Rattle.ov_graph.specs.Links.{Linked};
+ghost use Rattle.ov_graph.specs.Paths.{node_at};
+ghost use Rattle.ov_graph.specs.Row.{HasBit};
+ghost use Rattle.ov_graph.specs.Code.Kept.{picked};
+ghost use Rattle.ov_split.specs.Net.{IsNet};
+ghost use Rattle.ov_split.specs.Code.Places.{net_by_place};
+ghost use Rattle.ov_split.specs.Code.Rows.{node_if};
+
+use ov_graph::Graph;
+use ov_graph::row::{EMPTY, Row, WORDS, put};
+use std::marker::Model;
+
+/// A net: paths are sought in a graph from one node, the source, to targets, off the avoided nodes. Contracts see the
+/// nodes by their ids; the calls speak of places of nodes, counted from 0.
+#[derive(Drop)]
+pub struct SplitNet<'g> {
+    graph: &'g Graph,
+    avoided: Row,
+    source: usize,
+    targets: Row,
+}
+
+impl<'g> Model for SplitNet<'g> {
+    ghost use Rattle.ov_split.specs.Net.{Net};
+    ghost use Rattle.ov_split.specs.Code.Rows.{net_kept, IsNetKept};
+
+    ghost Value = { Net };
+
+    ghost view = { λ n. net_kept n.graph.now n.avoided n.source n.targets };
+
+    ghost invariant = { λ n. IsNetKept n.graph.now n.avoided n.source n.targets };
+}
+
+impl<'g> SplitNet<'g> {
+    /// The net with this source and these targets, in which one node or none is avoided. The source is neither avoided
+    /// nor a target.
+    pub fn new(
+        graph: &'g Graph,
+        avoided: Option<usize>,
+        source: usize,
+        targets: Row,
+    ) -> SplitNet<'g>
+        requires source { source < length graph.now.nodes }
+        requires avoided { IfSome avoided (λ p. (p < length graph.now.nodes) × (p ≢ source)) }
+        requires targets { (p : ℕ) → HasBit targets p → (p < length graph.now.nodes) × (p ≢ source) }
+        ensures net { result ≡ record {
+          graph = graph.now;
+          avoided = node_if graph.now avoided;
+          source = node_at graph.now source;
+          targets = picked targets 0 graph.now.nodes;
+        } }
+        ensures is_net { IsNet result }
+    {
+        prove!(source < graph.nodes().len());
+        let avoided = row_of(avoided);
+        SplitNet {
+            graph,
+            avoided,
+            source,
+            targets,
+        }
+    }
+
+    /// The graph.
+    pub fn graph(&self) -> &'g Graph
+        ensures graph { result.now ≡ self.now.graph }
+        ensures net { IsNet self.now }
+    {
+        self.graph
+    }
+
+    /// The place of the source.
+    pub fn source(&self) -> usize
+        ensures place { result ≡ (net_by_place self.now).source }
+        ensures below { result < length self.now.graph.nodes }
+        ensures net { IsNet self.now }
+    {
+        self.source
+    }
+
+    /// A row with the places of the targets.
+    pub fn targets(&self) -> &Row
+        ensures places { (p : ℕ) → HasBit result.now p ↔ Has (net_by_place self.now).targets p }
+        ensures net { IsNet self.now }
+    {
+        &self.targets
+    }
+
+    /// A row with the places of the avoided nodes.
+    pub fn avoided(&self) -> &Row
+        ensures places { (p : ℕ) → HasBit result.now p ↔ Has (net_by_place self.now).avoided p }
+        ensures net { IsNet self.now }
+    {
+        &self.avoided
+    }
+
+    /// A row with the places that the one at a place is linked to.
+    pub fn links_at(&self, p: usize) -> &Row
+        requires { p < length self.now.graph.nodes }
+        ensures links { (q : ℕ) → HasBit result.now q ↔ Linked (net_by_place self.now).graph p q }
+        ensures net { IsNet self.now }
+    {
+        self.graph.row_at(p)
+    }
+}
+
+/// The row with the bit of one place, or of none.
+fn row_of(place: Option<usize>) -> Row
+    requires { IfSome place (λ p. p < 64 * WORDS) }
+    ensures { (q : ℕ) → HasBit result q ↔ (place ≡ Some q) }
+{
+    let mut row = EMPTY;
+    if let Some(p) = place {
+        put(&mut row, p);
+    }
+    row
+}
