@@ -161,7 +161,8 @@ after_complete g earlier [] i j up h k l n = absurd k
 after_complete g earlier (x ∷ rest) i j up h k l n = elim k [
   | inl e ↦ has_append_left (unlinked_before g earlier x) (pairs_after g (earlier ++ x ∷ []) rest) (i, j)
       (elim (has_append_cases earlier (x ∷ rest) i h) [
-        | inl m ↦ subst (λ (z : ℕ). Has (unlinked_before g earlier z) (i, j)) (sym e) (before_complete g earlier i j m n)
+        | inl m ↦ subst (λ (z : ℕ). Has (unlinked_before g earlier z) (i, j)) (sym e)
+            (before_complete g earlier i j m n)
         | inr m ↦ absurd (elim m [
           | inl f ↦ omega (arith, e, f, l)
           | inr q ↦ let o : x < i = ordered_across (λ y z. y < z) (x ∷ []) rest x i

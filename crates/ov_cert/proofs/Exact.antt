@@ -5,7 +5,7 @@ use Rattle.std.specs.List.{AllByRecursion}
 use Rattle.ov_ids.specs.Members.{Has}
 use Rattle.ov_ids.proofs.Members.{all_member, all_from_members}
 use Rattle.ov_graph.specs.Links.{LinkGraph, IsGraph, IsGroup}
-use Rattle.ov_graph.specs.Joined.{FewestForGroup}
+use Rattle.ov_graph.specs.Joined.{NoFewerSplit, FewestForGroup}
 use Rattle.ov_graph.specs.Paths.{ArePaths, IsFan}
 use Rattle.ov_graph.specs.Even.{later_members, members_below, PassesEven}
 use Rattle.ov_graph.proofs.Sufficing.{even_suffices, linked_joined, linked_whole}
@@ -18,9 +18,9 @@ use Rattle.ov_cert.specs.declared.fault.CheckFault.{CheckFault}
 use Rattle.ov_cert.specs.Valid.{k_of, AreUnlinkedPairs, IsValidSplit, IsValidForGroup}
 use Rattle.ov_cert.specs.Verdict.{PassesFrame, IsPairEntry, IsFanEntry, HoldsPair, HoldsFan, IsEntryFault, IsFirstFault}
 use Rattle.ov_cert.specs.Verdict.{JudgedForGroup}
-use Rattle.ov_cert.specs.Laws.{IsReached, NoFewerSplit, ValidMeans}
+use Rattle.ov_cert.specs.Laws.{ReachesNumber, ValidMeans, OneVerdict}
 use Rattle.ov_cert.specs.Code.Tests.{expected_pairs, frame_fault, later_fault, fault_of, first}
-use Rattle.ov_cert.proofs.Parting.{cut_splits, cut_parts}
+use Rattle.ov_cert.proofs.Parting.{cut_splits, cut_parts, near_is_not_far}
 use Rattle.ov_cert.proofs.Columns.{expected, unlinked_pairs_one}
 use Rattle.ov_cert.proofs.Verdicts.{FrameSays, EntriesSay, frame_judged, frame_found, entries_judged, entries_found}
 
@@ -159,8 +159,7 @@ computed g q (SplitBy c) graph (Some fault) (inr h) =
     ∙ entries_found g q frame.1 c (Some fault) (subst (λ (ps : List (ℕ × ℕ)). IsEntryFault g q c ps fault) same h.1.2)
 
 -- a certificate has one verdict
-pub one_verdict : (g : LinkGraph) (q : List ℕ) (c : Cert) → IsGraph g → (x y : Option CheckFault)
-    → JudgedForGroup g q c x → JudgedForGroup g q c y → x ≡ y
+pub one_verdict : OneVerdict
 one_verdict g q c graph x y a b = sym (computed g q c graph x a) ∙ computed g q c graph y b
 
 behind_frame : (g : LinkGraph) (q : List ℕ) (c : Cert) → PassesFrame g q c → (x : Option CheckFault)
@@ -229,29 +228,34 @@ no_fewer : (g : LinkGraph) (q : List ℕ) (c : Cert) → IsValidForGroup g q c �
 no_fewer g q (AllLinked k) v = λ s few. linked_joined g q v.0.nodes v.2 s
 no_fewer g q (SplitBy c) v = λ s few. even_suffices g q c.k v.0 (passes_even g q c v.1) s few
 
-reached : (g : LinkGraph) (q : List ℕ) (c : Cert) → IsValidForGroup g q c → IsReached g q c
+reached : (g : LinkGraph) (q : List ℕ) (c : Cert) → IsValidForGroup g q c → ReachesNumber g q c
 reached g q (AllLinked k) v = (v.2, v.1)
 reached g q (SplitBy c) v = record {
   nodes = v.1.cut;
   count = v.1.count;
   near_survives = v.1.side.near_survives;
   far_survives = v.1.side.far_survives;
+  differ = near_is_not_far g q c v.1.side;
   parted = cut_parts g q c v.1.side;
 }
-
-pub valid_means : ValidMeans
-valid_means g q c v = (reached g q c v, no_fewer g q c v)
 
 -- a valid certificate's number is the fewest
 pub fewest : (g : LinkGraph) (q : List ℕ) (c : Cert) → IsValidForGroup g q c → FewestForGroup g q (k_of c)
 fewest g q (AllLinked k) v = record {
   group = v.0;
-  reached = inr (v.2, sym v.1);
-  least = λ s few. linked_whole g q
-      v.0.nodes v.2 s;
+  reached = inr (v.2, v.1);
+  least = λ s few. linked_whole g q v.0.nodes v.2 s;
 }
 fewest g q (SplitBy c) v = record {
   group = v.0;
   reached = inl (c.cut, v.1.count, cut_splits g q c v.1.cut v.1.side);
   least = λ s few d. d.parted (no_fewer g q (SplitBy c) v s few d.a d.b d.a_survives d.b_survives);
+}
+
+-- what a valid certificate says is so
+pub valid_means : ValidMeans
+valid_means g q c v = record {
+  reached = reached g q c v;
+  no_fewer = no_fewer g q c v;
+  fewest = fewest g q c v;
 }

@@ -103,8 +103,7 @@ abbrev pub AllFresh : LinkGraph → (List ℕ → Type 0) → (List ℕ → List
 AllFresh g Is own used ps = (p : List ℕ) → Has ps p → Is p × IsFresh g used (own p)
 
 -- A test that takes one list after another, with the own nodes of those before it in the set, says that each is so by
--- itself
--- and any two share only what is in `shared`: if a list has no more than its own nodes and these.
+-- itself and any two share only what is in `shared`: if a list has no more than its own nodes and these.
 module _ (g : LinkGraph) (Is : List ℕ → Type 0) (own : List ℕ → List ℕ) (shared : List ℕ)
     (within : (p : List ℕ) (x : ℕ) → Has (own p) x → Has p x)
     (cover : (p : List ℕ) (x : ℕ) → Is p → Has p x → Has shared x ⊎ Has (own p) x) where

@@ -145,7 +145,8 @@ linked_tested g [] = ((λ h. tt), (λ h. refl))
 linked_tested g (a ∷ rest) =
     let each = all_tested (λ b. are_joined g.links a b) (Linked g a) rest
     (λ b. joined_tested g a b (are_joined g.links a b) refl) in
-    let r = and_tested (list_all (λ b. are_joined g.links a b) rest) (all_linked g rest) each (linked_tested g rest) in (
+    let r = and_tested (list_all (λ b. are_joined g.links a b) rest) (all_linked g rest) each
+    (linked_tested g rest) in (
       (λ h. let p = r.0 h in (all_from_members (Linked g a) rest p.0, p.1)),
       (λ h. r.1 ((λ b k. all_member (Linked g a) rest b h.0 k), h.1)),
     )
@@ -169,6 +170,10 @@ all_linked_tested g q up =
       (λ all. r.1 (each_linked g q up all)),
     )
 
+-- near and far are two
+pub near_is_not_far : (g : LinkGraph) (q : List ℕ) (c : Split) → IsCutOff g q c → c.near ≢ c.far
+near_is_not_far g q c off e = off.far_outside (subst (Has c.side) e off.near_inside)
+
 -- the cut parts near and far
 pub cut_parts : (g : LinkGraph) (q : List ℕ) (c : Split) → IsCutOff g q c → ¬ Joined g c.cut c.near c.far
 cut_parts g q c off j = off.far_outside (joined_keeps g c.cut c.side c.near c.far off.closed off.near_inside j)
@@ -181,6 +186,6 @@ cut_splits g q c set off = record {
   b = c.far;
   a_survives = off.near_survives;
   b_survives = off.far_survives;
-  differ = λ e. off.far_outside (subst (Has c.side) e off.near_inside);
+  differ = near_is_not_far g q c off;
   parted = cut_parts g q c off;
 }

@@ -21,8 +21,7 @@ of_fans place [] = []
 of_fans place (j ∷ js) = Fan place j ∷ of_fans (suc place) js
 
 -- these are the expected entries, in order: of the unlinked pairs among the first k members, and then of the fans of
--- the later
--- ones, each with its place in its own list
+-- the later ones, each with its place in its own list
 abbrev pub AreExpected : LinkGraph → List ℕ → ℕ → List Expected → Type 0
 AreExpected g q k entries =
     (pairs : List (ℕ × ℕ)) × AreUnlinkedPairs g q k pairs × (entries ≡ of_pairs 0 pairs ++ of_fans 0

@@ -1,6 +1,5 @@
 -- When a certificate is valid for a group of a graph: by Even's test its number is then the fewest (Even, SIAM J.
--- Comput. 4,
--- 1975). The plain word, IsValid, is that of the group of all nodes.
+-- Comput. 4, 1975). The plain word, IsValid, is that of the group of all nodes.
 use Rattle.std.specs.Prelude.{◌≡◌, ◌↔◌, ◌⊎◌, ℕ, ◌+◌, ◌<◌, List, length, map}
 use Rattle.ov_ids.specs.Members.{Has, Ordered, Ascends}
 use Rattle.ov_graph.specs.Links.{LinkGraph, Linked, AreAllLinked, IsGroup}
@@ -19,8 +18,7 @@ k_of (AllLinked k) = k
 k_of (SplitBy c) = c.k
 
 -- near and far are surviving members that the cut parts: every link from the side, which has near and not far, ends in
--- the
--- side or in the cut
+-- the side or in the cut
 pub record IsCutOff (g : LinkGraph) (q : List ℕ) (c : Split) : Type 0 where
   pub near_survives : Survives q c.cut c.near
   pub far_survives : Survives q c.cut c.far
@@ -32,7 +30,7 @@ pub record IsCutOff (g : LinkGraph) (q : List ℕ) (c : Split) : Type 0 where
 
 -- by the second node, and then by the first
 abbrev pub PairPrecedes : ℕ × ℕ → ℕ × ℕ → Type 0
-PairPrecedes p q = (p.1 < q.1) ⊎ ((p.1 ≡ q.1) × (p.0 < q.0))
+PairPrecedes p r = (p.1 < r.1) ⊎ ((p.1 ≡ r.1) × (p.0 < r.0))
 
 -- the unlinked pairs among the first k members, each once, in order: the pairs that are expected
 pub record AreUnlinkedPairs (g : LinkGraph) (q : List ℕ) (k : ℕ) (pairs : List (ℕ × ℕ)) : Type 0 where
@@ -50,8 +48,7 @@ pub record HaveFans (g : LinkGraph) (q : List ℕ) (k : ℕ) (entries : List Fan
   pub fans : (e : FanPaths) → Has entries e → IsFan g e.j (members_below q e.j) k e.paths
 
 -- the cut is a set of k nodes that cuts the side off, so that k crashes split the group; pairs and fans are as Even's
--- test asks
--- for at k, so that no fewer do
+-- test asks for at k, so that no fewer do
 pub record IsValidSplit (g : LinkGraph) (q : List ℕ) (c : Split) : Type 0 where
   pub count : length c.cut ≡ c.k
   pub cut : IsNodeSet g c.cut
@@ -60,8 +57,7 @@ pub record IsValidSplit (g : LinkGraph) (q : List ℕ) (c : Split) : Type 0 wher
   pub fans : HaveFans g q c.k c.fans
 
 -- the members are a group; and every two are linked and k is one less than their number, or the cut's k nodes cut the
--- side off,
--- and pairs and fans are as Even's test asks for at k
+-- side off, and pairs and fans are as Even's test asks for at k
 abbrev pub IsValidForGroup : LinkGraph → List ℕ → Cert → Type 0
 IsValidForGroup g q (AllLinked k) = IsGroup g q × (length q ≡ k + 1) × AreAllLinked g q
 IsValidForGroup g q (SplitBy c) = IsGroup g q × IsValidSplit g q c

@@ -1,6 +1,5 @@
 -- The verdict on a certificate: valid, or its first fault. A fault is the first where its own condition fails and all
--- before it
--- hold; each fault has a line.
+-- before it hold; each fault has a line.
 use Rattle.std.specs.Prelude.{◌≡◌, ℕ, ◌+◌, ◌⊎◌, ◌<◌, ◌≤◌, List, length, slice_get, Option, Some, None}
 use Rattle.ov_graph.specs.Links.{LinkGraph, AreAllLinked, IsGroup}
 use Rattle.ov_graph.specs.Joined.{IsNodeSet}

@@ -23,7 +23,7 @@ pub struct Split {
     pub near: NodeId,
     /// A member that is neither on the side nor in the cut.
     pub far: NodeId,
-    /// The nodes that are cut off from all others, ascending.
+    /// Surviving nodes, with near and without far, which no link leaves but into the cut, ascending.
     pub side: Seq<NodeId>,
     /// The unlinked pairs among the first k members, each with k paths.
     pub pairs: Seq<PairPaths>,
@@ -31,7 +31,7 @@ pub struct Split {
     pub fans: Seq<FanPaths>,
 }
 
-/// Two nodes, named by their ids, and paths from `i` to `j` that share only these.
+/// Two unlinked members, named by their ids, and paths from `i` to `j` that share only these.
 #[derive(Debug, Drop)]
 pub struct PairPaths {
     pub i: NodeId,

@@ -37,7 +37,9 @@ impl Checked {
     pub fn new(graph: Graph, cert: Cert) -> Result<Checked, (CheckFault, Graph, Cert)>
         ensures valid { IsOk result ↔ IsValid graph cert }
         ensures kept { IfOk result (λ c. c ≡ record { graph = graph; members = graph.nodes; cert = cert }) }
-        ensures back { IfErr result (λ e. Judged graph cert (Some e.0) × (e.1 ≡ graph) × (e.2 ≡ cert)) }
+        ensures fault { IfErr result (λ e. Judged graph cert (Some e.0)) }
+        ensures graph_back { IfErr result (λ e. e.1 ≡ graph) }
+        ensures cert_back { IfErr result (λ e. e.2 ≡ cert) }
     {
         match check(&graph, &cert) {
             Ok(()) => Ok(Checked {
@@ -58,8 +60,10 @@ impl Checked {
     ) -> Result<Checked, (CheckFault, Graph, Vec<NodeId>, Cert)>
         ensures valid { IsOk result ↔ IsValidForGroup graph group.items cert }
         ensures kept { IfOk result (λ c. c ≡ record { graph = graph; members = group.items; cert = cert }) }
-        ensures back { IfErr result (λ e. JudgedForGroup graph group.items cert (Some e.0) × (e.1 ≡ graph)
-            × (e.2 ≡ group) × (e.3 ≡ cert)) }
+        ensures fault { IfErr result (λ e. JudgedForGroup graph group.items cert (Some e.0)) }
+        ensures graph_back { IfErr result (λ e. e.1 ≡ graph) }
+        ensures group_back { IfErr result (λ e. e.2 ≡ group) }
+        ensures cert_back { IfErr result (λ e. e.3 ≡ cert) }
     {
         match check_group(&graph, &group, &cert) {
             Ok(()) => Ok(Checked {

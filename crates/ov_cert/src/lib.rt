@@ -23,4 +23,4 @@ pub use entry::Expected;
 pub use expecting::{expected, expected_group, judge_entry, judge_group_entry};
 pub use fault::CheckFault;
 pub use frame::{check_frame, check_group_frame};
-pub use laws::valid_means;
+pub use laws::{one_verdict, valid_means};

@@ -6,7 +6,7 @@ ghost use Rattle.ov_cert.specs.Code.Tests.{is_earlier, is_group};
 use ov_graph::{Graph, is_member};
 use ov_ids::NodeId;
 
-/// Whether the ids are a group, by the test that definitions compute.
+/// Whether the ids are a group, by the test of `Code.Tests`.
 pub(crate) fn is_group(graph: &Graph, group: &[NodeId]) -> bool
     ensures { result ≡ is_group graph.now group.now }
 {

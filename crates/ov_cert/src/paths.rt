@@ -2,15 +2,15 @@ ghost use Rattle.std.specs.Prelude.{◌≡◌, ◌≢◌, ◌≤◌, [], ◌∷�
 ghost use Rattle.ov_ids.specs.Members.{Has, Ascends};
 ghost use Rattle.ov_ids.specs.Sets.{adding};
 ghost use Rattle.ov_graph.specs.Code.Tests.{are_joined};
-ghost use Rattle.ov_cert.specs.Code.Tests.{chained, is_pair_path, are_pair_paths, is_fan_path, are_fan_paths, entered, inner};
-ghost use Rattle.ov_cert.specs.Code.Tests.{steps};
+ghost use Rattle.ov_cert.specs.Code.Tests.{chained, is_pair_path, are_pair_paths, is_fan_path, are_fan_paths, entered};
+ghost use Rattle.ov_cert.specs.Code.Tests.{inner, steps};
 
 use crate::members::is_earlier;
 use crate::node_set::NodeSet;
 use ov_graph::Graph;
 use ov_ids::{NodeId, Seq};
 
-/// Whether two nodes are linked, by the test that definitions compute.
+/// Whether two nodes are linked, by the test of `Code.Tests`.
 pub(crate) fn are_linked(graph: &Graph, a: NodeId, b: NodeId) -> bool
     ensures { result ≡ are_joined graph.now.links a b }
 {

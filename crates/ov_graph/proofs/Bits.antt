@@ -12,7 +12,8 @@ use Rattle.std.proofs.Math.Nat.{div-div-eq-div-mul}
 use Rattle.std.specs.Int.{bit_at, trailing_zeros, bit_not}
 use Rattle.ov_graph.specs.declared.row.TheConstants.{EMPTY, WORDS}
 use Rattle.ov_graph.specs.Links.{most_nodes}
-use Rattle.ov_graph.specs.Row.{has_bit, HasBit, IsFirstFrom, IsLowest, AreWordsFor}
+use Rattle.ov_graph.specs.Row.{has_bit, HasBit, IsFirstFrom, AreWordsFor}
+use Rattle.ov_graph.specs.Code.Shifts.{IsLowest}
 
 -- a set bit is a 1
 pub bit_one : (row : List ℕ) (p : ℕ) → HasBit row p → bit_at (slice_index row (p / 64)) (p % 64) ≡ 1

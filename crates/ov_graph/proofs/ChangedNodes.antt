@@ -11,7 +11,8 @@ use Rattle.ov_ids.proofs.Members.{has_tested, has_place, same_ordered}
 use Rattle.ov_ids.proofs.Sets.{IsSet-adding, IsSet-without, adding_absent, without_present, count_below-le-length}
 use Rattle.ov_graph.specs.Links.{Precedes, most_nodes}
 use Rattle.ov_graph.specs.Changes.{GainsNode, LosesNode}
-use Rattle.ov_graph.specs.Row.{HasBit, HasOpened, HasClosed}
+use Rattle.ov_graph.specs.Row.{HasBit}
+use Rattle.ov_graph.specs.Code.Shifts.{HasOpened, HasClosed}
 use Rattle.ov_graph.specs.declared.row.TheConstants.{EMPTY}
 use Rattle.ov_graph.specs.Code.Kept.{row_at, links_read, graph_kept, IsKept}
 use Rattle.ov_graph.proofs.Bits.{bit_moved, empty_bit}

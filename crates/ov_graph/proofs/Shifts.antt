@@ -5,7 +5,8 @@ use Rattle.std.proofs.lemmas.Bool.{cases_eq, cases_lt}
 use Rattle.std.proofs.lemmas.Nat.{mod_below, div-add-mod', pow_pos, shr_split, shr_below, and_mask, one_shl}
 use Rattle.std.proofs.lemmas.Nat.Bits.{bit_at_or, bit_at-lt, bit_at-zero, bit_at_above, bit_at_cat_low, bit_at_cat_high}
 use Rattle.std.specs.Int.{bit_at}
-use Rattle.ov_graph.specs.Row.{HasBit, HasOpened, HasClosed}
+use Rattle.ov_graph.specs.Row.{HasBit}
+use Rattle.ov_graph.specs.Code.Shifts.{HasOpened, HasClosed}
 use Rattle.ov_graph.proofs.Bits.{bit_in, bit_of, bit_shifted}
 
 -- a bit of one word or of another

@@ -1,6 +1,5 @@
 -- Even's test suffices: by induction on the ids each survivor is joined to a survivor among the first k members, and
--- any two
--- of these are joined.
+-- any two of these are joined.
 use Rattle.std.proofs.Common.{ℕ, zero, suc, ◌<◌, ◌⊎◌, inl, inr, List, [], ◌∷◌, length, take, drop, nat_lt, subst, arith}
 use Rattle.std.proofs.lemmas.Bool.{cases_order, cases_eq, ltb-true}
 use Rattle.ov_ids.specs.Members.{Has, IsApart}

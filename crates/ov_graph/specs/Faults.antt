@@ -6,6 +6,7 @@ use Rattle.ov_graph.specs.Links.{IsLink, Precedes, most_nodes}
 use Rattle.ov_graph.specs.declared.fault.GraphFault.{GraphFault}
 use Rattle.ov_graph.specs.declared.fault.GraphFault.TheVariants.{TooManyNodes, Unordered, BadLink, OutOfMemory}
 
+-- the number of each fault
 abbrev pub number_of : GraphFault → ℕ
 number_of TooManyNodes = 31
 number_of Unordered = 32

@@ -38,11 +38,15 @@ pub record SplitsGroup (g : LinkGraph) (q s : List ℕ) : Type 0 where
   pub differ : a ≢ b
   pub parted : ¬ Joined g s a b
 
+-- without any set of fewer than k nodes every two surviving members of q are joined
+abbrev pub NoFewerSplit : LinkGraph → List ℕ → ℕ → Type 0
+NoFewerSplit g q k = (s : List ℕ) → length s < k → (a b : ℕ) → Survives q s a → Survives q s b → Joined g s a b
+
 -- q is a group, and k is the size of the smallest set of nodes that splits it, or one less than its members where every
 -- two are linked
 pub record FewestForGroup (g : LinkGraph) (q : List ℕ) (k : ℕ) : Type 0 where
   pub group : IsGroup g q
-  pub reached : ((s : List ℕ) × (length s ≡ k) × SplitsGroup g q s) ⊎ (AreAllLinked g q × (k + 1 ≡ length q))
+  pub reached : ((s : List ℕ) × (length s ≡ k) × SplitsGroup g q s) ⊎ (AreAllLinked g q × (length q ≡ k + 1))
   pub least : (s : List ℕ) → length s < k → ¬ SplitsGroup g q s
 
 -- s splits the graph: without it two different surviving nodes are not joined

@@ -1,14 +1,13 @@
 -- What holds of every graph and group.
-use Rattle.std.specs.Prelude.{◌≡◌, ℕ, ◌<◌, List, length}
+use Rattle.std.specs.Prelude.{◌≡◌, ℕ, List}
 use Rattle.ov_graph.specs.Links.{LinkGraph, IsGroup}
-use Rattle.ov_graph.specs.Joined.{Survives, Joined, FewestForGroup}
+use Rattle.ov_graph.specs.Joined.{NoFewerSplit, FewestForGroup}
 use Rattle.ov_graph.specs.Even.{PassesEven}
 
 -- Even's test suffices: where it passes at k, every two surviving members are joined without any set of fewer than k
 -- nodes (Even, SIAM J. Comput. 4, 1975)
 abbrev pub EvenSuffices : Type 0
-EvenSuffices = (g : LinkGraph) (q : List ℕ) (k : ℕ) → IsGroup g q → PassesEven g q k
-    → (s : List ℕ) → length s < k → (a b : ℕ) → Survives q s a → Survives q s b → Joined g s a b
+EvenSuffices = (g : LinkGraph) (q : List ℕ) (k : ℕ) → IsGroup g q → PassesEven g q k → NoFewerSplit g q k
 
 -- a graph and a group have one number at most
 abbrev pub OneNumber : Type 0

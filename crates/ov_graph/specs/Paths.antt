@@ -13,7 +13,7 @@ pub record IsPath (g : LinkGraph) (a : ℕ) (path : List ℕ) (b : ℕ) : Type 0
 -- any two of the lists have in common at most what is in `shared`
 abbrev pub ShareOnly : List ℕ → List (List ℕ) → Type 0
 ShareOnly shared [] = Unit {0}
-ShareOnly shared (p ∷ ps) = ((q : List ℕ) (x : ℕ) → Has ps q → Has p x → Has q x → Has shared x) × ShareOnly shared ps
+ShareOnly shared (p ∷ ps) = ((r : List ℕ) (x : ℕ) → Has ps r → Has p x → Has r x → Has shared x) × ShareOnly shared ps
 
 -- k paths from a to b, any two of which share only a and b
 pub record ArePaths (g : LinkGraph) (a b k : ℕ) (paths : List (List ℕ)) : Type 0 where

@@ -1,5 +1,5 @@
 -- Rows of bits, in words of 64 bits.
-use Rattle.std.specs.Prelude.{◌≡◌, ◌⊎◌, ℕ, ◌+◌, ◌-◌, ◌*◌, ◌/◌, ◌%◌, ◌<◌, ◌≤◌, ◌==◌, Bool, IsTrue, List, slice_index}
+use Rattle.std.specs.Prelude.{ℕ, ◌+◌, ◌*◌, ◌/◌, ◌%◌, ◌<◌, ◌≤◌, ◌==◌, Bool, IsTrue, List, slice_index}
 use Rattle.std.specs.Int.{bit_at}
 
 -- bit p of a row: bit p mod 64 of its word p / 64
@@ -15,20 +15,6 @@ pub record IsFirstFrom (row : List ℕ) (from p : ℕ) : Type 0 where
   pub reached : from ≤ p
   pub set : HasBit row p
   pub first : (q : ℕ) → from ≤ q → q < p → ¬ HasBit row q
-
--- bit q of a row into which a bit 0 is put at place p: the bits from p on move one place up
-abbrev pub HasOpened : List ℕ → ℕ → ℕ → Type 0
-HasOpened row p q = ((q < p) × HasBit row q) ⊎ ((p < q) × HasBit row (q - 1))
-
--- bit q of a row out of which the bit at place p is taken: the bits after p move one place down
-abbrev pub HasClosed : List ℕ → ℕ → ℕ → Type 0
-HasClosed row p q = ((q < p) × HasBit row q) ⊎ ((p ≤ q) × HasBit row (q + 1))
-
--- t is the first set bit of a word
-pub record IsLowest (word t : ℕ) : Type 0 where
-  pub below : t < 64
-  pub set : bit_at word t ≡ 1
-  pub first : (i : ℕ) → i < t → bit_at word i ≡ 0
 
 -- so many words have bits for n places, and fewer have not
 pub record AreWordsFor (n words : ℕ) : Type 0 where

@@ -4,7 +4,8 @@ ghost use Rattle.std.specs.List.{insert};
 ghost use Rattle.ov_ids.specs.Members.{Has};
 ghost use Rattle.ov_graph.specs.Links.{LinkGraph, most_nodes};
 ghost use Rattle.ov_graph.specs.Changes.{GainsNode, LosesNode, GainsLink, LosesLink};
-ghost use Rattle.ov_graph.specs.Row.{HasBit, HasOpened, HasClosed};
+ghost use Rattle.ov_graph.specs.Row.{HasBit};
+ghost use Rattle.ov_graph.specs.Code.Shifts.{HasOpened, HasClosed};
 ghost use Rattle.ov_graph.specs.Code.Kept.{row_at, graph_kept, IsKept};
 ghost use Rattle.ov_graph.specs.declared.row.TheConstants.{EMPTY};
 

@@ -8,7 +8,7 @@ use thiserror::Error;
 /// Why nodes and links make no graph.
 #[derive(Clone, Copy, Debug, PartialEq, Eq, Error)]
 pub enum GraphFault {
-    #[error("more than 1,024 nodes")]
+    #[error("too many nodes")]
     TooManyNodes,
     #[error("nodes or links do not ascend")]
     Unordered,

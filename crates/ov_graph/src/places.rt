@@ -1,4 +1,4 @@
-ghost use Rattle.std.specs.Prelude.{◌≡◌, ◌<◌, IfSome, IfNone, length, slice_index};
+ghost use Rattle.std.specs.Prelude.{◌≡◌, ◌↔◌, ◌<◌, IsTrue, IfSome, IfNone, length, slice_index};
 ghost use Rattle.std.specs.List.{list_all};
 ghost use Rattle.ov_ids.specs.Members.{Has, Ascends};
 ghost use Rattle.ov_ids.specs.Sets.{has, count_below};
@@ -41,7 +41,8 @@ pub(crate) fn place_for(nodes: &[NodeId], a: NodeId) -> usize
 /// Whether an id is one of these, which ascend, by halving.
 pub fn is_member(ids: &[NodeId], id: NodeId) -> bool
     requires { Ascends ids.now }
-    ensures { result ≡ has ids.now id }
+    ensures member { IsTrue result ↔ Has ids.now id }
+    ensures test { result ≡ has ids.now id }
 {
     place_of(ids, id).is_some()
 }

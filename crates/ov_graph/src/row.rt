@@ -1,7 +1,8 @@
 //! Rows of bits: sets of places of nodes. Functions over many words take how many are in use, and look at no more.
 ghost use Rattle.std.specs.Prelude.{◌≡◌, ◌≢◌, ◌↔◌, ◌⊎◌, ℕ, ◌<◌, ◌≤◌, ◌*◌, IsTrue, IfSome, IfNone};
 ghost use Rattle.std.specs.Int.{bit_at};
-ghost use Rattle.ov_graph.specs.Row.{HasBit, IsFirstFrom, IsLowest, AreWordsFor};
+ghost use Rattle.ov_graph.specs.Row.{HasBit, IsFirstFrom, AreWordsFor};
+ghost use Rattle.ov_graph.specs.Code.Shifts.{IsLowest};
 
 /// How many words a row has.
 pub const WORDS: usize = 16;

@@ -1,7 +1,8 @@
 //! A place that is put into a row of bits, or taken out of it: the bits from there on move by one.
 ghost use Rattle.std.specs.Prelude.{◌≡◌, ◌↔◌, ◌⊎◌, ℕ, ◌+◌, ◌-◌, ◌*◌, ◌/◌, ◌%◌, ◌<◌, ◌≤◌, slice_index};
 ghost use Rattle.std.specs.Int.{bit_at};
-ghost use Rattle.ov_graph.specs.Row.{HasBit, HasOpened, HasClosed};
+ghost use Rattle.ov_graph.specs.Row.{HasBit};
+ghost use Rattle.ov_graph.specs.Code.Shifts.{HasOpened, HasClosed};
 
 use crate::row::{EMPTY, WORDS};
 

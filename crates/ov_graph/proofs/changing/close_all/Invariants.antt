@@ -1,6 +1,7 @@
 -- the rows so far are changed, and the others not
 use Rattle.std.proofs.Common.{◌≡◌, ◌↔◌, ℕ, ◌<◌, ◌≤◌, ◌*◌}
-use Rattle.ov_graph.specs.Row.{HasBit, HasClosed}
+use Rattle.ov_graph.specs.Row.{HasBit}
+use Rattle.ov_graph.specs.Code.Shifts.{HasClosed}
 use Rattle.ov_graph.specs.Code.Kept.{row_at}
 use Rattle.ov_graph.proofs.changing.close_all.Given as goal
 

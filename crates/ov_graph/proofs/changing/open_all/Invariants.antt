@@ -1,6 +1,7 @@
 -- the rows so far are changed, and the others not
 use Rattle.std.proofs.Common.{◌≡◌, ◌↔◌, ℕ, ◌<◌, ◌≤◌, ◌*◌}
-use Rattle.ov_graph.specs.Row.{HasBit, HasOpened}
+use Rattle.ov_graph.specs.Row.{HasBit}
+use Rattle.ov_graph.specs.Code.Shifts.{HasOpened}
 use Rattle.ov_graph.specs.Code.Kept.{row_at}
 use Rattle.ov_graph.proofs.changing.open_all.Given as goal
 

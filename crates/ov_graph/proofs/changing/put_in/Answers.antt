@@ -6,7 +6,8 @@ use Rattle.std.proofs.lemmas.List.{with_items_is}
 use Rattle.ov_ids.specs.Sets.{count_below}
 use Rattle.ov_ids.proofs.Sets.{count_below-le-length}
 use Rattle.ov_graph.specs.declared.row.TheConstants.{EMPTY}
-use Rattle.ov_graph.specs.Row.{HasBit, HasOpened}
+use Rattle.ov_graph.specs.Row.{HasBit}
+use Rattle.ov_graph.specs.Code.Shifts.{HasOpened}
 use Rattle.ov_graph.specs.Changes.{GainsNode}
 use Rattle.ov_graph.specs.Code.Kept.{row_at, graph_kept, IsKept}
 use Rattle.ov_graph.proofs.ChangedNodes.{IsPutIn, gains_node}

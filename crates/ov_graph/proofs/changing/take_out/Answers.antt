@@ -2,7 +2,8 @@
 use Rattle.std.proofs.Common.{◌≡◌, ◌∙◌, ◌↔◌, ◌*◌, ◌<◌, ℕ, List, length, slice_index, sym, ap, subst, arith}
 use Rattle.std.specs.Vec.{with_items}
 use Rattle.std.proofs.lemmas.List.{with_items_is}
-use Rattle.ov_graph.specs.Row.{HasBit, HasClosed}
+use Rattle.ov_graph.specs.Row.{HasBit}
+use Rattle.ov_graph.specs.Code.Shifts.{HasClosed}
 use Rattle.ov_graph.specs.Changes.{LosesNode}
 use Rattle.ov_graph.specs.Code.Kept.{row_at, graph_kept, IsKept}
 use Rattle.ov_graph.proofs.ChangedNodes.{IsTakenOut, loses_node}

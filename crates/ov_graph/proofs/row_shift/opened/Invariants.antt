@@ -1,6 +1,7 @@
 -- the words so far
 use Rattle.std.proofs.Common.{◌≡◌, ◌↔◌, ℕ, ◌<◌, ◌*◌, length}
-use Rattle.ov_graph.specs.Row.{HasBit, HasOpened}
+use Rattle.ov_graph.specs.Row.{HasBit}
+use Rattle.ov_graph.specs.Code.Shifts.{HasOpened}
 use Rattle.ov_graph.proofs.row_shift.opened.Given as goal
 
 abbrev pub invariant-loop-word : goal.invariant-loop-word
