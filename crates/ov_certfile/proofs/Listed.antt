@@ -2,7 +2,8 @@
 use Rattle.std.proofs.Common.{◌≡◌, List, [], ◌∷◌, ◌++◌, Option, Some, refl}
 use Rattle.std.specs.List.{AllByRecursion}
 use Rattle.serde_json.specs.Data.{Data}
-use Rattle.ov_certfile.specs.Forms.{◌>>=◌, list_in}
+use Rattle.ov_certfile.specs.Common.{◌>>=◌}
+use Rattle.ov_certfile.specs.Forms.{list_in}
 use Rattle.ov_certfile.specs.DataOf.{list_data}
 
 -- what was read, behind what was read before

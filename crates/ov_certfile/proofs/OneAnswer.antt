@@ -21,7 +21,7 @@ use Rattle.ov_certfile.specs.declared.fault.FileFault.TheVariants.{NotJson, Miss
 use Rattle.ov_certfile.specs.declared.fault.FileFault.TheVariants.{Version as AnotherVersion, Graph, OutOfMemory}
 use Rattle.ov_certfile.specs.declared.version.Version.{Version}
 use Rattle.ov_certfile.specs.declared.version.Version.TheVariants.{One, Two}
-use Rattle.ov_certfile.specs.declared.verdict.Verdict.TheVariants.{Linked, Split as Splits}
+use Rattle.ov_certfile.specs.declared.verdict.Verdict.TheVariants.{Linked, Split as VerdictSplit}
 use Rattle.ov_certfile.specs.declared.reading.Filed.{Filed}
 
 -- what comes to one answer alone
@@ -77,8 +77,10 @@ split_same a b k cut near far side pairs fans =
 
 cert_same : (d : Data) (a b : Cert) → SaysCert d a → SaysCert d b → a ≡ b
 cert_same d (cert.Linked k) (cert.Linked l) p q = ap (λ n. cert.Linked n) (same _ _ _ p.count q.count)
-cert_same d (cert.Linked k) (cert.Split c) p q = let e : Linked ≡ Splits = same _ _ _ p.verdict q.verdict in absurd (cc)
-cert_same d (cert.Split c) (cert.Linked k) p q = let e : Splits ≡ Linked = same _ _ _ p.verdict q.verdict in absurd (cc)
+cert_same d (cert.Linked k) (cert.Split c) p q =
+    let e : Linked ≡ VerdictSplit = same _ _ _ p.verdict q.verdict in absurd (cc)
+cert_same d (cert.Split c) (cert.Linked k) p q =
+    let e : VerdictSplit ≡ Linked = same _ _ _ p.verdict q.verdict in absurd (cc)
 cert_same d (cert.Split a) (cert.Split b) p q =
     ap (λ c. cert.Split c)
     (split_same a b (same _ _ _ p.k q.k) (same _ _ _ p.cut q.cut) (same _ _ _ p.near q.near) (same _ _ _ p.far q.far)

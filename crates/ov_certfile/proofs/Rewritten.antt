@@ -1,7 +1,7 @@
 -- What is written for a certificate, its graph and group, and a moment is read as just these again.
 use Rattle.std.proofs.Common.{◌≡◌, ℕ, ◌≤◌, ◌+◌, List, length, true, false, Bool, ◌&&◌, cond, Some, None, refl, sym}
-use Rattle.std.proofs.Common.{subst, arith, inl, nat_lt, nat_eq, nat_le}
-use Rattle.std.specs.Cmp.Lexicographic.{pointwise, same_text}
+use Rattle.std.proofs.Common.{subst, arith, inl, nat_lt, nat_le}
+use Rattle.std.specs.Cmp.Lexicographic.{same_text}
 use Rattle.std.proofs.lemmas.Grind.{common_steps}
 use Rattle.std.proofs.lemmas.Bool.{leb-true}
 use Rattle.serde_json.specs.Data.{Members, no_members, object}
@@ -11,14 +11,16 @@ use Rattle.ov_graph.proofs.Tested.{no_fault_found, passed}
 use Rattle.ov_cert.specs.declared.cert.Cert.{Cert}
 use Rattle.ov_cert.specs.declared.cert.Cert.TheVariants as cert
 use Rattle.ov_cert.specs.declared.cert.Split.{Split}
+use Rattle.ov_certfile.specs.Common.{are_same}
 use Rattle.ov_certfile.specs.Keys.{said}
 use Rattle.ov_certfile.specs.Forms.{moment_in, last_moment}
 use Rattle.ov_certfile.specs.Kinds.{most_nodes_of}
 use Rattle.ov_certfile.specs.Demands.{demands, first_unmet, GraphJudged}
 use Rattle.ov_certfile.specs.Says.{Says}
-use Rattle.ov_certfile.specs.DataOf.{whole_data, version_for, with_group, data_in, data_of}
+use Rattle.ov_certfile.specs.DataOf.{whole_data, version_for, data_in, data_of}
 use Rattle.ov_certfile.specs.ReadsBack.{ReadsBack}
-use Rattle.ov_certfile.specs.Code.Writing.{with_graph, with_cert, GraphReadsBack, CertReadsBack, GroupReadsBack}
+use Rattle.ov_certfile.specs.Code.Writing.{with_graph, with_cert, with_group, GraphReadsBack, CertReadsBack}
+use Rattle.ov_certfile.specs.Code.Writing.{GroupReadsBack}
 use Rattle.ov_certfile.specs.declared.version.Version.{Version}
 use Rattle.ov_certfile.specs.declared.version.Version.TheVariants.{One, Two}
 
@@ -27,8 +29,10 @@ use Rattle.ov_certfile.specs.declared.version.Version.TheVariants.{One, Two}
 put_in : (version : Version) (c : Cert) (g : LinkGraph) (q : List ℕ) (m : ℕ)
     → object (with_group version q (with_cert c (with_graph version g m no_members))) ≡ data_in version c g q m
 unfolding data_in
-put_in version (cert.Linked k) g q m = refl
-put_in version (cert.Split c) g q m = refl
+put_in One (cert.Linked k) g q m = refl
+put_in Two (cert.Linked k) g q m = refl
+put_in One (cert.Split c) g q m = refl
+put_in Two (cert.Split c) g q m = refl
 
 pub all_put_in : (version : Version) (c : Cert) (g : LinkGraph) (q : List ℕ) (m : ℕ) (none graph said all : Members)
     → version ≡ version_for g q → none ≡ no_members → graph ≡ with_graph version g m none → said ≡ with_cert c graph
@@ -154,7 +158,7 @@ ruled : (g : LinkGraph) (q : List ℕ) → length g.nodes ≤ most_nodes
     → IsGroupOf (version_for g q) g q × IsFew (version_for g q) g
 unfolding version_for
 ruled g q n =
-    few_and_all (pointwise nat_eq q g.nodes) (nat_le (length g.nodes) (most_nodes_of One)) g q
+    few_and_all (are_same q g.nodes) (nat_le (length g.nodes) (most_nodes_of One)) g q
     (λ e. same_text q g.nodes (sym e)) (leb-true (length g.nodes) (most_nodes_of One)) n
 
 moment_back : (m : ℕ) → m ≤ last_moment → moment_in (whole_data m) ≡ Some m

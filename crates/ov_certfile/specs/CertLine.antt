@@ -1,10 +1,10 @@
 -- What is printed of a certificate.
-use Rattle.std.specs.Prelude.{ℕ, List, [], ◌++◌, codes, decimal, nat_eq, if◌then◌else◌}
-use Rattle.std.specs.Cmp.Lexicographic.{pointwise}
+use Rattle.std.specs.Prelude.{ℕ, List, [], ◌++◌, codes, decimal, if◌then◌else◌}
 use Rattle.ov_ids.specs.Text.{ids_text}
 use Rattle.ov_graph.specs.Links.{LinkGraph}
 use Rattle.ov_cert.specs.declared.cert.Cert.{Cert}
 use Rattle.ov_cert.specs.declared.cert.Cert.TheVariants.{Linked, Split}
+use Rattle.ov_certfile.specs.Common.{are_same}
 
 -- what it says, without its paths
 unfoldable pub claim_text : Cert → List ℕ
@@ -18,7 +18,7 @@ claim_text (Split c) =
 
 -- the group, where it is not all nodes
 abbrev pub group_text : List ℕ → List ℕ → List ℕ
-group_text nodes group = if pointwise nat_eq group nodes then [] else codes " group " ++ ids_text group
+group_text nodes group = if are_same group nodes then [] else codes " group " ++ ids_text group
 
 -- what it says of the group of its graph, without its paths
 unfoldable pub cert_text : Cert → LinkGraph → List ℕ → List ℕ

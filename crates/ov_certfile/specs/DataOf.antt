@@ -1,20 +1,18 @@
 -- The object that is written for a certificate: its keys in the order of their bytes.
-use Rattle.std.specs.Prelude.{ℕ, ◌&&◌, List, [], ◌∷◌, length, map, codes, nat_eq, nat_le, if◌then◌else◌}
-use Rattle.std.specs.Cmp.Lexicographic.{pointwise}
+use Rattle.std.specs.Prelude.{ℕ, ◌&&◌, List, [], ◌∷◌, length, map, codes, nat_le, if◌then◌else◌}
 use Rattle.serde_json.specs.View.{items_of}
 use Rattle.serde_json.specs.Data.{Data, number, string, array, object, unsigned, Members, no_members, member}
-use Rattle.serde_json.specs.Data.{put as with_member}
 use Rattle.ov_graph.specs.Links.{LinkGraph}
 use Rattle.ov_cert.specs.declared.cert.Cert.{Cert}
 use Rattle.ov_cert.specs.declared.cert.Cert.TheVariants as cert
 use Rattle.ov_cert.specs.declared.cert.Split.{Split}
 use Rattle.ov_cert.specs.declared.cert.PairPaths.{PairPaths}
 use Rattle.ov_cert.specs.declared.cert.FanPaths.{FanPaths}
+use Rattle.ov_certfile.specs.Common.{are_same}
 use Rattle.ov_certfile.specs.Kinds.{version_number, verdict_text, most_nodes_of}
 use Rattle.ov_certfile.specs.declared.version.Version.{Version}
 use Rattle.ov_certfile.specs.declared.version.Version.TheVariants.{One, Two}
-use Rattle.ov_certfile.specs.declared.verdict.Verdict.{Verdict}
-use Rattle.ov_certfile.specs.declared.verdict.Verdict.TheVariants.{Linked, Split as Splits}
+use Rattle.ov_certfile.specs.declared.verdict.Verdict.TheVariants.{Linked, Split as VerdictSplit}
 
 -- a whole number
 abbrev pub whole_data : ℕ → Data
@@ -51,29 +49,31 @@ fan_data p = object
 
 -- version 1 exactly where the group is all nodes, and these are as many as it may have at most
 unfoldable pub version_for : LinkGraph → List ℕ → Version
-version_for g group = if pointwise nat_eq group g.nodes && nat_le (length g.nodes) (most_nodes_of One) then One else Two
+version_for g group = if are_same group g.nodes && nat_le (length g.nodes) (most_nodes_of One) then One else Two
 
--- version 2 has the group too, at its place in the order of keys
-abbrev pub with_group : Version → List ℕ → Members → Members
-with_group One group members = members
-with_group Two group members = with_member (codes "group") (ids_data group) members
+-- the group, which version 2 names, and then these members
+abbrev pub group_then : Version → List ℕ → Members → Members
+group_then One group members = members
+group_then Two group members = member (codes "group") (ids_data group) members
 
--- what files of both verdicts have
-abbrev pub common_members : Version → Verdict → ℕ → LinkGraph → ℕ → Members
-common_members version verdict k g moment =
-    member (codes "k") (whole_data k)
+-- what a file has that says that all are linked
+abbrev pub linked_members : Version → ℕ → LinkGraph → List ℕ → ℕ → Members
+linked_members version k g group moment =
+    group_then version group
+    (member (codes "k") (whole_data k)
     (member (codes "links") (list_data link_data g.links)
     (member (codes "moment") (whole_data moment)
     (member (codes "nodes") (ids_data g.nodes)
-    (member (codes "verdict") (string (verdict_text verdict))
-    (member (codes "version") (whole_data (version_number version)) no_members)))))
+    (member (codes "verdict") (string (verdict_text Linked))
+    (member (codes "version") (whole_data (version_number version)) no_members))))))
 
--- what a file that says what splits has
-abbrev pub split_members : Version → Split → LinkGraph → ℕ → Members
-split_members version c g moment =
+-- what a file has that says what splits
+abbrev pub split_members : Version → Split → LinkGraph → List ℕ → ℕ → Members
+split_members version c g group moment =
     member (codes "cut") (ids_data c.cut)
     (member (codes "fans") (list_data fan_data c.fans)
     (member (codes "far") (whole_data c.far)
+    (group_then version group
     (member (codes "k") (whole_data c.k)
     (member (codes "links") (list_data link_data g.links)
     (member (codes "moment") (whole_data moment)
@@ -81,17 +81,17 @@ split_members version c g moment =
     (member (codes "nodes") (ids_data g.nodes)
     (member (codes "pairs") (list_data pair_data c.pairs)
     (member (codes "side") (ids_data c.side)
-    (member (codes "verdict") (string (verdict_text Splits))
-    (member (codes "version") (whole_data (version_number version)) no_members)))))))))))
+    (member (codes "verdict") (string (verdict_text VerdictSplit))
+    (member (codes "version") (whole_data (version_number version)) no_members))))))))))))
 
--- what the file of a certificate has, beside its group
-abbrev pub cert_members : Version → Cert → LinkGraph → ℕ → Members
-cert_members version (cert.Linked k) g moment = common_members version Linked k g moment
-cert_members version (cert.Split c) g moment = split_members version c g moment
+-- what the file of a certificate has
+abbrev pub cert_members : Version → Cert → LinkGraph → List ℕ → ℕ → Members
+cert_members version (cert.Linked k) g group moment = linked_members version k g group moment
+cert_members version (cert.Split c) g group moment = split_members version c g group moment
 
 -- the object of a version
 unfoldable pub data_in : Version → Cert → LinkGraph → List ℕ → ℕ → Data
-data_in version c g group moment = object (with_group version group (cert_members version c g moment))
+data_in version c g group moment = object (cert_members version c g group moment)
 
 -- the object for a certificate, its graph and group, and the moment of the graph
 unfoldable pub data_of : Cert → LinkGraph → List ℕ → ℕ → Data

@@ -9,8 +9,8 @@ use Rattle.ov_graph.specs.Links.{LinkGraph}
 use Rattle.ov_graph.specs.Faults.{Judged}
 use Rattle.ov_graph.specs.declared.fault.GraphFault.{GraphFault}
 use Rattle.ov_graph.specs.declared.fault.GraphFault.TheVariants.{TooManyNodes}
+use Rattle.ov_certfile.specs.Common.{◌>>=◌}
 use Rattle.ov_certfile.specs.Keys.{has_key, has_all, has_no_other, said}
-use Rattle.ov_certfile.specs.Forms.{◌>>=◌}
 use Rattle.ov_certfile.specs.Kinds.{version_in, verdict_in, most_nodes_of, Key, keys_of, names_of}
 use Rattle.ov_certfile.specs.declared.fault.FileFault.{FileFault}
 use Rattle.ov_certfile.specs.declared.fault.FileFault.TheVariants.{MissingKey, UnknownKey, BadValue}

@@ -1,16 +1,11 @@
 -- The forms of the values of a file: what a value says in a form, or nothing where it has not this form.
 use Rattle.std.specs.Prelude.{◌^◌, ◌+◌, ℕ, List, [], ◌∷◌, nat_lt, codes, if◌then◌else◌, Option, Some, None}
-use Rattle.std.specs.Prelude.{option_and_then}
 use Rattle.serde_json.specs.Data.{Data, Items, no_items, item}
 use Rattle.serde_json.specs.Find.{as_number, as_u64, as_array}
 use Rattle.ov_cert.specs.declared.cert.PairPaths.{PairPaths}
 use Rattle.ov_cert.specs.declared.cert.FanPaths.{FanPaths}
+use Rattle.ov_certfile.specs.Common.{◌>>=◌}
 use Rattle.ov_certfile.specs.Keys.{has_just, said}
-
-infixl 10 ◌>>=◌
--- the kit's option_and_then, its parts in the order in which they go
-abbrev pub ◌>>=◌ : {X Y : Type 0} → Option X → (X → Option Y) → Option Y
-x >>= f = option_and_then f x
 
 -- ids and counts are below this
 abbrev pub number_limit : ℕ
@@ -87,9 +82,10 @@ fan_in d = if has_just (codes "j" ∷ codes "paths" ∷ []) d then (
     said paths_in (codes "paths") d >>= λ paths.
     Some (record { j = j; paths = paths })) else None
 
--- the entries
+-- the entries of the pairs
 abbrev pub pairs_in : Data → Option (List PairPaths)
 pairs_in d = list_in pair_in d
 
+-- the entries of the fans
 abbrev pub fans_in : Data → Option (List FanPaths)
 fans_in d = list_in fan_in d

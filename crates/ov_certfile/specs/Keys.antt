@@ -1,18 +1,13 @@
 -- The keys of an object, and what stands at them.
-use Rattle.std.specs.Prelude.{ℕ, ◌&&◌, Bool, List, [], ◌∷◌, nat_eq, is_some, Option, option_map, option_and_then}
-use Rattle.std.specs.Prelude.{unwrap_or}
+use Rattle.std.specs.Prelude.{ℕ, ◌&&◌, Bool, List, [], ◌∷◌, is_some, Option, option_map, unwrap_or}
 use Rattle.std.specs.List.{list_all, list_any}
-use Rattle.std.specs.Cmp.Lexicographic.{pointwise}
 use Rattle.serde_json.specs.Data.{Data, Members, no_members, member}
 use Rattle.serde_json.specs.Find.{get, as_object}
-
--- the two texts are the same
-abbrev pub is_text : List ℕ → List ℕ → Bool
-is_text s t = pointwise nat_eq s t
+use Rattle.ov_certfile.specs.Common.{◌>>=◌, are_same}
 
 -- the text is one of these
 abbrev pub is_among : List (List ℕ) → List ℕ → Bool
-is_among texts s = list_any (λ t. is_text s t) texts
+is_among texts s = list_any (λ t. are_same s t) texts
 
 -- the keys of the members, in order
 abbrev pub member_keys : Members → List (List ℕ)
@@ -41,4 +36,4 @@ has_just keys d = has_all keys d && has_no_other keys d
 
 -- what the value at a key says, read as this form: nothing where the key is not there, or its value has another form
 abbrev pub said : {X : Type 0} → (Data → Option X) → List ℕ → Data → Option X
-said form key d = option_and_then form (get key d)
+said form key d = get key d >>= form

@@ -4,8 +4,9 @@ use Rattle.std.specs.Prelude.{None}
 use Rattle.serde_json.specs.Data.{Data}
 use Rattle.serde_json.specs.Find.{as_str}
 use Rattle.ov_graph.specs.Links.{most_nodes}
-use Rattle.ov_certfile.specs.Keys.{is_text, said}
-use Rattle.ov_certfile.specs.Forms.{◌>>=◌, whole_in, count_in, moment_in, id_in, ids_in, links_in, pairs_in, fans_in}
+use Rattle.ov_certfile.specs.Common.{◌>>=◌, are_same}
+use Rattle.ov_certfile.specs.Keys.{said}
+use Rattle.ov_certfile.specs.Forms.{whole_in, count_in, moment_in, id_in, ids_in, links_in, pairs_in, fans_in}
 use Rattle.ov_certfile.specs.declared.version.Version.{Version}
 use Rattle.ov_certfile.specs.declared.version.Version.TheVariants.{One, Two}
 use Rattle.ov_certfile.specs.declared.verdict.Verdict.{Verdict}
@@ -24,9 +25,13 @@ version_numbered n = if n == 1 then Some One else (if n == 2 then Some Two else 
 abbrev pub version_in : Data → Option Version
 version_in d = whole_in d >>= version_numbered
 
+-- as many nodes as a file of version 1 may have
+abbrev pub most_nodes_of_one : ℕ
+most_nodes_of_one = 256
+
 -- as many nodes as a file of a version may have: version 2 has no limit of its own
 abbrev pub most_nodes_of : Version → ℕ
-most_nodes_of One = 256
+most_nodes_of One = most_nodes_of_one
 most_nodes_of Two = most_nodes
 
 -- the text of a verdict
@@ -37,7 +42,7 @@ verdict_text Split = codes "split"
 -- the verdict with this text
 abbrev pub verdict_named : List ℕ → Option Verdict
 verdict_named s =
-    if is_text s (codes "linked") then Some Linked else (if is_text s (codes "split") then Some Split else None)
+    if are_same s (codes "linked") then Some Linked else (if are_same s (codes "split") then Some Split else None)
 
 -- a verdict: the text "linked" or "split"
 abbrev pub verdict_in : Data → Option Verdict

@@ -1,3 +1,4 @@
+pub mod Common
 pub mod Number
 pub mod Keys
 pub mod Forms

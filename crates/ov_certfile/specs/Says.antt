@@ -15,7 +15,7 @@ use Rattle.ov_certfile.specs.declared.fault.FileFault.{FileFault}
 use Rattle.ov_certfile.specs.declared.fault.FileFault.TheVariants.{NotJson, Graph}
 use Rattle.ov_certfile.specs.declared.version.Version.{Version}
 use Rattle.ov_certfile.specs.declared.version.Version.TheVariants.{One, Two}
-use Rattle.ov_certfile.specs.declared.verdict.Verdict.TheVariants.{Linked, Split as Splits}
+use Rattle.ov_certfile.specs.declared.verdict.Verdict.TheVariants.{Linked, Split as VerdictSplit}
 use Rattle.ov_certfile.specs.declared.reading.Filed.{Filed}
 
 -- the nodes and the links, whether or not they make a graph
@@ -35,7 +35,7 @@ pub record SaysLinked (d : Data) (k : ℕ) : Type 0 where
 
 -- what splits: the cut with its side, and the entries
 pub record SaysSplit (d : Data) (c : Split) : Type 0 where
-  pub verdict : said verdict_in (codes "verdict") d ≡ Some Splits
+  pub verdict : said verdict_in (codes "verdict") d ≡ Some VerdictSplit
   pub k : said count_in (codes "k") d ≡ Some c.k
   pub cut : said ids_in (codes "cut") d ≡ Some c.cut
   pub near : said id_in (codes "near") d ≡ Some c.near

@@ -1,8 +1,8 @@
-ghost use Rattle.std.specs.Prelude.{◌≡◌, ◌≤◌, ◌^◌, map, IfOk, OnOk, Some};
+ghost use Rattle.std.specs.Prelude.{◌≡◌, ◌≤◌, map, IfOk, OnOk, Some};
 ghost use Rattle.serde_json.specs.View.{view, items_view, members_view};
 ghost use Rattle.serde_json.specs.Data.{put as with_member};
 ghost use Rattle.ov_certfile.specs.Keys.{said};
-ghost use Rattle.ov_certfile.specs.Forms.{whole_below, each_in, list_in};
+ghost use Rattle.ov_certfile.specs.Forms.{number_limit, whole_below, each_in, list_in};
 ghost use Rattle.ov_certfile.specs.DataOf.{list_data};
 ghost use Rattle.ov_certfile.specs.Code.Reading.{Reads};
 
@@ -10,6 +10,9 @@ use crate::fault::FileFault;
 use ov_ids::{NodeId, Seq};
 use serde_json::{Map, Value, json, put};
 use std::alloc::{AllocError, Global};
+
+/// Ids and counts are below this.
+pub(crate) const NUMBER_LIMIT: u64 = 1 << 32;
 
 /// What stands in a file as a value of JSON: `form` is what a value says as such a field, if it has the form of one,
 /// and `as_data` the value that is written for one.
@@ -37,7 +40,7 @@ pub(crate) trait Field: Drop {
 
 /// A whole number below a limit.
 fn whole_of(value: &Value, limit: u64) -> Result<u32, FileFault>
-    requires { limit ≤ 2 ^ 32 }
+    requires { limit ≤ number_limit }
     ensures { Reads (λ n. n) result (whole_below limit (view value.now)) }
 {
     match value.as_u64() {
@@ -55,7 +58,7 @@ impl Field for NodeId {
     ghost as_data = { whole_data };
 
     fn from_value(_alloc: Global, value: &Value) -> Result<NodeId, FileFault> {
-        let number = whole_of(value, 1 << 32)?;
+        let number = whole_of(value, NUMBER_LIMIT)?;
         Ok(NodeId(number))
     }
 
@@ -159,7 +162,7 @@ pub(crate) fn read_at<T: Field>(alloc: Global, value: &Value, key: &str) -> Resu
 
 /// The value of a key, read as a whole number below a limit.
 pub(crate) fn whole_at(value: &Value, key: &str, limit: u64) -> Result<u32, FileFault>
-    requires { limit ≤ 2 ^ 32 }
+    requires { limit ≤ number_limit }
     ensures { Reads (λ n. n) result (said (whole_below limit) key.now (view value.now)) }
 {
     match value.get(key) {

@@ -1,10 +1,13 @@
-ghost use Rattle.std.specs.Prelude.{◌≡◌, ◌+◌, ◌-◌, ◌^◌, ◌<◌, IfOk, OnOk, IfSome};
+ghost use Rattle.std.specs.Prelude.{◌≡◌, ◌+◌, ◌<◌, IfOk, OnOk, IfSome};
 ghost use Rattle.std.specs.Io.KnownBytes.{IsAtEnd};
-ghost use Rattle.ov_certfile.specs.Device.{read_failures, read_number};
+ghost use Rattle.ov_certfile.specs.Device.{most_faults, read_failures, read_number};
 
 use std::alloc::{AllocError, Global};
 use std::io::Read;
 use thiserror::Error;
+
+/// The most reads of one call.
+const MOST_READS: u32 = u32::MAX;
 
 /// Why the bytes of a reader are not there.
 #[derive(Clone, Copy, Debug, PartialEq, Eq, Error)]
@@ -64,14 +67,14 @@ impl<R: Read> Source<R> {
     /// All bytes that the reader still has. A read that fails, or is interrupted, is the fault of the call; so is a
     /// reader that has not ended after 4,294,967,295 reads.
     pub fn read_all(&mut self, alloc: Global) -> Result<Vec<u8>, ReadFault>
-        requires { self.old.faults < 2 ^ 64 - 1 }
+        requires { self.old.faults < most_faults }
         ensures bytes { IfOk result (λ v. IfSome (R.remaining self.old.reader) (λ xs. v.items ≡ xs)) }
         ensures end { OnOk result (IsAtEnd (R.remaining self.new.reader)) }
         ensures faults { self.new.faults ≡ self.old.faults + read_failures result }
     {
         let mut bytes = Vec::new(alloc);
         let mut buffer = [0u8; 4096];
-        for _ in 0..u32::MAX {
+        for _ in 0..MOST_READS {
             match self.reader.read(&mut buffer) {
                 Ok(0) => return Ok(bytes),
                 Ok(count) => bytes.extend_from_slice(&buffer[..count])?,

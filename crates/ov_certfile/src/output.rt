@@ -1,6 +1,6 @@
-ghost use Rattle.std.specs.Prelude.{◌≡◌, ◌+◌, ◌-◌, ◌^◌, ◌<◌, OnOk};
+ghost use Rattle.std.specs.Prelude.{◌≡◌, ◌+◌, ◌<◌, OnOk};
 ghost use Rattle.std.specs.Io.KnownBytes.{Appends};
-ghost use Rattle.ov_certfile.specs.Device.{write_failures, AppendsFrontOf};
+ghost use Rattle.ov_certfile.specs.Device.{most_faults, write_failures, AppendsPrefixOf};
 
 use std::io::Write;
 use thiserror::Error;
@@ -51,11 +51,11 @@ impl<W: Write> Sink<W> {
     }
 
     /// Writes all bytes. A write that fails, is interrupted or takes nothing is the fault of the call. What the writer
-    /// took before are the first of these bytes, and nothing is said of how many.
+    /// took before is a prefix of these bytes, and nothing is said of how long it is.
     pub fn write_all(&mut self, bytes: &[u8]) -> Result<(), WriteFault>
-        requires { self.old.faults < 2 ^ 64 - 1 }
+        requires { self.old.faults < most_faults }
         ensures bytes { OnOk result (Appends (W.contents self.old.writer) (W.contents self.new.writer) bytes.now) }
-        ensures front { AppendsFrontOf bytes.now (W.contents self.old.writer) (W.contents self.new.writer) }
+        ensures prefix { AppendsPrefixOf bytes.now (W.contents self.old.writer) (W.contents self.new.writer) }
         ensures faults { self.new.faults ≡ self.old.faults + write_failures result }
     {
         let mut rest = bytes;

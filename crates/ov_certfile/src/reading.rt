@@ -6,11 +6,11 @@ ghost use Rattle.ov_certfile.specs.Forms.{count_in};
 ghost use Rattle.ov_certfile.specs.Kinds.{version_keys};
 ghost use Rattle.ov_certfile.specs.Demands.{GraphJudged};
 ghost use Rattle.ov_certfile.specs.Says.{SaysFile, SaysText};
-ghost use Rattle.ov_certfile.specs.Code.Reading.{Reads, IsHeaded, IsCert, IsGraphed, IsDated, IsNamed, LacksForm, IsUndated};
-ghost use Rattle.ov_certfile.specs.Code.Reading.{IsGraphFault, cert_keys, graph_keys, dated_keys};
+ghost use Rattle.ov_certfile.specs.Code.Reading.{Reads, IsHeaded, IsCert, IsGraphed, IsDated, IsNamed, LacksForm};
+ghost use Rattle.ov_certfile.specs.Code.Reading.{IsUndated, IsGraphFault, cert_keys, graph_keys, dated_keys};
 
 use crate::fault::FileFault;
-use crate::fields::{read_at, whole_at};
+use crate::fields::{NUMBER_LIMIT, read_at, whole_at};
 use crate::heading::heading_of;
 use crate::verdict::Verdict;
 use crate::version::Version;
@@ -19,6 +19,9 @@ use ov_graph::{Graph, GraphFault};
 use ov_ids::{NodeId, Seq};
 use serde_json::Value;
 use std::alloc::Global;
+
+/// The greatest moment.
+const LAST_MOMENT: u64 = 65_536;
 
 /// What a certificate file says.
 #[derive(Drop)]
@@ -42,7 +45,9 @@ pub struct Filed {
 /// 5. it lacks a key of its version and verdict: `MissingKey`;
 /// 6. it has a key that is none of these: `UnknownKey`;
 /// 7. a value has not the form of its key: `BadValue`;
-/// 8. nodes and links are no graph, or in version 1 there are more than 256 nodes: the fault of `Graph::new`.
+/// 8. there are more nodes than its version may have, 256 in version 1 and 1,024 in version 2: `Graph`, of
+///    `TooManyNodes`;
+/// 9. nodes and links are no graph: `Graph`, of the fault that `Graph::new` answers.
 ///
 /// `OutOfMemory` is told wherever it comes.
 pub fn from_text(alloc: Global, text: &str) -> Result<Filed, FileFault>
@@ -93,7 +98,7 @@ fn dated(
     ensures { MatchResult result (λ r. IsDated version (view value.now) r.0 r.1 r.2)
         (IsUndated version (dated_keys version) (view value.now)) }
 {
-    let moment = whole_at(value, "moment", 65_537)?;
+    let moment = whole_at(value, "moment", LAST_MOMENT + 1)?;
     let named = named_group(alloc, version, value)?;
     let (nodes, graph) = graph_of(alloc, version, value)?;
     let group = match named {
@@ -176,7 +181,7 @@ fn linked(value: &Value) -> Result<Cert, FileFault>
 fn count(value: &Value) -> Result<u32, FileFault>
     ensures { Reads (λ k. k) result (said count_in (codes "k") (view value.now)) }
 {
-    whole_at(value, "k", 1 << 32)
+    whole_at(value, "k", NUMBER_LIMIT)
 }
 
 fn split(alloc: Global, value: &Value) -> Result<Cert, FileFault>

@@ -3,6 +3,9 @@ ghost use Rattle.ov_certfile.specs.Kinds.{version_number, most_nodes_of};
 
 use ov_graph::Graph;
 
+/// The most nodes of a file of version 1.
+const MOST_NODES_OF_ONE: usize = 256;
+
 /// The version of a file, by the number of its key `version`.
 #[derive(Clone, Copy, Debug, PartialEq, Eq)]
 pub(crate) enum Version {
@@ -28,7 +31,7 @@ impl Version {
         ensures { result ≡ most_nodes_of self }
     {
         match self {
-            Version::One => 256,
+            Version::One => MOST_NODES_OF_ONE,
             Version::Two => Graph::MOST_NODES,
         }
     }

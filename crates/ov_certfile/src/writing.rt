@@ -3,9 +3,9 @@ ghost use Rattle.serde_json.specs.Data.{object, no_members};
 ghost use Rattle.serde_json.specs.View.{view, members_view};
 ghost use Rattle.serde_json.specs.Written.{compact_text};
 ghost use Rattle.ov_certfile.specs.Forms.{last_moment};
-ghost use Rattle.ov_certfile.specs.DataOf.{data_of, version_for, with_group};
+ghost use Rattle.ov_certfile.specs.DataOf.{data_of, version_for};
 ghost use Rattle.ov_certfile.specs.ReadsBack.{ReadsBack, TextReadsBack};
-ghost use Rattle.ov_certfile.specs.Code.Writing.{GroupReadsBack};
+ghost use Rattle.ov_certfile.specs.Code.Writing.{with_group, GroupReadsBack};
 
 use crate::cert_members::put_cert;
 use crate::graph_members::{put_graph, put_ids};

@@ -7,7 +7,7 @@ use Rattle.std.proofs.lemmas.Option.{slice_get_cases}
 use Rattle.rayon.specs.Lists.{first_true}
 use Rattle.rayon.proofs.ToStd.{slice-AllZip}
 use Rattle.ov_cert.specs.Verdict.{AllHold, IsFirstAtFault}
-use Rattle.ov_check.specs.Parallel.{Misses}
+use Rattle.ov_check.specs.Code.Threads.{Misses}
 
 module _ {X : Type 0} (Holds : X → Type 0) where
   -- all hold

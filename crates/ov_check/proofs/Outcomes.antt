@@ -16,18 +16,18 @@ use Rattle.ov_certfile.specs.Kinds.{most_nodes_of}
 use Rattle.ov_certfile.specs.Says as file
 use Rattle.ov_certfile.specs.Says.{SaysFile, SaysText}
 use Rattle.ov_certfile.proofs.OneAnswer.{text_one}
-use Rattle.ov_check.specs.Outcome.{Says, IsOutcome}
+use Rattle.ov_check.specs.Outcome.{BytesSay, IsOutcome}
 use Rattle.ov_check.specs.declared.outcome.Outcome.{Outcome}
 use Rattle.ov_check.specs.declared.outcome.Outcome.TheVariants.{Holds, Fails, Refused}
 
 -- bytes say one thing alone
-says_one : (bytes : List ℕ) (a b : Result Filed FileFault) → Says bytes a → Says bytes b → a ≡ b
+says_one : (bytes : List ℕ) (a b : Result Filed FileFault) → BytesSay bytes a → BytesSay bytes b → a ≡ b
 says_one bytes a b (inl p) (inl q) = text_one bytes a b p.1 q.1
 says_one bytes a b (inl p) (inr q) = absurd (q.0 p.0)
 says_one bytes a b (inr p) (inl q) = absurd (p.0 q.0)
 says_one bytes a b (inr p) (inr q) = p.1 ∙ sym q.1
 
-same_file : (bytes : List ℕ) (f h : Filed) → Says bytes (Ok f) → Says bytes (Ok h) → f ≡ h
+same_file : (bytes : List ℕ) (f h : Filed) → BytesSay bytes (Ok f) → BytesSay bytes (Ok h) → f ≡ h
 same_file bytes f h p q = let e : Ok f ≡ Ok h = says_one bytes (Ok f) (Ok h) p q in cc
 
 -- what is said of a graph is said of one
@@ -43,18 +43,19 @@ read_graph : (o : Option _) (f : Filed) → IfSome o (λ d. SaysFile d (Ok f)) �
 read_graph (Some d) f s n = value_graph d f s
 read_graph None f s n = absurd cc
 
-said_graph : (bytes : List ℕ) (f : Filed) → Says bytes (Ok f) → IsGraph f.graph
+said_graph : (bytes : List ℕ) (f : Filed) → BytesSay bytes (Ok f) → IsGraph f.graph
 said_graph bytes f (inl p) = read_graph _ f p.1.json p.1.no_json
 said_graph bytes f (inr p) = let e : Ok f ≡ Err NotJson = p.1 in absurd cc
 
 -- a file has one verdict
-verdict_one : (bytes : List ℕ) (f h : Filed) (x y : Option CheckFault) → Says bytes (Ok f) → Says bytes (Ok h)
+verdict_one : (bytes : List ℕ) (f h : Filed) (x y : Option CheckFault) → BytesSay bytes (Ok f) → BytesSay bytes (Ok h)
     → JudgedForGroup f.graph f.group f.cert x → JudgedForGroup h.graph h.group h.cert y → x ≡ y
 verdict_one bytes f h x y p q a b =
     let P : Filed → Type 0 = λ f. JudgedForGroup f.graph f.group f.cert x in
     one_verdict h.graph h.group h.cert (said_graph bytes h q) x y (subst P (same_file bytes f h p q) a) b
 
-said_or_refused : (bytes : List ℕ) (f : Filed) (fault : FileFault) → Says bytes (Ok f) → Says bytes (Err fault) → ⊥
+said_or_refused : (bytes : List ℕ) (f : Filed) (fault : FileFault) → BytesSay bytes (Ok f)
+    → BytesSay bytes (Err fault) → ⊥
 said_or_refused bytes f fault p q = let e : Ok f ≡ Err fault = says_one bytes (Ok f) (Err fault) p q in cc
 
 holds_or_fails : (bytes : List ℕ) (f : Filed) (fault : CheckFault) → IsOutcome bytes (Holds f)

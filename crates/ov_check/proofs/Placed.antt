@@ -167,6 +167,14 @@ module _ (g : LinkGraph) (q : List ℕ) (c : Split) (pairs : List (ℕ × ℕ)) 
       pair_below : (p : ℕ) (x : ℕ × ℕ) → slice_get pairs p ≡ Some x → p < length pairs
       pair_below = below pairs
 
+-- where k is 0 none is expected
+pub none_expected : (g : LinkGraph) (q : List ℕ) (k : ℕ) (entries : List Expected) → k ≡ 0 → entries ≡ []
+    → AreExpected g q k entries
+none_expected g q k entries k_zero none =
+    let nothing : AreExpected g q 0 [] =
+    ([], record { order = tt; each = λ p. ((λ h. absurd h), (λ pair. absurd pair.0)) }, refl) in
+    subst (λ (n : ℕ). AreExpected g q n entries) (sym k_zero) (subst (AreExpected g q 0) (sym none) nothing)
+
 length_of_pairs : (n : ℕ) (xs : List (ℕ × ℕ)) → length (of_pairs n xs) ≡ length xs
 length_of_pairs n [] = refl
 length_of_pairs n (x ∷ xs) = ap suc (length_of_pairs (suc n) xs)

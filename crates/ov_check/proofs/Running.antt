@@ -1,7 +1,7 @@
 -- A run of a judge that came to the line of its outcome.
 use Rattle.std.proofs.Common.{◌≡◌, ◌≢◌, ◌+◌, ◌∙◌, ℕ, List, Option, IfSome, IfOk, Result, Ok, Err, refl, sym}
-use Rattle.std.specs.Io.KnownBytes.{Appends}
-use Rattle.ov_certfile.specs.Device.{AppendsFrontOf}
+use Rattle.std.specs.Io.KnownBytes.{Appends, IsAtEnd}
+use Rattle.ov_certfile.specs.Device.{AppendsPrefixOf}
 use Rattle.ov_certfile.specs.declared.input.Source.{Source}
 use Rattle.ov_certfile.specs.declared.output.Sink.{Sink}
 use Rattle.ov_check.specs.declared.outcome.Outcome.{Outcome}
@@ -23,14 +23,15 @@ pub record IsWritten {W : Type 0} (contents : W → Option (List ℕ)) (o : Outc
     (result : Result ℕ JudgeFault) : Type 0 where
   pub line : IfOk result (λ status. Appends (contents sink.writer) (contents sink'.writer) (printed_of o))
   pub status : IfOk result (λ status. status ≡ status_of o)
-  pub prefix : result ≡ Err Write → AppendsFrontOf (printed_of o) (contents sink.writer) (contents sink'.writer)
+  pub prefix : result ≡ Err Write → AppendsPrefixOf (printed_of o) (contents sink.writer) (contents sink'.writer)
   pub faults : sink'.faults ≡ sink.faults + write_failures result
   pub unread : result ≢ Err Read
   pub no_memory : result ≡ Err OutOfMemory → sink' ≡ sink
 
 module _ {R W : Type 0} (remaining : R → Option (List ℕ)) (contents : W → Option (List ℕ))
     (source source' : Source R) (sink sink' : Sink W) (bytes : List ℕ) (o : Outcome)
-    (is : IsRead (remaining source.reader) bytes o) (faults : source'.faults ≡ source.faults + 0) where
+    (is : IsRead (remaining source.reader) bytes o) (end : IsAtEnd (remaining source'.reader))
+    (faults : source'.faults ≡ source.faults + 0) where
   abbrev the_judgement : Judgement (remaining source.reader)
   the_judgement = record { bytes = bytes; read = is.all; outcome = o; comes_to = is.comes_to }
 
@@ -45,6 +46,7 @@ module _ {R W : Type 0} (remaining : R → Option (List ℕ)) (contents : W → 
       exact = λ e. is.exact (sym w.status ∙ e);
     };
     prefix = λ e. absurd cc;
+    read_to_end = λ r m. end;
     reads = faults;
     writes = w.faults;
     unread = λ e. absurd cc;
@@ -53,6 +55,7 @@ module _ {R W : Type 0} (remaining : R → Option (List ℕ)) (contents : W → 
   written (Err Write) w = record {
     prints = tt;
     prefix = λ e. record { judgement = the_judgement; prefix = w.prefix refl };
+    read_to_end = λ r m. end;
     reads = faults;
     writes = w.faults;
     unread = λ e. absurd cc;
@@ -62,6 +65,7 @@ module _ {R W : Type 0} (remaining : R → Option (List ℕ)) (contents : W → 
   written (Err OutOfMemory) w = record {
     prints = tt;
     prefix = λ e. absurd cc;
+    read_to_end = λ r m. absurd (m refl);
     reads = faults;
     writes = w.faults;
     unread = λ e. absurd cc;

@@ -5,6 +5,7 @@ use Rattle.ov_certfile.specs.declared.input.ReadFault.TheVariants as read
 use Rattle.ov_check.specs.declared.fault.JudgeFault.{JudgeFault}
 use Rattle.ov_check.specs.declared.fault.JudgeFault.TheVariants.{Read, Write, OutOfMemory}
 
+-- the number of each fault of a judge
 abbrev pub number_of : JudgeFault → ℕ
 number_of Read = 71
 number_of Write = 72

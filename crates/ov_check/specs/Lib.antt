@@ -3,3 +3,4 @@ pub mod Outcome
 pub mod Line
 pub mod Run
 pub mod Parallel
+pub mod Code

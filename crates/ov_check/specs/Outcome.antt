@@ -11,20 +11,20 @@ use Rattle.ov_check.specs.declared.outcome.Outcome.{Outcome}
 use Rattle.ov_check.specs.declared.outcome.Outcome.TheVariants.{Holds, Fails, Refused}
 
 -- what the bytes say as a certificate file, or its first fault; bytes that are no text are no JSON
-abbrev pub Says : List ℕ → Result Filed FileFault → Type 0
-Says bytes answer = (IsUtf8 bytes × SaysText bytes answer) ⊎ ((¬ IsUtf8 bytes) × (answer ≡ Err NotJson))
+abbrev pub BytesSay : List ℕ → Result Filed FileFault → Type 0
+BytesSay bytes answer = (IsUtf8 bytes × SaysText bytes answer) ⊎ ((¬ IsUtf8 bytes) × (answer ≡ Err NotJson))
 
 -- the file holds where its certificate is valid for its group, and else fails with the certificate's first fault; it is
 -- refused where the bytes are no certificate file
 abbrev pub IsOutcome : List ℕ → Outcome → Type 0
-IsOutcome bytes (Holds f) = Says bytes (Ok f) × IsValidForGroup f.graph f.group f.cert
-IsOutcome bytes (Fails fault) = (f : Filed) × Says bytes (Ok f) × JudgedForGroup f.graph f.group f.cert (Some fault)
-IsOutcome bytes (Refused fault) = Says bytes (Err fault)
+IsOutcome bytes (Holds f) = BytesSay bytes (Ok f) × IsValidForGroup f.graph f.group f.cert
+IsOutcome bytes (Fails fault) = (f : Filed) × BytesSay bytes (Ok f) × JudgedForGroup f.graph f.group f.cert (Some fault)
+IsOutcome bytes (Refused fault) = BytesSay bytes (Err fault)
 
 -- what the bytes say is so: the number of the file is the size of the smallest set of nodes that splits the group, or
 -- one less than the number of its members where every two are linked
 abbrev pub IsExact : List ℕ → Type 0
-IsExact bytes = (f : Filed) × Says bytes (Ok f) × FewestForGroup f.graph f.group (k_of f.cert)
+IsExact bytes = (f : Filed) × BytesSay bytes (Ok f) × FewestForGroup f.graph f.group (k_of f.cert)
 
 -- the program's status
 abbrev pub status_of : Outcome → ℕ

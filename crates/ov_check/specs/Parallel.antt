@@ -1,7 +1,11 @@
 -- What a check by many threads answers.
-use Rattle.std.specs.Prelude.{ℕ, Bool, true, false, Option, Some, None, Result, Ok, Err}
+use Rattle.std.specs.Prelude.{ℕ, ◌<◌, List, Option, Some, None, Result, Ok, Err}
+use Rattle.ov_graph.specs.Links.{LinkGraph}
+use Rattle.ov_cert.specs.declared.cert.Cert.{Cert}
+use Rattle.ov_cert.specs.declared.cert.Cert.TheVariants.{Linked as AllLinked, Split as SplitBy}
 use Rattle.ov_cert.specs.declared.fault.CheckFault.{CheckFault}
 use Rattle.ov_cert.specs.Number as check_fault
+use Rattle.ov_cert.specs.Verdict.{PassesFrame}
 use Rattle.ov_check.specs.declared.parallel_fault.ParallelFault.{ParallelFault}
 use Rattle.ov_check.specs.declared.parallel_fault.ParallelFault.TheVariants.{Check, OutOfMemory}
 
@@ -16,7 +20,7 @@ SaysVerdict IsVerdict (Ok u) = IsVerdict None
 SaysVerdict IsVerdict (Err (Check fault)) = IsVerdict (Some fault)
 SaysVerdict IsVerdict (Err OutOfMemory) = Unit {0}
 
--- the answer of one thread on one item: true where it does not hold, false where it does
-abbrev pub Misses : {X : Type 0} → (X → Type 0) → X → Bool → Type 0
-Misses Holds x true = ¬ Holds x
-Misses Holds x false = Holds x
+-- there are entries to judge: the certificate says that k nodes split the group, k is not 0, and its frame has no fault
+abbrev pub NeedsEntries : LinkGraph → List ℕ → Cert → Type 0
+NeedsEntries g q (AllLinked k) = ⊥
+NeedsEntries g q (SplitBy c) = (0 < c.k) × PassesFrame g q (SplitBy c)

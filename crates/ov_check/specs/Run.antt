@@ -1,7 +1,7 @@
 -- What a run of a judge does: it reads a certificate file, and prints the line of what the file comes to.
-use Rattle.std.specs.Prelude.{◌≡◌, ◌+◌, ℕ, List, Option, IfSome, Result, Err, IfOk}
-use Rattle.std.specs.Io.KnownBytes.{Appends}
-use Rattle.ov_certfile.specs.Device.{AppendsFrontOf}
+use Rattle.std.specs.Prelude.{◌≡◌, ◌≢◌, ◌+◌, ℕ, List, Option, IfSome, Result, Err, IfOk}
+use Rattle.std.specs.Io.KnownBytes.{Appends, IsAtEnd}
+use Rattle.ov_certfile.specs.Device.{AppendsPrefixOf}
 use Rattle.ov_certfile.specs.declared.input.Source.{Source}
 use Rattle.ov_certfile.specs.declared.output.Sink.{Sink}
 use Rattle.ov_check.specs.declared.outcome.Outcome.{Outcome}
@@ -29,17 +29,18 @@ pub record Prints (reader before after : Option (List ℕ)) (status : ℕ) : Typ
 -- of the line of what the bytes come to a prefix went out
 pub record PrintsPrefix (reader before after : Option (List ℕ)) : Type 0 where
   pub judgement : Judgement reader
-  pub prefix : AppendsFrontOf (printed_of judgement.outcome) before after
+  pub prefix : AppendsPrefixOf (printed_of judgement.outcome) before after
 
 -- A run, from a source and a sink to what they are after it. `remaining` are the bytes that a reader still has, and
 -- `contents` those that a writer holds, where they tell them. Read and Write are answered where the reader or the
 -- writer failed in this run. Nothing is written after Read and OutOfMemory, and after Write a prefix of the line went
--- out.
+-- out. After Ok and Write the reader is at its end.
 pub record IsRun {R W : Type 0} (remaining : R → Option (List ℕ)) (contents : W → Option (List ℕ)) (source : Source R)
     (sink : Sink W) (source_after : Source R) (sink_after : Sink W) (result : Result ℕ JudgeFault) : Type 0 where
   pub prints : IfOk result (Prints (remaining source.reader) (contents sink.writer) (contents sink_after.writer))
   pub prefix : result ≡ Err Write
       → PrintsPrefix (remaining source.reader) (contents sink.writer) (contents sink_after.writer)
+  pub read_to_end : result ≢ Err Read → result ≢ Err OutOfMemory → IsAtEnd (remaining source_after.reader)
   pub reads : source_after.faults ≡ source.faults + read_failures result
   pub writes : sink_after.faults ≡ sink.faults + write_failures result
   pub unread : result ≡ Err Read → sink_after ≡ sink

@@ -1,6 +1,6 @@
-ghost use Rattle.std.specs.Prelude.{◌≡◌, ◌≢◌, ◌+◌, ◌-◌, ◌^◌, ◌<◌, Err, IfOk, OnOk, IsErrOf};
+ghost use Rattle.std.specs.Prelude.{◌≡◌, ◌≢◌, ◌+◌, ◌<◌, Err, IfOk, OnOk, IsErrOf};
 ghost use Rattle.std.specs.Io.KnownBytes.{Appends};
-ghost use Rattle.ov_certfile.specs.Device.{AppendsFrontOf};
+ghost use Rattle.ov_certfile.specs.Device.{most_faults, AppendsPrefixOf};
 ghost use Rattle.ov_check.specs.Device.{write_failures};
 ghost use Rattle.ov_check.specs.Line.{printed_of};
 ghost use Rattle.ov_check.specs.Outcome.{status_of};
@@ -23,8 +23,8 @@ pub fn judge<R: Read, W: Write>(
     source: &mut Source<R>,
     sink: &mut Sink<W>,
 ) -> Result<u8, JudgeFault>
-    requires reads { source.old.faults < 2 ^ 64 - 1 }
-    requires writes { sink.old.faults < 2 ^ 64 - 1 }
+    requires reads { source.old.faults < most_faults }
+    requires writes { sink.old.faults < most_faults }
     ensures { IsRun R.remaining W.contents source.old sink.old source.new sink.new result }
 {
     let bytes = source.read_all(alloc)?;
@@ -38,8 +38,8 @@ pub fn judge_parallel<R: Read, W: Write>(
     source: &mut Source<R>,
     sink: &mut Sink<W>,
 ) -> Result<u8, JudgeFault>
-    requires reads { source.old.faults < 2 ^ 64 - 1 }
-    requires writes { sink.old.faults < 2 ^ 64 - 1 }
+    requires reads { source.old.faults < most_faults }
+    requires writes { sink.old.faults < most_faults }
     ensures { IsRun R.remaining W.contents source.old sink.old source.new sink.new result }
 {
     let bytes = source.read_all(rt.alloc())?;
@@ -53,11 +53,11 @@ fn write_line<W: Write>(
     outcome: &Outcome,
     sink: &mut Sink<W>,
 ) -> Result<u8, JudgeFault>
-    requires { sink.old.faults < 2 ^ 64 - 1 }
+    requires { sink.old.faults < most_faults }
     ensures line { OnOk result (Appends (W.contents sink.old.writer) (W.contents sink.new.writer)
         (printed_of outcome.now)) }
     ensures status { IfOk result (λ status. status ≡ status_of outcome.now) }
-    ensures prefix { IsErrOf result JudgeFault.Write → AppendsFrontOf (printed_of outcome.now)
+    ensures prefix { IsErrOf result JudgeFault.Write → AppendsPrefixOf (printed_of outcome.now)
         (W.contents sink.old.writer) (W.contents sink.new.writer) }
     ensures faults { sink.new.faults ≡ sink.old.faults + write_failures result }
     ensures unread { result ≢ Err JudgeFault.Read }

@@ -1,5 +1,5 @@
 ghost use Rattle.std.specs.Prelude.{◌≡◌, List, ℕ, Ok, IfOk};
-ghost use Rattle.ov_check.specs.Outcome.{Says, IsOutcome, IsExact, status_of};
+ghost use Rattle.ov_check.specs.Outcome.{BytesSay, IsOutcome, IsExact, status_of};
 
 use crate::parallel::check_group_parallel;
 use crate::parallel_fault::ParallelFault;
@@ -50,7 +50,7 @@ pub(crate) fn outcome_parallel(
 
 /// What the bytes say as a certificate file, or its first fault.
 fn said_by(alloc: Global, bytes: &[u8]) -> Result<Result<Filed, FileFault>, OutOfMemory>
-    ensures { IfOk result (λ answer. Says bytes.now answer) }
+    ensures { IfOk result (λ answer. BytesSay bytes.now answer) }
 {
     let Ok(text) = str::from_utf8(bytes) else {
         return Ok(Err(FileFault::NotJson));
@@ -65,8 +65,8 @@ fn said_by(alloc: Global, bytes: &[u8]) -> Result<Result<Filed, FileFault>, OutO
 }
 
 fn verdict_on(filed: Filed) -> Outcome
-    ensures outcome { (bytes : List ℕ) → Says bytes (Ok filed) → IsOutcome bytes result }
-    ensures exact { (bytes : List ℕ) → Says bytes (Ok filed) → status_of result ≡ 0 → IsExact bytes }
+    ensures outcome { (bytes : List ℕ) → BytesSay bytes (Ok filed) → IsOutcome bytes result }
+    ensures exact { (bytes : List ℕ) → BytesSay bytes (Ok filed) → status_of result ≡ 0 → IsExact bytes }
 {
     match check_group(&filed.graph, filed.group.as_slice(), &filed.cert) {
         Ok(()) => Outcome::Holds(filed),
@@ -78,8 +78,8 @@ fn verdict_parallel(
     rt: &(impl AllocGlobal + Threads + Sync),
     filed: Filed,
 ) -> Result<Outcome, OutOfMemory>
-    ensures outcome { (bytes : List ℕ) → Says bytes (Ok filed) → IfOk result (λ o. IsOutcome bytes o) }
-    ensures exact { (bytes : List ℕ) → Says bytes (Ok filed) → IfOk result (λ o. status_of o ≡ 0 → IsExact bytes) }
+    ensures outcome { (bytes : List ℕ) → BytesSay bytes (Ok filed) → IfOk result (λ o. IsOutcome bytes o) }
+    ensures exact { (bytes : List ℕ) → BytesSay bytes (Ok filed) → IfOk result (λ o. status_of o ≡ 0 → IsExact bytes) }
 {
     match check_group_parallel(rt, &filed.graph, filed.group.as_slice(), &filed.cert) {
         Ok(()) => Ok(Outcome::Holds(filed)),

@@ -1,12 +1,13 @@
-ghost use Rattle.std.specs.Prelude.{◌≡◌, ◌≢◌, ◌↔◌, ◌^◌, ◌<◌, ◌≤◌, Err, length, slice_get, IsTrue, IsOk, IfOk, OnOk};
-ghost use Rattle.std.specs.Prelude.{MatchOption};
-ghost use Rattle.ov_graph.specs.Joined.{Fewest, FewestForGroup};
+ghost use Rattle.std.specs.Prelude.{◌≡◌, ◌≢◌, ◌↔◌, ◌^◌, ◌<◌, ◌≤◌, Err, length, slice_get, IsTrue, IsOk, OnOk};
+ghost use Rattle.std.specs.Prelude.{MatchOption, MatchResult};
+ghost use Rattle.ov_graph.specs.Joined.{Fewest, FewestForGroup, IsNodeSet};
 ghost use Rattle.ov_graph.specs.Even.{later_members};
 ghost use Rattle.ov_cert.specs.declared.cert.Cert.TheVariants.{Split as SplitBy};
 ghost use Rattle.ov_cert.specs.Valid.{IsValid, IsValidForGroup, k_of};
 ghost use Rattle.ov_cert.specs.Verdict.{AllHold, IsFirstAtFault, PassesFrame, Judged, JudgedForGroup};
 ghost use Rattle.ov_cert.specs.Entries.{AreExpected, IsExpected, HoldsEntry};
-ghost use Rattle.ov_check.specs.Parallel.{SaysVerdict, Misses};
+ghost use Rattle.ov_check.specs.Parallel.{SaysVerdict, NeedsEntries};
+ghost use Rattle.ov_check.specs.Code.Threads.{Misses};
 
 use crate::parallel_fault::ParallelFault;
 use ov_cert::{
@@ -15,6 +16,7 @@ use ov_cert::{
 use ov_graph::Graph;
 use ov_ids::{NodeId, OutOfMemory};
 use rayon::prelude::*;
+use std::alloc::Global;
 use std::thread::Threads;
 
 /// The fewest entries of a thread. Fewer than twice as many are judged in one thread: few entries are cheap ones, and a
@@ -28,15 +30,16 @@ pub fn check_parallel(
     cert: &Cert,
 ) -> Result<(), ParallelFault>
     ensures verdict { SaysVerdict (Judged graph.now cert.now) result }
-    ensures valid { IsOk result → IsValid graph.now cert.now }
-    ensures exactly { result ≢ Err ParallelFault.OutOfMemory → (IsOk result ↔ IsValid graph.now cert.now) }
+    ensures valid { result ≢ Err ParallelFault.OutOfMemory → (IsOk result ↔ IsValid graph.now cert.now) }
+    ensures memory { result ≡ Err ParallelFault.OutOfMemory → NeedsEntries graph.now graph.now.nodes cert.now }
     ensures fewest { OnOk result (Fewest graph.now (k_of cert.now)) }
 {
     check_group_parallel(rt, graph, graph.nodes(), cert)
 }
 
 /// Judges a certificate for a group, its entries by as many threads as `rayon` takes. It answers what `check_group`
-/// answers, the first fault included, or that it is out of memory.
+/// answers, the first fault included. Out of memory is answered only where there are entries to judge: of a certificate
+/// that says that k nodes split the group, where k is not 0 and the frame has no fault.
 pub fn check_group_parallel(
     rt: &(impl AllocGlobal + Threads + Sync),
     graph: &Graph,
@@ -44,9 +47,9 @@ pub fn check_group_parallel(
     cert: &Cert,
 ) -> Result<(), ParallelFault>
     ensures verdict { SaysVerdict (JudgedForGroup graph.now group.now cert.now) result }
-    ensures valid { IsOk result → IsValidForGroup graph.now group.now cert.now }
-    ensures exactly { result ≢ Err ParallelFault.OutOfMemory
+    ensures valid { result ≢ Err ParallelFault.OutOfMemory
         → (IsOk result ↔ IsValidForGroup graph.now group.now cert.now) }
+    ensures memory { result ≡ Err ParallelFault.OutOfMemory → NeedsEntries graph.now group.now cert.now }
     ensures fewest { OnOk result (FewestForGroup graph.now group.now (k_of cert.now)) }
 {
     prove!(graph.nodes().len() <= Graph::MOST_NODES);
@@ -63,7 +66,8 @@ fn verdict(
     group: &[NodeId],
     cert: &Cert,
 ) -> Result<Option<CheckFault>, OutOfMemory>
-    ensures { IfOk result (λ fault. JudgedForGroup graph.now group.now cert.now fault) }
+    ensures { MatchResult result (λ fault. JudgedForGroup graph.now group.now cert.now fault)
+        (λ _. NeedsEntries graph.now group.now cert.now) }
 {
     if let Err(fault) = check_group_frame(graph, group, cert) {
         return Ok(Some(fault));
@@ -82,9 +86,10 @@ fn verdict_on_entries(
     split: &Split,
 ) -> Result<Option<CheckFault>, OutOfMemory>
     requires { PassesFrame graph.now group.now (SplitBy split.now) }
-    ensures { IfOk result (λ fault. JudgedForGroup graph.now group.now (SplitBy split.now) fault) }
+    ensures { MatchResult result (λ fault. JudgedForGroup graph.now group.now (SplitBy split.now) fault)
+        (λ _. NeedsEntries graph.now group.now (SplitBy split.now)) }
 {
-    let entries = expected_group(rt.alloc(), graph, group, split)?;
+    let entries = entries_of(rt.alloc(), graph, group, split)?;
     let count = entries.len();
     if let Some(entry) = first_missing(rt, graph, group, split, &entries) {
         return Ok(Some(entry.fault()));
@@ -94,6 +99,24 @@ fn verdict_on_entries(
         return Ok(Some(CheckFault::Extra));
     }
     Ok(None)
+}
+
+/// The expected entries. Where k is 0 there are none, and they take no memory.
+#[tactic(auto, using(crate::proofs::Placed::none_expected))]
+fn entries_of(
+    alloc: Global,
+    graph: &Graph,
+    group: &[NodeId],
+    split: &Split,
+) -> Result<Vec<Expected>, OutOfMemory>
+    requires { IsNodeSet graph.now group.now }
+    ensures { MatchResult result (λ entries. AreExpected graph.now group.now split.now.k entries.items)
+        (λ _. 0 < split.now.k) }
+{
+    if split.k == 0 {
+        return Ok(Vec::new(alloc));
+    }
+    Ok(expected_group(alloc, graph, group, split)?)
 }
 
 /// The first of the expected entries that the certificate has not, if there is one. Those behind it are judged too.

@@ -3,7 +3,7 @@ use Rattle.std.proofs.Common.{inl, inr, ℕ, Option, List, [], ◌∷◌, ◌++�
 use Rattle.std.proofs.KnownBytes.{Appends-trans}
 use Rattle.std.proofs.lemmas.List.{append-nil}
 use Rattle.std.specs.Io.KnownBytes.{Appends}
-use Rattle.ov_certfile.specs.Device.{AppendsFrontOf}
+use Rattle.ov_certfile.specs.Device.{AppendsPrefixOf}
 use Rattle.ov_snap.specs.Book.{Book, unwritten}
 use Rattle.ov_run.specs.Begun.{BeginsLine, BeginsLines, IsBegun}
 use Rattle.ov_run.specs.Running.{PrintsLine, PrintsLines, IsOutput}
@@ -54,11 +54,11 @@ output_begun bytes text o = record {
 -- ---- fronts of what went to a writer
 
 -- all of it went
-pub all_went : (a b : Option (List ℕ)) (text : List ℕ) → Appends a b text → AppendsFrontOf text a b
+pub all_went : (a b : Option (List ℕ)) (text : List ℕ) → Appends a b text → AppendsPrefixOf text a b
 all_went a b text appends = (text, [], appends, append-nil text)
 
 -- all of a text went, and then a front of another
 pub front_went :
-    (a b c : Option (List ℕ)) (text own : List ℕ) → Appends a b text → AppendsFrontOf own b c → AppendsFrontOf (text ++ own) a c
+    (a b c : Option (List ℕ)) (text own : List ℕ) → Appends a b text → AppendsPrefixOf own b c → AppendsPrefixOf (text ++ own) a c
 front_went a b c text own first (front, rest, appends, is) =
     (text ++ front, rest, Appends-trans a b c text front first appends, append_assoc text front rest ∙ ap (λ t. text ++ t) is)

@@ -2,7 +2,7 @@
 -- but `packets`, whose packets are printed one by one.
 use Rattle.std.specs.Prelude.{◌≡◌, ◌⊎◌, ℕ, List, [], ◌∷◌, ◌++◌, Option, IfSome, take}
 use Rattle.rand_core.specs.Stream.{Stream}
-use Rattle.ov_certfile.specs.Device.{AppendsFrontOf}
+use Rattle.ov_certfile.specs.Device.{AppendsPrefixOf}
 use Rattle.ov_wire.specs.declared.message.Message.{Message}
 use Rattle.ov_snap.specs.Book.{Book, unwritten}
 use Rattle.ov_run.specs.Draws.{AreDraws, seeded}
@@ -41,4 +41,4 @@ pub record IsBegun (bytes text : List ℕ) : Type 0 where
 
 -- all that the reader had was read, and what went to the end of what the writer holds is a front of what it comes to up to some point
 abbrev pub Begins : Option (List ℕ) → Option (List ℕ) → Option (List ℕ) → Type 0
-Begins reader before after = (bytes : List ℕ) × (text : List ℕ) × IfSome reader (λ xs. bytes ≡ xs) × IsBegun bytes text × AppendsFrontOf text before after
+Begins reader before after = (bytes : List ℕ) × (text : List ℕ) × IfSome reader (λ xs. bytes ≡ xs) × IsBegun bytes text × AppendsPrefixOf text before after

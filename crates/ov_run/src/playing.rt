@@ -1,6 +1,6 @@
 ghost use Rattle.std.specs.Prelude.{◌≡◌, ◌≤◌, ◌<◌, ◌+◌, ◌-◌, ◌^◌, ℕ, List, [], ◌∷◌, IfOk, IfErr, IsTrue, OnOk, filter, length, string_bytes};
 ghost use Rattle.std.specs.Io.KnownBytes.{Appends};
-ghost use Rattle.ov_certfile.specs.Device.{AppendsFrontOf};
+ghost use Rattle.ov_certfile.specs.Device.{AppendsPrefixOf};
 ghost use Rattle.ov_snap.specs.Book.{Book, unwritten};
 ghost use Rattle.ov_run.specs.Begun.{BeginsLines, BeginsPackets};
 ghost use Rattle.ov_run.specs.Faults.{write_failures, IsOfWriting};
@@ -31,7 +31,7 @@ pub(crate) fn play<W: Write>(
     ensures prints { OnOk result ((book : Book) × (text : List ℕ) × PrintsLines (unwritten params) words.now lines.items book text
         × Appends (W.contents sink.old.writer) (W.contents sink.new.writer) text) }
     ensures begun { (text : List ℕ) × BeginsLines (unwritten params) words.now lines.items text
-        × AppendsFrontOf text (W.contents sink.old.writer) (W.contents sink.new.writer) }
+        × AppendsPrefixOf text (W.contents sink.old.writer) (W.contents sink.new.writer) }
     ensures faults { sink.new.faults ≡ sink.old.faults + write_failures result }
     ensures kind { IfErr result IsOfWriting }
 {
@@ -56,7 +56,7 @@ fn play_line<W: Write>(
     ensures prints { OnOk result ((text : List ℕ) × PrintsLine core.old supply.old.rest.now line core.new supply.new.rest.now text
         × Appends (W.contents sink.old.writer) (W.contents sink.new.writer) text) }
     ensures begun { (text : List ℕ) × BeginsLines core.old supply.old.rest.now (line ∷ []) text
-        × AppendsFrontOf text (W.contents sink.old.writer) (W.contents sink.new.writer) }
+        × AppendsPrefixOf text (W.contents sink.old.writer) (W.contents sink.new.writer) }
     ensures faults { sink.new.faults ≡ sink.old.faults + write_failures result }
     ensures kind { IfErr result IsOfWriting }
 {
@@ -121,7 +121,7 @@ fn write_packets<W: Write>(
     requires few { length packets.now ≤ 65536 }
     ensures prints { OnOk result ((text : List ℕ) × PrintsPackets 0 packets.now text
         × Appends (W.contents sink.old.writer) (W.contents sink.new.writer) text) }
-    ensures begun { (text : List ℕ) × BeginsPackets packets.now text × AppendsFrontOf text (W.contents sink.old.writer) (W.contents sink.new.writer) }
+    ensures begun { (text : List ℕ) × BeginsPackets packets.now text × AppendsPrefixOf text (W.contents sink.old.writer) (W.contents sink.new.writer) }
     ensures faults { sink.new.faults ≡ sink.old.faults + write_failures result }
     ensures kind { IfErr result IsOfWriting }
 {

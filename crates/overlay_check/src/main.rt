@@ -11,7 +11,7 @@ use std::process::ExitCode;
 use std::rt::{Env, Files, Runtime};
 use std::thread::Threads;
 
-/// The longest path that the system opens, in bytes.
+/// At least as many bytes as the longest path has that the system opens.
 const LONGEST_PATH: usize = 4096;
 
 fn main(rt: HostRuntime) -> ExitCode {

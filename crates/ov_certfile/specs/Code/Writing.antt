@@ -11,7 +11,7 @@ use Rattle.ov_certfile.specs.DataOf.{whole_data, ids_data, list_data, link_data,
 use Rattle.ov_certfile.specs.declared.version.Version.{Version}
 use Rattle.ov_certfile.specs.declared.version.Version.TheVariants.{One, Two}
 use Rattle.ov_certfile.specs.declared.verdict.Verdict.{Verdict}
-use Rattle.ov_certfile.specs.declared.verdict.Verdict.TheVariants.{Linked, Split as Splits}
+use Rattle.ov_certfile.specs.declared.verdict.Verdict.TheVariants.{Linked, Split as VerdictSplit}
 
 -- the members with what every file says
 abbrev pub with_graph : Version → LinkGraph → ℕ → Members → Members
@@ -43,7 +43,12 @@ with_entries c members =
 -- the members with what the certificate says
 abbrev pub with_cert : Cert → Members → Members
 with_cert (cert.Linked k) members = with_verdict Linked k members
-with_cert (cert.Split c) members = with_entries c (with_cut c (with_verdict Splits c.k members))
+with_cert (cert.Split c) members = with_entries c (with_cut c (with_verdict VerdictSplit c.k members))
+
+-- the members with the group, where the version names one
+abbrev pub with_group : Version → List ℕ → Members → Members
+with_group One group members = members
+with_group Two group members = with_member (codes "group") (ids_data group) members
 
 -- what is written for the nodes and links of a graph says just these
 pub record GraphReadsBack (g : LinkGraph) : Type 0 where

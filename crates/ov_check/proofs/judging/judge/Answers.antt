@@ -15,7 +15,7 @@ returns g c =
       exact = λ zero. subst IsExact same (c.in_ok-outcome.ensures.exact zero);
     } in
     written g.R.Read.remaining g.W.Write.contents c.args.source.now c.read_all.new.self c.args.sink.now
-    c.write_line.new.sink bytes o is c.in_ok-bytes.ensures.faults c.write_line.result
+    c.write_line.new.sink bytes o is c.in_ok-bytes.ensures.end c.in_ok-bytes.ensures.faults c.write_line.result
     (record {
       line = c.write_line.ensures.line;
       status = c.write_line.ensures.status;

@@ -1,6 +1,6 @@
 -- Bytes that are refused come to nothing else.
 use Rattle.std.proofs.Common.{subst}
-use Rattle.ov_check.specs.Outcome.{Says}
+use Rattle.ov_check.specs.Outcome.{BytesSay}
 use Rattle.ov_check.specs.declared.outcome.Outcome.TheVariants.{Refused}
 use Rattle.ov_check.proofs.Outcomes.{one_outcome}
 use Rattle.ov_check.proofs.outcome.outcome_of.Goals as goal
@@ -8,5 +8,5 @@ use Rattle.ov_check.proofs.outcome.outcome_of.Goals as goal
 pub returns-in-Err-clause-only : goal.returns-in-Err-clause-only
 returns-in-Err-clause-only c =
     let bytes = c.args.bytes.now in
-    let said = subst (Says bytes) c.in-Err.is c.in_ok-filed.ensures in
+    let said = subst (BytesSay bytes) c.in-Err.is c.in_ok-filed.ensures in
     λ u is. one_outcome bytes u (Refused c.in-Err.fault) is said

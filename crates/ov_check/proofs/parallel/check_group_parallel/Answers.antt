@@ -4,8 +4,8 @@ use Rattle.ov_cert.specs.Verdict.{JudgedForGroup}
 use Rattle.ov_cert.proofs.Exact.{one_verdict, fewest}
 use Rattle.ov_check.proofs.parallel.check_group_parallel.Goals as goal
 
-pub returns-in-Some-clause-exactly : goal.returns-in-Some-clause-exactly
-returns-in-Some-clause-exactly g c =
+pub returns-in-Some-clause-valid : goal.returns-in-Some-clause-valid
+returns-in-Some-clause-valid g c =
     let graph = c.args.graph.now in
     let group = c.args.group.now in
     let cert = c.args.cert.now in

@@ -42,4 +42,4 @@ returns-in_err-write_all-clause-begun g c =
           rw (w.in-Certificate.is, w.core-is, w.supply-is, w.text-is) (refl, refl, w.in_ok-text-in-Certificate.ensures)
     ] in
     let printed = subst (λ text. PrintsLine c.args.core.now c.args.supply.now.rest.now c.args.line c.match-line.core c.match-line.supply.rest.now text) (sym c.as_bytes.ensures.value) said in
-    (c.as_bytes.result.now, whole _ _ _ _ _ c.as_bytes.result.now printed, c.in_err-write_all.ensures.front)
+    (c.as_bytes.result.now, whole _ _ _ _ _ c.as_bytes.result.now printed, c.in_err-write_all.ensures.prefix)

@@ -35,7 +35,7 @@ returns-in_err-write_all-clause-begun g c =
     let first =
     packets_next c.args.packets.now c.loop-place.place c.to.result c.index-packets-place.result said.0 c.bytes.result.now line c.loop-place-test.true
     c.index-packets-place.is c.to.ensures c.bytes.ensures line_is said.1 in
-    (said.0 ++ line, (c.loop-place.place + 1, first), front_went _ _ _ said.0 line said.2 c.in_err-write_all.ensures.front)
+    (said.0 ++ line, (c.loop-place.place + 1, first), front_went _ _ _ said.0 line said.2 c.in_err-write_all.ensures.prefix)
 
 pub returns-clause-prints : goal.returns-clause-prints
 returns-clause-prints g c =

@@ -1,0 +1,12 @@
+-- Words that several definitions use.
+use Rattle.std.specs.Prelude.{ℕ, Bool, List, nat_eq, Option, option_and_then}
+use Rattle.std.specs.Cmp.Lexicographic.{pointwise}
+
+infixl 10 ◌>>=◌
+-- f of what x has, or nothing: the kit's option_and_then, its parts in the order in which they go
+abbrev pub ◌>>=◌ : {X Y : Type 0} → Option X → (X → Option Y) → Option Y
+x >>= f = option_and_then f x
+
+-- the two lists are the same: two texts, or two lists of ids
+abbrev pub are_same : List ℕ → List ℕ → Bool
+are_same xs ys = pointwise nat_eq xs ys
