@@ -1,0 +1,4 @@
+pub mod Flat
+pub mod Reached
+pub mod Walked
+pub mod Held

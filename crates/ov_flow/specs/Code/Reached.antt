@@ -1,0 +1,94 @@
+-- What a search has reached, each node with the place of its parent in the order of finding, and the step taken to it.
+use Rattle.std.specs.Prelude.{◌≡◌, ◌≢◌, ◌↔◌, ℕ, ◌-◌, ◌<◌, ◌≤◌, ◌⊎◌, List, length, get_or, slice_index, Option, Some}
+use Rattle.std.specs.Prelude.{None}
+use Rattle.std.specs.Option.{unwrap_or}
+use Rattle.ov_ids.specs.Members.{Has, IsDistinct}
+use Rattle.ov_graph.specs.Links.{Linked}
+use Rattle.ov_graph.specs.Row.{HasBit}
+use Rattle.ov_split.specs.Net.{Net}
+use Rattle.ov_split.specs.Code.Residual.{Table, IsFree, IsStuck}
+use Rattle.ov_flow.specs.declared.tree.Tree.{Tree}
+
+-- where a path ends that takes a link to w: at the node before w, or at w where no path comes to it
+abbrev pub tip_of : Table → ℕ → ℕ
+tip_of from w = unwrap_or (from w) w
+
+-- the link from x to w may be taken, and a path ends at y then
+abbrev pub IsWay : Net → Table → ℕ → ℕ → ℕ → Type 0
+IsWay n from x y w = IsFree n x w × (w ≢ n.source) × (tip_of from w ≡ y)
+
+-- the step from x to y over a link, or back
+abbrev pub IsStepBy : Net → Table → ℕ → ℕ → Option ℕ → Type 0
+IsStepBy n from x y (Some w) = IsWay n from x y w
+IsStepBy n from x y None = from x ≡ Some y
+
+-- the first is the source, and a step leads to each later one from its parent, which stands before it
+pub record IsTree (n : Net) (from : Table) (order parents : List ℕ) (ways : List (Option ℕ)) : Type 0 where
+  pub some : 0 < length order
+  pub count : length parents ≡ length order
+  pub long : length ways ≡ length order
+  pub root : slice_index order 0 ≡ n.source
+  pub parent : (k : ℕ) → 0 < k → k < length order → slice_index parents k < k
+  pub step : (k : ℕ) → 0 < k → k < length order
+      → IsStepBy n from (slice_index order (slice_index parents k)) (slice_index order k) (get_or ways k None)
+  pub distinct : IsDistinct order
+  pub nodes : (x : ℕ) → Has order x → Has n.graph.nodes x
+
+-- the tree has a parent for each node, found before it, and room for its step
+pub record IsShaped (order parents : List ℕ) (ways : List (Option ℕ)) : Type 0 where
+  pub some : 0 < length order
+  pub count : length parents ≡ length order
+  pub long : length ways ≡ length order
+  pub parent : (k : ℕ) → 0 < k → k < length order → slice_index parents k < k
+
+-- a path may step to w from a reached node, and where it ends then is reached
+pub record IsTaken (n : Net) (from : Table) (order : List ℕ) (w : ℕ) : Type 0 where
+  pub x : ℕ
+  pub behind : Has order x
+  pub free : IsFree n x w
+  pub tip : Has order (tip_of from w)
+
+-- a search's tree: `reached` marks its nodes, and `seen` the avoided ones, the source, and those to which links were
+-- taken
+pub record IsGrownBy (n : Net) (from : Table) (order parents : List ℕ) (ways : List (Option ℕ))
+    (reached seen : List ℕ) : Type 0 where
+  pub is_tree : IsTree n from order parents ways
+  pub marked : (p : ℕ) → HasBit reached p ↔ Has order p
+  pub off : (w : ℕ) → Has n.avoided w → HasBit seen w
+  pub source : HasBit seen n.source
+  pub sees : (w : ℕ) → HasBit seen w → (Has n.avoided w ⊎ (w ≡ n.source)) ⊎ IsTaken n from order w
+
+abbrev pub IsGrown : Net → Table → Tree → Type 0
+IsGrown n from t = IsGrownBy n from t.order.items t.parents.items t.ways.items t.reached t.seen
+
+-- ys begins with xs
+abbrev pub Extends : List ℕ → List ℕ → Type 0
+Extends xs ys = (length xs ≤ length ys) × ((k : ℕ) → k < length xs → slice_index ys k ≡ slice_index xs k)
+
+-- nothing that was reached or seen is lost
+pub record IsMore (old new : Tree) : Type 0 where
+  pub order : Extends old.order.items new.order.items
+  pub seen : (w : ℕ) → HasBit old.seen w → HasBit new.seen w
+
+-- no target is reached
+abbrev pub IsClean : Net → Tree → Type 0
+IsClean n t = (x : ℕ) → Has t.order.items x → ¬ Has n.targets x
+
+-- the last node reached is a target
+abbrev pub IsEnded : Net → Tree → Type 0
+IsEnded n t = Has n.targets (get_or t.order.items (length t.order.items - 1) 0)
+
+-- no target is reached, and each link of x was seen
+pub record IsSweptAt (n : Net) (x : ℕ) (t : Tree) : Type 0 where
+  pub clean : IsClean n t
+  pub links : (w : ℕ) → Linked n.graph x w → HasBit t.seen w
+
+-- each step from x was taken, and no target is reached
+pub record IsVisited (n : Net) (from : Table) (x : ℕ) (t : Tree) : Type 0 where
+  pub swept : IsSweptAt n x t
+  pub back : (u : ℕ) → from x ≡ Some u → Has t.order.items u
+
+-- what a search leaves that found no target
+pub record IsSwept (n : Net) (from : Table) (t : Tree) : Type 0 where
+  pub stuck : IsStuck n from t.order.items
+  pub links : (x w : ℕ) → Has t.order.items x → Linked n.graph x w → HasBit t.seen w
