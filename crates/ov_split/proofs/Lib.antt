@@ -11,3 +11,4 @@ pub mod Mapped
 pub mod Renamed
 pub mod ByPlace
 pub mod Rows
+pub mod NetPlaces

@@ -1,3 +1,4 @@
 pub mod Places
 pub mod Residual
 pub mod Rows
+pub mod Placed

@@ -1,11 +1,12 @@
-ghost use Rattle.std.specs.Prelude.{◌≡◌, ◌≢◌, ◌↔◌, ℕ, ◌<◌, ◌*◌, length, IfSome, Some};
+ghost use Rattle.std.specs.Prelude.{◌≡◌, ◌≢◌, ◌↔◌, ℕ, ◌<◌, ◌≤◌, ◌*◌, length, IfSome, Some};
 ghost use Rattle.ov_ids.specs.Members.{Has};
 ghost use Rattle.ov_graph.specs.Links.{Linked};
 ghost use Rattle.ov_graph.specs.Paths.{node_at};
-ghost use Rattle.ov_graph.specs.Row.{HasBit};
+ghost use Rattle.ov_graph.specs.Row.{HasBit, AreWordsFor};
 ghost use Rattle.ov_graph.specs.Code.Kept.{picked};
 ghost use Rattle.ov_split.specs.Net.{IsNet};
 ghost use Rattle.ov_split.specs.Code.Places.{net_by_place};
+ghost use Rattle.ov_split.specs.Code.Placed.{IsPlaced};
 ghost use Rattle.ov_split.specs.Code.Rows.{node_if};
 
 use ov_graph::Graph;
@@ -69,6 +70,23 @@ impl<'g> SplitNet<'g> {
         ensures net { IsNet self.now }
     {
         self.graph
+    }
+
+    /// How many places there are: one for each node.
+    pub fn places(&self) -> usize
+        ensures places { result ≡ length self.now.graph.nodes }
+        ensures placed { IsPlaced (net_by_place self.now) (length self.now.graph.nodes) }
+        ensures net { IsNet self.now }
+    {
+        self.graph.nodes().len()
+    }
+
+    /// How many words of the rows are in use: no row has a bit beyond them.
+    pub fn words(&self) -> usize
+        ensures words { AreWordsFor (length self.now.graph.nodes) result }
+        ensures fits { result ≤ WORDS }
+    {
+        self.graph.words()
     }
 
     /// The place of the source.

@@ -1,0 +1,82 @@
+-- Paths of one link, and the table of what is held.
+use Rattle.std.proofs.Common.{◌≡◌, ◌≢◌, ◌∙◌, ℕ, inl, inr, List, [], ◌∷◌, ◌++◌, length, Option}
+use Rattle.std.proofs.Common.{Some, None, refl, sym, ap, subst, unwrap_or}
+use Rattle.std.proofs.lemmas.Bool.{cases_eq}
+use Rattle.ov_ids.specs.Members.{Has}
+use Rattle.ov_ids.proofs.Members.{has_append_left, has_append_right, has_append_cases}
+use Rattle.ov_graph.proofs.Filtered.{linked_node}
+use Rattle.ov_graph.proofs.Walks.{linked_sym}
+use Rattle.ov_split.specs.Net.{Net, IsNet}
+use Rattle.ov_split.specs.Code.Residual.{Table, IsFree, IsFlow}
+use Rattle.ov_split.specs.Code.Placed.{IsPlaced}
+use Rattle.ov_split.proofs.Move.{push_held, start_held, leads_map}
+use Rattle.ov_flow.specs.Code.Walked.{table_of, IsTable}
+use Rattle.ov_flow.proofs.Copying.{held_turned}
+
+-- what is held names places
+pub flow_table : (n : Net) (wide : ℕ) (from : List (Option ℕ)) (ends : List ℕ) → IsPlaced n wide → length from ≡ wide
+    → IsFlow n (table_of from) ends → IsTable wide from
+flow_table n wide from ends placed long flow = record {
+  long = long;
+  told = λ v u f.
+      let l = linked_sym n.graph u v (flow.held.free v u f).0 in
+      (placed.nodes u).0 (linked_node n.graph v u placed.net.graph l);
+}
+
+-- nothing is held
+pub flow_none : (n : Net) (from : Table) → ((v : ℕ) → from v ≡ None) → IsFlow n from []
+flow_none n from none =
+    let no : (v u : ℕ) → from v ≡ Some u → ⊥ = λ v u f. let e = none v in absurd (cc (e, f)) in
+    record {
+      held = record {
+        root = none n.source;
+        free = λ v u f. absurd (no v u f);
+        comes = λ v u f. absurd (no v u f);
+        once = λ v w u f. absurd (no v u f);
+        ends_used = λ e h. absurd h;
+        ends_last = λ e v h. absurd h;
+        distinct = tt;
+      };
+      tidy = λ v u. absurd (no v u.0 u.1);
+      targets = λ e h. absurd h;
+    }
+
+-- where nothing is held, the table says nothing
+pub none_held : (n : Net) (from : Table) (ends : List ℕ) → IsFlow n from ends → ends ≡ [] → (v u : ℕ)
+    → from v ≡ Some u → ⊥
+none_held n from ends flow is v u f = let t = flow.tidy v (u, f) in subst (λ (l : List ℕ). Has l t.0) is t.1
+
+-- a path of one link to a target of no path
+pub flow_direct : (n : Net) → IsNet n → (from next : Table) (ends : List ℕ) (w : ℕ) → IsFlow n from ends
+    → IsFree n n.source w → Has n.targets w → ((u : ℕ) → from w ≡ Some u → ⊥) → next w ≡ Some n.source
+    → ((v : ℕ) → v ≢ w → next v ≡ from v) → IsFlow n next (ends ++ w ∷ [])
+flow_direct n net from next ends w flow free target unused there others =
+    let out = is_none (from w) unused in
+    let off : ¬ Has ends n.source = λ h. net.no_target (flow.targets n.source h) in
+    let ws : w ≢ n.source = λ e. net.no_target (subst (Has n.targets) e target) in
+    let held = push_held n from next n.source w w ends (start_held n from ends flow.held off) free ws ws
+    (λ e. ws (sym e)) (ap (λ (o : Option ℕ). unwrap_or o w) out) there others in
+    record {
+      held = held_turned n next w ends held;
+      tidy = λ v u. elim (cases_eq v w) [
+        | inl e ↦ (w, has_append_right ends (w ∷ []) w (inl refl), ([], e))
+        | inr ne ↦
+            let t = flow.tidy v (u.0, sym (others v ne) ∙ u.1) in (
+              t.0,
+              has_append_left ends (w ∷ []) t.0 t.1,
+              (
+                t.2.0,
+                leads_map {R = λ a b. from b ≡ Some a} {Q = λ a b. next b ≡ Some a} v t.0 t.2.0
+                    (λ a b m f. others b (λ e. unused a (ap from (sym e) ∙ f)) ∙ f) t.2.1,
+              ),
+            )
+      ];
+      targets = λ e h. elim (has_append_cases ends (w ∷ []) e h) [
+        | inl k ↦ flow.targets e k
+        | inr k ↦ elim k [ inl s ↦ subst (Has n.targets) s target | inr z ↦ absurd z ]
+      ];
+    }
+  where
+    is_none : (o : Option ℕ) → ((u : ℕ) → o ≡ Some u → ⊥) → o ≡ None
+    is_none None none = refl
+    is_none (Some u) none = absurd (none u refl)

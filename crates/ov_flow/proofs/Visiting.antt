@@ -1,0 +1,175 @@
+-- The links of one node, taken one after another.
+use Rattle.std.proofs.Common.{◌≡◌, ◌∙◌, ◌↔◌, ◌⊎◌, ℕ, ◌+◌, ◌-◌, ◌*◌, ◌<◌, ◌≤◌, inl, inr, List, length, get_or}
+use Rattle.std.proofs.Common.{Option, Some, None, Bool, true, false, refl, sym, subst, arith, unwrap_or, IsTrue}
+use Rattle.std.proofs.lemmas.Bool.{cases_eq, cases_lt}
+use Rattle.std.proofs.lemmas.List.{get_or_read}
+use Rattle.ov_ids.specs.Members.{Has}
+use Rattle.ov_ids.proofs.Members.{has_place}
+use Rattle.ov_graph.specs.Links.{Linked}
+use Rattle.ov_graph.specs.Row.{has_bit, HasBit, IsFirstFrom}
+use Rattle.ov_graph.proofs.Filtered.{linked_node}
+use Rattle.ov_split.specs.Net.{Net}
+use Rattle.ov_split.specs.Code.Residual.{Table}
+use Rattle.ov_split.specs.Code.Placed.{IsPlaced}
+use Rattle.ov_flow.specs.declared.tree.Tree.{Tree}
+use Rattle.ov_flow.specs.Code.Reached.{tip_of, IsStepBy, IsTree, IsGrownBy, IsGrown, IsMore, IsClean, IsSweptAt}
+use Rattle.ov_flow.specs.Code.Walked.{table_of, IsTable}
+use Rattle.ov_flow.proofs.Reaching.{more_refl, more_trans, extends_has, grown_seen, clean_more, IsReachedBy}
+
+-- the place to which a step leads
+pub tip_below : (wide : ℕ) (from : List (Option ℕ)) (w : ℕ) → IsTable wide from → w < wide
+    → tip_of (table_of from) w < wide
+tip_below wide from w t l = go (table_of from w) refl
+  where
+    go : (o : Option ℕ) → table_of from w ≡ o → unwrap_or o w < wide
+    go None e = l
+    go (Some u) e = t.told w u e
+
+pub order_below : (n : Net) (wide : ℕ) (from : Table) (order parents : List ℕ) (ways : List (Option ℕ)) (k : ℕ)
+    → IsPlaced n wide → IsTree n from order parents ways → k < length order → get_or order k 0 < wide
+order_below n wide from order parents ways k p t l =
+    (p.nodes (get_or order k 0)).0 (t.nodes (get_or order k 0) (has_place order k 0 l))
+
+pub read_below : (n : Net) (wide : ℕ) (from : Table) (order parents : List ℕ) (ways : List (Option ℕ)) (k x : ℕ)
+    → IsPlaced n wide → IsTree n from order parents ways → k < length order → x ≡ get_or order k x → x < wide
+read_below n wide from order parents ways k x p t l read =
+    let e = get_or_read order k x l read 0 in
+    let b = order_below n wide from order parents ways k p t l in
+    omega (arith, e, b)
+
+-- on the way through the fresh bits: those before `after` are taken, the others are still unseen
+pub record IsVisiting (n : Net) (from : Table) (began t : Tree) (fresh : List ℕ) (after : ℕ) : Type 0 where
+  pub grown : IsGrown n from t
+  pub more : IsMore began t
+  pub clean : IsClean n t
+  pub done : (q : ℕ) → q < after → HasBit fresh q → HasBit t.seen q
+  pub rest : (q : ℕ) → after ≤ q → HasBit fresh q → ¬ HasBit t.seen q
+
+-- a link to w was taken to a node, which is a target, or the search goes on
+pub record IsLinkTaken (n : Net) (from : Table) (began u : Tree) (new fresh : List ℕ) (w node : ℕ) : Type 0 where
+  pub grown : IsGrownBy n from u.order.items u.parents.items u.ways.items u.reached new
+  pub more : IsMore began (record u { seen = new })
+  pub ended : Has n.targets node → Has n.targets (get_or u.order.items (length u.order.items - 1) 0)
+  pub goes : ¬ Has n.targets node → IsVisiting n from began (record u { seen = new }) fresh (w + 1)
+
+-- the fresh bits of a row
+abbrev pub AreFresh : List ℕ → List ℕ → ℕ → List ℕ → Type 0
+AreFresh row seen words fresh = (q : ℕ) → HasBit fresh q ↔ ((q < 64 * words) × HasBit row q × ¬ HasBit seen q)
+
+pub visiting_first : (n : Net) (from : Table) (t : Tree) (row fresh : List ℕ) (words : ℕ) → IsGrown n from t
+    → IsClean n t → AreFresh row t.seen words fresh → IsVisiting n from t t fresh 0
+visiting_first n from t row fresh words g clean are = record {
+  grown = g;
+  more = more_refl t;
+  clean = clean;
+  done = λ q l. absurd (omega arith);
+  rest = λ q l h. ((are q).0 h).2;
+}
+
+module _ (n : Net) (wide : ℕ) (placed : IsPlaced n wide) (from : List (Option ℕ)) (table : IsTable wide from)
+    (began t : Tree) (row fresh : List ℕ) (words at after w node : ℕ)
+    (x : ℕ) (read : x ≡ get_or began.order.items at x) (bits : (q : ℕ) → HasBit row q ↔ Linked n.graph x q)
+    (are : AreFresh row began.seen words fresh) (v : IsVisiting n (table_of from) began t fresh after)
+    (lt : at < length began.order.items) (first : IsFirstFrom fresh after w) where
+  links_there : Linked n.graph (get_or t.order.items at 0) w
+  links_there =
+      subst (λ (y : ℕ). Linked n.graph y w) (get_or_read began.order.items at x lt read 0 ∙ sym (v.more.order.1 at lt))
+      ((bits w).0 ((are w).0 first.set).1)
+
+  pub link_below : w < wide
+  link_below = (placed.nodes w).0 (linked_node n.graph (get_or t.order.items at 0) w placed.net.graph links_there)
+
+  at_below : at < length t.order.items
+  at_below = let l = v.more.order.0 in omega (arith, l, lt)
+
+  module _ (tip : node ≡ tip_of (table_of from) w) where
+    node_below : node < wide
+    node_below = let l = tip_below wide from w table link_below in omega (arith, tip, l)
+
+    node_there : Has n.graph.nodes node
+    node_there = (placed.nodes node).1 node_below
+
+    link_step : IsStepBy n (table_of from) (get_or t.order.items at 0) node (Some w)
+    link_step = (
+      (links_there, λ h. v.rest w first.reached first.set (v.grown.off w h)),
+      (λ s. v.rest w first.reached first.set (subst (HasBit t.seen) (sym s) v.grown.source)),
+      sym tip,
+    )
+
+    -- the node is reached, and the bit of the link is set
+    module _ (u : Tree) (new : List ℕ) (reach : (m : Net) (f : Table) → IsGrown m f t → Has m.graph.nodes node
+        → IsStepBy m f (get_or t.order.items at 0) node (Some w) → IsReachedBy m f t u node) (more : IsMore t u)
+        (only : (x : ℕ) → Has u.order.items x → ¬ Has t.order.items x → x ≡ node) (same : u.seen ≡ t.seen)
+        (put : (q : ℕ) → HasBit new q ↔ ((q ≡ w) ⊎ HasBit u.seen q)) where
+      reached : IsReachedBy n (table_of from) t u node
+      reached = reach n (table_of from) v.grown node_there link_step
+
+      link_grown : IsGrownBy n (table_of from) u.order.items u.parents.items u.ways.items u.reached new
+      link_grown =
+          grown_seen n (table_of from) u.order.items u.parents.items u.ways.items u.reached u.seen
+          (get_or t.order.items at 0) w new reached.0
+          (extends_has t.order.items u.order.items (get_or t.order.items at 0) more.order
+          (has_place t.order.items at 0 at_below)) link_step.0 (subst (Has u.order.items) tip reached.1) put
+
+      link_more : IsMore began (record u { seen = new })
+      link_more = more_trans began t (record u { seen = new }) v.more (record {
+        order = more.order;
+        seen = λ q h. (put q).1 (inr (more.seen q h));
+      })
+
+      visiting_more : ¬ Has n.targets node
+          → IsVisiting n (table_of from) began (record u { seen = new }) fresh (w + 1)
+      visiting_more off = record {
+        grown = link_grown;
+        more = link_more;
+        clean = clean_more n t.order.items u.order.items node v.clean only off;
+        done = λ q l h. elim (cases_eq q w) [
+          | inl e ↦ (put q).1 (inl e)
+          | inr ne ↦ elim (cases_lt q after) [
+            | inl k ↦ (put q).1 (inr (subst (λ (s : List ℕ). HasBit s q) (sym same) (v.done q k h)))
+            | inr k ↦ absurd (first.first q k (omega (arith, l, ne)) h)
+          ]
+        ];
+        rest = λ q l h s. elim ((put q).0 s) [
+          | inl e ↦ absurd (omega (arith, e, l))
+          | inr k ↦ v.rest q (let r = first.reached in omega (arith, r, l)) h
+              (subst (λ (s : List ℕ). HasBit s q) same k)
+        ];
+      }
+
+      pub link_taken : IsLinkTaken n (table_of from) began u new fresh w node
+      link_taken = record {
+        grown = link_grown;
+        more = link_more;
+        ended = λ h. subst (Has n.targets) (sym (reached.2 (λ k. v.clean node k h))) h;
+        goes = visiting_more;
+      }
+
+bit_or_not : (row : List ℕ) (p : ℕ) → HasBit row p ⊎ (¬ HasBit row p)
+bit_or_not row p = go (has_bit row p) refl
+  where
+    go : (b : Bool) → has_bit row p ≡ b → IsTrue b ⊎ (¬ IsTrue b)
+    go true e = inl refl
+    go false e = inr (λ h. absurd (cc h))
+
+-- no fresh bit is left
+pub visiting_all : (n : Net) (wide : ℕ) → IsPlaced n wide → (from : Table) (began t : Tree) (row fresh : List ℕ)
+    (words at x after : ℕ) → wide ≤ 64 * words → at < length began.order.items → x ≡ get_or began.order.items at x
+    → ((q : ℕ) → HasBit row q ↔ Linked n.graph x q)
+    → AreFresh row began.seen words fresh → IsVisiting n from began t fresh after
+    → ((q : ℕ) → after ≤ q → q < 64 * words → ¬ HasBit fresh q) → IsSweptAt n (get_or began.order.items at 0) t
+visiting_all n wide placed from began t row fresh words at x after enough lt read bits are v none = record {
+  clean = v.clean;
+  links = λ w k.
+      let l = subst (λ (y : ℕ). Linked n.graph y w) (sym (get_or_read began.order.items at x lt read 0)) k in
+      elim (bit_or_not began.seen w) [
+        | inl h ↦ v.more.seen w h
+        | inr off ↦
+            let b = (placed.nodes w).0 (linked_node n.graph x w placed.net.graph l) in
+            let h = (are w).1 (omega (arith, b, enough), (bits w).1 l, off) in
+            elim (cases_lt w after) [
+              | inl k ↦ v.done w k h
+              | inr k ↦ absurd (none w k (omega (arith, b, enough)) h)
+            ]
+      ];
+}

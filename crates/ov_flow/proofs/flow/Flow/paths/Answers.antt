@@ -1,0 +1,18 @@
+-- The paths by place are paths of the nodes.
+use Rattle.std.proofs.Common.{ℕ, List, map, length, subst}
+use Rattle.ov_graph.specs.Paths.{node_at}
+use Rattle.ov_split.specs.Net.{IsFanOf}
+use Rattle.ov_split.specs.Code.Places.{net_by_place}
+use Rattle.ov_split.proofs.ByPlace.{fan_by_place, placed_node}
+use Rattle.ov_flow.specs.Flow.{FlowState, ArePlaces}
+use Rattle.ov_flow.proofs.flow.Flow.paths.Goals as goal
+
+pub returns : goal.returns
+returns c =
+    let n = c.self.inside.net in
+    let ends = c.self.inside.work.ends.items in
+    let ps = c.in_ok-write_paths.field-0 in
+    let fan = subst (λ (l : List ℕ). IsFanOf (net_by_place n) (length l) ps) c.deref-2.ensures.value
+    c.in_ok-write_paths.ensures in
+    subst (λ (v : FlowState). IsFanOf v.net v.held (map (map (node_at v.net.graph)) ps)) c.self.view_is
+    (fan_by_place n c.self.invariant.0 (length ends) ps fan)

@@ -1,0 +1,95 @@
+ghost use Rattle.std.specs.Prelude.{◌≡◌, ℕ, ◌+◌, ◌<◌, List, map, length, IfOk, OnErr, IfSome, MatchOption};
+ghost use Rattle.ov_graph.specs.Paths.{node_at};
+ghost use Rattle.ov_split.specs.Net.{IsFanOf};
+ghost use Rattle.ov_flow.specs.Flow.{FlowState, IsFullBy, IsStep, ArePlaces};
+
+use crate::place_paths::{PlacePaths, write_paths};
+use crate::step::{Step, Stuck, stuck_at};
+use crate::work::{Work, augment, new_work, settle, start};
+use ov_ids::OutOfMemory;
+use ov_split::SplitNet;
+use std::alloc::Global;
+use std::marker::Model;
+
+/// Paths of a net that share only the source, of which one more is sought at each step (Even, SIAM J. Comput. 4, 1975).
+/// Contracts see the net, and how many paths are held.
+#[derive(Drop)]
+pub struct Flow<'g> {
+    net: SplitNet<'g>,
+    work: Work,
+    alloc: Global,
+}
+
+impl<'g> Model for Flow<'g> {
+    ghost use Rattle.std.specs.Prelude.{length};
+    ghost use Rattle.ov_split.specs.Net.{IsNet};
+    ghost use Rattle.ov_flow.specs.Flow.{FlowState};
+    ghost use Rattle.ov_flow.specs.Code.Held.{IsReady, IsWorkOf};
+
+    ghost Value = { FlowState };
+
+    ghost view = { λ f. record { net = f.net; held = length f.work.ends.items } };
+
+    ghost invariant = { λ f. IsNet f.net × IsReady f.net × IsWorkOf f.net f.work };
+}
+
+impl<'g> Flow<'g> {
+    /// Room for searches of this net, and of others of its graph. No path is held.
+    pub fn new(alloc: Global, net: SplitNet<'g>) -> Result<Flow<'g>, OutOfMemory>
+        ensures { IfOk result (λ f. f ≡ record { net = net.entry; held = 0 }) }
+    {
+        let work = new_work(alloc, net.places())?;
+        Ok(Flow { net, work, alloc })
+    }
+
+    /// Begins anew with another net of the same graph. It takes no memory.
+    pub fn restart(&mut self, net: SplitNet<'g>)
+        requires { net.graph ≡ self.old.net.graph }
+        ensures { self.new ≡ record { net = net.entry; held = 0 } }
+    {
+        prove!(net.places() == self.work.from.len());
+        start(&net, &mut self.work);
+        self.net = net;
+    }
+
+    /// How many paths are held.
+    pub fn held(&self) -> usize
+        ensures { result ≡ self.now.held }
+    {
+        self.work.ends.len()
+    }
+
+    /// Seeks one path more. Where there is none, it tells the nearest least cut, which has as many nodes as paths are
+    /// held (Menger, Fund. Math. 10, 1927). Out of memory changes nothing.
+    pub fn augment(&mut self) -> Result<Step, OutOfMemory>
+        ensures step { IfOk result (λ step. IsStep self.old self.new step) }
+        ensures err { OnErr result (self.new ≡ self.old) }
+        ensures fans { (paths : List (List ℕ)) × IsFanOf self.new.net self.new.held paths }
+    {
+        if augment(&self.net, &mut self.work)? {
+            return Ok(Step::Grew);
+        }
+        Ok(Step::Stuck(stuck_at(&self.net, &self.work)))
+    }
+
+    /// Begins anew, and seeks `level` paths: first those of one link. None: so many are held. Else fewer are, which are
+    /// as many as there can be, and it tells the nearest least cut. Out of memory leaves some paths of the net held.
+    pub fn seek(&mut self, level: usize) -> Result<Option<Stuck>, OutOfMemory>
+        ensures net { self.new.net ≡ self.old.net }
+        ensures held { IfOk result (λ stuck. MatchOption stuck (self.new.held ≡ level)
+            (λ s. (self.new.held < level) × IsFullBy self.old.net self.new.held s)) }
+        ensures fans { (paths : List (List ℕ)) × IsFanOf self.new.net self.new.held paths }
+    {
+        if settle(&self.net, level, &mut self.work)? {
+            return Ok(None);
+        }
+        Ok(Some(stuck_at(&self.net, &self.work)))
+    }
+
+    /// The paths that are held: a fan of the net. It fails only for want of memory.
+    pub fn paths(&self) -> Result<PlacePaths, OutOfMemory>
+        ensures { IfOk result (λ ps. IsFanOf self.now.net self.now.held (map (map (node_at self.now.net.graph)) ps)) }
+    {
+        Ok(write_paths(self.alloc, &self.net, &self.work.from, &self.work.ends)?)
+    }
+}

@@ -1,0 +1,16 @@
+//! Paths that share only their source, found one after another.
+#![tactic(auto)]
+
+mod direct;
+mod flow;
+mod place_paths;
+mod retracing;
+mod seeking;
+mod step;
+mod tree;
+mod walk;
+mod work;
+
+pub use flow::Flow;
+pub use place_paths::PlacePaths;
+pub use step::{Step, Stuck};

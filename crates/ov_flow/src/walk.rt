@@ -1,0 +1,56 @@
+//! The walk to a target that a search found, and its steps taken.
+ghost use Rattle.std.specs.Prelude.{◌≡◌, ◌≢◌, ℕ, ◌-◌, ◌<◌, List, ◌∷◌, length, slice_index, OnOk};
+ghost use Rattle.ov_split.specs.Net.{Net};
+ghost use Rattle.ov_split.specs.Code.Residual.{Table, AreHeld};
+ghost use Rattle.ov_split.specs.Code.Places.{net_by_place};
+ghost use Rattle.ov_flow.specs.Code.Reached.{IsShaped, IsGrown};
+ghost use Rattle.ov_flow.specs.Code.Walked.{table_of, IsWalkBy};
+ghost use Rattle.ov_flow.specs.Code.Held.{IsReady};
+
+use crate::tree::Tree;
+use ov_split::SplitNet;
+use std::alloc::AllocError;
+
+/// A step of a walk: to `node`, over a link to `way`, or back.
+#[derive(Clone, Copy)]
+pub(crate) struct Hop {
+    pub node: u16,
+    pub way: Option<u16>,
+}
+
+/// Writes down the walk to the last node that is reached.
+pub(crate) fn walk_back(tree: &Tree, hops: &mut Vec<Hop>) -> Result<(), AllocError>
+    requires { IsShaped tree.now.order.items tree.now.parents.items tree.now.ways.items }
+    ensures { OnOk result ((n : Net) (from : Table) → IsGrown n from tree.now
+        → IsWalkBy n from hops.new.items (slice_index tree.now.order.items (length tree.now.order.items - 1))) }
+{
+    hops.clear();
+    let mut at = tree.order.len() - 1;
+    while at > 0 {
+        let node = tree.order[at];
+        let way = tree.ways[at];
+        hops.push(Hop { node, way })?;
+        at = tree.parents[at] as usize;
+    }
+    hops.reverse();
+    Ok(())
+}
+
+/// Takes the steps of a walk from the source.
+pub(crate) fn take_hops(net: &SplitNet<'_>, from: &mut [Option<u16>], hops: &[Hop], target: u16)
+    requires ready { IsReady net.now }
+    requires long { length from.old ≡ length net.now.graph.nodes }
+    requires walk { IsWalkBy (net_by_place net.now) (table_of from.old) hops.now target }
+    ensures held { (ends : List ℕ)
+        → AreHeld (net_by_place net.now) (table_of from.old) ((net_by_place net.now).source ∷ ends)
+        → AreHeld (net_by_place net.now) (table_of from.new) (target ∷ ends) }
+{
+    let mut at = net.source() as u16;
+    for hop in hops.iter() {
+        match hop.way {
+            Some(w) => from[w as usize] = Some(at),
+            None => from[at as usize] = None,
+        }
+        at = hop.node;
+    }
+}

@@ -1,0 +1,92 @@
+//! What a search works on, and the paths that are held.
+ghost use Rattle.std.specs.Prelude.{◌≡◌, ℕ, ◌<◌, ◌≤◌, [], length, false, IfOk, OnErr, MatchBool};
+ghost use Rattle.ov_split.specs.Net.{Net};
+ghost use Rattle.ov_flow.specs.Code.Held.{IsReady, HasRoom, IsWorkOf, IsSame, IsLonger, IsAtEnd};
+
+use crate::direct::take_direct;
+use crate::retracing::{clear, empty_table, turn};
+use crate::seeking::search;
+use crate::tree::{Tree, new_tree};
+use crate::walk::{Hop, walk_back};
+use ov_split::SplitNet;
+use std::alloc::{AllocError, Global};
+
+/// The tree of the last search, and the paths held: from where one comes to each place, and their ends.
+#[derive(Drop)]
+pub(crate) struct Work {
+    pub tree: Tree,
+    pub hops: Vec<Hop>,
+    pub from: Vec<Option<u16>>,
+    pub next: Vec<Option<u16>>,
+    pub ends: Vec<u16>,
+}
+
+/// Room for searches of nets with so many places. No path is held.
+pub(crate) fn new_work(alloc: Global, places: usize) -> Result<Work, AllocError>
+    ensures work { IfOk result (λ w. (n : Net) → length n.graph.nodes ≡ places → IsWorkOf n w) }
+    ensures empty { IfOk result (λ w. w.ends.items ≡ []) }
+{
+    Ok(Work {
+        tree: new_tree(alloc, places)?,
+        hops: Vec::with_capacity(alloc, places)?,
+        from: empty_table(alloc, places)?,
+        next: empty_table(alloc, places)?,
+        ends: Vec::with_capacity(alloc, places)?,
+    })
+}
+
+/// Holds no path.
+pub(crate) fn start(net: &SplitNet<'_>, work: &mut Work)
+    requires { HasRoom (length net.now.graph.nodes) work.old }
+    ensures work { IsWorkOf net.now work.new }
+    ensures empty { work.new.ends.items ≡ [] }
+{
+    clear(&mut work.from);
+    work.ends.clear();
+}
+
+/// Seeks one path more. True: it is held too.
+pub(crate) fn augment(net: &SplitNet<'_>, work: &mut Work) -> Result<bool, AllocError>
+    requires ready { IsReady net.now }
+    requires work { IsWorkOf net.now work.old }
+    ensures work { IsWorkOf net.now work.new }
+    ensures longer { IfOk result (λ grew. MatchBool grew (IsLonger work.old work.new) (IsSame work.old work.new)) }
+    ensures end { IfOk result (λ grew. grew ≡ false → IsAtEnd net.now work.new) }
+    ensures err { OnErr result (IsSame work.old work.new) }
+{
+    if !search(net, &work.from, &mut work.tree)? {
+        return Ok(false);
+    }
+    walk_back(&work.tree, &mut work.hops)?;
+    let target = work.tree.order[work.tree.order.len() - 1];
+    work.ends.push(target)?;
+    turn(
+        net,
+        &mut work.from,
+        &mut work.next,
+        &work.ends,
+        &work.hops,
+        target,
+    );
+    std::mem::swap(&mut work.from, &mut work.next);
+    Ok(true)
+}
+
+/// Begins anew, and seeks `level` paths. True: so many are held.
+pub(crate) fn settle(net: &SplitNet<'_>, level: usize, work: &mut Work) -> Result<bool, AllocError>
+    requires ready { IsReady net.now }
+    requires room { HasRoom (length net.now.graph.nodes) work.old }
+    ensures work { IsWorkOf net.now work.new }
+    ensures held { IfOk result (λ found. MatchBool found (length work.new.ends.items ≡ level)
+        (length work.new.ends.items < level)) }
+    ensures end { IfOk result (λ found. found ≡ false → IsAtEnd net.now work.new) }
+{
+    start(net, work);
+    take_direct(net, level, work)?;
+    while work.ends.len() < level {
+        if !augment(net, work)? {
+            return Ok(false);
+        }
+    }
+    Ok(true)
+}
