@@ -117,6 +117,22 @@ module _ (n : Net) (wide words : ℕ) (placed : IsPlaced n wide) (enough : wide 
     (λ h. from_row t.reached wide x ((placed.nodes x).0 (grown.is_tree.nodes x h)) ((grown.marked x).1 h)),
   )
 
+  pub cut_within : (w : ℕ) → HasBit cut w → w < wide
+  cut_within w h =
+      let b = (bits w).0 h in
+      let c = (near w).0 b.1 in
+      elim (grown.sees w c.1) [
+        | inl a ↦ absurd (elim a [
+          | inl o ↦ b.2 ((off w).1 o)
+          | inr s ↦ c.2 ((grown.marked w).1 (subst (Has t.order.items) (grown.is_tree.root ∙ sym s)
+              (has_place t.order.items 0 0 grown.is_tree.some)))
+        ])
+        | inr k ↦ (placed.nodes w).0 (linked_node n.graph k.x w placed.net.graph k.free.0)
+      ]
+
+  pub side_within : (x : ℕ) → HasBit t.reached x → x < wide
+  side_within x h = (placed.nodes x).0 (grown.is_tree.nodes x ((grown.marked x).0 h))
+
 -- the same by ids
 pub stuck_full : (n : Net) (words : ℕ) → IsNet n → IsPlaced (net_by_place n) (length n.graph.nodes)
     → length n.graph.nodes ≤ 64 * words → (from : Table) (ends : List ℕ) (t : Tree) (avoided next cut : List ℕ)

@@ -2,6 +2,7 @@
 use Rattle.std.specs.Prelude.{◌≡◌, ℕ, ◌+◌, ◌<◌, List, length}
 use Rattle.ov_ids.specs.Members.{Has}
 use Rattle.ov_graph.specs.Links.{LinkGraph}
+use Rattle.ov_graph.specs.Row.{HasBit}
 use Rattle.ov_graph.specs.Code.Kept.{picked}
 use Rattle.ov_split.specs.Net.{Net, IsFanOf, IsNearestCut, IsSideOf}
 use Rattle.ov_flow.specs.declared.step.Stuck.{Stuck as Rows}
@@ -24,9 +25,15 @@ pub record IsFull (n : Net) (k : ℕ) (cut side : List ℕ) : Type 0 where
 abbrev pub nodes_at : LinkGraph → List ℕ → List ℕ
 nodes_at g row = picked row 0 g.nodes
 
+-- a row has bits at places of nodes alone
+abbrev pub HasPlacesAlone : LinkGraph → List ℕ → Type 0
+HasPlacesAlone g row = (p : ℕ) → HasBit row p → p < length g.nodes
+
 -- k paths are all there are, and the rows are those of the nearest least cut and of its side
-abbrev pub IsFullBy : Net → ℕ → Rows → Type 0
-IsFullBy n k s = IsFull n k (nodes_at n.graph s.cut) (nodes_at n.graph s.side)
+pub record IsFullBy (n : Net) (k : ℕ) (s : Rows) : Type 0 where
+  pub full : IsFull n k (nodes_at n.graph s.cut) (nodes_at n.graph s.side)
+  pub cut_places : HasPlacesAlone n.graph s.cut
+  pub side_places : HasPlacesAlone n.graph s.side
 
 -- what a search for one path more does: one more is held, or there is none and nothing has changed
 abbrev pub IsStep : FlowState → FlowState → Step → Type 0

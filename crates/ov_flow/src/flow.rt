@@ -86,9 +86,11 @@ impl<'g> Flow<'g> {
         Ok(Some(stuck_at(&self.net, &self.work)))
     }
 
-    /// The paths that are held: a fan of the net. It fails only for want of memory.
+    /// The paths that are held: a fan of the net, each path a list of places of nodes, counted from 0.
     pub fn paths(&self) -> Result<PlacePaths, OutOfMemory>
-        ensures { IfOk result (λ ps. IsFanOf self.now.net self.now.held (map (map (node_at self.now.net.graph)) ps)) }
+        ensures fan { IfOk result (λ ps. IsFanOf self.now.net self.now.held
+            (map (map (node_at self.now.net.graph)) ps)) }
+        ensures places { IfOk result (λ ps. ArePlaces self.now.net.graph ps) }
     {
         Ok(write_paths(self.alloc, &self.net, &self.work.from, &self.work.ends)?)
     }

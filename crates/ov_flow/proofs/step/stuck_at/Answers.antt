@@ -1,13 +1,30 @@
 -- The boundary of a search that found no more is the nearest least cut.
+use Rattle.std.proofs.Common.{length}
+use Rattle.ov_split.specs.Code.Places.{net_by_place}
 use Rattle.ov_flow.specs.Code.Walked.{table_of}
-use Rattle.ov_flow.proofs.Ending.{stuck_full}
+use Rattle.ov_flow.proofs.Ending.{stuck_full, cut_within, side_within}
 use Rattle.ov_flow.proofs.step.stuck_at.Goals as goal
 
 pub returns : goal.returns
 returns c =
     let w = c.args.work.now in
-    stuck_full c.args.net.now c.words-words.result c.avoided.ensures.net c.requires.ready
-    c.words-words.ensures.words.enough
-    (table_of w.from.items) w.ends.items w.tree c.avoided.result.now c.without-next.result c.without.result
-    c.requires.work.flow c.requires.end.grown c.requires.end.swept c.avoided.ensures.places c.without-next.ensures
-    c.without.ensures
+    let n = c.args.net.now in
+    let m = net_by_place n in
+    let wide = length n.graph.nodes in
+    let ready = c.requires.ready in
+    let enough = c.words-words.ensures.words.enough in
+    let from = table_of w.from.items in
+    let words = c.words-words.result in
+    let off = c.avoided.result.now in
+    let next = c.without-next.result in
+    let cut = c.without.result in
+    let at = c.requires.end in
+    let places = c.avoided.ensures.places in
+    record {
+      full = stuck_full n words c.avoided.ensures.net ready enough from w.ends.items w.tree off next cut
+          c.requires.work.flow at.grown at.swept places c.without-next.ensures c.without.ensures;
+      cut_places = cut_within m wide words ready enough from w.tree off next cut at.grown at.swept places
+          c.without-next.ensures c.without.ensures;
+      side_places = side_within m wide words ready enough from w.tree off next cut at.grown at.swept places
+          c.without-next.ensures c.without.ensures;
+    }
