@@ -1,0 +1,50 @@
+-- How members and nets are kept by place: in rows of bits.
+use Rattle.std.specs.Prelude.{◌≡◌, ◌≢◌, ◌↔◌, ℕ, ◌<◌, ◌≤◌, List, map, length, Option, IfSome}
+use Rattle.ov_ids.specs.Members.{Has, Ascends}
+use Rattle.ov_graph.specs.Links.{LinkGraph, IsGraph, IsWithinLimit}
+use Rattle.ov_graph.specs.Paths.{node_at}
+use Rattle.ov_graph.specs.Row.{HasBit}
+use Rattle.ov_graph.specs.Code.Kept.{picked}
+use Rattle.ov_split.specs.Net.{Net}
+use Rattle.ov_split.specs.Code.Rows.{node_if}
+use Rattle.ov_fans.specs.Group.{GroupIn}
+use Rattle.ov_fans.specs.declared.aim.Aim.{Aim}
+
+-- the group of the nodes at these places
+abbrev pub group_at : LinkGraph → List ℕ → GroupIn
+group_at g places = record { graph = g; members = map (node_at g) places }
+
+-- these are places of nodes, ascending, and the row has their bits
+pub record AreSeats (g : LinkGraph) (places row : List ℕ) : Type 0 where
+  pub graph : IsGraph g
+  pub within : IsWithinLimit g
+  pub some_place : 0 < length places
+  pub ascend : Ascends places
+  pub below : (p : ℕ) → Has places p → p < length g.nodes
+  pub bits : (p : ℕ) → HasBit row p ↔ Has places p
+
+-- the row has the bits of the members' places
+abbrev pub IsRowOfGroup : LinkGraph → List ℕ → List ℕ → Type 0
+IsRowOfGroup g q row = (p : ℕ) → HasBit row p ↔ ((p < length g.nodes) × Has q (node_at g p))
+
+-- the net of these places
+abbrev pub net_at : LinkGraph → Option ℕ → ℕ → List ℕ → Net
+net_at g avoided source targets = record {
+  graph = g;
+  avoided = node_if g avoided;
+  source = node_at g source;
+  targets = picked targets 0 g.nodes;
+}
+
+-- the net of an aim in g is n; its places are those of nodes, and the source is neither avoided nor a target
+pub record IsAimFor (g : LinkGraph) (n : Net) (aim : Aim) : Type 0 where
+  pub net : net_at g aim.avoided aim.source aim.targets ≡ n
+  pub source : aim.source < length g.nodes
+  pub avoided : IfSome aim.avoided (λ p. (p < length g.nodes) × (p ≢ aim.source))
+  pub targets : (p : ℕ) → HasBit aim.targets p → (p < length g.nodes) × (p ≢ aim.source)
+
+-- x is the lowest of xs that is not in s
+pub record IsLowestOutside (s xs : List ℕ) (x : ℕ) : Type 0 where
+  pub member : Has xs x
+  pub outside : ¬ Has s x
+  pub lowest : (t : ℕ) → Has xs t → ¬ Has s t → x ≤ t

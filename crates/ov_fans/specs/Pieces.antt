@@ -1,0 +1,57 @@
+-- The pieces of Even's test for a group (Even, SIAM J. Comput. 4, 1975), and which of them are good. A piece names its
+-- level, which is the number of paths that it asks for, and the places of its members in the group, counted from 1.
+use Rattle.std.specs.Prelude.{◌≡◌, ℕ, ◌-◌, ◌<◌, ◌≤◌, ◌⊎◌, List, [], ◌∷◌, ◌++◌, map, length, slice_index}
+use Rattle.ov_ids.specs.Members.{Has}
+use Rattle.ov_graph.specs.Links.{LinkGraph, Linked}
+use Rattle.ov_graph.specs.Paths.{ArePaths, IsFan}
+use Rattle.ov_graph.specs.Even.{members_below}
+use Rattle.ov_fans.specs.declared.piece.Piece.{Piece}
+use Rattle.ov_fans.specs.declared.piece.Piece.TheVariants.{Pair, Fan}
+
+-- the member at a place, counted from 1
+abbrev pub member_at : List ℕ → ℕ → ℕ
+member_at q place = slice_index q (place - 1)
+
+abbrev pub level_of : Piece → ℕ
+level_of (Pair level i j) = level
+level_of (Fan level j) = level
+
+-- levels go from 1 to one less than the nodes; of each, pairs are among the first members, as many as the level, and
+-- fans are those of the later members
+abbrev pub IsPiece : LinkGraph → List ℕ → Piece → Type 0
+IsPiece g q (Pair level i j) =
+    (1 ≤ level) × (level < length g.nodes) × (1 ≤ i) × (i < j) × (j ≤ level) × (j ≤ length q)
+IsPiece g q (Fan level j) = (1 ≤ level) × (level < length g.nodes) × (level < j) × (j ≤ length q)
+
+-- the member from which a piece's paths lead, and its place
+abbrev pub source_of : List ℕ → Piece → ℕ
+source_of q (Pair level i j) = member_at q i
+source_of q (Fan level j) = member_at q j
+
+abbrev pub source_place : Piece → ℕ
+source_place (Pair level i j) = i
+source_place (Fan level j) = j
+
+-- the members to which they lead: of a pair the other one, of a fan those before it
+abbrev pub IsTarget : List ℕ → Piece → ℕ → Type 0
+IsTarget q (Pair level i j) t = t ≡ member_at q j
+IsTarget q (Fan level j) t = Has (members_below q (member_at q j)) t
+
+-- a pair of members that are linked
+abbrev pub IsLinkedPair : LinkGraph → List ℕ → Piece → Type 0
+IsLinkedPair g q (Pair level i j) = Linked g (member_at q i) (member_at q j)
+IsLinkedPair g q (Fan level j) = ⊥
+
+-- the paths that a piece asks for
+abbrev pub AreAskedPaths : LinkGraph → List ℕ → Piece → List (List ℕ) → Type 0
+AreAskedPaths g q (Pair level i j) paths = ArePaths g (member_at q i) (member_at q j) level paths
+AreAskedPaths g q (Fan level j) paths = IsFan g (member_at q j) (members_below q (member_at q j)) level paths
+
+-- a piece is good where its two members are linked, or it has its paths
+abbrev pub IsGood : LinkGraph → List ℕ → Piece → Type 0
+IsGood g q p = IsLinkedPair g q p ⊎ ((paths : List (List ℕ)) × AreAskedPaths g q p paths)
+
+-- the paths of a piece, from those that are kept: of a pair they are kept without the other member, at which each ends
+abbrev pub paths_of : List ℕ → Piece → List (List ℕ) → List (List ℕ)
+paths_of q (Pair level i j) paths = map (λ path. path ++ member_at q j ∷ []) paths
+paths_of q (Fan level j) paths = paths
