@@ -1,0 +1,9 @@
+-- The piece is good where it did not come to a cut.
+use Rattle.ov_fans.proofs.Decided.{found_decides}
+use Rattle.ov_fans.proofs.settler.Settler.settle.Goals as goal
+
+pub returns-clause-good : goal.returns-clause-good
+returns-clause-good c =
+    let m = c.args.self.now in
+    found_decides m.graph m.members c.args.piece c.in_ok-found.found c.in_ok-found.ensures.graph
+    c.in_ok-found.ensures.found

@@ -1,0 +1,16 @@
+//! The pieces of Even's test: each has its paths, or its nearest cut.
+#![tactic(auto)]
+
+mod aim;
+mod cutting;
+mod far;
+mod laws;
+mod members;
+mod piece;
+mod settled;
+mod settler;
+
+pub use laws::{right_decides, same_cut};
+pub use piece::Piece;
+pub use settled::{Found, Parting, Settled};
+pub use settler::{Settler, settle, settle_group};

@@ -1,0 +1,118 @@
+ghost use Rattle.std.specs.Prelude.{◌≡◌, ◌↔◌, ◌<◌, ◌≤◌, ◌*◌, length, IsTrue, IfOk};
+ghost use Rattle.ov_ids.specs.Members.{Has};
+ghost use Rattle.ov_graph.specs.Links.{IsGraph, IsWithinLimit, Linked, IsGroup};
+ghost use Rattle.ov_graph.specs.Paths.{node_at};
+ghost use Rattle.ov_fans.specs.Pieces.{member_at};
+ghost use Rattle.ov_fans.specs.Code.Kept.{IsRowOfGroup};
+
+use ov_graph::Graph;
+use ov_graph::row::{EMPTY, Row, WORDS, put};
+use ov_ids::{NodeId, OutOfMemory};
+use std::alloc::Global;
+use std::marker::Model;
+
+/// The members of a group by their places in a graph, which are looked up once. Contracts see the graph and the
+/// members.
+#[derive(Drop)]
+pub(crate) struct Members<'g> {
+    graph: &'g Graph,
+    places: Vec<u16>,
+    row: Row,
+}
+
+impl<'g> Model for Members<'g> {
+    ghost use Rattle.ov_fans.specs.Group.{GroupIn};
+    ghost use Rattle.ov_fans.specs.Code.Kept.{group_at, AreSeats};
+
+    ghost Value = { GroupIn };
+
+    ghost view = { λ m. group_at m.graph.now m.places.items };
+
+    ghost invariant = { λ m. AreSeats m.graph.now m.places.items m.row };
+}
+
+impl<'g> Members<'g> {
+    /// The members of a group.
+    pub(crate) fn new(
+        alloc: Global,
+        graph: &'g Graph,
+        group: &[NodeId],
+    ) -> Result<Members<'g>, OutOfMemory>
+        requires { IsGroup graph.now group.now }
+        ensures { IfOk result (λ m. m ≡ record { graph = graph.now; members = group.now }) }
+    {
+        prove!(graph.nodes().len() <= Graph::MOST_NODES);
+        let mut places = Vec::with_capacity(alloc, group.len())?;
+        let mut row = EMPTY;
+        for member in group {
+            let place = place_among(graph, *member);
+            places.push(place as u16)?;
+            put(&mut row, place);
+        }
+        Ok(Members { graph, places, row })
+    }
+
+    /// The graph.
+    pub(crate) fn graph(&self) -> &'g Graph
+        ensures graph { result.now ≡ self.now.graph }
+        ensures is_graph { IsGraph self.now.graph }
+        ensures within { IsWithinLimit self.now.graph }
+        ensures group { IsGroup self.now.graph self.now.members }
+    {
+        self.graph
+    }
+
+    /// The row of the members.
+    pub(crate) fn row(&self) -> &[u64; WORDS]
+        ensures row { IsRowOfGroup self.now.graph self.now.members result.now }
+        ensures is_graph { IsGraph self.now.graph }
+        ensures within { IsWithinLimit self.now.graph }
+        ensures group { IsGroup self.now.graph self.now.members }
+    {
+        &self.row
+    }
+
+    /// The place in the graph of a member, which is named by its place in the group, counted from 1.
+    pub(crate) fn seat(&self, i: u16) -> usize
+        requires low { 1 ≤ i }
+        requires high { i ≤ length self.now.members }
+        ensures below { result < length self.now.graph.nodes }
+        ensures there { node_at self.now.graph result ≡ member_at self.now.members i }
+        ensures fits { result < 64 * WORDS }
+    {
+        self.places[i as usize - 1] as usize
+    }
+
+    /// Whether two members are linked, which are named by their places in the group, counted from 1.
+    pub(crate) fn linked(&self, i: u16, j: u16) -> bool
+        requires low { 1 ≤ i }
+        requires high { i ≤ length self.now.members }
+        requires other_low { 1 ≤ j }
+        requires other_high { j ≤ length self.now.members }
+        ensures { IsTrue result ↔ Linked self.now.graph (member_at self.now.members i) (member_at self.now.members j) }
+    {
+        self.graph.linked_at(self.seat(i), self.seat(j))
+    }
+
+    /// A member, by its place in the group, counted from 1.
+    pub(crate) fn member(&self, i: u16) -> NodeId
+        requires low { 1 ≤ i }
+        requires high { i ≤ length self.now.members }
+        ensures { result ≡ member_at self.now.members i }
+    {
+        self.graph.nodes()[self.seat(i)]
+    }
+}
+
+/// The place of a node.
+fn place_among(graph: &Graph, a: NodeId) -> usize
+    requires { Has graph.now.nodes a }
+    ensures below { result < length graph.now.nodes }
+    ensures there { node_at graph.now result ≡ a }
+    ensures fits { result < 64 * WORDS }
+{
+    match graph.place(a) {
+        Some(p) => p,
+        None => unreachable!(),
+    }
+}

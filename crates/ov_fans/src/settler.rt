@@ -1,0 +1,154 @@
+ghost use Rattle.std.specs.Prelude.{◌≡◌, ◌↔◌, ◌<◌, IfOk};
+ghost use Rattle.ov_graph.specs.Links.{IsGraph, IsGroup};
+ghost use Rattle.ov_flow.specs.Flow.{IsFullBy};
+ghost use Rattle.ov_fans.specs.Pieces.{level_of, IsPiece, IsLinkedPair, IsGood};
+ghost use Rattle.ov_fans.specs.Cuts.{IsRight, IsFoundFor, IsParted};
+ghost use Rattle.ov_fans.specs.Laws.{IsNoCut};
+ghost use Rattle.ov_fans.specs.Code.Nets.{net_of};
+
+use crate::aim::{aim_for, is_linked_pair};
+use crate::cutting::nodes_of_row;
+use crate::far::far_of;
+use crate::members::Members;
+use crate::piece::Piece;
+use crate::settled::{Found, Parting, Settled};
+use ov_flow::{Flow, Stuck};
+use ov_graph::Graph;
+use ov_graph::row::EMPTY;
+use ov_ids::{NodeId, OutOfMemory};
+use ov_split::SplitNet;
+use std::alloc::Global;
+use std::marker::Model;
+
+/// Settles pieces of a graph and a group, one after another, with room for the search that is made once. Contracts see
+/// the graph and the members.
+#[derive(Drop)]
+pub struct Settler<'g> {
+    members: Members<'g>,
+    flow: Flow<'g>,
+    alloc: Global,
+}
+
+impl<'g> Model for Settler<'g> {
+    ghost use Rattle.std.specs.Prelude.{◌≡◌};
+    ghost use Rattle.ov_fans.specs.Group.{GroupIn};
+
+    ghost Value = { GroupIn };
+
+    ghost view = { λ s. s.members };
+
+    ghost invariant = { λ s. s.flow.net.graph ≡ s.members.graph };
+}
+
+impl<'g> Settler<'g> {
+    /// Makes the room for a graph and a group.
+    pub fn new(
+        alloc: Global,
+        graph: &'g Graph,
+        group: &[NodeId],
+    ) -> Result<Settler<'g>, OutOfMemory>
+        requires { IsGroup graph.now group.now }
+        ensures { IfOk result (λ s. s ≡ record { graph = graph.now; members = group.now }) }
+    {
+        let members = Members::new(alloc, graph, group)?;
+        let net = SplitNet::new(graph, None, members.seat(1), EMPTY);
+        let flow = Flow::new(alloc, net)?;
+        Ok(Settler {
+            members,
+            flow,
+            alloc,
+        })
+    }
+
+    /// Settles a piece: paths exactly where it is good, else the nearest of its least cuts, with fewer nodes than its
+    /// level (Menger, Fund. Math. 10, 1927). Out of memory leaves all as it was.
+    pub fn settle(&mut self, piece: Piece) -> Result<Settled, OutOfMemory>
+        requires { IsPiece self.old.graph self.old.members piece }
+        ensures piece { IfOk result (λ s. s.piece ≡ piece) }
+        ensures right { IfOk result (λ s. IsRight self.old.graph self.old.members s) }
+        ensures good { IfOk result (λ s. IsGood self.old.graph self.old.members piece ↔ IsNoCut s.found) }
+        ensures stays { self.new ≡ self.old }
+    {
+        if is_linked_pair(&self.members, piece) {
+            return Ok(Settled {
+                piece,
+                found: Found::Linked,
+            });
+        }
+        let found = self.sought(piece)?;
+        Ok(Settled { piece, found })
+    }
+
+    /// What a search comes to for a piece whose members are not linked.
+    fn sought(&mut self, piece: Piece) -> Result<Found, OutOfMemory>
+        requires piece { IsPiece self.old.graph self.old.members piece }
+        requires apart { ¬ IsLinkedPair self.old.graph self.old.members piece }
+        ensures found { IfOk result (λ f. IsFoundFor self.old.graph self.old.members piece f) }
+        ensures stays { self.new ≡ self.old }
+        ensures graph { IsGraph self.old.graph }
+    {
+        let aim = aim_for(&self.members, piece);
+        let net = SplitNet::new(self.members.graph(), aim.avoided, aim.source, aim.targets);
+        self.flow.restart(net);
+        match self.flow.seek(piece.level() as usize)? {
+            None => Ok(Found::Paths(self.flow.paths()?)),
+            Some(stuck) => {
+                let held = self.flow.held();
+                let parting = parting(self.alloc, &self.members, piece, &stuck, held)?;
+                Ok(Found::Cut(parting))
+            }
+        }
+    }
+}
+
+/// Settles one piece for the group of all nodes: as `settle_group`, which says more.
+pub fn settle(alloc: Global, graph: &Graph, piece: Piece) -> Result<Settled, OutOfMemory>
+    requires { IsPiece graph.now graph.now.nodes piece }
+    ensures piece { IfOk result (λ s. s.piece ≡ piece) }
+    ensures right { IfOk result (λ s. IsRight graph.now graph.now.nodes s) }
+    ensures good { IfOk result (λ s. IsGood graph.now graph.now.nodes piece ↔ IsNoCut s.found) }
+{
+    settle_group(alloc, graph, graph.nodes(), piece)
+}
+
+/// Settles one piece for a group: paths exactly where it is good, else the nearest of its least cuts. For many pieces a
+/// `Settler` makes the room once.
+pub fn settle_group(
+    alloc: Global,
+    graph: &Graph,
+    group: &[NodeId],
+    piece: Piece,
+) -> Result<Settled, OutOfMemory>
+    requires group { IsGroup graph.now group.now }
+    requires piece { IsPiece graph.now group.now piece }
+    ensures piece { IfOk result (λ s. s.piece ≡ piece) }
+    ensures right { IfOk result (λ s. IsRight graph.now group.now s) }
+    ensures good { IfOk result (λ s. IsGood graph.now group.now piece ↔ IsNoCut s.found) }
+{
+    let mut settler = Settler::new(alloc, graph, group)?;
+    settler.settle(piece)
+}
+
+/// The parting of a piece, from the rows of its nearest cut and of its side.
+fn parting(
+    alloc: Global,
+    members: &Members<'_>,
+    piece: Piece,
+    stuck: &Stuck,
+    held: usize,
+) -> Result<Parting, OutOfMemory>
+    requires piece { IsPiece members.now.graph members.now.members piece }
+    requires full { IsFullBy (net_of members.now.graph members.now.members piece) held stuck.now }
+    requires few { held < level_of piece }
+    ensures { IfOk result (λ c. IsParted members.now.graph members.now.members piece c) }
+{
+    let graph = members.graph();
+    let cut = nodes_of_row(alloc, graph, &stuck.cut)?;
+    let side = nodes_of_row(alloc, graph, &stuck.side)?;
+    Ok(Parting {
+        cut,
+        near: members.member(piece.source()),
+        far: far_of(members, piece, &stuck.cut),
+        side,
+    })
+}
