@@ -1,0 +1,16 @@
+-- The two places that are put into an empty row are below the third.
+use Rattle.std.proofs.Common.{length, inl, inr, ap, arith}
+use Rattle.ov_graph.proofs.Bits.{empty_bit}
+use Rattle.ov_test_analysis.proofs.searches.from_third.Goals as goal
+
+pub new-requires-clause-targets : goal.new-requires-clause-targets
+new-requires-clause-targets c p h =
+    let long = c.if-nodes-lt3.false in
+    let same = ap length c.nodes.ensures.nodes in
+    elim ((c.put-2.ensures p).0 h) [
+      | inl e ↦ (omega (arith, e, long, same), λ f. absurd (omega (arith, e, f)))
+      | inr k ↦ elim ((c.put.ensures p).0 k) [
+        | inl e ↦ (omega (arith, e, long, same), λ f. absurd (omega (arith, e, f)))
+        | inr none ↦ absurd (empty_bit p none)
+      ]
+    ]

@@ -1,0 +1,11 @@
+//! Tests of the search for paths, and of the pieces that it settles.
+#![tactic(auto)]
+
+#[cfg(test)]
+mod drawn;
+#[cfg(test)]
+mod pieces;
+#[cfg(test)]
+mod searches;
+#[cfg(test)]
+mod wanted;
