@@ -11,3 +11,4 @@ pub mod Outside
 pub mod Listing
 pub mod Settling
 pub mod Seated
+pub mod Ended

@@ -60,9 +60,9 @@ pub cut_of : (g : LinkGraph) (q : List ℕ) (p : Piece) → IsGraph g → IsGrou
 cut_of g q (Pair level i j) graph group at s =
     let a = member_at q i in
     let b = member_at q j in
-    let l = at.2 in
-    let m = at.3 in
-    let n = at.5 in
+    let l = at.first in
+    let m = at.less in
+    let n = at.member in
     let near : AreNeighbours g b (neighbours_in g.links b g.nodes) = are_neighbours g b graph in
     let there : Has g.nodes b = member_node g q j group (omega (arith, l, m)) n in (
       (λ c. record {

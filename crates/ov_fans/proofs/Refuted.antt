@@ -63,8 +63,8 @@ far_exists g q (Pair level i j) s group at cut few = (member_at q j, pair_far g 
 far_exists g q (Fan level j) s group at cut few =
     let a = member_at q j in
     let up = below_ascend q a group.ascends in
-    let l = at.2 in
-    let m = at.3 in
+    let l = at.later in
+    let m = at.member in
     elim (lowest_or_all s (members_below q a) up) [
       | inl r ↦ let f = r.1 in (r.0, record { target = f.member; left = f.outside; lowest = f.lowest })
       | inr all ↦

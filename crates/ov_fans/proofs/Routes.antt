@@ -28,9 +28,9 @@ member_node g q place group l m = group.nodes (member_at q place) (member_in q p
 pub pair_differ : (g : LinkGraph) (q : List ℕ) (level i j : ℕ) → IsGroup g q → IsPiece g q (Pair level i j)
     → member_at q i ≢ member_at q j
 pair_differ g q level i j group at e =
-    let l = at.2 in
-    let m = at.3 in
-    let n = at.5 in
+    let l = at.first in
+    let m = at.less in
+    let n = at.member in
     let r = members_rise q i j group.ascends l m n in
     omega (arith, r, e)
 
@@ -39,9 +39,9 @@ pub is_net : (g : LinkGraph) (q : List ℕ) (p : Piece) → IsGraph g → IsGrou
 is_net g q (Pair level i j) graph group at apart =
     let a = member_at q i in
     let b = member_at q j in
-    let l = at.2 in
-    let m = at.3 in
-    let n = at.5 in
+    let l = at.first in
+    let m = at.less in
+    let n = at.member in
     let near : AreNeighbours g b (neighbours_in g.links b g.nodes) = are_neighbours g b graph in
     let there : Has g.nodes b = member_node g q j group (omega (arith, l, m)) n in
     record {
@@ -57,9 +57,9 @@ is_net g q (Pair level i j) graph group at apart =
     }
 is_net g q (Fan level j) graph group at apart =
     let a = member_at q j in
-    let k = at.0 in
-    let l = at.2 in
-    let m = at.3 in
+    let k = at.low in
+    let l = at.later in
+    let m = at.member in
     record {
       graph = graph;
       source = member_node g q j group (omega (arith, k, l)) m;
@@ -136,9 +136,9 @@ pub asked_paths : (g : LinkGraph) (q : List ℕ) (p : Piece) (paths : List (List
 asked_paths g q (Pair level i j) paths graph group at f =
     let a = member_at q i in
     let b = member_at q j in
-    let l = at.2 in
-    let m = at.3 in
-    let n = at.5 in
+    let l = at.first in
+    let m = at.less in
+    let n = at.member in
     let near : AreNeighbours g b (neighbours_in g.links b g.nodes) = are_neighbours g b graph in
     let there : Has g.nodes b = member_node g q j group (omega (arith, l, m)) n in
     let fan : IsFan g a (neighbours_in g.links b g.nodes) level paths = f.fan in

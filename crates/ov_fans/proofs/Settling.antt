@@ -3,9 +3,12 @@ use Rattle.std.proofs.Common.{◌≡◌, ◌∙◌, ℕ, ◌<◌, List, [], ◌�
 use Rattle.std.proofs.Common.{ap, ap₂, subst, arith}
 use Rattle.ov_graph.specs.Links.{LinkGraph, IsGraph, IsGroup}
 use Rattle.ov_graph.specs.Paths.{node_at}
+use Rattle.ov_graph.specs.Row.{HasBit}
+use Rattle.ov_graph.specs.Code.Kept.{picked}
 use Rattle.ov_split.specs.Net.{Net, IsFanOf}
-use Rattle.ov_flow.specs.Flow.{IsFull, IsFullBy, nodes_at, HasPlacesAlone, ArePlaces}
+use Rattle.ov_flow.specs.Flow.{IsFull, IsFullBy, ArePlaces}
 use Rattle.ov_flow.specs.declared.step.Stuck.{Stuck}
+use Rattle.ov_flow.proofs.Rows.{full_picked, bits_within}
 use Rattle.ov_fans.specs.Pieces.{member_at, level_of, source_of, source_place, IsPiece, AreAskedPaths}
 use Rattle.ov_fans.specs.Cuts.{IsCut, IsNearest, IsFar, IsSide, IsParted, AreRightPaths}
 use Rattle.ov_fans.specs.Code.Nets.{net_of}
@@ -66,16 +69,22 @@ pair_paths g q level i j other paths graph group at node fan =
 
 -- what a search of the net of a piece leaves, in the words of the graph
 pub record IsFullIn (g : LinkGraph) (q : List ℕ) (p : Piece) (k : ℕ) (s : Stuck) : Type 0 where
-  pub full : IsFull (net_of g q p) k (nodes_at g s.cut) (nodes_at g s.side)
-  pub cut_places : HasPlacesAlone g s.cut
-  pub side_places : HasPlacesAlone g s.side
+  pub full : IsFull (net_of g q p) k (picked s.cut 0 g.nodes) (picked s.side 0 g.nodes)
+  pub cut_places : (i : ℕ) → HasBit s.cut i → i < length g.nodes
+  pub side_places : (i : ℕ) → HasBit s.side i → i < length g.nodes
 
-pub full_in : (g : LinkGraph) (q : List ℕ) (p : Piece) (k : ℕ) (s : Stuck) → IsFullBy (net_of g q p) k s
+pub full_in : (g : LinkGraph) (q : List ℕ) (p : Piece) (k : ℕ) (s : Stuck) → IsGraph g → IsFullBy (net_of g q p) k s
     → IsFullIn g q p k s
-full_in g q (Pair level i j) k s f =
-    record { full = f.full; cut_places = f.cut_places; side_places = f.side_places }
-full_in g q (Fan level j) k s f =
-    record { full = f.full; cut_places = f.cut_places; side_places = f.side_places }
+full_in g q (Pair level i j) k s graph f = record {
+  full = full_picked (net_of g q (Pair level i j)) k s graph f;
+  cut_places = bits_within g s.cut f.cut f.cut_row;
+  side_places = bits_within g s.side f.side f.side_row;
+}
+full_in g q (Fan level j) k s graph f = record {
+  full = full_picked (net_of g q (Fan level j)) k s graph f;
+  cut_places = bits_within g s.cut f.cut f.cut_row;
+  side_places = bits_within g s.side f.side f.side_row;
+}
 
 pub source_at : (q : List ℕ) (p : Piece) → member_at q (source_place p) ≡ source_of q p
 source_at q (Pair level i j) = refl

@@ -65,7 +65,7 @@ pub record AreRightPaths (g : LinkGraph) (q : List ℕ) (p : Piece) (paths : Lis
 abbrev pub IsFoundFor : LinkGraph → List ℕ → Piece → Found → Type 0
 IsFoundFor g q p Linked = IsLinkedPair g q p
 IsFoundFor g q p (Paths paths) = ¬ IsLinkedPair g q p × AreRightPaths g q p paths
-IsFoundFor g q p (Cut parting) = IsParted g q p parting
+IsFoundFor g q p (Cut parting) = IsParted g q p parting.value
 
 -- the same of a piece with what it came to
 abbrev pub IsRight : LinkGraph → List ℕ → Settled → Type 0

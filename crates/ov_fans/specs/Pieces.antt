@@ -16,12 +16,31 @@ abbrev pub level_of : Piece → ℕ
 level_of (Pair level i j) = level
 level_of (Fan level j) = level
 
--- levels go from 1 to one less than the nodes; of each, pairs are among the first members, as many as the level, and
--- fans are those of the later members
+-- a pair at a level, which is below the number n of nodes: the members at places i and j, i first, of m members, both
+-- among the first ones, as many as the level. (So the level is 2 or more)
+pub record IsPairPiece (n m level i j : ℕ) : Type 0 where
+  pub high : level < n
+  pub first : 1 ≤ i
+  pub less : i < j
+  pub among : j ≤ level
+  pub member : j ≤ m
+
+-- a fan at a level, which is from 1 to one less than the number n of nodes: of the member at place j, of m members, which
+-- comes after the first ones, as many as the level
+pub record IsFanPiece (n m level j : ℕ) : Type 0 where
+  pub low : 1 ≤ level
+  pub high : level < n
+  pub later : level < j
+  pub member : j ≤ m
+
+-- a pair or a fan of Even's test at a level, for graphs of n nodes and groups of m members
+abbrev pub IsPieceOf : ℕ → ℕ → Piece → Type 0
+IsPieceOf n m (Pair level i j) = IsPairPiece n m level i j
+IsPieceOf n m (Fan level j) = IsFanPiece n m level j
+
+-- a piece of Even's test for a graph and a group
 abbrev pub IsPiece : LinkGraph → List ℕ → Piece → Type 0
-IsPiece g q (Pair level i j) =
-    (1 ≤ level) × (level < length g.nodes) × (1 ≤ i) × (i < j) × (j ≤ level) × (j ≤ length q)
-IsPiece g q (Fan level j) = (1 ≤ level) × (level < length g.nodes) × (level < j) × (j ≤ length q)
+IsPiece g q p = IsPieceOf (length g.nodes) (length q) p
 
 -- the member from which a piece's paths lead, and its place
 abbrev pub source_of : List ℕ → Piece → ℕ

@@ -2,6 +2,7 @@
 #![tactic(auto)]
 
 mod aim;
+mod asked;
 mod cutting;
 mod far;
 mod laws;
@@ -10,6 +11,7 @@ mod piece;
 mod settled;
 mod settler;
 
+pub use asked::asked_paths;
 pub use laws::{right_decides, same_cut};
 pub use piece::Piece;
 pub use settled::{Found, Parting, Settled};

@@ -23,7 +23,7 @@ pub enum Found {
     /// The paths that the piece asks for, each a list of places of nodes in the graph, counted from 0.
     Paths(PlacePaths),
     /// The nearest of the least cuts.
-    Cut(Parting),
+    Cut(Box<Parting>),
 }
 
 /// A piece and what it comes to.

@@ -89,8 +89,7 @@ impl<'g> Settler<'g> {
     {
         let aim = aim_for(&self.members, piece);
         let net = SplitNet::new(self.members.graph(), aim.avoided, aim.source, aim.targets);
-        self.flow.restart(net);
-        match self.flow.seek(piece.level() as usize)? {
+        match self.flow.seek(net, piece.level() as usize)? {
             None => Ok(Found::Paths(self.flow.paths()?)),
             Some(stuck) => {
                 let held = self.flow.held();
@@ -136,19 +135,20 @@ fn parting(
     piece: Piece,
     stuck: &Stuck,
     held: usize,
-) -> Result<Parting, OutOfMemory>
+) -> Result<Box<Parting>, OutOfMemory>
     requires piece { IsPiece members.now.graph members.now.members piece }
     requires full { IsFullBy (net_of members.now.graph members.now.members piece) held stuck.now }
     requires few { held < level_of piece }
-    ensures { IfOk result (λ c. IsParted members.now.graph members.now.members piece c) }
+    ensures { IfOk result (λ c. IsParted members.now.graph members.now.members piece c.value) }
 {
     let graph = members.graph();
     let cut = nodes_of_row(alloc, graph, &stuck.cut)?;
     let side = nodes_of_row(alloc, graph, &stuck.side)?;
-    Ok(Parting {
+    let parting = Parting {
         cut,
         near: members.member(piece.source()),
         far: far_of(members, piece, &stuck.cut),
         side,
-    })
+    };
+    Ok(Box::new(alloc, parting)?)
 }

@@ -5,3 +5,6 @@ pub mod Copying
 pub mod Beginning
 pub mod Ending
 pub mod Writing
+pub mod Rows
+pub mod FlatPaths
+pub mod Tidying

@@ -193,7 +193,7 @@ grown_first n from reached seen avoided empty s node is off none first put = rec
   sees = λ w h. elim ((put w).0 h) [ inl e ↦ inl (inr (e ∙ is)) | inr k ↦ inl (inl ((off w).0 k)) ];
 }
 
-leads_push : (R : ℕ → ℕ → Type 0) (a b c : ℕ) (xs : List ℕ) → Leads R a xs b → R b c → Leads R a (xs ++ c ∷ []) c
+pub leads_push : (R : ℕ → ℕ → Type 0) (a b c : ℕ) (xs : List ℕ) → Leads R a xs b → R b c → Leads R a (xs ++ c ∷ []) c
 leads_push R a b c [] l r = (subst (λ (z : ℕ). R z c) (sym l) r, refl)
 leads_push R a b c (x ∷ xs) l r = (l.0, leads_push R x b c xs l.1 r)
 

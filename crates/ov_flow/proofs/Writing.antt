@@ -78,7 +78,7 @@ read_ahead s (x ∷ c) ahead more off =
     (ne_eqb x s (λ e. off (inl e)))
 
 -- one path is read
-read_one : (s : ℕ) (c more : List ℕ) → ¬ Has c s
+pub read_one : (s : ℕ) (c more : List ℕ) → ¬ Has c s
     → paths_after s [] (reverse (s ∷ c) ++ more) ≡ (s ∷ c) ∷ paths_after s [] more
 unfolding paths_after
 read_one s c more off =

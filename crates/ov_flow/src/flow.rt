@@ -72,14 +72,18 @@ impl<'g> Flow<'g> {
         Ok(Step::Stuck(stuck_at(&self.net, &self.work)))
     }
 
-    /// Begins anew, and seeks `level` paths: first those of one link. None: so many are held. Else fewer are, which are
-    /// as many as there can be, and it tells the nearest least cut. Out of memory leaves some paths of the net held.
-    pub fn seek(&mut self, level: usize) -> Result<Option<Stuck>, OutOfMemory>
-        ensures net { self.new.net ≡ self.old.net }
+    /// Begins anew with another net of the same graph, and seeks `level` paths in it: first those of one link. None: so
+    /// many are held. Else fewer are, which are as many as there can be, and it tells the nearest least cut (Menger,
+    /// Fund. Math. 10, 1927). Out of memory leaves some paths of the new net held.
+    pub fn seek(&mut self, net: SplitNet<'g>, level: usize) -> Result<Option<Stuck>, OutOfMemory>
+        requires { net.graph ≡ self.old.net.graph }
+        ensures net { self.new.net ≡ net.entry }
         ensures held { IfOk result (λ stuck. MatchOption stuck (self.new.held ≡ level)
-            (λ s. (self.new.held < level) × IsFullBy self.old.net self.new.held s)) }
+            (λ s. (self.new.held < level) × IsFullBy self.new.net self.new.held s)) }
         ensures fans { (paths : List (List ℕ)) × IsFanOf self.new.net self.new.held paths }
     {
+        prove!(net.places() == self.work.from.len());
+        self.net = net;
         if settle(&self.net, level, &mut self.work)? {
             return Ok(None);
         }

@@ -4,6 +4,7 @@
 mod direct;
 mod flow;
 mod place_paths;
+mod reading;
 mod retracing;
 mod seeking;
 mod step;

@@ -1,11 +1,16 @@
-ghost use Rattle.std.specs.Prelude.{◌≡◌, ◌≢◌, ◌≤◌, ℕ, length, OnOk, IfOk};
+ghost use Rattle.std.specs.Prelude.{◌≡◌, ◌≢◌, ◌≤◌, ℕ, map, length, OnOk, IfOk};
 ghost use Rattle.ov_ids.specs.Members.{Has};
+ghost use Rattle.ov_graph.specs.Paths.{node_at};
 ghost use Rattle.ov_split.specs.Net.{IsFanOf};
+ghost use Rattle.ov_flow.specs.Flow.{ArePlaces, ended_by};
 ghost use Rattle.ov_split.specs.Code.Residual.{AreHeld, IsFlow};
 ghost use Rattle.ov_split.specs.Code.Places.{net_by_place};
 ghost use Rattle.ov_flow.specs.Code.Walked.{table_of, IsWritten};
 ghost use Rattle.ov_flow.specs.Code.Held.{IsReady};
 
+use crate::reading::{count_paths, path_by_ids, source_in, split_path};
+use ov_graph::Graph;
+use ov_ids::{NodeId, OutOfMemory, Seq};
 use ov_split::SplitNet;
 use std::alloc::{AllocError, Global};
 use std::marker::Model;
@@ -24,6 +29,37 @@ impl Model for PlacePaths {
     ghost Value = { List (List ℕ) };
 
     ghost view = { λ p. paths_in p.flat.items };
+}
+
+impl PlacePaths {
+    /// How many paths there are.
+    pub fn count(&self) -> usize
+        ensures { result ≡ length self.now }
+    {
+        count_paths(&self.flat)
+    }
+
+    /// The paths by ids, each from the source to its end, and then `last` if one is named. It takes time in proportion
+    /// to the places of all paths.
+    pub fn by_ids(
+        &self,
+        alloc: Global,
+        graph: &Graph,
+        last: Option<NodeId>,
+    ) -> Result<Seq<Seq<NodeId>>, OutOfMemory>
+        requires { ArePlaces graph.now self.now }
+        ensures { IfOk result (λ ps. ps ≡ map (λ path. ended_by last (map (node_at graph.now) path)) self.now) }
+    {
+        let source = source_in(&self.flat);
+        let nodes = graph.nodes();
+        let mut paths = Vec::with_capacity(alloc, self.count())?;
+        let mut left = self.flat.as_slice();
+        while let Some((path, rest)) = split_path(left, source) {
+            paths.push_reserved(path_by_ids(alloc, nodes, path, last)?);
+            left = rest;
+        }
+        Ok(Seq::new(paths))
+    }
 }
 
 /// How many places of the table have a path that comes to them.

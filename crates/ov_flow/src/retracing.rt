@@ -74,23 +74,28 @@ fn retrace(net: &SplitNet<'_>, from: &[Option<u16>], next: &mut [Option<u16>], e
     }
 }
 
-/// Takes a walk to one end more, and keeps the paths alone.
+/// Takes a walk to one end more, and keeps the paths alone: a walk that meets paths may leave closed rounds.
 pub(crate) fn turn(
     net: &SplitNet<'_>,
-    from: &mut [Option<u16>],
-    next: &mut [Option<u16>],
+    from: &mut Vec<Option<u16>>,
+    next: &mut Vec<Option<u16>>,
     ends: &[u16],
     hops: &[Hop],
     target: u16,
 )
     requires ready { IsReady net.now }
-    requires from { length from.old ≡ length net.now.graph.nodes }
-    requires next { length next.old ≡ length net.now.graph.nodes }
-    requires walk { IsWalkBy (net_by_place net.now) (table_of from.old) hops.now target }
+    requires from { length from.old.items ≡ length net.now.graph.nodes }
+    requires next { length next.old.items ≡ length net.now.graph.nodes }
+    requires walk { IsWalkBy (net_by_place net.now) (table_of from.old.items) hops.now target }
     requires target { Has (net_by_place net.now).targets target }
-    requires flow { IsFlowBefore (net_by_place net.now) (table_of from.old) ends.now target }
-    ensures { IsFlow (net_by_place net.now) (table_of next.new) ends.now }
+    requires flow { IsFlowBefore (net_by_place net.now) (table_of from.old.items) ends.now target }
+    ensures flow { IsFlow (net_by_place net.now) (table_of from.new.items) ends.now }
+    ensures from { length from.new.items ≡ length from.old.items }
+    ensures next { length next.new.items ≡ length next.old.items }
 {
-    take_hops(net, from, hops, target);
+    if take_hops(net, from, hops, target) {
+        return;
+    }
     retrace(net, from, next, ends);
+    std::mem::swap(from, next);
 }

@@ -1,7 +1,8 @@
 //! The walk to a target that a search found, and its steps taken.
-ghost use Rattle.std.specs.Prelude.{◌≡◌, ◌≢◌, ℕ, ◌-◌, ◌<◌, List, ◌∷◌, length, slice_index, OnOk};
+ghost use Rattle.std.specs.Prelude.{◌≡◌, ◌≢◌, ℕ, ◌-◌, ◌<◌, List, ◌∷◌, length, slice_index, Some};
+ghost use Rattle.std.specs.Prelude.{None, true, OnOk, IfSome};
 ghost use Rattle.ov_split.specs.Net.{Net};
-ghost use Rattle.ov_split.specs.Code.Residual.{Table, AreHeld};
+ghost use Rattle.ov_split.specs.Code.Residual.{Table, AreHeld, IsTidy};
 ghost use Rattle.ov_split.specs.Code.Places.{net_by_place};
 ghost use Rattle.ov_flow.specs.Code.Reached.{IsShaped, IsGrown};
 ghost use Rattle.ov_flow.specs.Code.Walked.{table_of, IsWalkBy};
@@ -36,21 +37,44 @@ pub(crate) fn walk_back(tree: &Tree, hops: &mut Vec<Hop>) -> Result<(), AllocErr
     Ok(())
 }
 
-/// Takes the steps of a walk from the source.
-pub(crate) fn take_hops(net: &SplitNet<'_>, from: &mut [Option<u16>], hops: &[Hop], target: u16)
+/// A step over a link, to a place that no path comes to.
+fn is_fresh(from: &[Option<u16>], way: Option<u16>) -> bool
+    requires { IfSome way (λ w. w < length from.now) }
+    ensures { result ≡ true → (w : ℕ) × (way ≡ Some w) × (table_of from.now w ≡ None) }
+{
+    match way {
+        Some(w) => from[w as usize].is_none(),
+        None => false,
+    }
+}
+
+/// Takes the steps of a walk from the source. True: the walk met no path, so that what was on paths to ends still is.
+pub(crate) fn take_hops(
+    net: &SplitNet<'_>,
+    from: &mut [Option<u16>],
+    hops: &[Hop],
+    target: u16,
+) -> bool
     requires ready { IsReady net.now }
     requires long { length from.old ≡ length net.now.graph.nodes }
     requires walk { IsWalkBy (net_by_place net.now) (table_of from.old) hops.now target }
     ensures held { (ends : List ℕ)
         → AreHeld (net_by_place net.now) (table_of from.old) ((net_by_place net.now).source ∷ ends)
         → AreHeld (net_by_place net.now) (table_of from.new) (target ∷ ends) }
+    ensures tidy { result ≡ true → (ends : List ℕ) → IsTidy (table_of from.old) ends
+        → IsTidy (table_of from.new) (target ∷ ends) }
 {
     let mut at = net.source() as u16;
+    let mut apart = true;
     for hop in hops.iter() {
+        if !is_fresh(from, hop.way) {
+            apart = false;
+        }
         match hop.way {
             Some(w) => from[w as usize] = Some(at),
             None => from[at as usize] = None,
         }
         at = hop.node;
     }
+    apart
 }

@@ -68,7 +68,6 @@ pub(crate) fn augment(net: &SplitNet<'_>, work: &mut Work) -> Result<bool, Alloc
         &work.hops,
         target,
     );
-    std::mem::swap(&mut work.from, &mut work.next);
     Ok(true)
 }
 

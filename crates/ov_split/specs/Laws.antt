@@ -8,6 +8,6 @@ abbrev pub Menger : Type 0
 Menger = (n : Net) → IsNet n → (k : ℕ)
     → ((paths : List (List ℕ)) × IsFanOf n k paths) ↔ ((s : List ℕ) → IsCutOf n s → k ≤ length s)
 
--- a net has one nearest least cut at most
+-- a net has one nearest least cut at most (Ford and Fulkerson, Flows in Networks, 1962)
 abbrev pub OneNearestCut : Type 0
 OneNearestCut = (n : Net) (s t : List ℕ) → IsNearestCut n s → IsNearestCut n t → s ≡ t

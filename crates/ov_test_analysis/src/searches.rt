@@ -1,15 +1,20 @@
 //! Searches of one net, one path after another.
+ghost use Rattle.std.specs.Prelude.{◌≡◌, IfSome};
+
 use crate::drawn::{SQUARE, graph};
+use crate::wanted::are_numbered;
 use ov_flow::{Flow, Step, Stuck};
 use ov_graph::Graph;
 use ov_graph::row::{EMPTY, Row, WORDS, agree, put};
-use ov_ids::OutOfMemory;
+use ov_ids::{NodeId, OutOfMemory, Seq};
 use ov_split::SplitNet;
 use std::alloc::Global;
 use std::test::Fail;
 
 /// The net from the third node of a graph to the first two.
-fn from_third(graph: &Graph) -> Option<SplitNet<'_>> {
+fn from_third(graph: &Graph) -> Option<SplitNet<'_>>
+    ensures { IfSome result (λ net. net.graph ≡ graph.now) }
+{
     if graph.nodes().len() < 3 {
         return None;
     }
@@ -33,15 +38,49 @@ fn is_cut_of_square(stuck: &Stuck) -> bool {
 }
 
 /// Two paths are found, and no third one.
-fn seeks_two(flow: &mut Flow<'_>) -> Result<bool, OutOfMemory> {
-    let two = flow.seek(2)?;
-    if two.is_some() || flow.held() != 2 {
+fn seeks_two(alloc: Global, graph: &Graph) -> Result<bool, OutOfMemory> {
+    let (Some(begun), Some(net)) = (from_third(graph), from_third(graph)) else {
+        return Ok(false);
+    };
+    let mut flow = Flow::new(alloc, begun)?;
+    if flow.seek(net, 2)?.is_some() || flow.held() != 2 {
         return Ok(false);
     }
-    Ok(match flow.seek(3)? {
+    let Some(net) = from_third(graph) else {
+        return Ok(false);
+    };
+    Ok(match flow.seek(net, 3)? {
         Some(stuck) => flow.held() == 2 && is_cut_of_square(&stuck),
         None => false,
     })
+}
+
+/// These are the two paths of the square, which are 3-2 and 3-4-1, each with this end.
+fn are_of_square(paths: &Seq<Seq<NodeId>>, short: &[u32], long: &[u32]) -> bool {
+    match paths.as_slice() {
+        [first, second] => are_numbered(first.as_slice(), short)
+            && are_numbered(second.as_slice(), long),
+        _ => false,
+    }
+}
+
+/// The two paths are told by ids, as they are and with node 5 at their ends.
+fn tells_two(alloc: Global, graph: &Graph) -> Result<bool, OutOfMemory> {
+    let (Some(begun), Some(net)) = (from_third(graph), from_third(graph)) else {
+        return Ok(false);
+    };
+    let mut flow = Flow::new(alloc, begun)?;
+    if flow.seek(net, 2)?.is_some() {
+        return Ok(false);
+    }
+    let paths = flow.paths()?;
+    let plain = paths.by_ids(alloc, graph, None)?;
+    let ended = paths.by_ids(alloc, graph, Some(NodeId(5)))?;
+    Ok(
+        paths.count() == 2
+            && are_of_square(&plain, &[3, 2], &[3, 4, 1])
+            && are_of_square(&ended, &[3, 2, 5], &[3, 4, 1, 5]),
+    )
 }
 
 /// The flow grows twice, and then no more.
@@ -60,18 +99,24 @@ fn grows_twice(flow: &mut Flow<'_>) -> Result<bool, OutOfMemory> {
     })
 }
 
-/// Both of the square, whose paths from 3 to 1 and 2 are 3-2 and 3-4-1.
-fn are_two(alloc: Global, graph: &Graph) -> Result<bool, OutOfMemory> {
-    let Some(net) = from_third(graph) else {
+/// The flow of the square grows once, and when it has begun anew, twice.
+fn grows(alloc: Global, graph: &Graph) -> Result<bool, OutOfMemory> {
+    let (Some(first), Some(again)) = (from_third(graph), from_third(graph)) else {
         return Ok(false);
     };
-    let mut flow = Flow::new(alloc, net)?;
-    Ok(grows_twice(&mut flow)? && seeks_two(&mut flow)?)
+    let mut flow = Flow::new(alloc, first)?;
+    match flow.augment()? {
+        Step::Grew => flow.restart(again),
+        Step::Stuck(_) => return Ok(false),
+    }
+    grows_twice(&mut flow)
 }
 
 #[test]
 fn a_square_has_two_paths_from_3_to_1_and_2(rt: HostRuntime) -> Result<(), Fail> {
     let graph = graph(rt.alloc(), SQUARE)?;
-    assert!(rt; are_two(rt.alloc(), &graph)?);
+    assert!(rt; grows(rt.alloc(), &graph)?);
+    assert!(rt; seeks_two(rt.alloc(), &graph)?);
+    assert!(rt; tells_two(rt.alloc(), &graph)?);
     Ok(())
 }

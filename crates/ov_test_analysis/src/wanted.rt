@@ -61,7 +61,7 @@ fn is_piece(graph: &Graph, group: &[NodeId], piece: Piece) -> bool
 }
 
 /// The ids have these numbers.
-fn are_numbered(ids: &[NodeId], numbers: &[u32]) -> bool {
+pub(crate) fn are_numbered(ids: &[NodeId], numbers: &[u32]) -> bool {
     for (id, number) in ids.iter().zip(numbers) {
         if id.number() != *number {
             return false;

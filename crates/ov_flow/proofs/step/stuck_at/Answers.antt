@@ -1,8 +1,10 @@
 -- The boundary of a search that found no more is the nearest least cut.
 use Rattle.std.proofs.Common.{length}
+use Rattle.ov_graph.specs.Code.Kept.{picked}
 use Rattle.ov_split.specs.Code.Places.{net_by_place}
 use Rattle.ov_flow.specs.Code.Walked.{table_of}
 use Rattle.ov_flow.proofs.Ending.{stuck_full, cut_within, side_within}
+use Rattle.ov_flow.proofs.Rows.{bits_of_picked}
 use Rattle.ov_flow.proofs.step.stuck_at.Goals as goal
 
 pub returns : goal.returns
@@ -21,10 +23,12 @@ returns c =
     let at = c.requires.end in
     let places = c.avoided.ensures.places in
     record {
+      cut = picked cut 0 n.graph.nodes;
+      side = picked w.tree.reached 0 n.graph.nodes;
       full = stuck_full n words c.avoided.ensures.net ready enough from w.ends.items w.tree off next cut
           c.requires.work.flow at.grown at.swept places c.without-next.ensures c.without.ensures;
-      cut_places = cut_within m wide words ready enough from w.tree off next cut at.grown at.swept places
-          c.without-next.ensures c.without.ensures;
-      side_places = side_within m wide words ready enough from w.tree off next cut at.grown at.swept places
-          c.without-next.ensures c.without.ensures;
+      cut_row = bits_of_picked n.graph cut c.avoided.ensures.net.graph (cut_within m wide words ready enough from w.tree
+          off next cut at.grown at.swept places c.without-next.ensures c.without.ensures);
+      side_row = bits_of_picked n.graph w.tree.reached c.avoided.ensures.net.graph (side_within m wide words ready
+          enough from w.tree off next cut at.grown at.swept places c.without-next.ensures c.without.ensures);
     }

@@ -28,4 +28,4 @@ turn-requires-clause-walk c =
     subst (λ (k : ℕ). x ≡ get_or order (k - 1) x) (c.len.ensures ∙ t.order.ok.0)
     c.index-target.ensures in
     let e = get_or_read order (length order - 1) x (omega (arith, some)) read 0 in
-    rw (c.deref_mut.ensures.value, c.deref-3.ensures.value, e) (c.in_ok-walk_back.ensures n (table_of w.from.items) g)
+    rw (c.deref-3.ensures.value, e) (c.in_ok-walk_back.ensures n (table_of w.from.items) g)

@@ -4,7 +4,7 @@ use Rattle.std.specs.Option.{MatchOption}
 use Rattle.ov_graph.specs.Links.{LinkGraph, IsGraph}
 use Rattle.ov_graph.specs.Paths.{node_at}
 use Rattle.ov_split.specs.Net.{IsFanOf}
-use Rattle.ov_flow.specs.Flow.{FlowState, IsFullBy}
+use Rattle.ov_flow.specs.Flow.{IsFullBy}
 use Rattle.ov_fans.specs.Group.{GroupIn}
 use Rattle.ov_fans.specs.Pieces.{IsPiece, IsLinkedPair, level_of}
 use Rattle.ov_fans.specs.Cuts.{IsFoundFor, IsParted}
@@ -24,15 +24,15 @@ returns-clause-found c =
     let at = subst (λ (s : GroupIn). IsPiece s.graph s.members p) (sym c.self.view_is) c.requires.piece in
     let is : c.seek.new.self.net ≡ net_of m.graph m.members p =
     c.in_ok-seek.ensures.net
-    ∙ ap (λ (f : FlowState). f.net) c.restart.ensures
     ∙ c.new-net.ensures.net
     ∙ ap (λ (g : LinkGraph). net_at g aim.avoided aim.source aim.targets) e.graph
     ∙ c.aim_for-aim.ensures.net in
     elim c.match-branch-2.branch [
       | in-None+in_ok-paths-in-None w ↦
           let held : c.seek.new.self.held ≡ level_of p =
-          subst (λ o. MatchOption o (c.seek.new.self.held ≡ c.level.result) (λ s. (c.seek.new.self.held < c.level.result)
-          × IsFullBy c.restart.new.self.net c.seek.new.self.held s)) w.in-None.is c.in_ok-seek.ensures.held
+          subst (λ o. MatchOption o (c.seek.new.self.held ≡ c.level.result)
+          (λ s. (c.seek.new.self.held < c.level.result) × IsFullBy c.seek.new.self.net c.seek.new.self.held s))
+          w.in-None.is c.in_ok-seek.ensures.held
           ∙ c.level.ensures in
           let ps = w.in_ok-paths-in-None.field-0 in
           let fan = subst (λ (k : ℕ). IsFanOf c.seek.new.self.net k (map (map (node_at c.seek.new.self.net.graph)) ps))
@@ -45,7 +45,7 @@ returns-clause-found c =
           (subst (λ (s : GroupIn). IsFoundFor s.graph s.members p (Paths ps)) c.self.view_is (apart, right))
       | in-Some+in_ok-parting-in-Some w ↦
           subst (λ r. IfOk r (λ f. IsFoundFor c.args.self.now.graph c.args.self.now.members p f)) (sym w.result-is)
-          (subst (λ (s : GroupIn). IsParted s.graph s.members p w.in_ok-parting-in-Some.parting) c.self.view_is
+          (subst (λ (s : GroupIn). IsParted s.graph s.members p w.in_ok-parting-in-Some.parting.value) c.self.view_is
           w.in_ok-parting-in-Some.ensures)
     ]
 

@@ -5,18 +5,18 @@ use Rattle.ov_flow.proofs.flow.Flow.seek.Goals as goal
 
 pub returns-in_err-settle-clause-fans : goal.returns-in_err-settle-clause-fans
 returns-in_err-settle-clause-fans c =
-    let i = c.self.invariant in
+    let e = c.places.ensures in
     let w = c.settle.new.work in
-    fan_held c.self.inside.net i.0 i.1 (table_of w.from.items) w.ends.items c.in_err-settle.ensures.work.flow
+    fan_held c.args.net e.net e.placed (table_of w.from.items) w.ends.items c.in_err-settle.ensures.work.flow
 
 pub returns-then-branch-clause-fans : goal.returns-then-branch-clause-fans
 returns-then-branch-clause-fans c =
-    let i = c.self.invariant in
+    let e = c.places.ensures in
     let w = c.settle.new.work in
-    fan_held c.self.inside.net i.0 i.1 (table_of w.from.items) w.ends.items c.in_ok-settle.ensures.work.flow
+    fan_held c.args.net e.net e.placed (table_of w.from.items) w.ends.items c.in_ok-settle.ensures.work.flow
 
 pub returns-clause-fans : goal.returns-clause-fans
 returns-clause-fans c =
-    let i = c.self.invariant in
+    let e = c.places.ensures in
     let w = c.settle.new.work in
-    fan_held c.self.inside.net i.0 i.1 (table_of w.from.items) w.ends.items c.in_ok-settle.ensures.work.flow
+    fan_held c.args.net e.net e.placed (table_of w.from.items) w.ends.items c.in_ok-settle.ensures.work.flow

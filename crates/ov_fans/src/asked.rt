@@ -1,0 +1,30 @@
+ghost use Rattle.std.specs.Prelude.{◌≡◌, map, IfOk};
+ghost use Rattle.ov_graph.specs.Paths.{node_at};
+ghost use Rattle.ov_fans.specs.Pieces.{IsPiece, AreAskedPaths, paths_of};
+ghost use Rattle.ov_fans.specs.Cuts.{AreRightPaths};
+
+use crate::piece::Piece;
+use ov_flow::PlacePaths;
+use ov_graph::Graph;
+use ov_ids::{NodeId, OutOfMemory, Seq};
+use std::alloc::Global;
+
+/// The paths of a settled piece by ids, which are those that it asks for (Even, SIAM J. Comput. 4, 1975): of a pair each
+/// from its first member to the other, of a fan each to a member before it.
+pub fn asked_paths(
+    alloc: Global,
+    graph: &Graph,
+    group: &[NodeId],
+    piece: Piece,
+    paths: &PlacePaths,
+) -> Result<Seq<Seq<NodeId>>, OutOfMemory>
+    requires piece { IsPiece graph.now group.now piece }
+    requires right { AreRightPaths graph.now group.now piece paths.now }
+    ensures asked { IfOk result (λ ps. AreAskedPaths graph.now group.now piece ps) }
+    ensures same { IfOk result (λ ps. ps ≡ paths_of group.now piece (map (map (node_at graph.now)) paths.now)) }
+{
+    match piece {
+        Piece::Pair { j, .. } => paths.by_ids(alloc, graph, Some(group[j as usize - 1])),
+        Piece::Fan { .. } => paths.by_ids(alloc, graph, None),
+    }
+}

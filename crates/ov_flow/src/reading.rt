@@ -1,0 +1,78 @@
+//! Paths, read from one flat list in which each is written from its end back to the source.
+ghost use Rattle.std.specs.Prelude.{◌≡◌, ◌-◌, ◌<◌, ◌==◌, ℕ, [], ◌∷◌, map, reverse, length, get_or};
+ghost use Rattle.std.specs.Prelude.{slice_index, IfOk, IfSome, MatchOption};
+ghost use Rattle.std.specs.List.{position};
+ghost use Rattle.ov_ids.specs.Members.{Has};
+ghost use Rattle.ov_flow.specs.Flow.{ended_by};
+ghost use Rattle.ov_flow.specs.Code.Flat.{paths_after, paths_in};
+
+use ov_ids::{NodeId, OutOfMemory, Seq};
+use std::alloc::Global;
+
+/// The source, which is the last place of a list; 0 where that is empty.
+pub(crate) fn source_in(flat: &[u16]) -> u16
+    ensures { result ≡ get_or flat.now (length flat.now - 1) 0 }
+{
+    match flat.last() {
+        Some(source) => *source,
+        None => 0,
+    }
+}
+
+/// How many paths a list has.
+pub(crate) fn count_paths(flat: &[u16]) -> usize
+    ensures { result ≡ length (paths_in flat.now) }
+{
+    let source = source_in(flat);
+    let mut count = 0;
+    for place in flat.iter() {
+        if *place == source {
+            count += 1;
+        }
+    }
+    count
+}
+
+/// Where the source stands first.
+fn place_of(flat: &[u16], source: u16) -> Option<usize>
+    ensures place { result ≡ position (λ p. p == source) flat.now }
+    ensures within { IfSome result (λ i. i < length flat.now) }
+{
+    flat.iter().position(|place| *place == source)
+}
+
+/// The first path, as it is written, and what stands behind it.
+pub(crate) fn split_path(flat: &[u16], source: u16) -> Option<(&[u16], &[u16])>
+    ensures paths { MatchOption result (paths_after source [] flat.now ≡ []) (λ parts. paths_after source [] flat.now
+        ≡ reverse parts.0.now ∷ paths_after source [] parts.1.now) }
+    ensures shorter { IfSome result (λ parts. length parts.1.now < length flat.now) }
+{
+    match place_of(flat, source) {
+        Some(end) => Some(flat.split_at(end + 1)),
+        None => None,
+    }
+}
+
+/// A path that is written from its end back to the source, by ids and from the source on, and then `last` if one is
+/// named.
+pub(crate) fn path_by_ids(
+    alloc: Global,
+    nodes: &[NodeId],
+    path: &[u16],
+    last: Option<NodeId>,
+) -> Result<Seq<NodeId>, OutOfMemory>
+    requires { (p : ℕ) → Has path.now p → p < length nodes.now }
+    ensures { IfOk result (λ ids. ids ≡ ended_by last (map (λ p. slice_index nodes.now p) (reverse path.now))) }
+{
+    let more = if last.is_some() { 1 } else { 0 };
+    let mut ids = Vec::with_capacity(alloc, path.len() + more)?;
+    let mut left = path;
+    while let Some((place, before)) = left.split_last() {
+        ids.push_reserved(nodes[*place as usize]);
+        left = before;
+    }
+    if let Some(id) = last {
+        ids.push_reserved(id);
+    }
+    Ok(Seq::new(ids))
+}
