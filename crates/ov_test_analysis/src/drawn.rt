@@ -103,6 +103,64 @@ pub(crate) const TWO_STEPS_BACK: Drawn = Drawn {
     ],
 };
 
+/// The search takes the link of the lowest node first, and so finds 11-1-2-3-4 as the first path from 11 to 4 and 10,
+/// and 11-5-6-7-4 as a walk to its end. In place of its last step the path then takes from 3 the link back to 2, whose
+/// own step 1-2 it gives up in turn, and goes on over 1-8-9-10. So 2 and 3 come from each other, and are on no path: a
+/// closed round, which must not be kept. Node 11 has two links, and 7 leads to 4 alone: there are no other two paths.
+pub(crate) const ROUND_OF_TWO: Drawn = Drawn {
+    nodes: &[1, 2, 3, 4, 5, 6, 7, 8, 9, 10, 11, 12],
+    links: &[
+        (1, 2),
+        (1, 8),
+        (1, 11),
+        (2, 3),
+        (3, 4),
+        (4, 7),
+        (4, 12),
+        (5, 6),
+        (5, 11),
+        (6, 7),
+        (8, 9),
+        (9, 10),
+        (10, 12),
+    ],
+};
+
+/// The search finds 18-1-2-3-4 first, from 18 to 4, 9 and 17. The walk 18-5-6-7-4 leaves this path at 3, from where it
+/// goes on to 8 and 9, though 2 and 8 are linked. The walk 18-10-11-12-13-14-9 then leaves it at 8, and takes this link
+/// to 2, whose own step 1-2 is given up; the path goes on over 1-15-16-17. So 2, 3 and 8 come from each other, and are
+/// on no path: a closed round. Node 18 has three links, and there are no other three paths.
+pub(crate) const ROUND_OF_THREE: Drawn = Drawn {
+    nodes: &[
+        1, 2, 3, 4, 5, 6, 7, 8, 9, 10, 11, 12, 13, 14, 15, 16, 17, 18, 19,
+    ],
+    links: &[
+        (1, 2),
+        (1, 15),
+        (1, 18),
+        (2, 3),
+        (2, 8),
+        (3, 4),
+        (3, 8),
+        (4, 7),
+        (4, 19),
+        (5, 6),
+        (5, 18),
+        (6, 7),
+        (8, 9),
+        (9, 14),
+        (9, 19),
+        (10, 11),
+        (10, 18),
+        (11, 12),
+        (12, 13),
+        (13, 14),
+        (15, 16),
+        (16, 17),
+        (17, 19),
+    ],
+};
+
 /// The graph of these nodes and links, or its fault.
 pub(crate) fn graph(alloc: Global, drawn: Drawn) -> Result<Graph, GraphFault> {
     let nodes = ids(alloc, drawn.nodes).map_err(|_| GraphFault::OutOfMemory)?;
@@ -111,17 +169,4 @@ pub(crate) fn graph(alloc: Global, drawn: Drawn) -> Result<Graph, GraphFault> {
         links.push((NodeId(*low), NodeId(*high)))?;
     }
     Graph::new(alloc, nodes.as_slice(), &links)
-}
-
-/// Nodes 1 to 65. Each of 1 to 64 is linked to 65 alone, or else to the one above it.
-pub(crate) fn many(alloc: Global, is_star: bool) -> Result<Graph, GraphFault> {
-    let mut nodes = Vec::new(alloc);
-    let mut links = Vec::new(alloc);
-    for number in 1..65 {
-        nodes.push(NodeId(number))?;
-        let other = if is_star { 65 } else { number + 1 };
-        links.push((NodeId(number), NodeId(other)))?;
-    }
-    nodes.push(NodeId(65))?;
-    Graph::new(alloc, &nodes, &links)
 }

@@ -4,8 +4,14 @@
 #[cfg(test)]
 mod drawn;
 #[cfg(test)]
+mod families;
+#[cfg(test)]
+mod path_judge;
+#[cfg(test)]
 mod pieces;
 #[cfg(test)]
 mod searches;
+#[cfg(test)]
+mod sizes;
 #[cfg(test)]
 mod wanted;

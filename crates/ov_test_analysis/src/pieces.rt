@@ -1,15 +1,17 @@
 //! Pieces of graphs and of groups, and what they come to.
 use crate::drawn::{
-    Drawn, FIVE_BUT_ONE, ONE_STEP_BACK, PATH_OF_THREE, PETERSEN, SQUARE, TWO_STEPS_BACK,
-    TWO_TRIANGLES, graph, many,
+    Drawn, FIVE_BUT_ONE, ONE_STEP_BACK, PATH_OF_THREE, PETERSEN, ROUND_OF_THREE, ROUND_OF_TWO,
+    SQUARE, TWO_STEPS_BACK, TWO_TRIANGLES, graph,
 };
 use crate::wanted::Ask::{Fan, Pair};
-use crate::wanted::Want::{Cut, Linked, Paths};
+use crate::wanted::Want::{Cut, Linked, Paths, PathsOff};
 use crate::wanted::{Row, other_alone, other_in_turn, other_of_group};
+use ov_test_kit::ids;
+use std::alloc::Global;
 use std::test::Fail;
 
 /// Graphs with pieces of the group of all their nodes.
-const ALL: [(Drawn, &[Row]); 6] = [
+const ALL: [(Drawn, &[Row<'_>]); 6] = [
     (
         PATH_OF_THREE,
         &[(Fan(2, 3), Cut(&[2], 3, 1, &[3])), (Fan(1, 3), Paths)],
@@ -39,6 +41,8 @@ const ALL: [(Drawn, &[Row]); 6] = [
         &[
             (Pair(4, 1, 3), Cut(&[2, 5, 6], 1, 3, &[1])),
             (Pair(3, 1, 3), Paths),
+            // 4-3, 4-5-1 and 4-9-7-2
+            (Fan(3, 4), Paths),
         ],
     ),
     (
@@ -57,28 +61,35 @@ const ALL: [(Drawn, &[Row]); 6] = [
     ),
 ];
 
+fn alone(alloc: Global, drawn: Drawn, rows: &[Row<'_>]) -> Result<Option<usize>, Fail> {
+    let graph = graph(alloc, drawn)?;
+    other_alone(alloc, &graph, rows)
+}
+
 #[test]
 fn pieces_of_all_nodes(rt: HostRuntime) -> Result<(), Fail> {
     for (i, (drawn, rows)) in ALL.iter().enumerate() {
-        let graph = graph(rt.alloc(), *drawn)?;
-        let other = other_alone(rt.alloc(), &graph, rows)?;
-        assert_eq!(rt; other, None, "in graph {i}");
+        assert_eq!(rt; alone(rt.alloc(), *drawn, rows)?, None, "in graph {i}");
     }
     Ok(())
 }
 
+fn in_turn(alloc: Global, drawn: Drawn, rows: &[Row<'_>]) -> Result<Option<usize>, Fail> {
+    let graph = graph(alloc, drawn)?;
+    other_in_turn(alloc, &graph, rows)
+}
+
+/// A settler from which memory was withheld settles the same piece when it is asked once more, and those after it.
 #[test]
 fn one_settler_finds_the_same_in_turn(rt: HostRuntime) -> Result<(), Fail> {
     for (i, (drawn, rows)) in ALL.iter().enumerate() {
-        let graph = graph(rt.alloc(), *drawn)?;
-        let other = other_in_turn(rt.alloc(), &graph, rows)?;
-        assert_eq!(rt; other, None, "in graph {i}");
+        assert_eq!(rt; in_turn(rt.alloc(), *drawn, rows)?, None, "in graph {i}");
     }
     Ok(())
 }
 
 /// Graphs, members, and pieces of the group of these.
-const GROUPS: [(Drawn, &[u32], &[Row]); 5] = [
+pub(crate) const GROUPS: [(Drawn, &[u32], &[Row<'_>]); 9] = [
     (
         PATH_OF_THREE,
         &[1, 3],
@@ -110,50 +121,53 @@ const GROUPS: [(Drawn, &[u32], &[Row]); 5] = [
             (Pair(4, 1, 2), Cut(&[3, 4, 5], 1, 2, &[1])),
         ],
     ),
+    (
+        ROUND_OF_TWO,
+        &[11, 12],
+        &[
+            (Pair(2, 1, 2), PathsOff(&[2, 3])),
+            (Pair(3, 1, 2), Cut(&[1, 5], 11, 12, &[11])),
+        ],
+    ),
+    (
+        ROUND_OF_TWO,
+        &[4, 10, 11],
+        &[(Fan(2, 3), PathsOff(&[2, 3]))],
+    ),
+    (
+        ROUND_OF_THREE,
+        &[18, 19],
+        &[
+            (Pair(3, 1, 2), PathsOff(&[2, 3, 8])),
+            (Pair(4, 1, 2), Cut(&[1, 5, 10], 18, 19, &[18])),
+        ],
+    ),
+    (
+        ROUND_OF_THREE,
+        &[4, 9, 17, 18],
+        &[(Fan(3, 4), PathsOff(&[2, 3, 8]))],
+    ),
 ];
+
+fn of_group(
+    alloc: Global,
+    drawn: Drawn,
+    members: &[u32],
+    rows: &[Row<'_>],
+) -> Result<Option<usize>, Fail> {
+    let graph = graph(alloc, drawn)?;
+    let group = ids(alloc, members)?;
+    other_of_group(alloc, &graph, group.as_slice(), rows)
+}
 
 #[test]
 fn pieces_of_groups(rt: HostRuntime) -> Result<(), Fail> {
     for (i, (drawn, members, rows)) in GROUPS.iter().enumerate() {
-        let graph = graph(rt.alloc(), *drawn)?;
-        let other = other_of_group(rt.alloc(), &graph, members, rows)?;
-        assert_eq!(rt; other, None, "in graph {i}");
-    }
-    Ok(())
-}
-
-/// The numbers 3 to 65.
-const FROM_3_TO_65: [u32; 63] = [
-    3, 4, 5, 6, 7, 8, 9, 10, 11, 12, 13, 14, 15, 16, 17, 18, 19, 20, 21, 22, 23, 24, 25, 26, 27,
-    28, 29, 30, 31, 32, 33, 34, 35, 36, 37, 38, 39, 40, 41, 42, 43, 44, 45, 46, 47, 48, 49, 50, 51,
-    52, 53, 54, 55, 56, 57, 58, 59, 60, 61, 62, 63, 64, 65,
-];
-
-/// The star and the path of 65 nodes, with pieces of the group of all of them.
-const OF_65: [(bool, &[Row]); 2] = [
-    (
-        true,
-        &[
-            (Pair(2, 1, 2), Cut(&[65], 1, 2, &[1])),
-            (Fan(2, 3), Cut(&[65], 3, 1, &[3])),
-            (Fan(2, 65), Paths),
-        ],
-    ),
-    (
-        false,
-        &[
-            (Fan(2, 3), Cut(&[2], 3, 1, &FROM_3_TO_65)),
-            (Fan(2, 65), Cut(&[64], 65, 1, &[65])),
-        ],
-    ),
-];
-
-#[test]
-fn pieces_stand_in_several_words(rt: HostRuntime) -> Result<(), Fail> {
-    for (is_star, rows) in &OF_65 {
-        let graph = many(rt.alloc(), *is_star)?;
-        let other = other_alone(rt.alloc(), &graph, rows)?;
-        assert_eq!(rt; other, None, "star {is_star}");
+        assert_eq!(rt;
+            of_group(rt.alloc(), *drawn, members, rows)?,
+            None,
+            "in graph {i}"
+        );
     }
     Ok(())
 }

@@ -83,29 +83,47 @@ fn tells_two(alloc: Global, graph: &Graph) -> Result<bool, OutOfMemory> {
     )
 }
 
+/// What the search for one path more answers. Where memory was wanted as many are held as before, and it is made once
+/// more.
+fn grown(flow: &mut Flow<'_>) -> Result<Step, Fail>
+    ensures { flow.new.net ≡ flow.old.net }
+{
+    let held = flow.held();
+    if let Ok(step) = flow.augment() {
+        return Ok(step);
+    }
+    if flow.held() != held {
+        return Err("want of memory changed the flow".into());
+    }
+    match flow.augment() {
+        Ok(step) => Ok(step),
+        Err(_) => Err("memory was wanted twice".into()),
+    }
+}
+
 /// The flow grows twice, and then no more.
-fn grows_twice(flow: &mut Flow<'_>) -> Result<bool, OutOfMemory> {
+fn grows_twice(flow: &mut Flow<'_>) -> Result<bool, Fail> {
     for held in 0..2 {
         if flow.held() != held {
             return Ok(false);
         }
-        if let Step::Stuck(_) = flow.augment()? {
+        if let Step::Stuck(_) = grown(flow)? {
             return Ok(false);
         }
     }
-    Ok(match flow.augment()? {
+    Ok(match grown(flow)? {
         Step::Stuck(stuck) => flow.held() == 2 && is_cut_of_square(&stuck),
         Step::Grew => false,
     })
 }
 
 /// The flow of the square grows once, and when it has begun anew, twice.
-fn grows(alloc: Global, graph: &Graph) -> Result<bool, OutOfMemory> {
+fn grows(alloc: Global, graph: &Graph) -> Result<bool, Fail> {
     let (Some(first), Some(again)) = (from_third(graph), from_third(graph)) else {
         return Ok(false);
     };
     let mut flow = Flow::new(alloc, first)?;
-    match flow.augment()? {
+    match grown(&mut flow)? {
         Step::Grew => flow.restart(again),
         Step::Stuck(_) => return Ok(false),
     }

@@ -1,11 +1,14 @@
 //! What pieces are to come to, and whether they do.
-ghost use Rattle.std.specs.Prelude.{◌<◌, ◌≤◌, length, IsTrue};
+ghost use Rattle.std.specs.Prelude.{◌≡◌, ◌<◌, ◌≤◌, length, IsTrue, IfOk};
+ghost use Rattle.ov_graph.specs.Links.{IsGroup};
 ghost use Rattle.ov_fans.specs.Pieces.{IsPiece};
+ghost use Rattle.ov_fans.specs.Cuts.{AreRightPaths, IsRight};
 
-use ov_fans::{Found, Parting, Piece, Settled, Settler, settle, settle_group};
+use crate::path_judge::Sought;
+use ov_fans::{Found, Parting, Piece, Settled, Settler, asked_paths, settle, settle_group};
+use ov_flow::PlacePaths;
 use ov_graph::Graph;
-use ov_ids::NodeId;
-use ov_test_kit::ids;
+use ov_ids::{NodeId, OutOfMemory};
 use std::alloc::Global;
 use std::test::Fail;
 
@@ -16,16 +19,20 @@ pub(crate) enum Ask {
     Fan(u16, u16),
 }
 
-/// What a piece is to come to. Of a cut: its nodes, near, far, and its side.
+/// What a piece is to come to.
 #[derive(Clone, Copy)]
-pub(crate) enum Want {
+pub(crate) enum Want<'a> {
     Linked,
+    /// As many paths as the level.
     Paths,
-    Cut(&'static [u32], u32, u32, &'static [u32]),
+    /// The same, where none of these nodes is on a path.
+    PathsOff(&'a [u32]),
+    /// The nodes of the cut, near, far, and the side.
+    Cut(&'a [u32], u32, u32, &'a [u32]),
 }
 
 /// A piece, and what it is to come to.
-pub(crate) type Row = (Ask, Want);
+pub(crate) type Row<'a> = (Ask, Want<'a>);
 
 fn piece_of(ask: Ask) -> Piece {
     match ask {
@@ -74,11 +81,9 @@ fn is_cut(parting: &Parting, cut: &[u32], side: &[u32]) -> bool {
     are_numbered(&parting.cut, cut) && are_numbered(&parting.side, side)
 }
 
-fn is_found(found: &Found, want: Want) -> bool {
-    match (found, want) {
-        (Found::Linked, Want::Linked) => true,
-        (Found::Paths(_), Want::Paths) => true,
-        (Found::Cut(parting), Want::Cut(cut, near, far, side)) => {
+fn is_parting(parting: &Parting, want: Want<'_>) -> bool {
+    match want {
+        Want::Cut(cut, near, far, side) => {
             if parting.near != NodeId(near) || parting.far != NodeId(far) {
                 return false;
             }
@@ -88,23 +93,151 @@ fn is_found(found: &Found, want: Want) -> bool {
     }
 }
 
-fn is_settled(settled: &Settled, piece: Piece, want: Want) -> bool {
-    settled.piece == piece && is_found(&settled.found, want)
+/// The paths are those that the piece asks for, and meet none of the nodes that they are to miss.
+fn are_paths(
+    alloc: Global,
+    graph: &Graph,
+    group: &[NodeId],
+    piece: Piece,
+    paths: &PlacePaths,
+    want: Want<'_>,
+) -> Result<bool, OutOfMemory>
+    requires piece { IsPiece graph.now group.now piece }
+    requires right { AreRightPaths graph.now group.now piece paths.now }
+{
+    let off = match want {
+        Want::Paths => &[],
+        Want::PathsOff(off) => off,
+        _ => return Ok(false),
+    };
+    let asked = asked_paths(alloc, graph, group, piece, paths)?;
+    let asked = asked.as_slice();
+    match Sought::of(group, piece) {
+        Some(sought) if asked.len() == piece.level() as usize => {
+            Ok(sought.are_paths(alloc, graph, asked, off)?)
+        }
+        _ => Ok(false),
+    }
+}
+
+/// What a piece came to is what it is to come to.
+fn comes_to(
+    alloc: Global,
+    graph: &Graph,
+    group: &[NodeId],
+    settled: &Settled,
+    want: Want<'_>,
+) -> Result<bool, OutOfMemory>
+    requires piece { IsPiece graph.now group.now settled.now.piece }
+    requires right { IsRight graph.now group.now settled.now }
+{
+    match &settled.found {
+        Found::Linked => Ok(matches!(want, Want::Linked)),
+        Found::Paths(paths) => are_paths(alloc, graph, group, settled.piece, paths, want),
+        Found::Cut(parting) => Ok(is_parting(parting, want)),
+    }
+}
+
+/// A piece that `settle` settles comes to what it is to come to, and is one.
+fn is_right_of_all(alloc: Global, graph: &Graph, row: &Row<'_>) -> Result<bool, OutOfMemory>
+    requires { IsGroup graph.now graph.now.nodes }
+{
+    let (ask, want) = *row;
+    let piece = piece_of(ask);
+    if !is_piece(graph, graph.nodes(), piece) {
+        return Ok(false);
+    }
+    let settled = settle(alloc, graph, piece)?;
+    comes_to(alloc, graph, graph.nodes(), &settled, want)
+}
+
+/// What `settle_group` answers, the second time where memory was wanted the first time.
+fn settled_in_group(
+    alloc: Global,
+    graph: &Graph,
+    group: &[NodeId],
+    piece: Piece,
+) -> Result<Settled, Fail>
+    requires group { IsGroup graph.now group.now }
+    requires piece { IsPiece graph.now group.now piece }
+    ensures piece { IfOk result (λ s. s.piece ≡ piece) }
+    ensures right { IfOk result (λ s. IsRight graph.now group.now s) }
+{
+    if let Ok(settled) = settle_group(alloc, graph, group, piece) {
+        return Ok(settled);
+    }
+    match settle_group(alloc, graph, group, piece) {
+        Ok(settled) => Ok(settled),
+        Err(_) => Err("memory was wanted twice".into()),
+    }
+}
+
+/// The same of a piece that `settle_group` settles.
+fn is_right_of_group(
+    alloc: Global,
+    graph: &Graph,
+    group: &[NodeId],
+    row: &Row<'_>,
+) -> Result<bool, Fail>
+    requires { IsGroup graph.now group.now }
+{
+    let (ask, want) = *row;
+    let piece = piece_of(ask);
+    if !is_piece(graph, group, piece) {
+        return Ok(false);
+    }
+    let settled = settled_in_group(alloc, graph, group, piece)?;
+    Ok(comes_to(alloc, graph, group, &settled, want)?)
+}
+
+/// What a settler answers, the second time where memory was wanted the first time.
+fn settled_by(settler: &mut Settler<'_>, piece: Piece) -> Result<Settled, Fail>
+    requires { IsPiece settler.old.graph settler.old.members piece }
+    ensures piece { IfOk result (λ s. s.piece ≡ piece) }
+    ensures right { IfOk result (λ s. IsRight settler.old.graph settler.old.members s) }
+    ensures stays { settler.new ≡ settler.old }
+{
+    if let Ok(settled) = settler.settle(piece) {
+        return Ok(settled);
+    }
+    match settler.settle(piece) {
+        Ok(settled) => Ok(settled),
+        Err(_) => Err("memory was wanted twice".into()),
+    }
+}
+
+/// The same of a piece that a settler of the group settles.
+fn is_right_by(
+    alloc: Global,
+    settler: &mut Settler<'_>,
+    graph: &Graph,
+    group: &[NodeId],
+    row: &Row<'_>,
+) -> Result<bool, Fail>
+    requires settler { settler.old ≡ record { graph = graph.now; members = group.now } }
+    requires group { IsGroup graph.now group.now }
+    ensures { settler.new ≡ settler.old }
+{
+    let (ask, want) = *row;
+    let piece = piece_of(ask);
+    if !is_piece(graph, group, piece) {
+        return Ok(false);
+    }
+    let settled = settled_by(settler, piece)?;
+    Ok(comes_to(alloc, graph, group, &settled, want)?)
 }
 
 /// The first row whose piece, of the group of all nodes and settled alone, comes to something else, or is none.
 pub(crate) fn other_alone(
     alloc: Global,
     graph: &Graph,
-    rows: &[Row],
+    rows: &[Row<'_>],
 ) -> Result<Option<usize>, Fail> {
-    for (i, (ask, want)) in rows.iter().enumerate() {
-        let piece = piece_of(*ask);
-        if !is_piece(graph, graph.nodes(), piece) {
-            return Ok(Some(i));
-        }
-        let settled = settle(alloc, graph, piece)?;
-        if !is_settled(&settled, piece, *want) {
+    if !graph.is_group(graph.nodes()) {
+        return Ok(Some(0));
+    }
+    for (i, row) in rows.iter().enumerate() {
+        if !is_right_of_all(alloc, graph, row)? {
             return Ok(Some(i));
         }
     }
@@ -115,18 +248,14 @@ pub(crate) fn other_alone(
 pub(crate) fn other_of_group(
     alloc: Global,
     graph: &Graph,
-    members: &[u32],
-    rows: &[Row],
+    group: &[NodeId],
+    rows: &[Row<'_>],
 ) -> Result<Option<usize>, Fail> {
-    let group = ids(alloc, members)?;
-    let group = group.as_slice();
-    for (i, (ask, want)) in rows.iter().enumerate() {
-        let piece = piece_of(*ask);
-        if !graph.is_group(group) || !is_piece(graph, group, piece) {
-            return Ok(Some(i));
-        }
-        let settled = settle_group(alloc, graph, group, piece)?;
-        if !is_settled(&settled, piece, *want) {
+    if !graph.is_group(group) {
+        return Ok(Some(0));
+    }
+    for (i, row) in rows.iter().enumerate() {
+        if !is_right_of_group(alloc, graph, group, row)? {
             return Ok(Some(i));
         }
     }
@@ -137,20 +266,15 @@ pub(crate) fn other_of_group(
 pub(crate) fn other_in_turn(
     alloc: Global,
     graph: &Graph,
-    rows: &[Row],
+    rows: &[Row<'_>],
 ) -> Result<Option<usize>, Fail> {
     let group = graph.nodes();
     if !graph.is_group(group) {
         return Ok(Some(0));
     }
     let mut settler = Settler::new(alloc, graph, group)?;
-    for (i, (ask, want)) in rows.iter().enumerate() {
-        let piece = piece_of(*ask);
-        if !is_piece(graph, group, piece) {
-            return Ok(Some(i));
-        }
-        let settled = settler.settle(piece)?;
-        if !is_settled(&settled, piece, *want) {
+    for (i, row) in rows.iter().enumerate() {
+        if !is_right_by(alloc, &mut settler, graph, group, row)? {
             return Ok(Some(i));
         }
     }
