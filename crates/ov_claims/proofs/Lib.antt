@@ -1,0 +1,5 @@
+pub mod Changing
+pub mod Staying
+pub mod Ending
+pub mod Behind
+pub mod Turns

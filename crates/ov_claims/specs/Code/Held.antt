@@ -1,0 +1,14 @@
+-- What a desk keeps of its claims.
+use Rattle.std.specs.Prelude.{ℕ, ◌^◌, ◌<◌, ◌≤◌, List, length}
+use Rattle.ov_claims.specs.Claims.{WorkerState, ClaimState, IsLegal}
+
+-- the claims with these parts
+abbrev pub state : ℕ → ℕ → ℕ → List WorkerState → ClaimState
+state total next least workers = record { total = total; next = next; least = least; workers = workers }
+
+-- the claims are legal, a number fits four bytes, and there are a few workers
+pub record IsHeld (s : ClaimState) : Type 0 where
+  pub legal : IsLegal s
+  pub total : s.total < 2 ^ 32
+  pub some : 1 ≤ length s.workers
+  pub few : length s.workers ≤ 64

@@ -1,0 +1,45 @@
+-- The three steps of the claims. Each changes one worker; `s` is before, and `t` after.
+use Rattle.std.specs.Prelude.{◌≡◌, ℕ, ◌+◌, true, false, nat_lt, List, [], ◌∷◌, ◌++◌, Some, if◌then◌else◌}
+use Rattle.std.specs.Prelude.{min, slice_set}
+use Rattle.ov_ids.specs.Members.{Has}
+use Rattle.ov_ids.specs.Sets.{adding}
+use Rattle.ov_claims.specs.Claims.{WorkerState, ClaimState, HasWorker}
+
+-- the worker with number x, where it is below the total; else it has ended
+abbrev pub claiming : ℕ → ℕ → WorkerState → WorkerState
+claiming total x v = if nat_lt x total then record v { claimed = v.claimed ++ x ∷ [] } else record v { ended = true }
+
+-- the worker goes on with number x, where no lower one has failed; else it skips x and has ended
+abbrev pub looking : ℕ → ℕ → WorkerState → WorkerState
+looking least x v = if nat_lt least x then record v { skipped = Some x; ended = true } else v
+
+-- the worker has failed at x
+abbrev pub failing : ℕ → WorkerState → WorkerState
+failing x v = record v { failed = adding x v.failed }
+
+-- x is the last number that the worker claimed
+abbrev pub IsLast : WorkerState → ℕ → Type 0
+IsLast v x = (front : List ℕ) × (v.claimed ≡ front ++ x ∷ [])
+
+-- worker w, which has not ended, claims the next number, x
+pub record Claims (s : ClaimState) (w x : ℕ) (t : ClaimState) : Type 0 where
+  pub worker : WorkerState
+  pub has : HasWorker s w worker
+  pub goes_on : worker.ended ≡ false
+  pub number : x ≡ s.next
+  pub after : t ≡ record s { next = s.next + 1; workers = slice_set s.workers w (claiming s.total x worker) }
+
+-- worker w, which has not ended, looks before it works on x, which it has claimed
+pub record Looks (s : ClaimState) (w x : ℕ) (t : ClaimState) : Type 0 where
+  pub worker : WorkerState
+  pub has : HasWorker s w worker
+  pub goes_on : worker.ended ≡ false
+  pub own : Has worker.claimed x
+  pub after : t ≡ record s { workers = slice_set s.workers w (looking s.least x worker) }
+
+-- worker w fails at x, which it has claimed
+pub record Fails (s : ClaimState) (w x : ℕ) (t : ClaimState) : Type 0 where
+  pub worker : WorkerState
+  pub has : HasWorker s w worker
+  pub own : Has worker.claimed x
+  pub after : t ≡ record s { least = min x s.least; workers = slice_set s.workers w (failing x worker) }

@@ -1,0 +1,148 @@
+ghost use Rattle.std.specs.Prelude.{◌≡◌, ◌↔◌, ℕ, ◌<◌, ◌≤◌, ◌^◌, [], false, length, IsTrue};
+ghost use Rattle.std.specs.Prelude.{IfOk, OnOk, OnErr, IfSome, IfNone};
+ghost use Rattle.ov_claims.specs.Claims.{HasWorker, WorkerState, IsLegal, opening};
+ghost use Rattle.ov_claims.specs.Steps.{Claims, Looks, Fails, IsLast};
+ghost use Rattle.ov_claims.specs.Laws.{AllEnded, IsDone};
+
+use crate::worker::{Worker, have_ended};
+use ov_ids::OutOfMemory;
+use std::alloc::Global;
+use std::marker::Model;
+
+/// Claims of workers who take turns at one desk. Contracts see the state of the claims, which is always a legal one.
+/// A number that is claimed takes four bytes, and one that fails four more.
+#[derive(Drop)]
+pub struct Desk {
+    total: u64,
+    next: u64,
+    least: u64,
+    workers: Vec<Worker>,
+}
+
+impl Model for Desk {
+    ghost use Rattle.ov_claims.specs.Claims.{ClaimState};
+    ghost use Rattle.ov_claims.specs.Code.Held.{state, IsHeld};
+
+    ghost Value = { ClaimState };
+
+    ghost view = { λ d. state d.total d.next d.least d.workers.items };
+
+    ghost invariant = { λ d. IsHeld (state d.total d.next d.least d.workers.items) };
+}
+
+impl Desk {
+    /// A desk for this many workers, who share out the numbers below `total`. Out of memory gives no desk.
+    pub fn new(alloc: Global, total: u64, workers: u32) -> Result<Desk, OutOfMemory>
+        requires total { total < 2 ^ 32 }
+        requires some { 1 ≤ workers }
+        requires few { workers ≤ 64 }
+        ensures { IfOk result (λ d. d ≡ opening total workers) }
+    {
+        let mut fresh = Vec::new(alloc);
+        for _ in 0..workers {
+            fresh.push(Worker::new(alloc))?;
+        }
+        Ok(Desk {
+            total,
+            next: 0,
+            least: total,
+            workers: fresh,
+        })
+    }
+
+    /// Worker `worker` claims the next number, and is told it; where that isn't below the total, the worker has ended.
+    /// Out of memory changes nothing.
+    #[tactic(auto, using(crate::proofs::Turns::next_small))]
+    pub fn claim(&mut self, worker: u32) -> Result<u64, OutOfMemory>
+        requires goes_on { (v : WorkerState) × HasWorker self.old worker v × (v.ended ≡ false) }
+        ensures claims { IfOk result (λ x. Claims self.old worker x self.new) }
+        ensures err { OnErr result (self.new ≡ self.old) }
+    {
+        let number = self.next;
+        let own = &mut self.workers[worker as usize];
+        own.claim(self.total, number)?;
+        self.next = number + 1;
+        Ok(number)
+    }
+
+    /// The worker looks before it works on the last number that it claimed, and is told the least one that failed (the
+    /// total where none did): where that is lower, it skips its own and has ended. It takes no memory.
+    pub fn look(&mut self, worker: u32) -> u64
+        requires goes_on { (v : WorkerState) × (x : ℕ) × HasWorker self.old worker v × (v.ended ≡ false) × IsLast v x }
+        ensures looks { (v : WorkerState) (x : ℕ) → HasWorker self.old worker v → IsLast v x
+            → Looks self.old worker x self.new }
+        ensures least { result ≡ self.old.least }
+    {
+        let least = self.least;
+        let own = &mut self.workers[worker as usize];
+        own.look(least);
+        least
+    }
+
+    /// The worker has failed at the last number that it claimed. Out of memory changes nothing.
+    pub fn fail(&mut self, worker: u32) -> Result<(), OutOfMemory>
+        requires claimed { (v : WorkerState) × (x : ℕ) × HasWorker self.old worker v × IsLast v x }
+        ensures fails { OnOk result ((v : WorkerState) (x : ℕ) → HasWorker self.old worker v → IsLast v x
+            → Fails self.old worker x self.new) }
+        ensures err { OnErr result (self.new ≡ self.old) }
+    {
+        let own = &mut self.workers[worker as usize];
+        let Some(number) = own.last() else {
+            return Ok(());
+        };
+        own.fail(number)?;
+        self.least = self.least.min(number as u64);
+        Ok(())
+    }
+
+    /// How many numbers are shared out.
+    pub fn total(&self) -> u64
+        ensures number { result ≡ self.now.total }
+        ensures legal { IsLegal self.now }
+    {
+        self.total
+    }
+
+    /// The least number that failed; the total where none did.
+    pub fn least(&self) -> u64
+        ensures number { result ≡ self.now.least }
+        ensures legal { IsLegal self.now }
+    {
+        self.least
+    }
+
+    /// How many workers there are.
+    pub fn workers(&self) -> u32
+        ensures number { result ≡ length self.now.workers }
+        ensures legal { IsLegal self.now }
+        ensures some { 1 ≤ result }
+        ensures few { result ≤ 64 }
+    {
+        self.workers.len() as u32
+    }
+
+    /// Whether this worker has ended.
+    pub fn has_ended(&self, worker: u32) -> bool
+        requires { worker < length self.now.workers }
+        ensures { (v : WorkerState) → HasWorker self.now worker v → result ≡ v.ended }
+    {
+        self.workers[worker as usize].has_ended()
+    }
+
+    /// The last number that this worker claimed, if it has claimed any.
+    pub fn last(&self, worker: u32) -> Option<u64>
+        requires { worker < length self.now.workers }
+        ensures some { IfSome result (λ x. (v : WorkerState) → HasWorker self.now worker v → IsLast v x) }
+        ensures none { IfNone result ((v : WorkerState) → HasWorker self.now worker v → v.claimed ≡ []) }
+    {
+        self.workers[worker as usize].last().map(|x| x as u64)
+    }
+
+    /// Whether all workers have ended.
+    pub fn all_ended(&self) -> bool
+        ensures ended { IsTrue result ↔ AllEnded self.now }
+        ensures done { IsTrue result → IsDone self.now }
+    {
+        have_ended(&self.workers)
+    }
+}
