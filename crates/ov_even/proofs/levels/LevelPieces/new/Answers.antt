@@ -1,0 +1,6 @@
+use Rattle.std.proofs.Common.{sym}
+use Rattle.ov_even.proofs.LevelSteps.{all_from_second}
+use Rattle.ov_even.proofs.levels.LevelPieces.new.Goals as goal
+
+pub returns : goal.returns
+returns c = sym (all_from_second c.args.m c.args.level c.requires.low)

@@ -1,0 +1,34 @@
+-- What an analysis of a graph and a group answers. It says nothing of the paths: any that make the certificate valid.
+use Rattle.std.specs.Prelude.{◌≡◌, ℕ, ◌+◌, List, length}
+use Rattle.ov_graph.specs.Links.{LinkGraph, AreAllLinked}
+use Rattle.ov_cert.specs.declared.cert.Cert.{Cert}
+use Rattle.ov_cert.specs.declared.cert.Cert.TheVariants.{Linked as AllLinked, Split as SplitBy}
+use Rattle.ov_cert.specs.declared.cert.Split.{Split}
+use Rattle.ov_fans.specs.Pieces.{level_of}
+use Rattle.ov_fans.specs.Cuts.{IsParted}
+use Rattle.ov_fans.specs.declared.piece.Piece.{Piece}
+use Rattle.ov_fans.specs.declared.settled.Parting.{Parting}
+use Rattle.ov_even.specs.First.{IsFirst}
+
+-- the certificate names what parts a piece: the cut, near, far and the side
+pub record NamesParting (c : Split) (parting : Parting) : Type 0 where
+  pub cut : c.cut ≡ parting.cut.items
+  pub near : c.near ≡ parting.near
+  pub far : c.far ≡ parting.far
+  pub side : c.side ≡ parting.side.items
+
+-- the certificate names the nearest cut of the first piece that is not good, and its number is one less than that
+-- piece's level
+pub record NamesFirstCut (g : LinkGraph) (q : List ℕ) (c : Split) : Type 0 where
+  pub piece : Piece
+  pub first : IsFirst g q piece
+  pub level : level_of piece ≡ c.k + 1
+  pub parting : Parting
+  pub parted : IsParted g q piece parting
+  pub names : NamesParting c parting
+
+-- the certificate that an analysis answers: every two members are linked, and k is one less than their number; or two
+-- are not, and it names the nearest cut of the first piece that is not good
+abbrev pub IsAnswer : LinkGraph → List ℕ → Cert → Type 0
+IsAnswer g q (AllLinked k) = AreAllLinked g q × (length q ≡ k + 1)
+IsAnswer g q (SplitBy c) = ¬ AreAllLinked g q × NamesFirstCut g q c

@@ -1,0 +1,2 @@
+-- What the code computes; its proofs tie this to the definitions, which do not use it.
+pub mod Levels

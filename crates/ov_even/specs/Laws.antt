@@ -1,0 +1,43 @@
+-- What holds of every graph and group.
+use Rattle.std.specs.Prelude.{◌≡◌, ℕ, ◌-◌, List}
+use Rattle.ov_graph.specs.Links.{LinkGraph, IsGraph, IsGroup, AreAllLinked}
+use Rattle.ov_graph.specs.Joined.{FewestForGroup}
+use Rattle.ov_cert.specs.declared.cert.Cert.{Cert}
+use Rattle.ov_cert.specs.declared.cert.Cert.TheVariants.{Linked as AllLinked, Split as SplitBy}
+use Rattle.ov_cert.specs.declared.cert.Split.{Split}
+use Rattle.ov_fans.specs.Pieces.{level_of}
+use Rattle.ov_fans.specs.declared.piece.Piece.{Piece}
+use Rattle.ov_even.specs.First.{IsFirst}
+use Rattle.ov_even.specs.Answer.{IsAnswer}
+
+-- the first piece that is not good gives the number: one less than its level (Even, SIAM J. Comput. 4, 1975)
+abbrev pub FirstGivesNumber : Type 0
+FirstGivesNumber = (g : LinkGraph) (q : List ℕ) (p : Piece) → IsGraph g → IsGroup g q → IsFirst g q p
+    → FewestForGroup g q (level_of p - 1)
+
+-- a graph and a group have one first piece at most
+abbrev pub OneFirst : Type 0
+OneFirst = (g : LinkGraph) (q : List ℕ) (p r : Piece) → IsFirst g q p → IsFirst g q r → p ≡ r
+
+-- where two members are not linked, there is a first piece that is not good
+abbrev pub FirstExists : Type 0
+FirstExists = (g : LinkGraph) (q : List ℕ) → IsGraph g → IsGroup g q → ¬ AreAllLinked g q → (p : Piece) × IsFirst g q p
+
+-- what two answers have in common: the number, and of a split the cut, near, far and the side
+pub record SameSplit (c d : Split) : Type 0 where
+  pub k : c.k ≡ d.k
+  pub cut : c.cut ≡ d.cut
+  pub near : c.near ≡ d.near
+  pub far : c.far ≡ d.far
+  pub side : c.side ≡ d.side
+
+-- both say that all are linked, or both name the same split
+abbrev pub AreAlike : Cert → Cert → Type 0
+AreAlike (AllLinked k) (AllLinked l) = k ≡ l
+AreAlike (SplitBy c) (SplitBy d) = SameSplit c d
+AreAlike (AllLinked k) (SplitBy d) = ⊥
+AreAlike (SplitBy c) (AllLinked l) = ⊥
+
+-- a graph and a group have one answer, whoever finds it, but for its paths
+abbrev pub OneAnswer : Type 0
+OneAnswer = (g : LinkGraph) (q : List ℕ) (c d : Cert) → IsGraph g → IsAnswer g q c → IsAnswer g q d → AreAlike c d

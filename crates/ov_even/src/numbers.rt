@@ -1,0 +1,59 @@
+//! The numbers of pieces: how many there are, and which piece has a number.
+ghost use Rattle.std.specs.Prelude.{◌≡◌, ◌<◌, ◌≤◌, ◌+◌, ◌-◌, ◌*◌, ◌^◌};
+ghost use Rattle.ov_graph.specs.Links.{most_nodes};
+ghost use Rattle.ov_even.specs.Order.{IsNumbered, AreSoMany};
+ghost use Rattle.ov_even.specs.Order.{AreMoreThan};
+
+use crate::levels::{level_size, pair_count, piece_in_level};
+use ov_fans::Piece;
+
+/// How many pieces there are for a graph of `nodes` nodes and a group of `members` members (Even, SIAM J. Comput. 4,
+/// 1975).
+pub fn group_total(nodes: usize, members: usize) -> u64
+    requires nodes { nodes ≤ most_nodes }
+    requires members { members ≤ nodes }
+    ensures count { AreSoMany nodes members result }
+    ensures figures { 6 * result ≡ (members + 1) * (members * (members - 1))
+        + 3 * ((nodes - members) * (members * (members - 1))) }
+    ensures small { result < 2 ^ 32 }
+{
+    let pairs = pair_count(members);
+    ((members + 1) * pairs / 3 + (nodes - members) * pairs) as u64
+}
+
+/// The piece with this number, counted from 0, for a graph of `nodes` nodes and a group of `members` members.
+pub fn group_piece_at(nodes: usize, members: usize, number: u64) -> Piece
+    requires nodes { nodes ≤ most_nodes }
+    requires members { members ≤ nodes }
+    requires below { AreMoreThan nodes members number }
+    ensures { IsNumbered nodes members number result }
+{
+    let mut level = 1;
+    let mut size = level_size(members, level);
+    let mut left = number as usize;
+    while size <= left {
+        left -= size;
+        level += 1;
+        size = level_size(members, level);
+    }
+    piece_in_level(members, level, left)
+}
+
+/// How many pieces there are for a graph of `nodes` nodes and the group of all of them.
+pub fn total(nodes: usize) -> u64
+    requires { nodes ≤ most_nodes }
+    ensures count { AreSoMany nodes nodes result }
+    ensures figures { 6 * result ≡ (nodes + 1) * (nodes * (nodes - 1)) }
+    ensures small { result < 2 ^ 32 }
+{
+    group_total(nodes, nodes)
+}
+
+/// The piece with this number, counted from 0, for a graph of `nodes` nodes and the group of all of them.
+pub fn piece_at(nodes: usize, number: u64) -> Piece
+    requires nodes { nodes ≤ most_nodes }
+    requires below { AreMoreThan nodes nodes number }
+    ensures { IsNumbered nodes nodes number result }
+{
+    group_piece_at(nodes, nodes, number)
+}
