@@ -1,8 +1,9 @@
 -- The words of an event, filled in one after the other.
 use Rattle.std.proofs.Common.{◌≡◌, ◌∙◌, ◌==◌, ◌+◌, ◌-◌, ◌<◌, ◌≤◌, ℕ, suc, Bool, true, false, ◌&&◌, nat_lt, nat_le, List, [], ◌∷◌, ◌++◌, length, drop, set, replicate, Option, Some, None, if◌then◌else◌, refl, ap, sym, subst, arith, append_assoc, append-nil, length-append}
 use Rattle.std.proofs.lemmas.Bool.Decides.{nat_tests}
-use Rattle.ov_run.specs.Statements.{◌>>=◌, number_within, each_number, with_zeros, event_words}
-use Rattle.ov_run.specs.Tells.{first_number}
+use Rattle.ov_run.specs.Lines.{◌>>=◌, number_within, each_number}
+use Rattle.ov_run.specs.Statements.{with_zeros, event_words}
+use Rattle.ov_run.specs.Code.Spaced.{first_number}
 use Rattle.ov_run.proofs.Parted.{not_empty}
 
 -- so many words are given and stand in front of zeros; of all words of the line these are left

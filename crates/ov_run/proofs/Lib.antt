@@ -1,12 +1,13 @@
 pub mod Begun
-pub mod Running
+pub mod Counted
 pub mod Drawn
 pub mod Filling
-pub mod Folded
-pub mod Limits
+pub mod Judged
+pub mod Kept
 pub mod Lined
 pub mod Numbers
 pub mod Numerals
 pub mod Parted
 pub mod Placed
-pub mod Sayings
+pub mod Running
+pub mod Taking

@@ -7,7 +7,7 @@ use Rattle.std.proofs.lemmas.Bool.{ltb-true}
 use Rattle.std.proofs.lemmas.Bool.Decides.{nat_tests}
 use Rattle.std.proofs.lemmas.List.Splits.{slice_split_first, length-slice_split}
 use Rattle.std.proofs.lemmas.List.Sums.{prefix_len-le-length}
-use Rattle.ov_run.specs.Spaced.{is_feed, without_return, first_line}
+use Rattle.ov_run.specs.Code.Spaced.{is_feed, without_return, first_line}
 use Rattle.ov_run.proofs.Parted.{not_empty}
 
 last_alone : (x : ℕ) (xs : List ℕ) → drop (length xs) (x ∷ xs) ≡ slice_index (x ∷ xs) (length xs) ∷ []

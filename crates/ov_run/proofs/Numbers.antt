@@ -1,7 +1,7 @@
 -- Numbers, one after the other, by what stands first and what is left.
 use Rattle.std.proofs.Common.{◌≡◌, ◌==◌, ℕ, List, [], ◌∷◌, length, drop, Some, None, if◌then◌else◌, refl, ap, sym}
-use Rattle.ov_run.specs.Statements.{◌>>=◌, number_within, one, two, three}
-use Rattle.ov_run.specs.Tells.{first_number}
+use Rattle.ov_run.specs.Lines.{◌>>=◌, number_within, one, two, three}
+use Rattle.ov_run.specs.Code.Spaced.{first_number}
 use Rattle.ov_run.proofs.Parted.{not_empty}
 
 pub one_number : (bits : ℕ) (words : List (List ℕ)) → one bits words ≡ (if length (drop 1 words) == 0 then first_number bits words else None)

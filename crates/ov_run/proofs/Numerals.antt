@@ -7,7 +7,7 @@ use Rattle.std.proofs.lemmas.Fmt.{IsAscii-from_digits}
 use Rattle.std.proofs.lemmas.Str.Parse.{tells_all_ascii_digits, digit_from_value}
 use Rattle.std.proofs.lemmas.Str.{digit_value_digit}
 use Rattle.std.proofs.lemmas.Bool.{lt-ltb, ltb-true, false≢true}
-use Rattle.ov_run.specs.Statements.{number_within}
+use Rattle.ov_run.specs.Lines.{number_within}
 
 pub numeral_is_text : (word : List ℕ) → IsNumeral 10 word → IsUtf8 word
 numeral_is_text word numeral = IsUtf8-from_ascii word (IsAscii-from_digits word numeral.1)

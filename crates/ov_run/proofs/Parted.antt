@@ -4,8 +4,8 @@ use Rattle.std.specs.List.{filter, slice_split, onto_first, position_or_len}
 use Rattle.std.proofs.lemmas.List.Sums.{prefix_len-le-length}
 use Rattle.std.proofs.lemmas.Bool.{lt-ltb}
 use Rattle.std.proofs.lemmas.Bool.Decides.{nat_tests}
-use Rattle.ov_run.specs.Spaced.{is_space, is_no_space, place_or_end, without_spaces, up_to_space, first_word}
-use Rattle.ov_run.specs.Statements.{words_of, behind_word}
+use Rattle.ov_run.specs.Lines.{is_space, is_no_space, place_or_end, without_spaces, words_of, behind_word}
+use Rattle.ov_run.specs.Code.Spaced.{up_to_space, first_word}
 
 -- a place is where the first byte that passes stands, or the length
 place_is : (p : ℕ → Bool) (text : List ℕ) → place_or_end p text ≡ position_or_len p text

@@ -1,6 +1,7 @@
 -- What was printed so far, and what is left to print.
-use Rattle.std.proofs.Common.{◌⊎◌, inl, inr, IsTrue, is_some, arith, ◌<◌, take, get_or, ◌≡◌, ◌≢◌, Option, ◌∙◌, ℕ, suc, ◌+◌, List, [], ◌∷◌, ◌++◌, append_assoc, filter, length, Some, None, ap, sym, subst, refl}
-use Rattle.std.proofs.lemmas.List.{append-nil, length-take-le, nil_from_length}
+use Rattle.std.proofs.Common.{◌⊎◌, inl, inr, IsTrue, is_some, arith, ◌<◌, take, get_or, ◌≡◌, ◌≢◌, Option, ◌∙◌, ℕ, suc}
+use Rattle.std.proofs.Common.{◌+◌, List, [], ◌∷◌, ◌++◌, append_assoc, length, Some, None, ap, sym, subst, refl}
+use Rattle.std.proofs.lemmas.List.{append-nil, length-take-le}
 use Rattle.std.proofs.Math.Numerals.{suc-eq-add-one}
 use Rattle.std.proofs.Math.Seq.{take-suc}
 use Rattle.ov_wire.specs.Messages.{Spelling}
@@ -12,52 +13,36 @@ use Rattle.ov_snap.specs.Book.{Book}
 use Rattle.ov_run.specs.Begun.{BeginsLines}
 use Rattle.ov_run.specs.Faults.{line_of}
 use Rattle.ov_run.specs.Printed.{packet_line}
-use Rattle.ov_run.specs.Running.{PrintsLine, PrintsLines, PrintsPackets, wants_words}
+use Rattle.ov_run.specs.Running.{PrintsLine, PrintsLines, PrintsPackets}
 use Rattle.ov_run.specs.Scenarios.{IsFaulty}
 use Rattle.ov_run.specs.declared.fault.RunFault.{RunFault}
 use Rattle.ov_run.specs.declared.fault.RunFault.TheVariants.{OutOfMemory}
 use Rattle.ov_run.specs.declared.line.Line.{Line}
-use Rattle.ov_run.specs.declared.line.Line.TheVariants.{Step, Show, Packets, Certificate}
 
 -- this text was printed of all lines, and these are left: with what they print now, whole or up to some point, all lines print this
 -- text before it
-pub record SoFar (b : Book) (drawn : List (List ℕ)) (all : List Line) (now : Book) (left : List (List ℕ)) (lines : List Line) (text : List ℕ) : Type 0 where
-  pub whole : (u : Book) (later : List ℕ) → PrintsLines now left lines u later → PrintsLines b drawn all u (text ++ later)
-  pub front : (later : List ℕ) → BeginsLines now left lines later → BeginsLines b drawn all (text ++ later)
+pub record SoFar (b : Book) (all : List Line) (now : Book) (lines : List Line) (text : List ℕ) : Type 0 where
+  pub whole : (u : Book) (later : List ℕ) → PrintsLines now lines u later → PrintsLines b all u (text ++ later)
+  pub front : (later : List ℕ) → BeginsLines now lines later → BeginsLines b all (text ++ later)
 
-pub begun : (b : Book) (drawn : List (List ℕ)) (lines : List Line) → SoFar b drawn lines b drawn lines []
-begun b drawn lines = record { whole = λ u later prints. prints; front = λ later begins. begins }
+pub begun : (b : Book) (lines : List Line) → SoFar b lines b lines []
+begun b lines = record { whole = λ u later prints. prints; front = λ later begins. begins }
 
 pub more :
-    (b : Book) (drawn : List (List ℕ)) (all : List Line) (now next : Book) (left rest : List (List ℕ)) (line : Line) (lines : List Line) (text own : List ℕ)
-    → SoFar b drawn all now left (line ∷ lines) text → PrintsLine now left line next rest own
-    → SoFar b drawn all next rest lines (text ++ own)
-more b drawn all now next left rest line lines text own so_far prints = record {
+    (b : Book) (all : List Line) (now next : Book) (line : Line) (lines : List Line) (text own : List ℕ)
+    → SoFar b all now (line ∷ lines) text → PrintsLine now line next own → SoFar b all next lines (text ++ own)
+more b all now next line lines text own so_far prints = record {
   whole = λ u later others.
-      subst (λ t. PrintsLines b drawn all u t) (sym (append_assoc text own later))
-      (so_far.whole u (own ++ later) (next, rest, own, later, prints, others, refl));
+      subst (λ t. PrintsLines b all u t) (sym (append_assoc text own later))
+      (so_far.whole u (own ++ later) (next, own, later, prints, others, refl));
   front = λ later others.
-      subst (λ t. BeginsLines b drawn all t) (sym (append_assoc text own later))
-      (so_far.front (own ++ later) (inr (next, rest, own, later, prints, others, refl)));
+      subst (λ t. BeginsLines b all t) (sym (append_assoc text own later))
+      (so_far.front (own ++ later) (inr (next, own, later, prints, others, refl)));
 }
 
-pub ended :
-    (b : Book) (drawn : List (List ℕ)) (all : List Line) (now : Book) (text : List ℕ) → SoFar b drawn all now [] [] text → PrintsLines b drawn all now text
-ended b drawn all now text so_far =
-    subst (λ t. PrintsLines b drawn all now t) (append-nil text) (so_far.whole now [] (refl, refl, refl))
-
--- a line that wants words finds some, and what is left is as many as the other lines want
-abbrev pub Suffice : List (List ℕ) → List Line → Type 0
-Suffice left lines = length left ≡ length (filter wants_words lines)
-
-pub suffice_more :
-    (now next : Book) (left rest : List (List ℕ)) (line : Line) (lines : List Line) (own : List ℕ)
-    → Suffice left (line ∷ lines) → PrintsLine now left line next rest own → Suffice rest lines
-suffice_more now next left rest (Step event None) lines own suffice (words, e, p) = let f = ap length e in omega (arith, suffice, f)
-suffice_more now next left rest (Step event (Some given)) lines own suffice (words, (w, e), p) = ap length e ∙ suffice
-suffice_more now next left rest (Show id) lines own suffice (b, e, p) = ap length e ∙ suffice
-suffice_more now next left rest Packets lines own suffice (b, e, p) = ap length e ∙ suffice
-suffice_more now next left rest (Certificate moment) lines own suffice (b, e, p) = ap length e ∙ suffice
+pub ended : (b : Book) (all : List Line) (now : Book) (text : List ℕ) → SoFar b all now [] text
+    → PrintsLines b all now text
+ended b all now text so_far = subst (λ t. PrintsLines b all now t) (append-nil text) (so_far.whole now [] (refl, refl))
 
 -- one packet more is printed, at the place behind these
 pub packets_more :
@@ -97,10 +82,7 @@ packets_next all place to packet text bytes line within is its spelling line_is 
     subst (λ ps. PrintsPackets 0 ps (text ++ line)) next
     (subst (λ t. PrintsPackets 0 (take place all ++ packet ∷ []) (text ++ t)) own (packets_more 0 (take place all) packet text bytes prints spelling))
 
-pub none_left : (left : List (List ℕ)) → Suffice left [] → left ≡ []
-none_left left suffice = nil_from_length left suffice
-
--- what is no want of memory is a fault of the file
+-- what names a line is a fault of the file
 pub of_the_file : (bytes : List ℕ) (f : RunFault) → IsFaulty bytes f ⊎ (f ≡ OutOfMemory) → IsTrue (is_some (line_of f)) → IsFaulty bytes f
 of_the_file bytes f (inl faulty) named = faulty
 of_the_file bytes f (inr memory) named =

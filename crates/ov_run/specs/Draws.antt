@@ -10,8 +10,9 @@ use Rattle.ov_words.specs.Stream.{AreOutputs}
 unfoldable pub seeded : ℕ → Stream
 seeded seed = stream_of (steps_u64_low pcg64) (pcg64_of_seed (pcg32_seed 32 seed))
 
--- each event has the next 64 answers of a generator with this stream to `next_u64`, event after event, and `left` is its stream
--- after these calls
+-- each event has the next 64 answers of a generator with this stream to `next_u64`, event after event, and `left` is
+-- its stream after these calls
 abbrev pub AreDraws : Stream → List (List ℕ) → Stream → Type 0
 AreDraws stream [] left = left ≡ stream
-AreDraws stream (words ∷ rest) left = (length words ≡ 64) × ((later : Stream) × AreOutputs stream words later × AreDraws later rest left)
+AreDraws stream (words ∷ rest) left =
+    (length words ≡ 64) × ((later : Stream) × AreOutputs stream words later × AreDraws later rest left)

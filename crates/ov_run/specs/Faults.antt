@@ -1,4 +1,5 @@
--- The numbers of the faults, the lines that they name, and what a run adds to the counts of failures of its reader and its writer.
+-- The numbers of the faults, the lines that they name, and what a run adds to the counts of failures of its reader and
+-- its writer.
 use Rattle.std.specs.Prelude.{◌≡◌, ◌⊎◌, ℕ, Option, Some, None, Result, Ok, Err}
 use Rattle.ov_certfile.specs.declared.input.ReadFault.{ReadFault}
 use Rattle.ov_certfile.specs.declared.input.ReadFault.TheVariants as read
@@ -43,6 +44,6 @@ write_failures (Err Read) = 0
 write_failures (Err Write) = 1
 write_failures (Err OutOfMemory) = 0
 
--- the fault is the writer's, or want of memory
+-- the fault is the writer's, or out of memory
 abbrev pub IsOfWriting : RunFault → Type 0
 IsOfWriting fault = (fault ≡ Write) ⊎ (fault ≡ OutOfMemory)

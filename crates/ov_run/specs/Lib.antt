@@ -1,13 +1,11 @@
 pub mod Begun
 pub mod Draws
 pub mod Faults
-pub mod Folding
+pub mod Lines
 pub mod Printed
 pub mod Reading
 pub mod Running
 pub mod Scenarios
-pub mod Spaced
 pub mod Statements
-pub mod Taking
-pub mod Tells
 pub mod Wanted
+pub mod Code

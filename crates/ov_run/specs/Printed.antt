@@ -17,11 +17,13 @@ change_text (Gone a) = codes " gone " ++ decimal a
 -- who delivered, the origin of the broadcast, and its number among the broadcasts of that origin
 abbrev pub delivery_text : Option Delivery → List ℕ
 delivery_text None = []
-delivery_text (Some d) = codes " delivered " ++ (decimal d.node ++ (codes " " ++ (decimal d.id.origin ++ (codes " " ++ decimal d.id.seq))))
+delivery_text (Some d) =
+    codes " delivered " ++ (decimal d.node ++ (codes " " ++ (decimal d.id.origin ++ (codes " " ++ decimal d.id.seq))))
 
 -- an accepted event: its number, the changes in order, and what was delivered
 unfoldable pub entry_line : Entry → List ℕ
-entry_line e = codes "entry " ++ (decimal e.number ++ (flat_map change_text e.changes ++ (delivery_text e.delivery ++ codes "\n")))
+entry_line e =
+    codes "entry " ++ (decimal e.number ++ (flat_map change_text e.changes ++ (delivery_text e.delivery ++ codes "\n")))
 
 -- a refusal, with its number
 unfoldable pub refused_line : ℕ → List ℕ
@@ -38,4 +40,6 @@ node_line id p =
 
 -- a packet's place, whom it is for, and its bytes, two digits for each, in lower case
 unfoldable pub packet_line : ℕ → ℕ → List ℕ → List ℕ
-packet_line place to bytes = codes "packet " ++ (decimal place ++ (codes " to " ++ (decimal to ++ (codes " " ++ (encode_lower bytes ++ codes "\n")))))
+packet_line place to bytes =
+    codes "packet "
+    ++ (decimal place ++ (codes " to " ++ (decimal to ++ (codes " " ++ (encode_lower bytes ++ codes "\n")))))

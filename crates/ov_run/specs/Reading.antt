@@ -1,10 +1,10 @@
 -- The faults of a scenario file, and the lines that they name.
-use Rattle.std.specs.Prelude.{ℕ, ◌≤◌, ⊤, List, length, Option, IfSome}
+use Rattle.std.specs.Prelude.{ℕ, ◌≤◌, ⊤, List, length}
 use Rattle.ov_ids.specs.Limits.{Limits}
 use Rattle.ov_run.specs.declared.fault.RunFault.{RunFault}
 use Rattle.ov_run.specs.declared.fault.RunFault.TheVariants.{Line, Params, Read, Write, OutOfMemory}
 
--- want of memory, or the fault of one of the lines up to this one, which are counted from 1; no fault of a device
+-- out of memory, or the fault of one of the lines up to this one, which are counted from 1; no fault of a device
 abbrev pub IsUpTo : ℕ → RunFault → Type 0
 IsUpTo last (Line n) = (1 ≤ n) × (n ≤ last)
 IsUpTo last (Params n) = (1 ≤ n) × (n ≤ last)
@@ -15,18 +15,6 @@ IsUpTo last OutOfMemory = ⊤
 -- the same of a file, which has no more lines than bytes
 abbrev pub IsOfALine : List ℕ → RunFault → Type 0
 IsOfALine bytes fault = IsUpTo (length bytes) fault
-
--- the fault of a line, and not want of memory
-abbrev pub NamesLine : RunFault → Type 0
-NamesLine (Line n) = ⊤
-NamesLine (Params n) = ⊤
-NamesLine Read = ⊥
-NamesLine Write = ⊥
-NamesLine OutOfMemory = ⊥
-
--- where words wait for an event, they stand on one of the lines up to this one
-abbrev pub WaitsUpTo : ℕ → Option (ℕ × List ℕ) → Type 0
-WaitsUpTo last words = IfSome words (λ w. (1 ≤ w.0) × (w.0 ≤ last))
 
 -- the parameters where no line gives any
 abbrev pub default_limits : Limits

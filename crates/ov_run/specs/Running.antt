@@ -1,9 +1,8 @@
--- What a scenario prints as it runs: b is the book before, and u after. The books are those of a world with its reports; what an
--- event does to them is `Happened`, and why it is refused `IsRefusal`.
-use Rattle.std.specs.Prelude.{◌≡◌, ◌⊎◌, ℕ, ◌+◌, Bool, true, false, List, [], ◌∷◌, ◌++◌, length, Option, Some, None, IfSome, codes}
+-- What a scenario prints as it runs: b is the book before, and u after. The books are those of a world with its
+-- reports; what an event does to them is `Happened`, and why it is refused `IsRefusal`.
+use Rattle.std.specs.Prelude.{◌≡◌, ◌⊎◌, ℕ, ◌+◌, List, [], ◌∷◌, ◌++◌, length, Option, None, IfSome, codes}
 use Rattle.std.specs.FinMap as map
 use Rattle.std.specs.Io.KnownBytes.{Appends}
-use Rattle.rand_core.specs.Stream.{Stream}
 use Rattle.serde_json.specs.Written.{compact_text}
 use Rattle.ov_certfile.specs.DataOf.{data_of}
 use Rattle.ov_wire.specs.Messages.{Spelling}
@@ -17,31 +16,21 @@ use Rattle.ov_net.specs.declared.fault.NetFault.{NetFault}
 use Rattle.ov_snap.specs.Book.{Book, HasReport, unwritten}
 use Rattle.ov_snap.specs.Exact.{Reported}
 use Rattle.ov_snap.specs.Run.{Happened}
-use Rattle.ov_run.specs.Draws.{AreDraws, seeded}
 use Rattle.ov_run.specs.Printed.{entry_line, refused_line, node_line, packet_line}
 use Rattle.ov_run.specs.Scenarios.{IsScenario}
 use Rattle.ov_run.specs.declared.line.Line.{Line}
-use Rattle.ov_run.specs.declared.line.Line.TheVariants.{Step, Show, Packets, Certificate}
+use Rattle.ov_run.specs.declared.line.Line.TheVariants as line
+use Rattle.ov_run.specs.declared.line.Look.{Look}
+use Rattle.ov_run.specs.declared.line.Look.TheVariants.{Show, Packets, Certificate}
 use Rattle.ov_run.specs.declared.line.Scenario.{Scenario}
 
--- the words of an event: those that its line gives, or else the next of those that are drawn, of which `left` are left
-abbrev pub AreWordsOf : Option (List ℕ) → List (List ℕ) → List ℕ → List (List ℕ) → Type 0
-AreWordsOf (Some given) drawn words left = (words ≡ given) × (left ≡ drawn)
-AreWordsOf None drawn words left = drawn ≡ words ∷ left
-
--- the line is of an event, and gives no words
-abbrev pub wants_words : Line → Bool
-wants_words (Step event None) = true
-wants_words (Step event (Some given)) = false
-wants_words (Show id) = false
-wants_words Packets = false
-wants_words (Certificate moment) = false
-
--- an event happens and its entry is printed, or it is refused, nothing changes, and the number of the refusal is printed
+-- an event happens and its entry is printed, or it is refused, nothing changes, and the number of the refusal is
+-- printed
 abbrev pub PrintsEvent : Book → Event → List ℕ → Book → List ℕ → Type 0
 PrintsEvent b event words u text =
     ((e : Entry) × Happened b event words e u × (text ≡ entry_line e))
-    ⊎ ((fault : NetFault) × net.IsRefusal b.world.net (length b.world.journal) event fault × (u ≡ b) × (text ≡ refused_line (net.number_of fault)))
+    ⊎ ((fault : NetFault) × net.IsRefusal b.world.net (length b.world.journal) event fault × (u ≡ b)
+    × (text ≡ refused_line (net.number_of fault)))
 
 -- the views of a node that lives; one that was never born is refused with 10, and one that crashed with 12
 abbrev pub PrintsNode : Net → ℕ → List ℕ → Type 0
@@ -57,37 +46,41 @@ PrintsPackets place (packet ∷ packets) text =
     (bytes : List ℕ) × (others : List ℕ) × Spelling packet.1 bytes × PrintsPackets (place + 1) packets others
     × (text ≡ packet_line place packet.0 bytes ++ others)
 
--- the certificate file of the report that is filed for this moment, or 99 where memory was wanted for the file; without a report it is
--- refused with 50
+-- the certificate file of the report that is filed for this moment, or 99 where there is no memory for the file;
+-- without a report it is refused with 50
 abbrev pub PrintsReport : Book → ℕ → List ℕ → Type 0
 PrintsReport b moment text =
-    ((r : Reported) × HasReport b moment r × ((text ≡ compact_text (data_of r.cert r.graph r.members r.moment) ++ codes "\n") ⊎ (text ≡ refused_line 99)))
+    ((r : Reported) × HasReport b moment r
+    × ((text ≡ compact_text (data_of r.cert r.graph r.members r.moment) ++ codes "\n") ⊎ (text ≡ refused_line 99)))
     ⊎ ((map.get b.reports moment ≡ None) × (text ≡ refused_line 50))
 
--- one line of a scenario, by what stands drawn before it and what is left afterwards
-abbrev pub PrintsLine : Book → List (List ℕ) → Line → Book → List (List ℕ) → List ℕ → Type 0
-PrintsLine b drawn (Step event given) u left text = (words : List ℕ) × AreWordsOf given drawn words left × PrintsEvent b event words u text
-PrintsLine b drawn (Show id) u left text = (u ≡ b) × (left ≡ drawn) × PrintsNode b.world.net id text
-PrintsLine b drawn Packets u left text = (u ≡ b) × (left ≡ drawn) × PrintsPackets 0 b.world.net.packets text
-PrintsLine b drawn (Certificate moment) u left text = (u ≡ b) × (left ≡ drawn) × PrintsReport b moment text
+-- what is looked at
+abbrev pub PrintsLook : Book → Look → List ℕ → Type 0
+PrintsLook b (Show id) text = PrintsNode b.world.net id text
+PrintsLook b Packets text = PrintsPackets 0 b.world.net.packets text
+PrintsLook b (Certificate moment) text = PrintsReport b moment text
 
--- the lines in order. All that was drawn is used up
-abbrev pub PrintsLines : Book → List (List ℕ) → List Line → Book → List ℕ → Type 0
-PrintsLines b drawn [] u text = (u ≡ b) × (drawn ≡ []) × (text ≡ [])
-PrintsLines b drawn (line ∷ lines) u text =
-    (next : Book) × (left : List (List ℕ)) × (own : List ℕ) × (others : List ℕ)
-    × PrintsLine b drawn line next left own × PrintsLines next left lines u others × (text ≡ own ++ others)
+-- one line of a scenario
+abbrev pub PrintsLine : Book → Line → Book → List ℕ → Type 0
+PrintsLine b (line.Event event words) u text = PrintsEvent b event words u text
+PrintsLine b (line.Look look) u text = (u ≡ b) × PrintsLook b look text
 
--- these bytes say this scenario; words were drawn from the generator that its seed gives; and this is the text of its lines, which
--- begin with a world in which nothing happened
+-- the lines in order
+abbrev pub PrintsLines : Book → List Line → Book → List ℕ → Type 0
+PrintsLines b [] u text = (u ≡ b) × (text ≡ [])
+PrintsLines b (line ∷ lines) u text =
+    (next : Book) × (own : List ℕ) × (others : List ℕ) × PrintsLine b line next own × PrintsLines next lines u others
+    × (text ≡ own ++ others)
+
+-- these bytes say this scenario, and this is the text of its lines, which begin with a world in which nothing happened
 pub record IsOutput (bytes text : List ℕ) : Type 0 where
   pub scenario : Scenario
   pub says : IsScenario bytes scenario
-  pub drawn : List (List ℕ)
-  pub draws : (left : Stream) × AreDraws (seeded scenario.seed) drawn left
   pub book : Book
-  pub lines : PrintsLines (unwritten scenario.params) drawn scenario.lines.items book text
+  pub lines : PrintsLines (unwritten scenario.params) scenario.lines.items book text
 
 -- all that the reader had was read, and what it comes to went to the end of what the writer holds
 abbrev pub Prints : Option (List ℕ) → Option (List ℕ) → Option (List ℕ) → Type 0
-Prints reader before after = (bytes : List ℕ) × (text : List ℕ) × IfSome reader (λ xs. bytes ≡ xs) × IsOutput bytes text × Appends before after text
+Prints reader before after =
+    (bytes : List ℕ) × (text : List ℕ) × IfSome reader (λ xs. bytes ≡ xs) × IsOutput bytes text
+    × Appends before after text

@@ -1,41 +1,39 @@
--- What a scenario file says, and the first fault of one that says nothing. Both are said of its lines that are not skipped, each with
--- those before it and those behind it.
-use Rattle.std.specs.Prelude.{◌≡◌, ◌⊎◌, ℕ, ◌+◌, ◌<◌, List, [], ◌∷◌, ◌++◌, length, Option, Some, None, if◌then◌else◌}
-use Rattle.std.specs.Str.Lines.{lines}
+-- What a scenario file says, and the first fault of one that says nothing. Both are said of its lines that are not
+-- skipped, each with those before it and those behind it.
+use Rattle.std.specs.Prelude.{◌≡◌, ◌⊎◌, ℕ, ◌<◌, List, [], ◌∷◌, ◌++◌, length, map, Option, Some, None}
+use Rattle.rand_core.specs.Stream.{Stream}
 use Rattle.ov_ids.specs.Limits.{Limits, AreWithinLimits}
 use Rattle.ov_ids.specs.Members.{Has}
 use Rattle.ov_net.specs.declared.event.Event.{Event}
+use Rattle.ov_run.specs.Draws.{AreDraws, seeded}
+use Rattle.ov_run.specs.Lines.{kept_lines}
 use Rattle.ov_run.specs.Reading.{default_limits}
-use Rattle.ov_run.specs.Statements.{is_skipped, statement_of}
+use Rattle.ov_run.specs.Statements.{statement_of}
 use Rattle.ov_run.specs.declared.fault.RunFault.{RunFault}
 use Rattle.ov_run.specs.declared.fault.RunFault.TheVariants as fault
 use Rattle.ov_run.specs.declared.line.Line.{Line}
-use Rattle.ov_run.specs.declared.line.Line.TheVariants.{Step}
+use Rattle.ov_run.specs.declared.line.Line.TheVariants as line
 use Rattle.ov_run.specs.declared.line.Scenario.{Scenario}
+use Rattle.ov_run.specs.declared.statement.Stated.{Stated}
 use Rattle.ov_run.specs.declared.statement.Statement.{Statement}
 use Rattle.ov_run.specs.declared.statement.Statement.TheVariants as says
 
--- a line that is not skipped: its number, and what it says, none where it can't be read
-abbrev pub Stated : Type 0
-Stated = ℕ × Option Statement
+-- the line of this number says what its bytes say
+abbrev pub stated_at : ℕ × List ℕ → Stated
+stated_at line = record { number = line.0; says = statement_of line.1 }
 
--- those of these lines that are not skipped, in order, where the first of all has this number
-unfoldable pub stated_from : ℕ → List (List ℕ) → List Stated
-stated_from n [] = []
-stated_from n (line ∷ more) = (if is_skipped line then [] else (n, statement_of line) ∷ []) ++ stated_from (n + 1) more
-
--- the lines of a file that are not skipped. All lines are counted, from 1. They end by a line feed, which the last may lack, and one
--- carriage return right before it is dropped
+-- the lines of a file that are not skipped, in order: the number of each, and what it says, none where it can't be read
 unfoldable pub stated_lines : List ℕ → List Stated
-stated_lines bytes = stated_from 1 (lines bytes)
+stated_lines bytes = map stated_at (kept_lines bytes)
 
 -- one of these lines is of this kind
 abbrev pub HasKind : {A : Type 0} → (A → Statement) → List Stated → Type 0
-HasKind {A} kind lines = (n : ℕ) × (x : A) × Has lines (n, Some (kind x))
+HasKind {A} kind lines = (line : Stated) × (x : A) × Has lines line × (line.says ≡ Some (kind x))
 
 -- the first of these lines is an event
 abbrev pub BeginWithEvent : List Stated → Type 0
-BeginWithEvent lines = (n : ℕ) × (event : Event) × (more : List Stated) × (lines ≡ (n, Some (says.Event event)) ∷ more)
+BeginWithEvent [] = ⊥
+BeginWithEvent (line ∷ more) = (event : Event) × (line.says ≡ Some (says.Event event))
 
 -- a line of this kind comes too late behind these lines: one of them is an event, or of this kind too
 abbrev pub ComesTooLate : {A : Type 0} → (A → Statement) → List Stated → Type 0
@@ -46,56 +44,79 @@ abbrev pub AreParams : List ℕ → Limits → Type 0
 AreParams numbers p =
     (numbers ≡ p.active ∷ p.passive ∷ p.arwl ∷ p.prwl ∷ p.ka ∷ p.kp ∷ p.shuffle_ttl ∷ []) × AreWithinLimits p
 
--- the line that has these before it and these behind it is at fault, and this is its fault
-abbrev pub IsAtFault : List Stated → Stated → List Stated → RunFault → Type 0
+-- the line of this number, which says this, with these before it and these behind it, is at fault, and this is its
+-- fault
+abbrev pub IsAtFault : List Stated → ℕ → Option Statement → List Stated → RunFault → Type 0
 -- a line that can't be read
-IsAtFault before (n, None) behind f = f ≡ fault.Line n
+IsAtFault before n None behind f = f ≡ fault.Line n
 -- words that no event follows
-IsAtFault before (n, Some (says.Words words)) behind f = (¬ BeginWithEvent behind) × (f ≡ fault.Line n)
+IsAtFault before n (Some (says.Words words)) behind f = (¬ BeginWithEvent behind) × (f ≡ fault.Line n)
 -- a seed that comes too late
-IsAtFault before (n, Some (says.Seed seed)) behind f = ComesTooLate says.Seed before × (f ≡ fault.Line n)
+IsAtFault before n (Some (says.Seed seed)) behind f = ComesTooLate says.Seed before × (f ≡ fault.Line n)
 -- parameters that come too late, or do not and are out of their limits
-IsAtFault before (n, Some (says.Params numbers)) behind f =
+IsAtFault before n (Some (says.Params numbers)) behind f =
     (ComesTooLate says.Params before × (f ≡ fault.Line n))
     ⊎ ((¬ ComesTooLate says.Params before) × (¬ ((p : Limits) × AreParams numbers p)) × (f ≡ fault.Params n))
 -- an event and a look never are
-IsAtFault before (n, Some (says.Event event)) behind f = ⊥
-IsAtFault before (n, Some (says.Look line)) behind f = ⊥
+IsAtFault before n (Some (says.Event event)) behind f = ⊥
+IsAtFault before n (Some (says.Look look)) behind f = ⊥
 
 -- the line that has so many before it is at fault, and this is its fault
 unfoldable pub IsFaultAt : List Stated → ℕ → RunFault → Type 0
 IsFaultAt lines place f =
     (before : List Stated) × (line : Stated) × (behind : List Stated)
-    × (lines ≡ before ++ line ∷ behind) × (length before ≡ place) × IsAtFault before line behind f
+    × (lines ≡ before ++ line ∷ behind) × (length before ≡ place) × IsAtFault before line.number line.says behind f
 
--- the first line at fault has this fault: a line has it, and none before that line is at fault
-pub record IsFaulty (bytes : List ℕ) (f : RunFault) : Type 0 where
+-- no line is at fault
+abbrev pub AreFaultless : List Stated → Type 0
+AreFaultless lines = (place : ℕ) (f : RunFault) → ¬ IsFaultAt lines place f
+
+-- the first of these lines at fault has this fault: a line has it, and none before that line is at fault
+pub record IsFirstFault (lines : List Stated) (f : RunFault) : Type 0 where
   pub place : ℕ
-  pub at_fault : IsFaultAt (stated_lines bytes) place f
-  pub first : (earlier : ℕ) (other : RunFault) → earlier < place → ¬ IsFaultAt (stated_lines bytes) earlier other
+  pub at_fault : IsFaultAt lines place f
+  pub first : (earlier : ℕ) (other : RunFault) → earlier < place → ¬ IsFaultAt lines earlier other
 
--- what these lines ask for: the events and the looks, in order, each event with the words that stand right before it if any do
-abbrev pub to_do : List Stated → List Line
-to_do [] = []
-to_do ((n, Some (says.Words words)) ∷ (m, Some (says.Event event)) ∷ more) = Step event (Some words) ∷ to_do more
-to_do ((n, Some (says.Event event)) ∷ more) = Step event None ∷ to_do more
-to_do ((n, Some (says.Look line)) ∷ more) = line ∷ to_do more
-to_do (other ∷ more) = to_do more
+-- the first line of a file at fault has this fault
+abbrev pub IsFaulty : List ℕ → RunFault → Type 0
+IsFaulty bytes f = IsFirstFault (stated_lines bytes) f
 
 -- the parameters by these lines: those that one of them gives, or the usual ones where none gives any
 unfoldable pub AreParamsOf : List Stated → Limits → Type 0
 AreParamsOf lines p =
-    ((n : ℕ) × (numbers : List ℕ) × Has lines (n, Some (says.Params numbers)) × AreParams numbers p)
+    ((line : Stated) × (numbers : List ℕ) × Has lines line × (line.says ≡ Some (says.Params numbers))
+    × AreParams numbers p)
     ⊎ ((¬ HasKind says.Params lines) × (p ≡ default_limits))
 
 -- the seed by these lines: the one that one of them gives, or 0 where none does
 unfoldable pub IsSeedOf : List Stated → ℕ → Type 0
-IsSeedOf lines seed = ((n : ℕ) × Has lines (n, Some (says.Seed seed))) ⊎ ((¬ HasKind says.Seed lines) × (seed ≡ 0))
+IsSeedOf lines seed =
+    ((line : Stated) × Has lines line × (line.says ≡ Some (says.Seed seed)))
+    ⊎ ((¬ HasKind says.Seed lines) × (seed ≡ 0))
 
--- the bytes of a file say this scenario: no line is at fault, the parameters and the seed are those by the lines, and what is to be done
--- is what the lines ask for
+-- what lines that say this ask for, where these words were drawn: the events and the looks in order, each event with
+-- the words that stand right before it, or else with the next that were drawn. All that were drawn are used
+unfoldable pub AskFor : List (Option Statement) → List (List ℕ) → List Line → Type 0
+AskFor [] drawn lines = (drawn ≡ []) × (lines ≡ [])
+AskFor (Some (says.Words words) ∷ Some (says.Event event) ∷ more) drawn lines =
+    (later : List Line) × (lines ≡ line.Event event words ∷ later) × AskFor more drawn later
+AskFor (Some (says.Event event) ∷ more) drawn lines =
+    (words : List ℕ) × (left : List (List ℕ)) × (later : List Line)
+    × (drawn ≡ words ∷ left) × (lines ≡ line.Event event words ∷ later) × AskFor more left later
+AskFor (Some (says.Look look) ∷ more) drawn lines =
+    (later : List Line) × (lines ≡ line.Look look ∷ later) × AskFor more drawn later
+AskFor (other ∷ more) drawn lines = AskFor more drawn lines
+
+-- the lines to run are what these lines ask for, with words that are drawn from the generator that the seed gives
+abbrev pub AreToRun : List Stated → ℕ → List Line → Type 0
+AreToRun lines seed to_run =
+    (drawn : List (List ℕ)) × (left : Stream) × AreDraws (seeded seed) drawn left
+    × AskFor (map (λ line. line.says) lines) drawn to_run
+
+-- the bytes of a file say this scenario: no line is at fault, the parameters and the seed are those by the lines, and
+-- the lines to run are what they ask for
 pub record IsScenario (bytes : List ℕ) (s : Scenario) : Type 0 where
-  pub faultless : (place : ℕ) (f : RunFault) → ¬ IsFaultAt (stated_lines bytes) place f
+  pub faultless : AreFaultless (stated_lines bytes)
   pub params : AreParamsOf (stated_lines bytes) s.params
   pub seed : IsSeedOf (stated_lines bytes) s.seed
-  pub same_lines : s.lines.items ≡ to_do (stated_lines bytes)
+  pub lines : AreToRun (stated_lines bytes) s.seed s.lines.items

@@ -1,6 +1,6 @@
 ghost use Rattle.std.specs.Prelude.{◌≡◌, ◌==◌, ◌∷◌, [], length, drop, IfSome, MatchOption};
-ghost use Rattle.ov_run.specs.Statements.{words_of, behind_word, without_space, one, two, three};
-ghost use Rattle.ov_run.specs.Tells.{first_number};
+ghost use Rattle.ov_run.specs.Lines.{words_of, behind_word, without_space, one, two, three};
+ghost use Rattle.ov_run.specs.Code.Spaced.{first_number};
 
 use crate::number::{read_number, read_short_number};
 use crate::splitting::split_word;
@@ -23,7 +23,8 @@ impl<'a> Cursor<'a> {
     /// Reads the next word, if there is one.
     #[tactic(auto, using(crate::proofs::Parted::words_none, crate::proofs::Parted::words_some))]
     pub(crate) fn word(&mut self) -> Option<&'a [u8]>
-        ensures word { MatchOption result (words_of self.old.rest.now ≡ []) (λ w. words_of self.old.rest.now ≡ w.now ∷ words_of self.new.rest.now) }
+        ensures word { MatchOption result (words_of self.old.rest.now ≡ [])
+            (λ w. words_of self.old.rest.now ≡ w.now ∷ words_of self.new.rest.now) }
         ensures left { words_of self.new.rest.now ≡ drop 1 (words_of self.old.rest.now) }
         ensures behind { IfSome result (λ _. self.new.rest.now ≡ behind_word self.old.rest.now) }
     {

@@ -2,10 +2,11 @@
 #![tactic(auto)]
 
 mod cursor;
-mod draft;
 mod drawing;
 mod engine;
 mod fault;
+mod judging;
+mod kept_lines;
 mod line;
 mod number;
 mod playing;
@@ -13,14 +14,14 @@ mod printing;
 mod reading;
 mod splitting;
 mod statement;
-mod supply;
 mod text;
+mod turning;
 mod words;
 
 pub use drawing::draw;
 pub use engine::run;
 pub use fault::RunFault;
-pub use line::{Line, Scenario};
+pub use line::{Line, Look, Scenario};
 pub use printing::{entry_line, node_line, packet_line, refused_line};
 pub use reading::read_scenario;
 pub use words::{Wanted, WordsFault, read_words};

@@ -2,11 +2,18 @@ use ov_ids::{NodeId, Params};
 use ov_net::Event;
 use ov_words::Words;
 
-/// What a line of a scenario asks for.
+/// A line of a scenario that is run.
 #[derive(Debug, Drop)]
 pub enum Line {
-    /// That an event happens, with these words, or with words that the seed gives.
-    Step { event: Event, words: Option<Words> },
+    /// An event happens, with these words.
+    Event { event: Event, words: Words },
+    /// Something is looked at, and nothing changes.
+    Look(Look),
+}
+
+/// What is looked at between events.
+#[derive(Clone, Copy, Debug, PartialEq, Eq)]
+pub enum Look {
     /// The views of a node.
     Show(NodeId),
     /// All packets on their way.
@@ -15,7 +22,8 @@ pub enum Line {
     Certificate(u32),
 }
 
-/// What a scenario file asks for: the parameters of all nodes, the seed of the words that no line gives, and the lines in order.
+/// What a scenario file asks for: the parameters of all nodes, the seed of the words that no line gives, and the lines
+/// to run, in order.
 #[derive(Debug, Drop)]
 pub struct Scenario {
     pub params: Params,

@@ -1,6 +1,6 @@
 ghost use Rattle.std.specs.Prelude.{◌≡◌, ◌<◌, ◌^◌, IfSome, IfNone};
 ghost use Rattle.std.specs.Str.Parse.{IsNumeral, digits_value};
-ghost use Rattle.ov_run.specs.Statements.{number_within};
+ghost use Rattle.ov_run.specs.Lines.{number_within};
 
 /// The number that a word of decimal digits spells, where it fits 64 bits. Zeros may lead, and no sign.
 #[tactic(auto, using(crate::proofs::Numerals::numeral_is_text))]

@@ -1,15 +1,16 @@
-ghost use Rattle.std.specs.Prelude.{◌≡◌, ◌≤◌, ◌<◌, ◌+◌, ◌-◌, ◌^◌, ℕ, List, [], ◌∷◌, IfOk, IfErr, IsTrue, OnOk, filter, length, string_bytes};
+ghost use Rattle.std.specs.Prelude.{◌≡◌, ◌⊎◌, ◌≤◌, ◌<◌, ◌+◌, ◌-◌, ◌^◌, ℕ, List, [], ◌∷◌, IfOk, IfErr, OnOk, length};
+ghost use Rattle.std.specs.Prelude.{string_bytes};
 ghost use Rattle.std.specs.Io.KnownBytes.{Appends};
 ghost use Rattle.ov_certfile.specs.Device.{AppendsPrefixOf};
 ghost use Rattle.ov_snap.specs.Book.{Book, unwritten};
-ghost use Rattle.ov_run.specs.Begun.{BeginsLines, BeginsPackets};
+ghost use Rattle.ov_run.specs.Begun.{BeginsLines, BeginsLook, BeginsPackets};
 ghost use Rattle.ov_run.specs.Faults.{write_failures, IsOfWriting};
-ghost use Rattle.ov_run.specs.Running.{PrintsEvent, PrintsNode, PrintsPackets, PrintsReport, PrintsLine, PrintsLines, wants_words};
+ghost use Rattle.ov_run.specs.Running.{PrintsEvent, PrintsNode, PrintsPackets, PrintsReport, PrintsLook, PrintsLine};
+ghost use Rattle.ov_run.specs.Running.{PrintsLines};
 
 use crate::fault::RunFault;
-use crate::line::Line;
+use crate::line::{Line, Look};
 use crate::printing::{entry_line, node_line, packet_line, refused_line};
-use crate::supply::Supply;
 use ov_certfile::{Sink, to_text_group};
 use ov_ids::{NodeId, OutOfMemory, Params};
 use ov_net::{Event, MAX_ENTRIES, NetFault, Packet, World};
@@ -23,22 +24,19 @@ pub(crate) fn play<W: Write>(
     alloc: Global,
     params: Params,
     lines: Vec<Line>,
-    words: &[Words],
     sink: &mut Sink<W>,
 ) -> Result<(), RunFault>
     requires faults { sink.old.faults < 2 ^ 64 - 1 }
-    requires words { length words.now ≡ length (filter wants_words lines.items) }
-    ensures prints { OnOk result ((book : Book) × (text : List ℕ) × PrintsLines (unwritten params) words.now lines.items book text
+    ensures prints { OnOk result ((book : Book) × (text : List ℕ) × PrintsLines (unwritten params) lines.items book text
         × Appends (W.contents sink.old.writer) (W.contents sink.new.writer) text) }
-    ensures begun { (text : List ℕ) × BeginsLines (unwritten params) words.now lines.items text
+    ensures begun { (text : List ℕ) × BeginsLines (unwritten params) lines.items text
         × AppendsPrefixOf text (W.contents sink.old.writer) (W.contents sink.new.writer) }
     ensures faults { sink.new.faults ≡ sink.old.faults + write_failures result }
     ensures kind { IfErr result IsOfWriting }
 {
     let mut core = Core::new(alloc, params);
-    let mut supply = Supply::new(words);
     for line in lines {
-        play_line(alloc, &mut core, &mut supply, line, sink)?;
+        play_line(alloc, &mut core, line, sink)?;
     }
     Ok(())
 }
@@ -47,26 +45,24 @@ pub(crate) fn play<W: Write>(
 fn play_line<W: Write>(
     alloc: Global,
     core: &mut Core,
-    supply: &mut Supply,
     line: Line,
     sink: &mut Sink<W>,
 ) -> Result<(), RunFault>
     requires faults { sink.old.faults < 2 ^ 64 - 1 }
-    requires words { IsTrue (wants_words line) → 0 < length supply.old.rest.now }
-    ensures prints { OnOk result ((text : List ℕ) × PrintsLine core.old supply.old.rest.now line core.new supply.new.rest.now text
+    ensures prints { OnOk result ((text : List ℕ) × PrintsLine core.old line core.new text
         × Appends (W.contents sink.old.writer) (W.contents sink.new.writer) text) }
-    ensures begun { (text : List ℕ) × BeginsLines core.old supply.old.rest.now (line ∷ []) text
+    ensures begun { (text : List ℕ) × BeginsLines core.old (line ∷ []) text
         × AppendsPrefixOf text (W.contents sink.old.writer) (W.contents sink.new.writer) }
     ensures faults { sink.new.faults ≡ sink.old.faults + write_failures result }
     ensures kind { IfErr result IsOfWriting }
 {
-    let text = match line {
-        Line::Step { event, words } => event_text(alloc, core, event, &supply.words_of(words))?,
-        Line::Show(id) => node_text(alloc, core.world(), id)?,
-        Line::Packets => return write_packets(alloc, core.world().packets(), sink),
-        Line::Certificate(moment) => report_text(alloc, core, moment)?,
-    };
-    Ok(sink.write_all(text.as_bytes())?)
+    match line {
+        Line::Event { event, words } => {
+            let text = event_text(alloc, core, event, &words)?;
+            Ok(sink.write_all(text.as_bytes())?)
+        }
+        Line::Look(look) => write_look(alloc, core, look, sink),
+    }
 }
 
 /// Lets an event happen, or be refused. It answers what is printed of that.
@@ -84,6 +80,29 @@ fn event_text(
     }
 }
 
+/// Writes what is printed of what is looked at.
+fn write_look<W: Write>(
+    alloc: Global,
+    core: &Core,
+    look: Look,
+    sink: &mut Sink<W>,
+) -> Result<(), RunFault>
+    requires faults { sink.old.faults < 2 ^ 64 - 1 }
+    ensures prints { OnOk result ((text : List ℕ) × PrintsLook core.now look text
+        × Appends (W.contents sink.old.writer) (W.contents sink.new.writer) text) }
+    ensures begun { (text : List ℕ) × (BeginsLook core.now look text ⊎ PrintsLook core.now look text)
+        × AppendsPrefixOf text (W.contents sink.old.writer) (W.contents sink.new.writer) }
+    ensures faults { sink.new.faults ≡ sink.old.faults + write_failures result }
+    ensures kind { IfErr result IsOfWriting }
+{
+    let text = match look {
+        Look::Show(id) => node_text(alloc, core.world(), id)?,
+        Look::Packets => return write_packets(alloc, core.world().packets(), sink),
+        Look::Certificate(moment) => report_text(alloc, core, moment)?,
+    };
+    Ok(sink.write_all(text.as_bytes())?)
+}
+
 /// What is printed of a node.
 fn node_text(alloc: Global, world: &World, id: NodeId) -> Result<String, OutOfMemory>
     ensures { IfOk result (λ text. PrintsNode world.now.net id (string_bytes text)) }
@@ -95,7 +114,8 @@ fn node_text(alloc: Global, world: &World, id: NodeId) -> Result<String, OutOfMe
     }
 }
 
-/// What is printed of the report that is filed for a moment: its file, or that there is none, or that memory was wanted for the file.
+/// What is printed of the report that is filed for a moment: its file, or that there is none, or that there was no
+/// memory for the file.
 fn report_text(alloc: Global, core: &Core, moment: u32) -> Result<String, OutOfMemory>
     ensures { IfOk result (λ text. PrintsReport core.now moment (string_bytes text)) }
 {
@@ -121,7 +141,8 @@ fn write_packets<W: Write>(
     requires few { length packets.now ≤ 65536 }
     ensures prints { OnOk result ((text : List ℕ) × PrintsPackets 0 packets.now text
         × Appends (W.contents sink.old.writer) (W.contents sink.new.writer) text) }
-    ensures begun { (text : List ℕ) × BeginsPackets packets.now text × AppendsPrefixOf text (W.contents sink.old.writer) (W.contents sink.new.writer) }
+    ensures begun { (text : List ℕ) × BeginsPackets packets.now text
+        × AppendsPrefixOf text (W.contents sink.old.writer) (W.contents sink.new.writer) }
     ensures faults { sink.new.faults ≡ sink.old.faults + write_failures result }
     ensures kind { IfErr result IsOfWriting }
 {

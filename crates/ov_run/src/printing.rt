@@ -7,8 +7,8 @@ use ov_net::Entry;
 use ov_peer::Peer;
 use std::alloc::Global;
 
-/// The line of an accepted event: `entry N`, the changes in order, and what was delivered. As every line here it ends with a
-/// line feed.
+/// The line of an accepted event: `entry N`, the changes in order, and what was delivered. As every line here it ends
+/// with a line feed.
 #[tactic(auto, unfolding(crate::specs::Printed::entry_line))]
 pub fn entry_line(alloc: Global, entry: &Entry) -> Result<String, OutOfMemory>
     ensures { IfOk result (λ line. string_bytes line ≡ entry_line entry.now) }
@@ -27,8 +27,8 @@ pub fn refused_line(alloc: Global, number: u32) -> Result<String, OutOfMemory>
     Ok(format!(in alloc; "refused {number}\n")?)
 }
 
-/// The line of a node and its views: `node N active L passive L eager L lazy L`, where each list has commas between its ids, and
-/// is `-` without any.
+/// The line of a node and its views: `node N active L passive L eager L lazy L`, where each list has commas between its
+/// ids, and is `-` without any.
 #[tactic(auto, unfolding(crate::specs::Printed::node_line))]
 pub fn node_line(alloc: Global, id: NodeId, peer: &Peer) -> Result<String, OutOfMemory>
     ensures { IfOk result (λ line. string_bytes line ≡ node_line id peer.now) }

@@ -1,10 +1,11 @@
 ghost use Rattle.std.specs.Prelude.{◌≡◌, ◌<◌, ◌≤◌, length, option_map, IfSome};
 ghost use Rattle.std.specs.List.{position};
-ghost use Rattle.ov_run.specs.Spaced.{is_feed, is_space, is_no_space, place_or_end, without_return, first_line, without_spaces, first_word};
+ghost use Rattle.ov_run.specs.Lines.{is_space, is_no_space, place_or_end, without_spaces};
+ghost use Rattle.ov_run.specs.Code.Spaced.{is_feed, without_return, first_line, first_word};
 
-/// Splits the first line off, without its line feed and without one carriage return before that. Bytes without a line feed
-/// are one line, to their last byte.
-#[tactic(auto, unfolding(crate::specs::Spaced::first_line))]
+/// Splits the first line off, without its line feed and without one carriage return before that. Bytes without a line
+/// feed are one line, to their last byte.
+#[tactic(auto, unfolding(crate::specs::Code::Spaced::first_line))]
 pub(crate) fn split_line(bytes: &[u8]) -> (&[u8], &[u8])
     requires { 0 < length bytes.now }
     ensures line { (result.0.now, result.1.now) ≡ first_line bytes.now }
@@ -23,16 +24,16 @@ fn line_end(bytes: &[u8]) -> Option<usize>
     bytes.iter().position(|byte| *byte == b'\n')
 }
 
-#[tactic(auto, unfolding(crate::specs::Spaced::without_return))]
+#[tactic(auto, unfolding(crate::specs::Code::Spaced::without_return))]
 fn drop_return(line: &[u8]) -> &[u8]
     ensures { result.now ≡ without_return line.now }
 {
     line.strip_suffix(b"\r").unwrap_or(line)
 }
 
-/// Splits the first word off: bytes other than a space, up to the next space or to the end. Spaces before it do not count.
-/// There is none where nothing but spaces is left.
-#[tactic(auto, unfolding(crate::specs::Spaced::first_word))]
+/// Splits the first word off: bytes other than a space, up to the next space or to the end. Spaces before it do not
+/// count. There is none where nothing but spaces is left.
+#[tactic(auto, unfolding(crate::specs::Code::Spaced::first_word))]
 pub(crate) fn split_word(text: &[u8]) -> Option<(&[u8], &[u8])>
     ensures { option_map (λ parts. (parts.0.now, parts.1.now)) result ≡ first_word text.now }
 {

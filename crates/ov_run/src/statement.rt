@@ -1,14 +1,14 @@
-ghost use Rattle.std.specs.Prelude.{◌≡◌, option_map};
-ghost use Rattle.ov_run.specs.Statements.{words_of, same, two, three, seven_numbers, event_words, report_of, timer_of, boot_of, broadcast_of, event_of, named};
-ghost use Rattle.ov_run.specs.Tells.{Tells, TellsOf};
-ghost use Rattle.ov_run.specs.declared.statement.StatementFault.TheVariants.{OutOfMemory as wants_memory};
+ghost use Rattle.std.specs.Prelude.{◌≡◌, IfOk, option_map};
+ghost use Rattle.ov_run.specs.Lines.{words_of, same, two, three};
+ghost use Rattle.ov_run.specs.Statements.{seven_numbers, event_words, report_of, timer_of, boot_of, broadcast_of};
+ghost use Rattle.ov_run.specs.Statements.{event_of, named, statement_of};
 
 use crate::cursor::Cursor;
-use crate::line::Line;
-use ov_ids::{MsgId, NodeId, Seq};
+use crate::line::Look;
+use ov_ids::{MsgId, NodeId, OutOfMemory, Seq};
 use ov_net::Event;
 use ov_words::Words;
-use std::alloc::{AllocError, Global};
+use std::alloc::Global;
 
 /// What one line says by itself, whatever stands before it.
 #[derive(Drop)]
@@ -19,46 +19,30 @@ pub(crate) enum Statement {
     /// The words of the next event.
     Words(Words),
     Event(Event),
-    /// What is looked at between events.
-    Look(Line),
+    Look(Look),
 }
 
-/// Why a line says nothing.
-#[derive(Clone, Copy, Debug, PartialEq, Eq)]
-pub(crate) enum StatementFault {
-    Unreadable,
-    OutOfMemory,
+/// A line that is not skipped.
+#[derive(Drop)]
+pub(crate) struct Stated {
+    /// Its number among all lines of the file, which are counted from 1.
+    pub(crate) number: usize,
+    /// What it says, or nothing where it can't be read.
+    pub(crate) says: Option<Statement>,
 }
 
-impl From<AllocError> for StatementFault {
-    ghost from_gives = { λ _ e. e ≡ wants_memory };
-
-    fn from(_error: AllocError) -> StatementFault {
-        StatementFault::OutOfMemory
-    }
-}
-
-/// Reads one line, of which its end is dropped. An empty line, one of spaces alone and a comment say nothing.
-pub(crate) fn read_statement(
-    alloc: Global,
-    text: &[u8],
-) -> Result<Option<Statement>, StatementFault>
-    ensures { Tells text.now result }
+/// Reads what a line says that is not skipped, of which its end is dropped. There is none where it can't be read.
+pub(crate) fn read_statement(alloc: Global, text: &[u8]) -> Result<Option<Statement>, OutOfMemory>
+    ensures { IfOk result (λ said. said ≡ statement_of text.now) }
 {
     let mut cursor = Cursor::new(text);
     let Some(name) = cursor.word() else {
         return Ok(None);
     };
-    if name.starts_with(b"#") {
-        return Ok(None);
-    }
     if is_word(name, b"broadcast") {
-        return Ok(Some(read_broadcast(alloc, &mut cursor)?));
+        return Ok(read_broadcast(alloc, &mut cursor)?);
     }
-    match read_named(name, &mut cursor) {
-        Some(statement) => Ok(Some(statement)),
-        None => Err(StatementFault::Unreadable),
-    }
+    Ok(read_named(name, &mut cursor))
 }
 
 /// Whether two words are the same.
@@ -69,14 +53,14 @@ fn is_word(word: &[u8], name: &[u8]) -> bool
 }
 
 /// Reads what follows the name `broadcast`: the node, and the payload as it stands behind one space.
-fn read_broadcast(alloc: Global, cursor: &mut Cursor) -> Result<Statement, StatementFault>
-    ensures { TellsOf result (broadcast_of cursor.old.rest.now (words_of cursor.old.rest.now)) }
+fn read_broadcast(alloc: Global, cursor: &mut Cursor) -> Result<Option<Statement>, OutOfMemory>
+    ensures { IfOk result (λ said. said ≡ broadcast_of cursor.old.rest.now (words_of cursor.old.rest.now)) }
 {
     let Some(node) = cursor.id() else {
-        return Err(StatementFault::Unreadable);
+        return Ok(None);
     };
-    let payload = Vec::from_slice(alloc, cursor.after_space())?;
-    Ok(Statement::Event(Event::Broadcast(node, Seq::new(payload))))
+    let payload = Seq::new(Vec::from_slice(alloc, cursor.after_space())?);
+    Ok(Some(Statement::Event(Event::Broadcast(node, payload))))
 }
 
 /// Reads what follows the name of any other line.
@@ -93,13 +77,13 @@ fn read_named(name: &[u8], cursor: &mut Cursor) -> Option<Statement>
         return Some(Statement::Words(read_event_words(cursor)?));
     }
     if is_word(name, b"certificate") {
-        return Some(Statement::Look(Line::Certificate(cursor.last_short_number()?)));
+        return Some(Statement::Look(Look::Certificate(cursor.last_short_number()?)));
     }
     if is_word(name, b"show") {
-        return Some(Statement::Look(Line::Show(cursor.last_id()?)));
+        return Some(Statement::Look(Look::Show(cursor.last_id()?)));
     }
     if is_word(name, b"packets") {
-        return cursor.is_at_end().then_some(Statement::Look(Line::Packets));
+        return cursor.is_at_end().then_some(Statement::Look(Look::Packets));
     }
     Some(Statement::Event(read_event(name, cursor)?))
 }

@@ -65,9 +65,10 @@ impl From<ClapError> for WordsFault {
     }
 }
 
-/// Reads the words that stand behind the program's name: `run [FILE]` or `analyse [FILE] [--workers N] [--certificate]`, and
-/// of no word `run`. A file that is absent or `-` is standard input. N is 1 to 64, in digits alone, and 1 where it is not
-/// given; no option may stand twice. All other words are refused, `--` and those that ask for help too.
+/// Reads the words that stand behind the program's name: `run [FILE]` or `analyse [FILE] [--workers N]
+/// [--certificate]`, and of no word `run`. A file that is absent or `-` is standard input. N is 1 to 64, in digits
+/// alone, and 1 where it is not given; no option may stand twice. All other words are refused, `--` and those that ask
+/// for help too.
 pub fn read_words(alloc: Global, words: &[String]) -> Result<Wanted, WordsFault>
     ensures workers { IfOk result HasWorkersInRange }
 {

@@ -6,8 +6,9 @@ mod runs;
 
 use ov_ids::{NodeId, Params};
 use ov_net::Event;
-use ov_run::{Line, RunFault, Scenario, read_scenario};
+use ov_run::{Line, Look, RunFault, Scenario, draw, read_scenario};
 use ov_test_kit::{message_id, payload, sized, words};
+use ov_words::Words;
 use std::alloc::Global;
 use std::process::Abort;
 use std::test::Fail;
@@ -31,9 +32,16 @@ fn has_lines(
     Ok(scenario)
 }
 
-/// The file is one event without words of its own.
+/// The words of the event at this place among those without words of their own, by this seed.
+fn drawn(alloc: Global, seed: u64, place: usize) -> Result<Words, Fail> {
+    let draws = draw(alloc, seed, place + 1)?;
+    Ok(*draws.last().ok_or("the words of an event")?)
+}
+
+/// The file is one event without words of its own, and without a seed.
 fn is_event(rt: &impl Abort, alloc: Global, bytes: &[u8], event: Event) -> Result<(), Fail> {
-    let _ = has_lines(rt, alloc, bytes, &[Line::Step { event, words: None }])?;
+    let words = drawn(alloc, 0, 0)?;
+    let _ = has_lines(rt, alloc, bytes, &[Line::Event { event, words }])?;
     Ok(())
 }
 
@@ -114,7 +122,11 @@ fn numbers_at_their_limits(rt: HostRuntime) -> Result<(), Fail> {
 #[test]
 fn what_is_looked_at_is_read(rt: HostRuntime) -> Result<(), Fail> {
     let alloc = rt.alloc();
-    let expected = [Line::Show(NodeId(4)), Line::Packets, Line::Certificate(7)];
+    let expected = [
+        Line::Look(Look::Show(NodeId(4))),
+        Line::Look(Look::Packets),
+        Line::Look(Look::Certificate(7)),
+    ];
     let text = b"show 4\npackets\ncertificate 7\nseed 2\nparams 2 30 6 3 3 4 4\n";
     let scenario = has_lines(&rt, alloc, text, &expected)?;
     assert_eq!(rt; scenario.seed, 2);
@@ -285,11 +297,11 @@ static MISPLACED: [(&str, usize); 11] = [
 
 /// The file is a snapshot with these words, and zeros after them.
 fn is_snapshot(rt: &impl Abort, alloc: Global, bytes: &[u8], first: &[u64]) -> Result<(), Fail> {
-    let step = Line::Step {
+    let snapshot = Line::Event {
         event: Event::Snapshot,
-        words: Some(words(first)),
+        words: words(first),
     };
-    let _ = has_lines(rt, alloc, bytes, &[step])?;
+    let _ = has_lines(rt, alloc, bytes, &[snapshot])?;
     Ok(())
 }
 
@@ -313,20 +325,47 @@ fn words_are_for_one_event(rt: HostRuntime) -> Result<(), Fail> {
     let alloc = rt.alloc();
     let five = payload(alloc, b"5")?;
     let expected = [
-        Line::Step {
+        Line::Event {
             event: Event::Deliver(3),
-            words: Some(words(&[5])),
+            words: words(&[5]),
         },
-        Line::Step {
+        Line::Event {
             event: Event::Deliver(3),
-            words: None,
+            words: drawn(alloc, 0, 0)?,
         },
-        Line::Step {
+        Line::Event {
             event: Event::Broadcast(NodeId(4), five),
-            words: Some(words(&[0, 7])),
+            words: words(&[0, 7]),
         },
     ];
     let text = b"words 5\ndeliver 3\ndeliver 3\nwords 0 7\nbroadcast 4 5";
+    let _ = has_lines(&rt, alloc, text, &expected)?;
+    Ok(())
+}
+
+#[test]
+fn events_without_words_have_those_of_the_seed_in_order(rt: HostRuntime) -> Result<(), Fail> {
+    let alloc = rt.alloc();
+    let expected = [
+        Line::Event {
+            event: Event::Lose(1),
+            words: drawn(alloc, 7, 0)?,
+        },
+        Line::Event {
+            event: Event::Lose(2),
+            words: words(&[5]),
+        },
+        Line::Look(Look::Packets),
+        Line::Event {
+            event: Event::Lose(3),
+            words: drawn(alloc, 7, 1)?,
+        },
+        Line::Event {
+            event: Event::Lose(4),
+            words: drawn(alloc, 7, 2)?,
+        },
+    ];
+    let text = b"seed 7\nlose 1\nwords 5\nlose 2\npackets\nlose 3\nlose 4\n";
     let _ = has_lines(&rt, alloc, text, &expected)?;
     Ok(())
 }
@@ -343,12 +382,12 @@ fn with_words(alloc: Global, count: u64) -> Result<String, Fail> {
 
 /// The file with so many words, which are these, has them before its event.
 fn is_boot_with(rt: &impl Abort, alloc: Global, numbers: &[u64]) -> Result<(), Fail> {
-    let step = Line::Step {
+    let boot = Line::Event {
         event: Event::Boot(NodeId(1), None),
-        words: Some(words(numbers)),
+        words: words(numbers),
     };
     let text = with_words(alloc, numbers.len() as u64)?;
-    let _ = has_lines(rt, alloc, text.as_bytes(), &[step])?;
+    let _ = has_lines(rt, alloc, text.as_bytes(), &[boot])?;
     Ok(())
 }
 

@@ -1,8 +1,5 @@
--- What was read is a scenario, and what it prints was written; where the run ended early, a front of it.
+-- What was read is a scenario, and what it prints was written; where the run ended early, a prefix of it.
 use Rattle.std.proofs.Common.{inr, subst}
-use Rattle.ov_snap.specs.Book.{unwritten}
-use Rattle.ov_run.specs.Begun.{BeginsLines}
-use Rattle.ov_run.specs.Running.{PrintsLines}
 use Rattle.ov_run.specs.Scenarios.{IsScenario}
 use Rattle.ov_run.proofs.Begun.{output_begun, all_went}
 use Rattle.ov_run.proofs.engine.run.Goals as goal
@@ -10,17 +7,15 @@ use Rattle.ov_run.proofs.engine.run.Goals as goal
 pub returns-clause-prints : goal.returns-clause-prints
 returns-clause-prints g c =
     let played = c.in_ok-play.ensures.prints in
-    let scenario = c.in_ok-scenario.scenario in (
+    let read = c.in_ok-scenario in (
       c.in_ok-bytes.bytes.items,
       played.1,
       c.in_ok-bytes.ensures.bytes,
       record {
-        scenario = scenario;
-        says = subst (λ bytes. IsScenario bytes scenario) c.deref.ensures.value c.in_ok-scenario.ensures.scenario;
-        drawn = c.in_ok-words.words.items;
-        draws = c.in_ok-words.ensures.draws;
+        scenario = read.scenario;
+        says = subst (λ bytes. IsScenario bytes read.scenario) c.deref.ensures.value read.ensures.scenario;
         book = played.0;
-        lines = subst (λ drawn. PrintsLines (unwritten scenario.params) drawn scenario.lines.items played.0 played.1) c.deref-3.ensures.value played.2;
+        lines = played.2;
       },
       played.3,
     )
@@ -33,18 +28,15 @@ returns-clause-begun g c =
 pub returns-in_err-play-clause-begun : goal.returns-in_err-play-clause-begun
 returns-in_err-play-clause-begun g c =
     let begun = c.in_err-play.ensures.begun in
-    let scenario = c.in_ok-scenario.scenario in
-    let words = c.in_ok-words in
+    let read = c.in_ok-scenario in
     inr (
       c.in_ok-bytes.bytes.items,
       begun.0,
       c.in_ok-bytes.ensures.bytes,
       record {
-        scenario = scenario;
-        says = subst (λ bytes. IsScenario bytes scenario) c.deref.ensures.value c.in_ok-scenario.ensures.scenario;
-        drawn = words.words.items;
-        draws = words.ensures.draws;
-        lines = subst (λ drawn. BeginsLines (unwritten scenario.params) drawn scenario.lines.items begun.0) c.deref-3.ensures.value begun.1;
+        scenario = read.scenario;
+        says = subst (λ bytes. IsScenario bytes read.scenario) c.deref.ensures.value read.ensures.scenario;
+        lines = begun.1;
       },
       begun.2,
     )

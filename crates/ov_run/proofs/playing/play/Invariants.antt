@@ -1,14 +1,13 @@
--- what was printed so far, and that the words suffice for the lines that are left
+-- what was printed so far
 use Rattle.std.proofs.Common.{◌≡◌, ℕ, List}
 use Rattle.std.specs.Io.KnownBytes.{Appends}
 use Rattle.ov_snap.specs.Book.{unwritten}
-use Rattle.ov_run.proofs.Running.{SoFar, Suffice}
+use Rattle.ov_run.proofs.Running.{SoFar}
 use Rattle.ov_run.proofs.playing.play.Given as goal
 
 abbrev pub invariant-loop-line : goal.invariant-loop-line
 invariant-loop-line g l = record {
-  printed : (text : List ℕ) × SoFar (unwritten l.fn.params) l.fn.words l.fn.lines.items l.core l.supply.rest.now l.line-iterator.rest.items text
+  printed : (text : List ℕ) × SoFar (unwritten l.fn.params) l.fn.lines.items l.core l.line-iterator.rest.items text
       × Appends (g.W.Write.contents l.fn.sink.writer) (g.W.Write.contents l.sink.writer) text;
-  suffice : Suffice l.supply.rest.now l.line-iterator.rest.items;
   faults : l.sink.faults ≡ l.fn.sink.faults;
 }

@@ -1,6 +1,6 @@
 -- A word more than there is room for.
 use Rattle.std.proofs.Common.{rules, ◌≡◌, ◌==◌, length, false, sym}
-use Rattle.ov_run.specs.Statements.{words_of}
+use Rattle.ov_run.specs.Lines.{words_of}
 use Rattle.ov_run.proofs.Filling.{full}
 use Rattle.ov_run.proofs.statement.read_event_words.Goals as goal
 

@@ -1,6 +1,6 @@
 -- Nothing is left where there is no first word.
 use Rattle.std.proofs.Common.{rules, ◌≡◌, ◌∙◌, not, is_some}
-use Rattle.ov_run.specs.Spaced.{first_word}
+use Rattle.ov_run.specs.Code.Spaced.{first_word}
 use Rattle.ov_run.proofs.Parted.{none_left}
 use Rattle.ov_run.proofs.cursor.Cursor.is_at_end.Goals as goal
 

@@ -1,6 +1,6 @@
 -- The number of the first word.
 use Rattle.std.proofs.Common.{rules, ◌∙◌, ◌<◌, ◌^◌, IfSome, ap, sym}
-use Rattle.ov_run.specs.Tells.{first_number}
+use Rattle.ov_run.specs.Code.Spaced.{first_number}
 use Rattle.ov_run.proofs.Numerals.{number_read}
 use Rattle.ov_run.proofs.cursor.Cursor.number.Goals as goal
 

@@ -1,0 +1,102 @@
+-- The lines of a file that count, the words of a line, and the numbers that words spell.
+use Rattle.std.specs.Prelude.{ℕ, ◌+◌, ◌^◌, Bool, true, not, nat_lt, nat_eq, ◌&&◌, List, [], ◌∷◌, ◌++◌, length, drop}
+use Rattle.std.specs.Prelude.{codes, Option, Some, None, unwrap_or, if◌then◌else◌}
+use Rattle.std.specs.List.{filter, position, slice_split, starts_with}
+use Rattle.std.specs.Cmp.Lexicographic.{pointwise}
+use Rattle.std.specs.Str.{all_ascii_digits}
+use Rattle.std.specs.Str.Lines.{lines}
+use Rattle.std.specs.Str.Parse.{digits_value}
+
+infixl 10 ◌>>=◌
+-- the value goes on, and where there is none there is none
+abbrev pub ◌>>=◌ : {A B : Type 0} → Option A → (A → Option B) → Option B
+(Some x) >>= f = f x
+None >>= f = None
+
+-- ---- words
+
+abbrev pub is_space : ℕ → Bool
+is_space b = nat_eq b 32
+
+abbrev pub is_no_space : ℕ → Bool
+is_no_space b = not (nat_eq b 32)
+
+-- the words of a line: what stands between its spaces, where anything does
+unfoldable pub words_of : List ℕ → List (List ℕ)
+words_of line = filter (λ part. nat_lt 0 (length part)) (slice_split is_space line)
+
+-- the place of the first byte that passes, or the end where none does
+abbrev pub place_or_end : (ℕ → Bool) → List ℕ → ℕ
+place_or_end p text = unwrap_or (position p text) (length text)
+
+-- what is left behind the spaces in front
+abbrev pub without_spaces : List ℕ → List ℕ
+without_spaces text = drop (place_or_end is_no_space text) text
+
+-- what stands behind the first word of a line
+abbrev pub behind_word : List ℕ → List ℕ
+behind_word line = drop (place_or_end is_space (without_spaces line)) (without_spaces line)
+
+-- less the one space in front
+abbrev pub without_space : List ℕ → List ℕ
+without_space text = if starts_with nat_eq text (codes " ") then drop 1 text else text
+
+-- two words have the same bytes
+abbrev pub same : List ℕ → List ℕ → Bool
+same v w = pointwise nat_eq v w
+
+-- what stands in the row with this name, or this where no row has it
+abbrev pub row : {A : Type 0} → List ℕ → List (List ℕ × Option A) → Option A → Option A
+row name [] otherwise = otherwise
+row name (first ∷ rows) otherwise = if same name first.0 then first.1 else row name rows otherwise
+
+-- ---- lines
+
+-- a line with these words is skipped: it has no word, or is a comment
+abbrev pub skips : List (List ℕ) → Bool
+skips [] = true
+skips (name ∷ rest) = starts_with nat_eq name (codes "#")
+
+-- a line is skipped, as if it were not there
+abbrev pub is_skipped : List ℕ → Bool
+is_skipped line = skips (words_of line)
+
+-- those of these lines that are not skipped, in order, each with its number, where the first of all has this number
+unfoldable pub kept_from : ℕ → List (List ℕ) → List (ℕ × List ℕ)
+kept_from n [] = []
+kept_from n (line ∷ more) = (if is_skipped line then [] else (n, line) ∷ []) ++ kept_from (n + 1) more
+
+-- the lines of a file that are not skipped, each with its number. All lines are counted, from 1. They end by a line
+-- feed, which the last may lack, and one carriage return right before it is dropped
+unfoldable pub kept_lines : List ℕ → List (ℕ × List ℕ)
+kept_lines bytes = kept_from 1 (lines bytes)
+
+-- ---- numbers
+
+-- the number that a word of decimal digits spells, where it fits so many bits
+unfoldable pub number_within : ℕ → List ℕ → Option ℕ
+number_within bits word =
+    if (nat_lt 0 (length word) && all_ascii_digits word) && nat_lt (digits_value 10 word) (2 ^ bits)
+    then Some (digits_value 10 word)
+    else None
+
+-- one number that fits so many bits, and no further word
+abbrev pub one : ℕ → List (List ℕ) → Option ℕ
+one bits [] = None
+one bits (v ∷ []) = number_within bits v
+one bits (v ∷ w ∷ more) = None
+
+-- two numbers of 32 bits, and no further word
+abbrev pub two : List (List ℕ) → Option (ℕ × ℕ)
+two [] = None
+two (v ∷ more) = number_within 32 v >>= λ a. one 32 more >>= λ b. Some (a, b)
+
+-- three of them
+abbrev pub three : List (List ℕ) → Option (ℕ × (ℕ × ℕ))
+three [] = None
+three (v ∷ more) = number_within 32 v >>= λ a. two more >>= λ b. Some (a, b)
+
+-- each word spells a number that fits so many bits
+abbrev pub each_number : ℕ → List (List ℕ) → Option (List ℕ)
+each_number bits [] = Some []
+each_number bits (w ∷ more) = number_within bits w >>= λ n. each_number bits more >>= λ ns. Some (n ∷ ns)

@@ -1,0 +1,69 @@
+ghost use Rattle.std.specs.Prelude.{◌≡◌, ◌∷◌, [], ◌+◌, ◌^◌, ◌<◌, ◌≤◌, length, IfSome, MatchOption};
+ghost use Rattle.ov_run.specs.Lines.{is_skipped, kept_lines};
+ghost use Rattle.ov_run.specs.Code.Kept.{lines_left};
+
+use crate::cursor::Cursor;
+use crate::splitting::split_line;
+
+/// A line of a file that is not skipped, without its end.
+#[derive(Clone, Copy)]
+pub(crate) struct KeptLine<'a> {
+    /// Its number among all lines of the file, which are counted from 1.
+    pub(crate) number: usize,
+    pub(crate) text: &'a [u8],
+}
+
+/// The lines of a file that are left to read. Empty lines, lines of spaces alone, and comments, which begin with `#`,
+/// are skipped, but counted.
+#[derive(Drop)]
+pub(crate) struct KeptLines<'a> {
+    rest: &'a [u8],
+    /// How many lines were read.
+    count: usize,
+}
+
+impl<'a> KeptLines<'a> {
+    /// All lines of a file.
+    #[tactic(auto, unfolding(crate::specs::Code::Kept::lines_left, crate::specs::Lines::kept_lines))]
+    pub(crate) fn new(bytes: &'a [u8]) -> KeptLines<'a>
+        ensures all { lines_left result ≡ kept_lines bytes.now }
+        ensures rest { result.rest.now ≡ bytes.now }
+        ensures count { result.count ≡ 0 }
+    {
+        KeptLines {
+            rest: bytes,
+            count: 0,
+        }
+    }
+
+    /// Reads the next line that is not skipped, if there is one.
+    #[tactic(auto, using(crate::proofs::Kept::skipped, crate::proofs::Kept::kept, crate::proofs::Kept::none_left), unfolding(crate::specs::Code::Kept::lines_left))]
+    pub(crate) fn next_line(&mut self) -> Option<KeptLine<'a>>
+        requires room { self.old.count + length self.old.rest.now < 2 ^ 64 }
+        ensures line { MatchOption result (lines_left self.old ≡ [])
+            (λ l. lines_left self.old ≡ (l.number, l.text.now) ∷ lines_left self.new) }
+        ensures room { self.new.count + length self.new.rest.now ≤ self.old.count + length self.old.rest.now }
+        ensures shorter { IfSome result (λ _. length self.new.rest.now < length self.old.rest.now) }
+    {
+        while !self.rest.is_empty() {
+            let (text, later) = split_line(self.rest);
+            self.rest = later;
+            self.count += 1;
+            if !is_skipped(text) {
+                let number = self.count;
+                return Some(KeptLine { number, text });
+            }
+        }
+        None
+    }
+}
+
+/// Whether a line has no word, or is a comment.
+fn is_skipped(text: &[u8]) -> bool
+    ensures { result ≡ is_skipped text.now }
+{
+    match Cursor::new(text).word() {
+        None => true,
+        Some(name) => name.starts_with(b"#"),
+    }
+}
