@@ -75,6 +75,16 @@ impl Checked {
         }
     }
 
+    /// Keeps the three, of which it is known that the certificate is valid for the group. It takes no memory and checks
+    /// nothing.
+    pub fn of_valid(graph: Graph, group: Vec<NodeId>, cert: Cert) -> Checked
+        requires { IsValidForGroup graph group.items cert }
+        ensures { result ≡ record { graph = graph; members = group.items; cert = cert } }
+    {
+        let group = Some(group);
+        Checked { graph, group, cert }
+    }
+
     /// The graph.
     pub fn graph(&self) -> &Graph
         ensures graph { result.now ≡ self.now.graph }

@@ -1,5 +1,7 @@
-ghost use Rattle.std.specs.Prelude.{◌≡◌};
+ghost use Rattle.std.specs.Prelude.{◌≡◌, ◌↔◌, IsTrue};
 ghost use Rattle.std.specs.List.{list_all};
+ghost use Rattle.ov_ids.specs.Members.{Ascends};
+ghost use Rattle.ov_graph.specs.Links.{AreAllLinked};
 ghost use Rattle.ov_graph.specs.Code.Tests.{are_joined};
 ghost use Rattle.ov_cert.specs.Code.Tests.{all_linked};
 
@@ -7,8 +9,16 @@ use crate::paths::are_linked;
 use ov_graph::Graph;
 use ov_ids::NodeId;
 
-/// Whether every two members are linked.
-pub(crate) fn are_all_linked(graph: &Graph, group: &[NodeId]) -> bool
+/// Whether every two members are linked. The members ascend.
+pub fn are_all_linked(graph: &Graph, group: &[NodeId]) -> bool
+    requires { Ascends group.now }
+    ensures { IsTrue result ↔ AreAllLinked graph.now group.now }
+{
+    test_all_linked(graph, group)
+}
+
+/// Whether every two members are linked, by the test of `Code.Tests`.
+pub(crate) fn test_all_linked(graph: &Graph, group: &[NodeId]) -> bool
     ensures { result ≡ all_linked graph.now group.now }
 {
     let mut left = group;

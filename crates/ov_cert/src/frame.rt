@@ -6,7 +6,7 @@ ghost use Rattle.ov_cert.specs.Verdict.{PassesFrame, IsFrameFault};
 ghost use Rattle.ov_cert.specs.Code.Tests.{claim_fault, frame_fault};
 
 use crate::cert::{Cert, Split};
-use crate::complete::are_all_linked;
+use crate::complete::test_all_linked;
 use crate::fault::CheckFault;
 use crate::members::is_group;
 use crate::node_set::node_set;
@@ -60,7 +60,7 @@ fn fault_of_linked(graph: &Graph, group: &[NodeId], k: u32) -> Option<CheckFault
     if group.len() as u64 != k as u64 + 1 {
         return Some(CheckFault::Count);
     }
-    if !are_all_linked(graph, group) {
+    if !test_all_linked(graph, group) {
         return Some(CheckFault::NotLinked);
     }
     None

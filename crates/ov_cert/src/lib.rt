@@ -19,6 +19,7 @@ mod side;
 pub use cert::{Cert, FanPaths, PairPaths, Paths, Split};
 pub use checked::Checked;
 pub use checker::{check, check_group};
+pub use complete::are_all_linked;
 pub use entry::Expected;
 pub use expecting::{expected, expected_group, judge_entry, judge_group_entry};
 pub use fault::CheckFault;

@@ -17,3 +17,10 @@ pub mod LevelSteps
 pub mod AllLevels
 pub mod Totals
 pub mod Numbering
+pub mod Comparing
+pub mod FirstCut
+pub mod Slotted
+pub mod Trials
+pub mod Narrowing
+pub mod Named
+pub mod Assembling

@@ -1,14 +1,20 @@
 -- What holds of every graph and group.
-use Rattle.std.specs.Prelude.{◌≡◌, ℕ, ◌-◌, List}
+use Rattle.std.specs.Prelude.{◌≡◌, ◌⊎◌, ℕ, ◌-◌, ◌<◌, List, length}
 use Rattle.ov_graph.specs.Links.{LinkGraph, IsGraph, IsGroup, AreAllLinked}
 use Rattle.ov_graph.specs.Joined.{FewestForGroup}
 use Rattle.ov_cert.specs.declared.cert.Cert.{Cert}
 use Rattle.ov_cert.specs.declared.cert.Cert.TheVariants.{Linked as AllLinked, Split as SplitBy}
 use Rattle.ov_cert.specs.declared.cert.Split.{Split}
-use Rattle.ov_fans.specs.Pieces.{level_of}
+use Rattle.ov_fans.specs.Pieces.{IsPiece, IsGood, level_of}
+use Rattle.ov_fans.specs.Cuts.{IsNearest}
 use Rattle.ov_fans.specs.declared.piece.Piece.{Piece}
 use Rattle.ov_even.specs.First.{IsFirst}
 use Rattle.ov_even.specs.Answer.{IsAnswer}
+
+-- each piece is good, or has a nearest cut with fewer nodes than its level (Menger, Fund. Math. 10, 1927)
+abbrev pub GoodOrCut : Type 0
+GoodOrCut = (g : LinkGraph) (q : List ℕ) (p : Piece) → IsGraph g → IsGroup g q → IsPiece g q p
+    → IsGood g q p ⊎ ((s : List ℕ) × IsNearest g q p s × (length s < level_of p))
 
 -- the first piece that is not good gives the number: one less than its level (Even, SIAM J. Comput. 4, 1975)
 abbrev pub FirstGivesNumber : Type 0

@@ -1,4 +1,9 @@
-ghost use Rattle.ov_even.specs.Laws.{FirstGivesNumber, OneFirst, FirstExists, OneAnswer};
+ghost use Rattle.ov_even.specs.Laws.{GoodOrCut, FirstGivesNumber, OneFirst, FirstExists, OneAnswer};
+
+/// Each piece is good, or has a nearest cut with fewer nodes than its level (Menger, Fund. Math. 10, 1927).
+pub fn good_or_cut()
+    ensures { GoodOrCut }
+{}
 
 /// The first piece that is not good gives the number of a graph and a group: one less than its level (Even, SIAM J.
 /// Comput. 4, 1975).

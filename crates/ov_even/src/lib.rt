@@ -2,14 +2,26 @@
 //! pieces came to.
 #![tactic(auto)]
 
+mod analysis;
+mod assembly;
+mod cuts;
+mod entries;
 mod fault;
 mod haul;
 mod laws;
+mod level_search;
 mod levels;
 mod numbers;
+mod order;
+mod slots;
+mod trying;
+mod watcher;
 
+pub use analysis::{analyse_alone, analyse_group_alone, analyse_group_watched};
+pub use assembly::{assemble, assemble_group};
 pub use fault::AnalyseFault;
 pub use haul::Haul;
-pub use laws::{first_exists, first_gives_number, one_answer, one_first};
+pub use laws::{first_exists, first_gives_number, good_or_cut, one_answer, one_first};
 pub use numbers::{group_piece_at, group_total, piece_at, total};
 pub use ov_fans::Piece;
+pub use watcher::Watcher;

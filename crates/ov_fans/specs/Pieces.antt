@@ -25,8 +25,8 @@ pub record IsPairPiece (n m level i j : ℕ) : Type 0 where
   pub among : j ≤ level
   pub member : j ≤ m
 
--- a fan at a level, which is from 1 to one less than the number n of nodes: of the member at place j, of m members, which
--- comes after the first ones, as many as the level
+-- a fan at a level, which is from 1 to one less than the number n of nodes: of the member at place j, of m members,
+-- which comes after the first ones, as many as the level
 pub record IsFanPiece (n m level j : ℕ) : Type 0 where
   pub low : 1 ≤ level
   pub high : level < n

@@ -2,7 +2,7 @@ use crate::piece::Piece;
 use ov_flow::PlacePaths;
 use ov_ids::NodeId;
 
-/// A cut of a piece that parts its source, which is near, from whom it seeks.
+/// A cut of a piece, and what it parts: the piece's source, which is near, from a member that is far.
 #[derive(Drop)]
 pub struct Parting {
     /// The nodes of the cut, ascending.

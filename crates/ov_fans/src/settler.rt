@@ -61,7 +61,7 @@ impl<'g> Settler<'g> {
     }
 
     /// Settles a piece: paths exactly where it is good, else the nearest of its least cuts, with fewer nodes than its
-    /// level (Menger, Fund. Math. 10, 1927). Out of memory leaves all as it was.
+    /// level (Menger, Fund. Math. 10, 1927). Out of memory is all that it refuses; graph and members stay.
     pub fn settle(&mut self, piece: Piece) -> Result<Settled, OutOfMemory>
         requires { IsPiece self.old.graph self.old.members piece }
         ensures piece { IfOk result (λ s. s.piece ≡ piece) }

@@ -8,7 +8,7 @@ use Rattle.ov_graph.proofs.Filtered.{linked_node}
 use Rattle.ov_graph.proofs.Walks.{linked_sym}
 use Rattle.ov_split.specs.Net.{Net, IsNet}
 use Rattle.ov_split.specs.Code.Residual.{Table, IsFree, IsFlow}
-use Rattle.ov_split.specs.Code.Placed.{IsPlaced}
+use Rattle.ov_split.specs.Placed.{IsPlaced}
 use Rattle.ov_split.proofs.Move.{push_held, start_held, leads_map}
 use Rattle.ov_flow.specs.Code.Walked.{table_of, IsTable}
 use Rattle.ov_flow.proofs.Copying.{held_turned}

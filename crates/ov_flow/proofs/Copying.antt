@@ -7,7 +7,7 @@ use Rattle.ov_ids.proofs.Members.{has_or_not, has_append_left, has_append_right,
 use Rattle.ov_graph.specs.Joined.{Leads}
 use Rattle.ov_split.specs.Net.{Net, IsNet}
 use Rattle.ov_split.specs.Code.Residual.{Table, IsUsed, AreHeld, IsTidy, IsFlow}
-use Rattle.ov_split.specs.Code.Placed.{IsPlaced}
+use Rattle.ov_split.specs.Placed.{IsPlaced}
 use Rattle.ov_split.proofs.Lists.{distinct_length, distinct_push}
 use Rattle.ov_split.proofs.Move.{leads_map}
 use Rattle.ov_split.proofs.Trace.{Arc, not_source, successor, used_node, predecessor, last_of, used_on}

@@ -14,8 +14,8 @@ use Rattle.ov_graph.proofs.Filtered.{linked_node}
 use Rattle.ov_graph.proofs.Read.{has_picked, in_picked, ascends_picked}
 use Rattle.ov_split.specs.Net.{Net, IsNet, IsFanOf}
 use Rattle.ov_split.specs.Code.Residual.{Table, IsFlow, IsBoundary}
-use Rattle.ov_split.specs.Code.Places.{places, net_by_place}
-use Rattle.ov_split.specs.Code.Placed.{IsPlaced}
+use Rattle.ov_split.specs.Places.{places, net_by_place}
+use Rattle.ov_split.specs.Placed.{IsPlaced}
 use Rattle.ov_split.proofs.Mapped.{has_map, map_has, length_map, ordered_map}
 use Rattle.ov_split.proofs.ByPlace.{places_ascend, places_count, node_rises, fan_by_place, nearest_by_place}
 use Rattle.ov_split.proofs.ByPlace.{side_by_place}

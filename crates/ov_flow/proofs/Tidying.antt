@@ -7,7 +7,7 @@ use Rattle.ov_ids.proofs.Members.{has_append_left, has_append_right, has_append_
 use Rattle.ov_graph.specs.Joined.{Leads}
 use Rattle.ov_split.specs.Net.{Net, IsNet}
 use Rattle.ov_split.specs.Code.Residual.{Table, AreHeld, IsTidy, IsFlow}
-use Rattle.ov_split.specs.Code.Placed.{IsPlaced}
+use Rattle.ov_split.specs.Placed.{IsPlaced}
 use Rattle.ov_split.proofs.Move.{leads_map, start_held}
 use Rattle.ov_flow.specs.declared.walk.Hop.{Hop}
 use Rattle.ov_flow.specs.Code.Reached.{IsWay, IsStepBy}

@@ -10,7 +10,7 @@ use Rattle.ov_graph.specs.Row.{has_bit, HasBit, IsFirstFrom}
 use Rattle.ov_graph.proofs.Filtered.{linked_node}
 use Rattle.ov_split.specs.Net.{Net}
 use Rattle.ov_split.specs.Code.Residual.{Table}
-use Rattle.ov_split.specs.Code.Placed.{IsPlaced}
+use Rattle.ov_split.specs.Placed.{IsPlaced}
 use Rattle.ov_flow.specs.declared.tree.Tree.{Tree}
 use Rattle.ov_flow.specs.Code.Reached.{tip_of, IsStepBy, IsTree, IsGrownBy, IsGrown, IsMore, IsClean, IsSweptAt}
 use Rattle.ov_flow.specs.Code.Walked.{table_of, IsTable}

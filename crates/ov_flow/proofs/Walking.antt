@@ -10,7 +10,7 @@ use Rattle.ov_ids.proofs.Members.{has_place, place_in_take}
 use Rattle.ov_graph.proofs.Filtered.{linked_node}
 use Rattle.ov_split.specs.Net.{Net}
 use Rattle.ov_split.specs.Code.Residual.{Table, AreHeld}
-use Rattle.ov_split.specs.Code.Placed.{IsPlaced}
+use Rattle.ov_split.specs.Placed.{IsPlaced}
 use Rattle.ov_split.proofs.Move.{push_held, back_held}
 use Rattle.ov_flow.specs.declared.walk.Hop.{Hop}
 use Rattle.ov_flow.specs.declared.tree.Tree.{Tree}

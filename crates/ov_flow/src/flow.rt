@@ -60,7 +60,7 @@ impl<'g> Flow<'g> {
     }
 
     /// Seeks one path more. Where there is none, it tells the nearest least cut, which has as many nodes as paths are
-    /// held (Menger, Fund. Math. 10, 1927). Out of memory changes nothing.
+    /// held (Menger, Fund. Math. 10, 1927). Out of memory leaves the net, and as many paths as were held.
     pub fn augment(&mut self) -> Result<Step, OutOfMemory>
         ensures step { IfOk result (λ step. IsStep self.old self.new step) }
         ensures err { OnErr result (self.new ≡ self.old) }

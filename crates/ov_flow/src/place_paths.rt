@@ -4,7 +4,7 @@ ghost use Rattle.ov_graph.specs.Paths.{node_at};
 ghost use Rattle.ov_split.specs.Net.{IsFanOf};
 ghost use Rattle.ov_flow.specs.Flow.{ArePlaces, ended_by};
 ghost use Rattle.ov_split.specs.Code.Residual.{AreHeld, IsFlow};
-ghost use Rattle.ov_split.specs.Code.Places.{net_by_place};
+ghost use Rattle.ov_split.specs.Places.{net_by_place};
 ghost use Rattle.ov_flow.specs.Code.Walked.{table_of, IsWritten};
 ghost use Rattle.ov_flow.specs.Code.Held.{IsReady};
 
@@ -100,7 +100,8 @@ fn write_path(
     Ok(())
 }
 
-/// Writes down the paths that are held, in a list of exactly their size.
+/// Writes down the paths that are held, in a list with room for as many places as the table has, and the source once
+/// for each path: that is what they take, as long as the table has no place that is on none of them.
 pub(crate) fn write_paths(
     alloc: Global,
     net: &SplitNet<'_>,

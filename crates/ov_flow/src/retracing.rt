@@ -2,7 +2,7 @@
 ghost use Rattle.std.specs.Prelude.{◌≡◌, ◌≢◌, ℕ, length, None, IfOk};
 ghost use Rattle.ov_ids.specs.Members.{Has};
 ghost use Rattle.ov_split.specs.Code.Residual.{AreHeld, IsFlow};
-ghost use Rattle.ov_split.specs.Code.Places.{net_by_place};
+ghost use Rattle.ov_split.specs.Places.{net_by_place};
 ghost use Rattle.ov_flow.specs.Code.Walked.{table_of, IsWalkBy, IsPathCopied, IsFlowBefore};
 ghost use Rattle.ov_flow.specs.Code.Held.{IsReady};
 

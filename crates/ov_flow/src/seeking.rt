@@ -1,6 +1,6 @@
 //! The search for one path more: breadth first over residual steps.
 ghost use Rattle.std.specs.Prelude.{◌≡◌, ℕ, ◌*◌, ◌<◌, ◌≤◌, length, slice_index, OnOk, IfOk, MatchBool};
-ghost use Rattle.ov_split.specs.Code.Places.{net_by_place};
+ghost use Rattle.ov_split.specs.Places.{net_by_place};
 ghost use Rattle.ov_flow.specs.Code.Reached.{tip_of, IsGrown, IsMore, IsClean, IsEnded, IsSweptAt, IsVisited, IsSwept};
 ghost use Rattle.ov_flow.specs.Code.Walked.{table_of, IsTable};
 ghost use Rattle.ov_flow.specs.Code.Held.{IsReady};

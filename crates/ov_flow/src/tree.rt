@@ -2,7 +2,7 @@ ghost use Rattle.std.specs.Prelude.{◌≡◌, ℕ, ◌-◌, ◌*◌, ◌<◌, l
 ghost use Rattle.ov_ids.specs.Members.{Has};
 ghost use Rattle.ov_split.specs.Net.{Net};
 ghost use Rattle.ov_split.specs.Code.Residual.{Table};
-ghost use Rattle.ov_split.specs.Code.Places.{net_by_place};
+ghost use Rattle.ov_split.specs.Places.{net_by_place};
 ghost use Rattle.ov_flow.specs.Code.Reached.{IsStepBy, IsGrown, IsMore, IsClean};
 ghost use Rattle.ov_flow.specs.Code.Held.{IsReady};
 

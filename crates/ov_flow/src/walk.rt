@@ -3,7 +3,7 @@ ghost use Rattle.std.specs.Prelude.{◌≡◌, ◌≢◌, ℕ, ◌-◌, ◌<◌,
 ghost use Rattle.std.specs.Prelude.{None, true, OnOk, IfSome};
 ghost use Rattle.ov_split.specs.Net.{Net};
 ghost use Rattle.ov_split.specs.Code.Residual.{Table, AreHeld, IsTidy};
-ghost use Rattle.ov_split.specs.Code.Places.{net_by_place};
+ghost use Rattle.ov_split.specs.Places.{net_by_place};
 ghost use Rattle.ov_flow.specs.Code.Reached.{IsShaped, IsGrown};
 ghost use Rattle.ov_flow.specs.Code.Walked.{table_of, IsWalkBy};
 ghost use Rattle.ov_flow.specs.Code.Held.{IsReady};

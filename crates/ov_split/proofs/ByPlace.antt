@@ -15,7 +15,7 @@ use Rattle.ov_graph.proofs.Filtered.{linked_node}
 use Rattle.ov_graph.proofs.Read.{one_place}
 use Rattle.ov_graph.proofs.Walks.{linked_sym}
 use Rattle.ov_split.specs.Net.{Net, IsNet, IsFanOf, IsNearestCut, IsSideOf}
-use Rattle.ov_split.specs.Code.Places.{places, place_in, link_by_place, graph_by_place, net_by_place}
+use Rattle.ov_split.specs.Places.{places, place_in, link_by_place, graph_by_place, net_by_place}
 use Rattle.ov_split.proofs.Mapped.{has_map, map_has, ordered_map}
 use Rattle.ov_split.proofs.Renamed.{IsRenamed, fan_renamed, nearest_renamed, side_renamed}
 

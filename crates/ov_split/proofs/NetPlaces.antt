@@ -2,8 +2,8 @@
 use Rattle.std.proofs.Common.{◌≤◌, length}
 use Rattle.ov_graph.specs.Links.{most_nodes}
 use Rattle.ov_split.specs.Net.{Net, IsNet}
-use Rattle.ov_split.specs.Code.Places.{net_by_place}
-use Rattle.ov_split.specs.Code.Placed.{IsPlaced}
+use Rattle.ov_split.specs.Places.{net_by_place}
+use Rattle.ov_split.specs.Placed.{IsPlaced}
 use Rattle.ov_split.proofs.ByPlace.{net_placed, placed_node, placed_count}
 
 -- its nodes are the places

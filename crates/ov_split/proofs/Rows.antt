@@ -11,8 +11,8 @@ use Rattle.ov_graph.specs.Code.Kept.{picked}
 use Rattle.ov_graph.proofs.Bits.{bit_moved}
 use Rattle.ov_graph.proofs.Read.{has_picked, in_picked, ascends_picked, none_picked, one_place}
 use Rattle.ov_split.specs.Net.{IsNet}
-use Rattle.ov_split.specs.Code.Places.{place_in, net_by_place}
-use Rattle.ov_split.specs.Code.Rows.{net_kept, IsNetKept, node_if}
+use Rattle.ov_split.specs.Places.{place_in, net_by_place, node_if}
+use Rattle.ov_split.specs.Code.Rows.{net_kept, IsNetKept}
 use Rattle.ov_split.proofs.Mapped.{has_map, map_has}
 use Rattle.ov_split.proofs.ByPlace.{place_below, place_of_node, from_places, linked_by_place}
 

@@ -1,4 +1,2 @@
-pub mod Places
 pub mod Residual
 pub mod Rows
-pub mod Placed

@@ -5,8 +5,8 @@ pub fn menger()
     ensures { Menger }
 {}
 
-/// A net has one nearest least cut at most: of two, each one's side lies within the other's (Ford and Fulkerson, Flows in
-/// Networks, 1962).
+/// A net has one nearest least cut at most: of two, each one's side lies within the other's (Ford and Fulkerson, Flows
+/// in Networks, 1962).
 pub fn one_nearest_cut()
     ensures { OneNearestCut }
 {}

@@ -5,9 +5,8 @@ ghost use Rattle.ov_graph.specs.Paths.{node_at};
 ghost use Rattle.ov_graph.specs.Row.{HasBit, AreWordsFor};
 ghost use Rattle.ov_graph.specs.Code.Kept.{picked};
 ghost use Rattle.ov_split.specs.Net.{IsNet};
-ghost use Rattle.ov_split.specs.Code.Places.{net_by_place};
-ghost use Rattle.ov_split.specs.Code.Placed.{IsPlaced};
-ghost use Rattle.ov_split.specs.Code.Rows.{node_if};
+ghost use Rattle.ov_split.specs.Places.{net_by_place, node_if};
+ghost use Rattle.ov_split.specs.Placed.{IsPlaced};
 
 use ov_graph::Graph;
 use ov_graph::row::{EMPTY, Row, WORDS, put};

@@ -6,7 +6,7 @@ use Rattle.ov_graph.specs.Paths.{node_at}
 use Rattle.ov_graph.specs.Row.{HasBit}
 use Rattle.ov_graph.specs.Code.Kept.{picked}
 use Rattle.ov_split.specs.Net.{Net}
-use Rattle.ov_split.specs.Code.Rows.{node_if}
+use Rattle.ov_split.specs.Places.{node_if}
 use Rattle.ov_fans.specs.Group.{GroupIn}
 use Rattle.ov_fans.specs.declared.aim.Aim.{Aim}
 

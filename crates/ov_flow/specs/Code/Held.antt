@@ -2,8 +2,8 @@
 use Rattle.std.specs.Prelude.{◌≡◌, ℕ, ◌+◌, length}
 use Rattle.ov_split.specs.Net.{Net}
 use Rattle.ov_split.specs.Code.Residual.{IsFlow}
-use Rattle.ov_split.specs.Code.Places.{net_by_place}
-use Rattle.ov_split.specs.Code.Placed.{IsPlaced}
+use Rattle.ov_split.specs.Places.{net_by_place}
+use Rattle.ov_split.specs.Placed.{IsPlaced}
 use Rattle.ov_flow.specs.Code.Reached.{IsGrown, IsSwept}
 use Rattle.ov_flow.specs.Code.Walked.{table_of}
 use Rattle.ov_flow.specs.declared.work.Work.{Work}

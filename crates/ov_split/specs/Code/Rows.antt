@@ -1,6 +1,6 @@
 -- How a net is kept: a graph, the place of the source, and rows of bits, for the places of the avoided nodes and of the
 -- targets.
-use Rattle.std.specs.Prelude.{ℕ, ◌<◌, List, [], ◌∷◌, length, Option, Some, None}
+use Rattle.std.specs.Prelude.{ℕ, ◌<◌, List, length}
 use Rattle.ov_graph.specs.Links.{LinkGraph, IsGraph}
 use Rattle.ov_graph.specs.Paths.{node_at}
 use Rattle.ov_graph.specs.Row.{HasBit}
@@ -24,8 +24,3 @@ pub record IsNetKept (g : LinkGraph) (avoided : List ℕ) (source : ℕ) (target
   pub targets_below : (p : ℕ) → HasBit targets p → p < length g.nodes
   pub not_avoided : ¬ HasBit avoided source
   pub no_target : ¬ HasBit targets source
-
--- the node at a place, if one is given
-abbrev pub node_if : LinkGraph → Option ℕ → List ℕ
-node_if g None = []
-node_if g (Some p) = node_at g p ∷ []

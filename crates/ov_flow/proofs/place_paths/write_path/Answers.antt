@@ -1,7 +1,7 @@
 -- The path is written from its end back to the source.
 use Rattle.std.proofs.Common.{ℕ, List, length, ap, arith}
 use Rattle.std.proofs.lemmas.List.{length_push}
-use Rattle.ov_split.specs.Code.Places.{net_by_place}
+use Rattle.ov_split.specs.Places.{net_by_place}
 use Rattle.ov_flow.specs.Code.Walked.{table_of}
 use Rattle.ov_flow.proofs.Copying.{coming_below}
 use Rattle.ov_flow.proofs.Writing.{writing_none, writing_more, writing_less}

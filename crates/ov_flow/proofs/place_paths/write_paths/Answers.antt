@@ -3,7 +3,7 @@ use Rattle.std.proofs.Common.{ℕ, List, take, take_all, get_or, subst, arith}
 use Rattle.std.proofs.lemmas.List.{take_more}
 use Rattle.ov_ids.specs.Members.{Has}
 use Rattle.ov_ids.proofs.Members.{has_place, has_from_take}
-use Rattle.ov_split.specs.Code.Places.{net_by_place}
+use Rattle.ov_split.specs.Places.{net_by_place}
 use Rattle.ov_flow.specs.Code.Walked.{table_of}
 use Rattle.ov_flow.proofs.Walking.{not_before}
 use Rattle.ov_flow.proofs.Writing.{AreWriting, none_written, one_written, all_written}

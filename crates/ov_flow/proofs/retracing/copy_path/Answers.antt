@@ -1,6 +1,6 @@
 -- The path is copied from its end back to the source.
 use Rattle.std.proofs.Common.{◌∙◌, Some, set, length, length-set, arith}
-use Rattle.ov_split.specs.Code.Places.{net_by_place}
+use Rattle.ov_split.specs.Places.{net_by_place}
 use Rattle.ov_flow.specs.Code.Walked.{table_of}
 use Rattle.ov_flow.proofs.Walking.{write_there, write_others}
 use Rattle.ov_flow.proofs.Copying.{coming_below, copying_none, copying_more, copying_done, copying_ends}

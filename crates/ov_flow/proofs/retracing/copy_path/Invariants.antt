@@ -1,5 +1,5 @@
 use Rattle.std.proofs.Common.{◌≡◌, length}
-use Rattle.ov_split.specs.Code.Places.{net_by_place}
+use Rattle.ov_split.specs.Places.{net_by_place}
 use Rattle.ov_flow.specs.Code.Walked.{table_of}
 use Rattle.ov_flow.proofs.Copying.{IsCopying}
 use Rattle.ov_flow.proofs.retracing.copy_path.Given as goal

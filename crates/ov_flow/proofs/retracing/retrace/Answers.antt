@@ -3,7 +3,7 @@ use Rattle.std.proofs.Common.{◌∙◌, ◌≢◌, take, take_all, get_or, subs
 use Rattle.std.proofs.lemmas.List.{take_more}
 use Rattle.ov_ids.specs.Members.{Has}
 use Rattle.ov_ids.proofs.Members.{has_place}
-use Rattle.ov_split.specs.Code.Places.{net_by_place}
+use Rattle.ov_split.specs.Places.{net_by_place}
 use Rattle.ov_flow.specs.Code.Walked.{table_of}
 use Rattle.ov_flow.proofs.Copying.{IsCopy, copy_none, copy_more, copy_all}
 use Rattle.ov_flow.proofs.retracing.retrace.Goals as goal

@@ -1,7 +1,7 @@
 -- The walk opens one end more, and where it met paths, what is held is retraced.
 use Rattle.std.proofs.Common.{◌≡◌, ◌∙◌, Option, ℕ, List, length, drop, sym, subst}
 use Rattle.std.proofs.lemmas.List.{take_at}
-use Rattle.ov_split.specs.Code.Places.{net_by_place}
+use Rattle.ov_split.specs.Places.{net_by_place}
 use Rattle.ov_split.specs.Code.Residual.{AreHeld, IsFlow}
 use Rattle.ov_flow.specs.Code.Walked.{table_of, IsFlowBefore}
 use Rattle.ov_flow.proofs.Copying.{held_turned}

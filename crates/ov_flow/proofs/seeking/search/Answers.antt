@@ -2,7 +2,7 @@
 use Rattle.std.proofs.Common.{ℕ, ◌<◌, Bool, MatchBool, get_or, sym, subst, arith, length}
 use Rattle.ov_ids.proofs.Members.{place_of}
 use Rattle.ov_graph.specs.Links.{Linked}
-use Rattle.ov_split.specs.Code.Places.{net_by_place}
+use Rattle.ov_split.specs.Places.{net_by_place}
 use Rattle.ov_flow.specs.Code.Reached.{IsEnded, IsVisited}
 use Rattle.ov_flow.specs.Code.Walked.{table_of}
 use Rattle.ov_flow.proofs.Reaching.{tree_bound, all_visited, links_more, backs_more}

@@ -2,7 +2,7 @@
 use Rattle.std.proofs.Common.{◌≡◌, ◌∙◌, Some, length, sym, ap, subst, arith}
 use Rattle.std.proofs.lemmas.List.{get_or_read}
 use Rattle.ov_ids.specs.Members.{Has}
-use Rattle.ov_split.specs.Code.Places.{net_by_place}
+use Rattle.ov_split.specs.Places.{net_by_place}
 use Rattle.ov_flow.specs.Code.Walked.{table_of}
 use Rattle.ov_flow.proofs.Reaching.{clean_more, IsReachedBy}
 use Rattle.ov_flow.proofs.Visiting.{read_below}

@@ -1,7 +1,7 @@
 -- Each fresh bit of a node's row is a link that may be taken.
 use Rattle.std.proofs.Common.{length, arith}
 use Rattle.ov_ids.specs.Members.{Has}
-use Rattle.ov_split.specs.Code.Places.{net_by_place}
+use Rattle.ov_split.specs.Places.{net_by_place}
 use Rattle.ov_flow.specs.Code.Walked.{table_of}
 use Rattle.ov_flow.proofs.Visiting.{read_below, visiting_first, link_below, link_taken, visiting_all}
 use Rattle.ov_flow.proofs.seeking.visit_links.Goals as goal

@@ -2,7 +2,7 @@
 use Rattle.std.proofs.Common.{◌≡◌, ◌∙◌, ℕ, ◌+◌, List, ◌∷◌, true, sym, subst, Some, None, set, drop}
 use Rattle.std.proofs.Common.{length, arith, length-set}
 use Rattle.std.proofs.lemmas.List.{drop_all}
-use Rattle.ov_split.specs.Code.Places.{net_by_place}
+use Rattle.ov_split.specs.Places.{net_by_place}
 use Rattle.ov_split.specs.Code.Residual.{IsTidy}
 use Rattle.ov_flow.specs.declared.walk.Hop.{Hop}
 use Rattle.ov_flow.specs.Code.Walked.{table_of, Goes}

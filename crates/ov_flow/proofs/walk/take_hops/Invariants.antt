@@ -1,6 +1,6 @@
 use Rattle.std.proofs.Common.{◌≡◌, ℕ, List, ◌∷◌, true, drop, length}
 use Rattle.ov_split.specs.Code.Residual.{IsTidy}
-use Rattle.ov_split.specs.Code.Places.{net_by_place}
+use Rattle.ov_split.specs.Places.{net_by_place}
 use Rattle.ov_flow.specs.Code.Walked.{table_of}
 use Rattle.ov_flow.proofs.Walking.{IsGoing}
 use Rattle.ov_flow.proofs.walk.take_hops.Given as goal

@@ -1,7 +1,7 @@
 -- What is held is a table, and the walk leads to the last node that is reached.
 use Rattle.std.proofs.Common.{◌≡◌, ◌∙◌, ◌-◌, ℕ, List, Option, length, get_or, subst, arith}
 use Rattle.std.proofs.lemmas.List.{get_or_read}
-use Rattle.ov_split.specs.Code.Places.{net_by_place}
+use Rattle.ov_split.specs.Places.{net_by_place}
 use Rattle.ov_flow.specs.Code.Reached.{IsGrown}
 use Rattle.ov_flow.specs.Code.Walked.{table_of}
 use Rattle.ov_flow.proofs.Beginning.{flow_table}

@@ -3,7 +3,7 @@ use Rattle.std.proofs.Common.{◌↔◌, ℕ, subst}
 use Rattle.ov_ids.specs.Members.{Has}
 use Rattle.ov_graph.specs.Row.{HasBit}
 use Rattle.ov_split.specs.Net.{Net, IsNet}
-use Rattle.ov_split.specs.Code.Places.{net_by_place}
+use Rattle.ov_split.specs.Places.{net_by_place}
 use Rattle.ov_split.proofs.Rows.{net_of, avoided_placed}
 use Rattle.ov_split.proofs.net.SplitNet.avoided.Goals as goal
 

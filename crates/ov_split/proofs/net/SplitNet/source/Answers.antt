@@ -1,7 +1,7 @@
 -- The source is kept by its place.
 use Rattle.std.proofs.Common.{◌≡◌, sym, subst}
 use Rattle.ov_split.specs.Net.{Net, IsNet}
-use Rattle.ov_split.specs.Code.Places.{net_by_place}
+use Rattle.ov_split.specs.Places.{net_by_place}
 use Rattle.ov_split.proofs.Rows.{net_of, source_placed}
 use Rattle.ov_split.proofs.net.SplitNet.source.Goals as goal
 

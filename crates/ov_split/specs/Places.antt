@@ -1,7 +1,8 @@
 -- A net by places: its nodes are the places of the nodes, counted from 0.
-use Rattle.std.specs.Prelude.{ℕ, zero, suc, List, [], ◌∷◌, ◌++◌, map, length}
+use Rattle.std.specs.Prelude.{ℕ, zero, suc, List, [], ◌∷◌, ◌++◌, map, length, Option, Some, None}
 use Rattle.ov_ids.specs.Sets.{count_below}
 use Rattle.ov_graph.specs.Links.{LinkGraph}
+use Rattle.ov_graph.specs.Paths.{node_at}
 use Rattle.ov_split.specs.Net.{Net}
 
 -- the places below n
@@ -32,3 +33,8 @@ net_by_place n = record {
   source = place_in n.graph n.source;
   targets = map (place_in n.graph) n.targets;
 }
+
+-- the node at a place, if one is given
+abbrev pub node_if : LinkGraph → Option ℕ → List ℕ
+node_if g None = []
+node_if g (Some p) = node_at g p ∷ []

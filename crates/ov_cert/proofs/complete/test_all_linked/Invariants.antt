@@ -1,7 +1,7 @@
 -- what is left decides
 use Rattle.std.proofs.Common.{◌≡◌, length}
 use Rattle.ov_cert.specs.Code.Tests.{all_linked}
-use Rattle.ov_cert.proofs.complete.are_all_linked.Given as goal
+use Rattle.ov_cert.proofs.complete.test_all_linked.Given as goal
 
 abbrev pub invariant-loop-first : goal.invariant-loop-first
 invariant-loop-first l = all_linked l.graph l.left ≡ all_linked l.graph l.group

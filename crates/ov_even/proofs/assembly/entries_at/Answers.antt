@@ -1,0 +1,28 @@
+-- The slots have the paths of the level's pieces.
+use Rattle.std.proofs.Common.{arith}
+use Rattle.ov_even.proofs.Narrowing.{members_few}
+use Rattle.ov_even.proofs.Assembling.{pieces_in, have_slots}
+use Rattle.ov_even.proofs.assembly.entries_at.Goals as goal
+
+pub slots_of-requires-clause-few : goal.slots_of-requires-clause-few
+slots_of-requires-clause-few c =
+    let few = members_few c.args.graph.now c.args.group.now c.requires.group in
+    let within = c.nodes.ensures.within in
+    omega (arith, few, within)
+
+pub slots_of-requires-clause-pieces : goal.slots_of-requires-clause-pieces
+slots_of-requires-clause-pieces c = pieces_in c.args.graph.now c.args.group.now c.args.hauls.now c.requires.right
+
+pub pair_entries-requires-clause-slots : goal.pair_entries-requires-clause-slots
+pair_entries-requires-clause-slots c =
+    let g = c.args.graph.now in
+    let q = c.args.group.now in
+    have_slots g q c.args.k c.args.hauls.now _ c.requires.right c.requires.cleared
+    (rw c.deref.ensures.value c.in_ok-slots.ensures)
+
+pub fan_entries-requires-clause-slots : goal.fan_entries-requires-clause-slots
+fan_entries-requires-clause-slots c =
+    let g = c.args.graph.now in
+    let q = c.args.group.now in
+    have_slots g q c.args.k c.args.hauls.now _ c.requires.right c.requires.cleared
+    (rw c.deref-2.ensures.value c.in_ok-slots.ensures)

@@ -1,0 +1,10 @@
+-- The level is under way, and the settler stays as it was.
+use Rattle.std.proofs.Common.{◌≡◌}
+use Rattle.ov_even.proofs.Trials.{IsUnderWay}
+use Rattle.ov_even.proofs.trying.try_level.Given as goal
+
+abbrev pub invariant-loop-piece : goal.invariant-loop-piece
+invariant-loop-piece g l = record {
+  stays : l.settler ≡ l.fn.settler;
+  way : IsUnderWay l.fn.settler.graph l.fn.settler.members l.level l.pieces.items l.yielded l.piece-iterator;
+}

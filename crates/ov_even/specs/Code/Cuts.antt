@@ -1,0 +1,41 @@
+-- The first of the settled pieces that came to a cut.
+use Rattle.std.specs.Prelude.{ℕ, List, [], ◌∷◌, ◌++◌, Option, Some, None}
+use Rattle.ov_ids.specs.Members.{Has}
+use Rattle.ov_fans.specs.Laws.{IsNoCut}
+use Rattle.ov_fans.specs.declared.settled.Settled.{Settled}
+use Rattle.std.specs.Prelude.{◌-◌}
+use Rattle.ov_graph.specs.Links.{LinkGraph}
+use Rattle.ov_fans.specs.Pieces.{level_of}
+use Rattle.ov_fans.specs.Cuts.{IsRight}
+use Rattle.ov_even.specs.Order.{ComesBefore}
+use Rattle.ov_even.specs.First.{IsFirst}
+use Rattle.ov_even.specs.Code.Slots.{IsLevelIn}
+use Rattle.ov_even.specs.declared.haul.Haul.{Haul}
+
+-- all that is in the hauls, one after another
+abbrev pub all_settled : List Haul → List Settled
+all_settled [] = []
+all_settled (haul ∷ hauls) = haul.pieces.items ++ all_settled hauls
+
+-- s is one of these and came to a cut, and none that did comes before it
+pub record IsLowestCut (seen : List Settled) (s : Settled) : Type 0 where
+  pub there : Has seen s
+  pub cut : ¬ IsNoCut s.found
+  pub lowest : (t : Settled) → Has seen t → ¬ IsNoCut t.found → ¬ ComesBefore t.piece s.piece
+
+-- the first of these in order that came to a cut; none where none did
+abbrev pub IsFirstCut : List Settled → Option Settled → Type 0
+IsFirstCut seen None = (t : Settled) → Has seen t → IsNoCut t.found
+IsFirstCut seen (Some s) = IsLowestCut seen s
+
+-- the piece came to a cut, and comes before the first that is known to have
+abbrev pub IsEarlierCut : Settled → Option Settled → Type 0
+IsEarlierCut t None = ¬ IsNoCut t.found
+IsEarlierCut t (Some s) = (¬ IsNoCut t.found) × ComesBefore t.piece s.piece
+
+-- the piece is the first that is not good, is settled right and not good, and the level below it is cleared
+pub record IsDeciding (g : LinkGraph) (q : List ℕ) (hauls : List Haul) (s : Settled) : Type 0 where
+  pub first : IsFirst g q s.piece
+  pub right : IsRight g q s
+  pub cut : ¬ IsNoCut s.found
+  pub below : IsLevelIn g q (level_of s.piece - 1) hauls

@@ -1,0 +1,40 @@
+-- The paths of a level's pieces by their places in the level.
+use Rattle.std.specs.Prelude.{◌≡◌, ℕ, List, length, slice_get, Option, Some}
+use Rattle.ov_ids.specs.Members.{Has}
+use Rattle.ov_graph.specs.Links.{LinkGraph}
+use Rattle.ov_fans.specs.Pieces.{IsPiece, IsLinkedPair, level_of}
+use Rattle.ov_fans.specs.Cuts.{AreRightPaths}
+use Rattle.ov_fans.specs.declared.piece.Piece.{Piece}
+use Rattle.ov_fans.specs.declared.settled.Found.TheVariants.{Paths}
+use Rattle.ov_fans.specs.declared.settled.Settled.{Settled}
+use Rattle.ov_fans.specs.Pieces.{IsPieceOf}
+use Rattle.ov_even.specs.Harvest.{IsCleared}
+use Rattle.ov_even.specs.declared.haul.Haul.{Haul}
+use Rattle.ov_even.specs.Code.Levels.{pieces_of_level}
+
+-- the piece stands at this place of its level
+abbrev pub StandsAt : ℕ → Piece → ℕ → Type 0
+StandsAt m p place = slice_get (pieces_of_level m (level_of p)) place ≡ Some p
+
+-- slots of a level, in which are the paths of those of the settled pieces that are of the level and have paths
+pub record AreSlotsOf (m level : ℕ) (seen : List Settled) (slots : List (Option (List (List ℕ)))) : Type 0 where
+  pub size : length slots ≡ length (pieces_of_level m level)
+  pub from : (place : ℕ) (paths : List (List ℕ)) → slice_get slots place ≡ Some (Some paths)
+      → (s : Settled) × Has seen s × (level_of s.piece ≡ level) × StandsAt m s.piece place × (s.found ≡ Paths paths)
+  pub all : (s : Settled) (paths : List (List ℕ)) (place : ℕ) → Has seen s → level_of s.piece ≡ level
+      → s.found ≡ Paths paths → StandsAt m s.piece place
+      → (others : List (List ℕ)) × (slice_get slots place ≡ Some (Some others))
+
+-- each piece of the level has its paths in its slot, but linked pairs
+abbrev pub HaveSlots : LinkGraph → List ℕ → ℕ → List (Option (List (List ℕ))) → Type 0
+HaveSlots g q level slots = (p : Piece) (place : ℕ) → IsPiece g q p → level_of p ≡ level → ¬ IsLinkedPair g q p
+    → StandsAt (length q) p place
+    → (paths : List (List ℕ)) × (slice_get slots place ≡ Some (Some paths)) × AreRightPaths g q p paths
+
+-- all of these settled pieces are pieces of graphs and groups of m members
+abbrev pub ArePiecesOf : ℕ → List Settled → Type 0
+ArePiecesOf m seen = (s : Settled) → Has seen s → (n : ℕ) × IsPieceOf n m s.piece
+
+-- each piece of the level is cleared by the hauls
+abbrev pub IsLevelIn : LinkGraph → List ℕ → ℕ → List Haul → Type 0
+IsLevelIn g q level hauls = (r : Piece) → IsPiece g q r → level_of r ≡ level → IsCleared g q hauls r

@@ -1,0 +1,83 @@
+//! The analysis of a graph and a group by one worker.
+ghost use Rattle.std.specs.Prelude.{◌≡◌, IfOk, IfErr};
+ghost use Rattle.ov_graph.specs.Links.{IsGroup, AreAllLinked};
+ghost use Rattle.ov_cert.specs.Laws.{IsTrueForGroup};
+ghost use Rattle.ov_even.specs.Answer.{IsAnswer};
+ghost use Rattle.ov_even.specs.Faults.{IsRefusal};
+ghost use Rattle.ov_even.specs.Harvest.{Suffice};
+
+use crate::assembly::assemble_group;
+use crate::fault::AnalyseFault;
+use crate::haul::Haul;
+use crate::level_search::search;
+use crate::watcher::{Unwatched, Watcher};
+use ov_cert::{Checked, are_all_linked};
+use ov_graph::Graph;
+use ov_ids::{NodeId, OutOfMemory};
+use std::alloc::Global;
+
+/// Analyses a graph for the group of all nodes: as `analyse_group_watched`, which says more, with nobody watching.
+pub fn analyse_alone(alloc: Global, graph: &Graph) -> Result<Checked, AnalyseFault>
+    ensures graph { IfOk result (λ c. c.graph ≡ graph.now) }
+    ensures members { IfOk result (λ c. c.members ≡ graph.now.nodes) }
+    ensures answer { IfOk result (λ c. IsAnswer graph.now graph.now.nodes c.cert) }
+    ensures fewest { IfOk result (λ c. IsTrueForGroup graph.now graph.now.nodes c.cert) }
+    ensures refused { IfErr result (λ fault. IsRefusal graph.now graph.now.nodes fault) }
+{
+    analyse_group_alone(alloc, graph, graph.nodes())
+}
+
+/// Analyses a graph for a group: as `analyse_group_watched`, which says more, with nobody watching.
+pub fn analyse_group_alone(
+    alloc: Global,
+    graph: &Graph,
+    group: &[NodeId],
+) -> Result<Checked, AnalyseFault>
+    ensures graph { IfOk result (λ c. c.graph ≡ graph.now) }
+    ensures members { IfOk result (λ c. c.members ≡ group.now) }
+    ensures answer { IfOk result (λ c. IsAnswer graph.now group.now c.cert) }
+    ensures fewest { IfOk result (λ c. IsTrueForGroup graph.now group.now c.cert) }
+    ensures refused { IfErr result (λ fault. IsRefusal graph.now group.now fault) }
+{
+    analyse_group_watched(alloc, graph, group, &mut Unwatched)
+}
+
+/// Finds the fewest node crashes that split a group, with the certificate that proves them (Even, SIAM J. Comput. 4,
+/// 1975). A graph without nodes is refused first (30), then what is no group (34).
+pub fn analyse_group_watched<W: Watcher>(
+    alloc: Global,
+    graph: &Graph,
+    group: &[NodeId],
+    watcher: &mut W,
+) -> Result<Checked, AnalyseFault>
+    ensures graph { IfOk result (λ c. c.graph ≡ graph.now) }
+    ensures members { IfOk result (λ c. c.members ≡ group.now) }
+    ensures answer { IfOk result (λ c. IsAnswer graph.now group.now c.cert) }
+    ensures fewest { IfOk result (λ c. IsTrueForGroup graph.now group.now c.cert) }
+    ensures refused { IfErr result (λ fault. IsRefusal graph.now group.now fault) }
+{
+    if graph.nodes().is_empty() {
+        return Err(AnalyseFault::NoNodes);
+    }
+    if !graph.is_group(group) {
+        return Err(AnalyseFault::BadGroup);
+    }
+    let hauls = enough(alloc, graph, group, watcher)?;
+    assemble_group(alloc, graph, group, &hauls)
+}
+
+/// Settles as many pieces as suffice for an answer: none where every two members are linked.
+fn enough<W: Watcher>(
+    alloc: Global,
+    graph: &Graph,
+    group: &[NodeId],
+    watcher: &mut W,
+) -> Result<Vec<Haul>, OutOfMemory>
+    requires { IsGroup graph.now group.now }
+    ensures { IfOk result (λ hauls. Suffice graph.now group.now hauls.items) }
+{
+    if are_all_linked(graph, group) {
+        return Ok(Vec::new(alloc));
+    }
+    search(alloc, graph, group, watcher)
+}

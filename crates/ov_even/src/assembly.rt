@@ -1,0 +1,188 @@
+//! The certificate is put together of what workers brought in.
+ghost use Rattle.std.specs.Prelude.{◌≡◌, ◌+◌, ◌<◌, length, IfOk, IfErr};
+ghost use Rattle.ov_graph.specs.Links.{IsGraph, IsGroup, AreAllLinked};
+ghost use Rattle.ov_cert.specs.Valid.{IsValidForGroup, HavePaths, HaveFans};
+ghost use Rattle.ov_cert.specs.Laws.{IsTrueForGroup};
+ghost use Rattle.ov_even.specs.Answer.{IsAnswer, NamesParting};
+ghost use Rattle.ov_even.specs.Faults.{HasNode, IsRefusal};
+ghost use Rattle.ov_even.specs.Harvest.{AreRight, Suffice};
+ghost use Rattle.ov_even.specs.Code.Slots.{IsLevelIn};
+ghost use Rattle.ov_even.specs.Code.Cuts.{IsDeciding};
+ghost use Rattle.ov_even.specs.declared.fault.AnalyseFault.TheVariants.{OutOfMemory as out_of_memory};
+
+use crate::cuts::first_cut;
+use crate::entries::{fan_entries, pair_entries};
+use crate::fault::AnalyseFault;
+use crate::haul::Haul;
+use crate::slots::slots_of;
+use ov_cert::{Cert, Checked, FanPaths, PairPaths, Split, are_all_linked};
+use ov_fans::{Found, Parting, Settled};
+use ov_graph::Graph;
+use ov_ids::{NodeId, OutOfMemory, Seq};
+use std::alloc::Global;
+
+/// Makes the certificate of what workers brought in, for the group of all nodes: as `assemble_group`, which says more.
+/// A graph without nodes is refused (30).
+pub fn assemble(alloc: Global, graph: &Graph, hauls: &[Haul]) -> Result<Checked, AnalyseFault>
+    requires { HasNode graph.now → Suffice graph.now graph.now.nodes hauls.now }
+    ensures graph { IfOk result (λ c. c.graph ≡ graph.now) }
+    ensures members { IfOk result (λ c. c.members ≡ graph.now.nodes) }
+    ensures answer { IfOk result (λ c. IsAnswer graph.now graph.now.nodes c.cert) }
+    ensures fewest { IfOk result (λ c. IsTrueForGroup graph.now graph.now.nodes c.cert) }
+    ensures refused { IfErr result (λ fault. IsRefusal graph.now graph.now.nodes fault) }
+{
+    if graph.nodes().is_empty() {
+        return Err(AnalyseFault::NoNodes);
+    }
+    assemble_group(alloc, graph, graph.nodes(), hauls)
+}
+
+/// Makes the certificate of what workers brought in, in whatever order: where two members are not linked, it names the
+/// cut of the first piece in the order of pieces that came to one, and has the paths of the level below (Even, SIAM J.
+/// Comput. 4, 1975).
+pub fn assemble_group(
+    alloc: Global,
+    graph: &Graph,
+    group: &[NodeId],
+    hauls: &[Haul],
+) -> Result<Checked, AnalyseFault>
+    requires group { IsGroup graph.now group.now }
+    requires suffice { Suffice graph.now group.now hauls.now }
+    ensures graph { IfOk result (λ c. c.graph ≡ graph.now) }
+    ensures members { IfOk result (λ c. c.members ≡ group.now) }
+    ensures answer { IfOk result (λ c. IsAnswer graph.now group.now c.cert) }
+    ensures fewest { IfOk result (λ c. IsTrueForGroup graph.now group.now c.cert) }
+    ensures refused { IfErr result (λ fault. fault ≡ out_of_memory) }
+{
+    let cert = cert_of(alloc, graph, group, hauls)?;
+    let (graph, group) = copies(alloc, graph, group)?;
+    Ok(Checked::of_valid(graph, group, cert))
+}
+
+/// A graph and a group that equal these.
+fn copies(
+    alloc: Global,
+    graph: &Graph,
+    group: &[NodeId],
+) -> Result<(Graph, Vec<NodeId>), OutOfMemory>
+    ensures { IfOk result (λ c. (c.0 ≡ graph.now) × (c.1.items ≡ group.now)) }
+{
+    let graph = graph.copy()?;
+    Ok((graph, Vec::from_slice(alloc, group)?))
+}
+
+/// The certificate, which is valid for the group.
+fn cert_of(
+    alloc: Global,
+    graph: &Graph,
+    group: &[NodeId],
+    hauls: &[Haul],
+) -> Result<Cert, OutOfMemory>
+    requires group { IsGroup graph.now group.now }
+    requires suffice { Suffice graph.now group.now hauls.now }
+    ensures answer { IfOk result (λ c. IsAnswer graph.now group.now c) }
+    ensures valid { IfOk result (λ c. IsValidForGroup graph.now group.now c) }
+{
+    prove!(graph.nodes().len() <= Graph::MOST_NODES);
+    if are_all_linked(graph, group) {
+        return Ok(Cert::Linked {
+            k: group.len() as u32 - 1,
+        });
+    }
+    match first_cut(hauls) {
+        Some(first) => split_cert(alloc, graph, group, hauls, first),
+        None => unreachable!(),
+    }
+}
+
+/// The certificate that names the cut of the piece that decides.
+fn split_cert(
+    alloc: Global,
+    graph: &Graph,
+    group: &[NodeId],
+    hauls: &[Haul],
+    first: &Settled,
+) -> Result<Cert, OutOfMemory>
+    requires group { IsGroup graph.now group.now }
+    requires apart { ¬ AreAllLinked graph.now group.now }
+    requires right { AreRight graph.now group.now hauls.now }
+    requires first { IsDeciding graph.now group.now hauls.now first.now }
+    ensures answer { IfOk result (λ c. IsAnswer graph.now group.now c) }
+    ensures valid { IfOk result (λ c. IsValidForGroup graph.now group.now c) }
+{
+    prove!(graph.nodes().len() <= Graph::MOST_NODES);
+    let Found::Cut(parting) = &first.found else {
+        unreachable!()
+    };
+    let k = first.piece.level() - 1;
+    let entries = entries_at(alloc, graph, group, k as usize, hauls)?;
+    Ok(Cert::Split(split_of(alloc, k as u32, parting, entries)?))
+}
+
+/// The certificate's parts: its number, what parts the piece that decides, and the entries.
+fn split_of(
+    alloc: Global,
+    k: u32,
+    parting: &Parting,
+    entries: Entries,
+) -> Result<Split, OutOfMemory>
+    ensures k { IfOk result (λ c. c.k ≡ k) }
+    ensures names { IfOk result (λ c. NamesParting c parting.now) }
+    ensures pairs { IfOk result (λ c. c.pairs ≡ entries.pairs.items) }
+    ensures fans { IfOk result (λ c. c.fans ≡ entries.fans.items) }
+{
+    let Entries { pairs, fans } = entries;
+    let cut = copy_of(alloc, &parting.cut)?;
+    let side = copy_of(alloc, &parting.side)?;
+    Ok(Split {
+        k,
+        cut,
+        near: parting.near,
+        far: parting.far,
+        side,
+        pairs: Seq::new(pairs),
+        fans: Seq::new(fans),
+    })
+}
+
+/// A list of the same ids.
+fn copy_of(alloc: Global, ids: &[NodeId]) -> Result<Seq<NodeId>, OutOfMemory>
+    ensures { IfOk result (λ copy. copy ≡ ids.now) }
+{
+    Ok(Seq::new(Vec::from_slice(alloc, ids)?))
+}
+
+/// The entries of a certificate, of pairs and of fans.
+#[derive(Drop)]
+struct Entries {
+    pairs: Vec<PairPaths>,
+    fans: Vec<FanPaths>,
+}
+
+/// The entries of a certificate that proves `k`, which are the pieces of level `k`; none where `k` is 0.
+fn entries_at(
+    alloc: Global,
+    graph: &Graph,
+    group: &[NodeId],
+    k: usize,
+    hauls: &[Haul],
+) -> Result<Entries, OutOfMemory>
+    requires group { IsGroup graph.now group.now }
+    requires below { k < length graph.now.nodes }
+    requires right { AreRight graph.now group.now hauls.now }
+    requires cleared { IsLevelIn graph.now group.now k hauls.now }
+    ensures pairs { IfOk result (λ entries. HavePaths graph.now group.now k entries.pairs.items) }
+    ensures fans { IfOk result (λ entries. HaveFans graph.now group.now k entries.fans.items) }
+{
+    prove!(graph.nodes().len() <= Graph::MOST_NODES);
+    if k == 0 {
+        return Ok(Entries {
+            pairs: Vec::new(alloc),
+            fans: Vec::new(alloc),
+        });
+    }
+    let slots = slots_of(alloc, group.len(), k, hauls)?;
+    let pairs = pair_entries(alloc, graph, group, k, &slots)?;
+    let fans = fan_entries(alloc, graph, group, k, &slots)?;
+    Ok(Entries { pairs, fans })
+}

@@ -1,0 +1,58 @@
+//! The piece that decides, of those that workers settled.
+ghost use Rattle.std.specs.Prelude.{◌↔◌, IsTrue, List, ◌++◌};
+ghost use Rattle.std.specs.Option.{option_copied};
+ghost use Rattle.ov_fans.specs.Laws.{IsNoCut};
+ghost use Rattle.ov_fans.specs.declared.settled.Settled.{Settled as settled};
+ghost use Rattle.ov_even.specs.Code.Cuts.{IsEarlierCut, IsFirstCut, all_settled};
+
+use crate::haul::Haul;
+use crate::order::comes_before;
+use ov_fans::{Found, Settled};
+
+/// The first in order of the settled pieces that came to a cut; none where none did.
+pub(crate) fn first_cut(hauls: &[Haul]) -> Option<&Settled>
+    ensures { IsFirstCut (all_settled hauls.now) (option_copied result) }
+{
+    let mut first = None;
+    for haul in hauls {
+        first = earlier_cut(&haul.pieces, first);
+    }
+    first
+}
+
+/// The same of these pieces, and of those among which the first is known already.
+fn earlier_cut<'a>(pieces: &'a [Settled], known: Option<&'a Settled>) -> Option<&'a Settled>
+    ensures { (seen : List settled) → IsFirstCut seen (option_copied known.entry)
+        → IsFirstCut (seen ++ pieces.now) (option_copied result) }
+{
+    let mut first = known;
+    for settled in pieces {
+        if is_earlier_cut(settled, first) {
+            first = Some(settled);
+        }
+    }
+    first
+}
+
+/// Whether a piece came to a cut and comes before the first that is known to have.
+fn is_earlier_cut(settled: &Settled, first: Option<&Settled>) -> bool
+    ensures { IsTrue result ↔ IsEarlierCut settled.now (option_copied first.entry) }
+{
+    if !is_cut(settled) {
+        return false;
+    }
+    match first {
+        Some(known) => comes_before(settled.piece, known.piece),
+        None => true,
+    }
+}
+
+/// Whether a piece came to a cut.
+fn is_cut(settled: &Settled) -> bool
+    ensures { IsTrue result ↔ (¬ IsNoCut settled.now.found) }
+{
+    match &settled.found {
+        Found::Cut(_) => true,
+        Found::Linked | Found::Paths(_) => false,
+    }
+}
