@@ -90,10 +90,13 @@ struct Flow {
         std::reverse(hops.begin(), hops.end());
         ends.push_back(order.back());
         Place x = net.source;
+        bool met = false;  // whether the walk met a path: only then may a closed round be left
         for (const Hop& hop : hops) {
+            met = met || !hop.way || from[*hop.way];
             if (hop.way) from[*hop.way] = x; else from[x].reset();
             x = hop.node;
         }
+        if (!met) return true;
         std::fill(next.begin(), next.end(), std::nullopt);
         for (Place end : ends)
             for (Place v = end; from[v]; v = *from[v]) next[v] = from[v];
