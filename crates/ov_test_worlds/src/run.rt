@@ -32,15 +32,15 @@ fn has_lines(
     Ok(scenario)
 }
 
-/// The words of the event at this place among those without words of their own, by this seed.
-fn drawn(alloc: Global, seed: u64, place: usize) -> Result<Words, Fail> {
-    let draws = draw(alloc, seed, place + 1)?;
+/// The words of the last of so many events that have none of their own, by this seed.
+fn drawn(alloc: Global, seed: u64, count: usize) -> Result<Words, Fail> {
+    let draws = draw(alloc, seed, count)?;
     Ok(*draws.last().ok_or("the words of an event")?)
 }
 
 /// The file is one event without words of its own, and without a seed.
 fn is_event(rt: &impl Abort, alloc: Global, bytes: &[u8], event: Event) -> Result<(), Fail> {
-    let words = drawn(alloc, 0, 0)?;
+    let words = drawn(alloc, 0, 1)?;
     let _ = has_lines(rt, alloc, bytes, &[Line::Event { event, words }])?;
     Ok(())
 }
@@ -331,7 +331,7 @@ fn words_are_for_one_event(rt: HostRuntime) -> Result<(), Fail> {
         },
         Line::Event {
             event: Event::Deliver(3),
-            words: drawn(alloc, 0, 0)?,
+            words: drawn(alloc, 0, 1)?,
         },
         Line::Event {
             event: Event::Broadcast(NodeId(4), five),
@@ -349,7 +349,7 @@ fn events_without_words_have_those_of_the_seed_in_order(rt: HostRuntime) -> Resu
     let expected = [
         Line::Event {
             event: Event::Lose(1),
-            words: drawn(alloc, 7, 0)?,
+            words: drawn(alloc, 7, 1)?,
         },
         Line::Event {
             event: Event::Lose(2),
@@ -358,11 +358,11 @@ fn events_without_words_have_those_of_the_seed_in_order(rt: HostRuntime) -> Resu
         Line::Look(Look::Packets),
         Line::Event {
             event: Event::Lose(3),
-            words: drawn(alloc, 7, 1)?,
+            words: drawn(alloc, 7, 2)?,
         },
         Line::Event {
             event: Event::Lose(4),
-            words: drawn(alloc, 7, 2)?,
+            words: drawn(alloc, 7, 3)?,
         },
     ];
     let text = b"seed 7\nlose 1\nwords 5\nlose 2\npackets\nlose 3\nlose 4\n";
