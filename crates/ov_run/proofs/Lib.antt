@@ -1,7 +1,9 @@
+pub mod Answered
 pub mod Begun
 pub mod Counted
 pub mod Drawn
 pub mod Filling
+pub mod Gathering
 pub mod Judged
 pub mod Kept
 pub mod Lined
@@ -10,4 +12,5 @@ pub mod Numerals
 pub mod Parted
 pub mod Placed
 pub mod Running
+pub mod Spelling
 pub mod Taking

@@ -1,6 +1,8 @@
+pub mod Analysing
 pub mod Begun
 pub mod Draws
 pub mod Faults
+pub mod GraphFiles
 pub mod Lines
 pub mod Printed
 pub mod Reading

@@ -100,3 +100,12 @@ three (v ∷ more) = number_within 32 v >>= λ a. two more >>= λ b. Some (a, b)
 abbrev pub each_number : ℕ → List (List ℕ) → Option (List ℕ)
 each_number bits [] = Some []
 each_number bits (w ∷ more) = number_within bits w >>= λ n. each_number bits more >>= λ ns. Some (n ∷ ns)
+
+-- ---- lists of ids
+
+abbrev pub is_comma : ℕ → Bool
+is_comma b = nat_eq b 44
+
+-- the ids that one word spells: numbers of 32 bits with commas between them, at least one
+unfoldable pub ids_of : List ℕ → Option (List ℕ)
+ids_of word = each_number 32 (slice_split is_comma word)

@@ -2,12 +2,13 @@
 use Rattle.std.specs.Prelude.{ℕ, ◌≤◌, ⊤, List, length}
 use Rattle.ov_ids.specs.Limits.{Limits}
 use Rattle.ov_run.specs.declared.fault.RunFault.{RunFault}
-use Rattle.ov_run.specs.declared.fault.RunFault.TheVariants.{Line, Params, Read, Write, OutOfMemory}
+use Rattle.ov_run.specs.declared.fault.RunFault.TheVariants.{Line, Params, Graph, Read, Write, OutOfMemory}
 
 -- out of memory, or the fault of one of the lines up to this one, which are counted from 1; no fault of a device
 abbrev pub IsUpTo : ℕ → RunFault → Type 0
 IsUpTo last (Line n) = (1 ≤ n) × (n ≤ last)
 IsUpTo last (Params n) = (1 ≤ n) × (n ≤ last)
+IsUpTo last (Graph fault) = ⊥
 IsUpTo last Read = ⊥
 IsUpTo last Write = ⊥
 IsUpTo last OutOfMemory = ⊤

@@ -1,7 +1,6 @@
 -- What a scenario prints as it runs: b is the book before, and u after. The books are those of a world with its
 -- reports; what an event does to them is `Happened`, and why it is refused `IsRefusal`.
-use Rattle.std.specs.Prelude.{◌≡◌, ◌⊎◌, ℕ, ◌+◌, List, [], ◌∷◌, ◌++◌, length, Option, None, IfSome, codes}
-use Rattle.std.specs.FinMap as map
+use Rattle.std.specs.Prelude.{◌≡◌, ◌⊎◌, ℕ, ◌+◌, List, [], ◌∷◌, ◌++◌, length, Option, IfSome, codes}
 use Rattle.std.specs.Io.KnownBytes.{Appends}
 use Rattle.serde_json.specs.Written.{compact_text}
 use Rattle.ov_certfile.specs.DataOf.{data_of}
@@ -13,7 +12,7 @@ use Rattle.ov_net.specs.Refusals as net
 use Rattle.ov_net.specs.declared.entry.Entry.{Entry}
 use Rattle.ov_net.specs.declared.event.Event.{Event}
 use Rattle.ov_net.specs.declared.fault.NetFault.{NetFault}
-use Rattle.ov_snap.specs.Book.{Book, HasReport, unwritten}
+use Rattle.ov_snap.specs.Book.{Book, HasReportOfAll, unwritten}
 use Rattle.ov_snap.specs.Exact.{Reported}
 use Rattle.ov_snap.specs.Run.{Happened}
 use Rattle.ov_run.specs.Printed.{entry_line, refused_line, node_line, packet_line}
@@ -46,13 +45,13 @@ PrintsPackets place (packet ∷ packets) text =
     (bytes : List ℕ) × (others : List ℕ) × Spelling packet.1 bytes × PrintsPackets (place + 1) packets others
     × (text ≡ packet_line place packet.0 bytes ++ others)
 
--- the certificate file of the report that is filed for this moment, or 99 where there is no memory for the file;
--- without a report it is refused with 50
+-- the certificate file of the report that is filed for this moment and the group of all nodes, or 99 where there is no
+-- memory for the file; without a report it is refused with 50
 abbrev pub PrintsReport : Book → ℕ → List ℕ → Type 0
 PrintsReport b moment text =
-    ((r : Reported) × HasReport b moment r
+    ((r : Reported) × HasReportOfAll b moment r
     × ((text ≡ compact_text (data_of r.cert r.graph r.members r.moment) ++ codes "\n") ⊎ (text ≡ refused_line 99)))
-    ⊎ ((map.get b.reports moment ≡ None) × (text ≡ refused_line 50))
+    ⊎ (((r : Reported) → ¬ HasReportOfAll b moment r) × (text ≡ refused_line 50))
 
 -- what is looked at
 abbrev pub PrintsLook : Book → Look → List ℕ → Type 0

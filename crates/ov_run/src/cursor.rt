@@ -1,5 +1,5 @@
 ghost use Rattle.std.specs.Prelude.{◌≡◌, ◌==◌, ◌∷◌, [], length, drop, IfSome, MatchOption};
-ghost use Rattle.ov_run.specs.Lines.{words_of, behind_word, without_space, one, two, three};
+ghost use Rattle.ov_run.specs.Lines.{words_of, behind_word, without_space, same, one, two, three};
 ghost use Rattle.ov_run.specs.Code.Spaced.{first_number};
 
 use crate::number::{read_number, read_short_number};
@@ -115,4 +115,11 @@ impl<'a> Cursor<'a> {
         let first = self.short_number()?;
         Some((first, self.last_two()?))
     }
+}
+
+/// Whether two words are the same.
+pub(crate) fn is_word(word: &[u8], name: &[u8]) -> bool
+    ensures { result ≡ same word.now name.now }
+{
+    word == name
 }

@@ -1,6 +1,6 @@
 ghost use Rattle.std.specs.Prelude.{◌≡◌, ◌⊎◌, ◌+◌, ◌-◌, ◌^◌, ◌<◌, IfOk, IfErr, IfSome, OnOk, IsErrOf, IsTrue, is_some};
 ghost use Rattle.ov_run.specs.Begun.{Begins};
-ghost use Rattle.ov_run.specs.Faults.{line_of, read_failures, write_failures};
+ghost use Rattle.ov_run.specs.Faults.{line_of, read_failures, write_failures, IsOfGraph};
 ghost use Rattle.ov_run.specs.Running.{Prints};
 ghost use Rattle.ov_run.specs.Scenarios.{IsFaulty};
 
@@ -34,6 +34,7 @@ pub fn run<R: Read, W: Write>(
     ensures source { source.new.faults ≡ source.old.faults + read_failures result }
     ensures sink { sink.new.faults ≡ sink.old.faults + write_failures result }
     ensures no_bytes { IsErrOf result RunFault.Read → sink.new ≡ sink.old }
+    ensures kind { IfErr result (λ f. ¬ IsOfGraph f) }
     ensures refused { IfErr result (λ f. IsTrue (is_some (line_of f)) → sink.new ≡ sink.old) }
     ensures faulty { IfErr result
         (λ f. IsTrue (is_some (line_of f)) → IfSome (R.remaining source.old.reader) (λ bytes. IsFaulty bytes f)) }

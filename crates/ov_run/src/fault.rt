@@ -1,13 +1,15 @@
 ghost use Rattle.std.specs.Prelude.{◌≡◌};
-ghost use Rattle.ov_run.specs.Faults.{number_of, line_of, fault_of_read};
+ghost use Rattle.ov_run.specs.Faults.{number_of, line_of, fault_of_read, fault_of_graph};
 ghost use Rattle.ov_run.specs.declared.fault.RunFault.TheVariants.{OutOfMemory as wants_memory, Write as not_written};
 
 use ov_certfile::{ReadFault, WriteFault};
+use ov_graph::GraphFault;
 use ov_ids::OutOfMemory;
 use std::alloc::{AllocError, AllocFailed};
 use thiserror::Error;
 
-/// Why a scenario is not run to its end. It is shown as what is printed of it on standard error.
+/// Why a scenario is not run to its end, or a graph file not analysed. It is shown as what is printed of it on standard
+/// error.
 #[derive(Clone, Copy, Debug, PartialEq, Eq, Error)]
 pub enum RunFault {
     /// This line of the file, counted from 1, can't be read.
@@ -16,6 +18,9 @@ pub enum RunFault {
     /// The parameters on this line of the file, counted from 1, are out of their limits.
     #[error("line {0}: refused 21")]
     Params(usize),
+    /// The nodes and links of the file are no graph.
+    #[error("refused {}", .0.number())]
+    Graph(GraphFault),
     /// The reader failed, or there is none.
     #[error("refused 71")]
     Read,
@@ -35,6 +40,7 @@ impl RunFault {
         match self {
             RunFault::Line(_) => 70,
             RunFault::Params(_) => 21,
+            RunFault::Graph(fault) => fault.number(),
             RunFault::Read => 71,
             RunFault::Write => 72,
             RunFault::OutOfMemory => 99,
@@ -47,7 +53,7 @@ impl RunFault {
     {
         match self {
             RunFault::Line(line) | RunFault::Params(line) => Some(*line),
-            RunFault::Read | RunFault::Write | RunFault::OutOfMemory => None,
+            RunFault::Graph(_) | RunFault::Read | RunFault::Write | RunFault::OutOfMemory => None,
         }
     }
 }
@@ -73,6 +79,17 @@ impl From<OutOfMemory> for RunFault {
 
     fn from(_fault: OutOfMemory) -> RunFault {
         RunFault::OutOfMemory
+    }
+}
+
+impl From<GraphFault> for RunFault {
+    ghost from_gives = { λ fault e. e ≡ fault_of_graph fault };
+
+    fn from(fault: GraphFault) -> RunFault {
+        match fault {
+            GraphFault::OutOfMemory => RunFault::OutOfMemory,
+            _ => RunFault::Graph(fault),
+        }
     }
 }
 

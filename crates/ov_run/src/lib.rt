@@ -1,10 +1,14 @@
-//! Scenarios of overlay nodes: how they are read, run and printed, and what the words of the command ask for.
+//! Scenarios of overlay nodes and graph files: how they are read, run or analysed, and printed, and what the words of
+//! the command ask for.
 #![tactic(auto)]
 
+mod analysing;
 mod cursor;
 mod drawing;
 mod engine;
 mod fault;
+mod graph_file;
+mod id_list;
 mod judging;
 mod kept_lines;
 mod line;
@@ -18,9 +22,12 @@ mod text;
 mod turning;
 mod words;
 
+pub use analysing::analyse_file;
 pub use drawing::draw;
 pub use engine::run;
 pub use fault::RunFault;
+pub use graph_file::read_graph;
+pub use id_list::read_ids;
 pub use line::{Line, Look, Scenario};
 pub use printing::{entry_line, node_line, packet_line, refused_line};
 pub use reading::read_scenario;

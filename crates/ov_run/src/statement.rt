@@ -1,9 +1,9 @@
 ghost use Rattle.std.specs.Prelude.{◌≡◌, IfOk, option_map};
-ghost use Rattle.ov_run.specs.Lines.{words_of, same, two, three};
+ghost use Rattle.ov_run.specs.Lines.{words_of, two, three};
 ghost use Rattle.ov_run.specs.Statements.{seven_numbers, event_words, report_of, timer_of, boot_of, broadcast_of};
 ghost use Rattle.ov_run.specs.Statements.{event_of, named, statement_of};
 
-use crate::cursor::Cursor;
+use crate::cursor::{Cursor, is_word};
 use crate::line::Look;
 use ov_ids::{MsgId, NodeId, OutOfMemory, Seq};
 use ov_net::Event;
@@ -43,13 +43,6 @@ pub(crate) fn read_statement(alloc: Global, text: &[u8]) -> Result<Option<Statem
         return Ok(read_broadcast(alloc, &mut cursor)?);
     }
     Ok(read_named(name, &mut cursor))
-}
-
-/// Whether two words are the same.
-fn is_word(word: &[u8], name: &[u8]) -> bool
-    ensures { result ≡ same word.now name.now }
-{
-    word == name
 }
 
 /// Reads what follows the name `broadcast`: the node, and the payload as it stands behind one space.

@@ -1,14 +1,13 @@
-ghost use Rattle.std.specs.Prelude.{◌≡◌, ◌≤◌, IfOk, IfSome};
-ghost use Rattle.ov_run.specs.Wanted.{HasWorkersInRange, number_of};
+ghost use Rattle.std.specs.Prelude.{◌≡◌, ◌<◌, length, IfOk, IfSome};
+ghost use Rattle.ov_run.specs.Wanted.{HasGroupOfIds, number_of};
 ghost use Rattle.ov_run.specs.declared.words.WordsFault.TheVariants.{OutOfMemory as wants_memory};
 
+use crate::id_list::read_ids;
 use clap::error::ErrorKind;
 use clap::{Arg, ArgAction, ArgMatches, Command, Error as ClapError};
+use ov_ids::{NodeId, OutOfMemory};
 use std::alloc::{AllocError, Global};
 use thiserror::Error;
-
-/// The most workers that an analysis may have.
-const MAX_WORKERS: u32 = 64;
 
 /// What the words of a command line ask for. Without a file it is standard input.
 #[derive(Debug, PartialEq, Eq, Drop)]
@@ -17,11 +16,13 @@ pub enum Wanted {
     Run {
         file: Option<String>,
     },
-    /// To analyse a graph file by this many workers, 1 to 64, and to print the certificate too if that is asked for.
+    /// To analyse a graph file for the group of these ids, or of all nodes, to print the certificate too if that is
+    /// asked for, and to tell how far the analysis has come if that is.
     Analyse {
         file: Option<String>,
-        workers: u32,
+        group: Option<Vec<NodeId>>,
         certificate: bool,
+        progress: bool,
     },
 }
 
@@ -56,6 +57,14 @@ impl From<AllocError> for WordsFault {
     }
 }
 
+impl From<OutOfMemory> for WordsFault {
+    ghost from_gives = { λ _ e. e ≡ wants_memory };
+
+    fn from(_fault: OutOfMemory) -> WordsFault {
+        WordsFault::OutOfMemory
+    }
+}
+
 impl From<ClapError> for WordsFault {
     fn from(error: ClapError) -> WordsFault {
         match error.kind() {
@@ -65,12 +74,12 @@ impl From<ClapError> for WordsFault {
     }
 }
 
-/// Reads the words that stand behind the program's name: `run [FILE]` or `analyse [FILE] [--workers N]
-/// [--certificate]`, and of no word `run`. A file that is absent or `-` is standard input. N is 1 to 64, in digits
-/// alone, and 1 where it is not given; no option may stand twice. All other words are refused, `--` and those that ask
-/// for help too.
+/// Reads the words that stand behind the program's name: `run [FILE]` or `analyse [FILE] [--group IDS] [--certificate]
+/// [--progress]`, and of no word `run`. A file that is absent or `-` is standard input. IDS are one or more ids with
+/// commas between them, each of decimal digits and of 32 bits; no option may stand twice. All other words are refused,
+/// `--` and those that ask for help too.
 pub fn read_words(alloc: Global, words: &[String]) -> Result<Wanted, WordsFault>
-    ensures workers { IfOk result HasWorkersInRange }
+    ensures group { IfOk result HasGroupOfIds }
 {
     if words.iter().any(|word| word.as_str() == "--") {
         return Err(WordsFault::Words);
@@ -83,8 +92,9 @@ pub fn read_words(alloc: Global, words: &[String]) -> Result<Wanted, WordsFault>
         }),
         Some((_, matches)) => Ok(Wanted::Analyse {
             file: file_of(alloc, matches)?,
-            workers: workers_of(matches)?,
+            group: group_of(alloc, matches)?,
             certificate: matches.get_flag("certificate"),
+            progress: matches.get_flag("progress"),
         }),
     }
 }
@@ -92,16 +102,20 @@ pub fn read_words(alloc: Global, words: &[String]) -> Result<Wanted, WordsFault>
 /// The words that `overlay` takes.
 fn command<'a>(alloc: Global) -> Result<Command<'a>, AllocError> {
     let run = Command::new(alloc, "run").arg(Arg::new(alloc, "file"))?;
-    let workers = Arg::new(alloc, "workers")
-        .long("workers")
+    let group = Arg::new(alloc, "group")
+        .long("group")
         .action(ArgAction::Set);
     let certificate = Arg::new(alloc, "certificate")
         .long("certificate")
         .action(ArgAction::SetTrue);
+    let progress = Arg::new(alloc, "progress")
+        .long("progress")
+        .action(ArgAction::SetTrue);
     let analyse = Command::new(alloc, "analyse")
         .arg(Arg::new(alloc, "file"))?
-        .arg(workers)?
-        .arg(certificate)?;
+        .arg(group)?
+        .arg(certificate)?
+        .arg(progress)?;
     Command::new(alloc, "overlay")
         .no_binary_name(true)
         .subcommand(run)?
@@ -117,18 +131,16 @@ fn file_of(alloc: Global, matches: &ArgMatches) -> Result<Option<String>, AllocE
     }
 }
 
-/// The number of workers that is given, or 1.
-fn workers_of(matches: &ArgMatches) -> Result<u32, WordsFault>
-    ensures { IfOk result (λ n. (1 ≤ n) × (n ≤ 64)) }
+/// The ids of the group that is given, or nothing.
+#[tactic(auto, using(crate::proofs::Spelling::some_id))]
+fn group_of(alloc: Global, matches: &ArgMatches) -> Result<Option<Vec<NodeId>>, WordsFault>
+    ensures { IfOk result (λ group. IfSome group (λ ids. 0 < length ids.items)) }
 {
-    let Some(text) = matches.get_str("workers") else {
-        return Ok(1);
+    let Some(text) = matches.get_str("group") else {
+        return Ok(None);
     };
-    if text.starts_with('+') {
-        return Err(WordsFault::Words);
-    }
-    match text.parse::<u32>() {
-        Ok(workers) if workers >= 1 && workers <= MAX_WORKERS => Ok(workers),
-        _ => Err(WordsFault::Words),
+    match read_ids(alloc, text.as_bytes())? {
+        Some(ids) => Ok(Some(ids)),
+        None => Err(WordsFault::Words),
     }
 }

@@ -1,62 +1,124 @@
 -- The refusals of a book, step by step.
-use Rattle.std.proofs.Common.{◌≡◌, ◌≢◌, ◌⊎◌, Bool, false, true≢false, eqb, length, cond, ne_eqb, ℕ, List, [], ◌∷◌, None, Some, inl, inr, refl, sym, ap, ◌∙◌, subst}
-use Rattle.std.specs.Cmp.{nat_cmp_total, unsigned_ties}
-use Rattle.std.proofs.lemmas.Bool.{cases_eq}
-use Rattle.std.specs.FinMap as map
+use Rattle.std.proofs.Common.{◌≡◌, ◌≢◌, Bool, false, true≢false, eqb, length, ℕ, List, [], ◌∷◌, None, Some, inl, inr}
+use Rattle.std.proofs.Common.{refl, sym, ap, ◌∙◌, subst}
 use Rattle.std.proofs.lemmas.Option.{none-some}
 use Rattle.ov_ids.specs.Members.{Has}
-use Rattle.ov_graph.specs.Links.{LinkGraph}
-use Rattle.ov_net.specs.Journal.{AreLinks}
-use Rattle.ov_snap.specs.Book.{Book, HasReport, KeepsReports}
+use Rattle.ov_ids.specs.Steps.{Step, Passed}
+use Rattle.ov_ids.proofs.Stepping.{step_none}
+use Rattle.ov_graph.specs.Links.{LinkGraph, IsGroup}
+use Rattle.ov_net.specs.Journal.{AreLinks, Live}
+use Rattle.ov_net.proofs.OneGraph.{links_one}
+use Rattle.ov_snap.specs.Book.{Book, HasReport}
 use Rattle.ov_snap.specs.Exact.{Reported}
-use Rattle.ov_snap.specs.Refusals.{BeginJudged, FilingJudged, IsBeginRefusal}
+use Rattle.ov_snap.specs.Refusals.{BeginJudged, FilingJudged, GroupBeginJudged}
 use Rattle.ov_snap.specs.Snapshots.{IsMoment}
 use Rattle.ov_snap.specs.declared.fault.BookFault.{BookFault}
-use Rattle.ov_snap.specs.declared.fault.BookFault.TheVariants.{NoSuchMoment, NoNodes, OtherGraph, AlreadyFiled}
-use Rattle.ov_net.proofs.OneGraph.{links_one}
+use Rattle.ov_snap.specs.declared.fault.BookFault.TheVariants.{NoSuchMoment, NoNodes, BadGroup, OtherGraph}
+use Rattle.ov_snap.specs.declared.fault.BookFault.TheVariants.{AlreadyFiled}
 
 some_node : (ns : List ℕ) (b : Bool) → b ≡ eqb (length ns) 0 → b ≡ false → (a : ℕ) × Has ns a
 some_node [] b is isnt = absurd (true≢false (sym is ∙ isnt))
 some_node (n ∷ ns) b is isnt = (n, inl refl)
 
 -- an analysis begins
-pub begin_no_moment : (b : Book) (m : ℕ) (f : BookFault) → (f ≡ NoSuchMoment) × (¬ IsMoment b.world.journal m) → IsBeginRefusal b m f
-begin_no_moment b m f h = inl (inr (h.1, ap (λ (x : BookFault). Some x) h.0))
+pub begin_no_moment : (b : Book) (m : ℕ) (f : BookFault) → (f ≡ NoSuchMoment) × (¬ IsMoment b.world.journal m)
+    → BeginJudged b m (Some f)
+begin_no_moment b m f h = inr (h.1, ap (λ (x : BookFault). Some x) h.0)
 
-pub begin_no_nodes : (b : Book) (m : ℕ) (g : LinkGraph) → IsMoment b.world.journal m × AreLinks b.world.journal m g → g.nodes ≡ [] → IsBeginRefusal b m NoNodes
-begin_no_nodes b m g h none = inl (inl (h.0, inr ((λ k. subst (λ (ns : List ℕ). Has ns k.0) none ((h.1.nodes k.0).1 k.1)), refl)))
+pub begin_no_nodes : (b : Book) (m : ℕ) (g : LinkGraph) → IsMoment b.world.journal m × AreLinks b.world.journal m g
+    → g.nodes ≡ [] → BeginJudged b m (Some NoNodes)
+begin_no_nodes b m g h none =
+    inl (h.0, inr ((λ k. subst (λ (ns : List ℕ). Has ns k.0) none ((h.1.nodes k.0).1 k.1)), refl))
 
-pub begin_living : (b : Book) (m : ℕ) (g : LinkGraph) (ns : List ℕ) (t : Bool) → IsMoment b.world.journal m × AreLinks b.world.journal m g → ns ≡ g.nodes → t ≡ eqb (length ns) 0 → t ≡ false
+pub begin_living : (b : Book) (m : ℕ) (g : LinkGraph) (ns : List ℕ) (t : Bool)
+    → IsMoment b.world.journal m × AreLinks b.world.journal m g → ns ≡ g.nodes → t ≡ eqb (length ns) 0 → t ≡ false
     → BeginJudged b m None
 begin_living b m g ns t h nodes test is =
     let n = some_node ns t test is in
     inl (h.0, inl ((n.0, (h.1.nodes n.0).0 (subst (λ (xs : List ℕ). Has xs n.0) nodes n.1)), refl))
 
+-- an analysis of a group begins, from what holds of one of all nodes
+pub group_refused : (b : Book) (m : ℕ) (q : List ℕ) (f : BookFault) → BeginJudged b m (Some f)
+    → GroupBeginJudged b m q (Some f)
+group_refused b m q f (inr h) = inr h
+group_refused b m q f (inl h) = elim h.1 [
+  | inl passed ↦ absurd (none-some f (sym passed.1))
+  | inr failed ↦ inl (h.0, inr failed)
+]
+
+begun_parts : (b : Book) (m : ℕ) → BeginJudged b m None
+    → IsMoment b.world.journal m × ((a : ℕ) × Live b.world.journal m a)
+begun_parts b m h =
+    let Lived : Type 0 = (a : ℕ) × Live b.world.journal m a in
+    let first = step_none (IsMoment b.world.journal m) NoSuchMoment (Step Lived NoNodes Passed) h in
+    (first.0, (step_none Lived NoNodes Passed first.1).0)
+
+pub group_begins : (b : Book) (m : ℕ) (q : List ℕ) (g : LinkGraph) → BeginJudged b m None → AreLinks b.world.journal m g
+    → IsGroup g q → GroupBeginJudged b m q None
+group_begins b m q g h links group =
+    let parts = begun_parts b m h in
+    inl (parts.0, inl (parts.1, inl ((g, links, group), refl)))
+
+pub no_group : (b : Book) (m : ℕ) (q : List ℕ) (g : LinkGraph) → BeginJudged b m None → AreLinks b.world.journal m g
+    → ¬ IsGroup g q → GroupBeginJudged b m q (Some BadGroup)
+no_group b m q g h links none =
+    let parts = begun_parts b m h in
+    inl (
+      parts.0,
+      inl (
+        parts.1,
+        inr (
+          (λ k. none (subst (λ (x : LinkGraph). IsGroup x q)
+              (links_one b.world.journal m k.0 g k.1 links) k.2)),
+          refl,
+        ),
+      ),
+    )
+
 -- a report is filed
-pub filing_no_moment : (b : Book) (r : Reported) (m : ℕ) (f : BookFault) → m ≡ r.moment → (f ≡ NoSuchMoment) × (¬ IsMoment b.world.journal m) → FilingJudged b r (Some f)
-filing_no_moment b r m f at h = inr (subst (λ n. ¬ IsMoment b.world.journal n) at h.1, ap (λ (x : BookFault). Some x) h.0)
+pub filing_no_moment : (b : Book) (r : Reported) (m : ℕ) (f : BookFault) → m ≡ r.moment
+    → (f ≡ NoSuchMoment) × (¬ IsMoment b.world.journal m) → FilingJudged b r (Some f)
+filing_no_moment b r m f at h =
+    inr (subst (λ n. ¬ IsMoment b.world.journal n) at h.1, ap (λ (x : BookFault). Some x) h.0)
 
-pub filing_other : (b : Book) (r : Reported) (m : ℕ) (g : LinkGraph) → m ≡ r.moment → IsMoment b.world.journal m × AreLinks b.world.journal m g → r.graph ≢ g → FilingJudged b r (Some OtherGraph)
+pub filing_other : (b : Book) (r : Reported) (m : ℕ) (g : LinkGraph) → m ≡ r.moment
+    → IsMoment b.world.journal m × AreLinks b.world.journal m g → r.graph ≢ g → FilingJudged b r (Some OtherGraph)
 filing_other b r m g at h other =
-    inl (subst (IsMoment b.world.journal) at h.0, inr ((λ k. other (links_one b.world.journal r.moment r.graph g k (subst (λ n. AreLinks b.world.journal n g) at h.1))), refl))
+    inl (
+      subst (IsMoment b.world.journal) at h.0,
+      inr (
+        (λ k. other (links_one b.world.journal r.moment r.graph g k
+            (subst (λ n. AreLinks b.world.journal n g) at h.1))),
+        refl,
+      ),
+    )
 
-own_links : (b : Book) (r : Reported) (m : ℕ) (g : LinkGraph) → m ≡ r.moment → AreLinks b.world.journal m g → r.graph ≡ g → AreLinks b.world.journal r.moment r.graph
-own_links b r m g at h same = subst (AreLinks b.world.journal r.moment) (sym same) (subst (λ n. AreLinks b.world.journal n g) at h)
+own_links : (b : Book) (r : Reported) (m : ℕ) (g : LinkGraph) → m ≡ r.moment → AreLinks b.world.journal m g
+    → r.graph ≡ g
+    → AreLinks b.world.journal r.moment r.graph
+own_links b r m g at h same =
+    subst (AreLinks b.world.journal r.moment) (sym same) (subst (λ n. AreLinks b.world.journal n g) at h)
 
-pub filing_again : (b : Book) (r : Reported) (m : ℕ) (g : LinkGraph) → m ≡ r.moment → IsMoment b.world.journal m × AreLinks b.world.journal m g → r.graph ≡ g → map.get b.reports m ≢ None
+pub filing_again : (b : Book) (r : Reported) (m : ℕ) (q : List ℕ) (g : LinkGraph) (x : Reported) → m ≡ r.moment
+    → q ≡ r.members → IsMoment b.world.journal m × AreLinks b.world.journal m g → r.graph ≡ g → HasReport b m q x
     → FilingJudged b r (Some AlreadyFiled)
-filing_again b r m g at h same filed =
-    inl (subst (IsMoment b.world.journal) at h.0, inl (own_links b r m g at h.1 same, inr (subst (λ n. ¬ (map.get b.reports n ≡ None)) at filed, refl)))
-
-pub filing_passes : (b : Book) (r : Reported) (m : ℕ) (g : LinkGraph) → m ≡ r.moment → IsMoment b.world.journal m × AreLinks b.world.journal m g → r.graph ≡ g → map.get b.reports m ≡ None
-    → FilingJudged b r None
-filing_passes b r m g at h same free =
-    inl (subst (IsMoment b.world.journal) at h.0, inl (own_links b r m g at h.1 same, inl (subst (λ n. map.get b.reports n ≡ None) at free, refl)))
-
--- what was filed stays
-pub filed_stays : (b u : Book) (r : Reported) → map.get b.reports r.moment ≡ None → u ≡ record b { reports = map.insert b.reports r.moment r } → KeepsReports b u
-filed_stays b u r free is m x h = subst (λ (y : Book). HasReport y m x) (sym is) (by (cases_eq m r.moment))
+filing_again b r m q g x at group h same filed =
+    inl (
+      subst (IsMoment b.world.journal) at h.0,
+      inl (own_links b r m g at h.1 same, inr ((λ free. free (x, own)), refl)),
+    )
   where
-    by : (m ≡ r.moment) ⊎ (m ≢ r.moment) → map.get (map.insert b.reports r.moment r) m ≡ Some x
-    by (inl e) = absurd (none-some x (sym free ∙ subst (λ n. map.get b.reports n ≡ Some x) e h))
-    by (inr other) = map.get-insert nat_cmp_total b.reports r.moment r m ∙ ap (λ t. cond t (Some r) (map.get b.reports m)) (sym (unsigned_ties m r.moment) ∙ ne_eqb m r.moment other) ∙ h
+    own : HasReport b r.moment r.members x
+    own = record { filed = filed.filed; moment = filed.moment ∙ at; members = filed.members ∙ group }
+
+pub filing_passes : (b : Book) (r : Reported) (m : ℕ) (q : List ℕ) (g : LinkGraph) → m ≡ r.moment → q ≡ r.members
+    → IsMoment b.world.journal m × AreLinks b.world.journal m g → r.graph ≡ g
+    → ((x : Reported) → ¬ HasReport b m q x) → FilingJudged b r None
+filing_passes b r m q g at group h same free =
+    inl (
+      subst (IsMoment b.world.journal) at h.0,
+      inl (own_links b r m g at h.1 same, inl ((λ k. free k.0 (was k.0 k.1)), refl)),
+    )
+  where
+    was : (x : Reported) → HasReport b r.moment r.members x → HasReport b m q x
+    was x k = record { filed = k.filed; moment = k.moment ∙ sym at; members = k.members ∙ sym group }

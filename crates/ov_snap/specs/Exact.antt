@@ -1,8 +1,10 @@
 -- Reports, and which are exact (Menger, Fund. Math. 10, 1927; Even, SIAM J. Comput. 4, 1975).
-use Rattle.std.specs.Prelude.{ℕ, List}
+use Rattle.std.specs.Prelude.{◌≡◌, ℕ, List, None}
 use Rattle.ov_graph.specs.Links.{LinkGraph}
-use Rattle.ov_graph.specs.Joined.{FewestForGroup}
+use Rattle.ov_graph.specs.Joined.{NoFewerSplit, FewestForGroup}
+use Rattle.ov_cert.specs.Laws.{ReachesNumber}
 use Rattle.ov_cert.specs.Valid.{IsValidForGroup, k_of}
+use Rattle.ov_cert.specs.Verdict.{JudgedForGroup}
 use Rattle.ov_cert.specs.declared.cert.Cert.{Cert}
 use Rattle.ov_net.specs.Journal.{AreLinks}
 use Rattle.ov_net.specs.declared.entry.Entry.{Entry}
@@ -15,11 +17,22 @@ pub record Reported : Type 0 where
   pub members : List ℕ
   pub cert : Cert
 
--- a report is exact for a journal: it names a moment, its graph has the links that both ends held then, its certificate is valid
--- for that graph and the group, and the certificate's number is the fewest crashes that split the group, or one less than its
--- members where every two are linked
+-- a report is exact for a journal: it names a moment, its graph has the links that both ends held then, its certificate
+-- is valid for that graph and the group, and the certificate's number is the fewest crashes that split the group, or
+-- one less than its members where every two are linked
 pub record IsExact (journal : List Entry) (r : Reported) : Type 0 where
   pub moment : IsMoment journal r.moment
   pub links : AreLinks journal r.moment r.graph
   pub valid : IsValidForGroup r.graph r.members r.cert
   pub fewest : FewestForGroup r.graph r.members (k_of r.cert)
+
+-- what a report says is so: the moment that it names is a snapshot's; its graph has the links that both ends held then;
+-- crashing the k nodes that it names leaves two surviving members that are not joined, or every two members are linked
+-- and k is one less than their number; without any fewer nodes every two surviving members are joined; and the checker,
+-- given graph, group and certificate alone, says yes
+pub record IsSo (journal : List Entry) (r : Reported) : Type 0 where
+  pub moment : IsMoment journal r.moment
+  pub links : AreLinks journal r.moment r.graph
+  pub reached : ReachesNumber r.graph r.members r.cert
+  pub no_fewer : NoFewerSplit r.graph r.members (k_of r.cert)
+  pub verdict : JudgedForGroup r.graph r.members r.cert None

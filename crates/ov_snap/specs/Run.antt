@@ -1,7 +1,7 @@
--- What the steps of a book do, and what a list of them makes of a book in which nothing happened: b before, and u after.
+-- What the steps of a book do, and what a list of them makes of a book in which nothing happened: b before, u after.
 use Rattle.std.specs.Prelude.{◌≡◌, ◌⊎◌, ℕ, List, [], ◌∷◌, ◌++◌, length, Some, None}
-use Rattle.std.specs.FinMap as map
 use Rattle.ov_ids.specs.Limits.{Limits}
+use Rattle.ov_cert.specs.Valid.{IsValidForGroup}
 use Rattle.ov_net.specs.NetStep.{NetStep}
 use Rattle.ov_net.specs.Refusals.{Judged}
 use Rattle.ov_net.specs.declared.entry.Entry.{Entry}
@@ -15,8 +15,9 @@ use Rattle.ov_snap.specs.declared.fault.BookFault.{BookFault}
 use Rattle.ov_snap.specs.declared.steps.CoreStep.{CoreStep}
 use Rattle.ov_snap.specs.declared.steps.CoreStep.TheVariants.{Net, File}
 
--- an event happened: no refusal stood, the world took one step of it, the entry that tells it stands last in the journal and is
--- numbered by its place there, the links are kept where the event is a snapshot, and the reports are the same
+-- an event happened: no refusal stood, the world took one step of it, the entry that tells it stands last in the
+-- journal and is numbered by its place there, the links are kept where the event is a snapshot, and the reports are the
+-- same
 pub record Happened (b : Book) (event : Event) (words : List ℕ) (e : Entry) (u : Book) : Type 0 where
   pub judged : Judged b.world.net (length b.world.journal) event None
   pub step : NetStep b.world.net event words u.world.net e
@@ -25,10 +26,12 @@ pub record Happened (b : Book) (event : Event) (words : List ℕ) (e : Entry) (u
   pub snapshots : SnapshotsAfter u.world.journal event b.snapshots u.snapshots
   pub reports : u.reports ≡ b.reports
 
--- a report was filed: no refusal stood, it is the report of its moment, and nothing else changed
+-- a report was filed: no refusal stood, its certificate is valid, as the type of reports keeps, it stands last among
+-- the reports, and nothing else changed
 pub record WasFiled (b : Book) (r : Reported) (u : Book) : Type 0 where
   pub judged : FilingJudged b r None
-  pub reports : u ≡ record b { reports = map.insert b.reports r.moment r }
+  pub valid : IsValidForGroup r.graph r.members r.cert
+  pub reports : u ≡ record b { reports = b.reports ++ r ∷ [] }
 
 -- one step: it was accepted, or the first refusal that stood left all as it was
 abbrev pub Takes : Book → CoreStep → Book → Type 0

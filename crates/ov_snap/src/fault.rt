@@ -1,6 +1,6 @@
 ghost use Rattle.std.specs.Prelude.{◌≡◌};
 ghost use Rattle.ov_snap.specs.Refusals.{number_of};
-ghost use Rattle.ov_snap.specs.declared.fault.BookFault.TheVariants.{OutOfMemory as wants_memory};
+ghost use Rattle.ov_snap.specs.declared.fault.BookFault.TheVariants.{OutOfMemory as out_of_memory};
 
 use thiserror::Error;
 
@@ -13,11 +13,14 @@ pub enum BookFault {
     /// Nobody lived at this moment.
     #[error("nobody lived at this moment")]
     NoNodes,
+    /// These are no group of the graph of this moment.
+    #[error("these are no group of the nodes of this moment")]
+    BadGroup,
     /// The graph is another one than that of the moment.
     #[error("the graph is not that of the moment")]
     OtherGraph,
-    /// A report is filed for this moment.
-    #[error("a report is filed for this moment")]
+    /// A report is filed for this moment and group.
+    #[error("a report is filed for this moment and group")]
     AlreadyFiled,
     /// A growth was refused.
     #[error("out of memory")]
@@ -25,13 +28,14 @@ pub enum BookFault {
 }
 
 impl BookFault {
-    /// The fault's number: 50, 30, 51 and 52 in the order above, or 99 for want of memory.
+    /// The fault's number: 50, 30, 34, 51 and 52 in the order above, or 99 out of memory.
     pub fn number(&self) -> u32
         ensures { result ≡ number_of self.now }
     {
         match self {
             BookFault::NoSuchMoment => 50,
             BookFault::NoNodes => 30,
+            BookFault::BadGroup => 34,
             BookFault::OtherGraph => 51,
             BookFault::AlreadyFiled => 52,
             BookFault::OutOfMemory => 99,
@@ -40,7 +44,7 @@ impl BookFault {
 }
 
 impl From<ov_ids::OutOfMemory> for BookFault {
-    ghost from_gives = { λ _ e. e ≡ wants_memory };
+    ghost from_gives = { λ _ e. e ≡ out_of_memory };
 
     fn from(_error: ov_ids::OutOfMemory) -> BookFault {
         BookFault::OutOfMemory

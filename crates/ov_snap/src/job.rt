@@ -1,8 +1,24 @@
+ghost use Rattle.std.specs.Prelude.{◌≡◌, IfOk};
+
+use crate::snapshot::Snapshot;
 use ov_graph::Graph;
+use ov_ids::OutOfMemory;
 
 /// What an analysis is given: a moment, and the links that both ends held then.
 #[derive(Drop)]
 pub struct Job {
     pub moment: u32,
     pub graph: Graph,
+}
+
+impl Job {
+    /// What an analysis of this snapshot is given.
+    pub(crate) fn of(snapshot: &Snapshot) -> Result<Job, OutOfMemory>
+        ensures moment { IfOk result (λ job. job.moment ≡ snapshot.now.moment) }
+        ensures graph { IfOk result (λ job. job.graph ≡ snapshot.now.graph) }
+    {
+        let graph = snapshot.graph.copy()?;
+        let moment = snapshot.moment;
+        Ok(Job { moment, graph })
+    }
 }

@@ -4,6 +4,7 @@
 mod book;
 mod fault;
 mod job;
+mod laws;
 mod report;
 mod reports;
 mod snapshot;
@@ -12,5 +13,6 @@ mod steps;
 pub use book::Core;
 pub use fault::BookFault;
 pub use job::Job;
+pub use laws::every_report_is_so;
 pub use report::Report;
 pub use steps::{CoreStep, run_core};

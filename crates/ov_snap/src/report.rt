@@ -1,6 +1,9 @@
 ghost use Rattle.std.specs.Prelude.{◌≡◌};
+ghost use Rattle.ov_snap.specs.Code.Index.{key_cmp, key_of};
 
 use ov_cert::Checked;
+use ov_ids::NodeId;
+use std::cmp::Ordering;
 use std::marker::Model;
 
 /// A moment, and a graph with a group and a certificate that is valid for them.
@@ -15,13 +18,23 @@ impl Model for Report {
 
     ghost Value = { Reported };
 
-    ghost view = { λ r. record { moment = r.moment; graph = r.checked.graph; members = r.checked.members; cert = r.checked.cert } };
+    ghost view = { λ r. record {
+      moment = r.moment;
+      graph = r.checked.graph;
+      members = r.checked.members;
+      cert = r.checked.cert;
+    } };
 }
 
 impl Report {
     /// A report of this moment. It takes no memory.
     pub fn new(moment: u32, checked: Checked) -> Report
-        ensures { result ≡ record { moment = moment; graph = checked.graph; members = checked.members; cert = checked.cert } }
+        ensures { result ≡ record {
+          moment = moment;
+          graph = checked.graph;
+          members = checked.members;
+          cert = checked.cert;
+        } }
     {
         Report { moment, checked }
     }
@@ -38,5 +51,13 @@ impl Report {
         ensures { result.now ≡ record { graph = self.now.graph; members = self.now.members; cert = self.now.cert } }
     {
         &self.checked
+    }
+
+    /// The order by moments, and then by groups.
+    pub(crate) fn compare(&self, moment: u32, group: &[NodeId]) -> Ordering
+        ensures { result ≡ key_cmp (key_of self.now) (moment, group.now) }
+    {
+        let by_moment = self.moment.cmp(&moment);
+        by_moment.then(self.checked.members().cmp(group))
     }
 }

@@ -1,56 +1,102 @@
-ghost use Rattle.std.specs.Prelude.{◌≡◌, OnOk, OnErr};
-ghost use Rattle.std.specs.Option.{option_copied};
-ghost use Rattle.std.specs.FinMap as map;
+ghost use Rattle.std.specs.Prelude.{◌≡◌, [], ◌∷◌, ◌++◌, ◌<◌, IfSome, IfNone, IfOk, IfErr, OnOk, OnErr, length};
+ghost use Rattle.ov_ids.specs.Members.{Has};
+ghost use Rattle.ov_snap.specs.Code.Index.{AreInOrder, IsGap, key_at, key_of};
+ghost use Rattle.ov_snap.specs.Exact.{Reported};
 
 use crate::report::Report;
-use ov_ids::OutOfMemory;
+use ov_ids::{NodeId, OutOfMemory};
 use std::alloc::Global;
-use std::collections::BTreeMap;
+use std::cmp::Ordering;
 use std::marker::Model;
 
-/// The reports that are filed. Contracts see the finite map from their moments.
+/// The reports that are filed, in the order of filing, and their places in the order of moments and groups, by which
+/// they are found. Contracts see the list of reports.
 #[derive(Drop)]
 pub(crate) struct Reports {
-    filed: BTreeMap<u32, Report>,
+    filed: Vec<Report>,
+    places: Vec<usize>,
 }
 
 impl Model for Reports {
-    ghost use Rattle.std.specs.Coded.{coded_ℕ};
-    ghost use Rattle.std.specs.Ordering.{nat_cmp};
-    ghost use Rattle.std.specs.FinMap as map;
+    ghost use Rattle.std.specs.Prelude.{List};
+    ghost use Rattle.std.specs.Coded.{coded_list};
+    ghost use Rattle.ov_snap.specs.Code.Index.{AreInOrder};
     ghost use Rattle.ov_snap.specs.Exact.{Reported};
     ghost use Rattle.ov_snap.specs.contracts.report.Report as report;
 
-    ghost Value = { map.FinMap nat_cmp Reported };
+    ghost Value = { List Reported };
 
-    ghost coded = { map.code coded_ℕ report.the_row.coded };
+    ghost coded = { coded_list report.the_row.coded };
 
-    ghost view = { λ a. map.from_entries a.filed.entries };
+    ghost view = { λ a. a.filed.items };
+
+    ghost invariant = { λ a. AreInOrder a.filed.items a.places.items };
 }
 
 impl Reports {
     /// No reports. It takes no memory.
     pub(crate) fn new(alloc: Global) -> Reports
-        ensures { result ≡ map.empty }
+        ensures { result ≡ [] }
     {
         Reports {
-            filed: BTreeMap::new(alloc),
+            filed: Vec::new(alloc),
+            places: Vec::new(alloc),
         }
     }
 
-    /// The report of this moment, if one is filed.
-    pub(crate) fn get(&self, moment: u32) -> Option<&Report>
-        ensures { option_copied result ≡ map.get self.now moment }
+    /// All reports in the order of filing.
+    pub(crate) fn as_slice(&self) -> &[Report]
+        ensures { result.now ≡ self.now }
     {
-        self.filed.get(&moment)
+        self.filed.as_slice()
     }
 
-    /// Files a report for a moment.
-    pub(crate) fn insert(&mut self, moment: u32, report: Report) -> Result<(), OutOfMemory>
-        ensures ok { OnOk result (self.new ≡ map.insert self.old moment report) }
+    /// The report of this moment and group, if one is filed.
+    pub(crate) fn find(&self, moment: u32, group: &[NodeId]) -> Option<&Report>
+        ensures some { IfSome result (λ r. Has self.now r.now × (key_of r.now ≡ (moment, group.now))) }
+        ensures none { IfNone result ((r : Reported) → Has self.now r → ¬ (key_of r ≡ (moment, group.now))) }
+    {
+        match search(&self.filed, &self.places, moment, group) {
+            Ok(place) => Some(&self.filed[place]),
+            Err(_) => None,
+        }
+    }
+
+    /// Files a report behind the others.
+    pub(crate) fn push(&mut self, report: Report) -> Result<(), OutOfMemory>
+        requires { (r : Reported) → Has self.old r → ¬ (key_of r ≡ key_of report) }
+        ensures ok { OnOk result (self.new ≡ self.old ++ report ∷ []) }
         ensures err { OnErr result (self.new ≡ self.old) }
     {
-        self.filed.insert(moment, report)?;
+        let group = report.checked().members();
+        let at = match search(&self.filed, &self.places, report.moment(), group) {
+            Ok(_) => unreachable!(),
+            Err(at) => at,
+        };
+        self.filed.reserve(1)?;
+        self.places.insert(at, self.filed.len())?;
+        self.filed.push_reserved(report);
         Ok(())
     }
+}
+
+/// The place of the report of this moment and group, or else where among the places its own would stand, by halving.
+fn search(filed: &[Report], places: &[usize], moment: u32, group: &[NodeId]) -> Result<usize, usize>
+    requires { AreInOrder filed.now places.now }
+    ensures found { IfOk result (λ p. (p < length filed.now) × (key_at filed.now p ≡ (moment, group.now))) }
+    ensures gap { IfErr result (λ at. IsGap filed.now places.now (moment, group.now) at) }
+{
+    let mut low = 0;
+    let mut high = places.len();
+    while low < high {
+        let middle = low + (high - low) / 2;
+        let place = places[middle];
+        prove!(place < filed.len());
+        match filed[place].compare(moment, group) {
+            Ordering::Less => low = middle + 1,
+            Ordering::Equal => return Ok(place),
+            Ordering::Greater => high = middle,
+        }
+    }
+    Err(low)
 }

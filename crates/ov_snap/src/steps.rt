@@ -1,6 +1,7 @@
-ghost use Rattle.std.specs.Prelude.{◌≡◌, ℕ, IfOk, OnOk};
-ghost use Rattle.ov_snap.specs.Book.{HasReport, IsSound};
-ghost use Rattle.ov_snap.specs.Exact.{IsExact, Reported};
+ghost use Rattle.std.specs.Prelude.{◌≡◌, IfOk, OnOk};
+ghost use Rattle.ov_ids.specs.Members.{Has};
+ghost use Rattle.ov_snap.specs.Book.{IsSound};
+ghost use Rattle.ov_snap.specs.Exact.{IsSo, Reported};
 ghost use Rattle.ov_snap.specs.Run.{CoreRun, Takes};
 
 use crate::book::Core;
@@ -20,11 +21,11 @@ pub enum CoreStep {
     File(Report),
 }
 
-/// The core that these steps make, in order, of one in which nothing happened. A step that is refused changes nothing, and the next
-/// follows; but where memory is wanted, there is no core.
+/// The core that these steps make, in order, of one in which nothing happened. A step that is refused changes nothing,
+/// and the next follows; but out of memory there is no core. What every filed report says is so.
 pub fn run_core(alloc: Global, params: Params, steps: Vec<CoreStep>) -> Result<Core, OutOfMemory>
     ensures run { IfOk result (λ c. CoreRun params steps.items c) }
-    ensures exact { IfOk result (λ c. (m : ℕ) (r : Reported) → HasReport c m r → IsExact c.world.journal r) }
+    ensures so { IfOk result (λ c. (r : Reported) → Has c.reports r → IsSo c.world.journal r) }
     ensures sound { IfOk result IsSound }
 {
     let mut core = Core::new(alloc, params);

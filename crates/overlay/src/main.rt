@@ -1,17 +1,36 @@
-//! Runs a scenario of overlay nodes, and prints what happens.
+//! Runs a scenario of overlay nodes, and prints what happens; or analyses a graph file, and prints how many crashes of
+//! nodes part it.
 #![tactic(auto)]
 
+mod progress;
+
+use crate::progress::Progress;
 use ov_certfile::{Sink, Source};
-use ov_run::{RunFault, Wanted, WordsFault, read_words, run};
+use ov_ids::NodeId;
+use ov_run::{RunFault, Wanted, WordsFault, analyse_file, read_words, run};
 use std::env;
 use std::fs::File;
-use std::io::{Error, ErrorKind, Read};
+use std::io::{Error, ErrorKind, IsTerminal, Read};
 use std::process::ExitCode;
 
 fn main(rt: HostRuntime) -> ExitCode {
     match asked(&rt) {
         Ok(Wanted::Run { file }) => ended(&rt, run_asked(&rt, file)),
-        Ok(Wanted::Analyse { .. }) => refused(&rt, WordsFault::Words),
+        Ok(
+            Wanted::Analyse {
+                file,
+                group,
+                certificate,
+                progress,
+            },
+        ) => {
+            let asked = Analysis {
+                group,
+                certificate,
+                progress,
+            };
+            ended(&rt, analyse_asked(&rt, file, &asked))
+        }
         Err(fault) => refused(&rt, fault),
     }
 }
@@ -43,7 +62,7 @@ fn refused(rt: &HostRuntime, fault: WordsFault) -> ExitCode {
     }
 }
 
-/// Says on standard error why a run ended before its end, and answers the status.
+/// Says on standard error why a run or an analysis ended before its end, and answers the status.
 fn ended(rt: &HostRuntime, answer: Result<u8, RunFault>) -> ExitCode {
     match answer {
         Ok(status) => ExitCode::from(status),
@@ -69,4 +88,42 @@ fn run_from<R: Read + Drop>(rt: &HostRuntime, reader: R) -> Result<u8, RunFault>
     let mut source = Source::new(reader);
     let mut sink = Sink::new(rt.stdout());
     run(rt.alloc(), &mut source, &mut sink)
+}
+
+/// What is asked of an analysis, besides its file.
+#[derive(Drop)]
+struct Analysis {
+    group: Option<Vec<NodeId>>,
+    certificate: bool,
+    progress: bool,
+}
+
+/// Analyses the graph of a file, or of standard input.
+fn analyse_asked(rt: &HostRuntime, file: Option<String>, asked: &Analysis) -> Result<u8, RunFault> {
+    let Some(path) = file else {
+        return analyse_from(rt, rt.stdin(), asked);
+    };
+    match File::open(rt, path.as_str()) {
+        Ok(file) => analyse_from(rt, file, asked),
+        Err(_) => Err(RunFault::Read),
+    }
+}
+
+fn analyse_from<R: Read + Drop>(
+    rt: &HostRuntime,
+    reader: R,
+    asked: &Analysis,
+) -> Result<u8, RunFault> {
+    let mut source = Source::new(reader);
+    let mut sink = Sink::new(rt.stdout());
+    let mut progress = Progress::new(rt, asked.progress || rt.stderr().is_terminal());
+    let group = asked.group.as_deref();
+    analyse_file(
+        rt.alloc(),
+        &mut source,
+        &mut sink,
+        group,
+        asked.certificate,
+        &mut progress,
+    )
 }

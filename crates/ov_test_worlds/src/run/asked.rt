@@ -1,4 +1,5 @@
 //! The words of the command line, and the words that a seed gives.
+use ov_ids::NodeId;
 use ov_run::{Wanted, WordsFault, draw, read_words};
 use ov_words::Words;
 use std::alloc::Global;
@@ -50,34 +51,73 @@ fn words_that_ask_for_a_run(rt: HostRuntime) -> Result<(), Fail> {
     is_run(&rt, alloc, "run \u{e4}/g.txt", "\u{e4}/g.txt")
 }
 
-/// Words that ask for an analysis of the file g, with so many workers, and with a certificate or not.
-static ANALYSES: [(&str, u32, bool); 8] = [
-    ("analyse g --workers 64 --certificate", 64, true),
-    ("analyse g", 1, false),
-    ("analyse g --workers 1", 1, false),
-    ("analyse --workers 4 g", 4, false),
-    ("analyse --certificate --workers=4 g", 4, true),
-    ("analyse g --workers=64", 64, false),
-    ("analyse g --workers 0064", 64, false),
-    ("analyse g --certificate", 1, true),
+/// Words that ask for an analysis of the file g, the ids of the group if one is given, and whether the certificate and
+/// the progress are asked for.
+static ANALYSES: [(&str, &[u32], bool, bool); 11] = [
+    ("analyse g", &[], false, false),
+    ("analyse g --certificate", &[], true, false),
+    ("analyse g --progress", &[], false, true),
+    ("analyse --progress --certificate g", &[], true, true),
+    ("analyse g --group 1,2,3", &[1, 2, 3], false, false),
+    ("analyse --group 4 g", &[4], false, false),
+    ("analyse g --group=2,1", &[2, 1], false, false),
+    (
+        "analyse --certificate --group=0,4294967295 g",
+        &[0, 4294967295],
+        true,
+        false,
+    ),
+    ("analyse g --group 007,1,1", &[7, 1, 1], false, false),
+    (
+        "analyse g --group 64 --certificate --progress",
+        &[64],
+        true,
+        true,
+    ),
+    (
+        "analyse --group 1,2 --progress g --certificate",
+        &[1, 2],
+        true,
+        true,
+    ),
 ];
 
+/// The group of these ids, or none where there are none.
+fn group_of(alloc: Global, numbers: &[u32]) -> Result<Option<Vec<NodeId>>, Fail> {
+    if numbers.is_empty() {
+        return Ok(None);
+    }
+    let mut group = Vec::new(alloc);
+    for number in numbers {
+        group.push(NodeId(*number))?;
+    }
+    Ok(Some(group))
+}
+
 /// The line asks for an analysis of the file g.
-fn asks_for_g(alloc: Global, line: &str, workers: u32, certificate: bool) -> Result<bool, Fail> {
+fn asks_for_g(
+    alloc: Global,
+    line: &str,
+    numbers: &[u32],
+    certificate: bool,
+    progress: bool,
+) -> Result<bool, Fail> {
     let expected = Wanted::Analyse {
         file: file(alloc, "g")?,
-        workers,
+        group: group_of(alloc, numbers)?,
         certificate,
+        progress,
     };
     asks(alloc, line, &expected)
 }
 
-/// The line asks for an analysis by nine workers of what is read.
+/// The line asks for an analysis for the group of 9 of what is read.
 fn asks_for_nine(alloc: Global, line: &str) -> Result<bool, Fail> {
     let expected = Wanted::Analyse {
         file: None,
-        workers: 9,
+        group: group_of(alloc, &[9])?,
         certificate: false,
+        progress: false,
     };
     asks(alloc, line, &expected)
 }
@@ -85,20 +125,20 @@ fn asks_for_nine(alloc: Global, line: &str) -> Result<bool, Fail> {
 #[test]
 fn words_that_ask_for_an_analysis(rt: HostRuntime) -> Result<(), Fail> {
     let alloc = rt.alloc();
-    for (line, workers, certificate) in &ANALYSES {
+    for (line, numbers, certificate, progress) in &ANALYSES {
         assert!(rt;
-            asks_for_g(alloc, line, *workers, *certificate)?,
+            asks_for_g(alloc, line, numbers, *certificate, *progress)?,
             "at {line}"
         );
     }
-    for line in ["analyse --workers 9", "analyse - --workers 9"] {
+    for line in ["analyse --group 9", "analyse - --group 9"] {
         assert!(rt; asks_for_nine(alloc, line)?, "at {line}");
     }
     Ok(())
 }
 
 /// Words that are no words of the command, or ask for help.
-static REFUSED: [&str; 44] = [
+static REFUSED: [&str; 54] = [
     "fly",
     "-",
     "--",
@@ -109,30 +149,41 @@ static REFUSED: [&str; 44] = [
     "run -x",
     "run -- g",
     "run --",
-    "run --workers 4",
+    "run --group 4",
     "run --certificate",
+    "run --progress",
     "analyse a b",
-    "analyse -w 4",
-    "analyse --workers 0",
-    "analyse --workers 65",
+    "analyse -g 4",
+    "analyse g --group",
+    "analyse g --group=",
+    "analyse g --group x",
+    "analyse g --group 4x",
+    "analyse g --group +4",
+    "analyse g --group -4",
+    "analyse g --group=-4",
+    "analyse g --group -",
+    "analyse g --group ,",
+    "analyse g --group 1,",
+    "analyse g --group ,1",
+    "analyse g --group 1,,2",
+    "analyse g --group 1,x",
+    "analyse g --group 1, 2",
+    "analyse g --group 1 2",
+    "analyse g --group 4294967296",
+    "analyse g --group 1 --group 2",
+    "analyse g --group=1 --group 1",
+    "analyse g --gro 1",
     "analyse --workers",
-    "analyse --workers=",
-    "analyse --workers 4x",
-    "analyse --workers x",
-    "analyse --workers +4",
-    "analyse --workers -4",
-    "analyse --workers=-4",
-    "analyse --workers -",
-    "analyse --workers 4294967297",
-    "analyse --workers 18446744073709551617",
-    "analyse --workers 4 --workers 4",
-    "analyse --workers=4 --workers 5",
-    "analyse --work 4",
+    "analyse --workers 1",
+    "analyse --workers=4 g",
+    "analyse g --workers 0",
     "analyse g --certificate --certificate",
     "analyse g --certificate=yes",
     "analyse g --certificate yes",
+    "analyse g --progress --progress",
+    "analyse g --progress=yes",
     "analyse -- g",
-    "--workers 4",
+    "--group 4",
     "--help",
     "-h",
     "help",
@@ -141,7 +192,6 @@ static REFUSED: [&str; 44] = [
     "run -h",
     "analyse --help",
     "--version",
-    "-V",
     "analyse g --help",
 ];
 

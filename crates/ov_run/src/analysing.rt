@@ -1,0 +1,138 @@
+ghost use Rattle.std.specs.Prelude.{◌≡◌, ◌⊎◌, ◌+◌, ◌-◌, ◌^◌, ◌<◌, option_map, string_bytes, IfOk, IfErr, IfSome, OnOk};
+ghost use Rattle.ov_cert.specs.Valid.{IsValidForGroup};
+ghost use Rattle.ov_even.specs.Answer.{IsAnswer};
+ghost use Rattle.ov_even.specs.Faults.{IsRefusal};
+ghost use Rattle.ov_run.specs.Analysing.{answer_text, PrintsAnswer, IsAnalysis, PrintsAnalysis, BeginsAnalysis};
+ghost use Rattle.ov_run.specs.Analysing.{members_of, IsOfFile};
+ghost use Rattle.ov_run.specs.Faults.{read_failures, write_failures};
+ghost use Rattle.ov_run.specs.GraphFiles.{IsGraphFault};
+
+use crate::fault::RunFault;
+use crate::graph_file::read_graph;
+use crate::printing::refused_line;
+use ov_cert::Checked;
+use ov_certfile::{CertText, Sink, Source, to_text_group};
+use ov_even::{AnalyseFault, Watcher, analyse_group_watched};
+use ov_graph::Graph;
+use ov_ids::{NodeId, OutOfMemory};
+use std::alloc::Global;
+use std::io::{Read, Write};
+
+/// Reads a graph file to its end, finds how many crashes of nodes part a group of its nodes, writes the line of the
+/// answer, with its certificate file behind it where that is asked for, and answers the program's status, 0. Without a
+/// group it is that of all nodes. A graph without nodes and ids that are no group are lines of what is printed, and no
+/// fault. The watcher is told how far the analysis has come.
+///
+/// Line is answered for the first line that can't be read, Graph where the lines say no graph, and Read where the
+/// reader failed in this call. Write is answered where the writer failed in this call, and then a prefix of the text
+/// was written; with any other fault nothing was. OutOfMemory is answered where an allocation was refused.
+pub fn analyse_file<R: Read, W: Write, P: Watcher>(
+    alloc: Global,
+    source: &mut Source<R>,
+    sink: &mut Sink<W>,
+    group: Option<&[NodeId]>,
+    certificate: bool,
+    watcher: &mut P,
+) -> Result<u8, RunFault>
+    requires reads { source.old.faults < 2 ^ 64 - 1 }
+    requires writes { sink.old.faults < 2 ^ 64 - 1 }
+    ensures status { IfOk result (λ status. status ≡ 0) }
+    ensures prints { OnOk result
+        (PrintsAnalysis (R.remaining source.old.reader) (option_map (λ ids. ids.now) group.entry) certificate
+        (W.contents sink.old.writer) (W.contents sink.new.writer)) }
+    ensures begun { (sink.new ≡ sink.old)
+        ⊎ BeginsAnalysis (R.remaining source.old.reader) (option_map (λ ids. ids.now) group.entry) certificate
+        (W.contents sink.old.writer) (W.contents sink.new.writer) }
+    ensures source { source.new.faults ≡ source.old.faults + read_failures result }
+    ensures sink { sink.new.faults ≡ sink.old.faults + write_failures result }
+    ensures unwritten { IfErr result (λ f. ¬ (f ≡ RunFault.Write) → sink.new ≡ sink.old) }
+    ensures faulty { IfErr result
+        (λ f. IsOfFile f → IfSome (R.remaining source.old.reader) (λ bytes. IsGraphFault bytes f)) }
+{
+    let bytes = source.read_all(alloc)?;
+    let text = text_for(alloc, &bytes, group, certificate, watcher)?;
+    sink.write_all(text.as_bytes())?;
+    Ok(0)
+}
+
+/// What is printed of a graph file.
+fn text_for<P: Watcher>(
+    alloc: Global,
+    bytes: &[u8],
+    group: Option<&[NodeId]>,
+    certificate: bool,
+    watcher: &mut P,
+) -> Result<String, RunFault>
+    ensures text { IfOk result
+        (λ text. IsAnalysis bytes.now (option_map (λ ids. ids.now) group.entry) certificate (string_bytes text)) }
+    ensures fault { IfErr result (λ f. IsGraphFault bytes.now f ⊎ (f ≡ RunFault.OutOfMemory)) }
+{
+    let graph = read_graph(alloc, bytes)?;
+    let members = members_of(group, &graph);
+    Ok(answer_for(alloc, &graph, members, certificate, watcher)?)
+}
+
+/// The group that is asked for, or all nodes.
+fn members_of<'a>(group: Option<&'a [NodeId]>, graph: &'a Graph) -> &'a [NodeId]
+    ensures { result.now ≡ members_of (option_map (λ ids. ids.now) group.entry) graph.now }
+{
+    match group {
+        Some(ids) => ids,
+        None => graph.nodes(),
+    }
+}
+
+/// What is printed of this graph and this group.
+fn answer_for<P: Watcher>(
+    alloc: Global,
+    graph: &Graph,
+    group: &[NodeId],
+    certificate: bool,
+    watcher: &mut P,
+) -> Result<String, OutOfMemory>
+    ensures { IfOk result (λ text. PrintsAnswer graph.now group.now certificate (string_bytes text)) }
+{
+    let answer = analyse_group_watched(alloc, graph, group, watcher);
+    text_of(alloc, graph, group, &answer, certificate)
+}
+
+/// What is printed of the answer of an analysis of this graph and this group.
+#[tactic(auto, using(crate::proofs::Answered::printed))]
+fn text_of(
+    alloc: Global,
+    graph: &Graph,
+    group: &[NodeId],
+    answer: &Result<Checked, AnalyseFault>,
+    certificate: bool,
+) -> Result<String, OutOfMemory>
+    requires graph { IfOk answer.now (λ c. c.graph ≡ graph.now) }
+    requires members { IfOk answer.now (λ c. c.members ≡ group.now) }
+    requires answer { IfOk answer.now (λ c. IsAnswer graph.now group.now c.cert) }
+    requires refused { IfErr answer.now (λ fault. IsRefusal graph.now group.now fault) }
+    ensures { IfOk result (λ text. PrintsAnswer graph.now group.now certificate (string_bytes text)) }
+{
+    match answer {
+        Ok(checked) => report_text(alloc, checked, certificate),
+        Err(fault) => match fault {
+            AnalyseFault::OutOfMemory => Err(OutOfMemory),
+            AnalyseFault::NoNodes => refused_line(alloc, 30),
+            AnalyseFault::BadGroup => refused_line(alloc, 34),
+        },
+    }
+}
+
+/// The line of a certificate, and where it is asked for the certificate file behind it.
+#[tactic(auto, unfolding(crate::specs::Analysing::answer_text))]
+fn report_text(alloc: Global, checked: &Checked, certificate: bool) -> Result<String, OutOfMemory>
+    ensures text { IfOk result (λ text. string_bytes text
+        ≡ answer_text checked.now.cert checked.now.graph checked.now.members certificate) }
+    ensures valid { IsValidForGroup checked.now.graph checked.now.members checked.now.cert }
+{
+    let (cert, graph, group) = (checked.cert(), checked.graph(), checked.members());
+    let claim = CertText { cert, graph, group };
+    if !certificate {
+        return Ok(format!(in alloc; "report 0 {claim}\n")?);
+    }
+    let file = to_text_group(alloc, cert, graph, group, 0)?;
+    Ok(format!(in alloc; "report 0 {claim}\n{file}\n")?)
+}

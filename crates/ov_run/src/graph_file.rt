@@ -1,0 +1,105 @@
+ghost use Rattle.std.specs.Prelude.{◌≡◌, ◌⊎◌, ◌++◌, [], option_map, Some, None, IfOk, IfErr, OnOk};
+ghost use Rattle.ov_run.specs.GraphFiles.{graph_line, graph_words, link_of, graph_lines, node_said, link_said};
+ghost use Rattle.ov_run.specs.GraphFiles.{nodes_said, links_said, first_unread, SaysGraph, IsGraphFault};
+ghost use Rattle.ov_run.specs.Lines.{words_of, two};
+
+use crate::cursor::{Cursor, is_word};
+use crate::fault::RunFault;
+use crate::kept_lines::KeptLines;
+use ov_graph::Graph;
+use ov_ids::{NodeId, OutOfMemory};
+use std::alloc::Global;
+
+/// What one line of a graph file says.
+#[derive(Clone, Copy)]
+pub(crate) enum GraphLine {
+    /// There is a node with this id.
+    Node(NodeId),
+    /// These two nodes are linked, in the order in which they are written.
+    Link(NodeId, NodeId),
+}
+
+/// The nodes and the links that lines say, in order.
+#[derive(Drop)]
+struct Gathered {
+    nodes: Vec<NodeId>,
+    links: Vec<(NodeId, NodeId)>,
+}
+
+impl Gathered {
+    /// Of no line.
+    fn new(alloc: Global) -> Gathered
+        ensures nodes { result.nodes.items ≡ [] }
+        ensures links { result.links.items ≡ [] }
+    {
+        Gathered {
+            nodes: Vec::new(alloc),
+            links: Vec::new(alloc),
+        }
+    }
+
+    /// Takes in what the next line says.
+    fn take(&mut self, line: GraphLine) -> Result<(), OutOfMemory>
+        ensures nodes { OnOk result (self.new.nodes.items ≡ self.old.nodes.items ++ node_said (Some line)) }
+        ensures links { OnOk result (self.new.links.items ≡ self.old.links.items ++ link_said (Some line)) }
+    {
+        match line {
+            GraphLine::Node(node) => self.nodes.push(node)?,
+            GraphLine::Link(from, to) => self.links.push((from, to))?,
+        }
+        Ok(())
+    }
+}
+
+/// Reads a graph file to the graph that it says. Line is answered for the first line that can't be read, which is
+/// neither `node N` nor `link A B` with ids of 32 bits. Graph is answered where each line can be read and the nodes and
+/// the links, each in the order of the file, are no graph.
+#[tactic(auto, using(crate::proofs::Gathering::graph_refused))]
+pub fn read_graph(alloc: Global, bytes: &[u8]) -> Result<Graph, RunFault>
+    ensures graph { IfOk result (SaysGraph bytes.now) }
+    ensures fault { IfErr result (λ f. IsGraphFault bytes.now f ⊎ (f ≡ RunFault.OutOfMemory)) }
+{
+    let Gathered { nodes, links } = gather(alloc, bytes)?;
+    Ok(Graph::new(alloc, &nodes, &links)?)
+}
+
+/// The nodes and the links of a graph file, or the first line that can't be read.
+#[tactic(auto, using(crate::proofs::Gathering::unread, crate::proofs::Gathering::readable, crate::proofs::Gathering::all_nodes, crate::proofs::Gathering::all_links))]
+fn gather(alloc: Global, bytes: &[u8]) -> Result<Gathered, RunFault>
+    ensures readable { OnOk result (first_unread (graph_lines bytes.now) ≡ None) }
+    ensures nodes { IfOk result (λ all. all.nodes.items ≡ nodes_said (graph_lines bytes.now)) }
+    ensures links { IfOk result (λ all. all.links.items ≡ links_said (graph_lines bytes.now)) }
+    ensures fault { IfErr result (λ f. IsGraphFault bytes.now f ⊎ (f ≡ RunFault.OutOfMemory)) }
+{
+    let mut all = Gathered::new(alloc);
+    let mut lines = KeptLines::new(bytes);
+    while let Some(line) = lines.next_line() {
+        let Some(says) = read_graph_line(line.text) else {
+            return Err(RunFault::Line(line.number));
+        };
+        all.take(says)?;
+    }
+    Ok(all)
+}
+
+/// Reads what a line says. There is none where it can't be read.
+fn read_graph_line(text: &[u8]) -> Option<GraphLine>
+    ensures { result ≡ graph_line text.now }
+{
+    let mut cursor = Cursor::new(text);
+    let name = cursor.word()?;
+    if is_word(name, b"node") {
+        return Some(GraphLine::Node(cursor.last_id()?));
+    }
+    if is_word(name, b"link") {
+        return read_link(&mut cursor);
+    }
+    None
+}
+
+fn read_link(cursor: &mut Cursor) -> Option<GraphLine>
+    ensures { result ≡ option_map link_of (two (words_of cursor.old.rest.now)) }
+{
+    let (from, to) = cursor.last_two()?;
+    Some(GraphLine::Link(NodeId::new(from), NodeId::new(to)))
+}

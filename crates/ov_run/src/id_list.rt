@@ -1,0 +1,37 @@
+ghost use Rattle.std.specs.Prelude.{◌≡◌, map, option_map, IfOk};
+ghost use Rattle.std.specs.List.{slice_split};
+ghost use Rattle.ov_run.specs.Lines.{is_comma, number_within, ids_of};
+
+use crate::number::read_short_number;
+use ov_ids::{NodeId, OutOfMemory};
+use std::alloc::{AllocError, Global};
+
+/// Reads a word of ids: decimal digits, of 32 bits each, with one comma between two. There is none where a part of the
+/// word is no such number, or is empty.
+#[tactic(auto, using(crate::proofs::Spelling::begun, crate::proofs::Spelling::more, crate::proofs::Spelling::unread, crate::proofs::Spelling::all_read), unfolding(crate::specs::Lines::ids_of))]
+pub fn read_ids(alloc: Global, word: &[u8]) -> Result<Option<Vec<NodeId>>, OutOfMemory>
+    ensures { IfOk result (λ ids. option_map (λ v. v.items) ids ≡ ids_of word.now) }
+{
+    let pieces = split_at_commas(alloc, word)?;
+    let mut ids = Vec::new(alloc);
+    for piece in &pieces {
+        let Some(id) = read_id(piece) else {
+            return Ok(None);
+        };
+        ids.push(id)?;
+    }
+    Ok(Some(ids))
+}
+
+/// What stands between the commas of a word.
+fn split_at_commas(alloc: Global, word: &[u8]) -> Result<Vec<&[u8]>, AllocError>
+    ensures { IfOk result (λ pieces. map (λ piece. piece.now) pieces.items ≡ slice_split is_comma word.now) }
+{
+    word.split(|byte| *byte == b',').collect(alloc)
+}
+
+fn read_id(piece: &[u8]) -> Option<NodeId>
+    ensures { result ≡ number_within 32 piece.now }
+{
+    Some(NodeId::new(read_short_number(piece)?))
+}

@@ -1,0 +1,210 @@
+//! What analyses of whole graph files print. The lines were worked out by hand, and by a script apart from this tree
+//! that tries all sets of nodes.
+use crate::graphs::{
+    FIVE_BUT_ONE, ONE_NODE, PATH_OF_THREE, PETERSEN, SQUARE, TWO_TRIANGLES, TWO_UNLINKED,
+};
+use ov_certfile::{Sink, Source};
+use ov_check::judge;
+use ov_even::Watcher;
+use ov_ids::NodeId;
+use ov_run::{RunFault, analyse_file};
+use ov_test_kit::{Slow, ids};
+use std::alloc::Global;
+use std::test::Fail;
+
+/// Counts what it is told.
+#[derive(Drop)]
+pub(crate) struct Counter {
+    pub(crate) count: u64,
+}
+
+impl Watcher for Counter {
+    fn sees(&mut self, _level: usize, _place: usize, _size: usize) {
+        self.count = self.count.saturating_add(1);
+    }
+}
+
+/// What an analysis of this file comes to, and what it prints.
+pub(crate) fn analysed(
+    alloc: Global,
+    file: &[u8],
+    group: Option<&[NodeId]>,
+    certificate: bool,
+) -> (Result<u8, RunFault>, Vec<u8>) {
+    let mut source = Source::new(file);
+    let mut sink = Sink::new(Vec::new(alloc));
+    let mut watcher = Counter { count: 0 };
+    let told = analyse_file(
+        alloc,
+        &mut source,
+        &mut sink,
+        group,
+        certificate,
+        &mut watcher,
+    );
+    (told, sink.into_writer())
+}
+
+/// The analysis of this file for this group ends with status 0 and prints this text.
+pub(crate) fn prints(alloc: Global, file: &str, group: Option<&[NodeId]>, text: &str) -> bool {
+    let (told, written) = analysed(alloc, file.as_bytes(), group, false);
+    told == Ok(0) && written.as_slice() == text.as_bytes()
+}
+
+/// Graph files, and what is printed of the group of all their nodes.
+static WHOLE: [(&str, &str); 7] = [
+    (ONE_NODE, "report 0 linked k 0\n"),
+    (
+        TWO_UNLINKED,
+        "report 0 split k 0 cut - near 2 far 1 side 2\n",
+    ),
+    (
+        PATH_OF_THREE,
+        "report 0 split k 1 cut 2 near 3 far 1 side 3\n",
+    ),
+    (SQUARE, "report 0 split k 2 cut 2,4 near 1 far 3 side 1\n"),
+    (
+        TWO_TRIANGLES,
+        "report 0 split k 1 cut 3 near 4 far 1 side 4,5\n",
+    ),
+    (
+        FIVE_BUT_ONE,
+        "report 0 split k 3 cut 3,4,5 near 1 far 2 side 1\n",
+    ),
+    (
+        PETERSEN,
+        "report 0 split k 3 cut 2,5,6 near 1 far 3 side 1\n",
+    ),
+];
+
+#[test]
+fn graphs_print_their_answers(rt: HostRuntime) {
+    for (file, text) in &WHOLE {
+        assert!(rt; prints(rt.alloc(), file, None, text), "at {text}");
+    }
+}
+
+/// Graph files, groups, and what is printed of them.
+static GROUPS: [(&str, &[u32], &str); 10] = [
+    (PATH_OF_THREE, &[1, 2], "report 0 linked k 1 group 1,2\n"),
+    (
+        PATH_OF_THREE,
+        &[1, 3],
+        "report 0 split k 1 cut 2 near 1 far 3 side 1 group 1,3\n",
+    ),
+    (
+        SQUARE,
+        &[1, 2, 3],
+        "report 0 split k 2 cut 2,4 near 1 far 3 side 1 group 1,2,3\n",
+    ),
+    (
+        TWO_TRIANGLES,
+        &[1, 5],
+        "report 0 split k 1 cut 3 near 1 far 5 side 1,2 group 1,5\n",
+    ),
+    (
+        FIVE_BUT_ONE,
+        &[1, 2],
+        "report 0 split k 3 cut 3,4,5 near 1 far 2 side 1 group 1,2\n",
+    ),
+    (FIVE_BUT_ONE, &[2], "report 0 linked k 0 group 2\n"),
+    (
+        SQUARE,
+        &[1, 2, 3, 4],
+        "report 0 split k 2 cut 2,4 near 1 far 3 side 1\n",
+    ),
+    (SQUARE, &[1, 9], "refused 34\n"),
+    (SQUARE, &[2, 1], "refused 34\n"),
+    (SQUARE, &[], "refused 34\n"),
+];
+
+#[test]
+fn groups_print_their_answers(rt: HostRuntime) -> Result<(), Fail> {
+    for (file, group, text) in &GROUPS {
+        let group = ids(rt.alloc(), group)?;
+        assert!(rt;
+            prints(rt.alloc(), file, Some(group.as_slice()), text),
+            "at {text}"
+        );
+    }
+    Ok(())
+}
+
+/// What is judged of the bytes behind the first line: the line of the judge.
+fn judged(alloc: Global, written: &[u8]) -> Vec<u8> {
+    let start = written
+        .iter()
+        .position(|byte| *byte == b'\n')
+        .map_or(0, |end| end + 1);
+    let mut source = Source::new(&written[start..]);
+    let mut sink = Sink::new(Vec::new(alloc));
+    let _ = judge(alloc, &mut source, &mut sink);
+    sink.into_writer()
+}
+
+/// Graph files, and what the checker prints of the certificate behind their line.
+static JUDGED: [(&str, &str); 4] = [
+    (ONE_NODE, "holds 0 linked k 0\n"),
+    (SQUARE, "holds 0 split k 2 cut 2,4 near 1 far 3 side 1\n"),
+    (
+        TWO_TRIANGLES,
+        "holds 0 split k 1 cut 3 near 4 far 1 side 4,5\n",
+    ),
+    (
+        PETERSEN,
+        "holds 0 split k 3 cut 2,5,6 near 1 far 3 side 1\n",
+    ),
+];
+
+#[test]
+fn certificates_behind_the_line_hold(rt: HostRuntime) {
+    for (file, line) in &JUDGED {
+        let (told, written) = analysed(rt.alloc(), file.as_bytes(), None, true);
+        assert_eq!(rt; told, Ok(0));
+        let judged = judged(rt.alloc(), written.as_slice());
+        assert!(rt; judged.as_slice() == line.as_bytes(), "at {line}");
+        assert!(rt; written.as_slice().ends_with(b"\n"));
+    }
+}
+
+#[test]
+fn a_watcher_is_told_of_an_analysis(rt: HostRuntime) {
+    let mut source = Source::new(SQUARE.as_bytes());
+    let mut sink = Sink::new(Vec::new(rt.alloc()));
+    let mut watcher = Counter { count: 0 };
+    let told = analyse_file(
+        rt.alloc(),
+        &mut source,
+        &mut sink,
+        None,
+        false,
+        &mut watcher,
+    );
+    assert!(rt; told == Ok(0) && watcher.count > 0);
+}
+
+/// With a writer that is interrupted after so many calls, the path of three comes to this answer and to so many faults
+/// of the writer.
+fn comes_by_slow_writer(
+    alloc: Global,
+    calls_left: usize,
+    answer: Result<u8, RunFault>,
+    faults: u64,
+) -> bool {
+    let mut source = Source::new(PATH_OF_THREE.as_bytes());
+    let rest: &[u8] = &[];
+    let mut sink = Sink::new(Slow { rest, calls_left });
+    let mut watcher = Counter { count: 0 };
+    let told = analyse_file(alloc, &mut source, &mut sink, None, false, &mut watcher);
+    told == answer && source.faults() == 0 && sink.faults() == faults
+}
+
+#[test]
+fn a_writer_is_interrupted_at_each_write(rt: HostRuntime) {
+    let writes = "report 0 split k 1 cut 2 near 3 far 1 side 3\n".len();
+    for calls_left in 0..writes {
+        let is_refused = comes_by_slow_writer(rt.alloc(), calls_left, Err(RunFault::Write), 1);
+        assert!(rt; is_refused, "at {calls_left}");
+    }
+    assert!(rt; comes_by_slow_writer(rt.alloc(), writes, Ok(0), 0));
+}
