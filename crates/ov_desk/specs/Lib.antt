@@ -1,0 +1,4 @@
+pub mod Desk
+pub mod Sound
+pub mod Turns
+pub mod Laws
