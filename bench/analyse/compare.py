@@ -4,9 +4,9 @@
 usage: compare.py OVERLAY CHECKER GRAPH..   the programs `overlay` and `overlay-check`, and graph files
 
 Each certificate is handed to `overlay-check` and to `../check/check.py`, and each number is compared with igraph's and
-networkx's; it ends with an error where they differ. Times are the least of several runs: of the programs whole, with
-and without `--certificate`; of the libraries the call alone, without reading the graph. networkx is left out where its
-call takes more than LIMIT seconds. Needs igraph and networkx (Debian: python3-igraph, python3-networkx).
+networkx's; it ends with an error where they differ. Times are milliseconds: of the program whole, with and without
+`--certificate`, the least of several runs; of the libraries one call alone, without reading or making the graph. A call
+is ended after LIMIT seconds, and its number is then not compared. networkx has no least cut of a graph that is split. Needs igraph and networkx (Debian: python3-igraph, python3-networkx).
 """
 
 import pathlib
@@ -14,11 +14,8 @@ import subprocess
 import sys
 import time
 
-import igraph
-import networkx as nx
-
-RUNS = 5
-LIMIT = 120
+RUNS = 10
+LIMIT = 30
 CHECK = pathlib.Path(__file__).parent.parent / "check" / "check.py"
 
 
@@ -54,16 +51,15 @@ def peak_kb(words):
     return int(run.stderr.split()[-1])
 
 
-def by_networkx(nodes, links, code):
-    """The call in a process of its own, so that it can be ended."""
-    text = (f"import networkx as nx, time\ng = nx.Graph()\ng.add_nodes_from({nodes})\ng.add_edges_from({links})\n"
-            f"b = time.perf_counter()\na = {code}\nprint(a, (time.perf_counter() - b) * 1000)")
+def by_library(made, code):
+    """The milliseconds of one call and its answer, in a process of its own, which is ended after LIMIT seconds."""
+    text = f"{made}\nimport time\nb = time.perf_counter()\na = {code}\nprint(a, (time.perf_counter() - b) * 1000)"
     try:
         out = subprocess.run([sys.executable, "-c", text], capture_output=True, text=True, check=True, timeout=LIMIT)
     except subprocess.TimeoutExpired:
         return None, None
     answer, took = out.stdout.rsplit(None, 1)
-    return float(took), answer
+    return float(took), int(answer)
 
 
 def shown(took):
@@ -81,16 +77,17 @@ def row(overlay, checker, name):
     assert said == program([sys.executable, str(CHECK), str(cert)]) and said.startswith("holds 0 "), said
     assert said[len("holds"):] == line[len("report"):], (said, line)
     place = {node: at for at, node in enumerate(nodes)}
-    graph = igraph.Graph(n=len(nodes), edges=[(place[a], place[b]) for a, b in links])
-    by_igraph, other = timed(graph.vertex_connectivity, 3)
-    assert other == number, (name, number, other)
-    by_nx, third = by_networkx(nodes, links, "nx.node_connectivity(g)")
-    assert third is None or int(third) == number, (name, number, third)
-    cut_nx, cut = by_networkx(nodes, links, "len(nx.minimum_node_cut(g))")
-    assert cut is None or int(cut) == number, (name, number, cut)
+    edges = [(place[a], place[b]) for a, b in links]
+    by_igraph = f"import igraph\ng = igraph.Graph(n={len(nodes)}, edges={edges})"
+    by_nx = f"import networkx as nx\ng = nx.Graph()\ng.add_nodes_from(range({len(nodes)}))\ng.add_edges_from({edges})"
+    calls = [(by_igraph, "g.vertex_connectivity()"), (by_nx, "nx.node_connectivity(g)"),
+             (by_nx, "len(nx.minimum_node_cut(g))")]
+    others = [by_library(made, code) for made, code in calls if number > 0 or "cut" not in code]
+    assert all(answer in (None, number) for _, answer in others), (name, number, others)
     memory = peak_kb([overlay, "analyse", name, "--certificate"])
     print(f"| `{pathlib.Path(name).stem}` | {len(nodes)}, {len(links)} | {number} | {plain:,.1f} | {full:,.1f} | "
-          f"{memory:,} | {cert.stat().st_size:,} | {by_igraph:,.1f} | {shown(by_nx)} | {shown(cut_nx)} |", flush=True)
+          f"{memory:,} | {cert.stat().st_size:,} | " + " | ".join(shown(took) for took, _ in others)
+          + (" |" if number > 0 else " | none |"), flush=True)
 
 
 def main():

@@ -8,17 +8,16 @@ For each overlay it writes `overlay-N.scenario` (boots, deliveries, one shuffle 
 Both go into the folder that it is run in.
 """
 
-import random
 import subprocess
 import sys
 
 SIZES = [50, 64, 80, 100, 120, 150, 180, 200, 230, 256]
 
 
-def scenario(nodes, draw):
+def scenario(nodes):
     lines = ["params 5 30 6 3 3 4 4", f"seed {nodes}", "boot 1"]
     for node in range(2, nodes + 1):
-        lines.append(f"boot {node} by {draw.randrange(1, node)}")
+        lines.append(f"boot {node} by {node * 7 % (node - 1) + 1}")
         lines += ["deliver 0"] * 39
     for node in range(1, nodes + 1):
         lines.append(f"shuffle {node}")
@@ -37,7 +36,7 @@ def views(text):
 def main(overlay):
     for nodes in SIZES:
         name = f"overlay-{nodes}"
-        lines = scenario(nodes, random.Random(nodes)) + [f"show {node}" for node in range(1, nodes + 1)]
+        lines = scenario(nodes) + [f"show {node}" for node in range(1, nodes + 1)]
         with open(f"{name}.scenario", "w") as file:
             file.write("\n".join(lines) + "\n")
         run = subprocess.run([overlay, "run", f"{name}.scenario"], capture_output=True, text=True, check=True)
