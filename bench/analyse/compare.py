@@ -6,7 +6,8 @@ usage: compare.py OVERLAY CHECKER GRAPH..   the programs `overlay` and `overlay-
 Each certificate is handed to `overlay-check` and to `../check/check.py`, and each number is compared with igraph's and
 networkx's; it ends with an error where they differ. Times are milliseconds: of the program whole, with and without
 `--certificate`, the least of several runs; of the libraries one call alone, without reading or making the graph. A call
-is ended after LIMIT seconds, and its number is then not compared. networkx has no least cut of a graph that is split. Needs igraph and networkx (Debian: python3-igraph, python3-networkx).
+is ended after LIMIT seconds, and its number is then not compared. networkx has no least cut of a graph that is split.
+Needs igraph and networkx (Debian: python3-igraph, python3-networkx).
 """
 
 import pathlib
@@ -55,7 +56,8 @@ def by_library(made, code):
     """The milliseconds of one call and its answer, in a process of its own, which is ended after LIMIT seconds."""
     text = f"{made}\nimport time\nb = time.perf_counter()\na = {code}\nprint(a, (time.perf_counter() - b) * 1000)"
     try:
-        out = subprocess.run([sys.executable, "-c", text], capture_output=True, text=True, check=True, timeout=LIMIT)
+        out = subprocess.run([sys.executable, "-"], input=text, capture_output=True, text=True, check=True,
+                             timeout=LIMIT)
     except subprocess.TimeoutExpired:
         return None, None
     answer, took = out.stdout.rsplit(None, 1)
