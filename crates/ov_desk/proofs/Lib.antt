@@ -1,0 +1,5 @@
+pub mod Deciding
+pub mod Keeping
+pub mod Staying
+pub mod Turned
+pub mod Workers
