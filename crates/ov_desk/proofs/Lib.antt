@@ -1,5 +1,0 @@
-pub mod Deciding
-pub mod Keeping
-pub mod Staying
-pub mod Turned
-pub mod Workers

@@ -1,2 +1,0 @@
--- What the code keeps; the definitions do not use it.
-pub mod Held
