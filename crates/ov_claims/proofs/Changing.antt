@@ -1,5 +1,5 @@
 -- What holds of the workers after one of them has changed.
-use Rattle.std.proofs.Common.{◌≡◌, ◌≢◌, ◌⊎◌, ℕ, zero, suc, ◌+◌, Bool, true, false, cond, List, [], ◌∷◌, length, set}
+use Rattle.std.proofs.Common.{◌≡◌, ◌≢◌, ◌⊎◌, ℕ, zero, suc, ◌+◌, Bool, true, false, cond, List, [], ◌∷◌, length, set, replicate}
 use Rattle.std.proofs.Common.{slice_get, Some, refl, sym, ap, ◌∙◌, subst, inl, inr, arith}
 use Rattle.std.proofs.lemmas.Option.{none-some, same_Some}
 use Rattle.std.specs.List.{filter}
@@ -22,17 +22,23 @@ Holds f ws u x = (z : WorkerState) × IsAt ws u z × Has (f z) x
 abbrev pub is_ended : WorkerState → Bool
 is_ended v = v.ended
 
--- the worker that changed is the new one, and the others are as they were
-pub at_changed : (ws : List WorkerState) (w u : ℕ) (v z : WorkerState) → IsAt (set ws w v) u z
-    → ((u ≡ w) × (z ≡ v)) ⊎ ((u ≢ w) × IsAt ws u z)
-at_changed [] w u v z h = absurd (none-some z h)
-at_changed (y ∷ ws) zero zero v z h = inl (refl, sym (same_Some v z h))
-at_changed (y ∷ ws) zero (suc u) v z h = inr ((λ e. omega arith), h)
-at_changed (y ∷ ws) (suc w) zero v z h = inr ((λ e. omega arith), h)
-at_changed (y ∷ ws) (suc w) (suc u) v z h = elim (at_changed ws w u v z h) [
+-- what stands at a place after one place was written: what was written, or what was there
+pub at_changed : {X : Type 0} (xs : List X) (w u : ℕ) (x z : X) → slice_get (set xs w x) u ≡ Some z
+    → ((u ≡ w) × (z ≡ x)) ⊎ ((u ≢ w) × (slice_get xs u ≡ Some z))
+at_changed {X} [] w u x z h = absurd (none-some z h)
+at_changed {X} (y ∷ xs) zero zero x z h = inl (refl, sym (same_Some x z h))
+at_changed {X} (y ∷ xs) zero (suc u) x z h = inr ((λ e. omega arith), h)
+at_changed {X} (y ∷ xs) (suc w) zero x z h = inr ((λ e. omega arith), h)
+at_changed {X} (y ∷ xs) (suc w) (suc u) x z h = elim (at_changed xs w u x z h) [
   | inl k ↦ inl (ap suc k.0, k.1)
   | inr k ↦ inr ((λ e. k.0 (omega arith)), k.1)
 ]
+
+-- what stands in a list of one thing is that thing
+pub all_same : {X : Type 0} (n w : ℕ) (x y : X) → slice_get (replicate n x) w ≡ Some y → y ≡ x
+all_same {X} zero w x y h = absurd (none-some y h)
+all_same {X} (suc n) zero x y h = sym (same_Some x y h)
+all_same {X} (suc n) (suc w) x y h = all_same n w x y h
 
 pub here : (ws : List WorkerState) (w : ℕ) (v z : WorkerState) → IsAt ws w v → IsAt (set ws w z) w z
 here [] w v z h = absurd (none-some v h)

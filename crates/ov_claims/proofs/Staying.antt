@@ -1,6 +1,6 @@
 -- Each step of the claims leads from a legal state to a legal one.
-use Rattle.std.proofs.Common.{◌≡◌, ◌⊎◌, ℕ, zero, suc, ◌+◌, ◌<◌, ◌≤◌, min, Bool, true, false, cond, nat_lt}
-use Rattle.std.proofs.Common.{List, [], ◌∷◌, ◌++◌, set, replicate}
+use Rattle.std.proofs.Common.{◌≡◌, ◌⊎◌, ℕ, ◌+◌, ◌<◌, ◌≤◌, min, Bool, true, false, cond, nat_lt}
+use Rattle.std.proofs.Common.{List, [], ◌∷◌, ◌++◌, set}
 use Rattle.std.proofs.Common.{slice_get, Some, refl, sym, ◌∙◌, subst, inl, inr, arith}
 use Rattle.std.proofs.lemmas.Bool.{ltb-true, ltb-false}
 use Rattle.std.proofs.lemmas.Option.{none-some, same_Some}
@@ -13,7 +13,7 @@ use Rattle.ov_claims.specs.Claims.{WorkerState, ClaimState, HasWorker, HasClaime
 use Rattle.ov_claims.specs.Claims.{IsLegalWorker, IsLegal, opening}
 use Rattle.ov_claims.specs.Steps.{claiming, failing, Claims, Looks, Fails}
 use Rattle.ov_claims.specs.Laws.{StaysLegal}
-use Rattle.ov_claims.proofs.Changing.{after, at_changed, here, held_before, held_after, held_still}
+use Rattle.ov_claims.proofs.Changing.{after, at_changed, all_same, here, held_before, held_after, held_still}
 use Rattle.ov_claims.proofs.Changing.{ended_kept, ended_more}
 
 -- a worker that did not change stays legal
@@ -100,13 +100,13 @@ ascends_push (y ∷ ys) x a h = (all_push y ys x a.0 (h y (inl refl)), ascends_p
     all_push y (z ∷ ys) x a h = (a.0, all_push y ys x a.1 h)
 
 -- the worker with one number more, ended, and after it skipped one
-abbrev gaining : ℕ → WorkerState → WorkerState
+abbrev pub gaining : ℕ → WorkerState → WorkerState
 gaining x v = record v { claimed = v.claimed ++ x ∷ [] }
 
-abbrev ending : WorkerState → WorkerState
+abbrev pub ending : WorkerState → WorkerState
 ending v = record v { ended = true }
 
-abbrev skipping : ℕ → WorkerState → WorkerState
+abbrev pub skipping : ℕ → WorkerState → WorkerState
 skipping x v = record v { skipped = Some x; ended = true }
 
 -- a claim that finds no number left
@@ -235,16 +235,16 @@ goes_on s w v l at = rests s s.next w v v record {
 }
 
 -- who is in a set with one more
-has_added : (x : ℕ) (xs : List ℕ) (y : ℕ) → Has (adding x xs) y → (y ≡ x) ⊎ Has xs y
+pub has_added : (x : ℕ) (xs : List ℕ) (y : ℕ) → Has (adding x xs) y → (y ≡ x) ⊎ Has xs y
 has_added x xs y h = elim (IsIn-adding x xs y ((has_tested (adding x xs) y _ refl).1 h)) [
   | inl e ↦ inl e
   | inr k ↦ inr ((has_tested xs y _ refl).0 k)
 ]
 
-has_self : (x : ℕ) (xs : List ℕ) → Has (adding x xs) x
+pub has_self : (x : ℕ) (xs : List ℕ) → Has (adding x xs) x
 has_self x xs = (has_tested (adding x xs) x _ refl).0 (IsIn-self x xs)
 
-has_still : (x : ℕ) (xs : List ℕ) (y : ℕ) → Has xs y → Has (adding x xs) y
+pub has_still : (x : ℕ) (xs : List ℕ) (y : ℕ) → Has xs y → Has (adding x xs) y
 has_still x xs y h = (has_tested (adding x xs) y _ refl).0 (IsIn-added x xs y ((has_tested xs y _ refl).1 h))
 
 -- a number fails
@@ -328,15 +328,10 @@ looks s t w x l c =
 fails : (s t : ClaimState) (w x : ℕ) → IsLegal s → Fails s w x t → IsLegal t
 fails s t w x l c = subst IsLegal (sym c.after) (breaks s w x c.worker l c.has c.own)
 
--- all workers of the opening are fresh
-all_fresh : (n w : ℕ) (v : WorkerState) → slice_get (replicate n fresh) w ≡ Some v → v ≡ fresh
-all_fresh zero w v h = absurd (none-some v h)
-all_fresh (suc n) zero v h = sym (same_Some fresh v h)
-all_fresh (suc n) (suc w) v h = all_fresh n w v h
-
+-- the opening is legal
 opens : (total workers : ℕ) → IsLegal (opening total workers)
 opens total workers = record {
-  workers = λ w v h. subst (IsLegalWorker (opening total workers)) (sym (all_fresh workers w v h)) record {
+  workers = λ w v h. subst (IsLegalWorker (opening total workers)) (sym (all_same workers w fresh v h)) record {
     claimed_ascends = tt;
     failed_ascends = tt;
     failed_own = λ x k. absurd k;
@@ -349,11 +344,11 @@ opens total workers = record {
   once = λ x w u h k. absurd (none w x h);
   next = omega arith;
   least_failed = inr refl;
-  least = λ x h. absurd (subst (λ (v : WorkerState). Has v.failed x) (all_fresh workers h.0 h.1 h.2) h.3);
+  least = λ x h. absurd (subst (λ (v : WorkerState). Has v.failed x) (all_same workers h.0 fresh h.1 h.2) h.3);
 }
   where
     none : (w x : ℕ) → HasClaimed (opening total workers) w x → ⊥
-    none w x h = subst (λ (v : WorkerState). Has v.claimed x) (all_fresh workers w h.0 h.1) h.2
+    none w x h = subst (λ (v : WorkerState). Has v.claimed x) (all_same workers w fresh h.0 h.1) h.2
 
 pub stays_legal : StaysLegal
 stays_legal = record { opens = opens; claims = claims; looks = looks; fails = fails }

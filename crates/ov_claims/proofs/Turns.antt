@@ -86,7 +86,8 @@ only_last (a ∷ xs) (b ∷ ys) x y e = let rest : xs ++ x ∷ [] ≡ ys ++ y �
 one_last : (v : WorkerState) (x y : ℕ) → IsLast v x → IsLast v y → x ≡ y
 one_last v x y a b = only_last a.0 b.0 x y (sym a.1 ∙ b.1)
 
-own_last : (v : WorkerState) (x : ℕ) → IsLast v x → Has v.claimed x
+-- the last number that a worker claimed is one of its own
+pub own_last : (v : WorkerState) (x : ℕ) → IsLast v x → Has v.claimed x
 own_last v x l = subst (λ (xs : List ℕ). Has xs x) (sym l.1) (has_append_right l.0 (x ∷ []) x (inl refl))
 
 -- a worker may look who has not ended and has claimed a number

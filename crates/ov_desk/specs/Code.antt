@@ -1,0 +1,2 @@
+-- What the code keeps; the definitions do not use it.
+pub mod Held

@@ -1,0 +1,285 @@
+ghost use Rattle.std.specs.Prelude.{◌≡◌, ◌↔◌, ◌<◌, ◌≤◌, ◌^◌, [], length, replicate, IsTrue, IfOk, OnOk, OnErr};
+ghost use Rattle.ov_graph.specs.Links.{IsGroup};
+ghost use Rattle.ov_cert.specs.Laws.{IsTrueForGroup};
+ghost use Rattle.ov_claims.specs.Laws.{AllEnded};
+ghost use Rattle.ov_fans.specs.Cuts.{IsRight};
+ghost use Rattle.ov_fans.specs.Laws.{IsNoCut};
+ghost use Rattle.ov_even.specs.Answer.{IsAnswer};
+ghost use Rattle.ov_even.specs.Order.{AreMoreThan, IsNumbered};
+ghost use Rattle.ov_desk.specs.declared.hand.Hand.TheVariants.{Nothing as nothing};
+ghost use Rattle.ov_desk.specs.Desk.{AreToShare, IsOpened};
+ghost use Rattle.ov_desk.specs.Code.Held.{pieces_in};
+ghost use Rattle.ov_desk.specs.Sound.{IsSoundDesk};
+ghost use Rattle.ov_desk.specs.Turns.{ClaimsNext, IsWorkerOf, LooksNext, SettlesNext};
+ghost use Rattle.ov_desk.specs.Turns.{WasClaimed, WasLookedAt, WasSettled};
+
+use crate::hand::Hand;
+use ov_cert::{Checked, are_all_linked};
+use ov_claims::Desk;
+use ov_even::{Haul, assemble_group, group_piece_at, group_total};
+use ov_fans::{Found, Settled, settle_group};
+use ov_graph::Graph;
+use ov_ids::{NodeId, OutOfMemory};
+use std::alloc::Global;
+use std::marker::Model;
+
+/// A desk of a moment and a group. Its workers take turns: each claims the number of a piece, looks whether a lower one
+/// has failed, settles the piece, and claims again, until it has ended. The desk keeps no graph: `settle` and
+/// `certificate` are handed the links of its moment.
+#[derive(Drop)]
+pub struct GroupDesk {
+    moment: u32,
+    members: Vec<NodeId>,
+    claims: Desk,
+    hands: Vec<Hand>,
+    hauls: Vec<Haul>,
+}
+
+impl Model for GroupDesk {
+    ghost use Rattle.ov_desk.specs.Desk.{GroupDeskState};
+    ghost use Rattle.ov_desk.specs.Code.Held.{state, IsHeld};
+
+    ghost Value = { GroupDeskState };
+
+    ghost view = { λ d. state d.moment d.members.items d.claims d.hands.items d.hauls.items };
+
+    ghost invariant = { λ d. IsHeld (state d.moment d.members.items d.claims d.hands.items d.hauls.items) };
+}
+
+impl GroupDesk {
+    /// A desk of a moment with these links, for a group and so many workers, who took no turn yet. Nothing is shared
+    /// out where every two members are linked.
+    pub fn open(
+        alloc: Global,
+        moment: u32,
+        graph: &Graph,
+        group: Vec<NodeId>,
+        workers: u32,
+    ) -> Result<GroupDesk, OutOfMemory>
+        requires group { IsGroup graph.now group.items }
+        requires some { 1 ≤ workers }
+        requires few { workers ≤ 64 }
+        ensures opened { IfOk result (λ d. IsOpened graph.now moment group.items workers d) }
+        ensures sound { IfOk result (λ d. IsSoundDesk graph.now d) }
+    {
+        let total = total_to_share(graph, &group);
+        let claims = Desk::new(alloc, total, workers)?;
+        let hands = empty_hands(alloc, workers)?;
+        let hauls = empty_hauls(alloc, workers)?;
+        Ok(GroupDesk {
+            moment,
+            members: group,
+            claims,
+            hands,
+            hauls,
+        })
+    }
+
+    /// The moment whose links are analysed.
+    pub fn moment(&self) -> u32
+        ensures { result ≡ self.now.moment }
+    {
+        self.moment
+    }
+
+    /// The members of the group, ascending.
+    pub fn members(&self) -> &[NodeId]
+        ensures { result.now ≡ self.now.members }
+    {
+        &self.members
+    }
+
+    /// How many numbers are shared out.
+    pub fn total(&self) -> u64
+        ensures { result ≡ self.now.claims.total }
+    {
+        self.claims.total()
+    }
+
+    /// The least number that failed; the total where none did.
+    pub fn least(&self) -> u64
+        ensures { result ≡ self.now.claims.least }
+    {
+        self.claims.least()
+    }
+
+    /// How many workers there are, from 1 to 64.
+    pub fn workers(&self) -> u32
+        ensures { result ≡ length self.now.claims.workers }
+    {
+        self.claims.workers()
+    }
+
+    /// Whether the desk has this worker. They are counted from 0.
+    pub fn has_worker(&self, worker: u32) -> bool
+        ensures { IsTrue result ↔ IsWorkerOf self.now worker }
+    {
+        worker < self.claims.workers()
+    }
+
+    /// Whether the worker, one of the desk's, claims next.
+    pub fn claims_next(&self, worker: u32) -> bool
+        requires { IsWorkerOf self.now worker }
+        ensures { IsTrue result ↔ ClaimsNext self.now worker }
+    {
+        match self.hands[worker as usize] {
+            Hand::Nothing => !self.claims.has_ended(worker),
+            Hand::Claimed(_) | Hand::Looked(_) => false,
+        }
+    }
+
+    /// Whether the worker, one of the desk's, looks next.
+    pub fn looks_next(&self, worker: u32) -> bool
+        requires { IsWorkerOf self.now worker }
+        ensures { IsTrue result ↔ LooksNext self.now worker }
+    {
+        matches!(self.hands[worker as usize], Hand::Claimed(_))
+    }
+
+    /// Whether the worker, one of the desk's, settles next.
+    pub fn settles_next(&self, worker: u32) -> bool
+        requires { IsWorkerOf self.now worker }
+        ensures { IsTrue result ↔ SettlesNext self.now worker }
+    {
+        matches!(self.hands[worker as usize], Hand::Looked(_))
+    }
+
+    /// The worker claims the next number, and is told it; where that isn't below the total, it has ended. Out of memory
+    /// changes nothing.
+    pub fn claim(&mut self, worker: u32) -> Result<u64, OutOfMemory>
+        requires { ClaimsNext self.old worker }
+        ensures claimed { IfOk result (λ x. WasClaimed self.old worker x self.new) }
+        ensures err { OnErr result (self.new ≡ self.old) }
+    {
+        let number = self.claims.claim(worker)?;
+        if number < self.claims.total() {
+            self.hands[worker as usize] = Hand::Claimed(number);
+        }
+        Ok(number)
+    }
+
+    /// The worker looks before it works on the number in its hand, and is told the least one that failed (the total
+    /// where none did): where that is lower, it skips its own and has ended. It takes no memory.
+    pub fn look(&mut self, worker: u32) -> u64
+        requires { LooksNext self.old worker }
+        ensures { WasLookedAt self.old worker result self.new }
+    {
+        let place = worker as usize;
+        let Hand::Claimed(number) = self.hands[place] else {
+            unreachable!()
+        };
+        let least = self.claims.look(worker);
+        let hand = if least < number {
+            Hand::Nothing
+        } else {
+            Hand::Looked(number)
+        };
+        self.hands[place] = hand;
+        least
+    }
+
+    /// The worker settles the piece of the number in its hand, for the links of the desk's moment, and fails where it
+    /// comes to a cut. Out of memory changes nothing.
+    pub fn settle(&mut self, graph: &Graph, worker: u32) -> Result<(), OutOfMemory>
+        requires sound { IsSoundDesk graph.now self.old }
+        requires next { SettlesNext self.old worker }
+        ensures settled { OnOk result (WasSettled graph.now self.old worker self.new) }
+        ensures err { OnErr result (self.new ≡ self.old) }
+    {
+        let place = worker as usize;
+        let Hand::Looked(number) = self.hands[place] else {
+            unreachable!()
+        };
+        let settled = self.settled_at(graph, number)?;
+        let own = &mut self.hauls[place];
+        own.pieces.reserve(1)?;
+        if is_cut(&settled) {
+            self.claims.fail(worker)?;
+        }
+        own.pieces.push_reserved(settled);
+        self.hands[place] = Hand::Nothing;
+        Ok(())
+    }
+
+    /// The piece of this number, settled.
+    fn settled_at(&self, graph: &Graph, number: u64) -> Result<Settled, OutOfMemory>
+        requires group { IsGroup graph.now self.now.members }
+        requires below { AreMoreThan (length graph.now.nodes) (length self.now.members) number }
+        ensures numbered { IfOk result (λ s.
+            IsNumbered (length graph.now.nodes) (length self.now.members) number s.piece) }
+        ensures right { IfOk result (λ s. IsRight graph.now self.now.members s) }
+    {
+        prove!(graph.nodes().len() <= Graph::MOST_NODES);
+        let piece = group_piece_at(graph.nodes().len(), self.members.len(), number);
+        settle_group(*self.members.allocator(), graph, &self.members, piece)
+    }
+
+    /// Whether all workers have ended.
+    pub fn have_all_ended(&self) -> bool
+        ensures { IsTrue result ↔ AllEnded self.now.claims }
+    {
+        self.claims.all_ended()
+    }
+
+    /// The graph, the group, and the certificate to which all workers came, for the links of the desk's moment: that of
+    /// the first piece that is not good, or that every two members are linked.
+    pub fn certificate(&self, graph: &Graph) -> Result<Checked, OutOfMemory>
+        requires sound { IsSoundDesk graph.now self.now }
+        requires ended { AllEnded self.now.claims }
+        ensures graph { IfOk result (λ c. c.graph ≡ graph.now) }
+        ensures members { IfOk result (λ c. c.members ≡ self.now.members) }
+        ensures answer { IfOk result (λ c. IsAnswer graph.now self.now.members c.cert) }
+        ensures fewest { IfOk result (λ c. IsTrueForGroup graph.now self.now.members c.cert) }
+    {
+        prove!(graph.nodes().len() <= Graph::MOST_NODES);
+        let alloc = *self.members.allocator();
+        match assemble_group(alloc, graph, &self.members, &self.hauls) {
+            Ok(checked) => Ok(checked),
+            Err(_) => Err(OutOfMemory),
+        }
+    }
+}
+
+/// How many numbers are shared out.
+fn total_to_share(graph: &Graph, group: &[NodeId]) -> u64
+    requires { IsGroup graph.now group.now }
+    ensures share { AreToShare graph.now group.now result }
+    ensures small { result < 2 ^ 32 }
+{
+    if are_all_linked(graph, group) {
+        return 0;
+    }
+    prove!(graph.nodes().len() <= Graph::MOST_NODES);
+    group_total(graph.nodes().len(), group.len())
+}
+
+/// Nothing in the hands of so many workers.
+fn empty_hands(alloc: Global, workers: u32) -> Result<Vec<Hand>, OutOfMemory>
+    ensures { IfOk result (λ hands. hands.items ≡ replicate workers nothing) }
+{
+    let mut hands = Vec::new(alloc);
+    for _ in 0..workers {
+        hands.push(Hand::Nothing)?;
+    }
+    Ok(hands)
+}
+
+/// The hauls of so many workers who have settled no piece yet.
+fn empty_hauls(alloc: Global, workers: u32) -> Result<Vec<Haul>, OutOfMemory>
+    ensures { IfOk result (λ hauls. pieces_in hauls.items ≡ replicate workers []) }
+{
+    let mut hauls = Vec::new(alloc);
+    for _ in 0..workers {
+        hauls.push(Haul {
+            pieces: Vec::new(alloc),
+        })?;
+    }
+    Ok(hauls)
+}
+
+/// Whether a piece came to a cut.
+fn is_cut(settled: &Settled) -> bool
+    ensures { IsTrue result ↔ ¬ IsNoCut settled.now.found }
+{
+    matches!(settled.found, Found::Cut(_))
+}
