@@ -6,8 +6,9 @@ use Rattle.ov_cert.specs.Valid.{IsValidForGroup}
 use Rattle.ov_cert.specs.declared.cert.Cert.{Cert}
 use Rattle.ov_certfile.specs.Device.{AppendsPrefixOf}
 use Rattle.ov_even.specs.Answer.{IsAnswer}
-use Rattle.ov_run.specs.Analysing.{answer_text, PrintsAnswer, members_of, IsAnalysis, PrintsAnalysis, BeginsAnalysis}
+use Rattle.ov_run.specs.Analysing.{answer_text, PrintsAnswer, IsAnalysis, PrintsAnalysis, BeginsAnalysis}
 use Rattle.ov_run.specs.GraphFiles.{SaysGraph}
+use Rattle.ov_run.specs.Subjects.{members_of}
 
 -- a valid answer for this graph and this group is printed
 pub printed :

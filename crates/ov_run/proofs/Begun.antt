@@ -15,11 +15,12 @@ use Rattle.ov_run.specs.declared.line.Look.TheVariants.{Show, Packets, Certifica
 look_nothing : (b : Book) (look : Look) → BeginsLook b look []
 look_nothing b (Show id) = refl
 look_nothing b Packets = (0, refl)
-look_nothing b (Certificate moment) = refl
+look_nothing b (Certificate subject) = refl
 
 line_nothing : (b : Book) (line : Line) → BeginsLine b line []
 line_nothing b (line.Event event words) = refl
 line_nothing b (line.Look look) = look_nothing b look
+line_nothing b (line.Analyse subject) = refl
 
 -- nothing is printed yet
 pub nothing : (b : Book) (lines : List Line) → BeginsLines b lines []

@@ -14,6 +14,7 @@ use Rattle.ov_run.specs.declared.fault.RunFault.{RunFault}
 use Rattle.ov_run.specs.declared.fault.RunFault.TheVariants as fault
 use Rattle.ov_run.specs.declared.judging.Head.{Head}
 use Rattle.ov_run.specs.declared.line.Look.{Look}
+use Rattle.ov_run.specs.declared.line.Subject.{Subject}
 use Rattle.ov_run.specs.declared.statement.Stated.{Stated}
 use Rattle.ov_run.specs.declared.statement.Statement.{Statement}
 use Rattle.ov_run.specs.declared.statement.Statement.TheVariants as says
@@ -103,6 +104,14 @@ pub look_passes :
     → Judges {U = Unit {0}} (Ok tt) head line behind head
 look_passes head line look behind is before h = (
   λ f at_fault. said_by before line (Some (says.Look look)) behind f is at_fault,
+  head_kept before line head (λ x e. absurd cc) (λ x e. absurd cc) (λ x e. absurd cc) h,
+)
+
+pub analysis_passes :
+    (head : Head) (line : Stated) (subject : Subject) (behind : List Stated) → line.says ≡ Some (says.Analyse subject)
+    → Judges {U = Unit {0}} (Ok tt) head line behind head
+analysis_passes head line subject behind is before h = (
+  λ f at_fault. said_by before line (Some (says.Analyse subject)) behind f is at_fault,
   head_kept before line head (λ x e. absurd cc) (λ x e. absurd cc) (λ x e. absurd cc) h,
 )
 

@@ -2,6 +2,7 @@ pub mod Answered
 pub mod Begun
 pub mod Counted
 pub mod Drawn
+pub mod Filed
 pub mod Filling
 pub mod Gathering
 pub mod Judged
@@ -11,6 +12,7 @@ pub mod Numbers
 pub mod Numerals
 pub mod Parted
 pub mod Placed
+pub mod Reported
 pub mod Running
 pub mod Spelling
 pub mod Taking

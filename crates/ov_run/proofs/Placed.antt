@@ -70,6 +70,7 @@ one_fault_of before behind n (Some (says.Params numbers)) f g (inr one) (inl als
 one_fault_of before behind n (Some (says.Params numbers)) f g (inr one) (inr also) = one.2 ∙ sym also.2
 one_fault_of before behind n (Some (says.Event e)) f g one also = absurd one
 one_fault_of before behind n (Some (says.Look look)) f g one also = absurd one
+one_fault_of before behind n (Some (says.Analyse subject)) f g one also = absurd one
 
 one_fault_at : (all : List Stated) (place other : ℕ) (f g : RunFault) → place ≡ other → IsFaultAt all place f → IsFaultAt all other g → f ≡ g
 unfolding IsFaultAt
@@ -233,6 +234,11 @@ one_run (Some (says.Look look) ∷ more) stream drawn others left rest lines als
     (later_also, is_also, asks_also) =
     is
     ∙ ap (λ ls. line.Look look ∷ ls)
+    (one_run more stream drawn others left rest later later_also draws again asks asks_also) ∙ sym is_also
+one_run (Some (says.Analyse subject) ∷ more) stream drawn others left rest lines also draws again (later, is, asks)
+    (later_also, is_also, asks_also) =
+    is
+    ∙ ap (λ ls. line.Analyse subject ∷ ls)
     (one_run more stream drawn others left rest later later_also draws again asks asks_also) ∙ sym is_also
 one_run (other ∷ more) stream drawn others left rest lines also draws again asks asks_also =
     one_run more stream drawn others left rest lines also draws again asks asks_also

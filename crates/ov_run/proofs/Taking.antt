@@ -10,6 +10,7 @@ use Rattle.ov_run.specs.Code.Taking.{stream_now, waiting, Takes}
 use Rattle.ov_run.specs.declared.line.Line.{Line}
 use Rattle.ov_run.specs.declared.line.Line.TheVariants as line
 use Rattle.ov_run.specs.declared.line.Look.{Look}
+use Rattle.ov_run.specs.declared.line.Subject.{Subject}
 use Rattle.ov_run.specs.declared.statement.Statement.{Statement}
 use Rattle.ov_run.specs.declared.statement.Statement.TheVariants as says
 use Rattle.ov_run.specs.declared.turning.Turn.{Turn}
@@ -34,12 +35,14 @@ passes None (Some (says.Seed seed)) nothing behind more later asks = asks
 passes None (Some (says.Words words)) nothing behind more later asks = absurd nothing
 passes None (Some (says.Event event)) nothing behind more later asks = absurd nothing
 passes None (Some (says.Look look)) nothing behind more later asks = absurd nothing
+passes None (Some (says.Analyse subject)) nothing behind more later asks = absurd nothing
 passes (Some given) None nothing behind more later asks = asks
 passes (Some given) (Some (says.Params numbers)) nothing behind more later asks = asks
 passes (Some given) (Some (says.Seed seed)) nothing behind more later asks = asks
 passes (Some given) (Some (says.Words words)) nothing behind more later asks = absurd nothing
 passes (Some given) (Some (says.Event event)) nothing behind more later asks = absurd nothing
 passes (Some given) (Some (says.Look look)) nothing behind more later asks = absurd nothing
+passes (Some given) (Some (says.Analyse subject)) nothing behind more later asks = absurd nothing
 
 -- a line that asks for nothing is taken in
 pub nothing_taken :
@@ -86,19 +89,46 @@ unfolding AskFor
 looks None look behind more later asks = (later, refl, asks)
 looks (Some given) look behind more later asks = (later, refl, asks)
 
+analyses :
+    (given : Option (List ℕ)) (subject : Subject) (behind : List (Option Statement)) (more : List (List ℕ))
+    (later : List Line)
+    → AskFor behind more later
+    → AskFor (waiting given ++ Some (says.Analyse subject) ∷ behind) more (line.Analyse subject ∷ later)
+unfolding AskFor
+analyses None subject behind more later asks = (later, refl, asks)
+analyses (Some given) subject behind more later asks = (later, refl, asks)
+
+-- one line to run comes of one that is said, and no words are drawn for it
+line_taken :
+    (old new : Turn) (said : Statement) (own : Line) → new.draws ≡ old.draws → new.given ≡ None
+    → new.lines.items ≡ old.lines.items ++ own ∷ []
+    → ((behind : List (Option Statement)) (more : List (List ℕ)) (later : List Line) → AskFor behind more later
+    → AskFor (waiting old.given ++ Some said ∷ behind) more (own ∷ later))
+    → Takes old (Some said) new
+line_taken old new said own draws given lines asked = record {
+  drawn = [];
+  draws = ap stream_now draws;
+  own = own ∷ [];
+  lines = lines;
+  asks = λ behind more later asks.
+      asked behind more later (subst (λ g. AskFor (waiting g ++ behind) more later) given asks);
+}
+
 -- a look is taken in
 pub look_taken :
     (old new : Turn) (look : Look) → new.draws ≡ old.draws → new.given ≡ None
     → new.lines.items ≡ old.lines.items ++ line.Look look ∷ []
     → Takes old (Some (says.Look look)) new
-look_taken old new look draws given lines = record {
-  drawn = [];
-  draws = ap stream_now draws;
-  own = line.Look look ∷ [];
-  lines = lines;
-  asks = λ behind more later asks.
-      looks old.given look behind more later (subst (λ g. AskFor (waiting g ++ behind) more later) given asks);
-}
+look_taken old new look draws given lines =
+    line_taken old new (says.Look look) (line.Look look) draws given lines (looks old.given look)
+
+-- an analysis is taken in
+pub analysis_taken :
+    (old new : Turn) (subject : Subject) → new.draws ≡ old.draws → new.given ≡ None
+    → new.lines.items ≡ old.lines.items ++ line.Analyse subject ∷ []
+    → Takes old (Some (says.Analyse subject)) new
+analysis_taken old new subject draws given lines =
+    line_taken old new (says.Analyse subject) (line.Analyse subject) draws given lines (analyses old.given subject)
 
 given_event :
     (words : List ℕ) (event : Event) (behind : List (Option Statement)) (more : List (List ℕ)) (later : List Line)

@@ -5,21 +5,20 @@ use Rattle.serde_json.specs.Written.{compact_text}
 use Rattle.ov_graph.specs.Links.{LinkGraph, IsGroup}
 use Rattle.ov_cert.specs.Valid.{IsValidForGroup}
 use Rattle.ov_cert.specs.declared.cert.Cert.{Cert}
-use Rattle.ov_certfile.specs.CertLine.{cert_text}
 use Rattle.ov_certfile.specs.DataOf.{data_of}
 use Rattle.ov_certfile.specs.Device.{AppendsPrefixOf}
 use Rattle.ov_even.specs.Answer.{IsAnswer}
 use Rattle.ov_even.specs.Faults.{HasNode}
 use Rattle.ov_run.specs.GraphFiles.{SaysGraph}
-use Rattle.ov_run.specs.Printed.{refused_line}
+use Rattle.ov_run.specs.Printed.{report_line, refused_line}
+use Rattle.ov_run.specs.Subjects.{members_of}
 use Rattle.ov_run.specs.declared.fault.RunFault.{RunFault}
 use Rattle.ov_run.specs.declared.fault.RunFault.TheVariants as fault
 
 -- the line of an answer, for moment 0; behind it the certificate file, where that is asked for
 unfoldable pub answer_text : Cert → LinkGraph → List ℕ → Bool → List ℕ
-answer_text c g q false = codes "report 0 " ++ (cert_text c g q ++ codes "\n")
-answer_text c g q true =
-    codes "report 0 " ++ (cert_text c g q ++ (codes "\n" ++ (compact_text (data_of c g q 0) ++ codes "\n")))
+answer_text c g q false = report_line 0 c g q
+answer_text c g q true = report_line 0 c g q ++ (compact_text (data_of c g q 0) ++ codes "\n")
 
 -- a graph without nodes is refused with 30; where there are nodes, ids that are no group of them are refused with 34;
 -- and else the answer of the analysis is printed, a certificate that is valid for the group
@@ -28,11 +27,6 @@ PrintsAnswer g q certificate text =
     ((¬ HasNode g) × (text ≡ refused_line 30))
     ⊎ (HasNode g × (¬ IsGroup g q) × (text ≡ refused_line 34))
     ⊎ ((c : Cert) × IsAnswer g q c × IsValidForGroup g q c × (text ≡ answer_text c g q certificate))
-
--- the group that is asked for, or all nodes where none is
-abbrev pub members_of : Option (List ℕ) → LinkGraph → List ℕ
-members_of None g = g.nodes
-members_of (Some ids) g = ids
 
 -- the bytes of a file say a graph, and this is the text of its answer
 pub record IsAnalysis (bytes : List ℕ) (group : Option (List ℕ)) (certificate : Bool) (text : List ℕ) : Type 0 where

@@ -20,12 +20,13 @@ BeginsPackets packets text = (count : ℕ) × PrintsPackets 0 (take count packet
 abbrev pub BeginsLook : Book → Look → List ℕ → Type 0
 BeginsLook b (Show id) text = text ≡ []
 BeginsLook b Packets text = BeginsPackets b.world.net.packets text
-BeginsLook b (Certificate moment) text = text ≡ []
+BeginsLook b (Certificate subject) text = text ≡ []
 
--- what is printed of a line that is not printed whole: of an event nothing
+-- what is printed of a line that is not printed whole: of an event and of an analysis nothing
 abbrev pub BeginsLine : Book → Line → List ℕ → Type 0
 BeginsLine b (line.Event event words) text = text ≡ []
 BeginsLine b (line.Look look) text = BeginsLook b look text
+BeginsLine b (line.Analyse subject) text = text ≡ []
 
 -- the lines in order, up to some point: the first is not printed whole, or it is and the others begin
 abbrev pub BeginsLines : Book → List Line → List ℕ → Type 0

@@ -3,11 +3,13 @@ pub mod Begun
 pub mod Draws
 pub mod Faults
 pub mod GraphFiles
+pub mod Laws
 pub mod Lines
 pub mod Printed
 pub mod Reading
 pub mod Running
 pub mod Scenarios
 pub mod Statements
+pub mod Subjects
 pub mod Wanted
 pub mod Code

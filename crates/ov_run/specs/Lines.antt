@@ -109,3 +109,9 @@ is_comma b = nat_eq b 44
 -- the ids that one word spells: numbers of 32 bits with commas between them, at least one
 unfoldable pub ids_of : List ℕ → Option (List ℕ)
 ids_of word = each_number 32 (slice_split is_comma word)
+
+-- the ids that one word spells, and no further word
+abbrev pub one_list : List (List ℕ) → Option (List ℕ)
+one_list [] = None
+one_list (v ∷ []) = ids_of v
+one_list (v ∷ w ∷ more) = None

@@ -1,6 +1,9 @@
 -- The lines that are printed of a scenario, each ended by a line feed.
 use Rattle.std.specs.Prelude.{ℕ, List, [], ◌++◌, Option, Some, None, codes, decimal, flat_map}
 use Rattle.hex.specs.Hex.{encode_lower}
+use Rattle.ov_cert.specs.declared.cert.Cert.{Cert}
+use Rattle.ov_certfile.specs.CertLine.{cert_text}
+use Rattle.ov_graph.specs.Links.{LinkGraph}
 use Rattle.ov_ids.specs.Text.{ids_text}
 use Rattle.ov_net.specs.declared.entry.Change.{Change}
 use Rattle.ov_net.specs.declared.entry.Change.TheVariants.{Born, Up, Down, Gone}
@@ -28,6 +31,10 @@ entry_line e =
 -- a refusal, with its number
 unfoldable pub refused_line : ℕ → List ℕ
 refused_line number = codes "refused " ++ (decimal number ++ codes "\n")
+
+-- a report: its moment, and what its certificate says of the graph and the group
+unfoldable pub report_line : ℕ → Cert → LinkGraph → List ℕ → List ℕ
+report_line m c g q = codes "report " ++ (decimal m ++ (codes " " ++ (cert_text c g q ++ codes "\n")))
 
 -- a node's id, its views, and its neighbours in the tree
 unfoldable pub node_line : ℕ → Whole → List ℕ

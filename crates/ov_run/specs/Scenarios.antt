@@ -57,9 +57,10 @@ IsAtFault before n (Some (says.Seed seed)) behind f = ComesTooLate says.Seed bef
 IsAtFault before n (Some (says.Params numbers)) behind f =
     (ComesTooLate says.Params before × (f ≡ fault.Line n))
     ⊎ ((¬ ComesTooLate says.Params before) × (¬ ((p : Limits) × AreParams numbers p)) × (f ≡ fault.Params n))
--- an event and a look never are
+-- an event, a look and an analysis never are
 IsAtFault before n (Some (says.Event event)) behind f = ⊥
 IsAtFault before n (Some (says.Look look)) behind f = ⊥
+IsAtFault before n (Some (says.Analyse subject)) behind f = ⊥
 
 -- the line that has so many before it is at fault, and this is its fault
 unfoldable pub IsFaultAt : List Stated → ℕ → RunFault → Type 0
@@ -94,8 +95,8 @@ IsSeedOf lines seed =
     ((line : Stated) × Has lines line × (line.says ≡ Some (says.Seed seed)))
     ⊎ ((¬ HasKind says.Seed lines) × (seed ≡ 0))
 
--- what lines that say this ask for, where these words were drawn: the events and the looks in order, each event with
--- the words that stand right before it, or else with the next that were drawn. All that were drawn are used
+-- what lines that say this ask for, where these words were drawn: the events, the looks and the analyses in order, each
+-- event with the words that stand right before it, or else with the next that were drawn. All that were drawn are used
 unfoldable pub AskFor : List (Option Statement) → List (List ℕ) → List Line → Type 0
 AskFor [] drawn lines = (drawn ≡ []) × (lines ≡ [])
 AskFor (Some (says.Words words) ∷ Some (says.Event event) ∷ more) drawn lines =
@@ -105,6 +106,8 @@ AskFor (Some (says.Event event) ∷ more) drawn lines =
     × (drawn ≡ words ∷ left) × (lines ≡ line.Event event words ∷ later) × AskFor more left later
 AskFor (Some (says.Look look) ∷ more) drawn lines =
     (later : List Line) × (lines ≡ line.Look look ∷ later) × AskFor more drawn later
+AskFor (Some (says.Analyse subject) ∷ more) drawn lines =
+    (later : List Line) × (lines ≡ line.Analyse subject ∷ later) × AskFor more drawn later
 AskFor (other ∷ more) drawn lines = AskFor more drawn lines
 
 -- the lines to run are what these lines ask for, with words that are drawn from the generator that the seed gives

@@ -4,8 +4,9 @@ use Rattle.std.specs.Prelude.{Some, None, option_map, if◌then◌else◌}
 use Rattle.ov_net.specs.declared.event.Event.{Event}
 use Rattle.ov_net.specs.declared.event.Event.TheVariants as event
 use Rattle.ov_run.specs.Lines.{◌>>=◌, words_of, behind_word, without_space, same, row, number_within, one, two, three}
-use Rattle.ov_run.specs.Lines.{each_number}
+use Rattle.ov_run.specs.Lines.{each_number, one_list}
 use Rattle.ov_run.specs.declared.line.Look.TheVariants as look
+use Rattle.ov_run.specs.declared.line.Subject.{Subject}
 use Rattle.ov_run.specs.declared.statement.Statement.{Statement}
 use Rattle.ov_run.specs.declared.statement.Statement.TheVariants as says
 
@@ -43,6 +44,15 @@ boot_of (n ∷ by ∷ more) =
     then (number_within 32 n >>= λ a. one 32 more >>= λ c. Some (event.Boot a (Some c)))
     else None
 
+-- `M` and `M group IDS`, behind the name: a moment, for all nodes or for a group of them
+abbrev pub subject_of : List (List ℕ) → Option Subject
+subject_of [] = None
+subject_of (m ∷ []) = number_within 32 m >>= λ a. Some (record { moment = a; group = None })
+subject_of (m ∷ group ∷ more) =
+    if same group (codes "group")
+    then (number_within 32 m >>= λ a. one_list more >>= λ ids. Some (record { moment = a; group = Some ids }))
+    else None
+
 -- `broadcast N TEXT`, of which this is left behind the name: the payload is all that stands behind the one space that
 -- follows the node, and nothing where none follows it
 abbrev pub broadcast_of : List ℕ → List (List ℕ) → Option Statement
@@ -73,7 +83,8 @@ named name rest =
     ((codes "params", option_map says.Params (seven_numbers rest))
     ∷ (codes "seed", option_map says.Seed (one 64 rest))
     ∷ (codes "words", option_map says.Words (event_words rest))
-    ∷ (codes "certificate", option_map (λ m. says.Look (look.Certificate m)) (one 32 rest))
+    ∷ (codes "analyse", option_map says.Analyse (subject_of rest))
+    ∷ (codes "certificate", option_map (λ s. says.Look (look.Certificate s)) (subject_of rest))
     ∷ (codes "show", option_map (λ n. says.Look (look.Show n)) (one 32 rest))
     ∷ (codes "packets", if length rest == 0 then Some (says.Look look.Packets) else None)
     ∷ [])

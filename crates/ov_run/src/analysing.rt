@@ -3,15 +3,16 @@ ghost use Rattle.ov_cert.specs.Valid.{IsValidForGroup};
 ghost use Rattle.ov_even.specs.Answer.{IsAnswer};
 ghost use Rattle.ov_even.specs.Faults.{IsRefusal};
 ghost use Rattle.ov_run.specs.Analysing.{answer_text, PrintsAnswer, IsAnalysis, PrintsAnalysis, BeginsAnalysis};
-ghost use Rattle.ov_run.specs.Analysing.{members_of, IsOfFile};
+ghost use Rattle.ov_run.specs.Analysing.{IsOfFile};
 ghost use Rattle.ov_run.specs.Faults.{read_failures, write_failures};
 ghost use Rattle.ov_run.specs.GraphFiles.{IsGraphFault};
+ghost use Rattle.ov_run.specs.Subjects.{members_of};
 
 use crate::fault::RunFault;
 use crate::graph_file::read_graph;
-use crate::printing::refused_line;
+use crate::printing::{refused_line, report_line};
 use ov_cert::Checked;
-use ov_certfile::{CertText, Sink, Source, to_text_group};
+use ov_certfile::{Sink, Source, to_text_group};
 use ov_even::{AnalyseFault, Watcher, analyse_group_watched};
 use ov_graph::Graph;
 use ov_ids::{NodeId, OutOfMemory};
@@ -129,10 +130,10 @@ fn report_text(alloc: Global, checked: &Checked, certificate: bool) -> Result<St
     ensures valid { IsValidForGroup checked.now.graph checked.now.members checked.now.cert }
 {
     let (cert, graph, group) = (checked.cert(), checked.graph(), checked.members());
-    let claim = CertText { cert, graph, group };
+    let line = report_line(alloc, 0, checked)?;
     if !certificate {
-        return Ok(format!(in alloc; "report 0 {claim}\n")?);
+        return Ok(line);
     }
     let file = to_text_group(alloc, cert, graph, group, 0)?;
-    Ok(format!(in alloc; "report 0 {claim}\n{file}\n")?)
+    Ok(format!(in alloc; "{line}{file}\n")?)
 }

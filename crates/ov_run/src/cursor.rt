@@ -1,10 +1,12 @@
-ghost use Rattle.std.specs.Prelude.{◌≡◌, ◌==◌, ◌∷◌, [], length, drop, IfSome, MatchOption};
-ghost use Rattle.ov_run.specs.Lines.{words_of, behind_word, without_space, same, one, two, three};
+ghost use Rattle.std.specs.Prelude.{◌≡◌, ◌==◌, ◌∷◌, [], length, drop, IfOk, IfSome, MatchOption, option_map};
+ghost use Rattle.ov_run.specs.Lines.{words_of, behind_word, without_space, same, one, two, three, one_list};
 ghost use Rattle.ov_run.specs.Code.Spaced.{first_number};
 
+use crate::id_list::read_ids;
 use crate::number::{read_number, read_short_number};
 use crate::splitting::split_word;
-use ov_ids::NodeId;
+use ov_ids::{NodeId, OutOfMemory};
+use std::alloc::Global;
 
 /// What is left of a line.
 #[derive(Drop)]
@@ -96,6 +98,20 @@ impl<'a> Cursor<'a> {
         ensures { result ≡ one 32 (words_of self.old.rest.now) }
     {
         Some(NodeId::new(self.last_short_number()?))
+    }
+
+    /// Reads the last word of the line, which spells ids.
+    #[tactic(auto, using(crate::proofs::Numbers::list_of_ids))]
+    pub(crate) fn last_ids(&mut self, alloc: Global) -> Result<Option<Vec<NodeId>>, OutOfMemory>
+        ensures { IfOk result (λ ids. option_map (λ v. v.items) ids ≡ one_list (words_of self.old.rest.now)) }
+    {
+        let Some(word) = self.word() else {
+            return Ok(None);
+        };
+        if !self.is_at_end() {
+            return Ok(None);
+        }
+        Ok(read_ids(alloc, word)?)
     }
 
     /// Reads the last two words of the line, which spell numbers that fit 32 bits.

@@ -1,4 +1,4 @@
-use ov_ids::{NodeId, Params};
+use ov_ids::{NodeId, Params, Seq};
 use ov_net::Event;
 use ov_words::Words;
 
@@ -9,17 +9,26 @@ pub enum Line {
     Event { event: Event, words: Words },
     /// Something is looked at, and nothing changes.
     Look(Look),
+    /// The overlay is analysed, and a report is filed.
+    Analyse(Subject),
+}
+
+/// What an analysis is of: the overlay at a moment, for a group of its nodes or, without one, for all of them.
+#[derive(Debug, Drop)]
+pub struct Subject {
+    pub moment: u32,
+    pub group: Option<Seq<NodeId>>,
 }
 
 /// What is looked at between events.
-#[derive(Clone, Copy, Debug, PartialEq, Eq)]
+#[derive(Debug, Drop)]
 pub enum Look {
     /// The views of a node.
     Show(NodeId),
     /// All packets on their way.
     Packets,
-    /// The text of the report that is filed for a moment.
-    Certificate(u32),
+    /// The text of the report that is filed for a moment and a group.
+    Certificate(Subject),
 }
 
 /// What a scenario file asks for: the parameters of all nodes, the seed of the words that no line gives, and the lines

@@ -5,11 +5,12 @@ ghost use Rattle.ov_certfile.specs.Device.{AppendsPrefixOf};
 ghost use Rattle.ov_snap.specs.Book.{Book, unwritten};
 ghost use Rattle.ov_run.specs.Begun.{BeginsLines, BeginsLook, BeginsPackets};
 ghost use Rattle.ov_run.specs.Faults.{write_failures, IsOfWriting};
-ghost use Rattle.ov_run.specs.Running.{PrintsEvent, PrintsNode, PrintsPackets, PrintsReport, PrintsLook, PrintsLine};
-ghost use Rattle.ov_run.specs.Running.{PrintsLines};
+ghost use Rattle.ov_run.specs.Running.{PrintsEvent, PrintsNode, PrintsPackets, PrintsLook, PrintsLine};
+ghost use Rattle.ov_run.specs.Running.{PrintsCertificate, PrintsReportLine, PrintsLines};
 
 use crate::fault::RunFault;
-use crate::line::{Line, Look};
+use crate::filing::{file_analysis, report_of};
+use crate::line::{Line, Look, Subject};
 use crate::printing::{entry_line, node_line, packet_line, refused_line};
 use ov_certfile::{Sink, to_text_group};
 use ov_ids::{NodeId, OutOfMemory, Params};
@@ -62,6 +63,10 @@ fn play_line<W: Write>(
             Ok(sink.write_all(text.as_bytes())?)
         }
         Line::Look(look) => write_look(alloc, core, look, sink),
+        Line::Analyse(subject) => {
+            let report = analysis_text(alloc, core, &subject)?;
+            Ok(sink.write_all(report.as_bytes())?)
+        }
     }
 }
 
@@ -77,6 +82,16 @@ fn event_text(
     match core.step(event, words) {
         Ok(entry) => entry_line(alloc, &entry),
         Err(fault) => refused_line(alloc, fault.number()),
+    }
+}
+
+/// Analyses a subject and files the report, or refuses. It answers what is printed of that.
+fn analysis_text(alloc: Global, core: &mut Core, subject: &Subject) -> Result<String, OutOfMemory>
+    ensures { IfOk result (λ text. PrintsReportLine core.old subject.now core.new (string_bytes text)) }
+{
+    match file_analysis(alloc, core, subject) {
+        Ok(line) => Ok(line),
+        Err(refusal) => refused_line(alloc, refusal.number()),
     }
 }
 
@@ -98,7 +113,7 @@ fn write_look<W: Write>(
     let text = match look {
         Look::Show(id) => node_text(alloc, core.world(), id)?,
         Look::Packets => return write_packets(alloc, core.world().packets(), sink),
-        Look::Certificate(moment) => report_text(alloc, core, moment)?,
+        Look::Certificate(subject) => certificate_text(alloc, core, &subject)?,
     };
     Ok(sink.write_all(text.as_bytes())?)
 }
@@ -114,12 +129,12 @@ fn node_text(alloc: Global, world: &World, id: NodeId) -> Result<String, OutOfMe
     }
 }
 
-/// What is printed of the report that is filed for a moment: its file, or that there is none, or that there was no
+/// What is printed of the report that is filed for a subject: its file, or that there is none, or that there was no
 /// memory for the file.
-fn report_text(alloc: Global, core: &Core, moment: u32) -> Result<String, OutOfMemory>
-    ensures { IfOk result (λ text. PrintsReport core.now moment (string_bytes text)) }
+fn certificate_text(alloc: Global, core: &Core, subject: &Subject) -> Result<String, OutOfMemory>
+    ensures { IfOk result (λ text. PrintsCertificate core.now subject.now (string_bytes text)) }
 {
-    let Some(report) = core.report(moment) else {
+    let Some(report) = report_of(core, subject) else {
         return Ok(refused_line(alloc, BookFault::NoSuchMoment.number())?);
     };
     prove!(core.world().journal().len() <= MAX_ENTRIES);

@@ -1,7 +1,9 @@
 ghost use Rattle.std.specs.Prelude.{◌≡◌, IfOk, string_bytes};
-ghost use Rattle.ov_run.specs.Printed.{entry_line, refused_line, node_line, packet_line};
+ghost use Rattle.ov_run.specs.Printed.{entry_line, refused_line, report_line, node_line, packet_line};
 
 use crate::text::{ChangesText, DeliveryText};
+use ov_cert::Checked;
+use ov_certfile::CertText;
 use ov_ids::{IdsText, NodeId, OutOfMemory};
 use ov_net::Entry;
 use ov_peer::Peer;
@@ -25,6 +27,17 @@ pub fn refused_line(alloc: Global, number: u32) -> Result<String, OutOfMemory>
     ensures { IfOk result (λ line. string_bytes line ≡ refused_line number) }
 {
     Ok(format!(in alloc; "refused {number}\n")?)
+}
+
+/// The line of a report: `report M`, and what the certificate says of the graph and the group.
+#[tactic(auto, unfolding(crate::specs::Printed::report_line))]
+pub fn report_line(alloc: Global, moment: u32, checked: &Checked) -> Result<String, OutOfMemory>
+    ensures { IfOk result (λ line. string_bytes line
+        ≡ report_line moment checked.now.cert checked.now.graph checked.now.members) }
+{
+    let (cert, graph, group) = (checked.cert(), checked.graph(), checked.members());
+    let claim = CertText { cert, graph, group };
+    Ok(format!(in alloc; "report {moment} {claim}\n")?)
 }
 
 /// The line of a node and its views: `node N active L passive L eager L lazy L`, where each list has commas between its

@@ -1,10 +1,10 @@
 ghost use Rattle.std.specs.Prelude.{◌≡◌, IfOk, option_map};
 ghost use Rattle.ov_run.specs.Lines.{words_of, two, three};
 ghost use Rattle.ov_run.specs.Statements.{seven_numbers, event_words, report_of, timer_of, boot_of, broadcast_of};
-ghost use Rattle.ov_run.specs.Statements.{event_of, named, statement_of};
+ghost use Rattle.ov_run.specs.Statements.{event_of, subject_of, named, statement_of};
 
 use crate::cursor::{Cursor, is_word};
-use crate::line::Look;
+use crate::line::{Look, Subject};
 use ov_ids::{MsgId, NodeId, OutOfMemory, Seq};
 use ov_net::Event;
 use ov_words::Words;
@@ -20,6 +20,8 @@ pub(crate) enum Statement {
     Words(Words),
     Event(Event),
     Look(Look),
+    /// What an analysis is of.
+    Analyse(Subject),
 }
 
 /// A line that is not skipped.
@@ -42,7 +44,7 @@ pub(crate) fn read_statement(alloc: Global, text: &[u8]) -> Result<Option<Statem
     if is_word(name, b"broadcast") {
         return Ok(read_broadcast(alloc, &mut cursor)?);
     }
-    Ok(read_named(name, &mut cursor))
+    Ok(read_named(alloc, name, &mut cursor)?)
 }
 
 /// Reads what follows the name `broadcast`: the node, and the payload as it stands behind one space.
@@ -57,28 +59,61 @@ fn read_broadcast(alloc: Global, cursor: &mut Cursor) -> Result<Option<Statement
 }
 
 /// Reads what follows the name of any other line.
-fn read_named(name: &[u8], cursor: &mut Cursor) -> Option<Statement>
-    ensures { result ≡ named name.now (words_of cursor.old.rest.now) }
+fn read_named(
+    alloc: Global,
+    name: &[u8],
+    cursor: &mut Cursor,
+) -> Result<Option<Statement>, OutOfMemory>
+    ensures { IfOk result (λ said. said ≡ named name.now (words_of cursor.old.rest.now)) }
 {
     if is_word(name, b"params") {
-        return Some(Statement::Params(read_params(cursor)?));
+        return Ok(read_params(cursor).map(Statement::Params));
     }
     if is_word(name, b"seed") {
-        return Some(Statement::Seed(cursor.last_number()?));
+        return Ok(cursor.last_number().map(Statement::Seed));
     }
     if is_word(name, b"words") {
-        return Some(Statement::Words(read_event_words(cursor)?));
+        return Ok(read_event_words(cursor).map(Statement::Words));
+    }
+    if is_word(name, b"analyse") {
+        return Ok(read_subject(alloc, cursor)?.map(Statement::Analyse));
     }
     if is_word(name, b"certificate") {
-        return Some(Statement::Look(Look::Certificate(cursor.last_short_number()?)));
+        let subject = read_subject(alloc, cursor)?;
+        return Ok(subject.map(|subject| Statement::Look(Look::Certificate(subject))));
     }
     if is_word(name, b"show") {
-        return Some(Statement::Look(Look::Show(cursor.last_id()?)));
+        return Ok(
+            cursor
+                .last_id()
+                .map(|node| Statement::Look(Look::Show(node))),
+        );
     }
     if is_word(name, b"packets") {
-        return cursor.is_at_end().then_some(Statement::Look(Look::Packets));
+        return Ok(cursor.is_at_end().then_some(Statement::Look(Look::Packets)));
     }
-    Some(Statement::Event(read_event(name, cursor)?))
+    Ok(read_event(name, cursor).map(Statement::Event))
+}
+
+/// Reads the moment of an analysis, and its group where one is named: `M`, or `M group IDS`.
+fn read_subject(alloc: Global, cursor: &mut Cursor) -> Result<Option<Subject>, OutOfMemory>
+    ensures { IfOk result (λ subject. subject ≡ subject_of (words_of cursor.old.rest.now)) }
+{
+    let Some(moment) = cursor.short_number() else {
+        return Ok(None);
+    };
+    let Some(name) = cursor.word() else {
+        let group = None;
+        return Ok(Some(Subject { moment, group }));
+    };
+    if !is_word(name, b"group") {
+        return Ok(None);
+    }
+    let Some(ids) = cursor.last_ids(alloc)? else {
+        return Ok(None);
+    };
+    let group = Some(Seq::new(ids));
+    Ok(Some(Subject { moment, group }))
 }
 
 /// Reads what follows the name of an event without a payload.

@@ -5,7 +5,7 @@ ghost use Rattle.ov_run.specs.Code.Taking.{Takes, stream_now};
 ghost use Rattle.ov_run.specs.declared.statement.Statement.TheVariants as says;
 
 use crate::drawing::Draws;
-use crate::line::{Line, Look};
+use crate::line::{Line, Look, Subject};
 use crate::statement::{Stated, Statement};
 use ov_ids::OutOfMemory;
 use ov_net::Event;
@@ -47,6 +47,7 @@ impl Turn {
         match statement {
             Statement::Event(event) => self.take_event(event),
             Statement::Look(look) => self.take_look(look),
+            Statement::Analyse(subject) => self.take_analysis(subject),
             Statement::Words(words) => {
                 self.take_words(words);
                 Ok(())
@@ -94,9 +95,19 @@ impl Turn {
         self.lines.push(Line::Look(look))?;
         Ok(())
     }
+
+    /// Takes in an analysis.
+    #[tactic(auto, using(crate::proofs::Taking::analysis_taken))]
+    fn take_analysis(&mut self, subject: Subject) -> Result<(), OutOfMemory>
+        ensures { OnOk result (Takes self.old (Some (says.Analyse subject)) self.new) }
+    {
+        self.given = None;
+        self.lines.push(Line::Analyse(subject))?;
+        Ok(())
+    }
 }
 
-/// The lines to run: the events and the looks in order, each event with the words of the line right before it, or else
+/// The lines to run: the events, the looks and the analyses in order, each event with the words of the line right before it, or else
 /// with the next words that the seed gives.
 pub(crate) fn lines_to_run(
     alloc: Global,

@@ -1,7 +1,7 @@
 -- A book stays sound, whatever happens and whatever is filed.
 use Rattle.std.proofs.Common.{◌≡◌, ◌≢◌, ◌⊎◌, ℕ, ◌<◌, List, [], ◌∷◌, ◌++◌, length, length-append, Option, Some, None}
 use Rattle.std.proofs.Common.{IfSome, IfNone, Result, Ok, Err, IfOk, OnErr, true≢false, Bool, IsTrue, ◌↔◌, false, inl}
-use Rattle.std.proofs.Common.{inr, refl, sym, ap, ap₂, ◌∙◌, subst, append-nil, arith}
+use Rattle.std.proofs.Common.{◌≤◌, slice_get, inr, refl, sym, ap, ap₂, ◌∙◌, subst, append-nil, arith}
 use Rattle.std.proofs.lemmas.Option.{none-some}
 use Rattle.ov_ids.specs.Limits.{Limits}
 use Rattle.ov_ids.specs.Members.{Has, Ordered}
@@ -21,11 +21,14 @@ use Rattle.ov_net.specs.declared.fault.NetFault.{NetFault}
 use Rattle.ov_net.specs.World.{Chronicle, opening}
 use Rattle.ov_net.proofs.OneGraph.{links_one}
 use Rattle.ov_net.proofs.Telling.{links_stay}
-use Rattle.ov_snap.specs.Book.{Book, HasReport, HasReportOfAll, IsSound, KeepsReports, unwritten}
+use Rattle.ov_desk.specs.Desk.{GroupDeskState}
+use Rattle.ov_snap.specs.Book.{Book, HasReport, HasReportOfAll, IsDeskOf, IsSound, KeepsReports}
+use Rattle.ov_snap.specs.Book.{most_desks, unwritten}
 use Rattle.ov_snap.specs.Code.Index.{Key, key_of}
 use Rattle.ov_snap.specs.Exact.{IsExact, IsSo, Reported}
 use Rattle.ov_snap.specs.Refusals.{FilingJudged, IsFiled}
-use Rattle.ov_snap.specs.Run.{Happened, WasFiled}
+use Rattle.ov_snap.specs.Filing.{WasFiled}
+use Rattle.ov_snap.specs.Run.{Happened}
 use Rattle.ov_snap.specs.Snapshots.{AreSnapshots, IsMoment, IsSnapshot, SnapshotsAfter, WasBefore}
 use Rattle.ov_snap.specs.declared.fault.BookFault.{BookFault}
 use Rattle.ov_snap.specs.declared.fault.BookFault.TheVariants.{NoSuchMoment, OtherGraph, AlreadyFiled}
@@ -44,16 +47,18 @@ sound_begun params = record {
     links = λ s h. absurd h;
     every = λ m h. absurd (no_moment m h);
   };
+  few_desks = omega arith;
+  desks = λ i d h. absurd (none-some d h);
   distinct = tt;
   one = λ m q r s h k. absurd h.filed;
   exact = λ r h. absurd h;
 }
 
 -- the parts of a new book
-pub sound_new : (params : Limits) (world : Chronicle) (snapshots : List Snapshot) (reports : List Reported)
-    → world ≡ opening params → snapshots ≡ [] → reports ≡ []
-    → IsSound (record { world = world; snapshots = snapshots; reports = reports })
-sound_new params world snapshots reports w s r = rw (w, s, r) (sound_begun params)
+pub sound_new : (params : Limits) (world : Chronicle) (snapshots : List Snapshot) (desks : List GroupDeskState)
+    (reports : List Reported) → world ≡ opening params → snapshots ≡ [] → desks ≡ [] → reports ≡ []
+    → IsSound (record { world = world; snapshots = snapshots; desks = desks; reports = reports })
+sound_new params world snapshots desks reports w s d r = rw (w, s, d, r) (sound_begun params)
 
 -- the snapshots of a journal with one more entry that is none
 snapshots_rest : (journal : List Entry) (e : Entry) (snapshots : List Snapshot) → ¬ IsSnapshot e
@@ -114,6 +119,15 @@ exact_stays journal more r h = record {
   fewest = h.fewest;
 }
 
+-- a desk stays one of the journal
+desk_stays : (journal more : List Entry) (d : GroupDeskState) → IsDeskOf journal d → IsDeskOf (journal ++ more) d
+desk_stays journal more d h = record {
+  moment = moment_stays journal more d.moment h.moment;
+  graph = h.graph;
+  links = links_stay journal more d.moment h.graph (moment_within journal d.moment h.moment) h.links;
+  sound = h.sound;
+}
+
 pub sound_happened : (b : Book) (what : Event) (words : List ℕ) (e : Entry) (u : Book) → IsSound b
     → Happened b what words e u → IsSound u
 sound_happened b what words e u sound h = record {
@@ -121,6 +135,10 @@ sound_happened b what words e u sound h = record {
       (snapshots_kept b.world.journal e what b.snapshots u.snapshots h.step.0
       (subst (λ (j : List Entry). SnapshotsAfter j what b.snapshots u.snapshots) h.journal h.snapshots)
       sound.snapshots);
+  few_desks = subst (λ (l : List GroupDeskState). length l ≤ most_desks) (sym h.desks) sound.few_desks;
+  desks = λ i d k. subst (λ (j : List Entry). IsDeskOf j d) (sym h.journal)
+      (desk_stays b.world.journal (e ∷ []) d
+      (sound.desks i d (subst (λ (l : List GroupDeskState). slice_get l i ≡ Some d) h.desks k)));
   distinct = subst (Ordered (λ (r s : Reported). r ≢ s)) (sym h.reports) sound.distinct;
   one = λ m q r s k l. sound.one m q r s (was m q r k) (was m q s l);
   exact = λ r k. subst (λ (j : List Entry). IsExact j r) (sym h.journal)
@@ -158,6 +176,8 @@ none_found b r judged x h same = (filing_passed b r judged).2
 pub sound_filed : (b : Book) (r : Reported) (u : Book) → IsSound b → WasFiled b r u → IsSound u
 sound_filed b r u sound h = subst IsSound (sym h.reports) (record {
   snapshots = sound.snapshots;
+  few_desks = sound.few_desks;
+  desks = sound.desks;
   distinct = ordered_more (λ (x y : Reported). x ≢ y) b.reports r sound.distinct
       (λ x k e. none_found b r h.judged x k (ap key_of e));
   one = λ m q x y k l. elim (there m q x k) [
@@ -263,11 +283,11 @@ if_none P Q (Some x) f p = tt
 -- the parts of a book in which a report was filed
 pub filed_sound : (b u : Book) (r : Reported) (reports : List Reported) → b ≡ u → IsSound b
     → IsValidForGroup r.graph r.members r.cert → FilingJudged u r None → reports ≡ b.reports ++ r ∷ []
-    → IsSound (record { world = b.world; snapshots = b.snapshots; reports = reports })
+    → IsSound (record { world = b.world; snapshots = b.snapshots; desks = b.desks; reports = reports })
 filed_sound b u r reports same sound valid judged is = sound_filed b r _ sound (record {
   judged = subst (λ (x : Book). FilingJudged x r None) (sym same) judged;
   valid = valid;
-  reports = ap (λ (l : List Reported). record { world = b.world; snapshots = b.snapshots; reports = l }) is;
+  reports = ap (λ (l : List Reported). record b { reports = l }) is;
 })
 
 -- its report is there
@@ -283,13 +303,14 @@ pub snapshot_happened : (b : Book) (words : List ℕ) (e : Entry) (world : Chron
     → NetStep b.world.net event.Snapshot words world.net e → world.journal ≡ b.world.journal ++ e ∷ []
     → e.number ≡ length world.journal → AreLinks b.world.journal (length b.world.journal) g
     → snapshots ≡ b.snapshots ++ record { moment = e.number; graph = g } ∷ []
-    → Happened b event.Snapshot words e (record { world = world; snapshots = snapshots; reports = b.reports })
+    → Happened b event.Snapshot words e (record b { world = world; snapshots = snapshots })
 snapshot_happened b words e world g snapshots judged step journal number links is = record {
   judged = judged;
   step = step;
   journal = journal;
   number = number;
   snapshots = inl (refl, (record { moment = e.number; graph = g }, number, linked, is));
+  desks = refl;
   reports = refl;
 }
   where
@@ -298,22 +319,24 @@ snapshot_happened b words e world g snapshots judged step journal number links i
         (sym journal) (links_rest b.world.journal e g step.2.1 links))
 
 -- another event, accepted or refused
-pub other_sound : (old world : Chronicle) (snapshots : List Snapshot) (reports : List Reported) (what : Event)
-    (words : List ℕ) (r : Result Entry NetFault) (b : Bool) → b ≡ false
+pub other_sound : (old world : Chronicle) (snapshots : List Snapshot) (desks : List GroupDeskState)
+    (reports : List Reported) (what : Event) (words : List ℕ) (r : Result Entry NetFault) (b : Bool) → b ≡ false
     → (IsTrue b ↔ (what ≡ event.Snapshot)) → IfOk r (λ e. Judged old.net (length old.journal) what None)
     → IfOk r (λ e. NetStep old.net what words world.net e)
     → IfOk r (λ e. world.journal ≡ old.journal ++ e ∷ []) → IfOk r (λ e. e.number ≡ length world.journal)
-    → OnErr r (world ≡ old) → IsSound (record { world = old; snapshots = snapshots; reports = reports })
-    → IsSound (record { world = world; snapshots = snapshots; reports = reports })
-other_sound old world snapshots reports what words (Ok e) b isnt test judged step journal number err sound =
-    sound_happened (record { world = old; snapshots = snapshots; reports = reports }) what words e
-    (record { world = world; snapshots = snapshots; reports = reports }) sound (record {
+    → OnErr r (world ≡ old) → IsSound (record { world = old; snapshots = snapshots; desks = desks; reports = reports })
+    → IsSound (record { world = world; snapshots = snapshots; desks = desks; reports = reports })
+other_sound old world snapshots desks reports what words (Ok e) b isnt test judged step journal number err sound =
+    sound_happened (record { world = old; snapshots = snapshots; desks = desks; reports = reports }) what words e
+    (record { world = world; snapshots = snapshots; desks = desks; reports = reports }) sound (record {
       judged = judged;
       step = step;
       journal = journal;
       number = number;
       snapshots = inr ((λ s. true≢false (sym (test.1 s) ∙ isnt)), refl);
+      desks = refl;
       reports = refl;
     })
-other_sound old world snapshots reports what words (Err f) b isnt test judged step journal number err sound =
-    subst (λ (x : Chronicle). IsSound (record { world = x; snapshots = snapshots; reports = reports })) (sym err) sound
+other_sound old world snapshots desks reports what words (Err f) b isnt test judged step journal number err sound =
+    subst (λ (x : Chronicle). IsSound (record { world = x; snapshots = snapshots; desks = desks; reports = reports }))
+    (sym err) sound

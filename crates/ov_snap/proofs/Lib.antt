@@ -1,7 +1,9 @@
 pub mod Moments
 pub mod Resting
 pub mod Keeping
+pub mod DeskKeeping
 pub mod Finding
 pub mod Indexing
 pub mod Refusing
 pub mod Running
+pub mod DeskCalls

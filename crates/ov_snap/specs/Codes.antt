@@ -1,6 +1,8 @@
 -- That a book can be a value that contracts see. Nothing here says anything about it.
 use Rattle.std.specs.Prelude.{List, refl}
 use Rattle.std.specs.Coded.{Coded, code_by, coded×, coded_list}
+use Rattle.ov_desk.specs.Desk.{GroupDeskState}
+use Rattle.ov_desk.specs.contracts.desk.GroupDesk as desk
 use Rattle.ov_net.specs.Codes.{chronicle_code}
 use Rattle.ov_net.specs.World.{Chronicle}
 use Rattle.ov_snap.specs.Book.{Book}
@@ -12,8 +14,9 @@ use Rattle.ov_snap.specs.declared.snapshot.Snapshot.{Snapshot}
 -- a book as its parts
 abbrev pub book_code : Coded Book
 book_code =
-    code_by (Chronicle × (List Snapshot × List Reported))
-    (coded× chronicle_code (coded× (coded_list snapshot.the_row.coded) (coded_list report.the_row.coded)))
-    (λ b. (b.world, (b.snapshots, b.reports)))
-    (λ p. record { world = p.0; snapshots = p.1.0; reports = p.1.1 })
+    code_by (Chronicle × (List Snapshot × (List GroupDeskState × List Reported)))
+    (coded× chronicle_code (coded× (coded_list snapshot.the_row.coded)
+    (coded× (coded_list desk.the_row.coded) (coded_list report.the_row.coded))))
+    (λ b. (b.world, (b.snapshots, (b.desks, b.reports))))
+    (λ p. record { world = p.0; snapshots = p.1.0; desks = p.1.1.0; reports = p.1.1.1 })
     (λ _. refl)

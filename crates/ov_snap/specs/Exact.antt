@@ -1,5 +1,5 @@
 -- Reports, and which are exact (Menger, Fund. Math. 10, 1927; Even, SIAM J. Comput. 4, 1975).
-use Rattle.std.specs.Prelude.{◌≡◌, ℕ, List, None}
+use Rattle.std.specs.Prelude.{ℕ, List, None}
 use Rattle.ov_graph.specs.Links.{LinkGraph}
 use Rattle.ov_graph.specs.Joined.{NoFewerSplit, FewestForGroup}
 use Rattle.ov_cert.specs.Laws.{ReachesNumber}

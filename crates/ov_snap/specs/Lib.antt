@@ -2,6 +2,8 @@ pub mod Snapshots
 pub mod Exact
 pub mod Book
 pub mod Refusals
+pub mod Filing
+pub mod DeskSteps
 pub mod Run
 pub mod Laws
 pub mod Codes

@@ -9,9 +9,9 @@ ghost use Rattle.ov_net.specs.declared.entry.Entry.{Entry as Told};
 ghost use Rattle.ov_net.specs.declared.event.Event.TheVariants as told;
 ghost use Rattle.ov_snap.specs.Book.{HasReport, HasReportOfAll, IsSound, KeepsReports, unwritten};
 ghost use Rattle.ov_snap.specs.Exact.{IsExact, IsSo, Reported};
-ghost use Rattle.ov_snap.specs.Refusals.{BeginJudged, FilingJudged, GroupBeginJudged};
-ghost use Rattle.ov_snap.specs.Refusals.{IsBeginRefusal, IsFilingRefusal, IsGroupBeginRefusal};
-ghost use Rattle.ov_snap.specs.Run.{Happened, WasFiled};
+ghost use Rattle.ov_snap.specs.Filing.{WasFiled};
+ghost use Rattle.ov_snap.specs.Refusals.{BeginJudged, FilingJudged, GroupBeginJudged, IsRefusedBy};
+ghost use Rattle.ov_snap.specs.Run.{Happened};
 ghost use Rattle.ov_snap.specs.Snapshots.{IsMoment};
 ghost use Rattle.ov_snap.specs.declared.fault.BookFault.TheVariants.{NoSuchMoment};
 
@@ -20,6 +20,7 @@ use crate::job::Job;
 use crate::report::Report;
 use crate::reports::Reports;
 use crate::snapshot::{Snapshot, find, make_room};
+use ov_desk::GroupDesk;
 use ov_graph::Graph;
 use ov_ids::{NodeId, OutOfMemory, Params};
 use ov_net::{Entry, Event, MAX_ENTRIES, NetFault, World};
@@ -27,13 +28,14 @@ use ov_words::Words;
 use std::alloc::Global;
 use std::marker::Model;
 
-/// A world, the snapshots of its links, and the reports that are filed for them. Its type keeps that each report is
-/// exact.
+/// A world, the snapshots of its links, the desks at which they are analysed, and the reports that are filed for them.
+/// Its type keeps that each desk is sound for the links of its moment, and that each report is exact.
 #[derive(Drop)]
 pub struct Core {
-    world: World,
-    snapshots: Vec<Snapshot>,
-    reports: Reports,
+    pub(crate) world: World,
+    pub(crate) snapshots: Vec<Snapshot>,
+    pub(crate) desks: Vec<GroupDesk>,
+    pub(crate) reports: Reports,
 }
 
 impl Model for Core {
@@ -44,9 +46,19 @@ impl Model for Core {
 
     ghost coded = { book_code };
 
-    ghost view = { λ a. record { world = a.world; snapshots = a.snapshots.items; reports = a.reports } };
+    ghost view = { λ a. record {
+      world = a.world;
+      snapshots = a.snapshots.items;
+      desks = a.desks.items;
+      reports = a.reports;
+    } };
 
-    ghost invariant = { λ a. IsSound (record { world = a.world; snapshots = a.snapshots.items; reports = a.reports }) };
+    ghost invariant = { λ a. IsSound (record {
+      world = a.world;
+      snapshots = a.snapshots.items;
+      desks = a.desks.items;
+      reports = a.reports;
+    }) };
 }
 
 impl Core {
@@ -57,11 +69,13 @@ impl Core {
         Core {
             world: World::new(alloc, params),
             snapshots: Vec::new(alloc),
+            desks: Vec::new(alloc),
             reports: Reports::new(alloc),
         }
     }
 
-    /// The world. The snapshots are those of its journal, and each report is exact for it.
+    /// The world. The snapshots are those of its journal, each desk is sound for the links of its moment, and each
+    /// report is exact for it.
     pub fn world(&self) -> &World
         ensures value { result.now ≡ self.now.world }
         ensures sound { IsSound self.now }
@@ -131,7 +145,7 @@ impl Core {
         ensures judged { IfOk result (λ job. BeginJudged self.now moment None) }
         ensures moment { IfOk result (λ job. job.moment ≡ moment) }
         ensures links { IfOk result (λ job. AreLinks self.now.world.journal moment job.graph) }
-        ensures refused { IfErr result (λ f. IsBeginRefusal self.now moment f) }
+        ensures refused { IfErr result (IsRefusedBy (BeginJudged self.now moment)) }
     {
         let snapshot = self.lived(moment)?;
         Ok(Job::of(snapshot)?)
@@ -145,7 +159,7 @@ impl Core {
         ensures moment { IfOk result (λ job. job.moment ≡ moment) }
         ensures links { IfOk result (λ job. AreLinks self.now.world.journal moment job.graph) }
         ensures group { IfOk result (λ job. IsGroup job.graph group.now) }
-        ensures refused { IfErr result (λ f. IsGroupBeginRefusal self.now moment group.now f) }
+        ensures refused { IfErr result (IsRefusedBy (GroupBeginJudged self.now moment group.now)) }
     {
         let snapshot = self.lived(moment)?;
         if !snapshot.graph.is_group(group) {
@@ -159,7 +173,7 @@ impl Core {
     /// and group (52), and then out of memory (99); and then nothing changed.
     pub fn file(&mut self, report: Report) -> Result<(), BookFault>
         ensures filed { OnOk result (WasFiled self.old report self.new) }
-        ensures refused { IfErr result (λ f. IsFilingRefusal self.old report f) }
+        ensures refused { IfErr result (IsRefusedBy (FilingJudged self.old report)) }
         ensures err { OnErr result (self.new ≡ self.old) }
         ensures found { OnOk result (HasReport self.new report.moment report.members report) }
         ensures stay { KeepsReports self.old self.new }
@@ -170,7 +184,7 @@ impl Core {
     }
 
     /// The snapshot of this moment.
-    fn kept(&self, moment: u32) -> Result<&Snapshot, BookFault>
+    pub(crate) fn kept(&self, moment: u32) -> Result<&Snapshot, BookFault>
         ensures ok { IfOk result (λ s. IsMoment self.now.world.journal moment
             × AreLinks self.now.world.journal moment s.now.graph) }
         ensures moment { IfOk result (λ s. s.now.moment ≡ moment) }
@@ -184,7 +198,7 @@ impl Core {
     }
 
     /// The snapshot of this moment, if somebody lived then.
-    fn lived(&self, moment: u32) -> Result<&Snapshot, BookFault>
+    pub(crate) fn lived(&self, moment: u32) -> Result<&Snapshot, BookFault>
         ensures ok { IfOk result (λ s. BeginJudged self.now moment None) }
         ensures links { IfOk result (λ s. AreLinks self.now.world.journal moment s.now.graph) }
         ensures moment { IfOk result (λ s. s.now.moment ≡ moment) }

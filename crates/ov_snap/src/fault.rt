@@ -16,6 +16,21 @@ pub enum BookFault {
     /// These are no group of the graph of this moment.
     #[error("these are no group of the nodes of this moment")]
     BadGroup,
+    /// There are as many desks as there may be, 65,536.
+    #[error("there are too many desks")]
+    TooManyDesks,
+    /// There is no such desk.
+    #[error("there is no such desk")]
+    NoSuchDesk,
+    /// The number of workers is not from 1 to 64, or the desk has no such worker.
+    #[error("there is no such worker")]
+    NoSuchWorker,
+    /// It is not the worker's next turn.
+    #[error("this is not the worker's next turn")]
+    WrongTurn,
+    /// Not all workers of the desk have ended.
+    #[error("not all workers of the desk have ended")]
+    NotEnded,
     /// The graph is another one than that of the moment.
     #[error("the graph is not that of the moment")]
     OtherGraph,
@@ -28,7 +43,7 @@ pub enum BookFault {
 }
 
 impl BookFault {
-    /// The fault's number: 50, 30, 34, 51 and 52 in the order above, or 99 out of memory.
+    /// The fault's number: 50, 30, 34, 58, 53, 57, 54, 55, 51 and 52 in the order above, or 99 out of memory.
     pub fn number(&self) -> u32
         ensures { result ≡ number_of self.now }
     {
@@ -36,6 +51,11 @@ impl BookFault {
             BookFault::NoSuchMoment => 50,
             BookFault::NoNodes => 30,
             BookFault::BadGroup => 34,
+            BookFault::TooManyDesks => 58,
+            BookFault::NoSuchDesk => 53,
+            BookFault::NoSuchWorker => 57,
+            BookFault::WrongTurn => 54,
+            BookFault::NotEnded => 55,
             BookFault::OtherGraph => 51,
             BookFault::AlreadyFiled => 52,
             BookFault::OutOfMemory => 99,

@@ -1,7 +1,9 @@
-//! A world with the snapshots of its links and the reports that are filed for them, each of which is exact.
+//! A world with the snapshots of its links, desks at which workers analyse them, and the reports that are filed for
+//! them, each of which is exact.
 #![tactic(auto)]
 
 mod book;
+mod desks;
 mod fault;
 mod job;
 mod laws;

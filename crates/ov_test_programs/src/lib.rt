@@ -1,11 +1,13 @@
 //! What the engines of the programs print of whole files, in memory: graph files, their faults, and the certificates of
-//! their answers.
+//! their answers; and the numbers of the pieces by which they analyse.
 #![tactic(auto)]
 
 #[cfg(test)]
 mod answers;
 #[cfg(test)]
 mod graphs;
+#[cfg(test)]
+mod pieces;
 #[cfg(test)]
 mod refusals;
 #[cfg(test)]

@@ -1,4 +1,5 @@
 //! Scenario files line by line.
+mod analyses;
 mod asked;
 mod memory;
 mod printed;
@@ -6,8 +7,8 @@ mod runs;
 
 use ov_ids::{NodeId, Params};
 use ov_net::Event;
-use ov_run::{Line, Look, RunFault, Scenario, draw, read_scenario};
-use ov_test_kit::{message_id, payload, sized, words};
+use ov_run::{Line, Look, RunFault, Scenario, Subject, draw, read_scenario};
+use ov_test_kit::{ids, message_id, payload, sized, words};
 use ov_words::Words;
 use std::alloc::Global;
 use std::process::Abort;
@@ -119,15 +120,32 @@ fn numbers_at_their_limits(rt: HostRuntime) -> Result<(), Fail> {
     )
 }
 
+/// All nodes of a moment.
+fn of_all(moment: u32) -> Subject {
+    Subject {
+        moment,
+        group: None,
+    }
+}
+
+/// These two nodes of a moment.
+fn of_group(moment: u32, numbers: [u32; 2], alloc: Global) -> Result<Subject, Fail> {
+    let group = Some(ids(alloc, &numbers)?);
+    Ok(Subject { moment, group })
+}
+
 #[test]
-fn what_is_looked_at_is_read(rt: HostRuntime) -> Result<(), Fail> {
+fn what_is_looked_at_and_analysed_is_read(rt: HostRuntime) -> Result<(), Fail> {
     let alloc = rt.alloc();
     let expected = [
         Line::Look(Look::Show(NodeId(4))),
         Line::Look(Look::Packets),
-        Line::Look(Look::Certificate(7)),
+        Line::Look(Look::Certificate(of_all(7))),
+        Line::Look(Look::Certificate(of_group(7, [1, 2], alloc)?)),
+        Line::Analyse(of_all(7)),
+        Line::Analyse(of_group(8, [0, 4294967295], alloc)?),
     ];
-    let text = b"show 4\npackets\ncertificate 7\nseed 2\nparams 2 30 6 3 3 4 4\n";
+    let text = b"show 4\npackets\ncertificate 7\ncertificate 7 group 1,2\nanalyse 7\n analyse  8 group 0,4294967295\nseed 2\nparams 2 30 6 3 3 4 4\n";
     let scenario = has_lines(&rt, alloc, text, &expected)?;
     assert_eq!(rt; scenario.seed, 2);
     assert_eq!(rt; scenario.params, sized(2, 30)?);
@@ -177,7 +195,7 @@ static UNREADABLE: [&str; 9] = [
     "crash\ncrash x\ncrash 1 2\ncrash 4294967296\nreport\nreport 1\nreport 1 2 3\nreport x 1\nreport 1 x\nreport 1 4294967296\nshuffle\nshuffle x\nshuffle 1 2\nshuffle 4294967296",
     "broadcast\nbroadcast \nbroadcast x\nbroadcast x hi\nbroadcast 4294967296\nbroadcast 1\thi\nbroadcasts 1 hi\ntimer\ntimer 1\ntimer 1 2\ntimer 1 2 3 4\ntimer x 2 3\ntimer 1 x 3\ntimer 1 2 4294967296\nsnapshot 1",
     "show\nshow x\nshow 1 2\nshow 4294967296\npackets 1\ncertificate\ncertificate x\ncertificate 1 2\ncertificate 4294967296",
-    "analyse 1\nanalyse 1 workers 2\ntogether\nalso\nend\nfly\nBoot 1\nboot1\n1 boot\n\tboot 1\nboot\t1\nboot 1 # first\nboot 1\r\r\n\r\r",
+    "analyse\nanalyse x\nanalyse 1 workers 2\nanalyse 1 group\nanalyse 1 groups 1\nanalyse 1 group 1,\nanalyse 1 group 1 2\ncertificate 1 group\ncertificate 1 group x\ntogether\nalso\nend\nfly\nBoot 1\nboot1\n1 boot\n\tboot 1\nboot\t1\nboot 1 # first\nboot 1\r\r\n\r\r",
 ];
 
 /// The line is refused where it is the first one, and where it is a later one.

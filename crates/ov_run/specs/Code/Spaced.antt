@@ -3,7 +3,7 @@ use Rattle.std.specs.Prelude.{ℕ, Bool, nat_eq, nat_lt, ◌==◌, ◌-◌, List
 use Rattle.std.specs.Prelude.{if◌then◌else◌}
 use Rattle.std.specs.List.{position_or_len, before_first, after_first}
 use Rattle.std.specs.Cmp.Lexicographic.{pointwise}
-use Rattle.ov_run.specs.Lines.{is_space, place_or_end, without_spaces, number_within}
+use Rattle.ov_run.specs.Lines.{is_space, place_or_end, without_spaces, number_within, ids_of}
 
 abbrev pub is_feed : ℕ → Bool
 is_feed b = nat_eq b 10
@@ -28,6 +28,11 @@ up_to_space text = (take (place_or_end is_space text) text, drop (place_or_end i
 -- the first word, and what is left behind it; of spaces alone none
 unfoldable pub first_word : List ℕ → Option (List ℕ × List ℕ)
 first_word text = if length (without_spaces text) == 0 then None else Some (up_to_space (without_spaces text))
+
+-- the ids that the first word spells, where there is one
+abbrev pub first_list : List (List ℕ) → Option (List ℕ)
+first_list [] = None
+first_list (word ∷ more) = ids_of word
 
 -- the number that the first word spells, where there is one and it fits so many bits
 abbrev pub first_number : ℕ → List (List ℕ) → Option ℕ

@@ -167,7 +167,12 @@ node 4 active 2 passive - eager 2 lazy -
 ";
 
 /// The scenario comes to this answer and prints this text.
-fn comes_to(alloc: Global, scenario: &str, answer: Result<u8, RunFault>, text: &str) -> bool {
+pub(super) fn comes_to(
+    alloc: Global,
+    scenario: &str,
+    answer: Result<u8, RunFault>,
+    text: &str,
+) -> bool {
     let mut source = Source::new(scenario.as_bytes());
     let mut sink = Sink::new(Vec::new(alloc));
     let told = run(alloc, &mut source, &mut sink);
@@ -188,7 +193,7 @@ fn scenarios_print_their_lines(rt: HostRuntime) {
 /// A scenario, and the fault of its lines.
 static AT_FAULT: [(&str, RunFault); 6] = [
     ("boot 1\nfly\n", RunFault::Line(2)),
-    ("boot 1\n\nanalyse 1\n", RunFault::Line(3)),
+    ("boot 1\n\nanalyse 1 workers 2\n", RunFault::Line(3)),
     ("boot 1\ntogether\nend\n", RunFault::Line(2)),
     ("boot 1\nend\n", RunFault::Line(2)),
     ("boot 1\nwords 5\n", RunFault::Line(2)),

@@ -4,7 +4,9 @@ use Rattle.std.specs.Prelude.{string_bytes}
 use Rattle.ov_net.specs.World.{Chronicle}
 use Rattle.ov_run.specs.Running.{PrintsLook, PrintsNode}
 use Rattle.ov_run.proofs.Begun.{all_went}
-use Rattle.ov_run.proofs.playing.write_look.Goals.{in-Show+in_ok-text-in-Show, in-Certificate+in_ok-text-in-Certificate}
+use Rattle.ov_run.proofs.playing.write_look.Goals.{in-Show+in_ok-text-in-Show}
+use Rattle.ov_run.proofs.playing.write_look.Goals.{in-Certificate+in_ok-text-in-Certificate+in-None-1}
+use Rattle.ov_run.proofs.playing.write_look.Goals.{in-Certificate+in_ok-text-in-Certificate+in-Some-1}
 use Rattle.ov_run.proofs.playing.write_look.Goals as goal
 
 pub returns-clause-prints : goal.returns-clause-prints
@@ -17,7 +19,9 @@ returns-clause-prints g c =
           let same =
           subst (λ (world : Chronicle). PrintsNode world.net w.in-Show.id text) w.world.ensures.value prints in
           rw (w.in-Show.is, w.text-is) same
-      | in-Certificate+in_ok-text-in-Certificate w ↦
+      | in-Certificate+in_ok-text-in-Certificate+in-None-1 w ↦
+          rw (w.in-Certificate.is, w.text-is) w.in_ok-text-in-Certificate.ensures
+      | in-Certificate+in_ok-text-in-Certificate+in-Some-1 w ↦
           rw (w.in-Certificate.is, w.text-is) w.in_ok-text-in-Certificate.ensures
     ] in
     let printed = subst (λ text. PrintsLook c.args.core.now c.args.look text) (sym c.as_bytes.ensures.value) said in
@@ -38,7 +42,9 @@ returns-in_err-write_all-clause-begun g c =
           let same =
           subst (λ (world : Chronicle). PrintsNode world.net w.in-Show.id text) w.world.ensures.value prints in
           rw (w.in-Show.is, w.text-is) same
-      | in-Certificate+in_ok-text-in-Certificate w ↦
+      | in-Certificate+in_ok-text-in-Certificate+in-None-1 w ↦
+          rw (w.in-Certificate.is, w.text-is) w.in_ok-text-in-Certificate.ensures
+      | in-Certificate+in_ok-text-in-Certificate+in-Some-1 w ↦
           rw (w.in-Certificate.is, w.text-is) w.in_ok-text-in-Certificate.ensures
     ] in
     let printed = subst (λ text. PrintsLook c.args.core.now c.args.look text) (sym c.as_bytes.ensures.value) said in

@@ -1,7 +1,7 @@
 -- What each kind of line is judged by.
 use Rattle.std.proofs.Common.{rules, ◌≡◌, Some, refl}
 use Rattle.ov_run.specs.declared.statement.Statement.TheVariants as says
-use Rattle.ov_run.proofs.Judged.{words_used, look_passes, event_passes, params_judged, seed_judged}
+use Rattle.ov_run.proofs.Judged.{words_used, look_passes, analysis_passes, event_passes, params_judged, seed_judged}
 use Rattle.ov_run.proofs.judging.Head.judge.Goals as goal
 
 pub returns-in-Some-Params : goal.returns-in-Some-Params
@@ -33,3 +33,8 @@ pub returns-in-Some-Look : goal.returns-in-Some-Look
 returns-in-Some-Look c =
     let is : c.args.line.now.says ≡ Some (says.Look c.in-Some-Look.field-0-0) = search rules in
     look_passes c.args.self.now c.args.line.now c.in-Some-Look.field-0-0 c.args.behind.now is
+
+pub returns-in-Some-Analyse : goal.returns-in-Some-Analyse
+returns-in-Some-Analyse c =
+    let is : c.args.line.now.says ≡ Some (says.Analyse c.in-Some-Analyse.field-0-0) = search rules in
+    analysis_passes c.args.self.now c.args.line.now c.in-Some-Analyse.field-0-0 c.args.behind.now is

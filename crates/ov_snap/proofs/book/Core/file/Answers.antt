@@ -1,6 +1,5 @@
-use Rattle.std.proofs.Common.{◌∙◌, ◌++◌, ◌∷◌, [], List, refl, ap}
+use Rattle.std.proofs.Common.{◌∙◌, ◌++◌, ◌∷◌, [], refl, ap}
 use Rattle.ov_snap.specs.Book.{Book}
-use Rattle.ov_snap.specs.Exact.{Reported}
 use Rattle.ov_snap.proofs.Keeping.{filed_found, filed_sound}
 use Rattle.ov_snap.proofs.book.Core.file.Goals as goal
 
@@ -10,6 +9,7 @@ invariant_of-self-2 c =
     let b : Book = record {
       world = c.self.inside.world;
       snapshots = c.self.inside.snapshots.items;
+      desks = c.self.inside.desks.items;
       reports = c.self.inside.reports;
     } in
     filed_sound b c.args.self.now c.args.report c.push.new.self c.self.view_is c.self.invariant

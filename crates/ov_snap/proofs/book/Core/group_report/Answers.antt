@@ -9,6 +9,7 @@ returns-clause-so c =
     let b : Book = record {
       world = c.self.inside.world;
       snapshots = c.self.inside.snapshots.items;
+      desks = c.self.inside.desks.items;
       reports = c.self.inside.reports;
     } in
     if_some _ _ c.find.result

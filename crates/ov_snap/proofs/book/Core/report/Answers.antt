@@ -1,7 +1,5 @@
 -- The graph of a moment is one, so a report of all nodes is that of the group of the snapshot's nodes.
 use Rattle.ov_graph.specs.Links.{LinkGraph}
-use Rattle.ov_snap.specs.Book.{HasReport, HasReportOfAll}
-use Rattle.ov_snap.specs.Exact.{IsExact, Reported}
 use Rattle.ov_snap.proofs.Keeping.{if_both, if_none, none_of_all, none_without, of_all}
 use Rattle.ov_snap.proofs.book.Core.report.Goals as goal
 

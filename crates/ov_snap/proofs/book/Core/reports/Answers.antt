@@ -8,6 +8,7 @@ returns-clause-so c =
     let b : Book = record {
       world = c.self.inside.world;
       snapshots = c.self.inside.snapshots.items;
+      desks = c.self.inside.desks.items;
       reports = c.self.inside.reports;
     } in
     filed_so b c.args.self.now c.as_slice.result.now c.as_slice.ensures c.self.view_is c.self.invariant

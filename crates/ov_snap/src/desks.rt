@@ -1,0 +1,311 @@
+ghost use Rattle.std.specs.Prelude.{◌≡◌, ◌<◌, [], ◌∷◌, ◌++◌, length, Some, None};
+ghost use Rattle.std.specs.Prelude.{IfOk, IfErr, IfSome, IfNone, OnOk, OnErr};
+ghost use Rattle.ov_ids.specs.Members.{Has, Ordered};
+ghost use Rattle.ov_ids.specs.Steps.{Passed, Step};
+ghost use Rattle.ov_graph.specs.Links.{LinkGraph};
+ghost use Rattle.ov_cert.specs.Valid.{IsValidForGroup};
+ghost use Rattle.ov_net.specs.Journal.{AreLinks};
+ghost use Rattle.ov_claims.specs.Laws.{AllEnded};
+ghost use Rattle.ov_even.specs.Answer.{IsAnswer};
+ghost use Rattle.ov_desk.specs.Desk.{GroupDeskState, IsOpened};
+ghost use Rattle.ov_desk.specs.Sound.{IsSoundDesk};
+ghost use Rattle.ov_desk.specs.Turns.{ClaimsNext, IsWorkerOf, LooksNext, SettlesNext, WasSettled};
+ghost use Rattle.ov_snap.specs.Book.{HasDesk, IsDeskOf, KeepsReports, most_desks};
+ghost use Rattle.ov_snap.specs.DeskSteps.{WasOpened, WasOpenedForGroup, ClaimedAt, LookedAt, SettledAt, DeskWasFiled};
+ghost use Rattle.ov_snap.specs.Refusals.{OpeningJudged, GroupOpeningJudged, TurnJudged, DeskFilingJudged, IsRefusedBy};
+ghost use Rattle.ov_snap.specs.Refusals.{FilingJudged, HoldsAt, MayWork};
+ghost use Rattle.ov_snap.specs.Snapshots.{WasBefore};
+ghost use Rattle.ov_snap.specs.declared.fault.BookFault.TheVariants as fault;
+ghost use Rattle.ov_snap.specs.declared.snapshot.Snapshot.{Snapshot as Kept};
+
+use crate::book::Core;
+use crate::fault::BookFault;
+use crate::report::Report;
+use crate::snapshot::{Snapshot, find};
+use ov_desk::GroupDesk;
+use ov_ids::{NodeId, OutOfMemory};
+use std::alloc::Global;
+
+/// So many desks a core has at most.
+const MOST_DESKS: usize = 65_536;
+
+impl Core {
+    /// Opens a desk at which so many workers share out the pieces of this moment's overlay, and answers its number;
+    /// desks are counted from 0. It refuses where no snapshot was taken at this moment (50), then where nobody lived
+    /// (30), then where there are 65,536 desks (58), then where the workers are not 1 to 64 (57), and then out of
+    /// memory (99); and then nothing changed.
+    pub fn open_desk(&mut self, moment: u32, workers: u32) -> Result<u32, BookFault>
+        ensures opened { IfOk result (λ place. WasOpened self.old moment workers place self.new) }
+        ensures refused { IfErr result (IsRefusedBy (OpeningJudged self.old moment workers)) }
+        ensures err { OnErr result (self.new ≡ self.old) }
+    {
+        let desk = self.new_desk(moment, workers)?;
+        Ok(self.keep_desk(desk)?)
+    }
+
+    /// The same for a group. Right after where nobody lived (30) it refuses where these ids are no group of the
+    /// moment's graph (34).
+    pub fn open_group_desk(
+        &mut self,
+        moment: u32,
+        group: Vec<NodeId>,
+        workers: u32,
+    ) -> Result<u32, BookFault>
+        ensures opened { IfOk result (λ place. WasOpenedForGroup self.old moment group.items workers place self.new) }
+        ensures refused { IfErr result (IsRefusedBy (GroupOpeningJudged self.old moment group.items workers)) }
+        ensures err { OnErr result (self.new ≡ self.old) }
+    {
+        let desk = self.new_group_desk(moment, group, workers)?;
+        Ok(self.keep_desk(desk)?)
+    }
+
+    /// A desk of all nodes of a moment, before it is kept.
+    fn new_desk(&self, moment: u32, workers: u32) -> Result<GroupDesk, BookFault>
+        ensures judged { IfOk result (λ d. OpeningJudged self.now moment workers None) }
+        ensures opened { IfOk result (λ d. (g : LinkGraph) × AreLinks self.now.world.journal moment g
+            × IsOpened g moment g.nodes workers d) }
+        ensures own { IfOk result (λ d. IsDeskOf self.now.world.journal d) }
+        ensures room { IfOk result (λ d. length self.now.desks < most_desks) }
+        ensures refused { IfErr result (IsRefusedBy (OpeningJudged self.now moment workers)) }
+    {
+        let snapshot = self.lived(moment)?;
+        self.judge_workers(workers)?;
+        let alloc = *self.desks.allocator();
+        let group = copied(alloc, snapshot.graph.nodes())?;
+        Ok(GroupDesk::open(alloc, moment, &snapshot.graph, group, workers)?)
+    }
+
+    /// A desk of a group of the nodes of a moment, before it is kept.
+    fn new_group_desk(
+        &self,
+        moment: u32,
+        group: Vec<NodeId>,
+        workers: u32,
+    ) -> Result<GroupDesk, BookFault>
+        ensures judged { IfOk result (λ d. GroupOpeningJudged self.now moment group.items workers None) }
+        ensures opened { IfOk result (λ d. (g : LinkGraph) × AreLinks self.now.world.journal moment g
+            × IsOpened g moment group.items workers d) }
+        ensures own { IfOk result (λ d. IsDeskOf self.now.world.journal d) }
+        ensures room { IfOk result (λ d. length self.now.desks < most_desks) }
+        ensures refused { IfErr result (IsRefusedBy (GroupOpeningJudged self.now moment group.items workers)) }
+    {
+        let snapshot = self.lived(moment)?;
+        if !snapshot.graph.is_group(&group) {
+            return Err(BookFault::BadGroup);
+        }
+        self.judge_workers(workers)?;
+        let alloc = *self.desks.allocator();
+        Ok(GroupDesk::open(alloc, moment, &snapshot.graph, group, workers)?)
+    }
+
+    /// The first refusal that stands for one more desk of so many workers, beside out of memory.
+    fn judge_workers(&self, workers: u32) -> Result<(), BookFault>
+        ensures ok { OnOk result ((length self.now.desks < most_desks) × MayWork workers) }
+        ensures err { IfErr result (λ f. Step (length self.now.desks < most_desks) fault.TooManyDesks
+            (Step (MayWork workers) fault.NoSuchWorker Passed) (Some f)) }
+    {
+        if self.desks.len() >= MOST_DESKS {
+            return Err(BookFault::TooManyDesks);
+        }
+        if workers < 1 || workers > 64 {
+            return Err(BookFault::NoSuchWorker);
+        }
+        Ok(())
+    }
+
+    /// Keeps a desk more behind the others, and answers its number.
+    fn keep_desk(&mut self, desk: GroupDesk) -> Result<u32, OutOfMemory>
+        requires room { length self.old.desks < most_desks }
+        requires own { IsDeskOf self.old.world.journal desk }
+        ensures place { IfOk result (λ place. place ≡ length self.old.desks) }
+        ensures desks { OnOk result (self.new ≡ record self.old { desks = self.old.desks ++ desk ∷ [] }) }
+        ensures err { OnErr result (self.new ≡ self.old) }
+    {
+        let place = self.desks.len() as u32;
+        self.desks.push(desk)?;
+        Ok(place)
+    }
+
+    /// A worker of a desk claims the next number, and is told it; where that isn't below the total, the worker has
+    /// ended. It refuses where there is no such desk (53), then where the desk has no such worker (57), then where the
+    /// worker does not claim next (54), and then out of memory (99); and then nothing changed.
+    pub fn claim(&mut self, desk: u32, worker: u32) -> Result<u64, BookFault>
+        ensures claimed { IfOk result (λ x. ClaimedAt self.old desk worker x self.new) }
+        ensures refused { IfErr result (IsRefusedBy (TurnJudged ClaimsNext self.old desk worker)) }
+        ensures err { OnErr result (self.new ≡ self.old) }
+    {
+        self.judge_claim(desk, worker)?;
+        let own = &mut self.desks[desk as usize];
+        Ok(own.claim(worker)?)
+    }
+
+    /// A worker of a desk looks before it works on its number, and is told the least one that failed (the total where
+    /// none did): where that is lower, it skips its own and has ended. It refuses as `claim` does, where the worker
+    /// does not look next; it takes no memory.
+    pub fn look(&mut self, desk: u32, worker: u32) -> Result<u64, BookFault>
+        ensures looked { IfOk result (λ least. LookedAt self.old desk worker least self.new) }
+        ensures refused { IfErr result (λ f. TurnJudged LooksNext self.old desk worker (Some f)) }
+        ensures err { OnErr result (self.new ≡ self.old) }
+    {
+        self.judge_look(desk, worker)?;
+        let own = &mut self.desks[desk as usize];
+        Ok(own.look(worker))
+    }
+
+    /// A worker of a desk settles the piece of its number, and fails where that comes to a cut. It refuses as `claim`
+    /// does, where the worker does not settle next.
+    pub fn settle(&mut self, desk: u32, worker: u32) -> Result<(), BookFault>
+        ensures settled { OnOk result (SettledAt self.old desk worker self.new) }
+        ensures refused { IfErr result (IsRefusedBy (TurnJudged SettlesNext self.old desk worker)) }
+        ensures err { OnErr result (self.new ≡ self.old) }
+    {
+        self.judge_settle(desk, worker)?;
+        let own = &mut self.desks[desk as usize];
+        settle_at(&self.snapshots, own, worker)?;
+        Ok(())
+    }
+
+    /// The first refusal that stands for a claim, beside out of memory.
+    fn judge_claim(&self, desk: u32, worker: u32) -> Result<(), BookFault>
+        ensures ok { OnOk result (TurnJudged ClaimsNext self.now desk worker None) }
+        ensures next { OnOk result (HoldsAt self.now desk (λ d. ClaimsNext d worker)) }
+        ensures err { IfErr result (λ f. TurnJudged ClaimsNext self.now desk worker (Some f)) }
+    {
+        if !self.worked_at(desk, worker)?.claims_next(worker) {
+            return Err(BookFault::WrongTurn);
+        }
+        Ok(())
+    }
+
+    /// The first refusal that stands for a look.
+    fn judge_look(&self, desk: u32, worker: u32) -> Result<(), BookFault>
+        ensures ok { OnOk result (TurnJudged LooksNext self.now desk worker None) }
+        ensures next { OnOk result (HoldsAt self.now desk (λ d. LooksNext d worker)) }
+        ensures err { IfErr result (λ f. TurnJudged LooksNext self.now desk worker (Some f)) }
+    {
+        if !self.worked_at(desk, worker)?.looks_next(worker) {
+            return Err(BookFault::WrongTurn);
+        }
+        Ok(())
+    }
+
+    /// The first refusal that stands where a worker is to settle, beside out of memory.
+    fn judge_settle(&self, desk: u32, worker: u32) -> Result<(), BookFault>
+        ensures ok { OnOk result (TurnJudged SettlesNext self.now desk worker None) }
+        ensures next { OnOk result (HoldsAt self.now desk (λ d. SettlesNext d worker)) }
+        ensures err { IfErr result (λ f. TurnJudged SettlesNext self.now desk worker (Some f)) }
+    {
+        if !self.worked_at(desk, worker)?.settles_next(worker) {
+            return Err(BookFault::WrongTurn);
+        }
+        Ok(())
+    }
+
+    /// The desk of this number, if it has this worker.
+    fn worked_at(&self, desk: u32, worker: u32) -> Result<&GroupDesk, BookFault>
+        ensures has { IfOk result (λ d. HasDesk self.now desk d.now) }
+        ensures worker { IfOk result (λ d. IsWorkerOf d.now worker) }
+        ensures err { IfErr result (λ f. Step ((d : GroupDeskState) × HasDesk self.now desk d) fault.NoSuchDesk
+            (Step (HoldsAt self.now desk (λ d. IsWorkerOf d worker)) fault.NoSuchWorker Passed) (Some f)) }
+    {
+        let own = self.found(desk)?;
+        if !own.has_worker(worker) {
+            return Err(BookFault::NoSuchWorker);
+        }
+        Ok(own)
+    }
+
+    /// Files the report to which the workers of a desk came, for the desk's moment and group. It refuses where there is
+    /// no such desk (53), then where not all its workers have ended (55), then where a report is filed for its moment
+    /// and group (52), and then out of memory (99); and then nothing changed.
+    pub fn file_desk(&mut self, desk: u32) -> Result<(), BookFault>
+        ensures filed { OnOk result (DeskWasFiled self.old desk self.new) }
+        ensures refused { IfErr result (IsRefusedBy (DeskFilingJudged self.old desk)) }
+        ensures err { OnErr result (self.new ≡ self.old) }
+        ensures stay { KeepsReports self.old self.new }
+    {
+        let report = self.report_of(desk)?;
+        self.reports.push(report)?;
+        Ok(())
+    }
+
+    /// The report to which the workers of a desk came, before it is filed.
+    fn report_of(&self, desk: u32) -> Result<Report, BookFault>
+        ensures judged { IfOk result (λ r. DeskFilingJudged self.now desk None) }
+        ensures of { IfOk result (λ r. HoldsAt self.now desk
+            (λ d. (r.moment ≡ d.moment) × (r.members ≡ d.members))) }
+        ensures answer { IfOk result (λ r. IsAnswer r.graph r.members r.cert) }
+        ensures free { IfOk result (λ r. FilingJudged self.now r None) }
+        ensures valid { IfOk result (λ r. IsValidForGroup r.graph r.members r.cert) }
+        ensures refused { IfErr result (IsRefusedBy (DeskFilingJudged self.now desk)) }
+    {
+        let own = self.judge_filing(desk)?;
+        let moment = own.moment();
+        let snapshot = self.kept(moment)?;
+        let checked = own.certificate(&snapshot.graph)?;
+        prove!(!checked.members().is_empty());
+        Ok(Report::new(moment, checked))
+    }
+
+    /// The desk of this number, if what it came to may be filed.
+    fn judge_filing(&self, desk: u32) -> Result<&GroupDesk, BookFault>
+        ensures judged { IfOk result (λ d. DeskFilingJudged self.now desk None) }
+        ensures has { IfOk result (λ d. HasDesk self.now desk d.now) }
+        ensures own { IfOk result (λ d. IsDeskOf self.now.world.journal d.now) }
+        ensures ended { IfOk result (λ d. AllEnded d.now.claims) }
+        ensures err { IfErr result (λ f. DeskFilingJudged self.now desk (Some f)) }
+    {
+        let own = self.found(desk)?;
+        if !own.have_all_ended() {
+            return Err(BookFault::NotEnded);
+        }
+        if self.group_report(own.moment(), own.members()).is_some() {
+            return Err(BookFault::AlreadyFiled);
+        }
+        Ok(own)
+    }
+
+    /// The desk of this number.
+    fn found(&self, desk: u32) -> Result<&GroupDesk, BookFault>
+        ensures has { IfOk result (λ d. HasDesk self.now desk d.now) }
+        ensures own { IfOk result (λ d. IsDeskOf self.now.world.journal d.now) }
+        ensures err { IfErr result (λ f. (f ≡ fault.NoSuchDesk) × ((d : GroupDeskState) → ¬ HasDesk self.now desk d)) }
+    {
+        match self.desk(desk) {
+            Some(own) => Ok(own),
+            None => Err(BookFault::NoSuchDesk),
+        }
+    }
+
+    /// The desk of this number, if there is one.
+    pub fn desk(&self, desk: u32) -> Option<&GroupDesk>
+        ensures some { IfSome result (λ d. HasDesk self.now desk d.now) }
+        ensures none { IfNone result ((d : GroupDeskState) → ¬ HasDesk self.now desk d) }
+        ensures sound { IfSome result (λ d. IsDeskOf self.now.world.journal d.now) }
+    {
+        self.desks.get(desk as usize)
+    }
+}
+
+/// The worker of a desk settles its piece, for the links of the desk's moment. Out of memory changes nothing.
+fn settle_at(snapshots: &[Snapshot], desk: &mut GroupDesk, worker: u32) -> Result<(), OutOfMemory>
+    requires order { Ordered WasBefore snapshots.now }
+    requires kept { (s : Kept) × Has snapshots.now s × (s.moment ≡ desk.old.moment) }
+    requires sound { (s : Kept) → Has snapshots.now s → s.moment ≡ desk.old.moment → IsSoundDesk s.graph desk.old }
+    requires next { SettlesNext desk.old worker }
+    ensures settled { OnOk result ((s : Kept) × Has snapshots.now s × (s.moment ≡ desk.old.moment)
+        × WasSettled s.graph desk.old worker desk.new) }
+    ensures err { OnErr result (desk.new ≡ desk.old) }
+{
+    let Some(snapshot) = find(snapshots, desk.moment()) else {
+        unreachable!()
+    };
+    desk.settle(&snapshot.graph, worker)
+}
+
+/// A copy of these ids.
+fn copied(alloc: Global, ids: &[NodeId]) -> Result<Vec<NodeId>, OutOfMemory>
+    ensures { IfOk result (λ v. v.items ≡ ids.now) }
+{
+    Ok(Vec::from_slice(alloc, ids)?)
+}

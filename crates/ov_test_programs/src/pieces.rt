@@ -1,0 +1,81 @@
+//! The numbers of the pieces of Even's test. They were worked out by hand from the order of the pieces.
+use ov_even::{Piece, group_piece_at, group_total, total};
+use ov_graph::Graph;
+
+/// How many nodes, how many of them are members of the group, and how many pieces there are.
+static TOTALS: [(usize, usize, u64); 10] = [
+    (1, 1, 0),
+    (2, 2, 1),
+    (3, 3, 4),
+    (4, 4, 10),
+    (10, 10, 165),
+    (256, 256, 2_796_160),
+    (1024, 1024, 178_956_800),
+    (3, 2, 2),
+    (4, 3, 7),
+    (5, 2, 4),
+];
+
+/// How many pieces there are for so many nodes and members, at most as many as the nodes.
+fn count(nodes: usize, members: usize) -> Option<u64> {
+    if nodes > Graph::MOST_NODES || members > nodes {
+        return None;
+    }
+    Some(group_total(nodes, members))
+}
+
+#[test]
+fn pieces_are_counted(rt: HostRuntime) {
+    for (nodes, members, number) in &TOTALS {
+        assert_eq!(rt;
+            count(*nodes, *members),
+            Some(*number),
+            "{nodes} nodes {members} members"
+        );
+    }
+    assert_eq!(rt; total(1024), 178_956_800);
+}
+
+/// How many nodes and members, a number, and the piece that has it.
+static PIECES: [(usize, usize, u64, Piece); 17] = [
+    (3, 3, 0, Piece::Fan { level: 1, j: 2 }),
+    (3, 3, 1, Piece::Fan { level: 1, j: 3 }),
+    (3, 3, 2, Piece::Pair { level: 2, i: 1, j: 2 }),
+    (3, 3, 3, Piece::Fan { level: 2, j: 3 }),
+    (4, 4, 0, Piece::Fan { level: 1, j: 2 }),
+    (4, 4, 1, Piece::Fan { level: 1, j: 3 }),
+    (4, 4, 2, Piece::Fan { level: 1, j: 4 }),
+    (4, 4, 3, Piece::Pair { level: 2, i: 1, j: 2 }),
+    (4, 4, 4, Piece::Fan { level: 2, j: 3 }),
+    (4, 4, 5, Piece::Fan { level: 2, j: 4 }),
+    (4, 4, 6, Piece::Pair { level: 3, i: 1, j: 2 }),
+    (4, 4, 7, Piece::Pair { level: 3, i: 1, j: 3 }),
+    (4, 4, 8, Piece::Pair { level: 3, i: 2, j: 3 }),
+    (4, 4, 9, Piece::Fan { level: 3, j: 4 }),
+    (10, 10, 28, Piece::Pair { level: 4, i: 1, j: 2 }),
+    (10, 10, 29, Piece::Pair { level: 4, i: 1, j: 3 }),
+    (4, 3, 5, Piece::Pair { level: 3, i: 1, j: 3 }),
+];
+
+/// The piece of this number, if there are so many.
+fn piece(nodes: usize, members: usize, number: u64) -> Option<Piece> {
+    if nodes > Graph::MOST_NODES || members > nodes {
+        return None;
+    }
+    let count = group_total(nodes, members);
+    if number >= count {
+        return None;
+    }
+    Some(group_piece_at(nodes, members, number))
+}
+
+#[test]
+fn pieces_have_their_numbers(rt: HostRuntime) {
+    for (nodes, members, number, expected) in &PIECES {
+        assert_eq!(rt;
+            piece(*nodes, *members, *number),
+            Some(*expected),
+            "number {number} of {nodes} nodes {members} members"
+        );
+    }
+}
