@@ -15,7 +15,8 @@ use Rattle.ov_desk.specs.Turns.{WasClaimed, WasLookedAt, WasSettled}
 pub record StaysSound : Type 0 where
   pub opened : (g : LinkGraph) (m : ℕ) (q : List ℕ) (workers : ℕ) (d : GroupDeskState) → IsGroup g q → 1 ≤ workers
       → workers ≤ 64 → IsOpened g m q workers d → IsSoundDesk g d
-  pub claimed : (g : LinkGraph) (d e : GroupDeskState) (w x : ℕ) → IsSoundDesk g d → WasClaimed d w x e → IsSoundDesk g e
+  pub claimed : (g : LinkGraph) (d e : GroupDeskState) (w x : ℕ) → IsSoundDesk g d → WasClaimed d w x e
+      → IsSoundDesk g e
   pub looked_at : (g : LinkGraph) (d e : GroupDeskState) (w least : ℕ) → IsSoundDesk g d → WasLookedAt d w least e
       → IsSoundDesk g e
   pub settled : (g : LinkGraph) (d e : GroupDeskState) (w : ℕ) → IsSoundDesk g d → WasSettled g d w e

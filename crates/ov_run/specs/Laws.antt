@@ -38,7 +38,8 @@ IsMade b = (params : Limits) × (lines : List Line) × (text : List ℕ) × Prin
 pub record EveryPrintedReportIsSo : Type 0 where
   pub analysed : (b : Book) (subject : Subject) (u : Book) (text : List ℕ) → IsMade b
       → PrintsLine b (line.Analyse subject) u text
-      → ((r : Reported) × IsSoOf u subject r × (text ≡ report_line r.moment r.cert r.graph r.members)) ⊎ Refuses b u text
+      → ((r : Reported) × IsSoOf u subject r × (text ≡ report_line r.moment r.cert r.graph r.members))
+      ⊎ Refuses b u text
   pub certified : (b : Book) (subject : Subject) (u : Book) (text : List ℕ) → IsMade b
       → PrintsLine b (line.Look (Certificate subject)) u text
       → ((r : Reported) × IsSoOf u subject r × (text ≡ file_text r)) ⊎ Refuses b u text

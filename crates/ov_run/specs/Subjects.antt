@@ -25,8 +25,8 @@ IsReportOf b s r = HasReport b s.moment (members_of s.group r.graph) r
 abbrev pub IsGroupThen : Book → Subject → Type 0
 IsGroupThen b s = (g : LinkGraph) × AreLinks b.world.journal s.moment g × IsGroup g (members_of s.group g)
 
--- an analysis in a scenario: its moment is a snapshot's, then somebody lived at that moment, then the ids are a group of
--- those who did, and then no report is filed for the moment and the group
+-- an analysis in a scenario: its moment is a snapshot's, then somebody lived at that moment, then the ids are a group
+-- of those who did, and then no report is filed for the moment and the group
 abbrev pub AnalysisJudged : Book → Subject → Option BookFault → Type 0
 AnalysisJudged b s answer =
     Step (IsMoment b.world.journal s.moment) NoSuchMoment

@@ -107,8 +107,8 @@ impl Turn {
     }
 }
 
-/// The lines to run: the events, the looks and the analyses in order, each event with the words of the line right before it, or else
-/// with the next words that the seed gives.
+/// The lines to run: the events, the looks and the analyses in order, each event with the words of the line right
+/// before it, or else with the next words that the seed gives.
 pub(crate) fn lines_to_run(
     alloc: Global,
     seed: u64,

@@ -43,8 +43,10 @@ impl Core {
         Ok(self.keep_desk(desk)?)
     }
 
-    /// The same for a group. Right after where nobody lived (30) it refuses where these ids are no group of the
-    /// moment's graph (34).
+    /// Opens a desk as `open_desk` does, for a group of the nodes of this moment. It refuses where no snapshot was taken
+    /// at this moment (50), then where nobody lived (30), then where these ids are no group of the moment's graph (34),
+    /// then where there are 65,536 desks (58), then where the workers are not 1 to 64 (57), and then out of memory (99);
+    /// and then nothing changed.
     pub fn open_group_desk(
         &mut self,
         moment: u32,

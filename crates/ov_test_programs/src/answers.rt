@@ -9,7 +9,7 @@ use ov_even::Watcher;
 use ov_ids::NodeId;
 use ov_run::{RunFault, analyse_file};
 use ov_test_kit::{Slow, ids};
-use std::alloc::Global;
+use std::alloc::{AllocError, Global};
 use std::test::Fail;
 
 /// Counts what it is told.
@@ -52,8 +52,9 @@ pub(crate) fn prints(alloc: Global, file: &str, group: Option<&[NodeId]>, text: 
 }
 
 /// Graph files, and what is printed of the group of all their nodes.
-static WHOLE: [(&str, &str); 7] = [
+static WHOLE: [(&str, &str); 8] = [
     (ONE_NODE, "report 0 linked k 0\n"),
+    ("node 1\nnode 2\nlink 1 2\n", "report 0 linked k 1\n"),
     (
         TWO_UNLINKED,
         "report 0 split k 0 cut - near 2 far 1 side 2\n",
@@ -117,6 +118,37 @@ static GROUPS: [(&str, &[u32], &str); 10] = [
     (SQUARE, &[2, 1], "refused 34\n"),
     (SQUARE, &[], "refused 34\n"),
 ];
+
+/// The graph file of 200 nodes, each of which is linked to the four next ones round the ring.
+fn ring(alloc: Global) -> Result<String, Fail> {
+    let mut file = String::new(alloc);
+    for node in 1..201 {
+        write!(file, "node {node}\n")?;
+    }
+    for node in 1..201 {
+        put_links(&mut file, node)?;
+    }
+    Ok(file)
+}
+
+/// Appends the links of a node of the ring to higher ones.
+fn put_links(file: &mut String, node: u32) -> Result<(), AllocError> {
+    for other in 1u32..201 {
+        let apart = other.abs_diff(node);
+        if node < other && (apart <= 4 || apart >= 196) {
+            write!(file, "link {node} {other}\n")?;
+        }
+    }
+    Ok(())
+}
+
+#[test]
+fn a_ring_of_200_nodes_takes_8_crashes(rt: HostRuntime) -> Result<(), Fail> {
+    let file = ring(rt.alloc())?;
+    let text = "report 0 split k 8 cut 2,3,4,5,197,198,199,200 near 1 far 6 side 1\n";
+    assert!(rt; prints(rt.alloc(), file.as_str(), None, text));
+    Ok(())
+}
 
 #[test]
 fn groups_print_their_answers(rt: HostRuntime) -> Result<(), Fail> {

@@ -1,10 +1,12 @@
 //! Desks at which workers share out the pieces of a snapshot's overlay. The answers were worked out by hand.
-use super::{join, new_core, two_join};
+use super::{join, new_core, step, two_join};
 use ov_cert::Cert;
 use ov_ids::NodeId;
+use ov_net::{Event, NetFault};
 use ov_snap::{BookFault, Core, CoreStep, run_core};
 use ov_test_kit::{ids, sized, words};
 use std::alloc::Global;
+use std::process::Abort;
 use std::test::Fail;
 
 /// What happens at desk 0 or 1, by the number of the desk and of the worker.
@@ -51,12 +53,15 @@ static TURNS: [(Turn, Result<u64, BookFault>); 14] = [
     (Turn::File(0), Err(BookFault::AlreadyFiled)),
 ];
 
-/// The report of moment 4 says that no crash is needed to split nodes 1 and 2.
-fn is_split(core: &Core) -> bool {
-    let Some(report) = core.report(4) else {
+/// The report of this moment says that so many crashes split the overlay, and part these two nodes.
+fn is_split(core: &Core, moment: u32, k: u32, near: u32, far: u32) -> bool {
+    let Some(report) = core.report(moment) else {
         return false;
     };
-    matches!(report.checked().cert(), Cert::Split(split) if split.k == 0)
+    let Cert::Split(split) = report.checked().cert() else {
+        return false;
+    };
+    split.k == k && split.near == NodeId(near) && split.far == NodeId(far)
 }
 
 /// The least number that failed at desk 0, and how many numbers it shares out.
@@ -65,17 +70,100 @@ fn least_and_total(core: &Core) -> Option<(u64, u64)> {
     Some((desk.least(), desk.total()))
 }
 
+/// Opens a desk of two workers, who take these turns at it.
+fn work(
+    rt: &impl Abort,
+    core: &mut Core,
+    moment: u32,
+    turns: &[(Turn, Result<u64, BookFault>)],
+) {
+    assert_eq!(rt; core.open_desk(moment, 2), Ok(0));
+    for (turn, answer) in turns {
+        assert_eq!(rt; takes(core, *turn), *answer, "at {turn:?}");
+    }
+}
+
 #[test]
 fn workers_take_turns_at_a_desk(rt: HostRuntime) -> Result<(), Fail> {
     let mut core = new_core(rt.alloc())?;
     join(&mut core)?;
-    assert_eq!(rt; core.open_desk(4, 2), Ok(0));
-    assert_eq!(rt; least_and_total(&core), Some((1, 1)));
-    for (turn, answer) in &TURNS {
-        assert_eq!(rt; takes(&mut core, *turn), *answer, "at {turn:?}");
-    }
+    work(&rt, &mut core, 4, &TURNS);
     assert_eq!(rt; least_and_total(&core), Some((0, 1)));
-    assert!(rt; is_split(&core));
+    assert!(rt; is_split(&core, 4, 0, 2, 1));
+    Ok(())
+}
+
+/// Three nodes that nobody links have four pieces. Piece 0 fails, so both workers skip what they have.
+static SKIPS: [(Turn, Result<u64, BookFault>); 10] = [
+    (Turn::Claim(0, 0), Ok(0)),
+    (Turn::Claim(0, 1), Ok(1)),
+    (Turn::Look(0, 0), Ok(4)),
+    (Turn::Settle(0, 0), Ok(0)),
+    (Turn::Look(0, 1), Ok(0)),
+    (Turn::Claim(0, 1), Err(BookFault::WrongTurn)),
+    (Turn::File(0), Err(BookFault::NotEnded)),
+    (Turn::Claim(0, 0), Ok(2)),
+    (Turn::Look(0, 0), Ok(0)),
+    (Turn::File(0), Ok(0)),
+];
+
+#[test]
+fn workers_skip_what_is_above_a_failed_piece(rt: HostRuntime) -> Result<(), Fail> {
+    let mut core = new_core(rt.alloc())?;
+    for node in 1..4 {
+        step(&mut core, Event::Boot(NodeId(node), None))?;
+    }
+    let moment = core.snapshot()?;
+    work(&rt, &mut core, moment, &SKIPS);
+    assert_eq!(rt; least_and_total(&core), Some((0, 4)));
+    assert!(rt; is_split(&core, moment, 0, 2, 1));
+    Ok(())
+}
+
+/// Nodes 1 and 2, and then 2 and 3 take each other in. Word of node 3 for node 1 is lost, so these two are not linked.
+fn path_of_three(core: &mut Core) -> Result<u32, NetFault> {
+    let events = [
+        Event::Boot(NodeId(1), None),
+        Event::Boot(NodeId(2), Some(NodeId(1))),
+        Event::Deliver(0),
+        Event::Deliver(0),
+        Event::Boot(NodeId(3), Some(NodeId(2))),
+        Event::Deliver(0),
+        Event::Lose(1),
+        Event::Deliver(0),
+    ];
+    for event in events {
+        step(core, event)?;
+    }
+    core.snapshot()
+}
+
+/// The four pieces of the path 1, 2, 3: three are good, and the last, the fan of 3 at level 2, comes to the cut 2.
+static SHARES: [(Turn, Result<u64, BookFault>); 15] = [
+    (Turn::Claim(0, 0), Ok(0)),
+    (Turn::Claim(0, 1), Ok(1)),
+    (Turn::Look(0, 0), Ok(4)),
+    (Turn::Settle(0, 0), Ok(0)),
+    (Turn::Claim(0, 0), Ok(2)),
+    (Turn::Look(0, 1), Ok(4)),
+    (Turn::Settle(0, 1), Ok(0)),
+    (Turn::Claim(0, 1), Ok(3)),
+    (Turn::Look(0, 1), Ok(4)),
+    (Turn::Settle(0, 1), Ok(0)),
+    (Turn::Look(0, 0), Ok(3)),
+    (Turn::Settle(0, 0), Ok(0)),
+    (Turn::Claim(0, 0), Ok(4)),
+    (Turn::Claim(0, 1), Ok(5)),
+    (Turn::File(0), Ok(0)),
+];
+
+#[test]
+fn two_workers_settle_the_pieces_of_a_path(rt: HostRuntime) -> Result<(), Fail> {
+    let mut core = new_core(rt.alloc())?;
+    let moment = path_of_three(&mut core)?;
+    work(&rt, &mut core, moment, &SHARES);
+    assert_eq!(rt; least_and_total(&core), Some((3, 4)));
+    assert!(rt; is_split(&core, moment, 1, 3, 1));
     Ok(())
 }
 
@@ -185,7 +273,7 @@ fn a_run_takes_the_turns_at_a_desk(rt: HostRuntime) -> Result<(), Fail> {
     }
     let core = run_core(alloc, sized(5, 30)?, steps)?;
     assert_eq!(rt; core.world().journal().len(), 6);
-    assert!(rt; is_split(&core));
+    assert!(rt; is_split(&core, 4, 0, 2, 1));
     Ok(())
 }
 
