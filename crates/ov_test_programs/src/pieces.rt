@@ -36,26 +36,35 @@ fn pieces_are_counted(rt: HostRuntime) {
     assert_eq!(rt; total(1024), 178_956_800);
 }
 
-/// How many nodes and members, a number, and the piece that has it.
-static PIECES: [(usize, usize, u64, Piece); 17] = [
-    (3, 3, 0, Piece::Fan { level: 1, j: 2 }),
-    (3, 3, 1, Piece::Fan { level: 1, j: 3 }),
-    (3, 3, 2, Piece::Pair { level: 2, i: 1, j: 2 }),
-    (3, 3, 3, Piece::Fan { level: 2, j: 3 }),
-    (4, 4, 0, Piece::Fan { level: 1, j: 2 }),
-    (4, 4, 1, Piece::Fan { level: 1, j: 3 }),
-    (4, 4, 2, Piece::Fan { level: 1, j: 4 }),
-    (4, 4, 3, Piece::Pair { level: 2, i: 1, j: 2 }),
-    (4, 4, 4, Piece::Fan { level: 2, j: 3 }),
-    (4, 4, 5, Piece::Fan { level: 2, j: 4 }),
-    (4, 4, 6, Piece::Pair { level: 3, i: 1, j: 2 }),
-    (4, 4, 7, Piece::Pair { level: 3, i: 1, j: 3 }),
-    (4, 4, 8, Piece::Pair { level: 3, i: 2, j: 3 }),
-    (4, 4, 9, Piece::Fan { level: 3, j: 4 }),
-    (10, 10, 28, Piece::Pair { level: 4, i: 1, j: 2 }),
-    (10, 10, 29, Piece::Pair { level: 4, i: 1, j: 3 }),
-    (4, 3, 5, Piece::Pair { level: 3, i: 1, j: 3 }),
+/// How many nodes and members, a number, and the piece that has it: its level, and its places, the first of which is 0
+/// of a fan.
+static PIECES: [(usize, usize, u64, u16, u16, u16); 17] = [
+    (3, 3, 0, 1, 0, 2),
+    (3, 3, 1, 1, 0, 3),
+    (3, 3, 2, 2, 1, 2),
+    (3, 3, 3, 2, 0, 3),
+    (4, 4, 0, 1, 0, 2),
+    (4, 4, 1, 1, 0, 3),
+    (4, 4, 2, 1, 0, 4),
+    (4, 4, 3, 2, 1, 2),
+    (4, 4, 4, 2, 0, 3),
+    (4, 4, 5, 2, 0, 4),
+    (4, 4, 6, 3, 1, 2),
+    (4, 4, 7, 3, 1, 3),
+    (4, 4, 8, 3, 2, 3),
+    (4, 4, 9, 3, 0, 4),
+    (10, 10, 28, 4, 1, 2),
+    (10, 10, 29, 4, 1, 3),
+    (4, 3, 5, 3, 1, 3),
 ];
+
+/// The piece of this level at these places.
+fn named(level: u16, i: u16, j: u16) -> Piece {
+    if i == 0 {
+        return Piece::Fan { level, j };
+    }
+    Piece::Pair { level, i, j }
+}
 
 /// The piece of this number, if there are so many.
 fn piece(nodes: usize, members: usize, number: u64) -> Option<Piece> {
@@ -71,10 +80,10 @@ fn piece(nodes: usize, members: usize, number: u64) -> Option<Piece> {
 
 #[test]
 fn pieces_have_their_numbers(rt: HostRuntime) {
-    for (nodes, members, number, expected) in &PIECES {
+    for (nodes, members, number, level, i, j) in &PIECES {
         assert_eq!(rt;
             piece(*nodes, *members, *number),
-            Some(*expected),
+            Some(named(*level, *i, *j)),
             "number {number} of {nodes} nodes {members} members"
         );
     }

@@ -145,7 +145,8 @@ fn what_is_looked_at_and_analysed_is_read(rt: HostRuntime) -> Result<(), Fail> {
         Line::Analyse(of_all(7)),
         Line::Analyse(of_group(8, [0, 4294967295], alloc)?),
     ];
-    let text = b"show 4\npackets\ncertificate 7\ncertificate 7 group 1,2\nanalyse 7\n analyse  8 group 0,4294967295\nseed 2\nparams 2 30 6 3 3 4 4\n";
+    let text =
+        b"show 4\npackets\ncertificate 7\ncertificate 7 group 1,2\nanalyse 7\n analyse  8 group 0,4294967295\nseed 2\nparams 2 30 6 3 3 4 4\n";
     let scenario = has_lines(&rt, alloc, text, &expected)?;
     assert_eq!(rt; scenario.seed, 2);
     assert_eq!(rt; scenario.params, sized(2, 30)?);

@@ -71,12 +71,7 @@ fn least_and_total(core: &Core) -> Option<(u64, u64)> {
 }
 
 /// Opens a desk of two workers, who take these turns at it.
-fn work(
-    rt: &impl Abort,
-    core: &mut Core,
-    moment: u32,
-    turns: &[(Turn, Result<u64, BookFault>)],
-) {
+fn work(rt: &impl Abort, core: &mut Core, moment: u32, turns: &[(Turn, Result<u64, BookFault>)]) {
     assert_eq!(rt; core.open_desk(moment, 2), Ok(0));
     for (turn, answer) in turns {
         assert_eq!(rt; takes(core, *turn), *answer, "at {turn:?}");
