@@ -2,7 +2,7 @@
 use Rattle.std.proofs.Common.{◌≡◌, ◌∙◌, ◌↔◌, ℕ, ◌≤◌, Bool, true, false, ◌&&◌, not, IsTrue, eqb, List, [], ◌∷◌, ◌++◌}
 use Rattle.std.proofs.Common.{length, refl, ap, arith}
 use Rattle.ov_graph.specs.Links.{LinkGraph}
-use Rattle.ov_cert.specs.Code.Tests.{chained, fresh, front, last_of, inner, is_pair_path, is_earlier, is_fan_path}
+use Rattle.ov_cert.specs.Code.Tests.{chained, fresh, without_last, last_of, inner, is_pair_path, is_earlier, is_fan_path}
 
 -- tests of one fact answer alike
 pub same_test : {P : Type 0} (b t : Bool) → IsTrue b ↔ P → IsTrue t ↔ P → b ≡ t
@@ -11,7 +11,7 @@ same_test false false f g = refl
 same_test true false f g = let h : false ≡ true = g.1 (f.0 refl) in cc
 same_test false true f g = let h : false ≡ true = f.1 (g.0 refl) in cc
 
-pub front_last : (xs : List ℕ) (z : ℕ) → front (xs ++ z ∷ []) ≡ xs
+pub front_last : (xs : List ℕ) (z : ℕ) → without_last (xs ++ z ∷ []) ≡ xs
 front_last [] z = refl
 front_last (x ∷ []) z = refl
 front_last (x ∷ y ∷ xs) z = ap (λ t. x ∷ t) (front_last (y ∷ xs) z)

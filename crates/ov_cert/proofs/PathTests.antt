@@ -16,7 +16,7 @@ use Rattle.ov_cert.specs.declared.cert.PairPaths.{PairPaths}
 use Rattle.ov_cert.specs.declared.cert.FanPaths.{FanPaths}
 use Rattle.ov_cert.specs.Verdict.{IsPairEntry, IsFanEntry}
 use Rattle.ov_cert.proofs.Fresh.{IsFresh, adding_new, adding_old, adding_cases, fresh_tested, in_turn_tested}
-use Rattle.ov_cert.specs.Code.Tests.{chained, fresh, front, last_of, inner, steps, is_pair_path, are_pair_paths}
+use Rattle.ov_cert.specs.Code.Tests.{chained, fresh, without_last, last_of, inner, steps, is_pair_path, are_pair_paths}
 use Rattle.ov_cert.specs.Code.Tests.{is_earlier, is_fan_path, are_fan_paths, is_pair_entry, is_fan_entry}
 
 chained_tested : (g : LinkGraph) (a : ℕ) (xs : List ℕ) → IsTrue (chained g (a ∷ xs)) ↔ Leads (Linked g) a xs
@@ -55,12 +55,12 @@ leads_last R a [] b w = w
 leads_last R a (x ∷ xs) b w = leads_last R x xs b w.1
 
 -- a list is its front and its last item
-in_front : (xs : List ℕ) (x : ℕ) → Has (front xs) x → Has xs x
+in_front : (xs : List ℕ) (x : ℕ) → Has (without_last xs) x → Has xs x
 in_front [] x h = h
 in_front (a ∷ []) x h = absurd h
 in_front (a ∷ b ∷ xs) x h = elim h [ inl e ↦ inl e | inr k ↦ inr (in_front (b ∷ xs) x k) ]
 
-front_or_last : (a : ℕ) (xs : List ℕ) (x : ℕ) → Has (a ∷ xs) x → (last_of a xs ≡ x) ⊎ Has (front (a ∷ xs)) x
+front_or_last : (a : ℕ) (xs : List ℕ) (x : ℕ) → Has (a ∷ xs) x → (last_of a xs ≡ x) ⊎ Has (without_last (a ∷ xs)) x
 front_or_last a [] x h = elim h [ inl e ↦ inl e | inr k ↦ absurd k ]
 front_or_last a (b ∷ xs) x h = elim h [
   | inl e ↦ inr (inl e)
@@ -71,8 +71,8 @@ has_last : (a : ℕ) (xs : List ℕ) → Has (a ∷ xs) (last_of a xs)
 has_last a [] = inl refl
 has_last a (b ∷ xs) = inr (has_last b xs)
 
-distinct_front : (a : ℕ) (xs : List ℕ) → IsDistinct (a ∷ xs) ↔ (¬ Has (front (a ∷ xs)) (last_of a xs))
-    × IsDistinct (front (a ∷ xs))
+distinct_front : (a : ℕ) (xs : List ℕ) → IsDistinct (a ∷ xs) ↔ (¬ Has (without_last (a ∷ xs)) (last_of a xs))
+    × IsDistinct (without_last (a ∷ xs))
 distinct_front a [] = ((λ h. ((λ m. m), tt)), (λ h. ((λ m. m), tt)))
 distinct_front a (b ∷ xs) =
     let more = distinct_front b xs in (
@@ -94,7 +94,7 @@ module _ (g : LinkGraph) (i j : ℕ) (differ : i ≢ j) where
   pair_path_tested used [] = ((λ h. absurd (both_ways false refl h)), (λ h. absurd h.0))
   pair_path_tested used (a ∷ []) = ((λ h. absurd (both_ways false refl h)), (λ h. absurd (differ h.0.1)))
   pair_path_tested used (a ∷ b ∷ rest) =
-      let legs = legs_tested g used (front (b ∷ rest)) i (eqb (last_of b rest) j) a b rest in (
+      let legs = legs_tested g used (without_last (b ∷ rest)) i (eqb (last_of b rest) j) a b rest in (
         (λ h. let r = legs.0 h in (subst (IsWalk g i (a ∷ b ∷ rest)) (eqb-true (last_of b rest) j r.0) r.1, r.2)),
         (λ h.
             let end : last_of b rest ≡ j = leads_last (Linked g) i (b ∷ rest) j h.0.1 in
@@ -167,10 +167,10 @@ module _ (g : LinkGraph) (i j : ℕ) (differ : i ≢ j) where
         (λ x m. (
           path.nodes x (inr (in_front (b ∷ rest) x m)),
           λ u. elim (adding_cases j (i ∷ []) x u) [
-            | inl e ↦ parts.0 (subst (Has (front (b ∷ rest))) (e ∙ sym end) m)
+            | inl e ↦ parts.0 (subst (Has (without_last (b ∷ rest))) (e ∙ sym end) m)
             | inr k ↦ elim k [
               | inl e ↦ path.distinct.0 (in_front (b ∷ rest) a
-                  (subst (Has (front (b ∷ rest))) (sym (path.walk.0 ∙ e)) m))
+                  (subst (Has (without_last (b ∷ rest))) (sym (path.walk.0 ∙ e)) m))
               | inr n ↦ absurd n
             ]
           ],

@@ -1,9 +1,10 @@
--- The number of each fault.
+-- The faults of a certificate.
 use Rattle.std.specs.Prelude.{ℕ}
 use Rattle.ov_cert.specs.declared.fault.CheckFault.{CheckFault}
 use Rattle.ov_cert.specs.declared.fault.CheckFault.TheVariants.{Count, Cut, Side, Pair, Fan, Extra, NotLinked, NoNodes}
 use Rattle.ov_cert.specs.declared.fault.CheckFault.TheVariants.{BadGroup}
 
+-- the number of each fault
 abbrev pub number_of : CheckFault → ℕ
 number_of Count = 40
 number_of Cut = 41

@@ -97,5 +97,5 @@ JudgedForGroup g q c None = IsValidForGroup g q c
 JudgedForGroup g q c (Some fault) = IsFirstFault g q c fault
 
 -- the verdict on a certificate for the group of all nodes
-abbrev pub Judged : LinkGraph → Cert → Option CheckFault → Type 0
-Judged g c = JudgedForGroup g g.nodes c
+abbrev pub JudgedForAll : LinkGraph → Cert → Option CheckFault → Type 0
+JudgedForAll g c = JudgedForGroup g g.nodes c

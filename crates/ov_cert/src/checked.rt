@@ -30,14 +30,14 @@ impl Checked {
     ghost use Rattle.std.specs.Prelude.{◌≡◌, ◌↔◌, Some, IsOk, IfOk, IfErr};
     ghost use Rattle.ov_cert.specs.State.{CheckedState};
     ghost use Rattle.ov_cert.specs.Valid.{IsValid, IsValidForGroup};
-    ghost use Rattle.ov_cert.specs.Verdict.{Judged, JudgedForGroup};
+    ghost use Rattle.ov_cert.specs.Verdict.{JudgedForAll, JudgedForGroup};
 
     /// Keeps the two, with the group of all nodes, where the certificate is valid, and else hands them back with the
-    /// first fault. It takes no memory.
+    /// first fault. Nothing is allocated.
     pub fn new(graph: Graph, cert: Cert) -> Result<Checked, (CheckFault, Graph, Cert)>
         ensures valid { IsOk result ↔ IsValid graph cert }
         ensures kept { IfOk result (λ c. c ≡ record { graph = graph; members = graph.nodes; cert = cert }) }
-        ensures fault { IfErr result (λ e. Judged graph cert (Some e.0)) }
+        ensures fault { IfErr result (λ e. JudgedForAll graph cert (Some e.0)) }
         ensures graph_back { IfErr result (λ e. e.1 ≡ graph) }
         ensures cert_back { IfErr result (λ e. e.2 ≡ cert) }
     {
@@ -52,7 +52,7 @@ impl Checked {
     }
 
     /// Keeps the three where the certificate is valid for the group, and else hands them back with the first fault. It
-    /// takes no memory.
+    /// allocates nothing.
     pub fn for_group(
         graph: Graph,
         group: Vec<NodeId>,
@@ -75,7 +75,7 @@ impl Checked {
         }
     }
 
-    /// Keeps the three, of which it is known that the certificate is valid for the group. It takes no memory and checks
+    /// Keeps the three, of which it is known that the certificate is valid for the group. Nothing is allocated, and it checks
     /// nothing.
     pub fn of_valid(graph: Graph, group: Vec<NodeId>, cert: Cert) -> Checked
         requires { IsValidForGroup graph group.items cert }

@@ -2,7 +2,7 @@ ghost use Rattle.std.specs.Prelude.{◌≡◌, ◌↔◌, None, Some, IsOk, OnOk
 ghost use Rattle.ov_graph.specs.Links.{IsGraph, IsGroup};
 ghost use Rattle.ov_graph.specs.Joined.{Fewest, FewestForGroup};
 ghost use Rattle.ov_cert.specs.Valid.{IsValid, IsValidForGroup, k_of};
-ghost use Rattle.ov_cert.specs.Verdict.{Judged, JudgedForGroup};
+ghost use Rattle.ov_cert.specs.Verdict.{JudgedForAll, JudgedForGroup};
 ghost use Rattle.ov_cert.specs.Code.Tests.{entries_fault, fault_of};
 
 use crate::cert::{Cert, Split};
@@ -12,17 +12,17 @@ use crate::frame::frame_fault;
 use ov_graph::Graph;
 use ov_ids::NodeId;
 
-/// Judges a certificate for the group of all nodes, without memory: as `check_group`, which says more.
+/// Judges a certificate for the group of all nodes, without an allocation: as `check_group`, which says more.
 pub fn check(graph: &Graph, cert: &Cert) -> Result<(), CheckFault>
-    ensures verdict { MatchResult result (λ _. Judged graph.now cert.now None)
-        (λ fault. Judged graph.now cert.now (Some fault)) }
+    ensures verdict { MatchResult result (λ _. JudgedForAll graph.now cert.now None)
+        (λ fault. JudgedForAll graph.now cert.now (Some fault)) }
     ensures valid { IsOk result ↔ IsValid graph.now cert.now }
     ensures fewest { OnOk result (Fewest graph.now (k_of cert.now)) }
 {
     check_group(graph, graph.nodes(), cert)
 }
 
-/// Judges a certificate for a group, without memory. It is Ok exactly where the certificate is valid, and then crashing
+/// Judges a certificate for a group, without an allocation. It is Ok exactly where the certificate is valid, and then crashing
 /// the k nodes that it names splits the group, or every two members are linked and k is one less than their number, and
 /// no fewer crashes split it (Even 1975). Otherwise it answers the first fault:
 ///

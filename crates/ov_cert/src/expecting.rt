@@ -87,7 +87,7 @@ fn add_fans(later: &[NodeId], entries: &mut Vec<Expected>) -> Result<(), OutOfMe
     Ok(())
 }
 
-/// Judges one expected entry of a certificate for the group of all nodes, whose frame passes, without memory.
+/// Judges one expected entry of a certificate for the group of all nodes, whose frame passes, without an allocation.
 pub fn judge_entry(graph: &Graph, split: &Split, entry: Expected) -> Result<(), CheckFault>
     requires frame { PassesFrame graph.now graph.now.nodes (SplitBy split.now) }
     requires expected { IsExpected graph.now graph.now.nodes split.now.k entry }
@@ -98,7 +98,7 @@ pub fn judge_entry(graph: &Graph, split: &Split, entry: Expected) -> Result<(), 
     judge_group_entry(graph, graph.nodes(), split, entry)
 }
 
-/// Judges one expected entry of a certificate for a group, whose frame passes, without memory. It answers Pair (43) or
+/// Judges one expected entry of a certificate for a group, whose frame passes, without an allocation. It answers Pair (43) or
 /// Fan (44) exactly where the entry is missing, names others, or has wrong paths.
 pub fn judge_group_entry(
     graph: &Graph,

@@ -14,7 +14,7 @@ use crate::side::is_side_cut_off;
 use ov_graph::Graph;
 use ov_ids::NodeId;
 
-/// Judges what of a certificate for the group of all nodes is judged before its entries, without memory.
+/// Judges what of a certificate for the group of all nodes is judged before its entries, without an allocation.
 pub fn check_frame(graph: &Graph, cert: &Cert) -> Result<(), CheckFault>
     ensures { MatchResult result
         (λ _. PassesFrame graph.now graph.now.nodes cert.now)
@@ -23,7 +23,7 @@ pub fn check_frame(graph: &Graph, cert: &Cert) -> Result<(), CheckFault>
     check_group_frame(graph, graph.nodes(), cert)
 }
 
-/// Judges what of a certificate for a group is judged before its entries, without memory: the graph has a node, the
+/// Judges what of a certificate for a group is judged before its entries, without an allocation: the graph has a node, the
 /// members are a group, k is their number less one or that of the cut's nodes, all are linked or the cut parts near and
 /// far. The first fault is answered, as by `check_group`.
 pub fn check_group_frame(graph: &Graph, group: &[NodeId], cert: &Cert) -> Result<(), CheckFault>

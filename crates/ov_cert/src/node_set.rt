@@ -9,7 +9,7 @@ use ov_graph::row::{EMPTY, Row, has, put};
 use ov_ids::{NodeId, is_ascending};
 use std::marker::Model;
 
-/// A set of nodes of a graph, which takes no memory: a row with a bit for each place. Contracts see the graph, and the
+/// A set of nodes of a graph, for which nothing is allocated: a row with a bit for each place. Contracts see the graph, and the
 /// members ascending.
 #[derive(Drop)]
 pub(crate) struct NodeSet<'g> {

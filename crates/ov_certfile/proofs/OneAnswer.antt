@@ -4,9 +4,9 @@ use Rattle.std.proofs.Common.{Err, refl, sym, subst, ap, codes, IfSome, IfNone}
 use Rattle.serde_json.specs.Data.{Data}
 use Rattle.serde_json.specs.Read.{read}
 use Rattle.ov_ids.specs.Members.{Ascends}
-use Rattle.ov_ids.specs.Steps.{Step, Passed}
+use Rattle.ov_ids.specs.FaultOrder.{Step, Passed}
 use Rattle.ov_graph.specs.Links.{LinkGraph, IsLink, most_nodes}
-use Rattle.ov_graph.specs.Faults.{Judged, LinksJudged, Follows}
+use Rattle.ov_graph.specs.Faults.{GraphJudged, LinksJudged, Follows}
 use Rattle.ov_graph.specs.declared.fault.GraphFault.{GraphFault}
 use Rattle.ov_graph.specs.declared.fault.GraphFault.TheVariants.{TooManyNodes, Unordered, BadLink}
 use Rattle.ov_cert.specs.declared.cert.Cert.{Cert}
@@ -14,7 +14,7 @@ use Rattle.ov_cert.specs.declared.cert.Cert.TheVariants as cert
 use Rattle.ov_cert.specs.declared.cert.Split.{Split}
 use Rattle.ov_certfile.specs.Keys.{said}
 use Rattle.ov_certfile.specs.Kinds.{version_in, most_nodes_of}
-use Rattle.ov_certfile.specs.Demands.{demands, first_unmet, GraphJudged}
+use Rattle.ov_certfile.specs.Demands.{demands, first_unmet, FileGraphJudged}
 use Rattle.ov_certfile.specs.Says.{SaysGraph, SaysGroup, SaysCert, Says, IsNoGraph, IsFault, SaysFile, SaysText}
 use Rattle.ov_certfile.specs.declared.fault.FileFault.{FileFault}
 use Rattle.ov_certfile.specs.declared.fault.FileFault.TheVariants.{NotJson, MissingKey, UnknownKey, BadValue}
@@ -44,14 +44,15 @@ links_one nodes before (l ∷ links) =
     step_one (IsLink nodes l) BadLink (Step (Follows before l) Unordered (LinksJudged nodes (Some l) links))
     (step_one (Follows before l) Unordered (LinksJudged nodes (Some l) links) (links_one nodes (Some l) links))
 
-graph_one : (nodes : List ℕ) (links : List (ℕ × ℕ)) → IsOne (Judged nodes links)
+graph_one : (nodes : List ℕ) (links : List (ℕ × ℕ)) → IsOne (GraphJudged nodes links)
 graph_one nodes links =
     step_one (length nodes ≤ most_nodes) TooManyNodes (Step (Ascends nodes) Unordered (LinksJudged nodes None links))
     (step_one (Ascends nodes) Unordered (LinksJudged nodes None links) (links_one nodes None links))
 
-judged_one : (version : Version) (g : LinkGraph) → IsOne (GraphJudged version g)
+judged_one : (version : Version) (g : LinkGraph) → IsOne (FileGraphJudged version g)
 judged_one version g =
-    step_one (length g.nodes ≤ most_nodes_of version) TooManyNodes (Judged g.nodes g.links) (graph_one g.nodes g.links)
+    step_one (length g.nodes ≤ most_nodes_of version) TooManyNodes (GraphJudged g.nodes g.links)
+    (graph_one g.nodes g.links)
 
 -- what is read at one key is one thing
 same : {X : Type 0} (o : Option X) (x y : X) → o ≡ Some x → o ≡ Some y → x ≡ y
@@ -103,13 +104,14 @@ file_same d f h p q =
 abbrev GraphComesTo : Data → Option GraphFault → Type 0
 GraphComesTo d x =
     (version : Version) × (g : LinkGraph) × (said version_in (codes "version") d ≡ Some version)
-    × SaysGraph d g × GraphJudged version g x
+    × SaysGraph d g × FileGraphJudged version g x
 
 comes_same : (d : Data) (x y : Option GraphFault) → GraphComesTo d x → GraphComesTo d y → x ≡ y
 comes_same d x y p q =
     let version : p.0 ≡ q.0 = same _ _ _ p.2 q.2 in
     let graph : p.1 ≡ q.1 = graph_same d p.1 q.1 p.3 q.3 in
-    judged_one q.0 q.1 x y (subst (λ v. GraphJudged v q.1 x) version (subst (λ g. GraphJudged p.0 g x) graph p.4)) q.4
+    judged_one q.0 q.1 x y
+    (subst (λ v. FileGraphJudged v q.1 x) version (subst (λ g. FileGraphJudged p.0 g x) graph p.4)) q.4
 
 -- a fault is that of a demand, or that of the graph
 cases : (d : Data) (e : FileFault) → IsFault d e

@@ -15,7 +15,7 @@ use Rattle.ov_certfile.specs.Common.{are_same}
 use Rattle.ov_certfile.specs.Keys.{said}
 use Rattle.ov_certfile.specs.Forms.{moment_in, last_moment}
 use Rattle.ov_certfile.specs.Kinds.{most_nodes_of}
-use Rattle.ov_certfile.specs.Demands.{demands, first_unmet, GraphJudged}
+use Rattle.ov_certfile.specs.Demands.{demands, first_unmet, FileGraphJudged}
 use Rattle.ov_certfile.specs.Says.{Says}
 use Rattle.ov_certfile.specs.DataOf.{whole_data, version_for, data_in, data_of}
 use Rattle.ov_certfile.specs.ReadsBack.{ReadsBack}
@@ -51,7 +51,7 @@ IsFew version g = length g.nodes ≤ most_nodes_of version
 
 -- a graph within the limit of all graphs, and of the version, has no fault
 graph_judged : (version : Version) (g : LinkGraph) → IsGraph g → length g.nodes ≤ most_nodes → IsFew version g
-    → GraphJudged version g None
+    → FileGraphJudged version g None
 graph_judged version g graph within few = inl (few, passed g.nodes g.links (no_fault_found g graph within))
 
 one_linked_met : (k m : ℕ) (g : LinkGraph) (q : List ℕ) → GraphReadsBack g → CertReadsBack (cert.Linked k)

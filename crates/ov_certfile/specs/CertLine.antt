@@ -6,7 +6,7 @@ use Rattle.ov_cert.specs.declared.cert.Cert.{Cert}
 use Rattle.ov_cert.specs.declared.cert.Cert.TheVariants.{Linked, Split}
 use Rattle.ov_certfile.specs.Common.{are_same}
 
--- what it says, without its paths
+-- the certificate without its paths and its group
 unfoldable pub claim_text : Cert → List ℕ
 claim_text (Linked k) = codes "linked k " ++ decimal k
 claim_text (Split c) =
@@ -16,10 +16,10 @@ claim_text (Split c) =
     ++ (codes " far " ++ (decimal c.far
     ++ (codes " side " ++ ids_text c.side))))))))
 
--- the group, where it is not all nodes
+-- the group; nothing where it is all nodes
 abbrev pub group_text : List ℕ → List ℕ → List ℕ
 group_text nodes group = if are_same group nodes then [] else codes " group " ++ ids_text group
 
--- what it says of the group of its graph, without its paths
+-- the certificate and its group, without its paths
 unfoldable pub cert_text : Cert → LinkGraph → List ℕ → List ℕ
 cert_text c g group = claim_text c ++ group_text g.nodes group

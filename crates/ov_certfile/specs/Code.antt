@@ -1,3 +1,3 @@
--- What the contracts of private functions say; the definitions do not use it.
+-- What the contracts of private functions cite. No definition of a public contract uses it.
 pub mod Reading
 pub mod Writing

@@ -1,4 +1,4 @@
--- The object that is written for a certificate: its keys in the order of their bytes.
+-- The object that is written for a certificate. Its keys stand in the order of their bytes.
 use Rattle.std.specs.Prelude.{ℕ, ◌&&◌, List, [], ◌∷◌, length, map, codes, nat_le, if◌then◌else◌}
 use Rattle.serde_json.specs.View.{items_of}
 use Rattle.serde_json.specs.Data.{Data, number, string, array, object, unsigned, Members, no_members, member}
@@ -47,7 +47,7 @@ fan_data p = object
     (member (codes "j") (whole_data p.j)
     (member (codes "paths") (paths_data p.paths) no_members))
 
--- version 1 exactly where the group is all nodes, and these are as many as it may have at most
+-- version 1 exactly where the group is all nodes, and these are no more than it may have
 unfoldable pub version_for : LinkGraph → List ℕ → Version
 version_for g group = if are_same group g.nodes && nat_le (length g.nodes) (most_nodes_of One) then One else Two
 
@@ -56,7 +56,7 @@ abbrev pub group_then : Version → List ℕ → Members → Members
 group_then One group members = members
 group_then Two group members = member (codes "group") (ids_data group) members
 
--- what a file has that says that all are linked
+-- the members of a file that says that every two are linked
 abbrev pub linked_members : Version → ℕ → LinkGraph → List ℕ → ℕ → Members
 linked_members version k g group moment =
     group_then version group
@@ -67,7 +67,7 @@ linked_members version k g group moment =
     (member (codes "verdict") (string (verdict_text Linked))
     (member (codes "version") (whole_data (version_number version)) no_members))))))
 
--- what a file has that says what splits
+-- the members of a file that says that some nodes split its group
 abbrev pub split_members : Version → Split → LinkGraph → List ℕ → ℕ → Members
 split_members version c g group moment =
     member (codes "cut") (ids_data c.cut)
@@ -84,7 +84,7 @@ split_members version c g group moment =
     (member (codes "verdict") (string (verdict_text VerdictSplit))
     (member (codes "version") (whole_data (version_number version)) no_members))))))))))))
 
--- what the file of a certificate has
+-- the members of the file of a certificate
 abbrev pub cert_members : Version → Cert → LinkGraph → List ℕ → ℕ → Members
 cert_members version (cert.Linked k) g group moment = linked_members version k g group moment
 cert_members version (cert.Split c) g group moment = split_members version c g group moment

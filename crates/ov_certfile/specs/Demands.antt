@@ -1,12 +1,12 @@
--- What is asked of a value as a certificate file, in order.
+-- What a value must meet to be a certificate file, in order.
 use Rattle.std.specs.Prelude.{◌≤◌, Bool, List, [], ◌∷◌, length, codes, is_some, if◌then◌else◌, Option, Some, None}
 use Rattle.std.specs.Prelude.{unwrap_or}
 use Rattle.std.specs.List.{list_all}
 use Rattle.serde_json.specs.Data.{Data}
 use Rattle.serde_json.specs.Find.{as_object}
-use Rattle.ov_ids.specs.Steps.{Step}
+use Rattle.ov_ids.specs.FaultOrder.{Step}
 use Rattle.ov_graph.specs.Links.{LinkGraph}
-use Rattle.ov_graph.specs.Faults.{Judged}
+use Rattle.ov_graph.specs.Faults.{GraphJudged}
 use Rattle.ov_graph.specs.declared.fault.GraphFault.{GraphFault}
 use Rattle.ov_graph.specs.declared.fault.GraphFault.TheVariants.{TooManyNodes}
 use Rattle.ov_certfile.specs.Common.{◌>>=◌}
@@ -17,14 +17,14 @@ use Rattle.ov_certfile.specs.declared.fault.FileFault.TheVariants.{MissingKey, U
 use Rattle.ov_certfile.specs.declared.fault.FileFault.TheVariants.{Version as AnotherVersion}
 use Rattle.ov_certfile.specs.declared.version.Version.{Version}
 
--- the keys of the version and the verdict that the value says, if it says both
+-- the keys of a file with the version and the verdict of the value, if it has both
 abbrev pub keys_said : Data → Option (List Key)
 keys_said d =
     said version_in (codes "version") d >>= λ version.
     said verdict_in (codes "verdict") d >>= λ verdict.
     Some (keys_of version verdict)
 
--- the keys that the value must have; none as long as it says not both
+-- the keys that the value must have; none where its version or its verdict is missing
 abbrev pub wanted_keys : Data → List Key
 wanted_keys d = unwrap_or (keys_said d) []
 
@@ -32,7 +32,7 @@ wanted_keys d = unwrap_or (keys_said d) []
 abbrev pub has_forms : List Key → Data → Bool
 has_forms keys d = list_all (λ k. k.1 d) keys
 
--- what is asked, each with the fault that is told where it is the first that the value does not meet
+-- the demands, each with the fault that is returned where it is the first that the value does not meet
 unfoldable pub demands : Data → List (Bool × FileFault)
 demands d =
     (is_some (as_object d), BadValue)
@@ -50,7 +50,7 @@ abbrev pub first_unmet : List (Bool × FileFault) → Option FileFault
 first_unmet [] = None
 first_unmet (demand ∷ rest) = if demand.0 then first_unmet rest else Some demand.1
 
--- last, nodes and links must make a graph: no more nodes than the version allows, and no fault as a graph
-abbrev pub GraphJudged : Version → LinkGraph → Option GraphFault → Type 0
-GraphJudged version g answer =
-    Step (length g.nodes ≤ most_nodes_of version) TooManyNodes (Judged g.nodes g.links) answer
+-- last, nodes and links must be a graph: no more nodes than the version allows, and no fault as a graph
+abbrev pub FileGraphJudged : Version → LinkGraph → Option GraphFault → Type 0
+FileGraphJudged version g answer =
+    Step (length g.nodes ≤ most_nodes_of version) TooManyNodes (GraphJudged g.nodes g.links) answer

@@ -1,4 +1,5 @@
--- The forms of the values of a file: what a value says in a form, or nothing where it has not this form.
+-- The forms of the values in a file. A form reads a value of JSON: its result is what the value says, or nothing where
+-- the value does not have the form. The format is chosen here.
 use Rattle.std.specs.Prelude.{◌^◌, ◌+◌, ℕ, List, [], ◌∷◌, nat_lt, codes, if◌then◌else◌, Option, Some, None}
 use Rattle.serde_json.specs.Data.{Data, Items, no_items, item}
 use Rattle.serde_json.specs.Find.{as_number, as_u64, as_array}
@@ -23,11 +24,11 @@ whole_in d = as_number d >>= as_u64
 abbrev pub whole_below : ℕ → Data → Option ℕ
 whole_below limit d = whole_in d >>= λ n. if nat_lt n limit then Some n else None
 
--- how many nodes must crash
+-- k, a number of nodes
 abbrev pub count_in : Data → Option ℕ
 count_in d = whole_below number_limit d
 
--- the number of the journal's entry whose graph it is; 0 is a graph that was given by hand
+-- a moment: the number of the journal's entry whose graph it is, or 0 for a graph that was given by hand
 abbrev pub moment_in : Data → Option ℕ
 moment_in d = whole_below (last_moment + 1) d
 
@@ -35,7 +36,7 @@ moment_in d = whole_below (last_moment + 1) d
 abbrev pub id_in : Data → Option ℕ
 id_in d = whole_below number_limit d
 
--- each of the items in a form, in order
+-- the items, each in a form, in order
 abbrev pub each_in : {X : Type 0} → (Data → Option X) → Items → Option (List X)
 each_in form no_items = Some []
 each_in form (item d ds) = form d >>= λ x. each_in form ds >>= λ xs. Some (x ∷ xs)

@@ -34,6 +34,6 @@ has_no_other keys d = list_all (λ key. is_among keys key) (keys_in d)
 abbrev pub has_just : List (List ℕ) → Data → Bool
 has_just keys d = has_all keys d && has_no_other keys d
 
--- what the value at a key says, read as this form: nothing where the key is not there, or its value has another form
+-- what the value at a key says in a form; nothing where the key is missing, or its value does not have the form
 abbrev pub said : {X : Type 0} → (Data → Option X) → List ℕ → Data → Option X
 said form key d = get key d >>= form

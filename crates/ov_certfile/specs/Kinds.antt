@@ -25,11 +25,11 @@ version_numbered n = if n == 1 then Some One else (if n == 2 then Some Two else 
 abbrev pub version_in : Data → Option Version
 version_in d = whole_in d >>= version_numbered
 
--- as many nodes as a file of version 1 may have
+-- the most nodes of a file of version 1
 abbrev pub most_nodes_of_one : ℕ
 most_nodes_of_one = 256
 
--- as many nodes as a file of a version may have: version 2 has no limit of its own
+-- the most nodes of a file of a version: version 2 has no limit but that of a graph
 abbrev pub most_nodes_of : Version → ℕ
 most_nodes_of One = most_nodes_of_one
 most_nodes_of Two = most_nodes
@@ -56,7 +56,7 @@ Key = List ℕ × (Data → Bool)
 abbrev pub key : {X : Type 0} → List ℕ → (Data → Option X) → Key
 key name form = (name, λ d. is_some (said form name d))
 
--- what each file has
+-- the keys that every file has
 abbrev pub common_keys : List Key
 common_keys =
     key (codes "k") count_in
@@ -67,12 +67,12 @@ common_keys =
     ∷ key (codes "version") version_in
     ∷ []
 
--- what only files of a version have: in version 2 a group
+-- the keys that only files of a version have: in version 2 a group
 abbrev pub version_keys : Version → List Key
 version_keys One = []
 version_keys Two = key (codes "group") ids_in ∷ []
 
--- what only files of a verdict have: the cut with its side, and the entries
+-- the keys that only files of a verdict have: the cut with its side, and the entries
 abbrev pub verdict_keys : Verdict → List Key
 verdict_keys Linked = []
 verdict_keys Split =

@@ -8,5 +8,4 @@ pub mod Says
 pub mod DataOf
 pub mod ReadsBack
 pub mod CertLine
-pub mod Device
 pub mod Code

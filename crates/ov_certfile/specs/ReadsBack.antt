@@ -1,4 +1,4 @@
--- What is written is read again.
+-- Reading what was written gives it back.
 use Rattle.std.specs.Prelude.{ℕ, List, Ok}
 use Rattle.ov_graph.specs.Links.{LinkGraph}
 use Rattle.ov_cert.specs.declared.cert.Cert.{Cert}

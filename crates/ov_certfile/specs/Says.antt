@@ -10,7 +10,7 @@ use Rattle.ov_cert.specs.declared.cert.Split.{Split}
 use Rattle.ov_certfile.specs.Keys.{said}
 use Rattle.ov_certfile.specs.Forms.{count_in, moment_in, id_in, ids_in, links_in, pairs_in, fans_in}
 use Rattle.ov_certfile.specs.Kinds.{version_in, verdict_in}
-use Rattle.ov_certfile.specs.Demands.{demands, first_unmet, GraphJudged}
+use Rattle.ov_certfile.specs.Demands.{demands, first_unmet, FileGraphJudged}
 use Rattle.ov_certfile.specs.declared.fault.FileFault.{FileFault}
 use Rattle.ov_certfile.specs.declared.fault.FileFault.TheVariants.{NotJson, Graph}
 use Rattle.ov_certfile.specs.declared.version.Version.{Version}
@@ -18,22 +18,22 @@ use Rattle.ov_certfile.specs.declared.version.Version.TheVariants.{One, Two}
 use Rattle.ov_certfile.specs.declared.verdict.Verdict.TheVariants.{Linked, Split as VerdictSplit}
 use Rattle.ov_certfile.specs.declared.reading.Filed.{Filed}
 
--- the nodes and the links, whether or not they make a graph
+-- the value has these nodes and links, whether or not they are a graph
 pub record SaysGraph (d : Data) (g : LinkGraph) : Type 0 where
   pub nodes : said ids_in (codes "nodes") d ≡ Some g.nodes
   pub links : said links_in (codes "links") d ≡ Some g.links
 
--- the group: all nodes in version 1, and those that version 2 names
+-- the group is all nodes in version 1, and the one that is named in version 2
 abbrev pub SaysGroup : Data → Version → LinkGraph → List ℕ → Type 0
 SaysGroup d One g group = group ≡ g.nodes
 SaysGroup d Two g group = said ids_in (codes "group") d ≡ Some group
 
--- that all are linked: only k is left to say
+-- the value says that every two members are linked, with this k
 pub record SaysLinked (d : Data) (k : ℕ) : Type 0 where
   pub verdict : said verdict_in (codes "verdict") d ≡ Some Linked
   pub count : said count_in (codes "k") d ≡ Some k
 
--- what splits: the cut with its side, and the entries
+-- the value says that some nodes split the group: with this cut, its side, and these entries
 pub record SaysSplit (d : Data) (c : Split) : Type 0 where
   pub verdict : said verdict_in (codes "verdict") d ≡ Some VerdictSplit
   pub k : said count_in (codes "k") d ≡ Some c.k
@@ -44,18 +44,18 @@ pub record SaysSplit (d : Data) (c : Split) : Type 0 where
   pub pairs : said pairs_in (codes "pairs") d ≡ Some c.pairs
   pub fans : said fans_in (codes "fans") d ≡ Some c.fans
 
--- the certificate
+-- the value has this certificate
 abbrev pub SaysCert : Data → Cert → Type 0
 SaysCert d (cert.Linked k) = SaysLinked d k
 SaysCert d (cert.Split c) = SaysSplit d c
 
--- the value meets all demands, its nodes and links make a graph, and it says just this
+-- the value meets all demands, its nodes and links are a graph, and it says just this
 pub record Says (d : Data) (f : Filed) : Type 0 where
   pub met : first_unmet (demands d) ≡ None
   pub version : Version
   pub version_said : said version_in (codes "version") d ≡ Some version
   pub graph : SaysGraph d f.graph
-  pub judged : GraphJudged version f.graph None
+  pub judged : FileGraphJudged version f.graph None
   pub moment : said moment_in (codes "moment") d ≡ Some f.moment
   pub group : SaysGroup d version f.graph f.group
   pub cert : SaysCert d f.cert
@@ -67,7 +67,7 @@ pub record IsNoGraph (d : Data) (fault : GraphFault) : Type 0 where
   pub version_said : said version_in (codes "version") d ≡ Some version
   pub given : LinkGraph
   pub graph : SaysGraph d given
-  pub judged : GraphJudged version given (Some fault)
+  pub judged : FileGraphJudged version given (Some fault)
 
 -- the first fault of a value
 abbrev pub IsFault : Data → FileFault → Type 0
@@ -79,7 +79,7 @@ abbrev pub SaysFile : Data → Result Filed FileFault → Type 0
 SaysFile d (Ok f) = Says d f
 SaysFile d (Err fault) = IsFault d fault
 
--- what a text says: the file of the value that is read of it, or that it is no JSON
+-- what a text says: what the value says that JSON reads in it, or NotJson where it reads none
 pub record SaysText (text : List ℕ) (answer : Result Filed FileFault) : Type 0 where
   pub json : IfSome (read text) (λ d. SaysFile d answer)
   pub no_json : IfNone (read text) (answer ≡ Err NotJson)

@@ -3,9 +3,8 @@ use ov_graph::Graph;
 use ov_ids::{IdsText, NodeId};
 use std::fmt::{Display, Formatter, Result, Write};
 
-/// What a certificate says of a group of a graph, without its paths: `linked k K`, or
-/// `split k K cut C near A far B side S`, and then ` group G` where the group is not all nodes. Ids have commas between
-/// them, and a list without ids is a dash.
+/// A certificate, to be printed without its paths: `linked k K`, or `split k K cut C near A far B side S`, and then
+/// ` group G` where the group is not all nodes. Ids have commas between them, and a list without ids is a dash.
 #[derive(Drop)]
 pub struct CertText<'a> {
     pub cert: &'a Cert,
@@ -30,7 +29,7 @@ impl<'a> Display for CertText<'a> {
     }
 }
 
-/// What a certificate says, without its paths and its group.
+/// A certificate, to be printed without its paths and its group.
 #[derive(Drop)]
 struct ClaimText<'a>(&'a Cert);
 

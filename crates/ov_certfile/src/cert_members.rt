@@ -2,8 +2,8 @@ ghost use Rattle.std.specs.Prelude.{◌≡◌, OnOk, Some};
 ghost use Rattle.serde_json.specs.View.{members_view};
 ghost use Rattle.ov_certfile.specs.Forms.{count_in};
 ghost use Rattle.ov_certfile.specs.DataOf.{whole_data};
-ghost use Rattle.ov_certfile.specs.Code.Writing.{with_verdict, with_cut, with_entries, with_cert, CertReadsBack, CutReadsBack};
-ghost use Rattle.ov_certfile.specs.Code.Writing.{EntriesReadBack};
+ghost use Rattle.ov_certfile.specs.Code.Writing.{with_verdict, with_cut, with_entries, with_cert};
+ghost use Rattle.ov_certfile.specs.Code.Writing.{CertReadsBack, CutReadsBack, EntriesReadBack};
 
 use crate::fields::put_field;
 use crate::verdict::Verdict;
@@ -11,7 +11,7 @@ use ov_cert::{Cert, Split};
 use serde_json::{Map, Value, put};
 use std::alloc::{AllocError, Global};
 
-/// Puts in what a certificate says.
+/// Writes a certificate.
 pub(crate) fn put_cert(
     members: &mut Map<String, Value>,
     alloc: Global,
@@ -31,7 +31,7 @@ pub(crate) fn put_cert(
     }
 }
 
-/// Puts in the verdict and k.
+/// Writes the verdict and k.
 fn put_verdict(
     members: &mut Map<String, Value>,
     alloc: Global,
@@ -47,7 +47,7 @@ fn put_verdict(
     Ok(put(members, alloc, "k", Value::from(k))?)
 }
 
-/// Puts in the cut and its side.
+/// Writes the cut and its side.
 fn put_cut(members: &mut Map<String, Value>, alloc: Global, split: &Split) -> Result<(), AllocError>
     ensures members { OnOk result (members_view members.new.entries
         ≡ with_cut split.now (members_view members.old.entries)) }
@@ -59,7 +59,7 @@ fn put_cut(members: &mut Map<String, Value>, alloc: Global, split: &Split) -> Re
     Ok(put_field(members, alloc, "side", &split.side)?)
 }
 
-/// Puts in the entries.
+/// Writes the entries.
 fn put_entries(
     members: &mut Map<String, Value>,
     alloc: Global,

@@ -6,21 +6,28 @@ use ov_graph::GraphFault;
 use std::alloc::{AllocError, AllocFailed};
 use thiserror::Error;
 
-/// Why a text is no certificate file.
+/// Why a text is not a certificate file.
 #[derive(Clone, Copy, Debug, PartialEq, Eq, Error)]
 pub enum FileFault {
+    /// 60: the text is not JSON.
     #[error("no JSON")]
     NotJson,
+    /// 61: a key is missing.
     #[error("a key is missing")]
     MissingKey,
+    /// 62: there is a key that the file must not have.
     #[error("a key is unknown")]
     UnknownKey,
+    /// 63: a value does not have the form that it must have.
     #[error("a value has another form")]
     BadValue,
+    /// 64: the version is neither 1 nor 2.
     #[error("another version")]
     Version,
+    /// 31 to 33: nodes and links are not a graph.
     #[error("the graph: {0}")]
     Graph(GraphFault),
+    /// 99: an allocation was refused.
     #[error("out of memory")]
     OutOfMemory,
 }

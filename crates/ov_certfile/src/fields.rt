@@ -14,8 +14,8 @@ use std::alloc::{AllocError, Global};
 /// Ids and counts are below this.
 pub(crate) const NUMBER_LIMIT: u64 = 1 << 32;
 
-/// What stands in a file as a value of JSON: `form` is what a value says as such a field, if it has the form of one,
-/// and `as_data` the value that is written for one.
+/// A type whose values stand in a file. `form` reads a value of JSON as such a field, if it has the form of one, and
+/// `as_data` is the value that is written for a field.
 pub(crate) trait Field: Drop {
     ghost use Rattle.std.specs.Prelude.{◌≡◌, Option, IfOk, OnOk, Some};
     ghost use Rattle.serde_json.specs.Data.{Data};
@@ -32,7 +32,7 @@ pub(crate) trait Field: Drop {
         Self: Sized,
         ensures { Reads (λ x. x) result (form (view value.now)) };
 
-    /// The value for a field, which says the field again.
+    /// The value that is written for a field. Reading it gives the field back.
     fn to_value(&self, alloc: Global) -> Result<Value, AllocError>
         ensures value { IfOk result (λ v. view v ≡ as_data self.now) }
         ensures reads_back { OnOk result (form (as_data self.now) ≡ Some self.now) };
@@ -129,7 +129,7 @@ fn each_from<T: Field>(alloc: Global, values: &[Value]) -> Result<Vec<T>, FileFa
     Ok(fields)
 }
 
-/// The list of the values for these fields.
+/// The list of the values that are written for these fields.
 pub(crate) fn list_value<T: Field>(alloc: Global, fields: &[T]) -> Result<Value, AllocError>
     ensures value { IfOk result (λ v. view v ≡ list_data T.as_data fields.now) }
     ensures reads_back { OnOk result (list_in T.form (list_data T.as_data fields.now) ≡ Some fields.now) }
@@ -171,7 +171,7 @@ pub(crate) fn whole_at(value: &Value, key: &str, limit: u64) -> Result<u32, File
     }
 }
 
-/// Puts in the value for a field at its key.
+/// Writes a field at its key.
 pub(crate) fn put_field<T: Field>(
     members: &mut Map<String, Value>,
     alloc: Global,

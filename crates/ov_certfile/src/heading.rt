@@ -10,7 +10,7 @@ use crate::verdict::Verdict;
 use crate::version::Version;
 use serde_json::Value;
 
-/// The version and the verdict of an object that has their keys and no others, or the first fault.
+/// The version and the verdict of a file that has their keys and no others, or its first fault.
 #[tactic(auto, unfolding(crate::specs::Demands::demands))]
 pub(crate) fn heading_of(value: &Value) -> Result<(Version, Verdict), FileFault>
     ensures { MatchResult result (λ h. IsHeaded h.0 h.1 (view value.now)) (IsFault (view value.now)) }

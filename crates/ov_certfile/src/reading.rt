@@ -4,7 +4,7 @@ ghost use Rattle.ov_graph.specs.Links.{LinkGraph};
 ghost use Rattle.ov_certfile.specs.Keys.{said};
 ghost use Rattle.ov_certfile.specs.Forms.{count_in};
 ghost use Rattle.ov_certfile.specs.Kinds.{version_keys};
-ghost use Rattle.ov_certfile.specs.Demands.{GraphJudged};
+ghost use Rattle.ov_certfile.specs.Demands.{FileGraphJudged};
 ghost use Rattle.ov_certfile.specs.Says.{SaysFile, SaysText};
 ghost use Rattle.ov_certfile.specs.Code.Reading.{Reads, IsHeaded, IsCert, IsGraphed, IsDated, IsNamed, LacksForm};
 ghost use Rattle.ov_certfile.specs.Code.Reading.{IsUndated, IsGraphFault, cert_keys, graph_keys, dated_keys};
@@ -26,30 +26,30 @@ const LAST_MOMENT: u64 = 65_536;
 /// What a certificate file says.
 #[derive(Drop)]
 pub struct Filed {
-    /// The number of the journal's entry whose graph it is, at most 65,536; 0 is a graph that was given by hand.
+    /// The number of the journal's entry whose graph it is, at most 65,536. It is 0 for a graph that was given by hand.
     pub moment: u32,
     pub graph: Graph,
-    /// The nodes that must not be parted, as they stand in the file: whether they are a group is not asked.
+    /// The nodes that must not be parted, as they stand in the file. They need not be a group of the graph.
     pub group: Seq<NodeId>,
     pub cert: Cert,
 }
 
-/// What a text says as a certificate file, of version 1 or 2. Version 1 names no group: its group is all nodes. Whether
-/// the group is one of the graph, and whether the certificate is valid, is not asked. The first fault in this order is
-/// told:
+/// Reads a certificate file, of version 1 or 2. Version 1 names no group: its group is all nodes. It is not checked
+/// whether the group is one of the graph, nor whether the certificate is valid. Of several faults the first in this
+/// order is returned:
 ///
-/// 1. the text is not read as JSON: `NotJson`;
-/// 2. it is not an object: `BadValue`;
-/// 3. it has no `version`: `MissingKey`; a version other than the whole numbers 1 and 2: `Version`;
-/// 4. it has no `verdict`: `MissingKey`; a verdict other than `"linked"` and `"split"`: `BadValue`;
-/// 5. it lacks a key of its version and verdict: `MissingKey`;
-/// 6. it has a key that is none of these: `UnknownKey`;
-/// 7. a value has not the form of its key: `BadValue`;
-/// 8. there are more nodes than its version may have, 256 in version 1 and 1,024 in version 2: `Graph`, of
-///    `TooManyNodes`;
-/// 9. nodes and links are no graph: `Graph`, of the fault that `Graph::new` answers.
+/// 1. `NotJson` (60): the text is not JSON;
+/// 2. `BadValue` (63): it is not an object;
+/// 3. `MissingKey` (61): it has no `version`; `Version` (64): its version is not the whole number 1 or 2;
+/// 4. `MissingKey` (61): it has no `verdict`; `BadValue` (63): its verdict is neither `"linked"` nor `"split"`;
+/// 5. `MissingKey` (61): it lacks a key of its version and verdict;
+/// 6. `UnknownKey` (62): it has a key that is none of these;
+/// 7. `BadValue` (63): a value does not have the form of its key;
+/// 8. `Graph` of `TooManyNodes` (31): it has more nodes than its version may have, 256 in version 1 and 1,024 in
+///    version 2;
+/// 9. `Graph` of the fault of `Graph::new` (31 to 33): nodes and links are not a graph.
 ///
-/// `OutOfMemory` is told wherever it comes.
+/// `OutOfMemory` (99) is returned as soon as an allocation is refused.
 pub fn from_text(alloc: Global, text: &str) -> Result<Filed, FileFault>
     ensures says { result ≢ Err FileFault.OutOfMemory → SaysText text.now result }
     ensures only { (answer : Result Filed FileFault) → result ≢ Err FileFault.OutOfMemory
@@ -149,7 +149,7 @@ fn graph(
 ) -> Result<Graph, FileFault>
     ensures graph { IfOk result (λ g. g ≡ record { nodes = nodes.now; links = links.now }) }
     ensures judged { let given : LinkGraph = record { nodes = nodes.now; links = links.now }
-        in MatchResult result (λ _. GraphJudged version given None) (IsGraphFault version given) }
+        in MatchResult result (λ _. FileGraphJudged version given None) (IsGraphFault version given) }
 {
     if nodes.len() > version.most_nodes() {
         return Err(FileFault::Graph(GraphFault::TooManyNodes));

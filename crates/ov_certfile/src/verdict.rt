@@ -1,7 +1,7 @@
 ghost use Rattle.std.specs.Prelude.{◌≡◌};
 ghost use Rattle.ov_certfile.specs.Kinds.{verdict_text};
 
-/// What a file says of its graph, by the text of its key `verdict`.
+/// What a file says of its group: every two members are linked, or some nodes split it. It stands at the key `verdict`.
 #[derive(Clone, Copy, Debug, PartialEq, Eq)]
 pub(crate) enum Verdict {
     Linked,

@@ -6,7 +6,7 @@ use ov_graph::Graph;
 /// The most nodes of a file of version 1.
 const MOST_NODES_OF_ONE: usize = 256;
 
-/// The version of a file, by the number of its key `version`.
+/// The version of a file. Its number stands at the key `version`.
 #[derive(Clone, Copy, Debug, PartialEq, Eq)]
 pub(crate) enum Version {
     /// Its group is all nodes, which are at most 256.
@@ -26,7 +26,7 @@ impl Version {
         }
     }
 
-    /// As many nodes as a file of this version may have.
+    /// The most nodes of a file of this version.
     pub(crate) fn most_nodes(self) -> usize
         ensures { result ≡ most_nodes_of self }
     {

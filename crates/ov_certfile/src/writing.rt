@@ -16,8 +16,8 @@ use ov_ids::{NodeId, OutOfMemory};
 use serde_json::{Map, Value};
 use std::alloc::{AllocError, Global};
 
-/// The text of the certificate file of a certificate and its graph at a moment, at most 65,536. It is that of
-/// `to_text_group` for the group of all nodes.
+/// The certificate file of a certificate for the group of all nodes: as `to_text_group` for that group. A moment is at
+/// most 65,536.
 pub fn to_text(
     alloc: Global,
     cert: &Cert,
@@ -33,10 +33,12 @@ pub fn to_text(
     to_text_group(alloc, cert, graph, graph.nodes(), moment)
 }
 
-/// The text of the certificate file of a certificate, its graph and a group at a moment, at most 65,536: one JSON
-/// object, its keys in the order of their bytes, with no white space and no line feed. It is of version 1, which names
-/// no group, exactly where the group is all nodes and these are at most 256, and else of version 2. It is read as these
-/// again.
+/// The certificate file of a certificate, its graph and its group at a moment, which is at most 65,536. It is one JSON
+/// object. Its keys stand in the order of their bytes, and it has no white space and no line feed. It is of version 1,
+/// which names no group, exactly where the group is all nodes and these are at most 256; else it is of version 2.
+/// Reading the text gives all four back.
+///
+/// `OutOfMemory` (99): an allocation was refused.
 #[tactic(auto, using(crate::proofs::Written::no_float))]
 pub fn to_text_group(
     alloc: Global,
@@ -71,7 +73,7 @@ fn value_of(
     Ok(Value::Object(members))
 }
 
-/// Puts in all that a file says.
+/// Writes all that a file has.
 fn put_file(
     members: &mut Map<String, Value>,
     alloc: Global,
@@ -107,7 +109,7 @@ fn version_for(graph: &Graph, group: &[NodeId]) -> Version
     }
 }
 
-/// Puts in the group, where the version names one.
+/// Writes the group, where the version names one.
 fn put_group(
     members: &mut Map<String, Value>,
     alloc: Global,

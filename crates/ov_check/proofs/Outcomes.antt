@@ -3,7 +3,7 @@ use Rattle.std.proofs.Common.{◌≡◌, ◌∙◌, ◌≤◌, List, ℕ, length
 use Rattle.std.proofs.Common.{subst, ap, inl, inr}
 use Rattle.ov_ids.proofs.Stepping.{step_none}
 use Rattle.ov_graph.specs.Links.{IsGraph}
-use Rattle.ov_graph.specs.Faults.{Judged}
+use Rattle.ov_graph.specs.Faults.{GraphJudged}
 use Rattle.ov_graph.specs.declared.fault.GraphFault.TheVariants.{TooManyNodes}
 use Rattle.ov_graph.proofs.Tested.{sound}
 use Rattle.ov_cert.specs.declared.fault.CheckFault.{CheckFault}
@@ -35,7 +35,7 @@ value_graph : (d : _) (f : Filed) → file.Says d f → IsGraph f.graph
 value_graph d f s =
     let nodes = f.graph.nodes in
     let links = f.graph.links in
-    let p = step_none (length nodes ≤ most_nodes_of s.version) TooManyNodes (Judged nodes links) s.judged in
+    let p = step_none (length nodes ≤ most_nodes_of s.version) TooManyNodes (GraphJudged nodes links) s.judged in
     (sound nodes links p.1).0
 
 read_graph : (o : Option _) (f : Filed) → IfSome o (λ d. SaysFile d (Ok f)) → IfNone o (Ok f ≡ Err NotJson)

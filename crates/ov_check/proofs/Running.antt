@@ -1,37 +1,35 @@
 -- A run of a judge that came to the line of its outcome.
 use Rattle.std.proofs.Common.{◌≡◌, ◌≢◌, ◌+◌, ◌∙◌, ℕ, List, Option, IfSome, IfOk, Result, Ok, Err, refl, sym}
 use Rattle.std.specs.Io.KnownBytes.{Appends, IsAtEnd}
-use Rattle.ov_certfile.specs.Device.{AppendsPrefixOf}
-use Rattle.ov_certfile.specs.declared.input.Source.{Source}
-use Rattle.ov_certfile.specs.declared.output.Sink.{Sink}
+use Rattle.ov_io.specs.Device.{SourceState, SinkState, write_failures, AppendsPrefixOf}
 use Rattle.ov_check.specs.declared.outcome.Outcome.{Outcome}
 use Rattle.ov_check.specs.declared.fault.JudgeFault.{JudgeFault}
 use Rattle.ov_check.specs.declared.fault.JudgeFault.TheVariants.{Read, Write, OutOfMemory}
-use Rattle.ov_check.specs.Device.{write_failures}
+use Rattle.ov_check.specs.Faults.{number_of}
 use Rattle.ov_check.specs.Line.{printed_of}
-use Rattle.ov_check.specs.Outcome.{IsOutcome, IsExact, status_of}
+use Rattle.ov_check.specs.Outcome.{IsOutcome, SaysExactNumber, status_of}
 use Rattle.ov_check.specs.Run.{Judgement, IsRun}
 
 -- the bytes that were read come to the outcome, which is exact
 pub record IsRead (reader : Option (List ℕ)) (bytes : List ℕ) (o : Outcome) : Type 0 where
   pub all : IfSome reader (λ xs. bytes ≡ xs)
   pub comes_to : IsOutcome bytes o
-  pub exact : status_of o ≡ 0 → IsExact bytes
+  pub exact : status_of o ≡ 0 → SaysExactNumber bytes
 
--- what a call that writes the line of an outcome answers, and does to the sink
-pub record IsWritten {W : Type 0} (contents : W → Option (List ℕ)) (o : Outcome) (sink sink' : Sink W)
+-- what a call that writes the line of an outcome returns, and does to the sink
+pub record IsWritten {W : Type 0} (contents : W → Option (List ℕ)) (o : Outcome) (sink sink' : SinkState W)
     (result : Result ℕ JudgeFault) : Type 0 where
   pub line : IfOk result (λ status. Appends (contents sink.writer) (contents sink'.writer) (printed_of o))
   pub status : IfOk result (λ status. status ≡ status_of o)
   pub prefix : result ≡ Err Write → AppendsPrefixOf (printed_of o) (contents sink.writer) (contents sink'.writer)
-  pub faults : sink'.faults ≡ sink.faults + write_failures result
+  pub faults : sink'.faults ≡ sink.faults + write_failures number_of result
   pub unread : result ≢ Err Read
   pub no_memory : result ≡ Err OutOfMemory → sink' ≡ sink
 
 module _ {R W : Type 0} (remaining : R → Option (List ℕ)) (contents : W → Option (List ℕ))
-    (source source' : Source R) (sink sink' : Sink W) (bytes : List ℕ) (o : Outcome)
+    (source source' : SourceState R) (sink sink' : SinkState W) (bytes : List ℕ) (o : Outcome)
     (is : IsRead (remaining source.reader) bytes o) (end : IsAtEnd (remaining source'.reader))
-    (faults : source'.faults ≡ source.faults + 0) where
+    (faults : source'.faults ≡ source.faults + 0) (none : source'.failures ≡ source.failures) where
   abbrev the_judgement : Judgement (remaining source.reader)
   the_judgement = record { bytes = bytes; read = is.all; outcome = o; comes_to = is.comes_to }
 
@@ -49,6 +47,8 @@ module _ {R W : Type 0} (remaining : R → Option (List ℕ)) (contents : W → 
     read_to_end = λ r m. end;
     reads = faults;
     writes = w.faults;
+    failed = λ e. absurd cc;
+    not_failed = λ r. none;
     unread = λ e. absurd cc;
     no_memory = λ e. absurd cc;
   }
@@ -58,6 +58,8 @@ module _ {R W : Type 0} (remaining : R → Option (List ℕ)) (contents : W → 
     read_to_end = λ r m. end;
     reads = faults;
     writes = w.faults;
+    failed = λ e. absurd cc;
+    not_failed = λ r. none;
     unread = λ e. absurd cc;
     no_memory = λ e. absurd cc;
   }
@@ -68,6 +70,8 @@ module _ {R W : Type 0} (remaining : R → Option (List ℕ)) (contents : W → 
     read_to_end = λ r m. absurd (m refl);
     reads = faults;
     writes = w.faults;
+    failed = λ e. absurd cc;
+    not_failed = λ r. none;
     unread = λ e. absurd cc;
     no_memory = w.no_memory;
   }

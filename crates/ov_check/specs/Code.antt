@@ -1,2 +1,2 @@
--- What the contracts of private functions say; the definitions do not use it.
+-- What the contracts of private functions cite. No definition of a public contract uses it.
 pub mod Threads

@@ -1,5 +1,6 @@
 -- The line that is printed of an outcome.
 use Rattle.std.specs.Prelude.{ℕ, List, [], ◌++◌, codes, decimal}
+use Rattle.ov_io.specs.Refusal.{refusal_text}
 use Rattle.ov_cert.specs.declared.fault.CheckFault.{CheckFault}
 use Rattle.ov_cert.specs.declared.fault.CheckFault.TheVariants.{Pair, Fan}
 use Rattle.ov_cert.specs.Number as check_fault
@@ -22,8 +23,8 @@ fault_text fault = decimal (check_fault.number_of fault) ++ named_text fault
 unfoldable pub line_of : Outcome → List ℕ
 line_of (Holds f) = codes "holds " ++ (decimal f.moment ++ (codes " " ++ cert_text f.cert f.graph f.group))
 line_of (Fails fault) = codes "fails " ++ fault_text fault
-line_of (Refused fault) = codes "refused " ++ decimal (file_fault.number_of fault)
+line_of (Refused fault) = refusal_text (file_fault.number_of fault)
 
--- what goes out: the line, ended by a line feed
+-- what is written: the line, ended by a line feed
 abbrev pub printed_of : Outcome → List ℕ
 printed_of o = line_of o ++ codes "\n"

@@ -1,4 +1,4 @@
--- What a check by many threads answers.
+-- What a check by many threads returns.
 use Rattle.std.specs.Prelude.{ℕ, ◌<◌, List, Option, Some, None, Result, Ok, Err}
 use Rattle.ov_graph.specs.Links.{LinkGraph}
 use Rattle.ov_cert.specs.declared.cert.Cert.{Cert}
@@ -14,7 +14,7 @@ abbrev pub number_of : ParallelFault → ℕ
 number_of (Check fault) = check_fault.number_of fault
 number_of OutOfMemory = 99
 
--- the answer says the verdict: none where it is Ok, and else the fault that it names; out of memory says nothing
+-- the result says the verdict: none where it is Ok, and else the fault that it names; out of memory says nothing
 abbrev pub SaysVerdict : (Option CheckFault → Type 0) → Result (Unit {0}) ParallelFault → Type 0
 SaysVerdict IsVerdict (Ok u) = IsVerdict None
 SaysVerdict IsVerdict (Err (Check fault)) = IsVerdict (Some fault)

@@ -1,27 +1,28 @@
 ghost use Rattle.std.specs.Prelude.{◌≡◌};
-ghost use Rattle.ov_check.specs.Device.{number_of, fault_of_read};
-ghost use Rattle.ov_check.specs.declared.fault.JudgeFault.TheVariants.{OutOfMemory as Wanted, Write as NotWritten};
+ghost use Rattle.ov_check.specs.Faults.{number_of, fault_of_read};
+ghost use Rattle.ov_check.specs.declared.fault.JudgeFault.TheVariants.{Read as not_read, Write as not_written};
+ghost use Rattle.ov_check.specs.declared.fault.JudgeFault.TheVariants.{OutOfMemory as out_of_memory};
 
-use ov_certfile::{ReadFault, WriteFault};
 use ov_ids::OutOfMemory;
+use ov_io::{ReadFault, WriteFault};
 use std::alloc::AllocError;
-use thiserror::Error;
+use std::error::Error;
+use std::fmt::{Display, Formatter, Result, Write};
+use std::io;
 
-/// Why no line was printed. It is shown as the line that is printed of it on standard error.
-#[derive(Clone, Copy, Debug, PartialEq, Eq, Error)]
+/// Why no line of an outcome was printed. It is shown as the line that is printed of it on standard error.
+#[derive(Clone, Copy, Debug, PartialEq, Eq)]
 pub enum JudgeFault {
-    /// The reader failed, or there is none.
-    #[error("refused 71")]
+    /// The reader failed, or the file could not be opened.
     Read,
     /// The writer failed.
-    #[error("refused 72")]
     Write,
-    #[error("refused 99")]
+    /// An allocation was refused.
     OutOfMemory,
 }
 
 impl JudgeFault {
-    /// The fault's number.
+    /// The fault's number: 71 for `Read`, 72 for `Write`, 99 for `OutOfMemory`.
     pub fn number(&self) -> u32
         ensures { result ≡ number_of self.now }
     {
@@ -32,6 +33,21 @@ impl JudgeFault {
         }
     }
 }
+
+impl Display for JudgeFault {
+    ghost use Rattle.std.specs.Prelude.{Some};
+    ghost use Rattle.ov_io.specs.Refusal.{refusal_text};
+    ghost use Rattle.ov_check.specs.Faults.{number_of};
+
+    ghost output = { λ fault. Some (refusal_text (number_of fault)) };
+
+    fn fmt<W: Write>(&self, f: &mut Formatter<W>) -> Result {
+        let number = self.number();
+        write!(f, "refused {number}")
+    }
+}
+
+impl Error for JudgeFault {}
 
 impl From<ReadFault> for JudgeFault {
     ghost from_gives = { λ fault e. e ≡ fault_of_read fault };
@@ -44,8 +60,17 @@ impl From<ReadFault> for JudgeFault {
     }
 }
 
+/// A file that can't be opened can't be read.
+impl From<io::Error> for JudgeFault {
+    ghost from_gives = { λ _ e. e ≡ not_read };
+
+    fn from(_error: io::Error) -> JudgeFault {
+        JudgeFault::Read
+    }
+}
+
 impl From<OutOfMemory> for JudgeFault {
-    ghost from_gives = { λ _ e. e ≡ Wanted };
+    ghost from_gives = { λ _ e. e ≡ out_of_memory };
 
     fn from(_fault: OutOfMemory) -> JudgeFault {
         JudgeFault::OutOfMemory
@@ -53,7 +78,7 @@ impl From<OutOfMemory> for JudgeFault {
 }
 
 impl From<AllocError> for JudgeFault {
-    ghost from_gives = { λ _ e. e ≡ Wanted };
+    ghost from_gives = { λ _ e. e ≡ out_of_memory };
 
     fn from(_fault: AllocError) -> JudgeFault {
         JudgeFault::OutOfMemory
@@ -61,7 +86,7 @@ impl From<AllocError> for JudgeFault {
 }
 
 impl From<WriteFault> for JudgeFault {
-    ghost from_gives = { λ _ e. e ≡ NotWritten };
+    ghost from_gives = { λ _ e. e ≡ not_written };
 
     fn from(_fault: WriteFault) -> JudgeFault {
         JudgeFault::Write

@@ -1,15 +1,17 @@
-//! What a certificate file comes to, and the line that says so; and certificates judged by many threads.
+//! The outcome of a certificate file, and the line that is printed of it. One thread judges a certificate, or many do.
 #![tactic(auto)]
 
+mod engine;
 mod fault;
-mod judging;
 mod line;
 mod outcome;
 mod parallel;
 mod parallel_fault;
+mod program;
 
+pub use engine::{judge, judge_parallel};
 pub use fault::JudgeFault;
-pub use judging::{judge, judge_parallel};
 pub use outcome::{Outcome, outcome_of};
 pub use parallel::{check_group_parallel, check_parallel};
 pub use parallel_fault::ParallelFault;
+pub use program::{ProgramFault, exit_status, input_named};

@@ -3,7 +3,7 @@ use ov_cert::CheckFault;
 use ov_certfile::CertText;
 use std::fmt::{Display, Formatter, Result, Write};
 
-/// The line of an outcome, without its line feed.
+/// The line that is printed of an outcome, without its line feed.
 impl Display for Outcome {
     ghost use Rattle.std.specs.Prelude.{Some};
     ghost use Rattle.ov_check.specs.Line.{line_of};
@@ -34,7 +34,7 @@ impl Display for Outcome {
     }
 }
 
-/// The number of a fault, and then the nodes that it names.
+/// The number of a certificate's fault, and then the nodes that it names.
 #[derive(Drop)]
 struct FaultText(CheckFault);
 

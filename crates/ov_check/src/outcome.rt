@@ -1,5 +1,5 @@
 ghost use Rattle.std.specs.Prelude.{◌≡◌, List, ℕ, Ok, IfOk};
-ghost use Rattle.ov_check.specs.Outcome.{BytesSay, IsOutcome, IsExact, status_of};
+ghost use Rattle.ov_check.specs.Outcome.{BytesSay, IsOutcome, SaysExactNumber, status_of};
 
 use crate::parallel::check_group_parallel;
 use crate::parallel_fault::ParallelFault;
@@ -9,24 +9,26 @@ use ov_ids::OutOfMemory;
 use std::alloc::Global;
 use std::thread::Threads;
 
-/// What a file comes to.
+/// The outcome of a certificate file.
 #[derive(Drop)]
 pub enum Outcome {
     /// The certificate is valid for its group.
     Holds(Filed),
-    /// The certificate's first fault.
+    /// The first fault of the certificate.
     Fails(CheckFault),
-    /// The first fault of a file that is no certificate file.
+    /// The first fault of bytes that are not a certificate file.
     Refused(FileFault),
 }
 
-/// What the bytes of a file come to. Where the file holds, its number is exact for its group. Bytes that are no text
-/// are refused as no JSON.
+/// The outcome of the bytes of a file. Where the certificate holds, its number is exact for its group. Bytes that are
+/// not text are refused as `NotJson` (60).
+///
+/// `OutOfMemory` (99): an allocation was refused.
 #[tactic(auto, using(crate::proofs::Outcomes::one_outcome))]
 pub fn outcome_of(alloc: Global, bytes: &[u8]) -> Result<Outcome, OutOfMemory>
     ensures outcome { IfOk result (λ o. IsOutcome bytes.now o) }
     ensures only { IfOk result (λ o. (u : Outcome) → IsOutcome bytes.now u → u ≡ o) }
-    ensures exact { IfOk result (λ o. status_of o ≡ 0 → IsExact bytes.now) }
+    ensures exact { IfOk result (λ o. status_of o ≡ 0 → SaysExactNumber bytes.now) }
 {
     match said_by(alloc, bytes)? {
         Ok(filed) => Ok(verdict_on(filed)),
@@ -34,13 +36,13 @@ pub fn outcome_of(alloc: Global, bytes: &[u8]) -> Result<Outcome, OutOfMemory>
     }
 }
 
-/// As `outcome_of`, with the certificate judged by many threads.
+/// As `outcome_of`, by many threads.
 pub(crate) fn outcome_parallel(
     rt: &(impl AllocGlobal + Threads + Sync),
     bytes: &[u8],
 ) -> Result<Outcome, OutOfMemory>
     ensures outcome { IfOk result (λ o. IsOutcome bytes.now o) }
-    ensures exact { IfOk result (λ o. status_of o ≡ 0 → IsExact bytes.now) }
+    ensures exact { IfOk result (λ o. status_of o ≡ 0 → SaysExactNumber bytes.now) }
 {
     match said_by(rt.alloc(), bytes)? {
         Ok(filed) => verdict_parallel(rt, filed),
@@ -48,7 +50,7 @@ pub(crate) fn outcome_parallel(
     }
 }
 
-/// What the bytes say as a certificate file, or its first fault.
+/// What the bytes say as a certificate file, or their first fault.
 fn said_by(alloc: Global, bytes: &[u8]) -> Result<Result<Filed, FileFault>, OutOfMemory>
     ensures { IfOk result (λ answer. BytesSay bytes.now answer) }
 {
@@ -66,7 +68,7 @@ fn said_by(alloc: Global, bytes: &[u8]) -> Result<Result<Filed, FileFault>, OutO
 
 fn verdict_on(filed: Filed) -> Outcome
     ensures outcome { (bytes : List ℕ) → BytesSay bytes (Ok filed) → IsOutcome bytes result }
-    ensures exact { (bytes : List ℕ) → BytesSay bytes (Ok filed) → status_of result ≡ 0 → IsExact bytes }
+    ensures exact { (bytes : List ℕ) → BytesSay bytes (Ok filed) → status_of result ≡ 0 → SaysExactNumber bytes }
 {
     match check_group(&filed.graph, filed.group.as_slice(), &filed.cert) {
         Ok(()) => Outcome::Holds(filed),
@@ -79,7 +81,8 @@ fn verdict_parallel(
     filed: Filed,
 ) -> Result<Outcome, OutOfMemory>
     ensures outcome { (bytes : List ℕ) → BytesSay bytes (Ok filed) → IfOk result (λ o. IsOutcome bytes o) }
-    ensures exact { (bytes : List ℕ) → BytesSay bytes (Ok filed) → IfOk result (λ o. status_of o ≡ 0 → IsExact bytes) }
+    ensures exact { (bytes : List ℕ) → BytesSay bytes (Ok filed)
+        → IfOk result (λ o. status_of o ≡ 0 → SaysExactNumber bytes) }
 {
     match check_group_parallel(rt, &filed.graph, filed.group.as_slice(), &filed.cert) {
         Ok(()) => Ok(Outcome::Holds(filed)),
@@ -91,7 +94,7 @@ fn verdict_parallel(
 }
 
 impl Outcome {
-    /// The program's status.
+    /// The program's status: 0 where the certificate holds, and else 1.
     pub fn status(&self) -> u8
         ensures { result ≡ status_of self.now }
     {

@@ -4,7 +4,7 @@ ghost use Rattle.ov_graph.specs.Joined.{Fewest, FewestForGroup, IsNodeSet};
 ghost use Rattle.ov_graph.specs.Even.{later_members};
 ghost use Rattle.ov_cert.specs.declared.cert.Cert.TheVariants.{Split as SplitBy};
 ghost use Rattle.ov_cert.specs.Valid.{IsValid, IsValidForGroup, k_of};
-ghost use Rattle.ov_cert.specs.Verdict.{AllHold, IsFirstAtFault, PassesFrame, Judged, JudgedForGroup};
+ghost use Rattle.ov_cert.specs.Verdict.{AllHold, IsFirstAtFault, PassesFrame, JudgedForAll, JudgedForGroup};
 ghost use Rattle.ov_cert.specs.Entries.{AreExpected, IsExpected, HoldsEntry};
 ghost use Rattle.ov_check.specs.Parallel.{SaysVerdict, NeedsEntries};
 ghost use Rattle.ov_check.specs.Code.Threads.{Misses};
@@ -19,17 +19,17 @@ use rayon::prelude::*;
 use std::alloc::Global;
 use std::thread::Threads;
 
-/// The fewest entries of a thread. Fewer than twice as many are judged in one thread: few entries are cheap ones, and a
-/// thread takes longer to start.
+/// The fewest entries that a thread judges. Fewer than twice as many are judged by one thread: starting another takes
+/// longer than they do.
 const LEAST_SHARE: usize = 32;
 
-/// Judges a certificate for the group of all nodes by many threads: as `check_group_parallel`, which says more.
+/// Judges a certificate for the group of all nodes by many threads: as `check_group_parallel` for that group.
 pub fn check_parallel(
     rt: &(impl AllocGlobal + Threads + Sync),
     graph: &Graph,
     cert: &Cert,
 ) -> Result<(), ParallelFault>
-    ensures verdict { SaysVerdict (Judged graph.now cert.now) result }
+    ensures verdict { SaysVerdict (JudgedForAll graph.now cert.now) result }
     ensures valid { result ≢ Err ParallelFault.OutOfMemory → (IsOk result ↔ IsValid graph.now cert.now) }
     ensures memory { result ≡ Err ParallelFault.OutOfMemory → NeedsEntries graph.now graph.now.nodes cert.now }
     ensures fewest { OnOk result (Fewest graph.now (k_of cert.now)) }
@@ -37,9 +37,11 @@ pub fn check_parallel(
     check_group_parallel(rt, graph, graph.nodes(), cert)
 }
 
-/// Judges a certificate for a group, its entries by as many threads as `rayon` takes. It answers what `check_group`
-/// answers, the first fault included. Out of memory is answered only where there are entries to judge: of a certificate
-/// that says that k nodes split the group, where k is not 0 and the frame has no fault.
+/// Judges a certificate for a group, its entries by as many threads as `rayon` takes. The result is that of
+/// `check_group`, with the same first fault.
+///
+/// `OutOfMemory` (99): an allocation was refused. This can be only where there are entries to judge: the certificate
+/// says that k nodes split the group, k is not 0, and the frame has no fault.
 pub fn check_group_parallel(
     rt: &(impl AllocGlobal + Threads + Sync),
     graph: &Graph,
@@ -101,7 +103,7 @@ fn verdict_on_entries(
     Ok(None)
 }
 
-/// The expected entries. Where k is 0 there are none, and they take no memory.
+/// The expected entries. Where k is 0 there are none, and nothing is allocated.
 #[tactic(auto, using(crate::proofs::Placed::none_expected))]
 fn entries_of(
     alloc: Global,
@@ -119,7 +121,7 @@ fn entries_of(
     Ok(expected_group(alloc, graph, group, split)?)
 }
 
-/// The first of the expected entries that the certificate has not, if there is one. Those behind it are judged too.
+/// The first of the expected entries that does not hold, if there is one. The later ones are judged too.
 fn first_missing(
     rt: &(impl Threads + Sync),
     graph: &Graph,

@@ -9,9 +9,10 @@ use thiserror::Error;
 /// Why a certificate was not found valid.
 #[derive(Clone, Copy, Debug, PartialEq, Eq, Error)]
 pub enum ParallelFault {
-    /// The certificate's first fault.
+    /// The first fault of the certificate, by its own number.
     #[error("{0}")]
     Check(CheckFault),
+    /// 99: an allocation was refused.
     #[error("out of memory")]
     OutOfMemory,
 }

@@ -66,7 +66,7 @@ impl Desk {
     }
 
     /// The worker looks before it works on the last number that it claimed, and is told the least one that failed (the
-    /// total where none did): where that is lower, it skips its own and has ended. It takes no memory.
+    /// total where none did): where that is lower, it skips its own and has ended. Nothing is allocated.
     pub fn look(&mut self, worker: u32) -> u64
         requires goes_on { (v : WorkerState) × (x : ℕ) × HasWorker self.old worker v × (v.ended ≡ false) × IsLast v x }
         ensures looks { (v : WorkerState) (x : ℕ) → HasWorker self.old worker v → IsLast v x

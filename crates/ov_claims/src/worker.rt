@@ -29,7 +29,7 @@ impl Model for Worker {
 }
 
 impl Worker {
-    /// A worker that has done nothing yet. It takes no memory.
+    /// A worker that has done nothing yet. Nothing is allocated.
     pub(crate) fn new(alloc: Global) -> Worker
         ensures { result ≡ fresh }
     {

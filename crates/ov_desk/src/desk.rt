@@ -159,7 +159,7 @@ impl GroupDesk {
     }
 
     /// The worker looks before it works on the number in its hand, and is told the least one that failed (the total
-    /// where none did): where that is lower, it skips its own and has ended. It takes no memory.
+    /// where none did): where that is lower, it skips its own and has ended. Nothing is allocated.
     pub fn look(&mut self, worker: u32) -> u64
         requires { LooksNext self.old worker }
         ensures { WasLookedAt self.old worker result self.new }

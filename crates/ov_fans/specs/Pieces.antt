@@ -12,6 +12,7 @@ use Rattle.ov_fans.specs.declared.piece.Piece.TheVariants.{Pair, Fan}
 abbrev pub member_at : List ℕ → ℕ → ℕ
 member_at q place = slice_index q (place - 1)
 
+-- the level of a piece: how many paths it asks for
 abbrev pub level_of : Piece → ℕ
 level_of (Pair level i j) = level
 level_of (Fan level j) = level
@@ -42,11 +43,12 @@ IsPieceOf n m (Fan level j) = IsFanPiece n m level j
 abbrev pub IsPiece : LinkGraph → List ℕ → Piece → Type 0
 IsPiece g q p = IsPieceOf (length g.nodes) (length q) p
 
--- the member from which a piece's paths lead, and its place
+-- the member from which a piece's paths lead
 abbrev pub source_of : List ℕ → Piece → ℕ
 source_of q (Pair level i j) = member_at q i
 source_of q (Fan level j) = member_at q j
 
+-- the place of that member, counted from 1
 abbrev pub source_place : Piece → ℕ
 source_place (Pair level i j) = i
 source_place (Fan level j) = j

@@ -42,7 +42,7 @@ impl<'g> Flow<'g> {
         Ok(Flow { net, work, alloc })
     }
 
-    /// Begins anew with another net of the same graph. It takes no memory.
+    /// Begins anew with another net of the same graph. Nothing is allocated.
     pub fn restart(&mut self, net: SplitNet<'g>)
         requires { net.graph ≡ self.old.net.graph }
         ensures { self.new ≡ record { net = net.entry; held = 0 } }

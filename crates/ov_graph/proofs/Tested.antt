@@ -5,13 +5,14 @@ use Rattle.std.proofs.lemmas.Bool.{or_cases, or_left, or_right, and_parts, and_f
 use Rattle.std.proofs.lemmas.Bool.{cases_eq}
 use Rattle.std.specs.List.{list_any, AllByRecursion}
 use Rattle.ov_ids.specs.Members.{Has, Ordered, Ascends}
-use Rattle.ov_ids.specs.Sets.{has, ascends_after}
-use Rattle.ov_ids.specs.Steps.{Step}
+use Rattle.ov_ids.specs.Sets.{has}
+use Rattle.ov_ids.specs.Code.Ascending.{ascends_after}
+use Rattle.ov_ids.specs.FaultOrder.{Step}
 use Rattle.ov_ids.proofs.Members.{has_from_any, any_from_has, has_tested, all_member, all_from_members}
 use Rattle.ov_ids.proofs.Rising.{ascends_tested}
 use Rattle.ov_ids.proofs.Stepping.{step_by, step_unless, step_none, step_passes}
 use Rattle.ov_graph.specs.Links.{LinkGraph, IsGraph, IsWithinLimit, IsLink, Precedes, Linked, most_nodes}
-use Rattle.ov_graph.specs.Faults.{Judged, LinksJudged, Follows, IsRefusal}
+use Rattle.ov_graph.specs.Faults.{GraphJudged, LinksJudged, Follows, IsRefusal}
 use Rattle.ov_graph.specs.Code.Tests.{is_link, follows, links_fault, fault_of, are_joined}
 use Rattle.ov_graph.specs.declared.fault.GraphFault.{GraphFault}
 use Rattle.ov_graph.specs.declared.fault.GraphFault.TheVariants.{TooManyNodes, Unordered, BadLink, OutOfMemory}
@@ -84,7 +85,7 @@ links_judged nodes before (l ∷ ls) =
     (links_fault nodes (Some l) ls) (follows_tested before l) (links_judged nodes (Some l) ls))
 
 -- the fault that the tests find is the first one
-pub judged : (nodes : List ℕ) (ls : List (ℕ × ℕ)) → Judged nodes ls (fault_of nodes ls)
+pub judged : (nodes : List ℕ) (ls : List (ℕ × ℕ)) → GraphJudged nodes ls (fault_of nodes ls)
 judged nodes ls =
     step_unless (length nodes ≤ most_nodes) (nat_lt most_nodes (length nodes)) TooManyNodes
     (Step (Ascends nodes) Unordered (LinksJudged nodes None ls))
@@ -127,7 +128,7 @@ links_sound nodes before (l ∷ ls) j =
     ((follow_all nodes l ls q.1, r.0), (p.0, r.1))
 
 -- nodes and links without a fault are a graph
-pub sound : (nodes : List ℕ) (ls : List (ℕ × ℕ)) → Judged nodes ls None
+pub sound : (nodes : List ℕ) (ls : List (ℕ × ℕ)) → GraphJudged nodes ls None
     → IsGraph (record { nodes = nodes; links = ls }) × (length nodes ≤ most_nodes)
 sound nodes ls j =
     let p = step_none (length nodes ≤ most_nodes) TooManyNodes
@@ -147,7 +148,7 @@ no_links_fault nodes before (l ∷ ls) x f up each j =
     x each.0 j))
 
 -- a graph's nodes and links have no fault
-pub no_fault : (g : LinkGraph) (x : Option GraphFault) → IsGraph g → IsWithinLimit g → Judged g.nodes g.links x
+pub no_fault : (g : LinkGraph) (x : Option GraphFault) → IsGraph g → IsWithinLimit g → GraphJudged g.nodes g.links x
     → x ≡ None
 no_fault g x graph within j =
     no_links_fault g.nodes None g.links x (all_from_members (Follows None) g.links (λ l h. tt)) graph.links_ascend
@@ -171,7 +172,7 @@ links_not_memory nodes before (l ∷ ls) j = elim j [
   | inr n ↦ let h : Some OutOfMemory ≡ Some BadLink = n.1 in cc
 ]
 
-not_memory : (nodes : List ℕ) (ls : List (ℕ × ℕ)) → Judged nodes ls (Some OutOfMemory) → ⊥
+not_memory : (nodes : List ℕ) (ls : List (ℕ × ℕ)) → GraphJudged nodes ls (Some OutOfMemory) → ⊥
 not_memory nodes ls j = elim j [
   | inl p ↦ elim p.1 [
     | inl q ↦ links_not_memory nodes None ls q.1
@@ -182,13 +183,13 @@ not_memory nodes ls j = elim j [
 
 -- each fault found is the answer
 pub refused : (nodes : List ℕ) (ls : List (ℕ × ℕ)) (e : GraphFault) → fault_of nodes ls ≡ Some e → IsRefusal nodes ls e
-refused nodes ls TooManyNodes h = subst (Judged nodes ls) h (judged nodes ls)
-refused nodes ls Unordered h = subst (Judged nodes ls) h (judged nodes ls)
-refused nodes ls BadLink h = subst (Judged nodes ls) h (judged nodes ls)
-refused nodes ls OutOfMemory h = absurd (not_memory nodes ls (subst (Judged nodes ls) h (judged nodes ls)))
+refused nodes ls TooManyNodes h = subst (GraphJudged nodes ls) h (judged nodes ls)
+refused nodes ls Unordered h = subst (GraphJudged nodes ls) h (judged nodes ls)
+refused nodes ls BadLink h = subst (GraphJudged nodes ls) h (judged nodes ls)
+refused nodes ls OutOfMemory h = absurd (not_memory nodes ls (subst (GraphJudged nodes ls) h (judged nodes ls)))
 
-pub passed : (nodes : List ℕ) (ls : List (ℕ × ℕ)) → fault_of nodes ls ≡ None → Judged nodes ls None
-passed nodes ls h = subst (Judged nodes ls) h (judged nodes ls)
+pub passed : (nodes : List ℕ) (ls : List (ℕ × ℕ)) → fault_of nodes ls ≡ None → GraphJudged nodes ls None
+passed nodes ls h = subst (GraphJudged nodes ls) h (judged nodes ls)
 
 pub graph_of : (nodes : List ℕ) (ls : List (ℕ × ℕ)) → fault_of nodes ls ≡ None
     → IsGraph (record { nodes = nodes; links = ls }) × (length nodes ≤ most_nodes)
@@ -219,7 +220,7 @@ links_judged_once nodes before (l ∷ ls) x y p q =
     (links_judged_once nodes (Some l) ls x y)) p q
 
 -- nodes and links have one first fault: the computed one
-pub computed : (nodes : List ℕ) (ls : List (ℕ × ℕ)) (x : Option GraphFault) → Judged nodes ls x → fault_of nodes ls ≡ x
+pub computed : (nodes : List ℕ) (ls : List (ℕ × ℕ)) (x : Option GraphFault) → GraphJudged nodes ls x → fault_of nodes ls ≡ x
 computed nodes ls x j =
     step_once (length nodes ≤ most_nodes) TooManyNodes (Step (Ascends nodes) Unordered (LinksJudged nodes None ls))
     (fault_of nodes ls) x

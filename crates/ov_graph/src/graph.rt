@@ -2,16 +2,16 @@ ghost use Rattle.std.specs.Prelude.{◌≡◌, ◌≢◌, ◌↔◌, ℕ, ◌<�
 ghost use Rattle.std.specs.Prelude.{IfOk, IfSome, IfNone, MatchResult, OnOk, OnErr};
 ghost use Rattle.ov_graph.specs.Links.{LinkGraph, IsGraph, IsWithinLimit, Linked, AreNeighbours, IsGroup, most_nodes};
 ghost use Rattle.ov_graph.specs.Changes.{GainsNode, LosesNode, GainsLink, LosesLink};
-ghost use Rattle.ov_graph.specs.Faults.{Judged, IsRefusal};
+ghost use Rattle.ov_graph.specs.Faults.{GraphJudged, IsRefusal};
 ghost use Rattle.ov_graph.specs.Paths.{node_at};
 ghost use Rattle.ov_graph.specs.Row.{HasBit, AreWordsFor};
 ghost use Rattle.ov_graph.specs.Code.Kept.{IsMarked};
 ghost use Rattle.ov_ids.specs.Members.{Has};
 
+use crate::adjacency::rows_of;
 use crate::changing::{join, part, put_in, take_out};
 use crate::fault::GraphFault;
 use crate::judging::first_fault;
-use crate::marking::rows_of;
 use crate::neighbours::{Links, Neighbours};
 use crate::places::{are_nodes, place_in, place_of};
 use crate::row::{Row, WORDS, has, words_for};
@@ -52,7 +52,7 @@ impl Graph {
         ensures graph { IfOk result (λ g. g ≡ record { nodes = nodes.now; links = links.now }) }
         ensures is_graph { IfOk result IsGraph }
         ensures within { IfOk result IsWithinLimit }
-        ensures judged { MatchResult result (λ _. Judged nodes.now links.now None) (IsRefusal nodes.now links.now) }
+        ensures judged { MatchResult result (λ _. GraphJudged nodes.now links.now None) (IsRefusal nodes.now links.now) }
     {
         if let Some(fault) = first_fault(nodes, links) {
             return Err(fault);
@@ -182,7 +182,7 @@ impl Graph {
         put_in(&mut self.nodes, &mut self.rows, id)
     }
 
-    /// Takes out a node, with its links. It takes no memory.
+    /// Takes out a node, with its links. Nothing is allocated.
     pub fn remove_node(&mut self, id: NodeId)
         requires { Has self.old.nodes id }
         ensures node { LosesNode self.old id self.new }
@@ -191,7 +191,7 @@ impl Graph {
         take_out(&mut self.nodes, &mut self.rows, id);
     }
 
-    /// Links two different nodes. Where they are linked it changes nothing. It takes no memory.
+    /// Links two different nodes. Where they are linked it changes nothing. Nothing is allocated.
     pub fn link(&mut self, a: NodeId, b: NodeId)
         requires a { Has self.old.nodes a }
         requires b { Has self.old.nodes b }

@@ -1,12 +1,12 @@
 //! Graphs over ids: the nodes, and which of them are linked.
 #![tactic(auto)]
 
+mod adjacency;
 mod changing;
 mod fault;
 mod graph;
 mod judging;
 mod laws;
-mod marking;
 mod neighbours;
 mod places;
 pub mod row;

@@ -3,7 +3,7 @@ use Rattle.std.proofs.Common.{◌≡◌, ◌↔◌, ℕ, ◌<◌, true, IsTrue, 
 use Rattle.std.proofs.lemmas.Bool.{and_parts, and_from, ltb-true, lt-ltb}
 use Rattle.std.specs.List.{AllByRecursion}
 use Rattle.ov_ids.specs.Members.{Ascends}
-use Rattle.ov_ids.specs.Sets.{ascends_after}
+use Rattle.ov_ids.specs.Code.Ascending.{ascends_after}
 
 -- what is above x is above what is below x
 all_above : (x y : ℕ) (xs : List ℕ) → x < y → AllByRecursion (λ z. y < z) xs → AllByRecursion (λ z. x < z) xs

@@ -1,5 +1,5 @@
 -- What is in a set after a change, and where.
-use Rattle.std.proofs.Common.{subst, ap, zero, ◌≡◌, ◌≢◌, ℕ, suc, ◌<◌, ◌≤◌, ◌+◌, Bool, true, false, cond, not, IsTrue, ◌||◌, ◌&&◌, eqb, ltb, List, [], ◌∷◌, length, get_or, refl, ap, inl, inr, sym, ◌∙◌, arith, ◌⊎◌}
+use Rattle.std.proofs.Common.{subst, ap, zero, ◌≡◌, ◌≢◌, ◌↔◌, ℕ, suc, ◌<◌, ◌≤◌, ◌+◌, Bool, true, false, cond, not, IsTrue, ◌||◌, ◌&&◌, eqb, ltb, List, [], ◌∷◌, length, get_or, refl, ap, inl, inr, sym, ◌∙◌, arith, ◌⊎◌}
 use Rattle.std.specs.Prelude.{insert, remove}
 use Rattle.std.specs.List.{AllByRecursion}
 use Rattle.std.proofs.lemmas.Bool.{and_parts, not-true, or_cases, or_left, or_right, ltb-true, ltb-false, lt-ltb, le-ltb, eq-eqb, ne_eqb, eqb-false, eqb-true, or_parts, cases_order, both_ways}
@@ -155,6 +155,17 @@ IsIn-added x t z h = has_adding x t z ∙ or_right (eqb x z) (has t z) h
 
 pub IsIn-kept : (x : ℕ) (t : List ℕ) (z : ℕ) → z ≢ x → IsIn t z → IsIn (without x t) z
 IsIn-kept x t z ne h = let e = ne_eqb x z (λ s. ne (sym s)) in has_without x t z ∙ (λ i. h i && not (e i))
+
+-- who is in the set with x, and who in the set without it
+pub members_adding : (x : ℕ) (t u : List ℕ) → u ≡ adding x t → (z : ℕ) → IsIn u z ↔ ((z ≡ x) ⊎ IsIn t z)
+members_adding x t u e z = subst (λ (s : List ℕ). IsIn s z ↔ ((z ≡ x) ⊎ IsIn t z)) (sym e) (
+  IsIn-adding x t z,
+  (λ h. elim h [ inl same ↦ subst (IsIn (adding x t)) (sym same) (IsIn-self x t) | inr k ↦ IsIn-added x t z k ]),
+)
+
+pub members_without : (x : ℕ) (t u : List ℕ) → u ≡ without x t → (z : ℕ) → IsIn u z ↔ ((z ≢ x) × IsIn t z)
+members_without x t u e z =
+    subst (λ (s : List ℕ). IsIn s z ↔ ((z ≢ x) × IsIn t z)) (sym e) (IsIn-without x t z, (λ h. IsIn-kept x t z h.0 h.1))
 
 pub count_below-lt-length : (x : ℕ) (t : List ℕ) → has t x ≡ true → count_below x t < length t
 count_below-lt-length x t h =

@@ -1,7 +1,7 @@
 -- Judgements by steps.
 use Rattle.std.proofs.Common.{◌≡◌, ◌↔◌, ℕ, zero, suc, ◌+◌, ◌<◌, inl, inr, List, [], ◌∷◌, length, get_or, Bool, true, false, cond, IsTrue, Option, Some, None, refl, subst, arith}
 use Rattle.std.proofs.lemmas.Bool.{both_ways}
-use Rattle.ov_ids.specs.Steps.{Step, InTurn}
+use Rattle.ov_ids.specs.FaultOrder.{Step, InTurn}
 
 -- a step judged by a test of it
 pub step_by : {E : Type 0} (P : Type 0) (b : Bool) (e : E) (After : Option E → Type 0) (x : Option E) → (IsTrue b ↔ P) → After x → Step P e After (cond b x (Some e))

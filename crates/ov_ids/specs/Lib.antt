@@ -1,5 +1,6 @@
 pub mod Members
 pub mod Sets
-pub mod Limits
-pub mod Steps
+pub mod ParamsState
+pub mod FaultOrder
 pub mod Text
+pub mod Code

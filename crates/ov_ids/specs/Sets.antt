@@ -1,7 +1,11 @@
 -- Sets of ids, written as their members ascending.
-use Rattle.std.specs.Prelude.{ℕ, suc, ◌&&◌, Bool, true, Option, Some, None, IsTrue, not, List, [], ◌∷◌, ◌==◌, nat_lt, filter, if◌then◌else◌}
+use Rattle.std.specs.Prelude.{ℕ, suc, Bool, IsTrue, not, List, [], ◌∷◌, ◌==◌, nat_lt, filter, if◌then◌else◌}
 use Rattle.std.specs.List.{list_any}
 use Rattle.ov_ids.specs.Members.{Ascends}
+
+-- how many members an `IdSet` may have
+abbrev pub most_members : ℕ
+most_members = 64
 
 -- the list is written as a set is
 abbrev pub IsSet : List ℕ → Type 0
@@ -14,16 +18,6 @@ has xs x = list_any (λ y. y == x) xs
 -- x is a member
 abbrev pub IsIn : List ℕ → ℕ → Type 0
 IsIn xs x = IsTrue (has xs x)
-
--- above the one before, if there is one
-abbrev pub is_over : Option ℕ → ℕ → Bool
-is_over None x = true
-is_over (Some before) x = nat_lt before x
-
--- whether each id is above the one before
-abbrev pub ascends_after : Option ℕ → List ℕ → Bool
-ascends_after before [] = true
-ascends_after before (x ∷ rest) = is_over before x && ascends_after (Some x) rest
 
 -- the set with x
 abbrev pub adding : ℕ → List ℕ → List ℕ

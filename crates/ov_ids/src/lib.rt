@@ -1,5 +1,5 @@
 //! What all crates share: ids of nodes and messages, how a list of ids is printed, lists and sets that contracts see as
-//! values, the parameters of a node, and the fault of a refused growth.
+//! values, the parameters of a node, the fault of a refused allocation, and words on the order of faults.
 #![tactic(auto)]
 
 mod id;

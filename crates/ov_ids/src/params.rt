@@ -1,5 +1,5 @@
 ghost use Rattle.std.specs.Prelude.{◌≡◌, ◌≤◌, IfOk, IsOk, ◌↔◌};
-ghost use Rattle.ov_ids.specs.Limits.{AreWithinLimits, Limits};
+ghost use Rattle.ov_ids.specs.ParamsState.{AreWithinLimits, params_of};
 
 use std::marker::Model;
 use thiserror::Error;
@@ -18,7 +18,7 @@ impl BadParams {
     }
 }
 
-/// The parameters of a node in HyParView, each within its limits. Contracts see them as `Limits`.
+/// The parameters of a node in HyParView, each within its limits. Contracts see them as `ParamsState`.
 #[derive(Clone, Copy, Debug, PartialEq, Eq)]
 pub struct Params {
     active: u32,
@@ -31,14 +31,14 @@ pub struct Params {
 }
 
 impl Model for Params {
-    ghost use Rattle.ov_ids.specs.Limits.{AreWithinLimits, Limits};
+    ghost use Rattle.ov_ids.specs.ParamsState.{AreWithinLimits, ParamsState, params_of};
     ghost use Rattle.ov_ids.specs.declared.params.Params.TheInside.{Inside};
 
-    ghost Value = { Limits };
+    ghost Value = { ParamsState };
 
-    ghost view = { λ a. record { active = a.active; passive = a.passive; arwl = a.arwl; prwl = a.prwl; ka = a.ka; kp = a.kp; shuffle_ttl = a.shuffle_ttl } };
+    ghost view = { λ a. params_of a.active a.passive a.arwl a.prwl a.ka a.kp a.shuffle_ttl };
 
-    ghost invariant = { λ a. AreWithinLimits (record { active = a.active; passive = a.passive; arwl = a.arwl; prwl = a.prwl; ka = a.ka; kp = a.kp; shuffle_ttl = a.shuffle_ttl }) };
+    ghost invariant = { λ a. AreWithinLimits (params_of a.active a.passive a.arwl a.prwl a.ka a.kp a.shuffle_ttl) };
 
     ghost inverse = { λ p. record { active = p.active; passive = p.passive; arwl = p.arwl; prwl = p.prwl; ka = p.ka; kp = p.kp; shuffle_ttl = p.shuffle_ttl } };
 }
@@ -54,10 +54,8 @@ impl Params {
         kp: u32,
         shuffle_ttl: u32,
     ) -> Result<Params, BadParams>
-        ensures within { let p : Limits = record { active = active; passive = passive; arwl = arwl; prwl = prwl; ka = ka; kp = kp; shuffle_ttl = shuffle_ttl }
-            in IsOk result ↔ AreWithinLimits p }
-        ensures kept { let p : Limits = record { active = active; passive = passive; arwl = arwl; prwl = prwl; ka = ka; kp = kp; shuffle_ttl = shuffle_ttl }
-            in IfOk result (λ q. q ≡ p) }
+        ensures within { IsOk result ↔ AreWithinLimits (params_of active passive arwl prwl ka kp shuffle_ttl) }
+        ensures value { IfOk result (λ params. params ≡ params_of active passive arwl prwl ka kp shuffle_ttl) }
     {
         if active < 1
             || active > 16

@@ -1,3 +1,5 @@
+use crate::OutOfMemory;
+use std::alloc::Global;
 use std::marker::Model;
 
 /// A list. Contracts see its items in order and nothing else, so that equal lists are equal values: of a `Vec` they would
@@ -16,7 +18,7 @@ impl<T> Model for Seq<T> {
 impl<T> Seq<T> {
     ghost use Rattle.std.specs.Prelude.{◌≡◌};
 
-    /// The list of these items. It takes no memory.
+    /// The list of these items. Nothing is allocated.
     pub fn new(items: Vec<T>) -> Seq<T>
         ensures { result ≡ items.items }
     {
@@ -30,10 +32,21 @@ impl<T> Seq<T> {
         &self.0
     }
 
-    /// Gives the items back. It takes no memory.
+    /// The items as they were handed in. Nothing is allocated.
     pub fn into_vec(self) -> Vec<T>
         ensures { result.items ≡ self }
     {
         self.0
+    }
+}
+
+impl<T: Copy> Seq<T> {
+    ghost use Rattle.std.specs.Prelude.{◌≡◌, IfOk};
+
+    /// An equal list. OutOfMemory (99) where the allocation is refused.
+    pub fn copy(&self, alloc: Global) -> Result<Seq<T>, OutOfMemory>
+        ensures { IfOk result (λ list. list ≡ self.now) }
+    {
+        Ok(Seq(Vec::from_slice(alloc, self.as_slice())?))
     }
 }

@@ -1,16 +1,20 @@
 //! What a node does at JOIN, FORWARDJOIN and JOINED, by which a new node comes into the overlay.
 //!
-//! JOIN and FORWARDJOIN are HyParView's (Leitão, Pereira, Rodrigues, DSN 2007, Algorithm 1); JOINED, by which the new node
-//! hears who made it active, is chosen here. Every call makes all its room first, so after want of memory nothing has changed.
+//! JOIN and FORWARDJOIN are HyParView's (Leitão, Pereira, Rodrigues, DSN 2007, Algorithm 1). JOINED, which tells the
+//! new node who made it active, is chosen here. Every call makes all its room before it changes anything, so nothing
+//! has changed where it is out of memory.
+//!
+//! The rules of these steps are in `ov_views/specs/JoinRows.antt`, and what a handler owes in `Handling.antt` beside
+//! it.
 #![tactic(auto)]
 
 ghost use Rattle.std.specs.Prelude.{◌≡◌, ◌≤◌, ◌<◌, ◌+◌, ◌++◌, ℕ, length, vec_len, IfOk, OnErr};
-ghost use Rattle.std.specs.List.{AllByRecursion};
-ghost use Rattle.ov_wire.specs.Messages.{AreInRange};
+ghost use Rattle.ov_wire.specs.Messages.{AreSendsInRange, most_ttl};
 ghost use Rattle.ov_words.specs.Pick.{Drawn};
 ghost use Rattle.ov_views.specs.Room.{HasRoom};
-ghost use Rattle.ov_views.specs.Allowed.{Node, Allowed, receives};
-ghost use Rattle.ov_views.specs.Joining.{Remembers, forwards, walk_ends, walk_targets};
+ghost use Rattle.ov_views.specs.Allowed.{receives};
+ghost use Rattle.ov_views.specs.Handling.{ViewsStep, step_words, step_sends};
+ghost use Rattle.ov_views.specs.JoinRows.{Remembers, forwards, walk_ends, walk_targets};
 ghost use Rattle.ov_wire.specs.declared.message.Body.TheVariants.{Join, ForwardJoin, Joined};
 
 use ov_ids::{IdSet, NodeId, OutOfMemory};
@@ -19,21 +23,21 @@ use ov_wire::{Body, Message};
 use ov_words::Draws;
 use std::alloc::Global;
 
-/// At JOIN from a node: it becomes active and is told JOINED, and every other active member hears of it by FORWARDJOIN, in
-/// ascending order. At most two words and 17 messages.
+/// The effects of JOIN from a node. The node becomes active and is told JOINED, and every other active member is sent
+/// FORWARDJOIN with ARWL steps, in ascending order. At most two random words are used, and at most 17 messages are
+/// sent. OutOfMemory (99) where an allocation is refused, and then nothing has changed. (HyParView: Leitão, Pereira,
+/// Rodrigues, DSN 2007, Algorithm 1; JOINED and the order are chosen here.)
 pub fn on_join(
     alloc: Global,
     views: &mut Views,
     draws: &mut Draws<'_>,
     from: NodeId,
 ) -> Result<Moves, OutOfMemory>
-    requires { 40 ≤ length draws.old }
-    ensures allowed { IfOk result (λ m. Drawn draws.old draws.new
-        (λ choices. (n : Node) → Allowed (record n { views = views.old }) (receives from Join) choices
-        (record n { views = views.new }) m.changes.items m.sends.items)) }
+    requires { step_words ≤ length draws.old }
+    ensures allowed { IfOk result (ViewsStep views.old draws.old (receives from Join) views.new draws.new) }
     ensures words { length draws.old ≤ length draws.new + 2 }
-    ensures few { IfOk result (λ m. vec_len m.sends ≤ 17) }
-    ensures ranges { IfOk result (λ m. AllByRecursion (λ s. AreInRange s.1) m.sends.items) }
+    ensures few { IfOk result (λ m. vec_len m.sends ≤ step_sends) }
+    ensures ranges { IfOk result (λ m. AreSendsInRange m.sends.items) }
     ensures err { OnErr result ((views.new ≡ views.old) × (draws.new ≡ draws.old)) }
 {
     let mut moves = Moves::with_room(alloc, 17)?;
@@ -70,9 +74,12 @@ fn forward(moves: &mut Moves, me: NodeId, node: NodeId, ttl: u8, members: &[Node
     }
 }
 
-/// At FORWARDJOIN for a node, from another: where the walk ends here the node becomes active and is told JOINED, and else the
-/// walk goes on to a random active member, and the node becomes passive where PRWL steps are left. At most two words and two
-/// messages.
+/// The effects of FORWARDJOIN for a new node, from another node, with `ttl` steps left. Where the walk ends here, the
+/// new node becomes active and is told JOINED. Otherwise the walk goes on with one step less to a random active
+/// member, and the new node becomes passive where PRWL steps are left. At most two random words are used, and at most
+/// two messages are sent. OutOfMemory (99) where an allocation is refused, and then nothing has changed. (HyParView:
+/// Leitão, Pereira, Rodrigues, DSN 2007, Algorithm 1; JOINED, and that a walk which can go nowhere ends, are chosen
+/// here.)
 pub fn on_forward_join(
     alloc: Global,
     views: &mut Views,
@@ -81,14 +88,13 @@ pub fn on_forward_join(
     node: NodeId,
     ttl: u8,
 ) -> Result<Moves, OutOfMemory>
-    requires words { 40 ≤ length draws.old }
-    requires ttl { ttl ≤ 15 }
-    ensures allowed { IfOk result (λ m. Drawn draws.old draws.new
-        (λ choices. (n : Node) → Allowed (record n { views = views.old }) (receives from (ForwardJoin node ttl)) choices
-        (record n { views = views.new }) m.changes.items m.sends.items)) }
+    requires words { step_words ≤ length draws.old }
+    requires ttl { ttl ≤ most_ttl }
+    ensures allowed { IfOk result
+        (ViewsStep views.old draws.old (receives from (ForwardJoin node ttl)) views.new draws.new) }
     ensures words { length draws.old ≤ length draws.new + 2 }
     ensures few { IfOk result (λ m. vec_len m.sends ≤ 2) }
-    ensures ranges { IfOk result (λ m. AllByRecursion (λ s. AreInRange s.1) m.sends.items) }
+    ensures ranges { IfOk result (λ m. AreSendsInRange m.sends.items) }
     ensures err { OnErr result ((views.new ≡ views.old) × (draws.new ≡ draws.old)) }
 {
     let mut moves = Moves::with_room(alloc, 2)?;
@@ -138,20 +144,20 @@ fn ends_here(views: &Views, others: &IdSet, ttl: u8) -> bool
     ttl == 0 || views.active().len() <= 1 || others.len() == 0
 }
 
-/// At JOINED from a node, which has made this one active: it becomes active here. At most two words and one message.
+/// The effects of JOINED from a node, which has made this one active: it becomes active here. At most two random
+/// words are used, and at most one message is sent. OutOfMemory (99) where an allocation is refused, and then nothing
+/// has changed. (JOINED is chosen here, so that active views are symmetric.)
 pub fn on_joined(
     alloc: Global,
     views: &mut Views,
     draws: &mut Draws<'_>,
     from: NodeId,
 ) -> Result<Moves, OutOfMemory>
-    requires { 40 ≤ length draws.old }
-    ensures allowed { IfOk result (λ m. Drawn draws.old draws.new
-        (λ choices. (n : Node) → Allowed (record n { views = views.old }) (receives from Joined) choices
-        (record n { views = views.new }) m.changes.items m.sends.items)) }
+    requires { step_words ≤ length draws.old }
+    ensures allowed { IfOk result (ViewsStep views.old draws.old (receives from Joined) views.new draws.new) }
     ensures words { length draws.old ≤ length draws.new + 2 }
     ensures few { IfOk result (λ m. vec_len m.sends ≤ 1) }
-    ensures ranges { IfOk result (λ m. AllByRecursion (λ s. AreInRange s.1) m.sends.items) }
+    ensures ranges { IfOk result (λ m. AreSendsInRange m.sends.items) }
     ensures err { OnErr result ((views.new ≡ views.old) × (draws.new ≡ draws.old)) }
 {
     let mut moves = Moves::with_room(alloc, 1)?;

@@ -1,10 +1,10 @@
 ghost use Rattle.std.specs.Prelude.{◌≡◌, ◌≤◌, ◌<◌, ◌+◌, [], length, vec_len, vec_capacity, IfOk, OnErr};
-ghost use Rattle.std.specs.List.{AllByRecursion};
-ghost use Rattle.ov_ids.specs.Members.{IsDistinct};
-ghost use Rattle.ov_views.specs.Allowed.{Node, Allowed, receives, hears_of_crash};
-ghost use Rattle.ov_views.specs.Neighbouring.{GoesOn, IsAttempt};
+ghost use Rattle.ov_ids.specs.Sets.{IsSet, IsIn, adding, count_below};
+ghost use Rattle.ov_views.specs.Allowed.{receives, hears_of_crash};
+ghost use Rattle.ov_views.specs.Handling.{AttemptStep, step_words};
+ghost use Rattle.ov_views.specs.NeighborRows.{GoesOn, IsAttempt};
 ghost use Rattle.ov_views.specs.Room.{HasRoom};
-ghost use Rattle.ov_wire.specs.Messages.{AreInRange};
+ghost use Rattle.ov_wire.specs.Messages.{AreSendsInRange};
 ghost use Rattle.ov_wire.specs.declared.message.Body.TheVariants.{NeighborReply};
 ghost use Rattle.ov_words.specs.Pick.{Drawn};
 
@@ -15,8 +15,8 @@ use ov_words::Draws;
 use std::alloc::Global;
 use std::marker::Model;
 
-/// An attempt to find an active member, or none. Contracts see whom it asked and waits for, and whom it has tried in order,
-/// each once. Who is asked is among the tried, and where nobody is asked nobody is tried.
+/// An attempt to find an active member, or none. Contracts see whom it asked and waits for, and the set of those whom
+/// it has tried. The asked node is one of them, and where nobody is asked nobody is tried.
 #[derive(Drop)]
 pub struct Attempt {
     asked: Option<NodeId>,
@@ -24,9 +24,9 @@ pub struct Attempt {
 }
 
 impl Model for Attempt {
-    ghost use Rattle.ov_views.specs.Neighbouring.{Asking, IsAttempt};
+    ghost use Rattle.ov_views.specs.NeighborRows.{AttemptState, IsAttempt};
 
-    ghost Value = { Asking };
+    ghost Value = { AttemptState };
 
     ghost view = { λ a. record { asked = a.asked; tried = a.tried.items } };
 
@@ -34,9 +34,9 @@ impl Model for Attempt {
 }
 
 impl Attempt {
-    ghost use Rattle.ov_views.specs.Neighbouring.{IsAttempt, idle, awaits};
+    ghost use Rattle.ov_views.specs.NeighborRows.{IsAttempt, idle, awaits};
 
-    /// No attempt. It takes no memory.
+    /// No attempt. Nothing is allocated.
     pub fn new(alloc: Global) -> Attempt
         ensures { result ≡ idle }
     {
@@ -46,7 +46,7 @@ impl Attempt {
         }
     }
 
-    /// An equal attempt.
+    /// An equal attempt. OutOfMemory (99) where the allocation is refused.
     pub fn copy(&self) -> Result<Attempt, OutOfMemory>
         ensures { IfOk result (λ copy. copy ≡ self.now) }
     {
@@ -57,14 +57,14 @@ impl Attempt {
         })
     }
 
-    /// Whom the attempt asked and waits for. None where there is no attempt.
+    /// The node that the attempt asked and waits for. None where there is no attempt.
     pub fn asked(&self) -> Option<NodeId>
         ensures { result ≡ self.now.asked }
     {
         self.asked
     }
 
-    /// Whom the attempt has tried, in order and nobody twice. Nobody where there is no attempt.
+    /// The nodes that the attempt has tried, ascending. The list is empty where there is no attempt.
     pub fn tried(&self) -> &[NodeId]
         ensures value { result.now ≡ self.now.tried }
         ensures attempt { IsAttempt self.now }
@@ -91,8 +91,31 @@ impl Attempt {
     }
 }
 
-/// Goes on with an attempt that tried these, with room for one more: asks a random passive member that was not tried, or ends
-/// where there is nobody to ask. Answers whom it asked.
+/// Makes a node one of the tried. Room for it must be there.
+fn enter(tried: &mut Vec<NodeId>, id: NodeId)
+    requires untried { ¬ IsIn tried.old.items id }
+    requires room { vec_len tried.old < vec_capacity tried.old }
+    ensures { tried.new.items ≡ adding id tried.old.items }
+{
+    let at = place(tried.as_slice(), id);
+    if tried.insert(at, id).is_err() {
+        unreachable!();
+    }
+}
+
+/// How many of the tried stand before the first that is not below the id.
+fn place(tried: &[NodeId], id: NodeId) -> usize
+    ensures { result ≡ count_below id tried.now }
+{
+    let mut i = 0;
+    while i < tried.len() && tried[i] < id {
+        i += 1;
+    }
+    i
+}
+
+/// Goes on with an attempt that tried these. It asks a random passive member that it has not tried, or ends where
+/// there is nobody to ask. Room for one more of the tried must be there. Returns whom it asked.
 fn go_on(
     tried: &mut Vec<NodeId>,
     views: &Views,
@@ -103,14 +126,14 @@ fn go_on(
     requires room { vec_len tried.old < vec_capacity tried.old }
     requires sends { HasRoom moves.old 1 0 }
     requires none { moves.old.sends.items ≡ [] }
-    requires once { IsDistinct tried.old.items }
+    requires set { IsSet tried.old.items }
     ensures allowed { Drawn draws.old draws.new (λ choices. GoesOn views.now tried.old.items choices
         (record { asked = result; tried = tried.new.items }) moves.new.sends.items) }
     ensures attempt { IsAttempt (record { asked = result; tried = tried.new.items }) }
     ensures changes { moves.new.changes ≡ moves.old.changes }
     ensures words { length draws.old ≤ length draws.new + 1 }
     ensures few { vec_len moves.new.sends ≤ 1 }
-    ensures ranges { AllByRecursion (λ s. AreInRange s.1) moves.new.sends.items }
+    ensures ranges { AreSendsInRange moves.new.sends.items }
 {
     let untried = views.all_but(View::Passive, tried.as_slice());
     if !views.has_place() || untried.len() == 0 {
@@ -119,9 +142,7 @@ fn go_on(
     }
     match draws.pick(untried.as_slice()) {
         Some(next) => {
-            if tried.push(next).is_err() {
-                unreachable!();
-            }
+            enter(tried, next);
             let message = Message {
                 from: views.me(),
                 body: Body::Neighbor {
@@ -135,9 +156,11 @@ fn go_on(
     }
 }
 
-/// At NEIGHBORREPLY from a node. Where the attempt waits for it, its yes ends the attempt and makes it active, and its no lets
-/// the attempt go on. Yes from anyone else who is not active is answered by DISCONNECT; any other reply does nothing. At most
-/// two words. Without memory nothing changes.
+/// The effects of NEIGHBORREPLY from a node. Where the attempt waits for that node, its yes ends the attempt and
+/// makes it active, and its no lets the attempt go on. A yes from anyone else who is not active is answered by
+/// DISCONNECT. Any other reply does nothing. At most two random words are used. OutOfMemory (99) where an allocation
+/// is refused, and then nothing has changed. (NEIGHBOR and its answer are HyParView's; how an attempt goes on is
+/// chosen here.)
 pub fn on_reply(
     alloc: Global,
     views: &mut Views,
@@ -146,13 +169,12 @@ pub fn on_reply(
     from: NodeId,
     accepted: bool,
 ) -> Result<Moves, OutOfMemory>
-    requires { 40 ≤ length draws.old }
-    ensures allowed { IfOk result (λ m. Drawn draws.old draws.new
-        (λ choices. (n : Node) → Allowed (record n { views = views.old; asking = attempt.old }) (receives from (NeighborReply accepted)) choices
-        (record n { views = views.new; asking = attempt.new }) m.changes.items m.sends.items)) }
+    requires { step_words ≤ length draws.old }
+    ensures allowed { IfOk result (AttemptStep views.old attempt.old draws.old (receives from (NeighborReply accepted))
+        views.new attempt.new draws.new) }
     ensures words { length draws.old ≤ length draws.new + 2 }
     ensures few { IfOk result (λ m. vec_len m.sends ≤ 1) }
-    ensures ranges { IfOk result (λ m. AllByRecursion (λ s. AreInRange s.1) m.sends.items) }
+    ensures ranges { IfOk result (λ m. AreSendsInRange m.sends.items) }
     ensures err { OnErr result ((views.new ≡ views.old) × (attempt.new ≡ attempt.old) × (draws.new ≡ draws.old)) }
 {
     attempt.tried.reserve(1)?;
@@ -181,9 +203,11 @@ pub fn on_reply(
     Ok(moves)
 }
 
-/// At a report that a node crashed: it leaves whichever view has it. Where it was active, it goes down and a new attempt
-/// begins with nobody tried, in place of one that waits; else where the attempt waits for it, the attempt goes on. At most one
-/// word. Without memory nothing changes.
+/// The effects of a report that a node crashed. The node leaves the view that has it. Where it was active, it goes
+/// down, and a new attempt begins with nobody tried, in place of one that waits. Otherwise, where the attempt waits
+/// for it, the attempt goes on. At most one random word is used. OutOfMemory (99) where an allocation is refused, and
+/// then nothing has changed. (That a lost active member is replaced by a passive one is HyParView's; how an attempt
+/// goes on is chosen here.)
 pub fn on_report(
     alloc: Global,
     views: &mut Views,
@@ -191,13 +215,12 @@ pub fn on_report(
     draws: &mut Draws<'_>,
     crashed: NodeId,
 ) -> Result<Moves, OutOfMemory>
-    requires { 40 ≤ length draws.old }
-    ensures allowed { IfOk result (λ m. Drawn draws.old draws.new
-        (λ choices. (n : Node) → Allowed (record n { views = views.old; asking = attempt.old }) (hears_of_crash crashed) choices
-        (record n { views = views.new; asking = attempt.new }) m.changes.items m.sends.items)) }
+    requires { step_words ≤ length draws.old }
+    ensures allowed { IfOk result (AttemptStep views.old attempt.old draws.old (hears_of_crash crashed)
+        views.new attempt.new draws.new) }
     ensures words { length draws.old ≤ length draws.new + 1 }
     ensures few { IfOk result (λ m. vec_len m.sends ≤ 1) }
-    ensures ranges { IfOk result (λ m. AllByRecursion (λ s. AreInRange s.1) m.sends.items) }
+    ensures ranges { IfOk result (λ m. AreSendsInRange m.sends.items) }
     ensures err { OnErr result ((views.new ≡ views.old) × (attempt.new ≡ attempt.old) × (draws.new ≡ draws.old)) }
 {
     attempt.tried.reserve(1)?;

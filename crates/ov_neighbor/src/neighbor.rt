@@ -1,10 +1,9 @@
-ghost use Rattle.std.specs.Prelude.{◌≡◌, ◌≤◌, ◌+◌, [], length, vec_len, IfOk, OnErr};
-ghost use Rattle.std.specs.List.{AllByRecursion};
-ghost use Rattle.ov_views.specs.Allowed.{Node, Allowed, receives};
+ghost use Rattle.std.specs.Prelude.{◌≡◌, ◌≤◌, ◌+◌, length, vec_len, IfOk, OnErr};
+ghost use Rattle.ov_views.specs.Allowed.{receives};
+ghost use Rattle.ov_views.specs.Handling.{ViewsStep, step_words};
 ghost use Rattle.ov_views.specs.Sending.{say};
 ghost use Rattle.ov_wire.specs.declared.message.Body.TheVariants.{Neighbor, NeighborReply, Disconnect};
-ghost use Rattle.ov_wire.specs.Messages.{AreInRange};
-ghost use Rattle.ov_words.specs.Pick.{Drawn};
+ghost use Rattle.ov_wire.specs.Messages.{AreSendsInRange};
 
 use ov_ids::{NodeId, OutOfMemory};
 use ov_views::{Moves, Views};
@@ -12,9 +11,11 @@ use ov_wire::{Body, Message};
 use ov_words::Draws;
 use std::alloc::Global;
 
-/// At NEIGHBOR from a node, with high priority or low: it is accepted where it is active, has high priority or finds a place
-/// free in the active view, and then becomes active; else it is rejected. It is told so by NEIGHBORREPLY. At most two words.
-/// Without memory nothing changes.
+/// The effects of NEIGHBOR from a node, with high or low priority. The node is accepted where it is active, where its
+/// priority is high, or where a place is free in the active view; it is then active. Otherwise it is rejected.
+/// NEIGHBORREPLY tells it so. At most two random words are used. OutOfMemory (99) where an allocation is refused, and
+/// then nothing has changed. (HyParView: Leitão, Pereira, Rodrigues, DSN 2007, Section 4.3; NEIGHBORREPLY as a
+/// message is chosen here.)
 pub fn on_neighbor(
     alloc: Global,
     views: &mut Views,
@@ -22,13 +23,11 @@ pub fn on_neighbor(
     from: NodeId,
     high: bool,
 ) -> Result<Moves, OutOfMemory>
-    requires { 40 ≤ length draws.old }
-    ensures allowed { IfOk result (λ m. Drawn draws.old draws.new
-        (λ choices. (n : Node) → Allowed (record n { views = views.old }) (receives from (Neighbor high)) choices
-        (record n { views = views.new }) m.changes.items m.sends.items)) }
+    requires { step_words ≤ length draws.old }
+    ensures allowed { IfOk result (ViewsStep views.old draws.old (receives from (Neighbor high)) views.new draws.new) }
     ensures words { length draws.old ≤ length draws.new + 2 }
     ensures few { IfOk result (λ m. vec_len m.sends ≤ 2) }
-    ensures ranges { IfOk result (λ m. AllByRecursion (λ s. AreInRange s.1) m.sends.items) }
+    ensures ranges { IfOk result (λ m. AreSendsInRange m.sends.items) }
     ensures err { OnErr result ((views.new ≡ views.old) × (draws.new ≡ draws.old)) }
 {
     let mut moves = Moves::with_room(alloc, 2)?;
@@ -56,21 +55,20 @@ fn reply(me: NodeId, accepted: bool) -> Message
     }
 }
 
-/// At DISCONNECT from a node: where it is active it goes down, and then becomes passive. No attempt starts. At most one word.
-/// Without memory nothing changes.
+/// The effects of DISCONNECT from a node. Where the node is active it goes down and then becomes passive. No attempt
+/// starts, and nothing is sent. At most one random word is used. OutOfMemory (99) where an allocation is refused, and
+/// then nothing has changed. (HyParView: Leitão, Pereira, Rodrigues, DSN 2007, Algorithm 1; that no attempt starts is
+/// chosen here.)
 pub fn on_disconnect(
     alloc: Global,
     views: &mut Views,
     draws: &mut Draws<'_>,
     from: NodeId,
 ) -> Result<Moves, OutOfMemory>
-    requires { 40 ≤ length draws.old }
-    ensures allowed { IfOk result (λ m. Drawn draws.old draws.new
-        (λ choices. (n : Node) → Allowed (record n { views = views.old }) (receives from Disconnect) choices
-        (record n { views = views.new }) m.changes.items m.sends.items)) }
+    requires { step_words ≤ length draws.old }
+    ensures allowed { IfOk result (ViewsStep views.old draws.old (receives from Disconnect) views.new draws.new) }
     ensures words { length draws.old ≤ length draws.new + 1 }
-    ensures few { IfOk result (λ m. vec_len m.sends ≡ 0) }
-    ensures ranges { IfOk result (λ m. AllByRecursion (λ s. AreInRange s.1) m.sends.items) }
+    ensures none { IfOk result (λ m. vec_len m.sends ≡ 0) }
     ensures err { OnErr result ((views.new ≡ views.old) × (draws.new ≡ draws.old)) }
 {
     let mut moves = Moves::with_room(alloc, 0)?;

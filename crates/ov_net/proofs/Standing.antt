@@ -1,89 +1,112 @@
--- What stands in a world stands after each event.
-use Rattle.std.proofs.Common.{◌≡◌, ◌≤◌, ◌<◌, ◌+◌, ℕ, zero, suc, Bool, true, false, cond, List, [], ◌∷◌, ◌++◌, length, length-append, Option, None, Some, is_some, refl, sym, ap, subst, ◌∙◌, arith}
+-- The invariant of a world: it holds at the beginning and after each event.
+use Rattle.std.proofs.Common.{◌≡◌, ◌≤◌, ◌<◌, ◌+◌, ℕ, zero, suc, Bool, true, false, cond, List, [], ◌∷◌, ◌++◌, length}
+use Rattle.std.proofs.Common.{length-append, Option, None, Some, is_some, refl, sym, ap, subst, ◌∙◌, arith}
 use Rattle.std.specs.Prelude.{slice_get, remove}
 use Rattle.std.specs.Cmp.{nat_cmp_total}
 use Rattle.std.specs.FinMap as map
 use Rattle.std.specs.Ordering.{nat_cmp}
-use Rattle.ov_ids.specs.Limits.{Limits}
-use Rattle.ov_ids.specs.Steps.{Step}
+use Rattle.ov_ids.specs.ParamsState.{ParamsState}
 use Rattle.ov_ids.proofs.Stepping.{step_none}
 use Rattle.ov_wire.specs.declared.message.Message.{Message}
-use Rattle.ov_peer.specs.Whole.{Whole}
+use Rattle.ov_peer.specs.PeerState.{PeerState}
 use Rattle.ov_peer.specs.declared.input.Delivery.{Delivery}
 use Rattle.ov_peer.specs.declared.input.Input.{Input}
 use Rattle.ov_peer.specs.declared.input.Input.TheVariants as input
-use Rattle.ov_net.specs.Brought.{IsBrought, IsAfter, packets_after}
+use Rattle.ov_net.specs.Code.Codes.{world_of}
+use Rattle.ov_net.specs.Code.Effects.{AreEffects, HaveRoom, IsAfter}
+use Rattle.ov_net.specs.Limits.{most_world_nodes, most_packets, most_entries}
 use Rattle.ov_net.specs.Net.{Net, LivesAs}
-use Rattle.ov_net.specs.NetStep.{NetStep, Happens, Moves, LiveMoves, Received}
-use Rattle.ov_net.specs.Refusals.{Judged, EventJudged, ContactThen, PlacesLast}
-use Rattle.ov_net.specs.World.{Chronicle, Stands, opening}
-use Rattle.ov_net.specs.declared.brought.Brought.{Brought}
+use Rattle.ov_net.specs.NetStep.{NetStep, Happens, TakesInput, LiveTakesInput, Received}
+use Rattle.ov_net.specs.Refusals.{MayHappen, EventJudged, ContactThen, BirthLast, PlacesLast}
+use Rattle.ov_net.specs.World.{WorldState, Stands, opening}
+use Rattle.ov_net.specs.declared.effects.Effects.{Effects}
 use Rattle.ov_net.specs.declared.entry.Change.{Change}
 use Rattle.ov_net.specs.declared.entry.Entry.{Entry}
 use Rattle.ov_net.specs.declared.event.Event.{Event}
-use Rattle.ov_net.specs.declared.event.Event.TheVariants.{Boot, Deliver, Lose, Repeat, Crash, Report, Shuffle, Broadcast, Timer, Snapshot}
-use Rattle.ov_net.specs.declared.fault.NetFault.{NetFault}
-use Rattle.ov_net.specs.declared.fault.NetFault.TheVariants.{UsedId, UnknownNode, CrashedNode, TooManyNodes, TooManyEntries}
+use Rattle.ov_net.specs.declared.event.Event.TheVariants.{Boot, Deliver, Lose, Repeat, Crash, Report, Shuffle}
+use Rattle.ov_net.specs.declared.event.Event.TheVariants.{Broadcast, Timer, Snapshot}
+use Rattle.ov_net.specs.declared.fault.NetFault.TheVariants.{UsedId, TooManyNodes, TooManyEntries}
 use Rattle.ov_net.specs.declared.member.Member.{Member}
 use Rattle.ov_net.specs.declared.member.Member.TheVariants as member
-use Rattle.ov_net.proofs.Telling.{own_begun, own_kept, tells_begun, tells_kept}
-use Rattle.ov_net.proofs.Tracing.{traced_begun, traced_kept}
+use Rattle.ov_net.proofs.Journal.Telling.{own_begun, own_kept, tells_begun, tells_kept}
+use Rattle.ov_net.proofs.Messages.Tracing.{traced_begun, traced_kept}
+use Rattle.ov_net.proofs.Steps.EventEffects.{contact_next}
 
--- a node in place of one that was there makes no more of them
-put_again : (w : Net) (a : ℕ) (was now : Member) → map.get w.nodes a ≡ Some was → map.len (map.insert w.nodes a now) ≡ map.len w.nodes
+-- a node in place of another does not make more nodes
+put_again : (w : Net) (a : ℕ) (was now : Member) → map.get w.nodes a ≡ Some was
+    → map.len (map.insert w.nodes a now) ≡ map.len w.nodes
 put_again w a was now there =
-    map.len-insert nat_cmp_total w.nodes a now ∙ ap (λ (o : Option Member). cond (is_some o) (map.len w.nodes) (map.len w.nodes + 1)) there
+    map.len-insert nat_cmp_total w.nodes a now
+    ∙ ap (λ (o : Option Member). cond (is_some o) (map.len w.nodes) (map.len w.nodes + 1)) there
 
--- a new one makes one more at most
+-- a node makes one more at most
 put_more : (w : Net) (a : ℕ) (now : Member) → map.len (map.insert w.nodes a now) ≤ map.len w.nodes + 1
 put_more w a now = by (is_some (map.get w.nodes a)) (map.len-insert nat_cmp_total w.nodes a now)
   where
-    by : (b : Bool) → map.len (map.insert w.nodes a now) ≡ cond b (map.len w.nodes) (map.len w.nodes + 1) → map.len (map.insert w.nodes a now) ≤ map.len w.nodes + 1
+    by : (b : Bool) → map.len (map.insert w.nodes a now) ≡ cond b (map.len w.nodes) (map.len w.nodes + 1)
+        → map.len (map.insert w.nodes a now) ≤ map.len w.nodes + 1
     by true e = omega (arith, e)
     by false e = omega (arith, e)
 
-same_nodes : (w u : Net) (packets : List (ℕ × Message)) → u ≡ record w { packets = packets } → map.len u.nodes ≡ map.len w.nodes
+same_nodes : (w u : Net) (packets : List (ℕ × Message)) → u ≡ record w { packets = packets }
+    → map.len u.nodes ≡ map.len w.nodes
 same_nodes w u packets e = ap (λ (x : Net). map.len x.nodes) e
 
-moved_nodes : (w : Net) (a : ℕ) (p : Whole) (i : Input) (words : List ℕ) (u : Net) (changes : List Change) (delivery : Option Delivery) → LivesAs w a p → Moves w a p i words u changes delivery
+moved_nodes : (w : Net) (a : ℕ) (p : PeerState) (i : Input) (words : List ℕ) (u : Net) (changes : List Change)
+    (delivery : Option Delivery) → LivesAs w a p → TakesInput w a p i words u changes delivery
     → map.len u.nodes ≡ map.len w.nodes
-moved_nodes w a p i words u changes delivery lives h = ap (λ (x : Net). map.len x.nodes) h.5 ∙ put_again w a (member.Live p) (member.Live h.0) lives
+moved_nodes w a p i words u changes delivery lives h =
+    ap (λ (x : Net). map.len x.nodes) h.4 ∙ put_again w a (member.Live p) (member.Live h.0) lives
 
-live_nodes : (w : Net) (a : ℕ) (i : Input) (words : List ℕ) (u : Net) (changes : List Change) (delivery : Option Delivery) → LiveMoves w a i words u changes delivery → map.len u.nodes ≡ map.len w.nodes
+live_nodes : (w : Net) (a : ℕ) (i : Input) (words : List ℕ) (u : Net) (changes : List Change)
+    (delivery : Option Delivery) → LiveTakesInput w a i words u changes delivery → map.len u.nodes ≡ map.len w.nodes
 live_nodes w a i words u changes delivery h = moved_nodes w a h.0 i words u changes delivery h.1 h.2
 
-received_nodes : (w : Net) (a : ℕ) (message : Message) (m : Option Member) (words : List ℕ) (u : Net) (changes : List Change) (delivery : Option Delivery) → map.get w.nodes a ≡ m
+received_nodes : (w : Net) (a : ℕ) (message : Message) (m : Option Member) (words : List ℕ) (u : Net)
+    (changes : List Change) (delivery : Option Delivery) → map.get w.nodes a ≡ m
     → Received w a message m words u changes delivery → map.len u.nodes ≡ map.len w.nodes
-received_nodes w a message (Some (member.Live p)) words u changes delivery lives h = moved_nodes w a p (input.Receive message) words u changes delivery lives h
+received_nodes w a message (Some (member.Live p)) words u changes delivery lives h =
+    moved_nodes w a p (input.Receive message) words u changes delivery lives h
 received_nodes w a message (Some member.Gone) words u changes delivery e h = same_nodes w u w.packets h.0
 received_nodes w a message None words u changes delivery e h = same_nodes w u w.packets h.0
 
-fewer_than : (contact : Option ℕ) (w : Net) → ContactThen w contact (Step (map.len w.nodes < 256) TooManyNodes (PlacesLast w)) None → map.len w.nodes < 256
-fewer_than None w h = (step_none (map.len w.nodes < 256) TooManyNodes (PlacesLast w) h).0
-fewer_than (Some c) w h =
-    let last : Option NetFault → Type 0 = Step (map.len w.nodes < 256) TooManyNodes (PlacesLast w) in
-    let live = (step_none _ UnknownNode (Step _ CrashedNode last) h).1 in
-    (step_none (map.len w.nodes < 256) TooManyNodes (PlacesLast w) (step_none _ CrashedNode last live).1).0
+fewer_than : (contact : Option ℕ) (w : Net) → ContactThen w contact (BirthLast w) None
+    → map.len w.nodes < most_world_nodes
+fewer_than contact w h =
+    let birth = contact_next w contact (BirthLast w) h in
+    (step_none (map.len w.nodes < most_world_nodes) TooManyNodes (PlacesLast w) birth).0
 
-few_nodes : (w : Net) (event : Event) (words : List ℕ) (u : Net) (changes : List Change) (delivery : Option Delivery) → EventJudged w event None → Happens w event words u changes delivery
-    → map.len w.nodes ≤ 256 → map.len u.nodes ≤ 256
+few_nodes : (w : Net) (event : Event) (words : List ℕ) (u : Net) (changes : List Change) (delivery : Option Delivery)
+    → EventJudged w event None → Happens w event words u changes delivery
+    → map.len w.nodes ≤ most_world_nodes → map.len u.nodes ≤ most_world_nodes
 few_nodes w (Boot a contact) words u changes delivery judged h few =
-    let room = fewer_than contact w (step_none _ UsedId (ContactThen w contact (Step (map.len w.nodes < 256) TooManyNodes (PlacesLast w))) judged).1 in
-    let same : map.len u.nodes ≡ map.len (map.insert w.nodes a (member.Live h.2.0)) = ap (λ (x : Net). map.len x.nodes) h.2.5 in
+    let room = fewer_than contact w (step_none _ UsedId (ContactThen w contact (BirthLast w)) judged).1 in
+    let same : map.len u.nodes ≡ map.len (map.insert w.nodes a (member.Live h.2.0)) =
+    ap (λ (x : Net). map.len x.nodes) h.2.4 in
     omega (arith, same, put_more w a (member.Live h.2.0), room)
 few_nodes w (Deliver i) words u changes delivery judged h few =
-    let same = received_nodes (record w { packets = remove w.packets i }) h.0.0 h.0.1 (map.get w.nodes h.0.0) words u changes delivery refl h.2 in omega (arith, same, few)
-few_nodes w (Lose i) words u changes delivery judged h few = let same = same_nodes w u (remove w.packets i) h.2.0 in omega (arith, same, few)
-few_nodes w (Repeat i) words u changes delivery judged h few = let same = same_nodes w u (w.packets ++ h.0 ∷ []) h.2.0 in omega (arith, same, few)
+    let same = received_nodes (record w { packets = remove w.packets i }) h.0.0 h.0.1 (map.get w.nodes h.0.0) words u
+    changes delivery refl h.2 in omega (arith, same, few)
+few_nodes w (Lose i) words u changes delivery judged h few =
+    let same = same_nodes w u (remove w.packets i) h.2.0 in omega (arith, same, few)
+few_nodes w (Repeat i) words u changes delivery judged h few =
+    let same = same_nodes w u (w.packets ++ h.0 ∷ []) h.2.0 in omega (arith, same, few)
 few_nodes w (Crash a) words u changes delivery judged h few =
-    let same : map.len u.nodes ≡ map.len w.nodes = ap (λ (x : Net). map.len x.nodes) h.2 ∙ put_again w a (member.Live h.0) member.Gone h.1 in omega (arith, same, few)
-few_nodes w (Report a crashed) words u changes delivery judged h few = let same = live_nodes w a (input.Report crashed) words u changes delivery h.1 in omega (arith, same, few)
-few_nodes w (Shuffle a) words u changes delivery judged h few = let same = live_nodes w a input.Shuffle words u changes delivery h in omega (arith, same, few)
-few_nodes w (Broadcast a payload) words u changes delivery judged h few = let same = live_nodes w a (input.Broadcast payload) words u changes delivery h in omega (arith, same, few)
-few_nodes w (Timer a id) words u changes delivery judged h few = let same = live_nodes w a (input.Timer id) words u changes delivery h in omega (arith, same, few)
-few_nodes w Snapshot words u changes delivery judged h few = let same = same_nodes w u w.packets h.0 in omega (arith, same, few)
+    let same : map.len u.nodes ≡ map.len w.nodes = ap (λ (x : Net). map.len x.nodes) h.2
+    ∙ put_again w a (member.Live h.0) member.Gone h.1 in omega (arith, same, few)
+few_nodes w (Report a crashed) words u changes delivery judged h few =
+    let same = live_nodes w a (input.Report crashed) words u changes delivery h.1 in omega (arith, same, few)
+few_nodes w (Shuffle a) words u changes delivery judged h few =
+    let same = live_nodes w a input.Shuffle words u changes delivery h in omega (arith, same, few)
+few_nodes w (Broadcast a payload) words u changes delivery judged h few =
+    let same = live_nodes w a (input.Broadcast payload) words u changes delivery h in omega (arith, same, few)
+few_nodes w (Timer a id) words u changes delivery judged h few =
+    let same = live_nodes w a (input.Timer id) words u changes delivery h in omega (arith, same, few)
+few_nodes w Snapshot words u changes delivery judged h few =
+    let same = same_nodes w u w.packets h.0 in omega (arith, same, few)
 
-numbered_more : (journal : List Entry) (k : ℕ) (e : Entry) → ((i : ℕ) (x : Entry) → slice_get journal i ≡ Some x → x.number ≡ k + i + 1) → e.number ≡ k + length journal + 1
+numbered_more : (journal : List Entry) (k : ℕ) (e : Entry)
+    → ((i : ℕ) (x : Entry) → slice_get journal i ≡ Some x → x.number ≡ k + i + 1) → e.number ≡ k + length journal + 1
     → (i : ℕ) (x : Entry) → slice_get (journal ++ e ∷ []) i ≡ Some x → x.number ≡ k + i + 1
 numbered_more [] k e each last zero x at = sym (ap (number_or k) at) ∙ last
   where
@@ -93,9 +116,10 @@ numbered_more [] k e each last zero x at = sym (ap (number_or k) at) ∙ last
 numbered_more [] k e each last (suc i) x at = absurd cc
 numbered_more (y ∷ journal) k e each last zero x at = each zero x at
 numbered_more (y ∷ journal) k e each last (suc i) x at =
-    let r = numbered_more journal (suc k) e (λ j z h. let s = each (suc j) z h in omega (arith, s)) (omega (arith, last)) i x at in omega (arith, r)
+    let r = numbered_more journal (suc k) e (λ j z h. let s = each (suc j) z h in omega (arith, s))
+    (omega (arith, last)) i x at in omega (arith, r)
 
-stands_begun : (params : Limits) → Stands (opening params)
+stands_begun : (params : ParamsState) → Stands (opening params)
 stands_begun params = record {
   nodes = omega (arith, map.len-empty nat_cmp Member);
   packets = omega arith;
@@ -106,49 +130,64 @@ stands_begun params = record {
   traced = traced_begun params;
 }
 
-pub stands_new : (params : Limits) (nodes : map.FinMap nat_cmp Member) (packets : List (ℕ × Message)) (journal : List Entry) → nodes ≡ map.empty → packets ≡ [] → journal ≡ []
-    → Stands (record { net = record { params = params; nodes = nodes; packets = packets }; journal = journal })
+pub stands_new : (params : ParamsState) (nodes : map.FinMap nat_cmp Member) (packets : List (ℕ × Message))
+    (journal : List Entry) → nodes ≡ map.empty → packets ≡ [] → journal ≡ []
+    → Stands (world_of params nodes packets journal)
 stands_new params nodes packets journal n p j =
-    let e : ◌≡◌ {A = Chronicle} (record { net = record { params = params; nodes = nodes; packets = packets }; journal = journal }) (opening params) =
-    λ i. record { net = record { params = params; nodes = n i; packets = p i }; journal = j i } in
+    let e : ◌≡◌ {A = WorldState} (world_of params nodes packets journal) (opening params) =
+    λ i. world_of params (n i) (p i) (j i) in
     subst Stands (sym e) (stands_begun params)
 
-stands_kept : (c : Chronicle) (event : Event) (words : List ℕ) (u : Net) (e : Entry) → Stands c → Judged c.net (length c.journal) event None → NetStep c.net event words u e
-    → e.number ≡ length c.journal + 1 → length u.packets ≤ 65536 → Stands (record { net = u; journal = c.journal ++ e ∷ [] })
+stands_kept : (c : WorldState) (event : Event) (words : List ℕ) (u : Net) (e : Entry) → Stands c
+    → MayHappen c.net (length c.journal) event → NetStep c.net event words u e
+    → e.number ≡ length c.journal + 1 → length u.packets ≤ most_packets
+    → Stands (record { net = u; journal = c.journal ++ e ∷ [] })
 stands_kept c event words u e s judged step number few =
-    let j = step_none (length c.journal < 65536) TooManyEntries (EventJudged c.net event) judged in
+    let j = step_none (length c.journal < most_entries) TooManyEntries (EventJudged c.net event) judged in
     record {
       nodes = few_nodes c.net event words u e.changes e.delivery j.1 step.2 s.nodes;
       packets = few;
       entries = omega (arith, j.0, length-append c.journal (e ∷ []));
-      numbered = λ i x at. let r = numbered_more c.journal 0 e (λ k y h. let n = s.numbered k y h in omega (arith, n)) (omega (arith, number)) i x at in omega (arith, r);
+      numbered = λ i x at.
+          let r = numbered_more c.journal 0 e (λ k y h. let n = s.numbered k y h in omega (arith, n))
+          (omega (arith, number)) i x at in omega (arith, r);
       own = own_kept c.net event words u e s.own step;
       tells = tells_kept c event words u e s.tells s.own step;
       traced = traced_kept c event words u e s.traced s.own step;
     }
 
--- the same of the parts that are kept, in a world as it is seen
-pub stands_next : (seen c : Chronicle) (event : Event) (words : List ℕ) (b : Brought) (e : Entry) (u : Net) (journal : List Entry) → seen ≡ c → Stands seen
-    → Judged c.net (length c.journal) event None → IsBrought c.net event words b → length (packets_after c.net b) ≤ 65536
-    → (e.event ≡ event) × (e.words ≡ words) × (e.changes ≡ b.changes) × (e.delivery ≡ b.delivery) × (e.number ≡ length seen.journal + 1)
+-- the invariant after an event, of the parts that the code has
+pub stands_next : (seen c : WorldState) (event : Event) (words : List ℕ) (b : Effects) (e : Entry) (u : Net)
+    (journal : List Entry) → seen ≡ c → Stands seen
+    → MayHappen c.net (length c.journal) event → AreEffects c.net event words b → HaveRoom c.net b
+    → (e.event ≡ event) × (e.words ≡ words) × (e.changes ≡ b.changes) × (e.delivery ≡ b.delivery)
+    × (e.number ≡ length seen.journal + 1)
     → IsAfter seen.net b u → journal ≡ seen.journal ++ e ∷ [] → Stands (record { net = u; journal = journal })
-stands_next seen c event words b e u journal same s judged_of brought_of few_of entry after j =
+stands_next seen c event words b e u journal same s judged_of effects_of few_of entry after j =
     let back = sym same in
-    let judged = subst (λ (x : Chronicle). Judged x.net (length x.journal) event None) back judged_of in
-    let brought = subst (λ (x : Chronicle). IsBrought x.net event words b) back brought_of in
-    let few = subst (λ (x : Chronicle). length (packets_after x.net b) ≤ 65536) back few_of in
-    let happens = brought.happens u after in
+    let judged = subst (λ (x : WorldState). MayHappen x.net (length x.journal) event) back judged_of in
+    let effects = subst (λ (x : WorldState). AreEffects x.net event words b) back effects_of in
+    let few = subst (λ (x : WorldState). HaveRoom x.net b) back few_of in
+    let happens = effects.happens u after in
     let told : Happens seen.net event words u e.changes e.delivery =
-    subst (λ d. Happens seen.net event words u e.changes d) (sym entry.3) (subst (λ x. Happens seen.net event words u x b.delivery) (sym entry.2) happens) in
-    let next = stands_kept seen event words u e s judged (entry.0, entry.1, told) entry.4 (subst (λ (v : List (ℕ × Message)). length v ≤ 65536) (sym after.packets) few) in
+    subst (λ d. Happens seen.net event words u e.changes d) (sym entry.3)
+    (subst (λ x. Happens seen.net event words u x b.delivery) (sym entry.2) happens) in
+    let next = stands_kept seen event words u e s judged (entry.0, entry.1, told) entry.4
+    (subst (λ (v : List (ℕ × Message)). length v ≤ most_packets) (sym after.packets) few) in
     subst (λ (k : List Entry). Stands (record { net = u; journal = k })) (sym j) next
 
--- and it is a step, of a world that is the one seen
-pub step_next : (seen c : Chronicle) (event : Event) (words : List ℕ) (b : Brought) (e : Entry) (u : Net) → seen ≡ c → IsBrought c.net event words b
-    → (e.event ≡ event) × (e.words ≡ words) × (e.changes ≡ b.changes) × (e.delivery ≡ b.delivery) → IsAfter seen.net b u → NetStep c.net event words u e
-step_next seen c event words b e u same brought entry after =
-    let happens = brought.happens u (subst (λ (x : Chronicle). IsAfter x.net b u) same after) in
-    (entry.0, entry.1, subst (λ d. Happens c.net event words u e.changes d) (sym entry.3) (subst (λ x. Happens c.net event words u x b.delivery) (sym entry.2) happens))
+-- and the event is a step of the world
+pub step_next : (seen c : WorldState) (event : Event) (words : List ℕ) (b : Effects) (e : Entry) (u : Net) → seen ≡ c
+    → AreEffects c.net event words b
+    → (e.event ≡ event) × (e.words ≡ words) × (e.changes ≡ b.changes) × (e.delivery ≡ b.delivery) → IsAfter seen.net b u
+    → NetStep c.net event words u e
+step_next seen c event words b e u same effects entry after =
+    let happens = effects.happens u (subst (λ (x : WorldState). IsAfter x.net b u) same after) in (
+      entry.0,
+      entry.1,
+      subst (λ d. Happens c.net event words u e.changes d) (sym entry.3) (subst
+          (λ x. Happens c.net event words u x b.delivery) (sym entry.2) happens),
+    )
 
 pub one_longer : (journal : List Entry) (e : Entry) → length (journal ++ e ∷ []) ≡ length journal + 1
 one_longer journal e = length-append journal (e ∷ [])

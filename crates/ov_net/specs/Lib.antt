@@ -1,9 +1,8 @@
+pub mod Limits
 pub mod Net
 pub mod Journal
 pub mod Laws
 pub mod NetStep
 pub mod Refusals
 pub mod World
-pub mod Codes
-pub mod Brought
-pub mod Scan
+pub mod Code

@@ -1,14 +1,20 @@
--- Why a world takes no step: the refusals of each event in their order, the first that stands decides.
-use Rattle.std.specs.Prelude.{◌≡◌, ◌≢◌, ◌⊎◌, ℕ, ◌+◌, ◌<◌, ◌≤◌, length, Option, Some, None}
+-- Why a world refuses an event. The refusals of each event stand in an order, and the first applicable one is answered.
+-- Chosen here.
+use Rattle.std.specs.Prelude.{◌≡◌, ◌≢◌, ℕ, ◌+◌, ◌<◌, ◌≤◌, length, Option, Some, None}
 use Rattle.std.specs.FinMap as map
-use Rattle.ov_ids.specs.Steps.{Step, Passed}
+use Rattle.ov_ids.specs.FaultOrder.{Step, Passed, IsRefusedBy}
 use Rattle.ov_ids.specs.declared.id.MsgId.{MsgId}
-use Rattle.ov_peer.specs.Whole.{Whole}
+use Rattle.ov_wire.specs.Messages.{most_payload}
+use Rattle.ov_peer.specs.PeerState.{PeerState}
+use Rattle.ov_net.specs.Limits.{most_world_nodes, most_packets, step_packets, most_entries, most_broadcasts}
 use Rattle.ov_net.specs.Net.{Net, LivesAs, IsGone}
 use Rattle.ov_net.specs.declared.event.Event.{Event}
-use Rattle.ov_net.specs.declared.event.Event.TheVariants.{Boot, Deliver, Lose, Repeat, Crash, Report, Shuffle, Broadcast, Timer, Snapshot}
+use Rattle.ov_net.specs.declared.event.Event.TheVariants.{Boot, Deliver, Lose, Repeat, Crash, Report, Shuffle}
+use Rattle.ov_net.specs.declared.event.Event.TheVariants.{Broadcast, Timer, Snapshot}
 use Rattle.ov_net.specs.declared.fault.NetFault.{NetFault}
-use Rattle.ov_net.specs.declared.fault.NetFault.TheVariants.{UnknownNode, UsedId, CrashedNode, TooManyNodes, NoSuchPacket, BagFull, TooManyEntries, NotCrashed, NoTimer, PayloadTooLong, TooManyMessages, OutOfMemory}
+use Rattle.ov_net.specs.declared.fault.NetFault.TheVariants.{UnknownNode, UsedId, CrashedNode, TooManyNodes}
+use Rattle.ov_net.specs.declared.fault.NetFault.TheVariants.{NoSuchPacket, BagFull, TooManyEntries, NotCrashed, NoTimer}
+use Rattle.ov_net.specs.declared.fault.NetFault.TheVariants.{PayloadTooLong, TooManyMessages, OutOfMemory}
 
 -- the number of each fault
 abbrev pub number_of : NetFault → ℕ
@@ -25,43 +31,43 @@ number_of PayloadTooLong = 19
 number_of TooManyMessages = 20
 number_of OutOfMemory = 99
 
--- the id was used for a node, live or gone
+-- a node with this id was born. It is live or gone
 abbrev pub IsBorn : Net → ℕ → Type 0
 IsBorn w a = map.get w.nodes a ≢ None
 
--- 64 of the 65,536 places for packets are free: no step sends more
+-- there is room for the packets of one step
 abbrev pub HasPlaces : Net → Type 0
-HasPlaces w = length w.packets + 64 ≤ 65536
+HasPlaces w = length w.packets + step_packets ≤ most_packets
 
--- node a has made fewer than 4,096 broadcasts
+-- node a may broadcast once more
 abbrev pub MayBroadcast : Net → ℕ → Type 0
-MayBroadcast w a = (p : Whole) → LivesAs w a p → p.tree.made < 4096
+MayBroadcast w a = (p : PeerState) → LivesAs w a p → p.tree.made < most_broadcasts
 
--- the timer of an id is set at node a
+-- the timer of this message is set at node a
 abbrev pub HasTimer : Net → ℕ → MsgId → Type 0
-HasTimer w a id = (p : Whole) → LivesAs w a p → map.get p.tree.timers id ≢ None
+HasTimer w a id = (p : PeerState) → LivesAs w a p → map.get p.tree.timers id ≢ None
 
--- why a does not live
-abbrev pub IsAbsent : Net → ℕ → NetFault → Type 0
-IsAbsent w a fault = ((map.get w.nodes a ≡ None) × (fault ≡ UnknownNode)) ⊎ (IsGone w a × (fault ≡ CrashedNode))
-
--- a was born and is not gone, and then
+-- first: a was born and is not gone
 abbrev pub LiveThen : Net → ℕ → (Option NetFault → Type 0) → Option NetFault → Type 0
 LiveThen w a After answer = Step (IsBorn w a) UnknownNode (Step (¬ IsGone w a) CrashedNode After) answer
 
--- the places for packets come last
-abbrev pub PlacesLast : Net → Option NetFault → Type 0
-PlacesLast w answer = Step (HasPlaces w) BagFull Passed answer
-
--- the contact, if there is one, lives, and then
+-- first: the contact, if there is one, was born and is not gone
 abbrev pub ContactThen : Net → Option ℕ → (Option NetFault → Type 0) → Option NetFault → Type 0
 ContactThen w None After answer = After answer
 ContactThen w (Some contact) After answer = LiveThen w contact After answer
 
--- by the events, as they stand in `Happens`
+-- last: there is room for the packets of one step
+abbrev pub PlacesLast : Net → Option NetFault → Type 0
+PlacesLast w answer = Step (HasPlaces w) BagFull Passed answer
+
+-- then: one more node may be born; and last: there is room for the packets of one step
+abbrev pub BirthLast : Net → Option NetFault → Type 0
+BirthLast w answer = Step (map.len w.nodes < most_world_nodes) TooManyNodes (PlacesLast w) answer
+
+-- the first applicable refusal of each event but those of `StepJudged`, or None where there is none
 abbrev pub EventJudged : Net → Event → Option NetFault → Type 0
 EventJudged w (Boot a contact) answer =
-    Step (map.get w.nodes a ≡ None) UsedId (ContactThen w contact (Step (map.len w.nodes < 256) TooManyNodes (PlacesLast w))) answer
+    Step (map.get w.nodes a ≡ None) UsedId (ContactThen w contact (BirthLast w)) answer
 EventJudged w (Deliver i) answer = Step (i < length w.packets) NoSuchPacket (PlacesLast w) answer
 EventJudged w (Lose i) answer = Step (i < length w.packets) NoSuchPacket Passed answer
 EventJudged w (Repeat i) answer = Step (i < length w.packets) NoSuchPacket (PlacesLast w) answer
@@ -70,14 +76,21 @@ EventJudged w (Report a crashed) answer =
     LiveThen w a (Step (IsBorn w crashed) UnknownNode (Step (IsGone w crashed) NotCrashed (PlacesLast w))) answer
 EventJudged w (Shuffle a) answer = LiveThen w a (PlacesLast w) answer
 EventJudged w (Broadcast a payload) answer =
-    LiveThen w a (Step (length payload ≤ 1024) PayloadTooLong (Step (MayBroadcast w a) TooManyMessages (PlacesLast w))) answer
+    LiveThen w a
+    (Step (length payload ≤ most_payload) PayloadTooLong (Step (MayBroadcast w a) TooManyMessages (PlacesLast w)))
+    answer
 EventJudged w (Timer a id) answer = LiveThen w a (Step (HasTimer w a id) NoTimer (PlacesLast w)) answer
 EventJudged w Snapshot answer = Passed answer
 
--- of every event: a place in the journal, which has 65,536, comes first
-abbrev pub Judged : Net → ℕ → Event → Option NetFault → Type 0
-Judged w entries event answer = Step (entries < 65536) TooManyEntries (EventJudged w event) answer
+-- the first applicable refusal of an event where the journal has so many entries, or None where there is none. That the
+-- journal is full is the first refusal of every event
+abbrev pub StepJudged : Net → ℕ → Event → Option NetFault → Type 0
+StepJudged w entries event answer = Step (entries < most_entries) TooManyEntries (EventJudged w event) answer
 
--- the fault is the first refusal that stands; want of memory is told only where none does
+-- no refusal applies to the event
+abbrev pub MayHappen : Net → ℕ → Event → Type 0
+MayHappen w entries event = StepJudged w entries event None
+
+-- the fault is the first applicable refusal, or out of memory where no refusal applies
 abbrev pub IsRefusal : Net → ℕ → Event → NetFault → Type 0
-IsRefusal w entries event fault = Judged w entries event (Some fault) ⊎ ((fault ≡ OutOfMemory) × Judged w entries event None)
+IsRefusal w entries event fault = IsRefusedBy OutOfMemory (StepJudged w entries event) fault

@@ -6,57 +6,63 @@ use ov_peer::Delivery;
 use ov_words::Words;
 use std::alloc::Global;
 
-/// A change that the journal tells.
+/// A change in an entry of the journal. Active views are those of HyParView (Leitão, Pereira, Rodrigues, DSN 2007).
 #[derive(Clone, Copy, Debug, PartialEq, Eq)]
 pub enum Change {
     /// A node was born.
     Born(NodeId),
-    /// The second node became active at the first.
+    /// The second node came into the active view of the first.
     Up(NodeId, NodeId),
-    /// The second node is no longer active at the first.
+    /// The second node left the active view of the first.
     Down(NodeId, NodeId),
     /// A node crashed.
     Gone(NodeId),
 }
 
-/// What the journal tells of one event: its number, from 1, the event and the words that were handed in with it, the changes in
-/// order, and what was delivered.
+/// The entry of one event in the journal.
 #[derive(Debug, Drop)]
 pub struct Entry {
+    /// Its place in the journal, counted from 1.
     pub number: u32,
+    /// The event.
     pub event: Event,
+    /// The random words that were handed in with the event.
     pub words: Words,
+    /// The changes, in order.
     pub changes: Seq<Change>,
+    /// The message that a node delivered, if one did.
     pub delivery: Option<Delivery>,
 }
 
 impl Entry {
-    /// An equal entry.
+    /// An equal entry, or out of memory (99).
     pub fn copy(&self, alloc: Global) -> Result<Entry, OutOfMemory>
         ensures { IfOk result (λ e. e ≡ self.now) }
     {
         let changes = Vec::from_slice(alloc, self.changes.as_slice())?;
-        let delivery = match &self.delivery {
-            Some(delivery) => Some(copy_delivery(alloc, delivery)?),
-            None => None,
-        };
         Ok(Entry {
             number: self.number,
             event: self.event.copy(alloc)?,
             words: self.words,
             changes: Seq::new(changes),
-            delivery,
+            delivery: copy_delivery(alloc, &self.delivery)?,
         })
     }
 }
 
-/// An equal delivery.
-fn copy_delivery(alloc: Global, delivery: &Delivery) -> Result<Delivery, OutOfMemory>
+/// An equal delivery, if there is one.
+pub(crate) fn copy_delivery(
+    alloc: Global,
+    delivery: &Option<Delivery>,
+) -> Result<Option<Delivery>, OutOfMemory>
     ensures { IfOk result (λ d. d ≡ delivery.now) }
 {
-    Ok(Delivery {
-        node: delivery.node,
-        id: delivery.id,
-        payload: copy_bytes(alloc, &delivery.payload)?,
-    })
+    match delivery {
+        Some(delivery) => Ok(Some(Delivery {
+            node: delivery.node,
+            id: delivery.id,
+            payload: copy_bytes(alloc, &delivery.payload)?,
+        })),
+        None => Ok(None),
+    }
 }

@@ -3,33 +3,33 @@ ghost use Rattle.std.specs.Prelude.{◌≡◌, IfOk};
 use ov_ids::{MsgId, NodeId, OutOfMemory, Seq};
 use std::alloc::Global;
 
-/// What may happen to a world.
+/// An event of a world. The events are chosen here. Places of packets are counted from 0, the oldest first.
 #[derive(Debug, Drop)]
 pub enum Event {
-    /// A node starts, and joins by a contact if there is one.
+    /// A node is born, and joins by a contact if there is one.
     Boot(NodeId, Option<NodeId>),
     /// The packet at this place reaches its receiver.
     Deliver(u32),
     /// The packet at this place is lost.
     Lose(u32),
-    /// The packet at this place is repeated.
+    /// An equal packet to that at this place goes last.
     Repeat(u32),
-    /// A node crashes.
+    /// A node crashes, for good.
     Crash(NodeId),
-    /// A node hears that another one crashed, which is named second.
+    /// The first node is told that the second one crashed.
     Report(NodeId, NodeId),
     /// A node starts a shuffle.
     Shuffle(NodeId),
-    /// A node broadcasts a payload.
+    /// A node broadcasts a payload of at most 1,024 bytes.
     Broadcast(NodeId, Seq<u8>),
     /// The timer of a message fires at a node.
     Timer(NodeId, MsgId),
-    /// The links of this moment are to be kept.
+    /// Nothing but an entry. Its number names this moment.
     Snapshot,
 }
 
 impl Event {
-    /// An equal event.
+    /// An equal event, or out of memory (99).
     pub fn copy(&self, alloc: Global) -> Result<Event, OutOfMemory>
         ensures { IfOk result (λ e. e ≡ self.now) }
     {

@@ -1,52 +1,52 @@
 ghost use Rattle.std.specs.Prelude.{◌≡◌};
 ghost use Rattle.ov_net.specs.Refusals.{number_of};
-ghost use Rattle.ov_net.specs.declared.fault.NetFault.TheVariants.{OutOfMemory as wants_memory};
+ghost use Rattle.ov_net.specs.declared.fault.NetFault.TheVariants.{OutOfMemory as out_of_memory};
 
 use thiserror::Error;
 
-/// Why a world took no step.
+/// Why a world refuses an event. Nothing has changed then. The faults and their order are chosen here.
 #[derive(Clone, Copy, Debug, PartialEq, Eq, Error)]
 pub enum NetFault {
-    /// No node of this id was born.
+    /// No node with this id was born.
     #[error("no node of this id was born")]
     UnknownNode,
-    /// The id was used.
+    /// A node with this id was born before.
     #[error("the id was used")]
     UsedId,
     /// The node crashed.
     #[error("the node crashed")]
     CrashedNode,
-    /// 256 nodes were born.
+    /// 256 nodes were born, as many as may be.
     #[error("too many nodes were born")]
     TooManyNodes,
     /// There is no packet at this place.
     #[error("there is no packet at this place")]
     NoSuchPacket,
-    /// Fewer than 64 of the 65,536 places for packets are free.
+    /// Fewer than 64 of the 65,536 places for packets are free. A step may send 64.
     #[error("too few places for packets are free")]
     BagFull,
-    /// The journal has 65,536 entries.
+    /// The journal has 65,536 entries, as many as it may have.
     #[error("the journal is full")]
     TooManyEntries,
-    /// The node did not crash.
+    /// The node that is reported did not crash.
     #[error("the node did not crash")]
     NotCrashed,
-    /// The timer is not set.
+    /// The timer of this message is not set at the node.
     #[error("the timer is not set")]
     NoTimer,
     /// The payload has more than 1,024 bytes.
     #[error("the payload is too long")]
     PayloadTooLong,
-    /// The node has made 4,096 broadcasts.
+    /// The node has made 4,096 broadcasts, as many as it may.
     #[error("the node has made too many broadcasts")]
     TooManyMessages,
-    /// A growth was refused.
+    /// An allocation was refused.
     #[error("out of memory")]
     OutOfMemory,
 }
 
 impl NetFault {
-    /// The fault's number: 10 to 20 in the order above, or 99 for want of memory.
+    /// The fault's number: 10 to 20 in the order above, and 99 for out of memory.
     pub fn number(&self) -> u32
         ensures { result ≡ number_of self.now }
     {
@@ -68,7 +68,7 @@ impl NetFault {
 }
 
 impl From<ov_ids::OutOfMemory> for NetFault {
-    ghost from_gives = { λ _ e. e ≡ wants_memory };
+    ghost from_gives = { λ _ e. e ≡ out_of_memory };
 
     fn from(_error: ov_ids::OutOfMemory) -> NetFault {
         NetFault::OutOfMemory

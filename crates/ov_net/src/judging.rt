@@ -1,11 +1,9 @@
-ghost use Rattle.std.specs.Prelude.{◌≡◌, ◌<◌, IfOk, IfErr, length};
-ghost use Rattle.std.specs.FinMap as map;
-ghost use Rattle.ov_ids.specs.Steps.{Step};
-ghost use Rattle.ov_net.specs.Brought.{fault_in};
+ghost use Rattle.std.specs.Prelude.{IfOk, IfErr, length};
+ghost use Rattle.ov_net.specs.Code.Judging.{fault_in, IsAbsent};
 ghost use Rattle.ov_net.specs.Net.{LivesAs, IsGone};
-ghost use Rattle.ov_net.specs.Refusals.{EventJudged, Judged, PlacesLast, IsAbsent};
-ghost use Rattle.ov_net.specs.declared.fault.NetFault.TheVariants.{TooManyNodes};
-ghost use Rattle.ov_net.specs.declared.event.Event.TheVariants.{Boot, Deliver, Lose, Crash, Report, Shuffle, Broadcast, Timer};
+ghost use Rattle.ov_net.specs.Refusals.{EventJudged, StepJudged, BirthLast, PlacesLast};
+ghost use Rattle.ov_net.specs.declared.event.Event.TheVariants.{Boot, Deliver, Lose, Crash};
+ghost use Rattle.ov_net.specs.declared.event.Event.TheVariants.{Report, Shuffle, Broadcast, Timer};
 
 use crate::event::Event;
 use crate::fault::NetFault;
@@ -16,9 +14,9 @@ use ov_peer::{MAX_BROADCASTS, Peer};
 use ov_wire::MAX_PAYLOAD;
 
 impl World {
-    /// The first refusal that stands for an event, beside want of memory.
+    /// The first applicable refusal of an event, but out of memory.
     pub(crate) fn judge(&self, event: &Event) -> Result<(), NetFault>
-        ensures { Judged self.now.net (length self.now.journal) event.now (fault_in result) }
+        ensures { StepJudged self.now.net (length self.now.journal) event.now (fault_in result) }
     {
         if self.journal.len() >= MAX_ENTRIES {
             return Err(NetFault::TooManyEntries);
@@ -26,7 +24,8 @@ impl World {
         self.judge_event(event)
     }
 
-    #[tactic(auto, using(crate::proofs::Lives::live_then, crate::proofs::Lives::absent_then))]
+    /// The first applicable refusal of an event, but that the journal is full.
+    #[tactic(auto, using(crate::proofs::Steps::Refusing::live_then, crate::proofs::Steps::Refusing::absent_then))]
     fn judge_event(&self, event: &Event) -> Result<(), NetFault>
         ensures { EventJudged self.now.net event.now (fault_in result) }
     {
@@ -44,8 +43,8 @@ impl World {
         }
     }
 
-    /// The live node of this id.
-    pub(crate) fn live(&self, id: NodeId) -> Result<&Peer, NetFault>
+    /// The live node with this id, or why it is not alive.
+    fn live_or_fault(&self, id: NodeId) -> Result<&Peer, NetFault>
         ensures ok { IfOk result (λ p. LivesAs self.now.net id p.now) }
         ensures err { IfErr result (λ f. IsAbsent self.now.net id f) }
     {
@@ -56,7 +55,8 @@ impl World {
         }
     }
 
-    #[tactic(auto, using(crate::proofs::Lives::live_then, crate::proofs::Lives::absent_then))]
+    /// Refuses where there is no room for the packets of one step (15).
+    #[tactic(auto, using(crate::proofs::Steps::Refusing::live_then, crate::proofs::Steps::Refusing::absent_then))]
     fn judge_places(&self) -> Result<(), NetFault>
         ensures { PlacesLast self.now.net (fault_in result) }
     {
@@ -66,7 +66,8 @@ impl World {
         Ok(())
     }
 
-    #[tactic(auto, using(crate::proofs::Lives::live_then, crate::proofs::Lives::absent_then))]
+    /// The first applicable refusal of a boot.
+    #[tactic(auto, using(crate::proofs::Steps::Refusing::live_then, crate::proofs::Steps::Refusing::absent_then))]
     fn judge_boot(&self, node: NodeId, contact: Option<NodeId>) -> Result<(), NetFault>
         ensures { EventJudged self.now.net (Boot node contact) (fault_in result) }
     {
@@ -74,13 +75,14 @@ impl World {
             return Err(NetFault::UsedId);
         }
         if let Some(contact) = contact {
-            self.live(contact)?;
+            self.live_or_fault(contact)?;
         }
         self.judge_birth()
     }
 
+    /// Refuses where 256 nodes were born (13), or there is no room for packets.
     fn judge_birth(&self) -> Result<(), NetFault>
-        ensures { Step (map.len self.now.net.nodes < 256) TooManyNodes (PlacesLast self.now.net) (fault_in result) }
+        ensures { BirthLast self.now.net (fault_in result) }
     {
         if self.nodes.len() >= MAX_NODES {
             return Err(NetFault::TooManyNodes);
@@ -88,7 +90,8 @@ impl World {
         self.judge_places()
     }
 
-    #[tactic(auto, using(crate::proofs::Lives::live_then, crate::proofs::Lives::absent_then))]
+    /// Refuses where there is no packet at a place (14).
+    #[tactic(auto, using(crate::proofs::Steps::Refusing::live_then, crate::proofs::Steps::Refusing::absent_then))]
     fn judge_place(&self, place: u32) -> Result<(), NetFault>
         ensures { EventJudged self.now.net (Lose place) (fault_in result) }
     {
@@ -98,7 +101,8 @@ impl World {
         Ok(())
     }
 
-    #[tactic(auto, using(crate::proofs::Lives::live_then, crate::proofs::Lives::absent_then))]
+    /// The first applicable refusal of a delivery or a repetition.
+    #[tactic(auto, using(crate::proofs::Steps::Refusing::live_then, crate::proofs::Steps::Refusing::absent_then))]
     fn judge_deliver(&self, place: u32) -> Result<(), NetFault>
         ensures { EventJudged self.now.net (Deliver place) (fault_in result) }
     {
@@ -108,19 +112,21 @@ impl World {
         self.judge_places()
     }
 
-    #[tactic(auto, using(crate::proofs::Lives::live_then, crate::proofs::Lives::absent_then))]
+    /// The first applicable refusal of a crash.
+    #[tactic(auto, using(crate::proofs::Steps::Refusing::live_then, crate::proofs::Steps::Refusing::absent_then))]
     fn judge_crash(&self, node: NodeId) -> Result<(), NetFault>
         ensures { EventJudged self.now.net (Crash node) (fault_in result) }
     {
-        self.live(node)?;
+        self.live_or_fault(node)?;
         Ok(())
     }
 
-    #[tactic(auto, using(crate::proofs::Lives::live_then, crate::proofs::Lives::absent_then))]
+    /// The first applicable refusal of a crash report.
+    #[tactic(auto, using(crate::proofs::Steps::Refusing::live_then, crate::proofs::Steps::Refusing::absent_then))]
     fn judge_report(&self, node: NodeId, crashed: NodeId) -> Result<(), NetFault>
         ensures { EventJudged self.now.net (Report node crashed) (fault_in result) }
     {
-        self.live(node)?;
+        self.live_or_fault(node)?;
         match self.nodes.get(crashed) {
             Some(Member::Live(_)) => Err(NetFault::NotCrashed),
             Some(Member::Gone) => self.judge_places(),
@@ -128,19 +134,21 @@ impl World {
         }
     }
 
-    #[tactic(auto, using(crate::proofs::Lives::live_then, crate::proofs::Lives::absent_then))]
+    /// The first applicable refusal of a shuffle.
+    #[tactic(auto, using(crate::proofs::Steps::Refusing::live_then, crate::proofs::Steps::Refusing::absent_then))]
     fn judge_shuffle(&self, node: NodeId) -> Result<(), NetFault>
         ensures { EventJudged self.now.net (Shuffle node) (fault_in result) }
     {
-        self.live(node)?;
+        self.live_or_fault(node)?;
         self.judge_places()
     }
 
-    #[tactic(auto, using(crate::proofs::Lives::live_then, crate::proofs::Lives::absent_then))]
+    /// The first applicable refusal of a broadcast.
+    #[tactic(auto, using(crate::proofs::Steps::Refusing::live_then, crate::proofs::Steps::Refusing::absent_then))]
     fn judge_broadcast(&self, node: NodeId, payload: &[u8]) -> Result<(), NetFault>
         ensures { EventJudged self.now.net (Broadcast node payload.now) (fault_in result) }
     {
-        let peer = self.live(node)?;
+        let peer = self.live_or_fault(node)?;
         if payload.len() > MAX_PAYLOAD as usize {
             return Err(NetFault::PayloadTooLong);
         }
@@ -150,11 +158,12 @@ impl World {
         self.judge_places()
     }
 
-    #[tactic(auto, using(crate::proofs::Lives::live_then, crate::proofs::Lives::absent_then))]
+    /// The first applicable refusal of a timer.
+    #[tactic(auto, using(crate::proofs::Steps::Refusing::live_then, crate::proofs::Steps::Refusing::absent_then))]
     fn judge_timer(&self, node: NodeId, id: MsgId) -> Result<(), NetFault>
         ensures { EventJudged self.now.net (Timer node id) (fault_in result) }
     {
-        let peer = self.live(node)?;
+        let peer = self.live_or_fault(node)?;
         if !peer.has_timer(id) {
             return Err(NetFault::NoTimer);
         }

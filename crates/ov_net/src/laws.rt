@@ -1,11 +1,11 @@
 ghost use Rattle.ov_net.specs.Laws.{LinksStay, OneGraph};
 
-/// The links after the first entries of a journal are the same whatever entries come later.
+/// Entries that come later do not change the graph after the first entries of a journal.
 pub fn links_stay()
     ensures { LinksStay }
 {}
 
-/// After the first entries of a journal there is one graph.
+/// After the first entries of a journal there is at most one graph.
 pub fn one_graph()
     ensures { OneGraph }
 {}

@@ -1,17 +1,17 @@
-//! A world of nodes in one process: packets between them that are delivered, lost and repeated, nodes that crash, and a journal
-//! that tells what happened.
+//! A world of nodes in one process. Packets between the nodes are delivered, lost and repeated. Nodes are born and
+//! crash. A journal has an entry for each event.
 #![tactic(auto)]
 
-mod brought;
+mod effects;
 mod entry;
 mod event;
-mod events;
+mod event_effects;
 mod fault;
+mod input_effects;
 mod judging;
 mod laws;
-mod links;
 mod member;
-mod moving;
+mod mutual_links;
 mod nodes;
 mod packet;
 mod world;

@@ -1,8 +1,10 @@
 use ov_peer::Peer;
 
-/// A node that was born: it lives, and is so, or it crashed.
+/// A node that was born.
 #[derive(Drop)]
 pub enum Member {
+    /// It is alive, and this is its state.
     Live(Peer),
+    /// It crashed.
     Gone,
 }

@@ -1,12 +1,11 @@
 ghost use Rattle.std.specs.Prelude.{◌≡◌, ◌≢◌, IsOk, IfOk, OnOk, OnErr, None, Some};
 ghost use Rattle.std.specs.Option.{option_copied};
 ghost use Rattle.std.specs.FinMap as map;
-ghost use Rattle.ov_peer.specs.Planning.{Fits};
-ghost use Rattle.ov_peer.specs.Whole.{Whole};
-ghost use Rattle.ov_net.specs.Brought.{Befalls};
-ghost use Rattle.ov_net.specs.declared.brought.Fate.TheVariants.{Follows};
+ghost use Rattle.ov_peer.specs.PeerState.{PeerState};
+ghost use Rattle.ov_net.specs.Code.Effects.{CanChange, NodeChanges};
+ghost use Rattle.ov_net.specs.declared.effects.NodeChange.TheVariants.{Follows};
 ghost use Rattle.ov_net.specs.declared.member.Member.TheVariants.{Live, Gone};
-ghost use Rattle.ov_net.specs.Scan.{AreLive};
+ghost use Rattle.ov_net.specs.Code.Scan.{AreLive};
 
 use crate::member::Member;
 use ov_ids::{NodeId, OutOfMemory};
@@ -15,7 +14,7 @@ use std::alloc::Global;
 use std::collections::BTreeMap;
 use std::marker::Model;
 
-/// The nodes that were born. Contracts see the finite map from their ids.
+/// The nodes that were born. Contracts see them as a finite map from ids.
 #[derive(Drop)]
 pub(crate) struct Nodes {
     members: BTreeMap<NodeId, Member>,
@@ -36,7 +35,7 @@ impl Model for Nodes {
 }
 
 impl Nodes {
-    /// No nodes. It takes no memory.
+    /// No nodes. Nothing is allocated.
     pub(crate) fn new(alloc: Global) -> Nodes
         ensures { result ≡ map.empty }
     {
@@ -52,17 +51,17 @@ impl Nodes {
         self.members.len()
     }
 
-    /// The node of this id, if it was born.
+    /// The node with this id, if it was born.
     pub(crate) fn get(&self, id: NodeId) -> Option<&Member>
         ensures { option_copied result ≡ map.get self.now id }
     {
         self.members.get(&id)
     }
 
-    /// The live node of this id follows a plan, which is one for it. Without memory nothing changes.
+    /// Has the live node with this id follow a plan, which is one for it. Out of memory, nothing changes.
     pub(crate) fn follow(&mut self, id: NodeId, plan: Plan) -> Result<(), OutOfMemory>
-        requires { (p : Whole) × (map.get self.old id ≡ Some (Live p)) × Fits p plan }
-        ensures ok { OnOk result (Befalls id (Follows plan) self.old self.new) }
+        requires { CanChange id (Follows plan) self.old }
+        ensures ok { OnOk result (NodeChanges id (Follows plan) self.old self.new) }
         ensures err { OnErr result (self.new ≡ self.old) }
     {
         let mut peer = self.take_out(id);
@@ -72,9 +71,9 @@ impl Nodes {
         Ok(())
     }
 
-    /// Takes the live node of this id out, which stands there as gone then.
+    /// Takes out the live node with this id. In its place the id is gone for the moment.
     fn take_out(&mut self, id: NodeId) -> Peer
-        requires { (p : Whole) × (map.get self.old id ≡ Some (Live p)) }
+        requires { (p : PeerState) × (map.get self.old id ≡ Some (Live p)) }
         ensures value { map.get self.old id ≡ Some (Live result) }
         ensures after { self.new ≡ map.insert self.old id Gone }
     {
@@ -84,7 +83,7 @@ impl Nodes {
         }
     }
 
-    /// Puts a live node at an id where one is.
+    /// Puts a live node back. Its id is in the map, so nothing is allocated.
     fn put_back(&mut self, id: NodeId, peer: Peer)
         requires { map.get self.old id ≢ None }
         ensures { self.new ≡ map.insert self.old id (Live peer) }
@@ -95,7 +94,7 @@ impl Nodes {
         }
     }
 
-    /// Puts a node at this id. Only a new id can want memory, and then nothing changes.
+    /// Stores a node under this id. Only a new id may need an allocation; out of memory, nothing changes.
     pub(crate) fn put(&mut self, id: NodeId, member: Member) -> Result<(), OutOfMemory>
         ensures ok { OnOk result (self.new ≡ map.insert self.old id member) }
         ensures present { map.get self.old id ≢ None → IsOk result }
@@ -105,7 +104,8 @@ impl Nodes {
         Ok(())
     }
 
-    /// Puts a node at this id, and answers the one that was there. Only a new id can want memory, and then nothing changes.
+    /// Stores a node under this id, and returns the one that was there. Only a new id may need an allocation; out of
+    /// memory, nothing changes.
     fn insert(&mut self, id: NodeId, member: Member) -> Result<Option<Member>, OutOfMemory>
         ensures old { IfOk result (λ old. old ≡ map.get self.old id) }
         ensures ok { OnOk result (self.new ≡ map.insert self.old id member) }
@@ -115,7 +115,7 @@ impl Nodes {
         Ok(self.members.insert(id, member)?)
     }
 
-    /// The ids of those that live, ascending.
+    /// The ids of the live nodes, ascending.
     pub(crate) fn live_ids(&self, alloc: Global) -> Result<Vec<NodeId>, OutOfMemory>
         ensures { IfOk result (λ ids. AreLive self.now ids.items) }
     {

@@ -6,7 +6,7 @@ use ov_wire::{Message, WireFault};
 use std::alloc::Global;
 use std::marker::Model;
 
-/// A message on its way: whom it is for, and its bytes. Contracts see the receiver and the message that the bytes spell.
+/// A message on its way to a node. Contracts see its receiver and the message that its bytes spell.
 #[derive(Debug, Drop)]
 pub struct Packet {
     to: NodeId,
@@ -15,7 +15,7 @@ pub struct Packet {
 
 impl Model for Packet {
     ghost use Rattle.std.specs.Prelude.{ℕ};
-    ghost use Rattle.ov_wire.specs.Meaning.{message_in};
+    ghost use Rattle.ov_wire.specs.Code.Meaning.{message_in};
     ghost use Rattle.ov_wire.specs.Messages.{Spelling};
     ghost use Rattle.ov_wire.specs.declared.message.Message.{Message};
 
@@ -27,8 +27,8 @@ impl Model for Packet {
 }
 
 impl Packet {
-    /// A message on its way to a node. Its fields are within their ranges.
-    #[tactic(auto, using(crate::proofs::Packets::spelled))]
+    /// The packet of this message, whose fields are within their ranges.
+    #[tactic(auto, using(crate::proofs::Steps::Packets::spelled))]
     pub(crate) fn new(alloc: Global, to: NodeId, message: &Message) -> Result<Packet, OutOfMemory>
         requires { AreInRange message.now }
         ensures { IfOk result (λ p. p ≡ (to, message.now)) }
@@ -39,21 +39,21 @@ impl Packet {
         })
     }
 
-    /// Whom it is for.
+    /// The receiver.
     pub fn to(&self) -> NodeId
         ensures { result ≡ self.now.0 }
     {
         self.to
     }
 
-    /// Its bytes, which spell its message.
+    /// The bytes. They spell the packet's message, as `ov_wire` encodes it.
     pub fn bytes(&self) -> &[u8]
         ensures { Spelling self.now.1 result.now }
     {
         &self.bytes
     }
 
-    /// Its message.
+    /// The message. Its fields are within their ranges.
     pub(crate) fn message(&self, alloc: Global) -> Result<Message, OutOfMemory>
         ensures value { IfOk result (λ m. m ≡ self.now.1) }
         ensures range { IfOk result AreInRange }

@@ -1,13 +1,16 @@
-ghost use Rattle.std.specs.Prelude.{◌≡◌, ◌≤◌, ◌<◌, ◌+◌, ◌++◌, [], ◌∷◌, None, IfOk, IfErr, IfSome, IfNone, OnOk, OnErr, IsTrue, ◌↔◌, length, vec_len, vec_capacity};
-ghost use Rattle.ov_peer.specs.Whole.{Whole};
-ghost use Rattle.ov_net.specs.Brought.{IsBrought, IsWithin, MayBefall, Befalls, MayTurn, Turns, taking, packets_after};
+ghost use Rattle.std.specs.Prelude.{◌≡◌, ◌≤◌, ◌<◌, ◌+◌, ◌++◌, [], ◌∷◌, ◌↔◌, length, vec_len, vec_capacity};
+ghost use Rattle.std.specs.Prelude.{IfOk, IfErr, IfSome, IfNone, OnOk, OnErr, IsTrue};
+ghost use Rattle.ov_peer.specs.PeerState.{PeerState};
+ghost use Rattle.ov_net.specs.Code.Effects.{AreEffects, HaveRoom, IsWithin, taking};
+ghost use Rattle.ov_net.specs.Code.Effects.{CanChange, NodeChanges, NamedCanChange, NamedNodeChanges};
 ghost use Rattle.ov_net.specs.Journal.{DeliversOnce};
+ghost use Rattle.ov_net.specs.Limits.{most_packets, most_entries};
 ghost use Rattle.ov_net.specs.Net.{LivesAs};
 ghost use Rattle.ov_net.specs.NetStep.{NetStep};
-ghost use Rattle.ov_net.specs.Refusals.{Judged, IsBorn, IsRefusal};
+ghost use Rattle.ov_net.specs.Refusals.{MayHappen, IsBorn, IsRefusal};
 ghost use Rattle.ov_net.specs.World.{Stands, opening};
 
-use crate::brought::{Brought, Fate};
+use crate::effects::{Effects, NodeChange};
 use crate::entry::Entry;
 use crate::event::Event;
 use crate::fault::NetFault;
@@ -20,19 +23,19 @@ use ov_words::Words;
 use std::alloc::Global;
 use std::marker::Model;
 
-/// How many nodes may ever be born.
+/// The most nodes that may ever be born in a world. Chosen here.
 pub(crate) const MAX_NODES: usize = 256;
 
-/// How many packets may be on their way.
+/// The most packets that may be on their way. Chosen here.
 pub(crate) const MAX_PACKETS: usize = 65_536;
 
-/// How many places for packets are free before each step that may send.
+/// The most packets that one step may send. So many places must be free before it.
 pub(crate) const STEP_PACKETS: usize = 64;
 
-/// How many entries the journal may have.
+/// The most entries that the journal may have. Chosen here.
 pub const MAX_ENTRIES: usize = 65_536;
 
-/// A world of nodes, and its journal.
+/// A world of nodes, and its journal. Contracts see it as a `WorldState`.
 #[derive(Drop)]
 pub struct World {
     pub(crate) alloc: Global,
@@ -43,20 +46,20 @@ pub struct World {
 }
 
 impl Model for World {
-    ghost use Rattle.ov_net.specs.Codes.{chronicle_code};
-    ghost use Rattle.ov_net.specs.World.{Chronicle, Stands};
+    ghost use Rattle.ov_net.specs.Code.Codes.{world_code, world_of};
+    ghost use Rattle.ov_net.specs.World.{WorldState, Stands};
 
-    ghost Value = { Chronicle };
+    ghost Value = { WorldState };
 
-    ghost coded = { chronicle_code };
+    ghost coded = { world_code };
 
-    ghost view = { λ a. record { net = record { params = a.params; nodes = a.nodes; packets = a.packets.items }; journal = a.journal.items } };
+    ghost view = { λ a. world_of a.params a.nodes a.packets.items a.journal.items };
 
-    ghost invariant = { λ a. Stands (record { net = record { params = a.params; nodes = a.nodes; packets = a.packets.items }; journal = a.journal.items }) };
+    ghost invariant = { λ a. Stands (world_of a.params a.nodes a.packets.items a.journal.items) };
 }
 
 impl World {
-    /// A world in which nothing happened. It takes no memory.
+    /// The world in which nothing has happened. Its nodes will have these parameters. Nothing is allocated.
     pub fn new(alloc: Global, params: Params) -> World
         ensures { result ≡ opening params }
     {
@@ -69,7 +72,9 @@ impl World {
         }
     }
 
-    /// All that happened, in order. The journal tells the views, and every message in it can be traced to its broadcast.
+    /// The entries of all events so far, in order. They say who is alive and whom each node holds in its active view.
+    /// Each delivery in them is of a broadcast, and no node delivers one twice. Contracts also say the invariant of a
+    /// world here.
     pub fn journal(&self) -> &[Entry]
         ensures value { result.now ≡ self.now.journal }
         ensures stands { Stands self.now }
@@ -78,19 +83,18 @@ impl World {
         &self.journal
     }
 
-    /// The packets on their way, the oldest first.
+    /// The packets on their way, the oldest first. There are at most 65,536.
     pub fn packets(&self) -> &[Packet]
         ensures value { result.now ≡ self.now.net.packets }
-        ensures few { length self.now.net.packets ≤ 65536 }
+        ensures few { length self.now.net.packets ≤ most_packets }
     {
         &self.packets
     }
 
-    /// The node of this id, where it lives.
+    /// The node with this id, if it is alive.
     pub fn peer(&self, id: NodeId) -> Option<&Peer>
         ensures some { IfSome result (λ p. LivesAs self.now.net id p.now) }
-        ensures none { IfNone result ((p : Whole) → ¬ LivesAs self.now.net id p) }
-        ensures stands { Stands self.now }
+        ensures none { IfNone result ((p : PeerState) → ¬ LivesAs self.now.net id p) }
     {
         match self.nodes.get(id) {
             Some(Member::Live(peer)) => Some(peer),
@@ -99,45 +103,48 @@ impl World {
         }
     }
 
-    /// Whether a node of this id was born. It may have crashed.
+    /// Whether a node with this id was born. It may have crashed since.
     pub fn born(&self, id: NodeId) -> bool
         ensures { IsTrue result ↔ IsBorn self.now.net id }
     {
         self.nodes.get(id).is_some()
     }
 
-    /// One event, with the words that random choices are made by. It answers the event's entry, which goes last in the journal;
-    /// or the first refusal that stands, or that memory was wanted (99), and then nothing changed.
+    /// One event; its random choices are drawn from the words. Returns the event's entry, which goes last in the
+    /// journal, or the first applicable refusal (10 to 20), or out of memory (99) where no refusal applies. After a
+    /// fault the world is unchanged. Events and refusals are chosen here; a node takes its input by HyParView and
+    /// Plumtree.
     pub fn step(&mut self, event: Event, words: &Words) -> Result<Entry, NetFault>
-        ensures judged { IfOk result (λ e. Judged self.old.net (length self.old.journal) event None) }
+        ensures judged { IfOk result (λ e. MayHappen self.old.net (length self.old.journal) event) }
         ensures step { IfOk result (λ e. NetStep self.old.net event words.now self.new.net e) }
         ensures journal { IfOk result (λ e. self.new.journal ≡ self.old.journal ++ e ∷ []) }
         ensures number { IfOk result (λ e. e.number ≡ length self.new.journal) }
-        ensures refused { IfErr result (λ f. IsRefusal self.old.net (length self.old.journal) event f) }
+        ensures refused { IfErr result (IsRefusal self.old.net (length self.old.journal) event) }
         ensures err { OnErr result (self.new ≡ self.old) }
     {
         self.judge(&event)?;
-        let brought = self.brings(&event, words)?;
-        Ok(self.keep(event, words, brought)?)
+        let effects = self.effects_of(&event, words)?;
+        Ok(self.apply(event, words, effects)?)
     }
 
-    /// Keeps what an event brought, and the entry that tells it.
-    fn keep(&mut self, event: Event, words: &Words, brought: Brought) -> Result<Entry, OutOfMemory>
-        requires judged { Judged self.old.net (length self.old.journal) event None }
-        requires brought { IsBrought self.old.net event words.now brought }
-        requires few { length (packets_after self.old.net brought) ≤ 65536 }
+    /// Puts the effects of an event into effect, and appends the event's entry. Returns an equal entry. Out of
+    /// memory, nothing changes.
+    fn apply(&mut self, event: Event, words: &Words, effects: Effects) -> Result<Entry, OutOfMemory>
+        requires judged { MayHappen self.old.net (length self.old.journal) event }
+        requires effects { AreEffects self.old.net event words.now effects }
+        requires few { HaveRoom self.old.net effects }
         ensures step { IfOk result (λ e. NetStep self.old.net event words.now self.new.net e) }
         ensures journal { IfOk result (λ e. self.new.journal ≡ self.old.journal ++ e ∷ []) }
         ensures number { IfOk result (λ e. e.number ≡ length self.new.journal) }
         ensures err { OnErr result (self.new ≡ self.old) }
     {
-        let Brought {
+        let Effects {
             taken,
             node,
             packets,
             changes,
             delivery,
-        } = brought;
+        } = effects;
         let entry = Entry {
             number: next_number(&self.journal),
             event,
@@ -145,7 +152,7 @@ impl World {
             changes,
             delivery,
         };
-        let answer = prepare(
+        let answer = reserve_and_change(
             self.alloc,
             &mut self.nodes,
             &mut self.packets,
@@ -154,39 +161,39 @@ impl World {
             packets.len(),
             &entry,
         )?;
-        exchange(&mut self.packets, taken, packets);
+        update_packets(&mut self.packets, taken, packets);
         self.journal.push_reserved(entry);
         Ok(answer)
     }
 }
 
-/// Makes room for an entry and so many packets, lets become of a node what is to, and answers an equal entry. Without
-/// memory nothing changes.
-fn prepare(
+/// Reserves room for an entry and so many packets, copies the entry, and changes the named node, if there is one.
+/// Returns the copy. Out of memory, nothing changes.
+fn reserve_and_change(
     alloc: Global,
     nodes: &mut Nodes,
     packets: &mut Vec<Packet>,
     journal: &mut Vec<Entry>,
-    node: Option<(NodeId, Fate)>,
+    node: Option<(NodeId, NodeChange)>,
     count: usize,
     entry: &Entry,
 ) -> Result<Entry, OutOfMemory>
-    requires { MayTurn node nodes.old }
+    requires { NamedCanChange node nodes.old }
     ensures copy { IfOk result (λ e. e ≡ entry.now) }
-    ensures ok { OnOk result (Turns node nodes.old nodes.new) }
+    ensures ok { OnOk result (NamedNodeChanges node nodes.old nodes.new) }
     ensures err { OnErr result (nodes.new ≡ nodes.old) }
     ensures packets { packets.new.items ≡ packets.old.items }
     ensures journal { journal.new.items ≡ journal.old.items }
     ensures places { OnOk result (vec_len packets.new + count ≤ vec_capacity packets.new) }
     ensures place { OnOk result (vec_len journal.new < vec_capacity journal.new) }
 {
-    let answer = ready(alloc, packets, journal, count, entry)?;
-    turn(nodes, node)?;
+    let answer = reserve_and_copy(alloc, packets, journal, count, entry)?;
+    change_named_node(nodes, node)?;
     Ok(answer)
 }
 
-/// Makes room for an entry and so many packets, and answers an equal entry. What is there stays.
-fn ready(
+/// Reserves room for an entry and so many packets, and returns a copy of the entry. Packets and journal stay the same.
+fn reserve_and_copy(
     alloc: Global,
     packets: &mut Vec<Packet>,
     journal: &mut Vec<Entry>,
@@ -206,38 +213,42 @@ fn ready(
 
 /// The number of the next entry.
 fn next_number(journal: &[Entry]) -> u32
-    requires { length journal.now < 65536 }
+    requires { length journal.now < most_entries }
     ensures { result ≡ length journal.now + 1 }
 {
     journal.len() as u32 + 1
 }
 
-/// Lets become of a node what is to, if one is named.
-fn turn(nodes: &mut Nodes, node: Option<(NodeId, Fate)>) -> Result<(), OutOfMemory>
-    requires { MayTurn node nodes.old }
-    ensures ok { OnOk result (Turns node nodes.old nodes.new) }
+/// Changes the named node, if there is one. Out of memory, nothing changes.
+fn change_named_node(
+    nodes: &mut Nodes,
+    node: Option<(NodeId, NodeChange)>,
+) -> Result<(), OutOfMemory>
+    requires { NamedCanChange node nodes.old }
+    ensures ok { OnOk result (NamedNodeChanges node nodes.old nodes.new) }
     ensures err { OnErr result (nodes.new ≡ nodes.old) }
 {
     match node {
-        Some((id, fate)) => befall(nodes, id, fate),
+        Some((id, change)) => change_node(nodes, id, change),
         None => Ok(()),
     }
 }
 
-fn befall(nodes: &mut Nodes, id: NodeId, fate: Fate) -> Result<(), OutOfMemory>
-    requires { MayBefall id fate nodes.old }
-    ensures ok { OnOk result (Befalls id fate nodes.old nodes.new) }
+/// Changes a node: it is born, follows its plan, or crashes. Out of memory, nothing changes.
+fn change_node(nodes: &mut Nodes, id: NodeId, change: NodeChange) -> Result<(), OutOfMemory>
+    requires { CanChange id change nodes.old }
+    ensures ok { OnOk result (NodeChanges id change nodes.old nodes.new) }
     ensures err { OnErr result (nodes.new ≡ nodes.old) }
 {
-    match fate {
-        Fate::Born(peer) => nodes.put(id, Member::Live(peer)),
-        Fate::Follows(plan) => nodes.follow(id, plan),
-        Fate::Crashes => nodes.put(id, Member::Gone),
+    match change {
+        NodeChange::Born(peer) => nodes.put(id, Member::Live(peer)),
+        NodeChange::Follows(plan) => nodes.follow(id, plan),
+        NodeChange::Crashes => nodes.put(id, Member::Gone),
     }
 }
 
-/// Takes a packet out, if its place is named, and puts more last. There is room for them.
-fn exchange(packets: &mut Vec<Packet>, taken: Option<usize>, more: Vec<Packet>)
+/// Takes out the packet at the named place, if there is one, and appends more packets. There is room for them.
+fn update_packets(packets: &mut Vec<Packet>, taken: Option<usize>, more: Vec<Packet>)
     requires within { IsWithin taken packets.old.items }
     requires room { vec_len packets.old + vec_len more ≤ vec_capacity packets.old }
     ensures { packets.new.items ≡ taking taken packets.old.items ++ more.items }

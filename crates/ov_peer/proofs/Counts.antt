@@ -3,8 +3,8 @@ use Rattle.std.proofs.Common.{◌≢◌, ℕ, false, ◌+◌, ◌≤◌, List, [
 use Rattle.std.proofs.lemmas.Bool.{eq-eqb, both_ways, or_left, or_right}
 use Rattle.ov_ids.specs.Sets.{IsSet, IsIn, has, without}
 use Rattle.ov_ids.proofs.Sets.{IsIn-kept, has_below_all, length-without_less}
-use Rattle.ov_plum.specs.Tree.{AreBranches}
-use Rattle.ov_peer.specs.Whole.{Whole, IsWhole}
+use Rattle.ov_plum.specs.PlumState.{AreBranches}
+use Rattle.ov_peer.specs.PeerState.{PeerState, IsPeer}
 
 first_in : (x : ℕ) (xs : List ℕ) → IsIn (x ∷ xs) x
 first_in x xs = or_left (eqb x x) _ (eq-eqb x x refl)
@@ -28,7 +28,7 @@ within (x ∷ xs) ys all s t apart p q =
     omega (arith, later, length-without_less x all (p x (first_in x xs)))
 
 -- a node has no more neighbours than active members
-pub neighbours_fit : (p : Whole) → IsWhole p → AreBranches p.tree.branches → length p.tree.branches.eager + length p.tree.branches.lazy ≤ length p.node.views.active
+pub neighbours_fit : (p : PeerState) → IsPeer p → AreBranches p.tree.branches → length p.tree.branches.eager + length p.tree.branches.lazy ≤ length p.node.views.active
 neighbours_fit p w b =
     within p.tree.branches.eager p.tree.branches.lazy p.node.views.active b.eager_set b.lazy_set b.apart
     (λ z h. sym (w.neighbours z) ∙ or_left _ _ h) (λ z h. sym (w.neighbours z) ∙ or_right (has p.tree.branches.eager z) _ h)

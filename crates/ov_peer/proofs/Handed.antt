@@ -2,8 +2,8 @@
 use Rattle.std.proofs.Common.{◌≡◌, ℕ, List, Result, Ok, Err, IfOk, sym, subst}
 use Rattle.ov_wire.specs.declared.message.Body.{Body}
 use Rattle.ov_words.specs.Pick.{Drawn}
-use Rattle.ov_views.specs.Neighbourhood.{Neighbourhood}
-use Rattle.ov_views.specs.Neighbouring.{Asking}
+use Rattle.ov_views.specs.ViewsState.{ViewsState}
+use Rattle.ov_views.specs.NeighborRows.{AttemptState}
 use Rattle.ov_views.specs.Allowed.{Node, Allowed, receives}
 use Rattle.ov_views.specs.declared.moves.Moves.{Moves}
 
@@ -15,22 +15,22 @@ hears n from body said words left before after (Ok m) is h =
 hears n from body said words left before after (Err e) is h = tt
 
 -- of a handler that is handed the views
-pub with_views : {E : Type 0} (v w : Neighbourhood) (a : Asking) (sent : List ℕ) (from : ℕ) (body said : Body) (words left : List ℕ) (r : Result Moves E) → body ≡ said
+pub with_views : {E : Type 0} (v w : ViewsState) (a : AttemptState) (sent : List ℕ) (from : ℕ) (body said : Body) (words left : List ℕ) (r : Result Moves E) → body ≡ said
     → IfOk r (λ m. Drawn words left (λ cs. (k : Node) → Allowed (record k { views = v }) (receives from said) cs (record k { views = w }) m.changes.items m.sends.items))
-    → IfOk r (λ m. Drawn words left (λ cs. Allowed (record { views = v; asking = a; sent = sent }) (receives from body) cs (record { views = w; asking = a; sent = sent }) m.changes.items m.sends.items))
+    → IfOk r (λ m. Drawn words left (λ cs. Allowed (record { views = v; attempt = a; sent = sent }) (receives from body) cs (record { views = w; attempt = a; sent = sent }) m.changes.items m.sends.items))
 with_views v w a sent from body said words left r =
-    hears (record { views = v; asking = a; sent = sent }) from body said words left (λ k. record k { views = v }) (λ k. record k { views = w }) r
+    hears (record { views = v; attempt = a; sent = sent }) from body said words left (λ k. record k { views = v }) (λ k. record k { views = w }) r
 
 -- of one that is handed the attempt too
-pub with_attempt : {E : Type 0} (v w : Neighbourhood) (a b : Asking) (sent : List ℕ) (from : ℕ) (body said : Body) (words left : List ℕ) (r : Result Moves E) → body ≡ said
-    → IfOk r (λ m. Drawn words left (λ cs. (k : Node) → Allowed (record k { views = v; asking = a }) (receives from said) cs (record k { views = w; asking = b }) m.changes.items m.sends.items))
-    → IfOk r (λ m. Drawn words left (λ cs. Allowed (record { views = v; asking = a; sent = sent }) (receives from body) cs (record { views = w; asking = b; sent = sent }) m.changes.items m.sends.items))
+pub with_attempt : {E : Type 0} (v w : ViewsState) (a b : AttemptState) (sent : List ℕ) (from : ℕ) (body said : Body) (words left : List ℕ) (r : Result Moves E) → body ≡ said
+    → IfOk r (λ m. Drawn words left (λ cs. (k : Node) → Allowed (record k { views = v; attempt = a }) (receives from said) cs (record k { views = w; attempt = b }) m.changes.items m.sends.items))
+    → IfOk r (λ m. Drawn words left (λ cs. Allowed (record { views = v; attempt = a; sent = sent }) (receives from body) cs (record { views = w; attempt = b; sent = sent }) m.changes.items m.sends.items))
 with_attempt v w a b sent from body said words left r =
-    hears (record { views = v; asking = a; sent = sent }) from body said words left (λ k. record k { views = v; asking = a }) (λ k. record k { views = w; asking = b }) r
+    hears (record { views = v; attempt = a; sent = sent }) from body said words left (λ k. record k { views = v; attempt = a }) (λ k. record k { views = w; attempt = b }) r
 
 -- of one that is handed the list of the last shuffle too
-pub with_sent : {E : Type 0} (v w : Neighbourhood) (a : Asking) (sent : List ℕ) (from : ℕ) (body said : Body) (words left : List ℕ) (r : Result Moves E) → body ≡ said
+pub with_sent : {E : Type 0} (v w : ViewsState) (a : AttemptState) (sent : List ℕ) (from : ℕ) (body said : Body) (words left : List ℕ) (r : Result Moves E) → body ≡ said
     → IfOk r (λ m. Drawn words left (λ cs. (k : Node) → Allowed (record k { views = v; sent = sent }) (receives from said) cs (record k { views = w; sent = sent }) m.changes.items m.sends.items))
-    → IfOk r (λ m. Drawn words left (λ cs. Allowed (record { views = v; asking = a; sent = sent }) (receives from body) cs (record { views = w; asking = a; sent = sent }) m.changes.items m.sends.items))
+    → IfOk r (λ m. Drawn words left (λ cs. Allowed (record { views = v; attempt = a; sent = sent }) (receives from body) cs (record { views = w; attempt = a; sent = sent }) m.changes.items m.sends.items))
 with_sent v w a sent from body said words left r =
-    hears (record { views = v; asking = a; sent = sent }) from body said words left (λ k. record k { views = v; sent = sent }) (λ k. record k { views = w; sent = sent }) r
+    hears (record { views = v; attempt = a; sent = sent }) from body said words left (λ k. record k { views = v; sent = sent }) (λ k. record k { views = w; sent = sent }) r

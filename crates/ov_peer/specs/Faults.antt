@@ -4,7 +4,7 @@ use Rattle.std.specs.FinMap as map
 use Rattle.ov_wire.specs.Messages.{AreInRange}
 use Rattle.ov_plum.specs.declared.fault.TimerFault.{TimerFault}
 use Rattle.ov_plum.specs.declared.fault.TimerFault.TheVariants as timer
-use Rattle.ov_peer.specs.Whole.{Whole}
+use Rattle.ov_peer.specs.PeerState.{PeerState}
 use Rattle.ov_peer.specs.declared.fault.PeerFault.{PeerFault}
 use Rattle.ov_peer.specs.declared.fault.PeerFault.TheVariants.{NoTimer, PayloadTooLong, TooManyMessages, OutOfMemory}
 use Rattle.ov_peer.specs.declared.input.Input.{Input}
@@ -13,7 +13,7 @@ use Rattle.ov_peer.specs.declared.input.Input.TheVariants as input
 
 -- the fault of an input, beside want of memory: a payload of more than 1,024 bytes, then a node that has made 4,096 broadcasts;
 -- a timer that is not set
-abbrev pub fault_of : Whole → Input → Option PeerFault
+abbrev pub fault_of : PeerState → Input → Option PeerFault
 fault_of p (Boot contact) = None
 fault_of p (Receive message) = None
 fault_of p (Report crashed) = None

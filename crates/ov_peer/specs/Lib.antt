@@ -1,6 +1,6 @@
-pub mod Whole
-pub mod Codes
+pub mod PeerState
 pub mod Step
 pub mod Faults
 pub mod Planning
 pub mod Noted
+pub mod Code

@@ -1,12 +1,12 @@
 //! A node whole: HyParView's handlers and Plumtree's, joined so that one input is one step.
 #![tactic(auto)]
 
+mod dispatch;
 mod fault;
-mod hearing;
 mod input;
 mod peer;
 mod plan;
-mod telling;
+mod tree_updates;
 
 pub use fault::PeerFault;
 pub use input::{Delivery, Input, Output};

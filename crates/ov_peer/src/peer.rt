@@ -1,30 +1,29 @@
 ghost use Rattle.std.specs.Prelude.{◌≡◌, ◌≤◌, ◌+◌, ℕ, List, [], length, vec_len, Some, None, Err, IfOk, IfErr, OnOk, OnErr};
 ghost use Rattle.std.specs.FinMap as map;
-ghost use Rattle.std.specs.List.{AllByRecursion};
-ghost use Rattle.ov_wire.specs.Messages.{AreInRange, kind_of};
+ghost use Rattle.ov_wire.specs.Messages.{AreInRange, kind_of, AreSendsInRange};
 ghost use Rattle.ov_words.specs.Pick.{Drawn};
 ghost use Rattle.ov_views.specs.Changes.{after_changes};
-ghost use Rattle.ov_views.specs.Neighbourhood.{AreViews};
-ghost use Rattle.ov_plum.specs.Noted.{Shows, none_noted};
-ghost use Rattle.ov_plum.specs.Tree.{AreBranches};
+ghost use Rattle.ov_views.specs.ViewsState.{AreViews};
+ghost use Rattle.ov_plum.specs.Notes.{Shows, none_noted};
+ghost use Rattle.ov_plum.specs.PlumState.{AreBranches};
 ghost use Rattle.ov_peer.specs.Faults.{fault_of, IsInputInRange};
 ghost use Rattle.ov_peer.specs.Noted.{NotesStep};
-ghost use Rattle.ov_peer.specs.Planning.{Fits, Follows, Plans};
+ghost use Rattle.ov_peer.specs.Planning.{IsPlanFor, Follows, Plans};
 ghost use Rattle.ov_peer.specs.Step.{PeerStep, IsPeerStep};
-ghost use Rattle.ov_peer.specs.Whole.{Whole, IsWhole, newborn};
+ghost use Rattle.ov_peer.specs.PeerState.{PeerState, IsPeer, newborn};
 ghost use Rattle.ov_peer.specs.declared.fault.PeerFault.{PeerFault};
 ghost use Rattle.ov_peer.specs.declared.fault.PeerFault.TheVariants.{OutOfMemory as wants_memory};
 ghost use Rattle.ov_peer.specs.declared.input.Input.TheVariants as input;
 ghost use Rattle.ov_peer.specs.declared.input.Input.TheVariants.{Boot, Receive, Report, Broadcast, Timer};
 
+use crate::dispatch::hear;
 use crate::fault::PeerFault;
-use crate::hearing::hear;
 use crate::input::{Input, Output};
-use crate::plan::{Course, Near, Plan, follow};
-use crate::telling::{joins, tell};
+use crate::plan::{NextViews, Plan, ViewsChange, follow};
+use crate::tree_updates::{joins, tell};
 use ov_ids::{MsgId, NodeId, OutOfMemory, Params, Seq};
 use ov_neighbor::Attempt;
-use ov_plum::{Plum, Turn};
+use ov_plum::{Plum, PlumChange};
 use ov_shuffle::Sent;
 use ov_views::Views;
 use ov_wire::{Body, MAX_PAYLOAD, Message};
@@ -36,7 +35,7 @@ use std::marker::Model;
 pub const MAX_BROADCASTS: u32 = 4096;
 
 /// A node: its views, its attempt, the list of its last shuffle, and its part of Plumtree's tree, whose neighbours are always the
-/// active members. Contracts see it as a `Whole`.
+/// active members. Contracts see it as a `PeerState`.
 #[derive(Drop)]
 pub struct Peer {
     alloc: Global,
@@ -47,16 +46,16 @@ pub struct Peer {
 }
 
 impl Model for Peer {
-    ghost use Rattle.ov_peer.specs.Codes.{whole_code};
-    ghost use Rattle.ov_peer.specs.Whole.{Whole, IsWhole};
+    ghost use Rattle.ov_peer.specs.Code.Codes.{peer_code};
+    ghost use Rattle.ov_peer.specs.PeerState.{PeerState, IsPeer};
 
-    ghost Value = { Whole };
+    ghost Value = { PeerState };
 
-    ghost coded = { whole_code };
+    ghost coded = { peer_code };
 
-    ghost view = { λ a. record { node = record { views = a.views; asking = a.attempt; sent = a.sent }; tree = a.plum } };
+    ghost view = { λ a. record { node = record { views = a.views; attempt = a.attempt; sent = a.sent }; tree = a.plum } };
 
-    ghost invariant = { λ a. IsWhole (record { node = record { views = a.views; asking = a.attempt; sent = a.sent }; tree = a.plum }) };
+    ghost invariant = { λ a. IsPeer (record { node = record { views = a.views; attempt = a.attempt; sent = a.sent }; tree = a.plum }) };
 }
 
 impl Peer {
@@ -91,7 +90,7 @@ impl Peer {
     pub fn active(&self) -> &[NodeId]
         ensures value { result.now ≡ self.now.node.views.active }
         ensures views { AreViews self.now.node.views }
-        ensures whole { IsWhole self.now }
+        ensures whole { IsPeer self.now }
     {
         self.views.active()
     }
@@ -108,7 +107,7 @@ impl Peer {
     pub fn eager(&self) -> &[NodeId]
         ensures value { result.now ≡ self.now.tree.branches.eager }
         ensures branches { AreBranches self.now.tree.branches }
-        ensures whole { IsWhole self.now }
+        ensures whole { IsPeer self.now }
     {
         self.plum.eager()
     }
@@ -117,7 +116,7 @@ impl Peer {
     pub fn lazy(&self) -> &[NodeId]
         ensures value { result.now ≡ self.now.tree.branches.lazy }
         ensures branches { AreBranches self.now.tree.branches }
-        ensures whole { IsWhole self.now }
+        ensures whole { IsPeer self.now }
     {
         self.plum.lazy()
     }
@@ -141,12 +140,12 @@ impl Peer {
     /// set; of a broadcast PayloadTooLong (19) and then TooManyMessages (20).
     pub fn plan(&self, input: Input, words: &Words) -> Result<Plan, PeerFault>
         requires { IsInputInRange input }
-        ensures allowed { IfOk result (λ g. (q : Whole) → Follows self.now g q → (left : List ℕ) × (24 ≤ length left) × Drawn words.now left
+        ensures allowed { IfOk result (λ g. (q : PeerState) → Follows self.now g q → (left : List ℕ) × (24 ≤ length left) × Drawn words.now left
             (λ choices. PeerStep self.now input choices q g.sends.items g.changes.items g.delivered)) }
-        ensures noted { IfOk result (λ g. (q : Whole) → Follows self.now g q → NotesStep self.now.tree input g.changes.items q.tree) }
-        ensures fits { IfOk result (Fits self.now) }
+        ensures noted { IfOk result (λ g. (q : PeerState) → Follows self.now g q → NotesStep self.now.tree input g.changes.items q.tree) }
+        ensures fits { IfOk result (IsPlanFor self.now) }
         ensures few { IfOk result (λ g. vec_len g.sends ≤ 64) }
-        ensures ranges { IfOk result (λ g. AllByRecursion (λ s. AreInRange s.1) g.sends.items) }
+        ensures ranges { IfOk result (λ g. AreSendsInRange g.sends.items) }
         ensures fault { (f : PeerFault) → fault_of self.now input ≡ Some f → result ≡ Err f }
         ensures memory { fault_of self.now input ≡ None → IfErr result (λ e. e ≡ wants_memory) }
     {
@@ -165,7 +164,7 @@ impl Peer {
     /// It is the step that was planned while nothing changed in the node since. The answer is the plan's. Without memory the node
     /// is as before.
     pub fn apply(&mut self, plan: Plan) -> Result<Output, OutOfMemory>
-        requires { Fits self.old plan }
+        requires { IsPlanFor self.old plan }
         ensures follows { OnOk result (Follows self.old plan self.new) }
         ensures step { OnOk result (IsPeerStep self.old plan.changes.items self.new) }
         ensures noted { OnOk result ((s : IsPeerStep self.old plan.changes.items self.new) × NotesStep self.old.tree s.input plan.changes.items self.new.tree) }
@@ -178,13 +177,18 @@ impl Peer {
             sends,
             changes,
             delivered,
-            course,
-            turn,
+            views_change,
+            plum_change,
         } = plan;
-        self.plum.apply(turn)?;
+        self.plum.apply(plum_change)?;
         prove!(self.plum.eager().len() + self.plum.lazy().len() <= self.views.active().len());
         tell(&mut self.plum, &changes);
-        follow(&mut self.views, &mut self.attempt, &mut self.sent, course);
+        follow(
+            &mut self.views,
+            &mut self.attempt,
+            &mut self.sent,
+            views_change,
+        );
         Ok(Output {
             sends,
             changes,
@@ -202,7 +206,7 @@ impl Peer {
         ensures noted { IfOk result (λ o. NotesStep self.old.tree input o.changes.items self.new.tree) }
         ensures told { IfOk result (λ o. self.new.node.views.active ≡ after_changes o.changes.items self.old.node.views.active) }
         ensures few { IfOk result (λ o. vec_len o.sends ≤ 64) }
-        ensures ranges { IfOk result (λ o. AllByRecursion (λ s. AreInRange s.1) o.sends.items) }
+        ensures ranges { IfOk result (λ o. AreSendsInRange o.sends.items) }
         ensures fault { (f : PeerFault) → fault_of self.old input ≡ Some f → result ≡ Err f }
         ensures memory { fault_of self.old input ≡ None → IfErr result (λ e. e ≡ wants_memory) }
         ensures err { OnErr result (self.new ≡ self.old) }
@@ -214,16 +218,16 @@ impl Peer {
     /// The node starts: it is to send JOIN to its contact, if there is one.
     fn boot(&self, contact: Option<NodeId>) -> Result<Plan, OutOfMemory>
         ensures allowed { IfOk result (Plans self.now (Boot contact) []) }
-        ensures fits { IfOk result (Fits self.now) }
+        ensures fits { IfOk result (IsPlanFor self.now) }
         ensures few { IfOk result (λ g. vec_len g.sends ≤ 1) }
-        ensures ranges { IfOk result (λ g. AllByRecursion (λ s. AreInRange s.1) g.sends.items) }
+        ensures ranges { IfOk result (λ g. AreSendsInRange g.sends.items) }
     {
         Ok(Plan {
             sends: joins(self.alloc, self.views.me(), contact)?,
             changes: Vec::new(self.alloc),
             delivered: None,
-            course: Course::Stays,
-            turn: Turn::Rests,
+            views_change: ViewsChange::Nothing,
+            plum_change: PlumChange::Rests,
         })
     }
 
@@ -231,30 +235,30 @@ impl Peer {
     fn shuffle(&self, draws: &mut Draws<'_>) -> Result<Plan, OutOfMemory>
         requires { 40 ≤ length draws.old }
         ensures allowed { IfOk result (λ g. Drawn draws.old draws.new (λ choices. Plans self.now input.Shuffle choices g)) }
-        ensures fits { IfOk result (Fits self.now) }
+        ensures fits { IfOk result (IsPlanFor self.now) }
         ensures words { length draws.old ≤ length draws.new + 40 }
         ensures few { IfOk result (λ g. vec_len g.sends ≤ 64) }
-        ensures ranges { IfOk result (λ g. AllByRecursion (λ s. AreInRange s.1) g.sends.items) }
+        ensures ranges { IfOk result (λ g. AreSendsInRange g.sends.items) }
     {
         let mut sent = self.sent.copy()?;
         let moves = ov_shuffle::start(self.alloc, &self.views, &mut sent, draws)?;
-        Ok(Plan::of_moves(moves, Course::Shuffles(sent)))
+        Ok(Plan::of_moves(moves, ViewsChange::Shuffle(sent)))
     }
 
     /// A node is reported to have crashed.
     fn report(&self, crashed: NodeId, draws: &mut Draws<'_>) -> Result<Plan, OutOfMemory>
         requires { 40 ≤ length draws.old }
         ensures allowed { IfOk result (λ g. Drawn draws.old draws.new (λ choices. Plans self.now (Report crashed) choices g)) }
-        ensures fits { IfOk result (Fits self.now) }
+        ensures fits { IfOk result (IsPlanFor self.now) }
         ensures words { length draws.old ≤ length draws.new + 40 }
         ensures few { IfOk result (λ g. vec_len g.sends ≤ 64) }
-        ensures ranges { IfOk result (λ g. AllByRecursion (λ s. AreInRange s.1) g.sends.items) }
+        ensures ranges { IfOk result (λ g. AreSendsInRange g.sends.items) }
     {
         let mut views = self.views.copy();
         let mut attempt = self.attempt.copy()?;
         let moves = ov_neighbor::on_report(self.alloc, &mut views, &mut attempt, draws, crashed)?;
-        let near = Box::new(self.alloc, Near { views, attempt })?;
-        Ok(Plan::of_moves(moves, Course::Moves(near)))
+        let near = Box::new(self.alloc, NextViews { views, attempt })?;
+        Ok(Plan::of_moves(moves, ViewsChange::ViewsAndAttempt(near)))
     }
 
     /// A message comes.
@@ -262,10 +266,10 @@ impl Peer {
         requires words { 40 ≤ length draws.old }
         requires range { AreInRange message }
         ensures allowed { IfOk result (λ g. Drawn draws.old draws.new (λ choices. Plans self.now (Receive message) choices g)) }
-        ensures fits { IfOk result (Fits self.now) }
+        ensures fits { IfOk result (IsPlanFor self.now) }
         ensures words { length draws.old ≤ length draws.new + 40 }
         ensures few { IfOk result (λ g. vec_len g.sends ≤ 64) }
-        ensures ranges { IfOk result (λ g. AllByRecursion (λ s. AreInRange s.1) g.sends.items) }
+        ensures ranges { IfOk result (λ g. AreSendsInRange g.sends.items) }
     {
         let from = message.from;
         let planned = match message.body {
@@ -287,10 +291,10 @@ impl Peer {
         requires kind { kind_of body.now ≤ 8 }
         ensures allowed { IfOk result (λ g. Drawn draws.old draws.new
             (λ choices. Plans self.now (Receive (record { from = from; body = body.now })) choices g)) }
-        ensures fits { IfOk result (Fits self.now) }
+        ensures fits { IfOk result (IsPlanFor self.now) }
         ensures words { length draws.old ≤ length draws.new + 40 }
         ensures few { IfOk result (λ g. vec_len g.sends ≤ 64) }
-        ensures ranges { IfOk result (λ g. AllByRecursion (λ s. AreInRange s.1) g.sends.items) }
+        ensures ranges { IfOk result (λ g. AreSendsInRange g.sends.items) }
     {
         let mut views = self.views.copy();
         let mut attempt = self.attempt.copy()?;
@@ -303,16 +307,16 @@ impl Peer {
             from,
             body,
         )?;
-        let near = Box::new(self.alloc, Near { views, attempt })?;
-        Ok(Plan::of_moves(moves, Course::Moves(near)))
+        let near = Box::new(self.alloc, NextViews { views, attempt })?;
+        Ok(Plan::of_moves(moves, ViewsChange::ViewsAndAttempt(near)))
     }
 
     /// The node broadcasts.
     fn broadcast(&self, payload: Seq<u8>) -> Result<Plan, PeerFault>
         ensures allowed { IfOk result (Plans self.now (Broadcast payload) []) }
-        ensures fits { IfOk result (Fits self.now) }
+        ensures fits { IfOk result (IsPlanFor self.now) }
         ensures few { IfOk result (λ g. vec_len g.sends ≤ 64) }
-        ensures ranges { IfOk result (λ g. AllByRecursion (λ s. AreInRange s.1) g.sends.items) }
+        ensures ranges { IfOk result (λ g. AreSendsInRange g.sends.items) }
         ensures fault { (f : PeerFault) → fault_of self.now (Broadcast payload) ≡ Some f → result ≡ Err f }
         ensures memory { fault_of self.now (Broadcast payload) ≡ None → IfErr result (λ e. e ≡ wants_memory) }
     {
@@ -329,9 +333,9 @@ impl Peer {
     /// A timer fires.
     fn timer(&self, id: MsgId) -> Result<Plan, PeerFault>
         ensures allowed { IfOk result (Plans self.now (Timer id) []) }
-        ensures fits { IfOk result (Fits self.now) }
+        ensures fits { IfOk result (IsPlanFor self.now) }
         ensures few { IfOk result (λ g. vec_len g.sends ≤ 1) }
-        ensures ranges { IfOk result (λ g. AllByRecursion (λ s. AreInRange s.1) g.sends.items) }
+        ensures ranges { IfOk result (λ g. AreSendsInRange g.sends.items) }
         ensures fault { (f : PeerFault) → fault_of self.now (Timer id) ≡ Some f → result ≡ Err f }
         ensures memory { fault_of self.now (Timer id) ≡ None → IfErr result (λ e. e ≡ wants_memory) }
     {

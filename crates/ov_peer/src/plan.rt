@@ -1,13 +1,13 @@
 ghost use Rattle.std.specs.Prelude.{◌≡◌, [], None};
-ghost use Rattle.ov_plum.specs.declared.turn.Turn.TheVariants.{Rests};
+ghost use Rattle.ov_plum.specs.declared.plum_change.PlumChange.TheVariants.{Rests};
 ghost use Rattle.ov_peer.specs.Planning.{node_after};
 ghost use Rattle.ov_peer.specs.Step.{delivery_at};
-ghost use Rattle.ov_peer.specs.declared.plan.Course.TheVariants.{Stays};
+ghost use Rattle.ov_peer.specs.declared.plan.ViewsChange.TheVariants.{Nothing};
 
 use crate::input::Delivery;
 use ov_ids::{MsgId, NodeId, Seq};
 use ov_neighbor::Attempt;
-use ov_plum::{Planned, Spread, Turn};
+use ov_plum::{PlumChange, PlumPlan, Spread};
 use ov_shuffle::Sent;
 use ov_views::{Moves, ViewChange, Views};
 use ov_wire::Message;
@@ -15,20 +15,20 @@ use std::alloc::Global;
 
 /// The views and the attempt of a node.
 #[derive(Drop)]
-pub(crate) struct Near {
+pub(crate) struct NextViews {
     pub(crate) views: Views,
     pub(crate) attempt: Attempt,
 }
 
 /// What becomes of a node's views, attempt and shuffle. The views lie apart, since a plan is handed on often.
 #[derive(Drop)]
-pub(crate) enum Course {
+pub(crate) enum ViewsChange {
     /// They stay as they are.
-    Stays,
+    Nothing,
     /// The views and the attempt are then these.
-    Moves(Box<Near>),
+    ViewsAndAttempt(Box<NextViews>),
     /// The list of the last shuffle is then this one.
-    Shuffles(Sent),
+    Shuffle(Sent),
 }
 
 /// A step that is planned: what the node is to send and to whom, in order, how its active view is to change, in order, and what
@@ -38,40 +38,43 @@ pub struct Plan {
     pub sends: Vec<(NodeId, Message)>,
     pub changes: Vec<ViewChange>,
     pub delivered: Option<Delivery>,
-    pub(crate) course: Course,
-    pub(crate) turn: Turn,
+    pub(crate) views_change: ViewsChange,
+    pub(crate) plum_change: PlumChange,
 }
 
 impl Plan {
     /// A step of HyParView's part.
-    pub(crate) fn of_moves(moves: Moves, course: Course) -> Plan
-        ensures { result ≡ record { sends = moves.sends; changes = moves.changes; delivered = None; course = course; turn = Rests } }
+    pub(crate) fn of_moves(moves: Moves, views_change: ViewsChange) -> Plan
+        ensures { result ≡ record { sends = moves.sends; changes = moves.changes; delivered = None; views_change = views_change; plum_change = Rests } }
     {
         Plan {
             sends: moves.sends,
             changes: moves.changes,
             delivered: None,
-            course,
-            turn: Turn::Rests,
+            views_change,
+            plum_change: PlumChange::Rests,
         }
     }
 
     /// A step of the tree of a node.
-    pub(crate) fn of_tree(alloc: Global, me: NodeId, planned: Planned) -> Plan
+    pub(crate) fn of_tree(alloc: Global, me: NodeId, planned: PlumPlan) -> Plan
         ensures sends { result.sends ≡ planned.spread.sends }
         ensures changes { result.changes.items ≡ [] }
         ensures delivered { result.delivered ≡ delivery_at me planned.spread.delivered }
-        ensures course { result.course ≡ Stays }
-        ensures turn { result.turn ≡ planned.turn }
+        ensures views_change { result.views_change ≡ Nothing }
+        ensures plum_change { result.plum_change ≡ planned.plum_change }
     {
-        let Planned { spread, turn } = planned;
+        let PlumPlan {
+            spread,
+            plum_change,
+        } = planned;
         let Spread { sends, delivered } = spread;
         Plan {
             sends,
             changes: Vec::new(alloc),
             delivered: delivery_at(me, delivered),
-            course: Course::Stays,
-            turn,
+            views_change: ViewsChange::Nothing,
+            plum_change,
         }
     }
 }
@@ -91,17 +94,22 @@ fn delivery_at(me: NodeId, delivered: Option<(MsgId, Seq<u8>)>) -> Option<Delive
 }
 
 /// Changes a node's views, attempt and shuffle as a course says.
-pub(crate) fn follow(views: &mut Views, attempt: &mut Attempt, sent: &mut Sent, course: Course)
-    ensures { record { views = views.new; asking = attempt.new; sent = sent.new }
-        ≡ node_after (record { views = views.old; asking = attempt.old; sent = sent.old }) course }
+pub(crate) fn follow(
+    views: &mut Views,
+    attempt: &mut Attempt,
+    sent: &mut Sent,
+    views_change: ViewsChange,
+)
+    ensures { record { views = views.new; attempt = attempt.new; sent = sent.new }
+        ≡ node_after (record { views = views.old; attempt = attempt.old; sent = sent.old }) views_change }
 {
-    match course {
-        Course::Stays => {}
-        Course::Moves(near) => {
+    match views_change {
+        ViewsChange::Nothing => {}
+        ViewsChange::ViewsAndAttempt(near) => {
             let then = Box::into_inner(near);
             *views = then.views;
             *attempt = then.attempt;
         }
-        Course::Shuffles(then) => *sent = then,
+        ViewsChange::Shuffle(then) => *sent = then,
     }
 }

@@ -2,13 +2,13 @@
 use Rattle.std.proofs.Common.{ℕ, ◌<◌, ◌+◌, length, inl, inr, arith}
 use Rattle.ov_ids.specs.Sets.{IsIn, adding, without}
 use Rattle.ov_ids.proofs.Sets.{IsSet-adding, IsSet-without, IsIn-adding, IsIn-without, length-adding, length-without, length-without_less}
-use Rattle.ov_plum.specs.Tree.{Branches, AreBranches, up, down}
+use Rattle.ov_plum.specs.PlumState.{BranchesState, AreBranches, up, down}
 
 -- the two sets may change places
-pub turned : (b : Branches) → AreBranches b → AreBranches (record { eager = b.lazy; lazy = b.eager })
-turned b a = record { eager_set = a.lazy_set; lazy_set = a.eager_set; apart = λ x h k. a.apart x k h; few = omega (arith, a.few) }
+pub plum_after : (b : BranchesState) → AreBranches b → AreBranches (record { eager = b.lazy; lazy = b.eager })
+plum_after b a = record { eager_set = a.lazy_set; lazy_set = a.eager_set; apart = λ x h k. a.apart x k h; few = omega (arith, a.few) }
 
-pub down_keeps : (b : Branches) (x : ℕ) → AreBranches b → AreBranches (down x b)
+pub down_keeps : (b : BranchesState) (x : ℕ) → AreBranches b → AreBranches (down x b)
 down_keeps b x a = record {
   eager_set = IsSet-without x b.eager a.eager_set;
   lazy_set = IsSet-without x b.lazy a.lazy_set;
@@ -16,7 +16,7 @@ down_keeps b x a = record {
   few = omega (arith, length-without x b.eager, length-without x b.lazy, a.few);
 }
 
-pub up_keeps : (b : Branches) (x : ℕ) → AreBranches b → length b.eager + length (without x b.lazy) < 64 → AreBranches (up x b)
+pub up_keeps : (b : BranchesState) (x : ℕ) → AreBranches b → length b.eager + length (without x b.lazy) < 64 → AreBranches (up x b)
 up_keeps b x a room = record {
   eager_set = IsSet-adding x b.eager a.eager_set;
   lazy_set = IsSet-without x b.lazy a.lazy_set;
@@ -27,13 +27,13 @@ up_keeps b x a room = record {
 }
 
 -- with a place free
-pub comes_up : (b : Branches) (x : ℕ) → AreBranches b → length b.eager + length b.lazy < 64 → AreBranches (up x b)
+pub comes_up : (b : BranchesState) (x : ℕ) → AreBranches b → length b.eager + length b.lazy < 64 → AreBranches (up x b)
 comes_up b x a room = up_keeps b x a (omega (arith, length-without x b.lazy, room))
 
 -- from the lazy
-pub turns_eager : (b : Branches) (x : ℕ) → AreBranches b → IsIn b.lazy x → AreBranches (up x b)
+pub turns_eager : (b : BranchesState) (x : ℕ) → AreBranches b → IsIn b.lazy x → AreBranches (up x b)
 turns_eager b x a h = up_keeps b x a (omega (arith, length-without_less x b.lazy h, a.few))
 
 -- from the eager
-pub turns_lazy : (b : Branches) (x : ℕ) → AreBranches b → IsIn b.eager x → AreBranches (record { eager = without x b.eager; lazy = adding x b.lazy })
-turns_lazy b x a h = turned _ (turns_eager (record { eager = b.lazy; lazy = b.eager }) x (turned b a) h)
+pub turns_lazy : (b : BranchesState) (x : ℕ) → AreBranches b → IsIn b.eager x → AreBranches (record { eager = without x b.eager; lazy = adding x b.lazy })
+turns_lazy b x a h = plum_after _ (turns_eager (record { eager = b.lazy; lazy = b.eager }) x (plum_after b a) h)

@@ -5,11 +5,11 @@ use Rattle.std.specs.Option.{unwrap_or}
 use Rattle.ov_ids.specs.Sets.{has}
 use Rattle.ov_ids.specs.declared.id.MsgId.{MsgId}
 use Rattle.ov_plum.specs.Ids.{id_cmp}
-use Rattle.ov_plum.specs.Tree.{Tree, noting, notes_of}
+use Rattle.ov_plum.specs.PlumState.{PlumState, noting, notes_of}
 use Rattle.ov_plum.proofs.Maps.{id_cmp_total, id_cmp_same, put_again}
 
 -- to note a sender anew changes nothing
-pub noted_again : (t : Tree) (id : MsgId) (s : ℕ) (notes : List ℕ) → map.get t.timers id ≡ Some notes → has notes s ≡ true
+pub noted_again : (t : PlumState) (id : MsgId) (s : ℕ) (notes : List ℕ) → map.get t.timers id ≡ Some notes → has notes s ≡ true
     → t ≡ record t { timers = map.insert t.timers id (noting s (notes_of t id)) }
 noted_again t id s notes at there =
     let same : noting s (notes_of t id) ≡ notes = ap (λ n. noting s (unwrap_or n [])) at ∙ ap (λ b. cond b notes (notes ++ s ∷ [])) there in

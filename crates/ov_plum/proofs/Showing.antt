@@ -15,9 +15,9 @@ use Rattle.ov_plum.specs.Ids.{id_cmp}
 use Rattle.ov_wire.specs.declared.message.Message.{Message}
 use Rattle.ov_wire.specs.declared.message.Body.{Body}
 use Rattle.ov_wire.specs.declared.message.Body.TheVariants.{Join, ForwardJoin, Joined, Neighbor, NeighborReply, Disconnect, Shuffle, ShuffleReply, Gossip, IHave, Graft, Prune}
-use Rattle.ov_plum.specs.Noted.{Noted, Note, Shows, NotesFollow, is_of, senders, without_oldest, when_come, when_said, when_fired, when_gone, noted_from, none_noted}
-use Rattle.ov_plum.specs.Spreading.{AllowedTree, AllowedFrom, Delivered, Fires, Prompt, broadcasts, receives, fires, goes_up, goes_down}
-use Rattle.ov_plum.specs.Tree.{Tree, is_linked, noting, notes_of}
+use Rattle.ov_plum.specs.Notes.{Noted, Note, Shows, NotesFollow, is_of, senders, without_oldest, when_come, when_said, when_fired, when_gone, noted_from, none_noted}
+use Rattle.ov_plum.specs.PlumRows.{AllowedTree, AllowedFrom, Delivered, Fires, PlumInput, broadcasts, receives, fires, goes_up, goes_down}
+use Rattle.ov_plum.specs.PlumState.{PlumState, is_linked, noting, notes_of}
 use Rattle.ov_plum.proofs.Maps.{id_cmp_total, id_cmp_same}
 
 -- whether two ids are the same
@@ -79,7 +79,7 @@ other_oldest q id (n ∷ notes) other =
     ] refl
 
 -- where the map rests, so do the notes and timers
-shows_still : (t u : Tree) (w : Noted) → u.timers ≡ t.timers → Shows t w → Shows u w
+shows_still : (t u : PlumState) (w : Noted) → u.timers ≡ t.timers → Shows t w → Shows u w
 shows_still t u w still s = record {
   running = λ q. s.running q ∙ sym (ap (λ m. map.contains_key m q) still);
   notes = λ q. s.notes q ∙ sym (ap (λ m. unwrap_or (map.get m q) []) still);
@@ -94,7 +94,7 @@ by_id q id P here there =
     ] refl
 
 -- a map without an id shows no note of it, and that its timer does not run
-shows_out : (t u : Tree) (id : MsgId) (w : Noted) (notes : List Note) → u.timers ≡ map.remove t.timers id
+shows_out : (t u : PlumState) (id : MsgId) (w : Noted) (notes : List Note) → u.timers ≡ map.remove t.timers id
     → senders id notes ≡ [] → ((q : MsgId) → same q id ≡ false → senders q notes ≡ senders q w.notes) → Shows t w
     → Shows u (record { notes = notes; running = set.remove w.running id })
 shows_out t u id w notes is here there s = shows_still (record t { timers = map.remove t.timers id }) u _ is (record {
@@ -107,11 +107,11 @@ shows_out t u id w notes is here there s = shows_still (record t { timers = map.
       ∙ sym (ap (λ o. unwrap_or o []) (map.get-remove id_cmp_total t.timers id q));
 })
 
-shows_come : (t u : Tree) (id : MsgId) (w : Noted) → u.timers ≡ map.remove t.timers id → Shows t w → Shows u (when_come id w)
+shows_come : (t u : PlumState) (id : MsgId) (w : Noted) → u.timers ≡ map.remove t.timers id → Shows t w → Shows u (when_come id w)
 shows_come t u id w is s = shows_out t u id w _ is (none_left id w.notes) (λ q e. others_stay q id w.notes e) s
 
 -- a map with other notes at an id shows these
-shows_put : (t u : Tree) (id : MsgId) (put : List ℕ) (w v : Noted) → u.timers ≡ map.insert t.timers id put
+shows_put : (t u : PlumState) (id : MsgId) (put : List ℕ) (w v : Noted) → u.timers ≡ map.insert t.timers id put
     → ((q : MsgId) → set.contains v.running q ≡ (same q id || set.contains w.running q))
     → senders id v.notes ≡ put → ((q : MsgId) → same q id ≡ false → senders q v.notes ≡ senders q w.notes) → Shows t w → Shows u v
 shows_put t u id put w v is running here there s = shows_still (record t { timers = map.insert t.timers id put }) u v is (record {
@@ -142,13 +142,13 @@ said_there q id s w other =
       | false ↦ senders_said q id s w.notes ∙ ap (λ b. cond b (senders q w.notes ++ s ∷ []) (senders q w.notes)) other
     ]
 
-shows_said : (t u : Tree) (s : ℕ) (id : MsgId) (w : Noted) → u.timers ≡ map.insert t.timers id (noting s (notes_of t id)) → Shows t w → Shows u (when_said s id w)
+shows_said : (t u : PlumState) (s : ℕ) (id : MsgId) (w : Noted) → u.timers ≡ map.insert t.timers id (noting s (notes_of t id)) → Shows t w → Shows u (when_said s id w)
 shows_said t u s id w is shows =
     shows_put t u id (noting s (notes_of t id)) w (when_said s id w) is (λ q. set.contains-insert id_cmp_total w.running id q)
     (said_here id s w ∙ ap (noting s) (shows.notes id)) (λ q e. said_there q id s w e) shows
 
 -- who is gone has no note at any id
-pub shows_gone : (t u : Tree) (x : ℕ) (w : Noted) → ((id : MsgId) → map.get u.timers id ≡ option_map (without x) (map.get t.timers id)) → Shows t w → Shows u (when_gone x w)
+pub shows_gone : (t u : PlumState) (x : ℕ) (w : Noted) → ((id : MsgId) → map.get u.timers id ≡ option_map (without x) (map.get t.timers id)) → Shows t w → Shows u (when_gone x w)
 shows_gone t u x w is s = record {
   running = λ q. s.running q ∙ kept (map.get t.timers q) ∙ sym (ap is_some (is q));
   notes = λ q. senders_gone q x w.notes ∙ ap (without x) (s.notes q) ∙ left (map.get t.timers q) ∙ sym (ap (λ o. unwrap_or o []) (is q));
@@ -176,7 +176,7 @@ any_filled id (n ∷ notes) =
     ]
 
 -- a timer that runs, with these notes
-shows_fired : (t u : Tree) (id : MsgId) (notes : List ℕ) (sends : List (ℕ × Message)) (w : Noted) → map.get t.timers id ≡ Some notes → Fires t id notes u sends → Shows t w → Shows u (when_fired id w)
+shows_fired : (t u : PlumState) (id : MsgId) (notes : List ℕ) (sends : List (ℕ × Message)) (w : Noted) → map.get t.timers id ≡ Some notes → Fires t id notes u sends → Shows t w → Shows u (when_fired id w)
 shows_fired t u id notes sends w runs h s = by notes (s.notes id ∙ ap (λ o. unwrap_or o []) runs) runs h
   where
     cleared : Noted
@@ -186,10 +186,10 @@ shows_fired t u id notes sends w runs h s = by notes (s.notes id ∙ ap (λ o. u
     asked = record w { notes = without_oldest id w.notes }
 
     by : (notes : List ℕ) → senders id w.notes ≡ notes → map.get t.timers id ≡ Some notes → Fires t id notes u sends → Shows u (when_fired id w)
-    by [] is runs h = subst (λ b. Shows u (cond b asked cleared)) (sym (any_filled id w.notes ∙ ap filled is)) (shows_out t u id w w.notes (ap (λ (x : Tree). x.timers) h.0) is (λ q e. refl) s)
+    by [] is runs h = subst (λ b. Shows u (cond b asked cleared)) (sym (any_filled id w.notes ∙ ap filled is)) (shows_out t u id w w.notes (ap (λ (x : PlumState). x.timers) h.0) is (λ q e. refl) s)
     by (x ∷ later) is runs h =
         subst (λ b. Shows u (cond b asked cleared)) (sym (any_filled id w.notes ∙ ap filled is))
-        (shows_put t u id later w asked (ap (λ (x : Tree). x.timers) h.0)
+        (shows_put t u id later w asked (ap (λ (x : PlumState). x.timers) h.0)
         (λ q. by_id q id (λ k b. set.contains w.running k ≡ (b || set.contains w.running k)) (s.running id ∙ ap is_some runs) (λ _. refl))
         (oldest_out id w.notes ∙ ap (drop 1) is) (λ q e. other_oldest q id w.notes e) s)
 
@@ -198,7 +198,7 @@ by_test : (b : Bool) (P Q : Type 0) (R : Bool → Type 0) → (P → R true) →
 by_test true P Q R f g h = f h
 by_test false P Q R f g h = g h
 
-module _ (t u : Tree) (s : ℕ) (sends : List (ℕ × Message)) (delivery : Option Delivered) (w : Noted) (shows : Shows t w) where
+module _ (t u : PlumState) (s : ℕ) (sends : List (ℕ × Message)) (delivery : Option Delivered) (w : Noted) (shows : Shows t w) where
   still : u.timers ≡ t.timers → Shows u w
   still is = shows_still t u w is shows
 
@@ -206,42 +206,42 @@ module _ (t u : Tree) (s : ℕ) (sends : List (ℕ × Message)) (delivery : Opti
   heard : (body : Body) → AllowedFrom t s body u sends delivery → Shows u (noted_from t s body w)
   heard (Gossip id round payload) h =
       by_test (map.contains_key t.held id) _ _ (λ b. Shows u (cond b w (when_come id w)))
-      (λ h. still (ap (λ (x : Tree). x.timers) h.0)) (λ h. shows_come t u id w (ap (λ (x : Tree). x.timers) h.0) shows) h
+      (λ h. still (ap (λ (x : PlumState). x.timers) h.0)) (λ h. shows_come t u id w (ap (λ (x : PlumState). x.timers) h.0) shows) h
   heard (IHave id) h =
       by_test (map.contains_key t.held id || not (is_linked t.branches s)) _ _ (λ b. Shows u (cond b w (when_said s id w)))
-      (λ h. still (ap (λ (x : Tree). x.timers) h)) (λ h. shows_said t u s id w (ap (λ (x : Tree). x.timers) h) shows) h.1
-  heard (Graft id) h = still (ap (λ (x : Tree). x.timers) h.0)
-  heard Prune h = still (ap (λ (x : Tree). x.timers) h.0)
-  heard Join h = still (ap (λ (x : Tree). x.timers) h.0)
-  heard (ForwardJoin node ttl) h = still (ap (λ (x : Tree). x.timers) h.0)
-  heard Joined h = still (ap (λ (x : Tree). x.timers) h.0)
-  heard (Neighbor high) h = still (ap (λ (x : Tree). x.timers) h.0)
-  heard (NeighborReply accepted) h = still (ap (λ (x : Tree). x.timers) h.0)
-  heard Disconnect h = still (ap (λ (x : Tree). x.timers) h.0)
-  heard (Shuffle origin ttl ids) h = still (ap (λ (x : Tree). x.timers) h.0)
-  heard (ShuffleReply ids) h = still (ap (λ (x : Tree). x.timers) h.0)
+      (λ h. still (ap (λ (x : PlumState). x.timers) h)) (λ h. shows_said t u s id w (ap (λ (x : PlumState). x.timers) h) shows) h.1
+  heard (Graft id) h = still (ap (λ (x : PlumState). x.timers) h.0)
+  heard Prune h = still (ap (λ (x : PlumState). x.timers) h.0)
+  heard Join h = still (ap (λ (x : PlumState). x.timers) h.0)
+  heard (ForwardJoin node ttl) h = still (ap (λ (x : PlumState). x.timers) h.0)
+  heard Joined h = still (ap (λ (x : PlumState). x.timers) h.0)
+  heard (Neighbor high) h = still (ap (λ (x : PlumState). x.timers) h.0)
+  heard (NeighborReply accepted) h = still (ap (λ (x : PlumState). x.timers) h.0)
+  heard Disconnect h = still (ap (λ (x : PlumState). x.timers) h.0)
+  heard (Shuffle origin ttl ids) h = still (ap (λ (x : PlumState). x.timers) h.0)
+  heard (ShuffleReply ids) h = still (ap (λ (x : PlumState). x.timers) h.0)
 
 -- the notes and timers follow each step
-pub notes_follow : (t u : Tree) (prompt : Prompt) (sends : List (ℕ × Message)) (delivery : Option Delivered) → AllowedTree t prompt u sends delivery → NotesFollow t prompt u
-notes_follow t u (broadcasts payload) sends delivery h w s = shows_still t u w (ap (λ (x : Tree). x.timers) h.0) s
+pub notes_follow : (t u : PlumState) (prompt : PlumInput) (sends : List (ℕ × Message)) (delivery : Option Delivered) → AllowedTree t prompt u sends delivery → NotesFollow t prompt u
+notes_follow t u (broadcasts payload) sends delivery h w s = shows_still t u w (ap (λ (x : PlumState). x.timers) h.0) s
 notes_follow t u (receives m) sends delivery h w s =
     by_test (eqb m.from t.me) _ _ (λ b. Shows u (cond b w (noted_from t m.from m.body w)))
-    (λ h. shows_still t u w (ap (λ (x : Tree). x.timers) h.0) s) (heard t u m.from sends delivery w s m.body) h
+    (λ h. shows_still t u w (ap (λ (x : PlumState). x.timers) h.0) s) (heard t u m.from sends delivery w s m.body) h
 notes_follow t u (fires id) sends delivery h w s = by (map.get t.timers id) refl h.1
   where
     by : (o : Option (List ℕ)) → map.get t.timers id ≡ o → MatchOption o ⊥ (λ notes. Fires t id notes u sends) → Shows u (when_fired id w)
     by None runs h = absurd h
     by (Some notes) runs h = shows_fired t u id notes sends w runs h s
-notes_follow t u (goes_up x) sends delivery h w s = shows_still t u w (ap (λ (y : Tree). y.timers) h.0) s
+notes_follow t u (goes_up x) sends delivery h w s = shows_still t u w (ap (λ (y : PlumState). y.timers) h.0) s
 notes_follow t u (goes_down x) sends delivery h w s = shows_gone t u x w h.0.4 s
 
 -- a node that has seen no message waits for none
-pub shows_nothing : (t : Tree) → t.timers ≡ map.empty → Shows t none_noted
+pub shows_nothing : (t : PlumState) → t.timers ≡ map.empty → Shows t none_noted
 shows_nothing t is = record {
   running = λ q. set.contains-empty id_cmp q ∙ sym (ap (λ m. map.contains_key m q) is ∙ ap is_some (map.get-empty id_cmp q));
   notes = λ q. sym (ap (λ m. unwrap_or (map.get m q) []) is ∙ ap (λ o. unwrap_or o []) (map.get-empty id_cmp q));
 }
 
 -- and so where a tree is the one that a step makes
-pub turn_noted : (t u v : Tree) (prompt : Prompt) (sends : List (ℕ × Message)) (delivery : Option Delivered) → v ≡ u → AllowedTree t prompt u sends delivery → NotesFollow t prompt v
+pub turn_noted : (t u v : PlumState) (prompt : PlumInput) (sends : List (ℕ × Message)) (delivery : Option Delivered) → v ≡ u → AllowedTree t prompt u sends delivery → NotesFollow t prompt v
 turn_noted t u v prompt sends delivery is h = subst (NotesFollow t prompt) (sym is) (notes_follow t u prompt sends delivery h)

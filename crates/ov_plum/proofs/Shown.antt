@@ -16,9 +16,9 @@ use Rattle.ov_wire.specs.declared.message.Message.{Message}
 use Rattle.ov_wire.specs.declared.message.Body.TheVariants.{Graft}
 use Rattle.ov_wire.specs.Messages.{say}
 use Rattle.ov_plum.specs.Ids.{id_cmp}
-use Rattle.ov_plum.specs.Noted.{Note, NotesShown, AsksOldest, is_of, senders}
-use Rattle.ov_plum.specs.Spreading.{AllowedTree, Delivered, Fires, fires}
-use Rattle.ov_plum.specs.Tree.{Tree}
+use Rattle.ov_plum.specs.Notes.{Note, NotesShown, AsksOldest, is_of, senders}
+use Rattle.ov_plum.specs.PlumRows.{AllowedTree, Delivered, Fires, fires}
+use Rattle.ov_plum.specs.PlumState.{PlumState}
 use Rattle.ov_plum.proofs.Maps.{id_cmp_total, id_cmp_same}
 
 -- the ids whose timers run, each with its senders
@@ -76,7 +76,7 @@ notes_shown t = (
 )
 
 -- a timer that fires asks the sender of the oldest note of its id
-pub asks_oldest : (t u : Tree) (id : MsgId) (sends : List (ℕ × Message)) (delivery : Option Delivered) → AllowedTree t (fires id) u sends delivery → AsksOldest t id sends
+pub asks_oldest : (t u : PlumState) (id : MsgId) (sends : List (ℕ × Message)) (delivery : Option Delivered) → AllowedTree t (fires id) u sends delivery → AsksOldest t id sends
 asks_oldest t u id sends delivery h w s = by (map.get t.timers id) refl h.1
   where
     Asks : List ℕ → Type 0

@@ -1,7 +1,7 @@
 pub mod Faults
 pub mod Ids
-pub mod Tree
-pub mod Codes
-pub mod Spreading
-pub mod Turning
-pub mod Noted
+pub mod PlumState
+pub mod PlumRows
+pub mod PlumChange
+pub mod Notes
+pub mod Code

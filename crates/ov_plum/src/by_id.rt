@@ -3,7 +3,7 @@ ghost use Rattle.std.specs.Option.{option_copied, option_map};
 ghost use Rattle.std.specs.FinMap as map;
 ghost use Rattle.ov_ids.specs.Sets.{without};
 ghost use Rattle.ov_ids.specs.declared.id.MsgId.{MsgId};
-ghost use Rattle.ov_plum.specs.Codes.{id_code};
+ghost use Rattle.ov_plum.specs.Code.Codes.{id_code};
 ghost use Rattle.ov_plum.specs.Ids.{id_cmp};
 
 use crate::notes::Notes;

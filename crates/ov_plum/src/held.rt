@@ -16,9 +16,9 @@ pub struct Held {
 impl Model for Held {
     ghost use Rattle.std.specs.Prelude.{◌≤◌, length};
     ghost use Rattle.std.specs.Arc.{arc_value};
-    ghost use Rattle.ov_plum.specs.Tree.{Kept};
+    ghost use Rattle.ov_plum.specs.PlumState.{HeldState};
 
-    ghost Value = { Kept };
+    ghost Value = { HeldState };
 
     ghost view = { λ a. record { round = a.round; payload = arc_value a.payload } };
 

@@ -4,20 +4,20 @@
 //! come to form a tree, and only announces it over lazy ones; who misses one asks for it, and so mends the tree.
 #![tactic(auto)]
 
+mod branches;
 mod by_id;
 mod fault;
 mod held;
 mod laws;
-mod links;
 mod notes;
 mod plum;
+mod plum_change;
 mod spread;
-mod turn;
 
 pub use fault::TimerFault;
 pub use held::Held;
 pub use laws::notes_shown;
 pub use notes::Notes;
 pub use plum::Plum;
+pub use plum_change::{PlumChange, PlumPlan};
 pub use spread::Spread;
-pub use turn::{Planned, Turn};

@@ -1,44 +1,43 @@
 ghost use Rattle.std.specs.Prelude.{◌≡◌, ◌<◌, ◌≤◌, ◌+◌, [], false, length, max, vec_len, None, Ok, Err, IfOk, IfErr, OnOk, OnErr};
 ghost use Rattle.std.specs.FinMap as map;
-ghost use Rattle.std.specs.List.{AllByRecursion};
-ghost use Rattle.ov_wire.specs.Messages.{AreInRange};
+ghost use Rattle.ov_wire.specs.Messages.{AreSendsInRange};
 ghost use Rattle.ov_wire.specs.declared.message.Body.TheVariants.{Gossip, IHave, Graft, Prune};
-ghost use Rattle.ov_plum.specs.Noted.{AsksOldest, NotesFollow, Shows, none_noted};
-ghost use Rattle.ov_plum.specs.Spreading.{AllowedTree, IsStep, receives, broadcasts, fires, goes_up, goes_down};
-ghost use Rattle.ov_plum.specs.Tree.{AreBranches};
-ghost use Rattle.ov_plum.specs.Turning.{IsTurn, turned, wants_room};
+ghost use Rattle.ov_plum.specs.Notes.{AsksOldest, NotesFollow, Shows, none_noted};
+ghost use Rattle.ov_plum.specs.PlumRows.{AllowedTree, IsStep, receives, broadcasts, fires, goes_up, goes_down};
+ghost use Rattle.ov_plum.specs.PlumState.{AreBranches};
+ghost use Rattle.ov_plum.specs.PlumChange.{IsPlumChange, plum_after, wants_room};
 ghost use Rattle.ov_plum.specs.declared.fault.TimerFault.TheVariants.{NoTimer};
 
+use crate::branches::Branches;
 use crate::by_id::ById;
 use crate::fault::TimerFault;
 use crate::held::Held;
-use crate::links::Links;
 use crate::notes::Notes;
+use crate::plum_change::{PlumChange, PlumPlan};
 use crate::spread::{Spread, whole_message};
-use crate::turn::{Planned, Turn};
 use ov_ids::{MsgId, NodeId, OutOfMemory, Seq};
 use ov_wire::{Body, Message};
 use std::alloc::Global;
 use std::marker::Model;
 
 /// What Plumtree keeps at a node: its neighbours, eager or lazy, the messages that it holds, and those that it waits for.
-/// Contracts see it as a `Tree`. Every call makes all its room first, so after want of memory nothing has changed.
+/// Contracts see it as a `PlumState`. Every call makes all its room first, so after want of memory nothing has changed.
 #[derive(Drop)]
 pub struct Plum {
     me: NodeId,
-    links: Links,
+    links: Branches,
     held: ById<Held>,
     timers: ById<Notes>,
     made: u32,
 }
 
 impl Model for Plum {
-    ghost use Rattle.ov_plum.specs.Codes.{tree_code};
-    ghost use Rattle.ov_plum.specs.Tree.{Tree};
+    ghost use Rattle.ov_plum.specs.Code.Codes.{plum_code};
+    ghost use Rattle.ov_plum.specs.PlumState.{PlumState};
 
-    ghost Value = { Tree };
+    ghost Value = { PlumState };
 
-    ghost coded = { tree_code };
+    ghost coded = { plum_code };
 
     ghost view = { λ a. record { me = a.me; branches = a.links; held = a.held; timers = a.timers; made = a.made } };
 }
@@ -52,7 +51,7 @@ impl Plum {
     {
         Plum {
             me,
-            links: Links::new(),
+            links: Branches::new(),
             held: ById::new(alloc),
             timers: ById::new(alloc),
             made: 0,
@@ -103,15 +102,15 @@ impl Plum {
     }
 
     /// Plans a broadcast of the node's own, of at most 1,024 bytes: it is to be held, delivered and sent on.
-    pub fn plan_broadcast(&self, payload: Seq<u8>) -> Result<Planned, OutOfMemory>
+    pub fn plan_broadcast(&self, payload: Seq<u8>) -> Result<PlumPlan, OutOfMemory>
         requires payload { length payload ≤ 1024 }
         requires made { self.now.made < 4096 }
         ensures allowed { IfOk result (λ p. AllowedTree self.now (broadcasts payload)
-            (turned self.now p.turn) p.spread.sends.items p.spread.delivered) }
-        ensures noted { IfOk result (λ p. NotesFollow self.now (broadcasts payload) (turned self.now p.turn)) }
+            (plum_after self.now p.plum_change) p.spread.sends.items p.spread.delivered) }
+        ensures noted { IfOk result (λ p. NotesFollow self.now (broadcasts payload) (plum_after self.now p.plum_change)) }
         ensures few { IfOk result (λ p. vec_len p.spread.sends ≤ length self.now.branches.eager + length self.now.branches.lazy) }
         ensures most { IfOk result (λ p. vec_len p.spread.sends ≤ 64) }
-        ensures ranges { IfOk result (λ p. AllByRecursion (λ t. AreInRange t.1) p.spread.sends.items) }
+        ensures ranges { IfOk result (λ p. AreSendsInRange p.spread.sends.items) }
     {
         let alloc = self.held.allocator();
         let id = MsgId {
@@ -121,9 +120,9 @@ impl Plum {
         let held = Held::new(alloc, 0, payload)?;
         let spread = Spread::whole(alloc, self.me, &id, &held, &self.links)?;
         let next = self.made + 1;
-        Ok(Planned {
+        Ok(PlumPlan {
             spread,
-            turn: Turn::Makes { id, held, next },
+            plum_change: PlumChange::Makes { id, held, next },
         })
     }
 
@@ -136,113 +135,113 @@ impl Plum {
         id: MsgId,
         round: u16,
         payload: Seq<u8>,
-    ) -> Result<Planned, OutOfMemory>
+    ) -> Result<PlumPlan, OutOfMemory>
         requires { length payload ≤ 1024 }
         ensures allowed { IfOk result (λ p. AllowedTree self.now (receives (record { from = from; body = Gossip id round payload }))
-            (turned self.now p.turn) p.spread.sends.items p.spread.delivered) }
-        ensures noted { IfOk result (λ p. NotesFollow self.now (receives (record { from = from; body = Gossip id round payload })) (turned self.now p.turn)) }
+            (plum_after self.now p.plum_change) p.spread.sends.items p.spread.delivered) }
+        ensures noted { IfOk result (λ p. NotesFollow self.now (receives (record { from = from; body = Gossip id round payload })) (plum_after self.now p.plum_change)) }
         ensures few { IfOk result (λ p. vec_len p.spread.sends ≤ max 1 (length self.now.branches.eager + length self.now.branches.lazy)) }
         ensures most { IfOk result (λ p. vec_len p.spread.sends ≤ 64) }
-        ensures ranges { IfOk result (λ p. AllByRecursion (λ t. AreInRange t.1) p.spread.sends.items) }
+        ensures ranges { IfOk result (λ p. AreSendsInRange p.spread.sends.items) }
     {
         let alloc = self.held.allocator();
         if from == self.me {
-            return Ok(quiet(alloc, Turn::Rests));
+            return Ok(quiet(alloc, PlumChange::Rests));
         }
         if self.held.contains(&id) {
-            return Ok(Planned {
+            return Ok(PlumPlan {
                 spread: Spread::one(alloc, from, self.say(Body::Prune))?,
-                turn: Turn::Lazy(from),
+                plum_change: PlumChange::Lazy(from),
             });
         }
         let held = Held::new(alloc, round.saturating_add(1), payload)?;
         let mut others = self.links.copy();
         others.down(from);
         let spread = Spread::whole(alloc, self.me, &id, &held, &others)?;
-        Ok(Planned {
+        Ok(PlumPlan {
             spread,
-            turn: Turn::Holds { id, held, from },
+            plum_change: PlumChange::Holds { id, held, from },
         })
     }
 
     /// Plans what IHAVE from a node does. Nothing where the message is held, the sender is no neighbour or its note is there;
     /// else its note is to go last, and the timer to be set.
     #[tactic(auto, using(crate::proofs::Noting::noted_again))]
-    pub fn plan_ihave(&self, from: NodeId, id: MsgId) -> Result<Planned, OutOfMemory>
+    pub fn plan_ihave(&self, from: NodeId, id: MsgId) -> Result<PlumPlan, OutOfMemory>
         ensures allowed { IfOk result (λ p. AllowedTree self.now (receives (record { from = from; body = IHave id }))
-            (turned self.now p.turn) p.spread.sends.items p.spread.delivered) }
-        ensures noted { IfOk result (λ p. NotesFollow self.now (receives (record { from = from; body = IHave id })) (turned self.now p.turn)) }
+            (plum_after self.now p.plum_change) p.spread.sends.items p.spread.delivered) }
+        ensures noted { IfOk result (λ p. NotesFollow self.now (receives (record { from = from; body = IHave id })) (plum_after self.now p.plum_change)) }
         ensures none { IfOk result (λ p. vec_len p.spread.sends ≡ 0) }
     {
         let alloc = self.held.allocator();
         if from == self.me || self.held.contains(&id) || !self.links.is_linked(from) {
-            return Ok(quiet(alloc, Turn::Rests));
+            return Ok(quiet(alloc, PlumChange::Rests));
         }
         let notes = match self.timers.get(&id) {
             Some(notes) => {
                 if notes.contains(from) {
-                    return Ok(quiet(alloc, Turn::Rests));
+                    return Ok(quiet(alloc, PlumChange::Rests));
                 }
                 notes.with(from)?
             }
             None => Notes::of(alloc, from)?,
         };
-        let turn = Turn::Puts {
+        let plum_change = PlumChange::Puts {
             id,
             notes,
             asked: None,
         };
-        Ok(quiet(alloc, turn))
+        Ok(quiet(alloc, plum_change))
     }
 
     /// Plans what GRAFT from a node does: it is to become eager, and gets the message where that is held.
-    pub fn plan_graft(&self, from: NodeId, id: MsgId) -> Result<Planned, OutOfMemory>
+    pub fn plan_graft(&self, from: NodeId, id: MsgId) -> Result<PlumPlan, OutOfMemory>
         ensures allowed { IfOk result (λ p. AllowedTree self.now (receives (record { from = from; body = Graft id }))
-            (turned self.now p.turn) p.spread.sends.items p.spread.delivered) }
-        ensures noted { IfOk result (λ p. NotesFollow self.now (receives (record { from = from; body = Graft id })) (turned self.now p.turn)) }
+            (plum_after self.now p.plum_change) p.spread.sends.items p.spread.delivered) }
+        ensures noted { IfOk result (λ p. NotesFollow self.now (receives (record { from = from; body = Graft id })) (plum_after self.now p.plum_change)) }
         ensures few { IfOk result (λ p. vec_len p.spread.sends ≤ 1) }
-        ensures ranges { IfOk result (λ p. AllByRecursion (λ t. AreInRange t.1) p.spread.sends.items) }
+        ensures ranges { IfOk result (λ p. AreSendsInRange p.spread.sends.items) }
     {
         let alloc = self.held.allocator();
         if from == self.me {
-            return Ok(quiet(alloc, Turn::Rests));
+            return Ok(quiet(alloc, PlumChange::Rests));
         }
         let spread = match self.held.get(&id) {
             Some(held) => Spread::one(alloc, from, whole_message(alloc, self.me, id, held)?)?,
             None => Spread::quiet(alloc),
         };
-        Ok(Planned {
+        Ok(PlumPlan {
             spread,
-            turn: Turn::Eager(from),
+            plum_change: PlumChange::Eager(from),
         })
     }
 
     /// Plans what PRUNE from a node does: it is to become lazy. It takes no memory, and its turn takes none.
-    pub fn plan_prune(&self, from: NodeId) -> Planned
+    pub fn plan_prune(&self, from: NodeId) -> PlumPlan
         ensures allowed { AllowedTree self.now (receives (record { from = from; body = Prune }))
-            (turned self.now result.turn) result.spread.sends.items result.spread.delivered }
-        ensures noted { NotesFollow self.now (receives (record { from = from; body = Prune })) (turned self.now result.turn) }
+            (plum_after self.now result.plum_change) result.spread.sends.items result.spread.delivered }
+        ensures noted { NotesFollow self.now (receives (record { from = from; body = Prune })) (plum_after self.now result.plum_change) }
         ensures none { vec_len result.spread.sends ≡ 0 }
-        ensures room { wants_room result.turn ≡ false }
+        ensures room { wants_room result.plum_change ≡ false }
     {
         let alloc = self.held.allocator();
         if from == self.me {
-            return quiet(alloc, Turn::Rests);
+            return quiet(alloc, PlumChange::Rests);
         }
-        quiet(alloc, Turn::Lazy(from))
+        quiet(alloc, PlumChange::Lazy(from))
     }
 
     /// Plans what the timer of an id does: the oldest note is to be taken out, and who said so is to become eager and gets
     /// GRAFT. Without a note the timer is to be cleared. NoTimer (18) where it is not set.
-    pub fn plan_timer(&self, id: MsgId) -> Result<Planned, TimerFault>
+    pub fn plan_timer(&self, id: MsgId) -> Result<PlumPlan, TimerFault>
         ensures allowed { IfOk result (λ p. AllowedTree self.now (fires id)
-            (turned self.now p.turn) p.spread.sends.items p.spread.delivered) }
-        ensures noted { IfOk result (λ p. NotesFollow self.now (fires id) (turned self.now p.turn)) }
+            (plum_after self.now p.plum_change) p.spread.sends.items p.spread.delivered) }
+        ensures noted { IfOk result (λ p. NotesFollow self.now (fires id) (plum_after self.now p.plum_change)) }
         ensures asks { IfOk result (λ p. AsksOldest self.now id p.spread.sends.items) }
         ensures no_timer { map.get self.now.timers id ≡ None → result ≡ Err NoTimer }
         ensures set { result ≡ Err NoTimer → map.get self.now.timers id ≡ None }
         ensures few { IfOk result (λ p. vec_len p.spread.sends ≤ 1) }
-        ensures ranges { IfOk result (λ p. AllByRecursion (λ t. AreInRange t.1) p.spread.sends.items) }
+        ensures ranges { IfOk result (λ p. AreSendsInRange p.spread.sends.items) }
     {
         let alloc = self.held.allocator();
         let notes = match self.timers.get(&id) {
@@ -251,46 +250,46 @@ impl Plum {
         };
         let sender = match notes.oldest() {
             Some(sender) => sender,
-            None => return Ok(quiet(alloc, Turn::Clears(id))),
+            None => return Ok(quiet(alloc, PlumChange::Clears(id))),
         };
         let notes = notes.later()?;
         let spread = Spread::one(alloc, sender, self.say(Body::Graft { id }))?;
         let asked = Some(sender);
-        Ok(Planned {
+        Ok(PlumPlan {
             spread,
-            turn: Turn::Puts { id, notes, asked },
+            plum_change: PlumChange::Puts { id, notes, asked },
         })
     }
 
     /// Changes the tree as a turn says, which must be that of a step of the tree as it now is. A plan's turn is one while nothing
     /// changed since it was planned. Only a turn that puts something in takes memory.
-    pub fn apply(&mut self, turn: Turn) -> Result<(), OutOfMemory>
-        requires { IsTurn self.old turn }
-        ensures ok { OnOk result (self.new ≡ turned self.old turn) }
+    pub fn apply(&mut self, plum_change: PlumChange) -> Result<(), OutOfMemory>
+        requires { IsPlumChange self.old plum_change }
+        ensures ok { OnOk result (self.new ≡ plum_after self.old plum_change) }
         ensures step { OnOk result (IsStep self.old self.new) }
         ensures err { OnErr result (self.new ≡ self.old) }
-        ensures room { wants_room turn ≡ false → result ≡ Ok tt }
+        ensures room { wants_room plum_change ≡ false → result ≡ Ok tt }
     {
-        match turn {
-            Turn::Rests => {}
-            Turn::Makes { id, held, next } => {
+        match plum_change {
+            PlumChange::Rests => {}
+            PlumChange::Makes { id, held, next } => {
                 self.held.insert(id, held)?;
                 self.made = next;
             }
-            Turn::Holds { id, held, from } => {
+            PlumChange::Holds { id, held, from } => {
                 self.held.insert(id, held)?;
                 self.timers.remove(&id);
                 self.links.make_eager(from);
             }
-            Turn::Eager(id) => self.links.make_eager(id),
-            Turn::Lazy(id) => self.links.make_lazy(id),
-            Turn::Puts { id, notes, asked } => {
+            PlumChange::Eager(id) => self.links.make_eager(id),
+            PlumChange::Lazy(id) => self.links.make_lazy(id),
+            PlumChange::Puts { id, notes, asked } => {
                 self.timers.insert(id, notes)?;
                 if let Some(asked) = asked {
                     self.links.make_eager(asked);
                 }
             }
-            Turn::Clears(id) => self.timers.remove(&id),
+            PlumChange::Clears(id) => self.timers.remove(&id),
         }
         Ok(())
     }
@@ -303,11 +302,14 @@ impl Plum {
         ensures noted { IfOk result (λ s. NotesFollow self.old (broadcasts payload) self.new) }
         ensures few { IfOk result (λ s. vec_len s.sends ≤ length self.old.branches.eager + length self.old.branches.lazy) }
         ensures most { IfOk result (λ s. vec_len s.sends ≤ 64) }
-        ensures ranges { IfOk result (λ s. AllByRecursion (λ t. AreInRange t.1) s.sends.items) }
+        ensures ranges { IfOk result (λ s. AreSendsInRange s.sends.items) }
         ensures err { OnErr result (self.new ≡ self.old) }
     {
-        let Planned { spread, turn } = self.plan_broadcast(payload)?;
-        self.apply(turn)?;
+        let PlumPlan {
+            spread,
+            plum_change,
+        } = self.plan_broadcast(payload)?;
+        self.apply(plum_change)?;
         Ok(spread)
     }
 
@@ -326,11 +328,14 @@ impl Plum {
         ensures noted { IfOk result (λ s. NotesFollow self.old (receives (record { from = from; body = Gossip id round payload })) self.new) }
         ensures few { IfOk result (λ s. vec_len s.sends ≤ max 1 (length self.old.branches.eager + length self.old.branches.lazy)) }
         ensures most { IfOk result (λ s. vec_len s.sends ≤ 64) }
-        ensures ranges { IfOk result (λ s. AllByRecursion (λ t. AreInRange t.1) s.sends.items) }
+        ensures ranges { IfOk result (λ s. AreSendsInRange s.sends.items) }
         ensures err { OnErr result (self.new ≡ self.old) }
     {
-        let Planned { spread, turn } = self.plan_gossip(from, id, round, payload)?;
-        self.apply(turn)?;
+        let PlumPlan {
+            spread,
+            plum_change,
+        } = self.plan_gossip(from, id, round, payload)?;
+        self.apply(plum_change)?;
         Ok(spread)
     }
 
@@ -343,8 +348,11 @@ impl Plum {
         ensures none { IfOk result (λ s. vec_len s.sends ≡ 0) }
         ensures err { OnErr result (self.new ≡ self.old) }
     {
-        let Planned { spread, turn } = self.plan_ihave(from, id)?;
-        self.apply(turn)?;
+        let PlumPlan {
+            spread,
+            plum_change,
+        } = self.plan_ihave(from, id)?;
+        self.apply(plum_change)?;
         Ok(spread)
     }
 
@@ -354,11 +362,14 @@ impl Plum {
             self.new s.sends.items s.delivered) }
         ensures noted { IfOk result (λ s. NotesFollow self.old (receives (record { from = from; body = Graft id })) self.new) }
         ensures few { IfOk result (λ s. vec_len s.sends ≤ 1) }
-        ensures ranges { IfOk result (λ s. AllByRecursion (λ t. AreInRange t.1) s.sends.items) }
+        ensures ranges { IfOk result (λ s. AreSendsInRange s.sends.items) }
         ensures err { OnErr result (self.new ≡ self.old) }
     {
-        let Planned { spread, turn } = self.plan_graft(from, id)?;
-        self.apply(turn)?;
+        let PlumPlan {
+            spread,
+            plum_change,
+        } = self.plan_graft(from, id)?;
+        self.apply(plum_change)?;
         Ok(spread)
     }
 
@@ -369,8 +380,11 @@ impl Plum {
         ensures noted { NotesFollow self.old (receives (record { from = from; body = Prune })) self.new }
         ensures none { vec_len result.sends ≡ 0 }
     {
-        let Planned { spread, turn } = self.plan_prune(from);
-        match self.apply(turn) {
+        let PlumPlan {
+            spread,
+            plum_change,
+        } = self.plan_prune(from);
+        match self.apply(plum_change) {
             Ok(()) => spread,
             Err(_) => unreachable!(),
         }
@@ -385,11 +399,14 @@ impl Plum {
         ensures no_timer { map.get self.old.timers id ≡ None → result ≡ Err NoTimer }
         ensures set { result ≡ Err NoTimer → map.get self.old.timers id ≡ None }
         ensures few { IfOk result (λ s. vec_len s.sends ≤ 1) }
-        ensures ranges { IfOk result (λ s. AllByRecursion (λ t. AreInRange t.1) s.sends.items) }
+        ensures ranges { IfOk result (λ s. AreSendsInRange s.sends.items) }
         ensures err { OnErr result (self.new ≡ self.old) }
     {
-        let Planned { spread, turn } = self.plan_timer(id)?;
-        self.apply(turn)?;
+        let PlumPlan {
+            spread,
+            plum_change,
+        } = self.plan_timer(id)?;
+        self.apply(plum_change)?;
         Ok(spread)
     }
 
@@ -423,14 +440,14 @@ impl Plum {
 }
 
 /// A plan by which nothing is sent or delivered.
-fn quiet(alloc: Global, turn: Turn) -> Planned
+fn quiet(alloc: Global, plum_change: PlumChange) -> PlumPlan
     ensures sends { result.spread.sends.items ≡ [] }
     ensures len { vec_len result.spread.sends ≡ 0 }
     ensures delivered { result.spread.delivered ≡ None }
-    ensures turn { result.turn ≡ turn }
+    ensures plum_change { result.plum_change ≡ plum_change }
 {
-    Planned {
+    PlumPlan {
         spread: Spread::quiet(alloc),
-        turn,
+        plum_change,
     }
 }

@@ -1,12 +1,11 @@
 ghost use Rattle.std.specs.Prelude.{◌≡◌, ◌≤◌, ◌+◌, ◌++◌, [], ◌∷◌, None, length, vec_len, IfOk, OnOk, map};
-ghost use Rattle.std.specs.List.{AllByRecursion};
-ghost use Rattle.ov_wire.specs.Messages.{AreInRange, say};
+ghost use Rattle.ov_wire.specs.Messages.{AreInRange, say, AreSendsInRange};
 ghost use Rattle.ov_wire.specs.declared.message.Body.TheVariants.{IHave};
-ghost use Rattle.ov_plum.specs.Spreading.{gossip, spread};
-ghost use Rattle.ov_plum.specs.Tree.{Kept};
+ghost use Rattle.ov_plum.specs.PlumRows.{gossip, spread};
+ghost use Rattle.ov_plum.specs.PlumState.{HeldState};
 
+use crate::branches::Branches;
 use crate::held::Held;
-use crate::links::Links;
 use ov_ids::{MsgId, NodeId, OutOfMemory, Seq};
 use ov_wire::{Body, Message};
 use std::alloc::Global;
@@ -51,13 +50,13 @@ impl Spread {
         me: NodeId,
         id: &MsgId,
         held: &Held,
-        links: &Links,
+        links: &Branches,
     ) -> Result<Spread, OutOfMemory>
         ensures sends { IfOk result (λ s. s.sends.items ≡ spread me id.now held.now links.now) }
         ensures len { IfOk result (λ s. vec_len s.sends ≡ length links.now.eager + length links.now.lazy) }
         ensures most { IfOk result (λ s. vec_len s.sends ≤ 64) }
         ensures delivered { IfOk result (λ s. s.delivered ≡ Some (id.now, held.now.payload)) }
-        ensures ranges { IfOk result (λ s. AllByRecursion (λ t. AreInRange t.1) s.sends.items) }
+        ensures ranges { IfOk result (λ s. AreSendsInRange s.sends.items) }
     {
         let count = links.eager().len() + links.lazy().len();
         let mut sends = Vec::with_capacity(alloc, count)?;

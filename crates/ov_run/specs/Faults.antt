@@ -1,14 +1,19 @@
--- The numbers of the faults, the lines that they name, and what a run adds to the counts of failures of its reader and
--- its writer.
-use Rattle.std.specs.Prelude.{◌≡◌, ◌⊎◌, ℕ, ⊤, Option, Some, None, Result, Ok, Err}
-use Rattle.ov_certfile.specs.declared.input.ReadFault.{ReadFault}
-use Rattle.ov_certfile.specs.declared.input.ReadFault.TheVariants as read
+-- The faults of a run and of an analysis: their numbers, the lines that they name, how they are shown, and what a run
+-- adds to the counts of failures of its reader and its writer. The numbers are chosen here.
+use Rattle.std.specs.Prelude.{ℕ, ⊤, List, ◌++◌, Option, Some, None, IfSome, Result, Ok, Err, codes, decimal}
+use Rattle.ov_io.specs.declared.fault.ReadFault.{ReadFault}
+use Rattle.ov_io.specs.declared.fault.ReadFault.TheVariants as read
 use Rattle.ov_graph.specs.Faults as graph
 use Rattle.ov_graph.specs.declared.fault.GraphFault.{GraphFault}
 use Rattle.ov_graph.specs.declared.fault.GraphFault.TheVariants as graph_fault
+use Rattle.ov_run.specs.GraphFiles.{IsGraphFileFault}
+use Rattle.ov_run.specs.Scenarios.{IsScenarioFault}
 use Rattle.ov_run.specs.declared.fault.RunFault.{RunFault}
 use Rattle.ov_run.specs.declared.fault.RunFault.TheVariants.{Line, Params, Graph, Read, Write, OutOfMemory}
 
+-- ---- each fault
+
+-- the fault's number
 abbrev pub number_of : RunFault → ℕ
 number_of (Line n) = 70
 number_of (Params n) = 21
@@ -17,7 +22,7 @@ number_of Read = 71
 number_of Write = 72
 number_of OutOfMemory = 99
 
--- the line that is at fault
+-- the number of the line that is at fault, where one is
 abbrev pub line_of : RunFault → Option ℕ
 line_of (Line n) = Some n
 line_of (Params n) = Some n
@@ -26,20 +31,66 @@ line_of Read = None
 line_of Write = None
 line_of OutOfMemory = None
 
--- why nothing was read
+-- a refusal with this number, of this line where one is named: `line 3: refused 70`, or `refused 71`
+abbrev pub refusal_text : Option ℕ → ℕ → List ℕ
+refusal_text (Some line) number = codes "line " ++ (decimal line ++ (codes ": refused " ++ decimal number))
+refusal_text None number = codes "refused " ++ decimal number
+
+-- the line that `overlay` prints of a fault on standard error, without its line feed
+unfoldable pub fault_text : RunFault → List ℕ
+fault_text fault = refusal_text (line_of fault) (number_of fault)
+
+-- ---- where faults come from
+
+-- the fault of a reader's fault
 abbrev pub fault_of_read : ReadFault → RunFault
 fault_of_read read.Read = Read
 fault_of_read read.OutOfMemory = OutOfMemory
 
--- why nodes and links are no graph; out of memory keeps its one name
+-- the fault of nodes and links that are no graph; out of memory keeps its one name
 abbrev pub fault_of_graph : GraphFault → RunFault
 fault_of_graph graph_fault.OutOfMemory = OutOfMemory
 fault_of_graph other = Graph other
 
--- the fault is that of nodes and links, which no scenario has
-abbrev pub IsOfGraph : RunFault → Type 0
-IsOfGraph (Graph fault) = ⊤
-IsOfGraph other = ⊥
+-- what the fault of reading a scenario file says of its bytes: it is that of their first line at fault, or out of
+-- memory
+abbrev pub IsReadingFault : List ℕ → RunFault → Type 0
+IsReadingFault bytes (Line n) = IsScenarioFault bytes (Line n)
+IsReadingFault bytes (Params n) = IsScenarioFault bytes (Params n)
+IsReadingFault bytes (Graph fault) = ⊥
+IsReadingFault bytes Read = ⊥
+IsReadingFault bytes Write = ⊥
+IsReadingFault bytes OutOfMemory = ⊤
+
+-- what the fault of a run says of the bytes that the reader had: one of a line is that of their first line at fault. No
+-- run answers a fault of a graph
+abbrev pub IsRunFault : Option (List ℕ) → RunFault → Type 0
+IsRunFault reader (Line n) = IfSome reader (λ bytes. IsScenarioFault bytes (Line n))
+IsRunFault reader (Params n) = IfSome reader (λ bytes. IsScenarioFault bytes (Params n))
+IsRunFault reader (Graph fault) = ⊥
+IsRunFault reader Read = ⊤
+IsRunFault reader Write = ⊤
+IsRunFault reader OutOfMemory = ⊤
+
+-- the same of an analysis of a graph file, which has no line of parameters
+abbrev pub IsAnalysisFault : Option (List ℕ) → RunFault → Type 0
+IsAnalysisFault reader (Line n) = IfSome reader (λ bytes. IsGraphFileFault bytes (Line n))
+IsAnalysisFault reader (Params n) = ⊥
+IsAnalysisFault reader (Graph fault) = IfSome reader (λ bytes. IsGraphFileFault bytes (Graph fault))
+IsAnalysisFault reader Read = ⊤
+IsAnalysisFault reader Write = ⊤
+IsAnalysisFault reader OutOfMemory = ⊤
+
+-- the fault was met before anything ran: the reader failed, or a line is at fault
+abbrev pub IsOfReading : RunFault → Type 0
+IsOfReading (Line n) = ⊤
+IsOfReading (Params n) = ⊤
+IsOfReading (Graph fault) = ⊤
+IsOfReading Read = ⊤
+IsOfReading Write = ⊥
+IsOfReading OutOfMemory = ⊥
+
+-- ---- counts of failures
 
 -- a reader that fails ends the run, so it fails once
 abbrev pub read_failures : {A : Type 0} → Result A RunFault → ℕ
@@ -51,7 +102,7 @@ read_failures (Err Read) = 1
 read_failures (Err Write) = 0
 read_failures (Err OutOfMemory) = 0
 
--- a writer that fails ends the run
+-- a writer that fails ends the run, so it fails once
 abbrev pub write_failures : {A : Type 0} → Result A RunFault → ℕ
 write_failures (Ok a) = 0
 write_failures (Err (Line n)) = 0
@@ -60,7 +111,3 @@ write_failures (Err (Graph fault)) = 0
 write_failures (Err Read) = 0
 write_failures (Err Write) = 1
 write_failures (Err OutOfMemory) = 0
-
--- the fault is the writer's, or out of memory
-abbrev pub IsOfWriting : RunFault → Type 0
-IsOfWriting fault = (fault ≡ Write) ⊎ (fault ≡ OutOfMemory)

@@ -1,9 +1,9 @@
--- What a graph file says, and the first fault of one that says no graph. Its lines are told apart, counted, skipped and
--- split into words as those of a scenario file are.
+-- What a graph file says, and the first fault of a file that says no graph. Its lines are told apart, counted, skipped
+-- and split into words as those of a scenario file are. The form of the file is chosen here.
 use Rattle.std.specs.Prelude.{◌≡◌, ℕ, List, [], ◌∷◌, ◌++◌, map, codes, Option, Some, None, option_map}
-use Rattle.ov_graph.specs.Faults.{Judged}
+use Rattle.ov_graph.specs.Faults.{GraphJudged}
 use Rattle.ov_graph.specs.Links.{LinkGraph, IsGraph, IsWithinLimit}
-use Rattle.ov_run.specs.Lines.{kept_lines, words_of, row, one, two}
+use Rattle.ov_run.specs.Lines.{kept_lines, words_of, row, short_bits, one, two}
 use Rattle.ov_run.specs.declared.fault.RunFault.{RunFault}
 use Rattle.ov_run.specs.declared.fault.RunFault.TheVariants as fault
 use Rattle.ov_run.specs.declared.graph_file.GraphLine.{GraphLine}
@@ -15,17 +15,17 @@ use Rattle.ov_run.specs.declared.graph_file.GraphLine.TheVariants.{Node, Link}
 abbrev pub link_of : ℕ × ℕ → GraphLine
 link_of ids = Link ids.0 ids.1
 
--- `node N` and `link A B`, by the name and the words behind it
-abbrev pub graph_words : List (List ℕ) → Option GraphLine
-graph_words [] = None
-graph_words (name ∷ rest) =
+-- what the words of a line say: `node N` or `link A B`
+abbrev pub graph_line_of : List (List ℕ) → Option GraphLine
+graph_line_of [] = None
+graph_line_of (name ∷ rest) =
     row name
-    ((codes "node", option_map Node (one 32 rest)) ∷ (codes "link", option_map link_of (two rest)) ∷ [])
+    ((codes "node", option_map Node (one short_bits rest)) ∷ (codes "link", option_map link_of (two rest)) ∷ [])
     None
 
 -- what a line says, and none where it can't be read
 abbrev pub graph_line : List ℕ → Option GraphLine
-graph_line line = graph_words (words_of line)
+graph_line line = graph_line_of (words_of line)
 
 -- the line of this number says what its bytes say
 abbrev pub graph_line_at : ℕ × List ℕ → ℕ × Option GraphLine
@@ -65,19 +65,19 @@ first_unread ((number, Some says) ∷ more) = first_unread more
 
 -- ---- the file
 
--- the bytes of a file say this graph: each line can be read, and the graph has exactly the nodes and the links of them
-pub record SaysGraph (bytes : List ℕ) (g : LinkGraph) : Type 0 where
+-- the bytes of a file say this graph: each line can be read, and the nodes and the links that they say are the graph's
+pub record IsGraphFile (bytes : List ℕ) (g : LinkGraph) : Type 0 where
   pub readable : first_unread (graph_lines bytes) ≡ None
   pub nodes : g.nodes ≡ nodes_said (graph_lines bytes)
   pub links : g.links ≡ links_said (graph_lines bytes)
   pub graph : IsGraph g
   pub within : IsWithinLimit g
 
--- the bytes of a file say no graph, and this is why: the first line that can't be read, or where all can, the first
--- fault of the nodes and the links
-abbrev pub IsGraphFault : List ℕ → RunFault → Type 0
-IsGraphFault bytes (fault.Line n) = first_unread (graph_lines bytes) ≡ Some n
-IsGraphFault bytes (fault.Graph f) =
+-- the bytes of a file say no graph, and this is its fault: that of the first line that can't be read, or where all can
+-- be read, the first fault of the nodes and the links
+abbrev pub IsGraphFileFault : List ℕ → RunFault → Type 0
+IsGraphFileFault bytes (fault.Line n) = first_unread (graph_lines bytes) ≡ Some n
+IsGraphFileFault bytes (fault.Graph f) =
     (first_unread (graph_lines bytes) ≡ None)
-    × Judged (nodes_said (graph_lines bytes)) (links_said (graph_lines bytes)) (Some f)
-IsGraphFault bytes other = ⊥
+    × GraphJudged (nodes_said (graph_lines bytes)) (links_said (graph_lines bytes)) (Some f)
+IsGraphFileFault bytes other = ⊥

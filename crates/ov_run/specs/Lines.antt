@@ -1,6 +1,7 @@
--- The lines of a file that count, the words of a line, and the numbers that words spell.
+-- The lines of a file that count, the words of a line, and the numbers that words spell. These words are pieces of the
+-- line, and no random words. The form of the files is chosen here.
 use Rattle.std.specs.Prelude.{ℕ, ◌+◌, ◌^◌, Bool, true, not, nat_lt, nat_eq, ◌&&◌, List, [], ◌∷◌, ◌++◌, length, drop}
-use Rattle.std.specs.Prelude.{codes, Option, Some, None, unwrap_or, if◌then◌else◌}
+use Rattle.std.specs.Prelude.{codes, Option, Some, None, option_and_then, unwrap_or, if◌then◌else◌}
 use Rattle.std.specs.List.{filter, position, slice_split, starts_with}
 use Rattle.std.specs.Cmp.Lexicographic.{pointwise}
 use Rattle.std.specs.Str.{all_ascii_digits}
@@ -8,16 +9,17 @@ use Rattle.std.specs.Str.Lines.{lines}
 use Rattle.std.specs.Str.Parse.{digits_value}
 
 infixl 10 ◌>>=◌
--- the value goes on, and where there is none there is none
+-- what is made of the value, and none where there is none: the kit's `option_and_then`, written behind the value
 abbrev pub ◌>>=◌ : {A B : Type 0} → Option A → (A → Option B) → Option B
-(Some x) >>= f = f x
-None >>= f = None
+o >>= f = option_and_then f o
 
 -- ---- words
 
+-- the byte of a space
 abbrev pub is_space : ℕ → Bool
 is_space b = nat_eq b 32
 
+-- any other byte
 abbrev pub is_no_space : ℕ → Bool
 is_no_space b = not (nat_eq b 32)
 
@@ -29,7 +31,7 @@ words_of line = filter (λ part. nat_lt 0 (length part)) (slice_split is_space l
 abbrev pub place_or_end : (ℕ → Bool) → List ℕ → ℕ
 place_or_end p text = unwrap_or (position p text) (length text)
 
--- what is left behind the spaces in front
+-- the text without the spaces that it begins with
 abbrev pub without_spaces : List ℕ → List ℕ
 without_spaces text = drop (place_or_end is_no_space text) text
 
@@ -37,7 +39,7 @@ without_spaces text = drop (place_or_end is_no_space text) text
 abbrev pub behind_word : List ℕ → List ℕ
 behind_word line = drop (place_or_end is_space (without_spaces line)) (without_spaces line)
 
--- less the one space in front
+-- the text without one space, if it begins with one
 abbrev pub without_space : List ℕ → List ℕ
 without_space text = if starts_with nat_eq text (codes " ") then drop 1 text else text
 
@@ -45,23 +47,23 @@ without_space text = if starts_with nat_eq text (codes " ") then drop 1 text els
 abbrev pub same : List ℕ → List ℕ → Bool
 same v w = pointwise nat_eq v w
 
--- what stands in the row with this name, or this where no row has it
+-- what stands in the first row with this name, or `otherwise` where no row has it
 abbrev pub row : {A : Type 0} → List ℕ → List (List ℕ × Option A) → Option A → Option A
 row name [] otherwise = otherwise
 row name (first ∷ rows) otherwise = if same name first.0 then first.1 else row name rows otherwise
 
 -- ---- lines
 
--- a line with these words is skipped: it has no word, or is a comment
+-- a line with these words is skipped: it has no word, or it is a comment, whose first word begins with `#`
 abbrev pub skips : List (List ℕ) → Bool
 skips [] = true
 skips (name ∷ rest) = starts_with nat_eq name (codes "#")
 
--- a line is skipped, as if it were not there
+-- a line is skipped
 abbrev pub is_skipped : List ℕ → Bool
 is_skipped line = skips (words_of line)
 
--- those of these lines that are not skipped, in order, each with its number, where the first of all has this number
+-- those of these lines that are not skipped, in order, each with its number; the first of all lines has this number
 unfoldable pub kept_from : ℕ → List (List ℕ) → List (ℕ × List ℕ)
 kept_from n [] = []
 kept_from n (line ∷ more) = (if is_skipped line then [] else (n, line) ∷ []) ++ kept_from (n + 1) more
@@ -72,6 +74,14 @@ unfoldable pub kept_lines : List ℕ → List (ℕ × List ℕ)
 kept_lines bytes = kept_from 1 (lines bytes)
 
 -- ---- numbers
+
+-- the bits of an id, a moment, a parameter, a place of a packet and a number of a broadcast
+abbrev pub short_bits : ℕ
+short_bits = 32
+
+-- the bits of a seed and of a random word
+abbrev pub long_bits : ℕ
+long_bits = 64
 
 -- the number that a word of decimal digits spells, where it fits so many bits
 unfoldable pub number_within : ℕ → List ℕ → Option ℕ
@@ -86,15 +96,15 @@ one bits [] = None
 one bits (v ∷ []) = number_within bits v
 one bits (v ∷ w ∷ more) = None
 
--- two numbers of 32 bits, and no further word
+-- two numbers of the bits of an id, and no further word
 abbrev pub two : List (List ℕ) → Option (ℕ × ℕ)
 two [] = None
-two (v ∷ more) = number_within 32 v >>= λ a. one 32 more >>= λ b. Some (a, b)
+two (v ∷ more) = number_within short_bits v >>= λ a. one short_bits more >>= λ b. Some (a, b)
 
 -- three of them
 abbrev pub three : List (List ℕ) → Option (ℕ × (ℕ × ℕ))
 three [] = None
-three (v ∷ more) = number_within 32 v >>= λ a. two more >>= λ b. Some (a, b)
+three (v ∷ more) = number_within short_bits v >>= λ a. two more >>= λ b. Some (a, b)
 
 -- each word spells a number that fits so many bits
 abbrev pub each_number : ℕ → List (List ℕ) → Option (List ℕ)
@@ -103,12 +113,13 @@ each_number bits (w ∷ more) = number_within bits w >>= λ n. each_number bits 
 
 -- ---- lists of ids
 
+-- the byte of a comma
 abbrev pub is_comma : ℕ → Bool
 is_comma b = nat_eq b 44
 
--- the ids that one word spells: numbers of 32 bits with commas between them, at least one
+-- the ids that one word spells: at least one number, with one comma between two
 unfoldable pub ids_of : List ℕ → Option (List ℕ)
-ids_of word = each_number 32 (slice_split is_comma word)
+ids_of word = each_number short_bits (slice_split is_comma word)
 
 -- the ids that one word spells, and no further word
 abbrev pub one_list : List (List ℕ) → Option (List ℕ)

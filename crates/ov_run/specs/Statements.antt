@@ -1,12 +1,13 @@
--- What one line of a scenario file says.
+-- What one line of a scenario file says. The form of the lines is chosen here.
 use Rattle.std.specs.Prelude.{ℕ, ◌-◌, nat_lt, nat_le, ◌==◌, ◌&&◌, List, [], ◌∷◌, ◌++◌, length, replicate, codes, Option}
 use Rattle.std.specs.Prelude.{Some, None, option_map, if◌then◌else◌}
 use Rattle.ov_net.specs.declared.event.Event.{Event}
 use Rattle.ov_net.specs.declared.event.Event.TheVariants as event
 use Rattle.ov_run.specs.Lines.{◌>>=◌, words_of, behind_word, without_space, same, row, number_within, one, two, three}
-use Rattle.ov_run.specs.Lines.{each_number, one_list}
-use Rattle.ov_run.specs.declared.line.Look.TheVariants as look
-use Rattle.ov_run.specs.declared.line.Subject.{Subject}
+use Rattle.ov_run.specs.Lines.{each_number, short_bits, one_list, long_bits}
+use Rattle.ov_run.specs.Draws.{words_per_event}
+use Rattle.ov_run.specs.declared.scenario.Look.TheVariants as look
+use Rattle.ov_run.specs.declared.scenario.Subject.{Subject}
 use Rattle.ov_run.specs.declared.statement.Statement.{Statement}
 use Rattle.ov_run.specs.declared.statement.Statement.TheVariants as says
 
@@ -14,10 +15,12 @@ use Rattle.ov_run.specs.declared.statement.Statement.TheVariants as says
 abbrev pub seven : List ℕ → Option (List ℕ)
 seven ns = if length ns == 7 then Some ns else None
 
--- the 64 words of an event: the 1 to 64 that are given, and zeros after them
+-- the random words of an event: those that are given, from one on, and zeros after them
 abbrev pub with_zeros : List ℕ → Option (List ℕ)
 with_zeros ns =
-    if nat_lt 0 (length ns) && nat_le (length ns) 64 then Some (ns ++ replicate (64 - length ns) 0) else None
+    if nat_lt 0 (length ns) && nat_le (length ns) words_per_event
+    then Some (ns ++ replicate (words_per_event - length ns) 0)
+    else None
 
 -- the first node hears that the second one crashed
 abbrev pub report_of : ℕ × ℕ → Event
@@ -27,30 +30,30 @@ report_of p = event.Report p.0 p.1
 abbrev pub timer_of : ℕ × (ℕ × ℕ) → Event
 timer_of p = event.Timer p.0 (record { origin = p.1.0; seq = p.1.1 })
 
--- seven numbers of 32 bits
+-- the numbers of seven parameters
 abbrev pub seven_numbers : List (List ℕ) → Option (List ℕ)
-seven_numbers words = each_number 32 words >>= seven
+seven_numbers words = each_number short_bits words >>= seven
 
--- all words as those of an event, of 64 bits each
+-- the random words of an event, which all words spell
 abbrev pub event_words : List (List ℕ) → Option (List ℕ)
-event_words words = each_number 64 words >>= with_zeros
+event_words words = each_number long_bits words >>= with_zeros
 
 -- `boot N` and `boot N by C`, behind the name
 abbrev pub boot_of : List (List ℕ) → Option Event
 boot_of [] = None
-boot_of (n ∷ []) = number_within 32 n >>= λ a. Some (event.Boot a None)
+boot_of (n ∷ []) = number_within short_bits n >>= λ a. Some (event.Boot a None)
 boot_of (n ∷ by ∷ more) =
     if same by (codes "by")
-    then (number_within 32 n >>= λ a. one 32 more >>= λ c. Some (event.Boot a (Some c)))
+    then (number_within short_bits n >>= λ a. one short_bits more >>= λ c. Some (event.Boot a (Some c)))
     else None
 
 -- `M` and `M group IDS`, behind the name: a moment, for all nodes or for a group of them
 abbrev pub subject_of : List (List ℕ) → Option Subject
 subject_of [] = None
-subject_of (m ∷ []) = number_within 32 m >>= λ a. Some (record { moment = a; group = None })
+subject_of (m ∷ []) = number_within short_bits m >>= λ a. Some (record { moment = a; group = None })
 subject_of (m ∷ group ∷ more) =
     if same group (codes "group")
-    then (number_within 32 m >>= λ a. one_list more >>= λ ids. Some (record { moment = a; group = Some ids }))
+    then (number_within short_bits m >>= λ a. one_list more >>= λ ids. Some (record { moment = a; group = Some ids }))
     else None
 
 -- `broadcast N TEXT`, of which this is left behind the name: the payload is all that stands behind the one space that
@@ -58,39 +61,39 @@ subject_of (m ∷ group ∷ more) =
 abbrev pub broadcast_of : List ℕ → List (List ℕ) → Option Statement
 broadcast_of text [] = None
 broadcast_of text (n ∷ more) =
-    number_within 32 n >>= λ a. Some (says.Event (event.Broadcast a (without_space (behind_word text))))
+    number_within short_bits n >>= λ a. Some (says.Event (event.Broadcast a (without_space (behind_word text))))
 
--- the lines of events without a payload, by their name and the words behind it
+-- the events without a payload, by the name of the line and the words behind it
 abbrev pub event_of : List ℕ → List (List ℕ) → Option Event
 event_of name rest =
     row name
     ((codes "boot", boot_of rest)
-    ∷ (codes "deliver", option_map event.Deliver (one 32 rest))
-    ∷ (codes "lose", option_map event.Lose (one 32 rest))
-    ∷ (codes "repeat", option_map event.Repeat (one 32 rest))
-    ∷ (codes "crash", option_map event.Crash (one 32 rest))
+    ∷ (codes "deliver", option_map event.Deliver (one short_bits rest))
+    ∷ (codes "lose", option_map event.Lose (one short_bits rest))
+    ∷ (codes "repeat", option_map event.Repeat (one short_bits rest))
+    ∷ (codes "crash", option_map event.Crash (one short_bits rest))
     ∷ (codes "report", option_map report_of (two rest))
-    ∷ (codes "shuffle", option_map event.Shuffle (one 32 rest))
+    ∷ (codes "shuffle", option_map event.Shuffle (one short_bits rest))
     ∷ (codes "timer", option_map timer_of (three rest))
     ∷ (codes "snapshot", if length rest == 0 then Some event.Snapshot else None)
     ∷ [])
     None
 
--- all lines but `broadcast`, by their name and the words behind it
+-- all lines but `broadcast`, by the name of the line and the words behind it
 abbrev pub named : List ℕ → List (List ℕ) → Option Statement
 named name rest =
     row name
     ((codes "params", option_map says.Params (seven_numbers rest))
-    ∷ (codes "seed", option_map says.Seed (one 64 rest))
+    ∷ (codes "seed", option_map says.Seed (one long_bits rest))
     ∷ (codes "words", option_map says.Words (event_words rest))
     ∷ (codes "analyse", option_map says.Analyse (subject_of rest))
     ∷ (codes "certificate", option_map (λ s. says.Look (look.Certificate s)) (subject_of rest))
-    ∷ (codes "show", option_map (λ n. says.Look (look.Show n)) (one 32 rest))
+    ∷ (codes "show", option_map (λ n. says.Look (look.Show n)) (one short_bits rest))
     ∷ (codes "packets", if length rest == 0 then Some (says.Look look.Packets) else None)
     ∷ [])
     (option_map says.Event (event_of name rest))
 
--- what a line says that has these words. Of `broadcast` the bytes count, and of all others the words alone
+-- what a line with these words says. Of `broadcast` its bytes count, and of all others only the words
 abbrev pub stated : List ℕ → List (List ℕ) → Option Statement
 stated line [] = None
 stated line (name ∷ rest) =

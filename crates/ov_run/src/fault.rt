@@ -1,34 +1,30 @@
 ghost use Rattle.std.specs.Prelude.{◌≡◌};
 ghost use Rattle.ov_run.specs.Faults.{number_of, line_of, fault_of_read, fault_of_graph};
-ghost use Rattle.ov_run.specs.declared.fault.RunFault.TheVariants.{OutOfMemory as wants_memory, Write as not_written};
+ghost use Rattle.ov_run.specs.declared.fault.RunFault.TheVariants.{OutOfMemory as wants_memory, Read as not_read, Write as not_written};
 
-use ov_certfile::{ReadFault, WriteFault};
 use ov_graph::GraphFault;
 use ov_ids::OutOfMemory;
+use ov_io::{ReadFault, WriteFault};
 use std::alloc::{AllocError, AllocFailed};
-use thiserror::Error;
+use std::error::Error;
+use std::fmt::{Display, Formatter, Result, Write};
+use std::io;
 
-/// Why a scenario is not run to its end, or a graph file not analysed. It is shown as what is printed of it on standard
-/// error.
-#[derive(Clone, Copy, Debug, PartialEq, Eq, Error)]
+/// Why a scenario is not run to its end, or a graph file not analysed. It is shown as the line that `overlay` prints of
+/// it on standard error. The numbers are chosen here.
+#[derive(Clone, Copy, Debug, PartialEq, Eq)]
 pub enum RunFault {
-    /// This line of the file, counted from 1, can't be read.
-    #[error("line {0}: refused 70")]
+    /// This line of the file, counted from 1, can't be read (70).
     Line(usize),
-    /// The parameters on this line of the file, counted from 1, are out of their limits.
-    #[error("line {0}: refused 21")]
+    /// The parameters on this line of the file, counted from 1, are out of their limits (21).
     Params(usize),
-    /// The nodes and links of the file are no graph.
-    #[error("refused {}", .0.number())]
+    /// The nodes and links of the file are no graph, with the number of this fault.
     Graph(GraphFault),
-    /// The reader failed, or there is none.
-    #[error("refused 71")]
+    /// The reader failed, or there is none (71).
     Read,
-    /// The writer failed.
-    #[error("refused 72")]
+    /// The writer failed (72).
     Write,
-    /// A growth was refused.
-    #[error("refused 99")]
+    /// An allocation was refused (99).
     OutOfMemory,
 }
 
@@ -47,7 +43,7 @@ impl RunFault {
         }
     }
 
-    /// The line of the file that is at fault, counted from 1, where one is.
+    /// The number of the line of the file that is at fault, counted from 1, where one is.
     pub fn line(&self) -> Option<usize>
         ensures { result ≡ line_of self.now }
     {
@@ -55,6 +51,33 @@ impl RunFault {
             RunFault::Line(line) | RunFault::Params(line) => Some(*line),
             RunFault::Graph(_) | RunFault::Read | RunFault::Write | RunFault::OutOfMemory => None,
         }
+    }
+}
+
+impl Display for RunFault {
+    ghost use Rattle.std.specs.Prelude.{Some};
+    ghost use Rattle.ov_run.specs.Faults.{fault_text};
+
+    ghost output = { λ fault. Some (fault_text fault) };
+
+    #[tactic(auto, unfolding(crate::specs::Faults::fault_text))]
+    fn fmt<W: Write>(&self, f: &mut Formatter<W>) -> Result {
+        let number = self.number();
+        match self.line() {
+            Some(line) => write!(f, "line {line}: refused {number}"),
+            None => write!(f, "refused {number}"),
+        }
+    }
+}
+
+impl Error for RunFault {}
+
+/// A file that can't be opened can't be read.
+impl From<io::Error> for RunFault {
+    ghost from_gives = { λ _ e. e ≡ not_read };
+
+    fn from(_error: io::Error) -> RunFault {
+        RunFault::Read
     }
 }
 

@@ -1,11 +1,11 @@
 ghost use Rattle.std.specs.Prelude.{◌≡◌, ◌⊎◌, ◌++◌, [], option_map, Some, None, IfOk, IfErr, OnOk};
-ghost use Rattle.ov_run.specs.GraphFiles.{graph_line, graph_words, link_of, graph_lines, node_said, link_said};
-ghost use Rattle.ov_run.specs.GraphFiles.{nodes_said, links_said, first_unread, SaysGraph, IsGraphFault};
+ghost use Rattle.ov_run.specs.GraphFiles.{graph_line, graph_line_of, link_of, graph_lines, node_said, link_said};
+ghost use Rattle.ov_run.specs.GraphFiles.{nodes_said, links_said, first_unread, IsGraphFile, IsGraphFileFault};
 ghost use Rattle.ov_run.specs.Lines.{words_of, two};
 
-use crate::cursor::{Cursor, is_word};
 use crate::fault::RunFault;
 use crate::kept_lines::KeptLines;
+use crate::line_cursor::{LineCursor, is_word};
 use ov_graph::Graph;
 use ov_ids::{NodeId, OutOfMemory};
 use std::alloc::Global;
@@ -38,8 +38,8 @@ impl Gathered {
         }
     }
 
-    /// Takes in what the next line says.
-    fn take(&mut self, line: GraphLine) -> Result<(), OutOfMemory>
+    /// Adds what the next line says.
+    fn add(&mut self, line: GraphLine) -> Result<(), OutOfMemory>
         ensures nodes { OnOk result (self.new.nodes.items ≡ self.old.nodes.items ++ node_said (Some line)) }
         ensures links { OnOk result (self.new.links.items ≡ self.old.links.items ++ link_said (Some line)) }
     {
@@ -51,25 +51,26 @@ impl Gathered {
     }
 }
 
-/// Reads a graph file to the graph that it says. Line is answered for the first line that can't be read, which is
-/// neither `node N` nor `link A B` with ids of 32 bits. Graph is answered where each line can be read and the nodes and
-/// the links, each in the order of the file, are no graph.
-#[tactic(auto, using(crate::proofs::Gathering::graph_refused))]
+/// Reads a graph file, whose form is chosen here, and returns the graph that it says. Line (70) is returned for the
+/// first line that can't be read, which is neither `node N` nor `link A B` with ids of 32 bits. Graph, with the number
+/// of its fault, is returned where each line can be read and the nodes and the links, each in the order of the file,
+/// are no graph. OutOfMemory (99) is returned where an allocation was refused.
+#[tactic(auto, using(crate::proofs::GraphFiles::Gathering::graph_refused))]
 pub fn read_graph(alloc: Global, bytes: &[u8]) -> Result<Graph, RunFault>
-    ensures graph { IfOk result (SaysGraph bytes.now) }
-    ensures fault { IfErr result (λ f. IsGraphFault bytes.now f ⊎ (f ≡ RunFault.OutOfMemory)) }
+    ensures graph { IfOk result (IsGraphFile bytes.now) }
+    ensures fault { IfErr result (λ f. IsGraphFileFault bytes.now f ⊎ (f ≡ RunFault.OutOfMemory)) }
 {
     let Gathered { nodes, links } = gather(alloc, bytes)?;
     Ok(Graph::new(alloc, &nodes, &links)?)
 }
 
 /// The nodes and the links of a graph file, or the first line that can't be read.
-#[tactic(auto, using(crate::proofs::Gathering::unread, crate::proofs::Gathering::readable, crate::proofs::Gathering::all_nodes, crate::proofs::Gathering::all_links))]
+#[tactic(auto, using(crate::proofs::GraphFiles::Gathering::unread, crate::proofs::GraphFiles::Gathering::readable, crate::proofs::GraphFiles::Gathering::all_nodes, crate::proofs::GraphFiles::Gathering::all_links))]
 fn gather(alloc: Global, bytes: &[u8]) -> Result<Gathered, RunFault>
     ensures readable { OnOk result (first_unread (graph_lines bytes.now) ≡ None) }
     ensures nodes { IfOk result (λ all. all.nodes.items ≡ nodes_said (graph_lines bytes.now)) }
     ensures links { IfOk result (λ all. all.links.items ≡ links_said (graph_lines bytes.now)) }
-    ensures fault { IfErr result (λ f. IsGraphFault bytes.now f ⊎ (f ≡ RunFault.OutOfMemory)) }
+    ensures fault { IfErr result (λ f. IsGraphFileFault bytes.now f ⊎ (f ≡ RunFault.OutOfMemory)) }
 {
     let mut all = Gathered::new(alloc);
     let mut lines = KeptLines::new(bytes);
@@ -77,16 +78,16 @@ fn gather(alloc: Global, bytes: &[u8]) -> Result<Gathered, RunFault>
         let Some(says) = read_graph_line(line.text) else {
             return Err(RunFault::Line(line.number));
         };
-        all.take(says)?;
+        all.add(says)?;
     }
     Ok(all)
 }
 
-/// Reads what a line says. There is none where it can't be read.
+/// Reads what a line says. None is returned where it can't be read.
 fn read_graph_line(text: &[u8]) -> Option<GraphLine>
     ensures { result ≡ graph_line text.now }
 {
-    let mut cursor = Cursor::new(text);
+    let mut cursor = LineCursor::new(text);
     let name = cursor.word()?;
     if is_word(name, b"node") {
         return Some(GraphLine::Node(cursor.last_id()?));
@@ -97,7 +98,7 @@ fn read_graph_line(text: &[u8]) -> Option<GraphLine>
     None
 }
 
-fn read_link(cursor: &mut Cursor) -> Option<GraphLine>
+fn read_link(cursor: &mut LineCursor) -> Option<GraphLine>
     ensures { result ≡ option_map link_of (two (words_of cursor.old.rest.now)) }
 {
     let (from, to) = cursor.last_two()?;

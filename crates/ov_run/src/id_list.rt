@@ -1,14 +1,15 @@
 ghost use Rattle.std.specs.Prelude.{◌≡◌, map, option_map, IfOk};
 ghost use Rattle.std.specs.List.{slice_split};
-ghost use Rattle.ov_run.specs.Lines.{is_comma, number_within, ids_of};
+ghost use Rattle.ov_run.specs.Lines.{is_comma, number_within, ids_of, short_bits};
 
-use crate::number::read_short_number;
+use crate::numeral::read_short_number;
 use ov_ids::{NodeId, OutOfMemory};
 use std::alloc::{AllocError, Global};
 
-/// Reads a word of ids: decimal digits, of 32 bits each, with one comma between two. There is none where a part of the
-/// word is no such number, or is empty.
-#[tactic(auto, using(crate::proofs::Spelling::begun, crate::proofs::Spelling::more, crate::proofs::Spelling::unread, crate::proofs::Spelling::all_read), unfolding(crate::specs::Lines::ids_of))]
+/// Reads the ids that a word spells: numbers of decimal digits and 32 bits, with one comma between two. None is
+/// returned where a part of the word is no such number, or is empty. OutOfMemory (99) is returned where an allocation
+/// was refused. The form of the word is chosen here.
+#[tactic(auto, using(crate::proofs::Lines::Spelling::begun, crate::proofs::Lines::Spelling::more, crate::proofs::Lines::Spelling::unread, crate::proofs::Lines::Spelling::all_read), unfolding(crate::specs::Lines::ids_of))]
 pub fn read_ids(alloc: Global, word: &[u8]) -> Result<Option<Vec<NodeId>>, OutOfMemory>
     ensures { IfOk result (λ ids. option_map (λ v. v.items) ids ≡ ids_of word.now) }
 {
@@ -23,7 +24,7 @@ pub fn read_ids(alloc: Global, word: &[u8]) -> Result<Option<Vec<NodeId>>, OutOf
     Ok(Some(ids))
 }
 
-/// What stands between the commas of a word.
+/// The parts of a word between its commas.
 fn split_at_commas(alloc: Global, word: &[u8]) -> Result<Vec<&[u8]>, AllocError>
     ensures { IfOk result (λ pieces. map (λ piece. piece.now) pieces.items ≡ slice_split is_comma word.now) }
 {
@@ -31,7 +32,7 @@ fn split_at_commas(alloc: Global, word: &[u8]) -> Result<Vec<&[u8]>, AllocError>
 }
 
 fn read_id(piece: &[u8]) -> Option<NodeId>
-    ensures { result ≡ number_within 32 piece.now }
+    ensures { result ≡ number_within short_bits piece.now }
 {
     Some(NodeId::new(read_short_number(piece)?))
 }

@@ -1,28 +1,28 @@
 ghost use Rattle.std.specs.Prelude.{◌≡◌, ◌↔◌, [], Some, IfOk, IfErr, IsTrue, unwrap_or};
 ghost use Rattle.ov_run.specs.Code.Judging.{IsHead, Judges};
-ghost use Rattle.ov_run.specs.Reading.{default_limits};
-ghost use Rattle.ov_run.specs.Scenarios.{BeginWithEvent, AreFaultless, IsFirstFault, AreParamsOf, IsSeedOf};
+ghost use Rattle.ov_run.specs.Scenarios.{BeginWithEvent, AreFaultless, IsFirstLineFault, AreParamsOf, IsSeedOf};
+ghost use Rattle.ov_run.specs.Scenarios.{default_params};
 ghost use Rattle.ov_run.specs.declared.statement.Statement.TheVariants as says;
 
 use crate::fault::RunFault;
 use crate::statement::{Stated, Statement};
 use ov_ids::Params;
 
-/// What the lines of a file say for the whole of a run.
+/// What the lines of a file say for the whole run.
 #[derive(Clone, Copy)]
 pub(crate) struct Settings {
     pub(crate) params: Params,
     pub(crate) seed: u64,
 }
 
-/// Judges the lines of a file, each by its place among the others: the first fault of a line, or what they say for the
-/// whole of a run.
-#[tactic(auto, using(crate::proofs::Judged::begun))]
+/// Judges the lines of a file, each by what stands before it and behind it. Returns what they say for the whole run, or
+/// the fault of the first line at fault.
+#[tactic(auto, using(crate::proofs::Scenarios::Judged::begun))]
 pub(crate) fn judge(lines: &[Stated]) -> Result<Settings, RunFault>
     ensures faultless { IfOk result (λ _. AreFaultless lines.now) }
     ensures params { IfOk result (λ settings. AreParamsOf lines.now settings.params) }
     ensures seed { IfOk result (λ settings. IsSeedOf lines.now settings.seed) }
-    ensures fault { IfErr result (IsFirstFault lines.now) }
+    ensures fault { IfErr result (IsFirstLineFault lines.now) }
 {
     let mut head = Head::new();
     let mut left = lines;
@@ -33,7 +33,7 @@ pub(crate) fn judge(lines: &[Stated]) -> Result<Settings, RunFault>
     Ok(head.settings())
 }
 
-/// What the lines that were judged say, as far as it matters to the lines behind.
+/// What the lines so far say, as far as it matters to the lines behind them.
 #[derive(Clone, Copy)]
 struct Head {
     params: Option<Params>,
@@ -53,7 +53,7 @@ impl Head {
         }
     }
 
-    /// Judges the next line, which has these behind it.
+    /// Judges the next line, which these lines follow.
     fn judge(&mut self, line: &Stated, behind: &[Stated]) -> Result<(), RunFault>
         ensures { Judges result self.old line.now behind.now self.new }
     {
@@ -97,9 +97,9 @@ impl Head {
         Ok(())
     }
 
-    /// What was said for the whole of a run: without a line of parameters the usual ones, and without a seed 0.
+    /// What was said for the whole run: without a line of parameters the default ones, and without a seed 0.
     fn settings(&self) -> Settings
-        ensures params { result.params ≡ unwrap_or self.now.params default_limits }
+        ensures params { result.params ≡ unwrap_or self.now.params default_params }
         ensures seed { result.seed ≡ unwrap_or self.now.seed 0 }
     {
         Settings {
@@ -121,7 +121,7 @@ fn begin_with_event(lines: &[Stated]) -> bool
 
 /// The parameters of a scenario that gives none.
 fn default_params() -> Params
-    ensures { result ≡ default_limits }
+    ensures { result ≡ default_params }
 {
     Params::new(5, 30, 6, 3, 3, 4, 4).unwrap()
 }

@@ -2,23 +2,23 @@ ghost use Rattle.std.specs.Prelude.{◌≡◌, ◌∷◌, [], ◌+◌, ◌^◌, 
 ghost use Rattle.ov_run.specs.Lines.{is_skipped, kept_lines};
 ghost use Rattle.ov_run.specs.Code.Kept.{lines_left};
 
-use crate::cursor::Cursor;
+use crate::line_cursor::LineCursor;
 use crate::splitting::split_line;
 
-/// A line of a file that is not skipped, without its end.
+/// A line of a file that is not skipped, without its line feed and one carriage return before that.
 #[derive(Clone, Copy)]
 pub(crate) struct KeptLine<'a> {
-    /// Its number among all lines of the file, which are counted from 1.
+    /// Its number among all lines of the file. These are counted from 1.
     pub(crate) number: usize,
     pub(crate) text: &'a [u8],
 }
 
-/// The lines of a file that are left to read. Empty lines, lines of spaces alone, and comments, which begin with `#`,
-/// are skipped, but counted.
+/// The lines of a file that are left to read. Lines without a word and comments, which begin with `#`, are skipped, but
+/// counted.
 #[derive(Drop)]
 pub(crate) struct KeptLines<'a> {
     rest: &'a [u8],
-    /// How many lines were read.
+    /// How many lines were read, skipped ones too.
     count: usize,
 }
 
@@ -37,7 +37,7 @@ impl<'a> KeptLines<'a> {
     }
 
     /// Reads the next line that is not skipped, if there is one.
-    #[tactic(auto, using(crate::proofs::Kept::skipped, crate::proofs::Kept::kept, crate::proofs::Kept::none_left), unfolding(crate::specs::Code::Kept::lines_left))]
+    #[tactic(auto, using(crate::proofs::Lines::Kept::skipped, crate::proofs::Lines::Kept::kept, crate::proofs::Lines::Kept::none_left), unfolding(crate::specs::Code::Kept::lines_left))]
     pub(crate) fn next_line(&mut self) -> Option<KeptLine<'a>>
         requires room { self.old.count + length self.old.rest.now < 2 ^ 64 }
         ensures line { MatchOption result (lines_left self.old ≡ [])
@@ -62,7 +62,7 @@ impl<'a> KeptLines<'a> {
 fn is_skipped(text: &[u8]) -> bool
     ensures { result ≡ is_skipped text.now }
 {
-    match Cursor::new(text).word() {
+    match LineCursor::new(text).word() {
         None => true,
         Some(name) => name.starts_with(b"#"),
     }

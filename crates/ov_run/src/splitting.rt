@@ -3,8 +3,8 @@ ghost use Rattle.std.specs.List.{position};
 ghost use Rattle.ov_run.specs.Lines.{is_space, is_no_space, place_or_end, without_spaces};
 ghost use Rattle.ov_run.specs.Code.Spaced.{is_feed, without_return, first_line, first_word};
 
-/// Splits the first line off, without its line feed and without one carriage return before that. Bytes without a line
-/// feed are one line, to their last byte.
+/// Splits the first line off, without its line feed and one carriage return before that. Bytes without a line feed are
+/// one line.
 #[tactic(auto, unfolding(crate::specs::Code::Spaced::first_line))]
 pub(crate) fn split_line(bytes: &[u8]) -> (&[u8], &[u8])
     requires { 0 < length bytes.now }
@@ -31,8 +31,8 @@ fn drop_return(line: &[u8]) -> &[u8]
     line.strip_suffix(b"\r").unwrap_or(line)
 }
 
-/// Splits the first word off: bytes other than a space, up to the next space or to the end. Spaces before it do not
-/// count. There is none where nothing but spaces is left.
+/// Splits the first word off: the bytes behind leading spaces, up to the next space or the end. None is returned where
+/// only spaces are left.
 #[tactic(auto, unfolding(crate::specs::Code::Spaced::first_word))]
 pub(crate) fn split_word(text: &[u8]) -> Option<(&[u8], &[u8])>
     ensures { option_map (λ parts. (parts.0.now, parts.1.now)) result ≡ first_word text.now }
@@ -44,7 +44,7 @@ pub(crate) fn split_word(text: &[u8]) -> Option<(&[u8], &[u8])>
     Some(text.split_at(word_end(text)))
 }
 
-/// What is left behind the spaces in front.
+/// The text without the spaces that it begins with.
 fn drop_spaces(text: &[u8]) -> &[u8]
     ensures { result.now ≡ without_spaces text.now }
 {

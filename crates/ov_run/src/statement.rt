@@ -3,41 +3,42 @@ ghost use Rattle.ov_run.specs.Lines.{words_of, two, three};
 ghost use Rattle.ov_run.specs.Statements.{seven_numbers, event_words, report_of, timer_of, boot_of, broadcast_of};
 ghost use Rattle.ov_run.specs.Statements.{event_of, subject_of, named, statement_of};
 
-use crate::cursor::{Cursor, is_word};
-use crate::line::{Look, Subject};
+use crate::line_cursor::{LineCursor, is_word};
+use crate::scenario::{Look, Subject};
 use ov_ids::{MsgId, NodeId, OutOfMemory, Seq};
 use ov_net::Event;
 use ov_words::Words;
 use std::alloc::Global;
 
-/// What one line says by itself, whatever stands before it.
+/// What one line says by itself, whatever stands before it and behind it.
 #[derive(Drop)]
 pub(crate) enum Statement {
     /// The numbers of the parameters, which may be out of their limits.
     Params([u32; 7]),
+    /// The seed of the random words that no line gives.
     Seed(u64),
-    /// The words of the next event.
+    /// The random words of the next event.
     Words(Words),
     Event(Event),
     Look(Look),
-    /// What an analysis is of.
+    /// What is analysed.
     Analyse(Subject),
 }
 
 /// A line that is not skipped.
 #[derive(Drop)]
 pub(crate) struct Stated {
-    /// Its number among all lines of the file, which are counted from 1.
+    /// Its number among all lines of the file. These are counted from 1.
     pub(crate) number: usize,
-    /// What it says, or nothing where it can't be read.
+    /// What it says, or none where it can't be read.
     pub(crate) says: Option<Statement>,
 }
 
-/// Reads what a line says that is not skipped, of which its end is dropped. There is none where it can't be read.
+/// Reads what a line says that is not skipped. None is returned where it can't be read.
 pub(crate) fn read_statement(alloc: Global, text: &[u8]) -> Result<Option<Statement>, OutOfMemory>
     ensures { IfOk result (λ said. said ≡ statement_of text.now) }
 {
-    let mut cursor = Cursor::new(text);
+    let mut cursor = LineCursor::new(text);
     let Some(name) = cursor.word() else {
         return Ok(None);
     };
@@ -47,8 +48,8 @@ pub(crate) fn read_statement(alloc: Global, text: &[u8]) -> Result<Option<Statem
     Ok(read_named(alloc, name, &mut cursor)?)
 }
 
-/// Reads what follows the name `broadcast`: the node, and the payload as it stands behind one space.
-fn read_broadcast(alloc: Global, cursor: &mut Cursor) -> Result<Option<Statement>, OutOfMemory>
+/// Reads what follows the name `broadcast`: the node, and the payload, which is all bytes behind one space.
+fn read_broadcast(alloc: Global, cursor: &mut LineCursor) -> Result<Option<Statement>, OutOfMemory>
     ensures { IfOk result (λ said. said ≡ broadcast_of cursor.old.rest.now (words_of cursor.old.rest.now)) }
 {
     let Some(node) = cursor.id() else {
@@ -62,7 +63,7 @@ fn read_broadcast(alloc: Global, cursor: &mut Cursor) -> Result<Option<Statement
 fn read_named(
     alloc: Global,
     name: &[u8],
-    cursor: &mut Cursor,
+    cursor: &mut LineCursor,
 ) -> Result<Option<Statement>, OutOfMemory>
     ensures { IfOk result (λ said. said ≡ named name.now (words_of cursor.old.rest.now)) }
 {
@@ -96,7 +97,7 @@ fn read_named(
 }
 
 /// Reads the moment of an analysis, and its group where one is named: `M`, or `M group IDS`.
-fn read_subject(alloc: Global, cursor: &mut Cursor) -> Result<Option<Subject>, OutOfMemory>
+fn read_subject(alloc: Global, cursor: &mut LineCursor) -> Result<Option<Subject>, OutOfMemory>
     ensures { IfOk result (λ subject. subject ≡ subject_of (words_of cursor.old.rest.now)) }
 {
     let Some(moment) = cursor.short_number() else {
@@ -117,7 +118,7 @@ fn read_subject(alloc: Global, cursor: &mut Cursor) -> Result<Option<Subject>, O
 }
 
 /// Reads what follows the name of an event without a payload.
-fn read_event(name: &[u8], cursor: &mut Cursor) -> Option<Event>
+fn read_event(name: &[u8], cursor: &mut LineCursor) -> Option<Event>
     ensures { result ≡ event_of name.now (words_of cursor.old.rest.now) }
 {
     if is_word(name, b"boot") {
@@ -150,14 +151,14 @@ fn read_event(name: &[u8], cursor: &mut Cursor) -> Option<Event>
     None
 }
 
-fn read_report(cursor: &mut Cursor) -> Option<Event>
+fn read_report(cursor: &mut LineCursor) -> Option<Event>
     ensures { result ≡ option_map report_of (two (words_of cursor.old.rest.now)) }
 {
     let (node, crashed) = cursor.last_two()?;
     Some(Event::Report(NodeId::new(node), NodeId::new(crashed)))
 }
 
-fn read_timer(cursor: &mut Cursor) -> Option<Event>
+fn read_timer(cursor: &mut LineCursor) -> Option<Event>
     ensures { result ≡ option_map timer_of (three (words_of cursor.old.rest.now)) }
 {
     let (node, (origin, seq)) = cursor.last_three()?;
@@ -168,7 +169,7 @@ fn read_timer(cursor: &mut Cursor) -> Option<Event>
     Some(Event::Timer(NodeId::new(node), id))
 }
 
-fn read_boot(cursor: &mut Cursor) -> Option<Event>
+fn read_boot(cursor: &mut LineCursor) -> Option<Event>
     ensures { result ≡ boot_of (words_of cursor.old.rest.now) }
 {
     let node = cursor.id()?;
@@ -181,7 +182,7 @@ fn read_boot(cursor: &mut Cursor) -> Option<Event>
     Some(Event::Boot(node, Some(cursor.last_id()?)))
 }
 
-fn read_params(cursor: &mut Cursor) -> Option<[u32; 7]>
+fn read_params(cursor: &mut LineCursor) -> Option<[u32; 7]>
     ensures { result ≡ seven_numbers (words_of cursor.old.rest.now) }
 {
     let active = cursor.short_number()?;
@@ -194,9 +195,9 @@ fn read_params(cursor: &mut Cursor) -> Option<[u32; 7]>
     Some([active, passive, arwl, prwl, ka, kp, shuffle_ttl])
 }
 
-/// Reads 1 to 64 words. Zeros follow them.
-#[tactic(auto, using(crate::proofs::Filling::begun, crate::proofs::Filling::more, crate::proofs::Filling::unread, crate::proofs::Filling::full, crate::proofs::Filling::all_read))]
-fn read_event_words(cursor: &mut Cursor) -> Option<Words>
+/// Reads 1 to 64 random words. Zeros follow them.
+#[tactic(auto, using(crate::proofs::Lines::Filling::begun, crate::proofs::Lines::Filling::more, crate::proofs::Lines::Filling::unread, crate::proofs::Lines::Filling::full, crate::proofs::Lines::Filling::all_read))]
+fn read_event_words(cursor: &mut LineCursor) -> Option<Words>
     ensures { result ≡ event_words (words_of cursor.old.rest.now) }
 {
     let mut words = [0; 64];

@@ -6,23 +6,41 @@ use Rattle.ov_ids.specs.Sets.{IsIn, without}
 use Rattle.ov_ids.proofs.Sets.{length-without_less}
 use Rattle.ov_wire.specs.declared.Body.TheVariants.{Shuffle, ShuffleReply}
 use Rattle.ov_words.specs.Pick.{Choice}
-use Rattle.ov_views.specs.Neighbourhood.{Neighbourhood}
-use Rattle.ov_views.specs.Shuffle.{Samples, Integrates}
+use Rattle.ov_views.specs.ViewsState.{ViewsState}
+use Rattle.ov_views.specs.Sampling.{Samples, Integrates}
 use Rattle.ov_views.specs.Sending.{say}
-use Rattle.ov_views.specs.Shuffling.{AllowedStart, AllowedShuffle, walks_on}
+use Rattle.ov_views.specs.ShuffleRows.{AllowedStart, AllowedShuffle, walks_on}
 
-pub walks : (v : Neighbourhood) (s o ttl : ℕ) (ids : List ℕ) (target : ℕ) → eqb s v.me ≡ false → walks_on v ttl ≡ true → IsIn (without s v.active) target →
-    AllowedShuffle v s o ttl ids (record { from = without s v.active; member = target } ∷ []) v [] ((target, say v.me (Shuffle o (ttl - 1) ids)) ∷ [])
-walks v s o ttl ids target other on h = where_false _ _ _ other (where_true _ _ _ on (target, (h, refl), refl, refl, refl))
+pub walks : (v : ViewsState) (s o ttl : ℕ) (ids : List ℕ) (target : ℕ) → eqb s v.me ≡ false → walks_on v ttl ≡ true →
+    IsIn (without s v.active) target →
+    AllowedShuffle v s o ttl ids (record { from = without s v.active; member = target } ∷ []) v []
+    ((target, say v.me (Shuffle o (ttl - 1) ids)) ∷ [])
+walks v s o ttl ids target other on h =
+    where_false _ _ _ other (where_true _ _ _ on (target, (h, refl), refl, refl, refl))
 
-pub ends : (v w : Neighbourhood) (s o ttl : ℕ) (ids those : List ℕ) (first last : List Choice) → eqb s v.me ≡ false → walks_on v ttl ≡ false → eqb o v.me ≡ false →
+pub ends : (v w : ViewsState) (s o ttl : ℕ) (ids those : List ℕ) (first last : List Choice) → eqb s v.me ≡ false →
+    walks_on v ttl ≡ false → eqb o v.me ≡ false →
     Samples v.passive (length ids) first those → Integrates v ids those last w →
     AllowedShuffle v s o ttl ids (first ++ last) w [] ((o, say v.me (ShuffleReply those)) ∷ [])
 ends v w s o ttl ids those first last other on foreign samples integrates =
-    where_false _ _ _ other (where_false _ _ _ on (where_false _ _ _ foreign (first, last, those, refl, samples, integrates, refl, refl)))
+    where_false _ _ _ other (where_false _ _ _ on
+    (where_false _ _ _ foreign (first, last, those, refl, samples, integrates, refl, refl)))
 
-pub starts : (v : Neighbourhood) (sent : List ℕ) (target : ℕ) (first last : List Choice) (near far kept : List ℕ) → IsIn v.active target →
-    Samples v.active v.params.ka first near → Samples v.passive v.params.kp last far → kept ≡ v.me ∷ (near ++ far) →
-    AllowedStart v sent (record { from = v.active; member = target } ∷ (first ++ last)) kept ((target, say v.me (Shuffle v.me v.params.shuffle_ttl kept)) ∷ [])
+pub starts : (v : ViewsState) (sent : List ℕ) (target : ℕ) (first last : List Choice) (near far kept : List ℕ) →
+    IsIn v.active target → Samples v.active v.params.ka first near → Samples v.passive v.params.kp last far →
+    kept ≡ v.me ∷ (near ++ far) →
+    AllowedStart v sent (record { from = v.active; member = target } ∷ (first ++ last)) kept
+    ((target, say v.me (Shuffle v.me v.params.shuffle_ttl kept)) ∷ [])
 starts v sent target first last near far kept h s t e =
-    where_false _ _ _ (ne_eqb (length v.active) 0 (omega (arith, length-without_less target v.active h))) (target, first ++ last, first, last, near, far, (h, refl), refl, s, t, e, refl)
+    where_false _ _ _ (ne_eqb (length v.active) 0 (omega (arith, length-without_less target v.active h))) (record {
+      receiver = target;
+      near = near;
+      far = far;
+      near_choices = first;
+      far_choices = last;
+      receiver_chosen = (h, refl);
+      near_sampled = s;
+      far_sampled = t;
+      listed = e;
+      sent = refl;
+    })

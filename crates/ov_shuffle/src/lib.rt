@@ -1,49 +1,51 @@
-//! Shuffles, by which nodes trade parts of their views, so that passive views come to have other members with time.
+//! Shuffles: nodes exchange samples of their views, so that passive views come to have other members with time.
 //!
-//! Shuffles are HyParView's (Leitão, Pereira, Rodrigues, DSN 2007, Section 4.4); in which order a shuffle's choices are made,
-//! and that one's own shuffle which comes back does nothing, are chosen here. Every call makes all its room first, so after
-//! want of memory nothing has changed.
+//! Shuffles are HyParView's (Leitão, Pereira, Rodrigues, DSN 2007, Section 4.4). The order of a shuffle's choices is
+//! chosen here, and that a node's own shuffle does nothing where it ends at that node. Every call makes all its room
+//! before it changes anything, so nothing has changed where it is out of memory.
+//!
+//! The rules of these steps are in `ov_views/specs/ShuffleRows.antt`, and what a handler owes in `Handling.antt`
+//! beside it.
 #![tactic(auto)]
 
-ghost use Rattle.std.specs.Prelude.{◌≡◌, ◌≤◌, ◌<◌, ◌+◌, ◌++◌, ◌∷◌, [], length, vec_len, vec_capacity, IfOk, OnErr, IsTrue};
-ghost use Rattle.std.specs.List.{AllByRecursion};
-ghost use Rattle.ov_wire.specs.Messages.{AreInRange};
-ghost use Rattle.ov_words.specs.Pick.{Drawn};
-ghost use Rattle.ov_views.specs.Allowed.{Node, Allowed, receives, shuffles};
-ghost use Rattle.ov_views.specs.Shuffling.{walks_on};
+ghost use Rattle.std.specs.Prelude.{◌≡◌, ◌≤◌, ◌<◌, ◌+◌, ◌++◌, ◌∷◌, [], length, vec_len, vec_capacity};
+ghost use Rattle.std.specs.Prelude.{IfOk, OnErr, IsTrue};
+ghost use Rattle.ov_wire.specs.Messages.{AreSendsInRange, most_ttl, most_ids};
+ghost use Rattle.ov_views.specs.Allowed.{receives, shuffles};
+ghost use Rattle.ov_views.specs.Handling.{ViewsStep, SentStep, step_words};
+ghost use Rattle.ov_views.specs.ShuffleRows.{walks_on};
 ghost use Rattle.ov_wire.specs.declared.message.Body.TheVariants.{Shuffle, ShuffleReply};
 
 mod sent;
 
 use ov_ids::{NodeId, OutOfMemory, Seq};
 use ov_views::{Moves, View, Views};
-use ov_wire::{Body, Message};
+use ov_wire::{Body, MAX_IDS, Message};
 use ov_words::Draws;
 pub use sent::Sent;
 use std::alloc::Global;
 
-/// Starts a shuffle: SHUFFLE of the node itself, a sample of its active and then one of its passive members goes to a random
-/// active member, and that list is `sent` from then on. Where nobody is active nothing happens, and `sent` stays. At most 17
-/// words.
+/// The effects of starting a shuffle. SHUFFLE goes to a random active member. It lists the node itself, then a sample
+/// of its active members, then a sample of its passive members, and that list is kept as `sent`. Where nobody is
+/// active nothing happens, and `sent` stays. No view changes. At most 17 random words are used. OutOfMemory (99)
+/// where an allocation is refused, and then nothing has changed. (HyParView: Leitão, Pereira, Rodrigues, DSN 2007,
+/// Section 4.4; the order of the choices is chosen here.)
 pub fn start(
     alloc: Global,
     views: &Views,
     sent: &mut Sent,
     draws: &mut Draws<'_>,
 ) -> Result<Moves, OutOfMemory>
-    requires { 40 ≤ length draws.old }
-    ensures allowed { IfOk result (λ m. Drawn draws.old draws.new
-        (λ choices. (n : Node) → Allowed (record n { views = views.now; sent = sent.old }) shuffles choices
-        (record n { views = views.now; sent = sent.new }) m.changes.items m.sends.items)) }
-    ensures changes { IfOk result (λ m. m.changes.items ≡ []) }
-    ensures words { length draws.old ≤ length draws.new + 17 }
+    requires { step_words ≤ length draws.old }
+    ensures allowed { IfOk result (SentStep views.now sent.old draws.old shuffles views.now sent.new draws.new) }
+    ensures words { length draws.old ≤ length draws.new + most_ids }
     ensures few { IfOk result (λ m. vec_len m.sends ≤ 1) }
-    ensures ranges { IfOk result (λ m. AllByRecursion (λ s. AreInRange s.1) m.sends.items) }
+    ensures ranges { IfOk result (λ m. AreSendsInRange m.sends.items) }
     ensures err { OnErr result ((sent.new ≡ sent.old) × (draws.new ≡ draws.old)) }
 {
     let mut moves = Moves::with_room(alloc, 1)?;
-    let mut kept = Vec::with_capacity(alloc, 17)?;
-    let mut list = Vec::with_capacity(alloc, 17)?;
+    let mut kept = Vec::with_capacity(alloc, MAX_IDS as usize)?;
+    let mut list = Vec::with_capacity(alloc, MAX_IDS as usize)?;
     let to = match draws.pick(views.active()) {
         Some(to) => to,
         None => return Ok(moves),
@@ -67,7 +69,7 @@ pub fn start(
     Ok(moves)
 }
 
-/// Writes the node itself and then its samples into an empty list with room for them.
+/// Writes the node itself and then its samples into an empty list. Room for them must be there.
 fn write(list: &mut Vec<NodeId>, me: NodeId, near: &[NodeId], far: &[NodeId])
     requires empty { list.old.items ≡ [] }
     requires room { length near.now + length far.now < vec_capacity list.old }
@@ -78,7 +80,7 @@ fn write(list: &mut Vec<NodeId>, me: NodeId, near: &[NodeId], far: &[NodeId])
     append(list, far);
 }
 
-/// Writes ids behind those of a list with room for them.
+/// Appends ids to a list. Room for them must be there.
 fn append(list: &mut Vec<NodeId>, ids: &[NodeId])
     requires { vec_len list.old + length ids.now ≤ vec_capacity list.old }
     ensures items { list.new.items ≡ list.old.items ++ ids.now }
@@ -91,9 +93,12 @@ fn append(list: &mut Vec<NodeId>, ids: &[NodeId])
     }
 }
 
-/// At SHUFFLE of an origin, from a node: it walks on to a random active member, or ends here. Where it ends, and the origin is
-/// another node, that gets as many passive members as the list is long, or all, and then the list is integrated. At most 17
-/// words: each member sampled saves the word of one id.
+/// The effects of SHUFFLE of an origin, from a node, with `ttl` steps left. It walks on to a random active member, or
+/// it ends here. Where it ends and the origin is another node, the origin is sent a sample of as many passive members
+/// as the list is long, or of all, and then the list is integrated. At most 17 random words are used: each sampled
+/// member saves the word of one id. OutOfMemory (99) where an allocation is refused, and then nothing has changed.
+/// (HyParView: Leitão, Pereira, Rodrigues, DSN 2007, Section 4.4; that a node's own shuffle does nothing where it
+/// ends there is chosen here.)
 pub fn on_shuffle(
     alloc: Global,
     views: &mut Views,
@@ -103,15 +108,14 @@ pub fn on_shuffle(
     ttl: u8,
     ids: &[NodeId],
 ) -> Result<Moves, OutOfMemory>
-    requires words { 40 ≤ length draws.old }
-    requires ttl { ttl ≤ 15 }
-    requires ids { length ids.now ≤ 17 }
-    ensures allowed { IfOk result (λ m. Drawn draws.old draws.new
-        (λ choices. (n : Node) → Allowed (record n { views = views.old }) (receives from (Shuffle origin ttl ids.now)) choices
-        (record n { views = views.new }) m.changes.items m.sends.items)) }
-    ensures words { length draws.old ≤ length draws.new + 17 }
+    requires words { step_words ≤ length draws.old }
+    requires ttl { ttl ≤ most_ttl }
+    requires ids { length ids.now ≤ most_ids }
+    ensures allowed { IfOk result
+        (ViewsStep views.old draws.old (receives from (Shuffle origin ttl ids.now)) views.new draws.new) }
+    ensures words { length draws.old ≤ length draws.new + most_ids }
     ensures few { IfOk result (λ m. vec_len m.sends ≤ 1) }
-    ensures ranges { IfOk result (λ m. AllByRecursion (λ s. AreInRange s.1) m.sends.items) }
+    ensures ranges { IfOk result (λ m. AreSendsInRange m.sends.items) }
     ensures err { OnErr result ((views.new ≡ views.old) × (draws.new ≡ draws.old)) }
 {
     let mut moves = Moves::with_room(alloc, 1)?;
@@ -146,7 +150,7 @@ pub fn on_shuffle(
     Ok(moves)
 }
 
-/// Whether the walk of SHUFFLE goes on.
+/// Whether the walk of a SHUFFLE goes on.
 fn walks_on(views: &Views, ttl: u8) -> bool
     ensures value { result ≡ walks_on views.now ttl }
     ensures ttl { IsTrue result → 1 < ttl }
@@ -155,7 +159,9 @@ fn walks_on(views: &Views, ttl: u8) -> bool
     ttl > 1 && views.active().len() > 1
 }
 
-/// At SHUFFLEREPLY from a node: the list is integrated, and what this node sent is given up first. At most 17 words.
+/// The effects of SHUFFLEREPLY from a node. The list is integrated, and the members that this node sent are given up
+/// first. Nothing is sent. At most 17 random words are used. OutOfMemory (99) where an allocation is refused, and
+/// then nothing has changed. (HyParView: Leitão, Pereira, Rodrigues, DSN 2007, Section 4.4.)
 pub fn on_reply(
     alloc: Global,
     views: &mut Views,
@@ -164,12 +170,11 @@ pub fn on_reply(
     from: NodeId,
     ids: &[NodeId],
 ) -> Result<Moves, OutOfMemory>
-    requires words { 40 ≤ length draws.old }
-    requires ids { length ids.now ≤ 17 }
-    ensures allowed { IfOk result (λ m. Drawn draws.old draws.new
-        (λ choices. (n : Node) → Allowed (record n { views = views.old; sent = sent.now }) (receives from (ShuffleReply ids.now)) choices
-        (record n { views = views.new; sent = sent.now }) m.changes.items m.sends.items)) }
-    ensures words { length draws.old ≤ length draws.new + 17 }
+    requires words { step_words ≤ length draws.old }
+    requires ids { length ids.now ≤ most_ids }
+    ensures allowed { IfOk result (SentStep views.old sent.now draws.old (receives from (ShuffleReply ids.now))
+        views.new sent.now draws.new) }
+    ensures words { length draws.old ≤ length draws.new + most_ids }
     ensures none { IfOk result (λ m. vec_len m.sends ≡ 0) }
     ensures err { OnErr result ((views.new ≡ views.old) × (draws.new ≡ draws.old)) }
 {

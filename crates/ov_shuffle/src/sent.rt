@@ -4,7 +4,8 @@ use ov_ids::{NodeId, OutOfMemory};
 use std::alloc::Global;
 use std::marker::Model;
 
-/// The list of a node's last shuffle, which it gives up first when the reply comes. Contracts see its ids in order.
+/// The list of a node's last shuffle. Its members are given up first when the reply comes. Contracts see its ids in
+/// order.
 #[derive(Debug, Drop)]
 pub struct Sent {
     ids: Vec<NodeId>,
@@ -19,7 +20,7 @@ impl Model for Sent {
 }
 
 impl Sent {
-    /// The empty list, of a node that has started no shuffle yet. It takes no memory.
+    /// The empty list, of a node that has started no shuffle yet. Nothing is allocated.
     pub fn new(alloc: Global) -> Sent
         ensures { result ≡ [] }
     {
@@ -28,7 +29,7 @@ impl Sent {
         }
     }
 
-    /// An equal list.
+    /// An equal list. OutOfMemory (99) where the allocation is refused.
     pub fn copy(&self) -> Result<Sent, OutOfMemory>
         ensures { IfOk result (λ sent. sent ≡ self.now) }
     {

@@ -1,5 +1,5 @@
 -- Where a report stands among the places of all, which are in the order of moments and groups.
-use Rattle.std.proofs.Common.{◌≡◌, ◌⊎◌, ℕ, zero, suc, ◌+◌, ◌<◌, ◌≤◌, List, [], ◌∷◌, ◌++◌, length, length-append, take}
+use Rattle.std.proofs.Common.{◌≡◌, ◌⊎◌, ℕ, zero, suc, ◌+◌, ◌-◌, ◌/◌, ◌<◌, ◌≤◌, List, [], ◌∷◌, ◌++◌, length, length-append, take}
 use Rattle.std.proofs.Common.{drop}
 use Rattle.std.proofs.Common.{get_or, slice_index, inl, inr, refl, sym, ap, ap₂, ◌∙◌, subst, arith}
 use Rattle.std.proofs.lemmas.Bool.{cases_eq, cases_lt}
@@ -14,7 +14,7 @@ use Rattle.ov_ids.specs.Members.{Has, Ordered}
 use Rattle.ov_ids.proofs.Members.{all_member, all_from_members, has_append_cases, has_append_left, has_append_right}
 use Rattle.ov_ids.proofs.Members.{has_place, place_of, place_in_take, has_from_take, ordered_at}
 use Rattle.ov_snap.specs.Code.Index.{AreGreater, AreInOrder, AreLess, IsGap, Key, Precedes, key_at, key_cmp, key_of}
-use Rattle.ov_snap.specs.Exact.{Reported}
+use Rattle.ov_snap.specs.ReportState.{ReportState}
 
 -- THE ORDER OF KEYS
 
@@ -50,22 +50,23 @@ not_above_itself k g = less_is_not_greater (key_cmp k k) (turned_back k k g) g
 
 -- KEYS AT PLACES
 
-pub key_read : (reports : List Reported) (p : ℕ) (d : Reported) → p < length reports
+pub key_read : (reports : List ReportState) (p : ℕ) (d : ReportState) → p < length reports
     → key_at reports p ≡ key_of (get_or reports p d)
 key_read [] p d l = absurd (omega arith)
 key_read (r ∷ rs) zero d l = refl
 key_read (r ∷ rs) (suc p) d l = key_read rs p d (omega arith)
 
-key_before : (reports more : List Reported) (p : ℕ) → p < length reports → key_at (reports ++ more) p ≡ key_at reports p
+key_before : (reports more : List ReportState) (p : ℕ) → p < length reports
+    → key_at (reports ++ more) p ≡ key_at reports p
 key_before [] more p l = absurd (omega arith)
 key_before (r ∷ rs) more zero l = refl
 key_before (r ∷ rs) more (suc p) l = key_before rs more p (omega arith)
 
-key_last : (reports : List Reported) (r : Reported) → key_at (reports ++ r ∷ []) (length reports) ≡ key_of r
+key_last : (reports : List ReportState) (r : ReportState) → key_at (reports ++ r ∷ []) (length reports) ≡ key_of r
 key_last [] r = refl
 key_last (x ∷ rs) r = key_last rs r
 
-stands : (reports : List Reported) (r : Reported) → Has reports r
+stands : (reports : List ReportState) (r : ReportState) → Has reports r
     → (p : ℕ) × (p < length reports) × (key_at reports p ≡ key_of r)
 stands [] r h = absurd h
 stands (x ∷ rs) r h = elim h [
@@ -75,7 +76,7 @@ stands (x ∷ rs) r h = elim h [
 
 -- HALVING
 
-module _ (reports : List Reported) (places : List ℕ) (key : Key) where
+module _ (reports : List ReportState) (places : List ℕ) (key : Key) where
   pub less_more : (middle : ℕ) → AreInOrder reports places → middle < length places
       → key_cmp (key_at reports (slice_index places middle)) key ≡ Less → AreLess reports places key (middle + 1)
   less_more middle h inside less i l = elim (cases_eq i middle) [
@@ -94,9 +95,42 @@ module _ (reports : List Reported) (places : List ℕ) (key : Key) where
         (ordered_at (Precedes reports) places middle i 0 h.order (omega arith) inside))
   ]
 
+  -- what is left to search, from low up to high: the reports before it are of lesser keys, those behind it of greater
+  pub record Remains (low high : ℕ) : Type 0 where
+    pub order : low ≤ high
+    pub inside : high ≤ length places
+    pub less : AreLess reports places key low
+    pub greater : AreGreater reports places key high
+
+  -- the middle of what is left is a place
+  pub middle_within : (low high : ℕ) → Remains low high → low < high → low + (high - low) / 2 < length places
+  middle_within low high left more = let inside = left.inside in omega (arith, inside, more)
+
+  -- the upper half is left
+  pub upper_half : (low high : ℕ) → AreInOrder reports places → Remains low high → low < high
+      → key_cmp (key_at reports (slice_index places (low + (high - low) / 2))) key ≡ Less
+      → Remains (low + (high - low) / 2 + 1) high
+  upper_half low high h left more less = record {
+    order = omega (arith, more);
+    inside = left.inside;
+    less = less_more (low + (high - low) / 2) h (middle_within low high left more) less;
+    greater = left.greater;
+  }
+
+  -- the lower half is left
+  pub lower_half : (low high : ℕ) → AreInOrder reports places → Remains low high → low < high
+      → key_cmp (key_at reports (slice_index places (low + (high - low) / 2))) key ≡ Greater
+      → Remains low (low + (high - low) / 2)
+  lower_half low high h left more greater = let inside = left.inside in record {
+    order = omega arith;
+    inside = omega (arith, inside, more);
+    less = left.less;
+    greater = greater_more (low + (high - low) / 2) h greater;
+  }
+
   -- where there is a gap, no report has the key
-  pub none_in_gap : (at : ℕ) → AreInOrder reports places → IsGap reports places key at → (r : Reported) → Has reports r
-      → ¬ (key_of r ≡ key)
+  pub none_in_gap : (at : ℕ) → AreInOrder reports places → IsGap reports places key at → (r : ReportState)
+      → Has reports r → ¬ (key_of r ≡ key)
   none_in_gap at h gap r k same =
       let s = stands reports r k in
       let i = place_of places s.0 (h.every s.0 s.1) in
@@ -107,36 +141,36 @@ module _ (reports : List Reported) (places : List ℕ) (key : Key) where
       ]
 
 -- what the comparison with the report at a place says
-pub compared : (reports : List Reported) (p : ℕ) (r : Reported) (k : Key) (o is : Ordering) → p < length reports
+pub compared : (reports : List ReportState) (p : ℕ) (r : ReportState) (k : Key) (o is : Ordering) → p < length reports
     → r ≡ get_or reports p r → o ≡ key_cmp (key_of r) k → o ≡ is → key_cmp (key_at reports p) k ≡ is
 compared reports p r k o is inside read e same =
     ap (λ (x : Key). key_cmp x k) (key_read reports p r inside ∙ ap key_of (sym read)) ∙ sym e ∙ same
 
 -- a report with the key of a place stands there
-pub found_there : (l m n : List Reported) (p : ℕ) (r : Reported) (k : Key) → l ≡ m → m ≡ n
+pub found_there : (l m n : List ReportState) (p : ℕ) (r : ReportState) (k : Key) → l ≡ m → m ≡ n
     → (p < length l) × (key_at l p ≡ k) → r ≡ get_or m p r → Has n r × (key_of r ≡ k)
 found_there l m n p r k e f h read =
-    let g = subst (λ (x : List Reported). (p < length x) × (key_at x p ≡ k)) e h in (
-      subst (λ (x : List Reported). Has x r) f (subst (Has m) (sym read) (has_place m p r g.0)),
+    let g = subst (λ (x : List ReportState). (p < length x) × (key_at x p ≡ k)) e h in (
+      subst (λ (x : List ReportState). Has x r) f (subst (Has m) (sym read) (has_place m p r g.0)),
       ap key_of read ∙ sym (key_read m p r g.0) ∙ g.1,
     )
 
-pub not_there : (l m n : List Reported) (ps qs : List ℕ) (k : Key) (at : ℕ) → l ≡ m → m ≡ n → ps ≡ qs
-    → AreInOrder m qs → IsGap l ps k at → (r : Reported) → Has n r → ¬ (key_of r ≡ k)
+pub not_there : (l m n : List ReportState) (ps qs : List ℕ) (k : Key) (at : ℕ) → l ≡ m → m ≡ n → ps ≡ qs
+    → AreInOrder m qs → IsGap l ps k at → (r : ReportState) → Has n r → ¬ (key_of r ≡ k)
 not_there l m n ps qs k at e f g h gap r has =
-    none_in_gap m qs k at h (subst (λ (x : List Reported). IsGap x qs k at) e
+    none_in_gap m qs k at h (subst (λ (x : List ReportState). IsGap x qs k at) e
     (subst (λ (x : List ℕ). IsGap l x k at) g gap))
-    r (subst (λ (x : List Reported). Has x r) (sym f) has)
+    r (subst (λ (x : List ReportState). Has x r) (sym f) has)
 
 -- where no report has a key, no place has it
-pub not_taken : (l m n : List Reported) (p : ℕ) (r : Reported) (k : Key) → l ≡ m → m ≡ n
-    → (p < length l) × (key_at l p ≡ k) → k ≡ key_of r → ((x : Reported) → Has n x → ¬ (key_of x ≡ key_of r)) → ⊥
+pub not_taken : (l m n : List ReportState) (p : ℕ) (r : ReportState) (k : Key) → l ≡ m → m ≡ n
+    → (p < length l) × (key_at l p ≡ k) → k ≡ key_of r → ((x : ReportState) → Has n x → ¬ (key_of x ≡ key_of r)) → ⊥
 not_taken l m n p r k e f h own free =
     let there = found_there l m n p (get_or m p r) k e f h (sym (same_item m p r (get_or m p r)
-    (subst (λ (x : List Reported). p < length x) e h.0))) in
+    (subst (λ (x : List ReportState). p < length x) e h.0))) in
     free (get_or m p r) there.0 (there.1 ∙ own)
   where
-    same_item : (xs : List Reported) (i : ℕ) (c d : Reported) → i < length xs → get_or xs i d ≡ get_or xs i c
+    same_item : (xs : List ReportState) (i : ℕ) (c d : ReportState) → i < length xs → get_or xs i d ≡ get_or xs i c
     same_item [] i c d l = absurd (omega arith)
     same_item (x ∷ xs) zero c d l = refl
     same_item (x ∷ xs) (suc i) c d l = same_item xs i c d (omega arith)
@@ -188,11 +222,11 @@ ordered_between R (x ∷ xs) (suc k) y up before after = (
     ]
 
 -- the place of one more report goes into its gap
-pub one_more : (reports : List Reported) (places : List ℕ) (r : Reported) (at : ℕ) → AreInOrder reports places
+pub one_more : (reports : List ReportState) (places : List ℕ) (r : ReportState) (at : ℕ) → AreInOrder reports places
     → IsGap reports places (key_of r) at → AreInOrder (reports ++ r ∷ []) (insert places at (length reports))
 one_more reports places r at h gap = record { inside = inside; every = every; order = order }
   where
-    longer : List Reported
+    longer : List ReportState
     longer = reports ++ r ∷ []
 
     count : length longer ≡ length reports + 1
@@ -235,11 +269,11 @@ one_more reports places r at h gap = record { inside = inside; every = every; or
         (λ x y k l up. ap₂ key_cmp (old x k) (old y l) ∙ up) h.order) before after
 
 -- the parts of the reports when one more is filed
-pub pushed : (reports l filed : List Reported) (places ps qs : List ℕ) (r : Reported) (k : Key) (at count : ℕ)
+pub pushed : (reports l filed : List ReportState) (places ps qs : List ℕ) (r : ReportState) (k : Key) (at count : ℕ)
     → AreInOrder reports places → l ≡ reports → ps ≡ places → IsGap l ps k at → k ≡ key_of r
     → filed ≡ reports ++ r ∷ [] → count ≡ length reports → qs ≡ insert places at count → AreInOrder filed qs
 pushed reports l filed places ps qs r k at count h e f gap own is counted put =
-    subst (λ (x : List Reported). AreInOrder x qs) (sym is) (subst (AreInOrder (reports ++ r ∷ []))
+    subst (λ (x : List ReportState). AreInOrder x qs) (sym is) (subst (AreInOrder (reports ++ r ∷ []))
     (sym (put ∙ ap (insert places at) counted)) (one_more reports places r at h
     (subst (λ (x : Key). IsGap reports places x at)
-    own (subst (λ (x : List Reported). IsGap x places k at) e (subst (λ (x : List ℕ). IsGap l x k at) f gap)))))
+    own (subst (λ (x : List ReportState). IsGap x places k at) e (subst (λ (x : List ℕ). IsGap l x k at) f gap)))))

@@ -1,37 +1,37 @@
--- A book stays sound, whatever happens and whatever is filed.
+-- A core stays sound, whatever happens and whatever is filed.
 use Rattle.std.proofs.Common.{◌≡◌, ◌≢◌, ◌⊎◌, ℕ, ◌<◌, List, [], ◌∷◌, ◌++◌, length, length-append, Option, Some, None}
 use Rattle.std.proofs.Common.{IfSome, IfNone, Result, Ok, Err, IfOk, OnErr, true≢false, Bool, IsTrue, ◌↔◌, false, inl}
 use Rattle.std.proofs.Common.{◌≤◌, slice_get, inr, refl, sym, ap, ap₂, ◌∙◌, subst, append-nil, arith}
 use Rattle.std.proofs.lemmas.Option.{none-some}
-use Rattle.ov_ids.specs.Limits.{Limits}
+use Rattle.ov_ids.specs.ParamsState.{ParamsState}
 use Rattle.ov_ids.specs.Members.{Has, Ordered}
-use Rattle.ov_ids.specs.Steps.{Step, Passed}
+use Rattle.ov_ids.specs.FaultOrder.{Step, Passed}
 use Rattle.ov_ids.proofs.Members.{has_append_cases, has_append_left, has_append_right}
 use Rattle.ov_ids.proofs.Stepping.{step_none}
 use Rattle.ov_graph.specs.Links.{LinkGraph}
 use Rattle.ov_cert.specs.Valid.{IsValidForGroup}
-use Rattle.ov_cert.proofs.Exact.{fewest, valid_means}
+use Rattle.ov_cert.proofs.Exact.{valid_means}
 use Rattle.ov_net.specs.Journal.{AreLinks}
 use Rattle.ov_net.specs.declared.entry.Entry.{Entry}
 use Rattle.ov_net.specs.declared.event.Event.{Event}
 use Rattle.ov_net.specs.declared.event.Event.TheVariants as event
 use Rattle.ov_net.specs.NetStep.{NetStep}
-use Rattle.ov_net.specs.Refusals.{Judged}
+use Rattle.ov_net.specs.Refusals.{StepJudged}
 use Rattle.ov_net.specs.declared.fault.NetFault.{NetFault}
-use Rattle.ov_net.specs.World.{Chronicle, opening}
-use Rattle.ov_net.proofs.OneGraph.{links_one}
-use Rattle.ov_net.proofs.Telling.{links_stay}
+use Rattle.ov_net.specs.World.{WorldState, opening}
+use Rattle.ov_net.proofs.Links.OneGraph.{links_one}
+use Rattle.ov_net.proofs.Journal.Telling.{links_stay}
 use Rattle.ov_desk.specs.Desk.{GroupDeskState}
-use Rattle.ov_snap.specs.Book.{Book, HasReport, HasReportOfAll, IsDeskOf, IsSound, KeepsReports}
-use Rattle.ov_snap.specs.Book.{most_desks, unwritten}
+use Rattle.ov_snap.specs.CoreState.{CoreState, HasReport, HasReportOfAll, IsDeskOf, IsSound, KeepsReports}
+use Rattle.ov_snap.specs.CoreState.{most_desks, opening_core}
 use Rattle.ov_snap.specs.Code.Index.{Key, key_of}
-use Rattle.ov_snap.specs.Exact.{IsExact, IsSo, Reported}
+use Rattle.ov_snap.specs.ReportState.{IsSo, ReportState}
 use Rattle.ov_snap.specs.Refusals.{FilingJudged, IsFiled}
 use Rattle.ov_snap.specs.Filing.{WasFiled}
 use Rattle.ov_snap.specs.Run.{Happened}
 use Rattle.ov_snap.specs.Snapshots.{AreSnapshots, IsMoment, IsSnapshot, SnapshotsAfter, WasBefore}
-use Rattle.ov_snap.specs.declared.fault.BookFault.{BookFault}
-use Rattle.ov_snap.specs.declared.fault.BookFault.TheVariants.{NoSuchMoment, OtherGraph, AlreadyFiled}
+use Rattle.ov_snap.specs.declared.fault.CoreFault.{CoreFault}
+use Rattle.ov_snap.specs.declared.fault.CoreFault.TheVariants.{NoSuchMoment, OtherGraph, AlreadyFiled}
 use Rattle.ov_snap.specs.declared.snapshot.Snapshot.{Snapshot}
 use Rattle.ov_snap.proofs.Resting.{links_rest}
 use Rattle.ov_snap.proofs.Moments.{moment_cases, moment_new, moment_stays, moment_within, ordered_more}
@@ -39,7 +39,7 @@ use Rattle.ov_snap.proofs.Moments.{moment_cases, moment_new, moment_stays, momen
 no_moment : (m : ℕ) → ¬ IsMoment [] m
 no_moment m h = none-some h.1 h.2
 
-pub sound_begun : (params : Limits) → IsSound (unwritten params)
+pub sound_begun : (params : ParamsState) → IsSound (opening_core params)
 sound_begun params = record {
   snapshots = record {
     order = tt;
@@ -51,12 +51,12 @@ sound_begun params = record {
   desks = λ i d h. absurd (none-some d h);
   distinct = tt;
   one = λ m q r s h k. absurd h.filed;
-  exact = λ r h. absurd h;
+  so = λ r h. absurd h;
 }
 
--- the parts of a new book
-pub sound_new : (params : Limits) (world : Chronicle) (snapshots : List Snapshot) (desks : List GroupDeskState)
-    (reports : List Reported) → world ≡ opening params → snapshots ≡ [] → desks ≡ [] → reports ≡ []
+-- the parts of a new core
+pub sound_new : (params : ParamsState) (world : WorldState) (snapshots : List Snapshot) (desks : List GroupDeskState)
+    (reports : List ReportState) → world ≡ opening params → snapshots ≡ [] → desks ≡ [] → reports ≡ []
     → IsSound (record { world = world; snapshots = snapshots; desks = desks; reports = reports })
 sound_new params world snapshots desks reports w s d r = rw (w, s, d, r) (sound_begun params)
 
@@ -110,13 +110,15 @@ snapshots_kept journal e what old new is (inl k) h =
 snapshots_kept journal e what old new is (inr k) h =
     subst (AreSnapshots (journal ++ e ∷ [])) (sym k.1) (snapshots_rest journal e old (λ s. k.0 (sym is ∙ s)) h)
 
--- a report stays exact
-exact_stays : (journal more : List Entry) (r : Reported) → IsExact journal r → IsExact (journal ++ more) r
-exact_stays journal more r h = record {
+-- what a report says stays so
+so_stays : (journal more : List Entry) (r : ReportState) → IsSo journal r → IsSo (journal ++ more) r
+so_stays journal more r h = record {
   moment = moment_stays journal more r.moment h.moment;
   links = links_stay journal more r.moment r.graph (moment_within journal r.moment h.moment) h.links;
-  valid = h.valid;
+  reached = h.reached;
+  no_fewer = h.no_fewer;
   fewest = h.fewest;
+  verdict = h.verdict;
 }
 
 -- a desk stays one of the journal
@@ -128,7 +130,7 @@ desk_stays journal more d h = record {
   sound = h.sound;
 }
 
-pub sound_happened : (b : Book) (what : Event) (words : List ℕ) (e : Entry) (u : Book) → IsSound b
+pub sound_happened : (b : CoreState) (what : Event) (words : List ℕ) (e : Entry) (u : CoreState) → IsSound b
     → Happened b what words e u → IsSound u
 sound_happened b what words e u sound h = record {
   snapshots = subst (λ (j : List Entry). AreSnapshots j u.snapshots) (sym h.journal)
@@ -139,28 +141,24 @@ sound_happened b what words e u sound h = record {
   desks = λ i d k. subst (λ (j : List Entry). IsDeskOf j d) (sym h.journal)
       (desk_stays b.world.journal (e ∷ []) d
       (sound.desks i d (subst (λ (l : List GroupDeskState). slice_get l i ≡ Some d) h.desks k)));
-  distinct = subst (Ordered (λ (r s : Reported). r ≢ s)) (sym h.reports) sound.distinct;
+  distinct = subst (Ordered (λ (r s : ReportState). r ≢ s)) (sym h.reports) sound.distinct;
   one = λ m q r s k l. sound.one m q r s (was m q r k) (was m q s l);
-  exact = λ r k. subst (λ (j : List Entry). IsExact j r) (sym h.journal)
-      (exact_stays b.world.journal (e ∷ []) r (sound.exact r (subst (λ (l : List Reported). Has l r) h.reports k)));
+  so = λ r k. subst (λ (j : List Entry). IsSo j r) (sym h.journal)
+      (so_stays b.world.journal (e ∷ []) r (sound.so r (subst (λ (l : List ReportState). Has l r) h.reports k)));
 }
   where
-    was : (m : ℕ) (q : List ℕ) (r : Reported) → HasReport u m q r → HasReport b m q r
+    was : (m : ℕ) (q : List ℕ) (r : ReportState) → HasReport u m q r → HasReport b m q r
     was m q r k = record {
-      filed = subst (λ (l : List Reported). Has l r) h.reports k.filed;
+      filed = subst (λ (l : List ReportState). Has l r) h.reports k.filed;
       moment = k.moment;
       members = k.members;
     }
 
--- what is the same list keeps the reports
-pub reports_stay : (b u : Book) → u.reports ≡ b.reports → KeepsReports b u
-reports_stay b u same = ([], same ∙ sym (append-nil b.reports))
-
 -- a report that passes every step
-filing_passed : (b : Book) (r : Reported) → FilingJudged b r None
+filing_passed : (b : CoreState) (r : ReportState) → FilingJudged b r None
     → IsMoment b.world.journal r.moment × AreLinks b.world.journal r.moment r.graph × (¬ IsFiled b r.moment r.members)
 filing_passed b r h =
-    let After : Option BookFault → Type 0 = Step (¬ IsFiled b r.moment r.members) AlreadyFiled Passed in
+    let After : Option CoreFault → Type 0 = Step (¬ IsFiled b r.moment r.members) AlreadyFiled Passed in
     let first = step_none (IsMoment b.world.journal r.moment) NoSuchMoment
     (Step (AreLinks b.world.journal r.moment r.graph) OtherGraph After) h in
     let second = step_none (AreLinks b.world.journal r.moment r.graph) OtherGraph After first.1 in
@@ -168,17 +166,17 @@ filing_passed b r h =
     (first.0, second.0, third.0)
 
 -- it is found by nothing that stands there
-pub none_found : (b : Book) (r : Reported) → FilingJudged b r None → (x : Reported) → Has b.reports x
+pub none_found : (b : CoreState) (r : ReportState) → FilingJudged b r None → (x : ReportState) → Has b.reports x
     → ¬ (key_of x ≡ key_of r)
 none_found b r judged x h same = (filing_passed b r judged).2
     (x, record { filed = h; moment = ap (λ (k : Key). k.0) same; members = ap (λ (k : Key). k.1) same })
 
-pub sound_filed : (b : Book) (r : Reported) (u : Book) → IsSound b → WasFiled b r u → IsSound u
+pub sound_filed : (b : CoreState) (r : ReportState) (u : CoreState) → IsSound b → WasFiled b r u → IsSound u
 sound_filed b r u sound h = subst IsSound (sym h.reports) (record {
   snapshots = sound.snapshots;
   few_desks = sound.few_desks;
   desks = sound.desks;
-  distinct = ordered_more (λ (x y : Reported). x ≢ y) b.reports r sound.distinct
+  distinct = ordered_more (λ (x y : ReportState). x ≢ y) b.reports r sound.distinct
       (λ x k e. none_found b r h.judged x k (ap key_of e));
   one = λ m q x y k l. elim (there m q x k) [
     | inl new ↦ elim (there m q y l) [
@@ -190,17 +188,17 @@ sound_filed b r u sound h = subst IsSound (sym h.reports) (record {
       | inr too ↦ sound.one m q x y was too
     ]
   ];
-  exact = λ x k. elim (has_append_cases b.reports (r ∷ []) x k) [
-    | inl was ↦ sound.exact x was
-    | inr (inl e) ↦ subst (IsExact b.world.journal) e exact
+  so = λ x k. elim (has_append_cases b.reports (r ∷ []) x k) [
+    | inl was ↦ sound.so x was
+    | inr (inl e) ↦ subst (IsSo b.world.journal) e own
     | inr (inr none) ↦ absurd none
   ];
 })
   where
-    keys : (m : ℕ) (q : List ℕ) (x : Reported) → HasReport b m q x → key_of x ≡ (m, q)
+    keys : (m : ℕ) (q : List ℕ) (x : ReportState) → HasReport b m q x → key_of x ≡ (m, q)
     keys m q x k = ap₂ (λ (n : ℕ) (l : List ℕ). (n, l)) k.moment k.members
 
-    there : (m : ℕ) (q : List ℕ) (x : Reported)
+    there : (m : ℕ) (q : List ℕ) (x : ReportState)
         → HasReport (record b { reports = b.reports ++ r ∷ [] }) m q x
         → ((key_of r ≡ (m, q)) × (r ≡ x)) ⊎ HasReport b m q x
     there m q x k = elim (has_append_cases b.reports (r ∷ []) x k.filed) [
@@ -213,58 +211,50 @@ sound_filed b r u sound h = subst IsSound (sym h.reports) (record {
         × (¬ IsFiled b r.moment r.members)
     passed = filing_passed b r h.judged
 
-    exact : IsExact b.world.journal r
-    exact = record {
+    own : IsSo b.world.journal r
+    own = let means = valid_means r.graph r.members r.cert h.valid in record {
       moment = passed.0;
       links = passed.1;
-      valid = h.valid;
-      fewest = fewest r.graph r.members r.cert h.valid;
+      reached = means.reached;
+      no_fewer = means.no_fewer;
+      fewest = means.fewest;
+      verdict = h.valid;
     }
 
--- what an exact report says is so
-pub exact_so : (journal : List Entry) (r : Reported) → IsExact journal r → IsSo journal r
-exact_so journal r h = let means = valid_means r.graph r.members r.cert h.valid in record {
-  moment = h.moment;
-  links = h.links;
-  reached = means.reached;
-  no_fewer = means.no_fewer;
-  verdict = h.valid;
-}
-
--- so what each report of a sound book says is so
-pub filed_so : (b u : Book) (l : List Reported) → l ≡ b.reports → b ≡ u → IsSound b → (r : Reported) → Has l r
-    → IsSo u.world.journal r
+-- what each report of a sound core says is so
+pub filed_so : (b u : CoreState) (l : List ReportState) → l ≡ b.reports → b ≡ u → IsSound b → (r : ReportState)
+    → Has l r → IsSo u.world.journal r
 filed_so b u l at same sound r h =
-    subst (λ (x : Book). IsSo x.world.journal r) same
-    (exact_so b.world.journal r (sound.exact r (subst (λ (x : List Reported). Has x r) at h)))
+    subst (λ (x : CoreState). IsSo x.world.journal r) same
+    (sound.so r (subst (λ (x : List ReportState). Has x r) at h))
 
 -- a report of all nodes is that of the group of the moment's nodes, and the other way round
-own_graph : (b : Book) (m : ℕ) (g : LinkGraph) (r : Reported) → AreLinks b.world.journal m g → r.moment ≡ m
-    → IsExact b.world.journal r → r.graph ≡ g
-own_graph b m g r links at exact =
-    links_one b.world.journal m r.graph g (subst (λ n. AreLinks b.world.journal n r.graph) at exact.links) links
+own_graph : (b : CoreState) (m : ℕ) (g : LinkGraph) (r : ReportState) → AreLinks b.world.journal m g → r.moment ≡ m
+    → IsSo b.world.journal r → r.graph ≡ g
+own_graph b m g r links at so =
+    links_one b.world.journal m r.graph g (subst (λ n. AreLinks b.world.journal n r.graph) at so.links) links
 
-pub of_all : (b : Book) (m : ℕ) (g : LinkGraph) (ns : List ℕ) (r : Reported) → AreLinks b.world.journal m g
-    → ns ≡ g.nodes → HasReport b m ns r → IsExact b.world.journal r → HasReportOfAll b m r
-of_all b m g ns r links nodes h exact = record {
+pub of_all : (b : CoreState) (m : ℕ) (g : LinkGraph) (ns : List ℕ) (r : ReportState) → AreLinks b.world.journal m g
+    → ns ≡ g.nodes → HasReport b m ns r → IsSo b.world.journal r → HasReportOfAll b m r
+of_all b m g ns r links nodes h so = record {
   filed = h.filed;
   moment = h.moment;
-  members = h.members ∙ nodes ∙ ap (λ (x : LinkGraph). x.nodes) (sym (own_graph b m g r links h.moment exact));
+  members = h.members ∙ nodes ∙ ap (λ (x : LinkGraph). x.nodes) (sym (own_graph b m g r links h.moment so));
 }
 
-pub none_of_all : (b : Book) (m : ℕ) (g : LinkGraph) (ns : List ℕ) → IsSound b → AreLinks b.world.journal m g
-    → ns ≡ g.nodes → ((r : Reported) → ¬ HasReport b m ns r) → (r : Reported) → ¬ HasReportOfAll b m r
+pub none_of_all : (b : CoreState) (m : ℕ) (g : LinkGraph) (ns : List ℕ) → IsSound b → AreLinks b.world.journal m g
+    → ns ≡ g.nodes → ((r : ReportState) → ¬ HasReport b m ns r) → (r : ReportState) → ¬ HasReportOfAll b m r
 none_of_all b m g ns sound links nodes none r h = none r (record {
   filed = h.filed;
   moment = h.moment;
-  members = h.members ∙ ap (λ (x : LinkGraph). x.nodes) (own_graph b m g r links h.moment (sound.exact r h.filed))
+  members = h.members ∙ ap (λ (x : LinkGraph). x.nodes) (own_graph b m g r links h.moment (sound.so r h.filed))
       ∙ sym nodes;
 })
 
 -- where no snapshot was taken, none is filed
-pub none_without : (b : Book) (m : ℕ) → IsSound b → ¬ IsMoment b.world.journal m → (r : Reported)
+pub none_without : (b : CoreState) (m : ℕ) → IsSound b → ¬ IsMoment b.world.journal m → (r : ReportState)
     → ¬ HasReportOfAll b m r
-none_without b m sound none r h = none (subst (IsMoment b.world.journal) h.moment (sound.exact r h.filed).moment)
+none_without b m sound none r h = none (subst (IsMoment b.world.journal) h.moment (sound.so r h.filed).moment)
 
 -- what follows of an answer from what is known of it
 pub if_some : {X : Type 0} (P Q : X → Type 0) (o : Option X) → ((x : X) → P x → Q x) → IfSome o P → IfSome o Q
@@ -280,26 +270,20 @@ pub if_none : {X : Type 0} (P Q : Type 0) (o : Option X) → (P → Q) → IfNon
 if_none P Q None f p = f p
 if_none P Q (Some x) f p = tt
 
--- the parts of a book in which a report was filed
-pub filed_sound : (b u : Book) (r : Reported) (reports : List Reported) → b ≡ u → IsSound b
+-- the parts of a core in which a report was filed
+pub filed_sound : (b u : CoreState) (r : ReportState) (reports : List ReportState) → b ≡ u → IsSound b
     → IsValidForGroup r.graph r.members r.cert → FilingJudged u r None → reports ≡ b.reports ++ r ∷ []
-    → IsSound (record { world = b.world; snapshots = b.snapshots; desks = b.desks; reports = reports })
+    → IsSound (record b { reports = reports })
 filed_sound b u r reports same sound valid judged is = sound_filed b r _ sound (record {
-  judged = subst (λ (x : Book). FilingJudged x r None) (sym same) judged;
+  judged = subst (λ (x : CoreState). FilingJudged x r None) (sym same) judged;
   valid = valid;
-  reports = ap (λ (l : List Reported). record b { reports = l }) is;
+  reports = ap (λ (l : List ReportState). record b { reports = l }) is;
 })
 
--- its report is there
-pub filed_found : (old : List Reported) (r : Reported) (reports : List Reported) → reports ≡ old ++ r ∷ []
-    → Has reports r
-filed_found old r reports is = subst (λ (l : List Reported). Has l r) (sym is)
-    (has_append_right old (r ∷ []) r (inl refl))
-
 -- a snapshot event, whose links were taken before it
-pub snapshot_happened : (b : Book) (words : List ℕ) (e : Entry) (world : Chronicle) (g : LinkGraph)
+pub snapshot_happened : (b : CoreState) (words : List ℕ) (e : Entry) (world : WorldState) (g : LinkGraph)
     (snapshots : List Snapshot)
-    → Judged b.world.net (length b.world.journal) event.Snapshot None
+    → StepJudged b.world.net (length b.world.journal) event.Snapshot None
     → NetStep b.world.net event.Snapshot words world.net e → world.journal ≡ b.world.journal ++ e ∷ []
     → e.number ≡ length world.journal → AreLinks b.world.journal (length b.world.journal) g
     → snapshots ≡ b.snapshots ++ record { moment = e.number; graph = g } ∷ []
@@ -318,10 +302,32 @@ snapshot_happened b words e world g snapshots judged step journal number links i
     linked = subst (λ n. AreLinks world.journal n g) (sym number) (subst (λ (j : List Entry). AreLinks j (length j) g)
         (sym journal) (links_rest b.world.journal e g step.2.1 links))
 
+-- the same, as contracts see it; and the core stays sound
+pub snapshot_taken : (b s : CoreState) (words : List ℕ) (e : Entry) (world : WorldState) (g : LinkGraph)
+    (snapshots : List Snapshot) → b ≡ s → IsSound b
+    → StepJudged b.world.net (length b.world.journal) event.Snapshot None
+    → NetStep b.world.net event.Snapshot words world.net e → world.journal ≡ b.world.journal ++ e ∷ []
+    → e.number ≡ length world.journal → AreLinks s.world.journal (length s.world.journal) g
+    → snapshots ≡ b.snapshots ++ record { moment = e.number; graph = g } ∷ []
+    → Happened s event.Snapshot words e (record b { world = world; snapshots = snapshots })
+    × IsSound (record b { world = world; snapshots = snapshots })
+snapshot_taken b s words e world g snapshots seen sound judged step journal number links is = (
+  subst (λ (x : CoreState). Happened x event.Snapshot words e u) seen own,
+  sound_happened b event.Snapshot words e u
+      sound own,
+)
+  where
+    u : CoreState
+    u = record b { world = world; snapshots = snapshots }
+
+    own : Happened b event.Snapshot words e u
+    own = snapshot_happened b words e world g snapshots judged step journal number
+        (subst (λ (x : CoreState). AreLinks x.world.journal (length x.world.journal) g) (sym seen) links) is
+
 -- another event, accepted or refused
-pub other_sound : (old world : Chronicle) (snapshots : List Snapshot) (desks : List GroupDeskState)
-    (reports : List Reported) (what : Event) (words : List ℕ) (r : Result Entry NetFault) (b : Bool) → b ≡ false
-    → (IsTrue b ↔ (what ≡ event.Snapshot)) → IfOk r (λ e. Judged old.net (length old.journal) what None)
+pub other_sound : (old world : WorldState) (snapshots : List Snapshot) (desks : List GroupDeskState)
+    (reports : List ReportState) (what : Event) (words : List ℕ) (r : Result Entry NetFault) (b : Bool) → b ≡ false
+    → (IsTrue b ↔ (what ≡ event.Snapshot)) → IfOk r (λ e. StepJudged old.net (length old.journal) what None)
     → IfOk r (λ e. NetStep old.net what words world.net e)
     → IfOk r (λ e. world.journal ≡ old.journal ++ e ∷ []) → IfOk r (λ e. e.number ≡ length world.journal)
     → OnErr r (world ≡ old) → IsSound (record { world = old; snapshots = snapshots; desks = desks; reports = reports })
@@ -338,5 +344,5 @@ other_sound old world snapshots desks reports what words (Ok e) b isnt test judg
       reports = refl;
     })
 other_sound old world snapshots desks reports what words (Err f) b isnt test judged step journal number err sound =
-    subst (λ (x : Chronicle). IsSound (record { world = x; snapshots = snapshots; desks = desks; reports = reports }))
+    subst (λ (x : WorldState). IsSound (record { world = x; snapshots = snapshots; desks = desks; reports = reports }))
     (sym err) sound

@@ -1,9 +1,9 @@
 pub mod Moments
 pub mod Resting
-pub mod Keeping
-pub mod DeskKeeping
 pub mod Finding
 pub mod Indexing
 pub mod Refusing
-pub mod Running
+pub mod Keeping
+pub mod DeskKeeping
 pub mod DeskCalls
+pub mod Running

@@ -1,2 +1,4 @@
--- How the code finds reports; its proofs tie this to the definitions, which do not use it.
+-- What only private functions and proofs need: how contracts see a core, and how the code finds reports.
+pub mod Codes
+pub mod View
 pub mod Index

@@ -1,10 +1,9 @@
 pub mod Snapshots
-pub mod Exact
-pub mod Book
+pub mod ReportState
+pub mod CoreState
 pub mod Refusals
 pub mod Filing
 pub mod DeskSteps
 pub mod Run
 pub mod Laws
-pub mod Codes
 pub mod Code

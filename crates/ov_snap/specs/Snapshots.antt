@@ -19,17 +19,22 @@ IsMoment journal m = (i : ℕ) × (e : Entry) × (slice_get journal i ≡ Some e
 abbrev pub WasBefore : Snapshot → Snapshot → Type 0
 WasBefore s t = s.moment < t.moment
 
--- the snapshots of a journal: they stand in the order of their moments, each is of a moment and has the links that both ends held
--- then, and every moment has one
+-- the snapshots of a journal: they stand in the order of their moments, each is of a moment and has the links that both
+-- ends held then, and every moment has one
 pub record AreSnapshots (journal : List Entry) (snapshots : List Snapshot) : Type 0 where
   pub order : Ordered WasBefore snapshots
   pub moments : (s : Snapshot) → Has snapshots s → IsMoment journal s.moment
   pub links : (s : Snapshot) → Has snapshots s → AreLinks journal s.moment s.graph
   pub every : (m : ℕ) → IsMoment journal m → (s : Snapshot) × Has snapshots s × (s.moment ≡ m)
 
--- the snapshots after an event that made this journal: where the event is a snapshot the links of the new moment are kept, last;
--- after any other event they are the same
+-- one snapshot more stands behind the old ones: it is of the journal's last entry, and has the links that both ends
+-- hold there
+abbrev pub HasOneSnapshotMore : List Entry → List Snapshot → List Snapshot → Type 0
+HasOneSnapshotMore journal old new =
+    (s : Snapshot) × (s.moment ≡ length journal) × AreLinks journal s.moment s.graph × (new ≡ old ++ s ∷ [])
+
+-- the snapshots after an event, with whose entry the journal ends: a snapshot brings one more, and any other event none
 abbrev pub SnapshotsAfter : List Entry → Event → List Snapshot → List Snapshot → Type 0
 SnapshotsAfter journal what old new =
-    ((what ≡ event.Snapshot) × ((s : Snapshot) × (s.moment ≡ length journal) × AreLinks journal s.moment s.graph × (new ≡ old ++ s ∷ [])))
+    ((what ≡ event.Snapshot) × HasOneSnapshotMore journal old new)
     ⊎ ((what ≢ event.Snapshot) × (new ≡ old))

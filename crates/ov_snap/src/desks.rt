@@ -1,7 +1,7 @@
 ghost use Rattle.std.specs.Prelude.{◌≡◌, ◌<◌, [], ◌∷◌, ◌++◌, length, Some, None};
 ghost use Rattle.std.specs.Prelude.{IfOk, IfErr, IfSome, IfNone, OnOk, OnErr};
 ghost use Rattle.ov_ids.specs.Members.{Has, Ordered};
-ghost use Rattle.ov_ids.specs.Steps.{Passed, Step};
+ghost use Rattle.ov_ids.specs.FaultOrder.{IsRefusedBy, Passed};
 ghost use Rattle.ov_graph.specs.Links.{LinkGraph};
 ghost use Rattle.ov_cert.specs.Valid.{IsValidForGroup};
 ghost use Rattle.ov_net.specs.Journal.{AreLinks};
@@ -10,65 +10,69 @@ ghost use Rattle.ov_even.specs.Answer.{IsAnswer};
 ghost use Rattle.ov_desk.specs.Desk.{GroupDeskState, IsOpened};
 ghost use Rattle.ov_desk.specs.Sound.{IsSoundDesk};
 ghost use Rattle.ov_desk.specs.Turns.{ClaimsNext, IsWorkerOf, LooksNext, SettlesNext, WasSettled};
-ghost use Rattle.ov_snap.specs.Book.{HasDesk, IsDeskOf, KeepsReports, most_desks};
+ghost use Rattle.ov_snap.specs.CoreState.{HasDesk, IsDeskOf, most_desks};
 ghost use Rattle.ov_snap.specs.DeskSteps.{WasOpened, WasOpenedForGroup, ClaimedAt, LookedAt, SettledAt, DeskWasFiled};
-ghost use Rattle.ov_snap.specs.Refusals.{OpeningJudged, GroupOpeningJudged, TurnJudged, DeskFilingJudged, IsRefusedBy};
-ghost use Rattle.ov_snap.specs.Refusals.{FilingJudged, HoldsAt, MayWork};
+ghost use Rattle.ov_snap.specs.Refusals.{OpeningJudged, GroupOpeningJudged, TurnJudged, DeskFilingJudged};
+ghost use Rattle.ov_snap.specs.Refusals.{FilingJudged, HoldsAt, MayWork, WorkersJudged, WorkerThen};
 ghost use Rattle.ov_snap.specs.Snapshots.{WasBefore};
-ghost use Rattle.ov_snap.specs.declared.fault.BookFault.TheVariants as fault;
+ghost use Rattle.ov_snap.specs.declared.fault.CoreFault.TheVariants as fault;
 ghost use Rattle.ov_snap.specs.declared.snapshot.Snapshot.{Snapshot as Kept};
 
-use crate::book::Core;
-use crate::fault::BookFault;
+use crate::fault::CoreFault;
 use crate::report::Report;
 use crate::snapshot::{Snapshot, find};
+use crate::world_and_reports::Core;
 use ov_desk::GroupDesk;
 use ov_ids::{NodeId, OutOfMemory};
 use std::alloc::Global;
 
-/// So many desks a core has at most.
+/// A core has so many desks at most.
 const MOST_DESKS: usize = 65_536;
 
+/// A desk has so many workers at most.
+const MOST_WORKERS: u32 = 64;
+
 impl Core {
-    /// Opens a desk at which so many workers share out the pieces of this moment's overlay, and answers its number;
-    /// desks are counted from 0. It refuses where no snapshot was taken at this moment (50), then where nobody lived
-    /// (30), then where there are 65,536 desks (58), then where the workers are not 1 to 64 (57), and then out of
-    /// memory (99); and then nothing changed.
-    pub fn open_desk(&mut self, moment: u32, workers: u32) -> Result<u32, BookFault>
+    /// Opens a desk at which so many workers share out the analysis of all nodes of this moment. Returns the desk's
+    /// number; desks are counted from 0. It is refused where no snapshot was taken at this moment (50), then where
+    /// nobody lived (30), then where there are 65,536 desks (58), and then where the workers are not 1 to 64 (57);
+    /// where none of these applies, it may be out of memory (99). What is refused changes nothing.
+    pub fn open_desk(&mut self, moment: u32, workers: u32) -> Result<u32, CoreFault>
         ensures opened { IfOk result (λ place. WasOpened self.old moment workers place self.new) }
-        ensures refused { IfErr result (IsRefusedBy (OpeningJudged self.old moment workers)) }
+        ensures refused { IfErr result (IsRefusedBy fault.OutOfMemory (OpeningJudged self.old moment workers)) }
         ensures err { OnErr result (self.new ≡ self.old) }
     {
         let desk = self.new_desk(moment, workers)?;
         Ok(self.keep_desk(desk)?)
     }
 
-    /// Opens a desk as `open_desk` does, for a group of the nodes of this moment. It refuses where no snapshot was taken
-    /// at this moment (50), then where nobody lived (30), then where these ids are no group of the moment's graph (34),
-    /// then where there are 65,536 desks (58), then where the workers are not 1 to 64 (57), and then out of memory (99);
-    /// and then nothing changed.
+    /// Opens a desk as `open_desk` does, for a group of the nodes of this moment. It is refused where no snapshot was
+    /// taken at this moment (50), then where nobody lived (30), then where these ids are no group of the moment's graph
+    /// (34), then where there are 65,536 desks (58), and then where the workers are not 1 to 64 (57); where none of
+    /// these applies, it may be out of memory (99). What is refused changes nothing.
     pub fn open_group_desk(
         &mut self,
         moment: u32,
         group: Vec<NodeId>,
         workers: u32,
-    ) -> Result<u32, BookFault>
+    ) -> Result<u32, CoreFault>
         ensures opened { IfOk result (λ place. WasOpenedForGroup self.old moment group.items workers place self.new) }
-        ensures refused { IfErr result (IsRefusedBy (GroupOpeningJudged self.old moment group.items workers)) }
+        ensures refused { IfErr result
+            (IsRefusedBy fault.OutOfMemory (GroupOpeningJudged self.old moment group.items workers)) }
         ensures err { OnErr result (self.new ≡ self.old) }
     {
         let desk = self.new_group_desk(moment, group, workers)?;
         Ok(self.keep_desk(desk)?)
     }
 
-    /// A desk of all nodes of a moment, before it is kept.
-    fn new_desk(&self, moment: u32, workers: u32) -> Result<GroupDesk, BookFault>
+    /// Makes the desk that `open_desk` opens.
+    fn new_desk(&self, moment: u32, workers: u32) -> Result<GroupDesk, CoreFault>
         ensures judged { IfOk result (λ d. OpeningJudged self.now moment workers None) }
         ensures opened { IfOk result (λ d. (g : LinkGraph) × AreLinks self.now.world.journal moment g
             × IsOpened g moment g.nodes workers d) }
         ensures own { IfOk result (λ d. IsDeskOf self.now.world.journal d) }
         ensures room { IfOk result (λ d. length self.now.desks < most_desks) }
-        ensures refused { IfErr result (IsRefusedBy (OpeningJudged self.now moment workers)) }
+        ensures refused { IfErr result (IsRefusedBy fault.OutOfMemory (OpeningJudged self.now moment workers)) }
     {
         let snapshot = self.lived(moment)?;
         self.judge_workers(workers)?;
@@ -77,45 +81,45 @@ impl Core {
         Ok(GroupDesk::open(alloc, moment, &snapshot.graph, group, workers)?)
     }
 
-    /// A desk of a group of the nodes of a moment, before it is kept.
+    /// Makes the desk that `open_group_desk` opens.
     fn new_group_desk(
         &self,
         moment: u32,
         group: Vec<NodeId>,
         workers: u32,
-    ) -> Result<GroupDesk, BookFault>
+    ) -> Result<GroupDesk, CoreFault>
         ensures judged { IfOk result (λ d. GroupOpeningJudged self.now moment group.items workers None) }
         ensures opened { IfOk result (λ d. (g : LinkGraph) × AreLinks self.now.world.journal moment g
             × IsOpened g moment group.items workers d) }
         ensures own { IfOk result (λ d. IsDeskOf self.now.world.journal d) }
         ensures room { IfOk result (λ d. length self.now.desks < most_desks) }
-        ensures refused { IfErr result (IsRefusedBy (GroupOpeningJudged self.now moment group.items workers)) }
+        ensures refused { IfErr result
+            (IsRefusedBy fault.OutOfMemory (GroupOpeningJudged self.now moment group.items workers)) }
     {
         let snapshot = self.lived(moment)?;
         if !snapshot.graph.is_group(&group) {
-            return Err(BookFault::BadGroup);
+            return Err(CoreFault::BadGroup);
         }
         self.judge_workers(workers)?;
         let alloc = *self.desks.allocator();
         Ok(GroupDesk::open(alloc, moment, &snapshot.graph, group, workers)?)
     }
 
-    /// The first refusal that stands for one more desk of so many workers, beside out of memory.
-    fn judge_workers(&self, workers: u32) -> Result<(), BookFault>
+    /// The first applicable refusal of one more desk with so many workers.
+    fn judge_workers(&self, workers: u32) -> Result<(), CoreFault>
         ensures ok { OnOk result ((length self.now.desks < most_desks) × MayWork workers) }
-        ensures err { IfErr result (λ f. Step (length self.now.desks < most_desks) fault.TooManyDesks
-            (Step (MayWork workers) fault.NoSuchWorker Passed) (Some f)) }
+        ensures err { IfErr result (λ f. WorkersJudged self.now workers (Some f)) }
     {
         if self.desks.len() >= MOST_DESKS {
-            return Err(BookFault::TooManyDesks);
+            return Err(CoreFault::TooManyDesks);
         }
-        if workers < 1 || workers > 64 {
-            return Err(BookFault::NoSuchWorker);
+        if workers < 1 || workers > MOST_WORKERS {
+            return Err(CoreFault::NoSuchWorker);
         }
         Ok(())
     }
 
-    /// Keeps a desk more behind the others, and answers its number.
+    /// Puts a desk behind the others. Returns its number.
     fn keep_desk(&mut self, desk: GroupDesk) -> Result<u32, OutOfMemory>
         requires room { length self.old.desks < most_desks }
         requires own { IsDeskOf self.old.world.journal desk }
@@ -128,12 +132,13 @@ impl Core {
         Ok(place)
     }
 
-    /// A worker of a desk claims the next number, and is told it; where that isn't below the total, the worker has
-    /// ended. It refuses where there is no such desk (53), then where the desk has no such worker (57), then where the
-    /// worker does not claim next (54), and then out of memory (99); and then nothing changed.
-    pub fn claim(&mut self, desk: u32, worker: u32) -> Result<u64, BookFault>
+    /// A worker of a desk claims the next number. Returns it; where it is not below the total, the worker has ended. It
+    /// is refused where there is no such desk (53), then where the desk has no such worker (57), and then where the
+    /// worker does not claim next (54); where none of these applies, it may be out of memory (99). What is refused
+    /// changes nothing.
+    pub fn claim(&mut self, desk: u32, worker: u32) -> Result<u64, CoreFault>
         ensures claimed { IfOk result (λ x. ClaimedAt self.old desk worker x self.new) }
-        ensures refused { IfErr result (IsRefusedBy (TurnJudged ClaimsNext self.old desk worker)) }
+        ensures refused { IfErr result (IsRefusedBy fault.OutOfMemory (TurnJudged ClaimsNext self.old desk worker)) }
         ensures err { OnErr result (self.new ≡ self.old) }
     {
         self.judge_claim(desk, worker)?;
@@ -141,10 +146,11 @@ impl Core {
         Ok(own.claim(worker)?)
     }
 
-    /// A worker of a desk looks before it works on its number, and is told the least one that failed (the total where
-    /// none did): where that is lower, it skips its own and has ended. It refuses as `claim` does, where the worker
-    /// does not look next; it takes no memory.
-    pub fn look(&mut self, desk: u32, worker: u32) -> Result<u64, BookFault>
+    /// A worker of a desk looks, before it works on its number. Returns the least number that failed (the total where
+    /// none did); where that is lower, the worker skips its own number and has ended. It is refused where there is no
+    /// such desk (53), then where the desk has no such worker (57), and then where the worker does not look next (54).
+    /// What is refused changes nothing. Nothing is allocated.
+    pub fn look(&mut self, desk: u32, worker: u32) -> Result<u64, CoreFault>
         ensures looked { IfOk result (λ least. LookedAt self.old desk worker least self.new) }
         ensures refused { IfErr result (λ f. TurnJudged LooksNext self.old desk worker (Some f)) }
         ensures err { OnErr result (self.new ≡ self.old) }
@@ -154,11 +160,12 @@ impl Core {
         Ok(own.look(worker))
     }
 
-    /// A worker of a desk settles the piece of its number, and fails where that comes to a cut. It refuses as `claim`
-    /// does, where the worker does not settle next.
-    pub fn settle(&mut self, desk: u32, worker: u32) -> Result<(), BookFault>
+    /// A worker of a desk settles the piece of its number, and fails where that comes to a cut. It is refused where
+    /// there is no such desk (53), then where the desk has no such worker (57), and then where the worker does not
+    /// settle next (54); where none of these applies, it may be out of memory (99). What is refused changes nothing.
+    pub fn settle(&mut self, desk: u32, worker: u32) -> Result<(), CoreFault>
         ensures settled { OnOk result (SettledAt self.old desk worker self.new) }
-        ensures refused { IfErr result (IsRefusedBy (TurnJudged SettlesNext self.old desk worker)) }
+        ensures refused { IfErr result (IsRefusedBy fault.OutOfMemory (TurnJudged SettlesNext self.old desk worker)) }
         ensures err { OnErr result (self.new ≡ self.old) }
     {
         self.judge_settle(desk, worker)?;
@@ -167,79 +174,78 @@ impl Core {
         Ok(())
     }
 
-    /// The first refusal that stands for a claim, beside out of memory.
-    fn judge_claim(&self, desk: u32, worker: u32) -> Result<(), BookFault>
+    /// The first applicable refusal of a claim, beside out of memory.
+    fn judge_claim(&self, desk: u32, worker: u32) -> Result<(), CoreFault>
         ensures ok { OnOk result (TurnJudged ClaimsNext self.now desk worker None) }
         ensures next { OnOk result (HoldsAt self.now desk (λ d. ClaimsNext d worker)) }
         ensures err { IfErr result (λ f. TurnJudged ClaimsNext self.now desk worker (Some f)) }
     {
         if !self.worked_at(desk, worker)?.claims_next(worker) {
-            return Err(BookFault::WrongTurn);
+            return Err(CoreFault::WrongTurn);
         }
         Ok(())
     }
 
-    /// The first refusal that stands for a look.
-    fn judge_look(&self, desk: u32, worker: u32) -> Result<(), BookFault>
+    /// The first applicable refusal of a look.
+    fn judge_look(&self, desk: u32, worker: u32) -> Result<(), CoreFault>
         ensures ok { OnOk result (TurnJudged LooksNext self.now desk worker None) }
         ensures next { OnOk result (HoldsAt self.now desk (λ d. LooksNext d worker)) }
         ensures err { IfErr result (λ f. TurnJudged LooksNext self.now desk worker (Some f)) }
     {
         if !self.worked_at(desk, worker)?.looks_next(worker) {
-            return Err(BookFault::WrongTurn);
+            return Err(CoreFault::WrongTurn);
         }
         Ok(())
     }
 
-    /// The first refusal that stands where a worker is to settle, beside out of memory.
-    fn judge_settle(&self, desk: u32, worker: u32) -> Result<(), BookFault>
+    /// The first applicable refusal of a piece's settling, beside out of memory.
+    fn judge_settle(&self, desk: u32, worker: u32) -> Result<(), CoreFault>
         ensures ok { OnOk result (TurnJudged SettlesNext self.now desk worker None) }
         ensures next { OnOk result (HoldsAt self.now desk (λ d. SettlesNext d worker)) }
         ensures err { IfErr result (λ f. TurnJudged SettlesNext self.now desk worker (Some f)) }
     {
         if !self.worked_at(desk, worker)?.settles_next(worker) {
-            return Err(BookFault::WrongTurn);
+            return Err(CoreFault::WrongTurn);
         }
         Ok(())
     }
 
-    /// The desk of this number, if it has this worker.
-    fn worked_at(&self, desk: u32, worker: u32) -> Result<&GroupDesk, BookFault>
+    /// The desk of this number, which has this worker, or the first applicable refusal.
+    fn worked_at(&self, desk: u32, worker: u32) -> Result<&GroupDesk, CoreFault>
         ensures has { IfOk result (λ d. HasDesk self.now desk d.now) }
         ensures worker { IfOk result (λ d. IsWorkerOf d.now worker) }
-        ensures err { IfErr result (λ f. Step ((d : GroupDeskState) × HasDesk self.now desk d) fault.NoSuchDesk
-            (Step (HoldsAt self.now desk (λ d. IsWorkerOf d worker)) fault.NoSuchWorker Passed) (Some f)) }
+        ensures err { IfErr result (λ f. WorkerThen self.now desk worker Passed (Some f)) }
     {
         let own = self.found(desk)?;
         if !own.has_worker(worker) {
-            return Err(BookFault::NoSuchWorker);
+            return Err(CoreFault::NoSuchWorker);
         }
         Ok(own)
     }
 
-    /// Files the report to which the workers of a desk came, for the desk's moment and group. It refuses where there is
-    /// no such desk (53), then where not all its workers have ended (55), then where a report is filed for its moment
-    /// and group (52), and then out of memory (99); and then nothing changed.
-    pub fn file_desk(&mut self, desk: u32) -> Result<(), BookFault>
+    /// Files the report to which the workers of a desk came, for the desk's moment and group. It is refused where there
+    /// is no such desk (53), then where not all its workers have ended (55), and then where a report is filed for its
+    /// moment and group (52); where none of these applies, it may be out of memory (99). What is refused changes
+    /// nothing.
+    pub fn file_desk(&mut self, desk: u32) -> Result<(), CoreFault>
         ensures filed { OnOk result (DeskWasFiled self.old desk self.new) }
-        ensures refused { IfErr result (IsRefusedBy (DeskFilingJudged self.old desk)) }
+        ensures refused { IfErr result (IsRefusedBy fault.OutOfMemory (DeskFilingJudged self.old desk)) }
         ensures err { OnErr result (self.new ≡ self.old) }
-        ensures stay { KeepsReports self.old self.new }
     {
         let report = self.report_of(desk)?;
         self.reports.push(report)?;
         Ok(())
     }
 
-    /// The report to which the workers of a desk came, before it is filed.
-    fn report_of(&self, desk: u32) -> Result<Report, BookFault>
+    /// Makes the report that `file_desk` files.
+    fn report_of(&self, desk: u32) -> Result<Report, CoreFault>
         ensures judged { IfOk result (λ r. DeskFilingJudged self.now desk None) }
         ensures of { IfOk result (λ r. HoldsAt self.now desk
             (λ d. (r.moment ≡ d.moment) × (r.members ≡ d.members))) }
         ensures answer { IfOk result (λ r. IsAnswer r.graph r.members r.cert) }
         ensures free { IfOk result (λ r. FilingJudged self.now r None) }
         ensures valid { IfOk result (λ r. IsValidForGroup r.graph r.members r.cert) }
-        ensures refused { IfErr result (IsRefusedBy (DeskFilingJudged self.now desk)) }
+        ensures refused { IfErr result (IsRefusedBy fault.OutOfMemory (DeskFilingJudged self.now desk)) }
     {
         let own = self.judge_filing(desk)?;
         let moment = own.moment();
@@ -249,8 +255,8 @@ impl Core {
         Ok(Report::new(moment, checked))
     }
 
-    /// The desk of this number, if what it came to may be filed.
-    fn judge_filing(&self, desk: u32) -> Result<&GroupDesk, BookFault>
+    /// The desk of this number, whose report may be filed, or the first applicable refusal.
+    fn judge_filing(&self, desk: u32) -> Result<&GroupDesk, CoreFault>
         ensures judged { IfOk result (λ d. DeskFilingJudged self.now desk None) }
         ensures has { IfOk result (λ d. HasDesk self.now desk d.now) }
         ensures own { IfOk result (λ d. IsDeskOf self.now.world.journal d.now) }
@@ -259,27 +265,27 @@ impl Core {
     {
         let own = self.found(desk)?;
         if !own.have_all_ended() {
-            return Err(BookFault::NotEnded);
+            return Err(CoreFault::NotEnded);
         }
         if self.group_report(own.moment(), own.members()).is_some() {
-            return Err(BookFault::AlreadyFiled);
+            return Err(CoreFault::AlreadyFiled);
         }
         Ok(own)
     }
 
-    /// The desk of this number.
-    fn found(&self, desk: u32) -> Result<&GroupDesk, BookFault>
+    /// The desk of this number, or that there is none.
+    fn found(&self, desk: u32) -> Result<&GroupDesk, CoreFault>
         ensures has { IfOk result (λ d. HasDesk self.now desk d.now) }
         ensures own { IfOk result (λ d. IsDeskOf self.now.world.journal d.now) }
         ensures err { IfErr result (λ f. (f ≡ fault.NoSuchDesk) × ((d : GroupDeskState) → ¬ HasDesk self.now desk d)) }
     {
         match self.desk(desk) {
             Some(own) => Ok(own),
-            None => Err(BookFault::NoSuchDesk),
+            None => Err(CoreFault::NoSuchDesk),
         }
     }
 
-    /// The desk of this number, if there is one.
+    /// The desk of this number, if there is one. It is sound for the links of its moment.
     pub fn desk(&self, desk: u32) -> Option<&GroupDesk>
         ensures some { IfSome result (λ d. HasDesk self.now desk d.now) }
         ensures none { IfNone result ((d : GroupDeskState) → ¬ HasDesk self.now desk d) }
@@ -289,7 +295,7 @@ impl Core {
     }
 }
 
-/// The worker of a desk settles its piece, for the links of the desk's moment. Out of memory changes nothing.
+/// A worker of a desk settles its piece, for the links of the desk's moment. Out of memory changes nothing.
 fn settle_at(snapshots: &[Snapshot], desk: &mut GroupDesk, worker: u32) -> Result<(), OutOfMemory>
     requires order { Ordered WasBefore snapshots.now }
     requires kept { (s : Kept) × Has snapshots.now s × (s.moment ≡ desk.old.moment) }

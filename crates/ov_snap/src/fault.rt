@@ -1,22 +1,22 @@
 ghost use Rattle.std.specs.Prelude.{◌≡◌};
 ghost use Rattle.ov_snap.specs.Refusals.{number_of};
-ghost use Rattle.ov_snap.specs.declared.fault.BookFault.TheVariants.{OutOfMemory as out_of_memory};
+ghost use Rattle.ov_snap.specs.declared.fault.CoreFault.TheVariants.{OutOfMemory as out_of_memory};
 
 use thiserror::Error;
 
-/// Why a book refused.
+/// Why a core refuses a call.
 #[derive(Clone, Copy, Debug, PartialEq, Eq, Error)]
-pub enum BookFault {
+pub enum CoreFault {
     /// No snapshot was taken at this moment.
     #[error("no snapshot was taken at this moment")]
     NoSuchMoment,
     /// Nobody lived at this moment.
     #[error("nobody lived at this moment")]
     NoNodes,
-    /// These are no group of the graph of this moment.
+    /// These ids are no group of the graph of this moment.
     #[error("these are no group of the nodes of this moment")]
     BadGroup,
-    /// There are as many desks as there may be, 65,536.
+    /// There are 65,536 desks, as many as there may be.
     #[error("there are too many desks")]
     TooManyDesks,
     /// There is no such desk.
@@ -37,36 +37,36 @@ pub enum BookFault {
     /// A report is filed for this moment and group.
     #[error("a report is filed for this moment and group")]
     AlreadyFiled,
-    /// A growth was refused.
+    /// An allocation was refused.
     #[error("out of memory")]
     OutOfMemory,
 }
 
-impl BookFault {
-    /// The fault's number: 50, 30, 34, 58, 53, 57, 54, 55, 51 and 52 in the order above, or 99 out of memory.
+impl CoreFault {
+    /// The fault's number (chosen here): 50, 30, 34, 58, 53, 57, 54, 55, 51, 52 and 99, in the order of the variants.
     pub fn number(&self) -> u32
         ensures { result ≡ number_of self.now }
     {
         match self {
-            BookFault::NoSuchMoment => 50,
-            BookFault::NoNodes => 30,
-            BookFault::BadGroup => 34,
-            BookFault::TooManyDesks => 58,
-            BookFault::NoSuchDesk => 53,
-            BookFault::NoSuchWorker => 57,
-            BookFault::WrongTurn => 54,
-            BookFault::NotEnded => 55,
-            BookFault::OtherGraph => 51,
-            BookFault::AlreadyFiled => 52,
-            BookFault::OutOfMemory => 99,
+            CoreFault::NoSuchMoment => 50,
+            CoreFault::NoNodes => 30,
+            CoreFault::BadGroup => 34,
+            CoreFault::TooManyDesks => 58,
+            CoreFault::NoSuchDesk => 53,
+            CoreFault::NoSuchWorker => 57,
+            CoreFault::WrongTurn => 54,
+            CoreFault::NotEnded => 55,
+            CoreFault::OtherGraph => 51,
+            CoreFault::AlreadyFiled => 52,
+            CoreFault::OutOfMemory => 99,
         }
     }
 }
 
-impl From<ov_ids::OutOfMemory> for BookFault {
+impl From<ov_ids::OutOfMemory> for CoreFault {
     ghost from_gives = { λ _ e. e ≡ out_of_memory };
 
-    fn from(_error: ov_ids::OutOfMemory) -> BookFault {
-        BookFault::OutOfMemory
+    fn from(_error: ov_ids::OutOfMemory) -> CoreFault {
+        CoreFault::OutOfMemory
     }
 }

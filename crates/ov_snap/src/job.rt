@@ -4,15 +4,17 @@ use crate::snapshot::Snapshot;
 use ov_graph::Graph;
 use ov_ids::OutOfMemory;
 
-/// What an analysis is given: a moment, and the links that both ends held then.
+/// What an analysis is given.
 #[derive(Drop)]
 pub struct Job {
+    /// The moment of a snapshot.
     pub moment: u32,
+    /// The links that both ends held at that moment.
     pub graph: Graph,
 }
 
 impl Job {
-    /// What an analysis of this snapshot is given.
+    /// What an analysis of this snapshot's links is given.
     pub(crate) fn of(snapshot: &Snapshot) -> Result<Job, OutOfMemory>
         ensures moment { IfOk result (λ job. job.moment ≡ snapshot.now.moment) }
         ensures graph { IfOk result (λ job. job.graph ≡ snapshot.now.graph) }

@@ -1,8 +1,8 @@
-//! A world with the snapshots of its links, desks at which workers analyse them, and the reports that are filed for
-//! them, each of which is exact.
+//! A core: a world with the snapshots of its links, the desks at which workers analyse them, and the reports that are
+//! filed of them. What each report says is so.
 #![tactic(auto)]
 
-mod book;
+mod core_run;
 mod desks;
 mod fault;
 mod job;
@@ -10,11 +10,11 @@ mod laws;
 mod report;
 mod reports;
 mod snapshot;
-mod steps;
+mod world_and_reports;
 
-pub use book::Core;
-pub use fault::BookFault;
+pub use core_run::{CoreStep, run_core};
+pub use fault::CoreFault;
 pub use job::Job;
-pub use laws::every_report_is_so;
+pub use laws::{every_report_is_so, every_report_stays};
 pub use report::Report;
-pub use steps::{CoreStep, run_core};
+pub use world_and_reports::Core;

@@ -6,7 +6,7 @@ use ov_ids::NodeId;
 use std::cmp::Ordering;
 use std::marker::Model;
 
-/// A moment, and a graph with a group and a certificate that is valid for them.
+/// A report: a moment, and a graph with a group of its nodes and a certificate that is valid for them.
 #[derive(Drop)]
 pub struct Report {
     moment: u32,
@@ -14,9 +14,9 @@ pub struct Report {
 }
 
 impl Model for Report {
-    ghost use Rattle.ov_snap.specs.Exact.{Reported};
+    ghost use Rattle.ov_snap.specs.ReportState.{ReportState};
 
-    ghost Value = { Reported };
+    ghost Value = { ReportState };
 
     ghost view = { λ r. record {
       moment = r.moment;
@@ -27,7 +27,7 @@ impl Model for Report {
 }
 
 impl Report {
-    /// A report of this moment. It takes no memory.
+    /// A report of this moment. Nothing is allocated.
     pub fn new(moment: u32, checked: Checked) -> Report
         ensures { result ≡ record {
           moment = moment;
@@ -53,7 +53,7 @@ impl Report {
         &self.checked
     }
 
-    /// The order by moments, and then by groups.
+    /// How this report stands to a moment and group, in the order by moments and then by groups.
     pub(crate) fn compare(&self, moment: u32, group: &[NodeId]) -> Ordering
         ensures { result ≡ key_cmp (key_of self.now) (moment, group.now) }
     {

@@ -1,7 +1,7 @@
 ghost use Rattle.std.specs.Prelude.{◌≡◌, [], ◌∷◌, ◌++◌, ◌<◌, IfSome, IfNone, IfOk, IfErr, OnOk, OnErr, length};
 ghost use Rattle.ov_ids.specs.Members.{Has};
 ghost use Rattle.ov_snap.specs.Code.Index.{AreInOrder, IsGap, key_at, key_of};
-ghost use Rattle.ov_snap.specs.Exact.{Reported};
+ghost use Rattle.ov_snap.specs.ReportState.{ReportState};
 
 use crate::report::Report;
 use ov_ids::{NodeId, OutOfMemory};
@@ -9,8 +9,8 @@ use std::alloc::Global;
 use std::cmp::Ordering;
 use std::marker::Model;
 
-/// The reports that are filed, in the order of filing, and their places in the order of moments and groups, by which
-/// they are found. Contracts see the list of reports.
+/// The filed reports, in the order of filing, and their places in the order of moments and groups, by which they are
+/// found. Contracts see the list of reports.
 #[derive(Drop)]
 pub(crate) struct Reports {
     filed: Vec<Report>,
@@ -21,10 +21,10 @@ impl Model for Reports {
     ghost use Rattle.std.specs.Prelude.{List};
     ghost use Rattle.std.specs.Coded.{coded_list};
     ghost use Rattle.ov_snap.specs.Code.Index.{AreInOrder};
-    ghost use Rattle.ov_snap.specs.Exact.{Reported};
+    ghost use Rattle.ov_snap.specs.ReportState.{ReportState};
     ghost use Rattle.ov_snap.specs.contracts.report.Report as report;
 
-    ghost Value = { List Reported };
+    ghost Value = { List ReportState };
 
     ghost coded = { coded_list report.the_row.coded };
 
@@ -34,7 +34,7 @@ impl Model for Reports {
 }
 
 impl Reports {
-    /// No reports. It takes no memory.
+    /// No reports. Nothing is allocated.
     pub(crate) fn new(alloc: Global) -> Reports
         ensures { result ≡ [] }
     {
@@ -54,7 +54,7 @@ impl Reports {
     /// The report of this moment and group, if one is filed.
     pub(crate) fn find(&self, moment: u32, group: &[NodeId]) -> Option<&Report>
         ensures some { IfSome result (λ r. Has self.now r.now × (key_of r.now ≡ (moment, group.now))) }
-        ensures none { IfNone result ((r : Reported) → Has self.now r → ¬ (key_of r ≡ (moment, group.now))) }
+        ensures none { IfNone result ((r : ReportState) → Has self.now r → ¬ (key_of r ≡ (moment, group.now))) }
     {
         match search(&self.filed, &self.places, moment, group) {
             Ok(place) => Some(&self.filed[place]),
@@ -62,9 +62,9 @@ impl Reports {
         }
     }
 
-    /// Files a report behind the others.
+    /// Puts a report behind the others.
     pub(crate) fn push(&mut self, report: Report) -> Result<(), OutOfMemory>
-        requires { (r : Reported) → Has self.old r → ¬ (key_of r ≡ key_of report) }
+        requires { (r : ReportState) → Has self.old r → ¬ (key_of r ≡ key_of report) }
         ensures ok { OnOk result (self.new ≡ self.old ++ report ∷ []) }
         ensures err { OnErr result (self.new ≡ self.old) }
     {
@@ -80,7 +80,8 @@ impl Reports {
     }
 }
 
-/// The place of the report of this moment and group, or else where among the places its own would stand, by halving.
+/// The place of the report of this moment and group; or, as an error, where its own place would stand among the places.
+/// It is found by halving.
 fn search(filed: &[Report], places: &[usize], moment: u32, group: &[NodeId]) -> Result<usize, usize>
     requires { AreInOrder filed.now places.now }
     ensures found { IfOk result (λ p. (p < length filed.now) × (key_at filed.now p ≡ (moment, group.now))) }

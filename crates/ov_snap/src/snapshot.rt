@@ -13,7 +13,7 @@ pub(crate) struct Snapshot {
     pub(crate) graph: Graph,
 }
 
-/// The snapshot of a moment, by halving.
+/// The snapshot of a moment, if there is one. It is found by halving.
 pub(crate) fn find(snapshots: &[Snapshot], moment: u32) -> Option<&Snapshot>
     requires { Ordered WasBefore snapshots.now }
     ensures some { IfSome result (λ s. Has snapshots.now s.now × (s.now.moment ≡ moment)) }

@@ -4,8 +4,8 @@ use crate::drawn::{
 };
 use crate::files;
 use ov_cert::Cert;
-use ov_certfile::{ReadFault, Sink, Source, WriteFault, from_text, to_text, to_text_group};
-use ov_test_kit::{Interrupted, ids};
+use ov_certfile::{from_text, to_text, to_text_group};
+use ov_test_kit::ids;
 use std::alloc::Global;
 use std::test::Fail;
 
@@ -146,46 +146,4 @@ fn faults_have_their_numbers(rt: HostRuntime) {
     for (text, number) in &FAULTS {
         assert_eq!(rt; number_of(rt.alloc(), text), Some(*number), "at {text}");
     }
-}
-
-/// An interrupted read is a fault and is counted, and the next read is none.
-fn counts_reads(alloc: Global) -> bool {
-    let mut source = Source::new(Interrupted::new());
-    let first = source.read_all(alloc).err();
-    let faults = source.faults();
-    let second = source.read_all(alloc).err();
-    first == Some(ReadFault::Read) && faults == 1 && second.is_none() && source.faults() == 1
-}
-
-/// An interrupted write is a fault and is counted, and the next write is none.
-fn counts_writes() -> bool {
-    let mut sink = Sink::new(Interrupted::new());
-    let first = sink.write_all(b"ab");
-    let faults = sink.faults();
-    let second = sink.write_all(b"ab");
-    first == Err(WriteFault) && faults == 1 && second.is_ok() && sink.faults() == 1
-}
-
-#[test]
-fn an_interrupted_call_is_a_fault(rt: HostRuntime) {
-    assert!(rt; counts_reads(rt.alloc()));
-    assert!(rt; counts_writes());
-}
-
-fn is_read(alloc: Global, bytes: &[u8]) -> Result<bool, ReadFault> {
-    let mut source = Source::new(bytes);
-    Ok(source.read_all(alloc)?.as_slice() == bytes)
-}
-
-fn is_taken(alloc: Global, bytes: &[u8]) -> Result<bool, WriteFault> {
-    let mut sink = Sink::new(Vec::new(alloc));
-    sink.write_all(bytes)?;
-    Ok(sink.into_writer().as_slice() == bytes)
-}
-
-#[test]
-fn all_bytes_are_read_and_written(rt: HostRuntime) -> Result<(), Fail> {
-    assert!(rt; is_read(rt.alloc(), files::SQUARE.as_bytes())?);
-    assert!(rt; is_taken(rt.alloc(), files::SQUARE.as_bytes())?);
-    Ok(())
 }

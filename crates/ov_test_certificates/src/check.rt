@@ -2,8 +2,8 @@
 use crate::files::{
     FIVE_BUT_ONE, SQUARE, SQUARE_GROUP, TWO_LINKED, TWO_LINKED_GROUP, TWO_TRIANGLES, TWO_UNLINKED,
 };
-use ov_certfile::{Sink, Source};
 use ov_check::{JudgeFault, judge};
+use ov_io::{Sink, Source};
 use ov_test_kit::Slow;
 use std::alloc::Global;
 use std::process::Abort;
@@ -132,7 +132,7 @@ const TWO_TRIANGLES_ROWS: &str = r#"
 "#;
 
 /// The status and the text that bytes come to.
-fn told(alloc: Global, bytes: &[u8]) -> Result<(u8, Vec<u8>), JudgeFault> {
+pub(crate) fn told(alloc: Global, bytes: &[u8]) -> Result<(u8, Vec<u8>), JudgeFault> {
     let mut source = Source::new(bytes);
     let mut sink = Sink::new(Vec::new(alloc));
     let status = judge(alloc, &mut source, &mut sink)?;
@@ -307,7 +307,7 @@ fn a_large_file_comes_to_one_answer_byte_by_byte(rt: HostRuntime) -> Result<(), 
 }
 
 /// The line of two linked nodes.
-const LINE: &str = "holds 6 linked k 1\n";
+pub(crate) const LINE: &str = "holds 6 linked k 1\n";
 
 /// With a reader that is interrupted after so many calls, two linked nodes come to this answer, to so many faults of the
 /// reader, and to this text.

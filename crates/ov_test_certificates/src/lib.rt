@@ -10,6 +10,8 @@ mod changes;
 #[cfg(test)]
 mod check;
 #[cfg(test)]
+mod devices;
+#[cfg(test)]
 mod drawn;
 #[cfg(test)]
 mod entries;
@@ -21,5 +23,7 @@ mod graph;
 mod groups;
 #[cfg(test)]
 mod parallel;
+#[cfg(test)]
+mod program;
 #[cfg(test)]
 mod sixteens;

@@ -81,7 +81,7 @@ fn is_as(node: &Node, views: &Views, attempt: &Attempt) -> bool {
         && node.attempt.tried() == attempt.tried()
 }
 
-/// What the node does. Where memory is refused it is as before, and the same call is made once more.
+/// What the node does. Where it is out of memory it is as before, and the same call is made once more.
 fn moves_of(
     rt: &impl Abort,
     alloc: Global,
@@ -139,8 +139,8 @@ fn tell_ids(text: &mut String, ids: &[NodeId]) -> Result<(), AllocError> {
     Ok(())
 }
 
-/// The changes and what is sent to whom | then who is active | who is passive | whom the attempt has tried | words
-/// left.
+/// The changes and what is sent to whom | then who is active | who is passive | whom the attempt has tried, and whom it
+/// asked and waits for | words left.
 fn told(alloc: Global, node: &Node, moves: &Moves, left: usize) -> Result<String, AllocError> {
     let mut text = String::with_capacity(alloc, 128)?;
     tell_changes(&mut text, moves.changes.as_slice())?;
@@ -148,6 +148,9 @@ fn told(alloc: Global, node: &Node, moves: &Moves, left: usize) -> Result<String
     tell_ids(&mut text, node.views.active())?;
     tell_ids(&mut text, node.views.passive())?;
     tell_ids(&mut text, node.attempt.tried())?;
+    if let Some(asked) = node.attempt.asked() {
+        write!(text, "asked {} ", asked.number())?;
+    }
     write!(text, "| {left}")?;
     Ok(text)
 }
@@ -167,18 +170,12 @@ fn step(
     Ok(told(alloc, node, &moves, draws.left())?)
 }
 
-/// The attempt waits for whom it tried last.
-fn waits_for_last(attempt: &Attempt) -> bool {
-    attempt.asked() == attempt.tried().last().copied()
-}
-
 fn play(rt: &impl Abort, alloc: Global, run: &Run) -> Result<(), Fail> {
     let words = words(run.words);
     let mut node = node_of(alloc, run)?;
     for (from, event, want) in run.steps {
         let told = step(rt, alloc, &mut node, &words, NodeId(*from), *event)?;
         assert_eq!(rt; told.as_str(), *want);
-        assert!(rt; waits_for_last(&node.attempt));
     }
     Ok(())
 }
@@ -250,8 +247,12 @@ static NEIGHBOR_REPLACED: Run = Run {
     passive: &[4, 6],
     words: &[3],
     steps: &[
-        (3, Event::Crash, "down 3 low to 6 | 8 | 4 6 | 6 | 63"),
-        (6, Event::No, "low to 4 | 8 | 4 6 | 6 4 | 63"),
+        (
+            3,
+            Event::Crash,
+            "down 3 low to 6 | 8 | 4 6 | 6 asked 6 | 63",
+        ),
+        (6, Event::No, "low to 4 | 8 | 4 6 | 4 6 asked 4 | 63"),
         (4, Event::No, "| 8 | 4 6 | | 64"),
         (4, Event::No, "| 8 | 4 6 | | 64"),
     ],
@@ -366,10 +367,18 @@ static CRASHED: [Run; 4] = [
         passive: &[4, 6, 9],
         words: &[7],
         steps: &[
-            (3, Event::Crash, "down 3 low to 6 | 8 | 4 6 9 | 6 | 63"),
-            (6, Event::No, "low to 9 | 8 | 4 6 9 | 6 9 | 63"),
-            (9, Event::No, "low to 4 | 8 | 4 6 9 | 6 9 4 | 63"),
-            (8, Event::Crash, "down 8 high to 6 | | 4 6 9 | 6 | 63"),
+            (
+                3,
+                Event::Crash,
+                "down 3 low to 6 | 8 | 4 6 9 | 6 asked 6 | 63",
+            ),
+            (6, Event::No, "low to 9 | 8 | 4 6 9 | 6 9 asked 9 | 63"),
+            (9, Event::No, "low to 4 | 8 | 4 6 9 | 4 6 9 asked 4 | 63"),
+            (
+                8,
+                Event::Crash,
+                "down 8 high to 6 | | 4 6 9 | 6 asked 6 | 63",
+            ),
             (6, Event::Yes, "up 6 | 6 | 4 9 | | 64"),
         ],
     },
@@ -381,7 +390,7 @@ static CRASHED: [Run; 4] = [
         passive: &[4],
         words: &[],
         steps: &[
-            (3, Event::Crash, "down 3 high to 4 | | 4 | 4 | 63"),
+            (3, Event::Crash, "down 3 high to 4 | | 4 | 4 asked 4 | 63"),
             (4, Event::Crash, "| | | | 64"),
             (5, Event::Low, "up 5 yes to 5 | 5 | | | 64"),
             (5, Event::Crash, "down 5 | | | | 64"),
@@ -398,8 +407,8 @@ static CRASHED: [Run; 4] = [
             (1, Event::Crash, "| 3 8 | 4 6 | | 64"),
             (9, Event::Crash, "| 3 8 | 4 6 | | 64"),
             (6, Event::Crash, "| 3 8 | 4 | | 64"),
-            (3, Event::Crash, "down 3 low to 4 | 8 | 4 | 4 | 63"),
-            (9, Event::Crash, "| 8 | 4 | 4 | 64"),
+            (3, Event::Crash, "down 3 low to 4 | 8 | 4 | 4 asked 4 | 63"),
+            (9, Event::Crash, "| 8 | 4 | 4 asked 4 | 64"),
         ],
     },
     // the asked is in neither view, and then passive
@@ -410,10 +419,14 @@ static CRASHED: [Run; 4] = [
         passive: &[4, 6],
         words: &[1],
         steps: &[
-            (3, Event::Crash, "down 3 low to 6 | 7 8 | 4 6 | 6 | 63"),
-            (7, Event::Disconnect, "down 7 | 8 | 4 7 | 6 | 63"),
-            (6, Event::Crash, "low to 7 | 8 | 4 7 | 6 7 | 63"),
-            (7, Event::Crash, "low to 4 | 8 | 4 | 6 7 4 | 63"),
+            (
+                3,
+                Event::Crash,
+                "down 3 low to 6 | 7 8 | 4 6 | 6 asked 6 | 63",
+            ),
+            (7, Event::Disconnect, "down 7 | 8 | 4 7 | 6 asked 6 | 63"),
+            (6, Event::Crash, "low to 7 | 8 | 4 7 | 6 7 asked 7 | 63"),
+            (7, Event::Crash, "low to 4 | 8 | 4 | 4 6 7 asked 4 | 63"),
         ],
     },
 ];
@@ -432,10 +445,14 @@ static REPLIED: [Run; 5] = [
         passive: &[4, 6],
         words: &[1],
         steps: &[
-            (3, Event::Crash, "down 3 low to 6 | 8 | 4 6 | 6 | 63"),
-            (6, Event::Low, "up 6 yes to 6 | 6 8 | 4 | 6 | 64"),
-            (6, Event::No, "low to 4 | 6 8 | 4 | 6 4 | 63"),
-            (4, Event::Low, "up 4 yes to 4 | 4 6 8 | | 6 4 | 64"),
+            (
+                3,
+                Event::Crash,
+                "down 3 low to 6 | 8 | 4 6 | 6 asked 6 | 63",
+            ),
+            (6, Event::Low, "up 6 yes to 6 | 6 8 | 4 | 6 asked 6 | 64"),
+            (6, Event::No, "low to 4 | 6 8 | 4 | 4 6 asked 4 | 63"),
+            (4, Event::Low, "up 4 yes to 4 | 4 6 8 | | 4 6 asked 4 | 64"),
             (4, Event::Yes, "| 4 6 8 | | | 64"),
         ],
     },
@@ -447,9 +464,13 @@ static REPLIED: [Run; 5] = [
         passive: &[4, 6],
         words: &[1],
         steps: &[
-            (3, Event::Crash, "down 3 low to 6 | 8 | 4 6 | 6 | 63"),
-            (6, Event::Low, "up 6 yes to 6 | 6 8 | 4 | 6 | 64"),
-            (6, Event::Crash, "down 6 low to 4 | 8 | 4 | 4 | 63"),
+            (
+                3,
+                Event::Crash,
+                "down 3 low to 6 | 8 | 4 6 | 6 asked 6 | 63",
+            ),
+            (6, Event::Low, "up 6 yes to 6 | 6 8 | 4 | 6 asked 6 | 64"),
+            (6, Event::Crash, "down 6 low to 4 | 8 | 4 | 4 asked 4 | 63"),
         ],
     },
     // another took the place: yes drops one, no and a crash end the attempt
@@ -460,18 +481,30 @@ static REPLIED: [Run; 5] = [
         passive: &[4, 6],
         words: &[1],
         steps: &[
-            (3, Event::Crash, "down 3 low to 6 | 8 | 4 6 | 6 | 63"),
-            (9, Event::Low, "up 9 yes to 9 | 8 9 | 4 6 | 6 | 64"),
+            (
+                3,
+                Event::Crash,
+                "down 3 low to 6 | 8 | 4 6 | 6 asked 6 | 63",
+            ),
+            (9, Event::Low, "up 9 yes to 9 | 8 9 | 4 6 | 6 asked 6 | 64"),
             (
                 6,
                 Event::Yes,
                 "down 9 up 6 disconnect to 9 | 6 8 | 4 9 | | 63",
             ),
-            (8, Event::Crash, "down 8 low to 9 | 6 | 4 9 | 9 | 63"),
-            (5, Event::Low, "up 5 yes to 5 | 5 6 | 4 9 | 9 | 64"),
+            (
+                8,
+                Event::Crash,
+                "down 8 low to 9 | 6 | 4 9 | 9 asked 9 | 63",
+            ),
+            (5, Event::Low, "up 5 yes to 5 | 5 6 | 4 9 | 9 asked 9 | 64"),
             (9, Event::No, "| 5 6 | 4 9 | | 64"),
-            (6, Event::Crash, "down 6 low to 9 | 5 | 4 9 | 9 | 63"),
-            (7, Event::Low, "up 7 yes to 7 | 5 7 | 4 9 | 9 | 64"),
+            (
+                6,
+                Event::Crash,
+                "down 6 low to 9 | 5 | 4 9 | 9 asked 9 | 63",
+            ),
+            (7, Event::Low, "up 7 yes to 7 | 5 7 | 4 9 | 9 asked 9 | 64"),
             (9, Event::Crash, "| 5 7 | 4 | | 64"),
         ],
     },
@@ -483,11 +516,15 @@ static REPLIED: [Run; 5] = [
         passive: &[4, 6],
         words: &[1],
         steps: &[
-            (3, Event::Crash, "down 3 low to 6 | 8 | 4 6 | 6 | 63"),
-            (8, Event::Disconnect, "down 8 | | 4 8 | 6 | 63"),
-            (6, Event::No, "high to 8 | | 4 8 | 6 8 | 63"),
-            (9, Event::Low, "up 9 yes to 9 | 9 | 4 8 | 6 8 | 64"),
-            (9, Event::Disconnect, "down 9 | | 4 9 | 6 8 | 63"),
+            (
+                3,
+                Event::Crash,
+                "down 3 low to 6 | 8 | 4 6 | 6 asked 6 | 63",
+            ),
+            (8, Event::Disconnect, "down 8 | | 4 8 | 6 asked 6 | 63"),
+            (6, Event::No, "high to 8 | | 4 8 | 6 8 asked 8 | 63"),
+            (9, Event::Low, "up 9 yes to 9 | 9 | 4 8 | 6 8 asked 8 | 64"),
+            (9, Event::Disconnect, "down 9 | | 4 9 | 6 8 asked 8 | 63"),
             (8, Event::Yes, "up 8 | 8 | 4 9 | | 64"),
         ],
     },
@@ -499,10 +536,14 @@ static REPLIED: [Run; 5] = [
         passive: &[4, 6],
         words: &[1],
         steps: &[
-            (3, Event::Crash, "down 3 low to 6 | 8 | 4 6 | 6 | 63"),
-            (8, Event::Disconnect, "down 8 | | 4 8 | 6 | 63"),
-            (9, Event::Low, "up 9 yes to 9 | 9 | 4 8 | 6 | 64"),
-            (5, Event::Low, "up 5 yes to 5 | 5 9 | 4 8 | 6 | 64"),
+            (
+                3,
+                Event::Crash,
+                "down 3 low to 6 | 8 | 4 6 | 6 asked 6 | 63",
+            ),
+            (8, Event::Disconnect, "down 8 | | 4 8 | 6 asked 6 | 63"),
+            (9, Event::Low, "up 9 yes to 9 | 9 | 4 8 | 6 asked 6 | 64"),
+            (5, Event::Low, "up 5 yes to 5 | 5 9 | 4 8 | 6 asked 6 | 64"),
             (
                 6,
                 Event::Yes,
@@ -526,15 +567,19 @@ static STRANGE: [Run; 1] = [
         passive: &[4, 6],
         words: &[1],
         steps: &[
-            (3, Event::Crash, "down 3 low to 6 | 8 | 4 6 | 6 | 63"),
-            (4, Event::Yes, "disconnect to 4 | 8 | 4 6 | 6 | 64"),
-            (9, Event::Yes, "disconnect to 9 | 8 | 4 6 | 6 | 64"),
-            (8, Event::Yes, "| 8 | 4 6 | 6 | 64"),
-            (1, Event::Yes, "| 8 | 4 6 | 6 | 64"),
-            (4, Event::No, "| 8 | 4 6 | 6 | 64"),
-            (9, Event::No, "| 8 | 4 6 | 6 | 64"),
-            (8, Event::No, "| 8 | 4 6 | 6 | 64"),
-            (1, Event::No, "| 8 | 4 6 | 6 | 64"),
+            (
+                3,
+                Event::Crash,
+                "down 3 low to 6 | 8 | 4 6 | 6 asked 6 | 63",
+            ),
+            (4, Event::Yes, "disconnect to 4 | 8 | 4 6 | 6 asked 6 | 64"),
+            (9, Event::Yes, "disconnect to 9 | 8 | 4 6 | 6 asked 6 | 64"),
+            (8, Event::Yes, "| 8 | 4 6 | 6 asked 6 | 64"),
+            (1, Event::Yes, "| 8 | 4 6 | 6 asked 6 | 64"),
+            (4, Event::No, "| 8 | 4 6 | 6 asked 6 | 64"),
+            (9, Event::No, "| 8 | 4 6 | 6 asked 6 | 64"),
+            (8, Event::No, "| 8 | 4 6 | 6 asked 6 | 64"),
+            (1, Event::No, "| 8 | 4 6 | 6 asked 6 | 64"),
             (6, Event::Yes, "up 6 | 6 8 | 4 | | 64"),
             (6, Event::Yes, "| 6 8 | 4 | | 64"),
             (9, Event::Yes, "disconnect to 9 | 6 8 | 4 | | 64"),

@@ -108,7 +108,7 @@ fn is_done(alloc: Global, output: &Output, planned: &str) -> Result<bool, WireFa
 #[derive(Clone, Copy, Drop)]
 enum Way {
     AtOnce,
-    Planned,
+    PlumPlan,
 }
 
 /// A step by a plan, which says beforehand what the node does.
@@ -151,7 +151,7 @@ fn take(
     let input = input_of(alloc, given)?;
     match way {
         Way::AtOnce => Ok(peer.step(input, &words)),
-        Way::Planned => Ok(follow(rt, alloc, peer, input, &words)?),
+        Way::PlumPlan => Ok(follow(rt, alloc, peer, input, &words)?),
     }
 }
 
@@ -302,7 +302,7 @@ fn small_node_goes(
 #[test]
 fn views_and_tree_go_together(rt: HostRuntime) -> Result<(), Fail> {
     small_node_goes(&rt, rt.alloc(), &FULL_VIEW, Way::AtOnce)?;
-    small_node_goes(&rt, rt.alloc(), &FULL_VIEW, Way::Planned)
+    small_node_goes(&rt, rt.alloc(), &FULL_VIEW, Way::PlumPlan)
 }
 
 /// Node 2 comes to have neighbours 1 and 5, waits for (7, 0), and loses 1 with its note.
@@ -389,7 +389,7 @@ static GETS: [(Given<'static>, &'static str); 11] = [
 
 fn copy_goes(rt: &impl Abort, alloc: Global, peer: &Peer) -> Result<(), Fail> {
     let mut copy = peer.copy()?;
-    goes(rt, alloc, &mut copy, &GETS, Way::Planned)
+    goes(rt, alloc, &mut copy, &GETS, Way::PlumPlan)
 }
 
 fn both_go(rt: &impl Abort, alloc: Global, peer: &mut Peer) -> Result<(), Fail> {
@@ -495,7 +495,7 @@ static DROPPED: [(Given<'static>, &'static str); 5] = [
 
 #[test]
 fn notes_go_with_their_senders(rt: HostRuntime) -> Result<(), Fail> {
-    small_node_goes(&rt, rt.alloc(), &WHOLE, Way::Planned)?;
+    small_node_goes(&rt, rt.alloc(), &WHOLE, Way::PlumPlan)?;
     small_node_goes(&rt, rt.alloc(), &DROPPED, Way::AtOnce)
 }
 
@@ -601,7 +601,7 @@ fn spends_all(rt: &impl Abort, alloc: Global, peer: &mut Peer) -> Result<(), Fai
     for made in 0..4096_u32 {
         assert!(rt; broadcasts(rt, alloc, peer, made)?);
     }
-    goes(rt, alloc, peer, &SPENT, Way::Planned)
+    goes(rt, alloc, peer, &SPENT, Way::PlumPlan)
 }
 
 #[test]

@@ -3,10 +3,10 @@
 use crate::graphs::{
     FIVE_BUT_ONE, ONE_NODE, PATH_OF_THREE, PETERSEN, SQUARE, TWO_TRIANGLES, TWO_UNLINKED,
 };
-use ov_certfile::{Sink, Source};
 use ov_check::judge;
 use ov_even::Watcher;
 use ov_ids::NodeId;
+use ov_io::{Sink, Source};
 use ov_run::{RunFault, analyse_file};
 use ov_test_kit::{Slow, ids};
 use std::alloc::{AllocError, Global};

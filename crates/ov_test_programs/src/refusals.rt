@@ -1,8 +1,8 @@
 //! Graph files at fault, and the order of faults.
 use crate::answers::{Counter, analysed, prints};
-use ov_certfile::{Sink, Source};
 use ov_graph::GraphFault;
 use ov_ids::NodeId;
+use ov_io::{Sink, Source};
 use ov_run::{RunFault, analyse_file, read_graph};
 use ov_test_kit::Slow;
 use std::alloc::Global;

@@ -6,7 +6,7 @@ use ov_cert::{Cert, Checked, Split};
 use ov_graph::Graph;
 use ov_ids::{NodeId, Seq};
 use ov_net::{Entry, Event, NetFault};
-use ov_snap::{BookFault, Core, CoreStep, Report, run_core};
+use ov_snap::{Core, CoreFault, CoreStep, Report, run_core};
 use ov_test_kit::{sized, words};
 use std::alloc::Global;
 use std::process::Abort;
@@ -75,15 +75,15 @@ fn report(alloc: Global, moment: u32, is_linked: bool) -> Result<Report, Fail> {
 }
 
 /// A moment, whether its report says that nodes 1 and 2 are linked, the fault of filing it, and whether one is filed.
-static FILINGS: [(u32, bool, Option<BookFault>, bool); 8] = [
-    (4, true, Some(BookFault::OtherGraph), false),
+static FILINGS: [(u32, bool, Option<CoreFault>, bool); 8] = [
+    (4, true, Some(CoreFault::OtherGraph), false),
     (4, false, None, true),
-    (4, false, Some(BookFault::AlreadyFiled), true),
-    (4, true, Some(BookFault::OtherGraph), true),
-    (5, false, Some(BookFault::NoSuchMoment), false),
-    (6, false, Some(BookFault::OtherGraph), false),
+    (4, false, Some(CoreFault::AlreadyFiled), true),
+    (4, true, Some(CoreFault::OtherGraph), true),
+    (5, false, Some(CoreFault::NoSuchMoment), false),
+    (6, false, Some(CoreFault::OtherGraph), false),
     (6, true, None, true),
-    (7, true, Some(BookFault::NoSuchMoment), false),
+    (7, true, Some(CoreFault::NoSuchMoment), false),
 ];
 
 /// The fault of a filing, unless it is out of memory.
@@ -92,9 +92,9 @@ fn filing(
     core: &mut Core,
     moment: u32,
     is_linked: bool,
-) -> Result<Option<BookFault>, Fail> {
+) -> Result<Option<CoreFault>, Fail> {
     match core.file(report(alloc, moment, is_linked)?) {
-        Err(BookFault::OutOfMemory) => Err(BookFault::OutOfMemory.into()),
+        Err(CoreFault::OutOfMemory) => Err(CoreFault::OutOfMemory.into()),
         answer => Ok(answer.err()),
     }
 }
@@ -136,7 +136,7 @@ fn crashes(core: &mut Core) -> Result<u32, NetFault> {
 }
 
 /// An analysis of this moment has so many nodes, and 1 and 2 are linked or not.
-fn begins(core: &Core, moment: u32, nodes: usize, is_linked: bool) -> Result<bool, BookFault> {
+fn begins(core: &Core, moment: u32, nodes: usize, is_linked: bool) -> Result<bool, CoreFault> {
     let job = core.begin(moment)?;
     Ok(
         job.moment == moment
@@ -146,7 +146,7 @@ fn begins(core: &Core, moment: u32, nodes: usize, is_linked: bool) -> Result<boo
 }
 
 /// The fault of an analysis of this moment.
-fn fault_of(core: &Core, moment: u32) -> Option<BookFault> {
+fn fault_of(core: &Core, moment: u32) -> Option<CoreFault> {
     core.begin(moment).err()
 }
 
@@ -155,7 +155,7 @@ fn analyses(rt: &impl Abort, core: &mut Core) -> Result<(), Fail> {
     for (moment, nodes, is_linked) in [(4, 2, false), (6, 2, true), (8, 1, false)] {
         assert!(rt; begins(core, moment, nodes, is_linked)?, "moment {moment}");
     }
-    assert!(rt; fault_of(core, 7) == Some(BookFault::NoSuchMoment));
+    assert!(rt; fault_of(core, 7) == Some(CoreFault::NoSuchMoment));
     Ok(())
 }
 
@@ -166,8 +166,8 @@ fn an_analysis_begins_with_the_links_of_its_moment(rt: HostRuntime) -> Result<()
 
 fn has_nobody(rt: &impl Abort, core: &mut Core) -> Result<(), Fail> {
     assert_eq!(rt; core.snapshot()?, 1);
-    assert!(rt; fault_of(core, 1) == Some(BookFault::NoNodes));
-    assert!(rt; fault_of(core, 2) == Some(BookFault::NoSuchMoment));
+    assert!(rt; fault_of(core, 1) == Some(CoreFault::NoNodes));
+    assert!(rt; fault_of(core, 2) == Some(CoreFault::NoSuchMoment));
     Ok(())
 }
 
@@ -198,7 +198,7 @@ fn is_full(rt: &impl Abort, core: &mut Core) -> Result<(), Fail> {
     assert_eq!(rt; core.snapshot()?, 65_536);
     assert!(rt; takes_none(core));
     assert!(rt; begins(core, 65_536, 1, false)?);
-    assert!(rt; fault_of(core, 65_537) == Some(BookFault::NoSuchMoment));
+    assert!(rt; fault_of(core, 65_537) == Some(CoreFault::NoSuchMoment));
     Ok(())
 }
 
@@ -245,12 +245,12 @@ fn a_run_files_what_its_steps_file(rt: HostRuntime) -> Result<(), Fail> {
     Ok(())
 }
 
-static NUMBERS: [(BookFault, u32); 5] = [
-    (BookFault::NoSuchMoment, 50),
-    (BookFault::NoNodes, 30),
-    (BookFault::OtherGraph, 51),
-    (BookFault::AlreadyFiled, 52),
-    (BookFault::OutOfMemory, 99),
+static NUMBERS: [(CoreFault, u32); 5] = [
+    (CoreFault::NoSuchMoment, 50),
+    (CoreFault::NoNodes, 30),
+    (CoreFault::OtherGraph, 51),
+    (CoreFault::AlreadyFiled, 52),
+    (CoreFault::OutOfMemory, 99),
 ];
 
 #[test]

@@ -1,30 +1,34 @@
--- The walk through what was sent.
-use Rattle.std.proofs.Common.{◌≡◌, ℕ, false, List, [], ◌∷◌, ◌++◌, length, refl, sym, ap, ◌∙◌, subst, inl, inr, arith, append_assoc, append-nil}
+-- The walk through the list of the last shuffle.
+use Rattle.std.proofs.Common.{◌≡◌, ℕ, false, List, [], ◌∷◌, ◌++◌, refl, sym, ap, ◌∙◌, subst, inl, inr, append_assoc}
+use Rattle.std.proofs.Common.{append-nil}
 use Rattle.std.proofs.lemmas.Bool.{both_ways}
 use Rattle.ov_ids.specs.Members.{Has, IsApart}
 use Rattle.ov_ids.specs.Sets.{has}
 use Rattle.ov_ids.proofs.Members.{has_tested, has_append_cases}
 
--- who is passed over is no member
-apart_more : (passive passed : List ℕ) (x : ℕ) → IsApart passive passed → has passive x ≡ false → IsApart passive (passed ++ x ∷ [])
+-- an id that was passed over is no member
+apart_more : (passive passed : List ℕ) (x : ℕ) → IsApart passive passed → has passive x ≡ false →
+    IsApart passive (passed ++ x ∷ [])
 apart_more passive passed x apart e z h =
     elim (has_append_cases passed (x ∷ []) z h) [
       | inl k ↦ apart z k
       | inr k ↦ elim k [
-        | inl same ↦ λ m. both_ways _ e ((has_tested passive x (has passive x) refl).1 (subst (Has passive) (sym same) m))
+        | inl same ↦ λ m. both_ways _ e
+            ((has_tested passive x (has passive x) refl).1 (subst (Has passive) (sym same) m))
         | inr none ↦ absurd none
       ]
     ]
 
-pub passed_more : (passive sent left rest : List ℕ) (x : ℕ) → ((passed : List ℕ) × IsApart passive passed × (sent ≡ passed ++ left)) → left ≡ x ∷ rest → has passive x ≡ false → (passed : List ℕ) × IsApart passive passed × (sent ≡ passed ++ rest)
+-- one id more is passed over
+pub passed_more : (passive sent left rest : List ℕ) (x : ℕ) →
+    ((passed : List ℕ) × IsApart passive passed × (sent ≡ passed ++ left)) → left ≡ x ∷ rest → has passive x ≡ false →
+    (passed : List ℕ) × IsApart passive passed × (sent ≡ passed ++ rest)
 passed_more passive sent left rest x s e out =
     (s.0 ++ x ∷ [], apart_more passive s.0 x s.1 out, rw append_assoc (s.2 ∙ ap (λ l. s.0 ++ l) e))
 
-pub none_left : (passive sent left : List ℕ) → ((passed : List ℕ) × IsApart passive passed × (sent ≡ passed ++ left)) → left ≡ [] → IsApart passive sent
+-- all ids were passed over
+pub none_left : (passive sent left : List ℕ) → ((passed : List ℕ) × IsApart passive passed × (sent ≡ passed ++ left)) →
+    left ≡ [] → IsApart passive sent
 none_left passive sent left s e =
     let all : sent ≡ s.0 = s.2 ∙ ap (λ l. s.0 ++ l) e ∙ append-nil s.0 in
     subst (IsApart passive) (sym all) s.1
-
-pub no_length : (xs : List ℕ) → length xs ≡ 0 → xs ≡ []
-no_length [] e = refl
-no_length (x ∷ xs) e = absurd (omega arith)

@@ -5,7 +5,7 @@ use Rattle.ov_ids.specs.Sets.{IsSet, IsIn, without, without_all}
 use Rattle.ov_ids.proofs.Sets.{IsSet-without, length-without_set}
 use Rattle.ov_words.specs.Pick.{Choice, AreDrawn}
 use Rattle.ov_words.proofs.PickLemmas.{AreDrawn-append}
-use Rattle.ov_views.specs.Shuffle.{AreChosen}
+use Rattle.ov_views.specs.Sampling.{AreChosen}
 
 -- so many ids are chosen from the set, by the words from `before` to `now`, and this is the rest of the set
 pub record Sampling (set : List ℕ) (before now picked rest : List ℕ) : Type 0 where
@@ -28,20 +28,28 @@ begun set before up = record {
   enough = omega arith;
 }
 
-chosen_more : (ids : List ℕ) (set : List ℕ) (x : ℕ) (choices : List Choice) → AreChosen set ids choices → IsIn (without_all ids set) x → AreChosen set (ids ++ x ∷ []) (choices ++ record { from = without_all ids set; member = x } ∷ [])
+chosen_more : (ids : List ℕ) (set : List ℕ) (x : ℕ) (choices : List Choice) → AreChosen set ids choices →
+    IsIn (without_all ids set) x →
+    AreChosen set (ids ++ x ∷ []) (choices ++ record { from = without_all ids set; member = x } ∷ [])
 chosen_more [] set x choices none h =
     let one : Choice = record { from = set; member = x } in
     ([], (h, ap (λ (l : List Choice). l ++ one ∷ []) none), refl)
 chosen_more (y ∷ ids) set x choices chosen h =
-    let one : Choice = record { from = without_all ids (without y set); member = x } in
-    (chosen.0 ++ one ∷ [], (chosen.1.0, ap (λ (l : List Choice). l ++ one ∷ []) chosen.1.1), chosen_more ids (without y set) x chosen.0 chosen.2 h)
+    let one : Choice = record { from = without_all ids (without y set); member = x } in (
+      chosen.0 ++ one ∷ [],
+      (chosen.1.0, ap (λ (l : List Choice). l ++ one ∷ []) chosen.1.1),
+      chosen_more ids
+          (without y set) x chosen.0 chosen.2 h,
+    )
 
 rest_more : (ids : List ℕ) (set : List ℕ) (x : ℕ) → without x (without_all ids set) ≡ without_all (ids ++ x ∷ []) set
 rest_more [] set x = refl
 rest_more (y ∷ ids) set x = rest_more ids (without y set) x
 
 -- one id more, picked by the next word
-pub sampled_more : (set before now later picked rest : List ℕ) (x : ℕ) → Sampling set before now picked rest → IsIn rest x → AreDrawn (record { from = rest; member = x } ∷ []) now later → length later + 1 ≡ length now → Sampling set before later (picked ++ x ∷ []) (without x rest)
+pub sampled_more : (set before now later picked rest : List ℕ) (x : ℕ) → Sampling set before now picked rest →
+    IsIn rest x → AreDrawn (record { from = rest; member = x } ∷ []) now later → length later + 1 ≡ length now →
+    Sampling set before later (picked ++ x ∷ []) (without x rest)
 sampled_more set before now later picked rest x s h drawn word =
     let P : List ℕ → Type 0 = λ r. AreDrawn (record { from = r; member = x } ∷ []) now later in
     let one : List Choice = record { from = without_all picked set; member = x } ∷ [] in

@@ -1,66 +1,64 @@
--- What each operation on the views does, with the choices that it makes in order: v are the views before and w those after.
--- The operations and their purposes are HyParView's (Leitão, Pereira, Rodrigues, DSN 2007, Algorithm 1); in which order they
--- choose is fixed here.
-use Rattle.std.specs.Prelude.{◌≡◌, ℕ, ◌==◌, List, [], ◌∷◌, ◌++◌, length, MatchBool, Option, Some, None}
+-- What each operation does to the views. v are the views before it and w those after; its random choices are listed
+-- in order. The operations and their purposes are HyParView's (Leitão, Pereira, Rodrigues, DSN 2007, Algorithm 1).
+-- The order of their choices is chosen here.
+use Rattle.std.specs.Prelude.{◌≡◌, ℕ, ◌==◌, List, [], ◌∷◌, ◌++◌, length, MatchBool}
 use Rattle.ov_ids.specs.Sets.{has, IsIn, adding, without}
 use Rattle.ov_words.specs.Pick.{Choice}
-use Rattle.ov_views.specs.Neighbourhood.{Neighbourhood, has_place, has_passive_place, is_close, is_known}
+use Rattle.ov_views.specs.ViewsState.{ViewsState, has_place, has_passive_place, is_close, is_known}
 use Rattle.ov_views.specs.declared.change.ViewChange.{ViewChange}
 use Rattle.ov_views.specs.declared.change.ViewChange.TheVariants.{Up, Down}
 
--- nothing is chosen, and the views after are these
-abbrev pub Keeps : Neighbourhood → List Choice → Neighbourhood → Type 0
+-- nothing is chosen, and the views afterwards are these
+abbrev pub Keeps : ViewsState → List Choice → ViewsState → Type 0
 Keeps v choices w = (choices ≡ []) × (w ≡ v)
 
--- the first choice is d, a member of the set, and then come the rest
+-- the first choice is d, a random member of the set; the other choices follow
 abbrev pub Chosen : List ℕ → ℕ → List Choice → List Choice → Type 0
 Chosen set d choices rest = IsIn set d × (choices ≡ record { from = set; member = d } ∷ rest)
 
--- x goes into the passive view, unless it is known; where that view is full a random member d goes out
-abbrev pub AddsPassive : Neighbourhood → ℕ → List Choice → Neighbourhood → Type 0
+-- x enters the passive view, unless it is known. Where that view is full, a random member d goes out
+abbrev pub AddsPassive : ViewsState → ℕ → List Choice → ViewsState → Type 0
 AddsPassive v x choices w =
     MatchBool (is_known v x) (Keeps v choices w)
     (MatchBool (has_passive_place v)
     (Keeps (record v { passive = adding x v.passive }) choices w)
-    ((d : ℕ) × Chosen v.passive d choices [] × (w ≡ record v { passive = adding x (without d v.passive) })))
+    ((d : ℕ) × Chosen v.passive d choices []
+    × (w ≡ record v { passive = adding x (without d v.passive) })))
 
--- a random active member d goes down, and then into the passive view. Where nobody is active, nothing
-abbrev pub DropsRandom : Neighbourhood → List Choice → Neighbourhood → List ViewChange → Type 0
+-- A random active member d goes down and then enters the passive view. Where nobody is active, nothing happens
+abbrev pub DropsRandom : ViewsState → List Choice → ViewsState → List ViewChange → Type 0
 DropsRandom v choices w changes =
     MatchBool (length v.active == 0) (Keeps v choices w × (changes ≡ []))
-    ((d : ℕ) × (rest : List Choice) × Chosen v.active d choices rest × AddsPassive (record v { active = without d v.active }) d rest w × (changes ≡ Down d ∷ []))
+    ((d : ℕ) × (rest : List Choice) × Chosen v.active d choices rest
+    × AddsPassive (record v { active = without d v.active }) d rest w
+    × (changes ≡ Down d ∷ []))
 
 -- where no place is free in the active view, a random member is dropped
-abbrev pub MakesRoom : Neighbourhood → List Choice → Neighbourhood → List ViewChange → Type 0
+abbrev pub MakesRoom : ViewsState → List Choice → ViewsState → List ViewChange → Type 0
 MakesRoom v choices w drops =
     MatchBool (has_place v) (Keeps v choices w × (drops ≡ [])) (DropsRandom v choices w drops)
 
--- x goes from the passive view to the active one, unless it is the node itself or active; where that view is full, a random
--- member is dropped first
-abbrev pub AddsActive : Neighbourhood → ℕ → List Choice → Neighbourhood → List ViewChange → Type 0
+-- x becomes active and leaves the passive view, unless it is the node itself or active already. Where the active view
+-- is full, a random member is dropped first. u are the views once a place is free
+abbrev pub AddsActive : ViewsState → ℕ → List Choice → ViewsState → List ViewChange → Type 0
 AddsActive v x choices w changes =
     MatchBool (is_close v x) (Keeps v choices w × (changes ≡ []))
-    ((u : Neighbourhood) × (drops : List ViewChange) × MakesRoom (record v { passive = without x v.passive }) choices u drops
+    ((u : ViewsState) × (drops : List ViewChange)
+    × MakesRoom (record v { passive = without x v.passive }) choices u drops
     × (w ≡ record u { active = adding x u.active }) × (changes ≡ drops ++ Up x ∷ []))
 
--- x goes down where it was active, and else nothing does
-abbrev pub GoesDown : Neighbourhood → ℕ → List ViewChange → Type 0
+-- x goes down where it was active; nobody else does
+abbrev pub GoesDown : ViewsState → ℕ → List ViewChange → Type 0
 GoesDown v x changes = MatchBool (has v.active x) (changes ≡ Down x ∷ []) (changes ≡ [])
 
 -- x is taken out of the active view, if it is there
-abbrev pub RemovesActive : Neighbourhood → ℕ → Neighbourhood → List ViewChange → Type 0
+abbrev pub RemovesActive : ViewsState → ℕ → ViewsState → List ViewChange → Type 0
 RemovesActive v x w changes = (w ≡ record v { active = without x v.active }) × GoesDown v x changes
 
--- x is taken out of whichever view has it
-abbrev pub Forgets : Neighbourhood → ℕ → Neighbourhood → List ViewChange → Type 0
-Forgets v x w changes = (w ≡ record v { active = without x v.active; passive = without x v.passive }) × GoesDown v x changes
-
--- who goes down, and then who comes up
-abbrev pub in_order : Option ℕ → Option ℕ → List ViewChange
-in_order None None = []
-in_order None (Some x) = Up x ∷ []
-in_order (Some d) None = Down d ∷ []
-in_order (Some d) (Some x) = Down d ∷ Up x ∷ []
+-- x is taken out of the view that has it, if one has
+abbrev pub Forgets : ViewsState → ℕ → ViewsState → List ViewChange → Type 0
+Forgets v x w changes =
+    (w ≡ record v { active = without x v.active; passive = without x v.passive }) × GoesDown v x changes
 
 -- the active view after these changes
 abbrev pub after_changes : List ViewChange → List ℕ → List ℕ

@@ -1,9 +1,11 @@
-pub mod Neighbourhood
+pub mod ViewsState
 pub mod Changes
-pub mod Shuffle
+pub mod Sampling
 pub mod Sending
-pub mod Joining
-pub mod Neighbouring
-pub mod Shuffling
+pub mod JoinRows
+pub mod NeighborRows
+pub mod ShuffleRows
 pub mod Allowed
+pub mod Handling
 pub mod Room
+pub mod Code

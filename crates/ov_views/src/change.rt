@@ -1,6 +1,6 @@
 ghost use Rattle.std.specs.Prelude.{◌≡◌, ◌≤◌, length};
 ghost use Rattle.std.specs.Iterator.{YieldsFirst, item_count};
-ghost use Rattle.ov_views.specs.Changes.{in_order};
+ghost use Rattle.ov_views.specs.Code.ChangeOrder.{in_order};
 
 use ov_ids::NodeId;
 use std::marker::Model;
@@ -14,8 +14,8 @@ pub enum ViewChange {
     Down(NodeId),
 }
 
-/// The changes that one operation makes of the active view, in order: at most one node goes down, and then at most one comes
-/// up. Contracts see those that are still to come.
+/// The changes of the active view in one operation, in order: at most one node goes down, and then at most one comes
+/// up. Contracts see the changes that are still to come.
 #[derive(Debug, Drop)]
 pub struct Changes {
     down: Option<NodeId>,
@@ -24,7 +24,7 @@ pub struct Changes {
 
 impl Model for Changes {
     ghost use Rattle.std.specs.Prelude.{List};
-    ghost use Rattle.ov_views.specs.Changes.{in_order};
+    ghost use Rattle.ov_views.specs.Code.ChangeOrder.{in_order};
     ghost use Rattle.ov_views.specs.declared.change.ViewChange.{ViewChange};
 
     ghost Value = { List ViewChange };

@@ -16,7 +16,8 @@ pub struct Moves {
 impl Moves {
     ghost use Rattle.ov_views.specs.Room.{HasRoom};
 
-    /// No moves, with room for so many sends and for two changes. A handler makes all its room so before it changes anything.
+    /// No moves, with room for so many sends and for two changes. A handler makes all its room so before it changes
+    /// anything. OutOfMemory (99) where an allocation is refused.
     pub fn with_room(alloc: Global, sends: usize) -> Result<Moves, OutOfMemory>
         ensures sends { IfOk result (λ m. m.sends.items ≡ []) }
         ensures changes { IfOk result (λ m. m.changes.items ≡ []) }
@@ -28,7 +29,7 @@ impl Moves {
         })
     }
 
-    /// Sends a message.
+    /// Sends a message. Room for it must be there, and nothing is allocated.
     pub fn send(&mut self, to: NodeId, message: Message)
         requires { HasRoom self.old 1 0 }
         ensures sends { self.new.sends.items ≡ self.old.sends.items ++ (to, message) ∷ [] }
@@ -49,7 +50,7 @@ impl Moves {
         self.changes.push_reserved(change);
     }
 
-    /// Tells the changes of one operation.
+    /// Tells the changes of one operation. Room for them must be there, and nothing is allocated.
     pub fn tell_changes(&mut self, changes: Changes)
         requires changes { length changes ≤ 2 }
         requires room { HasRoom self.old 0 (length changes) }
@@ -61,7 +62,8 @@ impl Moves {
         }
     }
 
-    /// Tells the changes of one operation, and says DISCONNECT to who goes down.
+    /// Tells the changes of one operation, and sends DISCONNECT to the node that goes down. Room for both must be
+    /// there, and nothing is allocated.
     pub fn tell(&mut self, me: NodeId, changes: Changes)
         requires { HasRoom self.old (length (farewells me changes)) (length changes) }
         ensures sends { self.new.sends.items ≡ self.old.sends.items ++ farewells me changes }

@@ -1,9 +1,10 @@
 ghost use Rattle.std.specs.Prelude.{◌≡◌, ◌<◌, ◌≤◌, [], ◌∷◌, ◌++◌, length};
+ghost use Rattle.ov_ids.specs.Sets.{most_members};
 
 use ov_ids::NodeId;
 use std::marker::Model;
 
-/// The ids of a sample in the order of picking, which take no memory. Contracts see them as a list.
+/// The ids of a sample, in the order of picking. Nothing is allocated for them. Contracts see them as a list.
 #[derive(Drop)]
 pub struct Sample {
     ids: [NodeId; 64],
@@ -12,12 +13,13 @@ pub struct Sample {
 
 impl Model for Sample {
     ghost use Rattle.std.specs.Prelude.{◌≤◌, List, ℕ, take};
+    ghost use Rattle.ov_ids.specs.Sets.{most_members};
 
     ghost Value = { List ℕ };
 
     ghost view = { λ a. take a.count a.ids };
 
-    ghost invariant = { λ a. a.count ≤ 64 };
+    ghost invariant = { λ a. a.count ≤ most_members };
 }
 
 impl Sample {
@@ -31,7 +33,7 @@ impl Sample {
     }
 
     pub(crate) fn push(&mut self, id: NodeId)
-        requires { length self.old < 64 }
+        requires { length self.old < most_members }
         ensures { self.new ≡ self.old ++ id ∷ [] }
     {
         self.ids[self.count] = id;
@@ -41,7 +43,7 @@ impl Sample {
     /// The ids in the order of picking.
     pub fn as_slice(&self) -> &[NodeId]
         ensures value { result.now ≡ self.now }
-        ensures fits { length self.now ≤ 64 }
+        ensures fits { length self.now ≤ most_members }
     {
         &self.ids[..self.count]
     }

@@ -1,26 +1,27 @@
 ghost use Rattle.std.specs.Prelude.{◌≡◌, ◌≤◌, ◌<◌, ◌+◌, ℕ, List, [], ◌∷◌, ◌++◌, Some, None, length, min, MatchBool};
 ghost use Rattle.ov_ids.specs.Sets.{IsSet, IsIn, has, without, without_all};
 ghost use Rattle.ov_words.specs.Pick.{Drawn, Choice};
-ghost use Rattle.ov_views.specs.Neighbourhood.{Neighbourhood, AreViews, has_place, is_close, is_known, members};
-ghost use Rattle.ov_views.specs.Changes.{AddsPassive, DropsRandom, AddsActive, RemovesActive, Forgets, in_order};
-ghost use Rattle.ov_views.specs.Shuffle.{Samples, GivesUp, TakesIn, Integrates};
+ghost use Rattle.ov_views.specs.ViewsState.{ViewsState, AreViews, has_place, is_close, is_known, members};
+ghost use Rattle.ov_views.specs.Changes.{AddsPassive, DropsRandom, AddsActive, RemovesActive, Forgets};
+ghost use Rattle.ov_views.specs.Code.ChangeOrder.{in_order};
+ghost use Rattle.ov_views.specs.Sampling.{Samples, GivesUp, TakesIn, Integrates};
 
 use crate::{Changes, Sample};
 use ov_ids::{IdSet, NodeId, Params};
 use ov_words::Draws;
 use std::marker::Model;
 
-/// Which of a node's two views.
+/// One of a node's two views (HyParView: Leitão, Pereira, Rodrigues, DSN 2007).
 #[derive(Clone, Copy, Debug, PartialEq, Eq)]
 pub enum View {
-    /// Those that the node talks with.
+    /// The nodes that the node exchanges messages with.
     Active,
-    /// Those that it knows as their substitutes.
+    /// The nodes that it knows as substitutes for active members.
     Passive,
 }
 
-/// A node's active and passive view, each within its size, without the node itself, and with nobody in both. Contracts see
-/// them as a `Neighbourhood`.
+/// A node's active and passive view. Each is within its size and lacks the node itself, and they share no member.
+/// Nothing is allocated for them. Contracts see them as a `ViewsState`.
 #[derive(Drop)]
 pub struct Views {
     me: NodeId,
@@ -30,17 +31,18 @@ pub struct Views {
 }
 
 impl Model for Views {
-    ghost use Rattle.ov_views.specs.Neighbourhood.{Neighbourhood, AreViews};
+    ghost use Rattle.ov_views.specs.ViewsState.{ViewsState, AreViews};
 
-    ghost Value = { Neighbourhood };
+    ghost Value = { ViewsState };
 
     ghost view = { λ a. record { me = a.me; params = a.params; active = a.active; passive = a.passive } };
 
-    ghost invariant = { λ a. AreViews (record { me = a.me; params = a.params; active = a.active; passive = a.passive }) };
+    ghost invariant = { λ a. AreViews
+        (record { me = a.me; params = a.params; active = a.active; passive = a.passive }) };
 }
 
 impl Views {
-    /// The views of a node that knows nobody yet.
+    /// The views of a node that knows nobody yet. Nothing is allocated.
     pub fn new(me: NodeId, params: Params) -> Views
         ensures { result ≡ record { me = me; params = params; active = []; passive = [] } }
     {
@@ -52,7 +54,7 @@ impl Views {
         }
     }
 
-    /// Equal views.
+    /// Equal views. Nothing is allocated.
     pub fn copy(&self) -> Views
         ensures { result ≡ self.now }
     {
@@ -110,7 +112,7 @@ impl Views {
         self.active.len() < self.params.active()
     }
 
-    /// The members of a view but these, as a set of its own.
+    /// The members of a view without these ids, as a set of its own. Nothing is allocated.
     pub fn all_but(&self, view: View, ids: &[NodeId]) -> IdSet
         ensures value { result ≡ without_all ids.now (members view self.now) }
         ensures set { IsSet result }
@@ -143,9 +145,10 @@ impl Views {
         id == self.me || self.active.contains(id) || self.passive.contains(id)
     }
 
-    /// Adds a node to the active view, unless it is the node itself or active. It leaves the passive view; where the active
-    /// view is full a random member is dropped first, as by `drop_random`. Answers who went down and who came up. At most two
-    /// words. (HyParView's `addNodeActiveView`; that the node leaves the passive view, and does so first, is chosen here.)
+    /// Adds a node to the active view, unless it is the node itself or active already. The node leaves the passive
+    /// view. Where the active view is full, a random member is dropped first, as by `drop_random`. Returns who went
+    /// down and who came up. At most two random words are used. (HyParView's `addNodeActiveView`. That the node
+    /// leaves the passive view, and does so first, is chosen here.)
     pub fn add_active(&mut self, id: NodeId, draws: &mut Draws<'_>) -> Changes
         requires { 2 ≤ length draws.old }
         ensures drawn { Drawn draws.old draws.new (λ choices. AddsActive self.old id choices self.new result) }
@@ -165,8 +168,8 @@ impl Views {
         Changes::new(down, Some(id))
     }
 
-    /// Drops a random active member, if there is one: it goes down, and then it is added to the passive view. Answers who went
-    /// down. At most two words. (HyParView's `dropRandomElementFromActiveView`.)
+    /// Drops a random active member, if there is one: it goes down, and then it is added to the passive view. Returns
+    /// who went down. At most two random words are used. (HyParView's `dropRandomElementFromActiveView`.)
     pub fn drop_random(&mut self, draws: &mut Draws<'_>) -> Changes
         requires { 2 ≤ length draws.old }
         ensures drawn { Drawn draws.old draws.new (λ choices. DropsRandom self.old choices self.new result) }
@@ -179,7 +182,8 @@ impl Views {
     /// Drops a random active member, if there is one.
     fn drop_one(&mut self, draws: &mut Draws<'_>) -> Option<NodeId>
         requires { 2 ≤ length draws.old }
-        ensures drawn { Drawn draws.old draws.new (λ choices. DropsRandom self.old choices self.new (in_order result None)) }
+        ensures drawn { Drawn draws.old draws.new
+            (λ choices. DropsRandom self.old choices self.new (in_order result None)) }
         ensures words { length draws.old ≤ length draws.new + 2 }
     {
         let dropped = draws.pick(self.active.as_slice())?;
@@ -188,7 +192,7 @@ impl Views {
         Some(dropped)
     }
 
-    /// Takes a node out of the active view, if it is there. Answers that it went down.
+    /// Takes a node out of the active view, if it is there. Returns that it went down.
     pub fn remove_active(&mut self, id: NodeId) -> Changes
         ensures removed { RemovesActive self.old id self.new result }
         ensures few { length result ≤ 1 }
@@ -198,7 +202,7 @@ impl Views {
         Changes::new(down, None)
     }
 
-    /// Takes a node out of whichever view has it. Where that was the active view, answers that it went down.
+    /// Takes a node out of the view that has it, if one has. Where that was the active view, returns that it went down.
     pub fn forget(&mut self, id: NodeId) -> Changes
         ensures forgotten { Forgets self.old id self.new result }
         ensures few { length result ≤ 1 }
@@ -207,8 +211,8 @@ impl Views {
         self.remove_active(id)
     }
 
-    /// Adds a node to the passive view, unless it is the node itself, active or passive. Where that view is full a random
-    /// member goes out. At most one word. (HyParView's `addNodePassiveView`.)
+    /// Adds a node to the passive view, unless it is the node itself, active or passive. Where that view is full, a
+    /// random member goes out. At most one random word is used. (HyParView's `addNodePassiveView`.)
     pub fn add_passive(&mut self, id: NodeId, draws: &mut Draws<'_>)
         requires { 1 ≤ length draws.old }
         ensures drawn { Drawn draws.old draws.new (λ choices. AddsPassive self.old id choices self.new) }
@@ -217,10 +221,11 @@ impl Views {
         self.take_in(id, &[], draws);
     }
 
-    /// Takes the ids of a shuffle into the passive view, in order, but for the node itself and members of either view. Where
-    /// the passive view is full an id takes the place of the next id of `sent` that is passive, and where none is left that of
-    /// a random member: `sent` is walked once, and ids passed over are used up. At most one word for each id. (That what was
-    /// sent goes first is HyParView's; the walk through it is chosen here.)
+    /// Takes the ids of a shuffle into the passive view, in order. The node itself and the members of either view are
+    /// passed over. Where the passive view is full, an id takes the place of the next id in `sent` that is passive,
+    /// or, where there is none, of a random member. `sent` is walked once: an id that was passed over is not looked
+    /// at again. At most one random word is used for each id. (That the members sent go first is HyParView's; how
+    /// `sent` is walked is chosen here.)
     pub fn integrate(&mut self, ids: &[NodeId], sent: &[NodeId], draws: &mut Draws<'_>)
         requires { length ids.now ≤ length draws.old }
         ensures drawn { Drawn draws.old draws.new (λ choices. Integrates self.old ids.now sent.now choices self.new) }
@@ -232,10 +237,11 @@ impl Views {
         }
     }
 
-    /// Takes one id of a shuffle in, and answers what is left of `sent`.
+    /// Takes one id of a shuffle in. Returns what is left of `sent`.
     fn take_in<'s>(&mut self, id: NodeId, sent: &'s [NodeId], draws: &mut Draws<'_>) -> &'s [NodeId]
         requires { 1 ≤ length draws.old }
-        ensures drawn { Drawn draws.old draws.new (λ choices. TakesIn self.old id sent.now choices self.new result.now) }
+        ensures drawn { Drawn draws.old draws.new
+            (λ choices. TakesIn self.old id sent.now choices self.new result.now) }
         ensures words { length draws.old ≤ length draws.new + 1 }
     {
         if self.is_known(id) {
@@ -251,8 +257,9 @@ impl Views {
         left
     }
 
-    /// Picks `count` members of a view, or all where it has fewer, one after another and each from those not yet picked, with one
-    /// word each. (How HyParView's samples are drawn is chosen here.)
+    /// Picks `count` members of a view at random, or all where it has fewer. They are picked one after another, each
+    /// from those not picked yet, with one random word each. (HyParView samples its views so; how a sample is drawn
+    /// is chosen here.)
     pub fn sample(&self, view: View, count: usize, draws: &mut Draws<'_>) -> Sample
         requires { min count (length (members view self.now)) ≤ length draws.old }
         ensures drawn { Drawn draws.old draws.new (λ choices. Samples (members view self.now) count choices result) }
@@ -273,7 +280,7 @@ impl Views {
     }
 }
 
-/// The passive member to give up for a new one, and what is left of `sent` then.
+/// The passive member to give up for a new one, and what is then left of `sent`.
 fn give_up<'s>(passive: &IdSet, sent: &'s [NodeId], draws: &mut Draws<'_>) -> (NodeId, &'s [NodeId])
     requires some { 0 < length passive.now }
     requires words { 1 ≤ length draws.old }

@@ -7,7 +7,7 @@ use Rattle.ov_wire.specs.declared.message.Message.{Message}
 use Rattle.ov_wire.specs.Fields.{Value}
 use Rattle.ov_wire.specs.Messages.{fields_of, kind_of, Spelling, AreInRange}
 use Rattle.ov_wire.specs.Faults.{FirstFault}
-use Rattle.ov_wire.specs.Reading.{values_at, Gives}
+use Rattle.ov_wire.specs.Code.Reading.{values_at, Gives}
 use Rattle.ov_wire.proofs.Steps.{apart}
 use Rattle.ov_wire.proofs.Numbers.{IsBytes}
 use Rattle.ov_wire.proofs.Messages.{values_of, read_again, is_spelled, in_range, read_once, is_first}

@@ -6,8 +6,8 @@ use Rattle.std.proofs.lemmas.List.{length-drop, append-nil}
 use Rattle.ov_wire.specs.declared.fault.WireFault.{WireFault}
 use Rattle.ov_wire.specs.declared.fault.WireFault.TheVariants.{Short, BadField, Trailing}
 use Rattle.ov_wire.specs.Fields.{Field, Number, Ids, Payload, Value, One, Many, spelled, AllFit, spelled_all, Spells}
-use Rattle.ov_wire.specs.Faults.{front, IsAtFault, FirstOf}
-use Rattle.ov_wire.specs.Reading.{◌>>=◌, number_at, bytes_at, ids_in, field_at, values_at}
+use Rattle.ov_wire.specs.Faults.{leading_number, IsAtFault, FirstOf}
+use Rattle.ov_wire.specs.Code.Reading.{◌>>=◌, number_at, bytes_at, ids_in, field_at, values_at}
 use Rattle.ov_wire.proofs.Steps.{bind_ok, bind_err, guard_err, ok_is, apart}
 use Rattle.ov_wire.proofs.Numbers.{IsBytes, number_read, number_whole, number_fails, number_at_fault}
 use Rattle.ov_wire.proofs.Fields.{IsSound, field_read, field_again}
@@ -62,12 +62,12 @@ pub field_at_fault : (f : Field) (bytes : List ℕ) (e : WireFault) → IsAtFaul
 field_at_fault (Number w least most otherwise) bytes e h = rw (number_at_fault w least most otherwise bytes e h) refl
 field_at_fault Ids bytes e (inl h) = rw (number_at_fault w8 0 17 BadField bytes e h) refl
 field_at_fault Ids bytes e (inr h) =
-    let short : length (drop 1 bytes) < 4 * front w8 bytes = omega (arith, length-drop 1 bytes, h.0, h.2) in
-    rw (number_whole w8 0 17 BadField bytes h.0 (omega arith) h.1, lt-ltb (length (drop 1 bytes)) (4 * front w8 bytes) short, h.3) refl
+    let short : length (drop 1 bytes) < 4 * leading_number w8 bytes = omega (arith, length-drop 1 bytes, h.0, h.2) in
+    rw (number_whole w8 0 17 BadField bytes h.0 (omega arith) h.1, lt-ltb (length (drop 1 bytes)) (4 * leading_number w8 bytes) short, h.3) refl
 field_at_fault Payload bytes e (inl h) = rw (number_at_fault w16 0 1024 BadField bytes e h) refl
 field_at_fault Payload bytes e (inr h) =
-    let short : length (drop 2 bytes) < front w16 bytes = omega (arith, length-drop 2 bytes, h.0, h.2) in
-    rw (number_whole w16 0 1024 BadField bytes h.0 (omega arith) h.1, lt-ltb (length (drop 2 bytes)) (front w16 bytes) short, h.3) refl
+    let short : length (drop 2 bytes) < leading_number w16 bytes = omega (arith, length-drop 2 bytes, h.0, h.2) in
+    rw (number_whole w16 0 1024 BadField bytes h.0 (omega arith) h.1, lt-ltb (length (drop 2 bytes)) (leading_number w16 bytes) short, h.3) refl
 
 -- ---- all fields
 

@@ -7,7 +7,7 @@ use Rattle.std.proofs.lemmas.List.{take_at, drop_at, take-append-drop, length-ap
 use Rattle.std.proofs.lemmas.List.Concat.{flat_map-cons}
 use Rattle.ov_wire.specs.declared.fault.WireFault.TheVariants.{Short, BadField}
 use Rattle.ov_wire.specs.Fields.{Field, Number, Ids, Payload, Value, One, Many, Fits, spelled}
-use Rattle.ov_wire.specs.Reading.{◌>>=◌, number_at, bytes_at, ids_in, field_at}
+use Rattle.ov_wire.specs.Code.Reading.{◌>>=◌, number_at, bytes_at, ids_in, field_at}
 use Rattle.ov_wire.proofs.Steps.{guard_ok, bind_ok, ok_is}
 use Rattle.ov_wire.proofs.Numbers.{IsBytes, IsBytes-drop, IsBytes-take, Takes, IsWide, wide8, wide16, wide32, IsNumber, number_takes, number_again}
 

@@ -7,10 +7,10 @@ use Rattle.ov_wire.specs.declared.message.Message.{Message}
 use Rattle.ov_wire.specs.Fields.{Ids, Payload, up_to, any, Value, One, Many, AllFit, Spells}
 use Rattle.ov_wire.specs.Messages.{kinds, fields_of, kind_of, said, Spelling}
 use Rattle.ov_wire.specs.Laws.{SpelledOrAtFault}
-use Rattle.ov_wire.specs.Reading.{values_at}
+use Rattle.ov_wire.specs.Code.Reading.{values_at}
 use Rattle.ov_wire.proofs.Numbers.{IsBytes}
 use Rattle.ov_wire.proofs.Faults.{values_read}
-use Rattle.ov_wire.specs.Meaning.{number_in, list_in, id_in, body_in}
+use Rattle.ov_wire.specs.Code.Meaning.{number_in, list_in, id_in, body_in}
 use Rattle.ov_wire.proofs.Messages.{sound, is_first}
 
 -- ---- what a body made of the values says

@@ -8,8 +8,8 @@ use Rattle.ov_wire.specs.declared.message.Body.TheVariants.{Join, ForwardJoin, J
 use Rattle.ov_wire.specs.Fields.{Field, Value, One, AllFit}
 use Rattle.ov_wire.specs.Messages.{kinds, fields_of, kind_of, said, Spelling, IsBodyInRange, AreInRange}
 use Rattle.ov_wire.specs.Faults.{FirstFault}
-use Rattle.ov_wire.specs.Meaning.{number_in, list_in, body_in, message_with, message_in}
-use Rattle.ov_wire.specs.Reading.{values_at}
+use Rattle.ov_wire.specs.Code.Meaning.{number_in, list_in, body_in, message_with, message_in}
+use Rattle.ov_wire.specs.Code.Reading.{values_at}
 use Rattle.std.proofs.lemmas.List.{append-nil}
 use Rattle.ov_wire.proofs.Steps.{apart}
 use Rattle.ov_wire.proofs.Numbers.{IsBytes, wide8, wide16, wide32}

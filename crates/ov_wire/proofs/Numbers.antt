@@ -6,8 +6,8 @@ use Rattle.std.proofs.lemmas.List.{take_at, drop_at, take-append-drop, length-ap
 use Rattle.std.proofs.lemmas.Nat.{be_bytes_2, be_bytes_4, from_be_bytes-to_be_bytes_2, from_be_bytes-to_be_bytes_4}
 use Rattle.ov_wire.specs.declared.fault.WireFault.{WireFault}
 use Rattle.ov_wire.specs.declared.fault.WireFault.TheVariants.{Short}
-use Rattle.ov_wire.specs.Faults.{front, IsNumberAtFault}
-use Rattle.ov_wire.specs.Reading.{number_at}
+use Rattle.ov_wire.specs.Faults.{leading_number, IsNumberAtFault}
+use Rattle.ov_wire.specs.Code.Reading.{number_at}
 use Rattle.ov_wire.proofs.Steps.{guard_ok, guard_err, ok_is, apart}
 
 -- each is a byte
@@ -74,7 +74,7 @@ pub record IsNumber (w : Width) (least most n : ℕ) : Type 0 where
 -- what a number that was read is
 pub record IsNumberRead (w : Width) (least most : ℕ) (bytes : List ℕ) (n : ℕ) (rest : List ℕ) : Type 0 where
   pub whole : byte_len w ≤ length bytes
-  pub number : front w bytes ≡ n
+  pub number : leading_number w bytes ≡ n
   pub rest_is : drop (byte_len w) bytes ≡ rest
   pub low : least ≤ n
   pub high : n ≤ most
@@ -83,16 +83,16 @@ pub number_read : (w : Width) (least most : ℕ) (otherwise : WireFault) (bytes 
     → number_at w least most otherwise bytes ≡ Ok (n, rest) → IsNumberRead w least most bytes n rest
 number_read w least most otherwise bytes n rest e =
     let k = byte_len w in
-    let found : Result (ℕ × List ℕ) WireFault = Ok (front w bytes, drop k bytes) in
-    let high : Result (ℕ × List ℕ) WireFault = cond (ltb most (front w bytes)) (Err otherwise) found in
-    let low : Result (ℕ × List ℕ) WireFault = cond (ltb (front w bytes) least) (Err otherwise) high in
+    let found : Result (ℕ × List ℕ) WireFault = Ok (leading_number w bytes, drop k bytes) in
+    let high : Result (ℕ × List ℕ) WireFault = cond (ltb most (leading_number w bytes)) (Err otherwise) found in
+    let low : Result (ℕ × List ℕ) WireFault = cond (ltb (leading_number w bytes) least) (Err otherwise) high in
     let g1 = guard_ok (ltb (length bytes) k) Short low (n, rest) e in
-    let g2 = guard_ok (ltb (front w bytes) least) otherwise high (n, rest) g1.1 in
-    let g3 = guard_ok (ltb most (front w bytes)) otherwise found (n, rest) g2.1 in
-    let is = ok_is (front w bytes, drop k bytes) (n, rest) g3.1 in
-    let n-is : front w bytes ≡ n = ap (λ (x : ℕ × List ℕ). x.0) is in
-    let least-is : least ≤ front w bytes = ltb-false _ _ g2.0 in
-    let most-is : front w bytes ≤ most = ltb-false _ _ g3.0 in
+    let g2 = guard_ok (ltb (leading_number w bytes) least) otherwise high (n, rest) g1.1 in
+    let g3 = guard_ok (ltb most (leading_number w bytes)) otherwise found (n, rest) g2.1 in
+    let is = ok_is (leading_number w bytes, drop k bytes) (n, rest) g3.1 in
+    let n-is : leading_number w bytes ≡ n = ap (λ (x : ℕ × List ℕ). x.0) is in
+    let least-is : least ≤ leading_number w bytes = ltb-false _ _ g2.0 in
+    let most-is : leading_number w bytes ≤ most = ltb-false _ _ g3.0 in
     record { whole = ltb-false _ _ g1.0; number = n-is; rest_is = ap (λ (x : ℕ × List ℕ). x.1) is; low = omega arith; high = omega arith }
 
 pub number_takes : (w : Width) (wide : IsWide w) (least most : ℕ) (otherwise : WireFault) (bytes : List ℕ) (n : ℕ) (rest : List ℕ)
@@ -100,7 +100,7 @@ pub number_takes : (w : Width) (wide : IsWide w) (least most : ℕ) (otherwise :
 number_takes w wide least most otherwise bytes n rest fits e =
     let k = byte_len w in
     let is = number_read w least most otherwise bytes n rest e in
-    let n-is : front w bytes ≡ n = is.number in
+    let n-is : leading_number w bytes ≡ n = is.number in
     let rest-is : drop k bytes ≡ rest = is.rest_is in
     let long : k ≤ length bytes = is.whole in
     let front-is : to_be_bytes w n ≡ take k bytes = rw (← n-is) (wide.back (take k bytes) (omega (arith, length-take k bytes)) (IsBytes-take k bytes fits)) in (
@@ -110,16 +110,16 @@ number_takes w wide least most otherwise bytes n rest fits e =
 
 -- a whole number from least to most is read
 pub number_whole : (w : Width) (least most : ℕ) (otherwise : WireFault) (bytes : List ℕ)
-    → byte_len w ≤ length bytes → least ≤ front w bytes → front w bytes ≤ most → number_at w least most otherwise bytes ≡ Ok (front w bytes, drop (byte_len w) bytes)
+    → byte_len w ≤ length bytes → least ≤ leading_number w bytes → leading_number w bytes ≤ most → number_at w least most otherwise bytes ≡ Ok (leading_number w bytes, drop (byte_len w) bytes)
 number_whole w least most otherwise bytes long low high =
-    rw (le-ltb (length bytes) (byte_len w) long, le-ltb (front w bytes) least low, le-ltb most (front w bytes) high) refl
+    rw (le-ltb (length bytes) (byte_len w) long, le-ltb (leading_number w bytes) least low, le-ltb most (leading_number w bytes) high) refl
 
 pub number_again : (w : Width) (wide : IsWide w) (least most : ℕ) (otherwise : WireFault) (n : ℕ) (rest : List ℕ)
     → IsNumber w least most n → number_at w least most otherwise (to_be_bytes w n ++ rest) ≡ Ok (n, rest)
 number_again w wide least most otherwise n rest is =
     let len = wide.len n in
     let long : ltb (length (to_be_bytes w n ++ rest)) (byte_len w) ≡ false = le-ltb _ _ (omega (arith, length-append (to_be_bytes w n) rest)) in
-    let front-is : front w (to_be_bytes w n ++ rest) ≡ n = rw (take_at (to_be_bytes w n) rest (byte_len w) len) (wide.again n is.fits) in
+    let front-is : leading_number w (to_be_bytes w n ++ rest) ≡ n = rw (take_at (to_be_bytes w n) rest (byte_len w) len) (wide.again n is.fits) in
     rw (long, front-is, le-ltb n least is.low, le-ltb most n is.high, drop_at (to_be_bytes w n) rest (byte_len w) len) refl
 
 -- a number isn't read exactly where it is at fault
@@ -127,14 +127,14 @@ pub number_fails : (w : Width) (least most : ℕ) (otherwise : WireFault) (bytes
     → number_at w least most otherwise bytes ≡ Err e → IsNumberAtFault w least most otherwise bytes e
 number_fails w least most otherwise bytes e h =
     let k = byte_len w in
-    let found : Result (ℕ × List ℕ) WireFault = Ok (front w bytes, drop k bytes) in
-    let high : Result (ℕ × List ℕ) WireFault = cond (ltb most (front w bytes)) (Err otherwise) found in
-    let low : Result (ℕ × List ℕ) WireFault = cond (ltb (front w bytes) least) (Err otherwise) high in
+    let found : Result (ℕ × List ℕ) WireFault = Ok (leading_number w bytes, drop k bytes) in
+    let high : Result (ℕ × List ℕ) WireFault = cond (ltb most (leading_number w bytes)) (Err otherwise) found in
+    let low : Result (ℕ × List ℕ) WireFault = cond (ltb (leading_number w bytes) least) (Err otherwise) high in
     elim (guard_err (ltb (length bytes) k) Short e low h) [
       | inl g1 ↦ inl (ltb-true _ _ g1.0, g1.1)
-      | inr g1 ↦ elim (guard_err (ltb (front w bytes) least) otherwise e high g1.1) [
+      | inr g1 ↦ elim (guard_err (ltb (leading_number w bytes) least) otherwise e high g1.1) [
         | inl g2 ↦ inr (ltb-false _ _ g1.0, inl (ltb-true _ _ g2.0), g2.1)
-        | inr g2 ↦ elim (guard_err (ltb most (front w bytes)) otherwise e found g2.1) [
+        | inr g2 ↦ elim (guard_err (ltb most (leading_number w bytes)) otherwise e found g2.1) [
           | inl g3 ↦ inr (ltb-false _ _ g1.0, inr (ltb-true _ _ g3.0), g3.1)
           | inr g3 ↦ absurd (apart g3.1)
         ]
@@ -142,15 +142,15 @@ number_fails w least most otherwise bytes e h =
     ]
 
 low_fails : (w : Width) (least most : ℕ) (otherwise : WireFault) (bytes : List ℕ)
-    → byte_len w ≤ length bytes → front w bytes < least → number_at w least most otherwise bytes ≡ Err otherwise
-low_fails w least most otherwise bytes long low = rw (le-ltb (length bytes) (byte_len w) long, lt-ltb (front w bytes) least low) refl
+    → byte_len w ≤ length bytes → leading_number w bytes < least → number_at w least most otherwise bytes ≡ Err otherwise
+low_fails w least most otherwise bytes long low = rw (le-ltb (length bytes) (byte_len w) long, lt-ltb (leading_number w bytes) least low) refl
 
 high_fails : (w : Width) (least most : ℕ) (otherwise : WireFault) (bytes : List ℕ)
-    → byte_len w ≤ length bytes → most < front w bytes → number_at w least most otherwise bytes ≡ Err otherwise
+    → byte_len w ≤ length bytes → most < leading_number w bytes → number_at w least most otherwise bytes ≡ Err otherwise
 high_fails w least most otherwise bytes long high =
-    elim (cases_lt (front w bytes) least) [
+    elim (cases_lt (leading_number w bytes) least) [
       | inl lt ↦ low_fails w least most otherwise bytes long lt
-      | inr le ↦ rw (le-ltb (length bytes) (byte_len w) long, le-ltb (front w bytes) least le, lt-ltb most (front w bytes) high) refl
+      | inr le ↦ rw (le-ltb (length bytes) (byte_len w) long, le-ltb (leading_number w bytes) least le, lt-ltb most (leading_number w bytes) high) refl
     ]
 
 pub number_at_fault : (w : Width) (least most : ℕ) (otherwise : WireFault) (bytes : List ℕ) (e : WireFault)

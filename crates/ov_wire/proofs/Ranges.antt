@@ -1,13 +1,12 @@
 -- Messages within their ranges, one after the other.
 use Rattle.std.proofs.Common.{ℕ, List, [], ◌∷◌, ◌++◌}
 use Rattle.std.specs.Prelude.{map}
-use Rattle.std.specs.List.{AllByRecursion}
-use Rattle.ov_wire.specs.Messages.{AreInRange}
+use Rattle.ov_wire.specs.Messages.{AreInRange, AreSendsInRange}
 use Rattle.ov_wire.specs.declared.message.Message.{Message}
 
 -- each message that is sent has its fields within their ranges
 abbrev pub Ranged : List (ℕ × Message) → Type 0
-Ranged sends = AllByRecursion (λ (s : ℕ × Message). AreInRange s.1) sends
+Ranged sends = AreSendsInRange sends
 
 pub Ranged-append : (xs ys : List (ℕ × Message)) → Ranged xs → Ranged ys → Ranged (xs ++ ys)
 Ranged-append [] ys a b = b

@@ -8,7 +8,7 @@ use Rattle.ov_wire.specs.declared.fault.WireFault.{WireFault}
 use Rattle.ov_wire.specs.declared.fault.WireFault.TheVariants.{Short, BadVersion, BadKind, BadField, Trailing, OutOfMemory}
 use Rattle.ov_wire.specs.Fields.{Value, One}
 use Rattle.ov_wire.specs.Messages.{kinds, fields_of}
-use Rattle.ov_wire.specs.Reading.{◌>>=◌, number_at, bytes_at, values_at, Fails}
+use Rattle.ov_wire.specs.Code.Reading.{◌>>=◌, number_at, bytes_at, values_at, Fails}
 
 -- a step that did not fail has a value
 pub bind_ok : {A B : Type 0} (r : Result A WireFault) (f : A → Result B WireFault) (y : B) → (r >>= f) ≡ Ok y → (x : A) × (r ≡ Ok x) × (f x ≡ Ok y)

@@ -16,24 +16,24 @@ number_of Trailing = 5
 number_of OutOfMemory = 99
 
 -- the number that the bytes begin with
-abbrev pub front : Width → List ℕ → ℕ
-front width bytes = from_be_bytes width (take (byte_len width) bytes)
+abbrev pub leading_number : Width → List ℕ → ℕ
+leading_number width bytes = from_be_bytes width (take (byte_len width) bytes)
 
 -- a number at the front isn't wholly there, or it isn't from least to most
 abbrev pub IsNumberAtFault : Width → ℕ → ℕ → WireFault → List ℕ → WireFault → Type 0
 IsNumberAtFault width least most otherwise bytes fault =
     ((length bytes < byte_len width) × (fault ≡ Short))
-    ⊎ ((byte_len width ≤ length bytes) × ((front width bytes < least) ⊎ (most < front width bytes)) × (fault ≡ otherwise))
+    ⊎ ((byte_len width ≤ length bytes) × ((leading_number width bytes < least) ⊎ (most < leading_number width bytes)) × (fault ≡ otherwise))
 
 -- The field at the front of the bytes is at fault. A count and a length are judged before what they count.
 abbrev pub IsAtFault : Field → List ℕ → WireFault → Type 0
 IsAtFault (Number width least most otherwise) bytes fault = IsNumberAtFault width least most otherwise bytes fault
 IsAtFault Ids bytes fault =
     IsNumberAtFault w8 0 17 BadField bytes fault
-    ⊎ ((1 ≤ length bytes) × (front w8 bytes ≤ 17) × (length bytes < 1 + 4 * front w8 bytes) × (fault ≡ Short))
+    ⊎ ((1 ≤ length bytes) × (leading_number w8 bytes ≤ 17) × (length bytes < 1 + 4 * leading_number w8 bytes) × (fault ≡ Short))
 IsAtFault Payload bytes fault =
     IsNumberAtFault w16 0 1024 BadField bytes fault
-    ⊎ ((2 ≤ length bytes) × (front w16 bytes ≤ 1024) × (length bytes < 2 + front w16 bytes) × (fault ≡ Short))
+    ⊎ ((2 ≤ length bytes) × (leading_number w16 bytes ≤ 1024) × (length bytes < 2 + leading_number w16 bytes) × (fault ≡ Short))
 
 -- The first fault of bytes that are to spell these fields: the first field is at fault, or it is spelled and the first
 -- fault is one of what follows. After the last field nothing may follow.

@@ -2,5 +2,4 @@ pub mod Fields
 pub mod Messages
 pub mod Faults
 pub mod Laws
-pub mod Reading
-pub mod Meaning
+pub mod Code

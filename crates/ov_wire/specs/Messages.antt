@@ -3,6 +3,7 @@
 -- JOINED (3), NEIGHBORREPLY (5) and the bytes are this project's own.
 use Rattle.std.specs.Prelude.{ℕ, ◌-◌, ◌≤◌, Bool, List, [], ◌∷◌, length, slice_index_or, if◌then◌else◌}
 use Rattle.std.specs.Int.{w8, w16, w32}
+use Rattle.std.specs.List.{AllByRecursion}
 use Rattle.ov_wire.specs.declared.fault.WireFault.TheVariants.{BadVersion, BadKind}
 use Rattle.ov_wire.specs.declared.message.Message.{Message}
 use Rattle.ov_wire.specs.declared.message.Body.{Body}
@@ -72,12 +73,24 @@ said Prune = []
 abbrev pub Spelling : Message → List ℕ → Type 0
 Spelling m bytes = Spells (fields_of (kind_of m.body)) (One 1 ∷ One (kind_of m.body) ∷ One m.from ∷ said m.body) bytes
 
--- the time to live is at most 15, and there are at most 17 ids or 1,024 bytes of payload
+-- the greatest time to live of a walk: chosen here
+abbrev pub most_ttl : ℕ
+most_ttl = 15
+
+-- the most ids that one list of a message has: chosen here
+abbrev pub most_ids : ℕ
+most_ids = 17
+
+-- the most bytes of a payload: chosen here
+abbrev pub most_payload : ℕ
+most_payload = 1024
+
+-- the time to live, the number of ids and the length of the payload are within these limits
 abbrev pub IsBodyInRange : Body → Type 0
-IsBodyInRange (ForwardJoin node ttl) = ttl ≤ 15
-IsBodyInRange (Shuffle origin ttl ids) = (ttl ≤ 15) × (length ids ≤ 17)
-IsBodyInRange (ShuffleReply ids) = length ids ≤ 17
-IsBodyInRange (Gossip id round payload) = length payload ≤ 1024
+IsBodyInRange (ForwardJoin node ttl) = ttl ≤ most_ttl
+IsBodyInRange (Shuffle origin ttl ids) = (ttl ≤ most_ttl) × (length ids ≤ most_ids)
+IsBodyInRange (ShuffleReply ids) = length ids ≤ most_ids
+IsBodyInRange (Gossip id round payload) = length payload ≤ most_payload
 IsBodyInRange Join = Unit {0}
 IsBodyInRange Joined = Unit {0}
 IsBodyInRange (Neighbor high) = Unit {0}
@@ -90,6 +103,10 @@ IsBodyInRange Prune = Unit {0}
 -- each field of the message is within its range: the fields that are not named above are so by their types
 abbrev pub AreInRange : Message → Type 0
 AreInRange m = IsBodyInRange m.body
+
+-- each message that is sent is within its ranges; beside each stands its receiver
+abbrev pub AreSendsInRange : List (ℕ × Message) → Type 0
+AreSendsInRange sends = AllByRecursion (λ send. AreInRange send.1) sends
 
 -- the message in which a node says this
 abbrev pub say : ℕ → Body → Message

@@ -23,13 +23,13 @@ pub enum WireFault {
     /// Bytes stand after the last field.
     #[error("bytes follow the message")]
     Trailing,
-    /// A growth was refused.
+    /// Out of memory: an allocation was refused.
     #[error("out of memory")]
     OutOfMemory,
 }
 
 impl WireFault {
-    /// The fault's number: 1 to 5 in the order above, or 99 for want of memory.
+    /// The fault's number: 1 to 5 in the order above, or 99 out of memory.
     pub fn number(&self) -> u32
         ensures { result ≡ number_of self.now }
     {

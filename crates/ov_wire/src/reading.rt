@@ -5,7 +5,7 @@ ghost use Rattle.ov_wire.specs.declared.message.Message.{Message};
 ghost use Rattle.ov_wire.specs.Faults.{FirstFault};
 ghost use Rattle.ov_wire.specs.Fields.{up_to, any, Number, Ids, Payload, One, Many};
 ghost use Rattle.ov_wire.specs.Messages.{own_fields, fields_of, kind_of, said, flag, Spelling, AreInRange};
-ghost use Rattle.ov_wire.specs.Reading.{Reads, Gives, number_at, values_at, ids_in};
+ghost use Rattle.ov_wire.specs.Code.Reading.{Reads, Gives, number_at, values_at, ids_in};
 
 use crate::fault::WireFault;
 use crate::message::{Body, MAX_IDS, MAX_PAYLOAD, MAX_TTL, Message};

@@ -1,5 +1,5 @@
 ghost use Rattle.std.specs.Prelude.{◌≡◌, ◌<◌, ◌+◌, ◌↔◌, [], ◌∷◌, length, IfNone, IfSome};
-ghost use Rattle.ov_ids.specs.Sets.{IsIn};
+ghost use Rattle.ov_ids.specs.Sets.{IsIn, IsSet};
 ghost use Rattle.ov_words.specs.Pick.{AreDrawn};
 
 use crate::Words;
@@ -58,7 +58,8 @@ impl<'a> Draws<'a> {
     /// Picks a member of a set, whose members are handed in ascending: member number `word % size`, counted from 0, where
     /// `word` is the next word. Of the empty set none, and then no word is used. (Chosen here.)
     pub fn pick(&mut self, set: &[NodeId]) -> Option<NodeId>
-        requires { 0 < length self.old }
+        requires words { 0 < length self.old }
+        requires set { IsSet set.now }
         ensures drawn { IfSome result (λ d. AreDrawn (record { from = set.now; member = d } ∷ []) self.old self.new) }
         ensures member { IfSome result (IsIn set.now) }
         ensures one_word { IfSome result (λ _. length self.new + 1 ≡ length self.old) }

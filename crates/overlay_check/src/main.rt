@@ -1,8 +1,8 @@
 //! Reads a certificate file, and says in one line whether it holds.
 #![tactic(auto)]
 
-use ov_certfile::{Sink, Source};
-use ov_check::{JudgeFault, judge_parallel};
+use ov_check::{JudgeFault, ProgramFault, exit_status, input_named, judge_parallel};
+use ov_io::{Sink, Source};
 use std::env::FillError;
 use std::fs::File;
 use std::io;
@@ -15,28 +15,22 @@ use std::thread::Threads;
 const LONGEST_PATH: usize = 4096;
 
 fn main(rt: HostRuntime) -> ExitCode {
-    match run(&rt) {
-        Ok(status) => ExitCode::from(status),
-        Err(fault) => {
-            let _ = eprintln!(rt; "{fault}");
-            ExitCode::from(1)
-        }
+    let answer = run(&rt);
+    if let Err(fault) = &answer {
+        let _ = eprintln!(rt; "{fault}");
     }
+    ExitCode::from(exit_status(&answer))
 }
 
-/// Judges the file that the word names, or standard input, and answers the status. Word 0, the program's own path, is
-/// not looked at.
-fn run<R: Runtime + AllocGlobal + Threads + Sync>(rt: &R) -> Result<u8, JudgeFault> {
-    if has_word(rt, 2) {
-        let _ = eprintln!(rt; "usage: overlay-check [FILE]");
-        return Ok(2);
-    }
+/// Judges the input that the words name. Word 0, the program's own path, is not looked at.
+fn run<R: Runtime + AllocGlobal + Threads + Sync>(rt: &R) -> Result<u8, ProgramFault> {
     let mut room = [0u8; LONGEST_PATH];
-    match rt.arg(1, &mut room) {
-        Ok(length) => judge_named(rt, &room[..length]),
-        Err(FillError::NotPresent) => judge_from(rt, rt.reader()),
-        Err(FillError::TooLong) => Err(JudgeFault::Read),
-    }
+    let length = rt.arg(1, &mut room);
+    let answer = match input_named(length, &room, has_word(rt, 2))? {
+        None => judge_from(rt, rt.reader()),
+        Some(path) => judge_file(rt, path),
+    };
+    Ok(answer?)
 }
 
 /// Whether there is a word at a place, whatever bytes it has.
@@ -44,26 +38,12 @@ fn has_word(rt: &impl Env, place: usize) -> bool {
     !matches!(rt.arg(place, &mut []), Err(FillError::NotPresent))
 }
 
-/// Judges the file of a name; `-` is standard input. A name that is no text names no file that can be opened here.
-fn judge_named<R: Runtime + AllocGlobal + Threads + Sync>(
-    rt: &R,
-    name: &[u8],
-) -> Result<u8, JudgeFault> {
-    match str::from_utf8(name) {
-        Ok("-") => judge_from(rt, rt.reader()),
-        Ok(path) => judge_file(rt, path),
-        Err(_) => Err(JudgeFault::Read),
-    }
-}
-
 fn judge_file<R: Runtime + AllocGlobal + Threads + Sync>(
     rt: &R,
     path: &str,
 ) -> Result<u8, JudgeFault> {
-    match File::open(rt, path) {
-        Ok(file) => judge_from(rt, file),
-        Err(_) => Err(JudgeFault::Read),
-    }
+    let file = File::open(rt, path)?;
+    judge_from(rt, file)
 }
 
 fn judge_from<R: Runtime + AllocGlobal + Threads + Sync>(

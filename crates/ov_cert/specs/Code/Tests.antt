@@ -2,7 +2,8 @@
 use Rattle.std.specs.Prelude.{ℕ, suc, ◌+◌, ◌&&◌, ◌||◌, ◌==◌, nat_lt, not, Bool, true, false, List, [], ◌∷◌, ◌++◌}
 use Rattle.std.specs.Prelude.{length, take, slice_get, if◌then◌else◌, Option, Some, None}
 use Rattle.std.specs.List.{list_all}
-use Rattle.ov_ids.specs.Sets.{has, adding, ascends_after}
+use Rattle.ov_ids.specs.Sets.{has, adding}
+use Rattle.ov_ids.specs.Code.Ascending.{ascends_after}
 use Rattle.ov_graph.specs.Links.{LinkGraph}
 use Rattle.ov_graph.specs.Code.Tests.{are_joined, neighbours_in}
 use Rattle.ov_cert.specs.declared.cert.Cert.{Cert}
@@ -32,10 +33,10 @@ entered used [] = used
 entered used (x ∷ xs) = entered (adding x used) xs
 
 -- the list without its last item
-abbrev pub front : List ℕ → List ℕ
-front [] = []
-front (a ∷ []) = []
-front (a ∷ b ∷ rest) = a ∷ front (b ∷ rest)
+abbrev pub without_last : List ℕ → List ℕ
+without_last [] = []
+without_last (a ∷ []) = []
+without_last (a ∷ b ∷ rest) = a ∷ without_last (b ∷ rest)
 
 -- the last item of a list, or what stood before it
 abbrev pub last_of : ℕ → List ℕ → ℕ
@@ -45,14 +46,14 @@ last_of a (b ∷ rest) = last_of b rest
 -- the nodes of a path from i to j but its ends
 abbrev pub inner : List ℕ → List ℕ
 inner [] = []
-inner (a ∷ rest) = front rest
+inner (a ∷ rest) = without_last rest
 
 -- whether the path goes from i to j, over nodes that are not used
 abbrev pub is_pair_path : LinkGraph → List ℕ → ℕ → ℕ → List ℕ → Bool
 is_pair_path g used i j [] = false
 is_pair_path g used i j (a ∷ []) = false
 is_pair_path g used i j (a ∷ b ∷ rest) = (a == i) && ((last_of b rest == j) &&
-    (chained g (a ∷ b ∷ rest) && fresh g used (front (b ∷ rest))))
+    (chained g (a ∷ b ∷ rest) && fresh g used (without_last (b ∷ rest))))
 
 -- whether each path does, none over a node of another
 abbrev pub are_pair_paths : LinkGraph → List ℕ → ℕ → ℕ → List (List ℕ) → Bool

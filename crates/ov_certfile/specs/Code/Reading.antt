@@ -1,4 +1,4 @@
--- What the functions that read a file answer.
+-- What the functions that read a file return.
 use Rattle.std.specs.Prelude.{◌≡◌, ℕ, true, false, List, [], ◌∷◌, codes, is_some, Option, Some, None, Result, Ok, Err}
 use Rattle.serde_json.specs.Data.{Data}
 use Rattle.serde_json.specs.Find.{as_object}
@@ -8,7 +8,7 @@ use Rattle.ov_cert.specs.declared.cert.Cert.{Cert}
 use Rattle.ov_certfile.specs.Keys.{has_all, has_no_other, said}
 use Rattle.ov_certfile.specs.Forms.{count_in, moment_in, ids_in, links_in}
 use Rattle.ov_certfile.specs.Kinds.{Key, key, version_in, verdict_in, version_keys, verdict_keys, keys_of, names_of}
-use Rattle.ov_certfile.specs.Demands.{has_forms, GraphJudged}
+use Rattle.ov_certfile.specs.Demands.{has_forms, FileGraphJudged}
 use Rattle.ov_certfile.specs.Says.{SaysGraph, SaysGroup, SaysCert}
 use Rattle.ov_certfile.specs.declared.fault.FileFault.{FileFault}
 use Rattle.ov_certfile.specs.declared.fault.FileFault.TheVariants.{NotJson, MissingKey, UnknownKey, BadValue}
@@ -63,7 +63,7 @@ pub record HasGraphFault (version : Version) (keys : List Key) (d : Data) (fault
   pub forms : has_forms keys d ≡ true
   pub given : LinkGraph
   pub graph : SaysGraph d given
-  pub judged : GraphJudged version given (Some fault)
+  pub judged : FileGraphJudged version given (Some fault)
 
 -- a key has no value of its form; or it is out of memory
 abbrev pub LacksForm : List Key → Data → FileFault → Type 0
@@ -84,14 +84,14 @@ pub record IsGraphed (version : Version) (d : Data) (nodes : List ℕ) (g : Link
   pub forms : has_forms graph_keys d ≡ true
   pub graph : SaysGraph d g
   pub same : nodes ≡ g.nodes
-  pub judged : GraphJudged version g None
+  pub judged : FileGraphJudged version g None
 
 -- the graph, its moment and its group
 pub record IsDated (version : Version) (d : Data) (moment : ℕ) (g : LinkGraph) (group : List ℕ) : Type 0 where
   pub forms : has_forms (dated_keys version) d ≡ true
   pub moment_said : said moment_in (codes "moment") d ≡ Some moment
   pub graph : SaysGraph d g
-  pub judged : GraphJudged version g None
+  pub judged : FileGraphJudged version g None
   pub group_said : SaysGroup d version g group
 
 -- the group of version 2; version 1 names none
@@ -102,7 +102,7 @@ IsNamed Two d named = (said ids_in (codes "group") d ≡ named) × (is_some name
 -- the first fault of nodes and links as a graph; or it is out of memory
 abbrev pub IsGraphFault : Version → LinkGraph → FileFault → Type 0
 IsGraphFault version g OutOfMemory = Unit {0}
-IsGraphFault version g (Graph f) = GraphJudged version g (Some f)
+IsGraphFault version g (Graph f) = FileGraphJudged version g (Some f)
 IsGraphFault version g NotJson = ⊥
 IsGraphFault version g MissingKey = ⊥
 IsGraphFault version g UnknownKey = ⊥

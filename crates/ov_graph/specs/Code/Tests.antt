@@ -2,7 +2,8 @@
 use Rattle.std.specs.Prelude.{ℕ, ◌&&◌, ◌||◌, ◌==◌, Bool, true, List, [], ◌∷◌, length, filter, nat_lt, if◌then◌else◌}
 use Rattle.std.specs.Prelude.{Option, Some, None}
 use Rattle.std.specs.List.{list_any}
-use Rattle.ov_ids.specs.Sets.{has, ascends_after}
+use Rattle.ov_ids.specs.Sets.{has}
+use Rattle.ov_ids.specs.Code.Ascending.{ascends_after}
 use Rattle.ov_graph.specs.Links.{most_nodes}
 use Rattle.ov_graph.specs.declared.fault.GraphFault.{GraphFault}
 use Rattle.ov_graph.specs.declared.fault.GraphFault.TheVariants.{TooManyNodes, Unordered, BadLink}

@@ -4,6 +4,6 @@ use Rattle.std.specs.Str.Lines.{lines}
 use Rattle.ov_run.specs.Lines.{kept_from}
 use Rattle.ov_run.specs.declared.kept_lines.KeptLines.{KeptLines}
 
--- those of them that are not skipped, each with its number
+-- those of the lines left that are not skipped, each with its number
 unfoldable pub lines_left : KeptLines → List (ℕ × List ℕ)
 lines_left l = kept_from (l.count + 1) (lines l.rest.now)

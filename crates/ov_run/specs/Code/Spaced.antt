@@ -5,10 +5,11 @@ use Rattle.std.specs.List.{position_or_len, before_first, after_first}
 use Rattle.std.specs.Cmp.Lexicographic.{pointwise}
 use Rattle.ov_run.specs.Lines.{is_space, place_or_end, without_spaces, number_within, ids_of}
 
+-- the byte of a line feed
 abbrev pub is_feed : ℕ → Bool
 is_feed b = nat_eq b 10
 
--- the line without a carriage return at its end, of which one is dropped
+-- the line without one carriage return at its end, if it ends with one
 unfoldable pub without_return : List ℕ → List ℕ
 without_return line =
     if pointwise nat_eq (drop (length line - 1) line) (13 ∷ []) then take (length line - 1) line else line
@@ -21,11 +22,11 @@ first_line bytes =
     then (without_return (before_first is_feed bytes), after_first is_feed bytes)
     else (bytes, [])
 
--- the bytes up to the first space, and what is left from there on
+-- the bytes up to the first space, and those from there on
 abbrev pub up_to_space : List ℕ → List ℕ × List ℕ
 up_to_space text = (take (place_or_end is_space text) text, drop (place_or_end is_space text) text)
 
--- the first word, and what is left behind it; of spaces alone none
+-- the first word, and what is left behind it; none where there are only spaces
 unfoldable pub first_word : List ℕ → Option (List ℕ × List ℕ)
 first_word text = if length (without_spaces text) == 0 then None else Some (up_to_space (without_spaces text))
 

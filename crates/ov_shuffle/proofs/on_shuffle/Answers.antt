@@ -1,7 +1,7 @@
 use Rattle.std.proofs.Common.{◌≡◌, ◌++◌, ◌∷◌, [], length, eqb, false, true, refl, sym, ◌∙◌, ◌≤◌, ◌+◌, arith}
 use Rattle.ov_ids.specs.Sets.{without}
 use Rattle.ov_words.proofs.PickLemmas.{AreDrawn-append}
-use Rattle.ov_views.specs.Shuffling.{walks_on}
+use Rattle.ov_views.specs.ShuffleRows.{walks_on}
 use Rattle.ov_shuffle.proofs.Counting.{shuffled_words}
 use Rattle.ov_shuffle.proofs.WalkLemmas.{walks, ends}
 use Rattle.ov_shuffle.proofs.on_shuffle.Goals as goal
@@ -11,14 +11,24 @@ returns-then-walks_on-clause-allowed c =
     let v = c.args.views.now in
     let other : eqb c.args.from v.me ≡ false = rw (← c.me-me.ensures.value) (sym c.eq.ensures ∙ c.if-eq.false) in
     let on : walks_on v c.args.ttl ≡ true = sym c.walks_on.ensures.value ∙ c.if-walks_on.true in
-    let set : c.as_slice.result.now ≡ without c.args.from v.active = c.as_slice.ensures.value ∙ c.all_but.ensures.value in
+    let set : c.as_slice.result.now ≡ without c.args.from v.active = c.as_slice.ensures.value
+    ∙ c.all_but.ensures.value in
     let h = rw set at c.in-Some.ensures.member in
     let drawn = rw set at c.in-Some.ensures.drawn in (
       record { from = without c.args.from v.active; member = c.in-Some.to } ∷ [],
       drawn,
       (λ node. (
         (refl, refl),
-        rw (c.send.ensures.sends, c.send.ensures.changes, c.in_ok-moves.ensures.sends, c.in_ok-moves.ensures.changes, c.me-me.ensures.value, c.new.ensures, c.append.ensures.items, c.in_ok-list.ensures.items)
+        rw (
+          c.send.ensures.sends,
+          c.send.ensures.changes,
+          c.in_ok-moves.ensures.sends,
+          c.in_ok-moves.ensures.changes,
+          c.me-me.ensures.value,
+          c.new.ensures,
+          c.append.ensures.items,
+          c.in_ok-list.ensures.items,
+        )
             (walks v c.args.from c.args.origin c.args.ttl c.args.ids.now c.in-Some.to other on h),
       )),
     )
@@ -27,7 +37,8 @@ pub returns-clause-allowed : goal.returns-clause-allowed
 returns-clause-allowed c =
     let v = c.args.views.now in
     let other : eqb c.args.from v.me ≡ false = rw (← c.me-me.ensures.value) (sym c.eq.ensures ∙ c.if-eq.false) in
-    let foreign : eqb c.args.origin v.me ≡ false = rw (← c.me-me.ensures.value) (sym c.eq-2.ensures ∙ c.if-eq-2.false) in
+    let foreign : eqb c.args.origin v.me ≡ false =
+    rw (← c.me-me.ensures.value) (sym c.eq-2.ensures ∙ c.if-eq-2.false) in
     let on : walks_on v c.args.ttl ≡ false = sym c.walks_on.ensures.value ∙ c.if-walks_on.false in
     let those = c.sample-those.result in
     let s = c.sample-those.ensures.drawn in
@@ -36,7 +47,17 @@ returns-clause-allowed c =
       AreDrawn-append s.0 g.0 _ _ _ s.1 g.1,
       (λ node. (
         (refl, refl),
-        rw (c.send-2.ensures.sends, c.send-2.ensures.changes, c.in_ok-moves.ensures.sends, c.in_ok-moves.ensures.changes, c.me-me.ensures.value, c.new-2.ensures, c.append-2.ensures.items, c.in_ok-list.ensures.items, c.as_slice-2.ensures.value)
+        rw (
+          c.send-2.ensures.sends,
+          c.send-2.ensures.changes,
+          c.in_ok-moves.ensures.sends,
+          c.in_ok-moves.ensures.changes,
+          c.me-me.ensures.value,
+          c.new-2.ensures,
+          c.append-2.ensures.items,
+          c.in_ok-list.ensures.items,
+          c.as_slice-2.ensures.value,
+        )
             (ends v _ c.args.from c.args.origin c.args.ttl c.args.ids.now those s.0 g.0 other on foreign s.2 g.2),
       )),
     )

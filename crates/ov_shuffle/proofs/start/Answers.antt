@@ -1,5 +1,5 @@
 use Rattle.std.proofs.Common.{◌≡◌, ◌++◌, ◌∷◌, [], ap, List, refl, ◌∙◌}
-use Rattle.ov_ids.specs.Limits.{Limits}
+use Rattle.ov_ids.specs.ParamsState.{ParamsState}
 use Rattle.ov_words.specs.Pick.{Choice}
 use Rattle.ov_words.proofs.PickLemmas.{AreDrawn-append}
 use Rattle.ov_shuffle.proofs.WalkLemmas.{starts}
@@ -11,15 +11,27 @@ returns-clause-allowed c =
     let set : c.active.result.now ≡ v.active = c.active.ensures.value in
     let h = rw set at c.in-Some.ensures.member in
     let picked = rw set at c.in-Some.ensures.drawn in
-    let ka : c.ka.result ≡ v.params.ka = c.ka.ensures.value ∙ ap (λ (p : Limits). p.ka) c.params-params.ensures.value in
-    let kp : c.kp.result ≡ v.params.kp = c.kp.ensures.value ∙ ap (λ (p : Limits). p.kp) c.params-params.ensures.value in
-    let ttl : c.shuffle_ttl.result ≡ v.params.shuffle_ttl = c.shuffle_ttl.ensures.value ∙ ap (λ (p : Limits). p.shuffle_ttl) c.params-params.ensures.value in
+    let ka : c.ka.result ≡ v.params.ka = c.ka.ensures.value
+    ∙ ap (λ (p : ParamsState). p.ka) c.params-params.ensures.value in
+    let kp : c.kp.result ≡ v.params.kp = c.kp.ensures.value
+    ∙ ap (λ (p : ParamsState). p.kp) c.params-params.ensures.value in
+    let ttl : c.shuffle_ttl.result ≡ v.params.shuffle_ttl = c.shuffle_ttl.ensures.value
+    ∙ ap (λ (p : ParamsState). p.shuffle_ttl) c.params-params.ensures.value in
     let near = rw ka at c.sample-near.ensures.drawn in
     let far = rw kp at c.sample-far.ensures.drawn in
     let one : List Choice = record { from = v.active; member = c.in-Some.to } ∷ [] in
     let kept : c.keep.new.self ≡ v.me ∷ (c.sample-near.result ++ c.sample-far.result) =
-    rw (c.keep.ensures, c.write.ensures, c.as_slice.ensures.value, c.as_slice-2.ensures.value, c.me-me.ensures.value) refl in
-    let listed : c.new.result ≡ c.keep.new.self = rw (c.new.ensures, c.write-2.ensures, c.as_slice-3.ensures.value, c.as_slice-4.ensures.value, c.me-me.ensures.value, kept) refl in (
+    rw (c.keep.ensures, c.write.ensures, c.as_slice.ensures.value, c.as_slice-2.ensures.value, c.me-me.ensures.value)
+    refl in
+    let listed : c.new.result ≡ c.keep.new.self =
+    rw (
+      c.new.ensures,
+      c.write-2.ensures,
+      c.as_slice-3.ensures.value,
+      c.as_slice-4.ensures.value,
+      c.me-me.ensures.value,
+      kept,
+    ) refl in (
       one ++ (near.0 ++ far.0),
       AreDrawn-append one (near.0 ++ far.0) _ _ _ picked (AreDrawn-append near.0 far.0 _ _ _ near.1 far.1),
       (λ node. (
@@ -27,6 +39,7 @@ returns-clause-allowed c =
         refl,
         rw (c.send.ensures.changes, c.in_ok-moves.ensures.changes) refl,
         rw (c.send.ensures.sends, c.in_ok-moves.ensures.sends, listed, ttl, c.me-me.ensures.value)
-            (starts v c.args.sent.now c.in-Some.to near.0 far.0 c.sample-near.result c.sample-far.result c.keep.new.self h near.2 far.2 kept),
+            (starts v c.args.sent.now c.in-Some.to near.0 far.0 c.sample-near.result c.sample-far.result
+            c.keep.new.self h near.2 far.2 kept),
       )),
     )

@@ -1,20 +1,20 @@
-//! The words of the command line, and the words that a seed gives.
+//! The arguments of the command line, and the random words that a seed gives.
 use ov_ids::NodeId;
-use ov_run::{Wanted, WordsFault, draw, read_words};
+use ov_run::{ArgumentsFault, Request, draw, read_arguments};
 use ov_words::Words;
 use std::alloc::Global;
 use std::process::Abort;
 use std::test::Fail;
 
-/// What the words of this line, one space between them, ask for. The empty line has no word.
-fn asked(alloc: Global, line: &str) -> Result<Result<Wanted, WordsFault>, Fail> {
-    let mut words = Vec::new(alloc);
+/// What the arguments of this line, one space between them, ask for. The empty line has no argument.
+fn asked(alloc: Global, line: &str) -> Result<Result<Request, ArgumentsFault>, Fail> {
+    let mut arguments = Vec::new(alloc);
     if !line.is_empty() {
-        for word in line.split(' ') {
-            words.push(String::from_str(alloc, word)?)?;
+        for argument in line.split(' ') {
+            arguments.push(String::from_str(alloc, argument)?)?;
         }
     }
-    Ok(read_words(alloc, words.as_slice()))
+    Ok(read_arguments(alloc, arguments.as_slice()))
 }
 
 fn file(alloc: Global, name: &str) -> Result<Option<String>, Fail> {
@@ -22,25 +22,25 @@ fn file(alloc: Global, name: &str) -> Result<Option<String>, Fail> {
 }
 
 /// The line asks for this.
-fn asks(alloc: Global, line: &str, expected: &Wanted) -> Result<bool, Fail> {
+fn asks(alloc: Global, line: &str, expected: &Request) -> Result<bool, Fail> {
     Ok(match asked(alloc, line)? {
-        Ok(wanted) => wanted == *expected,
+        Ok(request) => request == *expected,
         Err(_) => false,
     })
 }
 
 fn is_run(rt: &impl Abort, alloc: Global, line: &str, name: &str) -> Result<(), Fail> {
     let file = file(alloc, name)?;
-    assert!(rt; asks(alloc, line, &Wanted::Run { file })?, "at {line}");
+    assert!(rt; asks(alloc, line, &Request::Run { file })?, "at {line}");
     Ok(())
 }
 
 #[test]
-fn words_that_ask_for_a_run(rt: HostRuntime) -> Result<(), Fail> {
+fn arguments_that_ask_for_a_run(rt: HostRuntime) -> Result<(), Fail> {
     let alloc = rt.alloc();
     for line in ["", "run", "run -"] {
         assert!(rt;
-            asks(alloc, line, &Wanted::Run { file: None })?,
+            asks(alloc, line, &Request::Run { file: None })?,
             "at {line}"
         );
     }
@@ -51,7 +51,7 @@ fn words_that_ask_for_a_run(rt: HostRuntime) -> Result<(), Fail> {
     is_run(&rt, alloc, "run \u{e4}/g.txt", "\u{e4}/g.txt")
 }
 
-/// Words that ask for an analysis of the file g, the ids of the group if one is given, and whether the certificate and
+/// Arguments that ask for an analysis of the file g, the ids of the group if one is given, and whether the certificate and
 /// the progress are asked for.
 static ANALYSES: [(&str, &[u32], bool, bool); 11] = [
     ("analyse g", &[], false, false),
@@ -102,7 +102,7 @@ fn asks_for_g(
     certificate: bool,
     progress: bool,
 ) -> Result<bool, Fail> {
-    let expected = Wanted::Analyse {
+    let expected = Request::Analyse {
         file: file(alloc, "g")?,
         group: group_of(alloc, numbers)?,
         certificate,
@@ -113,7 +113,7 @@ fn asks_for_g(
 
 /// The line asks for an analysis for the group of 9 of what is read.
 fn asks_for_nine(alloc: Global, line: &str) -> Result<bool, Fail> {
-    let expected = Wanted::Analyse {
+    let expected = Request::Analyse {
         file: None,
         group: group_of(alloc, &[9])?,
         certificate: false,
@@ -123,7 +123,7 @@ fn asks_for_nine(alloc: Global, line: &str) -> Result<bool, Fail> {
 }
 
 #[test]
-fn words_that_ask_for_an_analysis(rt: HostRuntime) -> Result<(), Fail> {
+fn arguments_that_ask_for_an_analysis(rt: HostRuntime) -> Result<(), Fail> {
     let alloc = rt.alloc();
     for (line, numbers, certificate, progress) in &ANALYSES {
         assert!(rt;
@@ -137,7 +137,7 @@ fn words_that_ask_for_an_analysis(rt: HostRuntime) -> Result<(), Fail> {
     Ok(())
 }
 
-/// Words that are no words of the command, or ask for help.
+/// Arguments that are none of the command, or ask for help.
 static REFUSED: [&str; 54] = [
     "fly",
     "-",
@@ -195,29 +195,29 @@ static REFUSED: [&str; 54] = [
     "analyse g --help",
 ];
 
-/// The fault of the line's words.
-fn fault_of(alloc: Global, line: &str) -> Result<Option<WordsFault>, Fail> {
+/// The fault of the arguments of a line.
+fn fault_of(alloc: Global, line: &str) -> Result<Option<ArgumentsFault>, Fail> {
     Ok(asked(alloc, line)?.err())
 }
 
 #[test]
-fn words_that_are_refused(rt: HostRuntime) -> Result<(), Fail> {
+fn arguments_that_are_refused(rt: HostRuntime) -> Result<(), Fail> {
     for line in &REFUSED {
         assert!(rt;
-            fault_of(rt.alloc(), line)? == Some(WordsFault::Words),
+            fault_of(rt.alloc(), line)? == Some(ArgumentsFault::BadArguments),
             "at {line}"
         );
     }
     Ok(())
 }
 
-static SHOWN: [(WordsFault, u32, &str); 2] = [
-    (WordsFault::Words, 73, "refused 73"),
-    (WordsFault::OutOfMemory, 99, "refused 99"),
+static SHOWN: [(ArgumentsFault, u32, &str); 2] = [
+    (ArgumentsFault::BadArguments, 73, "refused 73"),
+    (ArgumentsFault::OutOfMemory, 99, "refused 99"),
 ];
 
 #[test]
-fn faults_of_words_have_their_numbers(rt: HostRuntime) -> Result<(), Fail> {
+fn faults_of_arguments_have_their_numbers(rt: HostRuntime) -> Result<(), Fail> {
     for (fault, number, text) in &SHOWN {
         let shown = fault.to_string(rt.alloc())?;
         assert!(rt;

@@ -1,29 +1,40 @@
-//! What a run prints where memory is wanted.
+//! What a run prints where an allocation is refused.
 use super::runs::{TWO_JOIN, TWO_JOIN_PRINTS};
-use ov_certfile::{Sink, Source};
+use ov_io::{Sink, Source};
 use ov_run::{RunFault, run};
 use std::alloc::Global;
 use std::test::Fail;
 
-/// What `TWO_JOIN` prints where one of its events is refused for want of memory: each text is that of the scenario without this
-/// line, from the first line to the last, with `refused 99` in its place.
-static ONE_REFUSED: [&str; 6] = [
-    "refused 99\nrefused 10\nrefused 14\nentry 1\nrefused 14\nentry 2\n",
-    "entry 1 born 1\nrefused 99\nrefused 14\nentry 2\nrefused 14\nentry 3\n",
-    "entry 1 born 1\nentry 2 born 2\nrefused 99\nentry 3\nentry 4 up 1 2\nentry 5\n",
-    "entry 1 born 1\nentry 2 born 2\nentry 3 up 1 2\nrefused 99\nentry 4 up 2 1\nentry 5\n",
-    "entry 1 born 1\nentry 2 born 2\nentry 3 up 1 2\nentry 4\nrefused 99\nentry 5\n",
-    "entry 1 born 1\nentry 2 born 2\nentry 3 up 1 2\nentry 4\nentry 5 up 2 1\nrefused 99\n",
-];
-
-fn is_one_refused(written: &[u8]) -> bool {
-    for text in &ONE_REFUSED {
-        if text.as_bytes() == written {
-            return true;
-        }
-    }
-    false
+/// A scenario, all that it prints, and what it prints where one of its lines is refused out of memory: that of the
+/// scenario without this line, with `refused 99` in its place, from the first line to the last.
+struct Story {
+    scenario: &'static str,
+    prints: &'static str,
+    one_refused: &'static [&'static str],
 }
+
+static TWO_NODES_JOIN: Story = Story {
+    scenario: TWO_JOIN,
+    prints: TWO_JOIN_PRINTS,
+    one_refused: &[
+        "refused 99\nrefused 10\nrefused 14\nentry 1\nrefused 14\nentry 2\n",
+        "entry 1 born 1\nrefused 99\nrefused 14\nentry 2\nrefused 14\nentry 3\n",
+        "entry 1 born 1\nentry 2 born 2\nrefused 99\nentry 3\nentry 4 up 1 2\nentry 5\n",
+        "entry 1 born 1\nentry 2 born 2\nentry 3 up 1 2\nrefused 99\nentry 4 up 2 1\nentry 5\n",
+        "entry 1 born 1\nentry 2 born 2\nentry 3 up 1 2\nentry 4\nrefused 99\nentry 5\n",
+        "entry 1 born 1\nentry 2 born 2\nentry 3 up 1 2\nentry 4\nentry 5 up 2 1\nrefused 99\n",
+    ],
+};
+
+static ONE_NODE_IS_ANALYSED: Story = Story {
+    scenario: "boot 1\nsnapshot\nanalyse 2\nshow 1\n",
+    prints: "entry 1 born 1\nentry 2\nreport 2 linked k 0\nnode 1 active - passive - eager - lazy -\n",
+    one_refused: &[
+        "refused 99\nentry 1\nrefused 50\nrefused 10\n",
+        "entry 1 born 1\nrefused 99\nrefused 50\nnode 1 active - passive - eager - lazy -\n",
+        "entry 1 born 1\nentry 2\nrefused 99\nnode 1 active - passive - eager - lazy -\n",
+    ],
+};
 
 /// What a run answered, and what it wrote.
 #[derive(Drop)]
@@ -32,9 +43,9 @@ struct Outcome {
     written: Vec<u8>,
 }
 
-/// Runs `TWO_JOIN` with a writer that has room.
-fn play_two_join(alloc: Global) -> Result<Outcome, Fail> {
-    let mut source = Source::new(TWO_JOIN.as_bytes());
+/// Runs a scenario with a writer that has room.
+fn outcome_of(alloc: Global, story: &Story) -> Result<Outcome, Fail> {
+    let mut source = Source::new(story.scenario.as_bytes());
     let mut sink = Sink::new(Vec::with_capacity(alloc, 256)?);
     let answer = run(alloc, &mut source, &mut sink);
     Ok(Outcome {
@@ -45,32 +56,67 @@ fn play_two_join(alloc: Global) -> Result<Outcome, Fail> {
 
 impl Outcome {
     /// All is printed.
-    fn is_whole(&self) -> bool {
-        self.answer == Ok(0) && self.written.as_slice() == TWO_JOIN_PRINTS.as_bytes()
+    fn is_whole(&self, story: &Story) -> bool {
+        self.answer == Ok(0) && self.written.as_slice() == story.prints.as_bytes()
     }
 
-    /// One event was refused, and all else is as without it.
-    fn has_one_refused(&self) -> bool {
-        self.answer == Ok(0) && is_one_refused(&self.written)
+    /// One line was refused out of memory, and all else is as without it.
+    fn has_refused(&self, story: &Story) -> bool {
+        if self.answer != Ok(0) {
+            return false;
+        }
+        for text in story.one_refused {
+            if text.as_bytes() == self.written.as_slice() {
+                return true;
+            }
+        }
+        false
     }
 
-    /// The run ended in want of memory after the first lines of what it prints, or before any.
-    fn is_cut_off(&self) -> bool {
+    /// The run ended out of memory after the first lines of what it prints, or before any.
+    fn is_cut_off(&self, story: &Story) -> bool {
         let written = self.written.as_slice();
         let ends_a_line = written.is_empty() || written.ends_with(b"\n");
         self.answer == Err(RunFault::OutOfMemory)
             && ends_a_line
-            && TWO_JOIN_PRINTS.as_bytes().starts_with(written)
+            && story.prints.as_bytes().starts_with(written)
     }
 }
 
-/// Where memory is wanted in a run, one event is refused or the run is cut off. It prints all when it is made once more.
+/// What came of a refused allocation, as `bin/refuse-allocations` counts it.
+fn told(outcome: &Outcome, story: &Story) -> &'static str {
+    if outcome.has_refused(story) {
+        return "one line refused 99";
+    }
+    if outcome.is_cut_off(story) {
+        return "ended out of memory";
+    }
+    "neither"
+}
+
+/// Where an allocation is refused in a run, one event is refused and all else is as without it, or the run is cut off.
+/// It prints all when it is made once more.
 #[test]
-fn want_of_memory_refuses_one_event_or_ends_the_run(rt: HostRuntime) -> Result<(), Fail> {
-    let first = play_two_join(rt.alloc())?;
-    if !first.is_whole() {
-        assert!(rt; first.has_one_refused() || first.is_cut_off());
-        assert!(rt; play_two_join(rt.alloc())?.is_whole());
+fn out_of_memory_refuses_one_event_or_ends_the_run(rt: HostRuntime) -> Result<(), Fail> {
+    let first = outcome_of(rt.alloc(), &TWO_NODES_JOIN)?;
+    if !first.is_whole(&TWO_NODES_JOIN) {
+        let told = told(&first, &TWO_NODES_JOIN);
+        let _ = println!(rt; "seen: join: {told}");
+        assert!(rt; told != "neither");
+        assert!(rt; outcome_of(rt.alloc(), &TWO_NODES_JOIN)?.is_whole(&TWO_NODES_JOIN));
+    }
+    Ok(())
+}
+
+/// The same of a scenario with an analysis.
+#[test]
+fn out_of_memory_refuses_an_analysis_or_ends_the_run(rt: HostRuntime) -> Result<(), Fail> {
+    let first = outcome_of(rt.alloc(), &ONE_NODE_IS_ANALYSED)?;
+    if !first.is_whole(&ONE_NODE_IS_ANALYSED) {
+        let told = told(&first, &ONE_NODE_IS_ANALYSED);
+        let _ = println!(rt; "seen: analyse: {told}");
+        assert!(rt; told != "neither");
+        assert!(rt; outcome_of(rt.alloc(), &ONE_NODE_IS_ANALYSED)?.is_whole(&ONE_NODE_IS_ANALYSED));
     }
     Ok(())
 }

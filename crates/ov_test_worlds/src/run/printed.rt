@@ -69,11 +69,10 @@ fn a_delivery_is_printed_last(rt: HostRuntime) -> Result<(), Fail> {
 }
 
 #[test]
-fn refusals_are_printed_by_their_numbers(rt: HostRuntime) -> Result<(), Fail> {
+fn refusals_are_printed_by_their_numbers(rt: HostRuntime) {
     for (number, line) in [(14, "refused 14\n"), (99, "refused 99\n")] {
-        assert_eq!(rt; refused_line(rt.alloc(), number)?.as_str(), line);
+        assert_eq!(rt; refused_line(number).as_str(), line);
     }
-    Ok(())
 }
 
 /// Node 1 of at most two active members.

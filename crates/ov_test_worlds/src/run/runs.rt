@@ -1,5 +1,5 @@
 //! What scenarios print, and what devices that fail come to.
-use ov_certfile::{Sink, Source};
+use ov_io::{Sink, Source};
 use ov_run::{RunFault, run};
 use ov_test_kit::Slow;
 use std::alloc::Global;

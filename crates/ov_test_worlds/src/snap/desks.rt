@@ -3,7 +3,7 @@ use super::{join, new_core, step, two_join};
 use ov_cert::Cert;
 use ov_ids::NodeId;
 use ov_net::{Event, NetFault};
-use ov_snap::{BookFault, Core, CoreStep, run_core};
+use ov_snap::{Core, CoreFault, CoreStep, run_core};
 use ov_test_kit::{ids, sized, words};
 use std::alloc::Global;
 use std::process::Abort;
@@ -19,7 +19,7 @@ enum Turn {
 }
 
 /// What the turn answers; 0 where it answers nothing.
-fn takes(core: &mut Core, turn: Turn) -> Result<u64, BookFault> {
+fn takes(core: &mut Core, turn: Turn) -> Result<u64, CoreFault> {
     match turn {
         Turn::Claim(desk, worker) => core.claim(desk, worker),
         Turn::Look(desk, worker) => core.look(desk, worker),
@@ -36,21 +36,21 @@ fn takes(core: &mut Core, turn: Turn) -> Result<u64, BookFault> {
 
 /// The turns of two workers at a desk with one piece: nodes 1 and 2, of whom only one holds the other. Worker 0 claims
 /// piece 0, and worker 1 finds none left. The piece comes to a cut of nobody.
-static TURNS: [(Turn, Result<u64, BookFault>); 14] = [
-    (Turn::Claim(1, 0), Err(BookFault::NoSuchDesk)),
-    (Turn::Claim(0, 2), Err(BookFault::NoSuchWorker)),
-    (Turn::Look(0, 0), Err(BookFault::WrongTurn)),
+static TURNS: [(Turn, Result<u64, CoreFault>); 14] = [
+    (Turn::Claim(1, 0), Err(CoreFault::NoSuchDesk)),
+    (Turn::Claim(0, 2), Err(CoreFault::NoSuchWorker)),
+    (Turn::Look(0, 0), Err(CoreFault::WrongTurn)),
     (Turn::Claim(0, 0), Ok(0)),
-    (Turn::Claim(0, 0), Err(BookFault::WrongTurn)),
+    (Turn::Claim(0, 0), Err(CoreFault::WrongTurn)),
     (Turn::Claim(0, 1), Ok(1)),
-    (Turn::Settle(0, 1), Err(BookFault::WrongTurn)),
-    (Turn::File(0), Err(BookFault::NotEnded)),
+    (Turn::Settle(0, 1), Err(CoreFault::WrongTurn)),
+    (Turn::File(0), Err(CoreFault::NotEnded)),
     (Turn::Look(0, 0), Ok(1)),
-    (Turn::Look(0, 0), Err(BookFault::WrongTurn)),
+    (Turn::Look(0, 0), Err(CoreFault::WrongTurn)),
     (Turn::Settle(0, 0), Ok(0)),
     (Turn::Claim(0, 0), Ok(2)),
     (Turn::File(0), Ok(0)),
-    (Turn::File(0), Err(BookFault::AlreadyFiled)),
+    (Turn::File(0), Err(CoreFault::AlreadyFiled)),
 ];
 
 /// The report of this moment says that so many crashes split the overlay, and part these two nodes.
@@ -71,7 +71,7 @@ fn least_and_total(core: &Core) -> Option<(u64, u64)> {
 }
 
 /// Opens a desk of two workers, who take these turns at it.
-fn work(rt: &impl Abort, core: &mut Core, moment: u32, turns: &[(Turn, Result<u64, BookFault>)]) {
+fn work(rt: &impl Abort, core: &mut Core, moment: u32, turns: &[(Turn, Result<u64, CoreFault>)]) {
     assert_eq!(rt; core.open_desk(moment, 2), Ok(0));
     for (turn, answer) in turns {
         assert_eq!(rt; takes(core, *turn), *answer, "at {turn:?}");
@@ -89,14 +89,14 @@ fn workers_take_turns_at_a_desk(rt: HostRuntime) -> Result<(), Fail> {
 }
 
 /// Three nodes that nobody links have four pieces. Piece 0 fails, so both workers skip what they have.
-static SKIPS: [(Turn, Result<u64, BookFault>); 10] = [
+static SKIPS: [(Turn, Result<u64, CoreFault>); 10] = [
     (Turn::Claim(0, 0), Ok(0)),
     (Turn::Claim(0, 1), Ok(1)),
     (Turn::Look(0, 0), Ok(4)),
     (Turn::Settle(0, 0), Ok(0)),
     (Turn::Look(0, 1), Ok(0)),
-    (Turn::Claim(0, 1), Err(BookFault::WrongTurn)),
-    (Turn::File(0), Err(BookFault::NotEnded)),
+    (Turn::Claim(0, 1), Err(CoreFault::WrongTurn)),
+    (Turn::File(0), Err(CoreFault::NotEnded)),
     (Turn::Claim(0, 0), Ok(2)),
     (Turn::Look(0, 0), Ok(0)),
     (Turn::File(0), Ok(0)),
@@ -134,7 +134,7 @@ fn path_of_three(core: &mut Core) -> Result<u32, NetFault> {
 }
 
 /// The four pieces of the path 1, 2, 3: three are good, and the last, the fan of 3 at level 2, comes to the cut 2.
-static SHARES: [(Turn, Result<u64, BookFault>); 15] = [
+static SHARES: [(Turn, Result<u64, CoreFault>); 15] = [
     (Turn::Claim(0, 0), Ok(0)),
     (Turn::Claim(0, 1), Ok(1)),
     (Turn::Look(0, 0), Ok(4)),
@@ -163,14 +163,14 @@ fn two_workers_settle_the_pieces_of_a_path(rt: HostRuntime) -> Result<(), Fail> 
 }
 
 /// Who opens a desk: the moment, the group if one is named, and the workers; and what that answers.
-static OPENINGS: [(u32, &[u32], u32, Result<u32, BookFault>); 10] = [
-    (5, &[], 0, Err(BookFault::NoSuchMoment)),
-    (4, &[], 0, Err(BookFault::NoSuchWorker)),
-    (4, &[], 65, Err(BookFault::NoSuchWorker)),
-    (5, &[2, 1], 0, Err(BookFault::NoSuchMoment)),
-    (4, &[2, 1], 0, Err(BookFault::BadGroup)),
-    (4, &[3], 1, Err(BookFault::BadGroup)),
-    (4, &[1], 0, Err(BookFault::NoSuchWorker)),
+static OPENINGS: [(u32, &[u32], u32, Result<u32, CoreFault>); 10] = [
+    (5, &[], 0, Err(CoreFault::NoSuchMoment)),
+    (4, &[], 0, Err(CoreFault::NoSuchWorker)),
+    (4, &[], 65, Err(CoreFault::NoSuchWorker)),
+    (5, &[2, 1], 0, Err(CoreFault::NoSuchMoment)),
+    (4, &[2, 1], 0, Err(CoreFault::BadGroup)),
+    (4, &[3], 1, Err(CoreFault::BadGroup)),
+    (4, &[1], 0, Err(CoreFault::NoSuchWorker)),
     (4, &[1], 1, Ok(0)),
     (4, &[1, 2], 64, Ok(1)),
     (6, &[], 64, Ok(2)),
@@ -183,7 +183,7 @@ fn opens(
     moment: u32,
     group: &[u32],
     workers: u32,
-) -> Result<Result<u32, BookFault>, Fail> {
+) -> Result<Result<u32, CoreFault>, Fail> {
     if group.is_empty() {
         return Ok(core.open_desk(moment, workers));
     }
@@ -209,8 +209,8 @@ fn nobody_works_where_nobody_lived(rt: HostRuntime) -> Result<(), Fail> {
     let mut core = new_core(alloc)?;
     let moment = core.snapshot()?;
     let told = opens(alloc, &mut core, moment, &[2, 1], 0)?;
-    assert_eq!(rt; told, Err(BookFault::NoNodes));
-    assert_eq!(rt; core.open_desk(moment, 0), Err(BookFault::NoNodes));
+    assert_eq!(rt; told, Err(CoreFault::NoNodes));
+    assert_eq!(rt; core.open_desk(moment, 0), Err(CoreFault::NoNodes));
     Ok(())
 }
 

@@ -4,7 +4,7 @@ use Call::{Begin, File, Snapshot, Step};
 use ov_cert::Cert;
 use ov_ids::NodeId;
 use ov_net::{Change, Event};
-use ov_snap::{BookFault, Core};
+use ov_snap::{Core, CoreFault};
 use std::alloc::Global;
 use std::process::Abort;
 use std::test::Fail;
@@ -97,7 +97,7 @@ fn held_by(core: &Core, node: u32) -> Option<NodeId> {
 /// To look whether a snapshot was taken may want memory, which says that one was.
 fn seen_at(core: &Core, moment: u32) -> SeenMoment {
     SeenMoment {
-        is_taken: core.begin(moment).err() != Some(BookFault::NoSuchMoment),
+        is_taken: core.begin(moment).err() != Some(CoreFault::NoSuchMoment),
         filed: match core.report(moment) {
             Some(report) => Some(report.moment()),
             None => None,

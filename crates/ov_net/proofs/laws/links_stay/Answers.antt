@@ -1,4 +1,4 @@
-use Rattle.ov_net.proofs.Telling.{links_stay, links_were}
+use Rattle.ov_net.proofs.Journal.Telling.{links_stay, links_were}
 use Rattle.ov_net.proofs.laws.links_stay.Goals as goal
 
 pub returns : goal.returns

@@ -1,4 +1,4 @@
-use Rattle.ov_net.proofs.OneGraph.{links_one}
+use Rattle.ov_net.proofs.Links.OneGraph.{links_one}
 use Rattle.ov_net.proofs.laws.one_graph.Goals as goal
 
 pub returns : goal.returns

@@ -1,7 +1,7 @@
 use Rattle.std.proofs.Common.{◌≡◌, ◌+◌, ◌++◌, take, vec_len}
 use Rattle.std.specs.Prelude.{map}
 use Rattle.ov_wire.specs.Messages.{say}
-use Rattle.ov_plum.specs.Spreading.{gossip}
+use Rattle.ov_plum.specs.PlumRows.{gossip}
 use Rattle.ov_plum.proofs.spread.send_whole.Given as goal
 
 abbrev pub invariant-loop-neighbour : goal.invariant-loop-neighbour

@@ -1,7 +1,7 @@
 -- what was taken in and what the lines that are left say are what all lines say; and no line is counted without a byte
 use Rattle.std.proofs.Common.{◌≤◌, ◌+◌, length}
 use Rattle.ov_run.specs.Code.Kept.{lines_left}
-use Rattle.ov_run.proofs.Gathering.{Gathers}
+use Rattle.ov_run.proofs.GraphFiles.Gathering.{Gathers}
 use Rattle.ov_run.proofs.graph_file.gather.Given as goal
 
 abbrev pub invariant-loop-line : goal.invariant-loop-line

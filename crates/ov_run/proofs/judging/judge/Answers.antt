@@ -1,9 +1,9 @@
 -- One line more, the first line at fault, and all lines.
 use Rattle.std.proofs.Common.{rules, ◌≡◌, ◌∷◌, List, Err, IfErr, sym, subst}
 use Rattle.std.proofs.lemmas.List.{nil_from_length}
-use Rattle.ov_run.specs.Scenarios.{IsFirstFault}
+use Rattle.ov_run.specs.Scenarios.{IsFirstLineFault}
 use Rattle.ov_run.specs.declared.statement.Stated.{Stated}
-use Rattle.ov_run.proofs.Judged.{Stands, one_more, first_fault, faultless, params_of, seed_of}
+use Rattle.ov_run.proofs.Scenarios.Judged.{Stands, one_more, first_fault, faultless, params_of, seed_of}
 use Rattle.ov_run.proofs.judging.judge.Goals as goal
 
 pub loop-line-preserved : goal.loop-line-preserved
@@ -23,7 +23,7 @@ returns-in_err-judge-clause-fault c =
     let split : c.loop-line.left.now ≡ c.in-Some.line.now ∷ c.in-Some.behind.now = search rules in
     let stands = subst (λ (ls : List Stated). Stands all ls head) split c.loop-line.invariant in
     let same : c.from_residual.result ≡ Err fault = search rules in
-    subst (λ r. IfErr r (IsFirstFault all)) (sym same)
+    subst (λ r. IfErr r (IsFirstLineFault all)) (sym same)
     (first_fault all c.in-Some.behind.now c.in-Some.line.now head c.judge.new.self fault stands c.in_err-judge.ensures)
 
 pub returns-clause-faultless : goal.returns-clause-faultless

@@ -1,6 +1,6 @@
 -- the lines before those that are left were judged, and none of them is at fault
 use Rattle.std.proofs.Common.{length}
-use Rattle.ov_run.proofs.Judged.{Stands}
+use Rattle.ov_run.proofs.Scenarios.Judged.{Stands}
 use Rattle.ov_run.proofs.judging.judge.Given as goal
 
 abbrev pub invariant-loop-line : goal.invariant-loop-line

@@ -1,10 +1,11 @@
 -- A word more than there is room for.
 use Rattle.std.proofs.Common.{rules, ◌≡◌, ◌==◌, length, false, sym}
 use Rattle.ov_run.specs.Lines.{words_of}
-use Rattle.ov_run.proofs.Filling.{full}
+use Rattle.ov_run.proofs.Lines.Filling.{full}
 use Rattle.ov_run.proofs.statement.read_event_words.Goals as goal
 
 pub returns-then-count-eq64 : goal.returns-then-count-eq64
 returns-then-count-eq64 c =
     let some : (length (words_of c.loop-words.cursor.rest.now) == 0) ≡ false = search rules in
-    sym (full (words_of c.args.cursor.now.rest.now) (words_of c.loop-words.cursor.rest.now) c.loop-words.count c.loop-words.words c.loop-words.invariant some c.if-count-eq64.true)
+    sym (full (words_of c.args.cursor.now.rest.now) (words_of c.loop-words.cursor.rest.now) c.loop-words.count
+    c.loop-words.words c.loop-words.invariant some c.if-count-eq64.true)

@@ -1,7 +1,7 @@
 -- the words so far, and those that are left
 use Rattle.std.proofs.Common.{length}
 use Rattle.ov_run.specs.Lines.{words_of}
-use Rattle.ov_run.proofs.Filling.{Fills}
+use Rattle.ov_run.proofs.Lines.Filling.{Fills}
 use Rattle.ov_run.proofs.statement.read_event_words.Given as goal
 
 abbrev pub invariant-loop-words : goal.invariant-loop-words

@@ -1,7 +1,8 @@
 use Rattle.std.proofs.Common.{◌≡◌, [], ◌∷◌, refl, inr, sym, ◌∙◌, false, rules}
 use Rattle.ov_ids.specs.Members.{IsApart}
 use Rattle.ov_ids.specs.Sets.{has}
-use Rattle.ov_views.proofs.Giving.{passed_more, none_left, no_length}
+use Rattle.std.proofs.lemmas.List.{nil_from_length}
+use Rattle.ov_views.proofs.Giving.{passed_more, none_left}
 use Rattle.ov_views.proofs.views.give_up.Goals as goal
 
 pub loop-next-preserved : goal.loop-next-preserved
@@ -14,6 +15,6 @@ pub returns-clause-drawn : goal.returns-clause-drawn
 returns-clause-drawn c =
     let h = rw c.as_slice.ensures.value at c.in-Some-pick.ensures.member in
     let drawn = rw c.as_slice.ensures.value at c.in-Some-pick.ensures.drawn in
-    let none : c.loop-next.left.now ≡ [] = no_length _ c.in_default.ensures.cases in
+    let none : c.loop-next.left.now ≡ [] = nil_from_length _ c.in_default.ensures.cases in
     let apart : IsApart c.args.passive.now c.args.sent.now = none_left _ _ _ c.loop-next.invariant none in
     (record { from = c.args.passive.now; member = c.in-Some-pick.out } ∷ [], drawn, inr (apart, (h, refl), none))

@@ -1,5 +1,5 @@
 use Rattle.std.proofs.Common.{◌≡◌, ◌++◌, length}
-use Rattle.ov_wire.specs.Reading.{ids_in}
+use Rattle.ov_wire.specs.Code.Reading.{ids_in}
 use Rattle.ov_wire.proofs.reading.ids_of.Given as goal
 
 abbrev pub invariant-loop-number : goal.invariant-loop-number

@@ -1,7 +1,7 @@
 use Rattle.std.proofs.Common.{◌*◌}
 use Rattle.std.proofs.lemmas.Result.{err_from_is_err_and}
 use Rattle.ov_wire.specs.Fields.{Many}
-use Rattle.ov_wire.specs.Reading.{ids_in}
+use Rattle.ov_wire.specs.Code.Reading.{ids_in}
 use Rattle.ov_wire.proofs.Steps.{fails_whole}
 use Rattle.ov_wire.proofs.reading.last_ids.Goals as goal
 

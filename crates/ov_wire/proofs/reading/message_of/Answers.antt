@@ -4,7 +4,7 @@ use Rattle.std.proofs.lemmas.Result.{err_from_is_err_and}
 use Rattle.ov_wire.specs.declared.fault.WireFault.{WireFault}
 use Rattle.ov_wire.specs.Fields.{Value, One}
 use Rattle.ov_wire.specs.Messages.{kinds, fields_of}
-use Rattle.ov_wire.specs.Reading.{values_at, Fails}
+use Rattle.ov_wire.specs.Code.Reading.{values_at, Fails}
 use Rattle.ov_wire.proofs.Steps.{Fails-then, read_on}
 use Rattle.ov_wire.proofs.reading.message_of.Goals as goal
 

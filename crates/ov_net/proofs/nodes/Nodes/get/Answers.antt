@@ -1,6 +1,6 @@
 use Rattle.std.proofs.Common.{sym, ap, ◌∙◌}
 use Rattle.std.specs.FinMap as map
-use Rattle.ov_net.proofs.Members.{found}
+use Rattle.ov_net.proofs.Steps.Members.{found}
 use Rattle.ov_net.proofs.nodes.Nodes.get.Goals as goal
 
 pub returns : goal.returns

@@ -1,6 +1,6 @@
 use Rattle.std.proofs.Common.{sym, ap, ◌∙◌}
 use Rattle.std.specs.FinMap as map
-use Rattle.ov_net.proofs.Members.{counted}
+use Rattle.ov_net.proofs.Steps.Members.{counted}
 use Rattle.ov_net.proofs.nodes.Nodes.len.Goals as goal
 
 pub returns : goal.returns

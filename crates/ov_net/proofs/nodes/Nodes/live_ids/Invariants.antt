@@ -1,6 +1,6 @@
 -- what is left decides
 use Rattle.std.proofs.Common.{◌≡◌, ◌++◌}
-use Rattle.ov_net.proofs.Scanned.{live_among}
+use Rattle.ov_net.proofs.Links.Scanned.{live_among}
 use Rattle.ov_net.proofs.nodes.Nodes.live_ids.Given as goal
 
 abbrev pub invariant-loop-id : goal.invariant-loop-id

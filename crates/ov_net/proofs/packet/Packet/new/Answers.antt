@@ -1,4 +1,4 @@
-use Rattle.ov_net.proofs.Packets.{packed}
+use Rattle.ov_net.proofs.Steps.Packets.{packed}
 use Rattle.ov_net.proofs.packet.Packet.new.Goals as goal
 
 -- src/packet.rt

@@ -1,9 +1,9 @@
 use Rattle.std.proofs.Common.{length, sym, ap, subst, arith}
 use Rattle.ov_views.specs.Allowed.{Node}
-use Rattle.ov_peer.specs.Whole.{Whole}
-use Rattle.ov_peer.specs.Planning.{Fits, Follows}
+use Rattle.ov_peer.specs.PeerState.{PeerState}
+use Rattle.ov_peer.specs.Planning.{IsPlanFor, Follows}
 use Rattle.ov_peer.specs.Step.{Told, IsPeerStep}
-use Rattle.ov_plum.specs.Tree.{Tree}
+use Rattle.ov_plum.specs.PlumState.{PlumState}
 use Rattle.ov_peer.proofs.Counts.{neighbours_fit}
 use Rattle.ov_peer.proofs.Steps.{whole_of}
 use Rattle.ov_peer.proofs.Following.{whole_turned, whole_followed, fits_turn, fits_tracks, fits_step}
@@ -13,28 +13,28 @@ use Rattle.ov_peer.proofs.peer.Peer.apply.Goals as goal
 pub apply-requires : goal.apply-requires
 apply-requires c =
     let p = whole_of c.self.inside.views c.self.inside.attempt c.self.inside.sent c.self.inside.plum in
-    fits_turn p c.args.plan (subst (λ (w : Whole). Fits w c.args.plan) (sym c.self.view_is) c.requires)
+    fits_turn p c.args.plan (subst (λ (w : PeerState). IsPlanFor w c.args.plan) (sym c.self.view_is) c.requires)
 
 pub prove-unreachable-requires : goal.prove-unreachable-requires
 prove-unreachable-requires c =
     let p = whole_of c.self.inside.views c.self.inside.attempt c.self.inside.sent c.self.inside.plum in
-    let middle : Whole = record { node = p.node; tree = c.apply.new.self } in
-    let few = neighbours_fit middle (whole_turned p c.args.plan.turn c.apply.new.self c.self.invariant c.in_ok-apply.ensures.ok) c.eager.ensures.links in
+    let middle : PeerState = record { node = p.node; tree = c.apply.new.self } in
+    let few = neighbours_fit middle (whole_turned p c.args.plan.plum_change c.apply.new.self c.self.invariant c.in_ok-apply.ensures.ok) c.eager.ensures.links in
     absurd (omega (arith, few, ap length c.eager.ensures.value, ap length c.lazy.ensures.value, ap length c.active.ensures.value, c.if-prove.true))
 
 pub tell-requires : goal.tell-requires
 tell-requires c =
     let p = whole_of c.self.inside.views c.self.inside.attempt c.self.inside.sent c.self.inside.plum in
-    let middle : Whole = record { node = p.node; tree = c.apply.new.self } in
-    let few = neighbours_fit middle (whole_turned p c.args.plan.turn c.apply.new.self c.self.invariant c.in_ok-apply.ensures.ok) c.eager.ensures.links in
+    let middle : PeerState = record { node = p.node; tree = c.apply.new.self } in
+    let few = neighbours_fit middle (whole_turned p c.args.plan.plum_change c.apply.new.self c.self.invariant c.in_ok-apply.ensures.ok) c.eager.ensures.links in
     let v = c.active.ensures.views in
     omega (arith, few, (fits_tracks _ c.args.plan c.requires).few, v.active_size, v.limits.active_high, ap length c.deref.ensures.value)
 
 pub invariant_of-self-2 : goal.invariant_of-self-2
 invariant_of-self-2 c =
     let p = whole_of c.self.inside.views c.self.inside.attempt c.self.inside.sent c.self.inside.plum in
-    let m : Node = record { views = c.follow.new.views; asking = c.follow.new.attempt; sent = c.follow.new.sent } in
-    let fits = subst (λ (w : Whole). Fits w c.args.plan) (sym c.self.view_is) c.requires in
+    let m : Node = record { views = c.follow.new.views; attempt = c.follow.new.attempt; sent = c.follow.new.sent } in
+    let fits = subst (λ (w : PeerState). IsPlanFor w c.args.plan) (sym c.self.view_is) c.requires in
     whole_followed p c.args.plan c.apply.new.self c.tell.new.plum m c.self.invariant fits c.in_ok-apply.ensures.ok (rw (← c.deref.ensures.value) c.tell.ensures) c.follow.ensures
 
 pub returns-clause-step : goal.returns-clause-step
@@ -42,10 +42,10 @@ returns-clause-step c =
     let p = whole_of c.self.inside.views c.self.inside.attempt c.self.inside.sent c.self.inside.plum in
     let q = whole_of c.follow.new.views c.follow.new.attempt c.follow.new.sent c.tell.new.plum in
     let plan = c.args.plan in
-    let fits = subst (λ (w : Whole). Fits w plan) (sym c.self.view_is) c.requires in
+    let fits = subst (λ (w : PeerState). IsPlanFor w plan) (sym c.self.view_is) c.requires in
     let told : Told c.apply.new.self plan.changes.items q.tree = rw (← c.deref.ensures.value) c.tell.ensures in
-    let follows : Follows p plan q = (c.follow.ensures, subst (λ (t : Tree). Told t plan.changes.items q.tree) c.in_ok-apply.ensures.ok told) in
-    subst (λ (w : Whole). IsPeerStep w plan.changes.items q) c.self.view_is (fits_step p q plan fits follows)
+    let follows : Follows p plan q = (c.follow.ensures, subst (λ (t : PlumState). Told t plan.changes.items q.tree) c.in_ok-apply.ensures.ok told) in
+    subst (λ (w : PeerState). IsPeerStep w plan.changes.items q) c.self.view_is (fits_step p q plan fits follows)
 
 pub returns-clause-noted : goal.returns-clause-noted
 returns-clause-noted c =

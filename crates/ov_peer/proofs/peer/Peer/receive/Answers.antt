@@ -33,7 +33,7 @@ returns-clause-allowed c =
           heard_as p from Prune body w.plan_prune-planned.result planned is w.planned-is ((refl, refl, refl), refl) t
     ] in
     let of = c.of_tree.ensures in
-    let plan = heard_plan _ p _ from body planned c.of_tree.result c.self.view_is c.me.ensures.value of.sends of.changes of.delivered of.course of.turn heard in
+    let plan = heard_plan _ p _ from body planned c.of_tree.result c.self.view_is c.me.ensures.value of.sends of.changes of.delivered of.views_change of.plum_change heard in
     ([], refl, plan)
 
 pub returns-clause-fits : goal.returns-clause-fits

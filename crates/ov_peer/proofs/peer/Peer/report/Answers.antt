@@ -1,8 +1,8 @@
 use Rattle.std.proofs.Common.{refl, subst}
-use Rattle.ov_peer.specs.Whole.{Whole}
-use Rattle.ov_peer.specs.Planning.{Plans, Fits}
+use Rattle.ov_peer.specs.PeerState.{PeerState}
+use Rattle.ov_peer.specs.Planning.{Plans, IsPlanFor}
 use Rattle.ov_peer.specs.declared.input.Input.TheVariants.{Report}
-use Rattle.ov_peer.specs.declared.plan.Course.TheVariants.{Moves}
+use Rattle.ov_peer.specs.declared.plan.ViewsChange.TheVariants.{ViewsAndAttempt}
 use Rattle.ov_peer.proofs.Steps.{whole_of}
 use Rattle.ov_peer.proofs.Following.{near_step, moves_plan, fits}
 use Rattle.ov_peer.proofs.peer.Peer.report.Goals as goal
@@ -14,8 +14,8 @@ returns-clause-allowed c =
     let moves = c.in_ok-moves.moves in
     let a = c.in_ok-moves.ensures.allowed in
     let step = near_step inside.views _ inside.attempt _ inside.sent (Report c.args.crashed) a.0 moves c.in_ok-near.near.value _ c.copy-views.ensures c.in_ok-attempt.ensures c.in_ok-near.ensures.ok (a.2 p.node) in
-    let plan = moves_plan p (Report c.args.crashed) a.0 moves (Moves c.in_ok-near.near) c.of_moves.result c.of_moves.ensures step (refl, (refl, refl)) in
-    (a.0, a.1, subst (λ (w : Whole). Plans w (Report c.args.crashed) a.0 c.of_moves.result) c.self.view_is plan)
+    let plan = moves_plan p (Report c.args.crashed) a.0 moves (ViewsAndAttempt c.in_ok-near.near) c.of_moves.result c.of_moves.ensures step (refl, (refl, refl)) in
+    (a.0, a.1, subst (λ (w : PeerState). Plans w (Report c.args.crashed) a.0 c.of_moves.result) c.self.view_is plan)
 
 pub returns-clause-fits : goal.returns-clause-fits
 returns-clause-fits c =
@@ -24,4 +24,4 @@ returns-clause-fits c =
     let moves = c.in_ok-moves.moves in
     let a = c.in_ok-moves.ensures.allowed in
     let step = near_step inside.views _ inside.attempt _ inside.sent (Report c.args.crashed) a.0 moves c.in_ok-near.near.value _ c.copy-views.ensures c.in_ok-attempt.ensures c.in_ok-near.ensures.ok (a.2 p.node) in
-    subst (λ (w : Whole). Fits w c.of_moves.result) c.self.view_is (fits p (Report c.args.crashed) a.0 moves (Moves c.in_ok-near.near) c.of_moves.result c.of_moves.ensures step (refl, (refl, refl)))
+    subst (λ (w : PeerState). IsPlanFor w c.of_moves.result) c.self.view_is (fits p (Report c.args.crashed) a.0 moves (ViewsAndAttempt c.in_ok-near.near) c.of_moves.result c.of_moves.ensures step (refl, (refl, refl)))

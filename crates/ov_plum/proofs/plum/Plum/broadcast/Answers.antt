@@ -1,4 +1,4 @@
-use Rattle.ov_plum.specs.Spreading.{broadcasts}
+use Rattle.ov_plum.specs.PlumRows.{broadcasts}
 use Rattle.ov_plum.proofs.plum.Plum.broadcast.Goals as goal
 
 pub apply-requires : goal.apply-requires

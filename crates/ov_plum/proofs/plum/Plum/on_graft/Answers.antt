@@ -1,5 +1,5 @@
 use Rattle.ov_wire.specs.declared.message.Body.TheVariants.{Graft}
-use Rattle.ov_plum.specs.Spreading.{receives}
+use Rattle.ov_plum.specs.PlumRows.{receives}
 use Rattle.ov_plum.proofs.plum.Plum.on_graft.Goals as goal
 
 pub apply-requires : goal.apply-requires

@@ -1,5 +1,5 @@
 use Rattle.ov_wire.specs.declared.message.Body.TheVariants.{IHave}
-use Rattle.ov_plum.specs.Spreading.{receives}
+use Rattle.ov_plum.specs.PlumRows.{receives}
 use Rattle.ov_plum.proofs.Showing.{turn_noted}
 use Rattle.ov_plum.proofs.plum.Plum.on_ihave.Goals as goal
 

@@ -1,5 +1,5 @@
 use Rattle.ov_wire.specs.declared.message.Body.TheVariants.{Prune}
-use Rattle.ov_plum.specs.Spreading.{receives}
+use Rattle.ov_plum.specs.PlumRows.{receives}
 use Rattle.ov_plum.proofs.plum.Plum.on_prune.Goals as goal
 
 pub apply-requires : goal.apply-requires

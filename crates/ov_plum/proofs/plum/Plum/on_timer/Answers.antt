@@ -1,4 +1,4 @@
-use Rattle.ov_plum.specs.Spreading.{fires}
+use Rattle.ov_plum.specs.PlumRows.{fires}
 use Rattle.ov_plum.proofs.Showing.{turn_noted}
 use Rattle.ov_plum.proofs.plum.Plum.on_timer.Goals as goal
 

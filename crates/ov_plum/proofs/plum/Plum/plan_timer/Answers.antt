@@ -1,5 +1,5 @@
 use Rattle.std.proofs.Common.{rules}
-use Rattle.ov_plum.specs.Spreading.{fires}
+use Rattle.ov_plum.specs.PlumRows.{fires}
 use Rattle.ov_plum.proofs.Showing.{notes_follow}
 use Rattle.ov_plum.proofs.Shown.{asks_oldest}
 use Rattle.ov_plum.proofs.plum.Plum.plan_timer.Goals as goal

@@ -3,7 +3,7 @@ use Rattle.std.specs.Prelude.{map}
 use Rattle.ov_wire.specs.Messages.{say}
 use Rattle.ov_wire.specs.declared.message.Body.TheVariants.{IHave}
 use Rattle.ov_wire.proofs.Ranges.{Ranged-append, Ranged-each}
-use Rattle.ov_plum.specs.Spreading.{gossip}
+use Rattle.ov_plum.specs.PlumRows.{gossip}
 use Rattle.ov_plum.proofs.spread.Spread.whole.Goals as goal
 
 pub returns-clause-ranges : goal.returns-clause-ranges

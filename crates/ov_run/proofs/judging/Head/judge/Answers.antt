@@ -1,7 +1,8 @@
 -- What each kind of line is judged by.
 use Rattle.std.proofs.Common.{rules, ◌≡◌, Some, refl}
 use Rattle.ov_run.specs.declared.statement.Statement.TheVariants as says
-use Rattle.ov_run.proofs.Judged.{words_used, look_passes, analysis_passes, event_passes, params_judged, seed_judged}
+use Rattle.ov_run.proofs.Scenarios.Judged.{words_used, look_passes, analysis_passes, event_passes, params_judged}
+use Rattle.ov_run.proofs.Scenarios.Judged.{seed_judged}
 use Rattle.ov_run.proofs.judging.Head.judge.Goals as goal
 
 pub returns-in-Some-Params : goal.returns-in-Some-Params

@@ -1,6 +1,6 @@
 -- A seed that is given once, before any event.
 use Rattle.std.proofs.Common.{rules, ◌≡◌, ◌||◌, false, is_some}
-use Rattle.ov_run.proofs.Judged.{seed_passes}
+use Rattle.ov_run.proofs.Scenarios.Judged.{seed_passes}
 use Rattle.ov_run.proofs.judging.Head.judge_seed.Goals as goal
 
 pub returns : goal.returns

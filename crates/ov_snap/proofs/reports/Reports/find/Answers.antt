@@ -1,13 +1,11 @@
 use Rattle.ov_snap.proofs.Indexing.{found_there, not_there}
 use Rattle.ov_snap.proofs.reports.Reports.find.Goals as goal
 
--- src/reports.rt
 pub returns-in-Ok-clause-some : goal.returns-in-Ok-clause-some
 returns-in-Ok-clause-some c =
     found_there c.deref.result.now c.self.inside.filed.items c.args.self.now c.in-Ok.place c.index.result.now
     (c.args.moment, c.args.group.now) c.deref.ensures.value c.self.view_is c.in-Ok.ensures.found c.index.ensures
 
--- src/reports.rt
 pub returns-in-Err-clause-none : goal.returns-in-Err-clause-none
 returns-in-Err-clause-none c =
     not_there c.deref.result.now c.self.inside.filed.items c.args.self.now c.deref-2.result.now

@@ -2,19 +2,24 @@ use Rattle.std.proofs.Common.{◌∷◌, ◌++◌, []}
 use Rattle.ov_words.specs.Pick.{Choice}
 use Rattle.ov_words.proofs.PickLemmas.{AreDrawn-append}
 use Rattle.std.specs.Prelude.{List}
-use Rattle.ov_views.specs.Neighbourhood.{Neighbourhood}
+use Rattle.ov_views.specs.ViewsState.{ViewsState}
 use Rattle.ov_views.proofs.Keeping.{AreViews-without_active, drops}
 use Rattle.ov_views.proofs.views.Views.drop_one.Goals as goal
 
 pub invariant_of-self : goal.invariant_of-self
-invariant_of-self c = rw c.remove.ensures (AreViews-without_active _ _ c.self.invariant)
+invariant_of-self c = rw c.remove.ensures.value (AreViews-without_active _ _ c.self.invariant)
 
 pub returns-clause-drawn : goal.returns-clause-drawn
 returns-clause-drawn c =
-    let v : Neighbourhood = record { me = c.self.inside.me; params = c.self.inside.params; active = c.self.inside.active; passive = c.self.inside.passive } in
+    let v : ViewsState = record {
+      me = c.self.inside.me;
+      params = c.self.inside.params;
+      active = c.self.inside.active;
+      passive = c.self.inside.passive;
+    } in
     let h = rw c.as_slice.ensures.value at c.in_ok-dropped.ensures.member in
     let first = rw c.as_slice.ensures.value at c.in_ok-dropped.ensures.drawn in
-    let more = rw c.remove.ensures at c.add_passive.ensures.drawn in
+    let more = rw c.remove.ensures.value at c.add_passive.ensures.drawn in
     let one : List Choice = record { from = c.self.inside.active; member = c.in_ok-dropped.dropped } ∷ [] in (
       one ++ more.0,
       AreDrawn-append one more.0 _ _ _ first more.1,

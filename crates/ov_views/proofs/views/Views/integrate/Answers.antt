@@ -6,7 +6,8 @@ use Rattle.ov_views.proofs.views.Views.integrate.Goals as goal
 
 pub loop-id-preserved : goal.loop-id-preserved
 loop-id-preserved c =
-    let next : drop c.loop-id.id-index c.args.ids.now ≡ c.id-item.result ∷ drop (c.loop-id.id-index + 1) c.args.ids.now = grind (arith, common_steps) in (
+    let next : drop c.loop-id.id-index c.args.ids.now ≡ c.id-item.result ∷ drop (c.loop-id.id-index + 1)
+    c.args.ids.now = grind (arith, common_steps) in (
       integrated_more _ _ _ _ _ _ _ _ _ _ _ _ (rw next at c.loop-id.invariant.0) c.take_in-left.ensures.drawn,
       omega (arith, c.loop-id.invariant.1),
     )

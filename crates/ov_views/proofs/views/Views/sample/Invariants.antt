@@ -1,5 +1,5 @@
 use Rattle.std.proofs.Common.{◌≡◌, length, min}
-use Rattle.ov_views.specs.Neighbourhood.{members}
+use Rattle.ov_views.specs.ViewsState.{members}
 use Rattle.ov_views.proofs.Sampling.{Sampling}
 use Rattle.ov_views.proofs.views.Views.sample.Given as goal
 

@@ -1,23 +1,27 @@
 use Rattle.std.proofs.Common.{◌≡◌, ◌<◌, false, length, sym, ◌∙◌, subst, arith}
 use Rattle.ov_ids.specs.Sets.{without}
 use Rattle.ov_ids.proofs.Sets.{length-without_less}
-use Rattle.ov_views.specs.Neighbourhood.{Neighbourhood, is_known}
+use Rattle.ov_views.specs.ViewsState.{ViewsState, is_known}
 use Rattle.ov_views.proofs.Keeping.{AreOthers, strangers, AreViews-adding_passive, AreViews-replacing}
 use Rattle.ov_views.proofs.views.Views.take_in.Goals as goal
 
 pub invariant_of-self : goal.invariant_of-self
 invariant_of-self c =
     let unknown : is_known c.args.self.now c.args.id ≡ false = sym c.is_known.ensures.known ∙ c.if-is_known.false in
-    let P : Neighbourhood → Type 0 = λ v. AreOthers v c.args.id in
-    rw c.insert.ensures (AreViews-adding_passive _ _ c.self.invariant (omega arith) (subst P (sym c.self.view_is) (strangers _ _ unknown)))
+    let P : ViewsState → Type 0 = λ v. AreOthers v c.args.id in
+    rw c.insert.ensures.value (AreViews-adding_passive _ _ c.self.invariant (omega arith)
+    (subst P (sym c.self.view_is) (strangers _ _ unknown)))
 
 pub insert-requires-2 : goal.insert-requires-2
 insert-requires-2 c =
-    let less : length (without c.give_up-out.result.0 c.self.inside.passive) < length c.self.inside.passive = length-without_less _ _ c.give_up-out.ensures.member in
-    rw c.remove.ensures (omega (arith, c.self.invariant.passive_size, c.passive.ensures.limits.passive_high))
+    let less : length (without c.give_up-out.result.0 c.self.inside.passive) < length c.self.inside.passive =
+    length-without_less _ _ c.give_up-out.ensures.member in
+    rw c.remove.ensures.value (omega (arith, c.self.invariant.passive_size, c.passive.ensures.limits.passive_high))
 
 pub invariant_of-self-2 : goal.invariant_of-self-2
 invariant_of-self-2 c =
     let unknown : is_known c.args.self.now c.args.id ≡ false = sym c.is_known.ensures.known ∙ c.if-is_known.false in
-    let P : Neighbourhood → Type 0 = λ v. AreOthers v c.args.id in
-    rw (c.insert-2.ensures, c.remove.ensures) (AreViews-replacing _ _ _ c.self.invariant c.give_up-out.ensures.member (subst P (sym c.self.view_is) (strangers _ _ unknown)))
+    let P : ViewsState → Type 0 = λ v. AreOthers v c.args.id in
+    rw (c.insert-2.ensures.value, c.remove.ensures.value)
+    (AreViews-replacing _ _ _ c.self.invariant c.give_up-out.ensures.member
+    (subst P (sym c.self.view_is) (strangers _ _ unknown)))

@@ -1,0 +1,91 @@
+ghost use Rattle.std.specs.Prelude.{◌≡◌, take, Ok, Err, None, IsTrue, IsFalse, IfOk};
+ghost use Rattle.std.specs.Io.{WritesAtMost};
+ghost use Rattle.ov_check.specs.Program.{NamesInput, exit_status};
+ghost use Rattle.ov_check.specs.declared.fault.JudgeFault.TheVariants.{Read};
+ghost use Rattle.ov_check.specs.declared.program.ProgramFault.TheVariants.{Judge};
+
+use crate::fault::JudgeFault;
+use std::env::FillError;
+use std::error::Error;
+use std::fmt::{Display, Formatter, Result as Printed, Write};
+
+/// Why the program prints no line of an outcome. It is shown as the line that the program prints on standard error.
+#[derive(Clone, Copy, Debug, PartialEq, Eq)]
+pub enum ProgramFault {
+    /// There is more than one word.
+    Usage,
+    /// Judging came to no line.
+    Judge(JudgeFault),
+}
+
+impl From<JudgeFault> for ProgramFault {
+    ghost from_gives = { λ fault e. e ≡ Judge fault };
+
+    fn from(fault: JudgeFault) -> ProgramFault {
+        ProgramFault::Judge(fault)
+    }
+}
+
+impl Display for ProgramFault {
+    ghost use Rattle.std.specs.Prelude.{Some};
+    ghost use Rattle.ov_check.specs.Program.{fault_line};
+
+    ghost output = { λ fault. Some (fault_line fault) };
+
+    fn fmt<W: Write>(&self, f: &mut Formatter<W>) -> Printed {
+        match self {
+            ProgramFault::Usage => write!(f, "usage: overlay-check [FILE]"),
+            ProgramFault::Judge(fault) => write!(f, "{fault}"),
+        }
+    }
+}
+
+impl Error for ProgramFault {}
+
+/// The name of the file that the words behind the program's name ask for, or nothing for standard input. No word and
+/// the word `-` ask for standard input. `length` is the length of the first word, which is a prefix of `room`, or why
+/// the word is not there. `has_second` is whether there is a second word.
+///
+/// `Usage`: there is a second word. `Judge(Read)` (71): the word is longer than the room, or is not text.
+pub fn input_named(
+    length: Result<usize, FillError>,
+    room: &[u8],
+    has_second: bool,
+) -> Result<Option<&str>, ProgramFault>
+    requires { WritesAtMost length room.now }
+    ensures usage { IsTrue has_second → result ≡ Err ProgramFault.Usage }
+    ensures no_word { IsFalse has_second → length ≡ Err FillError.NotPresent → result ≡ Ok None }
+    ensures too_long { IsFalse has_second → length ≡ Err FillError.TooLong → result ≡ Err (Judge Read) }
+    ensures word { IsFalse has_second → IfOk length (λ n. NamesInput (λ name. name.now) (take n room.now) result) }
+{
+    if has_second {
+        return Err(ProgramFault::Usage);
+    }
+    match length {
+        Ok(length) => named_by(&room[..length]),
+        Err(FillError::NotPresent) => Ok(None),
+        Err(FillError::TooLong) => Err(ProgramFault::Judge(JudgeFault::Read)),
+    }
+}
+
+/// The input that a word names.
+fn named_by(word: &[u8]) -> Result<Option<&str>, ProgramFault>
+    ensures { NamesInput (λ name. name.now) word.now result }
+{
+    match str::from_utf8(word) {
+        Ok("-") => Ok(None),
+        Ok(name) => Ok(Some(name)),
+        Err(_) => Err(ProgramFault::Judge(JudgeFault::Read)),
+    }
+}
+
+/// The program's status: that of the judge, 2 where the words are too many, and 1 after a fault.
+pub fn exit_status(answer: &Result<u8, ProgramFault>) -> u8
+    ensures { result ≡ exit_status answer.now }
+{
+    match answer {
+        Ok(status) => *status,
+        Err(ProgramFault::Usage) => 2,
+        Err(ProgramFault::Judge(_)) => 1,
+    }
+}

@@ -1,0 +1,71 @@
+-- What a source and a sink are, the bytes that go through them, and the failures that are counted.
+use Rattle.std.specs.Prelude.{◌≡◌, ◌⊎◌, ◌++◌, ◌+◌, ◌-◌, ◌^◌, ◌==◌, if◌then◌else◌, min, ℕ, List, Option, Result, Ok, Err}
+use Rattle.std.specs.Io.KnownBytes.{Appends}
+use Rattle.ov_io.specs.declared.fault.ReadFault.{ReadFault}
+use Rattle.ov_io.specs.declared.fault.ReadFault.TheVariants.{Read, OutOfMemory}
+use Rattle.ov_io.specs.declared.fault.WriteFault.{WriteFault}
+
+-- no count of faults goes beyond this
+abbrev pub most_faults : ℕ
+most_faults = 2 ^ 64 - 1
+
+-- the count of reads stops here: a reader that answers a read in each nanosecond comes here after 584 years
+abbrev pub most_counted : ℕ
+most_counted = 2 ^ 64 - 1
+
+-- a reader that has not ended after so many reads of one call counts as failed (chosen here)
+abbrev pub most_reads : ℕ
+most_reads = 2 ^ 32 - 1
+
+-- A source: its reader, how many reads it was asked for, how many of these failed, and how many faults it counts. A
+-- fault is a read that failed, or a call that reached the most reads.
+pub record SourceState (R : Type 0) : Type 0 where
+  pub reader : R
+  pub reads : ℕ
+  pub failures : ℕ
+  pub faults : ℕ
+
+-- A sink: its writer, and how many faults it counts. A fault is a write that failed or took nothing.
+pub record SinkState (W : Type 0) : Type 0 where
+  pub writer : W
+  pub faults : ℕ
+
+-- the number of each fault of a reader
+abbrev pub read_number : ReadFault → ℕ
+read_number Read = 71
+read_number OutOfMemory = 99
+
+-- the number of the fault of a writer
+abbrev pub write_number : WriteFault → ℕ
+write_number fault = 72
+
+-- how many failures a call counts that ends with the first: one where its fault has this number
+abbrev pub failures_numbered : {A E : Type 0} → ℕ → (E → ℕ) → Result A E → ℕ
+failures_numbered failure number (Ok a) = 0
+failures_numbered failure number (Err e) = if number e == failure then 1 else 0
+
+-- how many faults a call adds to those of its reader
+abbrev pub read_failures : {A E : Type 0} → (E → ℕ) → Result A E → ℕ
+read_failures number result = failures_numbered 71 number result
+
+-- how many faults a call adds to those of its writer
+abbrev pub write_failures : {A E : Type 0} → (E → ℕ) → Result A E → ℕ
+write_failures number result = failures_numbered 72 number result
+
+-- one read of a call failed
+abbrev pub OneReadFailed : {R : Type 0} → SourceState R → SourceState R → Type 0
+OneReadFailed before after = after.failures ≡ before.failures + 1
+
+-- no read of a call failed, and it came to the most reads
+abbrev pub DidNotEnd : {R : Type 0} → SourceState R → SourceState R → Type 0
+DidNotEnd before after =
+    (after.failures ≡ before.failures) × (after.reads ≡ min (before.reads + most_reads) most_counted)
+
+-- the reader failed in a call: exactly one read failed, or the reader did not end
+abbrev pub ReaderFailed : {R : Type 0} → SourceState R → SourceState R → Type 0
+ReaderFailed before after = OneReadFailed before after ⊎ DidNotEnd before after
+
+-- what the writer took on is a prefix of these bytes: all, some or none
+abbrev pub AppendsPrefixOf : List ℕ → Option (List ℕ) → Option (List ℕ) → Type 0
+AppendsPrefixOf bytes before after =
+    (prefix rest : List ℕ) × Appends before after prefix × (prefix ++ rest ≡ bytes)

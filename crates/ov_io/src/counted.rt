@@ -1,0 +1,109 @@
+// The fields are private to this file. So what is counted is what a reader or a writer answered, and nothing else.
+ghost use Rattle.std.specs.Prelude.{◌≡◌, ◌+◌, ◌<◌, min, length, IfOk};
+ghost use Rattle.std.specs.Io.{ReadsAtMost, WritesAtMost};
+ghost use Rattle.std.specs.Io.KnownBytes.{ReadConsumes, WriteAppends};
+ghost use Rattle.ov_io.specs.Device.{most_faults, most_counted, read_failures, read_number};
+ghost use Rattle.ov_io.specs.Device.{write_failures, write_number};
+
+use crate::fault::{ReadFault, WriteFault};
+use std::io::{Read, Write};
+
+/// A reader, how many reads it answered, and how many of these answers were errors.
+#[derive(Drop)]
+pub(crate) struct CountedReader<R> {
+    reader: R,
+    reads: u64,
+    failures: u64,
+}
+
+impl<R: Read> CountedReader<R> {
+    /// A reader of which nothing is counted yet.
+    pub(crate) fn new(reader: R) -> CountedReader<R>
+        ensures reader { result.reader ≡ reader }
+        ensures reads { result.reads ≡ 0 }
+        ensures failures { result.failures ≡ 0 }
+    {
+        CountedReader {
+            reader,
+            reads: 0,
+            failures: 0,
+        }
+    }
+
+    /// How many reads failed.
+    pub(crate) fn failures(&self) -> u64
+        ensures { result ≡ self.now.failures }
+    {
+        self.failures
+    }
+
+    /// Reads once, and counts the answer. The count of reads stops at 2^64 - 1.
+    pub(crate) fn read(&mut self, buffer: &mut [u8]) -> Result<usize, ReadFault>
+        requires { self.old.failures < most_faults }
+        ensures bound { ReadsAtMost result buffer.new }
+        ensures bytes { ReadConsumes (R.remaining self.old.reader) (R.remaining self.new.reader) result buffer.new }
+        ensures reads { self.new.reads ≡ min (self.old.reads + 1) most_counted }
+        ensures failures { self.new.failures ≡ self.old.failures + read_failures read_number result }
+    {
+        self.reads = self.reads.saturating_add(1);
+        match self.reader.read(buffer) {
+            Ok(count) => Ok(count),
+            Err(_) => {
+                self.failures += 1;
+                Err(ReadFault::Read)
+            }
+        }
+    }
+}
+
+/// A writer, and how many of its answers were errors or took nothing.
+#[derive(Drop)]
+pub(crate) struct CountedWriter<W> {
+    writer: W,
+    failures: u64,
+}
+
+impl<W: Write> CountedWriter<W> {
+    /// A writer of which nothing is counted yet.
+    pub(crate) fn new(writer: W) -> CountedWriter<W>
+        ensures writer { result.writer ≡ writer }
+        ensures failures { result.failures ≡ 0 }
+    {
+        CountedWriter {
+            writer,
+            failures: 0,
+        }
+    }
+
+    /// How many writes failed.
+    pub(crate) fn failures(&self) -> u64
+        ensures { result ≡ self.now.failures }
+    {
+        self.failures
+    }
+
+    /// Gives the writer back.
+    pub(crate) fn into_writer(self) -> W
+        ensures { result ≡ self.writer }
+    {
+        self.writer
+    }
+
+    /// Writes once, and counts the answer where it is an error or took nothing.
+    pub(crate) fn write(&mut self, bytes: &[u8]) -> Result<usize, WriteFault>
+        requires room { self.old.failures < most_faults }
+        requires bytes { 0 < length bytes.now }
+        ensures bound { WritesAtMost result bytes.now }
+        ensures some { IfOk result (λ count. 0 < count) }
+        ensures bytes { WriteAppends (W.contents self.old.writer) (W.contents self.new.writer) result bytes.now }
+        ensures failures { self.new.failures ≡ self.old.failures + write_failures write_number result }
+    {
+        match self.writer.write(bytes) {
+            Ok(0) | Err(_) => {
+                self.failures += 1;
+                Err(WriteFault)
+            }
+            Ok(count) => Ok(count),
+        }
+    }
+}

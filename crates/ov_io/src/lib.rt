@@ -1,0 +1,12 @@
+//! A reader and a writer whose failures are counted. A program reads its whole input by the one, and writes its output
+//! by the other.
+#![tactic(auto)]
+
+mod counted;
+mod fault;
+mod sink;
+mod source;
+
+pub use fault::{ReadFault, WriteFault};
+pub use sink::Sink;
+pub use source::Source;

@@ -1,0 +1,101 @@
+-- A step of a node keeps its ids, and its active view changes as the step's changes say.
+use Rattle.std.proofs.Common.{◌≡◌, ℕ, List, [], ◌∷◌, length, Option, None, Some, not, ◌||◌, eqb, sym, ap, ◌∙◌, arith}
+use Rattle.std.specs.Prelude.{MatchOption}
+use Rattle.std.specs.FinMap as map
+use Rattle.ov_ids.specs.declared.id.MsgId.{MsgId}
+use Rattle.ov_ids.proofs.Cases.{either_way}
+use Rattle.ov_wire.specs.declared.message.Message.{Message}
+use Rattle.ov_wire.specs.declared.message.Body.{Body}
+use Rattle.ov_wire.specs.declared.message.Body.TheVariants.{Join, ForwardJoin, Joined, Neighbor, NeighborReply}
+use Rattle.ov_wire.specs.declared.message.Body.TheVariants.{Disconnect, Shuffle, ShuffleReply, Gossip, IHave, Graft}
+use Rattle.ov_wire.specs.declared.message.Body.TheVariants.{Prune}
+use Rattle.ov_words.specs.Pick.{Choice}
+use Rattle.ov_views.specs.Allowed.{Node, DoesNothing, boots, receives as hears, hears_of_crash, shuffles}
+use Rattle.ov_views.specs.Changes.{after_changes}
+use Rattle.ov_views.specs.declared.change.ViewChange.{ViewChange}
+use Rattle.ov_views.proofs.Tracking.{Tracks, tracked}
+use Rattle.ov_plum.specs.PlumRows.{AllowedFrom, Delivered, Fires}
+use Rattle.ov_plum.specs.PlumState.{PlumState, is_linked}
+use Rattle.ov_peer.specs.Step.{NodePart, TreePart, PeerStep}
+use Rattle.ov_peer.specs.PeerState.{PeerState}
+use Rattle.ov_peer.specs.declared.input.Delivery.{Delivery}
+use Rattle.ov_peer.specs.declared.input.Input.{Input}
+use Rattle.ov_peer.specs.declared.input.Input.TheVariants as input
+use Rattle.ov_peer.proofs.Steps.{told_me}
+
+-- where nothing changes, the step has no changes
+views_rest : (n : Node) (choices : List Choice) (m : Node) (changes : List ViewChange) → DoesNothing n choices m changes
+    → Tracks n.views changes m.views
+views_rest n choices m changes h = record {
+  me = ap (λ (u : Node). u.views.me) h.1;
+  active = ap (λ (u : Node). u.views.active) h.1 ∙ ap (λ c. after_changes c n.views.active) (sym h.2);
+  few = omega (arith, ap length h.2);
+}
+
+-- HyParView's part of a step changes the active view as its changes say
+views_tracked : (n : Node) (i : Input) (choices : List Choice) (m : Node) (changes : List ViewChange)
+    (heard : List (ℕ × Message)) → NodePart n i choices m changes heard → Tracks n.views changes m.views
+views_tracked n (input.Boot contact) choices m changes heard h = tracked n (boots contact) choices m changes heard h
+views_tracked n (input.Receive message) choices m changes heard h =
+    tracked n (hears message.from message.body) choices m changes heard h
+views_tracked n (input.Report p) choices m changes heard h = tracked n (hears_of_crash p) choices m changes heard h
+views_tracked n input.Shuffle choices m changes heard h = tracked n shuffles choices m changes heard h
+views_tracked n (input.Broadcast payload) choices m changes heard h = views_rest n choices m changes h.0
+views_tracked n (input.Timer id) choices m changes heard h = views_rest n choices m changes h.0
+
+-- a message does not change the id of a tree
+heard_me : (t : PlumState) (s : ℕ) (body : Body) (u : PlumState) (sends : List (ℕ × Message))
+    (delivery : Option Delivered) → AllowedFrom t s body u sends delivery → u.me ≡ t.me
+heard_me t s (Gossip id round payload) u sends delivery h =
+    either_way (map.contains_key t.held id) _ _ _ (λ k. ap (λ (r : PlumState). r.me) k.0)
+    (λ k. ap (λ (r : PlumState). r.me) k.0) h
+heard_me t s (IHave id) u sends delivery h =
+    either_way (map.contains_key t.held id || not (is_linked t.branches s)) _ _ _ (λ k. ap (λ (r : PlumState). r.me) k)
+    (λ k. ap (λ (r : PlumState). r.me) k) h.1
+heard_me t s (Graft id) u sends delivery h = ap (λ (r : PlumState). r.me) h.0
+heard_me t s Prune u sends delivery h = ap (λ (r : PlumState). r.me) h.0
+heard_me t s Join u sends delivery h = ap (λ (r : PlumState). r.me) h.0
+heard_me t s (ForwardJoin node ttl) u sends delivery h = ap (λ (r : PlumState). r.me) h.0
+heard_me t s Joined u sends delivery h = ap (λ (r : PlumState). r.me) h.0
+heard_me t s (Neighbor high) u sends delivery h = ap (λ (r : PlumState). r.me) h.0
+heard_me t s (NeighborReply accepted) u sends delivery h = ap (λ (r : PlumState). r.me) h.0
+heard_me t s Disconnect u sends delivery h = ap (λ (r : PlumState). r.me) h.0
+heard_me t s (Shuffle origin ttl ids) u sends delivery h = ap (λ (r : PlumState). r.me) h.0
+heard_me t s (ShuffleReply ids) u sends delivery h = ap (λ (r : PlumState). r.me) h.0
+
+-- nor does a timer
+fired_me : (t : PlumState) (id : MsgId) (notes : List ℕ) (u : PlumState) (sends : List (ℕ × Message))
+    → Fires t id notes u sends → u.me ≡ t.me
+fired_me t id [] u sends h = ap (λ (r : PlumState). r.me) h.0
+fired_me t id (s ∷ notes) u sends h = ap (λ (r : PlumState). r.me) h.0
+
+timed_me : (t : PlumState) (id : MsgId) (running : Option (List ℕ)) (u : PlumState) (sends : List (ℕ × Message))
+    → MatchOption running ⊥ (λ (notes : List ℕ). Fires t id notes u sends) → u.me ≡ t.me
+timed_me t id None u sends h = absurd h
+timed_me t id (Some notes) u sends h = fired_me t id notes u sends h
+
+-- nor does any step of Plumtree's part
+tree_stays : (t : PlumState) (i : Input) (u : PlumState) (spread : List (ℕ × Message)) (delivered : Option Delivered)
+    → TreePart t i u spread delivered → u.me ≡ t.me
+tree_stays t (input.Boot contact) u spread delivered h = ap (λ (s : PlumState). s.me) h.0
+tree_stays t (input.Receive message) u spread delivered h =
+    either_way (eqb message.from t.me) _ _ _ (λ k. ap (λ (s : PlumState). s.me) k.0)
+    (heard_me t message.from message.body u spread delivered) h
+tree_stays t (input.Report p) u spread delivered h = ap (λ (s : PlumState). s.me) h.0
+tree_stays t input.Shuffle u spread delivered h = ap (λ (s : PlumState). s.me) h.0
+tree_stays t (input.Broadcast payload) u spread delivered h = ap (λ (s : PlumState). s.me) h.0
+tree_stays t (input.Timer id) u spread delivered h = timed_me t id (map.get t.timers id) u spread h.1
+
+-- after a step a node has the ids that it had, and its active view is the old one after the step's changes
+pub record PeerTracks (p : PeerState) (told : List ViewChange) (q : PeerState) : Type 0 where
+  pub views : Tracks p.node.views told q.node.views
+  pub tree : q.tree.me ≡ p.tree.me
+
+-- at every input
+pub peer_tracked : (p : PeerState) (i : Input) (choices : List Choice) (q : PeerState) (sends : List (ℕ × Message))
+    (told : List ViewChange) (delivery : Option Delivery)
+    → PeerStep p i choices q sends told delivery → PeerTracks p told q
+peer_tracked p i choices q sends told delivery h = record {
+  views = views_tracked p.node i choices q.node told h.0 h.4;
+  tree = told_me h.1 told q.tree h.6 ∙ tree_stays p.tree i h.1 h.2 h.3 h.5;
+}

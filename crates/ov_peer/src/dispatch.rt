@@ -1,0 +1,55 @@
+ghost use Rattle.std.specs.Prelude.{◌≡◌, ◌≤◌, ◌+◌, length, vec_len, IfOk, OnErr};
+ghost use Rattle.ov_wire.specs.Messages.{AreInRange, AreSendsInRange};
+ghost use Rattle.ov_words.specs.Pick.{Drawn};
+ghost use Rattle.ov_views.specs.Allowed.{Allowed, receives};
+
+use ov_ids::{NodeId, OutOfMemory};
+use ov_neighbor::Attempt;
+use ov_shuffle::Sent;
+use ov_views::{Moves, Views};
+use ov_wire::Body;
+use ov_words::Draws;
+use std::alloc::Global;
+
+/// HyParView's part of a node, at a message from another.
+pub(crate) fn hear(
+    alloc: Global,
+    views: &mut Views,
+    attempt: &mut Attempt,
+    sent: &Sent,
+    draws: &mut Draws<'_>,
+    from: NodeId,
+    body: &Body,
+) -> Result<Moves, OutOfMemory>
+    requires words { 40 ≤ length draws.old }
+    requires range { AreInRange (record { from = from; body = body.now }) }
+    ensures allowed { IfOk result (λ m. Drawn draws.old draws.new (λ choices. Allowed
+        (record { views = views.old; attempt = attempt.old; sent = sent.now }) (receives from body.now) choices
+        (record { views = views.new; attempt = attempt.new; sent = sent.now }) m.changes.items m.sends.items)) }
+    ensures words { length draws.old ≤ length draws.new + 40 }
+    ensures few { IfOk result (λ m. vec_len m.sends ≤ 17) }
+    ensures ranges { IfOk result (λ m. AreSendsInRange m.sends.items) }
+    ensures err { OnErr result ((views.new ≡ views.old) × (attempt.new ≡ attempt.old) × (draws.new ≡ draws.old)) }
+{
+    match body {
+        Body::Join => ov_join::on_join(alloc, views, draws, from),
+        Body::ForwardJoin { node, ttl } => {
+            ov_join::on_forward_join(alloc, views, draws, from, *node, *ttl)
+        }
+        Body::Joined => ov_join::on_joined(alloc, views, draws, from),
+        Body::Neighbor { high } => ov_neighbor::on_neighbor(alloc, views, draws, from, *high),
+        Body::NeighborReply { accepted } => {
+            ov_neighbor::on_reply(alloc, views, attempt, draws, from, *accepted)
+        }
+        Body::Disconnect => ov_neighbor::on_disconnect(alloc, views, draws, from),
+        Body::Shuffle { origin, ttl, ids } => {
+            ov_shuffle::on_shuffle(alloc, views, draws, from, *origin, *ttl, ids.as_slice())
+        }
+        Body::ShuffleReply { ids } => {
+            ov_shuffle::on_reply(alloc, views, sent, draws, from, ids.as_slice())
+        }
+        Body::Gossip { .. } | Body::IHave { .. } | Body::Graft { .. } | Body::Prune => {
+            Moves::with_room(alloc, 0)
+        }
+    }
+}

@@ -1,0 +1,3 @@
+-- Graph files, and what their analysis prints.
+pub mod Answered
+pub mod Gathering

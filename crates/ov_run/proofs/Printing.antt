@@ -1,0 +1,3 @@
+-- What a scenario prints.
+pub mod Ending
+pub mod Running

@@ -1,0 +1,96 @@
+-- What is printed up to some point, and what went to a writer of that.
+use Rattle.std.proofs.Common.{◌⊎◌, inl, inr, ℕ, Option, List, [], ◌∷◌, ◌++◌, append_assoc, ap, sym, ◌∙◌, refl}
+use Rattle.std.proofs.Common.{Result, Ok, Err, OnOk, IsErrAnd, IsErrOf, subst}
+use Rattle.std.proofs.KnownBytes.{Appends-nil, Appends-trans}
+use Rattle.std.proofs.lemmas.List.{append-nil}
+use Rattle.std.specs.Io.KnownBytes.{Appends}
+use Rattle.ov_io.specs.Device.{AppendsPrefixOf}
+use Rattle.ov_snap.specs.CoreState.{CoreState, opening_core}
+use Rattle.ov_run.specs.Ending.{BeginsLook, BeginsLine, BeginsLines, IsBegun}
+use Rattle.ov_run.specs.Running.{PrintsLook, PrintsLine, PrintsLines, IsOutput}
+use Rattle.ov_run.specs.Code.Writing.{Writes}
+use Rattle.ov_run.specs.declared.scenario.Line.{Line}
+use Rattle.ov_run.specs.declared.scenario.Line.TheVariants as line
+use Rattle.ov_run.specs.declared.scenario.Look.{Look}
+use Rattle.ov_run.specs.declared.scenario.Look.TheVariants.{Show, Packets, Certificate}
+
+look_nothing : (b : CoreState) (look : Look) → BeginsLook b look []
+look_nothing b (Show id) = refl
+look_nothing b Packets = (0, refl)
+look_nothing b (Certificate subject) = refl
+
+line_nothing : (b : CoreState) (line : Line) → BeginsLine b line []
+line_nothing b (line.Event event words) = refl
+line_nothing b (line.Look look) = look_nothing b look
+line_nothing b (line.Analyse subject) = refl
+
+-- nothing is printed yet
+pub nothing : (b : CoreState) (lines : List Line) → BeginsLines b lines []
+nothing b [] = refl
+nothing b (line ∷ lines) = inl (line_nothing b line)
+
+-- a line is printed whole, and no other follows it
+pub whole : (b : CoreState) (line : Line) (next : CoreState) (text : List ℕ) → PrintsLine b line next text
+    → BeginsLines b (line ∷ []) text
+whole b line next text prints = inr (next, text, [], prints, refl, sym (append-nil text))
+
+-- a look is printed, whole or up to some point
+pub looked : (b : CoreState) (look : Look) (text : List ℕ) → BeginsLook b look text ⊎ PrintsLook b look text
+    → BeginsLines b (line.Look look ∷ []) text
+looked b look text (inl begins) = inl begins
+looked b look text (inr prints) = whole b (line.Look look) b text (refl, prints)
+
+-- what begins a line begins it also where others follow it
+pub followed : (b : CoreState) (line : Line) (lines : List Line) (text : List ℕ) → BeginsLines b (line ∷ []) text
+    → BeginsLines b (line ∷ lines) text
+followed b line lines text (inl begins) = inl begins
+followed b line lines text (inr (next, own, others, prints, none, is)) =
+    inr (next, own, [], prints, nothing next lines, is ∙ ap (λ t. own ++ t) none)
+
+-- all lines are printed, so they are up to the last point
+pub all_printed : (b : CoreState) (lines : List Line) (u : CoreState) (text : List ℕ) → PrintsLines b lines u text
+    → BeginsLines b lines text
+all_printed b [] u text prints = prints.1
+all_printed b (line ∷ lines) u text (next, own, others, first, rest, is) =
+    inr (next, own, others, first, all_printed next lines u others rest, is)
+
+pub output_begun : (bytes text : List ℕ) → IsOutput bytes text → IsBegun bytes text
+output_begun bytes text o = record {
+  scenario = o.scenario;
+  says = o.says;
+  lines = all_printed (opening_core o.scenario.params) o.scenario.lines.items o.core text o.lines;
+}
+
+-- ---- prefixes of what went to a writer
+
+-- nothing went
+pub none_went : (a : Option (List ℕ)) (text : List ℕ) → AppendsPrefixOf text a a
+none_went a text = ([], text, Appends-nil a, refl)
+
+-- all of it went
+pub all_went : (a b : Option (List ℕ)) (text : List ℕ) → Appends a b text → AppendsPrefixOf text a b
+all_went a b text appends = (text, [], appends, append-nil text)
+
+-- all of a text went, and then a prefix of another
+pub prefix_went :
+    (a b c : Option (List ℕ)) (text own : List ℕ) → Appends a b text → AppendsPrefixOf own b c
+    → AppendsPrefixOf (text ++ own) a c
+prefix_went a b c text own first (prefix, rest, appends, is) = (
+  text ++ prefix,
+  rest,
+  Appends-trans a b c text prefix first appends,
+  append_assoc text prefix rest ∙ ap (λ t. text ++ t) is,
+)
+
+-- ---- what a call wrote
+
+-- where a call wrote this text whole, it wrote a text of its kind
+pub wrote :
+    {T E : Type 0} (IsText : List ℕ → Type 0) (a b : Option (List ℕ)) (text : List ℕ) (result : Result T E) → IsText text
+    → OnOk result (Appends a b text) → OnOk result (Writes IsText a b)
+wrote IsText a b text (Ok u) is appends = (text, is, appends)
+wrote IsText a b text (Err e) is appends = tt
+
+-- the fault of a failure is of the kind that all its faults are
+pub err_of : {T E : Type 0} (Is : E → Type 0) (r : Result T E) (f : E) → IsErrAnd r Is → IsErrOf r f → Is f
+err_of Is r f all is = subst (λ q. IsErrAnd q Is) is all

@@ -1,0 +1,94 @@
+-- What was printed so far, and what is left to print.
+use Rattle.std.proofs.Common.{inr, arith, ◌<◌, take, get_or, ◌≡◌, ◌≢◌, Option, ◌∙◌, ℕ, suc}
+use Rattle.std.proofs.Common.{◌+◌, List, [], ◌∷◌, ◌++◌, append_assoc, length, Some, None, ap, sym, subst, refl}
+use Rattle.std.proofs.lemmas.List.{append-nil, length-take-le}
+use Rattle.std.proofs.Math.Numerals.{suc-eq-add-one}
+use Rattle.std.proofs.Math.Seq.{take-suc}
+use Rattle.ov_wire.specs.Messages.{Spelling}
+use Rattle.ov_wire.specs.declared.message.Message.{Message}
+use Rattle.ov_net.specs.declared.member.Member.{Member}
+use Rattle.ov_net.specs.declared.member.Member.TheVariants.{Live, Gone}
+use Rattle.ov_peer.specs.PeerState.{PeerState}
+use Rattle.ov_snap.specs.CoreState.{CoreState}
+use Rattle.ov_run.specs.Ending.{BeginsLines, EndsLines}
+use Rattle.ov_run.specs.Printed.{packet_line}
+use Rattle.ov_run.specs.Running.{PrintsLine, PrintsLines, PrintsPackets}
+use Rattle.ov_run.specs.declared.scenario.Line.{Line}
+
+-- this text was printed of all lines, and these are left: with what they print now, whole, up to some point or up to
+-- their end out of memory, all lines print this text before it
+pub record SoFar (b : CoreState) (all : List Line) (now : CoreState) (lines : List Line) (text : List ℕ) : Type 0 where
+  pub whole : (u : CoreState) (later : List ℕ) → PrintsLines now lines u later → PrintsLines b all u (text ++ later)
+  pub prefix : (later : List ℕ) → BeginsLines now lines later → BeginsLines b all (text ++ later)
+  pub ends : (later : List ℕ) → EndsLines now lines later → EndsLines b all (text ++ later)
+
+pub begun : (b : CoreState) (lines : List Line) → SoFar b lines b lines []
+begun b lines = record { whole = λ u later prints. prints; prefix = λ later begins. begins; ends = λ later ends. ends }
+
+pub more :
+    (b : CoreState) (all : List Line) (now next : CoreState) (line : Line) (lines : List Line) (text own : List ℕ)
+    → SoFar b all now (line ∷ lines) text → PrintsLine now line next own → SoFar b all next lines (text ++ own)
+more b all now next line lines text own so_far prints = record {
+  whole = λ u later others.
+      subst (λ t. PrintsLines b all u t) (sym (append_assoc text own later))
+      (so_far.whole u (own ++ later) (next, own, later, prints, others, refl));
+  prefix = λ later others.
+      subst (λ t. BeginsLines b all t) (sym (append_assoc text own later))
+      (so_far.prefix (own ++ later) (inr (next, own, later, prints, others, refl)));
+  ends = λ later others.
+      subst (λ t. EndsLines b all t) (sym (append_assoc text own later))
+      (so_far.ends (own ++ later) (inr (next, own, later, prints, others, refl)));
+}
+
+pub ended : (b : CoreState) (all : List Line) (now : CoreState) (text : List ℕ) → SoFar b all now [] text
+    → PrintsLines b all now text
+ended b all now text so_far = subst (λ t. PrintsLines b all now t) (append-nil text) (so_far.whole now [] (refl, refl))
+
+-- one packet more is printed, at the place behind these
+pub packets_more :
+    (place : ℕ) (packets : List (ℕ × Message)) (packet : ℕ × Message) (text bytes : List ℕ)
+    → PrintsPackets place packets text → Spelling packet.1 bytes
+    → PrintsPackets place (packets ++ packet ∷ []) (text ++ packet_line (place + length packets) packet.0 bytes)
+packets_more place [] packet text bytes prints spelling =
+    let at : place + 0 ≡ place = omega arith in
+    let line : text ++ packet_line (place + 0) packet.0 bytes ≡ packet_line place packet.0 bytes =
+    ap (λ t. t ++ packet_line (place + 0) packet.0 bytes) prints ∙ ap (λ n. packet_line n packet.0 bytes) at in
+    (bytes, [], spelling, refl, line ∙ sym (append-nil (packet_line place packet.0 bytes)))
+packets_more place (first ∷ packets) packet text bytes (own, others, spelled, prints, is) spelling =
+    let at : place + 1 + length packets ≡ place + suc (length packets) = omega arith in
+    let last = packet_line (place + suc (length packets)) packet.0 bytes in
+    let behind = subst (λ n. PrintsPackets (place + 1) (packets ++ packet ∷ [])
+    (others ++ packet_line n packet.0 bytes)) at
+    (packets_more (place + 1) packets packet others bytes prints spelling) in (
+      own,
+      others ++ last,
+      spelled,
+      behind,
+      ap (λ t. t ++ last) is
+          ∙ append_assoc (packet_line place first.0 own) others last,
+    )
+
+-- who was born and does not live crashed
+pub gone : (o : Option Member) → o ≢ None → ((p : PeerState) → ¬ (o ≡ Some (Live p))) → o ≡ Some Gone
+gone None born absent = absurd (born refl)
+gone (Some (Live p)) born absent = absurd (absent p refl)
+gone (Some Gone) born absent = refl
+
+-- the packet at the next place is printed, and this is its line
+pub packets_next :
+    (all : List (ℕ × Message)) (place to : ℕ) (packet : ℕ × Message) (text bytes line : List ℕ) → place < length all
+    → packet ≡ get_or all place packet
+    → to ≡ packet.0 → Spelling packet.1 bytes → line ≡ packet_line place to bytes
+    → PrintsPackets 0 (take place all) text
+    → PrintsPackets 0 (take (place + 1) all) (text ++ line)
+packets_next all place to packet text bytes line within is its spelling line_is prints =
+    let long = length-take-le place all (omega (arith, within)) in
+    let count : 0 + length (take place all) ≡ place = omega (arith, long) in
+    let next : take place all ++ packet ∷ [] ≡ take (place + 1) all =
+    sym (ap (λ n. take n all) (sym (suc-eq-add-one place)) ∙ take-suc all place packet within
+    ∙ ap (λ p. take place all ++ p ∷ []) (sym is)) in
+    let own : packet_line (0 + length (take place all)) packet.0 bytes ≡ line =
+    ap (λ n. packet_line n packet.0 bytes) count ∙ ap (λ a. packet_line place a bytes) (sym its) ∙ sym line_is in
+    subst (λ ps. PrintsPackets 0 ps (text ++ line)) next
+    (subst (λ t. PrintsPackets 0 (take place all ++ packet ∷ []) (text ++ t)) own
+    (packets_more 0 (take place all) packet text bytes prints spelling))

@@ -1,0 +1,3 @@
+-- Reports of a scenario.
+pub mod Filed
+pub mod ReportState

@@ -1,0 +1,5 @@
+-- What a scenario file says.
+pub mod Collecting
+pub mod Drawn
+pub mod Judged
+pub mod Placed

@@ -1,0 +1,18 @@
+-- What the parts of a run write, and how they fail.
+use Rattle.std.specs.Prelude.{◌≡◌, ◌⊎◌, ℕ, List, Option}
+use Rattle.std.specs.Io.KnownBytes.{Appends}
+use Rattle.ov_io.specs.Device.{AppendsPrefixOf}
+use Rattle.ov_run.specs.declared.fault.RunFault.{RunFault}
+use Rattle.ov_run.specs.declared.fault.RunFault.TheVariants.{Write, OutOfMemory}
+
+-- the writer took a whole text of this kind
+abbrev pub Writes : (List ℕ → Type 0) → Option (List ℕ) → Option (List ℕ) → Type 0
+Writes IsText before after = (text : List ℕ) × IsText text × Appends before after text
+
+-- the writer took a prefix of a text of this kind
+abbrev pub WritesPrefix : (List ℕ → Type 0) → Option (List ℕ) → Option (List ℕ) → Type 0
+WritesPrefix IsText before after = (text : List ℕ) × IsText text × AppendsPrefixOf text before after
+
+-- the writer failed, or an allocation was refused
+abbrev pub IsOfWriting : RunFault → Type 0
+IsOfWriting fault = (fault ≡ Write) ⊎ (fault ≡ OutOfMemory)

@@ -1,0 +1,94 @@
+-- What a run has printed where it ended early. Each line is then printed whole or not at all, but `packets`, whose
+-- packets are printed one by one. Chosen here.
+use Rattle.std.specs.Prelude.{◌≡◌, ◌⊎◌, ℕ, List, [], ◌∷◌, ◌++◌, Option, IfSome, take}
+use Rattle.std.specs.Io.KnownBytes.{Appends}
+use Rattle.ov_io.specs.Device.{AppendsPrefixOf}
+use Rattle.ov_net.specs.Net.{LivesAs}
+use Rattle.ov_net.specs.declared.entry.Entry.{Entry}
+use Rattle.ov_peer.specs.PeerState.{PeerState}
+use Rattle.ov_wire.specs.declared.message.Message.{Message}
+use Rattle.ov_snap.specs.CoreState.{CoreState, opening_core}
+use Rattle.ov_snap.specs.Run.{Happened}
+use Rattle.ov_run.specs.Running.{PrintsLine, PrintsPackets}
+use Rattle.ov_run.specs.Scenarios.{IsScenario}
+use Rattle.ov_run.specs.declared.scenario.Line.{Line}
+use Rattle.ov_run.specs.declared.scenario.Line.TheVariants as line
+use Rattle.ov_run.specs.declared.scenario.Look.{Look}
+use Rattle.ov_run.specs.declared.scenario.Look.TheVariants.{Show, Packets, Certificate}
+use Rattle.ov_run.specs.declared.scenario.Scenario.{Scenario}
+
+-- ---- however it ended
+
+-- the lines of the first of these packets
+abbrev pub BeginsPackets : List (ℕ × Message) → List ℕ → Type 0
+BeginsPackets packets text = (count : ℕ) × PrintsPackets 0 (take count packets) text
+
+-- what is printed of a look that is not printed whole: of `packets` the lines of the first packets, and else nothing
+abbrev pub BeginsLook : CoreState → Look → List ℕ → Type 0
+BeginsLook b (Show id) text = text ≡ []
+BeginsLook b Packets text = BeginsPackets b.world.net.packets text
+BeginsLook b (Certificate subject) text = text ≡ []
+
+-- what is printed of a line that is not printed whole: of an event and of an analysis nothing
+abbrev pub BeginsLine : CoreState → Line → List ℕ → Type 0
+BeginsLine b (line.Event event words) text = text ≡ []
+BeginsLine b (line.Look look) text = BeginsLook b look text
+BeginsLine b (line.Analyse subject) text = text ≡ []
+
+-- the lines in order, up to some point: the first is not printed whole, or it is and the others begin
+abbrev pub BeginsLines : CoreState → List Line → List ℕ → Type 0
+BeginsLines b [] text = text ≡ []
+BeginsLines b (line ∷ lines) text =
+    BeginsLine b line text
+    ⊎ ((next : CoreState) × (own : List ℕ) × (others : List ℕ) × PrintsLine b line next own
+    × BeginsLines next lines others
+    × (text ≡ own ++ others))
+
+-- as `IsOutput`, but the lines are printed up to some point
+pub record IsBegun (bytes text : List ℕ) : Type 0 where
+  pub scenario : Scenario
+  pub says : IsScenario bytes scenario
+  pub lines : BeginsLines (opening_core scenario.params) scenario.lines.items text
+
+-- all that the reader had was read, and what the writer took is a prefix of what the scenario prints up to some point
+abbrev pub Begins : Option (List ℕ) → Option (List ℕ) → Option (List ℕ) → Type 0
+Begins reader before after =
+    (bytes : List ℕ) × (text : List ℕ) × IfSome reader (λ xs. bytes ≡ xs) × IsBegun bytes text
+    × AppendsPrefixOf text before after
+
+-- ---- where it ended out of memory
+
+-- a look that ends a run out of memory, and what it printed: a node that lives, of which nothing was printed, or
+-- packets, of which the first were. A certificate ends no run: it prints `refused 99`
+abbrev pub EndsLook : CoreState → Look → List ℕ → Type 0
+EndsLook b (Show id) text = ((peer : PeerState) × LivesAs b.world.net id peer) × (text ≡ [])
+EndsLook b Packets text = BeginsPackets b.world.net.packets text
+EndsLook b (Certificate subject) text = ⊥
+
+-- a line that ends a run out of memory, and what it printed: an event that happened, of which nothing was printed, or a
+-- look. An event that does not happen ends no run, and no analysis does: out of memory they print `refused 99`
+abbrev pub EndsLine : CoreState → Line → List ℕ → Type 0
+EndsLine b (line.Event event words) text = ((e : Entry) × (u : CoreState) × Happened b event words e u) × (text ≡ [])
+EndsLine b (line.Look look) text = EndsLook b look text
+EndsLine b (line.Analyse subject) text = ⊥
+
+-- the lines in order, up to one that ends the run out of memory
+abbrev pub EndsLines : CoreState → List Line → List ℕ → Type 0
+EndsLines b [] text = ⊥
+EndsLines b (line ∷ lines) text =
+    EndsLine b line text
+    ⊎ ((next : CoreState) × (own : List ℕ) × (others : List ℕ) × PrintsLine b line next own
+    × EndsLines next lines others
+    × (text ≡ own ++ others))
+
+-- as `IsOutput`, but the lines end out of memory
+pub record IsEnded (bytes text : List ℕ) : Type 0 where
+  pub scenario : Scenario
+  pub says : IsScenario bytes scenario
+  pub lines : EndsLines (opening_core scenario.params) scenario.lines.items text
+
+-- all that the reader had was read, and the writer took all that the scenario prints before it ends out of memory
+abbrev pub Ends : Option (List ℕ) → Option (List ℕ) → Option (List ℕ) → Type 0
+Ends reader before after =
+    (bytes : List ℕ) × (text : List ℕ) × IfSome reader (λ xs. bytes ≡ xs) × IsEnded bytes text
+    × Appends before after text

@@ -1,0 +1,150 @@
+ghost use Rattle.std.specs.Prelude.{◌≡◌, ◌≢◌, ◌⊎◌, ◌+◌, ◌<◌, option_map, string_bytes, Err, IfOk, IfErr, OnOk, IsErrOf};
+ghost use Rattle.ov_cert.specs.Valid.{IsValidForGroup};
+ghost use Rattle.ov_io.specs.Device.{most_faults, ReaderFailed};
+ghost use Rattle.ov_even.specs.Answer.{IsAnswer};
+ghost use Rattle.ov_even.specs.Faults.{IsRefusal};
+ghost use Rattle.ov_run.specs.Analysing.{answer_text, PrintsAnswer, IsAnalysis, PrintsAnalysis, BeginsAnalysis};
+ghost use Rattle.ov_run.specs.Faults.{read_failures, write_failures, IsAnalysisFault};
+ghost use Rattle.ov_run.specs.GraphFiles.{IsGraphFileFault};
+ghost use Rattle.ov_run.specs.Printed.{refused_line};
+ghost use Rattle.ov_run.specs.Subjects.{members_of};
+
+use crate::fault::RunFault;
+use crate::graph_file::read_graph;
+use crate::printed_lines::{refused_line, report_line};
+use ov_cert::Checked;
+use ov_certfile::to_text_group;
+use ov_even::{AnalyseFault, Watcher, analyse_group_watched};
+use ov_graph::Graph;
+use ov_ids::{NodeId, OutOfMemory};
+use ov_io::{Sink, Source};
+use std::alloc::Global;
+use std::io::{Read, Write};
+
+/// Reads a graph file to its end, finds how few crashes of nodes part a group of its nodes, and writes the line of the
+/// answer; the certificate file follows it where that is asked for. Without a group, all nodes are the group. Returns
+/// the program's status, 0. A graph without nodes (30) and ids that are no group (34) are refusals that are printed,
+/// and no faults. The watcher is told how far the analysis has come.
+///
+/// Line (70) is returned for the first line that can't be read, Graph with the number of its fault where the lines say
+/// no graph, and Read (71) where the reader failed in this call. Write (72) is returned where the writer failed in this
+/// call, and then a prefix of the text was written. With any other fault nothing was written. OutOfMemory (99) is
+/// returned where an allocation was refused. The numbers and the form of what is printed are chosen here.
+pub fn analyse_file<R: Read, W: Write, P: Watcher>(
+    alloc: Global,
+    source: &mut Source<R>,
+    sink: &mut Sink<W>,
+    group: Option<&[NodeId]>,
+    certificate: bool,
+    watcher: &mut P,
+) -> Result<u8, RunFault>
+    requires reads { source.old.faults < most_faults }
+    requires writes { sink.old.faults < most_faults }
+    ensures status { IfOk result (λ status. status ≡ 0) }
+    ensures prints { OnOk result
+        (PrintsAnalysis (R.remaining source.old.reader) (option_map (λ ids. ids.now) group.entry) certificate
+        (W.contents sink.old.writer) (W.contents sink.new.writer)) }
+    ensures begun { (sink.new ≡ sink.old)
+        ⊎ BeginsAnalysis (R.remaining source.old.reader) (option_map (λ ids. ids.now) group.entry) certificate
+        (W.contents sink.old.writer) (W.contents sink.new.writer) }
+    ensures source { source.new.faults ≡ source.old.faults + read_failures result }
+    ensures failed { IsErrOf result RunFault.Read → ReaderFailed source.old source.new }
+    ensures not_failed { result ≢ Err RunFault.Read → source.new.failures ≡ source.old.failures }
+    ensures sink { sink.new.faults ≡ sink.old.faults + write_failures result }
+    ensures unwritten { IfErr result (λ f. ¬ (f ≡ RunFault.Write) → sink.new ≡ sink.old) }
+    ensures fault { IfErr result (IsAnalysisFault (R.remaining source.old.reader)) }
+{
+    let bytes = source.read_all(alloc)?;
+    let text = text_for(alloc, &bytes, group, certificate, watcher)?;
+    sink.write_all(text.as_bytes())?;
+    Ok(0)
+}
+
+/// What is printed of a graph file.
+fn text_for<P: Watcher>(
+    alloc: Global,
+    bytes: &[u8],
+    group: Option<&[NodeId]>,
+    certificate: bool,
+    watcher: &mut P,
+) -> Result<String, RunFault>
+    ensures text { IfOk result
+        (λ text. IsAnalysis bytes.now (option_map (λ ids. ids.now) group.entry) certificate (string_bytes text)) }
+    ensures fault { IfErr result (λ f. IsGraphFileFault bytes.now f ⊎ (f ≡ RunFault.OutOfMemory)) }
+{
+    let graph = read_graph(alloc, bytes)?;
+    let members = members_of(group, &graph);
+    Ok(answer_for(alloc, &graph, members, certificate, watcher)?)
+}
+
+/// The group that is asked for, or all nodes of the graph.
+fn members_of<'a>(group: Option<&'a [NodeId]>, graph: &'a Graph) -> &'a [NodeId]
+    ensures { result.now ≡ members_of (option_map (λ ids. ids.now) group.entry) graph.now }
+{
+    match group {
+        Some(ids) => ids,
+        None => graph.nodes(),
+    }
+}
+
+/// What is printed of this graph and this group.
+fn answer_for<P: Watcher>(
+    alloc: Global,
+    graph: &Graph,
+    group: &[NodeId],
+    certificate: bool,
+    watcher: &mut P,
+) -> Result<String, OutOfMemory>
+    ensures { IfOk result (λ text. PrintsAnswer graph.now group.now certificate (string_bytes text)) }
+{
+    let answer = analyse_group_watched(alloc, graph, group, watcher);
+    text_of(alloc, graph, group, &answer, certificate)
+}
+
+/// What is printed of the answer of an analysis of this graph and this group.
+#[tactic(auto, using(crate::proofs::GraphFiles::Answered::printed))]
+fn text_of(
+    alloc: Global,
+    graph: &Graph,
+    group: &[NodeId],
+    answer: &Result<Checked, AnalyseFault>,
+    certificate: bool,
+) -> Result<String, OutOfMemory>
+    requires graph { IfOk answer.now (λ c. c.graph ≡ graph.now) }
+    requires members { IfOk answer.now (λ c. c.members ≡ group.now) }
+    requires answer { IfOk answer.now (λ c. IsAnswer graph.now group.now c.cert) }
+    requires refused { IfErr answer.now (λ fault. IsRefusal graph.now group.now fault) }
+    ensures { IfOk result (λ text. PrintsAnswer graph.now group.now certificate (string_bytes text)) }
+{
+    match answer {
+        Ok(checked) => report_text(alloc, checked, certificate),
+        Err(fault) => match fault {
+            AnalyseFault::OutOfMemory => Err(OutOfMemory),
+            AnalyseFault::NoNodes => refused_text(alloc, 30),
+            AnalyseFault::BadGroup => refused_text(alloc, 34),
+        },
+    }
+}
+
+/// The line of a refusal.
+fn refused_text(alloc: Global, number: u32) -> Result<String, OutOfMemory>
+    ensures { IfOk result (λ text. string_bytes text ≡ refused_line number) }
+{
+    Ok(String::from_str(alloc, refused_line(number).as_str())?)
+}
+
+/// The line of a certificate. The certificate file follows it where that is asked for.
+#[tactic(auto, unfolding(crate::specs::Analysing::answer_text))]
+fn report_text(alloc: Global, checked: &Checked, certificate: bool) -> Result<String, OutOfMemory>
+    ensures text { IfOk result (λ text. string_bytes text
+        ≡ answer_text checked.now.cert checked.now.graph checked.now.members certificate) }
+    ensures valid { IsValidForGroup checked.now.graph checked.now.members checked.now.cert }
+{
+    let (cert, graph, group) = (checked.cert(), checked.graph(), checked.members());
+    let line = report_line(alloc, 0, checked)?;
+    if !certificate {
+        return Ok(line);
+    }
+    let file = to_text_group(alloc, cert, graph, group, 0)?;
+    Ok(format!(in alloc; "{line}{file}\n")?)
+}

@@ -1,0 +1,142 @@
+ghost use Rattle.std.specs.Prelude.{◌≡◌, ◌⊎◌, ◌<◌, ◌+◌, ◌∷◌, [], IfErr, OnOk, IsErrOf};
+ghost use Rattle.ov_io.specs.Device.{most_faults, write_failures as sink_failures, write_number};
+ghost use Rattle.ov_net.specs.declared.entry.Entry.{Entry};
+ghost use Rattle.ov_snap.specs.CoreState.{CoreState, opening_core};
+ghost use Rattle.ov_snap.specs.Run.{Happened};
+ghost use Rattle.ov_run.specs.Ending.{BeginsLines, BeginsLook, EndsLine, EndsLines, EndsLook};
+ghost use Rattle.ov_run.specs.Faults.{write_failures};
+ghost use Rattle.ov_run.specs.Running.{PrintsEvent, PrintsReportLine, PrintsLook, PrintsLine, PrintsLines};
+ghost use Rattle.ov_run.specs.Code.Writing.{Writes, WritesPrefix, IsOfWriting};
+
+use crate::fault::RunFault;
+use crate::line_writing::{
+    write_certificate, write_entry, write_node, write_packets, write_refusal,
+};
+use crate::report_filing::file_analysis;
+use crate::scenario::{Line, Look, Subject};
+use ov_ids::Params;
+use ov_io::{Sink, WriteFault};
+use ov_net::Event;
+use ov_snap::Core;
+use ov_words::Words;
+use std::alloc::Global;
+use std::io::Write;
+
+/// Runs these lines in a world in which nothing happened, and writes what they print.
+pub(crate) fn run_lines<W: Write>(
+    alloc: Global,
+    params: Params,
+    lines: Vec<Line>,
+    sink: &mut Sink<W>,
+) -> Result<(), RunFault>
+    requires faults { sink.old.faults < most_faults }
+    ensures prints { OnOk result ((core : CoreState) × Writes (PrintsLines (opening_core params) lines.items core)
+        (W.contents sink.old.writer) (W.contents sink.new.writer)) }
+    ensures begun { WritesPrefix (BeginsLines (opening_core params) lines.items)
+        (W.contents sink.old.writer) (W.contents sink.new.writer) }
+    ensures memory { IsErrOf result RunFault.OutOfMemory → Writes (EndsLines (opening_core params) lines.items)
+        (W.contents sink.old.writer) (W.contents sink.new.writer) }
+    ensures faults { sink.new.faults ≡ sink.old.faults + write_failures result }
+    ensures kind { IfErr result IsOfWriting }
+{
+    let mut core = Core::new(alloc, params);
+    for line in lines {
+        run_line(alloc, &mut core, line, sink)?;
+    }
+    Ok(())
+}
+
+/// Runs one line, and writes what it prints.
+fn run_line<W: Write>(
+    alloc: Global,
+    core: &mut Core,
+    line: Line,
+    sink: &mut Sink<W>,
+) -> Result<(), RunFault>
+    requires faults { sink.old.faults < most_faults }
+    ensures prints { OnOk result (Writes (PrintsLine core.old line core.new)
+        (W.contents sink.old.writer) (W.contents sink.new.writer)) }
+    ensures begun { WritesPrefix (BeginsLines core.old (line ∷ []))
+        (W.contents sink.old.writer) (W.contents sink.new.writer) }
+    ensures memory { IsErrOf result RunFault.OutOfMemory → Writes (EndsLine core.old line)
+        (W.contents sink.old.writer) (W.contents sink.new.writer) }
+    ensures faults { sink.new.faults ≡ sink.old.faults + write_failures result }
+    ensures kind { IfErr result IsOfWriting }
+{
+    match line {
+        Line::Event { event, words } => run_event(alloc, core, event, &words, sink),
+        Line::Look(look) => write_look(alloc, core, look, sink),
+        Line::Analyse(subject) => Ok(run_analysis(alloc, core, &subject, sink)?),
+    }
+}
+
+/// Lets an event happen, or be refused, and writes the line of that. An event that is out of memory is refused as any
+/// other: only where an event happened and its line can't be made is OutOfMemory returned.
+fn run_event<W: Write>(
+    alloc: Global,
+    core: &mut Core,
+    event: Event,
+    words: &Words,
+    sink: &mut Sink<W>,
+) -> Result<(), RunFault>
+    requires faults { sink.old.faults < most_faults }
+    ensures prints { OnOk result (Writes (PrintsEvent core.old event words.now core.new)
+        (W.contents sink.old.writer) (W.contents sink.new.writer)) }
+    ensures begun { WritesPrefix (PrintsEvent core.old event words.now core.new)
+        (W.contents sink.old.writer) (W.contents sink.new.writer) }
+    ensures happened { IsErrOf result RunFault.OutOfMemory
+        → (entry : Entry) × Happened core.old event words.now entry core.new }
+    ensures nothing { IsErrOf result RunFault.OutOfMemory → sink.new ≡ sink.old }
+    ensures faults { sink.new.faults ≡ sink.old.faults + write_failures result }
+    ensures kind { IfErr result IsOfWriting }
+{
+    match core.step(event, words) {
+        Ok(entry) => write_entry(alloc, &entry, sink),
+        Err(fault) => Ok(write_refusal(fault.number(), sink)?),
+    }
+}
+
+/// Analyses a subject and files the report, or refuses, and writes the line of that. Out of memory is a refusal, so
+/// that only the writer can fail.
+fn run_analysis<W: Write>(
+    alloc: Global,
+    core: &mut Core,
+    subject: &Subject,
+    sink: &mut Sink<W>,
+) -> Result<(), WriteFault>
+    requires faults { sink.old.faults < most_faults }
+    ensures prints { OnOk result (Writes (PrintsReportLine core.old subject.now core.new)
+        (W.contents sink.old.writer) (W.contents sink.new.writer)) }
+    ensures begun { WritesPrefix (PrintsReportLine core.old subject.now core.new)
+        (W.contents sink.old.writer) (W.contents sink.new.writer) }
+    ensures faults { sink.new.faults ≡ sink.old.faults + sink_failures write_number result }
+{
+    match file_analysis(alloc, core, subject) {
+        Ok(line) => sink.write_all(line.as_bytes()),
+        Err(refusal) => write_refusal(refusal.number(), sink),
+    }
+}
+
+/// Writes what is printed of what is looked at.
+fn write_look<W: Write>(
+    alloc: Global,
+    core: &Core,
+    look: Look,
+    sink: &mut Sink<W>,
+) -> Result<(), RunFault>
+    requires faults { sink.old.faults < most_faults }
+    ensures prints { OnOk result (Writes (PrintsLook core.now look)
+        (W.contents sink.old.writer) (W.contents sink.new.writer)) }
+    ensures begun { WritesPrefix (λ text. BeginsLook core.now look text ⊎ PrintsLook core.now look text)
+        (W.contents sink.old.writer) (W.contents sink.new.writer) }
+    ensures memory { IsErrOf result RunFault.OutOfMemory → Writes (EndsLook core.now look)
+        (W.contents sink.old.writer) (W.contents sink.new.writer) }
+    ensures faults { sink.new.faults ≡ sink.old.faults + write_failures result }
+    ensures kind { IfErr result IsOfWriting }
+{
+    match look {
+        Look::Show(id) => write_node(alloc, core.world(), id, sink),
+        Look::Packets => write_packets(alloc, core.world().packets(), sink),
+        Look::Certificate(subject) => Ok(write_certificate(alloc, core, &subject, sink)?),
+    }
+}

@@ -1,0 +1,41 @@
+use ov_ids::{NodeId, Params, Seq};
+use ov_net::Event;
+use ov_words::Words;
+
+/// A line of a scenario that is run.
+#[derive(Debug, Drop)]
+pub enum Line {
+    /// An event happens, with these random words.
+    Event { event: Event, words: Words },
+    /// Something is looked at, and nothing changes.
+    Look(Look),
+    /// The overlay is analysed, and a report is filed.
+    Analyse(Subject),
+}
+
+/// What is analysed: the overlay at a moment, for a group of its nodes, or for all of them where no group is named.
+#[derive(Debug, Drop)]
+pub struct Subject {
+    pub moment: u32,
+    pub group: Option<Seq<NodeId>>,
+}
+
+/// What is looked at between events.
+#[derive(Debug, Drop)]
+pub enum Look {
+    /// The views of a node.
+    Show(NodeId),
+    /// All packets on their way.
+    Packets,
+    /// The certificate file of the report that is filed for a moment and a group.
+    Certificate(Subject),
+}
+
+/// What a scenario file asks for: the parameters of all nodes, the seed of the random words that no line gives, and the
+/// lines to run, in order.
+#[derive(Debug, Drop)]
+pub struct Scenario {
+    pub params: Params,
+    pub seed: u64,
+    pub lines: Vec<Line>,
+}

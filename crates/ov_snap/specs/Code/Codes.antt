@@ -1,0 +1,22 @@
+-- A core can be a value that contracts see. Nothing here says anything else of it.
+use Rattle.std.specs.Prelude.{List, refl}
+use Rattle.std.specs.Coded.{Coded, code_by, coded×, coded_list}
+use Rattle.ov_desk.specs.Desk.{GroupDeskState}
+use Rattle.ov_desk.specs.contracts.desk.GroupDesk as desk
+use Rattle.ov_net.specs.Code.Codes.{world_code}
+use Rattle.ov_net.specs.World.{WorldState}
+use Rattle.ov_snap.specs.CoreState.{CoreState}
+use Rattle.ov_snap.specs.ReportState.{ReportState}
+use Rattle.ov_snap.specs.contracts.report.Report as report
+use Rattle.ov_snap.specs.contracts.snapshot.Snapshot as snapshot
+use Rattle.ov_snap.specs.declared.snapshot.Snapshot.{Snapshot}
+
+-- a core is the list of its parts
+abbrev pub core_code : Coded CoreState
+core_code =
+    code_by (WorldState × (List Snapshot × (List GroupDeskState × List ReportState)))
+    (coded× world_code (coded× (coded_list snapshot.the_row.coded)
+    (coded× (coded_list desk.the_row.coded) (coded_list report.the_row.coded))))
+    (λ b. (b.world, (b.snapshots, (b.desks, b.reports))))
+    (λ p. record { world = p.0; snapshots = p.1.0; desks = p.1.1.0; reports = p.1.1.1 })
+    (λ _. refl)

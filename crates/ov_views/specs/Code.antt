@@ -1,0 +1,2 @@
+-- What proofs and private functions alone cite.
+pub mod ChangeOrder

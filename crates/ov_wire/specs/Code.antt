@@ -1,0 +1,3 @@
+-- What private contracts and proofs use.
+pub mod Reading
+pub mod Meaning
