@@ -208,7 +208,7 @@ impl World {
     ) -> Result<Effects, OutOfMemory>
         requires born { IsBorn self.now.net node }
         requires live { ¬ IsGone self.now.net node }
-        requires timer { HasTimer self.now.net node id }
+        requires set { HasTimer self.now.net node id }
         ensures effects { IfOk result (AreEffects self.now.net (Timer node id) words.now) }
         ensures few { IfOk result SendFew }
     {

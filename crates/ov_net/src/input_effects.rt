@@ -1,6 +1,7 @@
 ghost use Rattle.std.specs.Prelude.{◌≡◌, ◌++◌, ◌∷◌, None, Some, map, IfOk, OnOk};
 ghost use Rattle.ov_wire.specs.Messages.{AreSendsInRange};
 ghost use Rattle.ov_peer.specs.Faults.{fault_of, IsInputInRange};
+ghost use Rattle.ov_peer.specs.Planning.{IsPlanFor};
 ghost use Rattle.ov_peer.specs.PeerState.{newborn};
 ghost use Rattle.ov_peer.specs.declared.input.Input.TheVariants.{Boot};
 ghost use Rattle.ov_net.specs.Code.Effects.{AreEffectsOfPlan, AreEffectsOfBirth, PlansInput, SendFew, AreFew};
@@ -41,10 +42,12 @@ pub(crate) fn effects_of_input(
 }
 
 /// The plan by which a live node takes an input that it may take.
+#[tactic(auto, using(crate::proofs::Steps::EventEffects::plans_input))]
 fn plan_of(peer: &Peer, input: Input, words: &Words) -> Result<Plan, OutOfMemory>
     requires range { IsInputInRange input }
     requires fault { fault_of peer.now input ≡ None }
-    ensures planned { IfOk result (PlansInput peer.now input words.now) }
+    ensures steps { IfOk result (PlansInput peer.now input words.now) }
+    ensures fits { IfOk result (IsPlanFor peer.now) }
     ensures few { IfOk result (λ g. AreFew g.sends.items) }
     ensures ranges { IfOk result (λ g. AreSendsInRange g.sends.items) }
 {

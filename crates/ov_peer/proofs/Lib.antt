@@ -2,5 +2,6 @@ mod Linking
 mod Counts
 mod Changing
 pub mod Steps
-pub mod Following
+mod Following
+mod Noting
 mod Handed

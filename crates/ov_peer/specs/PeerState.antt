@@ -1,23 +1,22 @@
--- The state of a node.
+-- A node whole.
 use Rattle.std.specs.Prelude.{◌≡◌, ℕ, [], None}
+use Rattle.std.specs.FinMap as map
 use Rattle.ov_ids.specs.ParamsState.{ParamsState}
 use Rattle.ov_ids.specs.Sets.{has}
 use Rattle.ov_views.specs.Allowed.{Node}
-use Rattle.ov_plum.specs.PlumState.{PlumState, is_linked, newborn_plum}
+use Rattle.ov_plum.specs.PlumState.{PlumState, is_linked}
 
--- What a node keeps: its views, its attempt and the list of its last shuffle (`node`), and its part of Plumtree's tree
--- (`tree`).
+-- its views, attempt and shuffle, and its part of Plumtree's tree
 pub record PeerState : Type 0 where
   pub node : Node
   pub tree : PlumState
 
--- Both parts are those of one node, and its neighbours in the tree are its active members: each of these is eager or
--- lazy, and nobody else is.
+-- the neighbours in the tree are the active members: each of these is eager or lazy, and nobody else is
 pub record IsPeer (p : PeerState) : Type 0 where
   pub me : p.tree.me ≡ p.node.views.me
   pub neighbours : (x : ℕ) → is_linked p.tree.branches x ≡ has p.node.views.active x
 
--- A node at its birth: it knows nobody, and has sent, held and broadcast nothing.
+-- a node that has seen nothing
 abbrev pub newborn : ℕ → ParamsState → PeerState
 newborn me params = record {
   node = record {
@@ -25,5 +24,5 @@ newborn me params = record {
     attempt = record { asked = None; tried = [] };
     sent = [];
   };
-  tree = newborn_plum me;
+  tree = record { me = me; branches = record { eager = []; lazy = [] }; held = map.empty; timers = map.empty; made = 0 };
 }

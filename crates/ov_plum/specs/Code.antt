@@ -1,3 +1,2 @@
 -- What private contracts and proofs use.
 pub mod Codes
-pub mod Waiting

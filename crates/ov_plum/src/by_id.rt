@@ -12,7 +12,7 @@ use ov_ids::{MsgId, NodeId, OutOfMemory};
 use std::alloc::Global;
 use std::marker::Model;
 
-/// What can be copied, or is out of memory.
+/// What can be copied, where memory is there.
 pub(crate) trait TryCopy {
     /// An equal value.
     fn try_copy(&self) -> Result<Self, OutOfMemory>
@@ -34,7 +34,7 @@ impl<V> Model for ById<V> {
 }
 
 impl<V: Drop> ById<V> {
-    /// No values. Nothing is allocated.
+    /// No values. It takes no memory.
     pub(crate) fn new(alloc: Global) -> ById<V>
         ensures { result ≡ map.empty }
     {
@@ -43,7 +43,7 @@ impl<V: Drop> ById<V> {
         }
     }
 
-    /// The allocator of its memory.
+    /// Where its memory is from.
     pub(crate) fn allocator(&self) -> Global {
         *self.entries.allocator()
     }
@@ -62,7 +62,7 @@ impl<V: Drop> ById<V> {
         self.entries.get(id)
     }
 
-    /// Puts a value at this id, in place of one that is there. Out of memory, nothing has changed.
+    /// Puts a value at this id, in place of one that is there. Without memory nothing changes.
     pub(crate) fn insert(&mut self, id: MsgId, value: V) -> Result<(), OutOfMemory>
         ensures ok { OnOk result (self.new ≡ map.insert self.old id value) }
         ensures err { OnErr result (self.new ≡ self.old) }

@@ -8,16 +8,16 @@ use thiserror::Error;
 /// Why a timer did not fire.
 #[derive(Clone, Copy, Debug, PartialEq, Eq, Error)]
 pub enum TimerFault {
-    /// No timer of this id runs.
+    /// No timer of this id is set.
     #[error("the timer is not set")]
     NoTimer,
-    /// An allocation was refused.
+    /// A growth was refused.
     #[error("out of memory")]
     OutOfMemory,
 }
 
 impl TimerFault {
-    /// The fault's number: 18, or 99 out of memory.
+    /// The fault's number: 18, or 99 for want of memory.
     pub fn number(&self) -> u32
         ensures { result ≡ number_of self.now }
     {

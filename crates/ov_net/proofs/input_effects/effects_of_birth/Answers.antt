@@ -8,4 +8,4 @@ pub returns-clause-effects : goal.returns-clause-effects
 returns-clause-effects c =
     let b = record c.in_ok-effects.effects { node = Some (c.args.node, change.Born c.boot_newborn.new.peer) } in
     subst (λ p. AreEffectsOfBirth c.args.node p (Boot c.args.contact) c.args.words.now b)
-    c.new-peer.ensures c.in_ok-effects.ensures.effects
+    c.new-peer.ensures.value c.in_ok-effects.ensures.effects
