@@ -11,7 +11,7 @@ use Rattle.ov_peer.specs.declared.input.Input.{Input}
 use Rattle.ov_peer.specs.declared.input.Input.TheVariants.{Boot, Receive, Report, Broadcast, Timer}
 use Rattle.ov_peer.specs.declared.input.Input.TheVariants as input
 
--- the fault of an input, beside want of memory: a payload of more than 1,024 bytes, then a node that has made 4,096 broadcasts;
+-- the fault of an input, out of memory aside: a payload of more than 1,024 bytes, then a node that has made 4,096 broadcasts;
 -- a timer that is not set
 abbrev pub fault_of : PeerState → Input → Option PeerFault
 fault_of p (Boot contact) = None

@@ -17,13 +17,13 @@ pub enum PeerFault {
     /// The node has made 4,096 broadcasts.
     #[error("the node has made too many broadcasts")]
     TooManyMessages,
-    /// A growth was refused.
+    /// An allocation was refused.
     #[error("out of memory")]
     OutOfMemory,
 }
 
 impl PeerFault {
-    /// The fault's number: 18 to 20 in the order above, or 99 for want of memory.
+    /// The fault's number: 18 to 20 in the order above, or 99 out of memory.
     pub fn number(&self) -> u32
         ensures { result ≡ number_of self.now }
     {

@@ -59,7 +59,7 @@ impl Model for Peer {
 }
 
 impl Peer {
-    /// A node that has seen nothing. It takes no memory.
+    /// A node that has seen nothing. Nothing is allocated.
     pub fn new(alloc: Global, me: NodeId, params: Params) -> Peer
         ensures value { result ≡ newborn me params }
         ensures noted { Shows result.tree none_noted }
@@ -161,7 +161,7 @@ impl Peer {
     }
 
     /// Follows a plan. What the plan makes of the node as it now is must be what one step makes of it, so the node takes a step.
-    /// It is the step that was planned while nothing changed in the node since. The answer is the plan's. Without memory the node
+    /// It is the step that was planned while nothing changed in the node since. The answer is the plan's. Out of memory, the node
     /// is as before.
     pub fn apply(&mut self, plan: Plan) -> Result<Output, OutOfMemory>
         requires { IsPlanFor self.old plan }

@@ -4,7 +4,7 @@ ghost use Rattle.ov_plum.specs.PlumState.{AreBranches, is_linked, up, down, make
 use ov_ids::{IdSet, NodeId};
 use std::marker::Model;
 
-/// A node's neighbours, each either eager or lazy, at most 64. It takes no memory.
+/// A node's neighbours, each either eager or lazy, at most 64. Nothing is allocated.
 #[derive(Drop)]
 pub(crate) struct Branches {
     eager: IdSet,

@@ -34,7 +34,7 @@ impl<V> Model for ById<V> {
 }
 
 impl<V: Drop> ById<V> {
-    /// No values. It takes no memory.
+    /// No values. Nothing is allocated.
     pub(crate) fn new(alloc: Global) -> ById<V>
         ensures { result ≡ map.empty }
     {
@@ -62,7 +62,7 @@ impl<V: Drop> ById<V> {
         self.entries.get(id)
     }
 
-    /// Puts a value at this id, in place of one that is there. Without memory nothing changes.
+    /// Puts a value at this id, in place of one that is there. Out of memory, nothing changes.
     pub(crate) fn insert(&mut self, id: MsgId, value: V) -> Result<(), OutOfMemory>
         ensures ok { OnOk result (self.new ≡ map.insert self.old id value) }
         ensures err { OnErr result (self.new ≡ self.old) }

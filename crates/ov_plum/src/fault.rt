@@ -11,13 +11,13 @@ pub enum TimerFault {
     /// No timer of this id is set.
     #[error("the timer is not set")]
     NoTimer,
-    /// A growth was refused.
+    /// An allocation was refused.
     #[error("out of memory")]
     OutOfMemory,
 }
 
 impl TimerFault {
-    /// The fault's number: 18, or 99 for want of memory.
+    /// The fault's number: 18, or 99 out of memory.
     pub fn number(&self) -> u32
         ensures { result ≡ number_of self.now }
     {

@@ -21,7 +21,7 @@ use std::alloc::Global;
 use std::marker::Model;
 
 /// What Plumtree keeps at a node: its neighbours, eager or lazy, the messages that it holds, and those that it waits for.
-/// Contracts see it as a `PlumState`. Every call makes all its room first, so after want of memory nothing has changed.
+/// Contracts see it as a `PlumState`. Every call allocates first, so nothing has changed after it ran out of memory.
 #[derive(Drop)]
 pub struct Plum {
     me: NodeId,
@@ -43,7 +43,7 @@ impl Model for Plum {
 }
 
 impl Plum {
-    /// A node without neighbours that has seen no message. It takes no memory.
+    /// A node without neighbours that has seen no message. Nothing is allocated.
     #[tactic(auto, using(crate::proofs::Showing::shows_nothing))]
     pub fn new(alloc: Global, me: NodeId) -> Plum
         ensures value { result ≡ record { me = me; branches = record { eager = []; lazy = [] }; held = map.empty; timers = map.empty; made = 0 } }
@@ -216,7 +216,7 @@ impl Plum {
         })
     }
 
-    /// Plans what PRUNE from a node does: it is to become lazy. It takes no memory, and its turn takes none.
+    /// Plans what PRUNE from a node does: it is to become lazy. Nothing is allocated, nor when it is applied.
     pub fn plan_prune(&self, from: NodeId) -> PlumPlan
         ensures allowed { AllowedTree self.now (receives (record { from = from; body = Prune }))
             (plum_after self.now result.plum_change) result.spread.sends.items result.spread.delivered }
@@ -373,7 +373,7 @@ impl Plum {
         Ok(spread)
     }
 
-    /// At PRUNE from a node: it becomes lazy. It takes no memory.
+    /// At PRUNE from a node: it becomes lazy. Nothing is allocated.
     pub fn on_prune(&mut self, from: NodeId) -> Spread
         ensures allowed { AllowedTree self.old (receives (record { from = from; body = Prune }))
             self.new result.sends.items result.delivered }
@@ -410,7 +410,7 @@ impl Plum {
         Ok(spread)
     }
 
-    /// A node comes up: it is an eager neighbour. It takes no memory.
+    /// A node comes up: it is an eager neighbour. Nothing is allocated.
     pub fn up(&mut self, id: NodeId)
         requires { length self.old.branches.eager + length self.old.branches.lazy < 64 }
         ensures allowed { AllowedTree self.old (goes_up id) self.new [] None }
@@ -419,7 +419,7 @@ impl Plum {
         self.links.up(id);
     }
 
-    /// A node goes down: it is no neighbour, and its notes go. It takes no memory.
+    /// A node goes down: it is no neighbour, and its notes go. Nothing is allocated.
     pub fn down(&mut self, id: NodeId)
         ensures allowed { AllowedTree self.old (goes_down id) self.new [] None }
         ensures noted { NotesFollow self.old (goes_down id) self.new }

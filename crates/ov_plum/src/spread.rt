@@ -18,7 +18,7 @@ pub struct Spread {
 }
 
 impl Spread {
-    /// Nothing is sent or delivered. It takes no memory.
+    /// Nothing is sent or delivered. Nothing is allocated.
     pub(crate) fn quiet(alloc: Global) -> Spread
         ensures sends { result.sends.items ≡ [] }
         ensures len { vec_len result.sends ≡ 0 }

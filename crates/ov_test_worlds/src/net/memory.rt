@@ -33,7 +33,7 @@ struct SeenNode {
     made: u32,
 }
 
-/// What is seen of a world of nodes 1 and 2 without memory: how long journal and bag are, and the nodes, where they live.
+/// What is seen of a world of nodes 1 and 2 that is out of memory: how long journal and bag are, and the nodes, where they live.
 #[derive(Clone, Copy, PartialEq, Eq)]
 struct Seen {
     entries: usize,

@@ -94,7 +94,7 @@ fn held_by(core: &Core, node: u32) -> Option<NodeId> {
     core.world().peer(NodeId(node))?.active().first().copied()
 }
 
-/// To look whether a snapshot was taken may want memory, which says that one was.
+/// To look whether a snapshot was taken may be out of memory, which says that one was.
 fn seen_at(core: &Core, moment: u32) -> SeenMoment {
     SeenMoment {
         is_taken: core.begin(moment).err() != Some(CoreFault::NoSuchMoment),

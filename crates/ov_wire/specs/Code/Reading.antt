@@ -55,12 +55,12 @@ values_at (field ∷ fields) bytes = do
   others ← values_at fields first.1
   Ok (first.0 ∷ others)
 
--- What a function that takes no memory returned, seen by view, is what is read.
+-- What a function that allocates nothing returned, seen by view, is what is read.
 abbrev pub Reads : {X Y : Type 0} → (X → Y) → Result X WireFault → Result Y WireFault → Type 0
 Reads view (Ok x) read = read ≡ Ok (view x)
 Reads view (Err fault) read = read ≡ Err fault
 
--- The same of a function that may want memory, which it does only where something is read.
+-- The same of a function that may be out of memory, which it is only where something is read.
 abbrev pub Fails : {Y : Type 0} → WireFault → Result Y WireFault → Type 0
 Fails OutOfMemory read = IsOk read
 Fails Short read = read ≡ Err Short
