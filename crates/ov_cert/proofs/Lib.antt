@@ -1,11 +1,3 @@
-pub mod NodeSets
-pub mod Ends
-pub mod Finding
-pub mod Parting
-pub mod Columns
-pub mod Fresh
-pub mod PathTests
-pub mod Looping
-pub mod Listed
-pub mod Verdicts
-pub mod Exact
+pub mod PathRules
+pub mod EntryOrder
+pub mod Validity

@@ -1,3 +1,4 @@
--- What the code computes and how it keeps a set of nodes; its proofs tie this to the definitions, which do not use it.
+-- How the code computes a verdict and stores a set of nodes. The proofs relate this to the definitions, which do not
+-- use it.
 pub mod Kept
 pub mod Tests

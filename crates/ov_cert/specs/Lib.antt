@@ -2,6 +2,6 @@ pub mod Number
 pub mod Valid
 pub mod Verdict
 pub mod Entries
-pub mod Laws
+pub mod Theorems
 pub mod State
 pub mod Code

@@ -1,4 +1,4 @@
--- The faults of a certificate.
+-- The numbers of the faults of a certificate.
 use Rattle.std.specs.Prelude.{ℕ}
 use Rattle.ov_cert.specs.declared.fault.CheckFault.{CheckFault}
 use Rattle.ov_cert.specs.declared.fault.CheckFault.TheVariants.{Count, Cut, Side, Pair, Fan, Extra, NotLinked, NoNodes}

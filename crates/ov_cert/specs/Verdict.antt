@@ -1,5 +1,5 @@
--- The verdict on a certificate: valid, or its first fault. A fault is the first where its own condition fails and all
--- before it hold; each fault has a line.
+-- The verdict on a certificate: it is valid, or it has a first fault. The checks have a fixed order. A fault is the
+-- first if its own check fails and all earlier checks pass.
 use Rattle.std.specs.Prelude.{◌≡◌, ℕ, ◌+◌, ◌⊎◌, ◌<◌, ◌≤◌, List, length, slice_get, Option, Some, None}
 use Rattle.ov_graph.specs.Links.{LinkGraph, AreAllLinked, IsGroup}
 use Rattle.ov_graph.specs.Joined.{IsNodeSet}
@@ -15,29 +15,29 @@ use Rattle.ov_cert.specs.declared.fault.CheckFault.TheVariants.{NoNodes, BadGrou
 use Rattle.ov_cert.specs.declared.fault.CheckFault.TheVariants.{Fan, Extra}
 use Rattle.ov_cert.specs.Valid.{IsCutOff, AreUnlinkedPairs, IsValidForGroup}
 
--- every item holds at its place
+-- each item of the list holds at its place
 abbrev pub AllHold : {X : Type 0} → (ℕ → X → Type 0) → List X → Type 0
 AllHold {X = X} Holds xs = (p : ℕ) (x : X) → slice_get xs p ≡ Some x → Holds p x
 
--- x stands at a place of the list and does not hold there, and every item before it holds at its place
+-- x is the first item of the list that does not hold at its place
 pub record IsFirstAtFault {X : Type 0} (Holds : ℕ → X → Type 0) (xs : List X) (x : X) : Type 0 where
   pub place : ℕ
   pub there : slice_get xs place ≡ Some x
   pub fails : ¬ Holds place x
   pub before : (p : ℕ) (y : X) → p < place → slice_get xs p ≡ Some y → Holds p y
 
--- THE FRAME: what is judged before the entries
+-- THE FRAME: what is checked before the entries
 
 -- the graph has a node
 abbrev pub HasNode : LinkGraph → Type 0
 HasNode g = 0 < length g.nodes
 
--- k is one less than the number of members, or the number of the cut's nodes
+-- k is one less than the number of members (linked), or equals the number of nodes of the cut (split)
 abbrev pub IsCounted : List ℕ → Cert → Type 0
 IsCounted q (AllLinked k) = length q ≡ k + 1
 IsCounted q (SplitBy c) = length c.cut ≡ c.k
 
--- the fault is the first of the frame
+-- the fault is the first fault of the frame
 abbrev pub IsFrameFault : LinkGraph → List ℕ → Cert → CheckFault → Type 0
 IsFrameFault g q c NoNodes = ¬ HasNode g
 IsFrameFault g q c BadGroup = HasNode g × ¬ IsGroup g q
@@ -53,27 +53,28 @@ abbrev pub PassesFrame : LinkGraph → List ℕ → Cert → Type 0
 PassesFrame g q (AllLinked k) = HasNode g × IsGroup g q × IsCounted q (AllLinked k) × AreAllLinked g q
 PassesFrame g q (SplitBy c) = HasNode g × IsGroup g q × IsCounted q (SplitBy c) × IsNodeSet g c.cut × IsCutOff g q c
 
--- THE ENTRIES: one at the place of each expected pair and fan
+-- THE ENTRIES: one at the place of each expected pair, and one at the place of each expected fan
 
--- the entry is there, names the pair, and has its k paths
+-- the entry exists, names the pair, and has k paths that share only their two ends
 abbrev pub IsPairEntry : LinkGraph → ℕ → ℕ × ℕ → Option PairPaths → Type 0
 IsPairEntry g k p None = ⊥
 IsPairEntry g k p (Some e) = (e.i ≡ p.0) × (e.j ≡ p.1) × ArePaths g p.0 p.1 k e.paths
 
--- the entry is there, names the member, and has its fan of k to the members below it
+-- the entry exists, names the member, and has a fan of k paths to members below it
 abbrev pub IsFanEntry : LinkGraph → List ℕ → ℕ → ℕ → Option FanPaths → Type 0
 IsFanEntry g q k j None = ⊥
 IsFanEntry g q k j (Some e) = (e.j ≡ j) × IsFan g j (members_below q j) k e.paths
 
--- the entry at a place is that of the pair
+-- the entry at this place is a right entry of the pair
 abbrev pub HoldsPair : LinkGraph → Split → ℕ → ℕ × ℕ → Type 0
 HoldsPair g c place p = IsPairEntry g c.k p (slice_get c.pairs place)
 
--- the entry at a place is the fan of the member
+-- the entry at this place is a right fan of the member
 abbrev pub HoldsFan : LinkGraph → List ℕ → Split → ℕ → ℕ → Type 0
 HoldsFan g q c place j = IsFanEntry g q c.k j (slice_get c.fans place)
 
--- the fault is the first of the entries: of the expected pairs, then of the expected fans, then that there are more
+-- the fault is the first fault of the entries. The expected pairs are checked first, then the expected fans, then
+-- whether there are superfluous entries
 abbrev pub IsEntryFault : LinkGraph → List ℕ → Split → List (ℕ × ℕ) → CheckFault → Type 0
 IsEntryFault g q c pairs (Pair i j) = IsFirstAtFault (HoldsPair g c) pairs (i, j)
 IsEntryFault g q c pairs (Fan j) = AllHold (HoldsPair g c) pairs
@@ -84,18 +85,19 @@ IsEntryFault g q c pairs other = ⊥
 
 -- THE VERDICT
 
--- the fault is the first of the certificate: of the frame, or where that has none of the entries
+-- the fault is the first fault of the certificate: a fault of the frame, or, if the frame has none, a fault of the
+-- entries
 abbrev pub IsFirstFault : LinkGraph → List ℕ → Cert → CheckFault → Type 0
 IsFirstFault g q (AllLinked k) fault = IsFrameFault g q (AllLinked k) fault
 IsFirstFault g q (SplitBy c) fault = IsFrameFault g q (SplitBy c) fault
     ⊎ (PassesFrame g q (SplitBy c) × ((pairs : List (ℕ × ℕ)) × AreUnlinkedPairs g q c.k pairs
     × IsEntryFault g q c pairs fault))
 
--- the verdict on a certificate for a group: none where it is valid, and else its first fault
+-- the verdict for a group: None if the certificate is valid, otherwise its first fault
 abbrev pub JudgedForGroup : LinkGraph → List ℕ → Cert → Option CheckFault → Type 0
 JudgedForGroup g q c None = IsValidForGroup g q c
 JudgedForGroup g q c (Some fault) = IsFirstFault g q c fault
 
--- the verdict on a certificate for the group of all nodes
+-- the verdict for the group of all nodes
 abbrev pub JudgedForAll : LinkGraph → Cert → Option CheckFault → Type 0
 JudgedForAll g c = JudgedForGroup g g.nodes c

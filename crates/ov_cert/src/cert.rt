@@ -3,35 +3,36 @@ use ov_ids::{NodeId, Seq};
 /// A list of paths, each a list of ids. Contracts see a list of lists.
 pub type Paths = Seq<Seq<NodeId>>;
 
-/// What a certificate says of a group of nodes of its graph: the fewest node crashes that split it.
+/// A claim about a group of nodes of a graph: k is the fewest node crashes that split the group.
 #[derive(Debug, Drop)]
 pub enum Cert {
     /// Every two members are linked, and k is one less than their number.
     Linked { k: u32 },
-    /// The cut's k nodes split the group, and no fewer do.
+    /// Crashing the k nodes of the cut splits the group, and fewer crashes do not.
     Split(Split),
 }
 
-/// A cut with the side that it cuts off, and the paths that no smaller cut could meet. Nodes are named by their ids.
+/// A cut with the side that it cuts off, and the paths that show that no smaller cut exists. Nodes are named by their
+/// ids.
 #[derive(Debug, Drop)]
 pub struct Split {
-    /// How many nodes the cut has.
+    /// The number of nodes of the cut.
     pub k: u32,
     /// The nodes whose crash splits the group, ascending.
     pub cut: Seq<NodeId>,
     /// A member on the side.
     pub near: NodeId,
-    /// A member that is neither on the side nor in the cut.
+    /// A member that is outside the side and outside the cut.
     pub far: NodeId,
-    /// Surviving nodes, with near and without far, which no link leaves but into the cut, ascending.
+    /// Surviving nodes, near among them and far not, ascending. Every link out of the side ends in the cut.
     pub side: Seq<NodeId>,
-    /// The unlinked pairs among the first k members, each with k paths.
+    /// One entry for each unlinked pair among the first k members, with k paths.
     pub pairs: Seq<PairPaths>,
-    /// The later members, each with k paths to members below it.
+    /// One entry for each later member, with k paths to members below it.
     pub fans: Seq<FanPaths>,
 }
 
-/// Two unlinked members, named by their ids, and paths from `i` to `j` that share only these.
+/// Two unlinked members, and paths from `i` to `j` that share only `i` and `j`. Nodes are named by their ids.
 #[derive(Debug, Drop)]
 pub struct PairPaths {
     pub i: NodeId,
@@ -39,7 +40,7 @@ pub struct PairPaths {
     pub paths: Paths,
 }
 
-/// A member, named by its id, and paths from it to distinct members below it that share only it.
+/// A member, and paths from it to distinct members below it that share only `j`. Nodes are named by their ids.
 #[derive(Debug, Drop)]
 pub struct FanPaths {
     pub j: NodeId,

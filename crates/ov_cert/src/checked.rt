@@ -5,11 +5,11 @@ use ov_graph::Graph;
 use ov_ids::NodeId;
 use std::marker::Model;
 
-/// A graph with a group and a certificate that is valid for them, which its type keeps.
+/// A graph with a group and a certificate that is valid for them. The type guarantees this.
 #[derive(Drop)]
 pub struct Checked {
     graph: Graph,
-    /// None is the group of all nodes.
+    /// None means the group of all nodes.
     group: Option<Vec<NodeId>>,
     cert: Cert,
 }
@@ -32,8 +32,8 @@ impl Checked {
     ghost use Rattle.ov_cert.specs.Valid.{IsValid, IsValidForGroup};
     ghost use Rattle.ov_cert.specs.Verdict.{JudgedForAll, JudgedForGroup};
 
-    /// Keeps the two, with the group of all nodes, where the certificate is valid, and else hands them back with the
-    /// first fault. Nothing is allocated.
+    /// Checks the certificate for the group of all nodes. If it is valid, the graph and the certificate are kept.
+    /// Otherwise both are returned with the first fault. Allocates nothing.
     pub fn new(graph: Graph, cert: Cert) -> Result<Checked, (CheckFault, Graph, Cert)>
         ensures valid { IsOk result ↔ IsValid graph cert }
         ensures kept { IfOk result (λ c. c ≡ record { graph = graph; members = graph.nodes; cert = cert }) }
@@ -51,8 +51,8 @@ impl Checked {
         }
     }
 
-    /// Keeps the three where the certificate is valid for the group, and else hands them back with the first fault. It
-    /// allocates nothing.
+    /// Checks the certificate for the group. If it is valid, all three are kept. Otherwise they are returned with the
+    /// first fault. Allocates nothing.
     pub fn for_group(
         graph: Graph,
         group: Vec<NodeId>,
@@ -75,8 +75,7 @@ impl Checked {
         }
     }
 
-    /// Keeps the three, of which it is known that the certificate is valid for the group. Nothing is allocated, and it checks
-    /// nothing.
+    /// Keeps the three without a check. The certificate must be valid for the group. Allocates nothing.
     pub fn of_valid(graph: Graph, group: Vec<NodeId>, cert: Cert) -> Checked
         requires { IsValidForGroup graph group.items cert }
         ensures { result ≡ record { graph = graph; members = group.items; cert = cert } }

@@ -12,7 +12,7 @@ use crate::frame::frame_fault;
 use ov_graph::Graph;
 use ov_ids::NodeId;
 
-/// Judges a certificate for the group of all nodes, without an allocation: as `check_group`, which says more.
+/// Checks a certificate for the group of all nodes. See `check_group`. Allocates nothing.
 pub fn check(graph: &Graph, cert: &Cert) -> Result<(), CheckFault>
     ensures verdict { MatchResult result (λ _. JudgedForAll graph.now cert.now None)
         (λ fault. JudgedForAll graph.now cert.now (Some fault)) }
@@ -22,19 +22,21 @@ pub fn check(graph: &Graph, cert: &Cert) -> Result<(), CheckFault>
     check_group(graph, graph.nodes(), cert)
 }
 
-/// Judges a certificate for a group, without an allocation. It is Ok exactly where the certificate is valid, and then crashing
-/// the k nodes that it names splits the group, or every two members are linked and k is one less than their number, and
-/// no fewer crashes split it (Even 1975). Otherwise it answers the first fault:
+/// Checks a certificate for a group. Allocates nothing.
+///
+/// The result is Ok exactly if the certificate is valid. Its number k is then the fewest node crashes that split the
+/// group, or one less than the number of members if every two members are linked (Even, SIAM J. Comput. 4, 1975).
+/// Otherwise the first fault is returned. The checks are made in this order:
 ///
 /// - NoNodes (47): the graph has no node;
-/// - BadGroup (49): the members are none, do not ascend, or are not all nodes;
-/// - Count (40): k is not one less than the number of members, or not the number of the cut's nodes;
-/// - NotLinked (46): two members are not linked, where all are said to be;
-/// - Cut (41): the cut does not ascend, or has a stranger;
-/// - Side (42): near or far is no surviving member, or the side does not part them;
-/// - Pair (43), Fan (44): the first expected pair, and then fan, whose entry is missing, names others, or has wrong
-///   paths;
-/// - Extra (45): there are more entries.
+/// - BadGroup (49): the group is empty, does not ascend, or has an id that is no node;
+/// - Count (40): k is not one less than the number of members (linked), or not the number of nodes of the cut (split);
+/// - NotLinked (46): the certificate says linked, but two members are not linked;
+/// - Cut (41): the cut does not ascend, or has an id that is no node;
+/// - Side (42): near or far is no surviving member, or the side does not separate them;
+/// - Pair (43), Fan (44): the entry of the first expected pair, then of the first expected fan, that is missing, names
+///   other nodes, or has wrong paths;
+/// - Extra (45): there are more entries than expected.
 pub fn check_group(graph: &Graph, group: &[NodeId], cert: &Cert) -> Result<(), CheckFault>
     ensures verdict { MatchResult result
         (λ _. JudgedForGroup graph.now group.now cert.now None)

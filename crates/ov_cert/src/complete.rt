@@ -9,7 +9,7 @@ use crate::paths::are_linked;
 use ov_graph::Graph;
 use ov_ids::NodeId;
 
-/// Whether every two members are linked. The members ascend.
+/// Whether every two members are linked. The members must ascend.
 pub fn are_all_linked(graph: &Graph, group: &[NodeId]) -> bool
     requires { Ascends group.now }
     ensures { IsTrue result ↔ AreAllLinked graph.now group.now }
@@ -17,7 +17,7 @@ pub fn are_all_linked(graph: &Graph, group: &[NodeId]) -> bool
     test_all_linked(graph, group)
 }
 
-/// Whether every two members are linked, by the test of `Code.Tests`.
+/// Whether every two members are linked, as the test `all_linked` computes it.
 pub(crate) fn test_all_linked(graph: &Graph, group: &[NodeId]) -> bool
     ensures { result ≡ all_linked graph.now group.now }
 {

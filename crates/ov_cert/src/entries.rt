@@ -12,7 +12,7 @@ use crate::paths::{are_linked, are_paths, is_fan};
 use ov_graph::Graph;
 use ov_ids::NodeId;
 
-/// Whether the entry names the pair and has its k paths.
+/// Whether the entry names the pair and has k right paths.
 fn is_entry_of_pair(graph: &Graph, k: usize, i: NodeId, j: NodeId, entry: &PairPaths) -> bool
     requires i { Has graph.now.nodes i }
     requires j { Has graph.now.nodes j }
@@ -23,7 +23,7 @@ fn is_entry_of_pair(graph: &Graph, k: usize, i: NodeId, j: NodeId, entry: &PairP
     entry.i == i && entry.j == j && paths.len() == k && are_paths(graph, i, j, paths)
 }
 
-/// Whether the entry names the node and has its fan of k.
+/// Whether the entry names the member and has a fan of k right paths.
 fn is_entry_of_fan(graph: &Graph, group: &[NodeId], k: usize, j: NodeId, entry: &FanPaths) -> bool
     requires group { Ascends group.now }
     requires j { Has graph.now.nodes j }
@@ -33,7 +33,7 @@ fn is_entry_of_fan(graph: &Graph, group: &[NodeId], k: usize, j: NodeId, entry: 
     entry.j == j && paths.len() == k && is_fan(graph, group, j, paths)
 }
 
-/// Whether the entry at a place is that of the pair.
+/// Whether the entry at a place is a right entry of the pair.
 pub(crate) fn has_pair(
     graph: &Graph,
     k: usize,
@@ -54,7 +54,7 @@ pub(crate) fn has_pair(
     }
 }
 
-/// Whether the entry at a place is the fan of the node.
+/// Whether the entry at a place is a right fan of the member.
 pub(crate) fn has_fan(
     graph: &Graph,
     group: &[NodeId],
@@ -73,8 +73,8 @@ pub(crate) fn has_fan(
     }
 }
 
-/// Judges the entries, from a place on, of the pairs of `j` and an earlier node that it is not linked to. Answers the
-/// place after them.
+/// Checks the entries of the unlinked pairs of `j` with the earlier nodes, from a place on. Returns the place after
+/// them.
 fn check_pairs_of(
     graph: &Graph,
     k: usize,
@@ -103,7 +103,7 @@ fn check_pairs_of(
     Ok(next)
 }
 
-/// Judges the entries of the unlinked pairs among the first k members. Answers how many there are.
+/// Checks the entries of the unlinked pairs among the first k members. Returns the number of these pairs.
 pub(crate) fn check_pairs(
     graph: &Graph,
     group: &[NodeId],
@@ -127,7 +127,7 @@ pub(crate) fn check_pairs(
     Ok(count)
 }
 
-/// Judges the entries of the fans of the members after the first k. Answers how many there are.
+/// Checks the fans of the members after the first k. Returns the number of these members.
 pub(crate) fn check_fans(
     graph: &Graph,
     group: &[NodeId],

@@ -4,17 +4,17 @@ ghost use Rattle.ov_cert.specs.Entries.{entry_fault};
 use crate::fault::CheckFault;
 use ov_ids::NodeId;
 
-/// An entry that a certificate should have, at a place of its list, counted from 0. Nodes are named by their ids.
+/// An entry that a certificate must have, with its place in its list, counted from 0. Nodes are named by their ids.
 #[derive(Clone, Copy, Debug)]
 pub enum Expected {
-    /// The paths from i to j.
+    /// The entry with the paths from `i` to `j`.
     Pair { at: usize, i: NodeId, j: NodeId },
-    /// The fan of j.
+    /// The entry with the fan of `j`.
     Fan { at: usize, j: NodeId },
 }
 
 impl Expected {
-    /// The fault of a certificate that has not this entry.
+    /// The fault that is reported if this entry is missing or wrong.
     pub fn fault(&self) -> CheckFault
         ensures { result ≡ entry_fault self.now }
     {

@@ -17,15 +17,15 @@ use ov_graph::Graph;
 use ov_ids::{NodeId, OutOfMemory};
 use std::alloc::Global;
 
-/// The expected entries of a certificate for the group of all nodes.
+/// The expected entries of a certificate for the group of all nodes. See `expected_group`.
 pub fn expected(alloc: Global, graph: &Graph, split: &Split) -> Result<Vec<Expected>, OutOfMemory>
     ensures { IfOk result (λ entries. AreExpected graph.now graph.now.nodes split.now.k entries.items) }
 {
     expected_group(alloc, graph, graph.nodes(), split)
 }
 
-/// The expected entries of a certificate for a group, whose members are nodes and ascend: of the unlinked pairs among
-/// the first k members, and then of the fans of the later ones.
+/// The expected entries of a certificate for a group, which is a set of nodes. First come the unlinked pairs among the
+/// first k members, then the fans of the later members. Faults: out of memory.
 pub fn expected_group(
     alloc: Global,
     graph: &Graph,
@@ -42,7 +42,7 @@ pub fn expected_group(
     Ok(entries)
 }
 
-/// Puts the expected pairs of these members last.
+/// Appends the expected pairs among these members.
 fn add_pairs(
     graph: &Graph,
     first: &[NodeId],
@@ -57,7 +57,7 @@ fn add_pairs(
     Ok(())
 }
 
-/// Puts the expected pairs of `j` and the members before it that it is not linked to last.
+/// Appends the expected pairs of `j` with the earlier members.
 fn add_pairs_of(
     graph: &Graph,
     earlier: &[NodeId],
@@ -77,7 +77,7 @@ fn add_pairs_of(
     Ok(())
 }
 
-/// Puts the expected fans of these members last.
+/// Appends the expected fans of these members.
 fn add_fans(later: &[NodeId], entries: &mut Vec<Expected>) -> Result<(), OutOfMemory>
     ensures { OnOk result (entries.new.items ≡ entries.old.items ++ of_fans 0 later.now) }
 {
@@ -87,7 +87,7 @@ fn add_fans(later: &[NodeId], entries: &mut Vec<Expected>) -> Result<(), OutOfMe
     Ok(())
 }
 
-/// Judges one expected entry of a certificate for the group of all nodes, whose frame passes, without an allocation.
+/// Checks one expected entry of a certificate for the group of all nodes. See `judge_group_entry`. Allocates nothing.
 pub fn judge_entry(graph: &Graph, split: &Split, entry: Expected) -> Result<(), CheckFault>
     requires frame { PassesFrame graph.now graph.now.nodes (SplitBy split.now) }
     requires expected { IsExpected graph.now graph.now.nodes split.now.k entry }
@@ -98,8 +98,8 @@ pub fn judge_entry(graph: &Graph, split: &Split, entry: Expected) -> Result<(), 
     judge_group_entry(graph, graph.nodes(), split, entry)
 }
 
-/// Judges one expected entry of a certificate for a group, whose frame passes, without an allocation. It answers Pair (43) or
-/// Fan (44) exactly where the entry is missing, names others, or has wrong paths.
+/// Checks one expected entry of a certificate for a group. The frame must have no fault. Returns Pair (43) or Fan (44)
+/// exactly if the entry is missing, names other nodes, or has wrong paths. Allocates nothing.
 pub fn judge_group_entry(
     graph: &Graph,
     group: &[NodeId],
@@ -118,7 +118,7 @@ pub fn judge_group_entry(
     Ok(())
 }
 
-/// Whether a certificate has an expected entry.
+/// Whether a certificate has the right entry at the place of an expected entry.
 fn holds_entry(graph: &Graph, group: &[NodeId], split: &Split, entry: Expected) -> bool
     requires frame { PassesFrame graph.now group.now (SplitBy split.now) }
     requires expected { IsExpected graph.now group.now split.now.k entry }

@@ -4,7 +4,7 @@ ghost use Rattle.ov_cert.specs.Number.{number_of};
 use ov_ids::NodeId;
 use thiserror::Error;
 
-/// Why a certificate does not hold. Nodes are named by their ids.
+/// Why a certificate is not valid. Nodes are named by their ids.
 #[derive(Clone, Copy, Debug, PartialEq, Eq, Error)]
 pub enum CheckFault {
     #[error("the count is wrong")]

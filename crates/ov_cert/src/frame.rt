@@ -14,7 +14,7 @@ use crate::side::is_side_cut_off;
 use ov_graph::Graph;
 use ov_ids::NodeId;
 
-/// Judges what of a certificate for the group of all nodes is judged before its entries, without an allocation.
+/// Checks the frame of a certificate for the group of all nodes. See `check_group_frame`. Allocates nothing.
 pub fn check_frame(graph: &Graph, cert: &Cert) -> Result<(), CheckFault>
     ensures { MatchResult result
         (λ _. PassesFrame graph.now graph.now.nodes cert.now)
@@ -23,9 +23,9 @@ pub fn check_frame(graph: &Graph, cert: &Cert) -> Result<(), CheckFault>
     check_group_frame(graph, graph.nodes(), cert)
 }
 
-/// Judges what of a certificate for a group is judged before its entries, without an allocation: the graph has a node, the
-/// members are a group, k is their number less one or that of the cut's nodes, all are linked or the cut parts near and
-/// far. The first fault is answered, as by `check_group`.
+/// Checks the frame of a certificate for a group: everything but the entries. The graph has a node, and the members are
+/// a group. The number k is right. Every two members are linked, or the cut separates near and far. Returns the first
+/// fault, in the order of `check_group`. Allocates nothing.
 pub fn check_group_frame(graph: &Graph, group: &[NodeId], cert: &Cert) -> Result<(), CheckFault>
     ensures { MatchResult result
         (λ _. PassesFrame graph.now group.now cert.now)

@@ -10,11 +10,11 @@ mod entry;
 mod expecting;
 mod fault;
 mod frame;
-mod laws;
 mod members;
 mod node_set;
 mod paths;
 mod side;
+mod theorems;
 
 pub use cert::{Cert, FanPaths, PairPaths, Paths, Split};
 pub use checked::Checked;
@@ -24,4 +24,4 @@ pub use entry::Expected;
 pub use expecting::{expected, expected_group, judge_entry, judge_group_entry};
 pub use fault::CheckFault;
 pub use frame::{check_frame, check_group_frame};
-pub use laws::{one_verdict, valid_means};
+pub use theorems::{one_verdict, valid_means};

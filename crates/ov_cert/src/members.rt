@@ -6,14 +6,14 @@ ghost use Rattle.ov_cert.specs.Code.Tests.{is_earlier, is_group};
 use ov_graph::{Graph, is_member};
 use ov_ids::NodeId;
 
-/// Whether the ids are a group, by the test of `Code.Tests`.
+/// Whether the ids are a group of the graph, as the test `is_group` computes it.
 pub(crate) fn is_group(graph: &Graph, group: &[NodeId]) -> bool
     ensures { result ≡ is_group graph.now group.now }
 {
     graph.is_group(group)
 }
 
-/// Whether an id is a member below another.
+/// Whether `id` is a member below `j`.
 pub(crate) fn is_earlier(group: &[NodeId], j: NodeId, id: NodeId) -> bool
     requires { Ascends group.now }
     ensures { result ≡ is_earlier group.now j id }
@@ -21,14 +21,14 @@ pub(crate) fn is_earlier(group: &[NodeId], j: NodeId, id: NodeId) -> bool
     id < j && is_member(group, id)
 }
 
-/// The first k members, or all where there are fewer.
+/// The first k members, or all members if there are fewer.
 pub(crate) fn first_members(group: &[NodeId], k: usize) -> &[NodeId]
     ensures { result.now ≡ take k group.now }
 {
     &group[..k.min(group.len())]
 }
 
-/// The members after the first k, of each of which a fan is asked at k; none at k = 0.
+/// The members after the first k. For k = 0 there are none.
 pub(crate) fn later_members(group: &[NodeId], k: usize) -> &[NodeId]
     ensures { result.now ≡ later_members group.now k }
 {

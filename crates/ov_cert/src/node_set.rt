@@ -9,8 +9,8 @@ use ov_graph::row::{EMPTY, Row, has, put};
 use ov_ids::{NodeId, is_ascending};
 use std::marker::Model;
 
-/// A set of nodes of a graph, for which nothing is allocated: a row with a bit for each place. Contracts see the graph, and the
-/// members ascending.
+/// A set of nodes of a graph, as a row with a bit for the place of each node. Allocates nothing. Contracts see the
+/// graph and the ascending members.
 #[derive(Drop)]
 pub(crate) struct NodeSet<'g> {
     graph: &'g Graph,
@@ -45,7 +45,7 @@ impl<'g> NodeSet<'g> {
         }
     }
 
-    /// Takes a node in. Answers false, and changes nothing, where the id is no node or is a member.
+    /// Adds a node. Returns false and changes nothing if the id is no node or is already a member.
     pub(crate) fn enter(&mut self, id: NodeId) -> bool
         ensures fresh { result ≡ has self.old.graph.nodes id && not (has self.old.members id) }
         ensures entered { self.new ≡ (if result then record self.old { members = adding id self.old.members } else
@@ -62,7 +62,7 @@ impl<'g> NodeSet<'g> {
         true
     }
 
-    /// Takes all of these in, unless one is no node or is a member by then.
+    /// Adds these ids in order. Stops and returns false at the first id that is no node or is already a member.
     pub(crate) fn enter_all(&mut self, ids: &[NodeId]) -> bool
         ensures graph { self.new.graph ≡ self.old.graph }
         ensures fresh { result ≡ fresh self.old.graph self.old.members ids.now }
@@ -77,7 +77,7 @@ impl<'g> NodeSet<'g> {
     }
 }
 
-/// The set of these ids, where they are nodes in ascending order.
+/// The set of these ids. None if they do not ascend or are not all nodes.
 pub(crate) fn node_set<'g>(graph: &'g Graph, ids: &[NodeId]) -> Option<NodeSet<'g>>
     ensures some { IfSome result (λ s. s ≡ record { graph = graph.now; members = ids.now }) }
     ensures set { IfSome result (λ s. is_node_set graph.now ids.now ≡ true) }

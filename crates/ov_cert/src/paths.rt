@@ -10,7 +10,7 @@ use crate::node_set::NodeSet;
 use ov_graph::Graph;
 use ov_ids::{NodeId, Seq};
 
-/// Whether two nodes are linked, by the test of `Code.Tests`.
+/// Whether two nodes are linked, as the test `are_joined` computes it.
 pub(crate) fn are_linked(graph: &Graph, a: NodeId, b: NodeId) -> bool
     ensures { result ≡ are_joined graph.now.links a b }
 {
@@ -35,7 +35,7 @@ fn is_chained(graph: &Graph, path: &[NodeId]) -> bool
     true
 }
 
-/// The ends of a path, all nodes after the first, and those between the ends.
+/// The parts of a path: its first and last node, the nodes after the first, and the nodes between the ends.
 #[derive(Drop)]
 struct Ends<'p> {
     first: NodeId,
@@ -44,7 +44,7 @@ struct Ends<'p> {
     last: NodeId,
 }
 
-/// The ends of a path, if it has two nodes at least.
+/// The parts of a path. None if it has fewer than two nodes.
 fn ends_of(path: &[NodeId]) -> Option<Ends<'_>>
     ensures { MatchOption result (length path.now ≤ 1) (λ e. (path.now ≡ e.first ∷ e.rest.now)
         × (e.rest.now ≡ e.inside.now ++ e.last ∷ [])) }
@@ -59,7 +59,7 @@ fn ends_of(path: &[NodeId]) -> Option<Ends<'_>>
     })
 }
 
-/// Whether the path goes from `i` to `j` over nodes that are not used, which then are.
+/// Whether the path leads from `i` to `j` over links and unused inner nodes. The inner nodes are then marked as used.
 fn takes_pair_path(
     graph: &Graph,
     used: &mut NodeSet<'_>,
@@ -87,7 +87,7 @@ fn takes_pair_path(
     used.enter_all(ends.inside)
 }
 
-/// Whether the paths go from `i` to `j` and share only these.
+/// Whether the paths lead from `i` to `j` and share only `i` and `j`.
 pub(crate) fn are_paths(graph: &Graph, i: NodeId, j: NodeId, paths: &[Seq<NodeId>]) -> bool
     requires i { Has graph.now.nodes i }
     requires j { Has graph.now.nodes j }
@@ -105,7 +105,8 @@ pub(crate) fn are_paths(graph: &Graph, i: NodeId, j: NodeId, paths: &[Seq<NodeId
     true
 }
 
-/// Whether the path goes from `j` to a member below it over nodes that are not used, which then are.
+/// Whether the path leads from `j` over links and unused nodes to a member below `j`. Its nodes are then marked as
+/// used.
 fn takes_fan_path(
     graph: &Graph,
     group: &[NodeId],
@@ -134,7 +135,7 @@ fn takes_fan_path(
     used.enter_all(ends.rest)
 }
 
-/// Whether the paths go from `j` to members below it and share only `j`.
+/// Whether the paths lead from `j` to members below `j` and share only `j`.
 pub(crate) fn is_fan(graph: &Graph, group: &[NodeId], j: NodeId, paths: &[Seq<NodeId>]) -> bool
     requires group { Ascends group.now }
     requires j { Has graph.now.nodes j }

@@ -9,7 +9,7 @@ use crate::node_set::{NodeSet, node_set};
 use ov_graph::{Graph, is_member};
 use ov_ids::NodeId;
 
-/// Whether the id is a member outside the set.
+/// Whether the id is a member and not in the set.
 fn does_survive(group: &[NodeId], set: &NodeSet<'_>, id: NodeId) -> bool
     requires { Ascends group.now }
     ensures { result ≡ survives group.now set.now.members id }
@@ -29,7 +29,7 @@ fn are_outside(set: &NodeSet<'_>, ids: &[NodeId]) -> bool
     true
 }
 
-/// Whether each link from a node ends in the side or in the cut.
+/// Whether each link of a node ends in the side or in the cut.
 fn does_end_within(graph: &Graph, side: &NodeSet<'_>, cut: &NodeSet<'_>, id: NodeId) -> bool
     requires { Has graph.now.nodes id }
     ensures { result ≡ ends_within graph.now side.now.members cut.now.members id }
@@ -42,7 +42,7 @@ fn does_end_within(graph: &Graph, side: &NodeSet<'_>, cut: &NodeSet<'_>, id: Nod
     true
 }
 
-/// Whether each link from any of these nodes ends in the side or in the cut.
+/// Whether each link of each of these nodes ends in the side or in the cut.
 fn do_end_within(graph: &Graph, side: &NodeSet<'_>, cut: &NodeSet<'_>, ids: &[NodeId]) -> bool
     requires { (a : ℕ) → Has ids.now a → Has graph.now.nodes a }
     ensures { result ≡ list_all (λ a. ends_within graph.now side.now.members cut.now.members a) ids.now }
@@ -55,8 +55,8 @@ fn do_end_within(graph: &Graph, side: &NodeSet<'_>, cut: &NodeSet<'_>, ids: &[No
     true
 }
 
-/// Whether near and far are surviving members that the cut parts: every link from the side, which has near and not far,
-/// ends in the side or in the cut.
+/// Whether near and far are surviving members and the cut separates them. The side must have near and not far, and
+/// every link of a node of the side must end in the side or in the cut.
 pub(crate) fn is_side_cut_off(
     graph: &Graph,
     group: &[NodeId],

@@ -1,4 +1,4 @@
--- What is written for an entry is read again.
+-- The value written for an entry reads back.
 use Rattle.std.proofs.Common.{◌≡◌, Some, refl}
 use Rattle.ov_cert.specs.declared.cert.PairPaths.{PairPaths}
 use Rattle.ov_cert.specs.declared.cert.FanPaths.{FanPaths}

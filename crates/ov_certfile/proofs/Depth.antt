@@ -1,4 +1,4 @@
--- What is written lies few lists and objects deep, so that the reader of JSON reads its text again.
+-- A written object is nested only a few levels deep, so the JSON reader accepts its text.
 use Rattle.std.proofs.Common.{◌≡◌, ◌∙◌, ℕ, ◌+◌, ◌≤◌, List, [], ◌∷◌, Some, ap, arith}
 use Rattle.serde_json.specs.Data.{Data, depth}
 use Rattle.serde_json.specs.Read.{read, max_depth}
@@ -13,7 +13,7 @@ use Rattle.ov_certfile.specs.ReadsBack.{ReadsBack, TextReadsBack}
 use Rattle.ov_certfile.specs.declared.version.Version.{Version}
 use Rattle.ov_certfile.specs.declared.version.Version.TheVariants.{One, Two}
 
--- a list of what lies no deeper than d lies one deeper
+-- a list of values of depth at most d has depth at most d + 1
 list_depth : {X : Type 0} (as_data : X → Data) (d : ℕ) → ((x : X) → depth (as_data x) ≤ d)
     → (xs : List X) → depth (list_data as_data xs) ≤ d + 1
 list_depth as_data d h [] = omega arith
@@ -70,7 +70,7 @@ depth_within : (c : Cert) (g : LinkGraph) (q : List ℕ) (m : ℕ) → depth (da
 unfolding data_of
 depth_within c g q m = version_depth (version_for g q) c g q m
 
--- the text of the object says what the object says
+-- the text of the object has the meaning of the object
 pub text_reads_back : (c : Cert) (g : LinkGraph) (q : List ℕ) (m : ℕ) (d : Data) (text : List ℕ) → d ≡ data_of c g q m
     → (depth d ≤ max_depth → read text ≡ Some d) → ReadsBack c g q m → TextReadsBack c g q m text
 text_reads_back c g q m d text e reads back =

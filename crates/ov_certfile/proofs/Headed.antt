@@ -1,4 +1,4 @@
--- A value with a heading meets all demands but, it may be, the one for the forms of its values.
+-- A value with a heading meets all demands, except perhaps the last one, for the forms of its values.
 use Rattle.std.proofs.Common.{◌≡◌, ◌∙◌, [], ◌∷◌, Bool, true, cond, Option, Some, None, is_some, option_and_then, refl}
 use Rattle.std.proofs.Common.{ap, codes}
 use Rattle.serde_json.specs.Data.{Data}
@@ -21,13 +21,13 @@ wanted : (version : Version) (verdict : Verdict) (d : Data) → said version_in 
     → said verdict_in (codes "verdict") d ≡ Some verdict → wanted_keys d ≡ keys_of version verdict
 wanted version verdict d v w = rw (v, w) refl
 
--- where all demands but the last are met, the last one decides
+-- if all demands but the last are met, the last one decides
 last_decides : (a b c e f g h last : Bool) → a ≡ true → b ≡ true → c ≡ true → e ≡ true → f ≡ true → g ≡ true → h ≡ true
     → first_unmet ((a, BadValue) ∷ (b, MissingKey) ∷ (c, AnotherVersion) ∷ (e, MissingKey) ∷ (f, BadValue)
     ∷ (g, MissingKey) ∷ (h, UnknownKey) ∷ (last, BadValue) ∷ []) ≡ cond last None (Some BadValue)
 last_decides a b c e f g h last p q r s t u v = rw (p, q, r, s, t, u, v) refl
 
--- what is left to ask of a value with a heading
+-- the demands on a value with a heading: only the last is left
 pub headed : (version : Version) (verdict : Verdict) (d : Data) → IsHeaded version verdict d
     → first_unmet (demands d) ≡ cond (has_forms (keys_of version verdict) d) None (Some BadValue)
 unfolding demands

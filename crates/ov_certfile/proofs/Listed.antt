@@ -2,15 +2,15 @@
 use Rattle.std.proofs.Common.{◌≡◌, List, [], ◌∷◌, ◌++◌, Option, Some, refl}
 use Rattle.std.specs.List.{AllByRecursion}
 use Rattle.serde_json.specs.Data.{Data}
-use Rattle.ov_certfile.specs.Common.{◌>>=◌}
+use Rattle.ov_ids.specs.Options.{◌>>=◌}
 use Rattle.ov_certfile.specs.Forms.{list_in}
 use Rattle.ov_certfile.specs.DataOf.{list_data}
 
--- what was read, behind what was read before
+-- the rest of a list that was read, with the items read before
 abbrev pub with_front : {X : Type 0} → List X → Option (List X) → Option (List X)
 with_front front answer = answer >>= λ xs. Some (front ++ xs)
 
--- each item is read back from what is written for it
+-- each item is read back from the value written for it
 abbrev pub EachReadsBack : {X : Type 0} → (Data → Option X) → (X → Data) → List X → Type 0
 EachReadsBack form as_data xs = AllByRecursion (λ x. form (as_data x) ≡ Some x) xs
 

@@ -1,4 +1,4 @@
--- A value, and a text, say one thing alone.
+-- A value has one meaning only, and so has a text.
 use Rattle.std.proofs.Common.{◌≡◌, ◌∙◌, ◌⊎◌, inl, inr, ℕ, ◌≤◌, List, [], ◌∷◌, length, Option, Some, None, Result, Ok}
 use Rattle.std.proofs.Common.{Err, refl, sym, subst, ap, codes, IfSome, IfNone}
 use Rattle.serde_json.specs.Data.{Data}
@@ -24,7 +24,7 @@ use Rattle.ov_certfile.specs.declared.version.Version.TheVariants.{One, Two}
 use Rattle.ov_certfile.specs.declared.verdict.Verdict.TheVariants.{Linked, Split as VerdictSplit}
 use Rattle.ov_certfile.specs.declared.reading.Filed.{Filed}
 
--- what comes to one answer alone
+-- at most one answer satisfies the predicate
 abbrev pub IsOne : {E : Type 0} → (Option E → Type 0) → Type 0
 IsOne {E = E} P = (x y : Option E) → P x → P y → x ≡ y
 
@@ -54,7 +54,7 @@ judged_one version g =
     step_one (length g.nodes ≤ most_nodes_of version) TooManyNodes (GraphJudged g.nodes g.links)
     (graph_one g.nodes g.links)
 
--- what is read at one key is one thing
+-- a key has one value
 same : {X : Type 0} (o : Option X) (x y : X) → o ≡ Some x → o ≡ Some y → x ≡ y
 same o x y p q = let e : Some x ≡ Some y = sym p ∙ q in cc
 
@@ -100,7 +100,7 @@ file_same d f h p q =
     let e : record { moment = f.moment; graph = f.graph; group = f.group; cert = f.cert } ≡ h =
     rw (moment, graph, group, cert) refl in e
 
--- what nodes and links come to as a graph
+-- the verdict on the nodes and links in a value as a graph
 abbrev GraphComesTo : Data → Option GraphFault → Type 0
 GraphComesTo d x =
     (version : Version) × (g : LinkGraph) × (said version_in (codes "version") d ≡ Some version)
@@ -113,7 +113,7 @@ comes_same d x y p q =
     judged_one q.0 q.1 x y
     (subst (λ v. FileGraphJudged v q.1 x) version (subst (λ g. FileGraphJudged p.0 g x) graph p.4)) q.4
 
--- a fault is that of a demand, or that of the graph
+-- a fault is the fault of a demand or of the graph
 cases : (d : Data) (e : FileFault) → IsFault d e
     → (first_unmet (demands d) ≡ Some e) ⊎ ((f : GraphFault) × (e ≡ Graph f) × IsNoGraph d f)
 cases d NotJson h = inl h
@@ -166,7 +166,7 @@ read_one (Some d) a b p n q m = file_one d a b p q
 pub text_one : (text : List ℕ) (a b : Result Filed FileFault) → SaysText text a → SaysText text b → a ≡ b
 text_one text a b p q = read_one (read text) a b p.json p.no_json q.json q.no_json
 
--- what the value of a text says is all that the text says
+-- the meaning of the JSON value in a text is the only meaning of the text
 pub read_text_one : (text : List ℕ) (d : Data) (a b : Result Filed FileFault) → read text ≡ Some d → SaysFile d b
     → SaysText text a → a ≡ b
 read_text_one text d a b e f h = text_one text a b h (record { json = rw e f; no_json = rw e tt })

@@ -1,4 +1,4 @@
--- The keys of a map are those of the object that it stands for.
+-- The keys of a map are the keys of the object that it represents.
 use Rattle.std.proofs.Common.{◌≡◌, List, [], ◌∷◌, ◌&&◌, Bool, ℕ, refl, ap, map, ◌∙◌, Some, String, Global, string_bytes}
 use Rattle.std.proofs.Common.{unwrap_or, option_map}
 use Rattle.std.specs.List.{list_all}

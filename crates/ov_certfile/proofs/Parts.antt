@@ -1,4 +1,4 @@
--- The forms of all keys of a file are those of the keys that say the certificate and of those that say the dated graph.
+-- The keys of a file: those of the certificate, and those of the moment, the graph and the group.
 use Rattle.std.proofs.Common.{◌≡◌, ◌∙◌, ◌++◌, Bool, true, false, ◌&&◌, Some, is_some, refl, ap, sym, codes}
 use Rattle.std.proofs.lemmas.List.Folds.{list_all-append}
 use Rattle.std.proofs.lemmas.Bool.{and_parts, and_from}
@@ -11,7 +11,7 @@ use Rattle.ov_certfile.specs.Code.Reading.{cert_keys, dated_keys}
 use Rattle.ov_certfile.specs.declared.version.Version.{Version}
 use Rattle.ov_certfile.specs.declared.verdict.Verdict.{Verdict}
 
--- what holds of all that holds of the whole
+-- if a part fails, the whole fails
 false_from : (whole part : Bool) → (whole ≡ true → part ≡ true) → part ≡ false → whole ≡ false
 false_from true part f h = sym (f refl) ∙ h
 false_from false part f h = refl
@@ -32,7 +32,7 @@ module _ (version : Version) (verdict : Verdict) (d : Data) where
   abbrev ends : Bool
   ends = is_some (said verdict_in (codes "verdict") d) && (is_some (said version_in (codes "version") d) && true)
 
-  -- the keys of the version, and of the verdict
+  -- the forms of the keys of the version, and of the verdict
   abbrev own : Bool
   own = has_forms (version_keys version) d && has_forms (verdict_keys verdict) d
 

@@ -1,4 +1,4 @@
--- What is written for a certificate, its graph and group, and a moment is read as just these again.
+-- What is written for a certificate, its graph, its group and a moment reads back.
 use Rattle.std.proofs.Common.{◌≡◌, ℕ, ◌≤◌, ◌+◌, List, length, true, false, Bool, ◌&&◌, cond, Some, None, refl, sym}
 use Rattle.std.proofs.Common.{subst, arith, inl, nat_lt, nat_le}
 use Rattle.std.specs.Cmp.Lexicographic.{same_text}
@@ -7,7 +7,7 @@ use Rattle.std.proofs.lemmas.Bool.{leb-true}
 use Rattle.serde_json.specs.Data.{Members, no_members, object}
 use Rattle.serde_json.proofs.OnLiterals.{serde_json_on_literals}
 use Rattle.ov_graph.specs.Links.{LinkGraph, IsGraph, most_nodes}
-use Rattle.ov_graph.proofs.Tested.{no_fault_found, passed}
+use Rattle.ov_graph.proofs.EvenTest.Tested.{no_fault_found, passed}
 use Rattle.ov_cert.specs.declared.cert.Cert.{Cert}
 use Rattle.ov_cert.specs.declared.cert.Cert.TheVariants as cert
 use Rattle.ov_cert.specs.declared.cert.Split.{Split}
@@ -24,7 +24,7 @@ use Rattle.ov_certfile.specs.Code.Writing.{GroupReadsBack}
 use Rattle.ov_certfile.specs.declared.version.Version.{Version}
 use Rattle.ov_certfile.specs.declared.version.Version.TheVariants.{One, Two}
 
--- ---- what is put in is the object
+-- ---- the members that are written make up the object
 
 put_in : (version : Version) (c : Cert) (g : LinkGraph) (q : List ℕ) (m : ℕ)
     → object (with_group version q (with_cert c (with_graph version g m no_members))) ≡ data_in version c g q m
@@ -43,13 +43,13 @@ all_put_in version c g q m none graph said all v n a b e =
     λ w. object (with_group version q (with_cert c (with_graph version g m no_members))) ≡ data_in w c g q m in
     rw (e, b, a, n) (subst As v (put_in version c g q m))
 
--- ---- it says just what was written
+-- ---- the object has the meaning that was written
 
--- the nodes are as few as the version asks for
+-- there are no more nodes than the version allows
 abbrev IsFew : Version → LinkGraph → Type 0
 IsFew version g = length g.nodes ≤ most_nodes_of version
 
--- a graph within the limit of all graphs, and of the version, has no fault
+-- a graph within the limit of all graphs and of the version has no fault
 graph_judged : (version : Version) (g : LinkGraph) → IsGraph g → length g.nodes ≤ most_nodes → IsFew version g
     → FileGraphJudged version g None
 graph_judged version g graph within few = inl (few, passed g.nodes g.links (no_fault_found g graph within))
@@ -78,7 +78,7 @@ unfolding demands data_in serde_json_on_literals
 two_split_met c m g q h b p t =
     rw (b.0, b.1.cut, b.1.near, b.1.far, b.1.side, b.2.pairs, b.2.fans, p, t, h.nodes, h.links) refl
 
--- the group is all nodes in version 1
+-- in version 1 the group is all nodes
 abbrev IsGroupOf : Version → LinkGraph → List ℕ → Type 0
 IsGroupOf One g q = q ≡ g.nodes
 IsGroupOf Two g q = Unit {0}
@@ -146,7 +146,7 @@ in_version Two (cert.Split c) g q m h b p all few t = record {
   };
 }
 
--- what the rule for the version asks for
+-- the version that is written allows the group and the number of nodes
 few_and_all : (same fits : Bool) (g : LinkGraph) (q : List ℕ) → (same ≡ true → q ≡ g.nodes)
     → (fits ≡ true → length g.nodes ≤ most_nodes_of One) → length g.nodes ≤ most_nodes
     → (let version : Version = cond (same && fits) One Two in IsGroupOf version g q × IsFew version g)

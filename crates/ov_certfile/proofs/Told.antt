@@ -1,4 +1,4 @@
--- From what each part of a file came to, to what the whole file says, or its fault.
+-- The results of reading the parts of a file, put together to the result for the file.
 use Rattle.std.proofs.Common.{◌≡◌, ◌≢◌, ◌∙◌, ℕ, List, true, false, cond, Some, None, Result, Err, refl, ap}
 use Rattle.serde_json.specs.Data.{Data}
 use Rattle.ov_graph.specs.Links.{LinkGraph}
@@ -17,12 +17,12 @@ use Rattle.ov_certfile.specs.declared.version.Version.{Version}
 use Rattle.ov_certfile.specs.declared.verdict.Verdict.{Verdict}
 use Rattle.ov_certfile.specs.declared.reading.Filed.{Filed}
 
--- the fault is another one than out of memory
+-- the fault is not out of memory
 abbrev pub IsTold : FileFault → Type 0
 IsTold e = ◌≢◌ {A = Result Filed FileFault} (Err e) (Err OutOfMemory)
 
 module _ (version : Version) (verdict : Verdict) (d : Data) (h : IsHeaded version verdict d) where
-  -- the demand for forms is met, and so all are
+  -- the demand for forms is met, and so are all demands
   met : has_forms (cert_keys verdict) d ≡ true → has_forms (dated_keys version) d ≡ true
       → first_unmet (demands d) ≡ None
   met c t =
@@ -73,7 +73,7 @@ module _ (version : Version) (verdict : Verdict) (d : Data) (h : IsHeaded versio
     cert = cert;
   }
 
--- the fault of nodes and links that stand there
+-- the first fault of the nodes and links in the value
 pub graph_told : (version : Version) (d : Data) (g : LinkGraph) (e : FileFault) → has_forms graph_keys d ≡ true
     → SaysGraph d g → IsGraphFault version g e → IsUndated version graph_keys d e
 graph_told version d g OutOfMemory f s h = tt

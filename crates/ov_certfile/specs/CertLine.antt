@@ -1,4 +1,4 @@
--- What is printed of a certificate.
+-- The text that is printed of a certificate.
 use Rattle.std.specs.Prelude.{ℕ, List, [], ◌++◌, codes, decimal, if◌then◌else◌}
 use Rattle.ov_ids.specs.Text.{ids_text}
 use Rattle.ov_graph.specs.Links.{LinkGraph}
@@ -6,7 +6,7 @@ use Rattle.ov_cert.specs.declared.cert.Cert.{Cert}
 use Rattle.ov_cert.specs.declared.cert.Cert.TheVariants.{Linked, Split}
 use Rattle.ov_certfile.specs.Common.{are_same}
 
--- the certificate without its paths and its group
+-- the text of a certificate without its paths and its group
 unfoldable pub claim_text : Cert → List ℕ
 claim_text (Linked k) = codes "linked k " ++ decimal k
 claim_text (Split c) =
@@ -16,10 +16,10 @@ claim_text (Split c) =
     ++ (codes " far " ++ (decimal c.far
     ++ (codes " side " ++ ids_text c.side))))))))
 
--- the group; nothing where it is all nodes
+-- the text of the group; empty if the group is all nodes
 abbrev pub group_text : List ℕ → List ℕ → List ℕ
 group_text nodes group = if are_same group nodes then [] else codes " group " ++ ids_text group
 
--- the certificate and its group, without its paths
+-- the text of a certificate and its group, without the paths
 unfoldable pub cert_text : Cert → LinkGraph → List ℕ → List ℕ
 cert_text c g group = claim_text c ++ group_text g.nodes group

@@ -1,3 +1,3 @@
--- What the contracts of private functions cite. No definition of a public contract uses it.
+-- What only the contracts of private functions and the proofs use.
 pub mod Reading
 pub mod Writing

@@ -1,4 +1,4 @@
--- The object that is written for a certificate. Its keys stand in the order of their bytes.
+-- The JSON object that is written for a certificate. Its keys are in the order of their bytes.
 use Rattle.std.specs.Prelude.{ℕ, ◌&&◌, List, [], ◌∷◌, length, map, codes, nat_le, if◌then◌else◌}
 use Rattle.serde_json.specs.View.{items_of}
 use Rattle.serde_json.specs.Data.{Data, number, string, array, object, unsigned, Members, no_members, member}
@@ -14,49 +14,49 @@ use Rattle.ov_certfile.specs.declared.version.Version.{Version}
 use Rattle.ov_certfile.specs.declared.version.Version.TheVariants.{One, Two}
 use Rattle.ov_certfile.specs.declared.verdict.Verdict.TheVariants.{Linked, Split as VerdictSplit}
 
--- a whole number
+-- a whole number as JSON
 abbrev pub whole_data : ℕ → Data
 whole_data n = number (unsigned n)
 
--- a list, each item written as this data
+-- a list as a JSON array, each item written by `as_data`
 abbrev pub list_data : {X : Type 0} → (X → Data) → List X → Data
 list_data as_data xs = array (items_of (map as_data xs))
 
--- a list of ids
+-- a list of ids as JSON
 abbrev pub ids_data : List ℕ → Data
 ids_data ids = list_data whole_data ids
 
--- a link: the list of its two ids
+-- a link as JSON: an array of its two ids
 abbrev pub link_data : ℕ × ℕ → Data
 link_data l = ids_data (l.0 ∷ l.1 ∷ [])
 
--- paths: a list of lists of ids
+-- paths as JSON: an array of arrays of ids
 abbrev pub paths_data : List (List ℕ) → Data
 paths_data paths = list_data ids_data paths
 
--- the entry of a pair
+-- the entry of a pair as JSON
 unfoldable pub pair_data : PairPaths → Data
 pair_data p = object
     (member (codes "i") (whole_data p.i)
     (member (codes "j") (whole_data p.j)
     (member (codes "paths") (paths_data p.paths) no_members)))
 
--- the entry of a fan
+-- the entry of a fan as JSON
 unfoldable pub fan_data : FanPaths → Data
 fan_data p = object
     (member (codes "j") (whole_data p.j)
     (member (codes "paths") (paths_data p.paths) no_members))
 
--- version 1 exactly where the group is all nodes, and these are no more than it may have
+-- the version that is written: 1 exactly if the group is all nodes and there are no more nodes than version 1 allows
 unfoldable pub version_for : LinkGraph → List ℕ → Version
 version_for g group = if are_same group g.nodes && nat_le (length g.nodes) (most_nodes_of One) then One else Two
 
--- the group, which version 2 names, and then these members
+-- the members, with the group before them if the version names one
 abbrev pub group_then : Version → List ℕ → Members → Members
 group_then One group members = members
 group_then Two group members = member (codes "group") (ids_data group) members
 
--- the members of a file that says that every two are linked
+-- the members of a file with verdict linked
 abbrev pub linked_members : Version → ℕ → LinkGraph → List ℕ → ℕ → Members
 linked_members version k g group moment =
     group_then version group
@@ -67,7 +67,7 @@ linked_members version k g group moment =
     (member (codes "verdict") (string (verdict_text Linked))
     (member (codes "version") (whole_data (version_number version)) no_members))))))
 
--- the members of a file that says that some nodes split its group
+-- the members of a file with verdict split
 abbrev pub split_members : Version → Split → LinkGraph → List ℕ → ℕ → Members
 split_members version c g group moment =
     member (codes "cut") (ids_data c.cut)
@@ -89,10 +89,10 @@ abbrev pub cert_members : Version → Cert → LinkGraph → List ℕ → ℕ �
 cert_members version (cert.Linked k) g group moment = linked_members version k g group moment
 cert_members version (cert.Split c) g group moment = split_members version c g group moment
 
--- the object of a version
+-- the object of a file of this version
 unfoldable pub data_in : Version → Cert → LinkGraph → List ℕ → ℕ → Data
 data_in version c g group moment = object (cert_members version c g group moment)
 
--- the object for a certificate, its graph and group, and the moment of the graph
+-- the object of a file, given the certificate, the graph, the group and the moment
 unfoldable pub data_of : Cert → LinkGraph → List ℕ → ℕ → Data
 data_of c g group moment = data_in (version_for g group) c g group moment

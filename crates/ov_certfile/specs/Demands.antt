@@ -1,4 +1,4 @@
--- What a value must meet to be a certificate file, in order.
+-- The demands on a JSON value that is read as a certificate file, in the order in which they are checked.
 use Rattle.std.specs.Prelude.{◌≤◌, Bool, List, [], ◌∷◌, length, codes, is_some, if◌then◌else◌, Option, Some, None}
 use Rattle.std.specs.Prelude.{unwrap_or}
 use Rattle.std.specs.List.{list_all}
@@ -9,7 +9,7 @@ use Rattle.ov_graph.specs.Links.{LinkGraph}
 use Rattle.ov_graph.specs.Faults.{GraphJudged}
 use Rattle.ov_graph.specs.declared.fault.GraphFault.{GraphFault}
 use Rattle.ov_graph.specs.declared.fault.GraphFault.TheVariants.{TooManyNodes}
-use Rattle.ov_certfile.specs.Common.{◌>>=◌}
+use Rattle.ov_ids.specs.Options.{◌>>=◌}
 use Rattle.ov_certfile.specs.Keys.{has_key, has_all, has_no_other, said}
 use Rattle.ov_certfile.specs.Kinds.{version_in, verdict_in, most_nodes_of, Key, keys_of, names_of}
 use Rattle.ov_certfile.specs.declared.fault.FileFault.{FileFault}
@@ -17,14 +17,14 @@ use Rattle.ov_certfile.specs.declared.fault.FileFault.TheVariants.{MissingKey, U
 use Rattle.ov_certfile.specs.declared.fault.FileFault.TheVariants.{Version as AnotherVersion}
 use Rattle.ov_certfile.specs.declared.version.Version.{Version}
 
--- the keys of a file with the version and the verdict of the value, if it has both
+-- the keys of a file with the version and the verdict of the value; None if the value lacks either
 abbrev pub keys_said : Data → Option (List Key)
 keys_said d =
     said version_in (codes "version") d >>= λ version.
     said verdict_in (codes "verdict") d >>= λ verdict.
     Some (keys_of version verdict)
 
--- the keys that the value must have; none where its version or its verdict is missing
+-- the keys that the value must have; none if it lacks a version or a verdict
 abbrev pub wanted_keys : Data → List Key
 wanted_keys d = unwrap_or (keys_said d) []
 
@@ -32,7 +32,7 @@ wanted_keys d = unwrap_or (keys_said d) []
 abbrev pub has_forms : List Key → Data → Bool
 has_forms keys d = list_all (λ k. k.1 d) keys
 
--- the demands, each with the fault that is returned where it is the first that the value does not meet
+-- the demands, each with its fault; the fault of the first unmet demand is returned
 unfoldable pub demands : Data → List (Bool × FileFault)
 demands d =
     (is_some (as_object d), BadValue)
@@ -45,12 +45,13 @@ demands d =
     ∷ (has_forms (wanted_keys d) d, BadValue)
     ∷ []
 
--- the fault of the first demand that is not met, if there is one
+-- the fault of the first unmet demand, if there is one
 abbrev pub first_unmet : List (Bool × FileFault) → Option FileFault
 first_unmet [] = None
 first_unmet (demand ∷ rest) = if demand.0 then first_unmet rest else Some demand.1
 
--- last, nodes and links must be a graph: no more nodes than the version allows, and no fault as a graph
+-- after the demands, the nodes and links must be a graph: no more nodes than the version allows, and no fault of a
+-- graph
 abbrev pub FileGraphJudged : Version → LinkGraph → Option GraphFault → Type 0
 FileGraphJudged version g answer =
     Step (length g.nodes ≤ most_nodes_of version) TooManyNodes (GraphJudged g.nodes g.links) answer

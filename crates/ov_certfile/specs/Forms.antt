@@ -1,18 +1,18 @@
--- The forms of the values in a file. A form reads a value of JSON: its result is what the value says, or nothing where
--- the value does not have the form. The format is chosen here.
+-- The forms of the values in a file. A form maps a JSON value to what it means, or to None if the value does not have
+-- the form. The forms are a choice of this project.
 use Rattle.std.specs.Prelude.{◌^◌, ◌+◌, ℕ, List, [], ◌∷◌, nat_lt, codes, if◌then◌else◌, Option, Some, None}
 use Rattle.serde_json.specs.Data.{Data, Items, no_items, item}
 use Rattle.serde_json.specs.Find.{as_number, as_u64, as_array}
 use Rattle.ov_cert.specs.declared.cert.PairPaths.{PairPaths}
 use Rattle.ov_cert.specs.declared.cert.FanPaths.{FanPaths}
-use Rattle.ov_certfile.specs.Common.{◌>>=◌}
+use Rattle.ov_ids.specs.Options.{◌>>=◌}
 use Rattle.ov_certfile.specs.Keys.{has_just, said}
 
--- ids and counts are below this
+-- the limit of ids and counts: each is below it
 abbrev pub number_limit : ℕ
 number_limit = 2 ^ 32
 
--- the greatest moment
+-- the highest moment
 abbrev pub last_moment : ℕ
 last_moment = 65536
 
@@ -28,7 +28,7 @@ whole_below limit d = whole_in d >>= λ n. if nat_lt n limit then Some n else No
 abbrev pub count_in : Data → Option ℕ
 count_in d = whole_below number_limit d
 
--- a moment: the number of the journal's entry whose graph it is, or 0 for a graph that was given by hand
+-- a moment: the number of the entry of the journal to which the graph belongs, or 0 if the graph comes from no journal
 abbrev pub moment_in : Data → Option ℕ
 moment_in d = whole_below (last_moment + 1) d
 
@@ -36,39 +36,39 @@ moment_in d = whole_below (last_moment + 1) d
 abbrev pub id_in : Data → Option ℕ
 id_in d = whole_below number_limit d
 
--- the items, each in a form, in order
+-- the items of an array, in order, each in this form; None if some item does not have it
 abbrev pub each_in : {X : Type 0} → (Data → Option X) → Items → Option (List X)
 each_in form no_items = Some []
 each_in form (item d ds) = form d >>= λ x. each_in form ds >>= λ xs. Some (x ∷ xs)
 
--- a list, each of its items in a form
+-- an array whose items all have this form
 abbrev pub list_in : {X : Type 0} → (Data → Option X) → Data → Option (List X)
 list_in form d = as_array d >>= each_in form
 
--- a list of ids
+-- an array of ids
 abbrev pub ids_in : Data → Option (List ℕ)
 ids_in d = list_in id_in d
 
--- the two ids of a list of exactly two
+-- the two items of a list of exactly two
 abbrev pub both_of : List ℕ → Option (ℕ × ℕ)
 both_of [] = None
 both_of (a ∷ []) = None
 both_of (a ∷ b ∷ []) = Some (a, b)
 both_of (a ∷ b ∷ c ∷ rest) = None
 
--- a link: a list of exactly two ids
+-- a link: an array of exactly two ids
 abbrev pub link_in : Data → Option (ℕ × ℕ)
 link_in d = ids_in d >>= both_of
 
--- the links
+-- an array of links
 abbrev pub links_in : Data → Option (List (ℕ × ℕ))
 links_in d = list_in link_in d
 
--- paths: a list of lists of ids
+-- paths: an array of arrays of ids
 abbrev pub paths_in : Data → Option (List (List ℕ))
 paths_in d = list_in ids_in d
 
--- the entry of a pair: an object with its two nodes and its paths, and nothing else
+-- the entry of a pair: an object with its two nodes and its paths, and no other key
 unfoldable pub pair_in : Data → Option PairPaths
 pair_in d = if has_just (codes "i" ∷ codes "j" ∷ codes "paths" ∷ []) d then (
     said id_in (codes "i") d >>= λ i.
@@ -76,17 +76,17 @@ pair_in d = if has_just (codes "i" ∷ codes "j" ∷ codes "paths" ∷ []) d the
     said paths_in (codes "paths") d >>= λ paths.
     Some (record { i = i; j = j; paths = paths })) else None
 
--- the entry of a fan: an object with its node and its paths, and nothing else
+-- the entry of a fan: an object with its node and its paths, and no other key
 unfoldable pub fan_in : Data → Option FanPaths
 fan_in d = if has_just (codes "j" ∷ codes "paths" ∷ []) d then (
     said id_in (codes "j") d >>= λ j.
     said paths_in (codes "paths") d >>= λ paths.
     Some (record { j = j; paths = paths })) else None
 
--- the entries of the pairs
+-- an array of entries of pairs
 abbrev pub pairs_in : Data → Option (List PairPaths)
 pairs_in d = list_in pair_in d
 
--- the entries of the fans
+-- an array of entries of fans
 abbrev pub fans_in : Data → Option (List FanPaths)
 fans_in d = list_in fan_in d

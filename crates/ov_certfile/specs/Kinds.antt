@@ -1,10 +1,11 @@
--- The versions and the verdicts of files, and the keys that each has.
+-- The versions and the verdicts of files, and the keys of each.
 use Rattle.std.specs.Prelude.{◌==◌, ℕ, Bool, List, [], ◌∷◌, ◌++◌, map, codes, is_some, if◌then◌else◌, Option, Some}
 use Rattle.std.specs.Prelude.{None}
 use Rattle.serde_json.specs.Data.{Data}
 use Rattle.serde_json.specs.Find.{as_str}
 use Rattle.ov_graph.specs.Links.{most_nodes}
-use Rattle.ov_certfile.specs.Common.{◌>>=◌, are_same}
+use Rattle.ov_ids.specs.Options.{◌>>=◌}
+use Rattle.ov_certfile.specs.Common.{are_same}
 use Rattle.ov_certfile.specs.Keys.{said}
 use Rattle.ov_certfile.specs.Forms.{whole_in, count_in, moment_in, id_in, ids_in, links_in, pairs_in, fans_in}
 use Rattle.ov_certfile.specs.declared.version.Version.{Version}
@@ -25,11 +26,11 @@ version_numbered n = if n == 1 then Some One else (if n == 2 then Some Two else 
 abbrev pub version_in : Data → Option Version
 version_in d = whole_in d >>= version_numbered
 
--- the most nodes of a file of version 1
+-- the highest number of nodes in a file of version 1
 abbrev pub most_nodes_of_one : ℕ
 most_nodes_of_one = 256
 
--- the most nodes of a file of a version: version 2 has no limit but that of a graph
+-- the highest number of nodes in a file of this version: 256 in version 1, and the limit of all graphs in version 2
 abbrev pub most_nodes_of : Version → ℕ
 most_nodes_of One = most_nodes_of_one
 most_nodes_of Two = most_nodes
@@ -48,11 +49,11 @@ verdict_named s =
 abbrev pub verdict_in : Data → Option Verdict
 verdict_in d = as_str d >>= verdict_named
 
--- a key, and whether an object has a value of the key's form there
+-- a key: its name, and a test whether an object has a value of the key's form there
 abbrev pub Key : Type 0
 Key = List ℕ × (Data → Bool)
 
--- the key of this name, whose value has this form
+-- the key with this name and this form
 abbrev pub key : {X : Type 0} → List ℕ → (Data → Option X) → Key
 key name form = (name, λ d. is_some (said form name d))
 
@@ -67,12 +68,12 @@ common_keys =
     ∷ key (codes "version") version_in
     ∷ []
 
--- the keys that only files of a version have: in version 2 a group
+-- the keys that only this version has: in version 2 the group
 abbrev pub version_keys : Version → List Key
 version_keys One = []
 version_keys Two = key (codes "group") ids_in ∷ []
 
--- the keys that only files of a verdict have: the cut with its side, and the entries
+-- the keys that only this verdict has: for split the cut, its side and the entries
 abbrev pub verdict_keys : Verdict → List Key
 verdict_keys Linked = []
 verdict_keys Split =
@@ -84,10 +85,10 @@ verdict_keys Split =
     ∷ key (codes "fans") fans_in
     ∷ []
 
--- the keys of a file
+-- the keys of a file of this version and verdict
 abbrev pub keys_of : Version → Verdict → List Key
 keys_of version verdict = common_keys ++ (version_keys version ++ verdict_keys verdict)
 
--- their names
+-- the names of these keys
 abbrev pub names_of : List Key → List (List ℕ)
 names_of keys = map (λ k. k.0) keys

@@ -1,11 +1,11 @@
--- The number of each fault.
+-- The numbers of the faults of a certificate file.
 use Rattle.std.specs.Prelude.{ℕ}
 use Rattle.ov_graph.specs.Faults as graph
 use Rattle.ov_certfile.specs.declared.fault.FileFault.{FileFault}
 use Rattle.ov_certfile.specs.declared.fault.FileFault.TheVariants.{NotJson, MissingKey, UnknownKey, BadValue, Version}
 use Rattle.ov_certfile.specs.declared.fault.FileFault.TheVariants.{Graph, OutOfMemory}
 
--- a graph's fault keeps its own number
+-- the number of each fault; a fault of the graph keeps its own number
 abbrev pub number_of : FileFault → ℕ
 number_of NotJson = 60
 number_of MissingKey = 61

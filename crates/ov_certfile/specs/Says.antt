@@ -1,4 +1,4 @@
--- What a value of JSON says as a certificate file, or its first fault, and what a text says.
+-- The meaning of a JSON value and of a text as a certificate file, or their first fault.
 use Rattle.std.specs.Prelude.{◌≡◌, ℕ, List, codes, IfSome, IfNone, Some, None, Result, Ok, Err}
 use Rattle.serde_json.specs.Data.{Data}
 use Rattle.serde_json.specs.Read.{read}
@@ -18,22 +18,22 @@ use Rattle.ov_certfile.specs.declared.version.Version.TheVariants.{One, Two}
 use Rattle.ov_certfile.specs.declared.verdict.Verdict.TheVariants.{Linked, Split as VerdictSplit}
 use Rattle.ov_certfile.specs.declared.reading.Filed.{Filed}
 
--- the value has these nodes and links, whether or not they are a graph
+-- the nodes and links in the value are those of g, whether or not g is a graph
 pub record SaysGraph (d : Data) (g : LinkGraph) : Type 0 where
   pub nodes : said ids_in (codes "nodes") d ≡ Some g.nodes
   pub links : said links_in (codes "links") d ≡ Some g.links
 
--- the group is all nodes in version 1, and the one that is named in version 2
+-- the group in the value: all nodes in version 1, the named group in version 2
 abbrev pub SaysGroup : Data → Version → LinkGraph → List ℕ → Type 0
 SaysGroup d One g group = group ≡ g.nodes
 SaysGroup d Two g group = said ids_in (codes "group") d ≡ Some group
 
--- the value says that every two members are linked, with this k
+-- the certificate in the value has verdict linked and this k
 pub record SaysLinked (d : Data) (k : ℕ) : Type 0 where
   pub verdict : said verdict_in (codes "verdict") d ≡ Some Linked
   pub count : said count_in (codes "k") d ≡ Some k
 
--- the value says that some nodes split the group: with this cut, its side, and these entries
+-- the certificate in the value has verdict split, with this cut, side and entries
 pub record SaysSplit (d : Data) (c : Split) : Type 0 where
   pub verdict : said verdict_in (codes "verdict") d ≡ Some VerdictSplit
   pub k : said count_in (codes "k") d ≡ Some c.k
@@ -49,7 +49,7 @@ abbrev pub SaysCert : Data → Cert → Type 0
 SaysCert d (cert.Linked k) = SaysLinked d k
 SaysCert d (cert.Split c) = SaysSplit d c
 
--- the value meets all demands, its nodes and links are a graph, and it says just this
+-- the value meets all demands, its nodes and links are a graph, and its meaning is f
 pub record Says (d : Data) (f : Filed) : Type 0 where
   pub met : first_unmet (demands d) ≡ None
   pub version : Version
@@ -60,7 +60,7 @@ pub record Says (d : Data) (f : Filed) : Type 0 where
   pub group : SaysGroup d version f.graph f.group
   pub cert : SaysCert d f.cert
 
--- the value meets all demands, and this is the first fault of its nodes and links
+-- the value meets all demands, but its nodes and links are no graph, and this is their first fault
 pub record IsNoGraph (d : Data) (fault : GraphFault) : Type 0 where
   pub met : first_unmet (demands d) ≡ None
   pub version : Version
@@ -69,17 +69,17 @@ pub record IsNoGraph (d : Data) (fault : GraphFault) : Type 0 where
   pub graph : SaysGraph d given
   pub judged : FileGraphJudged version given (Some fault)
 
--- the first fault of a value
+-- the first fault of the value
 abbrev pub IsFault : Data → FileFault → Type 0
 IsFault d (Graph fault) = IsNoGraph d fault
 IsFault d fault = first_unmet (demands d) ≡ Some fault
 
--- what a value says, or its first fault
+-- the meaning of a value, or its first fault
 abbrev pub SaysFile : Data → Result Filed FileFault → Type 0
 SaysFile d (Ok f) = Says d f
 SaysFile d (Err fault) = IsFault d fault
 
--- what a text says: what the value says that JSON reads in it, or NotJson where it reads none
+-- the meaning of a text: that of the JSON value in it, or the fault NotJson if it is no JSON
 pub record SaysText (text : List ℕ) (answer : Result Filed FileFault) : Type 0 where
   pub json : IfSome (read text) (λ d. SaysFile d answer)
   pub no_json : IfNone (read text) (answer ≡ Err NotJson)

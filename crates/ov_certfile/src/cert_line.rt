@@ -3,8 +3,9 @@ use ov_graph::Graph;
 use ov_ids::{IdsText, NodeId};
 use std::fmt::{Display, Formatter, Result, Write};
 
-/// A certificate, to be printed without its paths: `linked k K`, or `split k K cut C near A far B side S`, and then
-/// ` group G` where the group is not all nodes. Ids have commas between them, and a list without ids is a dash.
+/// Prints a certificate with its group and without its paths: `linked k K`, or `split k K cut C near A far B side S`,
+/// followed by ` group G` if the group is not all nodes. Ids are separated by commas. An empty list is printed as a
+/// dash.
 #[derive(Drop)]
 pub struct CertText<'a> {
     pub cert: &'a Cert,
@@ -29,7 +30,7 @@ impl<'a> Display for CertText<'a> {
     }
 }
 
-/// A certificate, to be printed without its paths and its group.
+/// Prints a certificate without its group and its paths.
 #[derive(Drop)]
 struct ClaimText<'a>(&'a Cert);
 

@@ -11,7 +11,7 @@ use ov_cert::{Cert, Split};
 use serde_json::{Map, Value, put};
 use std::alloc::{AllocError, Global};
 
-/// Writes a certificate.
+/// Adds the certificate.
 pub(crate) fn put_cert(
     members: &mut Map<String, Value>,
     alloc: Global,
@@ -31,7 +31,7 @@ pub(crate) fn put_cert(
     }
 }
 
-/// Writes the verdict and k.
+/// Adds the verdict and k.
 fn put_verdict(
     members: &mut Map<String, Value>,
     alloc: Global,
@@ -47,7 +47,7 @@ fn put_verdict(
     Ok(put(members, alloc, "k", Value::from(k))?)
 }
 
-/// Writes the cut and its side.
+/// Adds the cut and its side.
 fn put_cut(members: &mut Map<String, Value>, alloc: Global, split: &Split) -> Result<(), AllocError>
     ensures members { OnOk result (members_view members.new.entries
         ≡ with_cut split.now (members_view members.old.entries)) }
@@ -59,7 +59,7 @@ fn put_cut(members: &mut Map<String, Value>, alloc: Global, split: &Split) -> Re
     Ok(put_field(members, alloc, "side", &split.side)?)
 }
 
-/// Writes the entries.
+/// Adds the entries.
 fn put_entries(
     members: &mut Map<String, Value>,
     alloc: Global,

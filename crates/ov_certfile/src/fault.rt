@@ -18,22 +18,22 @@ pub enum FileFault {
     /// 62: there is a key that the file must not have.
     #[error("a key is unknown")]
     UnknownKey,
-    /// 63: a value does not have the form that it must have.
+    /// 63: a value does not have the form of its key.
     #[error("a value has another form")]
     BadValue,
     /// 64: the version is neither 1 nor 2.
     #[error("another version")]
     Version,
-    /// 31 to 33: nodes and links are not a graph.
+    /// 31 to 33: the nodes and links are not a graph.
     #[error("the graph: {0}")]
     Graph(GraphFault),
-    /// 99: an allocation was refused.
+    /// 99: out of memory.
     #[error("out of memory")]
     OutOfMemory,
 }
 
 impl FileFault {
-    /// The fault's number; a graph's fault keeps its own.
+    /// The fault's number. A fault of the graph keeps its own number.
     pub fn number(&self) -> u32
         ensures { result ≡ number_of self.now }
     {

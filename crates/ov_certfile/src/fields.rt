@@ -11,11 +11,11 @@ use ov_ids::{NodeId, Seq};
 use serde_json::{Map, Value, json, put};
 use std::alloc::{AllocError, Global};
 
-/// Ids and counts are below this.
+/// The limit of ids and counts: each is below it.
 pub(crate) const NUMBER_LIMIT: u64 = 1 << 32;
 
-/// A type whose values stand in a file. `form` reads a value of JSON as such a field, if it has the form of one, and
-/// `as_data` is the value that is written for a field.
+/// A type whose values stand in a file. `form` reads a JSON value as such a field, if the value has its form. `as_data`
+/// is the value that is written for a field.
 pub(crate) trait Field: Drop {
     ghost use Rattle.std.specs.Prelude.{◌≡◌, Option, IfOk, OnOk, Some};
     ghost use Rattle.serde_json.specs.Data.{Data};
@@ -26,13 +26,13 @@ pub(crate) trait Field: Drop {
 
     ghost as_data: { Self → Data };
 
-    /// The field that a value says.
+    /// The field that the value stands for. BadValue if the value does not have the form.
     fn from_value(alloc: Global, value: &Value) -> Result<Self, FileFault>
     where
         Self: Sized,
         ensures { Reads (λ x. x) result (form (view value.now)) };
 
-    /// The value that is written for a field. Reading it gives the field back.
+    /// The value that is written for the field. Reading it gives the field back.
     fn to_value(&self, alloc: Global) -> Result<Value, AllocError>
         ensures value { IfOk result (λ v. view v ≡ as_data self.now) }
         ensures reads_back { OnOk result (form (as_data self.now) ≡ Some self.now) };
@@ -129,7 +129,7 @@ fn each_from<T: Field>(alloc: Global, values: &[Value]) -> Result<Vec<T>, FileFa
     Ok(fields)
 }
 
-/// The list of the values that are written for these fields.
+/// The array of the values that are written for these fields.
 pub(crate) fn list_value<T: Field>(alloc: Global, fields: &[T]) -> Result<Value, AllocError>
     ensures value { IfOk result (λ v. view v ≡ list_data T.as_data fields.now) }
     ensures reads_back { OnOk result (list_in T.form (list_data T.as_data fields.now) ≡ Some fields.now) }
@@ -150,7 +150,7 @@ fn each_value<T: Field>(alloc: Global, fields: &[T]) -> Result<Vec<Value>, Alloc
     Ok(values)
 }
 
-/// The value of a key, read as a field.
+/// Reads the value at a key as a field.
 pub(crate) fn read_at<T: Field>(alloc: Global, value: &Value, key: &str) -> Result<T, FileFault>
     ensures { Reads (λ x. x) result (said T.form key.now (view value.now)) }
 {
@@ -160,7 +160,7 @@ pub(crate) fn read_at<T: Field>(alloc: Global, value: &Value, key: &str) -> Resu
     }
 }
 
-/// The value of a key, read as a whole number below a limit.
+/// Reads the value at a key as a whole number below a limit.
 pub(crate) fn whole_at(value: &Value, key: &str, limit: u64) -> Result<u32, FileFault>
     requires { limit ≤ number_limit }
     ensures { Reads (λ n. n) result (said (whole_below limit) key.now (view value.now)) }
@@ -171,7 +171,7 @@ pub(crate) fn whole_at(value: &Value, key: &str, limit: u64) -> Result<u32, File
     }
 }
 
-/// Writes a field at its key.
+/// Adds a field at its key.
 pub(crate) fn put_field<T: Field>(
     members: &mut Map<String, Value>,
     alloc: Global,

@@ -12,7 +12,7 @@ use ov_ids::NodeId;
 use serde_json::{Map, Value, put};
 use std::alloc::{AllocError, Global};
 
-/// Writes what every file has: the graph, its moment, and the version.
+/// Adds what every file has: the graph, its moment and the version.
 pub(crate) fn put_graph(
     members: &mut Map<String, Value>,
     alloc: Global,
@@ -30,7 +30,7 @@ pub(crate) fn put_graph(
     Ok(put(members, alloc, "version", Value::from(version.number()))?)
 }
 
-/// Writes a list of ids at its key.
+/// Adds a list of ids at its key.
 pub(crate) fn put_ids(
     members: &mut Map<String, Value>,
     alloc: Global,
@@ -45,7 +45,7 @@ pub(crate) fn put_ids(
     put(members, alloc, key, value)
 }
 
-/// Writes the links of a graph.
+/// Adds the links of a graph.
 fn put_links(
     members: &mut Map<String, Value>,
     alloc: Global,

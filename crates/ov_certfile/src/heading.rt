@@ -10,7 +10,7 @@ use crate::verdict::Verdict;
 use crate::version::Version;
 use serde_json::Value;
 
-/// The version and the verdict of a file that has their keys and no others, or its first fault.
+/// The version and the verdict of a file that has exactly their keys, or its first fault.
 #[tactic(auto, unfolding(crate::specs::Demands::demands))]
 pub(crate) fn heading_of(value: &Value) -> Result<(Version, Verdict), FileFault>
     ensures { MatchResult result (λ h. IsHeaded h.0 h.1 (view value.now)) (IsFault (view value.now)) }
@@ -60,7 +60,7 @@ fn verdict_of(value: &Value) -> Option<Verdict>
     }
 }
 
-/// The keys of a file.
+/// The keys of a file of this version and verdict.
 fn names_of(version: Version, verdict: Verdict) -> &'static [&'static str]
     ensures { map (λ k. k.now) result.now ≡ names_of (keys_of version verdict) }
 {

@@ -17,7 +17,7 @@ fn is_among(texts: &[&str], text: &str) -> bool
     false
 }
 
-/// Whether an object has all of these keys.
+/// Whether a value is an object with all of these keys.
 pub(crate) fn has_all(keys: &[&str], value: &Value) -> bool
     ensures { result ≡ has_all (map (λ k. k.now) keys.now) (view value.now) }
 {
@@ -29,7 +29,7 @@ pub(crate) fn has_all(keys: &[&str], value: &Value) -> bool
     true
 }
 
-/// Whether an object has no key but these.
+/// Whether a value has no key but these.
 pub(crate) fn has_no_other(keys: &[&str], value: &Value) -> bool
     ensures { result ≡ has_no_other (map (λ k. k.now) keys.now) (view value.now) }
 {
@@ -45,7 +45,7 @@ fn are_among(wanted: &[&str], members: &Map<String, Value>) -> bool
     members.keys().all(|key| is_among(wanted, key.as_str()))
 }
 
-/// Whether an object has these keys and no others.
+/// Whether a value has exactly these keys.
 pub(crate) fn has_just(keys: &[&str], value: &Value) -> bool
     ensures { result ≡ has_just (map (λ k. k.now) keys.now) (view value.now) }
 {

@@ -1,4 +1,4 @@
-//! Certificate files: a graph, a group of its nodes and their certificate as one JSON object. Also the text that is
+//! Certificate files: a graph, a group of its nodes and their certificate as one JSON object; and the text that is
 //! printed of a certificate.
 #![tactic(auto)]
 

@@ -20,36 +20,37 @@ use ov_ids::{NodeId, Seq};
 use serde_json::Value;
 use std::alloc::Global;
 
-/// The greatest moment.
+/// The highest moment.
 const LAST_MOMENT: u64 = 65_536;
 
-/// What a certificate file says.
+/// The content of a certificate file.
 #[derive(Drop)]
 pub struct Filed {
-    /// The number of the journal's entry whose graph it is, at most 65,536. It is 0 for a graph that was given by hand.
+    /// The number of the entry of the journal to which the graph belongs, at most 65,536. It is 0 if the graph comes
+    /// from no journal.
     pub moment: u32,
     pub graph: Graph,
-    /// The nodes that must not be parted, as they stand in the file. They need not be a group of the graph.
+    /// The nodes that must stay joined, as listed in the file. They need not be a group of the graph.
     pub group: Seq<NodeId>,
     pub cert: Cert,
 }
 
-/// Reads a certificate file, of version 1 or 2. Version 1 names no group: its group is all nodes. It is not checked
-/// whether the group is one of the graph, nor whether the certificate is valid. Of several faults the first in this
-/// order is returned:
+/// Reads a certificate file of version 1 or 2. In version 1 the group is all nodes. It is not checked whether the group
+/// is a group of the graph, nor whether the certificate is valid. Of several faults, the first in this order is
+/// returned:
 ///
 /// 1. `NotJson` (60): the text is not JSON;
 /// 2. `BadValue` (63): it is not an object;
 /// 3. `MissingKey` (61): it has no `version`; `Version` (64): its version is not the whole number 1 or 2;
 /// 4. `MissingKey` (61): it has no `verdict`; `BadValue` (63): its verdict is neither `"linked"` nor `"split"`;
 /// 5. `MissingKey` (61): it lacks a key of its version and verdict;
-/// 6. `UnknownKey` (62): it has a key that is none of these;
+/// 6. `UnknownKey` (62): it has any other key;
 /// 7. `BadValue` (63): a value does not have the form of its key;
-/// 8. `Graph` of `TooManyNodes` (31): it has more nodes than its version may have, 256 in version 1 and 1,024 in
-///    version 2;
-/// 9. `Graph` of the fault of `Graph::new` (31 to 33): nodes and links are not a graph.
+/// 8. `Graph` of `TooManyNodes` (31): it has more nodes than its version allows, 256 in version 1 and 1,024 in version
+///    2;
+/// 9. `Graph` of the fault of `Graph::new` (31 to 33): the nodes and links are not a graph.
 ///
-/// `OutOfMemory` (99) is returned as soon as an allocation is refused.
+/// `OutOfMemory` (99) is returned as soon as an allocation fails.
 pub fn from_text(alloc: Global, text: &str) -> Result<Filed, FileFault>
     ensures says { result ≢ Err FileFault.OutOfMemory → SaysText text.now result }
     ensures only { (answer : Result Filed FileFault) → result ≢ Err FileFault.OutOfMemory
@@ -69,7 +70,7 @@ fn file(alloc: Global, value: &Value) -> Result<Filed, FileFault>
     values(alloc, version, verdict, value)
 }
 
-/// What a file with a heading says.
+/// The content of a file with this heading.
 fn values(
     alloc: Global,
     version: Version,
@@ -108,7 +109,7 @@ fn dated(
     Ok((moment, graph, group))
 }
 
-/// The group that a file names.
+/// The group that a file names, in version 2.
 fn named_group(
     alloc: Global,
     version: Version,
@@ -126,7 +127,7 @@ fn named_group(
     }
 }
 
-/// The nodes of a file, and the graph of these and its links.
+/// The nodes of a file, and its graph.
 fn graph_of(
     alloc: Global,
     version: Version,

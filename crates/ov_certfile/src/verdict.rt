@@ -1,7 +1,8 @@
 ghost use Rattle.std.specs.Prelude.{◌≡◌};
 ghost use Rattle.ov_certfile.specs.Kinds.{verdict_text};
 
-/// What a file says of its group: every two members are linked, or some nodes split it. It stands at the key `verdict`.
+/// What a file claims of its group: every two members are linked, or some nodes split the group. It stands at the key
+/// `verdict`.
 #[derive(Clone, Copy, Debug, PartialEq, Eq)]
 pub(crate) enum Verdict {
     Linked,
@@ -9,7 +10,7 @@ pub(crate) enum Verdict {
 }
 
 impl Verdict {
-    /// The verdict's text.
+    /// The text of the verdict in a file.
     pub(crate) fn text(self) -> &'static str
         ensures { result.now ≡ verdict_text self }
     {

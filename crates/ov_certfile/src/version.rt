@@ -3,20 +3,20 @@ ghost use Rattle.ov_certfile.specs.Kinds.{version_number, most_nodes_of};
 
 use ov_graph::Graph;
 
-/// The most nodes of a file of version 1.
+/// The highest number of nodes in a file of version 1.
 const MOST_NODES_OF_ONE: usize = 256;
 
 /// The version of a file. Its number stands at the key `version`.
 #[derive(Clone, Copy, Debug, PartialEq, Eq)]
 pub(crate) enum Version {
-    /// Its group is all nodes, which are at most 256.
+    /// The group is all nodes, at most 256.
     One,
-    /// It names its group.
+    /// The file names its group.
     Two,
 }
 
 impl Version {
-    /// The version's number.
+    /// The number of the version.
     pub(crate) fn number(self) -> u32
         ensures { result ≡ version_number self }
     {
@@ -26,7 +26,7 @@ impl Version {
         }
     }
 
-    /// The most nodes of a file of this version.
+    /// The highest number of nodes in a file of this version.
     pub(crate) fn most_nodes(self) -> usize
         ensures { result ≡ most_nodes_of self }
     {

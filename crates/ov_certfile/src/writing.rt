@@ -16,8 +16,7 @@ use ov_ids::{NodeId, OutOfMemory};
 use serde_json::{Map, Value};
 use std::alloc::{AllocError, Global};
 
-/// The certificate file of a certificate for the group of all nodes: as `to_text_group` for that group. A moment is at
-/// most 65,536.
+/// The text of the certificate file for the group of all nodes. See `to_text_group`. The moment is at most 65,536.
 pub fn to_text(
     alloc: Global,
     cert: &Cert,
@@ -33,12 +32,10 @@ pub fn to_text(
     to_text_group(alloc, cert, graph, graph.nodes(), moment)
 }
 
-/// The certificate file of a certificate, its graph and its group at a moment, which is at most 65,536. It is one JSON
-/// object. Its keys stand in the order of their bytes, and it has no white space and no line feed. It is of version 1,
-/// which names no group, exactly where the group is all nodes and these are at most 256; else it is of version 2.
-/// Reading the text gives all four back.
-///
-/// `OutOfMemory` (99): an allocation was refused.
+/// The text of the certificate file of a certificate, its graph, its group and a moment. The moment is at most 65,536.
+/// The text is one JSON object, with its keys in the order of their bytes, without white space or line feed. It is of
+/// version 1, which names no group, exactly if the group is all nodes and these are at most 256; otherwise it is of
+/// version 2. Reading the text gives all four back. Faults: out of memory (99).
 #[tactic(auto, using(crate::proofs::Written::no_float))]
 pub fn to_text_group(
     alloc: Global,
@@ -73,7 +70,7 @@ fn value_of(
     Ok(Value::Object(members))
 }
 
-/// Writes all that a file has.
+/// Writes the object of a file.
 fn put_file(
     members: &mut Map<String, Value>,
     alloc: Global,
@@ -93,7 +90,7 @@ fn put_file(
     Ok(put_group(members, alloc, version, group)?)
 }
 
-/// The version of the file of a graph and a group.
+/// The version that is written for a graph and a group.
 #[tactic(auto, unfolding(crate::specs::DataOf::version_for))]
 fn version_for(graph: &Graph, group: &[NodeId]) -> Version
     ensures { result ≡ version_for graph.now group.now }
@@ -109,7 +106,7 @@ fn version_for(graph: &Graph, group: &[NodeId]) -> Version
     }
 }
 
-/// Writes the group, where the version names one.
+/// Adds the group, if the version names one.
 fn put_group(
     members: &mut Map<String, Value>,
     alloc: Global,

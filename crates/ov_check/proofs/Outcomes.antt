@@ -1,14 +1,14 @@
--- The bytes of a file come to one outcome alone.
+-- The bytes of a file have one outcome.
 use Rattle.std.proofs.Common.{◌≡◌, ◌∙◌, ◌≤◌, List, ℕ, length, Option, Some, None, Result, Ok, Err, IfSome, IfNone, sym}
 use Rattle.std.proofs.Common.{subst, ap, inl, inr}
 use Rattle.ov_ids.proofs.Stepping.{step_none}
 use Rattle.ov_graph.specs.Links.{IsGraph}
 use Rattle.ov_graph.specs.Faults.{GraphJudged}
 use Rattle.ov_graph.specs.declared.fault.GraphFault.TheVariants.{TooManyNodes}
-use Rattle.ov_graph.proofs.Tested.{sound}
+use Rattle.ov_graph.proofs.EvenTest.Tested.{sound}
 use Rattle.ov_cert.specs.declared.fault.CheckFault.{CheckFault}
 use Rattle.ov_cert.specs.Verdict.{JudgedForGroup}
-use Rattle.ov_cert.proofs.Exact.{one_verdict}
+use Rattle.ov_cert.proofs.Validity.Exact.{one_verdict}
 use Rattle.ov_certfile.specs.declared.reading.Filed.{Filed}
 use Rattle.ov_certfile.specs.declared.fault.FileFault.{FileFault}
 use Rattle.ov_certfile.specs.declared.fault.FileFault.TheVariants.{NotJson}

@@ -13,7 +13,7 @@ use Rattle.ov_cert.specs.Valid.{AreUnlinkedPairs}
 use Rattle.ov_cert.specs.Verdict.{AllHold, IsFirstAtFault, PassesFrame, HoldsPair, HoldsFan, IsEntryFault}
 use Rattle.ov_cert.specs.Verdict.{JudgedForGroup}
 use Rattle.ov_cert.specs.Entries.{of_pairs, of_fans, AreExpected, IsExpected, HoldsEntry, entry_fault}
-use Rattle.ov_cert.proofs.Exact.{valid_split}
+use Rattle.ov_cert.proofs.Validity.Exact.{valid_split}
 
 -- the entry of a pair stands at the place of the pair
 pair_there : (n : ℕ) (xs : List (ℕ × ℕ)) (rest : List Expected) (p : ℕ) (x : ℕ × ℕ)

@@ -10,7 +10,7 @@ use Rattle.ov_check.specs.Line.{printed_of}
 use Rattle.ov_check.specs.Outcome.{IsOutcome, SaysExactNumber, status_of}
 use Rattle.ov_check.specs.Run.{Judgement, IsRun}
 
--- the bytes that were read come to the outcome, which is exact
+-- the outcome is that of the bytes that were read, and is exact
 pub record IsRead (reader : Option (List ℕ)) (bytes : List ℕ) (o : Outcome) : Type 0 where
   pub all : IfSome reader (λ xs. bytes ≡ xs)
   pub comes_to : IsOutcome bytes o

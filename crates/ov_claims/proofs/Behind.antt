@@ -1,4 +1,4 @@
--- A number that is added to an ascending list of none higher stands behind it, where it is not its last.
+-- Adding a number to an ascending list of numbers that are not higher: it is appended, unless it is the last already.
 use Rattle.std.proofs.Common.{◌≡◌, ◌≢◌, ◌⊎◌, ℕ, zero, suc, ◌-◌, ◌<◌, ◌≤◌, Bool, true, false, eqb, ltb}
 use Rattle.std.proofs.Common.{not, List, [], ◌∷◌, ◌++◌}
 use Rattle.std.proofs.Common.{length, slice_get, Option, Some, None, refl, sym, ap, ◌∙◌, subst, inl, inr, arith}
@@ -12,21 +12,21 @@ use Rattle.ov_ids.proofs.Sets.{adding_present}
 use Rattle.ov_claims.specs.Claims.{WorkerState}
 use Rattle.ov_claims.specs.Steps.{failing}
 
--- what stands last
+-- the last number of a list
 abbrev pub last_of : List ℕ → Option ℕ
 last_of xs = slice_get xs (length xs - 1)
 
--- none is above x
+-- no number of the list is above x
 abbrev pub IsTop : List ℕ → ℕ → Type 0
 IsTop xs x = (y : ℕ) → Has xs y → y ≤ x
 
--- what stands at a place is a member
+-- the item at a place is a member
 pub has_at_place : (xs : List ℕ) (i x : ℕ) → slice_get xs i ≡ Some x → Has xs x
 has_at_place [] i x h = absurd (none-some x h)
 has_at_place (y ∷ ys) zero x h = inl (same_Some y x h)
 has_at_place (y ∷ ys) (suc i) x h = inr (has_at_place ys i x h)
 
--- a member that none is above is the last
+-- a member that is at least every other is the last
 last_there : (xs : List ℕ) (x : ℕ) → Ascends xs → IsTop xs x → Has xs x → last_of xs ≡ Some x
 last_there [] x a top h = absurd h
 last_there (y ∷ []) x a top h = elim h [ inl e ↦ ap Some e | inr k ↦ absurd k ]
@@ -57,7 +57,7 @@ adding_behind xs x a top h = adding_above xs x (λ y m. elim (less_or_same y (to
     less_or_same : (y : ℕ) → y ≤ x → (y < x) ⊎ (y ≡ x)
     less_or_same y l = grind arith
 
--- b tells whether o is another than x
+-- b says whether o differs from x
 abbrev pub IsOther : Option ℕ → ℕ → Bool → Type 0
 IsOther o x b = b ≡ not (option_eq eqb o (Some x))
 
@@ -73,7 +73,7 @@ same_from_test (Some y) x b e f = ap Some (eqb-true y x (on (eqb y x) (sym f ∙
     on true e = refl
     on false e = absurd (cc e)
 
--- the worker of the fields v, of which contracts see s, after it wrote the number down
+-- `Worker::fail` appends the number: v are the fields of the worker before, s is what contracts see of it
 pub failing_pushes : (v s : WorkerState) (fs : List ℕ) (x : ℕ) (o : Option ℕ) (b : Bool) → v ≡ s → Ascends s.failed
     → IsTop s.failed x → o ≡ last_of v.failed → IsOther o x b → b ≡ true → fs ≡ v.failed ++ x ∷ []
     → record v { failed = fs } ≡ failing x s
@@ -84,7 +84,7 @@ failing_pushes v s fs x o b seen a top last test on pushed =
     let k : fs ≡ adding x s.failed = now ∙ sym (adding_behind s.failed x a top other) in
     λ i. record (seen i) { failed = k i }
 
--- that worker after it found the number written down
+-- `Worker::fail` finds the number as the last one already, and changes nothing
 pub failing_rests : (v s : WorkerState) (x : ℕ) (o : Option ℕ) (b : Bool) → v ≡ s → Ascends s.failed
     → o ≡ last_of v.failed → IsOther o x b → b ≡ false → s ≡ failing x s
 failing_rests v s x o b seen a last test off =

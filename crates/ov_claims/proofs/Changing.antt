@@ -1,20 +1,20 @@
--- What holds of the workers after one of them has changed.
-use Rattle.std.proofs.Common.{◌≡◌, ◌≢◌, ◌⊎◌, ℕ, zero, suc, ◌+◌, Bool, true, false, cond, List, [], ◌∷◌, length, set, replicate}
-use Rattle.std.proofs.Common.{slice_get, Some, refl, sym, ap, ◌∙◌, subst, inl, inr, arith}
+-- The list of workers after one worker has changed.
+use Rattle.std.proofs.Common.{◌≡◌, ◌≢◌, ◌⊎◌, ℕ, zero, suc, ◌+◌, Bool, true, false, cond, List, [], ◌∷◌, length}
+use Rattle.std.proofs.Common.{set, replicate, slice_get, Some, refl, sym, ap, ◌∙◌, subst, inl, inr, arith}
 use Rattle.std.proofs.lemmas.Option.{none-some, same_Some}
 use Rattle.std.specs.List.{filter}
 use Rattle.ov_ids.specs.Members.{Has}
 use Rattle.ov_claims.specs.Claims.{WorkerState, ClaimState, count_ended}
 
--- the claims after worker w has become v, with this next number and this least one
+-- the claims after worker w became v, with this next number and this lowest failed number
 abbrev pub after : ClaimState → ℕ → ℕ → ℕ → WorkerState → ClaimState
 after s next least w v = record { total = s.total; next = next; least = least; workers = set s.workers w v }
 
--- at this place is this worker
+-- this worker stands at this place
 abbrev pub IsAt : List WorkerState → ℕ → WorkerState → Type 0
 IsAt ws w v = slice_get ws w ≡ Some v
 
--- worker u has x in the list f of its own
+-- worker u has x in its list f
 abbrev pub Holds : (WorkerState → List ℕ) → List WorkerState → ℕ → ℕ → Type 0
 Holds f ws u x = (z : WorkerState) × IsAt ws u z × Has (f z) x
 
@@ -22,7 +22,7 @@ Holds f ws u x = (z : WorkerState) × IsAt ws u z × Has (f z) x
 abbrev pub is_ended : WorkerState → Bool
 is_ended v = v.ended
 
--- what stands at a place after one place was written: what was written, or what was there
+-- after a write at one place, the item at a place is the written one or the earlier one
 pub at_changed : {X : Type 0} (xs : List X) (w u : ℕ) (x z : X) → slice_get (set xs w x) u ≡ Some z
     → ((u ≡ w) × (z ≡ x)) ⊎ ((u ≢ w) × (slice_get xs u ≡ Some z))
 at_changed {X} [] w u x z h = absurd (none-some z h)
@@ -34,7 +34,7 @@ at_changed {X} (y ∷ xs) (suc w) (suc u) x z h = elim (at_changed xs w u x z h)
   | inr k ↦ inr ((λ e. k.0 (omega arith)), k.1)
 ]
 
--- what stands in a list of one thing is that thing
+-- each item of a list of equal items is that item
 pub all_same : {X : Type 0} (n w : ℕ) (x y : X) → slice_get (replicate n x) w ≡ Some y → y ≡ x
 all_same {X} zero w x y h = absurd (none-some y h)
 all_same {X} (suc n) zero x y h = sym (same_Some x y h)
@@ -52,11 +52,11 @@ elsewhere (y ∷ ws) zero (suc u) v z n h = h
 elsewhere (y ∷ ws) (suc w) zero v z n h = h
 elsewhere (y ∷ ws) (suc w) (suc u) v z n h = elsewhere ws w u v z (λ e. n (ap suc e)) h
 
--- two workers at one place are one
+-- one place has one worker
 pub one_worker : (ws : List WorkerState) (w : ℕ) (v z : WorkerState) → IsAt ws w v → IsAt ws w z → v ≡ z
 one_worker ws w v z h k = same_Some v z (sym h ∙ k)
 
--- who holds a number after the change held it before, or it is the changed worker
+-- whoever has a number after the change had it before, or is the changed worker
 pub held_before : (f : WorkerState → List ℕ) (ws : List WorkerState) (w u : ℕ) (v : WorkerState) (x : ℕ)
     → Holds f (set ws w v) u x → ((u ≡ w) × Has (f v) x) ⊎ Holds f ws u x
 held_before f ws w u v x h = elim (at_changed ws w u v h.0 h.1) [
@@ -64,7 +64,7 @@ held_before f ws w u v x h = elim (at_changed ws w u v h.0 h.1) [
   | inr k ↦ inr (h.0, k.1, h.2)
 ]
 
--- where the changed worker keeps what it has, all keep it
+-- if the changed worker keeps its numbers, every worker keeps its numbers
 pub held_after : (f : WorkerState → List ℕ) (ws : List WorkerState) (w u : ℕ) (v z : WorkerState) (x : ℕ)
     → IsAt ws w v → (Has (f v) x → Has (f z) x) → Holds f ws u x → Holds f (set ws w z) u x
 held_after f ws w u v z x at keeps h = elim (here_or_not w u) [
@@ -79,7 +79,7 @@ held_after f ws w u v z x at keeps h = elim (here_or_not w u) [
     here_or_not : (w u : ℕ) → (u ≡ w) ⊎ (u ≢ w)
     here_or_not w u = grind arith
 
--- where the changed worker has what it had, nobody else has it than before
+-- if the changed worker has only numbers that it had before, nobody has a number that they did not have before
 pub held_still : (f : WorkerState → List ℕ) (ws : List WorkerState) (w u : ℕ) (v z : WorkerState) (x : ℕ)
     → IsAt ws w v → f z ≡ f v → Holds f (set ws w z) u x → Holds f ws u x
 held_still f ws w u v z x at same h = elim (held_before f ws w u z x h) [
@@ -87,7 +87,7 @@ held_still f ws w u v z x at same h = elim (held_before f ws w u z x h) [
   | inr k ↦ k
 ]
 
--- how many of these have ended, told from the first on
+-- the count of ended workers, starting at the first
 one_if : Bool → ℕ
 one_if b = cond b 1 0
 
@@ -107,7 +107,7 @@ ended_swapped (y ∷ ws) (suc w) v z h =
     let now = ended_first y.ended y (filter is_ended (set ws w z)) in
     omega (arith, rest, now, ended_first y.ended y (filter is_ended ws))
 
--- how many have ended after a worker changed that has ended as it had before, or has ended now
+-- the count of ended workers after the change, if the changed worker has ended as before, or has ended now
 pub ended_kept : (ws : List WorkerState) (w : ℕ) (v z : WorkerState) → IsAt ws w v → z.ended ≡ v.ended
     → count_ended (set ws w z) ≡ count_ended ws
 ended_kept ws w v z h e =

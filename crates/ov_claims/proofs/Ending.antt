@@ -1,14 +1,14 @@
--- Where all workers have ended, all is done.
+-- If all workers have ended, the work is done.
 use Rattle.std.proofs.Common.{◌≡◌, ◌⊎◌, ◌↔◌, ℕ, zero, suc, ◌<◌, ◌≤◌, Bool, true, IsTrue, List, [], ◌∷◌, length}
 use Rattle.std.proofs.Common.{slice_get, Option, Some, None, refl, sym, ap, ◌∙◌, subst, inl, inr, arith}
 use Rattle.std.specs.List.{list_all}
 use Rattle.std.proofs.lemmas.Bool.{and_parts}
 use Rattle.std.proofs.lemmas.Option.{none-some, same_Some}
 use Rattle.ov_claims.specs.Claims.{WorkerState, ClaimState, HasWorker, IsLegal}
-use Rattle.ov_claims.specs.Laws.{AllEnded, IsDone, EndsDone}
+use Rattle.ov_claims.specs.Theorems.{AllEnded, IsDone, EndsDone}
 use Rattle.ov_claims.specs.Code.Held.{IsHeld}
 
--- the least one that failed is no higher than the total
+-- the lowest failed number is at most the total
 least_within : (s : ClaimState) → IsLegal s → s.least ≤ s.total
 least_within s l = elim l.least_failed [
   | inl f ↦
@@ -22,7 +22,7 @@ skipped_or_not : (o : Option ℕ) → ((x : ℕ) × (o ≡ Some x)) ⊎ (o ≡ N
 skipped_or_not None = inr refl
 skipped_or_not (Some x) = inl (x, refl)
 
--- where one worker has ended, all numbers below the least that failed were claimed
+-- if one worker has ended, all numbers below the lowest failed one were claimed
 passed : (s : ClaimState) (w : ℕ) (v : WorkerState) → IsLegal s → HasWorker s w v → v.ended ≡ true → s.least ≤ s.next
 passed s w v l at e =
     let m = l.workers w v at in
@@ -49,7 +49,7 @@ ends_done s l some all =
       no_lower = l.least;
     }
 
--- whether all of these have ended
+-- whether all these workers have ended
 abbrev pub have_ended : List WorkerState → Bool
 have_ended ws = list_all (λ (v : WorkerState). v.ended) ws
 
@@ -65,7 +65,7 @@ test_from_all : (ws : List WorkerState) → ((w : ℕ) (v : WorkerState) → sli
 test_from_all [] h = refl
 test_from_all (y ∷ ws) h = rw (h 0 y refl) (test_from_all ws (λ w v k. h (suc w) v k))
 
--- b is the test of the workers ws of d, which is s
+-- b is the test of the workers ws, whose claims are d, seen as s
 pub ended_tested : (d s : ClaimState) (ws : List WorkerState) (b : Bool) → d ≡ s → ws ≡ d.workers → b ≡ have_ended ws
     → IsTrue b ↔ AllEnded s
 ended_tested d s ws b seen same e =

@@ -1,4 +1,4 @@
--- Each step of the claims leads from a legal state to a legal one.
+-- Each step of the claims keeps a legal state legal.
 use Rattle.std.proofs.Common.{◌≡◌, ◌⊎◌, ℕ, ◌+◌, ◌<◌, ◌≤◌, min, Bool, true, false, cond, nat_lt}
 use Rattle.std.proofs.Common.{List, [], ◌∷◌, ◌++◌, set}
 use Rattle.std.proofs.Common.{slice_get, Some, refl, sym, ◌∙◌, subst, inl, inr, arith}
@@ -12,11 +12,11 @@ use Rattle.ov_ids.proofs.Sets.{IsSet-adding, IsIn-adding, IsIn-self, IsIn-added}
 use Rattle.ov_claims.specs.Claims.{WorkerState, ClaimState, HasWorker, HasClaimed, HasFailed, count_ended, fresh}
 use Rattle.ov_claims.specs.Claims.{IsLegalWorker, IsLegal, opening}
 use Rattle.ov_claims.specs.Steps.{claiming, failing, Claims, Looks, Fails}
-use Rattle.ov_claims.specs.Laws.{StaysLegal}
+use Rattle.ov_claims.specs.Theorems.{StaysLegal}
 use Rattle.ov_claims.proofs.Changing.{after, at_changed, all_same, here, held_before, held_after, held_still}
 use Rattle.ov_claims.proofs.Changing.{ended_kept, ended_more}
 
--- a worker that did not change stays legal
+-- a worker that does not change stays legal
 later : (s : ClaimState) (next least w : ℕ) (v z : WorkerState) → s.next ≤ next → least ≤ s.least → IsLegalWorker s z
     → IsLegalWorker (after s next least w v) z
 later s next least w v z up down l = record {
@@ -29,7 +29,7 @@ later s next least w v z up down l = record {
   ended_above = λ e n. let a = l.ended_above e n in omega arith;
 }
 
--- all workers are legal after the change, if the changed one is
+-- all workers are legal after the change if the changed worker is
 all_legal : (s : ClaimState) (next least w : ℕ) (v : WorkerState) → IsLegal s → s.next ≤ next → least ≤ s.least
     → IsLegalWorker (after s next least w v) v
     → (u : ℕ) (z : WorkerState) → HasWorker (after s next least w v) u z → IsLegalWorker (after s next least w v) z
@@ -38,7 +38,7 @@ all_legal s next least w v l up down mine u z h = elim (at_changed s.workers w u
   | inr k ↦ later s next least w v z up down (l.workers u z k.1)
 ]
 
--- a change that leaves alone what is claimed and what failed, and the least
+-- a change that leaves the claimed numbers, the failed numbers and the lowest failed number alone
 record Rests (s : ClaimState) (next w : ℕ) (v z : WorkerState) : Type 0 where
   was : HasWorker s w v
   legal : IsLegal s
@@ -84,12 +84,12 @@ rests s next w v z r = record {
         let k = held_after (λ y. y.failed) s.workers w h.0 v z x r.was keeps (h.1, h.2, h.3) in
         (h.0, k.0, k.1, k.2)
 
--- each number of the worker is below the next one
+-- each number of a worker is below the next number
 own_below : (s : ClaimState) (w : ℕ) (v : WorkerState) → IsLegal s → HasWorker s w v → (x : ℕ) → Has v.claimed x
     → (x < s.next) × (x < s.total)
 own_below s w v l at x h = (l.claimed x).0 (w, (v, at, h))
 
--- what is above all that stands in an ascending list may be put behind it
+-- a number above all numbers of an ascending list can be appended
 ascends_push : (xs : List ℕ) (x : ℕ) → Ascends xs → ((y : ℕ) → Has xs y → y < x) → Ascends (xs ++ x ∷ [])
 ascends_push [] x a h = (tt, tt)
 ascends_push (y ∷ ys) x a h = (all_push y ys x a.0 (h y (inl refl)), ascends_push ys x a.1 (λ z m. h z (inr m)))
@@ -99,7 +99,7 @@ ascends_push (y ∷ ys) x a h = (all_push y ys x a.0 (h y (inl refl)), ascends_p
     all_push y [] x a h = (h, tt)
     all_push y (z ∷ ys) x a h = (a.0, all_push y ys x a.1 h)
 
--- the worker with one number more, ended, and after it skipped one
+-- the worker with one more number; the worker after it ended; the worker after it skipped a number
 abbrev pub gaining : ℕ → WorkerState → WorkerState
 gaining x v = record v { claimed = v.claimed ++ x ∷ [] }
 
@@ -109,7 +109,7 @@ ending v = record v { ended = true }
 abbrev pub skipping : ℕ → WorkerState → WorkerState
 skipping x v = record v { skipped = Some x; ended = true }
 
--- a claim that finds no number left
+-- a claim when no number is left
 ends : (s : ClaimState) (w : ℕ) (v : WorkerState) → IsLegal s → HasWorker s w v → v.ended ≡ false → s.total ≤ s.next
     → IsLegal (after s (s.next + 1) s.least w (ending v))
 ends s w v l at on over = rests s (s.next + 1) w v (ending v) record {
@@ -181,7 +181,7 @@ gains s w v l at low = record {
       ended_above = λ e n. let a = m.ended_above e n in omega arith;
     }
 
-    -- who claimed x after it is this worker with the next number, or claimed it before
+    -- whoever has x after the claim had it before, or is the claiming worker with the next number
     before : (u x : ℕ) → HasClaimed (after s (s.next + 1) s.least w z) u x
         → ((u ≡ w) × (x ≡ s.next)) ⊎ HasClaimed s u x
     before u x h = elim (held_before (λ y. y.claimed) s.workers w u z x h) [
@@ -198,7 +198,7 @@ gains s w v l at low = record {
     last_or_below : (x : ℕ) → x < s.next + 1 → (x ≡ s.next) ⊎ (x < s.next)
     last_or_below x h = grind arith
 
--- a look that finds the number above the least one that failed
+-- a look when a lower number has failed
 skips : (s : ClaimState) (w x : ℕ) (v : WorkerState) → IsLegal s → HasWorker s w v → v.ended ≡ false → Has v.claimed x
     → s.least < x → IsLegal (after s s.next s.least w (skipping x v))
 skips s w x v l at on own above = rests s s.next w v (skipping x v) record {
@@ -220,7 +220,7 @@ skips s w x v l at on own above = rests s s.next w v (skipping x v) record {
   bound = let b = l.next in omega (arith, b, ended_more s.workers w v (skipping x v) at on refl);
 }
 
--- a look that finds no lower one that failed
+-- a look when no lower number has failed
 goes_on : (s : ClaimState) (w : ℕ) (v : WorkerState) → IsLegal s → HasWorker s w v
     → IsLegal (after s s.next s.least w v)
 goes_on s w v l at = rests s s.next w v v record {
@@ -234,7 +234,7 @@ goes_on s w v l at = rests s s.next w v v record {
   bound = let b = l.next in omega (arith, b, ended_kept s.workers w v v at refl);
 }
 
--- who is in a set with one more
+-- the members of a set with one number added
 pub has_added : (x : ℕ) (xs : List ℕ) (y : ℕ) → Has (adding x xs) y → (y ≡ x) ⊎ Has xs y
 has_added x xs y h = elim (IsIn-adding x xs y ((has_tested (adding x xs) y _ refl).1 h)) [
   | inl e ↦ inl e
@@ -302,7 +302,7 @@ breaks s w x v l at own = record {
     order : (a b : ℕ) → ((a ≤ b) × (min a b ≡ a)) ⊎ ((b < a) × (min a b ≡ b))
     order a b = grind arith
 
--- the two ways of a claim, by the test b
+-- the two cases of a claim, by the test b
 claims_by : (s : ClaimState) (w : ℕ) (v : WorkerState) (b : Bool) → nat_lt s.next s.total ≡ b → IsLegal s
     → HasWorker s w v → v.ended ≡ false
     → IsLegal (after s (s.next + 1) s.least w (cond b (gaining s.next v) (ending v)))
@@ -315,7 +315,7 @@ claims s t w x l c =
     let number = λ (y : ℕ). IsLegal (after s (s.next + 1) s.least w (claiming s.total y c.worker)) in
     subst IsLegal (sym c.after) (subst number (sym c.number) next)
 
--- the two ways of a look, by the test b
+-- the two cases of a look, by the test b
 looks_by : (s : ClaimState) (w x : ℕ) (v : WorkerState) (b : Bool) → nat_lt s.least x ≡ b → IsLegal s → HasWorker s w v
     → v.ended ≡ false → Has v.claimed x → IsLegal (after s s.next s.least w (cond b (skipping x v) v))
 looks_by s w x v true e l at on own = skips s w x v l at on own (ltb-true s.least x e)
@@ -328,7 +328,7 @@ looks s t w x l c =
 fails : (s t : ClaimState) (w x : ℕ) → IsLegal s → Fails s w x t → IsLegal t
 fails s t w x l c = subst IsLegal (sym c.after) (breaks s w x c.worker l c.has c.own)
 
--- the opening is legal
+-- the state before the first claim is legal
 opens : (total workers : ℕ) → IsLegal (opening total workers)
 opens total workers = record {
   workers = λ w v h. subst (IsLegalWorker (opening total workers)) (sym (all_same workers w fresh v h)) record {

@@ -1,4 +1,4 @@
--- A turn at the desk: one worker, y, becomes z.
+-- A turn at the desk: worker y becomes z.
 use Rattle.std.proofs.Common.{◌≡◌, ℕ, suc, ◌+◌, ◌^◌, ◌<◌, ◌≤◌, min, false, List, [], ◌∷◌, ◌++◌, length, set, get_or}
 use Rattle.std.proofs.Common.{refl, sym, ap, ◌∙◌, subst, inl, inr, arith}
 use Rattle.std.specs.List.{AllByRecursion}
@@ -13,21 +13,21 @@ use Rattle.ov_claims.specs.Code.Held.{IsHeld}
 use Rattle.ov_claims.proofs.Changing.{is_ended, after}
 use Rattle.ov_claims.proofs.Staying.{stays_legal}
 
--- worker w, who is y, has its turn at a desk whose fields are d, of which contracts see s
+-- worker w, which is y, takes a turn at a desk with the fields d; contracts see s
 pub record HasTurn (d s : ClaimState) (w : ℕ) (y : WorkerState) : Type 0 where
   pub seen : d ≡ s
   pub held : IsHeld d
   pub read : y ≡ get_or d.workers w y
 
--- who has its turn is the worker of that number
+-- the worker that takes the turn is the worker with that number
 its_turn : (d s : ClaimState) (w : ℕ) (y v : WorkerState) → HasTurn d s w y → HasWorker d w v → v ≡ y
 its_turn d s w y v turn has = sym (get_or_from_slice_get d.workers w v y has) ∙ sym turn.read
 
--- what is so of what contracts see is so of the fields
+-- what holds of the value that contracts see holds of the fields
 of_fields : (d s : ClaimState) (w : ℕ) (y : WorkerState) (P : ClaimState → Type 0) → HasTurn d s w y → P s → P d
 of_fields d s w y P turn = subst P (sym turn.seen)
 
--- one more than the next number is still a small one
+-- the next number plus one fits in 64 bits
 pub next_small : (d : ClaimState) → IsHeld d → d.next + 1 < 2 ^ 64
 next_small d h =
     let next = h.legal.next in
@@ -37,7 +37,7 @@ next_small d h =
     omega (arith, length-filter is_ended d.workers, count_by-le-length is_ended d.workers) in
     omega (arith, next, total, few, ended)
 
--- a turn that leaves the claims legal leaves all that the desk keeps
+-- a turn that leaves the claims legal keeps the invariant of the desk
 still_held : (d : ClaimState) (next least w : ℕ) (z : WorkerState) → IsHeld d → IsLegal (after d next least w z)
     → IsHeld (after d next least w z)
 still_held d next least w z h l =
@@ -46,7 +46,7 @@ still_held d next least w z h l =
     let few = h.few in
     record { legal = l; total = h.total; some = omega (arith, some, e); few = omega (arith, few, e) }
 
--- a worker goes on who has not ended
+-- the worker exists and has not ended
 abbrev pub GoesOn : ClaimState → ℕ → Type 0
 GoesOn s w = (v : WorkerState) × HasWorker s w v × (v.ended ≡ false)
 
@@ -74,7 +74,7 @@ claim_held d s w y z turn g e =
     let h = turn.held in
     still_held d (d.next + 1) d.least w z h (stays_legal.claims d _ w d.next h.legal step)
 
--- the last of a list is one number
+-- a list has one last item
 only_last : (xs ys : List ℕ) (x y : ℕ) → xs ++ x ∷ [] ≡ ys ++ y ∷ [] → x ≡ y
 only_last [] [] x y e = cc e
 only_last [] (b ∷ ys) x y e =
@@ -86,15 +86,15 @@ only_last (a ∷ xs) (b ∷ ys) x y e = let rest : xs ++ x ∷ [] ≡ ys ++ y �
 one_last : (v : WorkerState) (x y : ℕ) → IsLast v x → IsLast v y → x ≡ y
 one_last v x y a b = only_last a.0 b.0 x y (sym a.1 ∙ b.1)
 
--- the last number that a worker claimed is one of its own
+-- the number that a worker claimed last is one of its numbers
 pub own_last : (v : WorkerState) (x : ℕ) → IsLast v x → Has v.claimed x
 own_last v x l = subst (λ (xs : List ℕ). Has xs x) (sym l.1) (has_append_right l.0 (x ∷ []) x (inl refl))
 
--- a worker may look who has not ended and has claimed a number
+-- a worker may look if it has not ended and has claimed a number
 abbrev pub MayLook : ClaimState → ℕ → Type 0
 MayLook s w = (v : WorkerState) × (x : ℕ) × HasWorker s w v × (v.ended ≡ false) × IsLast v x
 
--- who looks at any number that it claimed last
+-- the step of a look, for any number that the worker claimed last
 abbrev pub LooksAtLast : ClaimState → WorkerState → WorkerState → Type 0
 LooksAtLast d y z = (x : ℕ) → IsLast y x → z ≡ looking d.least x y
 
@@ -125,11 +125,11 @@ look_held d s w y z turn g e =
     let h = turn.held in
     still_held d d.next d.least w z h (stays_legal.looks d _ w f.1 h.legal step)
 
--- a worker may fail that has claimed a number
+-- a worker may fail if it has claimed a number
 abbrev pub MayFail : ClaimState → ℕ → Type 0
 MayFail s w = (v : WorkerState) × (x : ℕ) × HasWorker s w v × IsLast v x
 
--- y fails at x, which it claimed last, and becomes z; this is then the least one that failed
+-- y fails at x, which it claimed last, and becomes z; `least` is the lowest failed number after that
 pub record FailsAtLast (d : ClaimState) (x least : ℕ) (y z : WorkerState) : Type 0 where
   pub last : IsLast y x
   pub became : z ≡ failing x y
@@ -163,7 +163,7 @@ fail_held d s w x least y z turn f may =
     let h = turn.held in
     still_held d d.next least w z h (stays_legal.fails d _ w g.1 h.legal step)
 
--- none of an ascending list is above its last
+-- no number of an ascending list is above its last
 last_top : (front : List ℕ) (n x : ℕ) → Ascends (front ++ n ∷ []) → Has (front ++ n ∷ []) x → x ≤ n
 last_top [] n x a h = elim h [ inl e ↦ omega arith | inr k ↦ absurd k ]
 last_top (y ∷ front) n x a h = elim h [
@@ -175,7 +175,7 @@ last_top (y ∷ front) n x a h = elim h [
     below [] n y a = a.0
     below (z ∷ front) n y a = below front n y a.1
 
--- none that a worker failed at is above the last that it claimed
+-- no failed number of a worker is above the number that it claimed last
 pub fail_asks : (d s : ClaimState) (w n : ℕ) (y : WorkerState) → HasTurn d s w y → MayFail s w → IsLast y n
     → (x : ℕ) → Has y.failed x → x ≤ n
 fail_asks d s w n y turn may last x h =

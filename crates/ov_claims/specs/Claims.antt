@@ -1,31 +1,36 @@
--- How workers share out the numbers 0, 1, 2, .. below a total, until one of them fails: a worker claims a number, looks
--- whether a lower one has failed, and skips its own if so; else it works on it, and says where it fails.
+-- How workers share out the numbers 0, 1, 2, .. below a total. A worker claims the next number and looks whether a
+-- lower number has failed. If so, it skips its number and ends. Otherwise it works on its number, and reports a failure
+-- if there is one. So the lowest number that fails is found.
 use Rattle.std.specs.Prelude.{◌≡◌, ◌↔◌, ◌⊎◌, ℕ, ◌+◌, ◌<◌, ◌≤◌, Bool, true, false, List, [], length, replicate}
 use Rattle.std.specs.Prelude.{Option, Some, None, slice_get}
 use Rattle.std.specs.List.{filter}
 use Rattle.ov_ids.specs.Members.{Has, Ascends}
 
--- a worker: the numbers that it has claimed and those of them that failed, both ascending; the number that it skipped,
--- if any; and whether it has ended
+-- a worker: the numbers it has claimed, ascending; those of them that failed, ascending; the number it skipped, if any;
+-- and whether it has ended
 pub record WorkerState : Type 0 where
   pub claimed : List ℕ
   pub failed : List ℕ
   pub skipped : Option ℕ
   pub ended : Bool
 
--- the claims: how many numbers are to be shared out, the next one, the least one that failed (the total where none
--- did), and the workers, counted from 0
+-- the claims: the number of numbers to share out; the next number; the lowest number that failed, or the total if none
+-- failed; and the workers, counted from 0
 pub record ClaimState : Type 0 where
   pub total : ℕ
   pub next : ℕ
   pub least : ℕ
   pub workers : List WorkerState
 
--- a worker that has done nothing yet
+-- how many workers may share out numbers, at most: chosen here
+abbrev pub most_workers : ℕ
+most_workers = 64
+
+-- a worker that has not claimed a number yet
 abbrev pub fresh : WorkerState
 fresh = record { claimed = []; failed = []; skipped = None; ended = false }
 
--- so many workers, before any of them has claimed a number
+-- the claims of this many workers, before the first claim
 abbrev pub opening : ℕ → ℕ → ClaimState
 opening total workers = record { total = total; next = 0; least = total; workers = replicate workers fresh }
 
@@ -45,8 +50,8 @@ HasFailed s x = (w : ℕ) × (v : WorkerState) × HasWorker s w v × Has v.faile
 abbrev pub count_ended : List WorkerState → ℕ
 count_ended workers = length (filter (λ v. v.ended) workers)
 
--- what is so of every worker: it has claimed what it failed at and what it skipped; it skipped only what is above the
--- least that failed, and has then ended; and where it ended without that, all numbers were claimed
+-- a legal worker. It has claimed all its failed numbers and the number it skipped. It skips only a number above the
+-- lowest failed one, and has then ended. If it ended without skipping, all numbers were claimed
 pub record IsLegalWorker (s : ClaimState) (v : WorkerState) : Type 0 where
   pub claimed_ascends : Ascends v.claimed
   pub failed_ascends : Ascends v.failed
@@ -56,8 +61,9 @@ pub record IsLegalWorker (s : ClaimState) (v : WorkerState) : Type 0 where
   pub skipped_ended : (x : ℕ) → v.skipped ≡ Some x → v.ended ≡ true
   pub ended_above : v.ended ≡ true → v.skipped ≡ None → s.total < s.next
 
--- a legal state: each number below the next one and below the total is claimed, by one worker alone, and no other is;
--- the next one is past the total at most by the workers that have ended; the least that failed is that
+-- a legal state. The claimed numbers are exactly those below the next number and below the total, and each is claimed
+-- by one worker only. The next number exceeds the total by at most the number of workers that have ended. `least` is
+-- the lowest number that failed, or the total
 pub record IsLegal (s : ClaimState) : Type 0 where
   pub workers : (w : ℕ) (v : WorkerState) → HasWorker s w v → IsLegalWorker s v
   pub claimed : (x : ℕ) → ((w : ℕ) × HasClaimed s w x) ↔ ((x < s.next) × (x < s.total))

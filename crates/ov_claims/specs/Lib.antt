@@ -1,4 +1,4 @@
 pub mod Claims
 pub mod Steps
-pub mod Laws
+pub mod Theorems
 pub mod Code

@@ -1,16 +1,16 @@
 ghost use Rattle.std.specs.Prelude.{◌≡◌, ◌↔◌, ℕ, ◌<◌, ◌≤◌, ◌^◌, [], false, length, IsTrue};
 ghost use Rattle.std.specs.Prelude.{IfOk, OnOk, OnErr, IfSome, IfNone};
-ghost use Rattle.ov_claims.specs.Claims.{HasWorker, WorkerState, IsLegal, opening};
+ghost use Rattle.ov_claims.specs.Claims.{HasWorker, WorkerState, IsLegal, most_workers, opening};
 ghost use Rattle.ov_claims.specs.Steps.{Claims, Looks, Fails, IsLast};
-ghost use Rattle.ov_claims.specs.Laws.{AllEnded, IsDone};
+ghost use Rattle.ov_claims.specs.Theorems.{AllEnded, IsDone};
 
 use crate::worker::{Worker, have_ended};
 use ov_ids::OutOfMemory;
 use std::alloc::Global;
 use std::marker::Model;
 
-/// Claims of workers who take turns at one desk. Contracts see the state of the claims, which is always a legal one.
-/// A number that is claimed takes four bytes, and one that fails four more.
+/// The claims of workers that take turns at one desk. Contracts see the state of the claims, which is always legal. A
+/// claimed number takes four bytes, and a failed number four more.
 #[derive(Drop)]
 pub struct Desk {
     total: u64,
@@ -31,11 +31,11 @@ impl Model for Desk {
 }
 
 impl Desk {
-    /// A desk for this many workers, who share out the numbers below `total`. Out of memory gives no desk.
+    /// A desk for `workers` workers, which share out the numbers below `total`. Faults: out of memory.
     pub fn new(alloc: Global, total: u64, workers: u32) -> Result<Desk, OutOfMemory>
         requires total { total < 2 ^ 32 }
         requires some { 1 ≤ workers }
-        requires few { workers ≤ 64 }
+        requires few { workers ≤ most_workers }
         ensures { IfOk result (λ d. d ≡ opening total workers) }
     {
         let mut fresh = Vec::new(alloc);
@@ -50,8 +50,8 @@ impl Desk {
         })
     }
 
-    /// Worker `worker` claims the next number, and is told it; where that isn't below the total, the worker has ended.
-    /// Out of memory changes nothing.
+    /// `worker` claims the next number, which is returned. If it is not below the total, the worker has ended. Out of
+    /// memory changes nothing.
     #[tactic(auto, using(crate::proofs::Turns::next_small))]
     pub fn claim(&mut self, worker: u32) -> Result<u64, OutOfMemory>
         requires goes_on { (v : WorkerState) × HasWorker self.old worker v × (v.ended ≡ false) }
@@ -65,8 +65,9 @@ impl Desk {
         Ok(number)
     }
 
-    /// The worker looks before it works on the last number that it claimed, and is told the least one that failed (the
-    /// total where none did): where that is lower, it skips its own and has ended. Nothing is allocated.
+    /// `worker` looks before it works on the number that it claimed last. Returns the lowest number that failed, or the
+    /// total if none failed. If that is below its own number, the worker skips its number and has ended. Allocates
+    /// nothing.
     pub fn look(&mut self, worker: u32) -> u64
         requires goes_on { (v : WorkerState) × (x : ℕ) × HasWorker self.old worker v × (v.ended ≡ false) × IsLast v x }
         ensures looks { (v : WorkerState) (x : ℕ) → HasWorker self.old worker v → IsLast v x
@@ -79,7 +80,7 @@ impl Desk {
         least
     }
 
-    /// The worker has failed at the last number that it claimed. Out of memory changes nothing.
+    /// `worker` reports that the number that it claimed last has failed. Out of memory changes nothing.
     pub fn fail(&mut self, worker: u32) -> Result<(), OutOfMemory>
         requires claimed { (v : WorkerState) × (x : ℕ) × HasWorker self.old worker v × IsLast v x }
         ensures fails { OnOk result ((v : WorkerState) (x : ℕ) → HasWorker self.old worker v → IsLast v x
@@ -95,7 +96,7 @@ impl Desk {
         Ok(())
     }
 
-    /// How many numbers are shared out.
+    /// The number of numbers to share out.
     pub fn total(&self) -> u64
         ensures number { result ≡ self.now.total }
         ensures legal { IsLegal self.now }
@@ -103,7 +104,7 @@ impl Desk {
         self.total
     }
 
-    /// The least number that failed; the total where none did.
+    /// The lowest number that failed, or the total if none failed.
     pub fn least(&self) -> u64
         ensures number { result ≡ self.now.least }
         ensures legal { IsLegal self.now }
@@ -111,12 +112,12 @@ impl Desk {
         self.least
     }
 
-    /// How many workers there are.
+    /// The number of workers, from 1 to 64.
     pub fn workers(&self) -> u32
         ensures number { result ≡ length self.now.workers }
         ensures legal { IsLegal self.now }
         ensures some { 1 ≤ result }
-        ensures few { result ≤ 64 }
+        ensures few { result ≤ most_workers }
     {
         self.workers.len() as u32
     }
@@ -129,7 +130,7 @@ impl Desk {
         self.workers[worker as usize].has_ended()
     }
 
-    /// The last number that this worker claimed, if it has claimed any.
+    /// The number that this worker claimed last, if any.
     pub fn last(&self, worker: u32) -> Option<u64>
         requires { worker < length self.now.workers }
         ensures some { IfSome result (λ x. (v : WorkerState) → HasWorker self.now worker v → IsLast v x) }

@@ -2,8 +2,8 @@
 #![tactic(auto)]
 
 mod desk;
-mod laws;
+mod theorems;
 mod worker;
 
 pub use desk::Desk;
-pub use laws::{ends_done, stays_legal};
+pub use theorems::{ends_done, stays_legal};

@@ -8,7 +8,8 @@ use ov_ids::OutOfMemory;
 use std::alloc::Global;
 use std::marker::Model;
 
-/// One worker: what it claimed and what failed, both ascending, what it skipped, and whether it has ended.
+/// One worker: its claimed numbers and its failed numbers, both ascending, the number it skipped, and whether it has
+/// ended.
 #[derive(Drop)]
 pub(crate) struct Worker {
     claimed: Vec<u32>,
@@ -29,7 +30,7 @@ impl Model for Worker {
 }
 
 impl Worker {
-    /// A worker that has done nothing yet. Nothing is allocated.
+    /// A worker that has not claimed a number yet. Allocates nothing.
     pub(crate) fn new(alloc: Global) -> Worker
         ensures { result ≡ fresh }
     {
@@ -41,7 +42,7 @@ impl Worker {
         }
     }
 
-    /// It claims this number, or has ended where that isn't below the total. Out of memory changes nothing.
+    /// Claims this number, or ends if the number is not below the total. Out of memory changes nothing.
     pub(crate) fn claim(&mut self, total: u64, number: u64) -> Result<(), OutOfMemory>
         requires { total < 2 ^ 32 }
         ensures ok { OnOk result (self.new ≡ claiming total number self.old) }
@@ -55,8 +56,7 @@ impl Worker {
         Ok(())
     }
 
-    /// It looks before it works on the last number that it claimed: it skips it, and has ended, where the least one
-    /// that failed is lower.
+    /// Looks before work on the number claimed last. If `least` is lower, the worker skips its number and has ended.
     pub(crate) fn look(&mut self, least: u64)
         ensures { (x : ℕ) → IsLast self.old x → self.new ≡ looking least x self.old }
     {
@@ -68,7 +68,7 @@ impl Worker {
         }
     }
 
-    /// It has failed at this number, below which all its others are. Out of memory changes nothing.
+    /// Marks this number as failed. No earlier failed number is higher. Out of memory changes nothing.
     pub(crate) fn fail(&mut self, number: u32) -> Result<(), OutOfMemory>
         requires ascends { Ascends self.old.failed }
         requires last { (x : ℕ) → Has self.old.failed x → x ≤ number }
@@ -81,7 +81,7 @@ impl Worker {
         Ok(())
     }
 
-    /// The last number that it claimed.
+    /// The number claimed last, if any.
     pub(crate) fn last(&self) -> Option<u32>
         ensures some { IfSome result (IsLast self.now) }
         ensures none { IfNone result (self.now.claimed ≡ []) }
@@ -89,7 +89,7 @@ impl Worker {
         self.claimed.last().copied()
     }
 
-    /// Whether it has ended.
+    /// Whether the worker has ended.
     pub(crate) fn has_ended(&self) -> bool
         ensures { result ≡ self.now.ended }
     {
@@ -97,7 +97,7 @@ impl Worker {
     }
 }
 
-/// Whether each of these has ended.
+/// Whether all these workers have ended.
 pub(crate) fn have_ended(workers: &[Worker]) -> bool
     ensures { result ≡ list_all (λ v. v.ended) workers.now }
 {

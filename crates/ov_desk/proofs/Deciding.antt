@@ -1,4 +1,4 @@
--- Where all workers of a sound desk have ended, every two members are linked, or the desk has decided.
+-- If all workers of a sound desk have ended, every two members are linked or the desk has decided.
 use Rattle.std.proofs.Common.{◌≡◌, ◌⊎◌, ℕ, ◌<◌, List, length, map, slice_get, Some, sym, ap, ◌∙◌, subst}
 use Rattle.std.proofs.Common.{inl, inr, arith}
 use Rattle.std.proofs.lemmas.Bool.{both_ways, cases_Bool, iff_false}
@@ -8,31 +8,31 @@ use Rattle.std.specs.Option.{option_map}
 use Rattle.ov_ids.specs.Members.{Has}
 use Rattle.ov_graph.specs.Links.{LinkGraph, IsGraph, IsGroup, AreAllLinked}
 use Rattle.ov_cert.specs.Code.Tests.{all_linked}
-use Rattle.ov_cert.proofs.Parting.{all_linked_tested}
+use Rattle.ov_cert.proofs.Validity.Parting.{all_linked_tested}
 use Rattle.ov_fans.specs.Pieces.{IsPiece, IsGood}
 use Rattle.ov_fans.specs.Cuts.{IsRight}
-use Rattle.ov_fans.specs.Laws.{IsNoCut}
+use Rattle.ov_fans.specs.Theorems.{IsNoCut}
 use Rattle.ov_fans.specs.declared.piece.Piece.{Piece}
 use Rattle.ov_fans.specs.declared.settled.Settled.{Settled}
-use Rattle.ov_fans.proofs.Decided.{decides}
+use Rattle.ov_fans.proofs.PieceCuts.Decided.{decides}
 use Rattle.ov_claims.specs.Claims.{WorkerState, HasWorker, HasFailed}
-use Rattle.ov_claims.specs.Laws.{AllEnded, IsDone}
+use Rattle.ov_claims.specs.Theorems.{AllEnded, IsDone}
 use Rattle.ov_claims.proofs.Ending.{ends_done}
 use Rattle.ov_even.specs.Code.Levels.{all_pieces}
 use Rattle.ov_even.specs.Harvest.{IsIn, Decides, Suffice}
 use Rattle.ov_even.specs.Order.{IsNumbered}
 use Rattle.ov_even.specs.declared.haul.Haul.{Haul}
-use Rattle.ov_even.proofs.AllLevels.{all_listed}
-use Rattle.ov_even.proofs.FirstCut.{cut_or_not}
-use Rattle.ov_even.proofs.InOrder.{has_at, at_has, at_within}
-use Rattle.ov_even.proofs.Numbering.{every_number, number_below, numbers_order, one_piece}
-use Rattle.ov_even.proofs.Searching.{first_among}
+use Rattle.ov_even.proofs.PieceNumbers.AllLevels.{all_listed}
+use Rattle.ov_even.proofs.AnalysisSteps.FirstCut.{cut_or_not}
+use Rattle.ov_even.proofs.PieceOrder.InOrder.{has_at, at_has, at_within}
+use Rattle.ov_even.proofs.PieceNumbers.Numbering.{every_number, number_below, numbers_order, one_piece}
+use Rattle.ov_even.proofs.EvenTest.Searching.{first_among}
 use Rattle.ov_desk.specs.declared.hand.Hand.{Hand}
 use Rattle.ov_desk.specs.Desk.{GroupDeskState, HaveBeenSettled, IsSettledAt}
 use Rattle.ov_desk.specs.Sound.{IsSoundWorker, IsSoundDesk}
-use Rattle.ov_desk.specs.Laws.{HasDecided, EndedDecides}
+use Rattle.ov_desk.specs.Theorems.{HasDecided, EndedDecides}
 
--- a worker of the desk: what it has in hand, what it has settled, and that it is sound
+-- what a worker of the desk has in hand, what it has settled, and that it is sound
 record StandsAt (g : LinkGraph) (d : GroupDeskState) (w : ℕ) (v : WorkerState) : Type 0 where
   hand : Hand
   pieces : List Settled
@@ -55,12 +55,12 @@ stands g d w v s at =
       sound = s.workers w v hand.0 pieces.0 at hand.1 pieces.1;
     }
 
--- the piece of number x has been settled at the desk
+-- the piece of number x was settled at the desk, with result t
 record IsDoneAt (g : LinkGraph) (d : GroupDeskState) (x : ℕ) (t : Settled) : Type 0 where
   there : IsSettledAt d t
   numbered : IsNumbered (length g.nodes) (length d.members) x t.piece
 
--- all that is settled at the desk is settled right
+-- every result at a sound desk is right
 settled_right : (g : LinkGraph) (d : GroupDeskState) (t : Settled) → IsSoundDesk g d → IsSettledAt d t
     → IsPiece g d.members t.piece × IsRight g d.members t
 settled_right g d t s there =
@@ -72,7 +72,7 @@ settled_right g d t s there =
     let hand = at_within d.hands w (omega (arith, within, m, n)) in
     (s.workers w v.0 hand.0 there.1 v.1 hand.1 there.2).right t there.3
 
--- where all have ended, each number below the least that failed has its piece settled, which came to no cut
+-- if all have ended, each number below the lowest failed one has its piece settled, without a cut
 done_below : (g : LinkGraph) (d : GroupDeskState) (x : ℕ) → IsSoundDesk g d → AllEnded d.claims → IsDone d.claims
     → x < d.claims.least → (t : Settled) × IsDoneAt g d x t × IsNoCut t.found
 done_below g d x s ended done low =
@@ -94,7 +94,7 @@ done_below g d x s ended done low =
           omega (arith, up, low))
     ]
 
--- a number that failed has its piece settled, which came to a cut
+-- the piece of a failed number was settled with a cut
 done_failed : (g : LinkGraph) (d : GroupDeskState) (x : ℕ) → IsSoundDesk g d → HasFailed d.claims x
     → (t : Settled) × IsDoneAt g d x t × (¬ IsNoCut t.found)
 done_failed g d x s f =
@@ -102,7 +102,7 @@ done_failed g d x s f =
     let a = (k.sound.failed x).0 f.3 in
     (a.0, record { there = (f.0, k.pieces, k.had, a.1.0); numbered = a.1.1 }, a.2)
 
--- each piece whose number is below the least that failed has been settled, and came to no cut
+-- each piece whose number is below the lowest failed one was settled without a cut
 piece_done : (g : LinkGraph) (d : GroupDeskState) (x : ℕ) (r : Piece) → IsSoundDesk g d → AllEnded d.claims
     → IsDone d.claims → IsNumbered (length g.nodes) (length d.members) x r → x < d.claims.least
     → (t : Settled) × IsSettledAt d t × (t.piece ≡ r) × IsNoCut t.found
@@ -119,13 +119,13 @@ good_below g d x r graph s ended done numbered low =
     let right = settled_right g d t.0 s t.1 in
     subst (IsGood g d.members) {x = t.0.piece} t.2 ((decides g d.members t.0 graph right.1).1 t.3)
 
--- every two members are linked, or not
+-- every two members are linked, or not all are
 pub linked_or_apart : (g : LinkGraph) (q : List ℕ) → IsGroup g q → AreAllLinked g q ⊎ (¬ AreAllLinked g q)
 linked_or_apart g q group =
     let test = all_linked_tested g q group.ascends in
     elim (cases_Bool (all_linked g q)) [ inl on ↦ inl (test.0 on) | inr off ↦ inr (iff_false test off) ]
 
--- where two members are not linked, a number has failed: the first piece that is not good came to a cut
+-- if two members are not linked, a number has failed: that of the first piece that is not good
 one_failed : (g : LinkGraph) (d : GroupDeskState) → IsGraph g → IsSoundDesk g d → AllEnded d.claims
     → IsDone d.claims → ¬ AreAllLinked g d.members → HasFailed d.claims d.claims.least
 one_failed g d graph s ended done apart = elim done.least [
@@ -140,7 +140,7 @@ one_failed g d graph s ended done apart = elim done.least [
       (good_below g d number.0 first.0 graph s ended done number.1 (omega (arith, below, e))))
 ]
 
--- where a number has failed, the desk has decided: the piece of the least one comes first of those that came to a cut
+-- if a number has failed, the desk has decided: the lowest failed number has the first of the pieces settled with a cut
 decided : (g : LinkGraph) (d : GroupDeskState) → IsSoundDesk g d → AllEnded d.claims → IsDone d.claims
     → HasFailed d.claims d.claims.least → HasDecided g d
 decided g d s ended done f =
@@ -157,7 +157,7 @@ decided g d s ended done f =
           piece_done g d number.0 r s ended done number.1 (order.1 before);
     }
 
--- where all workers of a sound desk have ended, every two members are linked, or the desk has decided
+-- if all workers of a sound desk have ended, every two members are linked or the desk has decided
 pub ended_decides : EndedDecides
 ended_decides g d graph s ended =
     let some = s.some in
@@ -171,21 +171,21 @@ ended_decides g d graph s ended =
 abbrev pieces_of_haul : Haul → List Settled
 pieces_of_haul haul = haul.pieces.items
 
--- what a haul has at a place, the worker of that number has settled
+-- a worker has settled the pieces of the haul at its place
 settled_there : (d : GroupDeskState) (hauls : List Haul) (w : ℕ) (haul : Haul) → map pieces_of_haul hauls ≡ d.settled
     → slice_get hauls w ≡ Some haul → HaveBeenSettled d w (pieces_of_haul haul)
 settled_there d hauls w haul e at =
     sym (ap (λ (xs : List (List Settled)). slice_get xs w) e) ∙ slice_get-map pieces_of_haul hauls w
     ∙ ap (option_map pieces_of_haul) at
 
--- what is in the hauls has been settled at the desk
+-- a piece in the hauls was settled at the desk
 from_hauls : (d : GroupDeskState) (hauls : List Haul) (s : Settled) → map pieces_of_haul hauls ≡ d.settled
     → IsIn hauls s → IsSettledAt d s
 from_hauls d hauls s e h =
     let place = at_has hauls h.0 h.1 in
     (place.0, pieces_of_haul h.0, settled_there d hauls place.0 h.0 e place.1, h.2)
 
--- and what has been settled at the desk is in the hauls
+-- a piece settled at the desk is in the hauls
 to_hauls : (d : GroupDeskState) (hauls : List Haul) (s : Settled) → map pieces_of_haul hauls ≡ d.settled
     → IsSettledAt d s → IsIn hauls s
 to_hauls d hauls s e there =
@@ -197,7 +197,7 @@ to_hauls d hauls s e there =
     let same : there.1 ≡ pieces_of_haul haul.0 = same_Some there.1 (pieces_of_haul haul.0) (sym there.2 ∙ here) in
     (haul.0, has_at hauls w haul.0 haul.1, subst (λ (xs : List Settled). Has xs s) same there.3)
 
--- where the desk has decided, so has the piece that decides among the hauls
+-- if the desk has decided, its deciding piece decides among the hauls
 decides_hauls : (g : LinkGraph) (d : GroupDeskState) (hauls : List Haul) → map pieces_of_haul hauls ≡ d.settled
     → (h : HasDecided g d) → Decides g d.members hauls h.deciding
 decides_hauls g d hauls e h = record {
@@ -208,7 +208,7 @@ decides_hauls g d hauls e h = record {
       inr (t.0, to_hauls d hauls t.0 e t.1, t.2, t.3);
 }
 
--- where all workers of a sound desk have ended, what they bring in suffices for an answer
+-- if all workers of a sound desk have ended, their hauls suffice for a certificate
 pub ended_suffices : (g : LinkGraph) (d : GroupDeskState) (hauls : List Haul) → IsGraph g → IsSoundDesk g d
     → AllEnded d.claims → map (λ (haul : Haul). haul.pieces.items) hauls ≡ d.settled → Suffice g d.members hauls
 ended_suffices g d hauls graph s ended e = (

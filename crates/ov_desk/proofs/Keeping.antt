@@ -1,11 +1,11 @@
--- A turn at the desk: worker w becomes z, with this in its hand, and the others stay.
+-- A turn at the desk: worker w becomes z with this in its hand, and the other workers do not change.
 use Rattle.std.proofs.Common.{◌≡◌, ℕ, ◌<◌, ◌≤◌, Bool, true, false, cond, nat_lt, List, [], ◌∷◌, ◌++◌}
 use Rattle.std.proofs.Common.{length, set, get_or}
 use Rattle.std.proofs.Common.{slice_get, Some, refl, sym, ap, ◌∙◌, subst, inl, inr, arith}
 use Rattle.std.proofs.lemmas.List.{length-set, set-get_or}
 use Rattle.std.proofs.lemmas.Bool.{lt-ltb, le-ltb}
 use Rattle.std.proofs.lemmas.Option.{same_Some, slice_get_within, get_or_from_slice_get}
-use Rattle.ov_even.proofs.InOrder.{at_within}
+use Rattle.ov_even.proofs.PieceOrder.InOrder.{at_within}
 use Rattle.ov_claims.specs.Claims.{WorkerState, ClaimState, HasWorker}
 use Rattle.ov_claims.specs.Steps.{claiming, looking, IsLast, Claims, Looks}
 use Rattle.ov_claims.proofs.Changing.{at_changed}
@@ -15,11 +15,11 @@ use Rattle.ov_desk.specs.Code.Held.{IsHeld, IsClaimedLast}
 use Rattle.ov_desk.specs.declared.hand.Hand.{Hand}
 use Rattle.ov_desk.specs.declared.hand.Hand.TheVariants.{Nothing, Claimed, Looked}
 
--- to write again what stands there changes nothing
+-- writing the item that already stands at a place changes nothing
 pub written_again : {X : Type 0} (xs : List X) (w : ℕ) (x : X) → slice_get xs w ≡ Some x → set xs w x ≡ xs
 written_again xs w x at = ap (set xs w) (sym (get_or_from_slice_get xs w x x at)) ∙ set-get_or xs w x
 
--- from desk d to desk e worker w becomes z, with this in its hand, and the others stay
+-- from desk d to desk e, worker w becomes z with this in its hand, and the other workers do not change
 pub record IsTurn (d : GroupDeskState) (w : ℕ) (z : WorkerState) (hand : Hand) (e : GroupDeskState) : Type 0 where
   pub worker : w < length d.claims.workers
   pub claims : e.claims.workers ≡ set d.claims.workers w z
@@ -27,7 +27,7 @@ pub record IsTurn (d : GroupDeskState) (w : ℕ) (z : WorkerState) (hand : Hand)
   pub settled : length e.settled ≡ length d.settled
   pub claimed : IsClaimedLast z hand
 
--- a turn leaves what the desk keeps
+-- a turn keeps the invariant of the desk
 pub still_held : (d e : GroupDeskState) (w : ℕ) (z : WorkerState) (hand : Hand) → IsHeld d → IsTurn d w z hand e
     → IsHeld e
 still_held d e w z hand h t =
@@ -61,7 +61,7 @@ still_held d e w z hand h t =
           ];
     }
 
--- who has something in hand is one of the workers, and claimed it last
+-- whoever has a number in hand is a worker of the desk, and claimed the number last
 pub its_worker : (d : GroupDeskState) (w : ℕ) (hand : Hand) → IsHeld d → HasHand d w hand
     → (v : WorkerState) × HasWorker d.claims w v × IsClaimedLast v hand
 its_worker d w hand h at =
@@ -70,18 +70,18 @@ its_worker d w hand h at =
     let v = at_within d.claims.workers w (omega (arith, within, hands)) in
     (v.0, v.1, h.claimed w v.0 hand v.1 at)
 
--- what is in the hand of who has claimed x
+-- what is in the hand of a worker that was given number x
 abbrev pub taking : ℕ → ℕ → Hand
 taking total x = cond (nat_lt x total) (Claimed x) Nothing
 
--- a claimed number is the last one
+-- a claimed number is the last that its worker claimed
 claimed_by : (x : ℕ) (v : WorkerState) (b : Bool) → v.ended ≡ false
     → IsClaimedLast (cond b (record v { claimed = v.claimed ++ x ∷ [] }) (record v { ended = true }))
     (cond b (Claimed x) Nothing)
 claimed_by x v true on = λ y e. ((v.claimed, ap (λ (n : ℕ). v.claimed ++ n ∷ []) (sym e)), on)
 claimed_by x v false on = λ y e. absurd e
 
--- what is so of a number and the total after a claim says what is then in the hand
+-- the hand after a claim, given how the number compares with the total
 pub takes : (s t : ClaimState) (w x total : ℕ) → Claims s w x t → total ≡ t.total → x < total
     → Claimed x ≡ taking s.total x
 takes s t w x total c e low =
@@ -94,7 +94,7 @@ takes_none s t w x total c e high =
     let same : t.total ≡ s.total = ap (λ (u : ClaimState). u.total) c.after in
     ap (λ (b : Bool). cond b (Claimed x) Nothing) (sym (le-ltb x s.total (omega (arith, high, e, same))))
 
--- a claim leaves what the desk keeps
+-- a claim keeps the invariant of the desk
 pub claim_held : (d e : GroupDeskState) (w x : ℕ) → IsHeld d → Claims d.claims w x e.claims
     → e.hands ≡ set d.hands w (taking d.claims.total x) → length e.settled ≡ length d.settled → IsHeld e
 claim_held d e w x h c hands settled =
@@ -107,21 +107,21 @@ claim_held d e w x h c hands settled =
       claimed = claimed_by x v (nat_lt x d.claims.total) c.goes_on;
     }
 
--- what is in the hand of who has looked before it works on x
+-- what is in the hand of a worker after a look for number x
 abbrev pub keeping : ℕ → ℕ → Hand
 keeping least x = cond (nat_lt least x) Nothing (Looked x)
 
--- who goes on after its look has claimed its number last
+-- a worker that goes on after its look has claimed its number last
 looked_by : (x : ℕ) (v : WorkerState) (b : Bool) → IsLast v x → v.ended ≡ false
     → IsClaimedLast (cond b (record v { skipped = Some x; ended = true }) v) (cond b Nothing (Looked x))
 looked_by x v true last on = λ y e. absurd e
 looked_by x v false last on = λ y e. (subst (IsLast v) (sym e) last, on)
 
--- the claims are looked at by whoever has x in hand
+-- the step of a look, for the worker with x in hand
 abbrev pub LooksAtLast : ClaimState → ℕ → ClaimState → Type 0
 LooksAtLast s w t = (v : WorkerState) (x : ℕ) → HasWorker s w v → IsLast v x → Looks s w x t
 
--- a look leaves what the desk keeps
+-- a look keeps the invariant of the desk
 pub look_held : (d e : GroupDeskState) (w x : ℕ) → IsHeld d → HasHand d w (Claimed x) → LooksAtLast d.claims w e.claims
     → e.hands ≡ set d.hands w (keeping d.claims.least x) → length e.settled ≡ length d.settled → IsHeld e
 look_held d e w x h at looks hands settled =
@@ -138,7 +138,7 @@ look_held d e w x h at looks hands settled =
           (subst (λ (y : WorkerState). IsLast y x) same last.0) c.goes_on;
     }
 
--- who has a number in hand may look, and has claimed it
+-- a worker with a claimed number in hand may look; it has claimed this number
 pub may_look : (d : GroupDeskState) (w x : ℕ) → IsHeld d → HasHand d w (Claimed x)
     → (v : WorkerState) × (n : ℕ) × HasWorker d.claims w v × (v.ended ≡ false) × IsLast v n
 may_look d w x h at =
@@ -146,7 +146,7 @@ may_look d w x h at =
     let last = v.2 x refl in
     (v.0, x, v.1, last.1, last.0)
 
--- who goes on with a number may fail at it
+-- a worker that goes on with a number may fail at it
 pub may_fail : (d : GroupDeskState) (w x : ℕ) → IsHeld d → HasHand d w (Looked x)
     → (v : WorkerState) × (n : ℕ) × HasWorker d.claims w v × IsLast v n
 may_fail d w x h at =
@@ -154,7 +154,7 @@ may_fail d w x h at =
     let last = v.2 x refl in
     (v.0, x, v.1, last.0)
 
--- who claims next has nothing in hand, and keeps that where its number is none to take
+-- a worker whose next turn is a claim has nothing in hand, and its hand stays empty if no number is left
 pub still_empty : (d s : GroupDeskState) (w x total : ℕ) (t : ClaimState) → d ≡ s → ClaimsNext s w
     → Claims d.claims w x t → total ≡ t.total → total ≤ x → d.hands ≡ set d.hands w (taking d.claims.total x)
 still_empty d s w x total t seen next c e high =
@@ -162,7 +162,7 @@ still_empty d s w x total t seen next c e high =
     sym (written_again d.hands w Nothing empty)
     ∙ ap (set d.hands w) (takes_none d.claims t w x total c e high)
 
--- a claim is the turn that the definition says
+-- a claim is the turn that the definition describes
 pub claim_made : (d s : GroupDeskState) (w x : ℕ) (t : ClaimState) (hands : List Hand) → d ≡ s → ClaimsNext s w
     → Claims d.claims w x t → hands ≡ set d.hands w (taking d.claims.total x)
     → WasClaimed s w x (record d { claims = t; hands = hands })
@@ -173,7 +173,7 @@ claim_made d s w x t hands seen next c e =
       after = ap (λ (k : List Hand). record d { claims = t; hands = k }) e;
     }
 
--- a look is the turn that the definition says
+-- a look is the turn that the definition describes
 pub look_made : (d s : GroupDeskState) (w x least : ℕ) (t : ClaimState) (hand : Hand) → IsHeld d → d ≡ s
     → HasHand d w (Claimed x) → LooksAtLast d.claims w t → least ≡ d.claims.least → hand ≡ keeping least x
     → WasLookedAt s w least (record d { claims = t; hands = set d.hands w hand })
@@ -188,14 +188,14 @@ look_made d s w x least t hand h seen at looks told e =
       after = ap (λ (k : Hand). record d { claims = t; hands = set d.hands w k }) e;
     }
 
--- what is in the hand after a look, by the test of the code
+-- the hand after a look, given the test of the code
 pub keeps_none : (least x : ℕ) → least < x → Nothing ≡ keeping least x
 keeps_none least x l = ap (λ (b : Bool). cond b Nothing (Looked x)) (sym (lt-ltb least x l))
 
 pub keeps : (least x : ℕ) → x ≤ least → Looked x ≡ keeping least x
 keeps least x l = ap (λ (b : Bool). cond b Nothing (Looked x)) (sym (le-ltb least x l))
 
--- what is read at a worker's place is in its hand
+-- the hand read at a worker's place is its hand
 pub in_hand : (d s : GroupDeskState) (w : ℕ) (known read hand : Hand) → d ≡ s → HasHand s w known
     → read ≡ get_or d.hands w read → read ≡ hand → HasHand d w hand
 in_hand d s w known read hand seen at e is =

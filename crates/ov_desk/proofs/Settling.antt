@@ -1,4 +1,4 @@
--- A piece is settled at the desk: d are the fields of the desk before, and s what contracts see of it.
+-- A worker settles a piece. d are the fields of the desk before the turn, and s is what contracts see of it.
 use Rattle.std.proofs.Common.{◌≡◌, ◌⊎◌, ◌↔◌, ℕ, ◌<◌, Bool, false, not, IsTrue, List, [], ◌∷◌, ◌++◌, length, set}
 use Rattle.std.proofs.Common.{Result, Ok, Err, OnErr}
 use Rattle.std.proofs.Common.{get_or, slice_get, Some, refl, sym, ap, ◌∙◌, subst, inl, inr, arith}
@@ -9,7 +9,7 @@ use Rattle.std.proofs.lemmas.List.{length-map, map-set}
 use Rattle.std.proofs.lemmas.Option.{same_Some, slice_get_read, slice_get_within, slice_get-map}
 use Rattle.ov_graph.specs.Links.{LinkGraph}
 use Rattle.ov_fans.specs.Cuts.{IsRight}
-use Rattle.ov_fans.specs.Laws.{IsNoCut}
+use Rattle.ov_fans.specs.Theorems.{IsNoCut}
 use Rattle.ov_fans.specs.declared.settled.Found.{Found}
 use Rattle.ov_fans.specs.declared.settled.Settled.{Settled}
 use Rattle.ov_claims.specs.Claims.{WorkerState, ClaimState, HasWorker}
@@ -17,9 +17,9 @@ use Rattle.ov_claims.specs.Steps.{failing, IsLast, Fails}
 use Rattle.ov_claims.proofs.Turns.{own_last}
 use Rattle.ov_even.specs.Order.{AreMoreThan, IsNumbered}
 use Rattle.ov_even.specs.declared.haul.Haul.{Haul}
-use Rattle.ov_even.proofs.FirstCut.{cut_or_not}
-use Rattle.ov_even.proofs.InOrder.{at_within}
-use Rattle.ov_even.proofs.Numbering.{more_from_total}
+use Rattle.ov_even.proofs.AnalysisSteps.FirstCut.{cut_or_not}
+use Rattle.ov_even.proofs.PieceOrder.InOrder.{at_within}
+use Rattle.ov_even.proofs.PieceNumbers.Numbering.{more_from_total}
 use Rattle.ov_desk.specs.declared.hand.Hand.{Hand}
 use Rattle.ov_desk.specs.declared.hand.Hand.TheVariants.{Nothing, Claimed, Looked}
 use Rattle.ov_desk.specs.Desk.{GroupDeskState, HasHand, HaveBeenSettled}
@@ -29,7 +29,7 @@ use Rattle.ov_desk.specs.Code.Held.{IsHeld, pieces_in}
 use Rattle.ov_desk.proofs.Deciding.{linked_or_apart}
 use Rattle.ov_desk.proofs.Keeping.{still_held, its_worker, written_again}
 
--- the number with which a worker goes on is that of a piece
+-- the number with which a worker goes on is the number of a piece
 pub number_shared : (g : LinkGraph) (d : GroupDeskState) (w x : ℕ) → IsSoundDesk g d → HasHand d w (Looked x)
     → AreMoreThan (length g.nodes) (length d.members) x
 number_shared g d w x s at =
@@ -45,7 +45,7 @@ number_shared g d w x s at =
       | inr apart ↦ more_from_total (length g.nodes) (length d.members) x d.claims.total (s.share.each apart) below.1
     ]
 
--- where a hand is, a haul is
+-- each worker with a hand has a haul
 pub haul_within : (d : GroupDeskState) (hauls : List Haul) (w : ℕ) (hand : Hand) → IsHeld d
     → d.settled ≡ pieces_in hauls → HasHand d w hand → w < length hauls
 haul_within d hauls w hand h e at =
@@ -60,19 +60,19 @@ haul_within d hauls w hand h e at =
 abbrev of_haul : Haul → List Settled
 of_haul haul = haul.pieces.items
 
--- what is read at a worker's place among the hauls it has settled
+-- the pieces read at a worker's place are the pieces that it settled
 pub haul_read : (hauls : List Haul) (w : ℕ) (own : Haul) → w < length hauls → own ≡ get_or hauls w own
     → slice_get (pieces_in hauls) w ≡ Some own.pieces.items
 haul_read hauls w own l read =
     slice_get-map of_haul hauls w
     ∙ ap (option_map of_haul) (slice_get_read hauls (length hauls) w own refl l read)
 
--- a haul that is written again with the same pieces leaves all that was settled
+-- writing back a haul with the same pieces changes nothing
 pub hauls_rest : (hauls : List Haul) (w : ℕ) (own new : Haul) → own ≡ get_or hauls w own
     → new.pieces.items ≡ own.pieces.items → pieces_in (set hauls w new) ≡ pieces_in hauls
 hauls_rest hauls w own new read same = map-set_same of_haul hauls w new own (same ∙ ap of_haul read)
 
--- and with one piece more it has that piece more
+-- writing back a haul with one more piece adds that piece
 pub hauls_more : (hauls : List Haul) (w : ℕ) (own new : Haul) (piece : Settled)
     → new.pieces.items ≡ own.pieces.items ++ piece ∷ []
     → pieces_in (set hauls w new) ≡ set (pieces_in hauls) w (own.pieces.items ++ piece ∷ [])
@@ -82,32 +82,32 @@ hauls_more hauls w own new piece more = map-set of_haul hauls w new ∙ ap (set 
 abbrev pub parted : GroupDeskState → ClaimState → List (List Settled) → GroupDeskState
 parted d claims settled = record d { claims = claims; settled = settled }
 
--- where the claims and all that was settled are as they were, the desk is
+-- a desk with the same claims and the same settled pieces is the same desk
 pub same_desk : (d : GroupDeskState) (t : ClaimState) (settled : List (List Settled)) → t ≡ d.claims
     → settled ≡ d.settled → parted d t settled ≡ d
 same_desk d t settled e f = λ i. parted d (e i) (f i)
 
--- what is so is so where a call answers an error
+-- a known fact holds also if a call fails
 pub on_any_err : {T E P : Type 0} (r : Result T E) → P → OnErr r P
 on_any_err (Ok x) p = tt
 on_any_err (Err e) p = p
 
--- who settles a piece leaves the claims as they are where it came to no cut, and else fails at its number
+-- settling a piece without a cut leaves the claims alone; with a cut, the number fails
 abbrev pub ClaimsSettled : ClaimState → ℕ → ℕ → Found → ClaimState → Type 0
 ClaimsSettled s w x found t = (IsNoCut found × (t ≡ s)) ⊎ (¬ IsNoCut found × Fails s w x t)
 
--- the claims after whoever has x in hand has failed
+-- the claims after the worker with x in hand has failed
 abbrev pub FailsAtLast : ClaimState → ℕ → ClaimState → Type 0
 FailsAtLast s w t = (v : WorkerState) (x : ℕ) → HasWorker s w v → IsLast v x → Fails s w x t
 
--- they are so after whoever settled a piece that came to a cut has failed
+-- the claims are right after a piece was settled with a cut
 pub claims_failed : (d : GroupDeskState) (w x : ℕ) (found : Found) (t : ClaimState) → IsHeld d → HasHand d w (Looked x)
     → ¬ IsNoCut found → FailsAtLast d.claims w t → ClaimsSettled d.claims w x found t
 claims_failed d w x found t h at cut fails =
     let v = its_worker d w (Looked x) h at in
     inr (cut, fails v.0 x v.1 (v.2 x refl).0)
 
--- and where it came to no cut, as the code tests, they are as they were
+-- the claims are right after a piece was settled without a cut, given the test of the code
 pub claims_stay : (s : ClaimState) (w x : ℕ) (found : Found) (b : Bool) → (IsTrue b ↔ (¬ IsNoCut found)) → b ≡ false
     → ClaimsSettled s w x found s
 claims_stay s w x found b test off = elim (cut_or_not found) [
@@ -115,7 +115,7 @@ claims_stay s w x found b test off = elim (cut_or_not found) [
   | inr cut ↦ absurd (both_ways b off (test.1 cut))
 ]
 
--- to settle a piece leaves what the desk keeps
+-- settling a piece keeps the invariant of the desk
 pub settle_held : (d e : GroupDeskState) (w x : ℕ) (found : Found) → IsHeld d → HasHand d w (Looked x)
     → ClaimsSettled d.claims w x found e.claims → e.hands ≡ set d.hands w Nothing
     → length e.settled ≡ length d.settled → IsHeld e
@@ -138,12 +138,12 @@ settle_held d e w x found h at claims hands settled = elim claims [
   }
 ]
 
--- a piece that is settled right for the number in hand
+-- a piece with its right result, for the number in hand
 pub record IsFor (g : LinkGraph) (q : List ℕ) (x : ℕ) (piece : Settled) : Type 0 where
   pub numbered : IsNumbered (length g.nodes) (length q) x piece.piece
   pub right : IsRight g q piece
 
--- to settle a piece is the turn that the definition says
+-- settling a piece is the turn that the definition describes
 pub settle_made : (g : LinkGraph) (d s : GroupDeskState) (w x : ℕ) (t : ClaimState) (piece : Settled)
     (before : List Settled) (settled : List (List Settled)) → d ≡ s → HasHand d w (Looked x) → IsFor g s.members x piece
     → ClaimsSettled d.claims w x piece.found t → HaveBeenSettled d w before
@@ -165,7 +165,7 @@ settle_made g d s w x t piece before settled seen at is claims had e =
       after = ap after e;
     }
 
--- what is read at the place of a worker of the desk is in its hand
+-- the hand read at a worker's place is its hand
 pub read_hand : (d s : GroupDeskState) (w : ℕ) (read hand : Hand) → d ≡ s → IsHeld d → IsWorkerOf s w
     → read ≡ get_or d.hands w read → read ≡ hand → HasHand s w hand
 read_hand d s w read hand seen h is at e =
@@ -187,7 +187,7 @@ claims_unless_ended d s w b seen is hand told =
       (λ k. ap not (told_of k.1.0 k.1.1 ∙ k.1.2)),
     )
 
--- a worker with a number in hand does not
+-- a worker with a number in hand does not claim next
 pub claims_not_full : (d : GroupDeskState) (w : ℕ) (hand : Hand) → HasHand d w hand
     → ((x : ℕ) × (hand ≡ Claimed x)) ⊎ ((x : ℕ) × (hand ≡ Looked x)) → ¬ ClaimsNext d w
 claims_not_full d w hand at full next =

@@ -1,4 +1,4 @@
--- A desk that is opened is sound, and each turn leads from a sound desk to a sound one.
+-- A new desk is sound, and each turn keeps a sound desk sound.
 use Rattle.std.proofs.Common.{◌≡◌, ◌≢◌, ◌⊎◌, ◌↔◌, ℕ, ◌<◌, ◌≤◌, false, cond, nat_lt, List, [], ◌∷◌}
 use Rattle.std.proofs.Common.{◌++◌, length, set, Some, refl, sym, ap, ◌∙◌, subst, inl, inr, arith}
 use Rattle.std.proofs.lemmas.Bool.{both_ways}
@@ -7,26 +7,26 @@ use Rattle.std.proofs.lemmas.Option.{slice_get_within}
 use Rattle.ov_ids.specs.Members.{Has}
 use Rattle.ov_ids.specs.Sets.{adding}
 use Rattle.ov_graph.specs.Links.{LinkGraph, IsGroup}
-use Rattle.ov_fans.specs.Laws.{IsNoCut}
+use Rattle.ov_fans.specs.Theorems.{IsNoCut}
 use Rattle.ov_fans.specs.declared.settled.Found.{Found}
 use Rattle.ov_fans.specs.declared.settled.Settled.{Settled}
-use Rattle.ov_claims.specs.Claims.{WorkerState, ClaimState, HasWorker, IsLegal, fresh}
+use Rattle.ov_claims.specs.Claims.{WorkerState, ClaimState, HasWorker, IsLegal, fresh, most_workers}
 use Rattle.ov_claims.specs.Steps.{claiming, looking, failing}
 use Rattle.ov_claims.proofs.Changing.{all_same}
 use Rattle.ov_claims.proofs.Staying.{stays_legal, has_added, has_self, has_still}
-use Rattle.ov_even.proofs.InOrder.{at_within}
+use Rattle.ov_even.proofs.PieceOrder.InOrder.{at_within}
 use Rattle.ov_desk.specs.declared.hand.Hand.{Hand}
 use Rattle.ov_desk.specs.declared.hand.Hand.TheVariants.{Nothing, Claimed, Looked}
 use Rattle.ov_desk.specs.Desk.{GroupDeskState, HaveBeenSettled, IsOpened}
 use Rattle.ov_desk.specs.Sound.{IsSoundWorker, IsSoundDesk}
 use Rattle.ov_desk.specs.Turns.{WasClaimed, WasLookedAt, WasSettled}
-use Rattle.ov_desk.specs.Laws.{StaysSound}
+use Rattle.ov_desk.specs.Theorems.{StaysSound}
 use Rattle.ov_desk.proofs.Turned.{IsChangedAt, changed_by_set, changed_by_none, turned}
 use Rattle.ov_desk.proofs.Workers.{fresh_sound, claimed_sound, looked_sound, settled_sound}
 
--- a desk that is opened is sound
+-- a new desk is sound
 pub sound_opened : (g : LinkGraph) (m : ℕ) (q : List ℕ) (workers : ℕ) (d : GroupDeskState) → IsGroup g q → 1 ≤ workers
-    → workers ≤ 64 → IsOpened g m q workers d → IsSoundDesk g d
+    → workers ≤ most_workers → IsOpened g m q workers d → IsSoundDesk g d
 sound_opened g m q workers d group some few o = subst (IsSoundDesk g) (sym o.desk) record {
   group = group;
   share = o.share;
@@ -47,22 +47,22 @@ sound_opened g m q workers d group some few o = subst (IsSoundDesk g) (sym o.des
     none : List Settled
     none = []
 
--- each worker of a sound desk has a list of the pieces that it has settled
+-- each worker of a sound desk has a list of settled pieces
 pieces_of : (g : LinkGraph) (d : GroupDeskState) (w : ℕ) → IsSoundDesk g d → w < length d.claims.workers
     → (pieces : List Settled) × HaveBeenSettled d w pieces
 pieces_of g d w s l = let e = s.settled in at_within d.settled w (omega (arith, l, e))
 
--- a worker that has not ended skipped nothing
+-- a worker that has not ended has skipped nothing
 skipped_nothing : (s : ClaimState) (w : ℕ) (v : WorkerState) → IsLegal s → HasWorker s w v → v.ended ≡ false
     → (x : ℕ) → ¬ (v.skipped ≡ Some x)
 skipped_nothing s w v l at on x e = both_ways v.ended on ((l.workers w v at).skipped_ended x e)
 
--- the workers after one of them became z
+-- the list of workers after one of them became z
 workers_after : (s t : ClaimState) (w : ℕ) (v z : WorkerState) → HasWorker s w v → t.workers ≡ set s.workers w z
     → IsChangedAt s.workers w z t.workers
 workers_after s t w v z at e = subst (IsChangedAt s.workers w z) (sym e) (changed_by_set s.workers w z v at)
 
--- a claim leads from a sound desk to a sound one
+-- a claim keeps a sound desk sound
 pub sound_claimed : (g : LinkGraph) (d e : GroupDeskState) (w x : ℕ) → IsSoundDesk g d → WasClaimed d w x e
     → IsSoundDesk g e
 sound_claimed g d e w x s c = subst (IsSoundDesk g) (sym c.after) (turned g d e.claims hands d.settled w s record {
@@ -93,14 +93,14 @@ sound_claimed g d e w x s c = subst (IsSoundDesk g) (sym c.after) (turned g d e.
     had : (pieces : List Settled) × HaveBeenSettled d w pieces
     had = pieces_of g d w s (slice_get_within d.claims.workers w v c.claims.has)
 
-    -- the next number was claimed by nobody before
+    -- nobody claimed the next number before
     new : (y : ℕ) → Has v.claimed y → y ≢ x
     new y h k =
         let b = (s.legal.claimed y).0 (w, (v, c.claims.has, h)) in
         let next = c.claims.number in
         omega (arith, b.0, next, k)
 
--- a look leads from a sound desk to a sound one
+-- a look keeps a sound desk sound
 pub sound_looked_at : (g : LinkGraph) (d e : GroupDeskState) (w least : ℕ) → IsSoundDesk g d → WasLookedAt d w least e
     → IsSoundDesk g e
 sound_looked_at g d e w x s c = subst (IsSoundDesk g) (sym c.after) (turned g d e.claims hands d.settled w s record {
@@ -133,7 +133,7 @@ sound_looked_at g d e w x s c = subst (IsSoundDesk g) (sym c.after) (turned g d 
     had : (pieces : List Settled) × HaveBeenSettled d w pieces
     had = pieces_of g d w s (slice_get_within d.claims.workers w v c.claims.has)
 
--- where a piece came to a cut, the worker has failed at its number besides
+-- if the result is a cut, the failed numbers are the earlier ones and x
 failed_besides : (v : WorkerState) (x : ℕ) (found : Found) → ¬ IsNoCut found
     → (y : ℕ) → Has (failing x v).failed y ↔ (Has v.failed y ⊎ ((y ≡ x) × ¬ IsNoCut found))
 failed_besides v x found cut y = (
@@ -144,13 +144,13 @@ failed_besides v x found cut y = (
   ]),
 )
 
--- and where it came to none, at nothing more
+-- if the result is no cut, the failed numbers stay the same
 failed_still : (v : WorkerState) (x : ℕ) (found : Found) → IsNoCut found
     → (y : ℕ) → Has v.failed y ↔ (Has v.failed y ⊎ ((y ≡ x) × ¬ IsNoCut found))
 failed_still v x found none y = ((λ h. inl h), (λ h. elim h [ inl k ↦ k | inr k ↦ absurd (k.1 none) ]))
 
--- a worker v settles its piece and becomes z, which has failed at its number besides where it came to a cut: that leads
--- from a sound desk to a sound one
+-- worker v settles its piece and becomes z, which has failed at its number if the result is a cut. This keeps a sound
+-- desk sound
 sound_settles : (g : LinkGraph) (d e : GroupDeskState) (w : ℕ) (v z : WorkerState) → IsSoundDesk g d
     → (c : WasSettled g d w e) → HasWorker d.claims w v → e.claims.total ≡ d.claims.total → IsLegal e.claims
     → IsChangedAt d.claims.workers w z e.claims.workers → z.claimed ≡ v.claimed → z.skipped ≡ v.skipped
@@ -181,7 +181,7 @@ sound_settles g d e w v z s c at total legal workers claimed skipped failed =
       settled = changed_by_set d.settled w pieces c.before c.had;
     })
 
--- to settle a piece, whether it comes to a cut or not, leads from a sound desk to a sound one
+-- settling a piece keeps a sound desk sound, with a cut or without
 pub sound_settled : (g : LinkGraph) (d e : GroupDeskState) (w : ℕ) → IsSoundDesk g d → WasSettled g d w e
     → IsSoundDesk g e
 sound_settled g d e w s c = elim c.claims [
@@ -202,7 +202,7 @@ sound_settled g d e w s c = elim c.claims [
       (failed_besides v c.number c.piece.found k.0)
 ]
 
--- all four together
+-- the four parts of the theorem
 pub stays_sound : StaysSound
 stays_sound = record {
   opened = sound_opened;

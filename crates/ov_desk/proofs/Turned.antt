@@ -1,4 +1,4 @@
--- The desk after a turn of one worker, as far as the other workers go.
+-- The desk after a turn of one worker: the other workers do not change.
 use Rattle.std.proofs.Common.{◌≡◌, ◌≢◌, ℕ, List, length, set, slice_get, Some, refl, sym, ◌∙◌}
 use Rattle.std.proofs.Common.{subst, inl, inr, arith}
 use Rattle.std.proofs.lemmas.Bool.{cases_eq}
@@ -7,18 +7,18 @@ use Rattle.std.proofs.lemmas.Option.{same_Some, slice_get_within}
 use Rattle.ov_graph.specs.Links.{LinkGraph}
 use Rattle.ov_fans.specs.declared.settled.Settled.{Settled}
 use Rattle.ov_claims.specs.Claims.{WorkerState, ClaimState, HasWorker, IsLegal}
-use Rattle.ov_even.proofs.Slotted.{at_set_same, at_set_other}
+use Rattle.ov_even.proofs.AnalysisSteps.Slotted.{at_set_same, at_set_other}
 use Rattle.ov_desk.specs.declared.hand.Hand.{Hand}
 use Rattle.ov_desk.specs.Desk.{GroupDeskState, HasHand, HaveBeenSettled, AreToShare}
 use Rattle.ov_desk.specs.Sound.{IsSoundWorker, IsSoundDesk}
 
--- ys is xs, but at place w there is x
+-- ys is xs with x at place w
 pub record IsChangedAt {X : Type 0} (xs : List X) (w : ℕ) (x : X) (ys : List X) : Type 0 where
   pub count : length ys ≡ length xs
   pub here : (y : X) → slice_get ys w ≡ Some y → y ≡ x
   pub elsewhere : (u : ℕ) (y : X) → u ≢ w → slice_get ys u ≡ Some y → slice_get xs u ≡ Some y
 
--- a list is so changed by a write at a place of it
+-- a write at place w gives such a list
 pub changed_by_set : {X : Type 0} (xs : List X) (w : ℕ) (x y : X) → slice_get xs w ≡ Some y
     → IsChangedAt xs w x (set xs w x)
 changed_by_set xs w x y at = record {
@@ -27,7 +27,7 @@ changed_by_set xs w x y at = record {
   elsewhere = λ u z n h. sym (at_set_other xs w u x (λ e. n (sym e))) ∙ h;
 }
 
--- and a list that stays is so changed where x stood there before
+-- an unchanged list is such a list, if x stood at place w before
 pub changed_by_none : {X : Type 0} (xs : List X) (w : ℕ) (x : X) → slice_get xs w ≡ Some x → IsChangedAt xs w x xs
 changed_by_none xs w x at = record {
   count = refl;
@@ -35,11 +35,11 @@ changed_by_none xs w x at = record {
   elsewhere = λ u z n h. h;
 }
 
--- the desk with these claims, with this in the hands and with these settled pieces
+-- the desk with these claims, these hands and these settled pieces
 abbrev pub with_parts : GroupDeskState → ClaimState → List Hand → List (List Settled) → GroupDeskState
 with_parts d claims hands settled = record d { claims = claims; hands = hands; settled = settled }
 
--- worker w became another one, which is sound; the claims are legal, and of the same total
+-- worker w became another sound worker; the claims are legal and have the same total
 pub record IsTurn (g : LinkGraph) (d : GroupDeskState) (w : ℕ) (e : GroupDeskState) : Type 0 where
   pub worker : WorkerState
   pub hand : Hand
@@ -51,12 +51,12 @@ pub record IsTurn (g : LinkGraph) (d : GroupDeskState) (w : ℕ) (e : GroupDeskS
   pub hands : IsChangedAt d.hands w hand e.hands
   pub settled : IsChangedAt d.settled w pieces e.settled
 
--- the worker of this number is sound
+-- the worker with this number is sound
 abbrev IsSoundAt : LinkGraph → GroupDeskState → ℕ → Type 0
 IsSoundAt g d w = (v : WorkerState) (hand : Hand) (pieces : List Settled) → HasWorker d.claims w v → HasHand d w hand
     → HaveBeenSettled d w pieces → IsSoundWorker g d.members v hand pieces
 
--- such a turn leads from a sound desk to a sound one
+-- such a turn keeps a sound desk sound
 pub turned : (g : LinkGraph) (d : GroupDeskState) (claims : ClaimState) (hands : List Hand)
     (settled : List (List Settled)) (w : ℕ) → IsSoundDesk g d → IsTurn g d w (with_parts d claims hands settled)
     → IsSoundDesk g (with_parts d claims hands settled)

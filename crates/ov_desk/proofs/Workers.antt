@@ -1,4 +1,4 @@
--- One worker that is sound is sound after each of its turns.
+-- A sound worker is sound after each of its turns.
 use Rattle.std.proofs.Common.{◌≡◌, ◌≢◌, ◌⊎◌, ◌↔◌, ℕ, Bool, true, false, cond, List, [], ◌∷◌, ◌++◌, length, Some, refl}
 use Rattle.std.proofs.Common.{sym, ap, ◌∙◌, subst, inl, inr}
 use Rattle.std.proofs.lemmas.Bool.{cases_eq}
@@ -8,14 +8,14 @@ use Rattle.ov_ids.proofs.Members.{has_append_left, has_append_right, has_append_
 use Rattle.ov_graph.specs.Links.{LinkGraph}
 use Rattle.ov_fans.specs.Pieces.{IsPiece}
 use Rattle.ov_fans.specs.Cuts.{IsRight}
-use Rattle.ov_fans.specs.Laws.{IsNoCut}
+use Rattle.ov_fans.specs.Theorems.{IsNoCut}
 use Rattle.ov_fans.specs.declared.settled.Settled.{Settled}
 use Rattle.ov_claims.specs.Claims.{WorkerState, fresh}
 use Rattle.ov_claims.specs.Steps.{IsLast}
 use Rattle.ov_claims.proofs.Staying.{gaining, ending, skipping}
 use Rattle.ov_claims.proofs.Turns.{own_last}
 use Rattle.ov_even.specs.Order.{IsNumbered}
-use Rattle.ov_even.proofs.Numbering.{numbered_piece, one_number}
+use Rattle.ov_even.proofs.PieceNumbers.Numbering.{numbered_piece, one_number}
 use Rattle.ov_desk.specs.declared.hand.Hand.{Hand}
 use Rattle.ov_desk.specs.declared.hand.Hand.TheVariants.{Nothing, Claimed, Looked}
 use Rattle.ov_desk.specs.Desk.{IsNumberIn}
@@ -31,8 +31,8 @@ fresh_sound g q = record {
   failed = λ x. ((λ h. absurd h), (λ a. absurd a.1.0));
 }
 
--- a worker that settled nothing and failed at nothing: it is through with what it was through with before, and what it
--- has in hand now is its last number
+-- a turn in which the worker settles nothing and fails at nothing: it has finished the same numbers as before, and the
+-- number in its hand is the last that it claimed
 record StaysThrough (v z : WorkerState) (hand other : Hand) : Type 0 where
   failed : z.failed ≡ v.failed
   last : (x : ℕ) → IsNumberIn other x → IsLast z x
@@ -40,7 +40,7 @@ record StaysThrough (v z : WorkerState) (hand other : Hand) : Type 0 where
   before : (x : ℕ) → IsThroughWith z other x → IsThroughWith v hand x
   still : (x : ℕ) → IsThroughWith v hand x → IsThroughWith z other x
 
--- it stays sound
+-- the worker stays sound
 stays_through : (g : LinkGraph) (q : List ℕ) (v z : WorkerState) (hand other : Hand) (pieces : List Settled)
     → IsSoundWorker g q v hand pieces → StaysThrough v z hand other → IsSoundWorker g q z other pieces
 stays_through g q v z hand other pieces s t = record {
@@ -54,7 +54,7 @@ stays_through g q v z hand other pieces s t = record {
   );
 }
 
--- it takes the number that it claimed in hand, which it had not claimed before
+-- the worker takes a number in hand that it had not claimed before
 gains : (x : ℕ) (v : WorkerState) → v.ended ≡ false → ((y : ℕ) → Has v.claimed y → y ≢ x)
     → StaysThrough v (gaining x v) Nothing (Claimed x)
 gains x v on new = record {
@@ -76,7 +76,7 @@ gains x v on new = record {
   };
 }
 
--- where no number is left it has still nothing in hand
+-- no number is left: the hand stays empty
 ends : (v : WorkerState) → StaysThrough v (ending v) Nothing Nothing
 ends v = record {
   failed = refl;
@@ -86,7 +86,7 @@ ends v = record {
   still = λ y t. record { claimed = t.claimed; worked_on = t.worked_on; put_down = t.put_down };
 }
 
--- it skips the number in its hand, and is not through with it
+-- the worker skips the number in its hand, and so has not finished it
 skips : (x : ℕ) (v : WorkerState) → ((y : ℕ) → ¬ (v.skipped ≡ Some y))
     → StaysThrough v (skipping x v) (Claimed x) Nothing
 skips x v none = record {
@@ -105,7 +105,7 @@ skips x v none = record {
   };
 }
 
--- it goes on with the number in its hand
+-- the worker goes on with the number in its hand
 goes_on : (x : ℕ) (v : WorkerState) → IsLast v x → v.ended ≡ false → StaysThrough v v (Claimed x) (Looked x)
 goes_on x v last on = record {
   failed = refl;
@@ -115,7 +115,7 @@ goes_on x v last on = record {
   still = λ y t. record { claimed = t.claimed; worked_on = t.worked_on; put_down = t.put_down };
 }
 
--- a worker is sound after its claim, by the test b whether the number is below the total
+-- a worker is sound after its claim; b tests whether the number is below the total
 pub claimed_sound : (g : LinkGraph) (q : List ℕ) (x : ℕ) (v : WorkerState) (pieces : List Settled) (b : Bool)
     → IsSoundWorker g q v Nothing pieces → v.ended ≡ false → ((y : ℕ) → Has v.claimed y → y ≢ x)
     → IsSoundWorker g q (cond b (gaining x v) (ending v)) (cond b (Claimed x) Nothing) pieces
@@ -123,7 +123,7 @@ claimed_sound g q x v pieces true s on new =
     stays_through g q v (gaining x v) Nothing (Claimed x) pieces s (gains x v on new)
 claimed_sound g q x v pieces false s on new = stays_through g q v (ending v) Nothing Nothing pieces s (ends v)
 
--- a worker is sound after its look, by the test b whether a lower number has failed
+-- a worker is sound after its look; b tests whether a lower number has failed
 pub looked_sound : (g : LinkGraph) (q : List ℕ) (x : ℕ) (v : WorkerState) (pieces : List Settled) (b : Bool)
     → IsSoundWorker g q v (Claimed x) pieces → ((y : ℕ) → ¬ (v.skipped ≡ Some y))
     → IsSoundWorker g q (cond b (skipping x v) v) (cond b Nothing (Looked x)) pieces
@@ -132,8 +132,7 @@ looked_sound g q x v pieces true s none =
 looked_sound g q x v pieces false s none =
     stays_through g q v v (Claimed x) (Looked x) pieces s (goes_on x v (s.last x refl) (s.goes_on x refl))
 
--- a worker v that has looked at x settles its piece, and is z after that: it has failed at x besides where the piece
--- came to a cut
+-- worker v, which has looked for x, settles the piece of x and becomes z. It has failed at x if the result is a cut
 pub record Settles (g : LinkGraph) (q : List ℕ) (v z : WorkerState) (x : ℕ) (pieces : List Settled) (piece : Settled)
     : Type 0 where
   pub was : IsSoundWorker g q v (Looked x) pieces
@@ -144,7 +143,7 @@ pub record Settles (g : LinkGraph) (q : List ℕ) (v z : WorkerState) (x : ℕ) 
   pub numbered : IsNumbered (length g.nodes) (length q) x piece.piece
   pub right : IsRight g q piece
 
--- it is sound then
+-- such a worker is sound
 pub settled_sound : (g : LinkGraph) (q : List ℕ) (v z : WorkerState) (x : ℕ) (pieces : List Settled) (piece : Settled)
     → Settles g q v z x pieces piece → IsSoundWorker g q z Nothing (pieces ++ piece ∷ [])
 settled_sound g q v z x pieces piece k = record {
@@ -195,7 +194,7 @@ settled_sound g q v z x pieces piece k = record {
       | inr m ↦ elim m [ inl e ↦ inr e | inr n ↦ absurd n ]
     ]
 
-    -- the new piece has the number x alone
+    -- the new piece has number x and no other
     its_number : (y : ℕ) (s : Settled) → piece ≡ s → IsNumbered (length g.nodes) (length q) y s.piece → y ≡ x
     its_number y s e a =
         let there = λ (t : Settled). IsNumbered (length g.nodes) (length q) y t.piece in

@@ -1,2 +1,2 @@
--- What the code keeps; the definitions do not use it.
+-- How the code stores a desk. The definitions do not use it.
 pub mod Held

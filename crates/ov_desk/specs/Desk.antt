@@ -1,6 +1,6 @@
--- A desk at which workers share out the pieces of Even's test (Even, SIAM J. Comput. 4, 1975): each claims the number
--- of a piece, looks whether a lower one has failed, settles the piece, and claims again. A piece that comes to a cut
--- has failed.
+-- A desk at which workers share out the pieces of Even's test (Even, SIAM J. Comput. 4, 1975). A worker claims the
+-- number of a piece, looks whether a lower number has failed, settles the piece, and claims again. A number fails if
+-- its piece is settled with a cut, that is, if the piece is not good.
 use Rattle.std.specs.Prelude.{◌≡◌, ℕ, List, [], length, replicate, slice_get, Some}
 use Rattle.ov_ids.specs.Members.{Has}
 use Rattle.ov_graph.specs.Links.{LinkGraph, AreAllLinked}
@@ -10,8 +10,8 @@ use Rattle.ov_even.specs.Order.{AreSoMany}
 use Rattle.ov_desk.specs.declared.hand.Hand.{Hand}
 use Rattle.ov_desk.specs.declared.hand.Hand.TheVariants.{Nothing, Claimed, Looked}
 
--- a desk: the moment whose links are analysed, the members of the group, the claims of the workers, and for each
--- worker, counted from 0, what it has in hand and the pieces that it has settled, in order
+-- a desk: the moment whose links are analysed, the members of the group, and the claims of the workers. For each
+-- worker, counted from 0: what it has in hand, and the pieces that it has settled, in order
 pub record GroupDeskState : Type 0 where
   pub moment : ℕ
   pub members : List ℕ
@@ -19,7 +19,7 @@ pub record GroupDeskState : Type 0 where
   pub hands : List Hand
   pub settled : List (List Settled)
 
--- worker w has this in hand
+-- `hand` is what worker w has in hand
 abbrev pub HasHand : GroupDeskState → ℕ → Hand → Type 0
 HasHand d w hand = slice_get d.hands w ≡ Some hand
 
@@ -27,22 +27,22 @@ HasHand d w hand = slice_get d.hands w ≡ Some hand
 abbrev pub HaveBeenSettled : GroupDeskState → ℕ → List Settled → Type 0
 HaveBeenSettled d w pieces = slice_get d.settled w ≡ Some pieces
 
--- one of the workers has settled this
+-- one of the workers has settled this piece with this result
 abbrev pub IsSettledAt : GroupDeskState → Settled → Type 0
 IsSettledAt d s = (w : ℕ) × (pieces : List Settled) × HaveBeenSettled d w pieces × Has pieces s
 
--- x is the number in a hand
+-- x is the number in this hand
 abbrev pub IsNumberIn : Hand → ℕ → Type 0
 IsNumberIn Nothing x = ⊥
 IsNumberIn (Claimed y) x = x ≡ y
 IsNumberIn (Looked y) x = x ≡ y
 
--- so many numbers are shared out: none where every two members are linked, else one for each piece
+-- `total` is how many numbers are shared out: none if every two members are linked, otherwise one for each piece
 pub record AreToShare (g : LinkGraph) (q : List ℕ) (total : ℕ) : Type 0 where
   pub none : AreAllLinked g q → total ≡ 0
   pub each : ¬ AreAllLinked g q → AreSoMany (length g.nodes) (length q) total
 
--- a desk of a moment with these links, for a group, before any of so many workers took a turn
+-- a new desk for a group at moment m, whose links are those of g; no worker has taken a turn yet
 pub record IsOpened (g : LinkGraph) (m : ℕ) (q : List ℕ) (workers : ℕ) (d : GroupDeskState) : Type 0 where
   pub total : ℕ
   pub share : AreToShare g q total

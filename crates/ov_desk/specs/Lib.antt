@@ -1,5 +1,5 @@
 pub mod Desk
 pub mod Sound
 pub mod Turns
-pub mod Laws
+pub mod Theorems
 pub mod Code

@@ -1,9 +1,9 @@
--- The turns at a desk, each of one worker w: d is before, and e after.
+-- The turns at a desk. Each is a turn of one worker w; d is the desk before the turn, and e the desk after it.
 use Rattle.std.specs.Prelude.{◌≡◌, ◌⊎◌, ℕ, ◌<◌, nat_lt, false, List, [], ◌∷◌, ◌++◌, length, slice_set}
 use Rattle.std.specs.Prelude.{if◌then◌else◌}
 use Rattle.ov_graph.specs.Links.{LinkGraph}
 use Rattle.ov_fans.specs.Cuts.{IsRight}
-use Rattle.ov_fans.specs.Laws.{IsNoCut}
+use Rattle.ov_fans.specs.Theorems.{IsNoCut}
 use Rattle.ov_fans.specs.declared.settled.Settled.{Settled}
 use Rattle.ov_claims.specs.Claims.{WorkerState, HasWorker}
 use Rattle.ov_claims.specs.Steps.{Claims, Looks, Fails}
@@ -11,23 +11,23 @@ use Rattle.ov_even.specs.Order.{IsNumbered}
 use Rattle.ov_desk.specs.Desk.{GroupDeskState, HasHand, HaveBeenSettled}
 use Rattle.ov_desk.specs.declared.hand.Hand.TheVariants.{Nothing, Claimed, Looked}
 
--- the desk has this worker
+-- w is a worker of the desk
 abbrev pub IsWorkerOf : GroupDeskState → ℕ → Type 0
 IsWorkerOf d w = w < length d.claims.workers
 
--- the worker claims next: it has nothing in hand, and has not ended
+-- the worker's next turn is a claim: it has nothing in hand and has not ended
 abbrev pub ClaimsNext : GroupDeskState → ℕ → Type 0
 ClaimsNext d w = HasHand d w Nothing × ((v : WorkerState) × HasWorker d.claims w v × (v.ended ≡ false))
 
--- the worker looks next: it has a number in hand that it has claimed
+-- the worker's next turn is a look: it has claimed the number in its hand
 abbrev pub LooksNext : GroupDeskState → ℕ → Type 0
 LooksNext d w = (x : ℕ) × HasHand d w (Claimed x)
 
--- the worker settles next: it has a number in hand with which it goes on after its look
+-- the worker's next turn is to settle: it has looked at the claims for the number in its hand, and goes on with it
 abbrev pub SettlesNext : GroupDeskState → ℕ → Type 0
 SettlesNext d w = (x : ℕ) × HasHand d w (Looked x)
 
--- it claims the next number, x, and takes it in hand where that is below the total; else it has ended
+-- the worker claims the next number x. If x is below the total, the worker takes it in hand, otherwise it has ended
 pub record WasClaimed (d : GroupDeskState) (w x : ℕ) (e : GroupDeskState) : Type 0 where
   pub hand : HasHand d w Nothing
   pub claims : Claims d.claims w x e.claims
@@ -36,8 +36,8 @@ pub record WasClaimed (d : GroupDeskState) (w x : ℕ) (e : GroupDeskState) : Ty
     hands = slice_set d.hands w (if nat_lt x d.claims.total then Claimed x else Nothing);
   }
 
--- it looks before it works on the number in its hand, and sees the least one that failed: where that is lower, it skips
--- its own and has ended
+-- the worker looks before it works on the number in its hand. `least` is the lowest failed number. If it is below the
+-- number in hand, the worker skips its number and has ended, otherwise it goes on
 pub record WasLookedAt (d : GroupDeskState) (w least : ℕ) (e : GroupDeskState) : Type 0 where
   pub number : ℕ
   pub hand : HasHand d w (Claimed number)
@@ -48,7 +48,7 @@ pub record WasLookedAt (d : GroupDeskState) (w least : ℕ) (e : GroupDeskState)
     hands = slice_set d.hands w (if nat_lt least number then Nothing else Looked number);
   }
 
--- it settles the piece of the number in its hand, and fails where that comes to a cut
+-- the worker settles the piece of the number in its hand. If the result is a cut, the number fails
 pub record WasSettled (g : LinkGraph) (d : GroupDeskState) (w : ℕ) (e : GroupDeskState) : Type 0 where
   pub number : ℕ
   pub hand : HasHand d w (Looked number)

@@ -1,9 +1,10 @@
 ghost use Rattle.std.specs.Prelude.{◌≡◌, ◌↔◌, ◌<◌, ◌≤◌, ◌^◌, [], length, replicate, IsTrue, IfOk, OnOk, OnErr};
 ghost use Rattle.ov_graph.specs.Links.{IsGroup};
-ghost use Rattle.ov_cert.specs.Laws.{IsTrueForGroup};
-ghost use Rattle.ov_claims.specs.Laws.{AllEnded};
+ghost use Rattle.ov_cert.specs.Theorems.{IsTrueForGroup};
+ghost use Rattle.ov_claims.specs.Claims.{most_workers};
+ghost use Rattle.ov_claims.specs.Theorems.{AllEnded};
 ghost use Rattle.ov_fans.specs.Cuts.{IsRight};
-ghost use Rattle.ov_fans.specs.Laws.{IsNoCut};
+ghost use Rattle.ov_fans.specs.Theorems.{IsNoCut};
 ghost use Rattle.ov_even.specs.Answer.{IsAnswer};
 ghost use Rattle.ov_even.specs.Order.{AreMoreThan, IsNumbered};
 ghost use Rattle.ov_desk.specs.declared.hand.Hand.TheVariants.{Nothing as nothing};
@@ -23,9 +24,9 @@ use ov_ids::{NodeId, OutOfMemory};
 use std::alloc::Global;
 use std::marker::Model;
 
-/// A desk of a moment and a group. Its workers take turns: each claims the number of a piece, looks whether a lower one
-/// has failed, settles the piece, and claims again, until it has ended. The desk keeps no graph: `settle` and
-/// `certificate` are handed the links of its moment.
+/// A desk for a moment and a group. Each worker claims the number of a piece, looks whether a lower number has failed,
+/// settles the piece, and claims again, until it has ended. The desk stores no graph: `settle` and `certificate` are
+/// given the graph of its moment.
 #[derive(Drop)]
 pub struct GroupDesk {
     moment: u32,
@@ -47,8 +48,8 @@ impl Model for GroupDesk {
 }
 
 impl GroupDesk {
-    /// A desk of a moment with these links, for a group and so many workers, who took no turn yet. Nothing is shared
-    /// out where every two members are linked.
+    /// A new desk for a group at a moment with these links. No numbers are shared out if every two members are linked.
+    /// Faults: out of memory.
     pub fn open(
         alloc: Global,
         moment: u32,
@@ -58,7 +59,7 @@ impl GroupDesk {
     ) -> Result<GroupDesk, OutOfMemory>
         requires group { IsGroup graph.now group.items }
         requires some { 1 ≤ workers }
-        requires few { workers ≤ 64 }
+        requires few { workers ≤ most_workers }
         ensures opened { IfOk result (λ d. IsOpened graph.now moment group.items workers d) }
         ensures sound { IfOk result (λ d. IsSoundDesk graph.now d) }
     {
@@ -75,7 +76,7 @@ impl GroupDesk {
         })
     }
 
-    /// The moment whose links are analysed.
+    /// The moment whose links are analysed: the number of an entry of the journal.
     pub fn moment(&self) -> u32
         ensures { result ≡ self.now.moment }
     {
@@ -89,35 +90,35 @@ impl GroupDesk {
         &self.members
     }
 
-    /// How many numbers are shared out.
+    /// The number of numbers to share out: one for each piece, or 0 if every two members are linked.
     pub fn total(&self) -> u64
         ensures { result ≡ self.now.claims.total }
     {
         self.claims.total()
     }
 
-    /// The least number that failed; the total where none did.
+    /// The lowest number that failed, or the total if none failed.
     pub fn least(&self) -> u64
         ensures { result ≡ self.now.claims.least }
     {
         self.claims.least()
     }
 
-    /// How many workers there are, from 1 to 64.
+    /// The number of workers, from 1 to 64.
     pub fn workers(&self) -> u32
         ensures { result ≡ length self.now.claims.workers }
     {
         self.claims.workers()
     }
 
-    /// Whether the desk has this worker. They are counted from 0.
+    /// Whether the desk has this worker. Workers are counted from 0.
     pub fn has_worker(&self, worker: u32) -> bool
         ensures { IsTrue result ↔ IsWorkerOf self.now worker }
     {
         worker < self.claims.workers()
     }
 
-    /// Whether the worker, one of the desk's, claims next.
+    /// Whether the next turn of this worker is a claim.
     pub fn claims_next(&self, worker: u32) -> bool
         requires { IsWorkerOf self.now worker }
         ensures { IsTrue result ↔ ClaimsNext self.now worker }
@@ -128,7 +129,7 @@ impl GroupDesk {
         }
     }
 
-    /// Whether the worker, one of the desk's, looks next.
+    /// Whether the next turn of this worker is a look.
     pub fn looks_next(&self, worker: u32) -> bool
         requires { IsWorkerOf self.now worker }
         ensures { IsTrue result ↔ LooksNext self.now worker }
@@ -136,7 +137,7 @@ impl GroupDesk {
         matches!(self.hands[worker as usize], Hand::Claimed(_))
     }
 
-    /// Whether the worker, one of the desk's, settles next.
+    /// Whether the next turn of this worker is to settle a piece.
     pub fn settles_next(&self, worker: u32) -> bool
         requires { IsWorkerOf self.now worker }
         ensures { IsTrue result ↔ SettlesNext self.now worker }
@@ -144,8 +145,8 @@ impl GroupDesk {
         matches!(self.hands[worker as usize], Hand::Looked(_))
     }
 
-    /// The worker claims the next number, and is told it; where that isn't below the total, it has ended. Out of memory
-    /// changes nothing.
+    /// The worker claims the next number, which is returned. If it is not below the total, the worker has ended. Out of
+    /// memory changes nothing.
     pub fn claim(&mut self, worker: u32) -> Result<u64, OutOfMemory>
         requires { ClaimsNext self.old worker }
         ensures claimed { IfOk result (λ x. WasClaimed self.old worker x self.new) }
@@ -158,8 +159,9 @@ impl GroupDesk {
         Ok(number)
     }
 
-    /// The worker looks before it works on the number in its hand, and is told the least one that failed (the total
-    /// where none did): where that is lower, it skips its own and has ended. Nothing is allocated.
+    /// The worker looks before it works on the number in its hand. Returns the lowest number that failed, or the total
+    /// if none failed. If that is below the number in hand, the worker skips its number and has ended. Allocates
+    /// nothing.
     pub fn look(&mut self, worker: u32) -> u64
         requires { LooksNext self.old worker }
         ensures { WasLookedAt self.old worker result self.new }
@@ -178,8 +180,8 @@ impl GroupDesk {
         least
     }
 
-    /// The worker settles the piece of the number in its hand, for the links of the desk's moment, and fails where it
-    /// comes to a cut. Out of memory changes nothing.
+    /// The worker settles the piece of the number in its hand. The graph must have the links of the desk's moment. If
+    /// the result is a cut, the number fails. Out of memory changes nothing.
     pub fn settle(&mut self, graph: &Graph, worker: u32) -> Result<(), OutOfMemory>
         requires sound { IsSoundDesk graph.now self.old }
         requires next { SettlesNext self.old worker }
@@ -201,7 +203,7 @@ impl GroupDesk {
         Ok(())
     }
 
-    /// The piece of this number, settled.
+    /// The piece of this number, with its result.
     fn settled_at(&self, graph: &Graph, number: u64) -> Result<Settled, OutOfMemory>
         requires group { IsGroup graph.now self.now.members }
         requires below { AreMoreThan (length graph.now.nodes) (length self.now.members) number }
@@ -221,8 +223,9 @@ impl GroupDesk {
         self.claims.all_ended()
     }
 
-    /// The graph, the group, and the certificate to which all workers came, for the links of the desk's moment: that of
-    /// the first piece that is not good, or that every two members are linked.
+    /// The checked certificate, made from the work of all workers. The graph must have the links of the desk's moment.
+    /// If two members are not linked, the certificate names the nearest cut of the first piece that is not good.
+    /// Faults: out of memory.
     pub fn certificate(&self, graph: &Graph) -> Result<Checked, OutOfMemory>
         requires sound { IsSoundDesk graph.now self.now }
         requires ended { AllEnded self.now.claims }
@@ -240,7 +243,7 @@ impl GroupDesk {
     }
 }
 
-/// How many numbers are shared out.
+/// The number of numbers to share out.
 fn total_to_share(graph: &Graph, group: &[NodeId]) -> u64
     requires { IsGroup graph.now group.now }
     ensures share { AreToShare graph.now group.now result }
@@ -253,7 +256,7 @@ fn total_to_share(graph: &Graph, group: &[NodeId]) -> u64
     group_total(graph.nodes().len(), group.len())
 }
 
-/// Nothing in the hands of so many workers.
+/// The hands of `workers` workers, all empty.
 fn empty_hands(alloc: Global, workers: u32) -> Result<Vec<Hand>, OutOfMemory>
     ensures { IfOk result (λ hands. hands.items ≡ replicate workers nothing) }
 {
@@ -264,7 +267,7 @@ fn empty_hands(alloc: Global, workers: u32) -> Result<Vec<Hand>, OutOfMemory>
     Ok(hands)
 }
 
-/// The hauls of so many workers who have settled no piece yet.
+/// The hauls of `workers` workers, all without pieces.
 fn empty_hauls(alloc: Global, workers: u32) -> Result<Vec<Haul>, OutOfMemory>
     ensures { IfOk result (λ hauls. pieces_in hauls.items ≡ replicate workers []) }
 {
@@ -277,7 +280,7 @@ fn empty_hauls(alloc: Global, workers: u32) -> Result<Vec<Haul>, OutOfMemory>
     Ok(hauls)
 }
 
-/// Whether a piece came to a cut.
+/// Whether a piece was settled with a cut.
 fn is_cut(settled: &Settled) -> bool
     ensures { IsTrue result ↔ ¬ IsNoCut settled.now.found }
 {

@@ -1,10 +1,10 @@
 /// What a worker has in hand.
 #[derive(Clone, Copy, Debug, PartialEq, Eq)]
 pub enum Hand {
-    /// Nothing: it claims next, or has ended.
+    /// Nothing. The worker claims next, or has ended.
     Nothing,
-    /// The number of a piece that it has claimed: it looks next.
+    /// The number of a claimed piece. The worker looks next.
     Claimed(u64),
-    /// The number of a piece with which it goes on after its look: it settles the piece next.
+    /// The number of a piece. The worker has looked, and settles the piece next.
     Looked(u64),
 }

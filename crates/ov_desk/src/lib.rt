@@ -1,10 +1,10 @@
-//! Workers take turns at a desk and settle the pieces of Even's test, until one of them decides.
+//! A desk at which workers share out the pieces of Even's test, until one piece decides.
 #![tactic(auto)]
 
 mod desk;
 mod hand;
-mod laws;
+mod theorems;
 
 pub use desk::GroupDesk;
 pub use hand::Hand;
-pub use laws::{ended_decides, stays_sound};
+pub use theorems::{ended_decides, stays_sound};

@@ -1,4 +1,5 @@
--- What an analysis of a graph and a group answers. It says nothing of the paths: any that make the certificate valid.
+-- The certificate that an analysis returns for a graph and a group. The paths in it are left open: any paths will do
+-- that make the certificate valid.
 use Rattle.std.specs.Prelude.{◌≡◌, ℕ, ◌+◌, List, length}
 use Rattle.ov_graph.specs.Links.{LinkGraph, AreAllLinked}
 use Rattle.ov_cert.specs.declared.cert.Cert.{Cert}
@@ -10,15 +11,15 @@ use Rattle.ov_fans.specs.declared.piece.Piece.{Piece}
 use Rattle.ov_fans.specs.declared.settled.Parting.{Parting}
 use Rattle.ov_even.specs.First.{IsFirst}
 
--- the certificate names what parts a piece: the cut, near, far and the side
+-- the certificate has the cut, the near and far members and the side of this parting
 pub record NamesParting (c : Split) (parting : Parting) : Type 0 where
   pub cut : c.cut ≡ parting.cut.items
   pub near : c.near ≡ parting.near
   pub far : c.far ≡ parting.far
   pub side : c.side ≡ parting.side.items
 
--- the certificate names the nearest cut of the first piece that is not good, and its number is one less than that
--- piece's level
+-- the certificate names the nearest cut of the first piece that is not good, and its number k is one less than the
+-- level of that piece
 pub record NamesFirstCut (g : LinkGraph) (q : List ℕ) (c : Split) : Type 0 where
   pub piece : Piece
   pub first : IsFirst g q piece
@@ -27,8 +28,8 @@ pub record NamesFirstCut (g : LinkGraph) (q : List ℕ) (c : Split) : Type 0 whe
   pub parted : IsParted g q piece parting
   pub names : NamesParting c parting
 
--- the certificate that an analysis answers: every two members are linked, and k is one less than their number; or two
--- are not, and it names the nearest cut of the first piece that is not good
+-- the certificate that an analysis returns: if every two members are linked, it says so, and k is one less than the
+-- number of members; otherwise it names the nearest cut of the first piece that is not good
 abbrev pub IsAnswer : LinkGraph → List ℕ → Cert → Type 0
 IsAnswer g q (AllLinked k) = AreAllLinked g q × (length q ≡ k + 1)
 IsAnswer g q (SplitBy c) = ¬ AreAllLinked g q × NamesFirstCut g q c

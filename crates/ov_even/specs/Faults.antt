@@ -1,5 +1,6 @@
--- Why an analysis refuses: the first refusal that stands decides.
-use Rattle.std.specs.Prelude.{ℕ, ◌<◌, List, length}
+-- Why an analysis is refused.
+use Rattle.std.specs.Prelude.{ℕ, ◌<◌, List, length, Option}
+use Rattle.ov_ids.specs.FaultOrder.{Step, Passed, IsRefusedBy}
 use Rattle.ov_graph.specs.Links.{LinkGraph, IsGroup}
 use Rattle.ov_even.specs.declared.fault.AnalyseFault.{AnalyseFault}
 use Rattle.ov_even.specs.declared.fault.AnalyseFault.TheVariants.{NoNodes, BadGroup, OutOfMemory}
@@ -14,8 +15,10 @@ number_of OutOfMemory = 99
 abbrev pub HasNode : LinkGraph → Type 0
 HasNode g = 0 < length g.nodes
 
--- the fault is the first that stands: no node, then no group; out of memory is told only where none does
+-- the first refusal of an analysis that applies: no node, then no group; None if no refusal applies
+abbrev pub GroupJudged : LinkGraph → List ℕ → Option AnalyseFault → Type 0
+GroupJudged g q answer = Step (HasNode g) NoNodes (Step (IsGroup g q) BadGroup Passed) answer
+
+-- the fault is the first refusal that applies, or out of memory where no refusal applies
 abbrev pub IsRefusal : LinkGraph → List ℕ → AnalyseFault → Type 0
-IsRefusal g q NoNodes = ¬ HasNode g
-IsRefusal g q BadGroup = HasNode g × ¬ IsGroup g q
-IsRefusal g q OutOfMemory = HasNode g × IsGroup g q
+IsRefusal g q fault = IsRefusedBy OutOfMemory (GroupJudged g q) fault

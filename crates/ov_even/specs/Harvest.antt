@@ -1,10 +1,11 @@
--- What workers brought in: settled pieces in hauls, and when they suffice for an answer.
+-- The pieces that several workers have settled, and when these suffice for a certificate. A haul is the list of pieces
+-- that one worker has settled.
 use Rattle.std.specs.Prelude.{◌≡◌, ◌⊎◌, ℕ, ◌+◌, ◌≤◌, List}
 use Rattle.ov_ids.specs.Members.{Has}
 use Rattle.ov_graph.specs.Links.{LinkGraph, AreAllLinked}
 use Rattle.ov_fans.specs.Pieces.{IsPiece, IsLinkedPair, level_of}
 use Rattle.ov_fans.specs.Cuts.{IsRight}
-use Rattle.ov_fans.specs.Laws.{IsNoCut}
+use Rattle.ov_fans.specs.Theorems.{IsNoCut}
 use Rattle.ov_fans.specs.declared.piece.Piece.{Piece}
 use Rattle.ov_fans.specs.declared.settled.Settled.{Settled}
 use Rattle.ov_even.specs.Order.{ComesBefore}
@@ -14,21 +15,22 @@ use Rattle.ov_even.specs.declared.haul.Haul.{Haul}
 abbrev pub IsIn : List Haul → Settled → Type 0
 IsIn hauls s = (haul : Haul) × Has hauls haul × Has haul.pieces.items s
 
--- all that is in the hauls is settled right for the graph and the group
+-- every settled piece in the hauls has a right result for the graph and the group
 abbrev pub AreRight : LinkGraph → List ℕ → List Haul → Type 0
 AreRight g q hauls = (s : Settled) → IsIn hauls s → IsPiece g q s.piece × IsRight g q s
 
--- the piece is settled in the hauls, without a cut; of a linked pair nothing need be there
+-- the piece is cleared: it is a linked pair, or the hauls have it without a cut
 abbrev pub IsCleared : LinkGraph → List ℕ → List Haul → Piece → Type 0
 IsCleared g q hauls r = IsLinkedPair g q r ⊎ ((t : Settled) × IsIn hauls t × (t.piece ≡ r) × IsNoCut t.found)
 
--- a piece that came to a cut decides: each piece before it, of its own level or of the one below, is cleared
+-- a piece with a cut decides: every piece before it is cleared, of its own level and of the level below. Lower levels
+-- need not be cleared, since their pieces are then good as well
 pub record Decides (g : LinkGraph) (q : List ℕ) (hauls : List Haul) (s : Settled) : Type 0 where
   pub there : IsIn hauls s
   pub cut : ¬ IsNoCut s.found
   pub before : (r : Piece) → IsPiece g q r → ComesBefore r s.piece → level_of s.piece ≤ level_of r + 1
       → IsCleared g q hauls r
 
--- the hauls suffice for an answer: every two members are linked, or a piece in them decides
+-- the hauls suffice for a certificate: all results are right, and every two members are linked or some piece decides
 abbrev pub Suffice : LinkGraph → List ℕ → List Haul → Type 0
 Suffice g q hauls = AreRight g q hauls × (AreAllLinked g q ⊎ ((s : Settled) × Decides g q hauls s))

@@ -3,5 +3,5 @@ pub mod First
 pub mod Answer
 pub mod Harvest
 pub mod Faults
-pub mod Laws
+pub mod Theorems
 pub mod Code

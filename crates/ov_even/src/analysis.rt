@@ -1,7 +1,7 @@
 //! The analysis of a graph and a group by one worker.
 ghost use Rattle.std.specs.Prelude.{◌≡◌, IfOk, IfErr};
 ghost use Rattle.ov_graph.specs.Links.{IsGroup, AreAllLinked};
-ghost use Rattle.ov_cert.specs.Laws.{IsTrueForGroup};
+ghost use Rattle.ov_cert.specs.Theorems.{IsTrueForGroup};
 ghost use Rattle.ov_even.specs.Answer.{IsAnswer};
 ghost use Rattle.ov_even.specs.Faults.{IsRefusal};
 ghost use Rattle.ov_even.specs.Harvest.{Suffice};
@@ -16,7 +16,7 @@ use ov_graph::Graph;
 use ov_ids::{NodeId, OutOfMemory};
 use std::alloc::Global;
 
-/// Analyses a graph for the group of all nodes: as `analyse_group_watched`, which says more, with nobody watching.
+/// Analyses a graph for the group of all nodes, without a watcher. See `analyse_group_watched`.
 pub fn analyse_alone(alloc: Global, graph: &Graph) -> Result<Checked, AnalyseFault>
     ensures graph { IfOk result (λ c. c.graph ≡ graph.now) }
     ensures members { IfOk result (λ c. c.members ≡ graph.now.nodes) }
@@ -27,7 +27,7 @@ pub fn analyse_alone(alloc: Global, graph: &Graph) -> Result<Checked, AnalyseFau
     analyse_group_alone(alloc, graph, graph.nodes())
 }
 
-/// Analyses a graph for a group: as `analyse_group_watched`, which says more, with nobody watching.
+/// Analyses a graph for a group, without a watcher. See `analyse_group_watched`.
 pub fn analyse_group_alone(
     alloc: Global,
     graph: &Graph,
@@ -42,8 +42,9 @@ pub fn analyse_group_alone(
     analyse_group_watched(alloc, graph, group, &mut Unwatched)
 }
 
-/// Finds the fewest node crashes that split a group, with the certificate that proves them (Even, SIAM J. Comput. 4,
-/// 1975). A graph without nodes is refused first (30), then what is no group (34).
+/// Finds the fewest node crashes that split a group, and a certificate that proves the number (Even, SIAM J. Comput. 4,
+/// 1975). The watcher is told of each piece before it is settled. Faults, in this order: NoNodes (30), the graph has no
+/// node; BadGroup (34), the members are no group. OutOfMemory (99) is returned only where neither applies.
 pub fn analyse_group_watched<W: Watcher>(
     alloc: Global,
     graph: &Graph,
@@ -66,7 +67,7 @@ pub fn analyse_group_watched<W: Watcher>(
     assemble_group(alloc, graph, group, &hauls)
 }
 
-/// Settles as many pieces as suffice for an answer: none where every two members are linked.
+/// Settles enough pieces for a certificate: none if every two members are linked.
 fn enough<W: Watcher>(
     alloc: Global,
     graph: &Graph,

@@ -1,8 +1,8 @@
-//! The certificate is put together of what workers brought in.
+//! Makes a certificate from the pieces that several workers have settled.
 ghost use Rattle.std.specs.Prelude.{◌≡◌, ◌+◌, ◌<◌, length, IfOk, IfErr};
 ghost use Rattle.ov_graph.specs.Links.{IsGraph, IsGroup, AreAllLinked};
 ghost use Rattle.ov_cert.specs.Valid.{IsValidForGroup, HavePaths, HaveFans};
-ghost use Rattle.ov_cert.specs.Laws.{IsTrueForGroup};
+ghost use Rattle.ov_cert.specs.Theorems.{IsTrueForGroup};
 ghost use Rattle.ov_even.specs.Answer.{IsAnswer, NamesParting};
 ghost use Rattle.ov_even.specs.Faults.{HasNode, IsRefusal};
 ghost use Rattle.ov_even.specs.Harvest.{AreRight, Suffice};
@@ -21,8 +21,7 @@ use ov_graph::Graph;
 use ov_ids::{NodeId, OutOfMemory, Seq};
 use std::alloc::Global;
 
-/// Makes the certificate of what workers brought in, for the group of all nodes: as `assemble_group`, which says more.
-/// A graph without nodes is refused (30).
+/// Makes the certificate for the group of all nodes. See `assemble_group`. A graph without nodes is refused (30).
 pub fn assemble(alloc: Global, graph: &Graph, hauls: &[Haul]) -> Result<Checked, AnalyseFault>
     requires { HasNode graph.now → Suffice graph.now graph.now.nodes hauls.now }
     ensures graph { IfOk result (λ c. c.graph ≡ graph.now) }
@@ -37,9 +36,9 @@ pub fn assemble(alloc: Global, graph: &Graph, hauls: &[Haul]) -> Result<Checked,
     assemble_group(alloc, graph, graph.nodes(), hauls)
 }
 
-/// Makes the certificate of what workers brought in, in whatever order: where two members are not linked, it names the
-/// cut of the first piece in the order of pieces that came to one, and has the paths of the level below (Even, SIAM J.
-/// Comput. 4, 1975).
+/// Makes the certificate from the hauls of all workers, in any order. If two members are not linked, it names the cut
+/// of the first piece with a cut, and has the paths of the level below (Even, SIAM J. Comput. 4, 1975). Faults: out of
+/// memory (99).
 pub fn assemble_group(
     alloc: Global,
     graph: &Graph,
@@ -59,7 +58,7 @@ pub fn assemble_group(
     Ok(Checked::of_valid(graph, group, cert))
 }
 
-/// A graph and a group that equal these.
+/// Copies of the graph and the group.
 fn copies(
     alloc: Global,
     graph: &Graph,
@@ -95,7 +94,7 @@ fn cert_of(
     }
 }
 
-/// The certificate that names the cut of the piece that decides.
+/// The certificate that names the cut of the deciding piece.
 fn split_cert(
     alloc: Global,
     graph: &Graph,
@@ -119,7 +118,7 @@ fn split_cert(
     Ok(Cert::Split(split_of(alloc, k as u32, parting, entries)?))
 }
 
-/// The certificate's parts: its number, what parts the piece that decides, and the entries.
+/// The parts of a split: its number, the parting of the deciding piece, and the entries.
 fn split_of(
     alloc: Global,
     k: u32,
@@ -145,21 +144,21 @@ fn split_of(
     })
 }
 
-/// A list of the same ids.
+/// A copy of the list.
 fn copy_of(alloc: Global, ids: &[NodeId]) -> Result<Seq<NodeId>, OutOfMemory>
     ensures { IfOk result (λ copy. copy ≡ ids.now) }
 {
     Ok(Seq::new(Vec::from_slice(alloc, ids)?))
 }
 
-/// The entries of a certificate, of pairs and of fans.
+/// The entries of a certificate, for pairs and for fans.
 #[derive(Drop)]
 struct Entries {
     pairs: Vec<PairPaths>,
     fans: Vec<FanPaths>,
 }
 
-/// The entries of a certificate that proves `k`, which are the pieces of level `k`; none where `k` is 0.
+/// The entries of a certificate with number `k`: the paths of the pieces of level `k`. None if `k` is 0.
 fn entries_at(
     alloc: Global,
     graph: &Graph,

@@ -1,7 +1,7 @@
-//! The piece that decides, of those that workers settled.
+//! The deciding piece among those that workers have settled.
 ghost use Rattle.std.specs.Prelude.{◌↔◌, IsTrue, List, ◌++◌};
 ghost use Rattle.std.specs.Option.{option_copied};
-ghost use Rattle.ov_fans.specs.Laws.{IsNoCut};
+ghost use Rattle.ov_fans.specs.Theorems.{IsNoCut};
 ghost use Rattle.ov_fans.specs.declared.settled.Settled.{Settled as settled};
 ghost use Rattle.ov_even.specs.Code.Cuts.{IsEarlierCut, IsFirstCut, all_settled};
 
@@ -9,7 +9,7 @@ use crate::haul::Haul;
 use crate::order::comes_before;
 use ov_fans::{Found, Settled};
 
-/// The first in order of the settled pieces that came to a cut; none where none did.
+/// The first settled piece, in the order of pieces, that has a cut. None if none has one.
 pub(crate) fn first_cut(hauls: &[Haul]) -> Option<&Settled>
     ensures { IsFirstCut (all_settled hauls.now) (option_copied result) }
 {
@@ -20,7 +20,7 @@ pub(crate) fn first_cut(hauls: &[Haul]) -> Option<&Settled>
     first
 }
 
-/// The same of these pieces, and of those among which the first is known already.
+/// The first piece with a cut, among these pieces and the first one known so far.
 fn earlier_cut<'a>(pieces: &'a [Settled], known: Option<&'a Settled>) -> Option<&'a Settled>
     ensures { (seen : List settled) → IsFirstCut seen (option_copied known.entry)
         → IsFirstCut (seen ++ pieces.now) (option_copied result) }
@@ -34,7 +34,7 @@ fn earlier_cut<'a>(pieces: &'a [Settled], known: Option<&'a Settled>) -> Option<
     first
 }
 
-/// Whether a piece came to a cut and comes before the first that is known to have.
+/// Whether a piece has a cut and comes before the first known piece with a cut.
 fn is_earlier_cut(settled: &Settled, first: Option<&Settled>) -> bool
     ensures { IsTrue result ↔ IsEarlierCut settled.now (option_copied first.entry) }
 {
@@ -47,7 +47,7 @@ fn is_earlier_cut(settled: &Settled, first: Option<&Settled>) -> bool
     }
 }
 
-/// Whether a piece came to a cut.
+/// Whether a piece was settled with a cut.
 fn is_cut(settled: &Settled) -> bool
     ensures { IsTrue result ↔ (¬ IsNoCut settled.now.found) }
 {

@@ -1,4 +1,4 @@
-//! The entries of a certificate: the paths of the pieces of a level, by ids.
+//! The entries of a certificate: the paths of the pieces of a level, with nodes named by ids.
 ghost use Rattle.std.specs.Prelude.{◌≡◌, ◌<◌, ◌≤◌, length, map, IfOk};
 ghost use Rattle.std.specs.Option.{option_copied};
 ghost use Rattle.ov_graph.specs.Links.{IsGraph, IsGroup};
@@ -14,7 +14,7 @@ use ov_graph::Graph;
 use ov_ids::{NodeId, OutOfMemory};
 use std::alloc::Global;
 
-/// The entries of the level's pairs that are not linked.
+/// The entries of the unlinked pairs of the level.
 pub(crate) fn pair_entries(
     alloc: Global,
     graph: &Graph,
@@ -44,7 +44,7 @@ pub(crate) fn pair_entries(
     Ok(entries)
 }
 
-/// The entries of the level's fans.
+/// The entries of the fans of the level.
 pub(crate) fn fan_entries(
     alloc: Global,
     graph: &Graph,
@@ -80,7 +80,7 @@ fn member(group: &[NodeId], place: u16) -> NodeId
     group[place as usize - 1]
 }
 
-/// The paths of a piece, by ids.
+/// The paths of a piece, with nodes named by ids.
 fn paths_in_slot(
     alloc: Global,
     graph: &Graph,

@@ -4,22 +4,22 @@ ghost use Rattle.ov_even.specs.declared.fault.AnalyseFault.TheVariants.{OutOfMem
 
 use thiserror::Error;
 
-/// Why an analysis refuses.
+/// Why an analysis is refused.
 #[derive(Clone, Copy, Debug, PartialEq, Eq, Error)]
 pub enum AnalyseFault {
     /// The graph has no node.
     #[error("the graph has no node")]
     NoNodes,
-    /// The ids are no group: one or more nodes of the graph, ascending.
+    /// The members are no group: they are empty, do not ascend, or are not all nodes of the graph.
     #[error("the ids are no group of nodes of the graph")]
     BadGroup,
-    /// An allocation was refused.
+    /// Out of memory.
     #[error("out of memory")]
     OutOfMemory,
 }
 
 impl AnalyseFault {
-    /// The fault's number: 30, 34, or 99 where it is out of memory.
+    /// The fault's number: 30, 34, or 99 for out of memory.
     pub fn number(&self) -> u32
         ensures { result ≡ number_of self.now }
     {

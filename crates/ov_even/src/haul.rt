@@ -1,6 +1,6 @@
 use ov_fans::Settled;
 
-/// What one worker brings in: the pieces that it has settled.
+/// The pieces that one worker has settled.
 #[derive(Drop)]
 pub struct Haul {
     pub pieces: Vec<Settled>,

@@ -1,5 +1,6 @@
-//! The search for the level of the piece that decides. An answer needs that level and the one below it alone. Other
-//! levels are tried to come near it: by doubling at first, and then not far above the size of a cut that was found.
+//! The search for the level of the deciding piece. A certificate needs only that level and the one below it. Other
+//! levels are tried only to find it: levels are doubled first, and the size of a cut that was found then guides the
+//! search.
 ghost use Rattle.std.specs.Prelude.{◌≡◌, ◌<◌, ◌≤◌, ◌+◌, ◌⊎◌, [], ◌∷◌, length, IfOk};
 ghost use Rattle.ov_graph.specs.Links.{IsGraph, IsWithinLimit, IsGroup, AreAllLinked, most_nodes};
 ghost use Rattle.ov_even.specs.Harvest.{Suffice};
@@ -12,8 +13,8 @@ use ov_graph::Graph;
 use ov_ids::{NodeId, OutOfMemory};
 use std::alloc::Global;
 
-/// How far the search has come: level `low` is cleared by what is kept, and the level that decides is believed to be at
-/// most `high`.
+/// The state of the search: level `low` is cleared by the kept pieces, and the deciding level is guessed to be at most
+/// `high`.
 #[derive(Drop)]
 struct Progress {
     low: usize,
@@ -21,7 +22,7 @@ struct Progress {
     kept: Vec<Settled>,
 }
 
-/// Settles pieces until they suffice for an answer, where two members are not linked.
+/// Settles pieces until they suffice for a certificate. Two members must not be linked.
 pub(crate) fn search<W: Watcher>(
     alloc: Global,
     graph: &Graph,
@@ -53,7 +54,7 @@ pub(crate) fn search<W: Watcher>(
     }
 }
 
-/// The level to try next: the one above `low` where only it is left, and else about twice as high as `low`.
+/// The level to try next: `high` if it is just above `low`, otherwise about twice `low`, but below `high`.
 fn next_level(low: usize, high: usize) -> usize
     requires rises { low < high }
     requires fits { high < most_nodes }
@@ -67,7 +68,7 @@ fn next_level(low: usize, high: usize) -> usize
     (high - 1).min((2 * low).max(1))
 }
 
-/// The least number of nodes that a member is linked to, and one more, but below the number of nodes.
+/// The first guess of the deciding level: one more than the least degree of a member, and below the number of nodes.
 fn first_guess(graph: &Graph, group: &[NodeId]) -> usize
     requires group { IsGroup graph.now group.now }
     requires nodes { 2 ≤ length graph.now.nodes }
@@ -83,7 +84,7 @@ fn first_guess(graph: &Graph, group: &[NodeId]) -> usize
     least + 1
 }
 
-/// What the search knows once a level is cleared by these pieces.
+/// The state of the search after these pieces have cleared a level.
 fn cleared(high: usize, level: usize, pieces: Vec<Settled>) -> Progress
     requires { level ≤ 1023 }
     ensures low { result.low ≡ level }

@@ -1,4 +1,4 @@
-//! The pieces of one level: each in its order, how many there are, and the place of each.
+//! The pieces of one level: in their order, their number, and the place of each.
 ghost use Rattle.std.specs.Prelude.{◌≡◌, ◌<◌, ◌≤◌, ◌^◌, ℕ, length, slice_get, Some};
 ghost use Rattle.std.specs.Iterator.{YieldsFirst, item_count};
 ghost use Rattle.ov_graph.specs.Links.{most_nodes};
@@ -9,12 +9,12 @@ ghost use Rattle.ov_even.specs.Code.Levels.{pieces_of_level, pairs_among, IsPair
 use ov_fans::Piece;
 use std::marker::Model;
 
-/// The pieces of one level, in order. Contracts see those that are still to come.
+/// The pieces of one level, in order. Contracts see the pieces still to come.
 #[derive(Drop)]
 pub(crate) struct LevelPieces {
     members: u16,
     level: u16,
-    /// The first member of the next piece, where that is a pair.
+    /// The first member of the next piece, if that is a pair.
     i: u16,
     /// The last member of the next piece.
     j: u16,
@@ -33,7 +33,7 @@ impl Model for LevelPieces {
 }
 
 impl LevelPieces {
-    /// All of them, for a group of `m` members.
+    /// All pieces of a level, for a group of `m` members.
     pub(crate) fn new(m: usize, level: usize) -> LevelPieces
         requires low { 1 ≤ level }
         requires high { level < most_nodes }
@@ -75,7 +75,7 @@ impl Iterator for LevelPieces {
     }
 }
 
-/// How many pairs there are among so many members.
+/// The number of pairs among this many members.
 pub(crate) fn pair_count(members: usize) -> usize
     requires { members < 2 ^ 16 }
     ensures count { result ≡ pairs_among members }
@@ -84,7 +84,7 @@ pub(crate) fn pair_count(members: usize) -> usize
     members * members.saturating_sub(1) / 2
 }
 
-/// How many pieces a level has, for a group of `m` members.
+/// The number of pieces of a level, for a group of `m` members.
 pub(crate) fn level_size(m: usize, level: usize) -> usize
     requires members { m ≤ most_nodes }
     ensures { result ≡ length (pieces_of_level m level) }
@@ -108,7 +108,7 @@ pub(crate) fn place_in_level(m: usize, piece: Piece) -> usize
     }
 }
 
-/// The piece at a place of a level, counted from 0.
+/// The piece at a place in a level, counted from 0.
 pub(crate) fn piece_in_level(m: usize, level: usize, place: usize) -> Piece
     requires high { level < most_nodes }
     requires members { m ≤ most_nodes }
@@ -126,7 +126,7 @@ pub(crate) fn piece_in_level(m: usize, level: usize, place: usize) -> Piece
     }
 }
 
-/// The pair of a level at a place, counted from 0.
+/// The pair at a place in a level, counted from 0.
 fn pair_at(level: u16, place: usize) -> Piece
     requires high { level < most_nodes }
     requires below { place < pairs_among level }

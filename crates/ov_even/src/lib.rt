@@ -1,5 +1,5 @@
-//! Even's test of a graph and a group: its pieces in order, the first that fails, and the certificate made of what the
-//! pieces came to.
+//! Even's test of a graph and a group: its pieces in order, the first that is not good, and the certificate that
+//! follows.
 #![tactic(auto)]
 
 mod analysis;
@@ -8,12 +8,12 @@ mod cuts;
 mod entries;
 mod fault;
 mod haul;
-mod laws;
 mod level_search;
 mod levels;
 mod numbers;
 mod order;
 mod slots;
+mod theorems;
 mod trying;
 mod watcher;
 
@@ -21,7 +21,7 @@ pub use analysis::{analyse_alone, analyse_group_alone, analyse_group_watched};
 pub use assembly::{assemble, assemble_group};
 pub use fault::AnalyseFault;
 pub use haul::Haul;
-pub use laws::{first_exists, first_gives_number, good_or_cut, one_answer, one_first};
 pub use numbers::{group_piece_at, group_total, piece_at, total};
 pub use ov_fans::Piece;
+pub use theorems::{first_exists, first_gives_number, good_or_cut, one_answer, one_first};
 pub use watcher::Watcher;

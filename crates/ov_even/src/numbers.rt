@@ -1,4 +1,4 @@
-//! The numbers of pieces: how many there are, and which piece has a number.
+//! The numbers of pieces: how many pieces there are, and which piece has a given number.
 ghost use Rattle.std.specs.Prelude.{◌≡◌, ◌<◌, ◌≤◌, ◌+◌, ◌-◌, ◌*◌, ◌^◌};
 ghost use Rattle.ov_graph.specs.Links.{most_nodes};
 ghost use Rattle.ov_even.specs.Order.{IsNumbered, AreSoMany};
@@ -7,8 +7,7 @@ ghost use Rattle.ov_even.specs.Order.{AreMoreThan};
 use crate::levels::{level_size, pair_count, piece_in_level};
 use ov_fans::Piece;
 
-/// How many pieces there are for a graph of `nodes` nodes and a group of `members` members (Even, SIAM J. Comput. 4,
-/// 1975).
+/// The number of pieces for a graph of `nodes` nodes and a group of `members` members (Even, SIAM J. Comput. 4, 1975).
 pub fn group_total(nodes: usize, members: usize) -> u64
     requires nodes { nodes ≤ most_nodes }
     requires members { members ≤ nodes }
@@ -39,7 +38,7 @@ pub fn group_piece_at(nodes: usize, members: usize, number: u64) -> Piece
     piece_in_level(members, level, left)
 }
 
-/// How many pieces there are for a graph of `nodes` nodes and the group of all of them.
+/// The number of pieces for a graph of `nodes` nodes and the group of all nodes.
 pub fn total(nodes: usize) -> u64
     requires { nodes ≤ most_nodes }
     ensures count { AreSoMany nodes nodes result }
@@ -49,7 +48,7 @@ pub fn total(nodes: usize) -> u64
     group_total(nodes, nodes)
 }
 
-/// The piece with this number, counted from 0, for a graph of `nodes` nodes and the group of all of them.
+/// The piece with this number, counted from 0, for a graph of `nodes` nodes and the group of all nodes.
 pub fn piece_at(nodes: usize, number: u64) -> Piece
     requires nodes { nodes ≤ most_nodes }
     requires below { AreMoreThan nodes nodes number }

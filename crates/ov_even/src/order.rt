@@ -14,7 +14,7 @@ pub(crate) fn comes_before(p: Piece, r: Piece) -> bool
     precedes_in_level(p, r)
 }
 
-/// The same for two pieces of one level.
+/// Whether a piece comes before another of the same level.
 fn precedes_in_level(p: Piece, r: Piece) -> bool
     ensures { IsTrue result ↔ PrecedesInLevel p r }
 {

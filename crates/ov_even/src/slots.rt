@@ -1,4 +1,4 @@
-//! The paths of a level's pieces, each at the place of its piece in the level.
+//! The paths of the pieces of a level, each stored at the place of its piece.
 ghost use Rattle.std.specs.Prelude.{◌≡◌, ◌<◌, ◌≤◌, ℕ, List, ◌++◌, [], map, length, IfOk, IfSome, IfNone};
 ghost use Rattle.std.specs.Option.{option_copied};
 ghost use Rattle.ov_ids.specs.Members.{Has};
@@ -17,7 +17,7 @@ use ov_flow::PlacePaths;
 use ov_ids::OutOfMemory;
 use std::alloc::Global;
 
-/// The paths of the level's pieces in the hauls, by their places.
+/// The paths that the hauls have for the pieces of the level, by place.
 pub(crate) fn slots_of<'a>(
     alloc: Global,
     members: usize,
@@ -36,7 +36,7 @@ pub(crate) fn slots_of<'a>(
     Ok(slots)
 }
 
-/// Puts the paths of those of the pieces that are of the level into their slots.
+/// Stores the paths of those pieces that belong to the level.
 fn fill<'a>(
     members: usize,
     level: usize,

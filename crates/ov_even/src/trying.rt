@@ -1,8 +1,8 @@
-//! A level is tried: its pieces are settled in order, until one comes to a cut.
+//! Tries a level: settles its pieces in order, until one has a cut.
 ghost use Rattle.std.specs.Prelude.{◌≡◌, ◌↔◌, ◌<◌, ◌≤◌, ℕ, List, length, IsTrue, IfOk, IfSome, IfNone};
 ghost use Rattle.ov_graph.specs.Links.{most_nodes};
 ghost use Rattle.ov_fans.specs.Pieces.{IsLinkedPair};
-ghost use Rattle.ov_fans.specs.Laws.{IsNoCut};
+ghost use Rattle.ov_fans.specs.Theorems.{IsNoCut};
 ghost use Rattle.ov_fans.specs.declared.settled.Found.TheVariants.{Linked as linked_found};
 ghost use Rattle.ov_even.specs.Code.Trying.{AreSettledRight, IsTried};
 
@@ -12,15 +12,15 @@ use ov_fans::{Found, Settled, Settler};
 use ov_ids::OutOfMemory;
 use std::alloc::Global;
 
-/// What a level came to: the pieces of it that were settled, without linked pairs; and the number of nodes of the cut
-/// to which the last of them came, if it did.
+/// The outcome of a tried level: its settled pieces, without linked pairs, and the size of the cut of the last one, if
+/// it has a cut.
 #[derive(Drop)]
 pub(crate) struct Tried {
     pub(crate) pieces: Vec<Settled>,
     pub(crate) cut: Option<usize>,
 }
 
-/// Tries a level for a group of so many members.
+/// Tries a level, for a group of `members` members. Faults: out of memory.
 pub(crate) fn try_level<W: Watcher>(
     alloc: Global,
     settler: &mut Settler<'_>,
@@ -64,7 +64,7 @@ fn is_linked(settled: &Settled) -> bool
     }
 }
 
-/// How many nodes the cut has to which a piece came; none where it came to no cut.
+/// The size of the cut of a piece, if it has one.
 fn cut_size(settled: &Settled) -> Option<usize>
     ensures some { IfSome result (λ size. ¬ IsNoCut settled.now.found) }
     ensures none { IfNone result (IsNoCut settled.now.found) }

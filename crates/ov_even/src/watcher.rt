@@ -1,11 +1,11 @@
-/// Is told how far an analysis has come.
+/// Is told of the progress of an analysis.
 pub trait Watcher {
-    /// A piece is about to be settled: the level that is tried, the place of the piece in it, counted from 0, and how
-    /// many pieces the level has.
+    /// A piece is about to be settled. `level` is the level being tried, `place` the place of the piece in it, counted
+    /// from 0, and `size` the number of pieces of the level.
     fn sees(&mut self, level: usize, place: usize, size: usize);
 }
 
-/// Watches nothing.
+/// A watcher that does nothing.
 #[derive(Drop)]
 pub(crate) struct Unwatched;
 

@@ -1,14 +1,3 @@
-pub mod Ranks
-pub mod Routes
-pub mod Fronts
-pub mod Parted
-pub mod Refuted
-pub mod Only
-pub mod Decided
-pub mod Aimed
-pub mod Lower
-pub mod Outside
-pub mod Listing
-pub mod Settling
-pub mod Seated
-pub mod Ended
+pub mod PieceNets
+pub mod PieceCuts
+pub mod RowScans

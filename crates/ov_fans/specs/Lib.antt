@@ -1,5 +1,5 @@
 pub mod Group
 pub mod Pieces
 pub mod Cuts
-pub mod Laws
+pub mod Theorems
 pub mod Code

@@ -9,7 +9,8 @@ use crate::members::Members;
 use crate::piece::Piece;
 use ov_graph::row::Row;
 
-/// Where the paths of a piece are sought, by places: from the source to the targets, off one node at most.
+/// The net of a piece, by places: its paths lead from the source to the targets, without the avoided node if there is
+/// one.
 #[derive(Drop)]
 pub(crate) struct Aim {
     pub(crate) avoided: Option<usize>,
@@ -28,7 +29,7 @@ pub(crate) fn is_linked_pair(members: &Members<'_>, piece: Piece) -> bool
     }
 }
 
-/// The aim for a piece whose members are not linked.
+/// The net of a piece that is no linked pair.
 pub(crate) fn aim_for(members: &Members<'_>, piece: Piece) -> Aim
     requires piece { IsPiece members.now.graph members.now.members piece }
     requires apart { ¬ IsLinkedPair members.now.graph members.now.members piece }
@@ -40,7 +41,7 @@ pub(crate) fn aim_for(members: &Members<'_>, piece: Piece) -> Aim
     }
 }
 
-/// From the member at `i` to the nodes that the one at `j` is linked to, off that one.
+/// The net of a pair: from the member at `i` to the neighbours of the member at `j`, which is avoided.
 fn pair_aim(members: &Members<'_>, i: u16, j: u16) -> Aim
     requires low { 1 ≤ i }
     requires less { i < j }
@@ -56,7 +57,7 @@ fn pair_aim(members: &Members<'_>, i: u16, j: u16) -> Aim
     }
 }
 
-/// From the member at `j` to those before it.
+/// The net of a fan: from the member at `j` to the members before it.
 fn fan_aim(members: &Members<'_>, j: u16) -> Aim
     requires low { 1 ≤ j }
     requires high { j ≤ length members.now.members }

@@ -1,4 +1,4 @@
-//! Rows of bits that are cut off, and the nodes whose bits are set.
+//! The lower bits of a row, and the nodes whose bits are set.
 ghost use Rattle.std.specs.Prelude.{◌≡◌, ◌↔◌, ℕ, ◌<◌, ◌≤◌, ◌*◌, IfOk};
 ghost use Rattle.std.specs.Int.{bit_at};
 ghost use Rattle.ov_graph.specs.Row.{HasBit};
@@ -51,8 +51,8 @@ pub(crate) fn nodes_of_row(
     Ok(found)
 }
 
-/// How many bits of the first `words` words are set, for room to be made: the contract says only that they are not more
-/// than the places.
+/// How many bits of the first `words` words are set, by which room is allocated. The contract needs only the upper
+/// bound.
 fn bits_in(row: &[u64; WORDS], words: usize) -> usize
     requires { words ≤ WORDS }
     ensures { result ≤ 64 * words }

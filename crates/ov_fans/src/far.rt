@@ -12,7 +12,7 @@ use ov_graph::Graph;
 use ov_graph::row::{WORDS, first_from, without};
 use ov_ids::NodeId;
 
-/// The lowest target of a piece that is not in a cut of fewer nodes than its level.
+/// The lowest target of a piece that is not in a cut. The cut has fewer nodes than the level, so there is one.
 pub(crate) fn far_of(members: &Members<'_>, piece: Piece, cut: &[u64; WORDS]) -> NodeId
     requires piece { IsPiece members.now.graph members.now.members piece }
     requires cut { IsCut members.now.graph members.now.members piece (picked cut.now 0 members.now.graph.nodes) }
@@ -28,7 +28,7 @@ pub(crate) fn far_of(members: &Members<'_>, piece: Piece, cut: &[u64; WORDS]) ->
     }
 }
 
-/// The lowest node of a row that is not in another, where not all are.
+/// The lowest node of a row that is not in another row. There must be one.
 fn lowest_outside(graph: &Graph, row: &[u64; WORDS], other: &[u64; WORDS]) -> NodeId
     requires row { IsRowOf graph.now.nodes row.now }
     requires some { ¬ ((t : ℕ) → Has (picked row.now 0 graph.now.nodes) t

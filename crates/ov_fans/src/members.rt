@@ -2,8 +2,8 @@ ghost use Rattle.std.specs.Prelude.{◌≡◌, ◌↔◌, ◌<◌, ◌≤◌, �
 ghost use Rattle.ov_ids.specs.Members.{Has};
 ghost use Rattle.ov_graph.specs.Links.{IsGraph, IsWithinLimit, Linked, IsGroup};
 ghost use Rattle.ov_graph.specs.Paths.{node_at};
+ghost use Rattle.ov_flow.specs.Flow.{AreBitsOf};
 ghost use Rattle.ov_fans.specs.Pieces.{member_at};
-ghost use Rattle.ov_fans.specs.Code.Kept.{IsRowOfGroup};
 
 use ov_graph::Graph;
 use ov_graph::row::{EMPTY, Row, WORDS, put};
@@ -11,7 +11,7 @@ use ov_ids::{NodeId, OutOfMemory};
 use std::alloc::Global;
 use std::marker::Model;
 
-/// The members of a group by their places in a graph, which are looked up once. Contracts see the graph and the
+/// The members of a group, by their places in a graph. The places are looked up once. Contracts see the graph and the
 /// members.
 #[derive(Drop)]
 pub(crate) struct Members<'g> {
@@ -62,9 +62,9 @@ impl<'g> Members<'g> {
         self.graph
     }
 
-    /// The row of the members.
+    /// The row of the places of the members.
     pub(crate) fn row(&self) -> &[u64; WORDS]
-        ensures row { IsRowOfGroup self.now.graph self.now.members result.now }
+        ensures row { AreBitsOf self.now.graph result.now self.now.members }
         ensures is_graph { IsGraph self.now.graph }
         ensures within { IsWithinLimit self.now.graph }
         ensures group { IsGroup self.now.graph self.now.members }
@@ -72,7 +72,7 @@ impl<'g> Members<'g> {
         &self.row
     }
 
-    /// The place in the graph of a member, which is named by its place in the group, counted from 1.
+    /// The place of a member in the graph. The member is named by its place in the group, counted from 1.
     pub(crate) fn seat(&self, i: u16) -> usize
         requires low { 1 ≤ i }
         requires high { i ≤ length self.now.members }
@@ -83,7 +83,7 @@ impl<'g> Members<'g> {
         self.places[i as usize - 1] as usize
     }
 
-    /// Whether two members are linked, which are named by their places in the group, counted from 1.
+    /// Whether two members are linked. They are named by their places in the group, counted from 1.
     pub(crate) fn linked(&self, i: u16, j: u16) -> bool
         requires low { 1 ≤ i }
         requires high { i ≤ length self.now.members }
@@ -94,7 +94,7 @@ impl<'g> Members<'g> {
         self.graph.linked_at(self.seat(i), self.seat(j))
     }
 
-    /// A member, by its place in the group, counted from 1.
+    /// The member at a place in the group, counted from 1.
     pub(crate) fn member(&self, i: u16) -> NodeId
         requires low { 1 ≤ i }
         requires high { i ≤ length self.now.members }
@@ -104,7 +104,7 @@ impl<'g> Members<'g> {
     }
 }
 
-/// The place of a node.
+/// The place of a node in the graph.
 fn place_among(graph: &Graph, a: NodeId) -> usize
     requires { Has graph.now.nodes a }
     ensures below { result < length graph.now.nodes }

@@ -1,18 +1,19 @@
 ghost use Rattle.std.specs.Prelude.{◌≡◌};
 ghost use Rattle.ov_fans.specs.Pieces.{level_of, source_place};
 
-/// A piece of Even's test for a group at a level: what it asks is `level` paths. Places are those of members in the
-/// group, counted from 1.
+/// A piece of Even's test for a group (Even, SIAM J. Comput. 4, 1975). It asks for `level` paths. Members are named by
+/// their places in the group, counted from 1.
 #[derive(Clone, Copy, Debug, PartialEq, Eq)]
 pub enum Piece {
-    /// Paths between the members at two places, `i` below `j` and `j` at most `level`, where they are not linked.
+    /// Paths between the members at places `i` and `j`, unless they are linked. `i` is below `j`, and `j` at most
+    /// `level`.
     Pair { level: u16, i: u16, j: u16 },
-    /// A fan of the member at `j`, above `level`, to the members before it.
+    /// A fan from the member at place `j` to the members before it. `j` is above `level`.
     Fan { level: u16, j: u16 },
 }
 
 impl Piece {
-    /// How many paths it asks for.
+    /// How many paths the piece asks for.
     pub fn level(&self) -> u16
         ensures { result ≡ level_of self.now }
     {
@@ -22,7 +23,7 @@ impl Piece {
         }
     }
 
-    /// The place in the group, counted from 1, of the member from which its paths lead.
+    /// The place in the group, counted from 1, of the member at which the paths begin.
     pub fn source(&self) -> u16
         ensures { result ≡ source_place self.now }
     {

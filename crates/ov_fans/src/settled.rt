@@ -2,31 +2,31 @@ use crate::piece::Piece;
 use ov_flow::PlacePaths;
 use ov_ids::NodeId;
 
-/// A cut of a piece, and what it parts: the piece's source, which is near, from a member that is far.
+/// The nearest least cut of a piece, and two members that it separates: the piece's source, `near`, and `far`.
 #[derive(Drop)]
 pub struct Parting {
     /// The nodes of the cut, ascending.
     pub cut: Vec<NodeId>,
     /// The member at the piece's source.
     pub near: NodeId,
-    /// Of a pair the other member; of a fan the lowest member before it that is not in the cut.
+    /// Of a pair the other member. Of a fan the lowest member before its source that is not in the cut.
     pub far: NodeId,
-    /// What is joined to `near` without the cut, ascending.
+    /// The nodes that are joined to `near` without the cut, ascending.
     pub side: Vec<NodeId>,
 }
 
-/// What a piece comes to.
+/// The result of a piece.
 #[derive(Drop)]
 pub enum Found {
-    /// The two members are linked, and nothing more is asked.
+    /// The piece is a pair of linked members, and asks for no paths.
     Linked,
     /// The paths that the piece asks for, each a list of places of nodes in the graph, counted from 0.
     Paths(PlacePaths),
-    /// The nearest of the least cuts.
+    /// The nearest least cut, with fewer nodes than the level.
     Cut(Box<Parting>),
 }
 
-/// A piece and what it comes to.
+/// A piece with its result.
 #[derive(Drop)]
 pub struct Settled {
     pub piece: Piece,

@@ -3,7 +3,7 @@ ghost use Rattle.ov_graph.specs.Links.{IsGraph, IsGroup};
 ghost use Rattle.ov_flow.specs.Flow.{IsFullBy};
 ghost use Rattle.ov_fans.specs.Pieces.{level_of, IsPiece, IsLinkedPair, IsGood};
 ghost use Rattle.ov_fans.specs.Cuts.{IsRight, IsFoundFor, IsParted};
-ghost use Rattle.ov_fans.specs.Laws.{IsNoCut};
+ghost use Rattle.ov_fans.specs.Theorems.{IsNoCut};
 ghost use Rattle.ov_fans.specs.Code.Nets.{net_of};
 
 use crate::aim::{aim_for, is_linked_pair};
@@ -20,8 +20,8 @@ use ov_split::SplitNet;
 use std::alloc::Global;
 use std::marker::Model;
 
-/// Settles pieces of a graph and a group, one after another, with room for the search that is made once. Contracts see
-/// the graph and the members.
+/// Settles pieces of a graph and a group, one after another. The buffers of the search are allocated once. Contracts
+/// see the graph and the members.
 #[derive(Drop)]
 pub struct Settler<'g> {
     members: Members<'g>,
@@ -41,7 +41,7 @@ impl<'g> Model for Settler<'g> {
 }
 
 impl<'g> Settler<'g> {
-    /// Makes the room for a graph and a group.
+    /// Allocates the buffers for a graph and a group.
     pub fn new(
         alloc: Global,
         graph: &'g Graph,
@@ -60,8 +60,9 @@ impl<'g> Settler<'g> {
         })
     }
 
-    /// Settles a piece: paths exactly where it is good, else the nearest of its least cuts, with fewer nodes than its
-    /// level (Menger, Fund. Math. 10, 1927). Out of memory is all that it refuses; graph and members stay.
+    /// Settles a piece. The result is a linked pair or paths where the piece is good, and else its nearest least cut,
+    /// with fewer nodes than its level (Menger, Fund. Math. 10, 1927). Out of memory is the only fault. Graph and
+    /// members stay.
     pub fn settle(&mut self, piece: Piece) -> Result<Settled, OutOfMemory>
         requires { IsPiece self.old.graph self.old.members piece }
         ensures piece { IfOk result (λ s. s.piece ≡ piece) }
@@ -79,7 +80,7 @@ impl<'g> Settler<'g> {
         Ok(Settled { piece, found })
     }
 
-    /// What a search comes to for a piece whose members are not linked.
+    /// The result of a search for a piece that is no linked pair.
     fn sought(&mut self, piece: Piece) -> Result<Found, OutOfMemory>
         requires piece { IsPiece self.old.graph self.old.members piece }
         requires apart { ¬ IsLinkedPair self.old.graph self.old.members piece }
@@ -100,7 +101,7 @@ impl<'g> Settler<'g> {
     }
 }
 
-/// Settles one piece for the group of all nodes: as `settle_group`, which says more.
+/// Settles one piece for the group of all nodes, as `settle_group` does.
 pub fn settle(alloc: Global, graph: &Graph, piece: Piece) -> Result<Settled, OutOfMemory>
     requires { IsPiece graph.now graph.now.nodes piece }
     ensures piece { IfOk result (λ s. s.piece ≡ piece) }
@@ -110,8 +111,9 @@ pub fn settle(alloc: Global, graph: &Graph, piece: Piece) -> Result<Settled, Out
     settle_group(alloc, graph, graph.nodes(), piece)
 }
 
-/// Settles one piece for a group: paths exactly where it is good, else the nearest of its least cuts. For many pieces a
-/// `Settler` makes the room once.
+/// Settles one piece for a group. The result is a linked pair or paths where the piece is good, and else its nearest
+/// least cut, with fewer nodes than its level (Menger, Fund. Math. 10, 1927). For many pieces a `Settler` allocates its
+/// buffers once. Out of memory is the only fault.
 pub fn settle_group(
     alloc: Global,
     graph: &Graph,
@@ -128,7 +130,7 @@ pub fn settle_group(
     settler.settle(piece)
 }
 
-/// The parting of a piece, from the rows of its nearest cut and of its side.
+/// The parting of a piece, from the rows of its nearest least cut and of its side.
 fn parting(
     alloc: Global,
     members: &Members<'_>,

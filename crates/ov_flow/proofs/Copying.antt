@@ -1,4 +1,4 @@
--- A table that keeps the paths alone.
+-- A table with the paths, and nothing else.
 use Rattle.std.proofs.Common.{◌≡◌, ◌≢◌, ◌∙◌, ◌⊎◌, ℕ, ◌+◌, ◌<◌, ◌≤◌, inl, inr, List, [], ◌∷◌, ◌++◌, length, Option}
 use Rattle.std.proofs.Common.{Some, None, refl, sym, ap, subst, arith}
 use Rattle.std.proofs.lemmas.Bool.{cases_eq}
@@ -8,13 +8,13 @@ use Rattle.ov_graph.specs.Joined.{Leads}
 use Rattle.ov_split.specs.Net.{Net, IsNet}
 use Rattle.ov_split.specs.Code.Residual.{Table, IsUsed, AreHeld, IsTidy, IsFlow}
 use Rattle.ov_split.specs.Placed.{IsPlaced}
-use Rattle.ov_split.proofs.Lists.{distinct_length, distinct_push}
-use Rattle.ov_split.proofs.Move.{leads_map}
-use Rattle.ov_split.proofs.Trace.{Arc, not_source, successor, used_node, predecessor, last_of, used_on}
+use Rattle.ov_split.proofs.Augmenting.Lists.{distinct_length, distinct_push}
+use Rattle.ov_split.proofs.Augmenting.Move.{leads_map}
+use Rattle.ov_split.proofs.Augmenting.Trace.{Arc, not_source, successor, suffix, used_node, predecessor, last_of, used_on}
 use Rattle.ov_flow.specs.Code.Walked.{table_of, IsTraced, IsCopied, IsPathCopied}
 use Rattle.ov_flow.proofs.Walking.{said_below}
 
--- on the way back along a path to e: x is come to, and c leads on from it
+-- a path to e, followed back as far as x: c leads from x to e
 pub record IsComing (n : Net) (from : Table) (e x : ℕ) (c : List ℕ) : Type 0 where
   pub leads : Leads (Arc from) x c e
   pub distinct : IsDistinct (x ∷ c)
@@ -81,7 +81,7 @@ coming_below n wide from e x c placed long g = elim g.next [
   | inr u ↦ said_below from x u.0 u.1
 ]
 
--- what of the path to e is copied
+-- the part of the path to e that is copied
 pub record IsCopying (n : Net) (from old next : Table) (e x step : ℕ) : Type 0 where
   pub c : List ℕ
   pub coming : IsComing n from e x c
@@ -124,15 +124,6 @@ pub copying_done : (n : Net) (from old next : Table) (e x step : ℕ) → IsCopy
 copying_done n from old next e x step g f =
     record { path = g.c; traced = coming_all n from e x g.c g.coming f; copied = g.copied }
 
--- the rest of a path after one of its nodes stays on the path
-tail_of : (from : Table) (x e v : ℕ) (c : List ℕ) → Leads (Arc from) x c e → Has c v
-    → (d : List ℕ) × Leads (Arc from) v d e × ((a : ℕ) → Has d a → Has c a)
-tail_of from x e v [] l h = absurd h
-tail_of from x e v (y ∷ c) l h = elim h [
-  | inl s ↦ (c, subst (λ (a : ℕ). Leads (Arc from) a c e) s l.1, λ a k. inr k)
-  | inr k ↦ let r = tail_of from y e v c l.1 k in (r.0, r.1, λ a m. inr (r.2 a m))
-]
-
 -- the paths to es, as `from` has them, and nothing else
 pub record IsCopy (n : Net) (from next : Table) (es : List ℕ) : Type 0 where
   pub same : (v u : ℕ) → next v ≡ Some u → from v ≡ Some u
@@ -148,7 +139,7 @@ copy_none n from next none = record {
   tidy = λ v u. let e = none v in absurd (cc (e, u.1));
 }
 
--- one path more
+-- one more path
 pub copy_more : (n : Net) (from next new : Table) (es : List ℕ) (e : ℕ) → e ≢ n.source → IsCopy n from next es
     → IsPathCopied n from next new e → IsCopy n from new (es ++ e ∷ [])
 copy_more n from next new es e apart copy p =
@@ -184,7 +175,7 @@ copy_more n from next new es e apart copy p =
       ];
       tidy = λ v u. elim (has_or_not path v) [
         | inl h ↦
-            let d = tail_of from n.source e v path l h in (
+            let d = suffix from n.source e v path l h in (
               e,
               has_append_right es (e ∷ []) e (inl refl),
               (d.0, leads_map {R = Arc from} {Q = Arc new} v e d.0 (λ a b m f. on b (d.2 b m) ∙ f) d.1),

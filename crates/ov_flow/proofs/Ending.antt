@@ -1,4 +1,4 @@
--- What a search leaves that found no more: the nearest least cut, and its side.
+-- A search that found no path leaves the nearest least cut and its side.
 use Rattle.std.proofs.Common.{◌≡◌, ◌∙◌, ◌↔◌, ℕ, zero, suc, ◌+◌, ◌*◌, ◌<◌, ◌≤◌, inl, inr, List, [], ◌∷◌}
 use Rattle.std.proofs.Common.{map, length, get_or, sym, subst, arith}
 use Rattle.std.proofs.lemmas.Bool.{cases_eq}
@@ -9,24 +9,24 @@ use Rattle.ov_graph.specs.Links.{LinkGraph, IsGraph}
 use Rattle.ov_graph.specs.Paths.{node_at}
 use Rattle.ov_graph.specs.Row.{HasBit}
 use Rattle.ov_graph.specs.Code.Kept.{picked}
-use Rattle.ov_graph.proofs.Bits.{bit_moved}
-use Rattle.ov_graph.proofs.Filtered.{linked_node}
-use Rattle.ov_graph.proofs.Read.{has_picked, in_picked, ascends_picked}
+use Rattle.ov_graph.proofs.BitRows.Bits.{bit_moved, AreWithout}
+use Rattle.ov_graph.proofs.EvenTest.Filtered.{linked_node}
+use Rattle.ov_graph.proofs.BitRows.Read.{has_picked, in_picked, ascends_picked}
 use Rattle.ov_split.specs.Net.{Net, IsNet, IsFanOf}
 use Rattle.ov_split.specs.Code.Residual.{Table, IsFlow, IsBoundary}
 use Rattle.ov_split.specs.Places.{places, net_by_place}
 use Rattle.ov_split.specs.Placed.{IsPlaced}
-use Rattle.ov_split.proofs.Mapped.{has_map, map_has, length_map, ordered_map}
-use Rattle.ov_split.proofs.ByPlace.{places_ascend, places_count, node_rises, fan_by_place, nearest_by_place}
-use Rattle.ov_split.proofs.ByPlace.{side_by_place}
-use Rattle.ov_split.proofs.Near.{boundary_is_nearest}
-use Rattle.ov_split.proofs.Prune.{flow_is_fan}
-use Rattle.ov_split.proofs.Sole.{cut_bounds_fan}
+use Rattle.ov_split.proofs.ByNames.Mapped.{has_map, map_has, length_map, ordered_map}
+use Rattle.ov_split.proofs.ByNames.ByPlace.{places_ascend, places_count, node_rises, fan_by_place, nearest_by_place}
+use Rattle.ov_split.proofs.ByNames.ByPlace.{side_by_place}
+use Rattle.ov_split.proofs.FanTheorem.Near.{boundary_is_nearest}
+use Rattle.ov_split.proofs.Augmenting.Prune.{flow_is_fan}
+use Rattle.ov_split.proofs.FanTheorem.Sole.{cut_bounds_fan}
 use Rattle.ov_flow.specs.declared.tree.Tree.{Tree}
 use Rattle.ov_flow.specs.Flow.{IsFull}
 use Rattle.ov_flow.specs.Code.Reached.{IsGrown, IsSwept}
 
--- what stands at a place among the places
+-- the item at each place of the list of places
 place_at : (n k : ℕ) → k < n → get_or (places n) k 0 ≡ k
 unfolding places
 place_at zero k l = absurd (omega arith)
@@ -72,10 +72,6 @@ nodes_of_row g row graph =
     let k = has_picked row 0 g.nodes x h in
     subst (Has (map (node_at g) ps)) k.node (has_map (node_at g) ps k.place
     (from_row row n k.place k.below (bit_moved row (0 + k.place) k.place (omega arith) k.bit))))
-
--- the bits of one row that are not set in another
-abbrev pub AreWithout : List ℕ → List ℕ → ℕ → List ℕ → Type 0
-AreWithout a b words row = (p : ℕ) → HasBit row p ↔ ((p < 64 * words) × HasBit a p × ¬ HasBit b p)
 
 module _ (n : Net) (wide words : ℕ) (placed : IsPlaced n wide) (enough : wide ≤ 64 * words) (from : Table) (t : Tree)
     (avoided next cut : List ℕ) (grown : IsGrown n from t) (swept : IsSwept n from t)

@@ -13,7 +13,7 @@ use Rattle.ov_ids.proofs.Members.{place_of, place_in_take, has_append_cases}
 use Rattle.ov_flow.specs.Code.Flat.{paths_after, paths_in}
 use Rattle.ov_flow.proofs.Writing.{read_one}
 
--- how many paths there are does not hang on what was read of the first
+-- the number of paths does not depend on what was read of the first
 pub count_ahead : (s : ℕ) (ahead flat : List ℕ) → length (paths_after s ahead flat) ≡ length (paths_after s [] flat)
 unfolding paths_after
 count_ahead s ahead [] = refl
@@ -25,7 +25,7 @@ count_ahead s ahead (p ∷ flat) =
       | false ↦ count_ahead s (p ∷ ahead) flat ∙ sym (count_ahead s (p ∷ []) flat)
     ]
 
--- one place more is counted
+-- one more place is counted
 pub count_source : (s : ℕ) (flat : List ℕ) (i d : ℕ) → i < length flat → get_or flat i d ≡ s
     → length (paths_after s [] (drop i flat)) ≡ length (paths_after s [] (drop (i + 1) flat)) + 1
 unfolding paths_after
@@ -107,7 +107,7 @@ pub in_flat : (flat : List ℕ) (s : ℕ) → s ≡ get_or flat (length flat - 1
 unfolding paths_in
 in_flat flat s e = ap (λ (t : ℕ). paths_after t [] flat) e
 
--- one node more is written down
+-- one more node is written
 pub one_more : (f : ℕ → ℕ) (ids new path left before : List ℕ) (x y : ℕ)
     → ids ++ map f (reverse left) ≡ map f (reverse path) → left ≡ before ++ x ∷ [] → new ≡ ids ++ y ∷ [] → y ≡ f x
     → new ++ map f (reverse before) ≡ map f (reverse path)
@@ -118,7 +118,7 @@ one_more f ids new path left before x y so is to at =
     ∙ ap (λ (l : List ℕ). ids ++ map f l) (sym (ap reverse is ∙ reverse-append before (x ∷ [])))
     ∙ so
 
--- one path more is written down
+-- one more path is written
 pub path_more : (f : List ℕ → List ℕ) (done new all left later : List (List ℕ)) (path ids : List ℕ)
     → done ++ map f left ≡ all → left ≡ path ∷ later → new ≡ done ++ ids ∷ [] → ids ≡ f path → new ++ map f later ≡ all
 path_more f done new all left later path ids so is to at =

@@ -1,4 +1,4 @@
--- A search's tree, and one node more.
+-- The tree of a search, and one more node.
 use Rattle.std.proofs.Common.{◌≡◌, ◌∙◌, ◌↔◌, ◌⊎◌, ℕ, zero, suc, ◌+◌, ◌-◌, ◌<◌, ◌≤◌, inl, inr, List, [], ◌∷◌, ◌++◌}
 use Rattle.std.proofs.Common.{length, get_or, Option, Some, None, refl, sym, ap, subst, arith}
 use Rattle.std.proofs.lemmas.Bool.{cases_eq, cases_lt}
@@ -8,9 +8,10 @@ use Rattle.ov_ids.proofs.Members.{has_or_not, has_append_left, has_append_right,
 use Rattle.ov_graph.specs.Links.{Linked}
 use Rattle.ov_graph.specs.Joined.{Leads}
 use Rattle.ov_graph.specs.Row.{HasBit}
+use Rattle.ov_graph.proofs.EvenTest.Walks.{leads_push}
 use Rattle.ov_split.specs.Net.{Net}
 use Rattle.ov_split.specs.Code.Residual.{Table, IsFree, IsResidual, IsStuck}
-use Rattle.ov_split.proofs.Lists.{distinct_length, distinct_push}
+use Rattle.ov_split.proofs.Augmenting.Lists.{distinct_length, distinct_push}
 use Rattle.ov_flow.specs.declared.tree.Tree.{Tree}
 use Rattle.ov_flow.specs.Code.Reached.{tip_of, IsStepBy, IsTree, IsTaken, IsGrownBy, IsGrown, Extends, IsMore}
 
@@ -58,7 +59,7 @@ pub step_residual : (n : Net) (from : Table) (x y : ℕ) (way : Option ℕ) → 
 step_residual n from x y (Some w) s = inl (w, s.0, s.1, s.2)
 step_residual n from x y None s = inr s
 
--- one node more
+-- one more node
 pub grow_tree : (n : Net) (from : Table) (order parents : List ℕ) (ways : List (Option ℕ)) (at y : ℕ) (way : Option ℕ)
     → IsTree n from order parents ways → at < length order → IsStepBy n from (get_or order at 0) y way
     → Has n.graph.nodes y → ¬ Has order y → IsTree n from (order ++ y ∷ []) (parents ++ at ∷ []) (ways ++ way ∷ [])
@@ -142,7 +143,7 @@ grown_push n from order parents ways reached seen at y way new g lt step node ou
   ];
 }
 
--- a link was taken to w, and where a path ends then is reached
+-- a link was taken to w, and the open end is reached
 pub grown_seen : (n : Net) (from : Table) (order parents : List ℕ) (ways : List (Option ℕ)) (reached seen : List ℕ)
     (x w : ℕ) (new : List ℕ) → IsGrownBy n from order parents ways reached seen → Has order x → IsFree n x w
     → Has order (tip_of from w) → ((q : ℕ) → HasBit new q ↔ ((q ≡ w) ⊎ HasBit seen q))
@@ -158,7 +159,7 @@ grown_seen n from order parents ways reached seen x w new g hx free tip put = re
   ];
 }
 
--- what is so of a node that is reached
+-- a node was reached: it is in the tree, and is its last node where it is new
 abbrev pub IsReachedBy : Net → Table → Tree → Tree → ℕ → Type 0
 IsReachedBy n from old new node = IsGrown n from new × Has new.order.items node
     × (¬ Has old.order.items node → get_or new.order.items (length new.order.items - 1) 0 ≡ node)
@@ -192,10 +193,6 @@ grown_first n from reached seen avoided empty s node is off none first put = rec
   source = (put n.source).1 (inl (sym is));
   sees = λ w h. elim ((put w).0 h) [ inl e ↦ inl (inr (e ∙ is)) | inr k ↦ inl (inl ((off w).0 k)) ];
 }
-
-pub leads_push : (R : ℕ → ℕ → Type 0) (a b c : ℕ) (xs : List ℕ) → Leads R a xs b → R b c → Leads R a (xs ++ c ∷ []) c
-leads_push R a b c [] l r = (subst (λ (z : ℕ). R z c) (sym l) r, refl)
-leads_push R a b c (x ∷ xs) l r = (l.0, leads_push R x b c xs l.1 r)
 
 -- some walk leads to each node of the tree
 tree_walk : (n : Net) (from : Table) (order parents : List ℕ) (ways : List (Option ℕ))
@@ -247,7 +244,7 @@ clean_more n xs ys y clean only off x h t = elim (has_or_not xs x) [
   | inr o ↦ off (subst (Has n.targets) (only x h o) t)
 ]
 
--- what is so of the nodes visited, and of one more
+-- each link of the visited nodes is seen, and so it is with one more node
 pub links_more : (n : Net) (xs ys old new : List ℕ) (at : ℕ) → Extends xs ys → at < length xs
     → ((p : ℕ) → HasBit old p → HasBit new p)
     → ((k w : ℕ) → k < at → Linked n.graph (get_or xs k 0) w → HasBit old w)

@@ -1,22 +1,22 @@
--- What stays on paths to ends where a walk meets no path.
+-- A walk that meets no path leaves each place of the table on a path to an end.
 use Rattle.std.proofs.Common.{◌≡◌, ◌≢◌, ◌∙◌, ℕ, ◌<◌, inl, inr, List, [], ◌∷◌, ◌++◌, Option, Some, None, refl, sym, ap}
 use Rattle.std.proofs.Common.{subst, unwrap_or, IfSome}
 use Rattle.std.proofs.lemmas.Bool.{cases_eq}
 use Rattle.ov_ids.specs.Members.{Has}
 use Rattle.ov_ids.proofs.Members.{has_append_left, has_append_right, has_append_cases}
 use Rattle.ov_graph.specs.Joined.{Leads}
+use Rattle.ov_graph.proofs.EvenTest.Walks.{leads_push}
 use Rattle.ov_split.specs.Net.{Net, IsNet}
 use Rattle.ov_split.specs.Code.Residual.{Table, AreHeld, IsTidy, IsFlow}
 use Rattle.ov_split.specs.Placed.{IsPlaced}
-use Rattle.ov_split.proofs.Move.{leads_map, start_held}
+use Rattle.ov_split.proofs.Augmenting.Move.{leads_map, start_held}
 use Rattle.ov_flow.specs.declared.walk.Hop.{Hop}
 use Rattle.ov_flow.specs.Code.Reached.{IsWay, IsStepBy}
 use Rattle.ov_flow.specs.Code.Walked.{IsFlowBefore}
 use Rattle.ov_flow.proofs.Copying.{held_turned}
-use Rattle.ov_flow.proofs.Reaching.{leads_push}
 use Rattle.ov_flow.proofs.Walking.{IsGoing, way_said}
 
--- a path goes on to a place of no path
+-- a path continues to an unused place
 tidy_push : (from next : Table) (x w : ℕ) (ends : List ℕ) → IsTidy from (x ∷ ends) → from w ≡ None → next w ≡ Some x
     → ((v : ℕ) → v ≢ w → next v ≡ from v) → IsTidy next (w ∷ ends)
 tidy_push from next x w ends tidy none there others v u = elim (cases_eq v w) [
@@ -36,7 +36,7 @@ tidy_push from next x w ends tidy none there others v u = elim (cases_eq v w) [
       ]
 ]
 
--- a step over a link to a place of no path
+-- a step by a link to an unused place
 pub tidy_step : (n : Net) (start from next : Table) (x t w : ℕ) (hop : Hop) (rest : List Hop) (ends : List ℕ)
     → IsGoing n start from x (hop ∷ rest) t → hop.way ≡ Some w
     → ((v : ℕ) × (hop.way ≡ Some v) × (from v ≡ None)) → next w ≡ Some x → ((v : ℕ) → v ≢ w → next v ≡ from v)
@@ -49,11 +49,11 @@ tidy_step n start from next x t w hop rest ends g is fresh there others tidy =
     let node : hop.node ≡ w = sym s.2 ∙ ap (λ (o : Option ℕ). unwrap_or o w) none in
     subst (λ (y : ℕ). IsTidy next (y ∷ ends)) (sym node) (tidy_push from next x w ends tidy none there others)
 
--- the source is open too
+-- the source is an open end too
 pub tidy_first : (from : Table) (s : ℕ) (ends : List ℕ) → IsTidy from ends → IsTidy from (s ∷ ends)
 tidy_first from s ends tidy v u = let t = tidy v u in (t.0, inr t.1, t.2)
 
--- the open end stands behind the others
+-- the open end comes after the others
 pub tidy_turned : (from : Table) (e : ℕ) (ends : List ℕ) → IsTidy from (e ∷ ends) → IsTidy from (ends ++ e ∷ [])
 tidy_turned from e ends tidy v u =
     let t = tidy v u in (
@@ -83,13 +83,13 @@ targets_turned n old ends target b there e h =
       | inr k ↦ elim k [ inl s ↦ subst (Has n.targets) s there | inr w ↦ absurd w ]
     ]
 
--- what was held, with the source as an end more
+-- the paths that were held, with the source as one more end
 pub open_before : (n : Net) → IsNet n → (old : Table) (ends : List ℕ) (target : ℕ) (b : IsFlowBefore n old ends target)
     → AreHeld n old (n.source ∷ b.before)
 open_before n net old ends target b =
     start_held n old b.before b.flow.held (λ h. net.no_target (b.flow.targets n.source h))
 
--- a walk that met no path leaves no closed round
+-- a walk that met no path leaves no cycle
 pub flow_turned : (n : Net) (old now : Table) (ends : List ℕ) (target : ℕ) (b : IsFlowBefore n old ends target)
     → Has n.targets target → AreHeld n now (target ∷ b.before) → IsTidy now (target ∷ b.before) → IsFlow n now ends
 flow_turned n old now ends target b there held tidy = record {

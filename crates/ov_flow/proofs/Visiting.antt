@@ -7,7 +7,8 @@ use Rattle.ov_ids.specs.Members.{Has}
 use Rattle.ov_ids.proofs.Members.{has_place}
 use Rattle.ov_graph.specs.Links.{Linked}
 use Rattle.ov_graph.specs.Row.{has_bit, HasBit, IsFirstFrom}
-use Rattle.ov_graph.proofs.Filtered.{linked_node}
+use Rattle.ov_graph.proofs.BitRows.Bits.{AreWithout}
+use Rattle.ov_graph.proofs.EvenTest.Filtered.{linked_node}
 use Rattle.ov_split.specs.Net.{Net}
 use Rattle.ov_split.specs.Code.Residual.{Table}
 use Rattle.ov_split.specs.Placed.{IsPlaced}
@@ -37,7 +38,7 @@ read_below n wide from order parents ways k x p t l read =
     let b = order_below n wide from order parents ways k p t l in
     omega (arith, e, b)
 
--- on the way through the fresh bits: those before `after` are taken, the others are still unseen
+-- the fresh bits before `after` are taken, and the others are still unseen
 pub record IsVisiting (n : Net) (from : Table) (began t : Tree) (fresh : List ℕ) (after : ℕ) : Type 0 where
   pub grown : IsGrown n from t
   pub more : IsMore began t
@@ -52,12 +53,8 @@ pub record IsLinkTaken (n : Net) (from : Table) (began u : Tree) (new fresh : Li
   pub ended : Has n.targets node → Has n.targets (get_or u.order.items (length u.order.items - 1) 0)
   pub goes : ¬ Has n.targets node → IsVisiting n from began (record u { seen = new }) fresh (w + 1)
 
--- the fresh bits of a row
-abbrev pub AreFresh : List ℕ → List ℕ → ℕ → List ℕ → Type 0
-AreFresh row seen words fresh = (q : ℕ) → HasBit fresh q ↔ ((q < 64 * words) × HasBit row q × ¬ HasBit seen q)
-
 pub visiting_first : (n : Net) (from : Table) (t : Tree) (row fresh : List ℕ) (words : ℕ) → IsGrown n from t
-    → IsClean n t → AreFresh row t.seen words fresh → IsVisiting n from t t fresh 0
+    → IsClean n t → AreWithout row t.seen words fresh → IsVisiting n from t t fresh 0
 visiting_first n from t row fresh words g clean are = record {
   grown = g;
   more = more_refl t;
@@ -69,7 +66,7 @@ visiting_first n from t row fresh words g clean are = record {
 module _ (n : Net) (wide : ℕ) (placed : IsPlaced n wide) (from : List (Option ℕ)) (table : IsTable wide from)
     (began t : Tree) (row fresh : List ℕ) (words at after w node : ℕ)
     (x : ℕ) (read : x ≡ get_or began.order.items at x) (bits : (q : ℕ) → HasBit row q ↔ Linked n.graph x q)
-    (are : AreFresh row began.seen words fresh) (v : IsVisiting n (table_of from) began t fresh after)
+    (are : AreWithout row began.seen words fresh) (v : IsVisiting n (table_of from) began t fresh after)
     (lt : at < length began.order.items) (first : IsFirstFrom fresh after w) where
   links_there : Linked n.graph (get_or t.order.items at 0) w
   links_there =
@@ -156,7 +153,7 @@ bit_or_not row p = go (has_bit row p) refl
 pub visiting_all : (n : Net) (wide : ℕ) → IsPlaced n wide → (from : Table) (began t : Tree) (row fresh : List ℕ)
     (words at x after : ℕ) → wide ≤ 64 * words → at < length began.order.items → x ≡ get_or began.order.items at x
     → ((q : ℕ) → HasBit row q ↔ Linked n.graph x q)
-    → AreFresh row began.seen words fresh → IsVisiting n from began t fresh after
+    → AreWithout row began.seen words fresh → IsVisiting n from began t fresh after
     → ((q : ℕ) → after ≤ q → q < 64 * words → ¬ HasBit fresh q) → IsSweptAt n (get_or began.order.items at 0) t
 visiting_all n wide placed from began t row fresh words at x after enough lt read bits are v none = record {
   clean = v.clean;

@@ -1,4 +1,4 @@
--- The walk that a search found, and its steps taken.
+-- The walk that a search found, and the change of the table by its steps.
 use Rattle.std.proofs.Common.{◌≡◌, ◌≢◌, ◌∙◌, ℕ, ◌+◌, ◌<◌, ◌≤◌, inl, inr, List, [], ◌∷◌, ◌++◌, length, get_or, set}
 use Rattle.std.proofs.Common.{drop, take}
 use Rattle.std.proofs.Common.{reverse, zero, suc, Option, Some, None, refl, sym, ap, subst, arith, unwrap_or}
@@ -7,11 +7,11 @@ use Rattle.std.proofs.lemmas.List.{get_or-set_same, get_or-set_other, get_or_rea
 use Rattle.std.proofs.Math.ListN.{get_or-eq_default}
 use Rattle.ov_ids.specs.Members.{Has, IsDistinct}
 use Rattle.ov_ids.proofs.Members.{has_place, place_in_take}
-use Rattle.ov_graph.proofs.Filtered.{linked_node}
+use Rattle.ov_graph.proofs.EvenTest.Filtered.{linked_node}
 use Rattle.ov_split.specs.Net.{Net}
 use Rattle.ov_split.specs.Code.Residual.{Table, AreHeld}
 use Rattle.ov_split.specs.Placed.{IsPlaced}
-use Rattle.ov_split.proofs.Move.{push_held, back_held}
+use Rattle.ov_split.proofs.Augmenting.Move.{push_held, back_held}
 use Rattle.ov_flow.specs.declared.walk.Hop.{Hop}
 use Rattle.ov_flow.specs.declared.tree.Tree.{Tree}
 use Rattle.ov_flow.specs.Code.Reached.{IsWay, IsStepBy, IsTree, IsShaped, IsGrown}
@@ -28,7 +28,7 @@ places_differ (x ∷ xs) i zero d l m e = absurd (omega arith)
 places_differ (x ∷ xs) zero (suc j) d l m e = d.0 (subst (Has xs) (sym e) (has_place xs j 0 (omega arith)))
 places_differ (x ∷ xs) (suc i) (suc j) d l m e = places_differ xs i j d.1 (omega arith) (omega arith) e
 
--- without repetition, no member stands before its place
+-- in a list without repetition no member stands before its place
 pub not_before : (xs : List ℕ) (i : ℕ) → IsDistinct xs → i < length xs → ¬ Has (take i xs) (get_or xs i 0)
 not_before xs i d l h = let p = place_in_take xs i (get_or xs i 0) h in places_differ xs p.0 i d p.1 l p.3
 
@@ -38,7 +38,7 @@ pub record IsBranchBy (n : Net) (from : Table) (order : List ℕ) (place end : �
   pub later : (x : ℕ) → Has (nodes_of hops) x → (k : ℕ) × (place < k) × (k < length order) × (get_or order k 0 ≡ x)
   pub distinct : IsDistinct (nodes_of hops)
 
--- the same of each net and table by which the tree has grown
+-- the same for each net and table by which the tree has grown
 abbrev pub IsBranchOf : Tree → ℕ → ℕ → List Hop → Type 0
 IsBranchOf t place end hops = (n : Net) (from : Table) → IsGrown n from t
     → IsBranchBy n from t.order.items place end hops
@@ -104,7 +104,7 @@ branch_all t place end hops new le b is n from g =
       );
     })
 
--- a change at z, whence the step led to y, leaves each step that leads elsewhere
+-- a step to y changes the table at z alone. Each step that leads elsewhere stays
 stays : (n : Net) (from next : Table) (z y a b : ℕ) (way : Option ℕ) → unwrap_or (from z) z ≡ y
     → ((v : ℕ) → v ≢ z → next v ≡ from v) → b ≢ y → IsStepBy n from a b way → IsStepBy n next a b way
 stays n from next z y a b (Some w) tip others ne s = (
@@ -125,7 +125,7 @@ goes_stays n from next y a t (h ∷ hs) f off g = (
   goes_stays n from next y h.node t hs f (λ k. off (inr k)) g.1,
 )
 
--- on the way along a walk: x is open, and the rest goes on
+-- a walk taken as far as x: x is the open end, and the rest leads on to t
 pub record IsGoing (n : Net) (start from : Table) (x : ℕ) (rest : List Hop) (t : ℕ) : Type 0 where
   pub goes : Goes n from x rest t
   pub held : (ends : List ℕ) → AreHeld n start (n.source ∷ ends) → AreHeld n from (x ∷ ends)
@@ -177,14 +177,14 @@ pub write_others : (from : List (Option ℕ)) (w : ℕ) (o : Option ℕ) (v : �
     → table_of (set from w o) v ≡ table_of from v
 write_others from w o v ne = get_or-set_other from w v o None ne
 
--- a place of which the table says something
+-- a place that the table has on a path
 pub said_below : (from : List (Option ℕ)) (v u : ℕ) → table_of from v ≡ Some u → v < length from
 said_below from v u f = elim (cases_lt v (length from)) [
   | inl l ↦ l
   | inr ge ↦ let e = get_or-eq_default from None {n = v} ge in absurd (cc (e, f))
 ]
 
--- the next step of a walk on the way
+-- the next step of a walk
 abbrev pub hop_at : List Hop → ℕ → Hop
 hop_at hops i = get_or hops i (record { node = 0; way = None })
 

@@ -1,4 +1,4 @@
--- Paths, written backwards, and read again.
+-- Paths that are written backwards, and read again.
 use Rattle.std.proofs.Common.{◌≡◌, ◌≢◌, ◌∙◌, ◌⊎◌, ℕ, ◌+◌, ◌-◌, ◌<◌, inl, inr, List, [], ◌∷◌, ◌++◌, length, get_or}
 use Rattle.std.proofs.Common.{reverse, cond, Bool, Some, None, refl, sym, ap, subst, arith, append_assoc, append-nil}
 use Rattle.std.proofs.Common.{eq-eqb, ne_eqb}
@@ -9,20 +9,20 @@ use Rattle.ov_graph.specs.Joined.{Leads}
 use Rattle.ov_graph.specs.Paths.{ShareOnly}
 use Rattle.ov_split.specs.Net.{Net, IsNet, IsFanOf}
 use Rattle.ov_split.specs.Code.Residual.{Table, AreHeld, IsFlow}
-use Rattle.ov_split.proofs.Trace.{Arc, not_source, used_on, suffix, meet, is_path, path_off, TracedPath}
+use Rattle.ov_split.proofs.Augmenting.Trace.{Arc, not_source, used_on, suffix, meet, is_path, path_off, TracedPath}
 use Rattle.ov_flow.specs.Code.Flat.{paths_after, paths_in}
 use Rattle.ov_flow.specs.Code.Walked.{IsWritten}
 use Rattle.ov_flow.proofs.Reaching.{last_of_push}
 use Rattle.ov_flow.proofs.Copying.{IsComing, coming_none, coming_more, coming_bound, coming_all}
 
--- what of the path to e is written
+-- the part of the path to e that is written
 pub record IsWriting (n : Net) (from : Table) (old out : List ℕ) (e x : ℕ) : Type 0 where
   pub c : List ℕ
   pub coming : IsComing n from e x c
   pub items : out ≡ old ++ reverse c
   pub count : length out ≡ length old + length c
 
--- a node more, written
+-- one more node is written
 backwards : (old out new c : List ℕ) (x : ℕ) → out ≡ old ++ reverse c → new ≡ out ++ x ∷ []
     → new ≡ old ++ reverse (x ∷ c)
 backwards old out new c x e f =
@@ -89,7 +89,7 @@ read_one s c more off =
     (eq-eqb s s refl)
     ∙ ap (λ (l : List ℕ). (s ∷ l) ∷ paths_after s [] more) (append-nil c)
 
--- one list more that shares nothing else with those before
+-- one more list, which shares only `shared` with those before
 share_push : (shared : List ℕ) (ps : List (List ℕ)) (p : List ℕ) → ShareOnly shared ps
     → ((q : List ℕ) (x : ℕ) → Has ps q → Has q x → Has p x → Has shared x) → ShareOnly shared (ps ++ p ∷ [])
 share_push shared [] p a f = ((λ q x h. absurd h), tt)

@@ -1,4 +1,4 @@
--- What is found while paths of a net are sought one after another (Menger, Fund. Math. 10, 1927).
+-- The search for paths of a net, one after another: its state and its results (Menger, Fund. Math. 10, 1927).
 use Rattle.std.specs.Prelude.{◌≡◌, ◌↔◌, ℕ, ◌+◌, ◌<◌, List, [], ◌∷◌, ◌++◌, length, Option, Some, None}
 use Rattle.ov_ids.specs.Members.{Has}
 use Rattle.ov_graph.specs.Links.{LinkGraph}
@@ -9,23 +9,23 @@ use Rattle.ov_flow.specs.declared.step.Stuck.{Stuck as Rows}
 use Rattle.ov_flow.specs.declared.step.Step.{Step}
 use Rattle.ov_flow.specs.declared.step.Step.TheVariants.{Grew, Stuck}
 
--- what contracts see of a `Flow`: the net, and how many paths of a fan of it are held
+-- the value of a `Flow` in contracts: the net, and how many paths of a fan are held
 pub record FlowState : Type 0 where
   pub net : Net
   pub held : ℕ
 
--- no more paths than k exist: the nearest least cut has k nodes, and `side` is what is reached without it
+-- no fan has more than k paths: the nearest least cut has k nodes. `side` are the nodes that are reached without it
 pub record IsFull (n : Net) (k : ℕ) (cut side : List ℕ) : Type 0 where
   pub nearest : IsNearestCut n cut
   pub size : length cut ≡ k
   pub side_of : IsSideOf n cut side
   pub no_more : (l : ℕ) → k < l → ¬ ((paths : List (List ℕ)) × IsFanOf n l paths)
 
--- the row has bits at the places of the members of s, and no others
+-- the row has the bits of the places of the nodes in s, and no others
 abbrev pub AreBitsOf : LinkGraph → List ℕ → List ℕ → Type 0
 AreBitsOf g row s = (p : ℕ) → HasBit row p ↔ ((p < length g.nodes) × Has s (node_at g p))
 
--- k paths are all there are, and the rows are those of the nearest least cut and of its side
+-- no fan has more than k paths, and the rows have the bits of the nearest least cut and of its side
 pub record IsFullBy (n : Net) (k : ℕ) (s : Rows) : Type 0 where
   pub cut : List ℕ
   pub side : List ℕ
@@ -33,16 +33,16 @@ pub record IsFullBy (n : Net) (k : ℕ) (s : Rows) : Type 0 where
   pub cut_row : AreBitsOf n.graph s.cut cut
   pub side_row : AreBitsOf n.graph s.side side
 
--- what a search for one path more does: one more is held, or there is none and nothing has changed
+-- the result of a search for one more path: one more is held, or there is none and nothing has changed
 abbrev pub IsStep : FlowState → FlowState → Step → Type 0
 IsStep old new Grew = new ≡ record old { held = old.held + 1 }
 IsStep old new (Stuck s) = (new ≡ old) × IsFullBy old.net old.held s
 
--- each place on each path is the place of a node, counted from 0
+-- each number on each path is the place of a node, counted from 0
 abbrev pub ArePlaces : LinkGraph → List (List ℕ) → Type 0
 ArePlaces g paths = (path : List ℕ) → Has paths path → (p : ℕ) → Has path p → p < length g.nodes
 
--- a path, followed by one node more if one is named
+-- the path, and then the node `last` if one is given
 abbrev pub ended_by : Option ℕ → List ℕ → List ℕ
 ended_by None path = path
 ended_by (Some last) path = path ++ last ∷ []

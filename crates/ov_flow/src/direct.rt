@@ -7,7 +7,7 @@ use ov_graph::row::{both, first_from, without};
 use ov_split::SplitNet;
 use std::alloc::AllocError;
 
-/// Holds the paths of one link to targets, up to `level` paths, where none is held.
+/// Takes paths of one link from the source to targets, at most `level` of them. No path is held before.
 pub(crate) fn take_direct(
     net: &SplitNet<'_>,
     level: usize,

@@ -5,13 +5,13 @@ ghost use Rattle.ov_flow.specs.Flow.{FlowState, IsFullBy, IsStep, ArePlaces};
 
 use crate::place_paths::{PlacePaths, write_paths};
 use crate::step::{Step, Stuck, stuck_at};
-use crate::work::{Work, augment, new_work, settle, start};
+use crate::work::{Work, augment, new_work, settle};
 use ov_ids::OutOfMemory;
 use ov_split::SplitNet;
 use std::alloc::Global;
 use std::marker::Model;
 
-/// Paths of a net that share only the source, of which one more is sought at each step (Even, SIAM J. Comput. 4, 1975).
+/// Paths of a net that share only the source. Each step searches for one more (Even, SIAM J. Comput. 4, 1975).
 /// Contracts see the net, and how many paths are held.
 #[derive(Drop)]
 pub struct Flow<'g> {
@@ -34,22 +34,12 @@ impl<'g> Model for Flow<'g> {
 }
 
 impl<'g> Flow<'g> {
-    /// Room for searches of this net, and of others of its graph. No path is held.
+    /// Allocates the buffers for searches of this net, and of others of its graph. No path is held.
     pub fn new(alloc: Global, net: SplitNet<'g>) -> Result<Flow<'g>, OutOfMemory>
         ensures { IfOk result (λ f. f ≡ record { net = net.entry; held = 0 }) }
     {
         let work = new_work(alloc, net.places())?;
         Ok(Flow { net, work, alloc })
-    }
-
-    /// Begins anew with another net of the same graph. Nothing is allocated.
-    pub fn restart(&mut self, net: SplitNet<'g>)
-        requires { net.graph ≡ self.old.net.graph }
-        ensures { self.new ≡ record { net = net.entry; held = 0 } }
-    {
-        prove!(net.places() == self.work.from.len());
-        start(&net, &mut self.work);
-        self.net = net;
     }
 
     /// How many paths are held.
@@ -59,8 +49,9 @@ impl<'g> Flow<'g> {
         self.work.ends.len()
     }
 
-    /// Seeks one path more. Where there is none, it tells the nearest least cut, which has as many nodes as paths are
-    /// held (Menger, Fund. Math. 10, 1927). Out of memory leaves the net, and as many paths as were held.
+    /// Searches for one more path. Where there is none, the result is the nearest least cut, which has as many nodes as
+    /// paths are held (Menger, Fund. Math. 10, 1927). Out of memory leaves the net and the number of paths as they
+    /// were.
     pub fn augment(&mut self) -> Result<Step, OutOfMemory>
         ensures step { IfOk result (λ step. IsStep self.old self.new step) }
         ensures err { OnErr result (self.new ≡ self.old) }
@@ -72,9 +63,9 @@ impl<'g> Flow<'g> {
         Ok(Step::Stuck(stuck_at(&self.net, &self.work)))
     }
 
-    /// Begins anew with another net of the same graph, and seeks `level` paths in it: first those of one link. None: so
-    /// many are held. Else fewer are, which are as many as there can be, and it tells the nearest least cut (Menger,
-    /// Fund. Math. 10, 1927). Out of memory leaves some paths of the new net held.
+    /// Starts again with another net of the same graph, and searches for `level` paths, those of one link first. The
+    /// result is `None` where they are found. Else fewer paths are held, no fan has more, and the result is the nearest
+    /// least cut (Menger, Fund. Math. 10, 1927). Out of memory leaves some paths of the new net held.
     pub fn seek(&mut self, net: SplitNet<'g>, level: usize) -> Result<Option<Stuck>, OutOfMemory>
         requires { net.graph ≡ self.old.net.graph }
         ensures net { self.new.net ≡ net.entry }
@@ -90,7 +81,7 @@ impl<'g> Flow<'g> {
         Ok(Some(stuck_at(&self.net, &self.work)))
     }
 
-    /// The paths that are held: a fan of the net, each path a list of places of nodes, counted from 0.
+    /// The paths that are held, which are a fan of the net. Each path is a list of places of nodes, counted from 0.
     pub fn paths(&self) -> Result<PlacePaths, OutOfMemory>
         ensures fan { IfOk result (λ ps. IsFanOf self.now.net self.now.held
             (map (map (node_at self.now.net.graph)) ps)) }

@@ -1,4 +1,4 @@
-//! Paths that share only their source, found one after another.
+//! Paths from one node that share only this node, found one after another.
 #![tactic(auto)]
 
 mod direct;

@@ -15,8 +15,8 @@ use ov_split::SplitNet;
 use std::alloc::{AllocError, Global};
 use std::marker::Model;
 
-/// Paths from one source, in one flat list of places: each is written from its end back to the source, so that the
-/// source parts it from the next. Contracts see the paths, each from the source to its end.
+/// Paths from one source, in one flat list of places. Each is written from its end back to the source, so that the
+/// source separates it from the next. Contracts see the paths, each from the source to its end.
 #[derive(Drop)]
 pub struct PlacePaths {
     flat: Vec<u16>,
@@ -39,8 +39,8 @@ impl PlacePaths {
         count_paths(&self.flat)
     }
 
-    /// The paths by ids, each from the source to its end, and then `last` if one is named. It takes time in proportion
-    /// to the places of all paths.
+    /// The paths by ids, each from the source to its end, and then `last` if one is given. The time is linear in the
+    /// total length of the paths.
     pub fn by_ids(
         &self,
         alloc: Global,
@@ -62,7 +62,7 @@ impl PlacePaths {
     }
 }
 
-/// How many places of the table have a path that comes to them.
+/// How many places of the table are on paths, without the source.
 fn used(from: &[Option<u16>]) -> usize
     ensures { result ≤ length from.now }
 {
@@ -75,7 +75,7 @@ fn used(from: &[Option<u16>]) -> usize
     count
 }
 
-/// Writes the path to `end` from there back to the source.
+/// Writes the path to `end`, from there back to the source.
 fn write_path(
     net: &SplitNet<'_>,
     from: &[Option<u16>],
@@ -100,8 +100,8 @@ fn write_path(
     Ok(())
 }
 
-/// Writes down the paths that are held, in a list with room for as many places as the table has, and the source once
-/// for each path: that is what they take, as long as the table has no place that is on none of them.
+/// Writes the paths that are held into a flat list. The list has room for each place on a path, and for the source once
+/// for each path, so it does not grow.
 pub(crate) fn write_paths(
     alloc: Global,
     net: &SplitNet<'_>,

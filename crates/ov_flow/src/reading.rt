@@ -1,4 +1,4 @@
-//! Paths, read from one flat list in which each is written from its end back to the source.
+//! Paths are read from one flat list. Each is written there from its end back to the source.
 ghost use Rattle.std.specs.Prelude.{◌≡◌, ◌-◌, ◌<◌, ◌==◌, ℕ, [], ◌∷◌, map, reverse, length, get_or};
 ghost use Rattle.std.specs.Prelude.{slice_index, IfOk, IfSome, MatchOption};
 ghost use Rattle.std.specs.List.{position};
@@ -9,7 +9,7 @@ ghost use Rattle.ov_flow.specs.Code.Flat.{paths_after, paths_in};
 use ov_ids::{NodeId, OutOfMemory, Seq};
 use std::alloc::Global;
 
-/// The source, which is the last place of a list; 0 where that is empty.
+/// The source, which is the last place of a flat list, or 0 where the list is empty.
 pub(crate) fn source_in(flat: &[u16]) -> u16
     ensures { result ≡ get_or flat.now (length flat.now - 1) 0 }
 {
@@ -19,7 +19,7 @@ pub(crate) fn source_in(flat: &[u16]) -> u16
     }
 }
 
-/// How many paths a list has.
+/// How many paths a flat list has.
 pub(crate) fn count_paths(flat: &[u16]) -> usize
     ensures { result ≡ length (paths_in flat.now) }
 {
@@ -33,7 +33,7 @@ pub(crate) fn count_paths(flat: &[u16]) -> usize
     count
 }
 
-/// Where the source stands first.
+/// Where the source stands first in a flat list.
 fn place_of(flat: &[u16], source: u16) -> Option<usize>
     ensures place { result ≡ position (λ p. p == source) flat.now }
     ensures within { IfSome result (λ i. i < length flat.now) }
@@ -41,7 +41,7 @@ fn place_of(flat: &[u16], source: u16) -> Option<usize>
     flat.iter().position(|place| *place == source)
 }
 
-/// The first path, as it is written, and what stands behind it.
+/// The first path as it is written, and the rest of the flat list.
 pub(crate) fn split_path(flat: &[u16], source: u16) -> Option<(&[u16], &[u16])>
     ensures paths { MatchOption result (paths_after source [] flat.now ≡ []) (λ parts. paths_after source [] flat.now
         ≡ reverse parts.0.now ∷ paths_after source [] parts.1.now) }
@@ -53,8 +53,8 @@ pub(crate) fn split_path(flat: &[u16], source: u16) -> Option<(&[u16], &[u16])>
     }
 }
 
-/// A path that is written from its end back to the source, by ids and from the source on, and then `last` if one is
-/// named.
+/// A path by ids, from the source to its end, and then `last` if one is given. `path` is written from its end back to
+/// the source.
 pub(crate) fn path_by_ids(
     alloc: Global,
     nodes: &[NodeId],

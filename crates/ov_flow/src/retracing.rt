@@ -1,4 +1,4 @@
-//! What is held after a walk was taken: the paths to the ends alone.
+//! After a walk is taken, the table is reduced to the paths to the ends.
 ghost use Rattle.std.specs.Prelude.{◌≡◌, ◌≢◌, ℕ, length, None, IfOk};
 ghost use Rattle.ov_ids.specs.Members.{Has};
 ghost use Rattle.ov_split.specs.Code.Residual.{AreHeld, IsFlow};
@@ -10,7 +10,7 @@ use crate::walk::{Hop, take_hops};
 use ov_split::SplitNet;
 use std::alloc::{AllocError, Global};
 
-/// A table that says of none of so many places that a path comes to it.
+/// A table of so many places without any path.
 pub(crate) fn empty_table(alloc: Global, places: usize) -> Result<Vec<Option<u16>>, AllocError>
     ensures long { IfOk result (λ t. length t.items ≡ places) }
     ensures empty { IfOk result (λ t. (v : ℕ) → table_of t.items v ≡ None) }
@@ -22,7 +22,7 @@ pub(crate) fn empty_table(alloc: Global, places: usize) -> Result<Vec<Option<u16
     Ok(table)
 }
 
-/// Says of no place that a path comes to it.
+/// Removes all paths from the table.
 pub(crate) fn clear(table: &mut [Option<u16>])
     ensures { (v : ℕ) → table_of table.new v ≡ None }
 {
@@ -31,7 +31,7 @@ pub(crate) fn clear(table: &mut [Option<u16>])
     }
 }
 
-/// Copies the path to `end`.
+/// Copies the path to `end` from one table to the other.
 fn copy_path(
     net: &SplitNet<'_>,
     from: &[Option<u16>],
@@ -59,7 +59,7 @@ fn copy_path(
     }
 }
 
-/// Keeps the paths to the ends alone.
+/// Copies the paths to the ends, and nothing else.
 fn retrace(net: &SplitNet<'_>, from: &[Option<u16>], next: &mut [Option<u16>], ends: &[u16])
     requires ready { IsReady net.now }
     requires from { length from.now ≡ length net.now.graph.nodes }
@@ -74,7 +74,7 @@ fn retrace(net: &SplitNet<'_>, from: &[Option<u16>], next: &mut [Option<u16>], e
     }
 }
 
-/// Takes a walk to one end more, and keeps the paths alone: a walk that meets paths may leave closed rounds.
+/// Takes a walk to one more end. A walk that meets paths may leave cycles in the table. Then only the paths are kept.
 pub(crate) fn turn(
     net: &SplitNet<'_>,
     from: &mut Vec<Option<u16>>,

@@ -1,4 +1,4 @@
-//! The search for one path more: breadth first over residual steps.
+//! The search for one more path: breadth-first over residual steps (Even, SIAM J. Comput. 4, 1975).
 ghost use Rattle.std.specs.Prelude.{◌≡◌, ℕ, ◌*◌, ◌<◌, ◌≤◌, length, slice_index, OnOk, IfOk, MatchBool};
 ghost use Rattle.ov_split.specs.Places.{net_by_place};
 ghost use Rattle.ov_flow.specs.Code.Reached.{tip_of, IsGrown, IsMore, IsClean, IsEnded, IsSweptAt, IsVisited, IsSwept};
@@ -10,7 +10,7 @@ use ov_graph::row::{WORDS, first_from, has, put, without};
 use ov_split::SplitNet;
 use std::alloc::AllocError;
 
-/// Where a path ends that takes a link to `w`.
+/// The open end after a link to `w` is taken.
 fn tip(from: &[Option<u16>], w: u16) -> u16
     requires { w < length from.now }
     ensures { result ≡ tip_of (table_of from.now) w }
@@ -21,7 +21,7 @@ fn tip(from: &[Option<u16>], w: u16) -> u16
     }
 }
 
-/// Takes each link of the node that was found at place `at`. True: the last node reached is a target.
+/// Takes each link of the node at place `at` of the order. True: the last node reached is a target.
 fn visit_links(
     net: &SplitNet<'_>,
     from: &[Option<u16>],
@@ -56,8 +56,8 @@ fn visit_links(
     Ok(false)
 }
 
-/// Takes the step back from the node that was found at place `at`, if a path comes to it: the path gives up its last
-/// step. True: the last node reached is a target.
+/// Takes the step back from the node at place `at` of the order, if it is on a path: the path gives up its last step.
+/// True: the last node reached is a target.
 fn step_back(
     net: &SplitNet<'_>,
     from: &[Option<u16>],
@@ -83,7 +83,7 @@ fn step_back(
     Ok(false)
 }
 
-/// Takes each step from the node that was found at place `at`. True: the last node reached is a target.
+/// Takes each step from the node at place `at` of the order. True: the last node reached is a target.
 fn visit(
     net: &SplitNet<'_>,
     from: &[Option<u16>],
@@ -109,7 +109,7 @@ fn visit(
     step_back(net, from, tree, at)
 }
 
-/// Seeks a target. True: the last node reached is one.
+/// Searches for a target. True: the last node reached is one.
 pub(crate) fn search(
     net: &SplitNet<'_>,
     from: &[Option<u16>],

@@ -1,4 +1,4 @@
-//! What comes of seeking one path more.
+//! The result of a search for one more path.
 ghost use Rattle.std.specs.Prelude.{◌≡◌, ℕ, length};
 ghost use Rattle.ov_flow.specs.Code.Held.{IsReady, IsWorkOf, IsAtEnd};
 ghost use Rattle.ov_flow.specs.Flow.{IsFullBy};
@@ -7,7 +7,7 @@ use crate::work::Work;
 use ov_graph::row::{Row, without};
 use ov_split::SplitNet;
 
-/// Why there is no path more: rows with the places of the nearest least cut, and of its side, which is what is reached
+/// Why there is no further path: the places of the nearest least cut, and of its side, the nodes that are reached
 /// without it (Menger, Fund. Math. 10, 1927).
 #[derive(Clone, Copy)]
 pub struct Stuck {
@@ -15,14 +15,14 @@ pub struct Stuck {
     pub side: Row,
 }
 
-/// One path more is held, or there is none.
+/// One more path is held, or there is none.
 #[derive(Clone, Copy)]
 pub enum Step {
     Grew,
     Stuck(Stuck),
 }
 
-/// The cut and the side that a search leaves which found no more.
+/// The nearest least cut and its side, after a search that found no path.
 pub(crate) fn stuck_at(net: &SplitNet<'_>, work: &Work) -> Stuck
     requires ready { IsReady net.now }
     requires work { IsWorkOf net.now work.now }

@@ -10,8 +10,8 @@ use ov_graph::row::{EMPTY, Row, WORDS, has, put};
 use ov_split::SplitNet;
 use std::alloc::{AllocError, Global};
 
-/// What a search has reached, in the order of finding: for each node the place of its parent in that order, and the
-/// link taken to it (none for a step back). `seen` has the nodes to which links need not be looked at any more.
+/// The tree of a search: the reached nodes in the order of finding, for each the place of its parent in that order, and
+/// the link that was taken to it (none for a step back). Links to the nodes in `seen` need not be taken any more.
 #[derive(Drop)]
 pub(crate) struct Tree {
     pub order: Vec<u16>,
@@ -21,7 +21,7 @@ pub(crate) struct Tree {
     pub seen: Row,
 }
 
-/// A tree with room for so many nodes.
+/// An empty tree with room for so many nodes.
 pub(crate) fn new_tree(alloc: Global, room: usize) -> Result<Tree, AllocError> {
     Ok(Tree {
         order: Vec::with_capacity(alloc, room)?,
@@ -32,7 +32,7 @@ pub(crate) fn new_tree(alloc: Global, room: usize) -> Result<Tree, AllocError> {
     })
 }
 
-/// Begins a search at the source.
+/// Starts a search at the source.
 pub(crate) fn begin(net: &SplitNet<'_>, tree: &mut Tree) -> Result<(), AllocError>
     requires ready { IsReady net.now }
     ensures grown { OnOk result ((from : Table) → IsGrown (net_by_place net.now) from tree.new) }
@@ -52,7 +52,7 @@ pub(crate) fn begin(net: &SplitNet<'_>, tree: &mut Tree) -> Result<(), AllocErro
     Ok(())
 }
 
-/// Adds a node to which a step leads from the one that was found at place `at`, unless it is reached.
+/// Adds a node, unless it is reached already. A step leads to it from the node at place `at` of the order.
 pub(crate) fn reach(tree: &mut Tree, at: u16, way: Option<u16>, node: u16) -> Result<(), AllocError>
     requires at { at < length tree.old.order.items }
     requires node { node < 64 * WORDS }

@@ -1,4 +1,4 @@
-//! The walk to a target that a search found, and its steps taken.
+//! The walk to a target that a search found, and the change of the table by its steps.
 ghost use Rattle.std.specs.Prelude.{◌≡◌, ◌≢◌, ℕ, ◌-◌, ◌<◌, List, ◌∷◌, length, slice_index, Some};
 ghost use Rattle.std.specs.Prelude.{None, true, OnOk, IfSome};
 ghost use Rattle.ov_split.specs.Net.{Net};
@@ -12,14 +12,14 @@ use crate::tree::Tree;
 use ov_split::SplitNet;
 use std::alloc::AllocError;
 
-/// A step of a walk: to `node`, over a link to `way`, or back.
+/// A step of a walk to `node`: by a link to `way`, or back along a path where there is no `way`.
 #[derive(Clone, Copy)]
 pub(crate) struct Hop {
     pub node: u16,
     pub way: Option<u16>,
 }
 
-/// Writes down the walk to the last node that is reached.
+/// Writes the walk from the source to the last node that is reached.
 pub(crate) fn walk_back(tree: &Tree, hops: &mut Vec<Hop>) -> Result<(), AllocError>
     requires { IsShaped tree.now.order.items tree.now.parents.items tree.now.ways.items }
     ensures { OnOk result ((n : Net) (from : Table) → IsGrown n from tree.now
@@ -37,7 +37,7 @@ pub(crate) fn walk_back(tree: &Tree, hops: &mut Vec<Hop>) -> Result<(), AllocErr
     Ok(())
 }
 
-/// A step over a link, to a place that no path comes to.
+/// Whether a step is by a link to a place on no path.
 fn is_fresh(from: &[Option<u16>], way: Option<u16>) -> bool
     requires { IfSome way (λ w. w < length from.now) }
     ensures { result ≡ true → (w : ℕ) × (way ≡ Some w) × (table_of from.now w ≡ None) }
@@ -48,7 +48,8 @@ fn is_fresh(from: &[Option<u16>], way: Option<u16>) -> bool
     }
 }
 
-/// Takes the steps of a walk from the source. True: the walk met no path, so that what was on paths to ends still is.
+/// Takes the steps of a walk from the source. True: the walk met no path, so each place in the table is still on a path
+/// to an end.
 pub(crate) fn take_hops(
     net: &SplitNet<'_>,
     from: &mut [Option<u16>],

@@ -1,4 +1,4 @@
-//! What a search works on, and the paths that are held.
+//! The buffers of a search, and the paths that are held.
 ghost use Rattle.std.specs.Prelude.{◌≡◌, ℕ, ◌<◌, ◌≤◌, [], length, false, IfOk, OnErr, MatchBool};
 ghost use Rattle.ov_split.specs.Net.{Net};
 ghost use Rattle.ov_flow.specs.Code.Held.{IsReady, HasRoom, IsWorkOf, IsSame, IsLonger, IsAtEnd};
@@ -11,7 +11,8 @@ use crate::walk::{Hop, walk_back};
 use ov_split::SplitNet;
 use std::alloc::{AllocError, Global};
 
-/// The tree of the last search, and the paths held: from where one comes to each place, and their ends.
+/// The tree and the walk of the last search, and the paths that are held: in `from` the place before each place on its
+/// path, and their ends. `next` is a buffer for `from`.
 #[derive(Drop)]
 pub(crate) struct Work {
     pub tree: Tree,
@@ -21,7 +22,7 @@ pub(crate) struct Work {
     pub ends: Vec<u16>,
 }
 
-/// Room for searches of nets with so many places. No path is held.
+/// Allocates the buffers for nets with so many places. No path is held.
 pub(crate) fn new_work(alloc: Global, places: usize) -> Result<Work, AllocError>
     ensures work { IfOk result (λ w. (n : Net) → length n.graph.nodes ≡ places → IsWorkOf n w) }
     ensures empty { IfOk result (λ w. w.ends.items ≡ []) }
@@ -35,8 +36,8 @@ pub(crate) fn new_work(alloc: Global, places: usize) -> Result<Work, AllocError>
     })
 }
 
-/// Holds no path.
-pub(crate) fn start(net: &SplitNet<'_>, work: &mut Work)
+/// Drops all paths that are held.
+fn start(net: &SplitNet<'_>, work: &mut Work)
     requires { HasRoom (length net.now.graph.nodes) work.old }
     ensures work { IsWorkOf net.now work.new }
     ensures empty { work.new.ends.items ≡ [] }
@@ -45,7 +46,7 @@ pub(crate) fn start(net: &SplitNet<'_>, work: &mut Work)
     work.ends.clear();
 }
 
-/// Seeks one path more. True: it is held too.
+/// Searches for one more path. True: it was found, and is held.
 pub(crate) fn augment(net: &SplitNet<'_>, work: &mut Work) -> Result<bool, AllocError>
     requires ready { IsReady net.now }
     requires work { IsWorkOf net.now work.old }
@@ -71,7 +72,7 @@ pub(crate) fn augment(net: &SplitNet<'_>, work: &mut Work) -> Result<bool, Alloc
     Ok(true)
 }
 
-/// Begins anew, and seeks `level` paths. True: so many are held.
+/// Starts again, and searches for `level` paths. True: so many are held.
 pub(crate) fn settle(net: &SplitNet<'_>, level: usize, work: &mut Work) -> Result<bool, AllocError>
     requires ready { IsReady net.now }
     requires room { HasRoom (length net.now.graph.nodes) work.old }

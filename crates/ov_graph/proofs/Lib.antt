@@ -1,14 +1,3 @@
-pub mod Tested
-pub mod Filtered
-pub mod Walks
-pub mod Escape
-pub mod Sufficing
-pub mod Bits
-pub mod Halving
-pub mod Marked
-pub mod Read
-pub mod Alike
-pub mod Grouped
-pub mod Shifts
-pub mod ChangedLinks
-pub mod ChangedNodes
+pub mod EvenTest
+pub mod BitRows
+pub mod GraphValues

@@ -2,7 +2,7 @@ pub mod Links
 pub mod Joined
 pub mod Paths
 pub mod Even
-pub mod Laws
+pub mod Theorems
 pub mod Faults
 pub mod Changes
 pub mod Row

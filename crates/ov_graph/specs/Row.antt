@@ -1,8 +1,8 @@
--- Rows of bits, in words of 64 bits.
+-- Rows of bits: lists of words of 64 bits.
 use Rattle.std.specs.Prelude.{ℕ, ◌+◌, ◌*◌, ◌/◌, ◌%◌, ◌<◌, ◌≤◌, ◌==◌, Bool, IsTrue, List, slice_index}
 use Rattle.std.specs.Int.{bit_at}
 
--- bit p of a row: bit p mod 64 of its word p / 64
+-- whether bit p is set: bit p mod 64 of word p / 64
 unfoldable pub has_bit : List ℕ → ℕ → Bool
 has_bit row p = bit_at (slice_index row (p / 64)) (p % 64) == 1
 
@@ -16,7 +16,7 @@ pub record IsFirstFrom (row : List ℕ) (from p : ℕ) : Type 0 where
   pub set : HasBit row p
   pub first : (q : ℕ) → from ≤ q → q < p → ¬ HasBit row q
 
--- so many words have bits for n places, and fewer have not
+-- `words` is the least number of words with bits for n places
 pub record AreWordsFor (n words : ℕ) : Type 0 where
   pub enough : n ≤ 64 * words
   pub least : 64 * words < n + 64

@@ -1,4 +1,4 @@
-//! Changes of a graph as it is kept.
+//! Changes of a graph in its nodes and rows.
 ghost use Rattle.std.specs.Prelude.{◌≡◌, ◌≢◌, ◌↔◌, ℕ, ◌+◌, ◌*◌, ◌<◌, ◌≤◌, length, vec_len, vec_capacity, OnOk, OnErr};
 ghost use Rattle.std.specs.List.{insert};
 ghost use Rattle.ov_ids.specs.Members.{Has};
@@ -15,7 +15,7 @@ use crate::row::{EMPTY, Row, WORDS, words_for};
 use crate::row_shift::{closed, opened};
 use ov_ids::{NodeId, OutOfMemory};
 
-/// Takes a node in, with no links. Out of memory changes nothing.
+/// Adds a node without links. Out of memory leaves nodes and rows as they were.
 pub(crate) fn put_in(
     nodes: &mut Vec<NodeId>,
     rows: &mut Vec<Row>,
@@ -37,7 +37,7 @@ pub(crate) fn put_in(
     Ok(())
 }
 
-/// Takes a node out, with its links.
+/// Removes a node and its links.
 pub(crate) fn take_out(nodes: &mut Vec<NodeId>, rows: &mut Vec<Row>, id: NodeId)
     requires kept { IsKept nodes.old.items rows.old.items }
     requires node { Has nodes.old.items id }
@@ -67,7 +67,7 @@ pub(crate) fn join(nodes: &[NodeId], rows: &mut [Row], a: NodeId, b: NodeId)
     mark(rows, q, p);
 }
 
-/// Takes the link between two nodes away.
+/// Removes the link between two nodes.
 pub(crate) fn part(nodes: &[NodeId], rows: &mut [Row], a: NodeId, b: NodeId)
     requires kept { IsKept nodes.now rows.old }
     requires a { Has nodes.now a }
@@ -81,7 +81,7 @@ pub(crate) fn part(nodes: &[NodeId], rows: &mut [Row], a: NodeId, b: NodeId)
     unmark(rows, q, p);
 }
 
-/// An empty row more, where there is room for it.
+/// Inserts an empty row. It needs room for one, and allocates nothing.
 fn insert_empty(rows: &mut Vec<Row>, p: usize)
     requires place { p ≤ length rows.old.items }
     requires room { vec_len rows.old < vec_capacity rows.old }
@@ -93,7 +93,7 @@ fn insert_empty(rows: &mut Vec<Row>, p: usize)
     }
 }
 
-/// Puts a bit into each row at place `p`, which is not set.
+/// Inserts a bit 0 into each row at place `p`.
 fn open_all(rows: &mut [Row], p: usize, words: usize)
     requires { words ≤ WORDS }
     ensures each { length rows.new ≡ length rows.old }
@@ -104,7 +104,7 @@ fn open_all(rows: &mut [Row], p: usize, words: usize)
     }
 }
 
-/// Takes the bit at place `p` out of each row.
+/// Removes the bit at place `p` from each row.
 fn close_all(rows: &mut [Row], p: usize, words: usize)
     requires { words ≤ WORDS }
     ensures each { length rows.new ≡ length rows.old }

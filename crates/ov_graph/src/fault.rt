@@ -5,7 +5,7 @@ ghost use Rattle.ov_graph.specs.declared.fault.GraphFault.TheVariants.{OutOfMemo
 use std::alloc::{AllocError, AllocFailed};
 use thiserror::Error;
 
-/// Why nodes and links make no graph.
+/// Why nodes and links are refused as a graph.
 #[derive(Clone, Copy, Debug, PartialEq, Eq, Error)]
 pub enum GraphFault {
     #[error("too many nodes")]
@@ -19,7 +19,7 @@ pub enum GraphFault {
 }
 
 impl GraphFault {
-    /// The fault's number.
+    /// The number of the fault.
     pub fn number(&self) -> u32
         ensures { result ≡ number_of self.now }
     {

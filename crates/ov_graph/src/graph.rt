@@ -11,16 +11,16 @@ ghost use Rattle.ov_ids.specs.Members.{Has};
 use crate::adjacency::rows_of;
 use crate::changing::{join, part, put_in, take_out};
 use crate::fault::GraphFault;
-use crate::judging::first_fault;
 use crate::neighbours::{Links, Neighbours};
 use crate::places::{are_nodes, place_in, place_of};
+use crate::refusals::first_fault;
 use crate::row::{Row, WORDS, has, words_for};
 use crate::same::{are_equal, have_same_rows};
 use ov_ids::{NodeId, OutOfMemory, is_ascending};
 use std::alloc::{AllocError, Global};
 use std::marker::Model;
 
-/// A graph. Contracts see its nodes and its links, both ascending.
+/// A simple undirected graph. Contracts see its nodes and its links, both ascending.
 #[derive(Drop)]
 pub struct Graph {
     nodes: Vec<NodeId>,
@@ -39,11 +39,12 @@ impl Model for Graph {
 }
 
 impl Graph {
-    /// As many nodes as a graph may have.
+    /// The most nodes that a graph may have: 1,024.
     pub const MOST_NODES: usize = 64 * WORDS;
 
-    /// The graph of these nodes and links, or the first fault: more than 1,024 nodes, nodes that do not ascend, or link
-    /// by link one that joins no node to a higher one, or that is not above the link before it.
+    /// The graph of these nodes and links, or the first fault. The faults in order: more than 1,024 nodes, nodes that
+    /// do not ascend, then for each link that it does not join a node to a higher one, or does not come after the link
+    /// before it. Out of memory is returned only where there is no other fault.
     pub fn new(
         alloc: Global,
         nodes: &[NodeId],
@@ -52,7 +53,8 @@ impl Graph {
         ensures graph { IfOk result (λ g. g ≡ record { nodes = nodes.now; links = links.now }) }
         ensures is_graph { IfOk result IsGraph }
         ensures within { IfOk result IsWithinLimit }
-        ensures judged { MatchResult result (λ _. GraphJudged nodes.now links.now None) (IsRefusal nodes.now links.now) }
+        ensures judged { MatchResult result (λ _. GraphJudged nodes.now links.now None)
+            (IsRefusal nodes.now links.now) }
     {
         if let Some(fault) = first_fault(nodes, links) {
             return Err(fault);
@@ -72,7 +74,7 @@ impl Graph {
         &self.nodes
     }
 
-    /// The links, each named from its lower node, ascending.
+    /// The links, ascending, each with its lower node first.
     pub fn links(&self) -> Links<'_>
         ensures links { result ≡ self.now.links }
         ensures graph { IsGraph self.now }
@@ -80,7 +82,7 @@ impl Graph {
         Links::new(&self.nodes, &self.rows)
     }
 
-    /// Whether two nodes are linked. A stranger is linked to nobody, and no node to itself.
+    /// Whether two nodes are linked. An id that is no node has no links, and no node is linked to itself.
     pub fn linked(&self, a: NodeId, b: NodeId) -> bool
         ensures linked { IsTrue result ↔ Linked self.now a b }
         ensures graph { IsGraph self.now }
@@ -101,7 +103,7 @@ impl Graph {
         has(&self.rows[p], q)
     }
 
-    /// The place of a node, counted from 0, in the order of ids; none of a stranger.
+    /// The place of a node, counted from 0, in the order of ids. An id that is no node has none.
     pub fn place(&self, a: NodeId) -> Option<usize>
         ensures some { IfSome result (λ p. (p < length self.now.nodes) × (node_at self.now p ≡ a)) }
         ensures none { IfNone result (¬ Has self.now.nodes a) }
@@ -131,7 +133,7 @@ impl Graph {
         &self.rows[p]
     }
 
-    /// How many words of the rows are in use: no row has a bit beyond them.
+    /// How many words of the rows are in use. No row has a bit beyond them.
     pub fn words(&self) -> usize
         ensures words { AreWordsFor (length self.now.nodes) result }
         ensures fits { result ≤ WORDS }
@@ -139,7 +141,7 @@ impl Graph {
         words_for(self.nodes.len())
     }
 
-    /// The nodes that a node is linked to, ascending.
+    /// The neighbours of a node, ascending.
     pub fn neighbours(&self, a: NodeId) -> Neighbours<'_>
         requires { Has self.now.nodes a }
         ensures neighbours { AreNeighbours self.now a result }
@@ -171,7 +173,7 @@ impl Graph {
         have_same_rows(&self.rows, &other.rows, self.words())
     }
 
-    /// Takes in a node that is linked to nobody. Out of memory leaves the graph as it was.
+    /// Adds a node without links. Out of memory leaves the graph as it was.
     pub fn add_node(&mut self, id: NodeId) -> Result<(), OutOfMemory>
         requires stranger { ¬ Has self.old.nodes id }
         requires few { length self.old.nodes < most_nodes }
@@ -182,7 +184,7 @@ impl Graph {
         put_in(&mut self.nodes, &mut self.rows, id)
     }
 
-    /// Takes out a node, with its links. Nothing is allocated.
+    /// Removes a node and its links. Nothing is allocated.
     pub fn remove_node(&mut self, id: NodeId)
         requires { Has self.old.nodes id }
         ensures node { LosesNode self.old id self.new }
@@ -191,7 +193,7 @@ impl Graph {
         take_out(&mut self.nodes, &mut self.rows, id);
     }
 
-    /// Links two different nodes. Where they are linked it changes nothing. Nothing is allocated.
+    /// Links two different nodes. Nothing changes where they are linked already. Nothing is allocated.
     pub fn link(&mut self, a: NodeId, b: NodeId)
         requires a { Has self.old.nodes a }
         requires b { Has self.old.nodes b }
@@ -202,8 +204,7 @@ impl Graph {
         join(&self.nodes, &mut self.rows, a, b);
     }
 
-    /// Takes the link between two different nodes away. Where they are not linked it changes nothing. It takes no
-    /// memory.
+    /// Removes the link between two different nodes. Nothing changes where they are not linked. Nothing is allocated.
     pub fn unlink(&mut self, a: NodeId, b: NodeId)
         requires a { Has self.old.nodes a }
         requires b { Has self.old.nodes b }

@@ -1,20 +1,20 @@
-//! Graphs over ids: the nodes, and which of them are linked.
+//! Graphs: nodes, which are ids, and the links between them.
 #![tactic(auto)]
 
 mod adjacency;
 mod changing;
 mod fault;
 mod graph;
-mod judging;
-mod laws;
 mod neighbours;
 mod places;
+mod refusals;
 pub mod row;
 mod row_shift;
 mod same;
+mod theorems;
 
 pub use fault::GraphFault;
 pub use graph::Graph;
-pub use laws::{even_suffices, one_number};
 pub use neighbours::{Links, Neighbours};
 pub use places::is_member;
+pub use theorems::{even_suffices, one_number};

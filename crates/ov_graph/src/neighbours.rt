@@ -6,7 +6,7 @@ use crate::row::{Row, first_from, words_for};
 use ov_ids::NodeId;
 use std::marker::Model;
 
-/// The nodes that a node is linked to, ascending. Contracts see those that are still to come.
+/// The neighbours of a node, ascending. Contracts see those that are still to come.
 #[derive(Drop)]
 pub struct Neighbours<'a> {
     nodes: &'a [NodeId],

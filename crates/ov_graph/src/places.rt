@@ -5,7 +5,7 @@ ghost use Rattle.ov_ids.specs.Sets.{has, count_below};
 
 use ov_ids::NodeId;
 
-/// The place of a node among nodes that ascend, by halving.
+/// The place of a node in ascending nodes, by binary search.
 pub(crate) fn place_of(nodes: &[NodeId], a: NodeId) -> Option<usize>
     requires { Ascends nodes.now }
     ensures some { IfSome result (λ p. (p < length nodes.now) × (slice_index nodes.now p ≡ a)) }
@@ -14,7 +14,7 @@ pub(crate) fn place_of(nodes: &[NodeId], a: NodeId) -> Option<usize>
     nodes.binary_search(&a).ok()
 }
 
-/// The place of one of the nodes, which ascend.
+/// The place of one of the nodes, which ascend, by binary search.
 pub(crate) fn place_in(nodes: &[NodeId], a: NodeId) -> usize
     requires ascend { Ascends nodes.now }
     requires node { Has nodes.now a }
@@ -27,7 +27,7 @@ pub(crate) fn place_in(nodes: &[NodeId], a: NodeId) -> usize
     }
 }
 
-/// How many nodes are below `a`, by halving.
+/// How many nodes are below `a`, by binary search.
 pub(crate) fn place_for(nodes: &[NodeId], a: NodeId) -> usize
     requires { Ascends nodes.now }
     ensures { result ≡ count_below a nodes.now }
@@ -38,7 +38,7 @@ pub(crate) fn place_for(nodes: &[NodeId], a: NodeId) -> usize
     }
 }
 
-/// Whether an id is one of these, which ascend, by halving.
+/// Whether an id is in a list of ascending ids, by binary search.
 pub fn is_member(ids: &[NodeId], id: NodeId) -> bool
     requires { Ascends ids.now }
     ensures member { IsTrue result ↔ Has ids.now id }

@@ -1,4 +1,5 @@
-//! Rows of bits: sets of places of nodes. Functions over many words take how many are in use, and look at no more.
+//! Rows of bits: sets of places of nodes. A function over many words gets the number of words in use, and reads no
+//! others.
 ghost use Rattle.std.specs.Prelude.{◌≡◌, ◌≢◌, ◌↔◌, ◌⊎◌, ℕ, ◌<◌, ◌≤◌, ◌*◌, IsTrue, IfSome, IfNone};
 ghost use Rattle.std.specs.Int.{bit_at};
 ghost use Rattle.ov_graph.specs.Row.{HasBit, IsFirstFrom, AreWordsFor};
@@ -21,7 +22,7 @@ pub fn has(row: &[u64; WORDS], p: usize) -> bool
     row[p / 64] >> (p % 64) & 1 == 1
 }
 
-/// Sets bit `p`, and leaves the others.
+/// Sets bit `p`. The other bits stay.
 pub fn put(row: &mut [u64; WORDS], p: usize)
     requires { p < 64 * WORDS }
     ensures { (q : ℕ) → HasBit row.new q ↔ ((q ≡ p) ⊎ HasBit row.old q) }
@@ -29,7 +30,7 @@ pub fn put(row: &mut [u64; WORDS], p: usize)
     row[p / 64] = with_bit(row[p / 64], (p % 64) as u32);
 }
 
-/// Clears bit `p`, and leaves the others.
+/// Clears bit `p`. The other bits stay.
 pub fn clear(row: &mut [u64; WORDS], p: usize)
     requires { p < 64 * WORDS }
     ensures { (q : ℕ) → HasBit row.new q ↔ ((q ≢ p) × HasBit row.old q) }
@@ -61,7 +62,7 @@ pub fn without(a: &[u64; WORDS], b: &[u64; WORDS], words: usize) -> [u64; WORDS]
     kept
 }
 
-/// The first set bit from `from` on, in the first `words` words.
+/// The first set bit from bit `from` on, in the first `words` words.
 pub fn first_from(row: &[u64; WORDS], from: usize, words: usize) -> Option<usize>
     requires { words ≤ WORDS }
     ensures some { IfSome result (λ p. IsFirstFrom row.now from p) }
@@ -104,7 +105,7 @@ pub fn agree(a: &[u64; WORDS], b: &[u64; WORDS], words: usize) -> bool
     true
 }
 
-/// How many words have bits for `n` places.
+/// The least number of words with bits for `n` places.
 pub fn words_for(n: usize) -> usize
     requires { n ≤ 64 * WORDS }
     ensures words { AreWordsFor n result }

@@ -1,4 +1,4 @@
-//! A place that is put into a row of bits, or taken out of it: the bits from there on move by one.
+//! A bit is inserted into a row, or removed from it. The bits after it move by one place.
 ghost use Rattle.std.specs.Prelude.{◌≡◌, ◌↔◌, ◌⊎◌, ℕ, ◌+◌, ◌-◌, ◌*◌, ◌/◌, ◌%◌, ◌<◌, ◌≤◌, slice_index};
 ghost use Rattle.std.specs.Int.{bit_at};
 ghost use Rattle.ov_graph.specs.Row.{HasBit};
@@ -6,7 +6,7 @@ ghost use Rattle.ov_graph.specs.Code.Shifts.{HasOpened, HasClosed};
 
 use crate::row::{EMPTY, WORDS};
 
-/// The first `words` words of a row with a bit put in at place `p`, which is not set.
+/// The first `words` words of a row with a bit 0 inserted at place `p`.
 pub(crate) fn opened(row: &[u64; WORDS], p: usize, words: usize) -> [u64; WORDS]
     requires { words ≤ WORDS }
     ensures { (q : ℕ) → HasBit result q ↔ ((q < 64 * words) × HasOpened row.now p q) }
@@ -18,7 +18,7 @@ pub(crate) fn opened(row: &[u64; WORDS], p: usize, words: usize) -> [u64; WORDS]
     made
 }
 
-/// The first `words` words of a row with the bit at place `p` taken out.
+/// The first `words` words of a row with the bit at place `p` removed.
 pub(crate) fn closed(row: &[u64; WORDS], p: usize, words: usize) -> [u64; WORDS]
     requires { words ≤ WORDS }
     ensures { (q : ℕ) → HasBit result q ↔ ((q < 64 * words) × HasClosed row.now p q) }
@@ -30,7 +30,7 @@ pub(crate) fn closed(row: &[u64; WORDS], p: usize, words: usize) -> [u64; WORDS]
     made
 }
 
-/// A word of the row with a bit put in at place `p`.
+/// A word of the row with a bit 0 inserted at place `p`.
 fn opened_word(row: &[u64; WORDS], p: usize, word: usize) -> u64
     requires { word < WORDS }
     ensures { (q : ℕ) → q / 64 ≡ word → (bit_at result (q % 64) ≡ 1) ↔ HasOpened row.now p q }
@@ -45,7 +45,7 @@ fn opened_word(row: &[u64; WORDS], p: usize, word: usize) -> u64
     up(row[word], row[word - 1])
 }
 
-/// A word of the row with the bit at place `p` taken out.
+/// A word of the row with the bit at place `p` removed.
 fn closed_word(row: &[u64; WORDS], p: usize, word: usize) -> u64
     requires { word < WORDS }
     ensures { (q : ℕ) → q / 64 ≡ word → (bit_at result (q % 64) ≡ 1) ↔ HasClosed row.now p q }
@@ -69,7 +69,7 @@ fn word_after(row: &[u64; WORDS], word: usize) -> u64
     if word + 1 < WORDS { row[word + 1] } else { 0 }
 }
 
-/// The bits of a word below bit `t`, and the others one place up.
+/// The bits of a word below bit `t`, and the others moved one place up.
 fn parted(word: u64, t: u32) -> u64
     requires { t < 64 }
     ensures { (i : ℕ) → i < 64
@@ -103,7 +103,7 @@ fn above(word: u64, t: u32) -> u64
     word >> t << t
 }
 
-/// The bits of a word one place up, with the last bit of the word before it.
+/// A word moved one place up. Its first bit is the last bit of the word before it.
 fn up(word: u64, before: u64) -> u64
     ensures first { (bit_at result 0 ≡ 1) ↔ (bit_at before 63 ≡ 1) }
     ensures others { (i : ℕ) → i < 63 → (bit_at result (i + 1) ≡ 1) ↔ (bit_at word i ≡ 1) }
@@ -111,7 +111,7 @@ fn up(word: u64, before: u64) -> u64
     word << 1 | before >> 63
 }
 
-/// The bits of a word one place down, with the first bit of the word after it.
+/// A word moved one place down. Its last bit is the first bit of the word after it.
 fn down(word: u64, after: u64) -> u64
     ensures last { (bit_at result 63 ≡ 1) ↔ (bit_at after 0 ≡ 1) }
     ensures others { (i : ℕ) → i < 63 → (bit_at result i ≡ 1) ↔ (bit_at word (i + 1) ≡ 1) }

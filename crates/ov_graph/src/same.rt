@@ -5,14 +5,14 @@ ghost use Rattle.ov_graph.specs.Code.Kept.{row_at};
 use crate::row::{Row, WORDS, agree};
 use ov_ids::NodeId;
 
-/// Whether two lists of ids are one list.
+/// Whether two lists of ids are equal.
 pub(crate) fn are_equal(left: &[NodeId], right: &[NodeId]) -> bool
     ensures { IsTrue result ↔ left.now ≡ right.now }
 {
     left == right
 }
 
-/// Whether rows have the same bits in the first `words` words.
+/// Whether two lists of rows have the same bits in the first `words` words of each row.
 pub(crate) fn have_same_rows(left: &[Row], right: &[Row], words: usize) -> bool
     requires each { length left.now ≡ length right.now }
     requires words { words ≤ WORDS }

@@ -1,11 +1,12 @@
--- The test of order says what the relation says.
-use Rattle.std.proofs.Common.{◌≡◌, ◌↔◌, ℕ, ◌<◌, true, IsTrue, List, [], ◌∷◌, Bool, Some, None, refl, sym, ◌∙◌, arith, nat_lt}
+-- The test of order agrees with the relation.
+use Rattle.std.proofs.Common.{◌≡◌, ◌↔◌, ℕ, ◌<◌, true, IsTrue, List, [], ◌∷◌, Bool, Some, None, refl, sym, ◌∙◌, arith}
+use Rattle.std.proofs.Common.{nat_lt}
 use Rattle.std.proofs.lemmas.Bool.{and_parts, and_from, ltb-true, lt-ltb}
 use Rattle.std.specs.List.{AllByRecursion}
 use Rattle.ov_ids.specs.Members.{Ascends}
 use Rattle.ov_ids.specs.Code.Ascending.{ascends_after}
 
--- what is above x is above what is below x
+-- ids that are all above y are all above each x below y
 all_above : (x y : ℕ) (xs : List ℕ) → x < y → AllByRecursion (λ z. y < z) xs → AllByRecursion (λ z. x < z) xs
 all_above x y [] l a = tt
 all_above x y (z ∷ xs) l a = (let m = a.0 in omega (arith, l, m), all_above x y xs l a.1)

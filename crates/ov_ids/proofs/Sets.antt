@@ -1,8 +1,11 @@
--- What is in a set after a change, and where.
-use Rattle.std.proofs.Common.{subst, ap, zero, ◌≡◌, ◌≢◌, ◌↔◌, ℕ, suc, ◌<◌, ◌≤◌, ◌+◌, Bool, true, false, cond, not, IsTrue, ◌||◌, ◌&&◌, eqb, ltb, List, [], ◌∷◌, length, get_or, refl, ap, inl, inr, sym, ◌∙◌, arith, ◌⊎◌}
+-- The members of a set after a change, and their places.
+use Rattle.std.proofs.Common.{subst, ap, zero, ◌≡◌, ◌≢◌, ◌↔◌, ℕ, suc, ◌<◌, ◌≤◌, ◌+◌, Bool, true, false, cond, not}
+use Rattle.std.proofs.Common.{IsTrue, ◌||◌, ◌&&◌, eqb, ltb, List, [], ◌∷◌, length, get_or, refl, inl, inr, sym, ◌∙◌}
+use Rattle.std.proofs.Common.{◌⊎◌, arith}
 use Rattle.std.specs.Prelude.{insert, remove}
 use Rattle.std.specs.List.{AllByRecursion}
-use Rattle.std.proofs.lemmas.Bool.{and_parts, not-true, or_cases, or_left, or_right, ltb-true, ltb-false, lt-ltb, le-ltb, eq-eqb, ne_eqb, eqb-false, eqb-true, or_parts, cases_order, both_ways}
+use Rattle.std.proofs.lemmas.Bool.{and_parts, not-true, or_cases, or_left, or_right, ltb-true, ltb-false, lt-ltb}
+use Rattle.std.proofs.lemmas.Bool.{le-ltb, eq-eqb, ne_eqb, eqb-false, eqb-true, or_parts, cases_order, both_ways}
 use Rattle.ov_ids.specs.Sets.{IsSet, has, IsIn, adding, without, count_below}
 
 All-map : (P Q : ℕ → Type 0) → ((y : ℕ) → P y → Q y) → (t : List ℕ) → AllByRecursion P t → AllByRecursion Q t
@@ -14,10 +17,18 @@ All-adding P x [] p a = (p, tt)
 All-adding P x (y ∷ t) p a =
     elim (ltb x y) as (λ b. AllByRecursion P (cond b (x ∷ y ∷ t) (y ∷ cond (ltb y x) (adding x t) t))) [
       | true ↦ (p, a)
-      | false ↦ (a.0, elim (ltb y x) as (λ b. AllByRecursion P (cond b (adding x t) t)) [ true ↦ All-adding P x t p a.1 | false ↦ a.1 ])
+      | false ↦ (
+        a.0,
+        elim (ltb y x) as (λ b. AllByRecursion P (cond b (adding x t) t)) [
+          | true ↦ All-adding P x t p a.1
+          | false ↦ a.1
+        ],
+      )
     ]
 
-IsSet-adding_cases : (x y : ℕ) (t : List ℕ) (a b : Bool) → ltb x y ≡ a → ltb y x ≡ b → IsSet (y ∷ t) → IsSet (adding x t) → IsSet (cond a (x ∷ y ∷ t) (y ∷ cond b (adding x t) t))
+IsSet-adding_cases : (x y : ℕ) (t : List ℕ) (a b : Bool)
+    → ltb x y ≡ a → ltb y x ≡ b → IsSet (y ∷ t) → IsSet (adding x t)
+    → IsSet (cond a (x ∷ y ∷ t) (y ∷ cond b (adding x t) t))
 IsSet-adding_cases x y t true b p q s u =
     let h : x < y = ltb-true x y p in
     ((h, All-map (λ z. y < z) (λ z. x < z) (λ z r. omega arith) t s.0), s)
@@ -31,15 +42,22 @@ IsSet-adding x (y ∷ t) s = IsSet-adding_cases x y t (ltb x y) (ltb y x) refl r
 All-without : (P : ℕ → Type 0) (x : ℕ) (t : List ℕ) → AllByRecursion P t → AllByRecursion P (without x t)
 All-without P x [] a = tt
 All-without P x (y ∷ t) a =
-    elim (eqb y x) as (λ b. AllByRecursion P (cond (not b) (y ∷ without x t) (without x t))) [ true ↦ All-without P x t a.1 | false ↦ (a.0, All-without P x t a.1) ]
+    elim (eqb y x) as (λ b. AllByRecursion P (cond (not b) (y ∷ without x t) (without x t))) [
+      | true ↦ All-without P x t a.1
+      | false ↦ (a.0, All-without P x t a.1)
+    ]
 
 pub IsSet-without : (x : ℕ) (t : List ℕ) → IsSet t → IsSet (without x t)
 IsSet-without x [] s = tt
 IsSet-without x (y ∷ t) s =
-    elim (eqb y x) as (λ b. IsSet (cond (not b) (y ∷ without x t) (without x t))) [ true ↦ IsSet-without x t s.1 | false ↦ (All-without (λ z. y < z) x t s.0, IsSet-without x t s.1) ]
+    elim (eqb y x) as (λ b. IsSet (cond (not b) (y ∷ without x t) (without x t))) [
+      | true ↦ IsSet-without x t s.1
+      | false ↦ (All-without (λ z. y < z) x t s.0, IsSet-without x t s.1)
+    ]
 
 -- the first member is below x, or it is not
-count_below_cases : (x y : ℕ) (t : List ℕ) (P : ℕ → Type 0) → (y < x → P (suc (count_below x t))) → (x ≤ y → P 0) → P (count_below x (y ∷ t))
+count_below_cases : (x y : ℕ) (t : List ℕ) (P : ℕ → Type 0)
+    → (y < x → P (suc (count_below x t))) → (x ≤ y → P 0) → P (count_below x (y ∷ t))
 count_below_cases x y t P below above =
     elim (ltb y x) as (λ b. ltb y x ≡ b → P (cond b (suc (count_below x t)) 0)) [
       | true ↦ λ e. below (ltb-true y x e)
@@ -48,7 +66,8 @@ count_below_cases x y t P below above =
 
 pub count_below-le-length : (x : ℕ) (t : List ℕ) → count_below x t ≤ length t
 count_below-le-length x [] = omega arith
-count_below-le-length x (y ∷ t) = count_below_cases x y t (λ i. i ≤ suc (length t)) (λ _. omega (arith, count_below-le-length x t)) (λ _. omega arith)
+count_below-le-length x (y ∷ t) =
+    count_below_cases x y t (λ i. i ≤ suc (length t)) (λ _. omega (arith, count_below-le-length x t)) (λ _. omega arith)
 
 pub has_past_end : (x : ℕ) (t : List ℕ) → length t ≤ count_below x t → has t x ≡ false
 has_past_end x [] p = refl
@@ -64,22 +83,27 @@ has_at_first : (x y : ℕ) (t : List ℕ) → IsSet (y ∷ t) → x ≤ y → eq
 has_at_first x y t s p =
     elim (cases_order x y) [
       | inl e ↦ rw (eq-eqb y x (omega arith))
-      | inr q ↦ rw (ne_eqb y x (omega arith)) (sym (has_below_all x t (All-map (λ z. y < z) (λ z. x < z) (λ z r. omega arith) t s.0)))
+      | inr q ↦ rw (ne_eqb y x (omega arith))
+          (sym (has_below_all x t (All-map (λ z. y < z) (λ z. x < z) (λ z r. omega arith) t s.0)))
     ]
 
-pub has_at : (x : ℕ) (t : List ℕ) (d : ℕ) → IsSet t → count_below x t < length t → eqb (get_or t (count_below x t) d) x ≡ has t x
+pub has_at : (x : ℕ) (t : List ℕ) (d : ℕ)
+    → IsSet t → count_below x t < length t → eqb (get_or t (count_below x t) d) x ≡ has t x
 has_at x [] d s p = absurd (omega arith)
 has_at x (y ∷ t) d s p =
     count_below_cases x y t (λ i. i < suc (length t) → eqb (get_or (y ∷ t) i d) x ≡ has (y ∷ t) x)
-    (λ below q. rw (ne_eqb y x (omega arith)) (has_at x t d s.1 (omega arith))) (λ above q. has_at_first x y t s above) p
+    (λ below q. rw (ne_eqb y x (omega arith)) (has_at x t d s.1 (omega arith)))
+    (λ above q. has_at_first x y t s above) p
 
 pub adding_present : (x : ℕ) (t : List ℕ) → IsSet t → has t x ≡ true → adding x t ≡ t
 adding_present x [] s e = absurd (both_ways false refl e)
 adding_present x (y ∷ t) s e =
     elim (cases_order x y) [
       | inl same ↦ rw (le-ltb x y (omega arith), le-ltb y x (omega arith))
-      | inr (inl less) ↦ absurd (both_ways _ (has_below_all x (y ∷ t) (less, All-map (λ z. y < z) (λ z. x < z) (λ z r. omega arith) t s.0)) e)
-      | inr (inr more) ↦ rw (le-ltb x y (omega arith), lt-ltb y x more) (ap (λ z. y ∷ z) (adding_present x t s.1 (rw (ne_eqb y x (omega arith)) at e)))
+      | inr (inl less) ↦ absurd (both_ways _
+          (has_below_all x (y ∷ t) (less, All-map (λ z. y < z) (λ z. x < z) (λ z r. omega arith) t s.0)) e)
+      | inr (inr more) ↦ rw (le-ltb x y (omega arith), lt-ltb y x more)
+          (ap (λ z. y ∷ z) (adding_present x t s.1 (rw (ne_eqb y x (omega arith)) at e)))
     ]
 
 pub adding_absent : (x : ℕ) (t : List ℕ) → has t x ≡ false → adding x t ≡ insert t (count_below x t) x
@@ -88,7 +112,8 @@ adding_absent x (y ∷ t) e =
     let parts = or_parts (eqb y x) (has t x) e in
     let other = eqb-false y x parts.0 in
     count_below_cases x y t (λ i. adding x (y ∷ t) ≡ insert (y ∷ t) i x)
-    (λ below. rw (le-ltb x y (omega arith), lt-ltb y x below) (ap (λ z. y ∷ z) (adding_absent x t parts.1))) (λ above. rw (lt-ltb x y (omega arith)))
+    (λ below. rw (le-ltb x y (omega arith), lt-ltb y x below) (ap (λ z. y ∷ z) (adding_absent x t parts.1)))
+    (λ above. rw (lt-ltb x y (omega arith)))
 
 pub without_absent : (x : ℕ) (t : List ℕ) → has t x ≡ false → without x t ≡ t
 without_absent x [] e = refl
@@ -100,9 +125,12 @@ pub without_present : (x : ℕ) (t : List ℕ) → IsSet t → has t x ≡ true 
 without_present x [] s e = absurd (both_ways false refl e)
 without_present x (y ∷ t) s e =
     elim (cases_order x y) [
-      | inl same ↦ rw (eq-eqb y x (omega arith), le-ltb y x (omega arith)) (without_absent x t (rw same (has_below_all y t s.0)))
-      | inr (inl less) ↦ absurd (both_ways _ (has_below_all x (y ∷ t) (less, All-map (λ z. y < z) (λ z. x < z) (λ z r. omega arith) t s.0)) e)
-      | inr (inr more) ↦ rw (ne_eqb y x (omega arith), lt-ltb y x more) (ap (λ z. y ∷ z) (without_present x t s.1 (rw (ne_eqb y x (omega arith)) at e)))
+      | inl same ↦ rw (eq-eqb y x (omega arith), le-ltb y x (omega arith))
+          (without_absent x t (rw same (has_below_all y t s.0)))
+      | inr (inl less) ↦ absurd (both_ways _
+          (has_below_all x (y ∷ t) (less, All-map (λ z. y < z) (λ z. x < z) (λ z r. omega arith) t s.0)) e)
+      | inr (inr more) ↦ rw (ne_eqb y x (omega arith), lt-ltb y x more)
+          (ap (λ z. y ∷ z) (without_present x t s.1 (rw (ne_eqb y x (omega arith)) at e)))
     ]
 
 pub length-adding : (x : ℕ) (t : List ℕ) → length (adding x t) ≤ length t + 1
@@ -110,23 +138,30 @@ length-adding x [] = omega arith
 length-adding x (y ∷ t) =
     elim (ltb x y) as (λ b. length (cond b (x ∷ y ∷ t) (y ∷ cond (ltb y x) (adding x t) t)) ≤ suc (length t) + 1) [
       | true ↦ omega arith
-      | false ↦ elim (ltb y x) as (λ b. suc (length (cond b (adding x t) t)) ≤ suc (length t) + 1) [ true ↦ omega (arith, length-adding x t) | false ↦ omega arith ]
+      | false ↦ elim (ltb y x) as (λ b. suc (length (cond b (adding x t) t)) ≤ suc (length t) + 1) [
+        | true ↦ omega (arith, length-adding x t)
+        | false ↦ omega arith
+      ]
     ]
 
 pub length-without : (x : ℕ) (t : List ℕ) → length (without x t) ≤ length t
 length-without x [] = omega arith
 length-without x (y ∷ t) =
-    elim (eqb y x) as (λ b. length (cond (not b) (y ∷ without x t) (without x t)) ≤ suc (length t)) [ true ↦ omega (arith, length-without x t) | false ↦ omega (arith, length-without x t) ]
+    elim (eqb y x) as (λ b. length (cond (not b) (y ∷ without x t) (without x t)) ≤ suc (length t)) [
+      | true ↦ omega (arith, length-without x t)
+      | false ↦ omega (arith, length-without x t)
+    ]
 
 pub length-without_less : (x : ℕ) (t : List ℕ) → IsIn t x → length (without x t) < length t
 length-without_less x [] h = cc
 length-without_less x (y ∷ t) h =
-    elim (eqb y x) as (λ b. IsTrue (b || has t x) → length (cond (not b) (y ∷ without x t) (without x t)) < suc (length t)) [
+    elim (eqb y x) as (λ b.
+    IsTrue (b || has t x) → length (cond (not b) (y ∷ without x t) (without x t)) < suc (length t)) [
       | true ↦ λ _. omega (arith, length-without x t)
       | false ↦ λ r. omega (arith, length-without_less x t r)
     ] h
 
--- who is in the set with x, and without it, as equations of tests
+-- the members of the set with x, and of the set without x, as equations of tests
 pub has_adding : (x : ℕ) (t : List ℕ) (z : ℕ) → has (adding x t) z ≡ (eqb x z || has t z)
 has_adding x [] z = refl
 has_adding x (y ∷ t) z = grind (arith, has_adding x t z)
@@ -135,18 +170,21 @@ pub has_without : (x : ℕ) (t : List ℕ) (z : ℕ) → has (without x t) z ≡
 has_without x [] z = refl
 has_without x (y ∷ t) z = grind (arith, has_without x t z)
 
--- who is in the set with x: x, and who was
+-- the members of the set with x: x, and all that were members
 pub IsIn-adding : (x : ℕ) (t : List ℕ) (z : ℕ) → IsIn (adding x t) z → (z ≡ x) ⊎ IsIn t z
 IsIn-adding x t z h =
-    elim (or_cases (eqb x z) (has t z) (sym (has_adding x t z) ∙ h)) as (λ _. (z ≡ x) ⊎ IsIn t z) [ inl e ↦ inl (sym (eqb-true x z e)) | inr k ↦ inr k ]
+    elim (or_cases (eqb x z) (has t z) (sym (has_adding x t z) ∙ h)) as (λ _. (z ≡ x) ⊎ IsIn t z) [
+      | inl e ↦ inl (sym (eqb-true x z e))
+      | inr k ↦ inr k
+    ]
 
--- who is in the set without x: who was, but x
+-- the members of the set without x: all that were members, but x
 pub IsIn-without : (x : ℕ) (t : List ℕ) (z : ℕ) → IsIn (without x t) z → (z ≢ x) × IsIn t z
 IsIn-without x t z h =
     let p = and_parts (has t z) (not (eqb x z)) (sym (has_without x t z) ∙ h) in
     ((λ e. eqb-false x z (not-true (eqb x z) p.1) (sym e)), p.0)
 
--- x is in the set with x, and who was in a set is in it with one more, and, if it is another, with one less
+-- x is a member of the set with x; each member stays one when x is added, and each other than x when x is removed
 pub IsIn-self : (x : ℕ) (t : List ℕ) → IsIn (adding x t) x
 IsIn-self x t = has_adding x t x ∙ or_left (eqb x x) (has t x) (eq-eqb x x refl)
 
@@ -156,7 +194,7 @@ IsIn-added x t z h = has_adding x t z ∙ or_right (eqb x z) (has t z) h
 pub IsIn-kept : (x : ℕ) (t : List ℕ) (z : ℕ) → z ≢ x → IsIn t z → IsIn (without x t) z
 IsIn-kept x t z ne h = let e = ne_eqb x z (λ s. ne (sym s)) in has_without x t z ∙ (λ i. h i && not (e i))
 
--- who is in the set with x, and who in the set without it
+-- membership in the set with x, and in the set without x, as an equivalence
 pub members_adding : (x : ℕ) (t u : List ℕ) → u ≡ adding x t → (z : ℕ) → IsIn u z ↔ ((z ≡ x) ⊎ IsIn t z)
 members_adding x t u e z = subst (λ (s : List ℕ). IsIn s z ↔ ((z ≡ x) ⊎ IsIn t z)) (sym e) (
   IsIn-adding x t z,
@@ -175,7 +213,7 @@ count_below-lt-length x t h =
       | inr (inr more) ↦ absurd (omega (arith, count_below-le-length x t))
     ]
 
--- what stands at a place is a member
+-- the id at a place is a member
 pub IsIn-get_or : (t : List ℕ) (i d : ℕ) → i < length t → IsIn t (get_or t i d)
 IsIn-get_or [] i d h = absurd (omega arith)
 IsIn-get_or (y ∷ t) zero d h = rw (eq-eqb y y refl)
@@ -186,6 +224,8 @@ pub length-without_set : (x : ℕ) (t : List ℕ) → IsSet t → length t ≤ l
 length-without_set x [] s = omega arith
 length-without_set x (y ∷ t) s =
     elim (eqb y x) as (λ b. eqb y x ≡ b → suc (length t) ≤ length (cond (not b) (y ∷ without x t) (without x t)) + 1) [
-      | true ↦ λ e. let same : without x t ≡ t = without_absent x t (has_below_all x t (subst (λ (z : ℕ). AllByRecursion (λ w. z < w) t) (eqb-true y x e) s.0)) in omega (arith, ap length same)
+      | true ↦ λ e.
+          let above = subst (λ (z : ℕ). AllByRecursion (λ w. z < w) t) (eqb-true y x e) s.0 in
+          let same : without x t ≡ t = without_absent x t (has_below_all x t above) in omega (arith, ap length same)
       | false ↦ λ _. omega (arith, length-without_set x t s.1)
     ] refl

@@ -1,2 +1,2 @@
--- What only private contracts and proofs use: tests that compute.
+-- Used by private contracts and proofs only: tests that compute.
 pub mod Ascending

@@ -21,6 +21,6 @@ abbrev pub Ordered : {X : Type 0} → (X → X → Type 0) → List X → Type 0
 Ordered R [] = Unit {0}
 Ordered R (x ∷ xs) = AllByRecursion (R x) xs × Ordered R xs
 
--- each id is below all later ones: a set of ids is written so, in one way
+-- each id is below all later ones; each set of ids is written by exactly one such list
 abbrev pub Ascends : List ℕ → Type 0
 Ascends = Ordered (λ x y. x < y)

@@ -1,8 +1,9 @@
 -- The parameters of a node, and their limits.
 use Rattle.std.specs.Prelude.{ℕ, ◌≤◌}
 
--- the sizes of the active and the passive view, the lengths of the active and the passive random walk, how many active and how many
--- passive members a shuffle samples, and the time to live of a shuffle (HyParView: Leitão, Pereira, Rodrigues, DSN 2007)
+-- The parameters of HyParView (Leitão, Pereira, Rodrigues, DSN 2007): the sizes of the active and the passive view, the
+-- lengths of the active and the passive random walk (ARWL, PRWL), how many active and how many passive members a
+-- shuffle samples, and the time to live of a shuffle.
 pub record ParamsState : Type 0 where
   pub active : ℕ
   pub passive : ℕ
@@ -12,7 +13,7 @@ pub record ParamsState : Type 0 where
   pub kp : ℕ
   pub shuffle_ttl : ℕ
 
--- the parameters in the order in which they are handed in
+-- the parameters, in the order of the arguments of `Params::new`
 abbrev pub params_of : ℕ → ℕ → ℕ → ℕ → ℕ → ℕ → ℕ → ParamsState
 params_of active passive arwl prwl ka kp shuffle_ttl = record {
   active = active;
@@ -24,7 +25,7 @@ params_of active passive arwl prwl ka kp shuffle_ttl = record {
   shuffle_ttl = shuffle_ttl;
 }
 
--- each is within its limits, which are chosen here
+-- each parameter is within its limits, which are chosen here
 pub record AreWithinLimits (p : ParamsState) : Type 0 where
   pub active_low : 1 ≤ p.active
   pub active_high : p.active ≤ 16

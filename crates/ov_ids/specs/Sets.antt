@@ -1,4 +1,4 @@
--- Sets of ids, written as their members ascending.
+-- Sets of ids, each written as the list of its members in ascending order.
 use Rattle.std.specs.Prelude.{ℕ, suc, Bool, IsTrue, not, List, [], ◌∷◌, ◌==◌, nat_lt, filter, if◌then◌else◌}
 use Rattle.std.specs.List.{list_any}
 use Rattle.ov_ids.specs.Members.{Ascends}
@@ -7,7 +7,7 @@ use Rattle.ov_ids.specs.Members.{Ascends}
 abbrev pub most_members : ℕ
 most_members = 64
 
--- the list is written as a set is
+-- the list is a set: its ids ascend
 abbrev pub IsSet : List ℕ → Type 0
 IsSet = Ascends
 
@@ -33,7 +33,7 @@ abbrev pub without_all : List ℕ → List ℕ → List ℕ
 without_all [] xs = xs
 without_all (y ∷ ys) xs = without_all ys (without y xs)
 
--- how many members are below x
+-- how many ids stand before the first that is not below x; of a set, how many members are below x
 abbrev pub count_below : ℕ → List ℕ → ℕ
 count_below x [] = 0
 count_below x (y ∷ ys) = if nat_lt y x then suc (count_below x ys) else 0

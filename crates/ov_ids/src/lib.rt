@@ -1,5 +1,6 @@
-//! What all crates share: ids of nodes and messages, how a list of ids is printed, lists and sets that contracts see as
-//! values, the parameters of a node, the fault of a refused allocation, and words on the order of faults.
+//! What all crates share: ids of nodes and broadcasts, lists of ids as text, lists and sets that contracts see as plain
+//! values, the parameters of a node, the fault of a call that is out of memory, and definitions for the order of
+//! faults.
 #![tactic(auto)]
 
 mod id;
@@ -11,7 +12,7 @@ mod seq;
 mod text;
 
 pub use id::{MsgId, NodeId};
-pub use id_set::IdSet;
+pub use id_set::{IdSet, place_for};
 pub use memory::OutOfMemory;
 pub use order::is_ascending;
 pub use params::{BadParams, Params};

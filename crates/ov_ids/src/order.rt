@@ -4,7 +4,7 @@ ghost use Rattle.ov_ids.specs.Code.Ascending.{ascends_after};
 
 use crate::NodeId;
 
-/// Whether each id is below all later ones, as in a set written in order.
+/// Whether each id is below all later ones, so that the list is a set in ascending order.
 pub fn is_ascending(ids: &[NodeId]) -> bool
     ensures set { IsTrue result ↔ Ascends ids.now }
     ensures test { result ≡ ascends_after None ids.now }
@@ -12,6 +12,7 @@ pub fn is_ascending(ids: &[NodeId]) -> bool
     rises(ids)
 }
 
+/// The same, by its test alone.
 fn rises(ids: &[NodeId]) -> bool
     ensures { result ≡ ascends_after None ids.now }
 {

@@ -40,11 +40,19 @@ impl Model for Params {
 
     ghost invariant = { λ a. AreWithinLimits (params_of a.active a.passive a.arwl a.prwl a.ka a.kp a.shuffle_ttl) };
 
-    ghost inverse = { λ p. record { active = p.active; passive = p.passive; arwl = p.arwl; prwl = p.prwl; ka = p.ka; kp = p.kp; shuffle_ttl = p.shuffle_ttl } };
+    ghost inverse = { λ p. record {
+      active = p.active;
+      passive = p.passive;
+      arwl = p.arwl;
+      prwl = p.prwl;
+      ka = p.ka;
+      kp = p.kp;
+      shuffle_ttl = p.shuffle_ttl;
+    } };
 }
 
 impl Params {
-    /// The parameters, unless one is out of its limits.
+    /// The parameters. BadParams (21) where one is out of its limits.
     pub fn new(
         active: u32,
         passive: u32,
@@ -97,7 +105,7 @@ impl Params {
         self.passive as usize
     }
 
-    /// The active random walk length, with which FORWARDJOIN sets out: 0 to 15.
+    /// The active random walk length (ARWL), the time to live of a new FORWARDJOIN: 0 to 15.
     pub fn arwl(&self) -> u8
         ensures value { result ≡ self.now.arwl }
         ensures limits { AreWithinLimits self.now }
@@ -105,7 +113,8 @@ impl Params {
         self.arwl as u8
     }
 
-    /// The passive random walk length, at which FORWARDJOIN's node enters the passive view: 0 to `arwl`.
+    /// The passive random walk length (PRWL), the time to live at which the node of a FORWARDJOIN becomes a passive
+    /// member: 0 to `arwl`.
     pub fn prwl(&self) -> u8
         ensures value { result ≡ self.now.prwl }
         ensures limits { AreWithinLimits self.now }
@@ -129,7 +138,7 @@ impl Params {
         self.kp as usize
     }
 
-    /// The time to live with which SHUFFLE sets out: 1 to 15.
+    /// The time to live of a new SHUFFLE: 1 to 15.
     pub fn shuffle_ttl(&self) -> u8
         ensures value { result ≡ self.now.shuffle_ttl }
         ensures limits { AreWithinLimits self.now }

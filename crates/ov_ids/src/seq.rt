@@ -2,8 +2,8 @@ use crate::OutOfMemory;
 use std::alloc::Global;
 use std::marker::Model;
 
-/// A list. Contracts see its items in order and nothing else, so that equal lists are equal values: of a `Vec` they would
-/// see its capacity too.
+/// A list. Contracts see its items in order and nothing else, so lists of the same items are equal. Of a `Vec` they
+/// would see the capacity too.
 #[derive(Debug, Drop)]
 pub struct Seq<T>(Vec<T>);
 
@@ -32,7 +32,7 @@ impl<T> Seq<T> {
         &self.0
     }
 
-    /// The items as they were handed in. Nothing is allocated.
+    /// The items as a `Vec`. Nothing is allocated.
     pub fn into_vec(self) -> Vec<T>
         ensures { result.items ≡ self }
     {

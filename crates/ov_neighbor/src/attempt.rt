@@ -1,5 +1,5 @@
 ghost use Rattle.std.specs.Prelude.{◌≡◌, ◌≤◌, ◌<◌, ◌+◌, [], length, vec_len, vec_capacity, IfOk, OnErr};
-ghost use Rattle.ov_ids.specs.Sets.{IsSet, IsIn, adding, count_below};
+ghost use Rattle.ov_ids.specs.Sets.{IsSet, IsIn, adding};
 ghost use Rattle.ov_views.specs.Allowed.{receives, hears_of_crash};
 ghost use Rattle.ov_views.specs.Handling.{AttemptStep, step_words};
 ghost use Rattle.ov_views.specs.NeighborRows.{GoesOn, IsAttempt};
@@ -8,7 +8,7 @@ ghost use Rattle.ov_wire.specs.Messages.{AreSendsInRange};
 ghost use Rattle.ov_wire.specs.declared.message.Body.TheVariants.{NeighborReply};
 ghost use Rattle.ov_words.specs.Pick.{Drawn};
 
-use ov_ids::{NodeId, OutOfMemory};
+use ov_ids::{NodeId, OutOfMemory, place_for};
 use ov_views::{Moves, View, Views};
 use ov_wire::{Body, Message};
 use ov_words::Draws;
@@ -97,21 +97,10 @@ fn enter(tried: &mut Vec<NodeId>, id: NodeId)
     requires room { vec_len tried.old < vec_capacity tried.old }
     ensures { tried.new.items ≡ adding id tried.old.items }
 {
-    let at = place(tried.as_slice(), id);
+    let at = place_for(tried.as_slice(), id);
     if tried.insert(at, id).is_err() {
         unreachable!();
     }
-}
-
-/// How many of the tried stand before the first that is not below the id.
-fn place(tried: &[NodeId], id: NodeId) -> usize
-    ensures { result ≡ count_below id tried.now }
-{
-    let mut i = 0;
-    while i < tried.len() && tried[i] < id {
-        i += 1;
-    }
-    i
 }
 
 /// Goes on with an attempt that tried these. It asks a random passive member that it has not tried, or ends where

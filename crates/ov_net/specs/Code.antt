@@ -1,5 +1,5 @@
 -- What private contracts and proofs use.
-pub mod Judging
+pub mod Refusals
 pub mod Effects
 pub mod Scan
 pub mod Codes

@@ -1,7 +1,7 @@
 pub mod Limits
 pub mod Net
 pub mod Journal
-pub mod Laws
+pub mod Theorems
 pub mod NetStep
 pub mod Refusals
 pub mod World

@@ -16,7 +16,3 @@ step_packets = 64
 -- the most entries that a journal may have
 abbrev pub most_entries : ℕ
 most_entries = 65536
-
--- the most broadcasts that a node may make
-abbrev pub most_broadcasts : ℕ
-most_broadcasts = 4096

@@ -3,9 +3,9 @@
 use Rattle.std.specs.Prelude.{◌≡◌, ℕ, List, [], ◌∷◌, ◌++◌, map as each, remove, slice_get, Option, Some, None}
 use Rattle.std.specs.FinMap as map
 use Rattle.ov_wire.specs.declared.message.Message.{Message}
-use Rattle.ov_words.specs.Pick.{Drawn}
 use Rattle.ov_views.specs.declared.change.ViewChange.{ViewChange}
 use Rattle.ov_views.specs.declared.change.ViewChange.TheVariants as view
+use Rattle.ov_peer.specs.Limits.{DrawnFrom}
 use Rattle.ov_peer.specs.Step.{PeerStep}
 use Rattle.ov_peer.specs.PeerState.{PeerState, newborn}
 use Rattle.ov_peer.specs.declared.input.Delivery.{Delivery}
@@ -27,11 +27,11 @@ change_at a (view.Up b) = Up a b
 change_at a (view.Down b) = Down a b
 
 -- a node in the state p takes an input, its random choices are drawn from the words, and its state is q afterwards. It
--- sends these messages, its active view changes so, and it delivers this
+-- sends these messages, its active view changes so, and it delivers this. At least 24 of the words are left
 abbrev pub DrawnStep
     : PeerState → Input → List ℕ → PeerState → List (ℕ × Message) → List ViewChange → Option Delivery → Type 0
 DrawnStep p i words q sends changes delivery =
-    (left : List ℕ) × Drawn words left (λ choices. PeerStep p i choices q sends changes delivery)
+    DrawnFrom words (λ choices. PeerStep p i choices q sends changes delivery)
 
 -- node a, whose state is p, takes an input. What it sends goes to the end of the packets, and the changes of its active
 -- view are those of the entry

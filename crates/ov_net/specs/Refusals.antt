@@ -1,12 +1,14 @@
 -- Why a world refuses an event. The refusals of each event stand in an order, and the first applicable one is answered.
 -- Chosen here.
-use Rattle.std.specs.Prelude.{◌≡◌, ◌≢◌, ℕ, ◌+◌, ◌<◌, ◌≤◌, length, Option, Some, None}
+use Rattle.std.specs.Prelude.{◌≡◌, ◌≢◌, ℕ, ◌+◌, ◌<◌, ◌≤◌, IsTrue, length, Option, Some, None}
 use Rattle.std.specs.FinMap as map
+use Rattle.std.specs.FinSet as set
 use Rattle.ov_ids.specs.FaultOrder.{Step, Passed, IsRefusedBy}
 use Rattle.ov_ids.specs.declared.id.MsgId.{MsgId}
 use Rattle.ov_wire.specs.Messages.{most_payload}
+use Rattle.ov_plum.specs.PlumState.{most_broadcasts}
 use Rattle.ov_peer.specs.PeerState.{PeerState}
-use Rattle.ov_net.specs.Limits.{most_world_nodes, most_packets, step_packets, most_entries, most_broadcasts}
+use Rattle.ov_net.specs.Limits.{most_world_nodes, most_packets, step_packets, most_entries}
 use Rattle.ov_net.specs.Net.{Net, LivesAs, IsGone}
 use Rattle.ov_net.specs.declared.event.Event.{Event}
 use Rattle.ov_net.specs.declared.event.Event.TheVariants.{Boot, Deliver, Lose, Repeat, Crash, Report, Shuffle}
@@ -43,9 +45,9 @@ HasPlaces w = length w.packets + step_packets ≤ most_packets
 abbrev pub MayBroadcast : Net → ℕ → Type 0
 MayBroadcast w a = (p : PeerState) → LivesAs w a p → p.tree.made < most_broadcasts
 
--- the timer of this message is set at node a
+-- the timer of this message runs at node a
 abbrev pub HasTimer : Net → ℕ → MsgId → Type 0
-HasTimer w a id = (p : PeerState) → LivesAs w a p → map.get p.tree.timers id ≢ None
+HasTimer w a id = (p : PeerState) → LivesAs w a p → IsTrue (set.contains p.tree.running id)
 
 -- first: a was born and is not gone
 abbrev pub LiveThen : Net → ℕ → (Option NetFault → Type 0) → Option NetFault → Type 0

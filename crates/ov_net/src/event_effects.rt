@@ -11,8 +11,8 @@ ghost use Rattle.ov_net.specs.declared.event.Event.TheVariants.{Report, Shuffle,
 use crate::effects::{Effects, NodeChange};
 use crate::entry::Change;
 use crate::event::{Event, copy_bytes};
-use crate::input_effects::{effects_of_birth, effects_of_input};
 use crate::member::Member;
+use crate::node_effects::{effects_of_birth, effects_of_input};
 use crate::packet::Packet;
 use crate::world::World;
 use ov_ids::{MsgId, NodeId, OutOfMemory, Seq};
@@ -208,7 +208,7 @@ impl World {
     ) -> Result<Effects, OutOfMemory>
         requires born { IsBorn self.now.net node }
         requires live { ¬ IsGone self.now.net node }
-        requires set { HasTimer self.now.net node id }
+        requires timer { HasTimer self.now.net node id }
         ensures effects { IfOk result (AreEffects self.now.net (Timer node id) words.now) }
         ensures few { IfOk result SendFew }
     {

@@ -31,7 +31,7 @@ pub enum NetFault {
     /// The node that is reported did not crash.
     #[error("the node did not crash")]
     NotCrashed,
-    /// The timer of this message is not set at the node.
+    /// The timer of this message does not run at the node.
     #[error("the timer is not set")]
     NoTimer,
     /// The payload has more than 1,024 bytes.

@@ -14,11 +14,13 @@ first_apart : (x : ℕ) (xs : List ℕ) (z : ℕ) → IsSet (x ∷ xs) → IsIn 
 first_apart x xs z s h e = both_ways _ (has_below_all x xs s.0) (subst (IsIn xs) e h)
 
 -- two sets apart within a third have no more members than that
-pub within : (xs ys all : List ℕ) → IsSet xs → IsSet ys → ((z : ℕ) → IsIn xs z → ¬ IsIn ys z) → ((z : ℕ) → IsIn xs z → IsIn all z) → ((z : ℕ) → IsIn ys z → IsIn all z)
+pub within : (xs ys all : List ℕ) → IsSet xs → IsSet ys → ((z : ℕ) → IsIn xs z → ¬ IsIn ys z)
+    → ((z : ℕ) → IsIn xs z → IsIn all z) → ((z : ℕ) → IsIn ys z → IsIn all z)
     → length xs + length ys ≤ length all
 within [] [] all s t apart p q = omega arith
 within [] (y ∷ ys) all s t apart p q =
-    let later = within [] ys (without y all) s t.1 (λ z h. absurd (both_ways false refl h)) (λ z h. absurd (both_ways false refl h))
+    let later = within [] ys (without y all) s t.1 (λ z h. absurd (both_ways false refl h))
+    (λ z h. absurd (both_ways false refl h))
     (λ z h. IsIn-kept y all z (first_apart y ys z t h) (q z (or_right (eqb y z) _ h))) in
     omega (arith, later, length-without_less y all (q y (first_in y ys)))
 within (x ∷ xs) ys all s t apart p q =
@@ -28,7 +30,9 @@ within (x ∷ xs) ys all s t apart p q =
     omega (arith, later, length-without_less x all (p x (first_in x xs)))
 
 -- a node has no more neighbours than active members
-pub neighbours_fit : (p : PeerState) → IsPeer p → AreBranches p.tree.branches → length p.tree.branches.eager + length p.tree.branches.lazy ≤ length p.node.views.active
+pub neighbours_fit : (p : PeerState) → IsPeer p → AreBranches p.tree.branches
+    → length p.tree.branches.eager + length p.tree.branches.lazy ≤ length p.node.views.active
 neighbours_fit p w b =
     within p.tree.branches.eager p.tree.branches.lazy p.node.views.active b.eager_set b.lazy_set b.apart
-    (λ z h. sym (w.neighbours z) ∙ or_left _ _ h) (λ z h. sym (w.neighbours z) ∙ or_right (has p.tree.branches.eager z) _ h)
+    (λ z h. sym (w.neighbours z) ∙ or_left _ _ h)
+    (λ z h. sym (w.neighbours z) ∙ or_right (has p.tree.branches.eager z) _ h)

@@ -2,6 +2,5 @@ mod Linking
 mod Counts
 mod Changing
 pub mod Steps
-mod Following
-mod Noting
+pub mod Following
 mod Handed

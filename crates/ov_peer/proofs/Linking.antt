@@ -18,11 +18,13 @@ down_law false false q = refl
 
 -- who comes up is a neighbour, and the others stay
 pub linked_up : (b : BranchesState) (x z : ℕ) → is_linked (up x b) z ≡ (eqb x z || is_linked b z)
-linked_up b x z = (let p = has_adding x b.eager z in let q = has_without x b.lazy z in λ i. p i || q i) ∙ up_law (eqb x z) (has b.eager z) (has b.lazy z)
+linked_up b x z = (let p = has_adding x b.eager z in let q = has_without x b.lazy z in λ i. p i || q i)
+    ∙ up_law (eqb x z) (has b.eager z) (has b.lazy z)
 
 -- who goes down is none, and the others stay
 pub linked_down : (b : BranchesState) (x z : ℕ) → is_linked (down x b) z ≡ (is_linked b z && not (eqb x z))
-linked_down b x z = (let p = has_without x b.eager z in let q = has_without x b.lazy z in λ i. p i || q i) ∙ down_law (eqb x z) (has b.eager z) (has b.lazy z)
+linked_down b x z = (let p = has_without x b.eager z in let q = has_without x b.lazy z in λ i. p i || q i)
+    ∙ down_law (eqb x z) (has b.eager z) (has b.lazy z)
 
 or_true : (p : Bool) → (p || true) ≡ true
 or_true true = refl
@@ -54,6 +56,7 @@ pub linked_lazy : (b : BranchesState) (s z : ℕ) → is_linked (makes_lazy s b)
 linked_lazy b s z =
     let turned : BranchesState = record { eager = without s b.eager; lazy = adding s b.lazy } in
     elim (has b.eager s) as (λ r. has b.eager s ≡ r → is_linked (cond r turned b) z ≡ is_linked b z) [
-      | true ↦ λ e. (let p = has_without s b.eager z in let q = has_adding s b.lazy z in λ i. p i || q i) ∙ lazy_law (eqb s z) (has b.eager z) (has b.lazy z) ∙ absorbed b s z (ap (λ p. p || has b.lazy s) e)
+      | true ↦ λ e. (let p = has_without s b.eager z in let q = has_adding s b.lazy z in λ i. p i || q i)
+          ∙ lazy_law (eqb s z) (has b.eager z) (has b.lazy z) ∙ absorbed b s z (ap (λ p. p || has b.lazy s) e)
       | false ↦ λ _. refl
     ] refl

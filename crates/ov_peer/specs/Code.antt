@@ -1,2 +1,5 @@
 -- What private contracts and proofs use.
 pub mod Codes
+pub mod GoodPlan
+pub mod Messages
+pub mod MovesPlan

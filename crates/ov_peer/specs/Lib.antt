@@ -1,6 +1,6 @@
+pub mod Limits
 pub mod PeerState
 pub mod Step
 pub mod Faults
 pub mod Planning
-pub mod Noted
 pub mod Code

@@ -1,22 +1,23 @@
--- A node whole.
+-- The state of a node.
 use Rattle.std.specs.Prelude.{◌≡◌, ℕ, [], None}
-use Rattle.std.specs.FinMap as map
 use Rattle.ov_ids.specs.ParamsState.{ParamsState}
 use Rattle.ov_ids.specs.Sets.{has}
 use Rattle.ov_views.specs.Allowed.{Node}
-use Rattle.ov_plum.specs.PlumState.{PlumState, is_linked}
+use Rattle.ov_plum.specs.PlumState.{PlumState, is_linked, newborn_plum}
 
--- its views, attempt and shuffle, and its part of Plumtree's tree
+-- What a node keeps: its views, its attempt and the list of its last shuffle (`node`), and its part of Plumtree's tree
+-- (`tree`).
 pub record PeerState : Type 0 where
   pub node : Node
   pub tree : PlumState
 
--- the neighbours in the tree are the active members: each of these is eager or lazy, and nobody else is
+-- Both parts are those of one node, and its neighbours in the tree are its active members: each of these is eager or
+-- lazy, and nobody else is.
 pub record IsPeer (p : PeerState) : Type 0 where
   pub me : p.tree.me ≡ p.node.views.me
   pub neighbours : (x : ℕ) → is_linked p.tree.branches x ≡ has p.node.views.active x
 
--- a node that has seen nothing
+-- A node at its birth: it knows nobody, and has sent, held and broadcast nothing.
 abbrev pub newborn : ℕ → ParamsState → PeerState
 newborn me params = record {
   node = record {
@@ -24,5 +25,5 @@ newborn me params = record {
     attempt = record { asked = None; tried = [] };
     sent = [];
   };
-  tree = record { me = me; branches = record { eager = []; lazy = [] }; held = map.empty; timers = map.empty; made = 0 };
+  tree = newborn_plum me;
 }

@@ -1,39 +1,39 @@
--- A step that is planned, and what it makes of a node.
-use Rattle.std.specs.Prelude.{◌≡◌, ℕ, List, Option}
-use Rattle.ov_wire.specs.declared.message.Message.{Message}
+-- Steps that are planned and then applied. That a step has these two halves is chosen here.
+use Rattle.std.specs.Prelude.{List}
 use Rattle.ov_words.specs.Pick.{Choice}
 use Rattle.ov_views.specs.Allowed.{Node}
-use Rattle.ov_plum.specs.PlumRows.{Delivered}
 use Rattle.ov_plum.specs.PlumChange.{plum_after}
 use Rattle.ov_peer.specs.PeerState.{PeerState}
-use Rattle.ov_peer.specs.Step.{NodePart, TreePart, Told, PeerStep}
+use Rattle.ov_peer.specs.Step.{PartsStep, HearsChanges}
 use Rattle.ov_peer.specs.declared.input.Input.{Input}
 use Rattle.ov_peer.specs.declared.plan.Plan.{Plan}
 use Rattle.ov_peer.specs.declared.plan.ViewsChange.{ViewsChange}
 use Rattle.ov_peer.specs.declared.plan.ViewsChange.TheVariants.{Nothing, ViewsAndAttempt, Shuffle}
 
--- a node but for its tree, after a course
+-- The views, the attempt and the last shuffle's list of a node after a plan's change of them.
 abbrev pub node_after : Node → ViewsChange → Node
 node_after n Nothing = n
-node_after n (ViewsAndAttempt near) = record n { views = near.value.views; attempt = near.value.attempt }
+node_after n (ViewsAndAttempt next) = record n { views = next.value.views; attempt = next.value.attempt }
 node_after n (Shuffle list) = record n { sent = list }
 
--- the node p follows the plan and is q then: its views, attempt and shuffle are those of the plan, and its tree takes the plan's
--- turn and is then told the plan's changes
+-- The node p after the plan's changes of its parts. Its tree has not heard yet how the active view changed.
+abbrev pub after_plan : PeerState → Plan → PeerState
+after_plan p plan = record { node = node_after p.node plan.views_change; tree = plum_after p.tree plan.plum_change }
+
+-- The node p follows the plan and is q then: its parts change as planned, and its tree hears how the active view
+-- changed.
 abbrev pub Follows : PeerState → Plan → PeerState → Type 0
-Follows p g q = (q.node ≡ node_after p.node g.views_change) × Told (plum_after p.tree g.plum_change) g.changes.items q.tree
+Follows p plan q = HearsChanges (after_plan p plan) plan.changes.items q
 
--- p takes this step when it follows the plan, whatever q it then is
+-- The plan is that of a step of the node p, at this input and with these choices: what it sends and delivers, and how
+-- it changes the active view, is what this step does. So if p follows it and is q then, p has taken this step.
 abbrev pub Plans : PeerState → Input → List Choice → Plan → Type 0
-Plans p i choices g = (q : PeerState) → Follows p g q → PeerStep p i choices q g.sends.items g.changes.items g.delivered
+Plans p input choices plan =
+    PartsStep p input choices (after_plan p plan) plan.sends.items plan.changes.items plan.delivered
 
--- the plan is one for the node p: what it makes of p, before the tree is told the changes, is what some step makes of it. Something
--- comes to p for which both parts allow this, with these choices, and with what is then sent and delivered
-pub record IsPlanFor (p : PeerState) (g : Plan) : Type 0 where
+-- The plan is that of some step of the node p as it now is. A plan that was made for another node, or before p changed,
+-- need not be one for p.
+pub record IsPlanFor (p : PeerState) (plan : Plan) : Type 0 where
   pub input : Input
   pub choices : List Choice
-  pub heard : List (ℕ × Message)
-  pub spread : List (ℕ × Message)
-  pub delivered : Option Delivered
-  pub views_change : NodePart p.node input choices (node_after p.node g.views_change) g.changes.items heard
-  pub plum_change : TreePart p.tree input (plum_after p.tree g.plum_change) spread delivered
+  pub planned : Plans p input choices plan

@@ -1,7 +1,9 @@
-ghost use Rattle.std.specs.Prelude.{◌≡◌, ◌≤◌, ◌+◌, length, vec_len, IfOk, OnErr};
-ghost use Rattle.ov_wire.specs.Messages.{AreInRange, AreSendsInRange};
+ghost use Rattle.std.specs.Prelude.{◌≡◌, ◌≤◌, ◌+◌, length, IfOk, OnErr};
+ghost use Rattle.ov_wire.specs.Messages.{AreInRange};
 ghost use Rattle.ov_words.specs.Pick.{Drawn};
 ghost use Rattle.ov_views.specs.Allowed.{Allowed, receives};
+ghost use Rattle.ov_peer.specs.Code.Messages.{AreSendable};
+ghost use Rattle.ov_peer.specs.Limits.{most_words};
 
 use ov_ids::{NodeId, OutOfMemory};
 use ov_neighbor::Attempt;
@@ -11,7 +13,7 @@ use ov_wire::Body;
 use ov_words::Draws;
 use std::alloc::Global;
 
-/// HyParView's part of a node, at a message from another.
+/// Hands a message to the handler of its kind in HyParView's part. A message of Plumtree does nothing here.
 pub(crate) fn hear(
     alloc: Global,
     views: &mut Views,
@@ -21,14 +23,13 @@ pub(crate) fn hear(
     from: NodeId,
     body: &Body,
 ) -> Result<Moves, OutOfMemory>
-    requires words { 40 ≤ length draws.old }
+    requires words { most_words ≤ length draws.old }
     requires range { AreInRange (record { from = from; body = body.now }) }
     ensures allowed { IfOk result (λ m. Drawn draws.old draws.new (λ choices. Allowed
         (record { views = views.old; attempt = attempt.old; sent = sent.now }) (receives from body.now) choices
         (record { views = views.new; attempt = attempt.new; sent = sent.now }) m.changes.items m.sends.items)) }
-    ensures words { length draws.old ≤ length draws.new + 40 }
-    ensures few { IfOk result (λ m. vec_len m.sends ≤ 17) }
-    ensures ranges { IfOk result (λ m. AreSendsInRange m.sends.items) }
+    ensures words { length draws.old ≤ length draws.new + most_words }
+    ensures sendable { IfOk result (λ m. AreSendable m.sends.items) }
     ensures err { OnErr result ((views.new ≡ views.old) × (attempt.new ≡ attempt.old) × (draws.new ≡ draws.old)) }
 {
     match body {

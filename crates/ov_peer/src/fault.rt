@@ -8,7 +8,7 @@ use thiserror::Error;
 /// Why a node took no step.
 #[derive(Clone, Copy, Debug, PartialEq, Eq, Error)]
 pub enum PeerFault {
-    /// No timer of this id is set.
+    /// No timer of this id runs.
     #[error("the timer is not set")]
     NoTimer,
     /// The payload has more than 1,024 bytes.
@@ -17,13 +17,13 @@ pub enum PeerFault {
     /// The node has made 4,096 broadcasts.
     #[error("the node has made too many broadcasts")]
     TooManyMessages,
-    /// An allocation was refused.
+    /// An allocation failed.
     #[error("out of memory")]
     OutOfMemory,
 }
 
 impl PeerFault {
-    /// The fault's number: 18 to 20 in the order above, or 99 out of memory.
+    /// The fault's number: 18 to 20 in the order above, and 99 for out of memory. (Chosen here.)
     pub fn number(&self) -> u32
         ensures { result ≡ number_of self.now }
     {

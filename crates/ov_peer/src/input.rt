@@ -2,10 +2,10 @@ use ov_ids::{MsgId, NodeId, Seq};
 use ov_views::ViewChange;
 use ov_wire::Message;
 
-/// What comes to a node.
+/// An input of a node.
 #[derive(Debug, Drop)]
 pub enum Input {
-    /// The node starts, and joins by a contact if there is one.
+    /// The node starts. If it has a contact, it joins by it.
     Boot(Option<NodeId>),
     /// A message comes.
     Receive(Message),
@@ -15,7 +15,7 @@ pub enum Input {
     Shuffle,
     /// The node is to broadcast a payload.
     Broadcast(Seq<u8>),
-    /// A timer fires.
+    /// The timer of a message fires.
     Timer(MsgId),
 }
 
@@ -27,8 +27,8 @@ pub struct Delivery {
     pub payload: Seq<u8>,
 }
 
-/// What a node does in one step: what it sends and to whom, in order, how its active view changes, in order, and what it
-/// delivers.
+/// What a node does in one step: the messages that it sends and their receivers, the changes of its active view, both
+/// in order, and what it delivers.
 #[derive(Debug, Drop)]
 pub struct Output {
     pub sends: Vec<(NodeId, Message)>,

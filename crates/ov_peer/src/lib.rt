@@ -1,4 +1,4 @@
-//! A node whole: HyParView's handlers and Plumtree's, joined so that one input is one step.
+//! A node: HyParView's handlers and Plumtree's, joined so that one input is one step.
 #![tactic(auto)]
 
 mod dispatch;

@@ -1,25 +1,25 @@
-ghost use Rattle.std.specs.Prelude.{◌≡◌, ◌≤◌, ◌+◌, ℕ, List, [], length, vec_len, Some, None, Err, IfOk, IfErr, OnOk, OnErr};
-ghost use Rattle.std.specs.FinMap as map;
-ghost use Rattle.ov_wire.specs.Messages.{AreInRange, kind_of, AreSendsInRange};
-ghost use Rattle.ov_words.specs.Pick.{Drawn};
+ghost use Rattle.std.specs.Prelude.{◌≡◌, ◌≤◌, ℕ, List, length, vec_len, None, IfOk, IfErr, OnOk, OnErr};
+ghost use Rattle.std.specs.FinSet as set;
+ghost use Rattle.ov_ids.specs.FaultOrder.{IsRefusedBy};
+ghost use Rattle.ov_wire.specs.Messages.{AreInRange, AreSendsInRange};
 ghost use Rattle.ov_views.specs.Changes.{after_changes};
 ghost use Rattle.ov_views.specs.ViewsState.{AreViews};
-ghost use Rattle.ov_plum.specs.Notes.{Shows, none_noted};
 ghost use Rattle.ov_plum.specs.PlumState.{AreBranches};
-ghost use Rattle.ov_peer.specs.Faults.{fault_of, IsInputInRange};
-ghost use Rattle.ov_peer.specs.Noted.{NotesStep};
-ghost use Rattle.ov_peer.specs.Planning.{IsPlanFor, Follows, Plans};
+ghost use Rattle.ov_peer.specs.Code.GoodPlan.{IsGoodPlan};
+ghost use Rattle.ov_peer.specs.Code.Messages.{IsOfHyParView};
+ghost use Rattle.ov_peer.specs.Faults.{IsFaultOf, IsInputInRange};
+ghost use Rattle.ov_peer.specs.Limits.{DrawnFrom, most_words, most_sends};
+ghost use Rattle.ov_peer.specs.PeerState.{IsPeer, newborn};
+ghost use Rattle.ov_peer.specs.Planning.{Plans, IsPlanFor, Follows};
 ghost use Rattle.ov_peer.specs.Step.{PeerStep, IsPeerStep};
-ghost use Rattle.ov_peer.specs.PeerState.{PeerState, IsPeer, newborn};
-ghost use Rattle.ov_peer.specs.declared.fault.PeerFault.{PeerFault};
-ghost use Rattle.ov_peer.specs.declared.fault.PeerFault.TheVariants.{OutOfMemory as wants_memory};
+ghost use Rattle.ov_peer.specs.declared.fault.PeerFault.TheVariants.{OutOfMemory as out_of_memory};
 ghost use Rattle.ov_peer.specs.declared.input.Input.TheVariants as input;
 ghost use Rattle.ov_peer.specs.declared.input.Input.TheVariants.{Boot, Receive, Report, Broadcast, Timer};
 
 use crate::dispatch::hear;
 use crate::fault::PeerFault;
 use crate::input::{Input, Output};
-use crate::plan::{NextViews, Plan, ViewsChange, follow};
+use crate::plan::{NextViews, Plan, ViewsChange, follow, views_plan};
 use crate::tree_updates::{joins, tell};
 use ov_ids::{MsgId, NodeId, OutOfMemory, Params, Seq};
 use ov_neighbor::Attempt;
@@ -31,11 +31,11 @@ use ov_words::{Draws, Words};
 use std::alloc::Global;
 use std::marker::Model;
 
-/// How many broadcasts a node may make.
+/// How many broadcasts a node may make, as `most_broadcasts` of `ov_plum` says. (Chosen here.)
 pub const MAX_BROADCASTS: u32 = 4096;
 
-/// A node: its views, its attempt, the list of its last shuffle, and its part of Plumtree's tree, whose neighbours are always the
-/// active members. Contracts see it as a `PeerState`.
+/// A node: its views, its attempt, the list of its last shuffle, and its part of Plumtree's tree. The neighbours in the
+/// tree are always the active members. Contracts see a `PeerState`.
 #[derive(Drop)]
 pub struct Peer {
     alloc: Global,
@@ -53,16 +53,21 @@ impl Model for Peer {
 
     ghost coded = { peer_code };
 
-    ghost view = { λ a. record { node = record { views = a.views; attempt = a.attempt; sent = a.sent }; tree = a.plum } };
+    ghost view = { λ a. record {
+      node = record { views = a.views; attempt = a.attempt; sent = a.sent };
+      tree = a.plum;
+    } };
 
-    ghost invariant = { λ a. IsPeer (record { node = record { views = a.views; attempt = a.attempt; sent = a.sent }; tree = a.plum }) };
+    ghost invariant = { λ a. IsPeer (record {
+      node = record { views = a.views; attempt = a.attempt; sent = a.sent };
+      tree = a.plum;
+    }) };
 }
 
 impl Peer {
-    /// A node that has seen nothing. Nothing is allocated.
+    /// A node at its birth, which knows nobody. Nothing is allocated.
     pub fn new(alloc: Global, me: NodeId, params: Params) -> Peer
-        ensures value { result ≡ newborn me params }
-        ensures noted { Shows result.tree none_noted }
+        ensures { result ≡ newborn me params }
     {
         Peer {
             alloc,
@@ -73,7 +78,7 @@ impl Peer {
         }
     }
 
-    /// An equal node. The payloads that it holds are shared.
+    /// An equal node. Both nodes share the payloads that they hold.
     pub fn copy(&self) -> Result<Peer, OutOfMemory>
         ensures { IfOk result (λ p. p ≡ self.now) }
     {
@@ -103,7 +108,7 @@ impl Peer {
         self.views.passive()
     }
 
-    /// The active members to whom whole messages go at once, ascending.
+    /// The eager members, ascending: the active members to whom whole messages go at once.
     pub fn eager(&self) -> &[NodeId]
         ensures value { result.now ≡ self.now.tree.branches.eager }
         ensures branches { AreBranches self.now.tree.branches }
@@ -112,7 +117,7 @@ impl Peer {
         self.plum.eager()
     }
 
-    /// The active members who are only told that there is a message, ascending.
+    /// The lazy members, ascending: the active members who are only told that there is a message.
     pub fn lazy(&self) -> &[NodeId]
         ensures value { result.now ≡ self.now.tree.branches.lazy }
         ensures branches { AreBranches self.now.tree.branches }
@@ -121,56 +126,69 @@ impl Peer {
         self.plum.lazy()
     }
 
-    /// The number of the node's next broadcast.
+    /// The number of the node's next broadcast. That is also how many broadcasts it has made.
     pub fn made(&self) -> u32
         ensures { result ≡ self.now.tree.made }
     {
         self.plum.made()
     }
 
-    /// Whether the timer of an id is set.
+    /// Whether the timer of this message runs.
     pub fn has_timer(&self, id: MsgId) -> bool
-        ensures { result ≡ map.contains_key self.now.tree.timers id }
+        ensures { result ≡ set.contains self.now.tree.running id }
     {
         self.plum.has_timer(id)
     }
 
-    /// Plans one step: how the node takes an input, with random choices drawn from the words. It uses at most 40 of them, and at
-    /// most 64 messages are to be sent. No held message is copied, but into what is sent. NoTimer (18) where the timer is not
-    /// set; of a broadcast PayloadTooLong (19) and then TooManyMessages (20).
+    /// Plans one step, in which the node takes an input. Random choices are drawn from the words. The node is not
+    /// changed: its change is returned as a plan. Of the messages that it holds only what is sent is copied.
+    ///
+    /// A step uses at most 40 random words and sends at most 64 messages. Faults, the first applicable refusal: NoTimer
+    /// (18) if the timer does not run; of a broadcast PayloadTooLong (19) if it has more than 1,024 bytes, then
+    /// TooManyMessages (20) if the node has made 4,096. Out of memory (99) only where none of these applies.
     pub fn plan(&self, input: Input, words: &Words) -> Result<Plan, PeerFault>
         requires { IsInputInRange input }
-        ensures allowed { IfOk result (λ g. (q : PeerState) → Follows self.now g q → (left : List ℕ) × (24 ≤ length left) × Drawn words.now left
-            (λ choices. PeerStep self.now input choices q g.sends.items g.changes.items g.delivered)) }
-        ensures noted { IfOk result (λ g. (q : PeerState) → Follows self.now g q → NotesStep self.now.tree input g.changes.items q.tree) }
+        ensures planned { IfOk result (λ g. DrawnFrom words.now (λ choices. Plans self.now input choices g)) }
         ensures fits { IfOk result (IsPlanFor self.now) }
-        ensures few { IfOk result (λ g. vec_len g.sends ≤ 64) }
+        ensures few { IfOk result (λ g. vec_len g.sends ≤ most_sends) }
         ensures ranges { IfOk result (λ g. AreSendsInRange g.sends.items) }
-        ensures fault { (f : PeerFault) → fault_of self.now input ≡ Some f → result ≡ Err f }
-        ensures memory { fault_of self.now input ≡ None → IfErr result (λ e. e ≡ wants_memory) }
+        ensures judged { IfOk result (λ _. IsFaultOf self.now input None) }
+        ensures refused { IfErr result (IsRefusedBy out_of_memory (IsFaultOf self.now input)) }
     {
         let mut draws = Draws::new(words);
+        Ok(self.plan_by(input, &mut draws)?)
+    }
+
+    /// Plans one step, with random choices by the next words.
+    fn plan_by(&self, input: Input, draws: &mut Draws<'_>) -> Result<Plan, PeerFault>
+        requires words { most_words ≤ length draws.old }
+        requires range { IsInputInRange input }
+        ensures plan { IfOk result (IsGoodPlan self.now input draws.old draws.new) }
+        ensures judged { IfOk result (λ _. IsFaultOf self.now input None) }
+        ensures refused { IfErr result (IsRefusedBy out_of_memory (IsFaultOf self.now input)) }
+    {
         match input {
             Input::Boot(contact) => Ok(self.boot(contact)?),
-            Input::Receive(message) => Ok(self.receive(message, &mut draws)?),
-            Input::Report(crashed) => Ok(self.report(crashed, &mut draws)?),
-            Input::Shuffle => Ok(self.shuffle(&mut draws)?),
+            Input::Receive(message) => Ok(self.receive(message, draws)?),
+            Input::Report(crashed) => Ok(self.report(crashed, draws)?),
+            Input::Shuffle => Ok(self.shuffle(draws)?),
             Input::Broadcast(payload) => self.broadcast(payload),
             Input::Timer(id) => self.timer(id),
         }
     }
 
-    /// Follows a plan. What the plan makes of the node as it now is must be what one step makes of it, so the node takes a step.
-    /// It is the step that was planned while nothing changed in the node since. The answer is the plan's. Out of memory, the node
-    /// is as before.
+    /// Follows a plan, which must be one for the node as it now is. So the node takes a step, and what is returned is
+    /// what this step sends, changes and delivers: what the plan says. It is the step that was planned if the node has
+    /// not changed since. If memory runs out, the node is as it was.
     pub fn apply(&mut self, plan: Plan) -> Result<Output, OutOfMemory>
         requires { IsPlanFor self.old plan }
         ensures follows { OnOk result (Follows self.old plan self.new) }
-        ensures step { OnOk result (IsPeerStep self.old plan.changes.items self.new) }
-        ensures noted { OnOk result ((s : IsPeerStep self.old plan.changes.items self.new) × NotesStep self.old.tree s.input plan.changes.items self.new.tree) }
-        ensures sends { IfOk result (λ o. o.sends ≡ plan.sends) }
-        ensures changes { IfOk result (λ o. o.changes ≡ plan.changes) }
-        ensures delivered { IfOk result (λ o. o.delivered ≡ plan.delivered) }
+        ensures step { IfOk result (λ o. IsPeerStep self.old self.new o.sends.items o.changes.items o.delivered) }
+        ensures output { IfOk result (λ o. o ≡ record {
+          sends = plan.sends;
+          changes = plan.changes;
+          delivered = plan.delivered;
+        }) }
         ensures err { OnErr result (self.new ≡ self.old) }
     {
         let Plan {
@@ -196,19 +214,19 @@ impl Peer {
         })
     }
 
-    /// One step: the node takes an input, with random choices drawn from the words. It uses at most 40 of them and sends at most
-    /// 64 messages. NoTimer (18) where the timer is not set; of a broadcast PayloadTooLong (19) and then TooManyMessages (20);
-    /// after a fault the node is as before.
+    /// One step: the node takes an input. Random choices are drawn from the words. After a fault the node is as it was.
+    ///
+    /// A step uses at most 40 random words and sends at most 64 messages. Its faults are those of `plan`.
     pub fn step(&mut self, input: Input, words: &Words) -> Result<Output, PeerFault>
         requires { IsInputInRange input }
-        ensures allowed { IfOk result (λ o. (left : List ℕ) × (24 ≤ length left) × Drawn words.now left
+        ensures allowed { IfOk result (λ o. DrawnFrom words.now
             (λ choices. PeerStep self.old input choices self.new o.sends.items o.changes.items o.delivered)) }
-        ensures noted { IfOk result (λ o. NotesStep self.old.tree input o.changes.items self.new.tree) }
-        ensures told { IfOk result (λ o. self.new.node.views.active ≡ after_changes o.changes.items self.old.node.views.active) }
-        ensures few { IfOk result (λ o. vec_len o.sends ≤ 64) }
+        ensures told { IfOk result (λ o. self.new.node.views.active
+            ≡ after_changes o.changes.items self.old.node.views.active) }
+        ensures few { IfOk result (λ o. vec_len o.sends ≤ most_sends) }
         ensures ranges { IfOk result (λ o. AreSendsInRange o.sends.items) }
-        ensures fault { (f : PeerFault) → fault_of self.old input ≡ Some f → result ≡ Err f }
-        ensures memory { fault_of self.old input ≡ None → IfErr result (λ e. e ≡ wants_memory) }
+        ensures judged { IfOk result (λ _. IsFaultOf self.old input None) }
+        ensures refused { IfErr result (IsRefusedBy out_of_memory (IsFaultOf self.old input)) }
         ensures err { OnErr result (self.new ≡ self.old) }
     {
         let plan = self.plan(input, words)?;
@@ -217,66 +235,61 @@ impl Peer {
 
     /// The node starts: it is to send JOIN to its contact, if there is one.
     fn boot(&self, contact: Option<NodeId>) -> Result<Plan, OutOfMemory>
-        ensures allowed { IfOk result (Plans self.now (Boot contact) []) }
-        ensures fits { IfOk result (IsPlanFor self.now) }
-        ensures few { IfOk result (λ g. vec_len g.sends ≤ 1) }
-        ensures ranges { IfOk result (λ g. AreSendsInRange g.sends.items) }
+        ensures { IfOk result (λ g. (words : List ℕ) → IsGoodPlan self.now (Boot contact) words words g) }
     {
         Ok(Plan {
             sends: joins(self.alloc, self.views.me(), contact)?,
             changes: Vec::new(self.alloc),
             delivered: None,
             views_change: ViewsChange::Nothing,
-            plum_change: PlumChange::Rests,
+            plum_change: PlumChange::Nothing,
         })
     }
 
     /// The node starts a shuffle.
     fn shuffle(&self, draws: &mut Draws<'_>) -> Result<Plan, OutOfMemory>
-        requires { 40 ≤ length draws.old }
-        ensures allowed { IfOk result (λ g. Drawn draws.old draws.new (λ choices. Plans self.now input.Shuffle choices g)) }
-        ensures fits { IfOk result (IsPlanFor self.now) }
-        ensures words { length draws.old ≤ length draws.new + 40 }
-        ensures few { IfOk result (λ g. vec_len g.sends ≤ 64) }
-        ensures ranges { IfOk result (λ g. AreSendsInRange g.sends.items) }
+        requires { most_words ≤ length draws.old }
+        ensures { IfOk result (IsGoodPlan self.now input.Shuffle draws.old draws.new) }
     {
         let mut sent = self.sent.copy()?;
         let moves = ov_shuffle::start(self.alloc, &self.views, &mut sent, draws)?;
         Ok(Plan::of_moves(moves, ViewsChange::Shuffle(sent)))
     }
 
+    /// The node's views and attempt, which a handler is to change.
+    fn next_views(&self) -> Result<NextViews, OutOfMemory>
+        ensures { IfOk result (λ n. n ≡ record { views = self.now.node.views; attempt = self.now.node.attempt }) }
+    {
+        let views = self.views.copy();
+        let attempt = self.attempt.copy()?;
+        Ok(NextViews { views, attempt })
+    }
+
     /// A node is reported to have crashed.
     fn report(&self, crashed: NodeId, draws: &mut Draws<'_>) -> Result<Plan, OutOfMemory>
-        requires { 40 ≤ length draws.old }
-        ensures allowed { IfOk result (λ g. Drawn draws.old draws.new (λ choices. Plans self.now (Report crashed) choices g)) }
-        ensures fits { IfOk result (IsPlanFor self.now) }
-        ensures words { length draws.old ≤ length draws.new + 40 }
-        ensures few { IfOk result (λ g. vec_len g.sends ≤ 64) }
-        ensures ranges { IfOk result (λ g. AreSendsInRange g.sends.items) }
+        requires { most_words ≤ length draws.old }
+        ensures { IfOk result (IsGoodPlan self.now (Report crashed) draws.old draws.new) }
     {
-        let mut views = self.views.copy();
-        let mut attempt = self.attempt.copy()?;
+        let NextViews {
+            mut views,
+            mut attempt,
+        } = self.next_views()?;
         let moves = ov_neighbor::on_report(self.alloc, &mut views, &mut attempt, draws, crashed)?;
-        let near = Box::new(self.alloc, NextViews { views, attempt })?;
-        Ok(Plan::of_moves(moves, ViewsChange::ViewsAndAttempt(near)))
+        Ok(views_plan(self.alloc, moves, NextViews { views, attempt })?)
     }
 
     /// A message comes.
     fn receive(&self, message: Message, draws: &mut Draws<'_>) -> Result<Plan, OutOfMemory>
-        requires words { 40 ≤ length draws.old }
+        requires words { most_words ≤ length draws.old }
         requires range { AreInRange message }
-        ensures allowed { IfOk result (λ g. Drawn draws.old draws.new (λ choices. Plans self.now (Receive message) choices g)) }
-        ensures fits { IfOk result (IsPlanFor self.now) }
-        ensures words { length draws.old ≤ length draws.new + 40 }
-        ensures few { IfOk result (λ g. vec_len g.sends ≤ 64) }
-        ensures ranges { IfOk result (λ g. AreSendsInRange g.sends.items) }
+        ensures { IfOk result (IsGoodPlan self.now (Receive message) draws.old draws.new) }
     {
         let from = message.from;
         let planned = match message.body {
             Body::Gossip { id, round, payload } => {
                 self.plum.plan_gossip(from, id, round, payload)?
             }
-            Body::IHave { id } => self.plum.plan_ihave(from, id)?,
+            Body::IHave { id } => self.plum.plan_ihave(from, id),
             Body::Graft { id } => self.plum.plan_graft(from, id)?,
             Body::Prune => self.plum.plan_prune(from),
             body => return self.hear(from, &body, draws),
@@ -286,18 +299,16 @@ impl Peer {
 
     /// A message of HyParView comes.
     fn hear(&self, from: NodeId, body: &Body, draws: &mut Draws<'_>) -> Result<Plan, OutOfMemory>
-        requires words { 40 ≤ length draws.old }
+        requires words { most_words ≤ length draws.old }
         requires range { AreInRange (record { from = from; body = body.now }) }
-        requires kind { kind_of body.now ≤ 8 }
-        ensures allowed { IfOk result (λ g. Drawn draws.old draws.new
-            (λ choices. Plans self.now (Receive (record { from = from; body = body.now })) choices g)) }
-        ensures fits { IfOk result (IsPlanFor self.now) }
-        ensures words { length draws.old ≤ length draws.new + 40 }
-        ensures few { IfOk result (λ g. vec_len g.sends ≤ 64) }
-        ensures ranges { IfOk result (λ g. AreSendsInRange g.sends.items) }
+        requires kind { IsOfHyParView body.now }
+        ensures { IfOk result
+            (IsGoodPlan self.now (Receive (record { from = from; body = body.now })) draws.old draws.new) }
     {
-        let mut views = self.views.copy();
-        let mut attempt = self.attempt.copy()?;
+        let NextViews {
+            mut views,
+            mut attempt,
+        } = self.next_views()?;
         let moves = hear(
             self.alloc,
             &mut views,
@@ -307,18 +318,14 @@ impl Peer {
             from,
             body,
         )?;
-        let near = Box::new(self.alloc, NextViews { views, attempt })?;
-        Ok(Plan::of_moves(moves, ViewsChange::ViewsAndAttempt(near)))
+        Ok(views_plan(self.alloc, moves, NextViews { views, attempt })?)
     }
 
-    /// The node broadcasts.
+    /// The node broadcasts a payload.
     fn broadcast(&self, payload: Seq<u8>) -> Result<Plan, PeerFault>
-        ensures allowed { IfOk result (Plans self.now (Broadcast payload) []) }
-        ensures fits { IfOk result (IsPlanFor self.now) }
-        ensures few { IfOk result (λ g. vec_len g.sends ≤ 64) }
-        ensures ranges { IfOk result (λ g. AreSendsInRange g.sends.items) }
-        ensures fault { (f : PeerFault) → fault_of self.now (Broadcast payload) ≡ Some f → result ≡ Err f }
-        ensures memory { fault_of self.now (Broadcast payload) ≡ None → IfErr result (λ e. e ≡ wants_memory) }
+        ensures plan { IfOk result (λ g. (words : List ℕ) → IsGoodPlan self.now (Broadcast payload) words words g) }
+        ensures judged { IfOk result (λ _. IsFaultOf self.now (Broadcast payload) None) }
+        ensures refused { IfErr result (IsRefusedBy out_of_memory (IsFaultOf self.now (Broadcast payload))) }
     {
         if payload.as_slice().len() > MAX_PAYLOAD as usize {
             return Err(PeerFault::PayloadTooLong);
@@ -330,14 +337,11 @@ impl Peer {
         Ok(Plan::of_tree(self.alloc, self.views.me(), planned))
     }
 
-    /// A timer fires.
+    /// The timer of a message fires.
     fn timer(&self, id: MsgId) -> Result<Plan, PeerFault>
-        ensures allowed { IfOk result (Plans self.now (Timer id) []) }
-        ensures fits { IfOk result (IsPlanFor self.now) }
-        ensures few { IfOk result (λ g. vec_len g.sends ≤ 1) }
-        ensures ranges { IfOk result (λ g. AreSendsInRange g.sends.items) }
-        ensures fault { (f : PeerFault) → fault_of self.now (Timer id) ≡ Some f → result ≡ Err f }
-        ensures memory { fault_of self.now (Timer id) ≡ None → IfErr result (λ e. e ≡ wants_memory) }
+        ensures plan { IfOk result (λ g. (words : List ℕ) → IsGoodPlan self.now (Timer id) words words g) }
+        ensures judged { IfOk result (λ _. IsFaultOf self.now (Timer id) None) }
+        ensures refused { IfErr result (IsRefusedBy out_of_memory (IsFaultOf self.now (Timer id))) }
     {
         let planned = self.plum.plan_timer(id)?;
         Ok(Plan::of_tree(self.alloc, self.views.me(), planned))

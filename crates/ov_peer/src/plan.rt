@@ -1,11 +1,12 @@
-ghost use Rattle.std.specs.Prelude.{◌≡◌, [], None};
-ghost use Rattle.ov_plum.specs.declared.plum_change.PlumChange.TheVariants.{Rests};
+ghost use Rattle.std.specs.Prelude.{◌≡◌, [], None, IfOk};
+ghost use Rattle.ov_views.specs.Allowed.{Node};
+ghost use Rattle.ov_peer.specs.Code.MovesPlan.{IsPlanOfMoves};
 ghost use Rattle.ov_peer.specs.Planning.{node_after};
 ghost use Rattle.ov_peer.specs.Step.{delivery_at};
 ghost use Rattle.ov_peer.specs.declared.plan.ViewsChange.TheVariants.{Nothing};
 
 use crate::input::Delivery;
-use ov_ids::{MsgId, NodeId, Seq};
+use ov_ids::{MsgId, NodeId, OutOfMemory, Seq};
 use ov_neighbor::Attempt;
 use ov_plum::{PlumChange, PlumPlan, Spread};
 use ov_shuffle::Sent;
@@ -13,26 +14,27 @@ use ov_views::{Moves, ViewChange, Views};
 use ov_wire::Message;
 use std::alloc::Global;
 
-/// The views and the attempt of a node.
+/// The views and the attempt that a node is to have next.
 #[derive(Drop)]
 pub(crate) struct NextViews {
     pub(crate) views: Views,
     pub(crate) attempt: Attempt,
 }
 
-/// What becomes of a node's views, attempt and shuffle. The views lie apart, since a plan is handed on often.
+/// How a plan changes a node's views, its attempt and the list of its last shuffle. The next views lie in a box, so
+/// that a plan is small and cheap to move.
 #[derive(Drop)]
 pub(crate) enum ViewsChange {
-    /// They stay as they are.
+    /// They all stay.
     Nothing,
-    /// The views and the attempt are then these.
+    /// The views and the attempt become these.
     ViewsAndAttempt(Box<NextViews>),
-    /// The list of the last shuffle is then this one.
+    /// The list of the last shuffle becomes this one.
     Shuffle(Sent),
 }
 
-/// A step that is planned: what the node is to send and to whom, in order, how its active view is to change, in order, and what
-/// it is to deliver. What is to change in the node is kept with it.
+/// The plan of one step: the messages to send and their receivers, the changes of the active view, both in order, and
+/// what to deliver. `Peer::plan` makes it and `Peer::apply` follows it. How the node itself changes is private.
 #[derive(Drop)]
 pub struct Plan {
     pub sends: Vec<(NodeId, Message)>,
@@ -43,20 +45,20 @@ pub struct Plan {
 }
 
 impl Plan {
-    /// A step of HyParView's part.
+    /// The plan of a step of HyParView's part alone.
     pub(crate) fn of_moves(moves: Moves, views_change: ViewsChange) -> Plan
-        ensures { result ≡ record { sends = moves.sends; changes = moves.changes; delivered = None; views_change = views_change; plum_change = Rests } }
+        ensures { (n : Node) → IsPlanOfMoves moves n (node_after n views_change) result }
     {
         Plan {
             sends: moves.sends,
             changes: moves.changes,
             delivered: None,
             views_change,
-            plum_change: PlumChange::Rests,
+            plum_change: PlumChange::Nothing,
         }
     }
 
-    /// A step of the tree of a node.
+    /// The plan of a step of Plumtree's part alone, at the node `me`.
     pub(crate) fn of_tree(alloc: Global, me: NodeId, planned: PlumPlan) -> Plan
         ensures sends { result.sends ≡ planned.spread.sends }
         ensures changes { result.changes.items ≡ [] }
@@ -79,7 +81,16 @@ impl Plan {
     }
 }
 
-/// What a node delivers, with its own id.
+/// The plan of a step of HyParView's part alone, after which the node has these views and this attempt.
+pub(crate) fn views_plan(alloc: Global, moves: Moves, next: NextViews) -> Result<Plan, OutOfMemory>
+    ensures { IfOk result (λ g. (n : Node)
+        → IsPlanOfMoves moves n (record n { views = next.views; attempt = next.attempt }) g) }
+{
+    let next = Box::new(alloc, next)?;
+    Ok(Plan::of_moves(moves, ViewsChange::ViewsAndAttempt(next)))
+}
+
+/// What the node `me` delivers, with its id.
 fn delivery_at(me: NodeId, delivered: Option<(MsgId, Seq<u8>)>) -> Option<Delivery>
     ensures { result ≡ delivery_at me delivered }
 {
@@ -93,7 +104,7 @@ fn delivery_at(me: NodeId, delivered: Option<(MsgId, Seq<u8>)>) -> Option<Delive
     }
 }
 
-/// Changes a node's views, attempt and shuffle as a course says.
+/// Changes a node's views, its attempt and the list of its last shuffle as a plan says.
 pub(crate) fn follow(
     views: &mut Views,
     attempt: &mut Attempt,
@@ -105,11 +116,11 @@ pub(crate) fn follow(
 {
     match views_change {
         ViewsChange::Nothing => {}
-        ViewsChange::ViewsAndAttempt(near) => {
-            let then = Box::into_inner(near);
-            *views = then.views;
-            *attempt = then.attempt;
+        ViewsChange::ViewsAndAttempt(next) => {
+            let next = Box::into_inner(next);
+            *views = next.views;
+            *attempt = next.attempt;
         }
-        ViewsChange::Shuffle(then) => *sent = then,
+        ViewsChange::Shuffle(list) => *sent = list,
     }
 }

@@ -1,6 +1,7 @@
-ghost use Rattle.std.specs.Prelude.{◌≡◌, ◌≤◌, ◌+◌, [], length, vec_len, IfOk};
-ghost use Rattle.ov_wire.specs.Messages.{AreSendsInRange};
+ghost use Rattle.std.specs.Prelude.{◌≡◌, ◌≤◌, ◌+◌, [], length, IfOk};
+ghost use Rattle.ov_ids.specs.Sets.{most_members};
 ghost use Rattle.ov_views.specs.Allowed.{Node, Allowed, boots};
+ghost use Rattle.ov_peer.specs.Code.Messages.{AreSendable};
 ghost use Rattle.ov_peer.specs.Step.{Told};
 
 use ov_ids::{NodeId, OutOfMemory};
@@ -9,10 +10,10 @@ use ov_views::ViewChange;
 use ov_wire::{Body, Message};
 use std::alloc::Global;
 
-/// Tells the tree these changes in order.
+/// Tells the tree these changes of the active view, one after another.
 #[tactic(auto, using(crate::proofs::Changing::begun, crate::proofs::Changing::told_all))]
 pub(crate) fn tell(plum: &mut Plum, changes: &[ViewChange])
-    requires { length plum.old.branches.eager + length plum.old.branches.lazy + length changes.now ≤ 64 }
+    requires { length plum.old.branches.eager + length plum.old.branches.lazy + length changes.now ≤ most_members }
     ensures { Told plum.old changes.now plum.new }
 {
     let mut left = changes;
@@ -25,15 +26,14 @@ pub(crate) fn tell(plum: &mut Plum, changes: &[ViewChange])
     }
 }
 
-/// What a node sends that starts: JOIN to its contact, if there is one.
+/// What a node sends when it starts: JOIN to its contact, if there is one.
 pub(crate) fn joins(
     alloc: Global,
     me: NodeId,
     contact: Option<NodeId>,
 ) -> Result<Vec<(NodeId, Message)>, OutOfMemory>
     ensures allowed { IfOk result (λ v. (n : Node) → n.views.me ≡ me → Allowed n (boots contact) [] n [] v.items) }
-    ensures few { IfOk result (λ v. vec_len v ≤ 1) }
-    ensures ranges { IfOk result (λ v. AreSendsInRange v.items) }
+    ensures sendable { IfOk result (λ v. AreSendable v.items) }
 {
     let mut sends = Vec::new(alloc);
     if let Some(contact) = contact {

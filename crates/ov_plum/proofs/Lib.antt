@@ -1,5 +1,6 @@
 mod Branching
+mod Firing
+mod InMap
+mod InOrder
 pub mod Maps
 mod Noting
-pub mod Showing
-pub mod Shown

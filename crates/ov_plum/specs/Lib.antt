@@ -1,7 +1,7 @@
 pub mod Faults
 pub mod Ids
+pub mod Notes
 pub mod PlumState
 pub mod PlumRows
 pub mod PlumChange
-pub mod Notes
 pub mod Code

@@ -1,32 +1,56 @@
--- What a turn makes of a tree.
-use Rattle.std.specs.Prelude.{Bool, true, false, Some, None}
+-- What a planned change makes of a node's part of Plumtree.
+use Rattle.std.specs.Prelude.{◌≤◌, Bool, true, false, vec_len}
 use Rattle.std.specs.FinMap as map
-use Rattle.ov_plum.specs.PlumRows.{IsStep}
+use Rattle.std.specs.FinSet as set
+use Rattle.ov_wire.specs.Messages.{AreSendsInRange}
+use Rattle.ov_plum.specs.Notes.{noting, without_notes_of, without_oldest}
+use Rattle.ov_plum.specs.PlumRows.{AllowedTree, IsStep, PlumInput, most_sends}
 use Rattle.ov_plum.specs.PlumState.{PlumState, makes_eager, makes_lazy}
 use Rattle.ov_plum.specs.declared.plum_change.PlumChange.{PlumChange}
-use Rattle.ov_plum.specs.declared.plum_change.PlumChange.TheVariants.{Rests, Makes, Holds, Eager, Lazy, Puts, Clears}
+use Rattle.ov_plum.specs.declared.plum_change.PlumChange.TheVariants.{Nothing, Makes, Holds, Eager, Lazy, Awaits, Asks}
+use Rattle.ov_plum.specs.declared.plum_change.PlumChange.TheVariants.{Clears}
+use Rattle.ov_plum.specs.declared.plum_change.PlumPlan.{PlumPlan}
+use Rattle.ov_plum.specs.declared.spread.Spread.{Spread}
 
--- the tree t after a turn
+-- what is kept after the planned change of t
 abbrev pub plum_after : PlumState → PlumChange → PlumState
-plum_after t Rests = t
-plum_after t (Makes id kept next) = record t { held = map.insert t.held id kept; made = next }
-plum_after t (Holds id kept s) = record t { branches = makes_eager s t.branches; held = map.insert t.held id kept; timers = map.remove t.timers id }
+plum_after t Nothing = t
+plum_after t (Makes id held next) = record t { held = map.insert t.held id held; made = next }
+plum_after t (Holds id held s) = record t {
+  branches = makes_eager s t.branches;
+  held = map.insert t.held id held;
+  notes = without_notes_of id t.notes;
+  running = set.remove t.running id;
+}
 plum_after t (Eager s) = record t { branches = makes_eager s t.branches }
 plum_after t (Lazy s) = record t { branches = makes_lazy s t.branches }
-plum_after t (Puts id notes None) = record t { timers = map.insert t.timers id notes }
-plum_after t (Puts id notes (Some s)) = record t { branches = makes_eager s t.branches; timers = map.insert t.timers id notes }
-plum_after t (Clears id) = record t { timers = map.remove t.timers id }
+plum_after t (Awaits id s) = record t { notes = noting s id t.notes; running = set.insert t.running id }
+plum_after t (Asks id s) = record t { branches = makes_eager s t.branches; notes = without_oldest id t.notes }
+plum_after t (Clears id) = record t { notes = without_notes_of id t.notes; running = set.remove t.running id }
 
--- the turn is one of a step of the tree t: what it makes of t is what some step makes of it
+-- the planned change is that of a step: what it makes of t is what some step makes of it
 abbrev pub IsPlumChange : PlumState → PlumChange → Type 0
 IsPlumChange t plum_change = IsStep t (plum_after t plum_change)
 
--- whether a turn puts something in, for which room is wanted
+-- A step from t to u at this input, with these effects: it is allowed, each message that it sends is in range, and
+-- there are at most so many
+abbrev pub IsPlumStep : PlumState → PlumInput → PlumState → Spread → Type 0
+IsPlumStep t input u effects =
+    AllowedTree t input u effects.sends.items effects.delivered
+    × AreSendsInRange effects.sends.items
+    × (vec_len effects.sends ≤ most_sends input)
+
+-- The plan is one for this input: its effects and its change are a step from t
+abbrev pub IsPlumPlan : PlumState → PlumInput → PlumPlan → Type 0
+IsPlumPlan t input plan = IsPlumStep t input (plum_after t plan.plum_change) plan.spread
+
+-- whether a planned change may allocate
 abbrev pub wants_room : PlumChange → Bool
-wants_room Rests = false
-wants_room (Makes id kept next) = true
-wants_room (Holds id kept s) = true
+wants_room Nothing = false
+wants_room (Makes id held next) = true
+wants_room (Holds id held s) = true
 wants_room (Eager s) = false
 wants_room (Lazy s) = false
-wants_room (Puts id notes asked) = true
+wants_room (Awaits id s) = true
+wants_room (Asks id s) = true
 wants_room (Clears id) = false

@@ -1,12 +1,25 @@
 -- What Plumtree keeps at a node (Leitão, Pereira, Rodrigues, SRDS 2007).
-use Rattle.std.specs.Prelude.{ℕ, ◌+◌, ◌≤◌, Bool, ◌||◌, List, [], ◌∷◌, ◌++◌, length, if◌then◌else◌}
+use Rattle.std.specs.Prelude.{ℕ, ◌+◌, ◌≤◌, Bool, ◌||◌, List, [], length, if◌then◌else◌}
 use Rattle.std.specs.FinMap as map
-use Rattle.std.specs.Option.{unwrap_or}
+use Rattle.std.specs.FinSet as set
 use Rattle.ov_ids.specs.Sets.{IsSet, IsIn, has, adding, without}
-use Rattle.ov_ids.specs.declared.id.MsgId.{MsgId}
 use Rattle.ov_plum.specs.Ids.{id_cmp}
+use Rattle.ov_plum.specs.Notes.{Note, AreNotes}
 
--- a node's neighbours, as two sets: those to whom whole messages go at once, and those who are only told that there is one
+-- how many neighbours a node may have: chosen here
+abbrev pub most_neighbours : ℕ
+most_neighbours = 64
+
+-- how many broadcasts a node may make: chosen here
+abbrev pub most_broadcasts : ℕ
+most_broadcasts = 4096
+
+-- the last round, which two bytes hold: chosen here
+abbrev pub most_rounds : ℕ
+most_rounds = 65535
+
+-- A node's neighbours as two sets: whole messages go at once to the eager ones, and the lazy ones are only told that
+-- there is a message
 pub record BranchesState : Type 0 where
   pub eager : List ℕ
   pub lazy : List ℕ
@@ -16,9 +29,9 @@ pub record AreBranches (b : BranchesState) : Type 0 where
   pub eager_set : IsSet b.eager
   pub lazy_set : IsSet b.lazy
   pub apart : (x : ℕ) → IsIn b.eager x → ¬ IsIn b.lazy x
-  pub few : length b.eager + length b.lazy ≤ 64
+  pub few : length b.eager + length b.lazy ≤ most_neighbours
 
--- x is a neighbour
+-- whether x is a neighbour
 abbrev pub is_linked : BranchesState → ℕ → Bool
 is_linked b x = has b.eager x || has b.lazy x
 
@@ -43,19 +56,29 @@ pub record HeldState : Type 0 where
   pub round : ℕ
   pub payload : List ℕ
 
--- the node and its neighbours; the messages that it holds; the ids whose timers run, each with its notes: who said to have the
--- message, the oldest first; and the number of the node's next broadcast
+-- The node and its neighbours; the messages that it holds; the notes of messages that are missing; the ids whose timers
+-- run; and the number of the node's next broadcast
 pub record PlumState : Type 0 where
   pub me : ℕ
   pub branches : BranchesState
   pub held : map.FinMap id_cmp HeldState
-  pub timers : map.FinMap id_cmp (List ℕ)
+  pub notes : List Note
+  pub running : set.FinSet id_cmp
   pub made : ℕ
 
--- the notes of an id, the oldest first
-abbrev pub notes_of : PlumState → MsgId → List ℕ
-notes_of t id = unwrap_or (map.get t.timers id) []
+-- a node without neighbours that has seen no message
+abbrev pub newborn_plum : ℕ → PlumState
+newborn_plum me = record {
+  me = me;
+  branches = record { eager = []; lazy = [] };
+  held = map.empty;
+  notes = [];
+  running = set.empty;
+  made = 0;
+}
 
--- the note of s goes last, unless it is there
-abbrev pub noting : ℕ → List ℕ → List ℕ
-noting s notes = if has notes s then notes else notes ++ s ∷ []
+-- What a node's part of Plumtree always keeps
+pub record IsPlum (t : PlumState) : Type 0 where
+  pub branches : AreBranches t.branches
+  pub notes : AreNotes t.notes t.running
+  pub made : t.made ≤ most_broadcasts

@@ -1,5 +1,5 @@
 ghost use Rattle.std.specs.Prelude.{◌≡◌, ◌<◌, ◌+◌, [], length};
-ghost use Rattle.ov_plum.specs.PlumState.{AreBranches, is_linked, up, down, makes_eager, makes_lazy};
+ghost use Rattle.ov_plum.specs.PlumState.{AreBranches, most_neighbours, is_linked, up, down, makes_eager, makes_lazy};
 
 use ov_ids::{IdSet, NodeId};
 use std::marker::Model;
@@ -45,7 +45,7 @@ impl Branches {
     /// The eager neighbours, ascending.
     pub(crate) fn eager(&self) -> &[NodeId]
         ensures value { result.now ≡ self.now.eager }
-        ensures links { AreBranches self.now }
+        ensures branches { AreBranches self.now }
     {
         self.eager.as_slice()
     }
@@ -53,7 +53,7 @@ impl Branches {
     /// The lazy neighbours, ascending.
     pub(crate) fn lazy(&self) -> &[NodeId]
         ensures value { result.now ≡ self.now.lazy }
-        ensures links { AreBranches self.now }
+        ensures branches { AreBranches self.now }
     {
         self.lazy.as_slice()
     }
@@ -68,7 +68,7 @@ impl Branches {
     /// Makes a node an eager neighbour.
     #[tactic(auto, using(crate::proofs::Branching::comes_up))]
     pub(crate) fn up(&mut self, id: NodeId)
-        requires { length self.old.eager + length self.old.lazy < 64 }
+        requires { length self.old.eager + length self.old.lazy < most_neighbours }
         ensures { self.new ≡ up id self.old }
     {
         self.lazy.remove(id);

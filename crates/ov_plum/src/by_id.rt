@@ -12,7 +12,7 @@ use ov_ids::{MsgId, NodeId, OutOfMemory};
 use std::alloc::Global;
 use std::marker::Model;
 
-/// What can be copied, where memory is there.
+/// What can be copied, or is out of memory.
 pub(crate) trait TryCopy {
     /// An equal value.
     fn try_copy(&self) -> Result<Self, OutOfMemory>
@@ -43,7 +43,7 @@ impl<V: Drop> ById<V> {
         }
     }
 
-    /// Where its memory is from.
+    /// The allocator of its memory.
     pub(crate) fn allocator(&self) -> Global {
         *self.entries.allocator()
     }
@@ -62,7 +62,7 @@ impl<V: Drop> ById<V> {
         self.entries.get(id)
     }
 
-    /// Puts a value at this id, in place of one that is there. Out of memory, nothing changes.
+    /// Puts a value at this id, in place of one that is there. Out of memory, nothing has changed.
     pub(crate) fn insert(&mut self, id: MsgId, value: V) -> Result<(), OutOfMemory>
         ensures ok { OnOk result (self.new ≡ map.insert self.old id value) }
         ensures err { OnErr result (self.new ≡ self.old) }

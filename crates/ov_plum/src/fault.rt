@@ -8,7 +8,7 @@ use thiserror::Error;
 /// Why a timer did not fire.
 #[derive(Clone, Copy, Debug, PartialEq, Eq, Error)]
 pub enum TimerFault {
-    /// No timer of this id is set.
+    /// No timer of this id runs.
     #[error("the timer is not set")]
     NoTimer,
     /// An allocation was refused.

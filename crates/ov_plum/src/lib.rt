@@ -1,23 +1,22 @@
 //! Plumtree's part of a node: over which links whole broadcasts go, which of them it holds, and which it waits for.
 //!
-//! Plumtree (Leitão, Pereira, Rodrigues, *Epidemic broadcast trees*, SRDS 2007) sends a broadcast whole over eager links, which
-//! come to form a tree, and only announces it over lazy ones; who misses one asks for it, and so mends the tree.
+//! Plumtree (Leitão, Pereira, Rodrigues, *Epidemic broadcast trees*, SRDS 2007) sends a broadcast whole over eager
+//! links, which come to form a tree, and only announces it over lazy ones; who misses one asks for it, and so mends the
+//! tree.
 #![tactic(auto)]
 
 mod branches;
 mod by_id;
 mod fault;
 mod held;
-mod laws;
 mod notes;
 mod plum;
 mod plum_change;
 mod spread;
+mod waiting;
 
 pub use fault::TimerFault;
 pub use held::Held;
-pub use laws::notes_shown;
-pub use notes::Notes;
 pub use plum::Plum;
 pub use plum_change::{PlumChange, PlumPlan};
 pub use spread::Spread;

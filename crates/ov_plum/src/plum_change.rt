@@ -1,40 +1,29 @@
 use crate::held::Held;
-use crate::notes::Notes;
 use crate::spread::Spread;
 use ov_ids::{MsgId, NodeId};
 
-/// What is to change in a node's tree.
+/// What is to change in a node's part of Plumtree.
 #[derive(Drop)]
 pub enum PlumChange {
     /// Nothing.
-    Rests,
+    Nothing,
     /// A broadcast of the node's own is held, and the next one has this number.
-    Makes {
-        id: MsgId,
-        held: Held,
-        next: u32,
-    },
-    /// A message is held, its timer and notes are cleared, and the neighbour that sent it becomes eager.
-    Holds {
-        id: MsgId,
-        held: Held,
-        from: NodeId,
-    },
+    Makes { id: MsgId, held: Held, next: u32 },
+    /// A message is held, the neighbour that sent it becomes eager, the notes of it go, and its timer stops.
+    Holds { id: MsgId, held: Held, from: NodeId },
     /// A neighbour becomes eager.
     Eager(NodeId),
     /// A neighbour becomes lazy.
     Lazy(NodeId),
-    /// The timer of an id is set and has these notes, and the neighbour that is asked, if one is, becomes eager.
-    Puts {
-        id: MsgId,
-        notes: Notes,
-        asked: Option<NodeId>,
-    },
-    /// The timer of an id is cleared, with its notes.
+    /// A message is waited for: who said to have it is noted, and its timer runs.
+    Awaits { id: MsgId, from: NodeId },
+    /// A message is asked for: its oldest note goes, and the sender of that note becomes eager.
+    Asks { id: MsgId, from: NodeId },
+    /// The notes of an id go, and its timer stops.
     Clears(MsgId),
 }
 
-/// A step of the tree that is planned: what it brings, and what is to change for it.
+/// A planned step of a node's part of Plumtree: its effects, and what is to change.
 #[derive(Drop)]
 pub struct PlumPlan {
     pub spread: Spread,

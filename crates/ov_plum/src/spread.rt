@@ -2,7 +2,7 @@ ghost use Rattle.std.specs.Prelude.{◌≡◌, ◌≤◌, ◌+◌, ◌++◌, [],
 ghost use Rattle.ov_wire.specs.Messages.{AreInRange, say, AreSendsInRange};
 ghost use Rattle.ov_wire.specs.declared.message.Body.TheVariants.{IHave};
 ghost use Rattle.ov_plum.specs.PlumRows.{gossip, spread};
-ghost use Rattle.ov_plum.specs.PlumState.{HeldState};
+ghost use Rattle.ov_plum.specs.PlumState.{HeldState, most_neighbours};
 
 use crate::branches::Branches;
 use crate::held::Held;
@@ -10,7 +10,7 @@ use ov_ids::{MsgId, NodeId, OutOfMemory, Seq};
 use ov_wire::{Body, Message};
 use std::alloc::Global;
 
-/// What a step of the tree brings: what the node sends and to whom, in order, and what it delivers.
+/// The effects of a step: what the node sends and to whom, in order, and what it delivers.
 #[derive(Debug, Drop)]
 pub struct Spread {
     pub sends: Vec<(NodeId, Message)>,
@@ -50,18 +50,18 @@ impl Spread {
         me: NodeId,
         id: &MsgId,
         held: &Held,
-        links: &Branches,
+        branches: &Branches,
     ) -> Result<Spread, OutOfMemory>
-        ensures sends { IfOk result (λ s. s.sends.items ≡ spread me id.now held.now links.now) }
-        ensures len { IfOk result (λ s. vec_len s.sends ≡ length links.now.eager + length links.now.lazy) }
-        ensures most { IfOk result (λ s. vec_len s.sends ≤ 64) }
+        ensures sends { IfOk result (λ s. s.sends.items ≡ spread me id.now held.now branches.now) }
+        ensures len { IfOk result (λ s. vec_len s.sends ≡ length branches.now.eager + length branches.now.lazy) }
+        ensures most { IfOk result (λ s. vec_len s.sends ≤ most_neighbours) }
         ensures delivered { IfOk result (λ s. s.delivered ≡ Some (id.now, held.now.payload)) }
         ensures ranges { IfOk result (λ s. AreSendsInRange s.sends.items) }
     {
-        let count = links.eager().len() + links.lazy().len();
+        let count = branches.eager().len() + branches.lazy().len();
         let mut sends = Vec::with_capacity(alloc, count)?;
-        send_whole(alloc, &mut sends, me, *id, held, links.eager())?;
-        announce(&mut sends, me, id, links.lazy())?;
+        send_whole(alloc, &mut sends, me, *id, held, branches.eager())?;
+        announce(&mut sends, me, id, branches.lazy())?;
         Ok(Spread {
             sends,
             delivered: Some((*id, held.copy_payload(alloc)?)),
@@ -98,7 +98,8 @@ fn send_whole(
     held: &Held,
     to: &[NodeId],
 ) -> Result<(), OutOfMemory>
-    ensures sends { OnOk result (sends.new.items ≡ sends.old.items ++ map (λ x. (x, say me (gossip id held.now))) to.now) }
+    ensures sends { OnOk result
+        (sends.new.items ≡ sends.old.items ++ map (λ x. (x, say me (gossip id held.now))) to.now) }
     ensures len { OnOk result (vec_len sends.new ≡ vec_len sends.old + length to.now) }
 {
     for neighbour in to {

@@ -1,6 +1,6 @@
 -- What only the contracts of private functions speak of; whoever reads the public ones need not believe it.
-pub mod Collecting
-pub mod Judging
+pub mod RunnableLines
+pub mod ScenarioFaults
 pub mod Kept
 pub mod Spaced
 pub mod Writing

@@ -1,6 +1,7 @@
 -- The faults of a run and of an analysis: their numbers, the lines that they name, how they are shown, and what a run
 -- adds to the counts of failures of its reader and its writer. The numbers are chosen here.
 use Rattle.std.specs.Prelude.{ℕ, ⊤, List, ◌++◌, Option, Some, None, IfSome, Result, Ok, Err, codes, decimal}
+use Rattle.ov_io.specs.Device as device
 use Rattle.ov_io.specs.declared.fault.ReadFault.{ReadFault}
 use Rattle.ov_io.specs.declared.fault.ReadFault.TheVariants as read
 use Rattle.ov_graph.specs.Faults as graph
@@ -92,22 +93,10 @@ IsOfReading OutOfMemory = ⊥
 
 -- ---- counts of failures
 
--- a reader that fails ends the run, so it fails once
+-- how many failures of its reader a call counts: a reader that fails ends the run, so it fails once
 abbrev pub read_failures : {A : Type 0} → Result A RunFault → ℕ
-read_failures (Ok a) = 0
-read_failures (Err (Line n)) = 0
-read_failures (Err (Params n)) = 0
-read_failures (Err (Graph fault)) = 0
-read_failures (Err Read) = 1
-read_failures (Err Write) = 0
-read_failures (Err OutOfMemory) = 0
+read_failures result = device.read_failures number_of result
 
--- a writer that fails ends the run, so it fails once
+-- how many failures of its writer a call counts: a writer that fails ends the run, so it fails once
 abbrev pub write_failures : {A : Type 0} → Result A RunFault → ℕ
-write_failures (Ok a) = 0
-write_failures (Err (Line n)) = 0
-write_failures (Err (Params n)) = 0
-write_failures (Err (Graph fault)) = 0
-write_failures (Err Read) = 0
-write_failures (Err Write) = 1
-write_failures (Err OutOfMemory) = 0
+write_failures result = device.write_failures number_of result

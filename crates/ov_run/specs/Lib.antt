@@ -3,7 +3,7 @@ pub mod Ending
 pub mod Draws
 pub mod Faults
 pub mod GraphFiles
-pub mod Laws
+pub mod Theorems
 pub mod Lines
 pub mod Printed
 pub mod Running

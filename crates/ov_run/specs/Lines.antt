@@ -1,17 +1,13 @@
 -- The lines of a file that count, the words of a line, and the numbers that words spell. These words are pieces of the
 -- line, and no random words. The form of the files is chosen here.
 use Rattle.std.specs.Prelude.{ℕ, ◌+◌, ◌^◌, Bool, true, not, nat_lt, nat_eq, ◌&&◌, List, [], ◌∷◌, ◌++◌, length, drop}
-use Rattle.std.specs.Prelude.{codes, Option, Some, None, option_and_then, unwrap_or, if◌then◌else◌}
+use Rattle.std.specs.Prelude.{codes, Option, Some, None, unwrap_or, if◌then◌else◌}
 use Rattle.std.specs.List.{filter, position, slice_split, starts_with}
 use Rattle.std.specs.Cmp.Lexicographic.{pointwise}
 use Rattle.std.specs.Str.{all_ascii_digits}
 use Rattle.std.specs.Str.Lines.{lines}
 use Rattle.std.specs.Str.Parse.{digits_value}
-
-infixl 10 ◌>>=◌
--- what is made of the value, and none where there is none: the kit's `option_and_then`, written behind the value
-abbrev pub ◌>>=◌ : {A B : Type 0} → Option A → (A → Option B) → Option B
-o >>= f = option_and_then f o
+use Rattle.ov_ids.specs.Options.{◌>>=◌}
 
 -- ---- words
 

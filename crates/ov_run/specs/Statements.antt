@@ -3,7 +3,8 @@ use Rattle.std.specs.Prelude.{ℕ, ◌-◌, nat_lt, nat_le, ◌==◌, ◌&&◌, 
 use Rattle.std.specs.Prelude.{Some, None, option_map, if◌then◌else◌}
 use Rattle.ov_net.specs.declared.event.Event.{Event}
 use Rattle.ov_net.specs.declared.event.Event.TheVariants as event
-use Rattle.ov_run.specs.Lines.{◌>>=◌, words_of, behind_word, without_space, same, row, number_within, one, two, three}
+use Rattle.ov_ids.specs.Options.{◌>>=◌}
+use Rattle.ov_run.specs.Lines.{words_of, behind_word, without_space, same, row, number_within, one, two, three}
 use Rattle.ov_run.specs.Lines.{each_number, short_bits, one_list, long_bits}
 use Rattle.ov_run.specs.Draws.{words_per_event}
 use Rattle.ov_run.specs.declared.scenario.Look.TheVariants as look

@@ -1,6 +1,7 @@
 ghost use Rattle.std.specs.Prelude.{◌≡◌};
 ghost use Rattle.ov_run.specs.Faults.{number_of, line_of, fault_of_read, fault_of_graph};
-ghost use Rattle.ov_run.specs.declared.fault.RunFault.TheVariants.{OutOfMemory as wants_memory, Read as not_read, Write as not_written};
+ghost use Rattle.ov_run.specs.declared.fault.RunFault.TheVariants.{OutOfMemory as wants_memory};
+ghost use Rattle.ov_run.specs.declared.fault.RunFault.TheVariants.{Read as not_read, Write as not_written};
 
 use ov_graph::GraphFault;
 use ov_ids::OutOfMemory;

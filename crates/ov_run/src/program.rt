@@ -48,7 +48,8 @@ impl Display for ProgramFault {
 
 impl Error for ProgramFault {}
 
-/// The program's status: that of the run or the analysis, 2 where the arguments can't be read, and 1 after another fault.
+/// The program's status: that of the run or the analysis, 2 where the arguments can't be read, and 1 after another
+/// fault.
 pub fn exit_status(answer: &Result<u8, ProgramFault>) -> u8
     ensures { result ≡ exit_status answer.now }
 {

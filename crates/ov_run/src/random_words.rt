@@ -1,7 +1,7 @@
 ghost use Rattle.std.specs.Prelude.{◌≡◌, IfOk, length, vec_len};
 ghost use Rattle.rand_core.specs.Stream.{Stream};
 ghost use Rattle.ov_words.specs.Stream.{AreOutputs};
-ghost use Rattle.ov_run.specs.Code.Collecting.{stream_now};
+ghost use Rattle.ov_run.specs.Code.RunnableLines.{stream_now};
 ghost use Rattle.ov_run.specs.Draws.{AreDraws, seeded, words_per_event};
 
 use ov_ids::OutOfMemory;
@@ -18,7 +18,7 @@ pub(crate) struct Draws {
 
 impl Draws {
     /// All random words that the seed gives.
-    #[tactic(auto, unfolding(crate::specs::Draws::seeded, crate::specs::Code::Collecting::stream_now))]
+    #[tactic(auto, unfolding(crate::specs::Draws::seeded, crate::specs::Code::RunnableLines::stream_now))]
     pub(crate) fn new(seed: u64) -> Draws
         ensures { stream_now result ≡ seeded seed }
     {
@@ -28,7 +28,7 @@ impl Draws {
     }
 
     /// The random words of the next event.
-    #[tactic(auto, unfolding(crate::specs::Code::Collecting::stream_now))]
+    #[tactic(auto, unfolding(crate::specs::Code::RunnableLines::stream_now))]
     pub(crate) fn next_words(&mut self) -> Words
         ensures count { length result ≡ words_per_event }
         ensures outputs { AreOutputs (stream_now self.old) result (stream_now self.new) }

@@ -9,8 +9,8 @@ use Rattle.ov_net.specs.Journal.{AreLinks, Live}
 use Rattle.ov_net.specs.declared.entry.Entry.{Entry}
 use Rattle.ov_net.proofs.Links.OneGraph.{links_one}
 use Rattle.ov_net.proofs.Steps.Places.{at_cases}
-use Rattle.ov_even.proofs.Assembling.{whole_group}
-use Rattle.ov_even.proofs.Slotted.{at_set_same, at_set_other}
+use Rattle.ov_even.proofs.AnalysisSteps.Assembling.{whole_group}
+use Rattle.ov_even.proofs.AnalysisSteps.Slotted.{at_set_same, at_set_other}
 use Rattle.ov_desk.specs.Desk.{GroupDeskState}
 use Rattle.ov_desk.specs.Sound.{IsSoundDesk}
 use Rattle.ov_desk.proofs.Staying.{stays_sound}

@@ -10,7 +10,7 @@ use Rattle.ov_ids.proofs.Members.{has_append_cases, has_append_left, has_append_
 use Rattle.ov_ids.proofs.Stepping.{step_none}
 use Rattle.ov_graph.specs.Links.{LinkGraph}
 use Rattle.ov_cert.specs.Valid.{IsValidForGroup}
-use Rattle.ov_cert.proofs.Exact.{valid_means}
+use Rattle.ov_cert.proofs.Validity.Exact.{valid_means}
 use Rattle.ov_net.specs.Journal.{AreLinks}
 use Rattle.ov_net.specs.declared.entry.Entry.{Entry}
 use Rattle.ov_net.specs.declared.event.Event.{Event}

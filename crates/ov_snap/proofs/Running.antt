@@ -7,15 +7,15 @@ use Rattle.ov_desk.specs.Desk.{GroupDeskState}
 use Rattle.ov_desk.specs.Turns.{ClaimsNext, LooksNext, SettlesNext}
 use Rattle.ov_snap.specs.CoreState.{CoreState, IsSound, KeepsReports}
 use Rattle.ov_snap.specs.Filing.{WasFiled}
-use Rattle.ov_snap.specs.Laws.{EveryReportIsSo, EveryReportStays}
+use Rattle.ov_snap.specs.Theorems.{EveryReportIsSo, EveryReportStays}
 use Rattle.ov_snap.specs.ReportState.{ReportState}
 use Rattle.ov_snap.specs.Refusals.{DeskFilingJudged, FilingJudged, GroupOpeningJudged, OpeningJudged, TurnJudged}
 use Rattle.ov_snap.specs.Run.{Takes, TakesAll, WasRefused}
 use Rattle.ov_snap.specs.declared.fault.CoreFault.{CoreFault}
 use Rattle.ov_snap.specs.declared.fault.CoreFault.TheVariants.{OutOfMemory}
-use Rattle.ov_snap.specs.declared.core_run.CoreStep.{CoreStep}
-use Rattle.ov_snap.specs.declared.core_run.CoreStep.TheVariants.{Net, File}
-use Rattle.ov_snap.specs.declared.core_run.CoreStep.TheVariants.{OpenDesk, OpenGroupDesk, Claim, Look, Settle, FileDesk}
+use Rattle.ov_snap.specs.declared.core_steps.CoreStep.{CoreStep}
+use Rattle.ov_snap.specs.declared.core_steps.CoreStep.TheVariants.{Net, File, OpenDesk, OpenGroupDesk, Claim}
+use Rattle.ov_snap.specs.declared.core_steps.CoreStep.TheVariants.{Look, Settle, FileDesk}
 use Rattle.ov_snap.proofs.DeskKeeping.{sound_desk_opened, sound_group_desk_opened, sound_claimed_at, sound_looked_at}
 use Rattle.ov_snap.proofs.DeskKeeping.{sound_settled_at, sound_desk_filed}
 use Rattle.ov_snap.proofs.Keeping.{sound_begun, sound_filed, sound_happened}

@@ -5,5 +5,5 @@ pub mod Refusals
 pub mod Filing
 pub mod DeskSteps
 pub mod Run
-pub mod Laws
+pub mod Theorems
 pub mod Code

@@ -3,7 +3,8 @@ use Rattle.std.specs.Prelude.{ℕ, ◌<◌, ◌≤◌, List, length, Option, Som
 use Rattle.ov_ids.specs.FaultOrder.{Step, Passed}
 use Rattle.ov_graph.specs.Links.{LinkGraph, IsGroup}
 use Rattle.ov_net.specs.Journal.{AreLinks, Live}
-use Rattle.ov_claims.specs.Laws.{AllEnded}
+use Rattle.ov_claims.specs.Claims.{most_workers}
+use Rattle.ov_claims.specs.Theorems.{AllEnded}
 use Rattle.ov_desk.specs.Desk.{GroupDeskState}
 use Rattle.ov_desk.specs.Turns.{IsWorkerOf}
 use Rattle.ov_snap.specs.CoreState.{CoreState, HasReport, HasDesk, most_desks}
@@ -63,10 +64,6 @@ FilingJudged b r answer =
     MomentThen b r.moment
     (Step (AreLinks b.world.journal r.moment r.graph) OtherGraph
     (Step (¬ IsFiled b r.moment r.members) AlreadyFiled Passed)) answer
-
--- a desk has so many workers at most (chosen here)
-abbrev pub most_workers : ℕ
-most_workers = 64
 
 -- a desk may have so many workers
 abbrev pub MayWork : ℕ → Type 0

@@ -2,7 +2,7 @@
 use Rattle.std.specs.Prelude.{ℕ, List, None}
 use Rattle.ov_graph.specs.Links.{LinkGraph}
 use Rattle.ov_graph.specs.Joined.{NoFewerSplit, FewestForGroup}
-use Rattle.ov_cert.specs.Laws.{ReachesNumber}
+use Rattle.ov_cert.specs.Theorems.{ReachesNumber}
 use Rattle.ov_cert.specs.Valid.{k_of}
 use Rattle.ov_cert.specs.Verdict.{JudgedForGroup}
 use Rattle.ov_cert.specs.declared.cert.Cert.{Cert}

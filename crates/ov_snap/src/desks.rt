@@ -5,7 +5,7 @@ ghost use Rattle.ov_ids.specs.FaultOrder.{IsRefusedBy, Passed};
 ghost use Rattle.ov_graph.specs.Links.{LinkGraph};
 ghost use Rattle.ov_cert.specs.Valid.{IsValidForGroup};
 ghost use Rattle.ov_net.specs.Journal.{AreLinks};
-ghost use Rattle.ov_claims.specs.Laws.{AllEnded};
+ghost use Rattle.ov_claims.specs.Theorems.{AllEnded};
 ghost use Rattle.ov_even.specs.Answer.{IsAnswer};
 ghost use Rattle.ov_desk.specs.Desk.{GroupDeskState, IsOpened};
 ghost use Rattle.ov_desk.specs.Sound.{IsSoundDesk};
@@ -160,7 +160,7 @@ impl Core {
         Ok(own.look(worker))
     }
 
-    /// A worker of a desk settles the piece of its number, and fails where that comes to a cut. It is refused where
+    /// A worker of a desk settles the piece of its number, and fails there if the answer is a cut. It is refused where
     /// there is no such desk (53), then where the desk has no such worker (57), and then where the worker does not
     /// settle next (54); where none of these applies, it may be out of memory (99). What is refused changes nothing.
     pub fn settle(&mut self, desk: u32, worker: u32) -> Result<(), CoreFault>

@@ -1,14 +1,3 @@
-pub mod Lists
-pub mod Move
-pub mod Trace
-pub mod Prune
-pub mod Stuck
-pub mod Near
-pub mod Sole
-pub mod Search
-pub mod FanForm
-pub mod Mapped
-pub mod Renamed
-pub mod ByPlace
-pub mod Rows
-pub mod NetPlaces
+pub mod Augmenting
+pub mod FanTheorem
+pub mod ByNames

@@ -1,5 +1,5 @@
 pub mod Net
 pub mod Places
 pub mod Placed
-pub mod Laws
+pub mod Theorems
 pub mod Code

@@ -1,4 +1,4 @@
--- A net by places: its nodes are the places of the nodes, counted from 0.
+-- Nets by place: each node is named by its place in the order of ids, counted from 0.
 use Rattle.std.specs.Prelude.{ℕ, zero, suc, List, [], ◌∷◌, ◌++◌, map, length, Option, Some, None}
 use Rattle.ov_ids.specs.Sets.{count_below}
 use Rattle.ov_graph.specs.Links.{LinkGraph}
@@ -10,7 +10,7 @@ unfoldable pub places : ℕ → List ℕ
 places zero = []
 places (suc n) = places n ++ n ∷ []
 
--- the place of a node: as many nodes are below it
+-- the place of a node: how many nodes have lower ids
 abbrev pub place_in : LinkGraph → ℕ → ℕ
 place_in g x = count_below x g.nodes
 
@@ -34,7 +34,7 @@ net_by_place n = record {
   targets = map (place_in n.graph) n.targets;
 }
 
--- the node at a place, if one is given
+-- the node at a place, or none where no place is given
 abbrev pub node_if : LinkGraph → Option ℕ → List ℕ
 node_if g None = []
 node_if g (Some p) = node_at g p ∷ []

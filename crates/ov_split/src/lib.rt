@@ -1,8 +1,8 @@
-//! Paths from one node of a graph to some others that share only that node.
+//! Nets: paths from one node of a graph to some others, which share only that node.
 #![tactic(auto)]
 
-mod laws;
 mod net;
+mod theorems;
 
-pub use laws::{menger, one_nearest_cut};
 pub use net::SplitNet;
+pub use theorems::{menger, one_nearest_cut};

@@ -12,8 +12,8 @@ use ov_graph::Graph;
 use ov_graph::row::{EMPTY, Row, WORDS, put};
 use std::marker::Model;
 
-/// A net: paths are sought in a graph from one node, the source, to targets, off the avoided nodes. Contracts see the
-/// nodes by their ids; the calls speak of places of nodes, counted from 0.
+/// A net: a graph in which paths are sought from one node, the source, to the targets, without the avoided nodes.
+/// Contracts see the net by ids. The calls use places of nodes, counted from 0.
 #[derive(Drop)]
 pub struct SplitNet<'g> {
     graph: &'g Graph,
@@ -34,8 +34,8 @@ impl<'g> Model for SplitNet<'g> {
 }
 
 impl<'g> SplitNet<'g> {
-    /// The net with this source and these targets, in which one node or none is avoided. The source is neither avoided
-    /// nor a target.
+    /// The net with this source and these targets. At most one node is avoided. The source must be neither avoided nor
+    /// a target.
     pub fn new(
         graph: &'g Graph,
         avoided: Option<usize>,
@@ -63,15 +63,7 @@ impl<'g> SplitNet<'g> {
         }
     }
 
-    /// The graph.
-    pub fn graph(&self) -> &'g Graph
-        ensures graph { result.now ≡ self.now.graph }
-        ensures net { IsNet self.now }
-    {
-        self.graph
-    }
-
-    /// How many places there are: one for each node.
+    /// The number of places: one for each node.
     pub fn places(&self) -> usize
         ensures places { result ≡ length self.now.graph.nodes }
         ensures placed { IsPlaced (net_by_place self.now) (length self.now.graph.nodes) }
@@ -80,7 +72,7 @@ impl<'g> SplitNet<'g> {
         self.graph.nodes().len()
     }
 
-    /// How many words of the rows are in use: no row has a bit beyond them.
+    /// How many words of the rows are in use. No row has a bit beyond them.
     pub fn words(&self) -> usize
         ensures words { AreWordsFor (length self.now.graph.nodes) result }
         ensures fits { result ≤ WORDS }
@@ -97,7 +89,7 @@ impl<'g> SplitNet<'g> {
         self.source
     }
 
-    /// A row with the places of the targets.
+    /// The row of the places of the targets.
     pub fn targets(&self) -> &Row
         ensures places { (p : ℕ) → HasBit result.now p ↔ Has (net_by_place self.now).targets p }
         ensures net { IsNet self.now }
@@ -105,7 +97,7 @@ impl<'g> SplitNet<'g> {
         &self.targets
     }
 
-    /// A row with the places of the avoided nodes.
+    /// The row of the places of the avoided nodes.
     pub fn avoided(&self) -> &Row
         ensures places { (p : ℕ) → HasBit result.now p ↔ Has (net_by_place self.now).avoided p }
         ensures net { IsNet self.now }
@@ -113,7 +105,7 @@ impl<'g> SplitNet<'g> {
         &self.avoided
     }
 
-    /// A row with the places that the one at a place is linked to.
+    /// The row of the places of the neighbours of the node at a place.
     pub fn links_at(&self, p: usize) -> &Row
         requires { p < length self.now.graph.nodes }
         ensures links { (q : ℕ) → HasBit result.now q ↔ Linked (net_by_place self.now).graph p q }

@@ -83,21 +83,19 @@ fn tells_two(alloc: Global, graph: &Graph) -> Result<bool, OutOfMemory> {
     )
 }
 
-/// What the search for one path more answers. Where memory was wanted as many are held as before, and it is made once
-/// more.
-fn grown(flow: &mut Flow<'_>) -> Result<Step, Fail>
-    ensures { flow.new.net ≡ flow.old.net }
-{
+/// What the search for one path more answers. Out of memory leaves as many paths as before, and the search is made
+/// once more.
+fn grown(flow: &mut Flow<'_>) -> Result<Step, Fail> {
     let held = flow.held();
     if let Ok(step) = flow.augment() {
         return Ok(step);
     }
     if flow.held() != held {
-        return Err("want of memory changed the flow".into());
+        return Err("out of memory changed the flow".into());
     }
     match flow.augment() {
         Ok(step) => Ok(step),
-        Err(_) => Err("memory was wanted twice".into()),
+        Err(_) => Err("out of memory twice".into()),
     }
 }
 
@@ -117,16 +115,12 @@ fn grows_twice(flow: &mut Flow<'_>) -> Result<bool, Fail> {
     })
 }
 
-/// The flow of the square grows once, and when it has begun anew, twice.
+/// The flow of the square grows twice, one path after another.
 fn grows(alloc: Global, graph: &Graph) -> Result<bool, Fail> {
-    let (Some(first), Some(again)) = (from_third(graph), from_third(graph)) else {
+    let Some(net) = from_third(graph) else {
         return Ok(false);
     };
-    let mut flow = Flow::new(alloc, first)?;
-    match grown(&mut flow)? {
-        Step::Grew => flow.restart(again),
-        Step::Stuck(_) => return Ok(false),
-    }
+    let mut flow = Flow::new(alloc, net)?;
     grows_twice(&mut flow)
 }
 

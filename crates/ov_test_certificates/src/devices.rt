@@ -1,6 +1,7 @@
 //! Sources and sinks: what they count, and that many small reads and writes are no failure.
-use crate::check::{LINE, told};
+use crate::check::LINE;
 use crate::files::{SQUARE, TWO_LINKED};
+use crate::told::is_judged;
 use ov_check::judge;
 use ov_io::{ReadFault, Sink, Source, WriteFault};
 use ov_test_kit::{Interrupted, Slow};
@@ -28,8 +29,7 @@ fn counts_writes() -> bool {
 
 #[test]
 fn an_interrupted_call_is_a_fault(rt: HostRuntime) {
-    assert!(rt; counts_reads(rt.alloc()));
-    assert!(rt; counts_writes());
+    assert!(rt; counts_reads(rt.alloc()) && counts_writes());
 }
 
 fn is_read(alloc: Global, bytes: &[u8]) -> Result<bool, ReadFault> {
@@ -43,13 +43,6 @@ fn is_taken(alloc: Global, bytes: &[u8]) -> Result<bool, WriteFault> {
     Ok(sink.into_writer().as_slice() == bytes)
 }
 
-#[test]
-fn all_bytes_are_read_and_written(rt: HostRuntime) -> Result<(), Fail> {
-    assert!(rt; is_read(rt.alloc(), SQUARE.as_bytes())?);
-    assert!(rt; is_taken(rt.alloc(), SQUARE.as_bytes())?);
-    Ok(())
-}
-
 /// The bytes are read whole from a reader that gives them one by one.
 fn is_read_slowly(alloc: Global, bytes: &[u8]) -> Result<bool, ReadFault> {
     let mut source = Source::new(Slow {
@@ -59,21 +52,27 @@ fn is_read_slowly(alloc: Global, bytes: &[u8]) -> Result<bool, ReadFault> {
     Ok(source.read_all(alloc)?.as_slice() == bytes && source.faults() == 0)
 }
 
-#[test]
-fn a_reader_may_answer_70_000_reads(rt: HostRuntime) -> Result<(), Fail> {
-    let mut bytes = Vec::new(rt.alloc());
+/// A reader may answer 70,000 reads.
+fn many_bytes_are_read(alloc: Global) -> Result<bool, Fail> {
+    let mut bytes = Vec::new(alloc);
     bytes.resize(70_000, b' ')?;
-    assert!(rt; is_read_slowly(rt.alloc(), &bytes)?);
-    Ok(())
+    Ok(is_read_slowly(alloc, &bytes)?)
+}
+
+/// Two mebibytes may stand before a file.
+fn late_file_is_judged(alloc: Global) -> Result<bool, Fail> {
+    let mut bytes = Vec::new(alloc);
+    bytes.resize(2 << 20, b' ')?;
+    bytes.extend_from_slice(TWO_LINKED.as_bytes())?;
+    Ok(is_judged(alloc, &bytes, "holds 6 linked k 1")?)
 }
 
 #[test]
-fn two_mebibytes_may_stand_before_a_file(rt: HostRuntime) -> Result<(), Fail> {
-    let mut bytes = Vec::new(rt.alloc());
-    bytes.resize(2 << 20, b' ')?;
-    bytes.extend_from_slice(TWO_LINKED.as_bytes())?;
-    let (status, line) = told(rt.alloc(), &bytes)?;
-    assert!(rt; status == 0 && line.as_slice() == LINE.as_bytes());
+fn all_bytes_are_read_and_written(rt: HostRuntime) -> Result<(), Fail> {
+    let alloc = rt.alloc();
+    let bytes = SQUARE.as_bytes();
+    assert!(rt; is_read(alloc, bytes)? && is_taken(alloc, bytes)?);
+    assert!(rt; many_bytes_are_read(alloc)? && late_file_is_judged(alloc)?);
     Ok(())
 }
 
@@ -99,7 +98,7 @@ impl Write for Short {
     }
 }
 
-/// The line of two linked nodes is written whole to a writer whose first write takes so many bytes.
+/// The line of two linked nodes is written whole to a writer whose first write takes this many bytes.
 fn is_written_on(alloc: Global, first: usize) -> bool {
     let mut source = Source::new(TWO_LINKED.as_bytes());
     let taken = Vec::new(alloc);

@@ -1,5 +1,5 @@
 //! Worked graphs and certificates in numbers.
-use ov_cert::{Cert, FanPaths, PairPaths, Paths, Split};
+use ov_cert::{Cert, FanPaths, Paths, Split};
 use ov_graph::{Graph, GraphFault};
 use ov_ids::{NodeId, OutOfMemory, Seq};
 use ov_test_kit::ids;
@@ -15,7 +15,7 @@ pub(crate) struct Drawn {
     pub(crate) links: &'static [(u32, u32)],
 }
 
-/// A split certificate in numbers.
+/// A split certificate without pairs, in numbers.
 #[derive(Clone, Copy)]
 pub(crate) struct Said {
     pub(crate) k: u32,
@@ -23,17 +23,11 @@ pub(crate) struct Said {
     pub(crate) near: u32,
     pub(crate) far: u32,
     pub(crate) side: &'static [u32],
-    pub(crate) pairs: &'static [(u32, u32, Lists)],
     pub(crate) fans: &'static [(u32, Lists)],
 }
 
 pub(crate) const NO_NODES: Drawn = Drawn {
     nodes: &[],
-    links: &[],
-};
-
-pub(crate) const ONE_NODE: Drawn = Drawn {
-    nodes: &[7],
     links: &[],
 };
 
@@ -47,21 +41,6 @@ pub(crate) const TWO_UNLINKED: Drawn = Drawn {
     links: &[],
 };
 
-pub(crate) const SPLIT_OF_TWO: Said = Said {
-    k: 0,
-    cut: &[],
-    near: 2,
-    far: 1,
-    side: &[2],
-    pairs: &[],
-    fans: &[],
-};
-
-pub(crate) const PATH_OF_THREE: Drawn = Drawn {
-    nodes: &[1, 2, 3],
-    links: &[(1, 2), (2, 3)],
-};
-
 /// Five nodes in a ring, and one more that is linked to 2.
 pub(crate) const RING_WITH_TAIL: Drawn = Drawn {
     nodes: &[1, 2, 3, 4, 5, 6],
@@ -72,77 +51,6 @@ pub(crate) const RING_WITH_TAIL: Drawn = Drawn {
 pub(crate) const SQUARE: Drawn = Drawn {
     nodes: &[1, 2, 3, 4],
     links: &[(1, 2), (1, 4), (2, 3), (3, 4)],
-};
-
-pub(crate) const SPLIT_OF_SQUARE: Said = Said {
-    k: 2,
-    cut: &[2, 4],
-    near: 1,
-    far: 3,
-    side: &[1],
-    pairs: &[],
-    fans: &[(3, &[&[3, 2], &[3, 4, 1]]), (4, &[&[4, 1], &[4, 3]])],
-};
-
-/// All linked but 1 and 2.
-pub(crate) const FIVE_BUT_ONE: Drawn = Drawn {
-    nodes: &[1, 2, 3, 4, 5],
-    links: &[
-        (1, 3),
-        (1, 4),
-        (1, 5),
-        (2, 3),
-        (2, 4),
-        (2, 5),
-        (3, 4),
-        (3, 5),
-        (4, 5),
-    ],
-};
-
-pub(crate) const SPLIT_OF_FIVE: Said = Said {
-    k: 3,
-    cut: &[3, 4, 5],
-    near: 1,
-    far: 2,
-    side: &[1],
-    pairs: &[(1, 2, &[&[1, 3, 2], &[1, 4, 2], &[1, 5, 2]])],
-    fans: &[
-        (4, &[&[4, 1], &[4, 2], &[4, 3]]),
-        (5, &[&[5, 1], &[5, 2], &[5, 3]]),
-    ],
-};
-
-/// They have node 3 in common.
-pub(crate) const TWO_TRIANGLES: Drawn = Drawn {
-    nodes: &[1, 2, 3, 4, 5],
-    links: &[(1, 2), (1, 3), (2, 3), (3, 4), (3, 5), (4, 5)],
-};
-
-pub(crate) const TRIANGLES_AT_ONE: Said = Said {
-    k: 1,
-    cut: &[3],
-    near: 4,
-    far: 1,
-    side: &[4, 5],
-    pairs: &[],
-    fans: &[
-        (2, &[&[2, 1]]),
-        (3, &[&[3, 1]]),
-        (4, &[&[4, 3]]),
-        (5, &[&[5, 4, 3]]),
-    ],
-};
-
-/// One node more in the cut than it takes.
-pub(crate) const TRIANGLES_AT_TWO: Said = Said {
-    k: 2,
-    cut: &[3, 4],
-    near: 5,
-    far: 1,
-    side: &[5],
-    pairs: &[],
-    fans: &[],
 };
 
 /// The graph of these nodes and links, or its fault.
@@ -161,18 +69,6 @@ fn paths(alloc: Global, lists: Lists) -> Result<Paths, OutOfMemory> {
         paths.push(ids(alloc, list)?)?;
     }
     Ok(Seq::new(paths))
-}
-
-fn pairs(alloc: Global, said: Said) -> Result<Seq<PairPaths>, OutOfMemory> {
-    let mut pairs = Vec::with_capacity(alloc, said.pairs.len())?;
-    for (i, j, lists) in said.pairs {
-        pairs.push(PairPaths {
-            i: NodeId(*i),
-            j: NodeId(*j),
-            paths: paths(alloc, lists)?,
-        })?;
-    }
-    Ok(Seq::new(pairs))
 }
 
 fn fans(alloc: Global, said: Said) -> Result<Seq<FanPaths>, OutOfMemory> {
@@ -194,7 +90,7 @@ pub(crate) fn split(alloc: Global, said: Said) -> Result<Cert, OutOfMemory> {
         near: NodeId(said.near),
         far: NodeId(said.far),
         side: ids(alloc, said.side)?,
-        pairs: pairs(alloc, said)?,
+        pairs: Seq::new(Vec::new(alloc)),
         fans: fans(alloc, said)?,
     }))
 }

@@ -2,13 +2,13 @@
 #![tactic(auto)]
 
 #[cfg(test)]
-mod cert;
-#[cfg(test)]
 mod certfile;
 #[cfg(test)]
 mod changes;
 #[cfg(test)]
 mod check;
+#[cfg(test)]
+mod checked;
 #[cfg(test)]
 mod devices;
 #[cfg(test)]
@@ -20,10 +20,10 @@ mod files;
 #[cfg(test)]
 mod graph;
 #[cfg(test)]
-mod groups;
-#[cfg(test)]
-mod parallel;
-#[cfg(test)]
 mod program;
 #[cfg(test)]
-mod sixteens;
+mod rows;
+#[cfg(test)]
+mod shared;
+#[cfg(test)]
+mod told;

@@ -1,10 +1,10 @@
-//! What overlay-check decides of its words, and each way in which it ends.
+//! The input that the arguments of overlay-check name, and each way in which the program ends.
 use ov_check::{JudgeFault, ProgramFault, exit_status, input_named};
-use std::alloc::Global;
+use std::alloc::{AllocError, Global};
 use std::env::FillError;
 use std::test::Fail;
 
-/// The first word, or why there is none; whether there is a second; and the input that is named.
+/// The first argument, or why there is none; whether there is a second; and the input that is named.
 type Row = (
     Result<&'static [u8], FillError>,
     bool,
@@ -25,7 +25,7 @@ static WORDS: [Row; 9] = [
     (Err(FillError::TooLong), true, Err(ProgramFault::Usage)),
 ];
 
-/// The input that words name whose first is looked at in a room that is larger than it.
+/// The arguments name this input. The first stands in a buffer that is larger than it.
 fn named(
     first: Result<&[u8], FillError>,
     has_second: bool,
@@ -50,29 +50,42 @@ fn words_name_the_input(rt: HostRuntime) {
     }
 }
 
-/// What the program ends with, its status, and the line on standard error.
-static ENDS: [(ProgramFault, u8, &str); 4] = [
-    (ProgramFault::Usage, 2, "usage: overlay-check [FILE]"),
-    (ProgramFault::Judge(JudgeFault::Read), 1, "refused 71"),
-    (ProgramFault::Judge(JudgeFault::Write), 1, "refused 72"),
-    (
-        ProgramFault::Judge(JudgeFault::OutOfMemory),
-        1,
-        "refused 99",
-    ),
-];
-
 /// After this fault the program has this status, and its line is this.
-fn ends(alloc: Global, fault: ProgramFault, status: u8, line: &str) -> Result<bool, Fail> {
+fn ends(alloc: Global, fault: ProgramFault, status: u8, line: &str) -> Result<bool, AllocError> {
     let shown = fault.to_string(alloc)?;
     Ok(exit_status(&Err(fault)) == status && shown.as_str() == line)
 }
 
+/// A fault of the judge, its number, and the line on standard error.
+static SHOWN: [(JudgeFault, u32, &str); 3] = [
+    (JudgeFault::Read, 71, "refused 71"),
+    (JudgeFault::Write, 72, "refused 72"),
+    (JudgeFault::OutOfMemory, 99, "refused 99"),
+];
+
+/// The fault has this number and this line, and the program ends so.
+fn is_shown(alloc: Global, fault: JudgeFault, number: u32, line: &str) -> Result<bool, AllocError> {
+    let shown = fault.to_string(alloc)?;
+    Ok(
+        fault.number() == number
+            && shown.as_str() == line
+            && ends(alloc, ProgramFault::Judge(fault), 1, line)?,
+    )
+}
+
 #[test]
 fn each_way_out_has_its_status(rt: HostRuntime) -> Result<(), Fail> {
-    for (fault, status, line) in &ENDS {
-        assert!(rt; ends(rt.alloc(), *fault, *status, line)?, "at {line}");
+    for (fault, number, line) in &SHOWN {
+        assert!(rt; is_shown(rt.alloc(), *fault, *number, line)?, "at {line}");
     }
-    assert!(rt; exit_status(&Ok(0)) == 0 && exit_status(&Ok(1)) == 1);
+    assert!(rt;
+        ends(
+            rt.alloc(),
+            ProgramFault::Usage,
+            2,
+            "usage: overlay-check [FILE]"
+        )? && exit_status(&Ok(0)) == 0
+            && exit_status(&Ok(1)) == 1
+    );
     Ok(())
 }

@@ -30,15 +30,18 @@ enum Event {
     Crash,
 }
 
-/// A node with these sizes and members of its views, and what comes to it in turn: from whom or of whom, what, and
-/// what is told of that step. Each step's words are these first, and then zeros.
+/// What comes to a node: from whom or of whom, what, and what is told of that step.
+type Step = (u32, Event, &'static str);
+
+/// A node with these sizes and members of its views, and its steps in order. Each step's words are these first, and
+/// then zeros.
 struct Run {
     me: u32,
     sizes: (u32, u32),
     active: &'static [u32],
     passive: &'static [u32],
     words: &'static [u64],
-    steps: &'static [(u32, Event, &'static str)],
+    steps: &'static [Step],
 }
 
 fn node_of(alloc: Global, run: &Run) -> Result<Node, BadParams> {
@@ -55,12 +58,13 @@ fn handle(
     alloc: Global,
     node: &mut Node,
     draws: &mut Draws<'_>,
-    from: NodeId,
-    event: Event,
+    step: &Step,
 ) -> Result<Moves, OutOfMemory>
     requires { 40 ≤ length draws.old }
     ensures { OnErr result (draws.new ≡ draws.old) }
 {
+    let (from, event, _) = *step;
+    let from = NodeId(from);
     let views = &mut node.views;
     let attempt = &mut node.attempt;
     match event {
@@ -73,33 +77,12 @@ fn handle(
     }
 }
 
-/// The node has these views and this attempt.
-fn is_as(node: &Node, views: &Views, attempt: &Attempt) -> bool {
-    node.views.active() == views.active()
-        && node.views.passive() == views.passive()
-        && node.attempt.asked() == attempt.asked()
-        && node.attempt.tried() == attempt.tried()
-}
-
-/// What the node does. Where it is out of memory it is as before, and the same call is made once more.
-fn moves_of(
-    rt: &impl Abort,
-    alloc: Global,
-    node: &mut Node,
-    draws: &mut Draws<'_>,
-    from: NodeId,
-    event: Event,
-) -> Result<Moves, OutOfMemory>
-    requires { 40 ≤ length draws.old }
-{
-    let views = node.views.copy();
-    let attempt = node.attempt.copy()?;
-    let left = draws.left();
-    if let Ok(moves) = handle(alloc, node, draws, from, event) {
-        return Ok(moves);
-    }
-    assert!(rt; is_as(node, &views, &attempt) && draws.left() == left);
-    handle(alloc, node, draws, from, event)
+/// Both nodes have the same views and the same attempt.
+fn are_alike(node: &Node, other: &Node) -> bool {
+    node.views.active() == other.views.active()
+        && node.views.passive() == other.views.passive()
+        && node.attempt.asked() == other.attempt.asked()
+        && node.attempt.tried() == other.attempt.tried()
 }
 
 fn tell_changes(text: &mut String, changes: &[ViewChange]) -> Result<(), AllocError> {
@@ -155,27 +138,36 @@ fn told(alloc: Global, node: &Node, moves: &Moves, left: usize) -> Result<String
     Ok(text)
 }
 
-/// One step of the node, and what is told of it. Then a copy of the attempt takes its place.
-fn step(
+/// One step of the node, and what is told of it. Out of memory the node is as before, and the step is taken once more.
+/// Then a copy of the attempt takes its place.
+fn step_tells(
     rt: &impl Abort,
     alloc: Global,
     node: &mut Node,
     words: &Words,
-    from: NodeId,
-    event: Event,
+    step: &Step,
 ) -> Result<String, OutOfMemory> {
     let mut draws = Draws::new(words);
-    let moves = moves_of(rt, alloc, node, &mut draws, from, event)?;
+    let before = Node {
+        views: node.views.copy(),
+        attempt: node.attempt.copy()?,
+    };
+    let left = draws.left();
+    let mut moves = handle(alloc, node, &mut draws, step);
+    if moves.is_err() {
+        assert!(rt; are_alike(node, &before) && draws.left() == left);
+        moves = handle(alloc, node, &mut draws, step);
+    }
     node.attempt = node.attempt.copy()?;
-    Ok(told(alloc, node, &moves, draws.left())?)
+    Ok(told(alloc, node, &moves?, draws.left())?)
 }
 
 fn play(rt: &impl Abort, alloc: Global, run: &Run) -> Result<(), Fail> {
     let words = words(run.words);
     let mut node = node_of(alloc, run)?;
-    for (from, event, want) in run.steps {
-        let told = step(rt, alloc, &mut node, &words, NodeId(*from), *event)?;
-        assert_eq!(rt; told.as_str(), *want);
+    for step in run.steps {
+        let told = step_tells(rt, alloc, &mut node, &words, step)?;
+        assert_eq!(rt; told.as_str(), step.2);
     }
     Ok(())
 }
@@ -192,11 +184,10 @@ fn step_spells(
     alloc: Global,
     node: &mut Node,
     words: &Words,
-    from: NodeId,
-    event: Event,
+    step: &Step,
     want: Spelt,
 ) -> Result<bool, Fail> {
-    let moves = handle(alloc, node, &mut Draws::new(words), from, event)?;
+    let moves = handle(alloc, node, &mut Draws::new(words), step)?;
     Ok(are_spelt(alloc, &moves.sends, want)?)
 }
 
@@ -205,8 +196,8 @@ fn play_spelt(rt: &impl Abort, alloc: Global, run: &Run, sent: &[Spelt]) -> Resu
     play(rt, alloc, run)?;
     let words = words(run.words);
     let mut node = node_of(alloc, run)?;
-    for ((from, event, _), want) in run.steps.iter().zip(sent) {
-        assert!(rt; step_spells(alloc, &mut node, &words, NodeId(*from), *event, *want)?);
+    for (step, want) in run.steps.iter().zip(sent) {
+        assert!(rt; step_spells(alloc, &mut node, &words, step, *want)?);
     }
     Ok(())
 }

@@ -1,5 +1,8 @@
 //! What analyses of whole graph files print. The lines were worked out by hand, and by a script apart from this tree
 //! that tries all sets of nodes.
+ghost use Rattle.std.specs.Prelude.{◌<◌};
+ghost use Rattle.ov_io.specs.Device.{most_faults};
+
 use crate::graphs::{
     FIVE_BUT_ONE, ONE_NODE, PATH_OF_THREE, PETERSEN, SQUARE, TWO_TRIANGLES, TWO_UNLINKED,
 };
@@ -10,12 +13,13 @@ use ov_io::{Sink, Source};
 use ov_run::{RunFault, analyse_file};
 use ov_test_kit::{Slow, ids};
 use std::alloc::{AllocError, Global};
+use std::io::{Read, Write};
 use std::test::Fail;
 
 /// Counts what it is told.
 #[derive(Drop)]
-pub(crate) struct Counter {
-    pub(crate) count: u64,
+struct Counter {
+    count: u64,
 }
 
 impl Watcher for Counter {
@@ -43,6 +47,20 @@ pub(crate) fn analysed(
         &mut watcher,
     );
     (told, sink.into_writer())
+}
+
+/// What an analysis of all nodes comes to, and how often its watcher is told.
+pub(crate) fn analysed_whole<R: Read, W: Write>(
+    alloc: Global,
+    source: &mut Source<R>,
+    sink: &mut Sink<W>,
+) -> (Result<u8, RunFault>, u64)
+    requires reads { source.old.faults < most_faults }
+    requires writes { sink.old.faults < most_faults }
+{
+    let mut watcher = Counter { count: 0 };
+    let told = analyse_file(alloc, source, sink, None, false, &mut watcher);
+    (told, watcher.count)
 }
 
 /// The analysis of this file for this group ends with status 0 and prints this text.
@@ -203,16 +221,8 @@ fn certificates_behind_the_line_hold(rt: HostRuntime) {
 fn a_watcher_is_told_of_an_analysis(rt: HostRuntime) {
     let mut source = Source::new(SQUARE.as_bytes());
     let mut sink = Sink::new(Vec::new(rt.alloc()));
-    let mut watcher = Counter { count: 0 };
-    let told = analyse_file(
-        rt.alloc(),
-        &mut source,
-        &mut sink,
-        None,
-        false,
-        &mut watcher,
-    );
-    assert!(rt; told == Ok(0) && watcher.count > 0);
+    let (told, count) = analysed_whole(rt.alloc(), &mut source, &mut sink);
+    assert!(rt; told == Ok(0) && count > 0);
 }
 
 /// With a writer that is interrupted after so many calls, the path of three comes to this answer and to so many faults
@@ -226,8 +236,7 @@ fn comes_by_slow_writer(
     let mut source = Source::new(PATH_OF_THREE.as_bytes());
     let rest: &[u8] = &[];
     let mut sink = Sink::new(Slow { rest, calls_left });
-    let mut watcher = Counter { count: 0 };
-    let told = analyse_file(alloc, &mut source, &mut sink, None, false, &mut watcher);
+    let (told, _) = analysed_whole(alloc, &mut source, &mut sink);
     told == answer && source.faults() == 0 && sink.faults() == faults
 }
 

@@ -1,9 +1,11 @@
 //! What the engines of the programs print of whole files, in memory: graph files, their faults, and the certificates of
-//! their answers; and the numbers of the pieces by which they analyse.
+//! their answers. How the programs end, and the numbers of the pieces by which they analyse.
 #![tactic(auto)]
 
 #[cfg(test)]
 mod answers;
+#[cfg(test)]
+mod endings;
 #[cfg(test)]
 mod graphs;
 #[cfg(test)]

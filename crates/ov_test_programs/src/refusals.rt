@@ -1,9 +1,9 @@
 //! Graph files at fault, and the order of faults.
-use crate::answers::{Counter, analysed, prints};
+use crate::answers::{analysed, analysed_whole, prints};
 use ov_graph::GraphFault;
 use ov_ids::NodeId;
 use ov_io::{Sink, Source};
-use ov_run::{RunFault, analyse_file, read_graph};
+use ov_run::{RunFault, read_graph};
 use ov_test_kit::Slow;
 use std::alloc::Global;
 use std::test::Fail;
@@ -156,15 +156,7 @@ fn a_reader_that_fails_is_told_before_an_unreadable_line(rt: HostRuntime) {
     for calls_left in 0..rest.len() {
         let mut source = Source::new(Slow { rest, calls_left });
         let mut sink = Sink::new(Vec::new(rt.alloc()));
-        let mut watcher = Counter { count: 0 };
-        let told = analyse_file(
-            rt.alloc(),
-            &mut source,
-            &mut sink,
-            None,
-            false,
-            &mut watcher,
-        );
+        let (told, _) = analysed_whole(rt.alloc(), &mut source, &mut sink);
         assert_eq!(rt; told, Err(RunFault::Read));
         assert!(rt; source.faults() == 1 && sink.into_writer().is_empty());
     }

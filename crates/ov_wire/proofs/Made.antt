@@ -1,25 +1,27 @@
--- A message can be made of values that fit: so bytes without a fault spell one.
-use Rattle.std.proofs.Common.{◌≡◌, ℕ, zero, suc, ◌-◌, ◌%◌, ◌≤◌, inl, inr, List, [], ◌∷◌, Result, Ok, Err, refl, sym, ap, subst, arith}
+-- Values that fit are those of a message. So bytes without a fault spell one.
+use Rattle.std.proofs.Common.{◌≡◌, ℕ, zero, suc, ◌-◌, ◌%◌, ◌≤◌, inl, inr, List, [], ◌∷◌, Result, Ok, Err, refl, sym, ap}
+use Rattle.std.proofs.Common.{subst, arith}
 use Rattle.std.specs.Prelude.{slice_index, slice_index_or}
 use Rattle.std.specs.Int.{w8, w16, w32}
 use Rattle.ov_wire.specs.declared.fault.WireFault.{WireFault}
 use Rattle.ov_wire.specs.declared.message.Message.{Message}
 use Rattle.ov_wire.specs.Fields.{Ids, Payload, up_to, any, Value, One, Many, AllFit, Spells}
+use Rattle.ov_wire.specs.Limits.{most_ttl}
 use Rattle.ov_wire.specs.Messages.{kinds, fields_of, kind_of, said, Spelling}
-use Rattle.ov_wire.specs.Laws.{SpelledOrAtFault}
+use Rattle.ov_wire.specs.Theorems.{SpelledOrAtFault}
 use Rattle.ov_wire.specs.Code.Reading.{values_at}
 use Rattle.ov_wire.proofs.Numbers.{IsBytes}
 use Rattle.ov_wire.proofs.Faults.{values_read}
 use Rattle.ov_wire.specs.Code.Meaning.{number_in, list_in, id_in, body_in}
 use Rattle.ov_wire.proofs.Messages.{sound, is_first}
 
--- ---- what a body made of the values says
+-- ---- the values of a body that is made of values
 
 no_values : (vs : List Value) → AllFit [] vs → [] ≡ vs
 no_values [] fit = refl
 no_values (v ∷ vs) fit = absurd fit
 
-forward_join_says : (vs : List Value) → AllFit (any w32 ∷ up_to w8 15 ∷ []) vs → said (body_in 2 vs) ≡ vs
+forward_join_says : (vs : List Value) → AllFit (any w32 ∷ up_to w8 most_ttl ∷ []) vs → said (body_in 2 vs) ≡ vs
 unfolding body_in number_in
 forward_join_says (One a ∷ One b ∷ []) fit = refl
 forward_join_says (One a ∷ One b ∷ v ∷ vs) fit = absurd fit.1.1
@@ -46,7 +48,7 @@ reply_says (One a ∷ v ∷ vs) fit = absurd fit.1
 reply_says (Many a ∷ vs) fit = absurd fit.0
 reply_says [] fit = absurd fit
 
-shuffle_says : (vs : List Value) → AllFit (any w32 ∷ up_to w8 15 ∷ Ids ∷ []) vs → said (body_in 7 vs) ≡ vs
+shuffle_says : (vs : List Value) → AllFit (any w32 ∷ up_to w8 most_ttl ∷ Ids ∷ []) vs → said (body_in 7 vs) ≡ vs
 unfolding body_in number_in list_in
 shuffle_says (One a ∷ One b ∷ Many c ∷ []) fit = refl
 shuffle_says (One a ∷ One b ∷ Many c ∷ v ∷ vs) fit = absurd fit.1.1.1
@@ -86,31 +88,42 @@ id_says (One a ∷ []) fit = absurd fit.1
 id_says (Many a ∷ vs) fit = absurd fit.0
 id_says [] fit = absurd fit
 
--- the body is of this kind and says these values
+-- the body has this kind and these values
 record Says (kind : ℕ) (vs : List Value) : Type 0 where
   same_kind : kind_of (body_in kind vs) ≡ kind
   same_values : said (body_in kind vs) ≡ vs
 
-body_says : (kind : ℕ) → 1 ≤ kind → kind ≤ 12 → (vs : List Value) → AllFit (slice_index_or kinds (kind - 1) []) vs → Says kind vs
+body_says : (kind : ℕ) → 1 ≤ kind → kind ≤ 12 → (vs : List Value) → AllFit (slice_index_or kinds (kind - 1) []) vs
+    → Says kind vs
 unfolding body_in
 body_says zero low high vs fit = absurd (omega arith)
 body_says (suc zero) low high vs fit = record { same_kind = refl; same_values = no_values vs fit }
 body_says (suc (suc zero)) low high vs fit = record { same_kind = refl; same_values = forward_join_says vs fit }
 body_says (suc (suc (suc zero))) low high vs fit = record { same_kind = refl; same_values = no_values vs fit }
 body_says (suc (suc (suc (suc zero)))) low high vs fit = record { same_kind = refl; same_values = neighbor_says vs fit }
-body_says (suc (suc (suc (suc (suc zero))))) low high vs fit = record { same_kind = refl; same_values = reply_says vs fit }
-body_says (suc (suc (suc (suc (suc (suc zero)))))) low high vs fit = record { same_kind = refl; same_values = no_values vs fit }
-body_says (suc (suc (suc (suc (suc (suc (suc zero))))))) low high vs fit = record { same_kind = refl; same_values = shuffle_says vs fit }
-body_says (suc (suc (suc (suc (suc (suc (suc (suc zero)))))))) low high vs fit = record { same_kind = refl; same_values = shuffle_reply_says vs fit }
-body_says (suc (suc (suc (suc (suc (suc (suc (suc (suc zero))))))))) low high vs fit = record { same_kind = refl; same_values = gossip_says vs fit }
-body_says (suc (suc (suc (suc (suc (suc (suc (suc (suc (suc zero)))))))))) low high vs fit = record { same_kind = refl; same_values = id_says vs fit }
-body_says (suc (suc (suc (suc (suc (suc (suc (suc (suc (suc (suc zero))))))))))) low high vs fit = record { same_kind = refl; same_values = id_says vs fit }
-body_says (suc (suc (suc (suc (suc (suc (suc (suc (suc (suc (suc (suc zero)))))))))))) low high vs fit = record { same_kind = refl; same_values = no_values vs fit }
-body_says (suc (suc (suc (suc (suc (suc (suc (suc (suc (suc (suc (suc (suc k))))))))))))) low high vs fit = absurd (omega arith)
+body_says (suc (suc (suc (suc (suc zero))))) low high vs fit =
+    record { same_kind = refl; same_values = reply_says vs fit }
+body_says (suc (suc (suc (suc (suc (suc zero)))))) low high vs fit =
+    record { same_kind = refl; same_values = no_values vs fit }
+body_says (suc (suc (suc (suc (suc (suc (suc zero))))))) low high vs fit =
+    record { same_kind = refl; same_values = shuffle_says vs fit }
+body_says (suc (suc (suc (suc (suc (suc (suc (suc zero)))))))) low high vs fit =
+    record { same_kind = refl; same_values = shuffle_reply_says vs fit }
+body_says (suc (suc (suc (suc (suc (suc (suc (suc (suc zero))))))))) low high vs fit =
+    record { same_kind = refl; same_values = gossip_says vs fit }
+body_says (suc (suc (suc (suc (suc (suc (suc (suc (suc (suc zero)))))))))) low high vs fit =
+    record { same_kind = refl; same_values = id_says vs fit }
+body_says (suc (suc (suc (suc (suc (suc (suc (suc (suc (suc (suc zero))))))))))) low high vs fit =
+    record { same_kind = refl; same_values = id_says vs fit }
+body_says (suc (suc (suc (suc (suc (suc (suc (suc (suc (suc (suc (suc zero)))))))))))) low high vs fit =
+    record { same_kind = refl; same_values = no_values vs fit }
+body_says (suc (suc (suc (suc (suc (suc (suc (suc (suc (suc (suc (suc (suc k))))))))))))) low high vs fit =
+    absurd (omega arith)
 
 -- ---- a message is spelled where all fields are read
 
-made_of : (kind : ℕ) (bytes : List ℕ) (vs : List Value) → slice_index bytes 1 ≡ kind → Spells (fields_of kind) vs bytes → (m : Message) × Spelling m bytes
+made_of : (kind : ℕ) (bytes : List ℕ) (vs : List Value)
+    → slice_index bytes 1 ≡ kind → Spells (fields_of kind) vs bytes → (m : Message) × Spelling m bytes
 made_of kind bytes [] is s = absurd s.fit
 made_of kind bytes (Many a ∷ vs) is s = absurd s.fit.0
 made_of kind bytes (One a ∷ []) is s = absurd s.fit.1
@@ -126,15 +139,18 @@ made_of kind bytes (One a ∷ One b ∷ One c ∷ vs) is s =
     let whole : Spells (fields_of kind) (One 1 ∷ One kind ∷ One c ∷ vs) bytes =
     subst (λ (x : List Value). Spells (fields_of kind) x bytes) (cc (one, same)) s in
     let values : Spells (fields_of kind) (One 1 ∷ One kind ∷ One c ∷ said m.body) bytes =
-    subst (λ (x : List Value). Spells (fields_of kind) (One 1 ∷ One kind ∷ One c ∷ x) bytes) (sym says.same_values) whole in
+    subst (λ (x : List Value). Spells (fields_of kind) (One 1 ∷ One kind ∷ One c ∷ x) bytes)
+    (sym says.same_values) whole in
     (m, subst (λ (k : ℕ). Spells (fields_of k) (One 1 ∷ One k ∷ One c ∷ said m.body) bytes) (sym says.same_kind) values)
 
-pub some_message : (bytes : List ℕ) (vs : List Value) → IsBytes bytes → values_at (fields_of (slice_index bytes 1)) bytes ≡ Ok vs → (m : Message) × Spelling m bytes
+pub some_message : (bytes : List ℕ) (vs : List Value)
+    → IsBytes bytes → values_at (fields_of (slice_index bytes 1)) bytes ≡ Ok vs → (m : Message) × Spelling m bytes
 some_message bytes vs fits e =
     let kind = slice_index bytes 1 in
     made_of kind bytes vs refl (values_read (fields_of kind) (sound kind) bytes vs fits e)
 
-by_result : (bytes : List ℕ) → IsBytes bytes → (r : Result (List Value) WireFault) → values_at (fields_of (slice_index bytes 1)) bytes ≡ r → SpelledOrAtFault bytes
+by_result : (bytes : List ℕ) → IsBytes bytes → (r : Result (List Value) WireFault)
+    → values_at (fields_of (slice_index bytes 1)) bytes ≡ r → SpelledOrAtFault bytes
 by_result bytes fits (Ok vs) e = inl (some_message bytes vs fits e)
 by_result bytes fits (Err f) e = inr (f, is_first bytes f fits e)
 

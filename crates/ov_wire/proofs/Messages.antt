@@ -1,10 +1,13 @@
--- Messages: what is read is a message and is spelled so.
-use Rattle.std.proofs.Common.{◌≡◌, ℕ, zero, suc, ◌-◌, ◌%◌, true, false, List, [], ◌∷◌, ◌++◌, get_or, Result, Ok, Err, refl, sym, ap, ap₂, ◌∙◌, arith}
+-- Messages: what is read is the spelling of a message.
+use Rattle.std.proofs.Common.{◌≡◌, ℕ, zero, suc, ◌-◌, ◌%◌, true, false, List, [], ◌∷◌, ◌++◌, get_or, Result, Ok, Err}
+use Rattle.std.proofs.Common.{refl, sym, ap, ap₂, ◌∙◌, arith}
 use Rattle.std.specs.Prelude.{slice_index, slice_index_or}
 use Rattle.ov_wire.specs.declared.fault.WireFault.{WireFault}
 use Rattle.ov_wire.specs.declared.message.Message.{Message}
 use Rattle.ov_wire.specs.declared.message.Body.{Body}
-use Rattle.ov_wire.specs.declared.message.Body.TheVariants.{Join, ForwardJoin, Joined, Neighbor, NeighborReply, Disconnect, Shuffle, ShuffleReply, Gossip, IHave, Graft, Prune}
+use Rattle.ov_wire.specs.declared.message.Body.TheVariants.{Join, ForwardJoin, Joined, Neighbor, NeighborReply}
+use Rattle.ov_wire.specs.declared.message.Body.TheVariants.{Disconnect, Shuffle, ShuffleReply, Gossip, IHave, Graft}
+use Rattle.ov_wire.specs.declared.message.Body.TheVariants.{Prune}
 use Rattle.ov_wire.specs.Fields.{Field, Value, One, AllFit}
 use Rattle.ov_wire.specs.Messages.{kinds, fields_of, kind_of, said, Spelling, IsBodyInRange, AreInRange}
 use Rattle.ov_wire.specs.Faults.{FirstFault}
@@ -15,7 +18,7 @@ use Rattle.ov_wire.proofs.Steps.{apart}
 use Rattle.ov_wire.proofs.Numbers.{IsBytes, wide8, wide16, wide32}
 use Rattle.ov_wire.proofs.Faults.{AllSound, values_read, values_again, values_longer, values_fail, first_fails}
 
--- ---- the fields of each kind have widths that numbers have
+-- ---- the fields of each kind have sound widths
 
 AreSound : List (List Field) → Type 0
 AreSound [] = Unit {0}
@@ -58,7 +61,7 @@ kinds_sound = (
 pub sound : (kind : ℕ) → AllSound (fields_of kind)
 sound kind = (wide8, (wide8, (wide32, row_sound kinds kinds_sound (kind - 1))))
 
--- ---- a message has the values that it says, and these say which it is
+-- ---- the values of a message, and the message of values
 
 abbrev pub values_of : Message → List Value
 values_of m = One 1 ∷ One (kind_of m.body) ∷ One m.from ∷ said m.body
@@ -96,19 +99,25 @@ kind_read m bytes more s =
     let small : kind_of m.body % 256 ≡ kind_of m.body = omega (arith, s.fit.1.0) in
     ap (λ (x : List ℕ). slice_index (x ++ more) 1) s.bytes_are ∙ small
 
-pub read_again : (m : Message) (bytes : List ℕ) → Spelling m bytes → values_at (fields_of (slice_index bytes 1)) bytes ≡ Ok (values_of m)
+pub read_again : (m : Message) (bytes : List ℕ)
+    → Spelling m bytes → values_at (fields_of (slice_index bytes 1)) bytes ≡ Ok (values_of m)
 read_again m bytes s =
-    let is : slice_index bytes 1 ≡ kind_of m.body = ap (λ (x : List ℕ). slice_index x 1) (sym (append-nil bytes)) ∙ kind_read m bytes [] s in
-    ap (λ (k : ℕ). values_at (fields_of k) bytes) is ∙ values_again (fields_of (kind_of m.body)) (sound (kind_of m.body)) bytes (values_of m) s
+    let is : slice_index bytes 1 ≡ kind_of m.body =
+    ap (λ (x : List ℕ). slice_index x 1) (sym (append-nil bytes)) ∙ kind_read m bytes [] s in
+    ap (λ (k : ℕ). values_at (fields_of k) bytes) is
+    ∙ values_again (fields_of (kind_of m.body)) (sound (kind_of m.body)) bytes (values_of m) s
 
 -- the meaning of a spelling is its message
 pub means : (m : Message) (bytes : List ℕ) → Spelling m bytes → message_in bytes ≡ m
 unfolding message_with number_in
-means m bytes s = ap message_with (read_again m bytes s) ∙ ap (λ (b : Body). record { from = m.from; body = b }) (body_again m.body)
+means m bytes s =
+    ap message_with (read_again m bytes s) ∙ ap (λ (b : Body). record { from = m.from; body = b }) (body_again m.body)
 
-pub is_spelled : (m : Message) (bytes : List ℕ) → IsBytes bytes → kind_of m.body ≡ slice_index bytes 1 → values_at (fields_of (slice_index bytes 1)) bytes ≡ Ok (values_of m) → Spelling m bytes
+pub is_spelled : (m : Message) (bytes : List ℕ) → IsBytes bytes → kind_of m.body ≡ slice_index bytes 1
+    → values_at (fields_of (slice_index bytes 1)) bytes ≡ Ok (values_of m) → Spelling m bytes
 is_spelled m bytes fits is e =
-    values_read (fields_of (kind_of m.body)) (sound (kind_of m.body)) bytes (values_of m) fits (ap (λ (k : ℕ). values_at (fields_of k) bytes) is ∙ e)
+    values_read (fields_of (kind_of m.body)) (sound (kind_of m.body)) bytes (values_of m) fits
+    (ap (λ (k : ℕ). values_at (fields_of k) bytes) is ∙ e)
 
 body_in_range : (b : Body) → AllFit (slice_index_or kinds (kind_of b - 1) []) (said b) → IsBodyInRange b
 body_in_range Join fit = tt
@@ -127,7 +136,7 @@ body_in_range Prune fit = tt
 pub in_range : (m : Message) (bytes : List ℕ) → Spelling m bytes → AreInRange m
 in_range m bytes s = body_in_range m.body s.fit.1.1.1
 
--- ---- the laws
+-- ---- the theorems
 
 pub ok_same : {A : Type 0} (r : Result A WireFault) (x y : A) → r ≡ Ok x → r ≡ Ok y → x ≡ y
 ok_same r x y e f = cc
@@ -137,7 +146,8 @@ spelled_once m a b s t = s.bytes_are ∙ sym t.bytes_are
 
 pub read_once : (m n : Message) (bytes : List ℕ) → Spelling m bytes → Spelling n bytes → m ≡ n
 read_once m n bytes s t =
-    same_message m n (ok_same (values_at (fields_of (slice_index bytes 1)) bytes) (values_of m) (values_of n) (read_again m bytes s) (read_again n bytes t))
+    same_message m n (ok_same (values_at (fields_of (slice_index bytes 1)) bytes) (values_of m) (values_of n)
+    (read_again m bytes s) (read_again n bytes t))
 
 pub begins_no_other : (m n : Message) (a more : List ℕ) → Spelling m a → Spelling n (a ++ more) → more ≡ []
 begins_no_other m n a [] s t = refl
@@ -159,5 +169,6 @@ not_both m bytes f s p =
     let k = slice_index bytes 1 in
     apart (sym (read_again m bytes s) ∙ first_fails (fields_of k) (sound k) bytes f p)
 
-pub is_first : (bytes : List ℕ) (f : WireFault) → IsBytes bytes → values_at (fields_of (slice_index bytes 1)) bytes ≡ Err f → FirstFault bytes f
+pub is_first : (bytes : List ℕ) (f : WireFault)
+    → IsBytes bytes → values_at (fields_of (slice_index bytes 1)) bytes ≡ Err f → FirstFault bytes f
 is_first bytes f fits e = let k = slice_index bytes 1 in values_fail (fields_of k) (sound k) bytes f fits e

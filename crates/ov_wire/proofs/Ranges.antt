@@ -1,4 +1,4 @@
--- Messages within their ranges, one after the other.
+-- Lists of messages within their ranges.
 use Rattle.std.proofs.Common.{ℕ, List, [], ◌∷◌, ◌++◌}
 use Rattle.std.specs.Prelude.{map}
 use Rattle.ov_wire.specs.Messages.{AreInRange, AreSendsInRange}
@@ -12,7 +12,7 @@ pub Ranged-append : (xs ys : List (ℕ × Message)) → Ranged xs → Ranged ys 
 Ranged-append [] ys a b = b
 Ranged-append (x ∷ xs) ys a b = (a.0, Ranged-append xs ys a.1 b)
 
--- one message to each of these
+-- one message, sent to each of these nodes
 pub Ranged-each : (m : Message) → AreInRange m → (to : List ℕ) → Ranged (map (λ x. (x, m)) to)
 Ranged-each m fits [] = tt
 Ranged-each m fits (x ∷ to) = (fits, Ranged-each m fits to)

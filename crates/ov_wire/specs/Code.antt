@@ -1,3 +1,3 @@
--- What private contracts and proofs use.
+-- Used by private contracts and proofs only.
 pub mod Reading
 pub mod Meaning

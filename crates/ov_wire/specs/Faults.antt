@@ -1,8 +1,10 @@
--- The first field at fault from the left.
+-- The faults of bytes that are no message. The first wrong field from the left decides which fault it is.
 use Rattle.std.specs.Prelude.{◌≡◌, ◌≢◌, ℕ, ◌+◌, ◌*◌, ◌<◌, ◌≤◌, ◌⊎◌, List, [], ◌∷◌, ◌++◌, length, take, slice_index}
 use Rattle.std.specs.Int.{Width, w8, w16, byte_len, from_be_bytes}
 use Rattle.ov_wire.specs.declared.fault.WireFault.{WireFault}
-use Rattle.ov_wire.specs.declared.fault.WireFault.TheVariants.{Short, BadVersion, BadKind, BadField, Trailing, OutOfMemory}
+use Rattle.ov_wire.specs.declared.fault.WireFault.TheVariants.{Short, BadVersion, BadKind, BadField, Trailing}
+use Rattle.ov_wire.specs.declared.fault.WireFault.TheVariants.{OutOfMemory}
+use Rattle.ov_wire.specs.Limits.{most_ids, most_payload}
 use Rattle.ov_wire.specs.Fields.{Field, Number, Ids, Payload, Value, Fits, spelled}
 use Rattle.ov_wire.specs.Messages.{fields_of}
 
@@ -19,31 +21,35 @@ number_of OutOfMemory = 99
 abbrev pub leading_number : Width → List ℕ → ℕ
 leading_number width bytes = from_be_bytes width (take (byte_len width) bytes)
 
--- a number at the front isn't wholly there, or it isn't from least to most
+-- the number at the front is cut off by the end of the bytes (Short), or it is not from least to most
 abbrev pub IsNumberAtFault : Width → ℕ → ℕ → WireFault → List ℕ → WireFault → Type 0
 IsNumberAtFault width least most otherwise bytes fault =
     ((length bytes < byte_len width) × (fault ≡ Short))
-    ⊎ ((byte_len width ≤ length bytes) × ((leading_number width bytes < least) ⊎ (most < leading_number width bytes)) × (fault ≡ otherwise))
+    ⊎ ((byte_len width ≤ length bytes) × ((leading_number width bytes < least) ⊎ (most < leading_number width bytes))
+    × (fault ≡ otherwise))
 
--- The field at the front of the bytes is at fault. A count and a length are judged before what they count.
+-- The field at the front of the bytes has this fault. A count or a length is judged before the ids or bytes behind it.
 abbrev pub IsAtFault : Field → List ℕ → WireFault → Type 0
 IsAtFault (Number width least most otherwise) bytes fault = IsNumberAtFault width least most otherwise bytes fault
 IsAtFault Ids bytes fault =
-    IsNumberAtFault w8 0 17 BadField bytes fault
-    ⊎ ((1 ≤ length bytes) × (leading_number w8 bytes ≤ 17) × (length bytes < 1 + 4 * leading_number w8 bytes) × (fault ≡ Short))
+    IsNumberAtFault w8 0 most_ids BadField bytes fault
+    ⊎ ((1 ≤ length bytes) × (leading_number w8 bytes ≤ most_ids) × (length bytes < 1 + 4 * leading_number w8 bytes)
+    × (fault ≡ Short))
 IsAtFault Payload bytes fault =
-    IsNumberAtFault w16 0 1024 BadField bytes fault
-    ⊎ ((2 ≤ length bytes) × (leading_number w16 bytes ≤ 1024) × (length bytes < 2 + leading_number w16 bytes) × (fault ≡ Short))
+    IsNumberAtFault w16 0 most_payload BadField bytes fault
+    ⊎ ((2 ≤ length bytes) × (leading_number w16 bytes ≤ most_payload) × (length bytes < 2 + leading_number w16 bytes)
+    × (fault ≡ Short))
 
--- The first fault of bytes that are to spell these fields: the first field is at fault, or it is spelled and the first
--- fault is one of what follows. After the last field nothing may follow.
+-- The first fault of bytes that should spell these fields. The first field has this fault, or it is spelled and what
+-- follows has it. Bytes after the last field are the fault Trailing.
 abbrev pub FirstOf : List Field → List ℕ → WireFault → Type 0
 FirstOf [] bytes fault = (bytes ≢ []) × (fault ≡ Trailing)
 FirstOf (field ∷ fields) bytes fault =
     IsAtFault field bytes fault
-    ⊎ ((value : Value) × (rest : List ℕ) × Fits field value × (bytes ≡ spelled field value ++ rest) × FirstOf fields rest fault)
+    ⊎ ((value : Value) × (rest : List ℕ) × Fits field value × (bytes ≡ spelled field value ++ rest)
+    × FirstOf fields rest fault)
 
--- The first fault of bytes that are to be a message, by the fields of the kind that their second byte says. Where they have
--- no second byte, or it is no kind, the first fault comes before those fields.
+-- The first fault of bytes that should be a message, by the fields of the kind that their second byte says. Where there
+-- is no second byte, or it is no kind, the first fault comes before these fields.
 abbrev pub FirstFault : List ℕ → WireFault → Type 0
 FirstFault bytes fault = FirstOf (fields_of (slice_index bytes 1)) bytes fault

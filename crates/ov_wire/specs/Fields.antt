@@ -1,17 +1,18 @@
--- Fields, and how bytes spell them.
+-- The fields of messages, and how bytes spell them. Their form is chosen here.
 use Rattle.std.specs.Prelude.{◌≡◌, ℕ, ◌-◌, ◌^◌, ◌<◌, ◌≤◌, List, [], ◌∷◌, ◌++◌, length}
 use Rattle.std.specs.Int.{Width, w8, w16, w32, byte_len, to_be_bytes}
 use Rattle.std.specs.List.{flat_map, AllByRecursion}
 use Rattle.ov_wire.specs.declared.fault.WireFault.{WireFault}
 use Rattle.ov_wire.specs.declared.fault.WireFault.TheVariants.{BadField}
+use Rattle.ov_wire.specs.Limits.{most_ids, most_payload}
 
 -- A field of a message.
 pub data Field : Type 0 where
-  -- a number from least to most, in the bytes of its width, the highest first; any other number is this fault
+  -- a number from least to most, in the bytes of its width, the highest byte first; any other number is this fault
   Number : (width : Width) (least most : ℕ) (otherwise : WireFault) → Field
-  -- a count of 1 byte, at most 17, and then so many ids of 4 bytes
+  -- a count of 1 byte, at most `most_ids`, and then so many ids of 4 bytes
   Ids : Field
-  -- a length of 2 bytes, at most 1,024, and then so many bytes
+  -- a length of 2 bytes, at most `most_payload`, and then so many bytes
   Payload : Field
 
 -- a number of this width that is at most so much
@@ -30,13 +31,13 @@ pub data Value : Type 0 where
 -- the value can stand in the field
 abbrev pub Fits : Field → Value → Type 0
 Fits (Number width least most otherwise) (One n) = (n < 256 ^ byte_len width) × (least ≤ n) × (n ≤ most)
-Fits Ids (Many ids) = (length ids ≤ 17) × AllByRecursion (λ id. id < 2 ^ 32) ids
-Fits Payload (Many bytes) = (length bytes ≤ 1024) × AllByRecursion (λ b. b < 256) bytes
+Fits Ids (Many ids) = (length ids ≤ most_ids) × AllByRecursion (λ id. id < 2 ^ 32) ids
+Fits Payload (Many bytes) = (length bytes ≤ most_payload) × AllByRecursion (λ b. b < 256) bytes
 Fits (Number width least most otherwise) (Many ns) = ⊥
 Fits Ids (One n) = ⊥
 Fits Payload (One n) = ⊥
 
--- the bytes of the field with this value in it
+-- the bytes of the field with this value
 abbrev pub spelled : Field → Value → List ℕ
 spelled (Number width least most otherwise) (One n) = to_be_bytes width n
 spelled Ids (Many ids) = to_be_bytes w8 (length ids) ++ flat_map (to_be_bytes w32) ids
@@ -45,20 +46,20 @@ spelled (Number width least most otherwise) (Many ns) = []
 spelled Ids (One n) = []
 spelled Payload (One n) = []
 
--- each value can stand in its field, and there are as many of them
+-- there are as many values as fields, and each can stand in its field
 abbrev pub AllFit : List Field → List Value → Type 0
 AllFit [] [] = Unit {0}
 AllFit (field ∷ fields) (value ∷ values) = Fits field value × AllFit fields values
 AllFit [] (value ∷ values) = ⊥
 AllFit (field ∷ fields) [] = ⊥
 
--- the bytes of the fields one after the other
+-- the bytes of the fields with these values, one field after another
 abbrev pub spelled_all : List Field → List Value → List ℕ
 spelled_all (field ∷ fields) (value ∷ values) = spelled field value ++ spelled_all fields values
 spelled_all [] values = []
 spelled_all (field ∷ fields) [] = []
 
--- Bytes spell the fields with these values in them: they are the fields one after the other, and nothing else.
+-- The bytes spell the fields with these values: one field after another, and nothing else.
 pub record Spells (fields : List Field) (values : List Value) (bytes : List ℕ) : Type 0 where
   pub fit : AllFit fields values
   pub bytes_are : bytes ≡ spelled_all fields values

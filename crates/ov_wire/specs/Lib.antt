@@ -1,5 +1,6 @@
+pub mod Limits
 pub mod Fields
 pub mod Messages
 pub mod Faults
-pub mod Laws
+pub mod Theorems
 pub mod Code

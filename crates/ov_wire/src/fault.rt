@@ -5,22 +5,22 @@ ghost use Rattle.ov_wire.specs.declared.fault.WireFault.TheVariants.{OutOfMemory
 use std::alloc::{AllocError, AllocFailed};
 use thiserror::Error;
 
-/// Why bytes are no message: the first field at fault from the left, or memory.
+/// Why bytes are no message: the fault of the first wrong field from the left; or out of memory.
 #[derive(Clone, Copy, Debug, PartialEq, Eq, Error)]
 pub enum WireFault {
-    /// A field isn't wholly there.
+    /// The bytes end before or within a field.
     #[error("the message ends within a field")]
     Short,
-    /// The version is another than 1.
+    /// The version is not 1.
     #[error("the version is unknown")]
     BadVersion,
-    /// The kind is none of 1 to 12.
+    /// The kind is not one of 1 to 12.
     #[error("the kind is unknown")]
     BadKind,
     /// Another field is out of its range.
     #[error("a field is out of its range")]
     BadField,
-    /// Bytes stand after the last field.
+    /// Bytes follow the last field.
     #[error("bytes follow the message")]
     Trailing,
     /// Out of memory: an allocation was refused.

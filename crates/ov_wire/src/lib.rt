@@ -1,16 +1,16 @@
-//! Messages between nodes, and their bytes on the wire.
+//! The messages of HyParView and Plumtree between nodes, and their bytes on the wire.
 #![tactic(auto)]
 
 mod fault;
-mod laws;
 mod message;
 mod reading;
+mod theorems;
 mod writing;
 
 pub use fault::WireFault;
-pub use laws::{
-    none_begins_another, one_first_fault, one_message, one_spelling, spelled_or_at_fault,
-};
 pub use message::{Body, MAX_IDS, MAX_PAYLOAD, MAX_TTL, Message};
 pub use reading::decode;
+pub use theorems::{
+    none_begins_another, one_first_fault, one_message, one_spelling, spelled_or_at_fault,
+};
 pub use writing::encode;

@@ -4,13 +4,13 @@ ghost use Rattle.ov_wire.specs.Messages.{kind_of};
 use ov_ids::{MsgId, NodeId, OutOfMemory, Seq};
 use std::alloc::Global;
 
-/// The longest time to live of a message that walks.
+/// The greatest time to live of a message on a random walk. (Chosen here.)
 pub const MAX_TTL: u8 = 15;
 
-/// How many ids a list may have.
+/// The most ids that a list may have. (Chosen here.)
 pub const MAX_IDS: u8 = 17;
 
-/// How many bytes a payload may have.
+/// The most bytes that a payload may have. (Chosen here.)
 pub const MAX_PAYLOAD: u16 = 1024;
 
 /// A message, from its sender.
@@ -20,19 +20,20 @@ pub struct Message {
     pub body: Body,
 }
 
-/// What a message says, by its kind: those of HyParView and of Plumtree.
+/// What a message says, by its kind. The kinds up to `ShuffleReply` are HyParView's, but `Joined` and `NeighborReply`,
+/// which are chosen here. The others are Plumtree's.
 #[derive(Debug, Drop)]
 pub enum Body {
     /// The sender asks to join the overlay.
     Join,
-    /// A new node joins, handed on by a random walk with so many steps left: 0 to 15.
+    /// A new node joins. A random walk hands this on, with `ttl` steps left: 0 to 15.
     ForwardJoin {
         node: NodeId,
         ttl: u8,
     },
-    /// The sender took the receiver, who joins, into its active view.
+    /// The sender added the receiver, which joins, to its active view.
     Joined,
-    /// The sender asks to be a neighbour.
+    /// The sender asks to be a neighbour, with high or low priority.
     Neighbor {
         high: bool,
     },
@@ -42,17 +43,17 @@ pub enum Body {
     },
     /// The receiver is not, or no longer, in the sender's active view.
     Disconnect,
-    /// A sample of the origin's views, at most 17 ids, handed on by a random walk with so many steps left: 0 to 15.
+    /// A sample of the origin's views, at most 17 ids. A random walk hands it on, with `ttl` steps left: 0 to 15.
     Shuffle {
         origin: NodeId,
         ttl: u8,
         ids: Seq<NodeId>,
     },
-    /// The answer to a sample, at most 17 ids.
+    /// The answer to `Shuffle`: a sample of at most 17 ids.
     ShuffleReply {
         ids: Seq<NodeId>,
     },
-    /// A broadcast, after so many hops, with at most 1,024 bytes.
+    /// A broadcast with a payload of at most 1,024 bytes, after `round` hops.
     Gossip {
         id: MsgId,
         round: u16,
@@ -62,16 +63,17 @@ pub enum Body {
     IHave {
         id: MsgId,
     },
-    /// The sender asks for this broadcast, and for the link to carry further ones.
+    /// The sender asks for this broadcast, and to be an eager neighbour.
     Graft {
         id: MsgId,
     },
-    /// The link is to carry no further broadcasts.
+    /// The sender asks to be a lazy neighbour.
     Prune,
 }
 
 impl Body {
-    /// An equal body. Memory is wanted for lists and payloads alone, which stand in the kinds 7, 8 and 9.
+    /// An equal body. OutOfMemory (99) where an allocation is refused, and only at the kinds 7, 8 and 9, which have a
+    /// list or a payload.
     pub fn copy(&self, alloc: Global) -> Result<Body, OutOfMemory>
         ensures ok { IfOk result (λ body. body ≡ self.now) }
         ensures memory { IsErr result → (7 ≤ kind_of self.now) × (kind_of self.now ≤ 9) }
@@ -117,7 +119,8 @@ impl Body {
 }
 
 impl Message {
-    /// An equal message. Memory is wanted for lists and payloads alone, which stand in the kinds 7, 8 and 9.
+    /// An equal message. OutOfMemory (99) where an allocation is refused, and only at the kinds 7, 8 and 9, which have
+    /// a list or a payload.
     pub fn copy(&self, alloc: Global) -> Result<Message, OutOfMemory>
         ensures ok { IfOk result (λ m. m ≡ self.now) }
         ensures memory { IsErr result → (7 ≤ kind_of self.now.body) × (kind_of self.now.body ≤ 9) }

@@ -1,6 +1,8 @@
-ghost use Rattle.std.specs.Prelude.{◌≡◌, ◌-◌, ◌≤◌, ◌^◌, List, [], ◌∷◌, length, slice_index, IfOk, IsErrOf, OnOk, IfErr, ◌<◌, ◌⊎◌, ◌≢◌, Ok, Err, ℕ};
+ghost use Rattle.std.specs.Prelude.{◌≡◌, ◌-◌, ◌≤◌, ◌^◌, List, [], ◌∷◌, length, slice_index, IfOk, IsErrOf, OnOk, IfErr};
+ghost use Rattle.std.specs.Prelude.{◌<◌, ◌⊎◌, ◌≢◌, Ok, Err, ℕ};
 ghost use Rattle.std.specs.Int.{w8, w16, w32};
-ghost use Rattle.ov_wire.specs.declared.fault.WireFault.TheVariants.{Short, BadVersion, BadKind, BadField, Trailing, OutOfMemory};
+ghost use Rattle.ov_wire.specs.declared.fault.WireFault.TheVariants.{Short, BadVersion, BadKind, BadField, Trailing};
+ghost use Rattle.ov_wire.specs.declared.fault.WireFault.TheVariants.{OutOfMemory};
 ghost use Rattle.ov_wire.specs.declared.message.Message.{Message};
 ghost use Rattle.ov_wire.specs.Faults.{FirstFault};
 ghost use Rattle.ov_wire.specs.Fields.{up_to, any, Number, Ids, Payload, One, Many};
@@ -36,7 +38,7 @@ fn u16_at(most: u16, bytes: &[u8]) -> Result<(u16, &[u8]), WireFault>
     }
 }
 
-/// A byte from `least` to `most`.
+/// Reads a byte from `least` to `most`.
 fn byte_at(
     least: u8,
     most: u8,
@@ -58,7 +60,7 @@ fn byte_at(
     }
 }
 
-/// Nothing follows the last field.
+/// Ok where nothing follows the last field.
 fn end(bytes: &[u8]) -> Result<(), WireFault>
     ensures { Reads (λ _. []) result (values_at [] bytes.now) }
 {
@@ -69,11 +71,12 @@ fn end(bytes: &[u8]) -> Result<(), WireFault>
     }
 }
 
-/// These bytes are so many, neither fewer nor more.
+/// Ok where there are exactly `count` bytes.
 fn whole(count: usize, bytes: &[u8]) -> Result<(), WireFault>
     ensures ok { OnOk result (length bytes.now ≡ count) }
     ensures short { IfErr result (λ fault. length bytes.now < count → fault ≡ Short) }
-    ensures trailing { IfErr result (λ fault. count ≤ length bytes.now → (count < length bytes.now) × (fault ≡ Trailing)) }
+    ensures trailing { IfErr result (λ fault. count ≤ length bytes.now →
+        (count < length bytes.now) × (fault ≡ Trailing)) }
 {
     if bytes.len() < count {
         return Err(WireFault::Short);
@@ -96,7 +99,7 @@ fn ids_of(alloc: Global, count: usize, bytes: &[u8]) -> Result<Seq<NodeId>, Allo
     Ok(Seq::new(ids))
 }
 
-/// The last field where it is a list of ids.
+/// Reads a list of ids, as the last field.
 fn last_ids(alloc: Global, bytes: &[u8]) -> Result<Seq<NodeId>, WireFault>
     ensures { Gives (λ ids. Many ids ∷ []) result (values_at (Ids ∷ []) bytes.now) }
 {
@@ -106,7 +109,7 @@ fn last_ids(alloc: Global, bytes: &[u8]) -> Result<Seq<NodeId>, WireFault>
     Ok(ids_of(alloc, count, rest)?)
 }
 
-/// The last field where it is a payload.
+/// Reads a payload, as the last field.
 fn last_payload(alloc: Global, bytes: &[u8]) -> Result<Seq<u8>, WireFault>
     ensures { Gives (λ payload. Many payload ∷ []) result (values_at (Payload ∷ []) bytes.now) }
 {
@@ -115,7 +118,7 @@ fn last_payload(alloc: Global, bytes: &[u8]) -> Result<Seq<u8>, WireFault>
     Ok(Seq::new(Vec::from_slice(alloc, rest)?))
 }
 
-/// The id of a broadcast, as the last field.
+/// Reads the id of a broadcast, as the last field.
 fn last_id(bytes: &[u8]) -> Result<MsgId, WireFault>
     ensures { Reads (λ id. One id.origin ∷ One id.seq ∷ []) result (values_at (any w32 ∷ any w32 ∷ []) bytes.now) }
 {
@@ -141,7 +144,7 @@ fn forward_join(bytes: &[u8]) -> Result<Body, WireFault>
     })
 }
 
-/// The last field where it is a flag.
+/// Reads a flag, as the last field.
 fn last_flag(bytes: &[u8]) -> Result<bool, WireFault>
     ensures { Reads (λ x. One (flag x) ∷ []) result (values_at (up_to w8 1 ∷ []) bytes.now) }
 {
@@ -179,7 +182,7 @@ fn gossip(alloc: Global, bytes: &[u8]) -> Result<Body, WireFault>
     Ok(Body::Gossip { id, round, payload })
 }
 
-/// The body of this kind.
+/// Reads the body of a message of this kind.
 fn body_of(alloc: Global, kind: u8, bytes: &[u8]) -> Result<Body, WireFault>
     requires low { 1 ≤ kind }
     requires high { kind ≤ 12 }
@@ -218,9 +221,10 @@ fn body_of(alloc: Global, kind: u8, bytes: &[u8]) -> Result<Body, WireFault>
     }
 }
 
-/// The message whose bytes these are, read through.
+/// Reads a message, by all fields of its kind.
 fn message_of(alloc: Global, bytes: &[u8]) -> Result<Message, WireFault>
-    ensures read { Gives (λ m. One 1 ∷ One (kind_of m.body) ∷ One m.from ∷ said m.body) result (values_at (fields_of (slice_index bytes.now 1)) bytes.now) }
+    ensures read { Gives (λ m. One 1 ∷ One (kind_of m.body) ∷ One m.from ∷ said m.body) result
+        (values_at (fields_of (slice_index bytes.now 1)) bytes.now) }
     ensures kind { IfOk result (λ m. kind_of m.body ≡ slice_index bytes.now 1) }
     ensures memory { IsErrOf result OutOfMemory → (7 ≤ slice_index bytes.now 1) × (slice_index bytes.now 1 ≤ 9) }
 {
@@ -234,17 +238,19 @@ fn message_of(alloc: Global, bytes: &[u8]) -> Result<Message, WireFault>
     })
 }
 
-/// The message that the bytes spell. The first field at fault from the left decides which fault it is; `OutOfMemory` is
-/// answered only of bytes that spell a message with a list or a payload.
+/// The message that the bytes spell. Where they spell none, the fault of the first wrong field from the left.
+/// OutOfMemory (99) where an allocation is refused, and only where the bytes spell a message with a list or a payload.
 pub fn decode(alloc: Global, bytes: &[u8]) -> Result<Message, WireFault>
-    // What is answered is spelled so.
+    // The bytes spell the message that is returned.
     ensures ok { IfOk result (λ m. Spelling m bytes.now × AreInRange m) }
-    // What is spelled so is answered, unless memory is wanted.
+    // The message that the bytes spell is returned, or the call is out of memory.
     ensures only { (m : Message) → Spelling m bytes.now → (result ≡ Ok m) ⊎ (result ≡ Err OutOfMemory) }
-    // Which fault it is.
-    ensures fault { IfErr result (λ fault. fault ≢ OutOfMemory → FirstFault bytes.now fault × ((m : Message) → ¬ Spelling m bytes.now)) }
-    // When memory is wanted: of the kinds 7, 8 and 9, whose messages have a list or a payload.
-    ensures memory { IsErrOf result OutOfMemory → (7 ≤ slice_index bytes.now 1) × (slice_index bytes.now 1 ≤ 9) × ((m : Message) × Spelling m bytes.now) }
+    // Any other fault is the first fault of the bytes, and they spell no message.
+    ensures fault { IfErr result (λ fault. fault ≢ OutOfMemory →
+        FirstFault bytes.now fault × ((m : Message) → ¬ Spelling m bytes.now)) }
+    // Out of memory only where the bytes spell a message of the kinds 7, 8 and 9, which have a list or a payload.
+    ensures memory { IsErrOf result OutOfMemory →
+        (7 ≤ slice_index bytes.now 1) × (slice_index bytes.now 1 ≤ 9) × ((m : Message) × Spelling m bytes.now) }
 {
     message_of(alloc, bytes)
 }

@@ -1,6 +1,7 @@
 ghost use Rattle.std.specs.Prelude.{◌≡◌, ◌≤◌, ◌∷◌, ◌+◌, ◌*◌, ◌++◌, length, [], IfOk, OnOk};
 ghost use Rattle.std.specs.Int.{w32};
 ghost use Rattle.ov_wire.specs.Fields.{spelled, spelled_all, AllFit, Fits, any, Ids, Payload, One, Many};
+ghost use Rattle.ov_wire.specs.Limits.{most_ids, most_payload};
 ghost use Rattle.ov_wire.specs.Messages.{own_fields, kind_of, said, Spelling, AreInRange, IsBodyInRange};
 
 use crate::message::{Body, Message};
@@ -8,7 +9,8 @@ use ov_ids::{MsgId, NodeId, OutOfMemory};
 use std::alloc::{AllocError, Global};
 
 fn put_id(out: &mut Vec<u8>, id: MsgId) -> Result<(), AllocError>
-    ensures ok { OnOk result (out.new.items ≡ out.old.items ++ spelled_all (any w32 ∷ any w32 ∷ []) (One id.origin ∷ One id.seq ∷ [])) }
+    ensures ok { OnOk result (out.new.items ≡
+        out.old.items ++ spelled_all (any w32 ∷ any w32 ∷ []) (One id.origin ∷ One id.seq ∷ [])) }
     ensures fit { AllFit (any w32 ∷ any w32 ∷ []) (One id.origin ∷ One id.seq ∷ []) }
 {
     out.extend_from_slice(&id.origin.number().to_be_bytes())?;
@@ -16,7 +18,7 @@ fn put_id(out: &mut Vec<u8>, id: MsgId) -> Result<(), AllocError>
 }
 
 fn put_ids(out: &mut Vec<u8>, ids: &[NodeId]) -> Result<(), AllocError>
-    requires { length ids.now ≤ 17 }
+    requires { length ids.now ≤ most_ids }
     ensures ok { OnOk result (out.new.items ≡ out.old.items ++ spelled Ids (Many ids.now)) }
     ensures fit { OnOk result (Fits Ids (Many ids.now)) }
 {
@@ -28,7 +30,7 @@ fn put_ids(out: &mut Vec<u8>, ids: &[NodeId]) -> Result<(), AllocError>
 }
 
 fn put_payload(out: &mut Vec<u8>, payload: &[u8]) -> Result<(), AllocError>
-    requires { length payload.now ≤ 1024 }
+    requires { length payload.now ≤ most_payload }
     ensures ok { OnOk result (out.new.items ≡ out.old.items ++ spelled Payload (Many payload.now)) }
     ensures fit { OnOk result (Fits Payload (Many payload.now)) }
 {
@@ -36,7 +38,7 @@ fn put_payload(out: &mut Vec<u8>, payload: &[u8]) -> Result<(), AllocError>
     out.extend_from_slice(payload)
 }
 
-/// The kind of the body, 1 to 12.
+/// The number of the body's kind, 1 to 12.
 fn kind_of(body: &Body) -> u8
     ensures { result ≡ kind_of body.now }
 {
@@ -56,7 +58,7 @@ fn kind_of(body: &Body) -> u8
     }
 }
 
-/// How many bytes a message with this body has.
+/// The number of bytes of a message with this body.
 fn len_of(body: &Body) -> usize
     requires { IsBodyInRange body.now }
     ensures { result ≡ 6 + length (spelled_all (own_fields (kind_of body.now)) (said body.now)) }
@@ -74,7 +76,8 @@ fn len_of(body: &Body) -> usize
 
 fn put_body(out: &mut Vec<u8>, body: &Body) -> Result<(), AllocError>
     requires { IsBodyInRange body.now }
-    ensures ok { OnOk result (out.new.items ≡ out.old.items ++ spelled_all (own_fields (kind_of body.now)) (said body.now)) }
+    ensures ok { OnOk result (out.new.items ≡
+        out.old.items ++ spelled_all (own_fields (kind_of body.now)) (said body.now)) }
     ensures fit { OnOk result (AllFit (own_fields (kind_of body.now)) (said body.now)) }
 {
     match body {
@@ -100,7 +103,8 @@ fn put_body(out: &mut Vec<u8>, body: &Body) -> Result<(), AllocError>
     }
 }
 
-/// The spelling of the message.
+/// The bytes that spell the message, whose fields must be within their ranges. OutOfMemory (99) where an allocation is
+/// refused.
 pub fn encode(alloc: Global, message: &Message) -> Result<Vec<u8>, OutOfMemory>
     requires { AreInRange message.now }
     ensures { IfOk result (λ bytes. Spelling message.now bytes.items) }

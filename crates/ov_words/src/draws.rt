@@ -31,21 +31,21 @@ impl<'a> Draws<'a> {
         }
     }
 
-    /// Draws that stand where these stand. Who gives a step up puts its draws back by a copy made before.
+    /// Draws with the same words left. A step that is given up puts its draws back by a copy made before.
     pub fn copy(&self) -> Draws<'a>
         ensures { result ≡ self.now }
     {
         Draws { words: self.words }
     }
 
-    /// How many words are left.
+    /// The number of words that are left.
     pub fn left(&self) -> usize
         ensures { result ≡ length self.now }
     {
         self.words.len()
     }
 
-    /// The next word, which is then used up.
+    /// The next word. It is then used up.
     pub fn next(&mut self) -> u64
         requires { 0 < length self.old }
         ensures { self.old ≡ result ∷ self.new }
@@ -55,8 +55,8 @@ impl<'a> Draws<'a> {
         word
     }
 
-    /// Picks a member of a set, whose members are handed in ascending: member number `word % size`, counted from 0, where
-    /// `word` is the next word. Of the empty set none, and then no word is used. (Chosen here.)
+    /// Picks a member of a set by the next word: member number `word % size`, counted from 0. The members must ascend.
+    /// None where the set is empty, and then no word is used. (Chosen here.)
     pub fn pick(&mut self, set: &[NodeId]) -> Option<NodeId>
         requires words { 0 < length self.old }
         requires set { IsSet set.now }

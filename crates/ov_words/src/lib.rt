@@ -1,4 +1,4 @@
-//! The words of an event, and random choices drawn from them.
+//! The random words of an event, and random choices drawn from them.
 #![tactic(auto)]
 
 mod draws;

@@ -4,7 +4,7 @@ ghost use Rattle.ov_words.specs.Stream.{AreOutputs};
 use rand_core::Rng;
 use std::marker::Model;
 
-/// The 64 words that are handed in with an event, from which it makes its random choices. Contracts see them in order.
+/// The 64 random words that come with an event. Its random choices are drawn from them. Contracts see them in order.
 #[derive(Clone, Copy, Debug, PartialEq, Eq)]
 pub struct Words([u64; 64]);
 
@@ -29,7 +29,7 @@ impl Words {
         Words(words)
     }
 
-    /// The next 64 words of a generator, each by one call of `next_u64`, and no other call of it.
+    /// The next 64 outputs of a generator, each by one call of `next_u64`. No other call is made.
     #[tactic(auto, using(crate::proofs::Outputs::outputs_written))]
     pub fn from_rng<R: Rng>(rng: &mut R) -> Words
         ensures outputs { AreOutputs (R.stream rng.old) result (R.stream rng.new) }

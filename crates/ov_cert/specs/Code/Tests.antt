@@ -1,4 +1,5 @@
--- The verdict by tests that compute, which the code meets; each says what a relation of the verdict says.
+-- The verdict as tests that compute. The code is proved against these tests. Each test is equivalent to a relation of
+-- `Valid` or `Verdict`.
 use Rattle.std.specs.Prelude.{ℕ, suc, ◌+◌, ◌&&◌, ◌||◌, ◌==◌, nat_lt, not, Bool, true, false, List, [], ◌∷◌, ◌++◌}
 use Rattle.std.specs.Prelude.{length, take, slice_get, if◌then◌else◌, Option, Some, None}
 use Rattle.std.specs.List.{list_all}
@@ -16,18 +17,18 @@ use Rattle.ov_cert.specs.declared.fault.CheckFault.TheVariants.{Count, Cut, Side
 use Rattle.ov_cert.specs.declared.fault.CheckFault.TheVariants.{BadGroup}
 use Rattle.ov_graph.specs.Even.{later_members}
 
--- whether each is linked to the next
+-- whether each node of the list is linked to the next one
 abbrev pub chained : LinkGraph → List ℕ → Bool
 chained g [] = true
 chained g (a ∷ []) = true
 chained g (a ∷ b ∷ rest) = are_joined g.links a b && chained g (b ∷ rest)
 
--- whether all are nodes outside the set, none of them twice
+-- whether all ids are nodes outside the set, and no id occurs twice
 abbrev pub fresh : LinkGraph → List ℕ → List ℕ → Bool
 fresh g used [] = true
 fresh g used (x ∷ xs) = has g.nodes x && (not (has used x) && fresh g (adding x used) xs)
 
--- the set with all of these
+-- the set after all these ids were added
 abbrev pub entered : List ℕ → List ℕ → List ℕ
 entered used [] = used
 entered used (x ∷ xs) = entered (adding x used) xs
@@ -38,67 +39,67 @@ without_last [] = []
 without_last (a ∷ []) = []
 without_last (a ∷ b ∷ rest) = a ∷ without_last (b ∷ rest)
 
--- the last item of a list, or what stood before it
+-- the last item of the list; if the list is empty, a
 abbrev pub last_of : ℕ → List ℕ → ℕ
 last_of a [] = a
 last_of a (b ∷ rest) = last_of b rest
 
--- the nodes of a path from i to j but its ends
+-- the nodes of a path without its first and its last node
 abbrev pub inner : List ℕ → List ℕ
 inner [] = []
 inner (a ∷ rest) = without_last rest
 
--- whether the path goes from i to j, over nodes that are not used
+-- whether the path leads from i to j over links, and its inner nodes are distinct and unused
 abbrev pub is_pair_path : LinkGraph → List ℕ → ℕ → ℕ → List ℕ → Bool
 is_pair_path g used i j [] = false
 is_pair_path g used i j (a ∷ []) = false
 is_pair_path g used i j (a ∷ b ∷ rest) = (a == i) && ((last_of b rest == j) &&
     (chained g (a ∷ b ∷ rest) && fresh g used (without_last (b ∷ rest))))
 
--- whether each path does, none over a node of another
+-- whether each path is such a path; the inner nodes of a path count as used for the later paths
 abbrev pub are_pair_paths : LinkGraph → List ℕ → ℕ → ℕ → List (List ℕ) → Bool
 are_pair_paths g used i j [] = true
 are_pair_paths g used i j (p ∷ ps) = is_pair_path g used i j p && are_pair_paths g (entered used (inner p)) i j ps
 
--- the nodes of a path but its first
+-- the nodes of a path without its first node
 abbrev pub steps : List ℕ → List ℕ
 steps [] = []
 steps (a ∷ rest) = rest
 
--- whether x is a member below j
+-- whether x is a member with an id below j
 abbrev pub is_earlier : List ℕ → ℕ → ℕ → Bool
 is_earlier q j x = nat_lt x j && has q x
 
--- whether the path goes from j to a member below it, over nodes that are not used
+-- whether the path leads from j over links to a member below j, and its nodes after j are distinct and unused
 abbrev pub is_fan_path : LinkGraph → List ℕ → List ℕ → ℕ → List ℕ → Bool
 is_fan_path g q used j [] = false
 is_fan_path g q used j (a ∷ []) = false
 is_fan_path g q used j (a ∷ b ∷ rest) =
     (a == j) && (is_earlier q j (last_of b rest) && (chained g (a ∷ b ∷ rest) && fresh g used (b ∷ rest)))
 
--- whether each path does, none over a node of another
+-- whether each path is such a path; the nodes of a path count as used for the later paths
 abbrev pub are_fan_paths : LinkGraph → List ℕ → List ℕ → ℕ → List (List ℕ) → Bool
 are_fan_paths g q used j [] = true
 are_fan_paths g q used j (p ∷ ps) = is_fan_path g q used j p && are_fan_paths g q (entered used (steps p)) j ps
 
--- whether the entry is there, names the pair, and has its k paths
+-- whether the entry exists, names the pair, and has k right paths
 abbrev pub is_pair_entry : LinkGraph → ℕ → ℕ × ℕ → Option PairPaths → Bool
 is_pair_entry g k p None = false
 is_pair_entry g k p (Some e) = (e.i == p.0) && ((e.j == p.1) &&
     ((length e.paths == k) && are_pair_paths g (adding p.1 (p.0 ∷ [])) p.0 p.1 e.paths))
 
--- whether the entry is there, names the node, and has its fan of k
+-- whether the entry exists, names the member, and has a fan of k right paths
 abbrev pub is_fan_entry : LinkGraph → List ℕ → ℕ → ℕ → Option FanPaths → Bool
 is_fan_entry g q k j None = false
 is_fan_entry g q k j (Some e) = (e.j == j) && ((length e.paths == k) && are_fan_paths g q (j ∷ []) j e.paths)
 
--- the earlier members that j is not linked to, each with j
+-- the earlier members that are not linked to j, each paired with j
 abbrev pub unlinked_before : LinkGraph → List ℕ → ℕ → List (ℕ × ℕ)
 unlinked_before g [] j = []
 unlinked_before g (i ∷ earlier) j = if are_joined g.links i j then unlinked_before g earlier j else (i, j) ∷
     unlinked_before g earlier j
 
--- the unlinked pairs of a node of the list and one before it, which is in `earlier` or in the list
+-- the unlinked pairs whose second node is in the list; the first node is in `earlier`, or before the second in the list
 abbrev pub pairs_after : LinkGraph → List ℕ → List ℕ → List (ℕ × ℕ)
 pairs_after g earlier [] = []
 pairs_after g earlier (j ∷ rest) = unlinked_before g earlier j ++ pairs_after g (earlier ++ j ∷ []) rest
@@ -107,52 +108,52 @@ pairs_after g earlier (j ∷ rest) = unlinked_before g earlier j ++ pairs_after 
 abbrev pub expected_pairs : LinkGraph → List ℕ → ℕ → List (ℕ × ℕ)
 expected_pairs g q k = pairs_after g [] (take k q)
 
--- the first pair from a place on whose entry does not hold
+-- the fault of the first pair, from a place on, that has no right entry at its place
 abbrev pub pairs_fault : LinkGraph → ℕ → List PairPaths → ℕ → List (ℕ × ℕ) → Option CheckFault
 pairs_fault g k entries place [] = None
 pairs_fault g k entries place (p ∷ ps) = if is_pair_entry g k p (slice_get entries place) then pairs_fault g k entries
     (suc place) ps else Some (Pair p.0 p.1)
 
--- the first fan from a place on whose entry does not hold
+-- the fault of the first member, from a place on, that has no right fan at its place
 abbrev pub fans_fault : LinkGraph → List ℕ → ℕ → List FanPaths → ℕ → List ℕ → Option CheckFault
 fans_fault g q k entries place [] = None
 fans_fault g q k entries place (j ∷ js) =
     if is_fan_entry g q k j (slice_get entries place) then fans_fault g q k entries (suc place) js else Some (Fan j)
 
--- whether the ids are a set of nodes
+-- whether the ids are a set of nodes, in ascending order
 abbrev pub is_node_set : LinkGraph → List ℕ → Bool
 is_node_set g ids = ascends_after None ids && list_all (λ x. has g.nodes x) ids
 
--- whether the ids are a group
+-- whether the ids are a group of the graph
 abbrev pub is_group : LinkGraph → List ℕ → Bool
 is_group g q = not (length q == 0) && is_node_set g q
 
--- whether it is one of these and outside the set
+-- whether x is in the list and not in the set
 abbrev pub survives : List ℕ → List ℕ → ℕ → Bool
 survives xs s x = has xs x && not (has s x)
 
--- whether each link from a ends in the side or in the cut
+-- whether each link of a ends in the side or in the cut
 abbrev pub ends_within : LinkGraph → List ℕ → List ℕ → ℕ → Bool
 ends_within g side cut a = list_all (λ b. has side b || has cut b) (neighbours_in g.links a g.nodes)
 
--- whether near and far are surviving members and the side parts them
+-- whether near and far are surviving members, and the side separates them
 abbrev pub is_cut_off : LinkGraph → List ℕ → Split → Bool
 is_cut_off g q c =
     survives q c.cut c.near && (survives q c.cut c.far && (is_node_set g c.side &&
     (list_all (λ a. not (has c.cut a)) c.side
     && (has c.side c.near && (not (has c.side c.far) && list_all (λ a. ends_within g c.side c.cut a) c.side)))))
 
--- whether every two of the list are linked
+-- whether every two nodes of the list are linked
 abbrev pub all_linked : LinkGraph → List ℕ → Bool
 all_linked g [] = true
 all_linked g (a ∷ rest) = list_all (λ b. are_joined g.links a b) rest && all_linked g rest
 
--- the first of two faults
+-- the earlier of two faults, if there is one
 abbrev pub first : Option CheckFault → Option CheckFault → Option CheckFault
 first None later = later
 first (Some e) later = Some e
 
--- the first fault of what a certificate claims of its group: its number, and that all are linked or what splits
+-- the first fault of the claim, for the group: first of k, then of the links or of the cut and its side
 abbrev pub claim_fault : LinkGraph → List ℕ → Cert → Option CheckFault
 claim_fault g q (AllLinked k) = if length q == k + 1 then (if all_linked g q then None else Some NotLinked) else Some
     Count
@@ -166,23 +167,23 @@ abbrev pub frame_fault : LinkGraph → List ℕ → Cert → Option CheckFault
 frame_fault g q c = if length g.nodes == 0 then Some NoNodes else
     (if is_group g q then claim_fault g q c else Some BadGroup)
 
--- whether there are no entries beyond those that are expected
+-- whether the certificate has no entries beyond the expected ones
 abbrev pub no_more : LinkGraph → List ℕ → Split → Bool
 no_more g q c = not (nat_lt (length (expected_pairs g q c.k)) (length c.pairs)) && not
     (nat_lt (length (later_members q c.k)) (length c.fans))
 
--- the first fault of the entries: of the pairs, then of the fans, then that there are more
+-- the first fault of the entries: of the pairs, then of the fans, then superfluous entries
 abbrev pub entries_fault : LinkGraph → List ℕ → Split → Option CheckFault
 entries_fault g q c =
     first (pairs_fault g c.k c.pairs 0 (expected_pairs g q c.k))
     (first (fans_fault g q c.k c.fans 0 (later_members q c.k))
     (if no_more g q c then None else Some Extra))
 
--- the first fault behind the frame
+-- the first fault after the frame
 abbrev pub later_fault : LinkGraph → List ℕ → Cert → Option CheckFault
 later_fault g q (AllLinked k) = None
 later_fault g q (SplitBy c) = entries_fault g q c
 
--- the first fault of a certificate, which is the one that `JudgedForGroup` allows
+-- the first fault of a certificate; it is the one that `JudgedForGroup` allows
 abbrev pub fault_of : LinkGraph → List ℕ → Cert → Option CheckFault
 fault_of g q c = first (frame_fault g q c) (later_fault g q c)

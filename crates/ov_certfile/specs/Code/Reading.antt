@@ -1,4 +1,4 @@
--- What the functions that read a file return.
+-- The results of the functions that read a file.
 use Rattle.std.specs.Prelude.{◌≡◌, ℕ, true, false, List, [], ◌∷◌, codes, is_some, Option, Some, None, Result, Ok, Err}
 use Rattle.serde_json.specs.Data.{Data}
 use Rattle.serde_json.specs.Find.{as_object}
@@ -17,7 +17,7 @@ use Rattle.ov_certfile.specs.declared.version.Version.{Version}
 use Rattle.ov_certfile.specs.declared.version.Version.TheVariants.{One, Two}
 use Rattle.ov_certfile.specs.declared.verdict.Verdict.{Verdict}
 
--- the fault is BadValue, and this is so; or it is out of memory
+-- the fault is BadValue, and P holds; or it is out of memory
 abbrev pub IsBadValue : Type 0 → FileFault → Type 0
 IsBadValue P OutOfMemory = Unit {0}
 IsBadValue P BadValue = P
@@ -27,12 +27,12 @@ IsBadValue P UnknownKey = ⊥
 IsBadValue P AnotherVersion = ⊥
 IsBadValue P (Graph f) = ⊥
 
--- what was returned, seen by `view`, is what stands there in a form; BadValue where nothing does
+-- the value read, seen by `view`, is the one that was found; BadValue only if none was found
 abbrev pub Reads : {X Y : Type 0} → (X → Y) → Result X FileFault → Option Y → Type 0
 Reads view (Ok x) found = found ≡ Some (view x)
 Reads view (Err e) found = IsBadValue (found ≡ None) e
 
--- the heading of a file: an object of this version and verdict, with their keys and no others
+-- the heading of a file: the value is an object of this version and verdict, with exactly their keys
 pub record IsHeaded (version : Version) (verdict : Verdict) (d : Data) : Type 0 where
   pub an_object : is_some (as_object d) ≡ true
   pub version_said : said version_in (codes "version") d ≡ Some version
@@ -40,36 +40,37 @@ pub record IsHeaded (version : Version) (verdict : Verdict) (d : Data) : Type 0 
   pub all : has_all (names_of (keys_of version verdict)) d ≡ true
   pub no_other : has_no_other (names_of (keys_of version verdict)) d ≡ true
 
--- the keys that say the certificate
+-- the keys of the certificate
 abbrev pub cert_keys : Verdict → List Key
 cert_keys verdict = key (codes "k") count_in ∷ verdict_keys verdict
 
--- the certificate, where this is the verdict
+-- the certificate, if the file has this verdict
 pub record IsCert (verdict : Verdict) (d : Data) (c : Cert) : Type 0 where
   pub forms : has_forms (cert_keys verdict) d ≡ true
   pub says : said verdict_in (codes "verdict") d ≡ Some verdict → SaysCert d c
 
--- the keys that say the graph
+-- the keys of the graph
 abbrev pub graph_keys : List Key
 graph_keys = key (codes "nodes") ids_in ∷ key (codes "links") links_in ∷ []
 
--- the keys that say the graph, its moment and its group
+-- the keys of the moment, the graph and the group
 abbrev pub dated_keys : Version → List Key
 dated_keys version =
     key (codes "moment") moment_in ∷ key (codes "nodes") ids_in ∷ key (codes "links") links_in ∷ version_keys version
 
--- the nodes and links have this fault as a graph, and each of the keys has a value of its form
+-- each of these keys has a value of its form, and the nodes and links have this first fault as a graph
 pub record HasGraphFault (version : Version) (keys : List Key) (d : Data) (fault : GraphFault) : Type 0 where
   pub forms : has_forms keys d ≡ true
   pub given : LinkGraph
   pub graph : SaysGraph d given
   pub judged : FileGraphJudged version given (Some fault)
 
--- a key has no value of its form; or it is out of memory
+-- some key has no value of its form, and the fault is BadValue; or the fault is out of memory
 abbrev pub LacksForm : List Key → Data → FileFault → Type 0
 LacksForm keys d e = IsBadValue (has_forms keys d ≡ false) e
 
--- a key has no value of its form, or nodes and links are no graph; or it is out of memory
+-- some key has no value of its form, and the fault is BadValue; or the nodes and links are no graph, and the fault is
+-- theirs; or the fault is out of memory
 abbrev pub IsUndated : Version → List Key → Data → FileFault → Type 0
 IsUndated version keys d OutOfMemory = Unit {0}
 IsUndated version keys d BadValue = has_forms keys d ≡ false
@@ -79,14 +80,14 @@ IsUndated version keys d UnknownKey = ⊥
 IsUndated version keys d AnotherVersion = ⊥
 IsUndated version keys d (Graph f) = HasGraphFault version keys d f
 
--- the graph, of the nodes that stand there
+-- the graph of the file, whose nodes were read before
 pub record IsGraphed (version : Version) (d : Data) (nodes : List ℕ) (g : LinkGraph) : Type 0 where
   pub forms : has_forms graph_keys d ≡ true
   pub graph : SaysGraph d g
   pub same : nodes ≡ g.nodes
   pub judged : FileGraphJudged version g None
 
--- the graph, its moment and its group
+-- the moment, the graph and the group of the file
 pub record IsDated (version : Version) (d : Data) (moment : ℕ) (g : LinkGraph) (group : List ℕ) : Type 0 where
   pub forms : has_forms (dated_keys version) d ≡ true
   pub moment_said : said moment_in (codes "moment") d ≡ Some moment
@@ -94,12 +95,12 @@ pub record IsDated (version : Version) (d : Data) (moment : ℕ) (g : LinkGraph)
   pub judged : FileGraphJudged version g None
   pub group_said : SaysGroup d version g group
 
--- the group of version 2; version 1 names none
+-- the group that version 2 names; version 1 names none
 abbrev pub IsNamed : Version → Data → Option (List ℕ) → Type 0
 IsNamed One d named = named ≡ None
 IsNamed Two d named = (said ids_in (codes "group") d ≡ named) × (is_some named ≡ true)
 
--- the first fault of nodes and links as a graph; or it is out of memory
+-- the fault is the first fault of the nodes and links as a graph; or it is out of memory
 abbrev pub IsGraphFault : Version → LinkGraph → FileFault → Type 0
 IsGraphFault version g OutOfMemory = Unit {0}
 IsGraphFault version g (Graph f) = FileGraphJudged version g (Some f)

@@ -1,14 +1,14 @@
--- What a desk keeps of its claims.
+-- The invariant of a desk.
 use Rattle.std.specs.Prelude.{ℕ, ◌^◌, ◌<◌, ◌≤◌, List, length}
-use Rattle.ov_claims.specs.Claims.{WorkerState, ClaimState, IsLegal}
+use Rattle.ov_claims.specs.Claims.{WorkerState, ClaimState, IsLegal, most_workers}
 
--- the claims with these parts
+-- the claims made of these parts
 abbrev pub state : ℕ → ℕ → ℕ → List WorkerState → ClaimState
 state total next least workers = record { total = total; next = next; least = least; workers = workers }
 
--- the claims are legal, a number fits four bytes, and there are a few workers
+-- the claims are legal, the total fits in 32 bits, and there are 1 to 64 workers
 pub record IsHeld (s : ClaimState) : Type 0 where
   pub legal : IsLegal s
   pub total : s.total < 2 ^ 32
   pub some : 1 ≤ length s.workers
-  pub few : length s.workers ≤ 64
+  pub few : length s.workers ≤ most_workers

@@ -1,17 +1,17 @@
--- What a desk keeps.
+-- The invariant of a desk.
 use Rattle.std.specs.Prelude.{◌≡◌, ℕ, ◌≤◌, false, List, length, map}
 use Rattle.ov_fans.specs.declared.settled.Settled.{Settled}
-use Rattle.ov_claims.specs.Claims.{WorkerState, ClaimState, HasWorker}
+use Rattle.ov_claims.specs.Claims.{WorkerState, ClaimState, HasWorker, most_workers}
 use Rattle.ov_claims.specs.Steps.{IsLast}
 use Rattle.ov_even.specs.declared.haul.Haul.{Haul}
 use Rattle.ov_desk.specs.Desk.{GroupDeskState, HasHand, IsNumberIn}
 use Rattle.ov_desk.specs.declared.hand.Hand.{Hand}
 
--- the pieces in each of these hauls
+-- the pieces of each haul
 abbrev pub pieces_in : List Haul → List (List Settled)
 pieces_in hauls = map (λ haul. haul.pieces.items) hauls
 
--- the desk with these parts
+-- the desk made of these parts
 abbrev pub state : ℕ → List ℕ → ClaimState → List Hand → List Haul → GroupDeskState
 state moment members claims hands hauls = record {
   moment = moment;
@@ -21,14 +21,14 @@ state moment members claims hands hauls = record {
   settled = pieces_in hauls;
 }
 
--- a number in a worker's hand is the last that it claimed, and it has not ended
+-- the number in a worker's hand is the last that it claimed, and the worker has not ended
 abbrev pub IsClaimedLast : WorkerState → Hand → Type 0
 IsClaimedLast v hand = (x : ℕ) → IsNumberIn hand x → IsLast v x × (v.ended ≡ false)
 
--- there are a few workers, a hand and a haul for each of them, and what is in a hand its worker claimed last
+-- there are 1 to 64 workers, each with a hand and a haul; a number in a hand is the last that its worker claimed
 pub record IsHeld (s : GroupDeskState) : Type 0 where
   pub some : 1 ≤ length s.claims.workers
-  pub few : length s.claims.workers ≤ 64
+  pub few : length s.claims.workers ≤ most_workers
   pub hands : length s.hands ≡ length s.claims.workers
   pub settled : length s.settled ≡ length s.claims.workers
   pub claimed : (w : ℕ) (v : WorkerState) (hand : Hand) → HasWorker s.claims w v → HasHand s w hand

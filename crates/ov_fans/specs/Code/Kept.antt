@@ -1,4 +1,4 @@
--- How members and nets are kept by place: in rows of bits.
+-- How the code keeps members and nets: by place, in rows of bits.
 use Rattle.std.specs.Prelude.{◌≡◌, ◌≢◌, ◌↔◌, ℕ, ◌<◌, ◌≤◌, List, map, length, Option, IfSome}
 use Rattle.ov_ids.specs.Members.{Has, Ascends}
 use Rattle.ov_graph.specs.Links.{LinkGraph, IsGraph, IsWithinLimit}
@@ -14,7 +14,7 @@ use Rattle.ov_fans.specs.declared.aim.Aim.{Aim}
 abbrev pub group_at : LinkGraph → List ℕ → GroupIn
 group_at g places = record { graph = g; members = map (node_at g) places }
 
--- these are places of nodes, ascending, and the row has their bits
+-- these are one or more places of nodes, ascending, and the row has their bits
 pub record AreSeats (g : LinkGraph) (places row : List ℕ) : Type 0 where
   pub graph : IsGraph g
   pub within : IsWithinLimit g
@@ -23,11 +23,7 @@ pub record AreSeats (g : LinkGraph) (places row : List ℕ) : Type 0 where
   pub below : (p : ℕ) → Has places p → p < length g.nodes
   pub bits : (p : ℕ) → HasBit row p ↔ Has places p
 
--- the row has the bits of the members' places
-abbrev pub IsRowOfGroup : LinkGraph → List ℕ → List ℕ → Type 0
-IsRowOfGroup g q row = (p : ℕ) → HasBit row p ↔ ((p < length g.nodes) × Has q (node_at g p))
-
--- the net of these places
+-- the net with the nodes at these places
 abbrev pub net_at : LinkGraph → Option ℕ → ℕ → List ℕ → Net
 net_at g avoided source targets = record {
   graph = g;
@@ -36,7 +32,7 @@ net_at g avoided source targets = record {
   targets = picked targets 0 g.nodes;
 }
 
--- the net of an aim in g is n; its places are those of nodes, and the source is neither avoided nor a target
+-- n is the net of the aim in g. Its places are those of nodes, and the source is neither avoided nor a target
 pub record IsAimFor (g : LinkGraph) (n : Net) (aim : Aim) : Type 0 where
   pub net : net_at g aim.avoided aim.source aim.targets ≡ n
   pub source : aim.source < length g.nodes

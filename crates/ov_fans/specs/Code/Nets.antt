@@ -1,4 +1,4 @@
--- The net of a piece: where its paths are sought.
+-- The net of a piece, in which its paths are sought.
 use Rattle.std.specs.Prelude.{ℕ, List, [], ◌∷◌}
 use Rattle.ov_graph.specs.Links.{LinkGraph}
 use Rattle.ov_graph.specs.Even.{members_below}
@@ -8,8 +8,8 @@ use Rattle.ov_fans.specs.Pieces.{member_at}
 use Rattle.ov_fans.specs.declared.piece.Piece.{Piece}
 use Rattle.ov_fans.specs.declared.piece.Piece.TheVariants.{Pair, Fan}
 
--- the paths of a pair lead from one member to the nodes that the other is linked to, without that other: they lack only
--- their last step
+-- the net of a pair: from one member to the neighbours of the other, which is avoided. Its paths lack only their last
+-- step, and its cuts are those of the pair
 abbrev pub pair_net : LinkGraph → List ℕ → ℕ → ℕ → Net
 pair_net g q i j = record {
   graph = g;
@@ -18,11 +18,12 @@ pair_net g q i j = record {
   targets = neighbours_in g.links (member_at q j) g.nodes;
 }
 
--- the paths of a fan lead to the members before its source
+-- the net of a fan: from its source to the members before it
 abbrev pub fan_net : LinkGraph → List ℕ → ℕ → Net
 fan_net g q j =
     record { graph = g; avoided = []; source = member_at q j; targets = members_below q (member_at q j) }
 
+-- the net of a piece
 abbrev pub net_of : LinkGraph → List ℕ → Piece → Net
 net_of g q (Pair level i j) = pair_net g q i j
 net_of g q (Fan level j) = fan_net g q j

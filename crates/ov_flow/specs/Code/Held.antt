@@ -1,4 +1,4 @@
--- What is held between two searches.
+-- The paths that are held between two searches, and the buffers of a search.
 use Rattle.std.specs.Prelude.{◌≡◌, ℕ, ◌+◌, length}
 use Rattle.ov_split.specs.Net.{Net}
 use Rattle.ov_split.specs.Code.Residual.{IsFlow}
@@ -8,20 +8,20 @@ use Rattle.ov_flow.specs.Code.Reached.{IsGrown, IsSwept}
 use Rattle.ov_flow.specs.Code.Walked.{table_of}
 use Rattle.ov_flow.specs.declared.work.Work.{Work}
 
--- a net is ready to be searched by place
+-- the net can be searched by place
 abbrev pub IsReady : Net → Type 0
 IsReady n = IsPlaced (net_by_place n) (length n.graph.nodes)
 
--- each table has room for so many places
+-- each table has `wide` places
 pub record HasRoom (wide : ℕ) (w : Work) : Type 0 where
   pub from : length w.from.items ≡ wide
   pub next : length w.next.items ≡ wide
 
--- the paths that are held
+-- the tables hold paths of the net
 abbrev pub Holds : Net → Work → Type 0
 Holds n w = IsFlow (net_by_place n) (table_of w.from.items) w.ends.items
 
--- there is room for each place of the net, and paths of it are held
+-- each table has a place for each node of the net, and paths of the net are held
 pub record IsWorkOf (n : Net) (w : Work) : Type 0 where
   pub room : HasRoom (length n.graph.nodes) w
   pub flow : Holds n w
@@ -31,11 +31,11 @@ pub record IsSame (old new : Work) : Type 0 where
   pub from : new.from.items ≡ old.from.items
   pub ends : new.ends.items ≡ old.ends.items
 
--- one path more is held
+-- one more path is held
 abbrev pub IsLonger : Work → Work → Type 0
 IsLonger old new = length new.ends.items ≡ length old.ends.items + 1
 
--- a search has found no more
+-- the last search found no path
 pub record IsAtEnd (n : Net) (w : Work) : Type 0 where
   pub grown : IsGrown (net_by_place n) (table_of w.from.items) w.tree
   pub swept : IsSwept (net_by_place n) (table_of w.from.items) w.tree

@@ -1,4 +1,5 @@
--- What a search has reached, each node with the place of its parent in the order of finding, and the step taken to it.
+-- The tree of a breadth-first search: the reached nodes in the order of finding, each with the place of its parent in
+-- this order and the step from its parent.
 use Rattle.std.specs.Prelude.{◌≡◌, ◌≢◌, ◌↔◌, ℕ, ◌-◌, ◌<◌, ◌≤◌, ◌⊎◌, List, length, get_or, slice_index, Option, Some}
 use Rattle.std.specs.Prelude.{None}
 use Rattle.std.specs.Option.{unwrap_or}
@@ -9,20 +10,20 @@ use Rattle.ov_split.specs.Net.{Net}
 use Rattle.ov_split.specs.Code.Residual.{Table, IsFree, IsStuck}
 use Rattle.ov_flow.specs.declared.tree.Tree.{Tree}
 
--- where a path ends that takes a link to w: at the node before w, or at w where no path comes to it
+-- the open end after a link to w is taken: the node before w on its path, or w where no path comes to it
 abbrev pub tip_of : Table → ℕ → ℕ
 tip_of from w = unwrap_or (from w) w
 
--- the link from x to w may be taken, and a path ends at y then
+-- the link from x to w may be taken, and then the open end is y
 abbrev pub IsWay : Net → Table → ℕ → ℕ → ℕ → Type 0
 IsWay n from x y w = IsFree n x w × (w ≢ n.source) × (tip_of from w ≡ y)
 
--- the step from x to y over a link, or back
+-- a residual step from x to y: by a link to w, or back along a path
 abbrev pub IsStepBy : Net → Table → ℕ → ℕ → Option ℕ → Type 0
 IsStepBy n from x y (Some w) = IsWay n from x y w
 IsStepBy n from x y None = from x ≡ Some y
 
--- the first is the source, and a step leads to each later one from its parent, which stands before it
+-- a search tree. The first node is the source. A step leads to each later node from its parent, which stands before it
 pub record IsTree (n : Net) (from : Table) (order parents : List ℕ) (ways : List (Option ℕ)) : Type 0 where
   pub some : 0 < length order
   pub count : length parents ≡ length order
@@ -34,22 +35,22 @@ pub record IsTree (n : Net) (from : Table) (order parents : List ℕ) (ways : Li
   pub distinct : IsDistinct order
   pub nodes : (x : ℕ) → Has order x → Has n.graph.nodes x
 
--- the tree has a parent for each node, found before it, and room for its step
+-- the tree has a parent and a step for each node. Each parent stands before its child
 pub record IsShaped (order parents : List ℕ) (ways : List (Option ℕ)) : Type 0 where
   pub some : 0 < length order
   pub count : length parents ≡ length order
   pub long : length ways ≡ length order
   pub parent : (k : ℕ) → 0 < k → k < length order → slice_index parents k < k
 
--- a path may step to w from a reached node, and where it ends then is reached
+-- a link to w was taken: a path may step to w from a reached node, and the open end is reached
 pub record IsTaken (n : Net) (from : Table) (order : List ℕ) (w : ℕ) : Type 0 where
   pub x : ℕ
   pub behind : Has order x
   pub free : IsFree n x w
   pub tip : Has order (tip_of from w)
 
--- a search's tree: `reached` marks its nodes, and `seen` the avoided ones, the source, and those to which links were
--- taken
+-- a search tree with two rows of bits. `reached` has its nodes. `seen` has the avoided nodes, the source, and nodes to
+-- which links were taken
 pub record IsGrownBy (n : Net) (from : Table) (order parents : List ℕ) (ways : List (Option ℕ))
     (reached seen : List ℕ) : Type 0 where
   pub is_tree : IsTree n from order parents ways
@@ -58,14 +59,15 @@ pub record IsGrownBy (n : Net) (from : Table) (order parents : List ℕ) (ways :
   pub source : HasBit seen n.source
   pub sees : (w : ℕ) → HasBit seen w → (Has n.avoided w ⊎ (w ≡ n.source)) ⊎ IsTaken n from order w
 
+-- the same for a `Tree`
 abbrev pub IsGrown : Net → Table → Tree → Type 0
 IsGrown n from t = IsGrownBy n from t.order.items t.parents.items t.ways.items t.reached t.seen
 
--- ys begins with xs
+-- xs is a prefix of ys
 abbrev pub Extends : List ℕ → List ℕ → Type 0
 Extends xs ys = (length xs ≤ length ys) × ((k : ℕ) → k < length xs → slice_index ys k ≡ slice_index xs k)
 
--- nothing that was reached or seen is lost
+-- each node that was reached or seen still is
 pub record IsMore (old new : Tree) : Type 0 where
   pub order : Extends old.order.items new.order.items
   pub seen : (w : ℕ) → HasBit old.seen w → HasBit new.seen w
@@ -78,7 +80,7 @@ IsClean n t = (x : ℕ) → Has t.order.items x → ¬ Has n.targets x
 abbrev pub IsEnded : Net → Tree → Type 0
 IsEnded n t = Has n.targets (get_or t.order.items (length t.order.items - 1) 0)
 
--- no target is reached, and each link of x was seen
+-- no target is reached, and each node that x is linked to is seen
 pub record IsSweptAt (n : Net) (x : ℕ) (t : Tree) : Type 0 where
   pub clean : IsClean n t
   pub links : (w : ℕ) → Linked n.graph x w → HasBit t.seen w
@@ -88,7 +90,7 @@ pub record IsVisited (n : Net) (from : Table) (x : ℕ) (t : Tree) : Type 0 wher
   pub swept : IsSweptAt n x t
   pub back : (u : ℕ) → from x ≡ Some u → Has t.order.items u
 
--- what a search leaves that found no target
+-- a search found no target: it is stuck, and each node that a reached node is linked to is seen
 pub record IsSwept (n : Net) (from : Table) (t : Tree) : Type 0 where
   pub stuck : IsStuck n from t.order.items
   pub links : (x w : ℕ) → Has t.order.items x → Linked n.graph x w → HasBit t.seen w

@@ -1,4 +1,4 @@
--- How a graph is kept: its nodes, and for the node at each place a row of bits, in which bit q is set where it is
+-- How the code keeps a graph: its nodes, and a row of bits for each. In the row of a node bit q is set where it is
 -- linked to the node at place q.
 use Rattle.std.specs.Prelude.{◌≡◌, ◌↔◌, ℕ, suc, ◌<◌, ◌≤◌, List, [], ◌∷◌, ◌++◌, map, length, drop, get_or, slice_index}
 use Rattle.std.specs.Prelude.{if◌then◌else◌}
@@ -10,27 +10,29 @@ use Rattle.ov_graph.specs.Row.{has_bit, HasBit}
 abbrev pub row_at : List (List ℕ) → ℕ → List ℕ
 row_at rows p = get_or rows p []
 
--- of the nodes xs, which begin at place p, those whose bit is set
+-- the nodes of xs whose bit is set. The first of xs stands at place p
 unfoldable pub picked : List ℕ → ℕ → List ℕ → List ℕ
 picked row p [] = []
 picked row p (x ∷ xs) = if has_bit row p then x ∷ picked row (suc p) xs else picked row (suc p) xs
 
--- the links of the nodes xs, which begin at place p, each with a row: from each to those after it whose bit is set
+-- the links that rows stand for: from each node of xs to the nodes after it whose bit is set in its row. The first of
+-- xs stands at place p
 unfoldable pub links_read : ℕ → List ℕ → List (List ℕ) → List (ℕ × ℕ)
 links_read p [] rows = []
 links_read p (x ∷ xs) [] = []
 links_read p (x ∷ xs) (row ∷ rows) = map (λ y. (x, y)) (picked row (suc p) xs) ++ links_read (suc p) xs rows
 
--- the graph that is kept so
+-- the graph that these nodes and rows stand for
 abbrev pub graph_kept : List ℕ → List (List ℕ) → LinkGraph
 graph_kept nodes rows = record { nodes = nodes; links = links_read 0 nodes rows }
 
--- a row with bits of nodes alone, which are not too many for it
+-- the row has bits only at places of nodes, and the nodes are within the limit
 pub record IsRowOf (nodes : List ℕ) (row : List ℕ) : Type 0 where
   pub few : length nodes ≤ most_nodes
   pub within : (p : ℕ) → HasBit row p → p < length nodes
 
--- a row for each node, with bits of nodes alone; a link is in both rows, and no node is linked to itself
+-- nodes and rows keep a graph. There is a row for each node, with bits only at places of nodes. A link is in the rows
+-- of both its nodes, and no node is linked to itself
 pub record IsKept (nodes : List ℕ) (rows : List (List ℕ)) : Type 0 where
   pub few : length nodes ≤ most_nodes
   pub ascend : Ascends nodes
@@ -39,14 +41,14 @@ pub record IsKept (nodes : List ℕ) (rows : List (List ℕ)) : Type 0 where
   pub both : (p q : ℕ) → HasBit (row_at rows p) q → HasBit (row_at rows q) p
   pub apart : (p : ℕ) → ¬ HasBit (row_at rows p) p
 
--- the rows have the bits of these links, and no others
+-- there is a row for each node, with the bits of these links and no others
 pub record IsMarked (nodes : List ℕ) (links : List (ℕ × ℕ)) (rows : List (List ℕ)) : Type 0 where
   pub each : length rows ≡ length nodes
   pub bits : (p q : ℕ) → HasBit (row_at rows p) q
       ↔ ((p < length nodes) × (q < length nodes)
       × Linked (record { nodes = nodes; links = links }) (slice_index nodes p) (slice_index nodes q))
 
--- the links from the node at place p to places from q on, and then those of the nodes after it
+-- the links from the node at place p to nodes from place q on, and then the links from the nodes after p
 unfoldable pub links_from : List ℕ → List (List ℕ) → ℕ → ℕ → List (ℕ × ℕ)
 links_from nodes rows p q =
     map (λ y. (slice_index nodes p, y)) (picked (row_at rows p) q (drop q nodes))

@@ -1,14 +1,14 @@
--- What private contracts say of rows and words of bits: a bit that is put into a row or taken out of it, and the first
--- set bit of a word.
+-- Rows and words of bits in private contracts: a bit inserted into a row or removed from it, and the first set bit of a
+-- word.
 use Rattle.std.specs.Prelude.{◌≡◌, ◌⊎◌, ℕ, ◌+◌, ◌-◌, ◌<◌, ◌≤◌, List}
 use Rattle.std.specs.Int.{bit_at}
 use Rattle.ov_graph.specs.Row.{HasBit}
 
--- bit q of a row into which a bit 0 is put at place p: the bits from p on move one place up
+-- bit q is set after a bit 0 is inserted at place p: the bits from p on move one place up
 abbrev pub HasOpened : List ℕ → ℕ → ℕ → Type 0
 HasOpened row p q = ((q < p) × HasBit row q) ⊎ ((p < q) × HasBit row (q - 1))
 
--- bit q of a row out of which the bit at place p is taken: the bits after p move one place down
+-- bit q is set after the bit at place p is removed: the bits after p move one place down
 abbrev pub HasClosed : List ℕ → ℕ → ℕ → Type 0
 HasClosed row p q = ((q < p) × HasBit row q) ⊎ ((p ≤ q) × HasBit row (q + 1))
 

@@ -80,7 +80,7 @@ input_out : (w : Net) (a : ℕ) (p : PeerState) (i : Input) (words : List ℕ) (
     (delivery : Option Delivery)
     → LivesAs w a p → TakesInput w a p i words u changes delivery → WorldOutcome w u changes
 input_out w a p i words u changes delivery at h =
-    moved a p h.0 h.2 at (peer_tracked p i h.3.1.0 h.0 h.1 h.2 delivery h.3.1.2)
+    moved a p h.0 h.2 at (peer_tracked p i h.3.2.0 h.0 h.1 h.2 delivery h.3.2.2)
     (put_in w.nodes u.nodes a (member.Live h.0) (ap (λ (v : Net). v.nodes) h.4)) h.5
 
 rests_out : (w : Net) (packets : List (ℕ × Message)) (u : Net) (changes : List Change) (delivery : Option Delivery)
@@ -100,8 +100,8 @@ pub outcome : (w : Net) (event : Event) (words : List ℕ) (u : Net) (changes : 
     → Happens w event words u changes delivery → WorldOutcome w u changes
 outcome w (Boot a contact) words u changes delivery h =
     let m = h.2 in
-    born a w.params m.0 m.2 h.0 (peer_tracked (newborn a w.params) (input.Boot contact) m.3.1.0 m.0 m.1 m.2 delivery
-    m.3.1.2)
+    born a w.params m.0 m.2 h.0 (peer_tracked (newborn a w.params) (input.Boot contact) m.3.2.0 m.0 m.1 m.2 delivery
+    m.3.2.2)
     (put_in w.nodes u.nodes a (member.Live m.0) (ap (λ (v : Net). v.nodes) m.4)) (h.3 ∙ ap (λ t. Born a ∷ t) m.5)
 outcome w (Deliver i) words u changes delivery h =
     received_out (record w { packets = remove w.packets i }) h.0.0 h.0.1 (map.get w.nodes h.0.0) words u changes

@@ -1,6 +1,6 @@
 -- A step of a node keeps its ids, and its active view changes as the step's changes say.
-use Rattle.std.proofs.Common.{◌≡◌, ℕ, List, [], ◌∷◌, length, Option, None, Some, not, ◌||◌, eqb, sym, ap, ◌∙◌, arith}
-use Rattle.std.specs.Prelude.{MatchOption}
+use Rattle.std.proofs.Common.{◌≡◌, ℕ, List, length, Option, not, ◌||◌, eqb, sym, ap, subst, ◌∙◌}
+use Rattle.std.proofs.Common.{arith}
 use Rattle.std.specs.FinMap as map
 use Rattle.ov_ids.specs.declared.id.MsgId.{MsgId}
 use Rattle.ov_ids.proofs.Cases.{either_way}
@@ -14,7 +14,8 @@ use Rattle.ov_views.specs.Allowed.{Node, DoesNothing, boots, receives as hears, 
 use Rattle.ov_views.specs.Changes.{after_changes}
 use Rattle.ov_views.specs.declared.change.ViewChange.{ViewChange}
 use Rattle.ov_views.proofs.Tracking.{Tracks, tracked}
-use Rattle.ov_plum.specs.PlumRows.{AllowedFrom, Delivered, Fires}
+use Rattle.ov_plum.specs.Notes.{oldest}
+use Rattle.ov_plum.specs.PlumRows.{AllowedFrom, AllowedTimer, Delivered}
 use Rattle.ov_plum.specs.PlumState.{PlumState, is_linked}
 use Rattle.ov_peer.specs.Step.{NodePart, TreePart, PeerStep}
 use Rattle.ov_peer.specs.PeerState.{PeerState}
@@ -22,6 +23,7 @@ use Rattle.ov_peer.specs.declared.input.Delivery.{Delivery}
 use Rattle.ov_peer.specs.declared.input.Input.{Input}
 use Rattle.ov_peer.specs.declared.input.Input.TheVariants as input
 use Rattle.ov_peer.proofs.Steps.{told_me}
+use Rattle.ov_net.proofs.Steps.Places.{some_way}
 
 -- where nothing changes, the step has no changes
 views_rest : (n : Node) (choices : List Choice) (m : Node) (changes : List ViewChange) → DoesNothing n choices m changes
@@ -64,15 +66,11 @@ heard_me t s (Shuffle origin ttl ids) u sends delivery h = ap (λ (r : PlumState
 heard_me t s (ShuffleReply ids) u sends delivery h = ap (λ (r : PlumState). r.me) h.0
 
 -- nor does a timer
-fired_me : (t : PlumState) (id : MsgId) (notes : List ℕ) (u : PlumState) (sends : List (ℕ × Message))
-    → Fires t id notes u sends → u.me ≡ t.me
-fired_me t id [] u sends h = ap (λ (r : PlumState). r.me) h.0
-fired_me t id (s ∷ notes) u sends h = ap (λ (r : PlumState). r.me) h.0
-
-timed_me : (t : PlumState) (id : MsgId) (running : Option (List ℕ)) (u : PlumState) (sends : List (ℕ × Message))
-    → MatchOption running ⊥ (λ (notes : List ℕ). Fires t id notes u sends) → u.me ≡ t.me
-timed_me t id None u sends h = absurd h
-timed_me t id (Some notes) u sends h = fired_me t id notes u sends h
+timed_me : (t : PlumState) (id : MsgId) (u : PlumState) (sends : List (ℕ × Message)) (delivery : Option Delivered)
+    → AllowedTimer t id u sends delivery → u.me ≡ t.me
+timed_me t id u sends delivery h =
+    some_way (oldest id t.notes) _ _ _ (λ k. ap (λ (r : PlumState). r.me) k.0) (λ s k. ap (λ (r : PlumState). r.me) k.0)
+    h.2
 
 -- nor does any step of Plumtree's part
 tree_stays : (t : PlumState) (i : Input) (u : PlumState) (spread : List (ℕ × Message)) (delivered : Option Delivered)
@@ -84,7 +82,7 @@ tree_stays t (input.Receive message) u spread delivered h =
 tree_stays t (input.Report p) u spread delivered h = ap (λ (s : PlumState). s.me) h.0
 tree_stays t input.Shuffle u spread delivered h = ap (λ (s : PlumState). s.me) h.0
 tree_stays t (input.Broadcast payload) u spread delivered h = ap (λ (s : PlumState). s.me) h.0
-tree_stays t (input.Timer id) u spread delivered h = timed_me t id (map.get t.timers id) u spread h.1
+tree_stays t (input.Timer id) u spread delivered h = timed_me t id u spread delivered h
 
 -- after a step a node has the ids that it had, and its active view is the old one after the step's changes
 pub record PeerTracks (p : PeerState) (told : List ViewChange) (q : PeerState) : Type 0 where
@@ -96,6 +94,11 @@ pub peer_tracked : (p : PeerState) (i : Input) (choices : List Choice) (q : Peer
     (told : List ViewChange) (delivery : Option Delivery)
     → PeerStep p i choices q sends told delivery → PeerTracks p told q
 peer_tracked p i choices q sends told delivery h = record {
-  views = views_tracked p.node i choices q.node told h.0 h.4;
-  tree = told_me h.1 told q.tree h.6 ∙ tree_stays p.tree i h.1 h.2 h.3 h.5;
+  views =
+      let m = h.between.node in
+      subst (λ (n : Node). Tracks p.node.views told n.views) (sym h.told.node)
+      (views_tracked p.node i choices m told h.parts.node_sends h.parts.node);
+  tree =
+      told_me h.between.tree told q.tree h.told.told
+      ∙ tree_stays p.tree i h.between.tree h.parts.tree_sends h.parts.delivered h.parts.tree;
 }

@@ -16,15 +16,16 @@ use Rattle.ov_words.specs.Pick.{Choice}
 use Rattle.ov_views.specs.declared.change.ViewChange.{ViewChange}
 use Rattle.ov_views.specs.declared.change.ViewChange.TheVariants.{Up, Down}
 use Rattle.ov_plum.specs.Ids.{id_cmp}
+use Rattle.ov_plum.specs.Notes.{oldest}
 use Rattle.ov_plum.specs.PlumState.{PlumState, HeldState, BranchesState, is_linked}
-use Rattle.ov_plum.specs.PlumRows.{AllowedFrom, AllowedGossip, Delivered, Fires, passed_on, spread, gossip}
+use Rattle.ov_plum.specs.PlumRows.{AllowedFrom, AllowedGossip, AllowedTimer, Delivered, passed_on, spread, gossip}
 use Rattle.ov_plum.proofs.Maps.{id_cmp_total, id_cmp_same}
 use Rattle.ov_peer.specs.Step.{TreePart, Told, PeerStep, delivery_at}
 use Rattle.ov_peer.specs.PeerState.{PeerState}
 use Rattle.ov_peer.specs.declared.input.Delivery.{Delivery}
 use Rattle.ov_peer.specs.declared.input.Input.{Input}
 use Rattle.ov_peer.specs.declared.input.Input.TheVariants as input
-use Rattle.ov_net.proofs.Steps.Places.{inserted_here, inserted_stays, inserted_cases}
+use Rattle.ov_net.proofs.Steps.Places.{some_way, inserted_here, inserted_stays, inserted_cases}
 use Rattle.ov_net.proofs.Messages.Quiet.{AllCarry, no_sends, one_send, carry_append, carry_each, heard_quiet}
 
 -- the messages that a tree stores
@@ -158,15 +159,14 @@ received t m s Disconnect u sends delivered is h = quiet t _ u sends delivered h
 received t m s (Shuffle origin ttl ids) u sends delivered is h = quiet t _ u sends delivered h.0 h.1
 received t m s (ShuffleReply ids) u sends delivered is h = quiet t _ u sends delivered h.0 h.1
 
-fired : (t : PlumState) (i : Input) (id : MsgId) (notes : List ℕ) (u : PlumState) (sends : List (ℕ × Message))
-    (delivered : Option Delivered) → delivered ≡ None → Fires t id notes u sends
-    → Spreads t i u.held u.made sends delivered
-fired t i id [] u sends delivered none h =
-    rests t i u sends delivered (ap (λ (r : PlumState). r.held) h.0) (ap (λ (r : PlumState). r.made) h.0) none
-    (no_sends _ sends h.1)
-fired t i id (s ∷ notes) u sends delivered none h =
-    rests t i u sends delivered (ap (λ (r : PlumState). r.held) h.0) (ap (λ (r : PlumState). r.made) h.0) none
-    (one_send _ sends _ tt h.1)
+fired : (t : PlumState) (id : MsgId) (u : PlumState) (sends : List (ℕ × Message)) (delivered : Option Delivered)
+    → AllowedTimer t id u sends delivered → Spreads t (input.Timer id) u.held u.made sends delivered
+fired t id u sends delivered h =
+    some_way (oldest id t.notes) _ _ _
+    (λ k. rests t _ u sends delivered (ap (λ (r : PlumState). r.held) k.0) (ap (λ (r : PlumState). r.made) k.0) h.1
+    (no_sends _ sends k.1))
+    (λ s k. rests t _ u sends delivered (ap (λ (r : PlumState). r.held) k.0) (ap (λ (r : PlumState). r.made) k.0) h.1
+    (one_send _ sends _ tt k.1)) h.2
 
 tree_spreads : (t : PlumState) (i : Input) (u : PlumState) (sends : List (ℕ × Message)) (delivered : Option Delivered)
     → TreePart t i u sends delivered → Spreads t i u.held u.made sends delivered
@@ -181,12 +181,7 @@ tree_spreads t (input.Broadcast payload) u sends delivered h =
     takes_in t _ u sends delivered t.me (record { origin = t.me; seq = t.made })
     (record { round = 0; payload = payload }) t.branches
     (ap (λ (r : PlumState). r.held) h.0) (omega (arith, made)) h.1 h.2 (refl, refl, refl, omega (arith, made))
-tree_spreads t (input.Timer id) u sends delivered h = by (map.get t.timers id) h.1
-  where
-    by : (notes : Option (List ℕ)) → MatchOption notes ⊥ (λ (xs : List ℕ). Fires t id xs u sends)
-        → Spreads t (input.Timer id) u.held u.made sends delivered
-    by None k = absurd k
-    by (Some notes) k = fired t _ id notes u sends delivered h.0 k
+tree_spreads t (input.Timer id) u sends delivered h = fired t id u sends delivered h
 
 -- changes of the neighbours do not change what is stored
 told_same : (t : PlumState) (changes : List ViewChange) (u : PlumState) → Told t changes u
@@ -196,7 +191,8 @@ told_same t (Up x ∷ changes) u h =
     let later = told_same h.0 changes u h.2 in
     (ap (λ (r : PlumState). r.held) (sym h.1.0) ∙ later.0, ap (λ (r : PlumState). r.made) (sym h.1.0) ∙ later.1)
 told_same t (Down x ∷ changes) u h =
-    let later = told_same h.0 changes u h.2 in (sym h.1.0.2 ∙ later.0, sym h.1.0.3 ∙ later.1)
+    let later = told_same h.0 changes u h.2 in
+    (ap (λ (r : PlumState). r.held) (sym h.1.0) ∙ later.0, ap (λ (r : PlumState). r.made) (sym h.1.0) ∙ later.1)
 
 -- a step of the tree, which is then told of changes of the active view
 told_spreads : (t : PlumState) (i : Input) (middle : PlumState) (changes : List ViewChange) (u : PlumState)
@@ -215,16 +211,19 @@ pub peer_spreads : (p : PeerState) (i : Input) (cs : List Choice) (q : PeerState
     → (delivered : Option Delivered) × Spreads p.tree i q.tree.held q.tree.made sends delivered
     × (delivery ≡ delivery_at p.node.views.me delivered)
 peer_spreads p i cs q sends changes delivery h =
-    let s = told_spreads p.tree i h.1 changes q.tree h.2 h.3 (tree_spreads p.tree i h.1 h.2 h.3 h.5) h.6 in
-    let all = carry_append (Holds q.tree.held) h.0 h.2
-    (heard_quiet (Holds q.tree.held) p.node i cs q.node changes h.0 h.4) s.carried in (
-      h.3,
+    let parts = h.parts in
+    let middle = h.between.tree in
+    let spread = tree_spreads p.tree i middle parts.tree_sends parts.delivered parts.tree in
+    let s = told_spreads p.tree i middle changes q.tree parts.tree_sends parts.delivered spread h.told.told in
+    let quiet = heard_quiet (Holds q.tree.held) p.node i cs h.between.node changes parts.node_sends parts.node in
+    let all = carry_append (Holds q.tree.held) parts.node_sends parts.tree_sends quiet s.carried in (
+      parts.delivered,
       record {
         grows = s.grows;
         stays = s.stays;
         known = s.known;
-        carried = subst (AllCarry (Holds q.tree.held)) (sym h.7) all;
+        carried = subst (AllCarry (Holds q.tree.held)) (sym parts.sends_both) all;
         came = s.came;
       },
-      h.8,
+      parts.delivers,
     )

@@ -224,7 +224,7 @@ moves : (w : Net) (packets : List (ℕ × Message)) (a : ℕ) (p : PeerState) (i
     → HaveOwnIds w → LivesAs w a p → AreLeft w packets → IsInputOf w e.event a i
     → TakesInput (record w { packets = packets }) a p i words u changes e.delivery → Passes w u e
 moves w packets a p i words u changes e own lives left of_event h =
-    let s = peer_spreads p i h.3.1.0 h.0 h.1 h.2 e.delivery h.3.1.2 in
+    let s = peer_spreads p i h.3.2.0 h.0 h.1 h.2 e.delivery h.3.2.2 in
     subst (λ v. Passes w v e) (sym h.4)
     (moved w packets a p i h.0 h.1 s.0 e (own a p lives) lives left of_event s.1 s.2)
 
@@ -273,7 +273,7 @@ pub passed : (w : Net) (event : Event) (words : List ℕ) (u : Net) (e : Entry) 
 passed w (Boot a contact) words u e own h =
     let m = h.2.2 in
     let p = newborn a w.params in
-    let s = peer_spreads p (input.Boot contact) m.3.1.0 m.0 m.1 m.2 e.delivery m.3.1.2 in
+    let s = peer_spreads p (input.Boot contact) m.3.2.0 m.0 m.1 m.2 e.delivery m.3.2.2 in
     subst (λ v. Passes w v e) (sym m.4) (booted w a p contact m.0 m.1 s.0 e h.2.0 (λ id. map.get-empty _ id) s.1 s.2)
 passed w (Deliver i) words u e own h = reaches w i h.2.0 words u e.changes e own (has_at w.packets i h.2.0 h.2.1) h.2.2
 passed w (Lose i) words u e own h = only_packets w (remove w.packets i) u e.changes e (has_remove w.packets i) h.2.2

@@ -8,15 +8,13 @@ use Rattle.ov_ids.specs.FaultOrder.{Step, Passed}
 use Rattle.ov_ids.proofs.Stepping.{step_none}
 use Rattle.ov_wire.specs.Messages.{most_payload}
 use Rattle.ov_wire.specs.declared.message.Message.{Message}
-use Rattle.ov_words.specs.Pick.{Drawn}
 use Rattle.ov_views.specs.declared.change.ViewChange.{ViewChange}
-use Rattle.ov_peer.specs.Planning.{Follows}
-use Rattle.ov_peer.specs.Step.{PeerStep}
+use Rattle.ov_peer.specs.Planning.{Follows, IsPlanFor}
 use Rattle.ov_peer.specs.PeerState.{PeerState, newborn}
 use Rattle.ov_peer.specs.declared.input.Input.{Input}
 use Rattle.ov_peer.specs.declared.input.Input.TheVariants as input
-use Rattle.ov_peer.specs.declared.plan.Plan.{Plan}
-use Rattle.ov_net.specs.Code.Effects.{AreEffectsOfPlan, AreEffectsOfBirth, PlansInput, AreEffects, HaveRoom, SendFew}
+use Rattle.ov_peer.proofs.Following.{drawn_step}
+use Rattle.ov_net.specs.Code.Effects.{AreEffectsOfPlan, AreEffectsOfBirth, AreEffects, HaveRoom, SendFew}
 use Rattle.ov_net.specs.Code.Effects.{IsAfter, IsWithin, NamedCanChange, NamedNodeChanges, taking, packets_after}
 use Rattle.ov_net.specs.Limits.{most_world_nodes, most_packets, most_entries}
 use Rattle.ov_net.specs.Net.{Net, LivesAs, IsGone}
@@ -36,13 +34,6 @@ use Rattle.ov_net.specs.declared.fault.NetFault.TheVariants.{NoSuchPacket, BagFu
 use Rattle.ov_net.specs.declared.fault.NetFault.TheVariants.{TooManyMessages, PayloadTooLong}
 use Rattle.ov_net.specs.declared.member.Member.{Member}
 use Rattle.ov_net.specs.declared.member.Member.TheVariants.{Live, Gone}
-
--- a plan whose choices are drawn from the words, of which at least 24 are left
-pub plans_input : (p : PeerState) (i : Input) (words : List ℕ) (g : Plan)
-    → ((q : PeerState) → Follows p g q → (left : List ℕ) × (24 ≤ length left)
-    × Drawn words left (λ choices. PeerStep p i choices q g.sends.items g.changes.items g.delivered))
-    → PlansInput p i words g
-plans_input p i words g steps q follows = let s = steps q follows in (s.0, s.2)
 
 -- the effects of a node that is born and took its first input
 pub born_by : (a : ℕ) (p : PeerState) (i : Input) (words : List ℕ) (q : PeerState) (sends : List (ℕ × Message))
@@ -88,8 +79,8 @@ takes_input w u a p i words b taken lives h after =
     let follows : Follows p h.plan t.1 = subst (λ (x : PeerState). Follows x h.plan t.1) same t.3 in
     let sends = h.plan.sends.items in
     let packets = packets_as w u b taken h.place after ∙ ap (λ v. taking taken w.packets ++ v) h.packets in
-    let step = subst (λ d. DrawnStep p i words t.1 sends h.plan.changes.items d) (sym h.delivery) (h.steps t.1 follows)
-    in (
+    let step = subst (λ d. DrawnStep p i words t.1 sends h.plan.changes.items d) (sym h.delivery)
+    (drawn_step words p t.1 i h.plan h.planned follows) in (
       t.1,
       sends,
       h.plan.changes.items,
@@ -100,7 +91,10 @@ takes_input w u a p i words b taken lives h after =
 
 fits_input : (w : Net) (a : ℕ) (p : PeerState) (i : Input) (words : List ℕ) (b : Effects) (taken : Option ℕ)
     → LivesAs w a p → AreEffectsOfPlan a taken p i words b → NamedCanChange b.node w.nodes
-fits_input w a p i words b taken lives h = subst (λ n. NamedCanChange n w.nodes) (sym h.node) (p, lives, h.fits)
+fits_input w a p i words b taken lives h =
+    let drawn = h.planned.2 in
+    let fits : IsPlanFor p h.plan = record { input = i; choices = drawn.0; planned = drawn.2 } in
+    subst (λ n. NamedCanChange n w.nodes) (sym h.node) (p, lives, fits)
 
 -- an event by which a live node takes an input
 pub live_effects : (w : Net) (event : Event) (a : ℕ) (p : PeerState) (i : Input) (words : List ℕ) (b : Effects)

@@ -1,7 +1,7 @@
 -- Lists and maps with one item more or less.
 use Rattle.std.proofs.Common.{◌≡◌, ◌≢◌, ℕ, zero, suc, Bool, true, false, cond, List, [], ◌∷◌, ◌++◌, length, take, drop}
 use Rattle.std.proofs.Common.{None, Some, ◌⊎◌, inl, inr, refl, sym, ap, subst, ◌∙◌}
-use Rattle.std.specs.Prelude.{slice_get, remove}
+use Rattle.std.specs.Prelude.{slice_get, remove, Option, MatchOption}
 use Rattle.std.specs.declared.cmp.Ordering.{Ordering}
 use Rattle.std.specs.declared.cmp.Ordering.TheVariants.{Less, Equal, Greater}
 use Rattle.std.specs.Ordering.{eq_by_cmp, is_eq}
@@ -11,6 +11,12 @@ use Rattle.std.proofs.lemmas.Cmp.{eq_by_cmp_equiv}
 use Rattle.std.proofs.lemmas.Option.{none-some, same_Some}
 use Rattle.ov_ids.specs.Members.{Has}
 use Rattle.ov_ids.proofs.Members.{has_append_cases}
+
+-- what follows where there is nothing and also where there is something
+pub some_way : {X : Type 0} (o : Option X) (P : Type 0) (Q : X → Type 0) (R : Type 0) → (P → R) → ((x : X) → Q x → R)
+    → MatchOption o P Q → R
+some_way None P Q R f g h = f h
+some_way (Some x) P Q R f g h = g x h
 
 module _ {X : Type 0} where
   -- what is at a place of a list is there in a longer list

@@ -2,7 +2,7 @@
 use Rattle.std.proofs.Common.{◌≡◌, inl, inr, ℕ, Option, None, Some, ap}
 use Rattle.ov_peer.specs.PeerState.{PeerState}
 use Rattle.ov_net.specs.Net.{Net, LivesAs}
-use Rattle.ov_net.specs.Code.Judging.{IsAbsent}
+use Rattle.ov_net.specs.Code.Refusals.{IsAbsent}
 use Rattle.ov_net.specs.Refusals.{LiveThen}
 use Rattle.ov_net.specs.declared.fault.NetFault.{NetFault}
 use Rattle.ov_net.specs.declared.member.Member.{Member}

@@ -4,7 +4,8 @@ use Rattle.std.specs.Ordering.{nat_cmp}
 use Rattle.std.specs.FinMap as map
 use Rattle.ov_wire.specs.declared.message.Message.{Message}
 use Rattle.ov_views.specs.declared.change.ViewChange.{ViewChange}
-use Rattle.ov_peer.specs.Planning.{Follows, IsPlanFor}
+use Rattle.ov_peer.specs.Limits.{DrawnFrom}
+use Rattle.ov_peer.specs.Planning.{Follows, Plans, IsPlanFor}
 use Rattle.ov_peer.specs.PeerState.{PeerState}
 use Rattle.ov_peer.specs.declared.input.Input.{Input}
 use Rattle.ov_peer.specs.declared.plan.Plan.{Plan}
@@ -76,19 +77,16 @@ pub record IsAfter (w : Net) (b : Effects) (u : Net) : Type 0 where
   pub nodes : NamedNodeChanges b.node w.nodes u.nodes
   pub packets : u.packets ≡ packets_after w b
 
--- whoever follows the plan g from the state p takes the input, with random choices drawn from the words. It sends,
--- changes its active view and delivers as the plan says
+-- the plan g is that of a step of a node in the state p, which takes the input with random choices drawn from the words
 abbrev pub PlansInput : PeerState → Input → List ℕ → Plan → Type 0
-PlansInput p i words g =
-    (q : PeerState) → Follows p g q → DrawnStep p i words q g.sends.items g.changes.items g.delivered
+PlansInput p i words g = DrawnFrom words (λ choices. Plans p i choices g)
 
 -- node a, whose state is p, takes an input by a plan; the effects are those of the plan. The packet at the named
 -- place, if there is one, is taken out
 pub record AreEffectsOfPlan (a : ℕ) (taken : Option ℕ) (p : PeerState) (i : Input) (words : List ℕ) (b : Effects)
     : Type 0 where
   pub plan : Plan
-  pub fits : IsPlanFor p plan
-  pub steps : PlansInput p i words plan
+  pub planned : PlansInput p i words plan
   pub node : b.node ≡ Some (a, change.Follows plan)
   pub place : b.taken ≡ taken
   pub packets : b.packets.items ≡ plan.sends.items

@@ -35,7 +35,7 @@ analysed bytes text group certificate g q says members prints =
       prints = subst (λ r. PrintsAnswer g r certificate text) members prints;
     }
 
--- what the lent bytes come to is what those that were read come to, and so is the text that was lent to the writer
+-- the answer for the bytes that were lent, as the text that was lent, is that for the bytes that were read
 lent :
     (bytes read text sent : List ℕ) (group : Option (List ℕ)) (certificate : Bool) → read ≡ bytes → sent ≡ text
     → IsAnalysis read group certificate text

@@ -4,6 +4,7 @@ use Rattle.std.proofs.Common.{subst, append_assoc, append-nil}
 use Rattle.ov_graph.specs.Faults.{IsRefusal}
 use Rattle.ov_graph.specs.declared.fault.GraphFault.{GraphFault}
 use Rattle.ov_graph.specs.declared.fault.GraphFault.TheVariants as graph_fault
+use Rattle.ov_graph.proofs.EvenTest.Tested.{judged_refusal}
 use Rattle.ov_run.specs.Faults.{fault_of_graph}
 use Rattle.ov_run.specs.GraphFiles.{graph_line, graph_line_at, graph_lines, node_said, link_said, nodes_said}
 use Rattle.ov_run.specs.GraphFiles.{links_said, first_unread, IsGraphFileFault}
@@ -102,9 +103,12 @@ by_kind :
     (bytes : List ℕ) (why : GraphFault) → first_unread (graph_lines bytes) ≡ None
     → IsRefusal (nodes_said (graph_lines bytes)) (links_said (graph_lines bytes)) why
     → IsGraphFileFault bytes (fault_of_graph why) ⊎ (fault_of_graph why ≡ fault.OutOfMemory)
-by_kind bytes graph_fault.TooManyNodes every refused = inl (every, refused)
-by_kind bytes graph_fault.Unordered every refused = inl (every, refused)
-by_kind bytes graph_fault.BadLink every refused = inl (every, refused)
+by_kind bytes graph_fault.TooManyNodes every refused =
+    inl (every, judged_refusal (nodes_said (graph_lines bytes)) (links_said (graph_lines bytes)) _ (λ e. cc) refused)
+by_kind bytes graph_fault.Unordered every refused =
+    inl (every, judged_refusal (nodes_said (graph_lines bytes)) (links_said (graph_lines bytes)) _ (λ e. cc) refused)
+by_kind bytes graph_fault.BadLink every refused =
+    inl (every, judged_refusal (nodes_said (graph_lines bytes)) (links_said (graph_lines bytes)) _ (λ e. cc) refused)
 by_kind bytes graph_fault.OutOfMemory every refused = inr refl
 
 pub graph_refused :

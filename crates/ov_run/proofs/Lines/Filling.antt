@@ -3,7 +3,8 @@ use Rattle.std.proofs.Common.{◌≡◌, ◌∙◌, ◌==◌, ◌+◌, ◌-◌, 
 use Rattle.std.proofs.Common.{List, [], ◌∷◌, ◌++◌, length, drop, set, replicate, Option, Some, None, if◌then◌else◌}
 use Rattle.std.proofs.Common.{refl, ap, sym, subst, arith, append_assoc, append-nil, length-append}
 use Rattle.std.proofs.lemmas.Bool.Decides.{nat_tests}
-use Rattle.ov_run.specs.Lines.{◌>>=◌, number_within, each_number}
+use Rattle.ov_ids.specs.Options.{◌>>=◌}
+use Rattle.ov_run.specs.Lines.{number_within, each_number}
 use Rattle.ov_run.specs.Statements.{with_zeros, event_words}
 use Rattle.ov_run.specs.Code.Spaced.{first_number}
 use Rattle.ov_run.proofs.Lines.Parted.{not_empty}

@@ -1,6 +1,7 @@
 -- Numbers, one after the other, by what stands first and what is left.
 use Rattle.std.proofs.Common.{◌≡◌, ◌==◌, ℕ, List, [], ◌∷◌, length, drop, Some, None, if◌then◌else◌, refl, ap, sym}
-use Rattle.ov_run.specs.Lines.{◌>>=◌, number_within, one, two, three, ids_of, one_list}
+use Rattle.ov_ids.specs.Options.{◌>>=◌}
+use Rattle.ov_run.specs.Lines.{number_within, one, two, three, ids_of, one_list}
 use Rattle.ov_run.specs.Code.Spaced.{first_number, first_list}
 use Rattle.ov_run.proofs.Lines.Parted.{not_empty}
 

@@ -2,7 +2,8 @@
 use Rattle.std.proofs.Common.{◌≡◌, ◌∙◌, ◌<◌, ℕ, Bool, true, false, cond, List, [], ◌∷◌, ◌++◌, length, Option}
 use Rattle.std.proofs.Common.{Some, None, refl, ap, sym, subst, arith, append_assoc, append-nil}
 use Rattle.std.specs.List.{slice_split, onto_first}
-use Rattle.ov_run.specs.Lines.{◌>>=◌, number_within, each_number, is_comma, ids_of}
+use Rattle.ov_ids.specs.Options.{◌>>=◌}
+use Rattle.ov_run.specs.Lines.{number_within, each_number, is_comma, ids_of}
 
 -- the pieces spell these ids and then what the pieces that are left spell
 abbrev pub Spells : List (List ℕ) → List (List ℕ) → List ℕ → Type 0

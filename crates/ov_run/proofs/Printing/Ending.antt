@@ -86,8 +86,8 @@ prefix_went a b c text own first (prefix, rest, appends, is) = (
 
 -- where a call wrote this text whole, it wrote a text of its kind
 pub wrote :
-    {T E : Type 0} (IsText : List ℕ → Type 0) (a b : Option (List ℕ)) (text : List ℕ) (result : Result T E) → IsText text
-    → OnOk result (Appends a b text) → OnOk result (Writes IsText a b)
+    {T E : Type 0} (IsText : List ℕ → Type 0) (a b : Option (List ℕ)) (text : List ℕ) (result : Result T E)
+    → IsText text → OnOk result (Appends a b text) → OnOk result (Writes IsText a b)
 wrote IsText a b text (Ok u) is appends = (text, is, appends)
 wrote IsText a b text (Err e) is appends = tt
 

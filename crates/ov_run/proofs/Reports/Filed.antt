@@ -10,7 +10,7 @@ use Rattle.ov_graph.specs.Links.{LinkGraph, IsGroup}
 use Rattle.ov_cert.specs.Valid.{IsValidForGroup}
 use Rattle.ov_cert.specs.declared.cert.Cert.{Cert}
 use Rattle.ov_cert.specs.declared.cert.Cert.TheVariants.{Linked as AllLinked, Split as SplitBy}
-use Rattle.ov_even.proofs.Assembling.{whole_group}
+use Rattle.ov_even.proofs.AnalysisSteps.Assembling.{whole_group}
 use Rattle.ov_net.specs.Journal.{AreLinks, Live}
 use Rattle.ov_net.proofs.Links.OneGraph.{links_one}
 use Rattle.ov_snap.specs.CoreState.{CoreState, HasReport, IsSound}
@@ -104,7 +104,7 @@ pub filed_refused : (b : CoreState) (s : Subject) (r : ReportState) → IsReport
     → IsRefusedBy OutOfMemory (AnalysisJudged b s) AlreadyFiled
 filed_refused b s r filed exact = inl (filed_before b s r filed exact)
 
--- ---- what an analysis brings may be filed
+-- ---- the result of an analysis may be filed
 
 judged_parts : (b : CoreState) (s : Subject) → AnalysisJudged b s None → IsMoment b.world.journal s.moment × IsFree b s
 judged_parts b s judged =

@@ -7,10 +7,10 @@ use Rattle.ov_snap.specs.ReportState.{ReportState, IsSo}
 use Rattle.ov_snap.specs.Filing.{WasFiled}
 use Rattle.ov_snap.specs.Refusals.{number_of}
 use Rattle.ov_snap.specs.Run.{TakesAll}
-use Rattle.ov_snap.specs.declared.core_run.CoreStep.{CoreStep}
-use Rattle.ov_snap.specs.declared.core_run.CoreStep.TheVariants.{Net, File}
+use Rattle.ov_snap.specs.declared.core_steps.CoreStep.{CoreStep}
+use Rattle.ov_snap.specs.declared.core_steps.CoreStep.TheVariants.{Net, File}
 use Rattle.ov_snap.proofs.Running.{every_report_is_so, run_more}
-use Rattle.ov_run.specs.Laws.{EveryPrintedReportIsSo, IsMade, IsSoOf, Refuses}
+use Rattle.ov_run.specs.Theorems.{EveryPrintedReportIsSo, IsMade, IsSoOf, Refuses}
 use Rattle.ov_run.specs.Printed.{report_line, file_text}
 use Rattle.ov_run.specs.Running.{PrintsCertificate, PrintsLine, PrintsLines, PrintsReportLine}
 use Rattle.ov_run.specs.declared.scenario.Line.{Line}

@@ -6,14 +6,14 @@ use Rattle.ov_net.specs.declared.event.Event.{Event}
 use Rattle.ov_words.specs.Stream.{AreOutputs}
 use Rattle.ov_run.specs.Draws.{AreDraws}
 use Rattle.ov_run.specs.Scenarios.{AskFor}
-use Rattle.ov_run.specs.Code.Collecting.{stream_now, waiting, Collects}
+use Rattle.ov_run.specs.Code.RunnableLines.{stream_now, waiting, Collects}
 use Rattle.ov_run.specs.declared.scenario.Line.{Line}
 use Rattle.ov_run.specs.declared.scenario.Line.TheVariants as line
 use Rattle.ov_run.specs.declared.scenario.Look.{Look}
 use Rattle.ov_run.specs.declared.scenario.Subject.{Subject}
 use Rattle.ov_run.specs.declared.statement.Statement.{Statement}
 use Rattle.ov_run.specs.declared.statement.Statement.TheVariants as says
-use Rattle.ov_run.specs.declared.collecting.Collector.{Collector}
+use Rattle.ov_run.specs.declared.runnable_lines.Collector.{Collector}
 
 -- ---- one line more
 

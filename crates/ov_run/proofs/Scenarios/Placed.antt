@@ -1,4 +1,4 @@
--- The lines of a file at their places, and the laws of what a file says.
+-- The lines of a file at their places, and the theorems of what a file says.
 use Rattle.std.proofs.Common.{◌≡◌, ◌∙◌, inl, inr, ◌<◌, ℕ, List, [], ◌∷◌, ◌++◌, length, take, drop, map, Option, Some}
 use Rattle.std.proofs.Common.{None, refl, ap, sym, subst, arith}
 use Rattle.std.proofs.Math.Seq.{take-append_seam, drop-append_seam}
@@ -54,7 +54,7 @@ abbrev said_first : List Stated → Option Statement
 said_first [] = None
 said_first (line ∷ more) = line.says
 
--- ---- laws of what is said
+-- ---- theorems of what is said
 
 -- a line has one fault
 one_fault_of :

@@ -1,5 +1,6 @@
--- How paths are held while more are sought: a table that says from where a path comes to each node, and the steps by
--- which one path more may be found (Even, SIAM J. Comput. 4, 1975; each node stands for its two halves).
+-- Paths that are held while one more is sought (Even, SIAM J. Comput. 4, 1975): a table with the node before each node
+-- on its path, and the residual steps that lead to one more path. A node here stands for both of its copies in the
+-- paper's network.
 use Rattle.std.specs.Prelude.{◌≡◌, ◌≢◌, ℕ, ◌⊎◌, List, Option, Some, None}
 use Rattle.std.specs.Option.{unwrap_or}
 use Rattle.ov_ids.specs.Members.{Has, IsDistinct}
@@ -7,19 +8,20 @@ use Rattle.ov_graph.specs.Links.{Linked}
 use Rattle.ov_graph.specs.Joined.{Leads}
 use Rattle.ov_split.specs.Net.{Net}
 
--- a path may step from a to b
+-- a path may step from a to b: they are linked, and b is not avoided
 abbrev pub IsFree : Net → ℕ → ℕ → Type 0
 IsFree n a b = Linked n.graph a b × ¬ Has n.avoided b
 
--- from where a path comes to each node, if one does
+-- the node before each node on its path, or None where no path comes to it
 abbrev pub Table : Type 0
 Table = ℕ → Option ℕ
 
--- a path comes to v
+-- v is used: a path comes to it
 abbrev pub IsUsed : Table → ℕ → Type 0
 IsUsed from v = (u : ℕ) × (from v ≡ Some u)
 
--- paths lead from the source to each of `ends`: no two meet, and none goes on beyond its end
+-- the table holds a path from the source to each of `ends`. No two paths meet after the source, and none continues
+-- after its end
 pub record AreHeld (n : Net) (from : Table) (ends : List ℕ) : Type 0 where
   pub root : from n.source ≡ None
   pub free : (v u : ℕ) → from v ≡ Some u → IsFree n u v
@@ -29,31 +31,32 @@ pub record AreHeld (n : Net) (from : Table) (ends : List ℕ) : Type 0 where
   pub ends_last : (e v : ℕ) → Has ends e → e ≢ n.source → from v ≡ Some e → ⊥
   pub distinct : IsDistinct ends
 
--- each used node stands on a path to some end
+-- each used node is on a path to one of the ends
 abbrev pub IsTidy : Table → List ℕ → Type 0
 IsTidy from ends = (v : ℕ) → IsUsed from v → (e : ℕ) × Has ends e
     × ((steps : List ℕ) × Leads (λ a b. from b ≡ Some a) v steps e)
 
--- what is held between two searches: paths to targets, and nothing beside them
+-- what the table holds between two searches: paths to targets, and nothing else
 pub record IsFlow (n : Net) (from : Table) (ends : List ℕ) : Type 0 where
   pub held : AreHeld n from ends
   pub tidy : IsTidy from ends
   pub targets : (e : ℕ) → Has ends e → Has n.targets e
 
--- A residual step: one path more may come from x to y. It takes a free link to some w other than the source, to stay
--- there where w is not used, and else to take over what goes on from w, so that the path which came to w is open at the
--- node before it. Or it gives up its last step
+-- a residual step moves the open end from x to y. The first kind takes a free link from x to some w other than the
+-- source. If no path comes to w, the new open end is w. If a path comes to w, the open path continues along it from w
+-- on, and the new open end is the node before w on that path. The second kind gives up the last step of the path to x,
+-- which came from y
 abbrev pub IsResidual : Net → Table → ℕ → ℕ → Type 0
 IsResidual n from x y = ((w : ℕ) × IsFree n x w × (w ≢ n.source) × (unwrap_or (from w) w ≡ y)) ⊎ (from x ≡ Some y)
 
--- these are the nodes to which residual steps lead from the source, and no target is among them
+-- `reached` are the nodes to which residual steps lead from the source, and none of them is a target
 pub record IsStuck (n : Net) (from : Table) (reached : List ℕ) : Type 0 where
   pub source : Has reached n.source
   pub closed : (x y : ℕ) → Has reached x → IsResidual n from x y → Has reached y
   pub led : (x : ℕ) → Has reached x → (walk : List ℕ) × Leads (IsResidual n from) n.source walk x
   pub no_target : (x : ℕ) → Has reached x → ¬ Has n.targets x
 
--- the nodes outside `reached` to which a path may step from it
+-- s is the boundary of `reached`: the nodes outside it to which a path may step from it
 pub record IsBoundary (n : Net) (reached s : List ℕ) : Type 0 where
   pub distinct : IsDistinct s
   pub out : (w : ℕ) → Has s w → ¬ Has reached w

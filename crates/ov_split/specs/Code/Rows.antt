@@ -1,5 +1,5 @@
--- How a net is kept: a graph, the place of the source, and rows of bits, for the places of the avoided nodes and of the
--- targets.
+-- How the code keeps a net: a graph, the place of the source, and two rows of bits, for the places of the avoided nodes
+-- and of the targets.
 use Rattle.std.specs.Prelude.{ℕ, ◌<◌, List, length}
 use Rattle.ov_graph.specs.Links.{LinkGraph, IsGraph}
 use Rattle.ov_graph.specs.Paths.{node_at}
@@ -7,7 +7,7 @@ use Rattle.ov_graph.specs.Row.{HasBit}
 use Rattle.ov_graph.specs.Code.Kept.{picked}
 use Rattle.ov_split.specs.Net.{Net}
 
--- the net that is kept so
+-- the net that these values stand for
 abbrev pub net_kept : LinkGraph → List ℕ → ℕ → List ℕ → Net
 net_kept g avoided source targets = record {
   graph = g;
@@ -16,7 +16,7 @@ net_kept g avoided source targets = record {
   targets = picked targets 0 g.nodes;
 }
 
--- the source has a place, and the bits are of places of nodes other than the source
+-- the source is the place of a node, and the bits are at places of other nodes
 pub record IsNetKept (g : LinkGraph) (avoided : List ℕ) (source : ℕ) (targets : List ℕ) : Type 0 where
   pub graph : IsGraph g
   pub source_below : source < length g.nodes

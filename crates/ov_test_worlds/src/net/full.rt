@@ -8,8 +8,8 @@ use std::alloc::Global;
 use std::process::Abort;
 use std::test::Fail;
 
-/// Beside the three nodes of the triangle, where node 7 waits for a message: a packet to a node that crashed, and one to a
-/// node that lives.
+/// Beside the three nodes of the triangle, where node 7 waits for a message: a packet to a node that crashed, and one
+/// to a node that lives.
 static BAG: [(Line, &str); 4] = [
     (Boot(2), "entry 23 born 2"),
     (BootBy(9, 2), "entry 24 born 9"),
@@ -48,7 +48,8 @@ static BAG_FULL: [(Line, &str); 27] = [
     (Timer(2, 1, 1), "refused 12"),
 ];
 
-/// What sends nothing is taken; a lost packet makes the place that a birth and a timer want; and then 256 nodes were born.
+/// What sends nothing is taken; a lost packet makes the place that a birth and a timer want; and then 256 nodes were
+/// born.
 static NODES_FULL: [(Line, &str); 16] = [
     (Snapshot, "entry 65498"),
     (Crash(3), "entry 65499 gone 3"),

@@ -6,8 +6,8 @@ use std::alloc::Global;
 use std::process::Abort;
 use std::test::Fail;
 
-/// Two nodes join, a broadcast comes twice, and its sender hears that it did: each event with the change that is told, and the node
-/// that delivers.
+/// Two nodes join, a broadcast comes twice, and its sender hears that it did: each event with the change that is told,
+/// and the node that delivers.
 fn rows() -> [(Line, Option<Change>, Option<NodeId>); 9] {
     let (one, two) = (NodeId(1), NodeId(2));
     [
@@ -33,7 +33,8 @@ struct SeenNode {
     made: u32,
 }
 
-/// What is seen of a world of nodes 1 and 2 that is out of memory: how long journal and bag are, and the nodes, where they live.
+/// What is seen of a world of nodes 1 and 2 that is out of memory: how long journal and bag are, and the nodes, where
+/// they live.
 #[derive(Clone, Copy, PartialEq, Eq)]
 struct Seen {
     entries: usize,

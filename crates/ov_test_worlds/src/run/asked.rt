@@ -51,8 +51,8 @@ fn arguments_that_ask_for_a_run(rt: HostRuntime) -> Result<(), Fail> {
     is_run(&rt, alloc, "run \u{e4}/g.txt", "\u{e4}/g.txt")
 }
 
-/// Arguments that ask for an analysis of the file g, the ids of the group if one is given, and whether the certificate and
-/// the progress are asked for.
+/// Arguments that ask for an analysis of the file g, the ids of the group if one is given, and whether the certificate
+/// and the progress are asked for.
 static ANALYSES: [(&str, &[u32], bool, bool); 11] = [
     ("analyse g", &[], false, false),
     ("analyse g --certificate", &[], true, false),

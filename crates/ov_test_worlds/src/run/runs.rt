@@ -67,8 +67,8 @@ packet 4 to 9 010300000001
 packet 5 to 3 0102000000010000000906
 ";
 
-/// Four nodes meet, one broadcasts, a packet is lost and another comes twice, and a node crashes: `examples/four-nodes.scenario`
-/// without its comments, whose output is `examples/four-nodes.txt`.
+/// Four nodes meet, one broadcasts, a packet is lost and another comes twice, and a node crashes:
+/// `examples/four-nodes.scenario` without its comments, whose output is `examples/four-nodes.txt`.
 const FOUR_NODES: &str = "params 5 30 2 1 3 4 4
 seed 7
 boot 1
@@ -213,8 +213,8 @@ fn a_file_at_fault_runs_nothing(rt: HostRuntime) {
     }
 }
 
-/// With a reader that is interrupted after so many calls, two nodes that join come to this answer, to so many faults of the
-/// reader, and to this text.
+/// With a reader that is interrupted after so many calls, two nodes that join come to this answer, to so many faults of
+/// the reader, and to this text.
 fn comes_by_slow_reader(
     alloc: Global,
     calls_left: usize,

@@ -1,13 +1,17 @@
--- Reading fields from left to right as a function of the bytes: what the private readers are proved against. Laws in
--- proofs/ say that it reads what is spelled, and answers the first fault of what is not.
-use Rattle.std.specs.Prelude.{◌≡◌, ℕ, ◌*◌, List, [], ◌∷◌, length, take, drop, Result, Ok, Err, IsOk, nat_lt, if◌then◌else◌}
+-- Reading fields from left to right, as a function of the bytes. The private readers are proved against it. Lemmas in
+-- proofs/ say that it reads the values that are spelled, and otherwise gives the first fault.
+use Rattle.std.specs.Prelude.{◌≡◌, ℕ, ◌*◌, List, [], ◌∷◌, length, take, drop, Result, Ok, Err, IsOk, nat_lt}
+use Rattle.std.specs.Prelude.{if◌then◌else◌}
 use Rattle.std.specs.Int.{Width, w8, w16, w32, byte_len, from_be_bytes}
 use Rattle.ov_wire.specs.declared.fault.WireFault.{WireFault}
-use Rattle.ov_wire.specs.declared.fault.WireFault.TheVariants.{Short, BadVersion, BadKind, BadField, Trailing, OutOfMemory}
+use Rattle.ov_wire.specs.declared.fault.WireFault.TheVariants.{Short, BadVersion, BadKind, BadField, Trailing}
+use Rattle.ov_wire.specs.declared.fault.WireFault.TheVariants.{OutOfMemory}
+use Rattle.ov_wire.specs.Limits.{most_ids, most_payload}
 use Rattle.ov_wire.specs.Fields.{Field, Number, Ids, Payload, Value, One, Many}
 use Rattle.ov_wire.specs.Faults.{leading_number}
 
 infixl 10 ◌>>=◌
+-- f of the value, or the fault where there is none
 abbrev pub ◌>>=◌ : {A B : Type 0} → Result A WireFault → (A → Result B WireFault) → Result B WireFault
 (Ok x) >>= f = f x
 (Err e) >>= f = Err e
@@ -20,7 +24,7 @@ number_at width least most otherwise bytes =
     if nat_lt most (leading_number width bytes) then Err otherwise else
     Ok (leading_number width bytes, drop (byte_len width) bytes)
 
--- so many bytes and those after them
+-- the first `count` bytes and those after them
 abbrev pub bytes_at : ℕ → List ℕ → Result (List ℕ × List ℕ) WireFault
 bytes_at count bytes = if nat_lt (length bytes) count then Err Short else Ok (take count bytes, drop count bytes)
 
@@ -38,15 +42,15 @@ field_at (Number width least most otherwise) bytes = do
   n ← number_at width least most otherwise bytes
   Ok (One n.0, n.1)
 field_at Ids bytes = do
-  count ← number_at w8 0 17 BadField bytes
+  count ← number_at w8 0 most_ids BadField bytes
   ids ← bytes_at (4 * count.0) count.1
   Ok (Many (ids_in ids.0), ids.1)
 field_at Payload bytes = do
-  len ← number_at w16 0 1024 BadField bytes
+  len ← number_at w16 0 most_payload BadField bytes
   payload ← bytes_at len.0 len.1
   Ok (Many payload.0, payload.1)
 
--- the values of the fields, which are all of the bytes
+-- the values of the fields; the bytes end after the last field
 abbrev pub values_at : List Field → List ℕ → Result (List Value) WireFault
 values_at [] [] = Ok []
 values_at [] (b ∷ bytes) = Err Trailing
@@ -55,12 +59,12 @@ values_at (field ∷ fields) bytes = do
   others ← values_at fields first.1
   Ok (first.0 ∷ others)
 
--- What a function that allocates nothing returned, seen by view, is what is read.
+-- The result of a function that allocates nothing is what is read; `view` gives the values of what it returned.
 abbrev pub Reads : {X Y : Type 0} → (X → Y) → Result X WireFault → Result Y WireFault → Type 0
 Reads view (Ok x) read = read ≡ Ok (view x)
 Reads view (Err fault) read = read ≡ Err fault
 
--- The same of a function that may be out of memory, which it is only where something is read.
+-- The fault is the one that is read; or it is out of memory, and something is read.
 abbrev pub Fails : {Y : Type 0} → WireFault → Result Y WireFault → Type 0
 Fails OutOfMemory read = IsOk read
 Fails Short read = read ≡ Err Short
@@ -69,6 +73,7 @@ Fails BadKind read = read ≡ Err BadKind
 Fails BadField read = read ≡ Err BadField
 Fails Trailing read = read ≡ Err Trailing
 
+-- The same as `Reads` of a function that may be out of memory, but only where something is read.
 abbrev pub Gives : {X Y : Type 0} → (X → Y) → Result X WireFault → Result Y WireFault → Type 0
 Gives view (Ok x) read = read ≡ Ok (view x)
 Gives view (Err fault) read = Fails fault read

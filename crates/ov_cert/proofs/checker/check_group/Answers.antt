@@ -1,7 +1,7 @@
--- What the tests say is what the definitions say.
+-- The tests are equivalent to the definitions.
 use Rattle.std.proofs.Common.{◌≡◌, Some, None, sym, subst, refl}
 use Rattle.ov_cert.specs.Verdict.{JudgedForGroup}
-use Rattle.ov_cert.proofs.Exact.{judged, one_verdict, fewest}
+use Rattle.ov_cert.proofs.Validity.Exact.{judged, one_verdict, fewest}
 use Rattle.ov_cert.proofs.checker.check_group.Goals as goal
 
 pub returns-in-Some-clause-verdict : goal.returns-in-Some-clause-verdict

@@ -1,6 +1,6 @@
--- A frame without a fault has a group.
+-- If the frame has no fault, the members are a group.
 use Rattle.std.proofs.Common.{sym, subst}
-use Rattle.ov_cert.proofs.Verdicts.{FrameSays, frame_judged, frame_group}
+use Rattle.ov_cert.proofs.Validity.Verdicts.{FrameSays, frame_judged, frame_group}
 use Rattle.ov_cert.proofs.checker.first_fault.Goals as goal
 
 pub fault_of_entries-requires : goal.fault_of_entries-requires

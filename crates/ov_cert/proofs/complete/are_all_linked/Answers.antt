@@ -1,7 +1,7 @@
--- The test says that all are linked.
+-- The test is true exactly if all members are linked.
 use Rattle.std.proofs.Common.{◌↔◌, Bool, IsTrue, sym, subst}
 use Rattle.ov_graph.specs.Links.{AreAllLinked}
-use Rattle.ov_cert.proofs.Parting.{all_linked_tested}
+use Rattle.ov_cert.proofs.Validity.Parting.{all_linked_tested}
 use Rattle.ov_cert.proofs.complete.are_all_linked.Goals as goal
 
 pub returns : goal.returns

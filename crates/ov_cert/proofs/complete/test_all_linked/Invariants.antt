@@ -1,4 +1,4 @@
--- what is left decides
+-- the result for all nodes is the result for the nodes still left
 use Rattle.std.proofs.Common.{◌≡◌, length}
 use Rattle.ov_cert.specs.Code.Tests.{all_linked}
 use Rattle.ov_cert.proofs.complete.test_all_linked.Given as goal

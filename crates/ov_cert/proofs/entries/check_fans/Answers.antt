@@ -1,7 +1,7 @@
 -- A later member is a node.
 use Rattle.std.proofs.Common.{subst}
 use Rattle.ov_ids.specs.Members.{Has}
-use Rattle.ov_cert.proofs.Looping.{later_member, has_at}
+use Rattle.ov_cert.proofs.EntryOrder.Looping.{later_member, has_at}
 use Rattle.ov_cert.proofs.entries.check_fans.Goals as goal
 
 pub has_fan-requires-clause-j : goal.has_fan-requires-clause-j

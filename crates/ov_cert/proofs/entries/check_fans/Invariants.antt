@@ -1,4 +1,4 @@
--- what is left decides
+-- the result for all entries is the result for the entries still left
 use Rattle.std.proofs.Common.{◌≡◌, drop}
 use Rattle.ov_cert.specs.Code.Tests.{fans_fault}
 use Rattle.ov_cert.proofs.entries.check_fans.Given as goal

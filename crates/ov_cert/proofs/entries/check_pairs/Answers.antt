@@ -1,10 +1,10 @@
--- The columns one after another.
+-- The pairs of one member after another.
 use Rattle.std.proofs.Common.{◌∙◌, ℕ, List, [], sym, ap, subst}
 use Rattle.ov_ids.specs.Members.{Has, Ascends}
 use Rattle.ov_ids.proofs.Members.{has_from_take}
 use Rattle.ov_cert.specs.Code.Tests.{pairs_after, pairs_fault}
-use Rattle.ov_cert.proofs.Columns.{ascends_take}
-use Rattle.ov_cert.proofs.Looping.{has_at, earlier_differ, column, column_fault}
+use Rattle.ov_cert.proofs.EntryOrder.Columns.{ascends_take}
+use Rattle.ov_cert.proofs.EntryOrder.Looping.{has_at, earlier_differ, column, column_fault}
 use Rattle.ov_cert.proofs.entries.check_pairs.Goals as goal
 
 pub check_pairs_of-requires-clause-earlier : goal.check_pairs_of-requires-clause-earlier

@@ -1,4 +1,4 @@
--- what is left decides
+-- the result for all entries is the result for the entries still left
 use Rattle.std.proofs.Common.{◌≡◌, ◌+◌, take, drop, length}
 use Rattle.ov_cert.specs.Code.Tests.{pairs_fault, pairs_after}
 use Rattle.ov_cert.proofs.entries.check_pairs.Given as goal

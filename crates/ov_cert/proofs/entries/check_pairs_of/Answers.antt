@@ -1,6 +1,6 @@
 -- One turn of the loop.
 use Rattle.std.proofs.Common.{◌∙◌, sym, arith}
-use Rattle.ov_cert.proofs.Looping.{turn_at, has_at}
+use Rattle.ov_cert.proofs.EntryOrder.Looping.{turn_at, has_at}
 use Rattle.ov_cert.proofs.entries.check_pairs_of.Goals as goal
 
 pub has_pair-requires-clause-i : goal.has_pair-requires-clause-i

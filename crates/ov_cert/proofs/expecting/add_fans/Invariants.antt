@@ -1,4 +1,4 @@
--- what is there with the fans of those to come
+-- the entries so far, with the fans still left, are all entries
 use Rattle.std.proofs.Common.{◌≡◌, ◌++◌, drop}
 use Rattle.ov_cert.specs.Entries.{of_fans}
 use Rattle.ov_cert.proofs.expecting.add_fans.Given as goal

@@ -1,8 +1,8 @@
--- The pairs of one member more.
+-- The pairs of one more member.
 use Rattle.std.proofs.Common.{◌∙◌, ◌+◌, List, take, drop, ap}
 use Rattle.ov_cert.specs.declared.entry.Expected.{Expected}
 use Rattle.ov_cert.specs.Code.Tests.{pairs_after}
-use Rattle.ov_cert.proofs.Listed.{with_pairs, column_added}
+use Rattle.ov_cert.proofs.EntryOrder.Listed.{with_pairs, column_added}
 use Rattle.ov_cert.proofs.expecting.add_pairs.Goals as goal
 
 pub loop-place-preserved : goal.loop-place-preserved

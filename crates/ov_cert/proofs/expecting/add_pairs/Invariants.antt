@@ -1,8 +1,8 @@
--- what is there with the pairs of those to come
+-- the entries so far, with the pairs still left, are all entries
 use Rattle.std.proofs.Common.{◌≡◌, take, drop, []}
 use Rattle.ov_cert.specs.Entries.{of_pairs}
 use Rattle.ov_cert.specs.Code.Tests.{pairs_after}
-use Rattle.ov_cert.proofs.Listed.{with_pairs}
+use Rattle.ov_cert.proofs.EntryOrder.Listed.{with_pairs}
 use Rattle.ov_cert.proofs.expecting.add_pairs.Given as goal
 
 abbrev pub invariant-loop-place : goal.invariant-loop-place

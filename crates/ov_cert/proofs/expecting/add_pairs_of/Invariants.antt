@@ -1,7 +1,7 @@
--- what is there with the pairs of those to come
+-- the entries so far, with the pairs still left, are all entries
 use Rattle.std.proofs.Common.{◌≡◌, drop}
 use Rattle.ov_cert.specs.Code.Tests.{unlinked_before}
-use Rattle.ov_cert.proofs.Listed.{with_pairs}
+use Rattle.ov_cert.proofs.EntryOrder.Listed.{with_pairs}
 use Rattle.ov_cert.proofs.expecting.add_pairs_of.Given as goal
 
 abbrev pub invariant-loop-i : goal.invariant-loop-i

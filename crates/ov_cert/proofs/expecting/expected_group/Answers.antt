@@ -3,7 +3,7 @@ use Rattle.std.proofs.Common.{◌∙◌, ◌++◌, [], ap, ap₂, List, ℕ}
 use Rattle.ov_cert.specs.declared.entry.Expected.{Expected}
 use Rattle.ov_cert.specs.Entries.{of_pairs, of_fans}
 use Rattle.ov_cert.specs.Code.Tests.{pairs_after, expected_pairs}
-use Rattle.ov_cert.proofs.Columns.{expected}
+use Rattle.ov_cert.proofs.EntryOrder.Columns.{expected}
 use Rattle.ov_cert.proofs.expecting.expected_group.Goals as goal
 
 pub returns : goal.returns

@@ -1,9 +1,9 @@
--- The tests of an entry say whether the certificate has it.
+-- The tests of an entry are equivalent to the relations.
 use Rattle.std.proofs.Common.{◌≡◌, ◌∙◌, ◌↔◌, IsTrue, List, slice_get, sym, ap, Bool}
 use Rattle.ov_cert.specs.declared.cert.PairPaths.{PairPaths}
 use Rattle.ov_cert.specs.declared.cert.FanPaths.{FanPaths}
 use Rattle.ov_cert.specs.Code.Tests.{is_pair_entry, is_fan_entry}
-use Rattle.ov_cert.proofs.Listed.{pair_at, fan_at}
+use Rattle.ov_cert.proofs.EntryOrder.Listed.{pair_at, fan_at}
 use Rattle.ov_cert.proofs.expecting.holds_entry.Goals as goal
 
 pub has_pair-requires-clause-i : goal.has_pair-requires-clause-i
@@ -29,7 +29,7 @@ has_fan-requires-clause-j c =
     (fan_at c.args.graph.now c.args.group.now c.args.split.now c.args.entry c.in-Fan.at c.in-Fan.j c.requires.frame
     c.requires.expected c.in-Fan.is).node
 
--- a test that answers as another does says the same
+-- two tests with the same result have the same meaning
 same_fact : {P : Type 0} (a b : Bool) → a ≡ b → IsTrue b ↔ P → IsTrue a ↔ P
 same_fact a b e tested = ((λ t. tested.0 (sym e ∙ t)), (λ p. e ∙ tested.1 p))
 

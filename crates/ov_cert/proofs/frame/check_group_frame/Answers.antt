@@ -1,6 +1,6 @@
--- What the tests say is what the definitions say.
+-- The tests are equivalent to the definitions.
 use Rattle.std.proofs.Common.{sym, subst}
-use Rattle.ov_cert.proofs.Verdicts.{FrameSays, frame_judged}
+use Rattle.ov_cert.proofs.Validity.Verdicts.{FrameSays, frame_judged}
 use Rattle.ov_cert.proofs.frame.check_group_frame.Goals as goal
 
 pub returns-in-Some : goal.returns-in-Some

@@ -1,6 +1,6 @@
 -- A group ascends.
 use Rattle.std.proofs.Common.{◌∙◌, sym}
-use Rattle.ov_cert.proofs.Parting.{group_tested}
+use Rattle.ov_cert.proofs.Validity.Parting.{group_tested}
 use Rattle.ov_cert.proofs.frame.frame_fault.Goals as goal
 
 pub fault_of_split-requires : goal.fault_of_split-requires

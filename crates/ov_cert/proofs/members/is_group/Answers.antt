@@ -1,7 +1,7 @@
--- The graph's answer is the test's.
+-- The graph's own test equals this test.
 use Rattle.ov_cert.specs.Code.Tests.{is_group}
-use Rattle.ov_cert.proofs.Ends.{same_test}
-use Rattle.ov_cert.proofs.Parting.{group_tested}
+use Rattle.ov_cert.proofs.PathRules.Ends.{same_test}
+use Rattle.ov_cert.proofs.Validity.Parting.{group_tested}
 use Rattle.ov_cert.proofs.members.is_group.Goals as goal
 
 pub returns : goal.returns

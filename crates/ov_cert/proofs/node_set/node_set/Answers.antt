@@ -1,4 +1,4 @@
--- Ascending ids are taken into the empty set exactly where all are nodes, and are then the set.
+-- Ascending ids are added to the empty set exactly if all are nodes; the set then consists of these ids.
 use Rattle.std.proofs.Common.{◌≡◌, ◌∙◌, ℕ, List, [], Bool, true, false, ◌&&◌, refl, sym, ap, ap₂}
 use Rattle.std.specs.List.{list_all}
 use Rattle.ov_ids.specs.Members.{Ascends}
@@ -6,7 +6,7 @@ use Rattle.ov_ids.specs.Sets.{has}
 use Rattle.ov_graph.specs.Links.{LinkGraph}
 use Rattle.ov_cert.specs.Code.Kept.{NodesOf}
 use Rattle.ov_cert.specs.Code.Tests.{fresh, entered}
-use Rattle.ov_cert.proofs.NodeSets.{entered_set}
+use Rattle.ov_cert.proofs.PathRules.NodeSets.{entered_set}
 use Rattle.ov_cert.proofs.node_set.node_set.Goals as goal
 
 pub returns-then-enter_all-clause-some : goal.returns-then-enter_all-clause-some

@@ -1,8 +1,8 @@
--- The graph's answer is the test's.
+-- The graph's own test equals this test.
 use Rattle.std.proofs.Common.{refl}
 use Rattle.ov_graph.specs.Code.Tests.{are_joined}
-use Rattle.ov_graph.proofs.Tested.{joined_tested}
-use Rattle.ov_cert.proofs.Ends.{same_test}
+use Rattle.ov_graph.proofs.EvenTest.Tested.{joined_tested}
+use Rattle.ov_cert.proofs.PathRules.Ends.{same_test}
 use Rattle.ov_cert.proofs.paths.are_linked.Goals as goal
 
 pub returns : goal.returns

@@ -1,8 +1,8 @@
--- At first the two ends are used.
+-- Before the first path, the two ends are used.
 use Rattle.std.proofs.Common.{ap}
 use Rattle.ov_cert.specs.Code.Kept.{NodesOf}
 use Rattle.ov_cert.specs.Code.Tests.{are_pair_paths}
-use Rattle.ov_cert.proofs.NodeSets.{two_entered, node_tested}
+use Rattle.ov_cert.proofs.PathRules.NodeSets.{two_entered, node_tested}
 use Rattle.ov_cert.proofs.paths.are_paths.Goals as goal
 
 pub loop-path-init : goal.loop-path-init

@@ -1,4 +1,4 @@
--- what is left decides
+-- the result for all paths is the result for the paths still left
 use Rattle.std.proofs.Common.{◌≡◌, drop, [], ◌∷◌}
 use Rattle.ov_ids.specs.Sets.{adding}
 use Rattle.ov_cert.specs.Code.Tests.{are_pair_paths}

@@ -1,4 +1,4 @@
--- what is left decides
+-- the result for the path is the result for the nodes still left
 use Rattle.std.proofs.Common.{◌≡◌, ◌∷◌, length}
 use Rattle.ov_cert.specs.Code.Tests.{chained}
 use Rattle.ov_cert.proofs.paths.is_chained.Given as goal

@@ -1,8 +1,8 @@
--- At first the source is used.
+-- Before the first path, the source is used.
 use Rattle.std.proofs.Common.{ap}
 use Rattle.ov_cert.specs.Code.Kept.{NodesOf}
 use Rattle.ov_cert.specs.Code.Tests.{are_fan_paths}
-use Rattle.ov_cert.proofs.NodeSets.{one_entered, node_tested}
+use Rattle.ov_cert.proofs.PathRules.NodeSets.{one_entered, node_tested}
 use Rattle.ov_cert.proofs.paths.is_fan.Goals as goal
 
 pub loop-path-init : goal.loop-path-init

@@ -1,8 +1,8 @@
--- The tests of the ends, of the links and of the steps are those of the path.
+-- The test of the path consists of the tests of its ends, its links and its nodes after the first.
 use Rattle.std.proofs.Common.{◌∙◌, sym, ap}
 use Rattle.ov_cert.specs.Code.Tests.{fresh}
 use Rattle.ov_graph.specs.Links.{LinkGraph}
-use Rattle.ov_cert.proofs.Ends.{fan_by_ends, not_false, second_fails, all_four}
+use Rattle.ov_cert.proofs.PathRules.Ends.{fan_by_ends, not_false, second_fails, all_four}
 use Rattle.ov_cert.proofs.paths.takes_fan_path.Goals as goal
 
 pub returns-then-not-is_earlier-clause-path : goal.returns-then-not-is_earlier-clause-path

@@ -1,8 +1,8 @@
--- The tests of the ends, of the links and of what lies between are those of the path.
+-- The test of the path consists of the tests of its ends, its links and its inner nodes.
 use Rattle.std.proofs.Common.{◌∙◌, ◌∷◌, sym, ap}
 use Rattle.ov_cert.specs.Code.Tests.{fresh, entered}
 use Rattle.ov_graph.specs.Links.{LinkGraph}
-use Rattle.ov_cert.proofs.Ends.{pair_by_ends, inner_of, not_false, not_true, second_fails, all_four}
+use Rattle.ov_cert.proofs.PathRules.Ends.{pair_by_ends, inner_of, not_false, not_true, second_fails, all_four}
 use Rattle.ov_cert.proofs.paths.takes_pair_path.Goals as goal
 
 pub returns-then-ne-2-clause-path : goal.returns-then-ne-2-clause-path

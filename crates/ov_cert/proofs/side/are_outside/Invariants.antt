@@ -1,4 +1,4 @@
--- what is left decides
+-- the result for all ids is the result for the ids still left
 use Rattle.std.proofs.Common.{◌≡◌, not, drop}
 use Rattle.std.specs.List.{list_all}
 use Rattle.ov_ids.specs.Sets.{has}

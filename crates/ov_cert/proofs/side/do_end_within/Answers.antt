@@ -1,5 +1,5 @@
 -- An id of the list is a node.
-use Rattle.ov_cert.proofs.Looping.{has_at}
+use Rattle.ov_cert.proofs.EntryOrder.Looping.{has_at}
 use Rattle.ov_cert.proofs.side.do_end_within.Goals as goal
 
 pub does_end_within-requires : goal.does_end_within-requires

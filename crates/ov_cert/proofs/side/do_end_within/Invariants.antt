@@ -1,4 +1,4 @@
--- what is left decides
+-- the result for all nodes is the result for the nodes still left
 use Rattle.std.proofs.Common.{◌≡◌, drop}
 use Rattle.std.specs.List.{list_all}
 use Rattle.ov_cert.specs.Code.Tests.{ends_within}

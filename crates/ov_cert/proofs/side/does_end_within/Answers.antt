@@ -1,8 +1,8 @@
--- The neighbours are those that the test goes over.
+-- The test goes over the same neighbours as the loop.
 use Rattle.std.proofs.Common.{◌≡◌, ◌∙◌, ℕ, Bool, false, ◌||◌, ◌&&◌, refl, sym, ap}
 use Rattle.std.specs.List.{list_all}
 use Rattle.ov_ids.specs.Sets.{has}
-use Rattle.ov_graph.proofs.Filtered.{neighbours_one}
+use Rattle.ov_graph.proofs.EvenTest.Filtered.{neighbours_one}
 use Rattle.ov_cert.proofs.side.does_end_within.Goals as goal
 
 neither : (p q r : Bool) → p ≡ false → q ≡ false → ((p || q) && r) ≡ false

@@ -1,4 +1,4 @@
--- those still to come decide
+-- the result for all neighbours is the result for the neighbours still to come
 use Rattle.std.proofs.Common.{◌≡◌, ◌||◌}
 use Rattle.std.specs.List.{list_all}
 use Rattle.ov_ids.specs.Sets.{has}

@@ -1,11 +1,11 @@
--- The tests in their order.
+-- The tests in order.
 use Rattle.std.proofs.Common.{◌≡◌, ◌∙◌, ℕ, List, not, sym, ap}
 use Rattle.std.specs.List.{list_all}
 use Rattle.ov_ids.specs.Sets.{has}
 use Rattle.ov_cert.specs.Code.Kept.{NodesOf}
 use Rattle.ov_cert.specs.Code.Tests.{survives, ends_within, is_node_set}
-use Rattle.ov_cert.proofs.Ends.{all_seven}
-use Rattle.ov_cert.proofs.Parting.{node_set_tested}
+use Rattle.ov_cert.proofs.PathRules.Ends.{all_seven}
+use Rattle.ov_cert.proofs.Validity.Parting.{node_set_tested}
 use Rattle.ov_cert.proofs.side.is_side_cut_off.Goals as goal
 
 pub do_end_within-requires : goal.do_end_within-requires

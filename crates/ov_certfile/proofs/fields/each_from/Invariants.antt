@@ -1,4 +1,4 @@
--- what was read, and what is left to read
+-- the items read so far, and those still to read
 use Rattle.std.proofs.Common.{◌≡◌, drop}
 use Rattle.serde_json.specs.View.{items_view}
 use Rattle.ov_certfile.specs.Forms.{each_in}

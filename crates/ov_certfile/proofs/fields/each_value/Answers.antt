@@ -1,4 +1,4 @@
--- All that was written reads back.
+-- All values written read back.
 use Rattle.std.proofs.Common.{◌≡◌, take, subst}
 use Rattle.std.proofs.lemmas.List.{take_all}
 use Rattle.ov_certfile.proofs.Listed.{EachReadsBack, list_back}

@@ -1,4 +1,4 @@
--- All that was written reads back.
+-- All values written read back.
 use Rattle.std.proofs.Common.{◌≡◌, arith, subst}
 use Rattle.std.proofs.lemmas.Grind.{common_steps}
 use Rattle.ov_certfile.specs.Forms.{link_in}

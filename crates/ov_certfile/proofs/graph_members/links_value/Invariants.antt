@@ -1,4 +1,4 @@
--- what was made so far, and that it reads back
+-- the values made so far, and that they read back
 use Rattle.std.proofs.Common.{◌≡◌, ◌++◌, map}
 use Rattle.serde_json.specs.View.{view}
 use Rattle.ov_certfile.specs.Forms.{link_in}

@@ -1,4 +1,4 @@
--- the keys that are left decide
+-- the result for all keys is the result for the keys still left
 use Rattle.std.proofs.Common.{◌≡◌, map, drop}
 use Rattle.serde_json.specs.View.{view}
 use Rattle.ov_certfile.specs.Keys.{has_all}

@@ -1,4 +1,4 @@
--- The keys of a map are those of the object that it stands for.
+-- The keys of a map are the keys of the object that it represents.
 use Rattle.std.proofs.Common.{◌∙◌}
 use Rattle.ov_certfile.proofs.OtherKeys.{has_no_other-entries}
 use Rattle.ov_certfile.proofs.keys.has_no_other.Goals as goal

@@ -1,4 +1,4 @@
--- the texts that are left decide
+-- the result for all texts is the result for the texts still left
 use Rattle.std.proofs.Common.{◌≡◌, map, drop}
 use Rattle.ov_certfile.specs.Keys.{is_among}
 use Rattle.ov_certfile.proofs.keys.is_among.Given as goal

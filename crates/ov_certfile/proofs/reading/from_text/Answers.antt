@@ -1,4 +1,4 @@
--- A text says one thing alone.
+-- A text has one meaning only.
 use Rattle.serde_json.specs.View.{view}
 use Rattle.ov_certfile.proofs.OneAnswer.{read_text_one}
 use Rattle.ov_certfile.proofs.reading.from_text.Goals as goal

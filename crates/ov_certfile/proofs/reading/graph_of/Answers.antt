@@ -1,4 +1,4 @@
--- The fault of nodes and links that stand there.
+-- The first fault of the nodes and links in the value.
 use Rattle.std.proofs.Common.{◌∙◌, Some, refl, sym, ap}
 use Rattle.std.proofs.lemmas.Result.{err_from_is_err_and}
 use Rattle.serde_json.specs.View.{view}

@@ -1,4 +1,4 @@
--- What the parts of a file came to, put together.
+-- The results of the parts, put together.
 use Rattle.std.proofs.lemmas.Result.{err_from_is_err_and}
 use Rattle.serde_json.specs.View.{view}
 use Rattle.ov_certfile.proofs.Told.{cert_told, dated_told, says}

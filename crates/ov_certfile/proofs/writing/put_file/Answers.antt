@@ -1,4 +1,4 @@
--- All that is put in is the object, and it says what was written.
+-- The members written are the object, and it has the meaning that was written.
 use Rattle.ov_certfile.proofs.Rewritten.{all_put_in, reads_back}
 use Rattle.ov_certfile.proofs.writing.put_file.Goals as goal
 

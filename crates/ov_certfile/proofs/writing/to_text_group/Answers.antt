@@ -1,4 +1,4 @@
--- The text is read as the object, and the object says what was written.
+-- The text is read as the object, and the object has the meaning that was written.
 use Rattle.std.proofs.Common.{string_bytes}
 use Rattle.serde_json.specs.View.{view}
 use Rattle.ov_certfile.proofs.Depth.{text_reads_back}

@@ -1,4 +1,4 @@
--- Bytes that are refused come to nothing else.
+-- Bytes that are refused have no other outcome.
 use Rattle.std.proofs.Common.{subst}
 use Rattle.ov_check.specs.Outcome.{BytesSay}
 use Rattle.ov_check.specs.declared.outcome.Outcome.TheVariants.{Refused}

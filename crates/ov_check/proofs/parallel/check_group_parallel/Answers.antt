@@ -1,7 +1,7 @@
 -- A certificate has one verdict, and the number of a valid one is the fewest.
 use Rattle.std.proofs.Common.{◌≡◌, Some, None, subst}
 use Rattle.ov_cert.specs.Verdict.{JudgedForGroup}
-use Rattle.ov_cert.proofs.Exact.{one_verdict, fewest}
+use Rattle.ov_cert.proofs.Validity.Exact.{one_verdict, fewest}
 use Rattle.ov_check.proofs.parallel.check_group_parallel.Goals as goal
 
 pub returns-in-Some-clause-valid : goal.returns-in-Some-clause-valid

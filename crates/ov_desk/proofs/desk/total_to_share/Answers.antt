@@ -1,5 +1,5 @@
 use Rattle.std.proofs.Common.{List, ℕ, ◌≤◌, length, sym, subst}
-use Rattle.ov_even.proofs.Narrowing.{members_few}
+use Rattle.ov_even.proofs.AnalysisSteps.Narrowing.{members_few}
 use Rattle.ov_desk.proofs.desk.total_to_share.Goals as goal
 
 pub group_total-requires-clause-members : goal.group_total-requires-clause-members

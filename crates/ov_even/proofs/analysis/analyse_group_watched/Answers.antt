@@ -1,4 +1,4 @@
--- What was settled suffices.
+-- The settled pieces suffice for a certificate.
 use Rattle.std.proofs.Common.{List, sym, subst}
 use Rattle.ov_even.specs.Harvest.{Suffice}
 use Rattle.ov_even.specs.declared.haul.Haul.{Haul}

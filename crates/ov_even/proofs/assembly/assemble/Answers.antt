@@ -1,7 +1,7 @@
--- All nodes are a group, where there is a node.
+-- If there is a node, all nodes are a group.
 use Rattle.std.proofs.Common.{◌∙◌, ◌<◌, List, ℕ, length, sym, subst}
 use Rattle.ov_even.specs.Harvest.{Suffice}
-use Rattle.ov_even.proofs.Assembling.{some_node}
+use Rattle.ov_even.proofs.AnalysisSteps.Assembling.{some_node}
 use Rattle.ov_even.proofs.assembly.assemble.Goals as goal
 
 pub assemble_group-requires-clause-suffice : goal.assemble_group-requires-clause-suffice

@@ -1,7 +1,7 @@
--- The certificate is valid, and so what it says is so.
+-- The certificate is valid, and so it is true.
 use Rattle.std.proofs.Common.{sym, ap, subst}
-use Rattle.ov_cert.specs.Laws.{IsTrueForGroup}
-use Rattle.ov_cert.proofs.Exact.{valid_means}
+use Rattle.ov_cert.specs.Theorems.{IsTrueForGroup}
+use Rattle.ov_cert.proofs.Validity.Exact.{valid_means}
 use Rattle.ov_even.proofs.assembly.assemble_group.Goals as goal
 
 pub returns-clause-fewest : goal.returns-clause-fewest

@@ -1,11 +1,11 @@
--- The first cut is that of the piece that decides.
+-- The first piece with a cut is the deciding piece.
 use Rattle.std.proofs.Common.{subst, arith}
 use Rattle.std.proofs.lemmas.Bool.{both_ways}
 use Rattle.std.specs.Option.{option_copied}
 use Rattle.ov_graph.specs.Links.{AreAllLinked}
 use Rattle.ov_even.specs.Code.Cuts.{IsFirstCut, all_settled}
-use Rattle.ov_even.proofs.Narrowing.{members_few}
-use Rattle.ov_even.proofs.Assembling.{deciding, some_cut}
+use Rattle.ov_even.proofs.AnalysisSteps.Narrowing.{members_few}
+use Rattle.ov_even.proofs.AnalysisSteps.Assembling.{deciding, some_cut}
 use Rattle.ov_even.proofs.assembly.cert_of.Goals as goal
 
 pub overflow_cast-result : goal.overflow_cast-result

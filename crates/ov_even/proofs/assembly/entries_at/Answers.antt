@@ -1,7 +1,7 @@
--- The slots have the paths of the level's pieces.
+-- The slots have the paths of the pieces of the level.
 use Rattle.std.proofs.Common.{arith}
-use Rattle.ov_even.proofs.Narrowing.{members_few}
-use Rattle.ov_even.proofs.Assembling.{pieces_in, have_slots}
+use Rattle.ov_even.proofs.AnalysisSteps.Narrowing.{members_few}
+use Rattle.ov_even.proofs.AnalysisSteps.Assembling.{pieces_in, have_slots}
 use Rattle.ov_even.proofs.assembly.entries_at.Goals as goal
 
 pub slots_of-requires-clause-few : goal.slots_of-requires-clause-few

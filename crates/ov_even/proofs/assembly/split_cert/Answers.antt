@@ -1,8 +1,8 @@
--- The certificate names the cut of the piece that decides.
+-- The certificate names the cut of the deciding piece.
 use Rattle.std.proofs.Common.{◌∙◌, ◌+◌, ℕ, sym, ap, subst}
 use Rattle.ov_even.specs.Answer.{NamesParting}
-use Rattle.ov_even.proofs.Answering.{split_valid}
-use Rattle.ov_even.proofs.Assembling.{names_cut, level_under}
+use Rattle.ov_even.proofs.EvenTest.Answering.{split_valid}
+use Rattle.ov_even.proofs.AnalysisSteps.Assembling.{names_cut, level_under}
 use Rattle.ov_even.proofs.assembly.split_cert.Goals as goal
 
 pub returns-clause-answer : goal.returns-clause-answer

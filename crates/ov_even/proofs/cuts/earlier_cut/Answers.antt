@@ -1,11 +1,11 @@
--- One more piece is looked at.
+-- One more piece is examined.
 use Rattle.std.proofs.Common.{◌≡◌, List, [], ◌∷◌, ◌++◌, ◌+◌, take, sym, subst}
 use Rattle.std.proofs.Common.{take_all}
 use Rattle.std.specs.Option.{option_copied}
 use Rattle.std.proofs.lemmas.Bool.{both_ways}
 use Rattle.ov_fans.specs.declared.settled.Settled.{Settled as settled}
 use Rattle.ov_even.specs.Code.Cuts.{IsFirstCut}
-use Rattle.ov_even.proofs.FirstCut.{one_more, cut_earlier, cut_stays}
+use Rattle.ov_even.proofs.AnalysisSteps.FirstCut.{one_more, cut_earlier, cut_stays}
 use Rattle.ov_even.proofs.cuts.earlier_cut.Goals as goal
 use Rattle.ov_even.proofs.cuts.earlier_cut.Goals.{then-is_earlier_cut, else-is_earlier_cut}
 

@@ -1,4 +1,4 @@
--- What was known and what was looked at so far has this first cut.
+-- The first piece with a cut, among the pieces known before and those examined so far.
 use Rattle.std.proofs.Common.{List, ◌++◌, take}
 use Rattle.std.specs.Option.{option_copied}
 use Rattle.ov_fans.specs.declared.settled.Settled.{Settled}

@@ -1,10 +1,10 @@
--- One more haul is looked at.
+-- One more haul is examined.
 use Rattle.std.proofs.Common.{◌≡◌, ◌∙◌, List, ◌++◌, ◌+◌, take, sym, ap, subst}
 use Rattle.std.specs.Option.{option_copied}
 use Rattle.ov_fans.specs.declared.settled.Settled.{Settled as settled}
 use Rattle.ov_even.specs.declared.haul.Haul.{Haul as haul}
 use Rattle.ov_even.specs.Code.Cuts.{IsFirstCut, all_settled}
-use Rattle.ov_even.proofs.FirstCut.{all_more}
+use Rattle.ov_even.proofs.AnalysisSteps.FirstCut.{all_more}
 use Rattle.ov_even.proofs.cuts.first_cut.Goals as goal
 
 pub loop-haul-preserved : goal.loop-haul-preserved

@@ -1,4 +1,4 @@
--- What was looked at so far has this first cut.
+-- The first piece with a cut, among the hauls examined so far.
 use Rattle.std.proofs.Common.{take}
 use Rattle.std.specs.Option.{option_copied}
 use Rattle.ov_even.specs.Code.Cuts.{IsFirstCut, all_settled}

@@ -1,4 +1,4 @@
--- One more piece of the level is looked at.
+-- One more piece of the level is examined.
 use Rattle.std.proofs.Common.{◌≡◌, ◌∙◌, ◌++◌, ◌∷◌, [], ◌<◌, ℕ, length, map, refl, sym, ap, subst, arith}
 use Rattle.std.specs.Option.{option_copied}
 use Rattle.ov_graph.specs.Paths.{IsFan}
@@ -8,9 +8,9 @@ use Rattle.ov_fans.specs.declared.piece.Piece.TheVariants.{Fan}
 use Rattle.ov_cert.specs.declared.cert.FanPaths.{FanPaths}
 use Rattle.ov_even.specs.Code.Levels.{pieces_of_level}
 use Rattle.ov_even.specs.Code.Slots.{HaveSlots}
-use Rattle.ov_even.proofs.Narrowing.{members_few}
-use Rattle.ov_even.proofs.Named.{AreNamed, NamesFan, named_pass, fan_put, fans_all, is_next, fan_places}
-use Rattle.ov_even.proofs.Named.{pair_unnamed, fan_entry, holds_more, names_more, all_seen, listed_more}
+use Rattle.ov_even.proofs.AnalysisSteps.Narrowing.{members_few}
+use Rattle.ov_even.proofs.AnalysisSteps.Named.{AreNamed, NamesFan, named_pass, fan_put, fans_all, is_next, fan_places}
+use Rattle.ov_even.proofs.AnalysisSteps.Named.{pair_unnamed, fan_entry, holds_more, names_more, all_seen, listed_more}
 use Rattle.ov_even.proofs.entries.fan_entries.Goals as goal
 
 pub new-piece-items-requires-clause-members : goal.new-piece-items-requires-clause-members

@@ -1,11 +1,11 @@
--- The entries name the members of the fans that were yielded so far, and have their paths.
+-- The entries name the members of the fans yielded so far, and have their paths.
 use Rattle.std.proofs.Common.{◌≡◌, ◌<◌, ◌++◌, length, map}
 use Rattle.ov_ids.specs.Members.{Has}
 use Rattle.ov_graph.specs.Paths.{IsFan}
 use Rattle.ov_graph.specs.Even.{members_below}
 use Rattle.ov_cert.specs.declared.cert.FanPaths.{FanPaths}
 use Rattle.ov_even.specs.Code.Levels.{pieces_of_level}
-use Rattle.ov_even.proofs.Named.{AreNamed, NamesFan}
+use Rattle.ov_even.proofs.AnalysisSteps.Named.{AreNamed, NamesFan}
 use Rattle.ov_even.proofs.entries.fan_entries.Given as goal
 
 abbrev pub invariant-loop-piece : goal.invariant-loop-piece

@@ -1,4 +1,4 @@
--- One more piece of the level is looked at.
+-- One more piece of the level is examined.
 use Rattle.std.proofs.Common.{◌≡◌, ◌∙◌, ◌++◌, ◌∷◌, [], ℕ, length, map, refl, sym, ap, subst, arith}
 use Rattle.std.proofs.lemmas.Bool.{both_ways}
 use Rattle.ov_graph.specs.Paths.{ArePaths}
@@ -9,10 +9,10 @@ use Rattle.ov_cert.specs.declared.cert.PairPaths.{PairPaths}
 use Rattle.ov_cert.specs.Valid.{PairPrecedes}
 use Rattle.ov_even.specs.Code.Levels.{pieces_of_level}
 use Rattle.ov_even.specs.Code.Slots.{HaveSlots}
-use Rattle.ov_even.proofs.Narrowing.{members_few}
-use Rattle.ov_even.proofs.Named.{AreNamed, NamesPair, named_pass, pair_put, pairs_all, is_next, pair_places}
-use Rattle.ov_even.proofs.Named.{linked_unnamed, fan_unnamed, pair_apart, pair_entry, holds_more, names_more, all_seen}
-use Rattle.ov_even.proofs.Named.{listed_more}
+use Rattle.ov_even.proofs.AnalysisSteps.Narrowing.{members_few}
+use Rattle.ov_even.proofs.AnalysisSteps.Named.{AreNamed, NamesPair, named_pass, pair_put, pairs_all, is_next, pair_places}
+use Rattle.ov_even.proofs.AnalysisSteps.Named.{linked_unnamed, fan_unnamed, pair_apart, pair_entry, holds_more, names_more, all_seen}
+use Rattle.ov_even.proofs.AnalysisSteps.Named.{listed_more}
 use Rattle.ov_even.proofs.entries.pair_entries.Goals as goal
 
 pub new-piece-items-requires-clause-members : goal.new-piece-items-requires-clause-members

@@ -1,11 +1,11 @@
--- The entries name the unlinked pairs that were yielded so far, and have their paths.
+-- The entries name the unlinked pairs yielded so far, and have their paths.
 use Rattle.std.proofs.Common.{◌≡◌, ◌++◌, length, map}
 use Rattle.ov_ids.specs.Members.{Has}
 use Rattle.ov_graph.specs.Paths.{ArePaths}
 use Rattle.ov_cert.specs.declared.cert.PairPaths.{PairPaths}
 use Rattle.ov_cert.specs.Valid.{PairPrecedes}
 use Rattle.ov_even.specs.Code.Levels.{pieces_of_level}
-use Rattle.ov_even.proofs.Named.{AreNamed, NamesPair}
+use Rattle.ov_even.proofs.AnalysisSteps.Named.{AreNamed, NamesPair}
 use Rattle.ov_even.proofs.entries.pair_entries.Given as goal
 
 abbrev pub invariant-loop-piece : goal.invariant-loop-piece

@@ -1,13 +1,13 @@
--- The piece's paths are in its slot.
+-- The slot of the piece has its paths.
 use Rattle.std.proofs.Common.{◌<◌, ℕ, Some, length, map, refl, subst, arith}
 use Rattle.std.specs.Option.{option_copied}
 use Rattle.std.proofs.lemmas.Option.{slice_get_within}
 use Rattle.std.proofs.lemmas.List.{length-map}
 use Rattle.ov_fans.specs.Cuts.{AreRightPaths}
 use Rattle.ov_fans.specs.Pieces.{level_of}
-use Rattle.ov_even.proofs.Narrowing.{members_few}
-use Rattle.ov_even.proofs.Trials.{level_few}
-use Rattle.ov_even.proofs.Slotted.{in_slot, not_none}
+use Rattle.ov_even.proofs.AnalysisSteps.Narrowing.{members_few}
+use Rattle.ov_even.proofs.AnalysisSteps.Trials.{level_few}
+use Rattle.ov_even.proofs.AnalysisSteps.Slotted.{in_slot, not_none}
 use Rattle.ov_even.proofs.entries.paths_in_slot.Goals as goal
 
 pub place_in_level-place-requires : goal.place_in_level-place-requires

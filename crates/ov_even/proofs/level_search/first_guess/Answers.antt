@@ -1,9 +1,9 @@
--- Members are nodes, and a node has no more neighbours than there are nodes.
+-- Members are nodes, and a node has at most as many neighbours as there are nodes.
 use Rattle.std.proofs.Common.{◌≤◌, inl, length, sym, subst, arith}
 use Rattle.ov_ids.specs.Members.{Has}
 use Rattle.ov_ids.proofs.Members.{has_place, ascends_distinct}
-use Rattle.ov_graph.proofs.Filtered.{linked_node}
-use Rattle.ov_fans.proofs.Ranks.{fits}
+use Rattle.ov_graph.proofs.EvenTest.Filtered.{linked_node}
+use Rattle.ov_fans.proofs.PieceNets.Ranks.{fits}
 use Rattle.ov_even.proofs.level_search.first_guess.Goals as goal
 
 pub neighbours-requires : goal.neighbours-requires

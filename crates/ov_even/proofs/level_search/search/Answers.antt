@@ -1,10 +1,10 @@
--- A tried level ends the search, bounds it from above, or is cleared.
+-- A tried level ends the search, lowers its upper bound, or is cleared.
 use Rattle.std.proofs.Common.{◌∙◌, sym, subst, arith}
 use Rattle.ov_fans.specs.Group.{GroupIn}
 use Rattle.ov_even.specs.Harvest.{Suffice}
 use Rattle.ov_even.specs.declared.haul.Haul.{Haul}
 use Rattle.ov_even.specs.Code.Trying.{AreSettledRight, IsLevelCleared, IsTried}
-use Rattle.ov_even.proofs.Narrowing.{members_few, two_nodes, not_last, ok_then, tried_suffices, tried_clears}
+use Rattle.ov_even.proofs.AnalysisSteps.Narrowing.{members_few, two_nodes, not_last, ok_then, tried_suffices, tried_clears}
 use Rattle.ov_even.proofs.level_search.search.Goals as goal
 
 pub first_guess-requires-clause-nodes : goal.first_guess-requires-clause-nodes

@@ -1,4 +1,4 @@
--- Level `low` is cleared by what is kept, and the tried levels come closer or go higher.
+-- Level `low` is cleared by the kept pieces, and each turn raises `low` or lowers `high`.
 use Rattle.std.proofs.Common.{◌≡◌, ◌<◌, ◌+◌, ◌-◌, ◌*◌, length}
 use Rattle.ov_even.specs.Code.Trying.{AreSettledRight, IsLevelCleared}
 use Rattle.ov_even.proofs.level_search.search.Given as goal

@@ -1,5 +1,5 @@
 use Rattle.std.proofs.Common.{◌∙◌, sym, arith}
-use Rattle.ov_even.proofs.LevelPlaces.{length_level_low, length_level_high}
+use Rattle.ov_even.proofs.PieceNumbers.LevelPlaces.{length_level_low, length_level_high}
 use Rattle.ov_even.proofs.levels.level_size.Goals as goal
 
 pub returns-then-level-m : goal.returns-then-level-m

@@ -1,6 +1,6 @@
 use Rattle.std.proofs.Common.{◌≡◌, ◌+◌, ◌-◌, refl, ap, arith}
 use Rattle.ov_even.specs.Code.Levels.{pairs_among}
-use Rattle.ov_even.proofs.Pairs.{pairs_more, before_within}
+use Rattle.ov_even.proofs.PieceNumbers.Pairs.{pairs_more, before_within}
 use Rattle.ov_even.proofs.levels.pair_at.Goals as goal
 
 pub loop-before-init : goal.loop-before-init

@@ -1,6 +1,6 @@
 use Rattle.std.proofs.Common.{◌≡◌, ◌∙◌, ◌*◌, ◌-◌, ◌/◌, ◌≤◌, ap, ℕ, arith}
 use Rattle.std.proofs.lemmas.Nat.{mul-le}
-use Rattle.ov_even.proofs.Pairs.{pairs_halved}
+use Rattle.ov_even.proofs.PieceNumbers.Pairs.{pairs_halved}
 use Rattle.ov_even.proofs.levels.pair_count.Goals as goal
 
 pub returns-clause-count : goal.returns-clause-count

@@ -1,6 +1,6 @@
 use Rattle.std.proofs.Common.{◌≡◌, ◌+◌, ◌-◌, ◌≤◌, Some, slice_get, sym, ap, ◌∙◌, arith}
 use Rattle.ov_even.specs.Code.Levels.{pieces_of_level, pairs_among}
-use Rattle.ov_even.proofs.LevelPlaces.{pair_placed, fan_placed, pair_member, fan_member}
+use Rattle.ov_even.proofs.PieceNumbers.LevelPlaces.{pair_placed, fan_placed, pair_member, fan_member}
 use Rattle.ov_even.proofs.levels.piece_in_level.Goals as goal
 
 pub returns-then-place-pairs : goal.returns-then-place-pairs

@@ -5,7 +5,7 @@ use Rattle.ov_fans.specs.declared.piece.Piece.{Piece}
 use Rattle.ov_fans.specs.declared.piece.Piece.TheVariants.{Pair, Fan}
 use Rattle.ov_fans.specs.Pieces.{IsPieceOf, IsPairPiece, IsFanPiece}
 use Rattle.ov_even.specs.Code.Levels.{pieces_of_level}
-use Rattle.ov_even.proofs.LevelPlaces.{pair_placed, fan_placed}
+use Rattle.ov_even.proofs.PieceNumbers.LevelPlaces.{pair_placed, fan_placed}
 use Rattle.ov_even.proofs.levels.place_in_level.Goals as goal
 
 pub returns-in-Pair-clause-place : goal.returns-in-Pair-clause-place

@@ -1,7 +1,7 @@
 use Rattle.std.proofs.Common.{◌+◌, ◌-◌, ◌<◌, ◌≤◌, ℕ, length, slice_get, refl, sym, ap, ◌∙◌, arith}
 use Rattle.ov_even.specs.Code.Levels.{pieces_of_level, levels_behind}
-use Rattle.ov_even.proofs.AllLevels.{length_ahead, level_left, place_ahead, place_behind}
-use Rattle.ov_even.proofs.Numbering.{more_than, there_numbered}
+use Rattle.ov_even.proofs.PieceNumbers.AllLevels.{length_ahead, level_left, place_ahead, place_behind}
+use Rattle.ov_even.proofs.PieceNumbers.Numbering.{more_than, there_numbered}
 use Rattle.ov_even.proofs.numbers.group_piece_at.Goals as goal
 
 pub loop-size-init : goal.loop-size-init

@@ -1,4 +1,4 @@
--- the piece stands among those of the levels that are left
+-- the piece is among those of the levels still left
 use Rattle.std.proofs.Common.{◌≡◌, ◌<◌, ◌≤◌, ◌-◌, length, slice_get}
 use Rattle.ov_even.specs.Code.Levels.{pieces_of_level, levels_behind, all_pieces}
 use Rattle.ov_even.proofs.numbers.group_piece_at.Given as goal

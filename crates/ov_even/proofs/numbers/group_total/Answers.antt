@@ -1,7 +1,7 @@
 use Rattle.std.proofs.Common.{subst}
 use Rattle.ov_even.specs.Order.{AreSoMany}
-use Rattle.ov_even.proofs.Numbering.{so_many}
-use Rattle.ov_even.proofs.Totals.{reckoned, in_figures, total_small}
+use Rattle.ov_even.proofs.PieceNumbers.Numbering.{so_many}
+use Rattle.ov_even.proofs.PieceNumbers.Totals.{reckoned, in_figures, total_small}
 use Rattle.ov_even.proofs.numbers.group_total.Goals as goal
 
 pub returns-clause-count : goal.returns-clause-count

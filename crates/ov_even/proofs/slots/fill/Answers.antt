@@ -1,4 +1,4 @@
--- One more settled piece is looked at.
+-- One more settled piece is examined.
 use Rattle.std.proofs.Common.{◌≡◌, ◌∙◌, ◌<◌, List, ◌++◌, ℕ, Some, map, take, take_all, length, sym, ap, subst}
 use Rattle.std.specs.Option.{option_copied}
 use Rattle.std.proofs.Math.ListN.{set}
@@ -8,8 +8,8 @@ use Rattle.ov_ids.specs.Members.{Has}
 use Rattle.ov_ids.proofs.Members.{has_place}
 use Rattle.ov_fans.specs.declared.settled.Settled.{Settled}
 use Rattle.ov_even.specs.Code.Slots.{AreSlotsOf}
-use Rattle.ov_even.proofs.FirstCut.{one_more}
-use Rattle.ov_even.proofs.Slotted.{slots_put, slots_pass, place_within}
+use Rattle.ov_even.proofs.AnalysisSteps.FirstCut.{one_more}
+use Rattle.ov_even.proofs.AnalysisSteps.Slotted.{slots_put, slots_pass, place_within}
 use Rattle.ov_even.proofs.slots.fill.Goals as goal
 use Rattle.ov_even.proofs.slots.fill.Goals.{in-Paths, in_default}
 

@@ -1,4 +1,4 @@
--- What was looked at so far has its paths in the slots.
+-- The slots have the paths of the pieces examined so far.
 use Rattle.std.proofs.Common.{◌≡◌, List, ◌++◌, take, map, length}
 use Rattle.std.specs.Option.{option_copied}
 use Rattle.ov_fans.specs.declared.settled.Settled.{Settled}

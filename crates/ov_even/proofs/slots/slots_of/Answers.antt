@@ -1,4 +1,4 @@
--- One more haul is looked at.
+-- One more haul is examined.
 use Rattle.std.proofs.Common.{◌≡◌, ◌∙◌, ◌+◌, ◌++◌, List, None, refl, take, map, sym, ap, subst}
 use Rattle.std.specs.Option.{option_copied}
 use Rattle.std.proofs.lemmas.List.{length-map}
@@ -8,8 +8,8 @@ use Rattle.ov_fans.specs.declared.settled.Settled.{Settled}
 use Rattle.ov_even.specs.declared.haul.Haul.{Haul}
 use Rattle.ov_even.specs.Code.Cuts.{all_settled}
 use Rattle.ov_even.specs.Code.Slots.{AreSlotsOf}
-use Rattle.ov_even.proofs.FirstCut.{all_more, among_all}
-use Rattle.ov_even.proofs.Slotted.{slots_none, none_filled, none_alone}
+use Rattle.ov_even.proofs.AnalysisSteps.FirstCut.{all_more, among_all}
+use Rattle.ov_even.proofs.AnalysisSteps.Slotted.{slots_none, none_filled, none_alone}
 use Rattle.ov_even.proofs.slots.slots_of.Goals as goal
 
 pub loop-haul-init : goal.loop-haul-init

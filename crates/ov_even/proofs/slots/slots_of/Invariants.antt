@@ -1,4 +1,4 @@
--- What was looked at so far has its paths in the slots.
+-- The slots have the paths of the hauls examined so far.
 use Rattle.std.proofs.Common.{take, map}
 use Rattle.std.specs.Option.{option_copied}
 use Rattle.ov_even.specs.Code.Cuts.{all_settled}

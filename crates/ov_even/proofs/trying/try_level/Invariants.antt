@@ -1,6 +1,6 @@
--- The level is under way, and the settler stays as it was.
+-- The state of the level, as in `IsUnderWay`; the settler does not change.
 use Rattle.std.proofs.Common.{◌≡◌}
-use Rattle.ov_even.proofs.Trials.{IsUnderWay}
+use Rattle.ov_even.proofs.AnalysisSteps.Trials.{IsUnderWay}
 use Rattle.ov_even.proofs.trying.try_level.Given as goal
 
 abbrev pub invariant-loop-piece : goal.invariant-loop-piece

@@ -1,6 +1,6 @@
 -- The aim of a fan, by the places that are kept.
 use Rattle.ov_fans.specs.Pieces.{member_at}
-use Rattle.ov_fans.proofs.Aimed.{fan_aimed}
+use Rattle.ov_fans.proofs.PieceNets.Aimed.{fan_aimed}
 use Rattle.ov_fans.proofs.aim.fan_aim.Goals as goal
 
 pub returns : goal.returns

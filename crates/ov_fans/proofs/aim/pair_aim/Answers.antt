@@ -4,8 +4,8 @@ use Rattle.ov_graph.specs.Links.{LinkGraph, Linked}
 use Rattle.ov_graph.specs.Paths.{node_at}
 use Rattle.ov_graph.specs.Row.{HasBit}
 use Rattle.ov_fans.specs.Pieces.{member_at}
-use Rattle.ov_fans.proofs.Aimed.{pair_aimed}
-use Rattle.ov_fans.proofs.Ranks.{members_rise}
+use Rattle.ov_fans.proofs.PieceNets.Aimed.{pair_aimed}
+use Rattle.ov_fans.proofs.PieceNets.Ranks.{members_rise}
 use Rattle.ov_fans.proofs.aim.pair_aim.Goals as goal
 
 pub returns : goal.returns

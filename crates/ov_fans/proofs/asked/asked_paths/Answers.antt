@@ -2,7 +2,7 @@
 use Rattle.std.proofs.Common.{◌≡◌, List, ℕ, IfOk, map, subst}
 use Rattle.ov_graph.specs.Paths.{node_at}
 use Rattle.ov_fans.specs.Pieces.{AreAskedPaths, paths_of}
-use Rattle.ov_fans.proofs.Ended.{pair_ended, holds_of}
+use Rattle.ov_fans.proofs.PieceNets.Ended.{pair_ended, holds_of}
 use Rattle.ov_fans.proofs.asked.asked_paths.Goals as goal
 
 pub returns-in-Pair-clause-same : goal.returns-in-Pair-clause-same

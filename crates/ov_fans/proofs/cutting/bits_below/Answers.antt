@@ -2,8 +2,8 @@
 use Rattle.std.proofs.Common.{◌∙◌, ◌≡◌, ◌↔◌, ◌*◌, ◌/◌, ◌<◌, ℕ, length-set, slice_index, arith}
 use Rattle.std.proofs.lemmas.Nat.{div-add-mod', mod_below}
 use Rattle.ov_graph.specs.Row.{HasBit}
-use Rattle.ov_graph.proofs.Bits.{word_more, no_word_yet}
-use Rattle.ov_fans.proofs.Lower.{word_bit, last_bit}
+use Rattle.ov_graph.proofs.BitRows.Bits.{word_more, no_word_yet}
+use Rattle.ov_fans.proofs.RowScans.Lower.{word_bit, last_bit}
 use Rattle.ov_fans.proofs.cutting.bits_below.Goals as goal
 
 pub loop-word-init : goal.loop-word-init

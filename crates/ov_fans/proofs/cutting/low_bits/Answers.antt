@@ -1,4 +1,4 @@
-use Rattle.ov_graph.proofs.Shifts.{below_bit}
+use Rattle.ov_graph.proofs.BitRows.Shifts.{below_bit}
 use Rattle.ov_fans.proofs.cutting.low_bits.Goals as goal
 
 pub returns : goal.returns

@@ -5,8 +5,8 @@ use Rattle.ov_graph.specs.Links.{LinkGraph}
 use Rattle.ov_graph.specs.Code.Kept.{picked}
 use Rattle.ov_fans.specs.Pieces.{member_at}
 use Rattle.ov_fans.specs.Code.Kept.{IsLowestOutside}
-use Rattle.ov_fans.proofs.Aimed.{below_picked}
-use Rattle.ov_fans.proofs.Outside.{fan_left, fan_far}
+use Rattle.ov_fans.proofs.PieceNets.Aimed.{below_picked}
+use Rattle.ov_fans.proofs.RowScans.Outside.{fan_left, fan_far}
 use Rattle.ov_fans.proofs.far.far_of.Goals as goal
 
 pub lowest_outside-requires-clause-some : goal.lowest_outside-requires-clause-some

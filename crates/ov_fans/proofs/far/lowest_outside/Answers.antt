@@ -3,8 +3,8 @@ use Rattle.std.proofs.Common.{◌≡◌, ◌∙◌, ◌<◌, ℕ, List, length, 
 use Rattle.ov_graph.specs.Code.Kept.{picked}
 use Rattle.ov_graph.specs.Paths.{node_at}
 use Rattle.ov_fans.specs.Code.Kept.{IsLowestOutside}
-use Rattle.ov_fans.proofs.Outside.{lowest_picked, none_outside}
-use Rattle.ov_fans.proofs.Ranks.{read_at}
+use Rattle.ov_fans.proofs.RowScans.Outside.{lowest_picked, none_outside}
+use Rattle.ov_fans.proofs.PieceNets.Ranks.{read_at}
 use Rattle.ov_fans.proofs.far.lowest_outside.Goals as goal
 
 pub unreachable-requires : goal.unreachable-requires

@@ -5,7 +5,7 @@ use Rattle.ov_graph.specs.Code.Kept.{picked, IsRowOf}
 use Rattle.ov_fans.specs.Pieces.{member_at}
 use Rattle.ov_fans.specs.Cuts.{IsParted}
 use Rattle.ov_fans.specs.declared.settled.Parting.{Parting}
-use Rattle.ov_fans.proofs.Settling.{cut_found, parted_of, full_in, source_at}
+use Rattle.ov_fans.proofs.PieceNets.Settling.{cut_found, parted_of, full_in, source_at}
 use Rattle.ov_fans.proofs.settler.parting.Goals as goal
 
 pub nodes_of_row-requires : goal.nodes_of_row-requires

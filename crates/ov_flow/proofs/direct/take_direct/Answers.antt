@@ -5,7 +5,7 @@ use Rattle.std.proofs.lemmas.Bool.{cases_eq}
 use Rattle.std.proofs.lemmas.List.{length_push}
 use Rattle.ov_ids.specs.Members.{Has}
 use Rattle.ov_graph.specs.Links.{Linked}
-use Rattle.ov_graph.proofs.Filtered.{linked_node}
+use Rattle.ov_graph.proofs.EvenTest.Filtered.{linked_node}
 use Rattle.ov_split.specs.Places.{net_by_place}
 use Rattle.ov_split.specs.Code.Residual.{IsFlow, IsFree}
 use Rattle.ov_flow.specs.Code.Walked.{table_of}

@@ -1,4 +1,4 @@
--- From the end of what is written to its front.
+-- The list is read from its end to its front.
 use Rattle.std.proofs.Common.{◌∙◌, ℕ, [], ◌∷◌, inl, refl, sym, subst, slice_index, List, arith}
 use Rattle.std.proofs.lemmas.List.{get_or_read}
 use Rattle.ov_ids.specs.Members.{Has}

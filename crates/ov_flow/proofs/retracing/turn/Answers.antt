@@ -1,4 +1,4 @@
--- The walk opens one end more, and where it met paths, what is held is retraced.
+-- The walk opens one more end. Where it met paths, the paths are copied.
 use Rattle.std.proofs.Common.{◌≡◌, ◌∙◌, Option, ℕ, List, length, drop, sym, subst}
 use Rattle.std.proofs.lemmas.List.{take_at}
 use Rattle.ov_split.specs.Places.{net_by_place}

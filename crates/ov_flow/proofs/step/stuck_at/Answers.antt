@@ -1,4 +1,4 @@
--- The boundary of a search that found no more is the nearest least cut.
+-- The boundary of a search that found no path is the nearest least cut.
 use Rattle.std.proofs.Common.{length}
 use Rattle.ov_graph.specs.Code.Kept.{picked}
 use Rattle.ov_split.specs.Places.{net_by_place}

@@ -1,4 +1,4 @@
-use Rattle.ov_graph.proofs.Marked.{mark_row}
+use Rattle.ov_graph.proofs.BitRows.Marked.{mark_row}
 use Rattle.ov_graph.proofs.adjacency.mark.Goals as goal
 
 pub returns : goal.returns

@@ -4,7 +4,7 @@ use Rattle.std.proofs.lemmas.List.{take_more}
 use Rattle.ov_ids.specs.Members.{Has}
 use Rattle.ov_ids.proofs.Members.{has_place}
 use Rattle.ov_graph.specs.Code.Kept.{IsMarked}
-use Rattle.ov_graph.proofs.Marked.{more_marked}
+use Rattle.ov_graph.proofs.BitRows.Marked.{more_marked}
 use Rattle.ov_graph.proofs.adjacency.mark_all.Goals as goal
 
 pub place_in-p-requires-clause-node : goal.place_in-p-requires-clause-node

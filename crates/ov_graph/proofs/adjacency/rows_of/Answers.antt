@@ -4,8 +4,8 @@ use Rattle.std.proofs.lemmas.List.{length-replicate}
 use Rattle.std.specs.List.{each_same}
 use Rattle.ov_graph.specs.declared.row.TheConstants.{EMPTY}
 use Rattle.ov_graph.specs.Code.Kept.{IsMarked}
-use Rattle.ov_graph.proofs.Bits.{empty_bit}
-use Rattle.ov_graph.proofs.Marked.{none_marked, empty_rows}
+use Rattle.ov_graph.proofs.BitRows.Bits.{empty_bit}
+use Rattle.ov_graph.proofs.BitRows.Marked.{none_marked, empty_rows}
 use Rattle.ov_graph.proofs.adjacency.rows_of.Goals as goal
 
 pub mark_all-requires-clause-none : goal.mark_all-requires-clause-none

@@ -1,4 +1,4 @@
-use Rattle.ov_graph.proofs.Marked.{unmark_row}
+use Rattle.ov_graph.proofs.BitRows.Marked.{unmark_row}
 use Rattle.ov_graph.proofs.adjacency.unmark.Goals as goal
 
 pub returns : goal.returns

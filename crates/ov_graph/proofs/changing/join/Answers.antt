@@ -1,5 +1,5 @@
 use Rattle.std.proofs.Common.{rules}
-use Rattle.ov_graph.proofs.ChangedLinks.{gains_link}
+use Rattle.ov_graph.proofs.GraphValues.ChangedLinks.{gains_link}
 use Rattle.ov_graph.proofs.changing.join.Goals as goal
 
 pub returns-clause-kept : goal.returns-clause-kept

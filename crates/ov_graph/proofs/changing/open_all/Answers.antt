@@ -1,7 +1,7 @@
 use Rattle.std.proofs.Common.{◌<◌, ◌*◌, inl, inr, arith}
 use Rattle.ov_graph.specs.Code.Shifts.{HasOpened}
-use Rattle.ov_graph.proofs.Bits.{no_row}
-use Rattle.ov_graph.proofs.Marked.{more_changed, rest_unchanged, all_changed}
+use Rattle.ov_graph.proofs.BitRows.Bits.{no_row}
+use Rattle.ov_graph.proofs.BitRows.Marked.{more_changed, rest_unchanged, all_changed}
 use Rattle.ov_graph.proofs.changing.open_all.Goals as goal
 
 pub loop-place-preserved : goal.loop-place-preserved

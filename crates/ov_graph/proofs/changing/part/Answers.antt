@@ -1,5 +1,5 @@
 use Rattle.std.proofs.Common.{rules}
-use Rattle.ov_graph.proofs.ChangedLinks.{loses_link}
+use Rattle.ov_graph.proofs.GraphValues.ChangedLinks.{loses_link}
 use Rattle.ov_graph.proofs.changing.part.Goals as goal
 
 pub returns-clause-kept : goal.returns-clause-kept

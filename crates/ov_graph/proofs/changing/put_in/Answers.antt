@@ -1,4 +1,4 @@
--- The node is put in, a row for it, and a bit for it into each row.
+-- The node is inserted, a row for it, and a bit for it in each row.
 use Rattle.std.proofs.Common.{◌∙◌, ◌↔◌, ◌*◌, ◌<◌, ℕ, List, length, sym, ap, subst, arith}
 use Rattle.std.specs.Prelude.{insert}
 use Rattle.std.specs.Vec.{with_items}
@@ -10,7 +10,7 @@ use Rattle.ov_graph.specs.Row.{HasBit}
 use Rattle.ov_graph.specs.Code.Shifts.{HasOpened}
 use Rattle.ov_graph.specs.Changes.{GainsNode}
 use Rattle.ov_graph.specs.Code.Kept.{row_at, graph_kept, IsKept}
-use Rattle.ov_graph.proofs.ChangedNodes.{IsPutIn, gains_node}
+use Rattle.ov_graph.proofs.GraphValues.ChangedNodes.{IsPutIn, gains_node}
 use Rattle.ov_graph.proofs.changing.put_in.Goals as goal
 
 pub insert-requires : goal.insert-requires

@@ -1,4 +1,4 @@
--- The node is taken out, its row, and its bit out of each row.
+-- The node is removed, its row, and its bit in each row.
 use Rattle.std.proofs.Common.{◌≡◌, ◌∙◌, ◌↔◌, ◌*◌, ◌<◌, ℕ, List, length, slice_index, sym, ap, subst, arith}
 use Rattle.std.specs.Vec.{with_items}
 use Rattle.std.proofs.lemmas.List.{with_items_is}
@@ -6,7 +6,7 @@ use Rattle.ov_graph.specs.Row.{HasBit}
 use Rattle.ov_graph.specs.Code.Shifts.{HasClosed}
 use Rattle.ov_graph.specs.Changes.{LosesNode}
 use Rattle.ov_graph.specs.Code.Kept.{row_at, graph_kept, IsKept}
-use Rattle.ov_graph.proofs.ChangedNodes.{IsTakenOut, loses_node}
+use Rattle.ov_graph.proofs.GraphValues.ChangedNodes.{IsTakenOut, loses_node}
 use Rattle.ov_graph.proofs.changing.take_out.Goals as goal
 
 both : (c : goal.After-rows-1)

@@ -1,6 +1,6 @@
 use Rattle.std.proofs.Common.{◌∙◌}
 use Rattle.ov_ids.proofs.Members.{has_tested}
-use Rattle.ov_graph.proofs.Halving.{found_test}
+use Rattle.ov_graph.proofs.BitRows.Halving.{found_test}
 use Rattle.ov_graph.proofs.places.is_member.Goals as goal
 
 pub returns : goal.returns

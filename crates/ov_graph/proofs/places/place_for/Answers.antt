@@ -1,4 +1,4 @@
-use Rattle.ov_graph.proofs.Halving.{halved}
+use Rattle.ov_graph.proofs.BitRows.Halving.{halved}
 use Rattle.ov_graph.proofs.places.place_for.Goals as goal
 
 pub returns-in-Ok : goal.returns-in-Ok

@@ -1,4 +1,4 @@
-use Rattle.ov_graph.proofs.Halving.{not_found}
+use Rattle.ov_graph.proofs.BitRows.Halving.{not_found}
 use Rattle.ov_graph.proofs.places.place_of.Goals as goal
 
 pub returns-clause-none : goal.returns-clause-none

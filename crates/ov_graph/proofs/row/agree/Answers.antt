@@ -1,5 +1,5 @@
 use Rattle.std.proofs.Common.{◌*◌, ◌+◌, true≢false, sym, arith, rules}
-use Rattle.ov_graph.proofs.Bits.{agree_more, differ_here}
+use Rattle.ov_graph.proofs.BitRows.Bits.{agree_more, differ_here}
 use Rattle.ov_graph.proofs.row.agree.Goals as goal
 
 pub returns-then-a-word : goal.returns-then-a-word

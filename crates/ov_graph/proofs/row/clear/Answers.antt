@@ -1,5 +1,5 @@
 use Rattle.std.proofs.Common.{arith}
-use Rattle.ov_graph.proofs.Bits.{clear_bit}
+use Rattle.ov_graph.proofs.BitRows.Bits.{clear_bit}
 use Rattle.ov_graph.proofs.row.clear.Goals as goal
 
 pub returns : goal.returns

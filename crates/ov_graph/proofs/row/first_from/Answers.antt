@@ -1,6 +1,6 @@
 use Rattle.std.proofs.Common.{◌/◌, ◌%◌, slice_index, arith}
 use Rattle.std.proofs.lemmas.Nat.{div-add-mod'}
-use Rattle.ov_graph.proofs.Bits.{in_word, first_in_word, none_in_word, first_later, none_more}
+use Rattle.ov_graph.proofs.BitRows.Bits.{in_word, first_in_word, none_in_word, first_later, none_more}
 use Rattle.ov_graph.proofs.row.first_from.Goals as goal
 
 pub returns-in-Some-clause-some : goal.returns-in-Some-clause-some

@@ -1,7 +1,7 @@
 -- The test of a bit.
 use Rattle.std.proofs.Common.{◌∙◌, ◌/◌, ◌%◌, sym, slice_index, eqb-true, eq-eqb}
 use Rattle.std.proofs.lemmas.Nat.Bits.{shr_and_one}
-use Rattle.ov_graph.proofs.Bits.{bit_one, one_bit}
+use Rattle.ov_graph.proofs.BitRows.Bits.{bit_one, one_bit}
 use Rattle.ov_graph.proofs.row.has.Goals as goal
 
 pub returns : goal.returns

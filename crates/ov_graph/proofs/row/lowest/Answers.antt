@@ -1,5 +1,5 @@
 use Rattle.std.proofs.Common.{arith}
-use Rattle.ov_graph.proofs.Bits.{lowest_bit}
+use Rattle.ov_graph.proofs.BitRows.Bits.{lowest_bit}
 use Rattle.ov_graph.proofs.row.lowest.Goals as goal
 
 pub returns-else-word-eq0-clause-some : goal.returns-else-word-eq0-clause-some

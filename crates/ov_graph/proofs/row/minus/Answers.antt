@@ -1,5 +1,5 @@
 use Rattle.std.proofs.Common.{arith}
-use Rattle.ov_graph.proofs.Bits.{word_without}
+use Rattle.ov_graph.proofs.BitRows.Bits.{word_without}
 use Rattle.ov_graph.proofs.row.minus.Goals as goal
 
 pub returns : goal.returns

@@ -1,5 +1,5 @@
 use Rattle.std.proofs.Common.{arith}
-use Rattle.ov_graph.proofs.Bits.{put_bit}
+use Rattle.ov_graph.proofs.BitRows.Bits.{put_bit}
 use Rattle.ov_graph.proofs.row.put.Goals as goal
 
 pub returns : goal.returns

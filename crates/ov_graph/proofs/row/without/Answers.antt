@@ -1,6 +1,6 @@
 use Rattle.std.proofs.Common.{◌∙◌, length-set, arith}
 use Rattle.ov_graph.specs.Row.{HasBit}
-use Rattle.ov_graph.proofs.Bits.{word_more, no_word_yet, bits_without}
+use Rattle.ov_graph.proofs.BitRows.Bits.{word_more, no_word_yet, bits_without}
 use Rattle.ov_graph.proofs.row.without.Goals as goal
 
 pub loop-word-init : goal.loop-word-init

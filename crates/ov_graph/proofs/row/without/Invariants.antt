@@ -1,4 +1,4 @@
--- the words so far have the bits of one that the other has not
+-- the words so far have the bits of the one row that are not in the other
 use Rattle.std.proofs.Common.{◌≡◌, ◌↔◌, ℕ, ◌<◌, ◌*◌, length}
 use Rattle.ov_graph.specs.Row.{HasBit}
 use Rattle.ov_graph.proofs.row.without.Given as goal

@@ -1,5 +1,5 @@
 use Rattle.std.proofs.Common.{arith}
-use Rattle.ov_graph.proofs.Shifts.{above_bit}
+use Rattle.ov_graph.proofs.BitRows.Shifts.{above_bit}
 use Rattle.ov_graph.proofs.row_shift.above.Goals as goal
 
 pub returns : goal.returns

@@ -1,6 +1,6 @@
 use Rattle.std.proofs.Common.{◌∙◌, length-set, arith}
 use Rattle.ov_graph.specs.Code.Shifts.{HasClosed}
-use Rattle.ov_graph.proofs.Bits.{word_more, no_word_yet}
+use Rattle.ov_graph.proofs.BitRows.Bits.{word_more, no_word_yet}
 use Rattle.ov_graph.proofs.row_shift.closed.Goals as goal
 
 pub loop-word-init : goal.loop-word-init

@@ -1,7 +1,7 @@
 use Rattle.std.proofs.Common.{◌+◌, ◌≤◌, ◌≡◌, ◌↔◌, ℕ, subst, arith}
 use Rattle.std.specs.Int.{bit_at}
 use Rattle.ov_graph.specs.Row.{HasBit}
-use Rattle.ov_graph.proofs.Shifts.{word_before, closed_there, closed_after}
+use Rattle.ov_graph.proofs.BitRows.Shifts.{word_before, closed_there, closed_after}
 use Rattle.ov_graph.proofs.row_shift.closed_word.Goals as goal
 
 pub returns-then-word-at : goal.returns-then-word-at

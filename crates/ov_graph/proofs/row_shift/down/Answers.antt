@@ -1,5 +1,5 @@
 use Rattle.std.proofs.Common.{arith}
-use Rattle.ov_graph.proofs.Shifts.{down_last, down_others}
+use Rattle.ov_graph.proofs.BitRows.Shifts.{down_last, down_others}
 use Rattle.ov_graph.proofs.row_shift.down.Goals as goal
 
 pub returns-clause-last : goal.returns-clause-last

@@ -1,5 +1,5 @@
 use Rattle.std.proofs.Common.{inl, inr}
-use Rattle.ov_graph.proofs.Shifts.{or_one}
+use Rattle.ov_graph.proofs.BitRows.Shifts.{or_one}
 use Rattle.ov_graph.proofs.row_shift.joined.Goals as goal
 
 pub returns : goal.returns

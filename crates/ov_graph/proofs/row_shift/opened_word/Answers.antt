@@ -1,6 +1,6 @@
 use Rattle.std.proofs.Common.{◌<◌, ◌-◌, arith}
 use Rattle.ov_graph.specs.Row.{HasBit}
-use Rattle.ov_graph.proofs.Shifts.{word_before, opened_there, opened_after}
+use Rattle.ov_graph.proofs.BitRows.Shifts.{word_before, opened_there, opened_after}
 use Rattle.ov_graph.proofs.row_shift.opened_word.Goals as goal
 
 pub returns-then-word-at : goal.returns-then-word-at

@@ -3,7 +3,7 @@ use Rattle.std.proofs.Common.{◌≡◌, ◌∙◌, ◌↔◌, ◌+◌, ◌-◌,
 use Rattle.std.proofs.lemmas.Bool.{cases_eq}
 use Rattle.std.proofs.lemmas.Nat.Bits.{bit_at-zero}
 use Rattle.std.specs.Int.{bit_at}
-use Rattle.ov_graph.proofs.Shifts.{or_one}
+use Rattle.ov_graph.proofs.BitRows.Shifts.{or_one}
 use Rattle.ov_graph.proofs.row_shift.parted.Goals as goal
 
 pub returns : goal.returns

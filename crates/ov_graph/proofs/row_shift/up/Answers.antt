@@ -1,5 +1,5 @@
 use Rattle.std.proofs.Common.{arith}
-use Rattle.ov_graph.proofs.Shifts.{up_first, up_others}
+use Rattle.ov_graph.proofs.BitRows.Shifts.{up_first, up_others}
 use Rattle.ov_graph.proofs.row_shift.up.Goals as goal
 
 pub returns-clause-first : goal.returns-clause-first

@@ -1,4 +1,4 @@
--- The test of order says what the relation says.
+-- The test of order agrees with the relation.
 use Rattle.ov_ids.proofs.Rising.{ascends_tested}
 use Rattle.ov_ids.proofs.order.is_ascending.Goals as goal
 

@@ -1,6 +1,6 @@
 -- Nodes and links that make a graph within the limit have no fault.
 use Rattle.std.proofs.Common.{◌≡◌, ◌∙◌, sym, None, Some, arith}
-use Rattle.ov_graph.proofs.Tested.{no_fault_found, computed_refusal}
+use Rattle.ov_graph.proofs.EvenTest.Tested.{no_fault_found, computed_refusal}
 use Rattle.ov_net.proofs.mutual_links.graph_of.Goals as goal
 
 pub unreachable-requires : goal.unreachable-requires

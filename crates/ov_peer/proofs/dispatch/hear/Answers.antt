@@ -21,7 +21,10 @@ pub returns-in-NeighborReply-clause-allowed : goal.returns-in-NeighborReply-clau
 returns-in-NeighborReply-clause-allowed c = with_attempt _ _ _ _ _ _ _ _ _ _ _ c.in-NeighborReply.is (search rules)
 
 pub returns-in-Shuffle-clause-allowed : goal.returns-in-Shuffle-clause-allowed
-returns-in-Shuffle-clause-allowed c = with_views _ _ _ _ _ _ _ _ _ _ c.in-Shuffle.is (rw c.as_slice.ensures at c.on_shuffle.ensures.allowed)
+returns-in-Shuffle-clause-allowed c =
+    with_views _ _ _ _ _ _ _ _ _ _ c.in-Shuffle.is (rw c.as_slice.ensures at c.on_shuffle.ensures.allowed)
 
 pub returns-in-ShuffleReply-clause-allowed : goal.returns-in-ShuffleReply-clause-allowed
-returns-in-ShuffleReply-clause-allowed c = with_sent _ _ _ _ _ _ _ _ _ _ c.in-ShuffleReply.is (rw c.as_slice-in-ShuffleReply.ensures at c.on_reply-in-ShuffleReply.ensures.allowed)
+returns-in-ShuffleReply-clause-allowed c =
+    with_sent _ _ _ _ _ _ _ _ _ _ c.in-ShuffleReply.is
+    (rw c.as_slice-in-ShuffleReply.ensures at c.on_reply-in-ShuffleReply.ensures.allowed)

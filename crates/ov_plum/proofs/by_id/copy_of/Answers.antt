@@ -7,8 +7,11 @@ use Rattle.ov_plum.proofs.by_id.copy_of.Goals as goal
 pub loop-i-init : goal.loop-i-init
 loop-i-init g c =
     let es = c.args.entries.now.entries in
-    let all = c.len-i.ensures.len in
-    (omega (arith, all), ap map.from_entries (c.in_ok-with_capacity.ensures.empty ∙ sym (drop-length es) ∙ ap (λ i. drop i es) (sym all)))
+    let all = c.len-i.ensures.len in (
+      omega (arith, all),
+      ap map.from_entries
+          (c.in_ok-with_capacity.ensures.empty ∙ sym (drop-length es) ∙ ap (λ i. drop i es) (sym all)),
+    )
 
 pub loop-i-preserved : goal.loop-i-preserved
 loop-i-preserved g c =
@@ -17,7 +20,9 @@ loop-i-preserved g c =
     let later : suc i ≡ c.loop-i.i = omega (arith, c.loop-i-test.true) in
     let before = c.loop-i.invariant in (
       omega (arith, before.0),
-      c.in_ok-insert-in-Some.ensures.ok ∙ (λ j. map.insert (before.1 j) c.in-Some.id.now (c.in_ok-try_copy-in-Some.ensures j)) ∙ ap (λ k. map.insert (map.from_entries (drop k es)) c.in-Some.id.now c.in-Some.value.now) (sym later)
+      c.in_ok-insert-in-Some.ensures.ok
+          ∙ (λ j. map.insert (before.1 j) c.in-Some.id.now (c.in_ok-try_copy-in-Some.ensures j))
+          ∙ ap (λ k. map.insert (map.from_entries (drop k es)) c.in-Some.id.now c.in-Some.value.now) (sym later)
           ∙ sym (one_more es i _ (sym c.in-Some.ensures.entry)),
     )
 

@@ -1,6 +1,6 @@
 -- the words so far, and how many there are
 use Rattle.std.proofs.Common.{◌≡◌, vec_len}
-use Rattle.ov_run.specs.Code.Collecting.{stream_now}
+use Rattle.ov_run.specs.Code.RunnableLines.{stream_now}
 use Rattle.ov_run.specs.Draws.{AreDraws, seeded}
 use Rattle.ov_run.proofs.random_words.draw.Given as goal
 

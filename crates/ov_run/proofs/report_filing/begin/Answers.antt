@@ -11,5 +11,6 @@ pub returns-in-None-clause-refused : goal.returns-in-None-clause-refused
 returns-in-None-clause-refused c =
     let b = c.args.core.now in
     let s = c.args.subject.now in
-    IfErr-weaker c.begin.result (IsRefusedBy OutOfMemory (BeginJudged b s.moment)) (IsRefusedBy OutOfMemory (AnalysisJudged b s))
+    IfErr-weaker c.begin.result (IsRefusedBy OutOfMemory (BeginJudged b s.moment))
+    (IsRefusedBy OutOfMemory (AnalysisJudged b s))
     (λ f. all_refused b s f c.world.ensures.sound c.in-None.is c.requires.free) c.begin.ensures.refused

@@ -1,7 +1,7 @@
 -- The bit of the one place, or of none.
 use Rattle.std.proofs.Common.{◌∙◌, inl, inr, Some, sym, ap}
-use Rattle.ov_graph.proofs.Bits.{empty_bit}
-use Rattle.ov_split.proofs.Rows.{some_same}
+use Rattle.ov_graph.proofs.BitRows.Bits.{empty_bit}
+use Rattle.ov_split.proofs.ByNames.Rows.{some_same}
 use Rattle.ov_split.proofs.net.row_of.Goals as goal
 
 pub returns-in-Some : goal.returns-in-Some

@@ -1,6 +1,6 @@
 -- The two places that are put into an empty row are below the third.
 use Rattle.std.proofs.Common.{length, inl, inr, ap, arith}
-use Rattle.ov_graph.proofs.Bits.{empty_bit}
+use Rattle.ov_graph.proofs.BitRows.Bits.{empty_bit}
 use Rattle.ov_test_analysis.proofs.searches.from_third.Goals as goal
 
 pub new-requires-clause-targets : goal.new-requires-clause-targets

@@ -1,7 +1,7 @@
 -- What has a place is a node.
 use Rattle.std.proofs.Common.{◌∙◌}
 use Rattle.ov_ids.proofs.Members.{has_tested}
-use Rattle.ov_graph.proofs.Halving.{found_test}
+use Rattle.ov_graph.proofs.BitRows.Halving.{found_test}
 use Rattle.ov_test_certificates.proofs.changes.is_node.Goals as goal
 
 pub returns : goal.returns

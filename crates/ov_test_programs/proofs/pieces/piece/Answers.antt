@@ -1,6 +1,6 @@
 -- A number below the count of the pieces is that of a piece.
 use Rattle.std.proofs.Common.{ℕ, ◌<◌, subst}
-use Rattle.ov_even.proofs.Numbering.{one_total}
+use Rattle.ov_even.proofs.PieceNumbers.Numbering.{one_total}
 use Rattle.ov_test_programs.proofs.pieces.piece.Goals as goal
 
 pub group_piece_at-requires-clause-below : goal.group_piece_at-requires-clause-below

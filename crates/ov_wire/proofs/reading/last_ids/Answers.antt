@@ -9,4 +9,6 @@ pub returns-in_err-whole : goal.returns-in_err-whole
 returns-in_err-whole c =
     let exit = c.from_residual-in_err-whole in
     let p = err_from_is_err_and exit.result exit.ensures.1 in
-    rw (p.1, p.2, c.in_ok-count.ensures.value) (fails_whole (λ b. Many (ids_in b)) (4 * c.in_ok-count.count) c.in_ok-count.rest.now c.in_err-whole.field-0.0 c.in_err-whole.ensures.short c.in_err-whole.ensures.trailing)
+    rw (p.1, p.2, c.in_ok-count.ensures.value)
+    (fails_whole (λ b. Many (ids_in b)) (4 * c.in_ok-count.count) c.in_ok-count.rest.now c.in_err-whole.field-0.0
+    c.in_err-whole.ensures.short c.in_err-whole.ensures.trailing)

@@ -17,12 +17,15 @@ returns-in_err-body-clause-read c =
     let v = c.in_ok-rest.field-0-0 in
     let kind = c.in_ok-kind.kind in
     let left = c.in_ok-from.rest.now in
-    let is = second bytes c.in_ok-rest.rest.now c.in_ok-kind.rest.now v kind c.in_ok-rest.ensures.front c.in_ok-kind.ensures.front in
-    let on = read_on bytes c.in_ok-rest.rest.now c.in_ok-kind.rest.now left v kind c.in_ok-from.from c.in_ok-rest.ensures.value c.in_ok-kind.ensures.value c.in_ok-from.ensures in
+    let is = second bytes c.in_ok-rest.rest.now c.in_ok-kind.rest.now v kind c.in_ok-rest.ensures.front
+    c.in_ok-kind.ensures.front in
+    let on = read_on bytes c.in_ok-rest.rest.now c.in_ok-kind.rest.now left v kind c.in_ok-from.from
+    c.in_ok-rest.ensures.value c.in_ok-kind.ensures.value c.in_ok-from.ensures in
     let whole = ap (λ (k : ℕ). values_at (fields_of k) bytes) is ∙ on in
     let exit = c.from_residual-in_err-body in
     let p = err_from_is_err_and exit.result exit.ensures.1 in
-    let body = Fails-then c.in_err-body.field-0.0 (values_at (slice_index_or kinds (kind - 1) []) left) (λ vs. One v ∷ One kind ∷ One c.in_ok-from.from ∷ vs) c.in_err-body.ensures.read in
+    let body = Fails-then c.in_err-body.field-0.0 (values_at (slice_index_or kinds (kind - 1) []) left)
+    (λ vs. One v ∷ One kind ∷ One c.in_ok-from.from ∷ vs) c.in_err-body.ensures.read in
     rw (p.1, p.2) (subst (λ (r : Result (List Value) WireFault). Fails c.in_err-body.field-0.0 r) (sym whole) body)
 
 pub returns-clause-read : goal.returns-clause-read
@@ -31,8 +34,10 @@ returns-clause-read c =
     let v = c.in_ok-rest.field-0-0 in
     let kind = c.in_ok-kind.kind in
     let left = c.in_ok-from.rest.now in
-    let is = second bytes c.in_ok-rest.rest.now c.in_ok-kind.rest.now v kind c.in_ok-rest.ensures.front c.in_ok-kind.ensures.front in
-    let on = read_on bytes c.in_ok-rest.rest.now c.in_ok-kind.rest.now left v kind c.in_ok-from.from c.in_ok-rest.ensures.value c.in_ok-kind.ensures.value c.in_ok-from.ensures in
+    let is = second bytes c.in_ok-rest.rest.now c.in_ok-kind.rest.now v kind c.in_ok-rest.ensures.front
+    c.in_ok-kind.ensures.front in
+    let on = read_on bytes c.in_ok-rest.rest.now c.in_ok-kind.rest.now left v kind c.in_ok-from.from
+    c.in_ok-rest.ensures.value c.in_ok-kind.ensures.value c.in_ok-from.ensures in
     let one : v ≡ 1 = omega (arith, c.in_ok-rest.ensures.range) in
     let whole = ap (λ (k : ℕ). values_at (fields_of k) bytes) is ∙ on in
     let kind-is = c.in_ok-body.ensures.kind in
@@ -40,5 +45,6 @@ returns-clause-read c =
 
 pub returns-clause-kind : goal.returns-clause-kind
 returns-clause-kind c =
-    let is = second c.args.bytes.now c.in_ok-rest.rest.now c.in_ok-kind.rest.now c.in_ok-rest.field-0-0 c.in_ok-kind.kind c.in_ok-rest.ensures.front c.in_ok-kind.ensures.front in
+    let is = second c.args.bytes.now c.in_ok-rest.rest.now c.in_ok-kind.rest.now c.in_ok-rest.field-0-0
+    c.in_ok-kind.kind c.in_ok-rest.ensures.front c.in_ok-kind.ensures.front in
     c.in_ok-body.ensures.kind ∙ sym is

@@ -7,4 +7,5 @@ returns-in_ok-put_payload-in-Gossip-clause-ok c =
     let id = c.in_ok-put_id-in-Gossip.ensures.ok in
     let round = c.in_ok-extend_from_slice-in-Gossip.ensures.items in
     let payload = c.in_ok-put_payload-in-Gossip.ensures.ok in
-    rw (c.in-Gossip.is, payload, round, id, c.to_be_bytes-in-Gossip.ensures, c.as_slice-in-Gossip.ensures) (simp (append_assoc, append-nil))
+    rw (c.in-Gossip.is, payload, round, id, c.to_be_bytes-in-Gossip.ensures, c.as_slice-in-Gossip.ensures)
+    (simp (append_assoc, append-nil))

@@ -1,8 +1,8 @@
--- To set the bit of a node's place is to take it in.
+-- Setting the bit of a node's place adds the node.
 use Rattle.std.proofs.Common.{ℕ, List, sym, ap, ◌∙◌}
 use Rattle.ov_ids.specs.Sets.{has, adding}
 use Rattle.ov_cert.specs.Code.Kept.{NodesOf}
-use Rattle.ov_cert.proofs.NodeSets.{at_place, stranger_out, fresh_not, fresh_yes, fresh_stranger}
+use Rattle.ov_cert.proofs.PathRules.NodeSets.{at_place, stranger_out, fresh_not, fresh_yes, fresh_stranger}
 use Rattle.ov_cert.proofs.node_set.NodeSet.enter.Goals as goal
 
 pub returns-in_default-clause-fresh : goal.returns-in_default-clause-fresh

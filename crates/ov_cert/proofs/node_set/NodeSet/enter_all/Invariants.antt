@@ -1,4 +1,4 @@
--- what is left decides
+-- the result for all ids is the result for the ids still left
 use Rattle.std.proofs.Common.{◌≡◌, drop}
 use Rattle.ov_cert.specs.Code.Tests.{fresh, entered}
 use Rattle.ov_cert.proofs.node_set.NodeSet.enter_all.Given as goal

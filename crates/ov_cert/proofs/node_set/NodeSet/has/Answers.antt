@@ -1,8 +1,8 @@
--- A place's bit says whether its node is a member.
+-- The bit of a place says whether its node is a member.
 use Rattle.std.proofs.Common.{sym, ap, ◌∙◌}
 use Rattle.ov_ids.specs.Sets.{has}
 use Rattle.ov_cert.specs.Code.Kept.{NodesOf}
-use Rattle.ov_cert.proofs.NodeSets.{at_place, stranger_unmarked}
+use Rattle.ov_cert.proofs.PathRules.NodeSets.{at_place, stranger_unmarked}
 use Rattle.ov_cert.proofs.node_set.NodeSet.has.Goals as goal
 
 pub returns-in-Some : goal.returns-in-Some

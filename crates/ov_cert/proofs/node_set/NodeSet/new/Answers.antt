@@ -1,7 +1,7 @@
 -- No bit is set.
 use Rattle.std.proofs.Common.{List, ℕ, ap}
 use Rattle.ov_cert.specs.Code.Kept.{NodesOf}
-use Rattle.ov_cert.proofs.NodeSets.{picked_empty}
+use Rattle.ov_cert.proofs.PathRules.NodeSets.{picked_empty}
 use Rattle.ov_cert.proofs.node_set.NodeSet.new.Goals as goal
 
 pub returns : goal.returns

@@ -1,4 +1,4 @@
--- Where all workers of a sound desk have ended, what they settled suffices for an answer.
+-- If all workers of a sound desk have ended, their hauls suffice for a certificate.
 use Rattle.std.proofs.Common.{◌≡◌, ◌∙◌, ℕ, List, sym, ap, subst}
 use Rattle.ov_even.specs.Harvest.{Suffice}
 use Rattle.ov_desk.specs.Desk.{GroupDeskState}

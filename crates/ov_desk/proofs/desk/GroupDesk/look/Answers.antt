@@ -1,4 +1,4 @@
--- Who looks has a number in hand, which it claimed last.
+-- A worker whose next turn is a look has a number in hand, which it claimed last.
 use Rattle.std.proofs.Common.{◌≡◌, ◌∙◌, ◌<◌, ℕ, refl, sym, ap, subst, set}
 use Rattle.std.proofs.lemmas.Option.{slice_get_within}
 use Rattle.ov_desk.proofs.Keeping.{in_hand, may_look, look_held, look_made, keeping, keeps, keeps_none}

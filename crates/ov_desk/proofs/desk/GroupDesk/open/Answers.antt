@@ -1,4 +1,4 @@
--- A desk that is opened is sound.
+-- A new desk is sound.
 use Rattle.std.proofs.Common.{ℕ, List, subst}
 use Rattle.ov_desk.specs.Desk.{AreToShare}
 use Rattle.ov_desk.proofs.Staying.{sound_opened}

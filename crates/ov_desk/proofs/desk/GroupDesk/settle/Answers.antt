@@ -1,4 +1,4 @@
--- Who settles a piece has its number in hand, which is that of a piece.
+-- A worker whose next turn is to settle has the number of a piece in hand.
 use Rattle.std.proofs.Common.{◌∙◌, ◌<◌, ℕ, refl, sym, ap, subst, length, ◌++◌, ◌∷◌, [], List}
 use Rattle.ov_desk.specs.declared.hand.Hand.TheVariants.{Looked}
 use Rattle.std.proofs.lemmas.List.{length-set}

@@ -2,8 +2,8 @@
 use Rattle.std.proofs.Common.{◌∙◌, ℕ, List, length, sym, ap, subst, arith}
 use Rattle.ov_fans.specs.Pieces.{IsPieceOf}
 use Rattle.ov_even.specs.Order.{AreSoMany}
-use Rattle.ov_even.proofs.Narrowing.{members_few}
-use Rattle.ov_even.proofs.Numbering.{numbered_piece}
+use Rattle.ov_even.proofs.AnalysisSteps.Narrowing.{members_few}
+use Rattle.ov_even.proofs.PieceNumbers.Numbering.{numbered_piece}
 use Rattle.ov_desk.specs.Desk.{GroupDeskState}
 use Rattle.ov_desk.proofs.desk.GroupDesk.settled_at.Goals as goal
 

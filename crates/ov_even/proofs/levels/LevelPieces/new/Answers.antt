@@ -1,5 +1,5 @@
 use Rattle.std.proofs.Common.{sym}
-use Rattle.ov_even.proofs.LevelSteps.{all_from_second}
+use Rattle.ov_even.proofs.PieceNumbers.LevelSteps.{all_from_second}
 use Rattle.ov_even.proofs.levels.LevelPieces.new.Goals as goal
 
 pub returns : goal.returns

@@ -1,6 +1,6 @@
 -- The pieces still to come, step by step.
 use Rattle.std.proofs.Common.{◌∙◌, sym, add-one, arith, rules}
-use Rattle.ov_even.proofs.LevelSteps.{no_more, next_fan, next_pair, last_pair}
+use Rattle.ov_even.proofs.PieceNumbers.LevelSteps.{no_more, next_fan, next_pair, last_pair}
 use Rattle.ov_even.proofs.levels.LevelPiecesIterator.next.Goals as goal
 
 pub returns-then-j-self-clause-steps : goal.returns-then-j-self-clause-steps

@@ -1,7 +1,7 @@
 use Rattle.std.proofs.Common.{subst}
 use Rattle.ov_graph.specs.Links.{IsGroup}
 use Rattle.ov_fans.specs.Group.{GroupIn}
-use Rattle.ov_fans.proofs.Seated.{seated_group}
+use Rattle.ov_fans.proofs.PieceNets.Seated.{seated_group}
 use Rattle.ov_fans.proofs.members.Members.graph.Goals as goal
 
 pub returns-clause-group : goal.returns-clause-group

@@ -1,10 +1,10 @@
--- The place of one member more.
+-- The place of one more member.
 use Rattle.std.proofs.Common.{◌≡◌, ◌+◌, List, ℕ, slice_index, take, take_all, sym, subst}
 use Rattle.ov_ids.specs.Members.{Has}
 use Rattle.ov_ids.proofs.Members.{has_place}
-use Rattle.ov_graph.proofs.Bits.{empty_bit}
-use Rattle.ov_fans.proofs.Ranks.{read_at}
-use Rattle.ov_fans.proofs.Seated.{AreSeatsSoFar, seats_none, seats_more, seats_all}
+use Rattle.ov_graph.proofs.BitRows.Bits.{empty_bit}
+use Rattle.ov_fans.proofs.PieceNets.Ranks.{read_at}
+use Rattle.ov_fans.proofs.PieceNets.Seated.{AreSeatsSoFar, seats_none, seats_more, seats_all}
 use Rattle.ov_fans.proofs.members.Members.new.Goals as goal
 
 pub loop-member-init : goal.loop-member-init

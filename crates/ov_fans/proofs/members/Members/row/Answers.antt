@@ -1,14 +1,14 @@
 use Rattle.std.proofs.Common.{subst}
 use Rattle.ov_graph.specs.Links.{IsGroup}
+use Rattle.ov_flow.specs.Flow.{AreBitsOf}
 use Rattle.ov_fans.specs.Group.{GroupIn}
-use Rattle.ov_fans.specs.Code.Kept.{IsRowOfGroup}
-use Rattle.ov_fans.proofs.Seated.{seated_group, seated_row}
+use Rattle.ov_fans.proofs.PieceNets.Seated.{seated_group, seated_row}
 use Rattle.ov_fans.proofs.members.Members.row.Goals as goal
 
 pub returns-clause-row : goal.returns-clause-row
 returns-clause-row c =
     let s = c.self.inside in
-    subst (λ (m : GroupIn). IsRowOfGroup m.graph m.members s.row) c.self.view_is
+    subst (λ (m : GroupIn). AreBitsOf m.graph s.row m.members) c.self.view_is
     (seated_row s.graph.now s.places.items s.row c.self.invariant)
 
 pub returns-clause-group : goal.returns-clause-group

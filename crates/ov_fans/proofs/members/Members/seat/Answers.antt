@@ -1,7 +1,7 @@
 -- The place that is kept for the member.
 use Rattle.std.proofs.Common.{◌≤◌, ◌<◌, length, sym, subst}
 use Rattle.ov_fans.specs.Group.{GroupIn}
-use Rattle.ov_fans.proofs.Seated.{seated}
+use Rattle.ov_fans.proofs.PieceNets.Seated.{seated}
 use Rattle.ov_fans.proofs.members.Members.seat.Goals as goal
 
 pub returns-clause-below : goal.returns-clause-below

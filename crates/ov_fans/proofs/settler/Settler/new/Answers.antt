@@ -1,5 +1,5 @@
 -- The first net has no targets.
-use Rattle.ov_graph.proofs.Bits.{empty_bit}
+use Rattle.ov_graph.proofs.BitRows.Bits.{empty_bit}
 use Rattle.ov_fans.proofs.settler.Settler.new.Goals as goal
 
 pub new-net-requires-clause-targets : goal.new-net-requires-clause-targets

@@ -1,5 +1,5 @@
--- The piece is good where it did not come to a cut.
-use Rattle.ov_fans.proofs.Decided.{found_decides}
+-- The piece is good where its result is not a cut.
+use Rattle.ov_fans.proofs.PieceCuts.Decided.{found_decides}
 use Rattle.ov_fans.proofs.settler.Settler.settle.Goals as goal
 
 pub returns-clause-good : goal.returns-clause-good

@@ -11,7 +11,7 @@ use Rattle.ov_fans.specs.Cuts.{IsFoundFor, IsParted}
 use Rattle.ov_fans.specs.Code.Nets.{net_of}
 use Rattle.ov_fans.specs.Code.Kept.{net_at}
 use Rattle.ov_fans.specs.declared.settled.Found.TheVariants.{Paths}
-use Rattle.ov_fans.proofs.Settling.{right_paths}
+use Rattle.ov_fans.proofs.PieceNets.Settling.{right_paths}
 use Rattle.ov_fans.proofs.settler.Settler.sought.Goals as goal
 use Rattle.ov_fans.proofs.settler.Settler.sought.Goals.{in-None+in_ok-paths-in-None, in-Some+in_ok-parting-in-Some}
 

@@ -3,7 +3,7 @@ use Rattle.std.proofs.Common.{ℕ, List, map, length, subst}
 use Rattle.ov_graph.specs.Paths.{node_at}
 use Rattle.ov_split.specs.Net.{IsFanOf}
 use Rattle.ov_split.specs.Places.{net_by_place}
-use Rattle.ov_split.proofs.ByPlace.{fan_by_place, placed_node}
+use Rattle.ov_split.proofs.ByNames.ByPlace.{fan_by_place, placed_node}
 use Rattle.ov_flow.specs.Flow.{FlowState, ArePlaces}
 use Rattle.ov_flow.proofs.flow.Flow.paths.Goals as goal
 

@@ -1,4 +1,4 @@
--- What is held is a fan, whatever comes.
+-- What is held is a fan, whatever the result.
 use Rattle.ov_flow.specs.Code.Walked.{table_of}
 use Rattle.ov_flow.proofs.Ending.{fan_held}
 use Rattle.ov_flow.proofs.flow.Flow.seek.Goals as goal

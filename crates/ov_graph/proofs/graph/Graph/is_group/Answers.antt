@@ -1,9 +1,9 @@
--- Ids that ascend and of which there are some are a group where all are nodes.
+-- One or more ascending ids are a group where all are nodes.
 use Rattle.std.proofs.Common.{◌∙◌, List, ℕ, ap, rules}
 use Rattle.std.specs.List.{list_all}
 use Rattle.ov_ids.specs.Sets.{has}
 use Rattle.ov_graph.specs.Links.{LinkGraph}
-use Rattle.ov_graph.proofs.Grouped.{group_tested}
+use Rattle.ov_graph.proofs.GraphValues.Grouped.{group_tested}
 use Rattle.ov_graph.proofs.graph.Graph.is_group.Goals as goal
 
 pub returns : goal.returns

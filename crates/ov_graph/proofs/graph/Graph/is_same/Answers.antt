@@ -3,7 +3,7 @@ use Rattle.std.proofs.Common.{◌≡◌, ◌∙◌, ◌↔◌, ◌<◌, ◌≤�
 use Rattle.ov_graph.specs.Links.{LinkGraph}
 use Rattle.ov_graph.specs.Row.{HasBit}
 use Rattle.ov_graph.specs.Code.Kept.{row_at, graph_kept}
-use Rattle.ov_graph.proofs.Alike.{rows_tested}
+use Rattle.ov_graph.proofs.GraphValues.Alike.{rows_tested}
 use Rattle.ov_graph.proofs.graph.Graph.is_same.Goals as goal
 
 pub returns : goal.returns

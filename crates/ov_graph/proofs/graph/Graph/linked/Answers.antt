@@ -1,5 +1,6 @@
--- A stranger is linked to nobody.
-use Rattle.ov_graph.proofs.Read.{stranger, linked_node}
+-- An id that is no node has no links.
+use Rattle.ov_graph.proofs.EvenTest.Filtered.{linked_node}
+use Rattle.ov_graph.proofs.BitRows.Read.{stranger}
 use Rattle.ov_graph.proofs.graph.Graph.linked.Goals as goal
 
 pub returns-in_default-clause-linked : goal.returns-in_default-clause-linked

@@ -2,7 +2,7 @@
 use Rattle.std.proofs.Common.{◌<◌, ◌↔◌, length, slice_index, sym, subst}
 use Rattle.ov_graph.specs.Links.{LinkGraph, IsGraph, Linked}
 use Rattle.ov_graph.specs.Row.{HasBit}
-use Rattle.ov_graph.proofs.Read.{is_graph, bit_linked}
+use Rattle.ov_graph.proofs.BitRows.Read.{is_graph, bit_linked}
 use Rattle.ov_graph.proofs.graph.Graph.linked_at.Goals as goal
 
 pub returns-clause-graph : goal.returns-clause-graph

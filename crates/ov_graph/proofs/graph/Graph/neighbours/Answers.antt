@@ -2,7 +2,7 @@
 use Rattle.std.proofs.Common.{◌∙◌, sym, ap, subst}
 use Rattle.ov_graph.specs.Links.{LinkGraph, AreNeighbours}
 use Rattle.ov_graph.specs.Code.Kept.{picked}
-use Rattle.ov_graph.proofs.Read.{are_neighbours}
+use Rattle.ov_graph.proofs.BitRows.Read.{are_neighbours}
 use Rattle.ov_graph.proofs.graph.Graph.neighbours.Goals as goal
 
 pub returns-clause-neighbours : goal.returns-clause-neighbours

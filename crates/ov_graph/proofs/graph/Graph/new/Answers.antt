@@ -1,9 +1,9 @@
--- What no test refuses is a graph, and what is refused is refused for the first fault.
+-- Nodes and links without a fault are a graph. Otherwise the first fault is returned.
 use Rattle.std.proofs.Common.{List, ℕ, sym, subst, rules}
 use Rattle.ov_graph.specs.Code.Kept.{IsKept}
-use Rattle.ov_graph.proofs.Tested.{refused, passed, graph_of}
-use Rattle.ov_graph.proofs.Read.{is_graph}
-use Rattle.ov_graph.proofs.Marked.{is_kept, same_graph}
+use Rattle.ov_graph.proofs.EvenTest.Tested.{refused, out_of_memory, passed, graph_of}
+use Rattle.ov_graph.proofs.BitRows.Read.{is_graph}
+use Rattle.ov_graph.proofs.BitRows.Marked.{is_kept, same_graph}
 use Rattle.ov_graph.proofs.graph.Graph.new.Goals as goal
 
 pub returns-in-Some-clause-judged : goal.returns-in-Some-clause-judged
@@ -13,7 +13,7 @@ pub returns-in-Ok-clause-judged : goal.returns-in-Ok-clause-judged
 returns-in-Ok-clause-judged c = passed c.args.nodes.now c.args.links.now (search rules)
 
 pub returns-in-Err-clause-judged : goal.returns-in-Err-clause-judged
-returns-in-Err-clause-judged c = passed c.args.nodes.now c.args.links.now (search rules)
+returns-in-Err-clause-judged c = out_of_memory c.args.nodes.now c.args.links.now (search rules)
 
 pub kept-requires-clause-graph : goal.kept-requires-clause-graph
 kept-requires-clause-graph c = (graph_of c.args.nodes.now c.args.links.now (search rules)).0

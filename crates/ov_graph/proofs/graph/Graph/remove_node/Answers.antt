@@ -1,4 +1,4 @@
-use Rattle.ov_graph.proofs.Read.{is_graph}
+use Rattle.ov_graph.proofs.BitRows.Read.{is_graph}
 use Rattle.ov_graph.proofs.graph.Graph.remove_node.Goals as goal
 
 pub returns-clause-graph : goal.returns-clause-graph

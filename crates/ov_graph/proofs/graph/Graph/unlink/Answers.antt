@@ -1,7 +1,7 @@
 use Rattle.std.proofs.Common.{◌∙◌, ℕ, List, sym, subst}
 use Rattle.std.proofs.lemmas.List.{with_items_is}
 use Rattle.ov_graph.specs.Code.Kept.{IsKept}
-use Rattle.ov_graph.proofs.Read.{is_graph}
+use Rattle.ov_graph.proofs.BitRows.Read.{is_graph}
 use Rattle.ov_graph.proofs.graph.Graph.unlink.Goals as goal
 
 pub returns-clause-graph : goal.returns-clause-graph

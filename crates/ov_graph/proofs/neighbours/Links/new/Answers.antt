@@ -1,4 +1,4 @@
-use Rattle.ov_graph.proofs.Read.{all_links}
+use Rattle.ov_graph.proofs.BitRows.Read.{all_links}
 use Rattle.ov_graph.proofs.neighbours.Links.new.Goals as goal
 
 pub returns : goal.returns

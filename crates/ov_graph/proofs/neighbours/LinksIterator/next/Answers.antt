@@ -2,8 +2,8 @@
 use Rattle.std.proofs.Common.{◌∙◌, sym, ℕ, ◌≤◌, length, arith, rules}
 use Rattle.ov_graph.specs.Row.{HasBit}
 use Rattle.ov_graph.specs.Code.Kept.{row_at}
-use Rattle.ov_graph.proofs.Bits.{few_words}
-use Rattle.ov_graph.proofs.Read.{next_link, next_row, no_link}
+use Rattle.ov_graph.proofs.BitRows.Bits.{few_words}
+use Rattle.ov_graph.proofs.BitRows.Read.{next_link, next_row, no_link}
 use Rattle.ov_graph.proofs.neighbours.LinksIterator.next.Goals as goal
 
 pub first_from-requires : goal.first_from-requires

@@ -1,7 +1,7 @@
 -- The neighbours still to come, step by step.
 use Rattle.std.proofs.Common.{◌∙◌, sym, drop, length, arith, rules}
-use Rattle.ov_graph.proofs.Bits.{few_words}
-use Rattle.ov_graph.proofs.Read.{next_picked, none_picked}
+use Rattle.ov_graph.proofs.BitRows.Bits.{few_words}
+use Rattle.ov_graph.proofs.BitRows.Read.{next_picked, none_picked}
 use Rattle.ov_graph.proofs.neighbours.NeighboursIterator.next.Goals as goal
 
 pub first_from-requires : goal.first_from-requires

@@ -1,27 +1,26 @@
-use Rattle.std.proofs.Common.{refl, subst}
-use Rattle.ov_peer.specs.PeerState.{PeerState}
-use Rattle.ov_peer.specs.Planning.{Plans, IsPlanFor}
+use Rattle.std.proofs.Common.{refl, sym, ap, subst, arith}
+use Rattle.ov_peer.specs.Code.Messages.{AreSendable}
 use Rattle.ov_peer.specs.declared.input.Input.TheVariants.{Report}
-use Rattle.ov_peer.specs.declared.plan.ViewsChange.TheVariants.{ViewsAndAttempt}
-use Rattle.ov_peer.proofs.Steps.{whole_of}
-use Rattle.ov_peer.proofs.Following.{near_step, moves_plan, fits}
+use Rattle.ov_peer.specs.declared.plan.NextViews.{NextViews}
+use Rattle.ov_peer.proofs.Steps.{peer_of}
+use Rattle.ov_peer.proofs.Following.{copied_plan}
 use Rattle.ov_peer.proofs.peer.Peer.report.Goals as goal
 
-pub returns-clause-allowed : goal.returns-clause-allowed
-returns-clause-allowed c =
+pub returns : goal.returns
+returns c =
     let inside = c.self.inside in
-    let p = whole_of inside.views inside.attempt inside.sent inside.plum in
+    let p = peer_of inside.views inside.attempt inside.sent inside.plum in
+    let next : NextViews = record { views = c.on_report.new.views; attempt = c.on_report.new.attempt } in
     let moves = c.in_ok-moves.moves in
-    let a = c.in_ok-moves.ensures.allowed in
-    let step = near_step inside.views _ inside.attempt _ inside.sent (Report c.args.crashed) a.0 moves c.in_ok-near.near.value _ c.copy-views.ensures c.in_ok-attempt.ensures c.in_ok-near.ensures.ok (a.2 p.node) in
-    let plan = moves_plan p (Report c.args.crashed) a.0 moves (ViewsAndAttempt c.in_ok-near.near) c.of_moves.result c.of_moves.ensures step (refl, (refl, refl)) in
-    (a.0, a.1, subst (λ (w : PeerState). Plans w (Report c.args.crashed) a.0 c.of_moves.result) c.self.view_is plan)
-
-pub returns-clause-fits : goal.returns-clause-fits
-returns-clause-fits c =
-    let inside = c.self.inside in
-    let p = whole_of inside.views inside.attempt inside.sent inside.plum in
-    let moves = c.in_ok-moves.moves in
-    let a = c.in_ok-moves.ensures.allowed in
-    let step = near_step inside.views _ inside.attempt _ inside.sent (Report c.args.crashed) a.0 moves c.in_ok-near.near.value _ c.copy-views.ensures c.in_ok-attempt.ensures c.in_ok-near.ensures.ok (a.2 p.node) in
-    subst (λ (w : PeerState). IsPlanFor w c.of_moves.result) c.self.view_is (fits p (Report c.args.crashed) a.0 moves (ViewsAndAttempt c.in_ok-near.near) c.of_moves.result c.of_moves.ensures step (refl, (refl, refl)))
+    let g = c.in_ok-views_plan.field-0 in
+    let of = c.in_ok-views_plan.ensures in
+    let ok = c.in_ok-moves.ensures in
+    let a = ok.allowed in
+    let plan = copied_plan p _ (Report c.args.crashed) a.0 c.in_ok-views.field-0 next moves g c.self.view_is
+    c.in_ok-views.ensures of (a.2 p.node) (refl, (refl, refl)) in
+    let sent : AreSendable moves.sends.items = (omega (arith, ok.few, moves.sends.ok.0), ok.ranges) in
+    record {
+      planned = (a.0, a.1, plan);
+      words = omega (arith, ok.words);
+      sendable = subst AreSendable (sym (ap (λ v. v.items) (of p.node).sends)) sent;
+    }

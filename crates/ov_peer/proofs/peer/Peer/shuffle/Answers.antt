@@ -1,28 +1,30 @@
-use Rattle.std.proofs.Common.{refl, subst, List, ℕ}
+use Rattle.std.proofs.Common.{List, ℕ, refl, sym, ap, subst, arith}
+use Rattle.ov_views.specs.Allowed.{Node}
+use Rattle.ov_peer.specs.Code.Messages.{AreSendable}
 use Rattle.ov_peer.specs.PeerState.{PeerState}
 use Rattle.ov_peer.specs.Step.{NodePart}
-use Rattle.ov_peer.specs.Planning.{Plans, IsPlanFor}
+use Rattle.ov_peer.specs.Planning.{Plans}
 use Rattle.ov_peer.specs.declared.input.Input.TheVariants.{Shuffle}
-use Rattle.ov_peer.specs.declared.plan.ViewsChange.TheVariants.{Shuffle}
-use Rattle.ov_peer.proofs.Steps.{whole_of}
-use Rattle.ov_peer.proofs.Following.{moves_plan, fits}
+use Rattle.ov_peer.proofs.Steps.{peer_of}
+use Rattle.ov_peer.proofs.Following.{moves_plan}
 use Rattle.ov_peer.proofs.peer.Peer.shuffle.Goals as goal
 
-pub returns-clause-allowed : goal.returns-clause-allowed
-returns-clause-allowed c =
+pub returns : goal.returns
+returns c =
     let inside = c.self.inside in
-    let p = whole_of inside.views inside.attempt inside.sent inside.plum in
+    let p = peer_of inside.views inside.attempt inside.sent inside.plum in
     let moves = c.in_ok-moves.moves in
-    let a = c.in_ok-moves.ensures.allowed in
-    let started = subst (λ (list : List ℕ). NodePart (record p.node { sent = list }) Shuffle a.0 (record p.node { sent = c.start.new.sent }) moves.changes.items moves.sends.items) c.in_ok-sent.ensures (a.2 p.node) in
-    let plan = moves_plan p Shuffle a.0 moves (Shuffle c.start.new.sent) c.of_moves.result c.of_moves.ensures started (refl, (refl, refl)) in
-    (a.0, a.1, subst (λ (w : PeerState). Plans w Shuffle a.0 c.of_moves.result) c.self.view_is plan)
-
-pub returns-clause-fits : goal.returns-clause-fits
-returns-clause-fits c =
-    let inside = c.self.inside in
-    let p = whole_of inside.views inside.attempt inside.sent inside.plum in
-    let moves = c.in_ok-moves.moves in
-    let a = c.in_ok-moves.ensures.allowed in
-    let started = subst (λ (list : List ℕ). NodePart (record p.node { sent = list }) Shuffle a.0 (record p.node { sent = c.start.new.sent }) moves.changes.items moves.sends.items) c.in_ok-sent.ensures (a.2 p.node) in
-    subst (λ (w : PeerState). IsPlanFor w c.of_moves.result) c.self.view_is (fits p Shuffle a.0 moves (Shuffle c.start.new.sent) c.of_moves.result c.of_moves.ensures started (refl, (refl, refl)))
+    let g = c.of_moves.result in
+    let ok = c.in_ok-moves.ensures in
+    let a = ok.allowed in
+    let after : Node = record p.node { sent = c.start.new.sent } in
+    let from : List ℕ → Node = λ list. record p.node { sent = list } in
+    let step = λ (list : List ℕ). NodePart (from list) Shuffle a.0 after moves.changes.items moves.sends.items in
+    let started = subst step c.in_ok-sent.ensures (a.2 p.node) in
+    let plan = moves_plan p Shuffle a.0 moves after g (c.of_moves.ensures p.node) started (refl, (refl, refl)) in
+    let sent : AreSendable moves.sends.items = (omega (arith, ok.few, moves.sends.ok.0), ok.ranges) in
+    record {
+      planned = (a.0, a.1, subst (λ (w : PeerState). Plans w Shuffle a.0 g) c.self.view_is plan);
+      words = omega (arith, ok.words);
+      sendable = subst AreSendable (sym (ap (λ v. v.items) (c.of_moves.ensures p.node).sends)) sent;
+    }

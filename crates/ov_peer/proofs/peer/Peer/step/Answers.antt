@@ -1,16 +1,26 @@
-use Rattle.ov_peer.proofs.Following.{followed_tracks}
-use Rattle.ov_peer.proofs.Noting.{step_noted}
+use Rattle.std.proofs.Common.{◌≡◌, sym, subst}
+use Rattle.ov_views.specs.Changes.{after_changes}
+use Rattle.ov_peer.specs.Limits.{DrawnFrom}
+use Rattle.ov_peer.specs.Step.{PeerStep}
+use Rattle.ov_peer.specs.declared.input.Output.{Output}
+use Rattle.ov_peer.proofs.Following.{drawn_step, followed_tracks}
 use Rattle.ov_peer.proofs.peer.Peer.step.Goals as goal
 
 pub returns-clause-allowed : goal.returns-clause-allowed
 returns-clause-allowed c =
+    let p = c.args.self.now in
+    let q = c.apply.new.self in
+    let i = c.args.input in
     let ok = c.in_ok-apply.ensures in
-    rw (ok.sends, ok.changes, ok.delivered) (c.in_ok-plan.ensures.allowed c.apply.new.self ok.follows)
+    let step = drawn_step c.args.words.now p q i c.in_ok-plan.plan c.in_ok-plan.ensures.planned ok.follows in
+    let of = λ (o : Output). DrawnFrom c.args.words.now
+    (λ cs. PeerStep p i cs q o.sends.items o.changes.items o.delivered) in
+    subst of (sym ok.output) step
 
 pub returns-clause-told : goal.returns-clause-told
 returns-clause-told c =
+    let p = c.args.self.now in
+    let q = c.apply.new.self in
     let ok = c.in_ok-apply.ensures in
-    rw ok.changes ((followed_tracks _ c.apply.new.self _ c.in_ok-plan.ensures.fits ok.follows).active)
-
-pub returns-clause-noted : goal.returns-clause-noted
-returns-clause-noted c = let a = returns-clause-allowed c in step_noted c.args.self.now c.args.input a.2.0 c.apply.new.self _ _ _ a.2.2
+    let told = (followed_tracks p q c.in_ok-plan.plan c.in_ok-plan.ensures.fits ok.follows).active in
+    subst (λ (o : Output). q.node.views.active ≡ after_changes o.changes.items p.node.views.active) (sym ok.output) told

@@ -12,5 +12,6 @@ returns c id =
     let x = c.args.sender in
     let es = c.self.inside.entries.entries in
     let kept = map_same_pairs _ (without x) _ (λ k v b w f t. search rules) _ _ c.retain.ensures.filtered in
-    ap (λ fs. map.get (map.from_entries {R = id_cmp} fs) id) kept ∙ found _ id ∙ lookup-map_values (without x) (same_id id) es
+    ap (λ fs. map.get (map.from_entries {R = id_cmp} fs) id) kept ∙ found _ id
+    ∙ lookup-map_values (without x) (same_id id) es
     ∙ ap (option_map (without x)) (sym (found es id) ∙ ap (λ m. map.get m id) c.self.view_is)

@@ -1,11 +1,14 @@
-use Rattle.std.proofs.Common.{ap, ◌∙◌}
-use Rattle.std.specs.FinMap as map
-use Rattle.std.specs.Option.{option_map}
-use Rattle.ov_ids.specs.Sets.{without}
-use Rattle.ov_plum.specs.PlumState.{PlumState}
-use Rattle.ov_plum.proofs.Showing.{shows_gone}
+use Rattle.std.proofs.Common.{sym, subst}
+use Rattle.ov_plum.specs.Notes.{AreNotes}
+use Rattle.ov_plum.specs.Code.Waiting.{WaitingState}
+use Rattle.ov_plum.proofs.Branching.{down_keeps}
+use Rattle.ov_plum.proofs.InOrder.{gone_keeps}
 use Rattle.ov_plum.proofs.plum.Plum.down.Goals as goal
 
-pub returns-clause-noted : goal.returns-clause-noted
-returns-clause-noted c w shows =
-    shows_gone _ _ c.args.id w (λ id. c.forget.ensures id ∙ ap (λ (t : PlumState). option_map (without c.args.id) (map.get t.timers id)) c.self.view_is) shows
+pub invariant_of-self : goal.invariant_of-self
+invariant_of-self c = record {
+  branches = rw c.down.ensures (down_keeps _ _ c.self.invariant.branches);
+  notes = subst (λ (w : WaitingState). AreNotes w.notes w.running) (sym c.forget.ensures)
+      (gone_keeps _ _ _ c.self.invariant.notes);
+  made = c.self.invariant.made;
+}

@@ -3,4 +3,10 @@ use Rattle.ov_plum.specs.PlumRows.{receives}
 use Rattle.ov_plum.proofs.plum.Plum.on_graft.Goals as goal
 
 pub apply-requires : goal.apply-requires
-apply-requires c = record { prompt = receives (record { from = c.args.from; body = Graft c.args.id }); sends = _; delivery = _; allowed = c.in_ok-spread.ensures.allowed }
+apply-requires c = record {
+  input = receives (record { from = c.args.from; body = Graft c.args.id });
+  sends =
+      _;
+  delivery = _;
+  allowed = c.in_ok-spread.ensures.0;
+}

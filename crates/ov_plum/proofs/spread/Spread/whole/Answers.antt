@@ -12,4 +12,6 @@ returns-clause-ranges c =
     let whole = say me (gossip c.args.id.now c.args.held.now) in
     let announced = say me (IHave c.args.id.now) in
     rw (c.in_ok-announce.ensures.sends, c.in_ok-send_whole.ensures.sends, c.in_ok-sends.ensures.items)
-    (Ranged-append (map (λ x. (x, whole)) c.eager-2.result.now) _ (Ranged-each whole c.copy_payload.ensures.short c.eager-2.result.now) (Ranged-each announced tt c.lazy-2.result.now))
+    (Ranged-append (map (λ x. (x, whole)) c.eager-2.result.now) _
+    (Ranged-each whole c.copy_payload.ensures.short c.eager-2.result.now)
+    (Ranged-each announced tt c.lazy-2.result.now))

@@ -4,7 +4,7 @@ use Rattle.ov_ids.specs.Members.{Has}
 use Rattle.ov_graph.specs.Row.{HasBit}
 use Rattle.ov_split.specs.Net.{Net, IsNet}
 use Rattle.ov_split.specs.Places.{net_by_place}
-use Rattle.ov_split.proofs.Rows.{net_of, avoided_placed}
+use Rattle.ov_split.proofs.ByNames.Rows.{net_of, avoided_placed}
 use Rattle.ov_split.proofs.net.SplitNet.avoided.Goals as goal
 
 pub returns-clause-net : goal.returns-clause-net

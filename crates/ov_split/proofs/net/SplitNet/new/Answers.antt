@@ -3,7 +3,7 @@ use Rattle.std.proofs.Common.{ℕ, List, ap}
 use Rattle.ov_graph.specs.Paths.{node_at}
 use Rattle.ov_graph.specs.Code.Kept.{picked}
 use Rattle.ov_split.specs.Net.{Net}
-use Rattle.ov_split.proofs.Rows.{net_of, kept_of, one_picked}
+use Rattle.ov_split.proofs.ByNames.Rows.{net_of, kept_of, one_picked}
 use Rattle.ov_split.proofs.net.SplitNet.new.Goals as goal
 
 pub returns-clause-net : goal.returns-clause-net

@@ -2,8 +2,8 @@
 use Rattle.std.proofs.Common.{◌≤◌, length, subst}
 use Rattle.ov_graph.specs.Links.{most_nodes}
 use Rattle.ov_split.specs.Net.{Net, IsNet}
-use Rattle.ov_split.proofs.NetPlaces.{places_of}
-use Rattle.ov_split.proofs.Rows.{net_of}
+use Rattle.ov_split.proofs.ByNames.NetPlaces.{places_of}
+use Rattle.ov_split.proofs.ByNames.Rows.{net_of}
 use Rattle.ov_split.proofs.net.SplitNet.places.Goals as goal
 
 pub returns-clause-net : goal.returns-clause-net

@@ -2,7 +2,7 @@
 use Rattle.std.proofs.Common.{◌≡◌, sym, subst}
 use Rattle.ov_split.specs.Net.{Net, IsNet}
 use Rattle.ov_split.specs.Places.{net_by_place}
-use Rattle.ov_split.proofs.Rows.{net_of, source_placed}
+use Rattle.ov_split.proofs.ByNames.Rows.{net_of, source_placed}
 use Rattle.ov_split.proofs.net.SplitNet.source.Goals as goal
 
 pub returns-clause-net : goal.returns-clause-net

@@ -1,0 +1,5 @@
+-- Paths and fans by tests and by relations.
+pub mod NodeSets
+pub mod Ends
+pub mod Fresh
+pub mod PathTests

@@ -1,0 +1,7 @@
+-- The steps of an analysis, and the certificate that is made of them.
+pub mod FirstCut
+pub mod Slotted
+pub mod Trials
+pub mod Narrowing
+pub mod Named
+pub mod Assembling

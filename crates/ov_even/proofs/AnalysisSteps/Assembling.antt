@@ -1,0 +1,151 @@
+-- The hauls of the workers, and the certificate that is made from them.
+use Rattle.std.proofs.Common.{◌≡◌, ◌⊎◌, inl, inr, ℕ, ◌<◌, ◌+◌, ◌-◌, List, [], length, slice_get, Option, Some, None}
+use Rattle.std.proofs.Common.{refl, sym, ◌∙◌, subst, ap, arith, Box, Global}
+use Rattle.ov_graph.specs.Links.{LinkGraph, IsGraph, IsGroup, AreAllLinked}
+use Rattle.ov_fans.specs.Pieces.{IsPiece, IsLinkedPair, level_of}
+use Rattle.ov_fans.specs.Cuts.{IsRight, IsFoundFor, AreRightPaths}
+use Rattle.ov_fans.specs.Theorems.{IsNoCut}
+use Rattle.ov_fans.specs.declared.piece.Piece.{Piece}
+use Rattle.ov_fans.specs.declared.settled.Parting.{Parting}
+use Rattle.ov_fans.specs.declared.settled.Found.{Found}
+use Rattle.ov_fans.specs.declared.settled.Found.TheVariants.{Linked, Paths, Cut}
+use Rattle.ov_fans.specs.declared.settled.Settled.{Settled}
+use Rattle.ov_fans.proofs.PieceCuts.Decided.{decides}
+use Rattle.ov_cert.specs.Valid.{HavePaths, HaveFans}
+use Rattle.std.proofs.Common.{zero, suc, eqb, false}
+use Rattle.ov_cert.specs.declared.cert.Split.{Split}
+use Rattle.ov_even.specs.Answer.{NamesParting, NamesFirstCut}
+use Rattle.ov_even.specs.First.{IsFirst}
+use Rattle.ov_even.specs.Harvest.{AreRight, Decides, Suffice}
+use Rattle.ov_even.specs.declared.haul.Haul.{Haul}
+use Rattle.ov_even.specs.Code.Levels.{pieces_of_level}
+use Rattle.ov_even.specs.Code.Slots.{StandsAt, AreSlotsOf, HaveSlots, ArePiecesOf, IsLevelIn}
+use Rattle.ov_even.specs.Code.Cuts.{IsLowestCut, IsFirstCut, IsDeciding, all_settled}
+use Rattle.ov_even.proofs.PieceOrder.PieceLevels.{level_low, level_high}
+use Rattle.ov_even.proofs.PieceOrder.Ordering.{one_comes_before}
+use Rattle.ov_even.proofs.AnalysisSteps.FirstCut.{in_hauls, among_all}
+use Rattle.ov_even.proofs.EvenTest.Deciding.{decides_first}
+
+-- k = 0 requires no pairs and no fans
+pub no_pairs : (g : LinkGraph) (q : List ℕ) → HavePaths g q 0 []
+no_pairs g q = record {
+  names = record { order = tt; each = λ p. ((λ h. absurd h), (λ u. absurd (u.0))) };
+  paths = λ e h. absurd h;
+}
+
+pub no_fans : (g : LinkGraph) (q : List ℕ) → HaveFans g q 0 []
+no_fans g q = record { names = refl; fans = λ e h. absurd h }
+
+pub pieces_in : (g : LinkGraph) (q : List ℕ) (hauls : List Haul) → AreRight g q hauls
+    → ArePiecesOf (length q) (all_settled hauls)
+pieces_in g q hauls right s h =
+    (length g.nodes, (right s (in_hauls hauls s h)).0)
+
+-- a right result without a cut is a linked pair or paths
+pub paths_or_linked : (g : LinkGraph) (q : List ℕ) (p : Piece) (found : Found) → IsFoundFor g q p found → IsNoCut found
+    → IsLinkedPair g q p ⊎ ((paths : List (List ℕ)) × (found ≡ Paths paths))
+paths_or_linked g q p Linked right none = inl right
+paths_or_linked g q p (Paths paths) right none = inr (paths, refl)
+paths_or_linked g q p (Cut parting) right none = absurd none
+
+right_paths : (g : LinkGraph) (q : List ℕ) (s : Settled) (paths : List (List ℕ)) → IsRight g q s → s.found ≡ Paths paths
+    → AreRightPaths g q s.piece paths
+right_paths g q s paths right e = (subst (IsFoundFor g q s.piece) e right).1
+
+some_is : {X : Type 0} (x y : X) → Some x ≡ Some y → x ≡ y
+some_is x y e = cc
+
+pub have_slots : (g : LinkGraph) (q : List ℕ) (level : ℕ) (hauls : List Haul) (slots : List (Option (List (List ℕ))))
+    → AreRight g q hauls → IsLevelIn g q level hauls → AreSlotsOf (length q) level (all_settled hauls) slots
+    → HaveSlots g q level slots
+have_slots g q level hauls slots right cleared are p place at same apart stands = elim (cleared p at same) [
+  | inl l ↦ absurd (apart l)
+  | inr t ↦
+      let s = t.0 in
+      let here : IsRight g q s = (right s t.1).1 in
+      elim (paths_or_linked g q s.piece s.found here t.3) [
+        | inl l ↦ absurd (apart (subst (IsLinkedPair g q) t.2 l))
+        | inr f ↦
+            let filled = are.all s f.0 place (among_all hauls s t.1) (ap level_of t.2 ∙ same) f.1
+            (subst (λ (r : Piece). StandsAt (length q) r place) (sym t.2) stands) in
+            let u = are.from place filled.0 filled.1 in
+            let alike : u.0.piece ≡ p = some_is u.0.piece p (sym u.3 ∙ ap (λ (l : ℕ).
+            slice_get (pieces_of_level (length q) l) place) (u.2 ∙ sym same) ∙ stands) in (
+              filled.0,
+              filled.1,
+              subst (λ (r : Piece). AreRightPaths g q r filled.0) alike
+                  (right_paths g q u.0 filled.0 (right u.0 (in_hauls hauls u.0 u.1)).1 u.4),
+            )
+      ]
+]
+
+-- the first cut of hauls that suffice is that of the deciding piece
+same_first : (g : LinkGraph) (q : List ℕ) (hauls : List Haul) (s t : Settled) → IsGraph g → IsGroup g q
+    → AreRight g q hauls → Decides g q hauls t → IsLowestCut (all_settled hauls) s → s.piece ≡ t.piece
+same_first g q hauls s t graph group right decided low =
+    let first = decides_first g q hauls t graph group right decided in
+    let there = in_hauls hauls s low.there in
+    let is = right s there in
+    elim (one_comes_before s.piece t.piece) [
+      | inl e ↦ e
+      | inr n ↦ elim n [
+        | inl before ↦ absurd (low.cut ((decides g q s graph is.1).0 (first.before s.piece is.0 before)))
+        | inr behind ↦ absurd (low.lowest t (among_all hauls t decided.there) decided.cut behind)
+      ]
+    ]
+
+pub deciding : (g : LinkGraph) (q : List ℕ) (hauls : List Haul) (s : Settled) → IsGraph g → IsGroup g q
+    → ¬ AreAllLinked g q → Suffice g q hauls → IsLowestCut (all_settled hauls) s → IsDeciding g q hauls s
+deciding g q hauls s graph group apart suffice low = elim suffice.1 [
+  | inl all ↦ absurd (apart all)
+  | inr d ↦
+      let t = d.0 in
+      let right = suffice.0 in
+      let e : s.piece ≡ t.piece = same_first g q hauls s t graph group right d.1 low in
+      let is = right s (in_hauls hauls s low.there) in
+      let least = level_low g q s.piece is.0 in
+      let level : level_of s.piece ≡ level_of t.piece = ap level_of e in
+      record {
+        first = subst (IsFirst g q) (sym e) (decides_first g q hauls t graph group right d.1);
+        right = is.1;
+        cut = low.cut;
+        below = λ r at same. d.1.before r at (inl (omega (arith, same, least, level)))
+            (omega (arith, same, least, level));
+      }
+]
+
+pub some_cut : (g : LinkGraph) (q : List ℕ) (hauls : List Haul) → ¬ AreAllLinked g q → Suffice g q hauls
+    → ¬ IsFirstCut (all_settled hauls) None
+some_cut g q hauls apart suffice none = elim suffice.1 [
+  | inl all ↦ apart all
+  | inr d ↦ d.1.cut (none d.0 (among_all hauls d.0 d.1.there))
+]
+
+-- a list that is not empty has an item
+pub some_node : (n : ℕ) → eqb n 0 ≡ false → 0 < n
+some_node zero e = absurd (cc)
+some_node (suc n) e = omega arith
+
+-- the certificate names the cut of the deciding piece
+pub names_cut : (g : LinkGraph) (q : List ℕ) (hauls : List Haul) (s : Settled) (parting : Box Parting Global)
+    (c : Split) → IsDeciding g q hauls s → s.found ≡ Cut parting → level_of s.piece ≡ c.k + 1
+    → NamesParting c parting.value → NamesFirstCut g q c
+names_cut g q hauls s parting c d e level names = record {
+  piece = s.piece;
+  first = d.first;
+  level = level;
+  parting = parting.value;
+  parted = subst (IsFoundFor g q s.piece) e d.right;
+  names = names;
+}
+
+-- the level below that of a piece is 0 or a level
+pub level_under : (g : LinkGraph) (q : List ℕ) (p : Piece) (k : ℕ) → IsPiece g q p → k ≡ level_of p
+    → (k - 1 < length g.nodes) × (level_of p ≡ (k - 1) + 1)
+level_under g q p k at e =
+    let low = level_low g q p at in
+    let high = level_high g q p at in
+    (omega (arith, low, high, e), omega (arith, low, e))
+
+pub whole_group : (g : LinkGraph) → IsGraph g → 0 < length g.nodes → IsGroup g g.nodes
+whole_group g graph some = record { some_member = some; ascends = graph.nodes_ascend; nodes = λ x h. h }

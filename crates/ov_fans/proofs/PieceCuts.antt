@@ -1,0 +1,5 @@
+-- The cuts of a piece.
+pub mod Parted
+pub mod Refuted
+pub mod Only
+pub mod Decided

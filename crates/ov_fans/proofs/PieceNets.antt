@@ -1,0 +1,8 @@
+-- The net of a piece, and its paths.
+pub mod Ranks
+pub mod Routes
+pub mod Fronts
+pub mod Aimed
+pub mod Settling
+pub mod Seated
+pub mod Ended

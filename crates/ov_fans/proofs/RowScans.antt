@@ -1,0 +1,4 @@
+-- What a row of bits has.
+pub mod Lower
+pub mod Outside
+pub mod Listing

@@ -1,0 +1,12 @@
+ghost use Rattle.ov_fans.specs.Theorems.{SameCut, Decides};
+
+/// A piece has at most one parting: two have the same nearest least cut, near member, far member and side (Ford and
+/// Fulkerson, Flows in Networks, 1962).
+pub fn same_cut()
+    ensures { SameCut }
+{}
+
+/// The right result decides a piece: it is good where the result is a linked pair or paths, and not where it is a cut.
+pub fn right_decides()
+    ensures { Decides }
+{}

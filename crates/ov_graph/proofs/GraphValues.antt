@@ -1,0 +1,5 @@
+-- Graphs as values: when two are equal, and how one changes.
+pub mod Alike
+pub mod Grouped
+pub mod ChangedLinks
+pub mod ChangedNodes

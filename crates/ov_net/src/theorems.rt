@@ -1,0 +1,11 @@
+ghost use Rattle.ov_net.specs.Theorems.{LinksStay, OneGraph};
+
+/// Entries that come later do not change the graph after the first entries of a journal.
+pub fn links_stay()
+    ensures { LinksStay }
+{}
+
+/// After the first entries of a journal there is at most one graph.
+pub fn one_graph()
+    ensures { OneGraph }
+{}

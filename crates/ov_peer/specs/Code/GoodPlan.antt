@@ -1,0 +1,16 @@
+-- What private contracts say of the plan of a step.
+use Rattle.std.specs.Prelude.{ℕ, ◌+◌, ◌≤◌, List, length}
+use Rattle.ov_words.specs.Pick.{Drawn}
+use Rattle.ov_peer.specs.Code.Messages.{AreSendable}
+use Rattle.ov_peer.specs.Limits.{most_words}
+use Rattle.ov_peer.specs.PeerState.{PeerState}
+use Rattle.ov_peer.specs.Planning.{Plans}
+use Rattle.ov_peer.specs.declared.input.Input.{Input}
+use Rattle.ov_peer.specs.declared.plan.Plan.{Plan}
+
+-- The plan is that of a step of the node p at this input, with choices drawn from the words `before`. The words `after`
+-- are left: at most 40 are used. What the plan sends may be sent in one step.
+pub record IsGoodPlan (p : PeerState) (input : Input) (before after : List ℕ) (plan : Plan) : Type 0 where
+  pub planned : Drawn before after (λ choices. Plans p input choices plan)
+  pub words : length before ≤ length after + most_words
+  pub sendable : AreSendable plan.sends.items

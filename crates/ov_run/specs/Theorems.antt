@@ -1,0 +1,42 @@
+-- The main theorem, as who runs a scenario meets it: what holds of each line that is printed of a report.
+use Rattle.std.specs.Prelude.{◌≡◌, ◌⊎◌, ℕ, List}
+use Rattle.ov_ids.specs.ParamsState.{ParamsState}
+use Rattle.ov_snap.specs.CoreState.{CoreState, opening_core}
+use Rattle.ov_snap.specs.ReportState.{ReportState, IsSo}
+use Rattle.ov_run.specs.Printed.{report_line, file_text, refused_line}
+use Rattle.ov_run.specs.Running.{PrintsLine, PrintsLines}
+use Rattle.ov_run.specs.Subjects.{members_of}
+use Rattle.ov_run.specs.declared.scenario.Line.{Line}
+use Rattle.ov_run.specs.declared.scenario.Line.TheVariants as line
+use Rattle.ov_run.specs.declared.scenario.Look.TheVariants.{Certificate}
+use Rattle.ov_run.specs.declared.scenario.Subject.{Subject}
+
+-- the report is for the moment and the group of the subject, and what it says is so
+pub record IsSoOf (u : CoreState) (subject : Subject) (r : ReportState) : Type 0 where
+  pub so : IsSo u.world.journal r
+  pub moment : r.moment ≡ subject.moment
+  pub members : r.members ≡ members_of subject.group r.graph
+
+-- the text refuses, and nothing changed
+abbrev pub Refuses : CoreState → CoreState → List ℕ → Type 0
+Refuses b u text = (number : ℕ) × (u ≡ b) × (text ≡ refused_line number)
+
+-- some lines made this core of a world in which nothing happened
+abbrev pub IsMade : CoreState → Type 0
+IsMade b =
+    (params : ParamsState) × (lines : List Line) × (text : List ℕ)
+    × PrintsLines (opening_core params) lines b text
+
+-- whatever lines ran before: what `analyse` prints is a refusal, or the line of a report of what it asks for; what
+-- `certificate` prints is a refusal, or the certificate file of such a report; and what the report says is so. A
+-- snapshot was taken at its moment, and its graph has exactly the links that both ends held then; crashing the nodes
+-- that it names parts its group, or every two members are linked; and no fewer crashes part it
+pub record EveryPrintedReportIsSo : Type 0 where
+  pub analysed : (b : CoreState) (subject : Subject) (u : CoreState) (text : List ℕ) → IsMade b
+      → PrintsLine b (line.Analyse subject) u text
+      → ((r : ReportState) × IsSoOf u subject r × (text ≡ report_line r.moment r.cert r.graph r.members))
+      ⊎ Refuses b u text
+  pub certified : (b : CoreState) (subject : Subject) (u : CoreState) (text : List ℕ) → IsMade b
+      → PrintsLine b (line.Look (Certificate subject)) u text
+      → ((r : ReportState) × IsSoOf u subject r × (text ≡ file_text r.cert r.graph r.members r.moment))
+      ⊎ Refuses b u text

@@ -1,0 +1,12 @@
+ghost use Rattle.ov_run.specs.Theorems.{EveryPrintedReportIsSo};
+
+/// The main theorem, as who runs a scenario meets it. Whatever lines ran before: what `analyse` prints is a refusal, or
+/// the line of a report of what it asks for, and what `certificate` prints is a refusal, or the certificate file of a
+/// report of what it asks for; and what the report says is so. A snapshot was taken at its moment, and its graph has
+/// exactly the links that both ends held then. Crashing the k nodes that it names leaves two surviving members of its
+/// group that are not joined, or every two members are linked and k is one less than their number; without any fewer
+/// nodes every two surviving members are joined. The checker, given the graph, the group and the certificate alone,
+/// says yes.
+pub fn every_printed_report_is_so()
+    ensures { EveryPrintedReportIsSo }
+{}

@@ -1,0 +1,4 @@
+-- Menger's theorem, and the nearest of the least cuts.
+pub mod Near
+pub mod Sole
+pub mod FanForm
