@@ -17,7 +17,8 @@ use ov_graph::Graph;
 use ov_ids::{NodeId, OutOfMemory};
 use std::alloc::Global;
 
-/// The expected entries of a certificate for the group of all nodes. See `expected_group`.
+/// The expected entries of a certificate for the group of all nodes. See `expected_group`. OutOfMemory (99) where an
+/// allocation is refused.
 pub fn expected(alloc: Global, graph: &Graph, split: &Split) -> Result<Vec<Expected>, OutOfMemory>
     ensures { IfOk result (λ entries. AreExpected graph.now graph.now.nodes split.now.k entries.items) }
 {
@@ -25,7 +26,7 @@ pub fn expected(alloc: Global, graph: &Graph, split: &Split) -> Result<Vec<Expec
 }
 
 /// The expected entries of a certificate for a group, which is a set of nodes. First come the unlinked pairs among the
-/// first k members, then the fans of the later members. Faults: out of memory.
+/// first k members, then the fans of the later members. Faults: out of memory (99).
 pub fn expected_group(
     alloc: Global,
     graph: &Graph,

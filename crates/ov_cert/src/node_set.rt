@@ -18,7 +18,7 @@ pub(crate) struct NodeSet<'g> {
 }
 
 impl<'g> Model for NodeSet<'g> {
-    ghost use Rattle.ov_graph.specs.Code.Kept.{picked};
+    ghost use Rattle.ov_graph.specs.Row.{picked};
     ghost use Rattle.ov_cert.specs.Code.Kept.{NodesOf};
 
     ghost Value = { NodesOf };

@@ -12,7 +12,7 @@ use Rattle.ov_certfile.specs.Keys.{has_just, said}
 abbrev pub number_limit : ℕ
 number_limit = 2 ^ 32
 
--- the highest moment
+-- the highest moment, which is the most entries that a journal may have
 abbrev pub last_moment : ℕ
 last_moment = 65536
 

@@ -4,10 +4,10 @@ use Rattle.std.proofs.Common.{set, replicate, slice_get, Some, refl, sym, ap, �
 use Rattle.std.proofs.lemmas.Option.{none-some, same_Some}
 use Rattle.std.specs.List.{filter}
 use Rattle.ov_ids.specs.Members.{Has}
-use Rattle.ov_claims.specs.Claims.{WorkerState, ClaimState, count_ended}
+use Rattle.ov_claims.specs.Claims.{WorkerState, DeskState, count_ended}
 
 -- the claims after worker w became v, with this next number and this lowest failed number
-abbrev pub after : ClaimState → ℕ → ℕ → ℕ → WorkerState → ClaimState
+abbrev pub after : DeskState → ℕ → ℕ → ℕ → WorkerState → DeskState
 after s next least w v = record { total = s.total; next = next; least = least; workers = set s.workers w v }
 
 -- this worker stands at this place

@@ -4,12 +4,12 @@ use Rattle.std.proofs.Common.{slice_get, Option, Some, None, refl, sym, ap, ◌�
 use Rattle.std.specs.List.{list_all}
 use Rattle.std.proofs.lemmas.Bool.{and_parts}
 use Rattle.std.proofs.lemmas.Option.{none-some, same_Some}
-use Rattle.ov_claims.specs.Claims.{WorkerState, ClaimState, HasWorker, IsLegal}
+use Rattle.ov_claims.specs.Claims.{WorkerState, DeskState, HasWorker, IsLegal}
 use Rattle.ov_claims.specs.Theorems.{AllEnded, IsDone, EndsDone}
 use Rattle.ov_claims.specs.Code.Held.{IsHeld}
 
 -- the lowest failed number is at most the total
-least_within : (s : ClaimState) → IsLegal s → s.least ≤ s.total
+least_within : (s : DeskState) → IsLegal s → s.least ≤ s.total
 least_within s l = elim l.least_failed [
   | inl f ↦
       let own = (l.workers f.0 f.1 f.2).failed_own s.least f.3 in
@@ -23,7 +23,7 @@ skipped_or_not None = inr refl
 skipped_or_not (Some x) = inl (x, refl)
 
 -- if one worker has ended, all numbers below the lowest failed one were claimed
-passed : (s : ClaimState) (w : ℕ) (v : WorkerState) → IsLegal s → HasWorker s w v → v.ended ≡ true → s.least ≤ s.next
+passed : (s : DeskState) (w : ℕ) (v : WorkerState) → IsLegal s → HasWorker s w v → v.ended ≡ true → s.least ≤ s.next
 passed s w v l at e =
     let m = l.workers w v at in
     elim (skipped_or_not v.skipped) [
@@ -66,14 +66,14 @@ test_from_all [] h = refl
 test_from_all (y ∷ ws) h = rw (h 0 y refl) (test_from_all ws (λ w v k. h (suc w) v k))
 
 -- b is the test of the workers ws, whose claims are d, seen as s
-pub ended_tested : (d s : ClaimState) (ws : List WorkerState) (b : Bool) → d ≡ s → ws ≡ d.workers → b ≡ have_ended ws
+pub ended_tested : (d s : DeskState) (ws : List WorkerState) (b : Bool) → d ≡ s → ws ≡ d.workers → b ≡ have_ended ws
     → IsTrue b ↔ AllEnded s
 ended_tested d s ws b seen same e =
-    let k : ws ≡ s.workers = same ∙ ap (λ (u : ClaimState). u.workers) seen in
+    let k : ws ≡ s.workers = same ∙ ap (λ (u : DeskState). u.workers) seen in
     let f : b ≡ have_ended s.workers = e ∙ ap have_ended k in
     ((λ t. all_from_test s.workers (sym f ∙ t)), (λ a. f ∙ test_from_all s.workers a))
 
-pub done_tested : (d s : ClaimState) (ws : List WorkerState) (b : Bool) → d ≡ s → IsHeld d → ws ≡ d.workers
+pub done_tested : (d s : DeskState) (ws : List WorkerState) (b : Bool) → d ≡ s → IsHeld d → ws ≡ d.workers
     → b ≡ have_ended ws → IsTrue b → IsDone s
 done_tested d s ws b seen held same e t =
     let h : IsHeld s = subst IsHeld seen held in

@@ -9,15 +9,15 @@ use Rattle.ov_ids.specs.Members.{Has, Ascends}
 use Rattle.ov_ids.specs.Sets.{adding}
 use Rattle.ov_ids.proofs.Members.{has_append_left, has_append_right, has_append_cases, has_tested}
 use Rattle.ov_ids.proofs.Sets.{IsSet-adding, IsIn-adding, IsIn-self, IsIn-added}
-use Rattle.ov_claims.specs.Claims.{WorkerState, ClaimState, HasWorker, HasClaimed, HasFailed, count_ended, fresh}
-use Rattle.ov_claims.specs.Claims.{IsLegalWorker, IsLegal, opening}
+use Rattle.ov_claims.specs.Claims.{WorkerState, DeskState, HasWorker, HasClaimed, HasFailed, count_ended, fresh}
+use Rattle.ov_claims.specs.Claims.{IsLegalWorker, IsLegal, opening_claims}
 use Rattle.ov_claims.specs.Steps.{claiming, failing, Claims, Looks, Fails}
 use Rattle.ov_claims.specs.Theorems.{StaysLegal}
 use Rattle.ov_claims.proofs.Changing.{after, at_changed, all_same, here, held_before, held_after, held_still}
 use Rattle.ov_claims.proofs.Changing.{ended_kept, ended_more}
 
 -- a worker that does not change stays legal
-later : (s : ClaimState) (next least w : ℕ) (v z : WorkerState) → s.next ≤ next → least ≤ s.least → IsLegalWorker s z
+later : (s : DeskState) (next least w : ℕ) (v z : WorkerState) → s.next ≤ next → least ≤ s.least → IsLegalWorker s z
     → IsLegalWorker (after s next least w v) z
 later s next least w v z up down l = record {
   claimed_ascends = l.claimed_ascends;
@@ -30,7 +30,7 @@ later s next least w v z up down l = record {
 }
 
 -- all workers are legal after the change if the changed worker is
-all_legal : (s : ClaimState) (next least w : ℕ) (v : WorkerState) → IsLegal s → s.next ≤ next → least ≤ s.least
+all_legal : (s : DeskState) (next least w : ℕ) (v : WorkerState) → IsLegal s → s.next ≤ next → least ≤ s.least
     → IsLegalWorker (after s next least w v) v
     → (u : ℕ) (z : WorkerState) → HasWorker (after s next least w v) u z → IsLegalWorker (after s next least w v) z
 all_legal s next least w v l up down mine u z h = elim (at_changed s.workers w u v z h) [
@@ -39,7 +39,7 @@ all_legal s next least w v l up down mine u z h = elim (at_changed s.workers w u
 ]
 
 -- a change that leaves the claimed numbers, the failed numbers and the lowest failed number alone
-record Rests (s : ClaimState) (next w : ℕ) (v z : WorkerState) : Type 0 where
+record Rests (s : DeskState) (next w : ℕ) (v z : WorkerState) : Type 0 where
   was : HasWorker s w v
   legal : IsLegal s
   up : s.next ≤ next
@@ -49,7 +49,7 @@ record Rests (s : ClaimState) (next w : ℕ) (v z : WorkerState) : Type 0 where
   mine : IsLegalWorker (after s next s.least w z) z
   bound : next ≤ s.total + count_ended (set s.workers w z)
 
-rests : (s : ClaimState) (next w : ℕ) (v z : WorkerState) → Rests s next w v z → IsLegal (after s next s.least w z)
+rests : (s : DeskState) (next w : ℕ) (v z : WorkerState) → Rests s next w v z → IsLegal (after s next s.least w z)
 rests s next w v z r = record {
   workers = all_legal s next s.least w z r.legal r.up (omega arith) r.mine;
   claimed = λ x. (
@@ -85,7 +85,7 @@ rests s next w v z r = record {
         (h.0, k.0, k.1, k.2)
 
 -- each number of a worker is below the next number
-own_below : (s : ClaimState) (w : ℕ) (v : WorkerState) → IsLegal s → HasWorker s w v → (x : ℕ) → Has v.claimed x
+own_below : (s : DeskState) (w : ℕ) (v : WorkerState) → IsLegal s → HasWorker s w v → (x : ℕ) → Has v.claimed x
     → (x < s.next) × (x < s.total)
 own_below s w v l at x h = (l.claimed x).0 (w, (v, at, h))
 
@@ -110,7 +110,7 @@ abbrev pub skipping : ℕ → WorkerState → WorkerState
 skipping x v = record v { skipped = Some x; ended = true }
 
 -- a claim when no number is left
-ends : (s : ClaimState) (w : ℕ) (v : WorkerState) → IsLegal s → HasWorker s w v → v.ended ≡ false → s.total ≤ s.next
+ends : (s : DeskState) (w : ℕ) (v : WorkerState) → IsLegal s → HasWorker s w v → v.ended ≡ false → s.total ≤ s.next
     → IsLegal (after s (s.next + 1) s.least w (ending v))
 ends s w v l at on over = rests s (s.next + 1) w v (ending v) record {
   was = at;
@@ -132,7 +132,7 @@ ends s w v l at on over = rests s (s.next + 1) w v (ending v) record {
 }
 
 -- a claim of a number below the total
-gains : (s : ClaimState) (w : ℕ) (v : WorkerState) → IsLegal s → HasWorker s w v → s.next < s.total
+gains : (s : DeskState) (w : ℕ) (v : WorkerState) → IsLegal s → HasWorker s w v → s.next < s.total
     → IsLegal (after s (s.next + 1) s.least w (gaining s.next v))
 gains s w v l at low = record {
   workers = all_legal s (s.next + 1) s.least w z l (omega arith) (omega arith) mine;
@@ -199,7 +199,7 @@ gains s w v l at low = record {
     last_or_below x h = grind arith
 
 -- a look when a lower number has failed
-skips : (s : ClaimState) (w x : ℕ) (v : WorkerState) → IsLegal s → HasWorker s w v → v.ended ≡ false → Has v.claimed x
+skips : (s : DeskState) (w x : ℕ) (v : WorkerState) → IsLegal s → HasWorker s w v → v.ended ≡ false → Has v.claimed x
     → s.least < x → IsLegal (after s s.next s.least w (skipping x v))
 skips s w x v l at on own above = rests s s.next w v (skipping x v) record {
   was = at;
@@ -221,7 +221,7 @@ skips s w x v l at on own above = rests s s.next w v (skipping x v) record {
 }
 
 -- a look when no lower number has failed
-goes_on : (s : ClaimState) (w : ℕ) (v : WorkerState) → IsLegal s → HasWorker s w v
+goes_on : (s : DeskState) (w : ℕ) (v : WorkerState) → IsLegal s → HasWorker s w v
     → IsLegal (after s s.next s.least w v)
 goes_on s w v l at = rests s s.next w v v record {
   was = at;
@@ -248,7 +248,7 @@ pub has_still : (x : ℕ) (xs : List ℕ) (y : ℕ) → Has xs y → Has (adding
 has_still x xs y h = (has_tested (adding x xs) y _ refl).0 (IsIn-added x xs y ((has_tested xs y _ refl).1 h))
 
 -- a number fails
-breaks : (s : ClaimState) (w x : ℕ) (v : WorkerState) → IsLegal s → HasWorker s w v → Has v.claimed x
+breaks : (s : DeskState) (w x : ℕ) (v : WorkerState) → IsLegal s → HasWorker s w v → Has v.claimed x
     → IsLegal (after s s.next (min x s.least) w (failing x v))
 breaks s w x v l at own = record {
   workers = all_legal s s.next (min x s.least) w z l (omega arith) (omega arith) mine;
@@ -303,35 +303,35 @@ breaks s w x v l at own = record {
     order a b = grind arith
 
 -- the two cases of a claim, by the test b
-claims_by : (s : ClaimState) (w : ℕ) (v : WorkerState) (b : Bool) → nat_lt s.next s.total ≡ b → IsLegal s
+claims_by : (s : DeskState) (w : ℕ) (v : WorkerState) (b : Bool) → nat_lt s.next s.total ≡ b → IsLegal s
     → HasWorker s w v → v.ended ≡ false
     → IsLegal (after s (s.next + 1) s.least w (cond b (gaining s.next v) (ending v)))
 claims_by s w v true e l at on = gains s w v l at (ltb-true s.next s.total e)
 claims_by s w v false e l at on = ends s w v l at on (ltb-false s.next s.total e)
 
-claims : (s t : ClaimState) (w x : ℕ) → IsLegal s → Claims s w x t → IsLegal t
+claims : (s t : DeskState) (w x : ℕ) → IsLegal s → Claims s w x t → IsLegal t
 claims s t w x l c =
     let next = claims_by s w c.worker (nat_lt s.next s.total) refl l c.has c.goes_on in
     let number = λ (y : ℕ). IsLegal (after s (s.next + 1) s.least w (claiming s.total y c.worker)) in
     subst IsLegal (sym c.after) (subst number (sym c.number) next)
 
 -- the two cases of a look, by the test b
-looks_by : (s : ClaimState) (w x : ℕ) (v : WorkerState) (b : Bool) → nat_lt s.least x ≡ b → IsLegal s → HasWorker s w v
+looks_by : (s : DeskState) (w x : ℕ) (v : WorkerState) (b : Bool) → nat_lt s.least x ≡ b → IsLegal s → HasWorker s w v
     → v.ended ≡ false → Has v.claimed x → IsLegal (after s s.next s.least w (cond b (skipping x v) v))
 looks_by s w x v true e l at on own = skips s w x v l at on own (ltb-true s.least x e)
 looks_by s w x v false e l at on own = goes_on s w v l at
 
-looks : (s t : ClaimState) (w x : ℕ) → IsLegal s → Looks s w x t → IsLegal t
+looks : (s t : DeskState) (w x : ℕ) → IsLegal s → Looks s w x t → IsLegal t
 looks s t w x l c =
     subst IsLegal (sym c.after) (looks_by s w x c.worker (nat_lt s.least x) refl l c.has c.goes_on c.own)
 
-fails : (s t : ClaimState) (w x : ℕ) → IsLegal s → Fails s w x t → IsLegal t
+fails : (s t : DeskState) (w x : ℕ) → IsLegal s → Fails s w x t → IsLegal t
 fails s t w x l c = subst IsLegal (sym c.after) (breaks s w x c.worker l c.has c.own)
 
 -- the state before the first claim is legal
-opens : (total workers : ℕ) → IsLegal (opening total workers)
+opens : (total workers : ℕ) → IsLegal (opening_claims total workers)
 opens total workers = record {
-  workers = λ w v h. subst (IsLegalWorker (opening total workers)) (sym (all_same workers w fresh v h)) record {
+  workers = λ w v h. subst (IsLegalWorker (opening_claims total workers)) (sym (all_same workers w fresh v h)) record {
     claimed_ascends = tt;
     failed_ascends = tt;
     failed_own = λ x k. absurd k;
@@ -347,7 +347,7 @@ opens total workers = record {
   least = λ x h. absurd (subst (λ (v : WorkerState). Has v.failed x) (all_same workers h.0 fresh h.1 h.2) h.3);
 }
   where
-    none : (w x : ℕ) → HasClaimed (opening total workers) w x → ⊥
+    none : (w x : ℕ) → HasClaimed (opening_claims total workers) w x → ⊥
     none w x h = subst (λ (v : WorkerState). Has v.claimed x) (all_same workers w fresh h.0 h.1) h.2
 
 pub stays_legal : StaysLegal

@@ -7,28 +7,28 @@ use Rattle.std.proofs.lemmas.Option.{get_or_from_slice_get}
 use Rattle.std.proofs.lemmas.List.Sums.{length-filter, count_by-le-length}
 use Rattle.ov_ids.specs.Members.{Has, Ascends}
 use Rattle.ov_ids.proofs.Members.{has_append_right}
-use Rattle.ov_claims.specs.Claims.{WorkerState, ClaimState, HasWorker, IsLegal, count_ended}
+use Rattle.ov_claims.specs.Claims.{WorkerState, DeskState, HasWorker, IsLegal, count_ended}
 use Rattle.ov_claims.specs.Steps.{claiming, looking, failing, IsLast, Claims, Looks, Fails}
 use Rattle.ov_claims.specs.Code.Held.{IsHeld}
 use Rattle.ov_claims.proofs.Changing.{is_ended, after}
 use Rattle.ov_claims.proofs.Staying.{stays_legal}
 
 -- worker w, which is y, takes a turn at a desk with the fields d; contracts see s
-pub record HasTurn (d s : ClaimState) (w : ℕ) (y : WorkerState) : Type 0 where
+pub record HasTurn (d s : DeskState) (w : ℕ) (y : WorkerState) : Type 0 where
   pub seen : d ≡ s
   pub held : IsHeld d
   pub read : y ≡ get_or d.workers w y
 
 -- the worker that takes the turn is the worker with that number
-its_turn : (d s : ClaimState) (w : ℕ) (y v : WorkerState) → HasTurn d s w y → HasWorker d w v → v ≡ y
+its_turn : (d s : DeskState) (w : ℕ) (y v : WorkerState) → HasTurn d s w y → HasWorker d w v → v ≡ y
 its_turn d s w y v turn has = sym (get_or_from_slice_get d.workers w v y has) ∙ sym turn.read
 
 -- what holds of the value that contracts see holds of the fields
-of_fields : (d s : ClaimState) (w : ℕ) (y : WorkerState) (P : ClaimState → Type 0) → HasTurn d s w y → P s → P d
+of_fields : (d s : DeskState) (w : ℕ) (y : WorkerState) (P : DeskState → Type 0) → HasTurn d s w y → P s → P d
 of_fields d s w y P turn = subst P (sym turn.seen)
 
 -- the next number plus one fits in 64 bits
-pub next_small : (d : ClaimState) → IsHeld d → d.next + 1 < 2 ^ 64
+pub next_small : (d : DeskState) → IsHeld d → d.next + 1 < 2 ^ 64
 next_small d h =
     let next = h.legal.next in
     let total = h.total in
@@ -38,7 +38,7 @@ next_small d h =
     omega (arith, next, total, few, ended)
 
 -- a turn that leaves the claims legal keeps the invariant of the desk
-still_held : (d : ClaimState) (next least w : ℕ) (z : WorkerState) → IsHeld d → IsLegal (after d next least w z)
+still_held : (d : DeskState) (next least w : ℕ) (z : WorkerState) → IsHeld d → IsLegal (after d next least w z)
     → IsHeld (after d next least w z)
 still_held d next least w z h l =
     let e : length (set d.workers w z) ≡ length d.workers = length-set d.workers w z in
@@ -47,10 +47,10 @@ still_held d next least w z h l =
     record { legal = l; total = h.total; some = omega (arith, some, e); few = omega (arith, few, e) }
 
 -- the worker exists and has not ended
-abbrev pub GoesOn : ClaimState → ℕ → Type 0
+abbrev pub GoesOn : DeskState → ℕ → Type 0
 GoesOn s w = (v : WorkerState) × HasWorker s w v × (v.ended ≡ false)
 
-claims : (d s : ClaimState) (w : ℕ) (y z : WorkerState) → HasTurn d s w y → GoesOn d w → z ≡ claiming d.total d.next y
+claims : (d s : DeskState) (w : ℕ) (y z : WorkerState) → HasTurn d s w y → GoesOn d w → z ≡ claiming d.total d.next y
     → Claims d w d.next (after d (d.next + 1) d.least w z)
 claims d s w y z turn g e =
     let k = its_turn d s w y g.0 turn g.1 in record {
@@ -61,13 +61,13 @@ claims d s w y z turn g e =
       after = ap (after d (d.next + 1) d.least w) e;
     }
 
-pub claim_made : (d s : ClaimState) (w : ℕ) (y z : WorkerState) → HasTurn d s w y → GoesOn s w
+pub claim_made : (d s : DeskState) (w : ℕ) (y z : WorkerState) → HasTurn d s w y → GoesOn s w
     → z ≡ claiming d.total d.next y → Claims s w d.next (after d (d.next + 1) d.least w z)
 claim_made d s w y z turn g e =
-    subst (λ (u : ClaimState). Claims u w d.next (after d (d.next + 1) d.least w z)) turn.seen
+    subst (λ (u : DeskState). Claims u w d.next (after d (d.next + 1) d.least w z)) turn.seen
     (claims d s w y z turn (of_fields d s w y (λ u. GoesOn u w) turn g) e)
 
-pub claim_held : (d s : ClaimState) (w : ℕ) (y z : WorkerState) → HasTurn d s w y → GoesOn s w
+pub claim_held : (d s : DeskState) (w : ℕ) (y z : WorkerState) → HasTurn d s w y → GoesOn s w
     → z ≡ claiming d.total d.next y → IsHeld (after d (d.next + 1) d.least w z)
 claim_held d s w y z turn g e =
     let step = claims d s w y z turn (of_fields d s w y (λ u. GoesOn u w) turn g) e in
@@ -91,14 +91,14 @@ pub own_last : (v : WorkerState) (x : ℕ) → IsLast v x → Has v.claimed x
 own_last v x l = subst (λ (xs : List ℕ). Has xs x) (sym l.1) (has_append_right l.0 (x ∷ []) x (inl refl))
 
 -- a worker may look if it has not ended and has claimed a number
-abbrev pub MayLook : ClaimState → ℕ → Type 0
+abbrev pub MayLook : DeskState → ℕ → Type 0
 MayLook s w = (v : WorkerState) × (x : ℕ) × HasWorker s w v × (v.ended ≡ false) × IsLast v x
 
 -- the step of a look, for any number that the worker claimed last
-abbrev pub LooksAtLast : ClaimState → WorkerState → WorkerState → Type 0
+abbrev pub LooksAtLast : DeskState → WorkerState → WorkerState → Type 0
 LooksAtLast d y z = (x : ℕ) → IsLast y x → z ≡ looking d.least x y
 
-looks : (d s : ClaimState) (w : ℕ) (y z : WorkerState) → HasTurn d s w y → MayLook d w → LooksAtLast d y z
+looks : (d s : DeskState) (w : ℕ) (y z : WorkerState) → HasTurn d s w y → MayLook d w → LooksAtLast d y z
     → (v : WorkerState) (x : ℕ) → HasWorker d w v → IsLast v x → Looks d w x (after d d.next d.least w z)
 looks d s w y z turn g e v x has last =
     let own : IsLast y x = subst (λ (u : WorkerState). IsLast u x) (its_turn d s w y v turn has) last in
@@ -110,14 +110,14 @@ looks d s w y z turn g e v x has last =
       after = ap (after d d.next d.least w) (e x own);
     }
 
-pub look_made : (d s : ClaimState) (w : ℕ) (y z : WorkerState) → HasTurn d s w y → MayLook s w → LooksAtLast d y z
+pub look_made : (d s : DeskState) (w : ℕ) (y z : WorkerState) → HasTurn d s w y → MayLook s w → LooksAtLast d y z
     → (v : WorkerState) (x : ℕ) → HasWorker s w v → IsLast v x → Looks s w x (after d d.next d.least w z)
 look_made d s w y z turn g e v x has last =
-    subst (λ (u : ClaimState). Looks u w x (after d d.next d.least w z)) turn.seen
+    subst (λ (u : DeskState). Looks u w x (after d d.next d.least w z)) turn.seen
     (looks d s w y z turn (of_fields d s w y (λ u. MayLook u w) turn g) e v x
     (of_fields d s w y (λ u. HasWorker u w v) turn has) last)
 
-pub look_held : (d s : ClaimState) (w : ℕ) (y z : WorkerState) → HasTurn d s w y → MayLook s w → LooksAtLast d y z
+pub look_held : (d s : DeskState) (w : ℕ) (y z : WorkerState) → HasTurn d s w y → MayLook s w → LooksAtLast d y z
     → IsHeld (after d d.next d.least w z)
 look_held d s w y z turn g e =
     let f : MayLook d w = of_fields d s w y (λ u. MayLook u w) turn g in
@@ -126,16 +126,16 @@ look_held d s w y z turn g e =
     still_held d d.next d.least w z h (stays_legal.looks d _ w f.1 h.legal step)
 
 -- a worker may fail if it has claimed a number
-abbrev pub MayFail : ClaimState → ℕ → Type 0
+abbrev pub MayFail : DeskState → ℕ → Type 0
 MayFail s w = (v : WorkerState) × (x : ℕ) × HasWorker s w v × IsLast v x
 
 -- y fails at x, which it claimed last, and becomes z; `least` is the lowest failed number after that
-pub record FailsAtLast (d : ClaimState) (x least : ℕ) (y z : WorkerState) : Type 0 where
+pub record FailsAtLast (d : DeskState) (x least : ℕ) (y z : WorkerState) : Type 0 where
   pub last : IsLast y x
   pub became : z ≡ failing x y
   pub lowest : least ≡ min d.least x
 
-fails : (d s : ClaimState) (w x least : ℕ) (y z : WorkerState) → HasTurn d s w y → FailsAtLast d x least y z
+fails : (d s : DeskState) (w x least : ℕ) (y z : WorkerState) → HasTurn d s w y → FailsAtLast d x least y z
     → (v : WorkerState) (n : ℕ) → HasWorker d w v → IsLast v n → Fails d w n (after d d.next least w z)
 fails d s w x least y z turn f v n has last =
     let k = its_turn d s w y v turn has in
@@ -149,13 +149,13 @@ fails d s w x least y z turn f v n has last =
       after = λ i. after d d.next (order i) w (became i);
     }
 
-pub fail_made : (d s : ClaimState) (w x least : ℕ) (y z : WorkerState) → HasTurn d s w y → FailsAtLast d x least y z
+pub fail_made : (d s : DeskState) (w x least : ℕ) (y z : WorkerState) → HasTurn d s w y → FailsAtLast d x least y z
     → (v : WorkerState) (n : ℕ) → HasWorker s w v → IsLast v n → Fails s w n (after d d.next least w z)
 fail_made d s w x least y z turn f v n has last =
-    subst (λ (u : ClaimState). Fails u w n (after d d.next least w z)) turn.seen
+    subst (λ (u : DeskState). Fails u w n (after d d.next least w z)) turn.seen
     (fails d s w x least y z turn f v n (of_fields d s w y (λ u. HasWorker u w v) turn has) last)
 
-pub fail_held : (d s : ClaimState) (w x least : ℕ) (y z : WorkerState) → HasTurn d s w y → FailsAtLast d x least y z
+pub fail_held : (d s : DeskState) (w x least : ℕ) (y z : WorkerState) → HasTurn d s w y → FailsAtLast d x least y z
     → MayFail s w → IsHeld (after d d.next least w z)
 fail_held d s w x least y z turn f may =
     let g : MayFail d w = of_fields d s w y (λ u. MayFail u w) turn may in
@@ -176,7 +176,7 @@ last_top (y ∷ front) n x a h = elim h [
     below (z ∷ front) n y a = below front n y a.1
 
 -- no failed number of a worker is above the number that it claimed last
-pub fail_asks : (d s : ClaimState) (w n : ℕ) (y : WorkerState) → HasTurn d s w y → MayFail s w → IsLast y n
+pub fail_asks : (d s : DeskState) (w n : ℕ) (y : WorkerState) → HasTurn d s w y → MayFail s w → IsLast y n
     → (x : ℕ) → Has y.failed x → x ≤ n
 fail_asks d s w n y turn may last x h =
     let g : MayFail d w = of_fields d s w y (λ u. MayFail u w) turn may in

@@ -16,7 +16,7 @@ pub record WorkerState : Type 0 where
 
 -- the claims: the number of numbers to share out; the next number; the lowest number that failed, or the total if none
 -- failed; and the workers, counted from 0
-pub record ClaimState : Type 0 where
+pub record DeskState : Type 0 where
   pub total : ℕ
   pub next : ℕ
   pub least : ℕ
@@ -31,19 +31,19 @@ abbrev pub fresh : WorkerState
 fresh = record { claimed = []; failed = []; skipped = None; ended = false }
 
 -- the claims of this many workers, before the first claim
-abbrev pub opening : ℕ → ℕ → ClaimState
-opening total workers = record { total = total; next = 0; least = total; workers = replicate workers fresh }
+abbrev pub opening_claims : ℕ → ℕ → DeskState
+opening_claims total workers = record { total = total; next = 0; least = total; workers = replicate workers fresh }
 
 -- worker w is in this state
-abbrev pub HasWorker : ClaimState → ℕ → WorkerState → Type 0
+abbrev pub HasWorker : DeskState → ℕ → WorkerState → Type 0
 HasWorker s w v = slice_get s.workers w ≡ Some v
 
 -- worker w has claimed x
-abbrev pub HasClaimed : ClaimState → ℕ → ℕ → Type 0
+abbrev pub HasClaimed : DeskState → ℕ → ℕ → Type 0
 HasClaimed s w x = (v : WorkerState) × HasWorker s w v × Has v.claimed x
 
 -- x has failed
-abbrev pub HasFailed : ClaimState → ℕ → Type 0
+abbrev pub HasFailed : DeskState → ℕ → Type 0
 HasFailed s x = (w : ℕ) × (v : WorkerState) × HasWorker s w v × Has v.failed x
 
 -- how many workers have ended
@@ -52,7 +52,7 @@ count_ended workers = length (filter (λ v. v.ended) workers)
 
 -- a legal worker. It has claimed all its failed numbers and the number it skipped. It skips only a number above the
 -- lowest failed one, and has then ended. If it ended without skipping, all numbers were claimed
-pub record IsLegalWorker (s : ClaimState) (v : WorkerState) : Type 0 where
+pub record IsLegalWorker (s : DeskState) (v : WorkerState) : Type 0 where
   pub claimed_ascends : Ascends v.claimed
   pub failed_ascends : Ascends v.failed
   pub failed_own : (x : ℕ) → Has v.failed x → Has v.claimed x
@@ -64,7 +64,7 @@ pub record IsLegalWorker (s : ClaimState) (v : WorkerState) : Type 0 where
 -- a legal state. The claimed numbers are exactly those below the next number and below the total, and each is claimed
 -- by one worker only. The next number exceeds the total by at most the number of workers that have ended. `least` is
 -- the lowest number that failed, or the total
-pub record IsLegal (s : ClaimState) : Type 0 where
+pub record IsLegal (s : DeskState) : Type 0 where
   pub workers : (w : ℕ) (v : WorkerState) → HasWorker s w v → IsLegalWorker s v
   pub claimed : (x : ℕ) → ((w : ℕ) × HasClaimed s w x) ↔ ((x < s.next) × (x < s.total))
   pub once : (x w u : ℕ) → HasClaimed s w x → HasClaimed s u x → w ≡ u

@@ -4,7 +4,7 @@ use Rattle.std.specs.Prelude.{◌≡◌, ℕ, ◌+◌, true, false, nat_lt, List
 use Rattle.std.specs.Prelude.{min, slice_set}
 use Rattle.ov_ids.specs.Members.{Has}
 use Rattle.ov_ids.specs.Sets.{adding}
-use Rattle.ov_claims.specs.Claims.{WorkerState, ClaimState, HasWorker}
+use Rattle.ov_claims.specs.Claims.{WorkerState, DeskState, HasWorker}
 
 -- the worker after it was given number x: if x is below the total, it has claimed x, otherwise it has ended
 abbrev pub claiming : ℕ → ℕ → WorkerState → WorkerState
@@ -24,7 +24,7 @@ abbrev pub IsLast : WorkerState → ℕ → Type 0
 IsLast v x = (front : List ℕ) × (v.claimed ≡ front ++ x ∷ [])
 
 -- worker w, which has not ended, claims the next number x
-pub record Claims (s : ClaimState) (w x : ℕ) (t : ClaimState) : Type 0 where
+pub record Claims (s : DeskState) (w x : ℕ) (t : DeskState) : Type 0 where
   pub worker : WorkerState
   pub has : HasWorker s w worker
   pub goes_on : worker.ended ≡ false
@@ -32,7 +32,7 @@ pub record Claims (s : ClaimState) (w x : ℕ) (t : ClaimState) : Type 0 where
   pub after : t ≡ record s { next = s.next + 1; workers = slice_set s.workers w (claiming s.total x worker) }
 
 -- worker w, which has not ended, looks before working on x, one of its numbers
-pub record Looks (s : ClaimState) (w x : ℕ) (t : ClaimState) : Type 0 where
+pub record Looks (s : DeskState) (w x : ℕ) (t : DeskState) : Type 0 where
   pub worker : WorkerState
   pub has : HasWorker s w worker
   pub goes_on : worker.ended ≡ false
@@ -40,7 +40,7 @@ pub record Looks (s : ClaimState) (w x : ℕ) (t : ClaimState) : Type 0 where
   pub after : t ≡ record s { workers = slice_set s.workers w (looking s.least x worker) }
 
 -- worker w reports that x, one of its numbers, failed
-pub record Fails (s : ClaimState) (w x : ℕ) (t : ClaimState) : Type 0 where
+pub record Fails (s : DeskState) (w x : ℕ) (t : DeskState) : Type 0 where
   pub worker : WorkerState
   pub has : HasWorker s w worker
   pub own : Has worker.claimed x

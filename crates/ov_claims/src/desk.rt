@@ -1,6 +1,6 @@
 ghost use Rattle.std.specs.Prelude.{◌≡◌, ◌↔◌, ℕ, ◌<◌, ◌≤◌, ◌^◌, [], false, length, IsTrue};
 ghost use Rattle.std.specs.Prelude.{IfOk, OnOk, OnErr, IfSome, IfNone};
-ghost use Rattle.ov_claims.specs.Claims.{HasWorker, WorkerState, IsLegal, most_workers, opening};
+ghost use Rattle.ov_claims.specs.Claims.{HasWorker, WorkerState, IsLegal, most_workers, opening_claims};
 ghost use Rattle.ov_claims.specs.Steps.{Claims, Looks, Fails, IsLast};
 ghost use Rattle.ov_claims.specs.Theorems.{AllEnded, IsDone};
 
@@ -20,10 +20,10 @@ pub struct Desk {
 }
 
 impl Model for Desk {
-    ghost use Rattle.ov_claims.specs.Claims.{ClaimState};
+    ghost use Rattle.ov_claims.specs.Claims.{DeskState};
     ghost use Rattle.ov_claims.specs.Code.Held.{state, IsHeld};
 
-    ghost Value = { ClaimState };
+    ghost Value = { DeskState };
 
     ghost view = { λ d. state d.total d.next d.least d.workers.items };
 
@@ -36,7 +36,7 @@ impl Desk {
         requires total { total < 2 ^ 32 }
         requires some { 1 ≤ workers }
         requires few { workers ≤ most_workers }
-        ensures { IfOk result (λ d. d ≡ opening total workers) }
+        ensures { IfOk result (λ d. d ≡ opening_claims total workers) }
     {
         let mut fresh = Vec::new(alloc);
         for _ in 0..workers {

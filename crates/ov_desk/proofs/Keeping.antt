@@ -6,7 +6,7 @@ use Rattle.std.proofs.lemmas.List.{length-set, set-get_or}
 use Rattle.std.proofs.lemmas.Bool.{lt-ltb, le-ltb}
 use Rattle.std.proofs.lemmas.Option.{same_Some, slice_get_within, get_or_from_slice_get}
 use Rattle.ov_even.proofs.PieceOrder.InOrder.{at_within}
-use Rattle.ov_claims.specs.Claims.{WorkerState, ClaimState, HasWorker}
+use Rattle.ov_claims.specs.Claims.{WorkerState, DeskState, HasWorker}
 use Rattle.ov_claims.specs.Steps.{claiming, looking, IsLast, Claims, Looks}
 use Rattle.ov_claims.proofs.Changing.{at_changed}
 use Rattle.ov_desk.specs.Desk.{GroupDeskState, HasHand}
@@ -82,16 +82,16 @@ claimed_by x v true on = λ y e. ((v.claimed, ap (λ (n : ℕ). v.claimed ++ n �
 claimed_by x v false on = λ y e. absurd e
 
 -- the hand after a claim, given how the number compares with the total
-pub takes : (s t : ClaimState) (w x total : ℕ) → Claims s w x t → total ≡ t.total → x < total
+pub takes : (s t : DeskState) (w x total : ℕ) → Claims s w x t → total ≡ t.total → x < total
     → Claimed x ≡ taking s.total x
 takes s t w x total c e low =
-    let same : t.total ≡ s.total = ap (λ (u : ClaimState). u.total) c.after in
+    let same : t.total ≡ s.total = ap (λ (u : DeskState). u.total) c.after in
     ap (λ (b : Bool). cond b (Claimed x) Nothing) (sym (lt-ltb x s.total (omega (arith, low, e, same))))
 
-pub takes_none : (s t : ClaimState) (w x total : ℕ) → Claims s w x t → total ≡ t.total → total ≤ x
+pub takes_none : (s t : DeskState) (w x total : ℕ) → Claims s w x t → total ≡ t.total → total ≤ x
     → Nothing ≡ taking s.total x
 takes_none s t w x total c e high =
-    let same : t.total ≡ s.total = ap (λ (u : ClaimState). u.total) c.after in
+    let same : t.total ≡ s.total = ap (λ (u : DeskState). u.total) c.after in
     ap (λ (b : Bool). cond b (Claimed x) Nothing) (sym (le-ltb x s.total (omega (arith, high, e, same))))
 
 -- a claim keeps the invariant of the desk
@@ -101,7 +101,7 @@ claim_held d e w x h c hands settled =
     let v = c.worker in
     still_held d e w (claiming d.claims.total x v) (taking d.claims.total x) h record {
       worker = slice_get_within d.claims.workers w v c.has;
-      claims = ap (λ (t : ClaimState). t.workers) c.after;
+      claims = ap (λ (t : DeskState). t.workers) c.after;
       hands = hands;
       settled = settled;
       claimed = claimed_by x v (nat_lt x d.claims.total) c.goes_on;
@@ -118,7 +118,7 @@ looked_by x v true last on = λ y e. absurd e
 looked_by x v false last on = λ y e. (subst (IsLast v) (sym e) last, on)
 
 -- the step of a look, for the worker with x in hand
-abbrev pub LooksAtLast : ClaimState → ℕ → ClaimState → Type 0
+abbrev pub LooksAtLast : DeskState → ℕ → DeskState → Type 0
 LooksAtLast s w t = (v : WorkerState) (x : ℕ) → HasWorker s w v → IsLast v x → Looks s w x t
 
 -- a look keeps the invariant of the desk
@@ -131,7 +131,7 @@ look_held d e w x h at looks hands settled =
     let same : v.0 ≡ c.worker = same_Some v.0 c.worker (sym v.1 ∙ c.has) in
     still_held d e w (looking d.claims.least x c.worker) (keeping d.claims.least x) h record {
       worker = slice_get_within d.claims.workers w v.0 v.1;
-      claims = ap (λ (t : ClaimState). t.workers) c.after;
+      claims = ap (λ (t : DeskState). t.workers) c.after;
       hands = hands;
       settled = settled;
       claimed = looked_by x c.worker (nat_lt d.claims.least x)
@@ -155,7 +155,7 @@ may_fail d w x h at =
     (v.0, x, v.1, last.0)
 
 -- a worker whose next turn is a claim has nothing in hand, and its hand stays empty if no number is left
-pub still_empty : (d s : GroupDeskState) (w x total : ℕ) (t : ClaimState) → d ≡ s → ClaimsNext s w
+pub still_empty : (d s : GroupDeskState) (w x total : ℕ) (t : DeskState) → d ≡ s → ClaimsNext s w
     → Claims d.claims w x t → total ≡ t.total → total ≤ x → d.hands ≡ set d.hands w (taking d.claims.total x)
 still_empty d s w x total t seen next c e high =
     let empty : HasHand d w Nothing = subst (λ (u : GroupDeskState). HasHand u w Nothing) (sym seen) next.0 in
@@ -163,7 +163,7 @@ still_empty d s w x total t seen next c e high =
     ∙ ap (set d.hands w) (takes_none d.claims t w x total c e high)
 
 -- a claim is the turn that the definition describes
-pub claim_made : (d s : GroupDeskState) (w x : ℕ) (t : ClaimState) (hands : List Hand) → d ≡ s → ClaimsNext s w
+pub claim_made : (d s : GroupDeskState) (w x : ℕ) (t : DeskState) (hands : List Hand) → d ≡ s → ClaimsNext s w
     → Claims d.claims w x t → hands ≡ set d.hands w (taking d.claims.total x)
     → WasClaimed s w x (record d { claims = t; hands = hands })
 claim_made d s w x t hands seen next c e =
@@ -174,7 +174,7 @@ claim_made d s w x t hands seen next c e =
     }
 
 -- a look is the turn that the definition describes
-pub look_made : (d s : GroupDeskState) (w x least : ℕ) (t : ClaimState) (hand : Hand) → IsHeld d → d ≡ s
+pub look_made : (d s : GroupDeskState) (w x least : ℕ) (t : DeskState) (hand : Hand) → IsHeld d → d ≡ s
     → HasHand d w (Claimed x) → LooksAtLast d.claims w t → least ≡ d.claims.least → hand ≡ keeping least x
     → WasLookedAt s w least (record d { claims = t; hands = set d.hands w hand })
 look_made d s w x least t hand h seen at looks told e =

@@ -12,7 +12,7 @@ use Rattle.ov_fans.specs.Cuts.{IsRight}
 use Rattle.ov_fans.specs.Theorems.{IsNoCut}
 use Rattle.ov_fans.specs.declared.settled.Found.{Found}
 use Rattle.ov_fans.specs.declared.settled.Settled.{Settled}
-use Rattle.ov_claims.specs.Claims.{WorkerState, ClaimState, HasWorker}
+use Rattle.ov_claims.specs.Claims.{WorkerState, DeskState, HasWorker}
 use Rattle.ov_claims.specs.Steps.{failing, IsLast, Fails}
 use Rattle.ov_claims.proofs.Turns.{own_last}
 use Rattle.ov_even.specs.Order.{AreMoreThan, IsNumbered}
@@ -79,11 +79,11 @@ pub hauls_more : (hauls : List Haul) (w : ℕ) (own new : Haul) (piece : Settled
 hauls_more hauls w own new piece more = map-set of_haul hauls w new ∙ ap (set (pieces_in hauls) w) more
 
 -- the desk with these claims and these settled pieces
-abbrev pub parted : GroupDeskState → ClaimState → List (List Settled) → GroupDeskState
+abbrev pub parted : GroupDeskState → DeskState → List (List Settled) → GroupDeskState
 parted d claims settled = record d { claims = claims; settled = settled }
 
 -- a desk with the same claims and the same settled pieces is the same desk
-pub same_desk : (d : GroupDeskState) (t : ClaimState) (settled : List (List Settled)) → t ≡ d.claims
+pub same_desk : (d : GroupDeskState) (t : DeskState) (settled : List (List Settled)) → t ≡ d.claims
     → settled ≡ d.settled → parted d t settled ≡ d
 same_desk d t settled e f = λ i. parted d (e i) (f i)
 
@@ -93,22 +93,22 @@ on_any_err (Ok x) p = tt
 on_any_err (Err e) p = p
 
 -- settling a piece without a cut leaves the claims alone; with a cut, the number fails
-abbrev pub ClaimsSettled : ClaimState → ℕ → ℕ → Found → ClaimState → Type 0
+abbrev pub ClaimsSettled : DeskState → ℕ → ℕ → Found → DeskState → Type 0
 ClaimsSettled s w x found t = (IsNoCut found × (t ≡ s)) ⊎ (¬ IsNoCut found × Fails s w x t)
 
 -- the claims after the worker with x in hand has failed
-abbrev pub FailsAtLast : ClaimState → ℕ → ClaimState → Type 0
+abbrev pub FailsAtLast : DeskState → ℕ → DeskState → Type 0
 FailsAtLast s w t = (v : WorkerState) (x : ℕ) → HasWorker s w v → IsLast v x → Fails s w x t
 
 -- the claims are right after a piece was settled with a cut
-pub claims_failed : (d : GroupDeskState) (w x : ℕ) (found : Found) (t : ClaimState) → IsHeld d → HasHand d w (Looked x)
+pub claims_failed : (d : GroupDeskState) (w x : ℕ) (found : Found) (t : DeskState) → IsHeld d → HasHand d w (Looked x)
     → ¬ IsNoCut found → FailsAtLast d.claims w t → ClaimsSettled d.claims w x found t
 claims_failed d w x found t h at cut fails =
     let v = its_worker d w (Looked x) h at in
     inr (cut, fails v.0 x v.1 (v.2 x refl).0)
 
 -- the claims are right after a piece was settled without a cut, given the test of the code
-pub claims_stay : (s : ClaimState) (w x : ℕ) (found : Found) (b : Bool) → (IsTrue b ↔ (¬ IsNoCut found)) → b ≡ false
+pub claims_stay : (s : DeskState) (w x : ℕ) (found : Found) (b : Bool) → (IsTrue b ↔ (¬ IsNoCut found)) → b ≡ false
     → ClaimsSettled s w x found s
 claims_stay s w x found b test off = elim (cut_or_not found) [
   | inl none ↦ inl (none, refl)
@@ -124,14 +124,14 @@ settle_held d e w x found h at claims hands settled = elim claims [
       let v = its_worker d w (Looked x) h at in
       still_held d e w v.0 Nothing h record {
         worker = slice_get_within d.claims.workers w v.0 v.1;
-        claims = ap (λ (t : ClaimState). t.workers) k.1 ∙ sym (written_again d.claims.workers w v.0 v.1);
+        claims = ap (λ (t : DeskState). t.workers) k.1 ∙ sym (written_again d.claims.workers w v.0 v.1);
         hands = hands;
         settled = settled;
         claimed = λ y n. absurd n;
       }
   | inr k ↦ still_held d e w (failing x k.1.worker) Nothing h record {
     worker = slice_get_within d.claims.workers w k.1.worker k.1.has;
-    claims = ap (λ (t : ClaimState). t.workers) k.1.after;
+    claims = ap (λ (t : DeskState). t.workers) k.1.after;
     hands = hands;
     settled = settled;
     claimed = λ y n. absurd n;
@@ -144,7 +144,7 @@ pub record IsFor (g : LinkGraph) (q : List ℕ) (x : ℕ) (piece : Settled) : Ty
   pub right : IsRight g q piece
 
 -- settling a piece is the turn that the definition describes
-pub settle_made : (g : LinkGraph) (d s : GroupDeskState) (w x : ℕ) (t : ClaimState) (piece : Settled)
+pub settle_made : (g : LinkGraph) (d s : GroupDeskState) (w x : ℕ) (t : DeskState) (piece : Settled)
     (before : List Settled) (settled : List (List Settled)) → d ≡ s → HasHand d w (Looked x) → IsFor g s.members x piece
     → ClaimsSettled d.claims w x piece.found t → HaveBeenSettled d w before
     → settled ≡ set d.settled w (before ++ piece ∷ [])

@@ -10,7 +10,7 @@ use Rattle.ov_graph.specs.Links.{LinkGraph, IsGroup}
 use Rattle.ov_fans.specs.Theorems.{IsNoCut}
 use Rattle.ov_fans.specs.declared.settled.Found.{Found}
 use Rattle.ov_fans.specs.declared.settled.Settled.{Settled}
-use Rattle.ov_claims.specs.Claims.{WorkerState, ClaimState, HasWorker, IsLegal, fresh, most_workers}
+use Rattle.ov_claims.specs.Claims.{WorkerState, DeskState, HasWorker, IsLegal, fresh, most_workers}
 use Rattle.ov_claims.specs.Steps.{claiming, looking, failing}
 use Rattle.ov_claims.proofs.Changing.{all_same}
 use Rattle.ov_claims.proofs.Staying.{stays_legal, has_added, has_self, has_still}
@@ -53,12 +53,12 @@ pieces_of : (g : LinkGraph) (d : GroupDeskState) (w : ℕ) → IsSoundDesk g d �
 pieces_of g d w s l = let e = s.settled in at_within d.settled w (omega (arith, l, e))
 
 -- a worker that has not ended has skipped nothing
-skipped_nothing : (s : ClaimState) (w : ℕ) (v : WorkerState) → IsLegal s → HasWorker s w v → v.ended ≡ false
+skipped_nothing : (s : DeskState) (w : ℕ) (v : WorkerState) → IsLegal s → HasWorker s w v → v.ended ≡ false
     → (x : ℕ) → ¬ (v.skipped ≡ Some x)
 skipped_nothing s w v l at on x e = both_ways v.ended on ((l.workers w v at).skipped_ended x e)
 
 -- the list of workers after one of them became z
-workers_after : (s t : ClaimState) (w : ℕ) (v z : WorkerState) → HasWorker s w v → t.workers ≡ set s.workers w z
+workers_after : (s t : DeskState) (w : ℕ) (v z : WorkerState) → HasWorker s w v → t.workers ≡ set s.workers w z
     → IsChangedAt s.workers w z t.workers
 workers_after s t w v z at e = subst (IsChangedAt s.workers w z) (sym e) (changed_by_set s.workers w z v at)
 
@@ -71,9 +71,9 @@ sound_claimed g d e w x s c = subst (IsSoundDesk g) (sym c.after) (turned g d e.
   pieces = had.0;
   sound = claimed_sound g d.members x v had.0 (nat_lt x d.claims.total)
       (s.workers w v Nothing had.0 c.claims.has c.hand had.1) c.claims.goes_on new;
-  total = ap (λ (t : ClaimState). t.total) c.claims.after;
+  total = ap (λ (t : DeskState). t.total) c.claims.after;
   legal = stays_legal.claims d.claims e.claims w x s.legal c.claims;
-  workers = workers_after d.claims e.claims w v z c.claims.has (ap (λ (t : ClaimState). t.workers) c.claims.after);
+  workers = workers_after d.claims e.claims w v z c.claims.has (ap (λ (t : DeskState). t.workers) c.claims.after);
   hands = changed_by_set d.hands w hand Nothing c.hand;
   settled = changed_by_none d.settled w had.0 had.1;
 })
@@ -111,9 +111,9 @@ sound_looked_at g d e w x s c = subst (IsSoundDesk g) (sym c.after) (turned g d 
       (looked_sound g d.members c.number v had.0 (nat_lt d.claims.least c.number)
       (s.workers w v (Claimed c.number) had.0 c.claims.has c.hand had.1)
       (skipped_nothing d.claims w v s.legal c.claims.has c.claims.goes_on));
-  total = ap (λ (t : ClaimState). t.total) c.claims.after;
+  total = ap (λ (t : DeskState). t.total) c.claims.after;
   legal = stays_legal.looks d.claims e.claims w c.number s.legal c.claims;
-  workers = workers_after d.claims e.claims w v z c.claims.has (ap (λ (t : ClaimState). t.workers) c.claims.after);
+  workers = workers_after d.claims e.claims w v z c.claims.has (ap (λ (t : DeskState). t.workers) c.claims.after);
   hands = changed_by_set d.hands w (hand x) (Claimed c.number) c.hand;
   settled = changed_by_none d.settled w had.0 had.1;
 })
@@ -189,16 +189,16 @@ sound_settled g d e w s c = elim c.claims [
       let there = slice_get_within d.hands w (Looked c.number) c.hand in
       let count = s.hands in
       let v = at_within d.claims.workers w (omega (arith, there, count)) in
-      let rests = λ (t : ClaimState). IsChangedAt d.claims.workers w v.0 t.workers in
-      sound_settles g d e w v.0 v.0 s c v.1 (ap (λ (t : ClaimState). t.total) k.1) (subst IsLegal (sym k.1) s.legal)
+      let rests = λ (t : DeskState). IsChangedAt d.claims.workers w v.0 t.workers in
+      sound_settles g d e w v.0 v.0 s c v.1 (ap (λ (t : DeskState). t.total) k.1) (subst IsLegal (sym k.1) s.legal)
       (subst rests (sym k.1) (changed_by_none d.claims.workers w v.0 v.1)) refl refl
       (failed_still v.0 c.number c.piece.found k.0)
   | inr k ↦
       let v = k.1.worker in
       let z = failing c.number v in
       let legal = stays_legal.fails d.claims e.claims w c.number s.legal k.1 in
-      sound_settles g d e w v z s c k.1.has (ap (λ (t : ClaimState). t.total) k.1.after) legal
-      (workers_after d.claims e.claims w v z k.1.has (ap (λ (t : ClaimState). t.workers) k.1.after)) refl refl
+      sound_settles g d e w v z s c k.1.has (ap (λ (t : DeskState). t.total) k.1.after) legal
+      (workers_after d.claims e.claims w v z k.1.has (ap (λ (t : DeskState). t.workers) k.1.after)) refl refl
       (failed_besides v c.number c.piece.found k.0)
 ]
 

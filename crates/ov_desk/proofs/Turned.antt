@@ -6,7 +6,7 @@ use Rattle.std.proofs.lemmas.List.{length-set}
 use Rattle.std.proofs.lemmas.Option.{same_Some, slice_get_within}
 use Rattle.ov_graph.specs.Links.{LinkGraph}
 use Rattle.ov_fans.specs.declared.settled.Settled.{Settled}
-use Rattle.ov_claims.specs.Claims.{WorkerState, ClaimState, HasWorker, IsLegal}
+use Rattle.ov_claims.specs.Claims.{WorkerState, DeskState, HasWorker, IsLegal}
 use Rattle.ov_even.proofs.AnalysisSteps.Slotted.{at_set_same, at_set_other}
 use Rattle.ov_desk.specs.declared.hand.Hand.{Hand}
 use Rattle.ov_desk.specs.Desk.{GroupDeskState, HasHand, HaveBeenSettled, AreToShare}
@@ -36,7 +36,7 @@ changed_by_none xs w x at = record {
 }
 
 -- the desk with these claims, these hands and these settled pieces
-abbrev pub with_parts : GroupDeskState → ClaimState → List Hand → List (List Settled) → GroupDeskState
+abbrev pub with_parts : GroupDeskState → DeskState → List Hand → List (List Settled) → GroupDeskState
 with_parts d claims hands settled = record d { claims = claims; hands = hands; settled = settled }
 
 -- worker w became another sound worker; the claims are legal and have the same total
@@ -57,7 +57,7 @@ IsSoundAt g d w = (v : WorkerState) (hand : Hand) (pieces : List Settled) → Ha
     → HaveBeenSettled d w pieces → IsSoundWorker g d.members v hand pieces
 
 -- such a turn keeps a sound desk sound
-pub turned : (g : LinkGraph) (d : GroupDeskState) (claims : ClaimState) (hands : List Hand)
+pub turned : (g : LinkGraph) (d : GroupDeskState) (claims : DeskState) (hands : List Hand)
     (settled : List (List Settled)) (w : ℕ) → IsSoundDesk g d → IsTurn g d w (with_parts d claims hands settled)
     → IsSoundDesk g (with_parts d claims hands settled)
 turned g d claims hands settled w s t =

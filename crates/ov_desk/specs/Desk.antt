@@ -5,7 +5,7 @@ use Rattle.std.specs.Prelude.{◌≡◌, ℕ, List, [], length, replicate, slice
 use Rattle.ov_ids.specs.Members.{Has}
 use Rattle.ov_graph.specs.Links.{LinkGraph, AreAllLinked}
 use Rattle.ov_fans.specs.declared.settled.Settled.{Settled}
-use Rattle.ov_claims.specs.Claims.{ClaimState, opening}
+use Rattle.ov_claims.specs.Claims.{DeskState, opening_claims}
 use Rattle.ov_even.specs.Order.{AreSoMany}
 use Rattle.ov_desk.specs.declared.hand.Hand.{Hand}
 use Rattle.ov_desk.specs.declared.hand.Hand.TheVariants.{Nothing, Claimed, Looked}
@@ -15,7 +15,7 @@ use Rattle.ov_desk.specs.declared.hand.Hand.TheVariants.{Nothing, Claimed, Looke
 pub record GroupDeskState : Type 0 where
   pub moment : ℕ
   pub members : List ℕ
-  pub claims : ClaimState
+  pub claims : DeskState
   pub hands : List Hand
   pub settled : List (List Settled)
 
@@ -49,7 +49,7 @@ pub record IsOpened (g : LinkGraph) (m : ℕ) (q : List ℕ) (workers : ℕ) (d 
   pub desk : d ≡ record {
     moment = m;
     members = q;
-    claims = opening total workers;
+    claims = opening_claims total workers;
     hands = replicate workers Nothing;
     settled = replicate workers [];
   }

@@ -2,7 +2,8 @@
 ghost use Rattle.std.specs.Prelude.{◌≡◌, ◌↔◌, ℕ, ◌<◌, ◌≤◌, ◌*◌, IfOk};
 ghost use Rattle.std.specs.Int.{bit_at};
 ghost use Rattle.ov_graph.specs.Row.{HasBit};
-ghost use Rattle.ov_graph.specs.Code.Kept.{picked, IsRowOf};
+ghost use Rattle.ov_graph.specs.Row.{picked};
+ghost use Rattle.ov_graph.specs.Code.Kept.{IsRowOf};
 
 use ov_graph::Graph;
 use ov_graph::row::{EMPTY, Row, WORDS, first_from};

@@ -1,6 +1,7 @@
 ghost use Rattle.std.specs.Prelude.{ℕ, ◌<◌, length};
 ghost use Rattle.ov_ids.specs.Members.{Has};
-ghost use Rattle.ov_graph.specs.Code.Kept.{picked, IsRowOf};
+ghost use Rattle.ov_graph.specs.Row.{picked};
+ghost use Rattle.ov_graph.specs.Code.Kept.{IsRowOf};
 ghost use Rattle.ov_fans.specs.Pieces.{level_of, IsPiece};
 ghost use Rattle.ov_fans.specs.Cuts.{IsCut, IsFar};
 ghost use Rattle.ov_fans.specs.Code.Kept.{IsLowestOutside};

@@ -41,7 +41,7 @@ impl<'g> Model for Settler<'g> {
 }
 
 impl<'g> Settler<'g> {
-    /// Allocates the buffers for a graph and a group.
+    /// Allocates the buffers for a graph and a group. OutOfMemory (99) where an allocation is refused.
     pub fn new(
         alloc: Global,
         graph: &'g Graph,
@@ -61,7 +61,7 @@ impl<'g> Settler<'g> {
     }
 
     /// Settles a piece. The result is a linked pair or paths where the piece is good, and else its nearest least cut,
-    /// with fewer nodes than its level (Menger, Fund. Math. 10, 1927). Out of memory is the only fault. Graph and
+    /// with fewer nodes than its level (Menger, Fund. Math. 10, 1927). Out of memory (99) is the only fault. Graph and
     /// members stay.
     pub fn settle(&mut self, piece: Piece) -> Result<Settled, OutOfMemory>
         requires { IsPiece self.old.graph self.old.members piece }

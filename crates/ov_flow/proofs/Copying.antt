@@ -10,7 +10,8 @@ use Rattle.ov_split.specs.Code.Residual.{Table, IsUsed, AreHeld, IsTidy, IsFlow}
 use Rattle.ov_split.specs.Placed.{IsPlaced}
 use Rattle.ov_split.proofs.Augmenting.Lists.{distinct_length, distinct_push}
 use Rattle.ov_split.proofs.Augmenting.Move.{leads_map}
-use Rattle.ov_split.proofs.Augmenting.Trace.{Arc, not_source, successor, suffix, used_node, predecessor, last_of, used_on}
+use Rattle.ov_split.proofs.Augmenting.Trace.{Arc, not_source, successor, suffix, used_node, predecessor, last_of}
+use Rattle.ov_split.proofs.Augmenting.Trace.{used_on}
 use Rattle.ov_flow.specs.Code.Walked.{table_of, IsTraced, IsCopied, IsPathCopied}
 use Rattle.ov_flow.proofs.Walking.{said_below}
 

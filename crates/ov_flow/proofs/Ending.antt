@@ -8,7 +8,7 @@ use Rattle.ov_ids.proofs.Members.{has_or_not, has_place, same_ascending, ascends
 use Rattle.ov_graph.specs.Links.{LinkGraph, IsGraph}
 use Rattle.ov_graph.specs.Paths.{node_at}
 use Rattle.ov_graph.specs.Row.{HasBit}
-use Rattle.ov_graph.specs.Code.Kept.{picked}
+use Rattle.ov_graph.specs.Row.{picked}
 use Rattle.ov_graph.proofs.BitRows.Bits.{bit_moved, AreWithout}
 use Rattle.ov_graph.proofs.EvenTest.Filtered.{linked_node}
 use Rattle.ov_graph.proofs.BitRows.Read.{has_picked, in_picked, ascends_picked}

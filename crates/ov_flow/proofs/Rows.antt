@@ -6,7 +6,7 @@ use Rattle.ov_graph.specs.Links.{LinkGraph, IsGraph}
 use Rattle.ov_graph.specs.Joined.{IsNodeSet}
 use Rattle.ov_graph.specs.Paths.{node_at}
 use Rattle.ov_graph.specs.Row.{HasBit}
-use Rattle.ov_graph.specs.Code.Kept.{picked}
+use Rattle.ov_graph.specs.Row.{picked}
 use Rattle.ov_graph.proofs.BitRows.Bits.{bit_moved}
 use Rattle.ov_graph.proofs.BitRows.Read.{has_picked, in_picked, ascends_picked, one_place}
 use Rattle.ov_split.specs.Net.{Net}

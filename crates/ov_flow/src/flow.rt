@@ -34,7 +34,8 @@ impl<'g> Model for Flow<'g> {
 }
 
 impl<'g> Flow<'g> {
-    /// Allocates the buffers for searches of this net, and of others of its graph. No path is held.
+    /// Allocates the buffers for searches of this net, and of others of its graph. No path is held. OutOfMemory (99)
+    /// where an allocation is refused.
     pub fn new(alloc: Global, net: SplitNet<'g>) -> Result<Flow<'g>, OutOfMemory>
         ensures { IfOk result (λ f. f ≡ record { net = net.entry; held = 0 }) }
     {
@@ -50,7 +51,7 @@ impl<'g> Flow<'g> {
     }
 
     /// Searches for one more path. Where there is none, the result is the nearest least cut, which has as many nodes as
-    /// paths are held (Menger, Fund. Math. 10, 1927). Out of memory leaves the net and the number of paths as they
+    /// paths are held (Menger, Fund. Math. 10, 1927). Out of memory (99) leaves the net and the number of paths as they
     /// were.
     pub fn augment(&mut self) -> Result<Step, OutOfMemory>
         ensures step { IfOk result (λ step. IsStep self.old self.new step) }
@@ -65,7 +66,7 @@ impl<'g> Flow<'g> {
 
     /// Starts again with another net of the same graph, and searches for `level` paths, those of one link first. The
     /// result is `None` where they are found. Else fewer paths are held, no fan has more, and the result is the nearest
-    /// least cut (Menger, Fund. Math. 10, 1927). Out of memory leaves some paths of the new net held.
+    /// least cut (Menger, Fund. Math. 10, 1927). Out of memory (99) leaves some paths of the new net held.
     pub fn seek(&mut self, net: SplitNet<'g>, level: usize) -> Result<Option<Stuck>, OutOfMemory>
         requires { net.graph ≡ self.old.net.graph }
         ensures net { self.new.net ≡ net.entry }
@@ -82,6 +83,7 @@ impl<'g> Flow<'g> {
     }
 
     /// The paths that are held, which are a fan of the net. Each path is a list of places of nodes, counted from 0.
+    /// OutOfMemory (99) where an allocation is refused.
     pub fn paths(&self) -> Result<PlacePaths, OutOfMemory>
         ensures fan { IfOk result (λ ps. IsFanOf self.now.net self.now.held
             (map (map (node_at self.now.net.graph)) ps)) }

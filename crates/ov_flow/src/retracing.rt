@@ -75,7 +75,7 @@ fn retrace(net: &SplitNet<'_>, from: &[Option<u16>], next: &mut [Option<u16>], e
 }
 
 /// Takes a walk to one more end. A walk that meets paths may leave cycles in the table. Then only the paths are kept.
-pub(crate) fn turn(
+pub(crate) fn replace_paths(
     net: &SplitNet<'_>,
     from: &mut Vec<Option<u16>>,
     next: &mut Vec<Option<u16>>,

@@ -4,7 +4,7 @@ ghost use Rattle.ov_split.specs.Net.{Net};
 ghost use Rattle.ov_flow.specs.Code.Held.{IsReady, HasRoom, IsWorkOf, IsSame, IsLonger, IsAtEnd};
 
 use crate::direct::take_direct;
-use crate::retracing::{clear, empty_table, turn};
+use crate::retracing::{clear, empty_table, replace_paths};
 use crate::seeking::search;
 use crate::tree::{Tree, new_tree};
 use crate::walk::{Hop, walk_back};
@@ -61,7 +61,7 @@ pub(crate) fn augment(net: &SplitNet<'_>, work: &mut Work) -> Result<bool, Alloc
     walk_back(&work.tree, &mut work.hops)?;
     let target = work.tree.order[work.tree.order.len() - 1];
     work.ends.push(target)?;
-    turn(
+    replace_paths(
         net,
         &mut work.from,
         &mut work.next,

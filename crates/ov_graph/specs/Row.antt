@@ -1,5 +1,6 @@
 -- Rows of bits: lists of words of 64 bits.
-use Rattle.std.specs.Prelude.{ℕ, ◌+◌, ◌*◌, ◌/◌, ◌%◌, ◌<◌, ◌≤◌, ◌==◌, Bool, IsTrue, List, slice_index}
+use Rattle.std.specs.Prelude.{ℕ, suc, ◌+◌, ◌*◌, ◌/◌, ◌%◌, ◌<◌, ◌≤◌, ◌==◌, Bool, IsTrue, List, [], ◌∷◌, slice_index}
+use Rattle.std.specs.Prelude.{if◌then◌else◌}
 use Rattle.std.specs.Int.{bit_at}
 
 -- whether bit p is set: bit p mod 64 of word p / 64
@@ -9,6 +10,11 @@ has_bit row p = bit_at (slice_index row (p / 64)) (p % 64) == 1
 -- bit p is set
 abbrev pub HasBit : List ℕ → ℕ → Type 0
 HasBit row p = IsTrue (has_bit row p)
+
+-- the nodes of xs whose bit is set. The first of xs stands at place p
+unfoldable pub picked : List ℕ → ℕ → List ℕ → List ℕ
+picked row p [] = []
+picked row p (x ∷ xs) = if has_bit row p then x ∷ picked row (suc p) xs else picked row (suc p) xs
 
 -- p is the first set bit from `from` on
 pub record IsFirstFrom (row : List ℕ) (from p : ℕ) : Type 0 where

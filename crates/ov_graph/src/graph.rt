@@ -173,7 +173,7 @@ impl Graph {
         have_same_rows(&self.rows, &other.rows, self.words())
     }
 
-    /// Adds a node without links. Out of memory leaves the graph as it was.
+    /// Adds a node without links. Out of memory (99) leaves the graph as it was.
     pub fn add_node(&mut self, id: NodeId) -> Result<(), OutOfMemory>
         requires stranger { ¬ Has self.old.nodes id }
         requires few { length self.old.nodes < most_nodes }
@@ -215,7 +215,7 @@ impl Graph {
         part(&self.nodes, &mut self.rows, a, b);
     }
 
-    /// An equal graph.
+    /// An equal graph. OutOfMemory (99) where an allocation is refused.
     pub fn copy(&self) -> Result<Graph, OutOfMemory>
         ensures { IfOk result (λ g. g ≡ self.now) }
     {

@@ -1,6 +1,7 @@
 ghost use Rattle.std.specs.Prelude.{◌≡◌};
 ghost use Rattle.std.specs.Iterator.{YieldsFirst, item_count};
-ghost use Rattle.ov_graph.specs.Code.Kept.{picked, links_read, IsRowOf, IsKept};
+ghost use Rattle.ov_graph.specs.Row.{picked};
+ghost use Rattle.ov_graph.specs.Code.Kept.{links_read, IsRowOf, IsKept};
 
 use crate::row::{Row, first_from, words_for};
 use ov_ids::NodeId;
@@ -18,7 +19,8 @@ pub struct Neighbours<'a> {
 impl<'a> Model for Neighbours<'a> {
     ghost use Rattle.std.specs.Prelude.{List, ℕ, length, drop};
     ghost use Rattle.ov_graph.specs.Row.{AreWordsFor};
-    ghost use Rattle.ov_graph.specs.Code.Kept.{picked, IsRowOf};
+    ghost use Rattle.ov_graph.specs.Row.{picked};
+    ghost use Rattle.ov_graph.specs.Code.Kept.{IsRowOf};
 
     ghost Value = { List ℕ };
 

@@ -1,7 +1,7 @@
 pub mod Options
 pub mod Members
+pub mod Ascending
 pub mod Sets
 pub mod ParamsState
 pub mod FaultOrder
 pub mod Text
-pub mod Code

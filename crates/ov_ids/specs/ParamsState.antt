@@ -25,15 +25,31 @@ params_of active passive arwl prwl ka kp shuffle_ttl = record {
   shuffle_ttl = shuffle_ttl;
 }
 
+-- the most active members of a node: chosen here
+abbrev pub most_active : ℕ
+most_active = 16
+
+-- the most passive members of a node: chosen here
+abbrev pub most_passive : ℕ
+most_passive = 64
+
+-- the longest walk, and the longest time to live of a shuffle: chosen here
+abbrev pub longest_walk : ℕ
+longest_walk = 15
+
+-- how many members of a view a shuffle samples at most: chosen here
+abbrev pub most_sampled : ℕ
+most_sampled = 8
+
 -- each parameter is within its limits, which are chosen here
 pub record AreWithinLimits (p : ParamsState) : Type 0 where
   pub active_low : 1 ≤ p.active
-  pub active_high : p.active ≤ 16
+  pub active_high : p.active ≤ most_active
   pub passive_low : 1 ≤ p.passive
-  pub passive_high : p.passive ≤ 64
-  pub arwl_high : p.arwl ≤ 15
+  pub passive_high : p.passive ≤ most_passive
+  pub arwl_high : p.arwl ≤ longest_walk
   pub prwl_high : p.prwl ≤ p.arwl
-  pub ka_high : p.ka ≤ 8
-  pub kp_high : p.kp ≤ 8
+  pub ka_high : p.ka ≤ most_sampled
+  pub kp_high : p.kp ≤ most_sampled
   pub shuffle_ttl_low : 1 ≤ p.shuffle_ttl
-  pub shuffle_ttl_high : p.shuffle_ttl ≤ 15
+  pub shuffle_ttl_high : p.shuffle_ttl ≤ longest_walk

@@ -1,6 +1,6 @@
 ghost use Rattle.std.specs.Prelude.{◌≡◌, ◌↔◌, IsTrue, None};
 ghost use Rattle.ov_ids.specs.Members.{Ascends};
-ghost use Rattle.ov_ids.specs.Code.Ascending.{ascends_after};
+ghost use Rattle.ov_ids.specs.Ascending.{ascends_after};
 
 use crate::NodeId;
 

@@ -30,14 +30,22 @@ pub record SinkState (W : Type 0) : Type 0 where
   pub writer : W
   pub faults : ℕ
 
+-- the number of the fault of a reader that failed: chosen here
+abbrev pub read_failed : ℕ
+read_failed = 71
+
+-- the number of the fault of a writer that failed: chosen here
+abbrev pub write_failed : ℕ
+write_failed = 72
+
 -- the number of each fault of a reader
 abbrev pub read_number : ReadFault → ℕ
-read_number Read = 71
+read_number Read = read_failed
 read_number OutOfMemory = 99
 
 -- the number of the fault of a writer
 abbrev pub write_number : WriteFault → ℕ
-write_number fault = 72
+write_number fault = write_failed
 
 -- how many failures a call counts that ends with the first: one where its fault has this number
 abbrev pub failures_numbered : {A E : Type 0} → ℕ → (E → ℕ) → Result A E → ℕ
@@ -46,11 +54,11 @@ failures_numbered failure number (Err e) = if number e == failure then 1 else 0
 
 -- how many faults a call adds to those of its reader
 abbrev pub read_failures : {A E : Type 0} → (E → ℕ) → Result A E → ℕ
-read_failures number result = failures_numbered 71 number result
+read_failures number result = failures_numbered read_failed number result
 
 -- how many faults a call adds to those of its writer
 abbrev pub write_failures : {A E : Type 0} → (E → ℕ) → Result A E → ℕ
-write_failures number result = failures_numbered 72 number result
+write_failures number result = failures_numbered write_failed number result
 
 -- one read of a call failed
 abbrev pub OneReadFailed : {R : Type 0} → SourceState R → SourceState R → Type 0

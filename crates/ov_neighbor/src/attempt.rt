@@ -145,11 +145,10 @@ fn go_on(
     }
 }
 
-/// The effects of NEIGHBORREPLY from a node. Where the attempt waits for that node, its yes ends the attempt and
-/// makes it active, and its no lets the attempt go on. A yes from anyone else who is not active is answered by
-/// DISCONNECT. Any other reply does nothing. At most two random words are used. OutOfMemory (99) where an allocation
-/// is refused, and then nothing has changed. (NEIGHBOR and its answer are HyParView's; how an attempt goes on is
-/// chosen here.)
+/// The effects of NEIGHBORREPLY from a node. Where the attempt waits for that node, its yes ends the attempt and makes
+/// it active, and after its no the attempt goes on. A yes from anyone else who is not active is answered by DISCONNECT.
+/// Any other reply does nothing. At most two random words are used. OutOfMemory (99) where an allocation is refused,
+/// and then nothing has changed. (NEIGHBOR and its answer are HyParView's; how an attempt goes on is chosen here.)
 pub fn on_reply(
     alloc: Global,
     views: &mut Views,

@@ -1,6 +1,6 @@
 ghost use Rattle.std.specs.Prelude.{◌≡◌, IfOk};
 
-use crate::event::{Event, copy_bytes};
+use crate::event::Event;
 use ov_ids::{NodeId, OutOfMemory, Seq};
 use ov_peer::Delivery;
 use ov_words::Words;
@@ -26,7 +26,7 @@ pub struct Entry {
     pub number: u32,
     /// The event.
     pub event: Event,
-    /// The random words that were handed in with the event.
+    /// The random words of the event.
     pub words: Words,
     /// The changes, in order.
     pub changes: Seq<Change>,
@@ -39,12 +39,11 @@ impl Entry {
     pub fn copy(&self, alloc: Global) -> Result<Entry, OutOfMemory>
         ensures { IfOk result (λ e. e ≡ self.now) }
     {
-        let changes = Vec::from_slice(alloc, self.changes.as_slice())?;
         Ok(Entry {
             number: self.number,
             event: self.event.copy(alloc)?,
             words: self.words,
-            changes: Seq::new(changes),
+            changes: self.changes.copy(alloc)?,
             delivery: copy_delivery(alloc, &self.delivery)?,
         })
     }
@@ -61,7 +60,7 @@ pub(crate) fn copy_delivery(
         Some(delivery) => Ok(Some(Delivery {
             node: delivery.node,
             id: delivery.id,
-            payload: copy_bytes(alloc, &delivery.payload)?,
+            payload: delivery.payload.copy(alloc)?,
         })),
         None => Ok(None),
     }

@@ -41,16 +41,9 @@ impl Event {
             Event::Crash(node) => Event::Crash(*node),
             Event::Report(node, crashed) => Event::Report(*node, *crashed),
             Event::Shuffle(node) => Event::Shuffle(*node),
-            Event::Broadcast(node, payload) => Event::Broadcast(*node, copy_bytes(alloc, payload)?),
+            Event::Broadcast(node, payload) => Event::Broadcast(*node, payload.copy(alloc)?),
             Event::Timer(node, id) => Event::Timer(*node, *id),
             Event::Snapshot => Event::Snapshot,
         })
     }
-}
-
-/// Equal bytes.
-pub(crate) fn copy_bytes(alloc: Global, bytes: &Seq<u8>) -> Result<Seq<u8>, OutOfMemory>
-    ensures { IfOk result (λ b. b ≡ bytes.now) }
-{
-    Ok(Seq::new(Vec::from_slice(alloc, bytes.as_slice())?))
 }

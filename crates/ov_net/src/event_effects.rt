@@ -10,7 +10,7 @@ ghost use Rattle.ov_net.specs.declared.event.Event.TheVariants.{Report, Shuffle,
 
 use crate::effects::{Effects, NodeChange};
 use crate::entry::Change;
-use crate::event::{Event, copy_bytes};
+use crate::event::Event;
 use crate::member::Member;
 use crate::node_effects::{effects_of_birth, effects_of_input};
 use crate::packet::Packet;
@@ -195,7 +195,7 @@ impl World {
         ensures few { IfOk result SendFew }
     {
         let peer = self.live_peer(node);
-        let input = Input::Broadcast(copy_bytes(self.alloc, payload)?);
+        let input = Input::Broadcast(payload.copy(self.alloc)?);
         effects_of_input(self.alloc, node, None, peer, input, words)
     }
 

@@ -1,10 +1,11 @@
 -- What one step of a node uses at most. All three numbers are chosen here.
 use Rattle.std.specs.Prelude.{ℕ, ◌≤◌, List, length}
 use Rattle.ov_words.specs.Pick.{Choice, Drawn}
+use Rattle.ov_views.specs.Handling.{step_words}
 
--- how many random words of an event a step uses at most
+-- how many random words of an event a step uses at most: those of one handler
 abbrev pub most_words : ℕ
-most_words = 40
+most_words = step_words
 
 -- how many of the 64 random words of an event a step leaves at least
 abbrev pub least_left : ℕ

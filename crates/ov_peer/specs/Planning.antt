@@ -6,6 +6,7 @@ use Rattle.ov_plum.specs.PlumChange.{plum_after}
 use Rattle.ov_peer.specs.PeerState.{PeerState}
 use Rattle.ov_peer.specs.Step.{PartsStep, HearsChanges}
 use Rattle.ov_peer.specs.declared.input.Input.{Input}
+use Rattle.ov_peer.specs.declared.input.Output.{Output}
 use Rattle.ov_peer.specs.declared.plan.Plan.{Plan}
 use Rattle.ov_peer.specs.declared.plan.ViewsChange.{ViewsChange}
 use Rattle.ov_peer.specs.declared.plan.ViewsChange.TheVariants.{Nothing, ViewsAndAttempt, Shuffle}
@@ -37,3 +38,7 @@ pub record IsPlanFor (p : PeerState) (plan : Plan) : Type 0 where
   pub input : Input
   pub choices : List Choice
   pub planned : Plans p input choices plan
+
+-- the effects of a plan: what it sends, how it changes the active view, and what it delivers
+abbrev pub output_of : Plan → Output
+output_of plan = record { sends = plan.sends; changes = plan.changes; delivered = plan.delivered }

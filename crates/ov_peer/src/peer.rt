@@ -10,7 +10,7 @@ ghost use Rattle.ov_peer.specs.Code.Messages.{IsOfHyParView};
 ghost use Rattle.ov_peer.specs.Faults.{IsFaultOf, IsInputInRange};
 ghost use Rattle.ov_peer.specs.Limits.{DrawnFrom, most_words, most_sends};
 ghost use Rattle.ov_peer.specs.PeerState.{IsPeer, newborn};
-ghost use Rattle.ov_peer.specs.Planning.{Plans, IsPlanFor, Follows};
+ghost use Rattle.ov_peer.specs.Planning.{Plans, IsPlanFor, Follows, output_of};
 ghost use Rattle.ov_peer.specs.Step.{PeerStep, IsPeerStep};
 ghost use Rattle.ov_peer.specs.declared.fault.PeerFault.TheVariants.{OutOfMemory as out_of_memory};
 ghost use Rattle.ov_peer.specs.declared.input.Input.TheVariants as input;
@@ -78,7 +78,7 @@ impl Peer {
         }
     }
 
-    /// An equal node. Both nodes share the payloads that they hold.
+    /// An equal node. Both nodes share the payloads that they hold. OutOfMemory (99) where an allocation is refused.
     pub fn copy(&self) -> Result<Peer, OutOfMemory>
         ensures { IfOk result (λ p. p ≡ self.now) }
     {
@@ -179,16 +179,12 @@ impl Peer {
 
     /// Follows a plan, which must be one for the node as it now is. So the node takes a step, and what is returned is
     /// what this step sends, changes and delivers: what the plan says. It is the step that was planned if the node has
-    /// not changed since. If memory runs out, the node is as it was.
+    /// not changed since. Out of memory (99), the node is as it was.
     pub fn apply(&mut self, plan: Plan) -> Result<Output, OutOfMemory>
         requires { IsPlanFor self.old plan }
         ensures follows { OnOk result (Follows self.old plan self.new) }
         ensures step { IfOk result (λ o. IsPeerStep self.old self.new o.sends.items o.changes.items o.delivered) }
-        ensures output { IfOk result (λ o. o ≡ record {
-          sends = plan.sends;
-          changes = plan.changes;
-          delivered = plan.delivered;
-        }) }
+        ensures output { IfOk result (λ o. o ≡ output_of plan) }
         ensures err { OnErr result (self.new ≡ self.old) }
     {
         let Plan {

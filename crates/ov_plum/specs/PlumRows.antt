@@ -87,11 +87,11 @@ AllowedGraft t s id u sends delivery =
 abbrev pub AllowedPrune : PlumState → ℕ → PlumState → List (ℕ × Message) → Option Delivered → Type 0
 AllowedPrune t s u sends delivery = (u ≡ record t { branches = makes_lazy s t.branches }) × IsQuiet sends delivery
 
--- x comes up: it is eager
+-- x becomes a neighbour: it is eager
 abbrev pub AllowedUp : PlumState → ℕ → PlumState → Type 0
 AllowedUp t x u = u ≡ record t { branches = up x t.branches }
 
--- x goes down: it is no neighbour any more, and the notes by x go. Timers run on
+-- x is no neighbour any more, and the notes by x go. Timers run on
 abbrev pub AllowedDown : PlumState → ℕ → PlumState → Type 0
 AllowedDown t x u = u ≡ record t { branches = down x t.branches; notes = without_notes_by x t.notes }
 
@@ -110,8 +110,8 @@ AllowedFrom t s Disconnect u sends delivery = (u ≡ t) × IsQuiet sends deliver
 AllowedFrom t s (Shuffle origin ttl ids) u sends delivery = (u ≡ t) × IsQuiet sends delivery
 AllowedFrom t s (ShuffleReply ids) u sends delivery = (u ≡ t) × IsQuiet sends delivery
 
--- an input of a node's part of Plumtree: a broadcast of its own, a message, a timer that fires, a neighbour that
--- comes up or goes down
+-- an input of a node's part of Plumtree: a broadcast of its own, a message, a timer that fires, a node that becomes a
+-- neighbour, a neighbour that is none any more
 pub data PlumInput : Type 0 where
   broadcasts : List ℕ → PlumInput
   receives : Message → PlumInput

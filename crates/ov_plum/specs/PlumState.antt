@@ -35,11 +35,11 @@ pub record AreBranches (b : BranchesState) : Type 0 where
 abbrev pub is_linked : BranchesState → ℕ → Bool
 is_linked b x = has b.eager x || has b.lazy x
 
--- x comes up: it is eager
+-- x becomes a neighbour: it is eager
 abbrev pub up : ℕ → BranchesState → BranchesState
 up x b = record { eager = adding x b.eager; lazy = without x b.lazy }
 
--- x goes down: it is neither
+-- x is no neighbour any more
 abbrev pub down : ℕ → BranchesState → BranchesState
 down x b = record { eager = without x b.eager; lazy = without x b.lazy }
 

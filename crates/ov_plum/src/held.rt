@@ -52,7 +52,7 @@ impl Held {
         ensures value { IfOk result (λ p. p ≡ self.now.payload) }
         ensures short { length self.now.payload ≤ most_payload }
     {
-        Ok(Seq::new(Vec::from_slice(alloc, self.payload.as_slice())?))
+        self.payload.copy(alloc)
     }
 }
 

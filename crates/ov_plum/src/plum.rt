@@ -62,7 +62,7 @@ impl Plum {
         }
     }
 
-    /// An equal value. The payloads of held messages are shared.
+    /// An equal value. The payloads of held messages are shared. OutOfMemory (99) where an allocation is refused.
     pub fn copy(&self) -> Result<Plum, OutOfMemory>
         ensures { IfOk result (λ p. p ≡ self.now) }
     {
@@ -108,7 +108,7 @@ impl Plum {
     }
 
     /// Plans a broadcast of the node's own, of at most 1,024 bytes, which is not its 4,097th: it is to be held,
-    /// delivered and sent on.
+    /// delivered and sent on. OutOfMemory (99) where an allocation is refused.
     pub fn plan_broadcast(&self, payload: Seq<u8>) -> Result<PlumPlan, OutOfMemory>
         requires payload { length payload ≤ most_payload }
         requires made { self.now.made < most_broadcasts }
@@ -131,7 +131,7 @@ impl Plum {
     /// Plans the step at GOSSIP from a node, with a payload of at most 1,024 bytes. Where the message is held, the
     /// sender is to become lazy and to get PRUNE. Else it is to be delivered, held and sent on to all but the sender;
     /// the sender is to become eager, the notes of the message are to go, and its timer is to stop. GOSSIP from the
-    /// node itself does nothing.
+    /// node itself does nothing. OutOfMemory (99) where an allocation is refused.
     pub fn plan_gossip(
         &self,
         from: NodeId,
@@ -164,7 +164,8 @@ impl Plum {
     }
 
     /// Plans the step at IHAVE from a node. Nothing where the message is held, or where the sender is no neighbour or
-    /// the node itself; else the sender is to be noted, and the timer is to run. Nothing is allocated.
+    /// the node itself; else the sender is to be noted behind the older notes of the message, unless it is noted, and
+    /// the timer is to run. Nothing is allocated.
     pub fn plan_ihave(&self, from: NodeId, id: MsgId) -> PlumPlan
         ensures { IsPlumPlan self.now (receives (record { from = from; body = IHave id })) result }
     {
@@ -175,7 +176,7 @@ impl Plum {
     }
 
     /// Plans the step at GRAFT from a node: it is to become eager, and to get the message where that is held. GRAFT
-    /// from the node itself does nothing.
+    /// from the node itself does nothing. OutOfMemory (99) where an allocation is refused.
     pub fn plan_graft(&self, from: NodeId, id: MsgId) -> Result<PlumPlan, OutOfMemory>
         ensures { IfOk result (IsPlumPlan self.now (receives (record { from = from; body = Graft id }))) }
     {
@@ -207,7 +208,7 @@ impl Plum {
 
     /// Plans the step at which the timer of an id fires. Where there is a note of the id, the oldest is to go, and its
     /// sender is to become eager and to get GRAFT. Where there is none, the timer is to stop. NoTimer (18) where the
-    /// timer does not run.
+    /// timer does not run; OutOfMemory (99) where an allocation is refused.
     pub fn plan_timer(&self, id: MsgId) -> Result<PlumPlan, TimerFault>
         ensures allowed { IfOk result (IsPlumPlan self.now (fires id)) }
         ensures no_timer { result ≡ Err NoTimer ↔ set.contains self.now.running id ≡ false }
@@ -227,7 +228,7 @@ impl Plum {
 
     /// Makes a planned change, which must be that of a step from the state as it now is. The change of a plan is one
     /// while nothing changed since it was planned. Only a change by which a message is held, waited for or asked for
-    /// may allocate. Out of memory, nothing has changed.
+    /// may allocate. Out of memory (99), nothing has changed.
     pub fn apply(&mut self, plum_change: PlumChange) -> Result<(), OutOfMemory>
         requires { IsPlumChange self.old plum_change }
         ensures ok { OnOk result (self.new ≡ plum_after self.old plum_change) }
@@ -257,8 +258,8 @@ impl Plum {
         Ok(())
     }
 
-    /// Makes a broadcast of the node's own, of at most 1,024 bytes, which is not its 4,097th: it is held, delivered and
-    /// sent on. Out of memory, nothing has changed.
+    /// Plans a broadcast of the node's own by `plan_broadcast`, and applies it. It has at most 1,024 bytes, and is not
+    /// the node's 4,097th. Out of memory (99), nothing has changed.
     pub fn broadcast(&mut self, payload: Seq<u8>) -> Result<Spread, OutOfMemory>
         requires payload { length payload ≤ most_payload }
         requires made { self.old.made < most_broadcasts }
@@ -273,10 +274,8 @@ impl Plum {
         Ok(spread)
     }
 
-    /// Takes GOSSIP from a node, with a payload of at most 1,024 bytes. Where the message is held, the sender becomes
-    /// lazy and gets PRUNE. Else it is delivered, held and sent on to all but the sender; the sender becomes eager, the
-    /// notes of the message go, and its timer stops. GOSSIP from the node itself does nothing. Out of memory, nothing
-    /// has changed.
+    /// Plans the step by `plan_gossip`, and applies it. The payload has at most 1,024 bytes. Out of memory (99),
+    /// nothing has changed.
     pub fn on_gossip(
         &mut self,
         from: NodeId,
@@ -297,9 +296,7 @@ impl Plum {
         Ok(spread)
     }
 
-    /// Takes IHAVE from a node. Nothing where the message is held, or where the sender is no neighbour or the node
-    /// itself; else the sender is noted behind the older notes of the message, unless it is noted, and the timer runs.
-    /// Out of memory, nothing has changed.
+    /// Plans the step by `plan_ihave`, and applies it. Out of memory (99), nothing has changed.
     pub fn on_ihave(&mut self, from: NodeId, id: MsgId) -> Result<Spread, OutOfMemory>
         ensures ok { IfOk result (IsPlumStep self.old (receives (record { from = from; body = IHave id })) self.new) }
         ensures err { OnErr result (self.new ≡ self.old) }
@@ -312,8 +309,7 @@ impl Plum {
         Ok(spread)
     }
 
-    /// Takes GRAFT from a node: it becomes eager, and gets the message where that is held. GRAFT from the node itself
-    /// does nothing. Out of memory, nothing has changed.
+    /// Plans the step by `plan_graft`, and applies it. Out of memory (99), nothing has changed.
     pub fn on_graft(&mut self, from: NodeId, id: MsgId) -> Result<Spread, OutOfMemory>
         ensures ok { IfOk result (IsPlumStep self.old (receives (record { from = from; body = Graft id })) self.new) }
         ensures err { OnErr result (self.new ≡ self.old) }
@@ -326,7 +322,7 @@ impl Plum {
         Ok(spread)
     }
 
-    /// Takes PRUNE from a node: it becomes lazy. PRUNE from the node itself does nothing. Nothing is allocated.
+    /// Plans the step by `plan_prune`, and applies it. Nothing is allocated.
     pub fn on_prune(&mut self, from: NodeId) -> Spread
         ensures { IsPlumStep self.old (receives (record { from = from; body = Prune })) self.new result }
     {
@@ -340,9 +336,8 @@ impl Plum {
         }
     }
 
-    /// The timer of an id fires. Where there is a note of the id, the oldest goes, and its sender becomes eager and
-    /// gets GRAFT; the timer runs on. Where there is none, the timer stops. NoTimer (18) where the timer does not run.
-    /// After a fault nothing has changed.
+    /// Plans the step by `plan_timer`, and applies it. NoTimer (18) where the timer does not run; OutOfMemory (99)
+    /// where an allocation is refused. After a fault nothing has changed.
     pub fn on_timer(&mut self, id: MsgId) -> Result<Spread, TimerFault>
         ensures ok { IfOk result (IsPlumStep self.old (fires id) self.new) }
         ensures no_timer { result ≡ Err NoTimer ↔ set.contains self.old.running id ≡ false }
@@ -356,7 +351,7 @@ impl Plum {
         Ok(spread)
     }
 
-    /// A node comes up, where there are fewer than 64 neighbours: it is an eager neighbour. Nothing is allocated.
+    /// A node becomes a neighbour: it is eager. There must be fewer than 64 neighbours. Nothing is allocated.
     pub fn up(&mut self, id: NodeId)
         requires { length self.old.branches.eager + length self.old.branches.lazy < most_neighbours }
         ensures { AllowedTree self.old (goes_up id) self.new [] None }
@@ -364,7 +359,7 @@ impl Plum {
         self.branches.up(id);
     }
 
-    /// A node goes down: it is no neighbour, and the notes by it go. Timers run on. Nothing is allocated.
+    /// A node is no neighbour any more, and the notes by it go. Timers run on. Nothing is allocated.
     pub fn down(&mut self, id: NodeId)
         ensures { AllowedTree self.old (goes_down id) self.new [] None }
     {

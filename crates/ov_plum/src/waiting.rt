@@ -64,8 +64,7 @@ impl Waiting {
         }
     }
 
-    /// Notes that a sender has a message, unless it is noted, and lets the timer run. Out of memory, nothing has
-    /// changed.
+    /// Notes that a sender has a message, unless it is noted, and starts the timer. Out of memory, nothing has changed.
     pub(crate) fn note(&mut self, id: MsgId, sender: NodeId) -> Result<(), OutOfMemory>
         ensures ok { OnOk result (self.new ≡ waiting_noted sender id self.old) }
         ensures err { OnErr result (self.new ≡ self.old) }

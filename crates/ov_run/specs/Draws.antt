@@ -5,11 +5,7 @@ use Rattle.rand_core.specs.Stream.{Stream}
 use Rattle.rand_core.specs.Steps.{stream_of, steps_u64_low}
 use Rattle.rand_core.specs.Pcg32Seed.{pcg32_seed}
 use Rattle.rand_pcg.specs.Pcg.{pcg64, pcg64_of_seed}
-use Rattle.ov_words.specs.Stream.{AreOutputs}
-
--- as many random words each event has
-abbrev pub words_per_event : ℕ
-words_per_event = 64
+use Rattle.ov_words.specs.Stream.{AreOutputs, words_per_event}
 
 -- the bytes of the whole seed that `seed_from_u64` makes of a number
 abbrev pub seed_bytes : ℕ

@@ -2,6 +2,7 @@
 -- adds to the counts of failures of its reader and its writer. The numbers are chosen here.
 use Rattle.std.specs.Prelude.{ℕ, ⊤, List, ◌++◌, Option, Some, None, IfSome, Result, Ok, Err, codes, decimal}
 use Rattle.ov_io.specs.Device as device
+use Rattle.ov_io.specs.Refusal.{refusal_text}
 use Rattle.ov_io.specs.declared.fault.ReadFault.{ReadFault}
 use Rattle.ov_io.specs.declared.fault.ReadFault.TheVariants as read
 use Rattle.ov_graph.specs.Faults as graph
@@ -33,13 +34,13 @@ line_of Write = None
 line_of OutOfMemory = None
 
 -- a refusal with this number, of this line where one is named: `line 3: refused 70`, or `refused 71`
-abbrev pub refusal_text : Option ℕ → ℕ → List ℕ
-refusal_text (Some line) number = codes "line " ++ (decimal line ++ (codes ": refused " ++ decimal number))
-refusal_text None number = codes "refused " ++ decimal number
+abbrev pub line_refusal_text : Option ℕ → ℕ → List ℕ
+line_refusal_text (Some line) number = codes "line " ++ (decimal line ++ (codes ": refused " ++ decimal number))
+line_refusal_text None number = refusal_text number
 
 -- the line that `overlay` prints of a fault on standard error, without its line feed
 unfoldable pub fault_text : RunFault → List ℕ
-fault_text fault = refusal_text (line_of fault) (number_of fault)
+fault_text fault = line_refusal_text (line_of fault) (number_of fault)
 
 -- ---- where faults come from
 

@@ -6,7 +6,7 @@ use Rattle.ov_net.specs.declared.event.Event.TheVariants as event
 use Rattle.ov_ids.specs.Options.{◌>>=◌}
 use Rattle.ov_run.specs.Lines.{words_of, behind_word, without_space, same, row, number_within, one, two, three}
 use Rattle.ov_run.specs.Lines.{each_number, short_bits, one_list, long_bits}
-use Rattle.ov_run.specs.Draws.{words_per_event}
+use Rattle.ov_words.specs.Stream.{words_per_event}
 use Rattle.ov_run.specs.declared.scenario.Look.TheVariants as look
 use Rattle.ov_run.specs.declared.scenario.Subject.{Subject}
 use Rattle.ov_run.specs.declared.statement.Statement.{Statement}

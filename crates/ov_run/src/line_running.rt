@@ -70,8 +70,8 @@ fn run_line<W: Write>(
     }
 }
 
-/// Lets an event happen, or be refused, and writes the line of that. An event that is out of memory is refused as any
-/// other: only where an event happened and its line can't be made is OutOfMemory returned.
+/// Does an event, or refuses it, and writes its line. An event that is out of memory is refused as any other: only
+/// where an event happened and its line can't be made is OutOfMemory returned.
 fn run_event<W: Write>(
     alloc: Global,
     core: &mut Core,

@@ -2,6 +2,7 @@ ghost use Rattle.std.specs.Prelude.{◌≡◌, ◌≤◌, ◌<◌, ◌+◌, IfOk
 ghost use Rattle.std.specs.Io.KnownBytes.{Appends};
 ghost use Rattle.ov_io.specs.Device.{AppendsPrefixOf, most_faults, write_failures as sink_failures, write_number};
 ghost use Rattle.ov_certfile.specs.Forms.{last_moment};
+ghost use Rattle.ov_net.specs.Limits.{most_packets};
 ghost use Rattle.ov_net.specs.Net.{LivesAs};
 ghost use Rattle.ov_peer.specs.PeerState.{PeerState};
 ghost use Rattle.ov_run.specs.Ending.{BeginsPackets};
@@ -142,7 +143,7 @@ pub(crate) fn write_packets<W: Write>(
     sink: &mut Sink<W>,
 ) -> Result<(), RunFault>
     requires faults { sink.old.faults < most_faults }
-    requires few { length packets.now ≤ 65536 }
+    requires few { length packets.now ≤ most_packets }
     ensures prints { OnOk result (Writes (PrintsPackets 0 packets.now)
         (W.contents sink.old.writer) (W.contents sink.new.writer)) }
     ensures begun { WritesPrefix (BeginsPackets packets.now)

@@ -36,7 +36,8 @@ pub fn refused_line(number: u32) -> ArrayString<64>
     line
 }
 
-/// The line of a report: `report M`, and what the certificate says of the graph and the group.
+/// The line of a report: `report M`, and what the certificate says of the graph and the group. OutOfMemory (99) where
+/// an allocation is refused.
 #[tactic(auto, unfolding(crate::specs::Printed::report_line))]
 pub fn report_line(alloc: Global, moment: u32, checked: &Checked) -> Result<String, OutOfMemory>
     ensures { IfOk result (λ line. string_bytes line
@@ -48,7 +49,7 @@ pub fn report_line(alloc: Global, moment: u32, checked: &Checked) -> Result<Stri
 }
 
 /// The line of a node and its views: `node N active L passive L eager L lazy L`, where each list has commas between its
-/// ids, and is `-` without any.
+/// ids, and is `-` without any. OutOfMemory (99) where an allocation is refused.
 #[tactic(auto, unfolding(crate::specs::Printed::node_line))]
 pub fn node_line(alloc: Global, id: NodeId, peer: &Peer) -> Result<String, OutOfMemory>
     ensures { IfOk result (λ line. string_bytes line ≡ node_line id peer.now) }
@@ -64,6 +65,7 @@ pub fn node_line(alloc: Global, id: NodeId, peer: &Peer) -> Result<String, OutOf
 }
 
 /// The line of a packet by its place among all: `packet I to N HEX`, with two digits for each byte, in lower case.
+/// OutOfMemory (99) where an allocation is refused.
 #[tactic(auto, unfolding(crate::specs::Printed::packet_line))]
 pub fn packet_line(
     alloc: Global,

@@ -2,7 +2,8 @@ ghost use Rattle.std.specs.Prelude.{◌≡◌, IfOk, length, vec_len};
 ghost use Rattle.rand_core.specs.Stream.{Stream};
 ghost use Rattle.ov_words.specs.Stream.{AreOutputs};
 ghost use Rattle.ov_run.specs.Code.RunnableLines.{stream_now};
-ghost use Rattle.ov_run.specs.Draws.{AreDraws, seeded, words_per_event};
+ghost use Rattle.ov_run.specs.Draws.{AreDraws, seeded};
+ghost use Rattle.ov_words.specs.Stream.{words_per_event};
 
 use ov_ids::OutOfMemory;
 use ov_words::Words;
@@ -12,17 +13,17 @@ use std::alloc::Global;
 
 /// The random words that a seed gives to events, event after event.
 #[derive(Drop)]
-pub(crate) struct Draws {
+pub(crate) struct SeedWords {
     generator: Pcg64,
 }
 
-impl Draws {
+impl SeedWords {
     /// All random words that the seed gives.
     #[tactic(auto, unfolding(crate::specs::Draws::seeded, crate::specs::Code::RunnableLines::stream_now))]
-    pub(crate) fn new(seed: u64) -> Draws
+    pub(crate) fn new(seed: u64) -> SeedWords
         ensures { stream_now result ≡ seeded seed }
     {
-        Draws {
+        SeedWords {
             generator: Pcg64::seed_from_u64(seed),
         }
     }
@@ -45,7 +46,7 @@ pub fn draw(alloc: Global, seed: u64, n: usize) -> Result<Vec<Words>, OutOfMemor
     ensures count { IfOk result (λ draws. vec_len draws ≡ n) }
     ensures draws { IfOk result (λ draws. (left : Stream) × AreDraws (seeded seed) draws.items left) }
 {
-    let mut left = Draws::new(seed);
+    let mut left = SeedWords::new(seed);
     let mut draws = Vec::with_capacity(alloc, n)?;
     for _ in 0..n {
         draws.push(left.next_words())?;

@@ -4,7 +4,7 @@ ghost use Rattle.ov_run.specs.Scenarios.{AreToRun};
 ghost use Rattle.ov_run.specs.Code.RunnableLines.{Collects, stream_now};
 ghost use Rattle.ov_run.specs.declared.statement.Statement.TheVariants as says;
 
-use crate::random_words::Draws;
+use crate::random_words::SeedWords;
 use crate::scenario::{Line, Look, Subject};
 use crate::statement::{Stated, Statement};
 use ov_ids::OutOfMemory;
@@ -15,7 +15,7 @@ use std::alloc::Global;
 /// The lines to run of the lines of a file so far, with what the lines behind them need.
 #[derive(Drop)]
 struct Collector {
-    draws: Draws,
+    draws: SeedWords,
     /// The random words of the line right before, if it gives any.
     given: Option<Words>,
     lines: Vec<Line>,
@@ -29,7 +29,7 @@ impl Collector {
         ensures lines { result.lines.items ≡ [] }
     {
         Collector {
-            draws: Draws::new(seed),
+            draws: SeedWords::new(seed),
             given: None,
             lines: Vec::new(alloc),
         }

@@ -2,6 +2,7 @@
 use Rattle.std.specs.Prelude.{ℕ, List, None}
 use Rattle.ov_graph.specs.Links.{LinkGraph}
 use Rattle.ov_graph.specs.Joined.{NoFewerSplit, FewestForGroup}
+use Rattle.ov_cert.specs.State.{CheckedState}
 use Rattle.ov_cert.specs.Theorems.{ReachesNumber}
 use Rattle.ov_cert.specs.Valid.{k_of}
 use Rattle.ov_cert.specs.Verdict.{JudgedForGroup}
@@ -16,6 +17,15 @@ pub record ReportState : Type 0 where
   pub graph : LinkGraph
   pub members : List ℕ
   pub cert : Cert
+
+-- the report of this moment with this graph, group and certificate
+abbrev pub report_of : ℕ → CheckedState → ReportState
+report_of moment checked = record {
+  moment = moment;
+  graph = checked.graph;
+  members = checked.members;
+  cert = checked.cert;
+}
 
 -- What the report says is so. A snapshot was taken at its moment. Its graph has exactly the links that both ends held
 -- then. Its number k is reached: crashing the k nodes of its cut leaves two surviving members that are not joined, or

@@ -2,6 +2,7 @@
 -- after.
 use Rattle.std.specs.Prelude.{◌≡◌, ◌⊎◌, ℕ, List, [], ◌∷◌, ◌++◌, length, replicate, Option, Some, None}
 use Rattle.ov_ids.specs.ParamsState.{ParamsState}
+use Rattle.ov_words.specs.Stream.{words_per_event}
 use Rattle.ov_net.specs.NetStep.{NetStep}
 use Rattle.ov_net.specs.Refusals.{StepJudged}
 use Rattle.ov_net.specs.declared.entry.Entry.{Entry}
@@ -28,9 +29,9 @@ pub record Happened (b : CoreState) (what : Event) (words : List ℕ) (e : Entry
   pub desks : u.desks ≡ b.desks
   pub reports : u.reports ≡ b.reports
 
--- the 64 random words of a snapshot, which makes no choice: all are zero
+-- the random words of a snapshot, which makes no choice: all are zero
 abbrev pub zero_words : List ℕ
-zero_words = replicate 64 0
+zero_words = replicate words_per_event 0
 
 -- a snapshot was taken, and m is its moment: the number of its entry
 abbrev pub TookSnapshot : CoreState → ℕ → CoreState → Type 0

@@ -1,5 +1,6 @@
 ghost use Rattle.std.specs.Prelude.{◌≡◌};
 ghost use Rattle.ov_snap.specs.Code.Index.{key_cmp, key_of};
+ghost use Rattle.ov_snap.specs.ReportState.{report_of};
 
 use ov_cert::Checked;
 use ov_ids::NodeId;
@@ -14,27 +15,17 @@ pub struct Report {
 }
 
 impl Model for Report {
-    ghost use Rattle.ov_snap.specs.ReportState.{ReportState};
+    ghost use Rattle.ov_snap.specs.ReportState.{ReportState, report_of};
 
     ghost Value = { ReportState };
 
-    ghost view = { λ r. record {
-      moment = r.moment;
-      graph = r.checked.graph;
-      members = r.checked.members;
-      cert = r.checked.cert;
-    } };
+    ghost view = { λ r. report_of r.moment r.checked };
 }
 
 impl Report {
     /// A report of this moment. Nothing is allocated.
     pub fn new(moment: u32, checked: Checked) -> Report
-        ensures { result ≡ record {
-          moment = moment;
-          graph = checked.graph;
-          members = checked.members;
-          cert = checked.cert;
-        } }
+        ensures { result ≡ report_of moment checked }
     {
         Report { moment, checked }
     }

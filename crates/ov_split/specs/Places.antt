@@ -3,6 +3,7 @@ use Rattle.std.specs.Prelude.{ℕ, zero, suc, List, [], ◌∷◌, ◌++◌, map
 use Rattle.ov_ids.specs.Sets.{count_below}
 use Rattle.ov_graph.specs.Links.{LinkGraph}
 use Rattle.ov_graph.specs.Paths.{node_at}
+use Rattle.ov_graph.specs.Row.{picked}
 use Rattle.ov_split.specs.Net.{Net}
 
 -- the places below n
@@ -38,3 +39,12 @@ net_by_place n = record {
 abbrev pub node_if : LinkGraph → Option ℕ → List ℕ
 node_if g None = []
 node_if g (Some p) = node_at g p ∷ []
+
+-- the net of these places: one avoided place at most, the source, and the places of the targets as a row of bits
+abbrev pub net_at : LinkGraph → Option ℕ → ℕ → List ℕ → Net
+net_at g avoided source targets = record {
+  graph = g;
+  avoided = node_if g avoided;
+  source = node_at g source;
+  targets = picked targets 0 g.nodes;
+}

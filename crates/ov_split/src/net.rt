@@ -1,11 +1,9 @@
 ghost use Rattle.std.specs.Prelude.{◌≡◌, ◌≢◌, ◌↔◌, ℕ, ◌<◌, ◌≤◌, ◌*◌, length, IfSome, Some};
 ghost use Rattle.ov_ids.specs.Members.{Has};
 ghost use Rattle.ov_graph.specs.Links.{Linked};
-ghost use Rattle.ov_graph.specs.Paths.{node_at};
 ghost use Rattle.ov_graph.specs.Row.{HasBit, AreWordsFor};
-ghost use Rattle.ov_graph.specs.Code.Kept.{picked};
 ghost use Rattle.ov_split.specs.Net.{IsNet};
-ghost use Rattle.ov_split.specs.Places.{net_by_place, node_if};
+ghost use Rattle.ov_split.specs.Places.{net_at, net_by_place};
 ghost use Rattle.ov_split.specs.Placed.{IsPlaced};
 
 use ov_graph::Graph;
@@ -45,12 +43,7 @@ impl<'g> SplitNet<'g> {
         requires source { source < length graph.now.nodes }
         requires avoided { IfSome avoided (λ p. (p < length graph.now.nodes) × (p ≢ source)) }
         requires targets { (p : ℕ) → HasBit targets p → (p < length graph.now.nodes) × (p ≢ source) }
-        ensures net { result ≡ record {
-          graph = graph.now;
-          avoided = node_if graph.now avoided;
-          source = node_at graph.now source;
-          targets = picked targets 0 graph.now.nodes;
-        } }
+        ensures net { result ≡ net_at graph.now avoided source targets }
         ensures is_net { IsNet result }
     {
         prove!(source < graph.nodes().len());

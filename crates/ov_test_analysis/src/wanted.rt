@@ -138,7 +138,7 @@ fn comes_to(
     }
 }
 
-/// A piece that `settle` settles comes to what it is to come to, and is one.
+/// Settles a piece by `settle`. Its result is the wanted one, and it is a piece.
 fn is_right_of_all(alloc: Global, graph: &Graph, row: &Row<'_>) -> Result<bool, OutOfMemory>
     requires { IsGroup graph.now graph.now.nodes }
 {

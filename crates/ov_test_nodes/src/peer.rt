@@ -40,7 +40,7 @@ fn input_of(alloc: Global, given: Given<'_>) -> Result<Input, Fail>
     })
 }
 
-/// The node's views and branches, the number of its next broadcast, and whether the timer of (7, 0) is set.
+/// The node's views and branches, the number of its next broadcast, and whether the timer of (7, 0) runs.
 fn state(alloc: Global, peer: &Peer) -> Result<String, AllocError> {
     let mut told = String::new(alloc);
     put_ids(&mut told, "active", peer.active())?;
@@ -178,7 +178,7 @@ fn step(
     }
 }
 
-/// What is told of one step: the state after it, and what it brought.
+/// The text of one step: the state after it, and its effects.
 fn told_after(
     rt: &impl Abort,
     alloc: Global,

@@ -83,7 +83,7 @@ fn take(
     })
 }
 
-/// The node's neighbours, and which timers of (2,0), (2,1) and (7,0) are set.
+/// The node's neighbours, and which timers of (2,0), (2,1) and (7,0) run.
 fn state(alloc: Global, plum: &Plum) -> Result<String, AllocError> {
     let mut told = String::new(alloc);
     put_ids(&mut told, "eager", plum.eager())?;

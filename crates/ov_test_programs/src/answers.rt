@@ -16,7 +16,7 @@ use std::alloc::{AllocError, Global};
 use std::io::{Read, Write};
 use std::test::Fail;
 
-/// Counts what it is told.
+/// Counts its calls.
 #[derive(Drop)]
 struct Counter {
     count: u64,
@@ -28,7 +28,7 @@ impl Watcher for Counter {
     }
 }
 
-/// What an analysis of this file comes to, and what it prints.
+/// The result of an analysis of this file, and what it prints.
 pub(crate) fn analysed(
     alloc: Global,
     file: &[u8],

@@ -8,7 +8,7 @@ use ov_test_kit::Slow;
 use std::alloc::Global;
 use std::test::Fail;
 
-/// The file comes to this fault, and nothing is printed.
+/// The file has this fault, and nothing is printed.
 fn is_refused(alloc: Global, file: &[u8], fault: RunFault) -> bool {
     let (told, written) = analysed(alloc, file, None, false);
     told == Err(fault) && written.is_empty()

@@ -233,7 +233,7 @@ fn look(alloc: Global, world: &World, line: Line) -> Result<String, Fail> {
     Ok(told)
 }
 
-/// What comes of a line.
+/// The result of a line.
 fn comes_of(rt: &impl Abort, alloc: Global, world: &mut World, line: Line) -> Result<String, Fail> {
     match event_of(alloc, line)? {
         Some(event) => happens(rt, alloc, world, &event),

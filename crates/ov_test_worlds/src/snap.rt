@@ -176,7 +176,7 @@ fn nobody_lives_in_an_empty_world(rt: HostRuntime) -> Result<(), Fail> {
     has_nobody(&rt, &mut new_core(rt.alloc())?)
 }
 
-/// One node comes to life, and shuffles until there is room for one entry more.
+/// One node is born, and shuffles until there is room for one entry more.
 fn fill(core: &mut Core) -> Result<(), NetFault> {
     step(core, Event::Boot(NodeId(1), None))?;
     for _ in 0..65_534 {

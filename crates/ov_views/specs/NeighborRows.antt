@@ -74,7 +74,7 @@ AllowedNeighbor v s high choices w changes sends =
     (MatchBool high (LetsIn v s choices w changes sends)
     (MatchBool (has_place v) (LetsIn v s choices w changes sends) (Replies v s false choices w changes sends))))
 
--- NEIGHBORREPLY from s. A yes from the asked node ends the attempt, and s becomes active; its no lets the attempt go
+-- NEIGHBORREPLY from s. A yes from the asked node ends the attempt, and s becomes active; after its no the attempt goes
 -- on. A yes from anyone else who is not active is answered by DISCONNECT. Any other reply does nothing
 abbrev pub AllowedReply : ViewsState → AttemptState → ℕ → Bool → List Choice → ViewsState → AttemptState →
     List ViewChange → List (ℕ × Message) → Type 0

@@ -91,7 +91,7 @@ impl Body {
             },
             Body::Disconnect => Body::Disconnect,
             Body::Shuffle { origin, ttl, ids } => {
-                let ids = Seq::new(Vec::from_slice(alloc, ids.as_slice())?);
+                let ids = ids.copy(alloc)?;
                 Body::Shuffle {
                     origin: *origin,
                     ttl: *ttl,
@@ -100,11 +100,11 @@ impl Body {
             }
             Body::ShuffleReply { ids } => {
                 Body::ShuffleReply {
-                    ids: Seq::new(Vec::from_slice(alloc, ids.as_slice())?),
+                    ids: ids.copy(alloc)?,
                 }
             }
             Body::Gossip { id, round, payload } => {
-                let payload = Seq::new(Vec::from_slice(alloc, payload.as_slice())?);
+                let payload = payload.copy(alloc)?;
                 Body::Gossip {
                     id: *id,
                     round: *round,

@@ -1,6 +1,7 @@
 ghost use Rattle.std.specs.Prelude.{◌≡◌, ◌<◌, ◌+◌, ◌↔◌, [], ◌∷◌, length, IfNone, IfSome};
 ghost use Rattle.ov_ids.specs.Sets.{IsIn, IsSet};
 ghost use Rattle.ov_words.specs.Pick.{AreDrawn};
+ghost use Rattle.ov_words.specs.Stream.{words_per_event};
 
 use crate::Words;
 use ov_ids::NodeId;
@@ -24,7 +25,7 @@ impl<'a> Draws<'a> {
     /// All words of an event, none drawn yet.
     pub fn new(words: &'a Words) -> Draws<'a>
         ensures value { result ≡ words.now }
-        ensures count { length result ≡ 64 }
+        ensures count { length result ≡ words_per_event }
     {
         Draws {
             words: words.as_slice(),

@@ -1,5 +1,5 @@
 ghost use Rattle.std.specs.Prelude.{◌≡◌, length};
-ghost use Rattle.ov_words.specs.Stream.{AreOutputs};
+ghost use Rattle.ov_words.specs.Stream.{AreOutputs, words_per_event};
 
 use rand_core::Rng;
 use std::marker::Model;
@@ -10,12 +10,13 @@ pub struct Words([u64; 64]);
 
 impl Model for Words {
     ghost use Rattle.std.specs.Prelude.{◌≡◌, List, ℕ, length};
+    ghost use Rattle.ov_words.specs.Stream.{words_per_event};
 
     ghost Value = { List ℕ };
 
     ghost view = { λ a. a.0 };
 
-    ghost invariant = { λ a. length a.0 ≡ 64 };
+    ghost invariant = { λ a. length a.0 ≡ words_per_event };
 
     ghost inverse = { λ w. record { 0 = w } };
 }
@@ -24,7 +25,7 @@ impl Words {
     /// These words, in this order.
     pub fn new(words: [u64; 64]) -> Words
         ensures value { result ≡ words }
-        ensures count { length result ≡ 64 }
+        ensures count { length result ≡ words_per_event }
     {
         Words(words)
     }
@@ -33,7 +34,7 @@ impl Words {
     #[tactic(auto, using(crate::proofs::Outputs::outputs_written))]
     pub fn from_rng<R: Rng>(rng: &mut R) -> Words
         ensures outputs { AreOutputs (R.stream rng.old) result (R.stream rng.new) }
-        ensures count { length result ≡ 64 }
+        ensures count { length result ≡ words_per_event }
     {
         let mut outputs = [0; 64];
         for word in outputs.iter_mut() {
@@ -45,7 +46,7 @@ impl Words {
     /// The words in order.
     pub fn as_slice(&self) -> &[u64]
         ensures value { result.now ≡ self.now }
-        ensures count { length self.now ≡ 64 }
+        ensures count { length self.now ≡ words_per_event }
     {
         &self.0
     }

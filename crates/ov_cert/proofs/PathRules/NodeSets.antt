@@ -10,7 +10,7 @@ use Rattle.ov_ids.proofs.Sets.{IsSet-adding}
 use Rattle.ov_graph.specs.Links.{LinkGraph, IsGraph}
 use Rattle.ov_graph.specs.Paths.{node_at}
 use Rattle.ov_graph.specs.Row.{HasBit}
-use Rattle.ov_graph.specs.Code.Kept.{picked}
+use Rattle.ov_graph.specs.Row.{picked}
 use Rattle.ov_graph.specs.declared.row.TheConstants.{EMPTY}
 use Rattle.ov_graph.proofs.BitRows.Bits.{bit_moved, empty_bit}
 use Rattle.ov_graph.proofs.BitRows.Read.{has_picked, in_picked, ascends_picked, none_picked, one_place}

@@ -23,7 +23,8 @@ use Rattle.ov_cert.specs.Theorems.{ReachesNumber, ValidMeans, OneVerdict}
 use Rattle.ov_cert.specs.Code.Tests.{expected_pairs, frame_fault, later_fault, fault_of, first}
 use Rattle.ov_cert.proofs.Validity.Parting.{cut_splits, cut_parts, near_is_not_far}
 use Rattle.ov_cert.proofs.EntryOrder.Columns.{expected, unlinked_pairs_one}
-use Rattle.ov_cert.proofs.Validity.Verdicts.{FrameSays, EntriesSay, frame_judged, frame_found, entries_judged, entries_found}
+use Rattle.ov_cert.proofs.Validity.Verdicts.{FrameSays, EntriesSay, frame_judged, frame_found, entries_judged}
+use Rattle.ov_cert.proofs.Validity.Verdicts.{entries_found}
 
 -- if each place has its entry and there are no more entries, the entries name the items in order, and each entry is
 -- right

@@ -5,7 +5,7 @@ use Rattle.std.proofs.lemmas.Bool.{ne_eqb, and_parts, and_from, or_cases, or_lef
 use Rattle.std.specs.List.{list_all}
 use Rattle.ov_ids.specs.Members.{Has, Ordered, Ascends}
 use Rattle.ov_ids.specs.Sets.{has}
-use Rattle.ov_ids.specs.Code.Ascending.{ascends_after}
+use Rattle.ov_ids.specs.Ascending.{ascends_after}
 use Rattle.ov_ids.proofs.Members.{has_tested, all_member, all_from_members}
 use Rattle.ov_ids.proofs.Rising.{ascends_tested}
 use Rattle.ov_graph.specs.Links.{LinkGraph, IsGraph, IsGroup, Linked, AreAllLinked}

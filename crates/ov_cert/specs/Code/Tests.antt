@@ -4,7 +4,7 @@ use Rattle.std.specs.Prelude.{ℕ, suc, ◌+◌, ◌&&◌, ◌||◌, ◌==◌, n
 use Rattle.std.specs.Prelude.{length, take, slice_get, if◌then◌else◌, Option, Some, None}
 use Rattle.std.specs.List.{list_all}
 use Rattle.ov_ids.specs.Sets.{has, adding}
-use Rattle.ov_ids.specs.Code.Ascending.{ascends_after}
+use Rattle.ov_ids.specs.Ascending.{ascends_after}
 use Rattle.ov_graph.specs.Links.{LinkGraph}
 use Rattle.ov_graph.specs.Code.Tests.{are_joined, neighbours_in}
 use Rattle.ov_cert.specs.declared.cert.Cert.{Cert}

@@ -1,13 +1,13 @@
 -- The invariant of a desk.
 use Rattle.std.specs.Prelude.{ℕ, ◌^◌, ◌<◌, ◌≤◌, List, length}
-use Rattle.ov_claims.specs.Claims.{WorkerState, ClaimState, IsLegal, most_workers}
+use Rattle.ov_claims.specs.Claims.{WorkerState, DeskState, IsLegal, most_workers}
 
 -- the claims made of these parts
-abbrev pub state : ℕ → ℕ → ℕ → List WorkerState → ClaimState
+abbrev pub state : ℕ → ℕ → ℕ → List WorkerState → DeskState
 state total next least workers = record { total = total; next = next; least = least; workers = workers }
 
 -- the claims are legal, the total fits in 32 bits, and there are 1 to 64 workers
-pub record IsHeld (s : ClaimState) : Type 0 where
+pub record IsHeld (s : DeskState) : Type 0 where
   pub legal : IsLegal s
   pub total : s.total < 2 ^ 32
   pub some : 1 ≤ length s.workers

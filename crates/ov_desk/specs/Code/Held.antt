@@ -1,7 +1,7 @@
 -- The invariant of a desk.
 use Rattle.std.specs.Prelude.{◌≡◌, ℕ, ◌≤◌, false, List, length, map}
 use Rattle.ov_fans.specs.declared.settled.Settled.{Settled}
-use Rattle.ov_claims.specs.Claims.{WorkerState, ClaimState, HasWorker, most_workers}
+use Rattle.ov_claims.specs.Claims.{WorkerState, DeskState, HasWorker, most_workers}
 use Rattle.ov_claims.specs.Steps.{IsLast}
 use Rattle.ov_even.specs.declared.haul.Haul.{Haul}
 use Rattle.ov_desk.specs.Desk.{GroupDeskState, HasHand, IsNumberIn}
@@ -12,7 +12,7 @@ abbrev pub pieces_in : List Haul → List (List Settled)
 pieces_in hauls = map (λ haul. haul.pieces.items) hauls
 
 -- the desk made of these parts
-abbrev pub state : ℕ → List ℕ → ClaimState → List Hand → List Haul → GroupDeskState
+abbrev pub state : ℕ → List ℕ → DeskState → List Hand → List Haul → GroupDeskState
 state moment members claims hands hauls = record {
   moment = moment;
   members = members;

@@ -11,7 +11,7 @@ use Rattle.ov_fans.specs.declared.piece.Piece.{Piece}
 use Rattle.ov_fans.specs.declared.settled.Settled.{Settled}
 use Rattle.ov_fans.proofs.PieceCuts.Decided.{decides}
 use Rattle.ov_fans.proofs.PieceNets.Ranks.{fits}
-use Rattle.ov_even.specs.Harvest.{IsIn, IsCleared, Suffice}
+use Rattle.ov_even.specs.Harvest.{IsBroughtIn, IsCleared, Suffice}
 use Rattle.ov_even.specs.declared.haul.Haul.{Haul}
 use Rattle.ov_even.specs.Code.Trying.{AreSettledRight, IsClearedBy, IsLevelCleared, StopsAt, IsTried}
 use Rattle.ov_even.proofs.EvenTest.Complete.{last_level}
@@ -56,7 +56,7 @@ not_last g q level pieces graph group apart right cleared e =
     (λ p at last. cleared_good g q pieces p graph right (cleared p at (omega (arith, last, e)))))
 
 -- a piece in two hauls is in one of them
-pub in_either : (kept pieces : Haul) (s : Settled) → IsIn (kept ∷ pieces ∷ []) s
+pub in_either : (kept pieces : Haul) (s : Settled) → IsBroughtIn (kept ∷ pieces ∷ []) s
     → Has kept.pieces.items s ⊎ Has pieces.pieces.items s
 in_either kept pieces s h = elim h.1 [
   | inl e ↦ inl (subst (λ (x : Haul). Has x.pieces.items s) (sym e) h.2)

@@ -9,7 +9,7 @@ use Rattle.ov_graph.specs.Links.{LinkGraph, IsGraph, Linked, IsGroup}
 use Rattle.ov_graph.specs.Paths.{node_at}
 use Rattle.ov_graph.specs.Even.{members_below}
 use Rattle.ov_graph.specs.Row.{HasBit}
-use Rattle.ov_graph.specs.Code.Kept.{picked}
+use Rattle.ov_graph.specs.Row.{picked}
 use Rattle.ov_graph.specs.Code.Tests.{neighbours_in}
 use Rattle.ov_graph.proofs.BitRows.Bits.{bit_moved}
 use Rattle.ov_graph.proofs.EvenTest.Filtered.{has_filter, has_filtered, neighbours_one}

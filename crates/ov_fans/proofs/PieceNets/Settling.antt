@@ -4,7 +4,7 @@ use Rattle.std.proofs.Common.{ap, ap₂, subst, arith}
 use Rattle.ov_graph.specs.Links.{LinkGraph, IsGraph, IsGroup}
 use Rattle.ov_graph.specs.Paths.{node_at}
 use Rattle.ov_graph.specs.Row.{HasBit}
-use Rattle.ov_graph.specs.Code.Kept.{picked}
+use Rattle.ov_graph.specs.Row.{picked}
 use Rattle.ov_split.specs.Net.{Net, IsFanOf}
 use Rattle.ov_flow.specs.Flow.{IsFull, IsFullBy, ArePlaces}
 use Rattle.ov_flow.specs.declared.step.Stuck.{Stuck}

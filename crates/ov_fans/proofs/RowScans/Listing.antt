@@ -3,7 +3,8 @@ use Rattle.std.proofs.Common.{◌≡◌, ◌∙◌, ℕ, ◌+◌, ◌*◌, ◌<�
 use Rattle.std.proofs.Common.{arith}
 use Rattle.std.proofs.lemmas.List.{append_assoc, append-nil}
 use Rattle.ov_graph.specs.Row.{HasBit, IsFirstFrom, AreWordsFor}
-use Rattle.ov_graph.specs.Code.Kept.{picked, IsRowOf}
+use Rattle.ov_graph.specs.Row.{picked}
+use Rattle.ov_graph.specs.Code.Kept.{IsRowOf}
 use Rattle.ov_graph.proofs.BitRows.Read.{next_picked, none_picked}
 
 -- one more node is found

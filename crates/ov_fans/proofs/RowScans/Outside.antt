@@ -8,7 +8,8 @@ use Rattle.ov_graph.specs.Links.{LinkGraph, IsGraph, IsGroup}
 use Rattle.ov_graph.specs.Paths.{node_at}
 use Rattle.ov_graph.specs.Even.{members_below}
 use Rattle.ov_graph.specs.Row.{has_bit, HasBit, IsFirstFrom, AreWordsFor}
-use Rattle.ov_graph.specs.Code.Kept.{picked, IsRowOf}
+use Rattle.ov_graph.specs.Row.{picked}
+use Rattle.ov_graph.specs.Code.Kept.{IsRowOf}
 use Rattle.ov_graph.proofs.BitRows.Bits.{bit_moved, AreWithout}
 use Rattle.ov_graph.proofs.BitRows.Read.{has_picked, in_picked, picked_at}
 use Rattle.ov_fans.specs.Pieces.{member_at, level_of, IsPiece}

@@ -4,7 +4,7 @@ use Rattle.ov_ids.specs.Members.{Has, Ascends}
 use Rattle.ov_graph.specs.Links.{LinkGraph, IsGraph, IsWithinLimit}
 use Rattle.ov_graph.specs.Paths.{node_at}
 use Rattle.ov_graph.specs.Row.{HasBit}
-use Rattle.ov_graph.specs.Code.Kept.{picked}
+use Rattle.ov_graph.specs.Row.{picked}
 use Rattle.ov_split.specs.Net.{Net}
 use Rattle.ov_split.specs.Places.{node_if}
 use Rattle.ov_fans.specs.Group.{GroupIn}

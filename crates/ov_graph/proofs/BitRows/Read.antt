@@ -11,7 +11,8 @@ use Rattle.ov_ids.proofs.Members.{has_append_left, has_append_right, has_append_
 use Rattle.ov_ids.proofs.Members.{all_from_members, ordered_at}
 use Rattle.ov_graph.specs.Links.{LinkGraph, IsGraph, Precedes, Linked, AreNeighbours}
 use Rattle.ov_graph.specs.Row.{has_bit, HasBit, IsFirstFrom}
-use Rattle.ov_graph.specs.Code.Kept.{row_at, picked, links_read, links_from, graph_kept, IsKept}
+use Rattle.ov_graph.specs.Row.{picked}
+use Rattle.ov_graph.specs.Code.Kept.{row_at, links_read, links_from, graph_kept, IsKept}
 use Rattle.ov_graph.proofs.BitRows.Bits.{no_row, bit_moved}
 use Rattle.ov_graph.proofs.EvenTest.Filtered.{linked_node}
 

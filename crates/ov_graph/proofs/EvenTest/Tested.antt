@@ -6,7 +6,7 @@ use Rattle.std.proofs.lemmas.Bool.{cases_eq}
 use Rattle.std.specs.List.{list_any, AllByRecursion}
 use Rattle.ov_ids.specs.Members.{Has, Ordered, Ascends}
 use Rattle.ov_ids.specs.Sets.{has}
-use Rattle.ov_ids.specs.Code.Ascending.{ascends_after}
+use Rattle.ov_ids.specs.Ascending.{ascends_after}
 use Rattle.ov_ids.specs.FaultOrder.{Step}
 use Rattle.ov_ids.proofs.Members.{has_from_any, any_from_has, has_tested, all_member, all_from_members}
 use Rattle.ov_ids.proofs.Rising.{ascends_tested}

@@ -1,19 +1,13 @@
 -- How the code keeps a graph: its nodes, and a row of bits for each. In the row of a node bit q is set where it is
 -- linked to the node at place q.
 use Rattle.std.specs.Prelude.{◌≡◌, ◌↔◌, ℕ, suc, ◌<◌, ◌≤◌, List, [], ◌∷◌, ◌++◌, map, length, drop, get_or, slice_index}
-use Rattle.std.specs.Prelude.{if◌then◌else◌}
 use Rattle.ov_ids.specs.Members.{Ascends}
 use Rattle.ov_graph.specs.Links.{LinkGraph, Linked, most_nodes}
-use Rattle.ov_graph.specs.Row.{has_bit, HasBit}
+use Rattle.ov_graph.specs.Row.{HasBit, picked}
 
 -- the row of the node at a place
 abbrev pub row_at : List (List ℕ) → ℕ → List ℕ
 row_at rows p = get_or rows p []
-
--- the nodes of xs whose bit is set. The first of xs stands at place p
-unfoldable pub picked : List ℕ → ℕ → List ℕ → List ℕ
-picked row p [] = []
-picked row p (x ∷ xs) = if has_bit row p then x ∷ picked row (suc p) xs else picked row (suc p) xs
 
 -- the links that rows stand for: from each node of xs to the nodes after it whose bit is set in its row. The first of
 -- xs stands at place p

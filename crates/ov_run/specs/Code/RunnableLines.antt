@@ -5,14 +5,14 @@ use Rattle.rand_core.specs.Steps.{stream_of, steps_u64_low}
 use Rattle.rand_pcg.specs.Pcg.{pcg64}
 use Rattle.ov_run.specs.Draws.{AreDraws}
 use Rattle.ov_run.specs.Scenarios.{AskFor}
-use Rattle.ov_run.specs.declared.random_words.Draws.{Draws}
+use Rattle.ov_run.specs.declared.random_words.SeedWords.{SeedWords}
 use Rattle.ov_run.specs.declared.scenario.Line.{Line}
 use Rattle.ov_run.specs.declared.statement.Statement.{Statement}
 use Rattle.ov_run.specs.declared.statement.Statement.TheVariants as says
 use Rattle.ov_run.specs.declared.runnable_lines.Collector.{Collector}
 
 -- what a generator of random words answers from now on
-unfoldable pub stream_now : Draws → Stream
+unfoldable pub stream_now : SeedWords → Stream
 stream_now draws = stream_of (steps_u64_low pcg64) draws.generator
 
 -- random words that wait for an event, as the line that gave them

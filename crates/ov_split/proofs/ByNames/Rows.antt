@@ -7,7 +7,7 @@ use Rattle.ov_graph.specs.Links.{LinkGraph, IsGraph, Linked}
 use Rattle.ov_graph.specs.Joined.{IsNodeSet}
 use Rattle.ov_graph.specs.Paths.{node_at}
 use Rattle.ov_graph.specs.Row.{HasBit}
-use Rattle.ov_graph.specs.Code.Kept.{picked}
+use Rattle.ov_graph.specs.Row.{picked}
 use Rattle.ov_graph.proofs.BitRows.Bits.{bit_moved}
 use Rattle.ov_graph.proofs.BitRows.Read.{has_picked, picked_at, ascends_picked, none_picked}
 use Rattle.ov_split.specs.Net.{IsNet}

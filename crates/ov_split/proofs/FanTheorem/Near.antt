@@ -12,7 +12,8 @@ use Rattle.ov_split.specs.Net.{Net, IsNet, IsReached, IsCutOf, IsNearestCut, IsS
 use Rattle.ov_split.specs.Code.Residual.{IsFree, Table, IsFlow, IsStuck, IsResidual, IsBoundary}
 use Rattle.ov_split.proofs.Augmenting.Lists.{others_of, distinct_parts, off_both}
 use Rattle.ov_split.proofs.Augmenting.Move.{tip_cases}
-use Rattle.ov_split.proofs.Augmenting.Trace.{Arc, traced, bundle, meet, suffix, on_path, last_of, used_on, used_off, used_node}
+use Rattle.ov_split.proofs.Augmenting.Trace.{Arc, traced, bundle, meet, suffix, on_path, last_of, used_on, used_off}
+use Rattle.ov_split.proofs.Augmenting.Trace.{used_node}
 use Rattle.ov_split.proofs.Augmenting.Trace.{linked_on}
 use Rattle.ov_split.proofs.Augmenting.Stuck.{boundary_small, boundary_within}
 

@@ -107,7 +107,7 @@ fn times(alloc: Global, world: &mut World, line: Line, count: u32) -> Result<(),
     Ok(())
 }
 
-/// One world comes to be full of all: of packets, nodes and entries.
+/// Fills one world with packets, nodes and entries.
 fn fills(rt: &impl Abort, alloc: Global, world: &mut World) -> Result<(), Fail> {
     for lines in [TRIANGLE.as_slice(), &SPREAD, &MISSED, &BAG] {
         goes(rt, alloc, world, lines)?;

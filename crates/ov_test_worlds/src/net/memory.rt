@@ -107,7 +107,7 @@ fn tells(entry: &Entry, change: Option<Change>, delivers: Option<NodeId>) -> boo
     entry.changes.as_slice().first().copied() == change && node == delivers
 }
 
-/// All rows happen in the world, which comes to be the last one.
+/// All rows happen in the world, which is `last` afterwards.
 fn happen(rt: &impl Abort, alloc: Global, world: &mut World) -> Result<(), Fail> {
     for (i, (line, change, delivers)) in rows().iter().enumerate() {
         let entry = taken(rt, alloc, world, *line)?;

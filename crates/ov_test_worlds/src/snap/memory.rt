@@ -174,7 +174,7 @@ fn has_linked(core: &Core) -> bool {
     matches!(report.checked().cert(), Cert::Linked { k: 1 })
 }
 
-/// All rows are answered, and the core comes to be the last one.
+/// All rows are answered, and the core is `last` afterwards.
 fn answers(rt: &impl Abort, alloc: Global, core: &mut Core) -> Result<(), Fail> {
     for (i, (call, expected)) in rows().into_iter().enumerate() {
         let answer = answer_of(rt, alloc, core, call)?;

@@ -16,7 +16,7 @@ abbrev pub ◌>>=◌ : {A B : Type 0} → Result A WireFault → (A → Result B
 (Ok x) >>= f = f x
 (Err e) >>= f = Err e
 
--- the number at the front and the bytes after it
+-- the number that begins the bytes, and the bytes after it
 abbrev pub number_at : Width → ℕ → ℕ → WireFault → List ℕ → Result (ℕ × List ℕ) WireFault
 number_at width least most otherwise bytes =
     if nat_lt (length bytes) (byte_len width) then Err Short else
@@ -36,7 +36,7 @@ ids_in (a ∷ b ∷ []) = []
 ids_in (a ∷ []) = []
 ids_in [] = []
 
--- the value of the field at the front and the bytes after it
+-- the value of the field that begins the bytes, and the bytes after it
 abbrev pub field_at : Field → List ℕ → Result (Value × List ℕ) WireFault
 field_at (Number width least most otherwise) bytes = do
   n ← number_at width least most otherwise bytes

@@ -10,8 +10,10 @@ use Rattle.ov_cert.specs.Valid.{PairPrecedes}
 use Rattle.ov_even.specs.Code.Levels.{pieces_of_level}
 use Rattle.ov_even.specs.Code.Slots.{HaveSlots}
 use Rattle.ov_even.proofs.AnalysisSteps.Narrowing.{members_few}
-use Rattle.ov_even.proofs.AnalysisSteps.Named.{AreNamed, NamesPair, named_pass, pair_put, pairs_all, is_next, pair_places}
-use Rattle.ov_even.proofs.AnalysisSteps.Named.{linked_unnamed, fan_unnamed, pair_apart, pair_entry, holds_more, names_more, all_seen}
+use Rattle.ov_even.proofs.AnalysisSteps.Named.{AreNamed, NamesPair, named_pass, pair_put, pairs_all, is_next}
+use Rattle.ov_even.proofs.AnalysisSteps.Named.{pair_places}
+use Rattle.ov_even.proofs.AnalysisSteps.Named.{linked_unnamed, fan_unnamed, pair_apart, pair_entry, holds_more}
+use Rattle.ov_even.proofs.AnalysisSteps.Named.{names_more, all_seen}
 use Rattle.ov_even.proofs.AnalysisSteps.Named.{listed_more}
 use Rattle.ov_even.proofs.entries.pair_entries.Goals as goal
 

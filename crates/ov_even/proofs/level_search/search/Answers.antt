@@ -4,7 +4,8 @@ use Rattle.ov_fans.specs.Group.{GroupIn}
 use Rattle.ov_even.specs.Harvest.{Suffice}
 use Rattle.ov_even.specs.declared.haul.Haul.{Haul}
 use Rattle.ov_even.specs.Code.Trying.{AreSettledRight, IsLevelCleared, IsTried}
-use Rattle.ov_even.proofs.AnalysisSteps.Narrowing.{members_few, two_nodes, not_last, ok_then, tried_suffices, tried_clears}
+use Rattle.ov_even.proofs.AnalysisSteps.Narrowing.{members_few, two_nodes, not_last, ok_then, tried_suffices}
+use Rattle.ov_even.proofs.AnalysisSteps.Narrowing.{tried_clears}
 use Rattle.ov_even.proofs.level_search.search.Goals as goal
 
 pub first_guess-requires-clause-nodes : goal.first_guess-requires-clause-nodes

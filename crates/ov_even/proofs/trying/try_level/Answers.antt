@@ -4,7 +4,8 @@ use Rattle.ov_fans.specs.Pieces.{IsPiece}
 use Rattle.ov_fans.specs.Cuts.{IsRight}
 use Rattle.ov_fans.specs.Group.{GroupIn}
 use Rattle.ov_fans.specs.Pieces.{IsPieceOf}
-use Rattle.ov_even.proofs.AnalysisSteps.Trials.{next_is, more_linked, more_kept, more_right, stopped, ended, linked_right, cut_some}
+use Rattle.ov_even.proofs.AnalysisSteps.Trials.{next_is, more_linked, more_kept, more_right, stopped, ended}
+use Rattle.ov_even.proofs.AnalysisSteps.Trials.{linked_right, cut_some}
 use Rattle.ov_even.proofs.AnalysisSteps.Trials.{cut_none, tried_some}
 use Rattle.ov_even.proofs.trying.try_level.Goals as goal
 

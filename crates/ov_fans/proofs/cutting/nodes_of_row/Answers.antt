@@ -1,7 +1,8 @@
 -- Each set bit is one more node.
 use Rattle.std.proofs.Common.{◌∙◌, ◌<◌, ◌+◌, ℕ, List, ◌++◌, ap, drop, length, sym, subst, arith}
 use Rattle.ov_graph.specs.Row.{AreWordsFor}
-use Rattle.ov_graph.specs.Code.Kept.{picked, IsRowOf}
+use Rattle.ov_graph.specs.Row.{picked}
+use Rattle.ov_graph.specs.Code.Kept.{IsRowOf}
 use Rattle.ov_fans.proofs.PieceNets.Ranks.{read_at}
 use Rattle.ov_fans.proofs.RowScans.Listing.{found_more, found_all}
 use Rattle.ov_fans.proofs.cutting.nodes_of_row.Goals as goal

@@ -1,6 +1,6 @@
 -- what was found, and what is still to come
 use Rattle.std.proofs.Common.{◌≡◌, ◌-◌, ◌≤◌, ◌++◌, drop, length}
-use Rattle.ov_graph.specs.Code.Kept.{picked}
+use Rattle.ov_graph.specs.Row.{picked}
 use Rattle.ov_fans.proofs.cutting.nodes_of_row.Given as goal
 
 abbrev pub invariant-loop-place : goal.invariant-loop-place

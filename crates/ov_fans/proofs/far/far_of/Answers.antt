@@ -2,7 +2,7 @@
 use Rattle.std.proofs.Common.{ℕ, sym, subst}
 use Rattle.ov_ids.specs.Members.{Has}
 use Rattle.ov_graph.specs.Links.{LinkGraph}
-use Rattle.ov_graph.specs.Code.Kept.{picked}
+use Rattle.ov_graph.specs.Row.{picked}
 use Rattle.ov_fans.specs.Pieces.{member_at}
 use Rattle.ov_fans.specs.Code.Kept.{IsLowestOutside}
 use Rattle.ov_fans.proofs.PieceNets.Aimed.{below_picked}

@@ -1,6 +1,6 @@
 -- The first bit that is set in the one row and not in the other.
 use Rattle.std.proofs.Common.{◌≡◌, ◌∙◌, ◌<◌, ℕ, List, length, slice_index, ap, sym, subst}
-use Rattle.ov_graph.specs.Code.Kept.{picked}
+use Rattle.ov_graph.specs.Row.{picked}
 use Rattle.ov_graph.specs.Paths.{node_at}
 use Rattle.ov_fans.specs.Code.Kept.{IsLowestOutside}
 use Rattle.ov_fans.proofs.RowScans.Outside.{lowest_picked, none_outside}

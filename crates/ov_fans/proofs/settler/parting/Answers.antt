@@ -1,7 +1,8 @@
 -- The rows that a search leaves are those of a parting.
 use Rattle.std.proofs.Common.{◌∙◌, ℕ, sym, ap, subst}
 use Rattle.ov_graph.specs.Links.{LinkGraph}
-use Rattle.ov_graph.specs.Code.Kept.{picked, IsRowOf}
+use Rattle.ov_graph.specs.Row.{picked}
+use Rattle.ov_graph.specs.Code.Kept.{IsRowOf}
 use Rattle.ov_fans.specs.Pieces.{member_at}
 use Rattle.ov_fans.specs.Cuts.{IsParted}
 use Rattle.ov_fans.specs.declared.settled.Parting.{Parting}

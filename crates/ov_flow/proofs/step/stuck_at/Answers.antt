@@ -1,6 +1,6 @@
 -- The boundary of a search that found no path is the nearest least cut.
 use Rattle.std.proofs.Common.{length}
-use Rattle.ov_graph.specs.Code.Kept.{picked}
+use Rattle.ov_graph.specs.Row.{picked}
 use Rattle.ov_split.specs.Places.{net_by_place}
 use Rattle.ov_flow.specs.Code.Walked.{table_of}
 use Rattle.ov_flow.proofs.Ending.{stuck_full, cut_within, side_within}

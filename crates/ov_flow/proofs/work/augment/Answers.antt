@@ -14,8 +14,8 @@ search-requires-clause-table c =
     (flow_table (net_by_place c.args.net.now) (length c.args.net.now.graph.nodes) w.from.items w.ends.items
     c.requires.ready c.requires.work.room.from c.requires.work.flow)
 
-pub turn-requires-clause-walk : goal.turn-requires-clause-walk
-turn-requires-clause-walk c =
+pub replace_paths-requires-clause-walk : goal.replace_paths-requires-clause-walk
+replace_paths-requires-clause-walk c =
     let n = net_by_place c.args.net.now in
     let w = c.args.work.now in
     let t = c.search.new.tree in

@@ -1,6 +1,6 @@
 -- what is left decides
 use Rattle.std.proofs.Common.{◌≡◌, None, drop}
-use Rattle.ov_ids.specs.Code.Ascending.{ascends_after}
+use Rattle.ov_ids.specs.Ascending.{ascends_after}
 use Rattle.ov_ids.proofs.order.rises.Given as goal
 
 abbrev pub invariant-loop-id : goal.invariant-loop-id

@@ -1,7 +1,7 @@
 -- The nodes whose bits are set in its row.
 use Rattle.std.proofs.Common.{◌∙◌, sym, ap, subst}
 use Rattle.ov_graph.specs.Links.{LinkGraph, AreNeighbours}
-use Rattle.ov_graph.specs.Code.Kept.{picked}
+use Rattle.ov_graph.specs.Row.{picked}
 use Rattle.ov_graph.proofs.BitRows.Read.{are_neighbours}
 use Rattle.ov_graph.proofs.graph.Graph.neighbours.Goals as goal
 

@@ -13,4 +13,4 @@ returns-clause-effects c =
     c.live_peer-peer.result.now (input.Broadcast c.args.payload.now) c.args.words.now b c.live_peer-peer.ensures h
     (λ u m. m)) (subst (λ v. IfOk c.effects_of_input.result
     (AreEffectsOfPlan c.args.node None c.live_peer-peer.result.now (input.Broadcast v) c.args.words.now))
-    c.in_ok-copy_bytes.ensures c.effects_of_input.ensures.effects)
+    c.in_ok-copy.ensures c.effects_of_input.ensures.effects)

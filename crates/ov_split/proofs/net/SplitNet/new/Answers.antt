@@ -1,7 +1,7 @@
 -- What is kept is the net that is asked for.
 use Rattle.std.proofs.Common.{ℕ, List, ap}
 use Rattle.ov_graph.specs.Paths.{node_at}
-use Rattle.ov_graph.specs.Code.Kept.{picked}
+use Rattle.ov_graph.specs.Row.{picked}
 use Rattle.ov_split.specs.Net.{Net}
 use Rattle.ov_split.proofs.ByNames.Rows.{net_of, kept_of, one_picked}
 use Rattle.ov_split.proofs.net.SplitNet.new.Goals as goal

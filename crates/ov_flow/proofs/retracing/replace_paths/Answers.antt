@@ -6,7 +6,7 @@ use Rattle.ov_split.specs.Code.Residual.{AreHeld, IsFlow}
 use Rattle.ov_flow.specs.Code.Walked.{table_of, IsFlowBefore}
 use Rattle.ov_flow.proofs.Copying.{held_turned}
 use Rattle.ov_flow.proofs.Tidying.{targets_turned, open_before, flow_turned}
-use Rattle.ov_flow.proofs.retracing.turn.Goals as goal
+use Rattle.ov_flow.proofs.retracing.replace_paths.Goals as goal
 
 pub retrace-requires-clause-held : goal.retrace-requires-clause-held
 retrace-requires-clause-held c =
