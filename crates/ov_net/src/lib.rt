@@ -3,22 +3,22 @@
 #![tactic(auto)]
 
 mod effects;
-mod entry;
 mod event;
-mod event_effects;
+mod event_judging;
+mod event_planning;
 mod fault;
+mod journal_entry;
 mod member;
 mod mutual_links;
-mod node_effects;
+mod node_planning;
 mod nodes;
 mod packet;
-mod refusals;
 mod theorems;
 mod world;
 
-pub use entry::{Change, Entry};
 pub use event::Event;
 pub use fault::NetFault;
+pub use journal_entry::{Change, Entry};
 pub use member::Member;
 pub use packet::Packet;
 pub use theorems::{links_stay, one_graph};

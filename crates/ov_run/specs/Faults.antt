@@ -10,8 +10,8 @@ use Rattle.ov_graph.specs.declared.fault.GraphFault.{GraphFault}
 use Rattle.ov_graph.specs.declared.fault.GraphFault.TheVariants as graph_fault
 use Rattle.ov_run.specs.GraphFiles.{IsGraphFileFault}
 use Rattle.ov_run.specs.Scenarios.{IsScenarioFault}
-use Rattle.ov_run.specs.declared.fault.RunFault.{RunFault}
-use Rattle.ov_run.specs.declared.fault.RunFault.TheVariants.{Line, Params, Graph, Read, Write, OutOfMemory}
+use Rattle.ov_run.specs.declared.run_fault.RunFault.{RunFault}
+use Rattle.ov_run.specs.declared.run_fault.RunFault.TheVariants.{Line, Params, Graph, Read, Write, OutOfMemory}
 
 -- ---- each fault
 

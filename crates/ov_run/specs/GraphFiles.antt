@@ -4,8 +4,8 @@ use Rattle.std.specs.Prelude.{◌≡◌, ℕ, List, [], ◌∷◌, ◌++◌, map
 use Rattle.ov_graph.specs.Faults.{GraphJudged}
 use Rattle.ov_graph.specs.Links.{LinkGraph, IsGraph, IsWithinLimit}
 use Rattle.ov_run.specs.Lines.{kept_lines, words_of, row, short_bits, one, two}
-use Rattle.ov_run.specs.declared.fault.RunFault.{RunFault}
-use Rattle.ov_run.specs.declared.fault.RunFault.TheVariants as fault
+use Rattle.ov_run.specs.declared.run_fault.RunFault.{RunFault}
+use Rattle.ov_run.specs.declared.run_fault.RunFault.TheVariants as fault
 use Rattle.ov_run.specs.declared.graph_file.GraphLine.{GraphLine}
 use Rattle.ov_run.specs.declared.graph_file.GraphLine.TheVariants.{Node, Link}
 

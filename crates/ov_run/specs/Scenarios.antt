@@ -8,8 +8,8 @@ use Rattle.ov_net.specs.declared.event.Event.{Event}
 use Rattle.ov_run.specs.Draws.{AreDraws, seeded}
 use Rattle.ov_run.specs.Lines.{kept_lines}
 use Rattle.ov_run.specs.Statements.{statement_of}
-use Rattle.ov_run.specs.declared.fault.RunFault.{RunFault}
-use Rattle.ov_run.specs.declared.fault.RunFault.TheVariants as fault
+use Rattle.ov_run.specs.declared.run_fault.RunFault.{RunFault}
+use Rattle.ov_run.specs.declared.run_fault.RunFault.TheVariants as fault
 use Rattle.ov_run.specs.declared.scenario.Line.{Line}
 use Rattle.ov_run.specs.declared.scenario.Line.TheVariants as line
 use Rattle.ov_run.specs.declared.scenario.Scenario.{Scenario}

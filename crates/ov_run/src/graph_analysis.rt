@@ -9,9 +9,9 @@ ghost use Rattle.ov_run.specs.GraphFiles.{IsGraphFileFault};
 ghost use Rattle.ov_run.specs.Printed.{refused_line};
 ghost use Rattle.ov_run.specs.Subjects.{members_of};
 
-use crate::fault::RunFault;
 use crate::graph_file::read_graph;
-use crate::printed_lines::{refused_line, report_line};
+use crate::line_texts::{refused_line, report_line};
+use crate::run_fault::RunFault;
 use ov_cert::Checked;
 use ov_certfile::to_text_group;
 use ov_even::{AnalyseFault, Watcher, analyse_group_watched};

@@ -3,9 +3,9 @@ ghost use Rattle.ov_run.specs.GraphFiles.{graph_line, graph_line_of, link_of, gr
 ghost use Rattle.ov_run.specs.GraphFiles.{nodes_said, links_said, first_unread, IsGraphFile, IsGraphFileFault};
 ghost use Rattle.ov_run.specs.Lines.{words_of, two};
 
-use crate::fault::RunFault;
 use crate::kept_lines::KeptLines;
 use crate::line_cursor::{LineCursor, is_word};
+use crate::run_fault::RunFault;
 use ov_graph::Graph;
 use ov_ids::{NodeId, OutOfMemory};
 use std::alloc::Global;

@@ -1,6 +1,6 @@
 ghost use Rattle.std.specs.Prelude.{◌≡◌, ◌⊎◌, ◌<◌, ◌+◌, ◌∷◌, [], IfErr, OnOk, IsErrOf};
 ghost use Rattle.ov_io.specs.Device.{most_faults, write_failures as sink_failures, write_number};
-ghost use Rattle.ov_net.specs.declared.entry.Entry.{Entry};
+ghost use Rattle.ov_net.specs.declared.journal_entry.Entry.{Entry};
 ghost use Rattle.ov_snap.specs.CoreState.{CoreState, opening_core};
 ghost use Rattle.ov_snap.specs.Run.{Happened};
 ghost use Rattle.ov_run.specs.Ending.{BeginsLines, BeginsLook, EndsLine, EndsLines, EndsLook};
@@ -8,12 +8,12 @@ ghost use Rattle.ov_run.specs.Faults.{write_failures};
 ghost use Rattle.ov_run.specs.Running.{PrintsEvent, PrintsReportLine, PrintsLook, PrintsLine, PrintsLines};
 ghost use Rattle.ov_run.specs.Code.Writing.{Writes, WritesPrefix, IsOfWriting};
 
-use crate::fault::RunFault;
-use crate::line_writing::{
+use crate::analysis_filing::file_analysis;
+use crate::run_fault::RunFault;
+use crate::scenario::{Line, Look, Subject};
+use crate::sink_writing::{
     write_certificate, write_entry, write_node, write_packets, write_refusal,
 };
-use crate::report_filing::file_analysis;
-use crate::scenario::{Line, Look, Subject};
 use ov_ids::Params;
 use ov_io::{Sink, WriteFault};
 use ov_net::Event;

@@ -3,7 +3,7 @@ ghost use Rattle.ov_run.specs.Program.{exit_status};
 ghost use Rattle.ov_run.specs.declared.program.ProgramFault.TheVariants.{Arguments, Run};
 
 use crate::arguments::ArgumentsFault;
-use crate::fault::RunFault;
+use crate::run_fault::RunFault;
 use std::error::Error;
 use std::fmt::{Display, Formatter, Result as Printed, Write};
 

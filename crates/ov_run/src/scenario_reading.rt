@@ -2,11 +2,11 @@ ghost use Rattle.std.specs.Prelude.{◌≡◌, IfOk, IfErr};
 ghost use Rattle.ov_run.specs.Faults.{IsReadingFault};
 ghost use Rattle.ov_run.specs.Scenarios.{IsScenario, stated_lines};
 
-use crate::fault::RunFault;
 use crate::kept_lines::KeptLines;
-use crate::runnable_lines::lines_to_run;
+use crate::lines_to_run::lines_to_run;
+use crate::run_fault::RunFault;
 use crate::scenario::Scenario;
-use crate::scenario_faults::judge;
+use crate::settings_judging::judge;
 use crate::statement::{Stated, read_statement};
 use ov_ids::OutOfMemory;
 use std::alloc::Global;

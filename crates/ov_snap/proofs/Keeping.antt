@@ -12,7 +12,7 @@ use Rattle.ov_graph.specs.Links.{LinkGraph}
 use Rattle.ov_cert.specs.Valid.{IsValidForGroup}
 use Rattle.ov_cert.proofs.Validity.Exact.{valid_means}
 use Rattle.ov_net.specs.Journal.{AreLinks}
-use Rattle.ov_net.specs.declared.entry.Entry.{Entry}
+use Rattle.ov_net.specs.declared.journal_entry.Entry.{Entry}
 use Rattle.ov_net.specs.declared.event.Event.{Event}
 use Rattle.ov_net.specs.declared.event.Event.TheVariants as event
 use Rattle.ov_net.specs.NetStep.{NetStep}

@@ -6,7 +6,7 @@ use Rattle.ov_ids.specs.Members.{Has, Ordered}
 use Rattle.ov_graph.specs.Links.{LinkGraph}
 use Rattle.ov_net.specs.Journal.{AreLinks}
 use Rattle.ov_net.specs.World.{WorldState, opening}
-use Rattle.ov_net.specs.declared.entry.Entry.{Entry}
+use Rattle.ov_net.specs.declared.journal_entry.Entry.{Entry}
 use Rattle.ov_desk.specs.Desk.{GroupDeskState}
 use Rattle.ov_desk.specs.Sound.{IsSoundDesk}
 use Rattle.ov_snap.specs.ReportState.{ReportState, IsSo}

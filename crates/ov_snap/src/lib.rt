@@ -2,19 +2,19 @@
 //! filed of them. What each report says is so.
 #![tactic(auto)]
 
-mod core_steps;
-mod desks;
+mod analysis_input;
 mod fault;
-mod job;
 mod report;
 mod reports;
 mod snapshot;
+mod step_sequences;
 mod theorems;
+mod worker_desks;
 mod world_and_reports;
 
-pub use core_steps::{CoreStep, run_core};
+pub use analysis_input::Job;
 pub use fault::CoreFault;
-pub use job::Job;
 pub use report::Report;
+pub use step_sequences::{CoreStep, run_core};
 pub use theorems::{every_report_is_so, every_report_stays};
 pub use world_and_reports::Core;

@@ -14,8 +14,8 @@ ghost use Rattle.ov_snap.specs.Run.{Happened, TookSnapshot};
 ghost use Rattle.ov_snap.specs.Snapshots.{IsMoment};
 ghost use Rattle.ov_snap.specs.declared.fault.CoreFault.TheVariants.{NoSuchMoment, OutOfMemory as out_of_memory};
 
+use crate::analysis_input::Job;
 use crate::fault::CoreFault;
-use crate::job::Job;
 use crate::report::Report;
 use crate::reports::Reports;
 use crate::snapshot::{Snapshot, find, make_room};

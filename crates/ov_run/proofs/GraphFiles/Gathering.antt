@@ -10,8 +10,8 @@ use Rattle.ov_run.specs.GraphFiles.{graph_line, graph_line_at, graph_lines, node
 use Rattle.ov_run.specs.GraphFiles.{links_said, first_unread, IsGraphFileFault}
 use Rattle.ov_run.specs.Lines.{kept_lines}
 use Rattle.ov_run.specs.declared.graph_file.GraphLine.{GraphLine}
-use Rattle.ov_run.specs.declared.fault.RunFault.{RunFault}
-use Rattle.ov_run.specs.declared.fault.RunFault.TheVariants as fault
+use Rattle.ov_run.specs.declared.run_fault.RunFault.{RunFault}
+use Rattle.ov_run.specs.declared.run_fault.RunFault.TheVariants as fault
 
 -- with what the lines that are left say behind them, these are the nodes and the links that all lines of the file say;
 -- and the first line of all that can't be read is left

@@ -12,8 +12,8 @@ use Rattle.ov_run.specs.Faults.{IsReadingFault, IsRunFault}
 use Rattle.ov_run.specs.Lines.{is_skipped, kept_from, kept_lines}
 use Rattle.ov_run.specs.Scenarios.{stated_at, stated_lines, IsLineFault, IsFaultAtPlace, IsScenarioFault}
 use Rattle.ov_run.specs.Code.Spaced.{is_feed, without_return, first_line}
-use Rattle.ov_run.specs.declared.fault.RunFault.{RunFault}
-use Rattle.ov_run.specs.declared.fault.RunFault.TheVariants as fault
+use Rattle.ov_run.specs.declared.run_fault.RunFault.{RunFault}
+use Rattle.ov_run.specs.declared.run_fault.RunFault.TheVariants as fault
 use Rattle.ov_run.specs.declared.statement.Stated.{Stated}
 use Rattle.ov_run.specs.declared.statement.Statement.{Statement}
 use Rattle.ov_run.specs.declared.statement.Statement.TheVariants as says

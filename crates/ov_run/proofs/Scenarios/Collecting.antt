@@ -13,7 +13,7 @@ use Rattle.ov_run.specs.declared.scenario.Look.{Look}
 use Rattle.ov_run.specs.declared.scenario.Subject.{Subject}
 use Rattle.ov_run.specs.declared.statement.Statement.{Statement}
 use Rattle.ov_run.specs.declared.statement.Statement.TheVariants as says
-use Rattle.ov_run.specs.declared.runnable_lines.Collector.{Collector}
+use Rattle.ov_run.specs.declared.lines_to_run.Collector.{Collector}
 
 -- ---- one line more
 

@@ -10,9 +10,9 @@ use Rattle.ov_run.specs.Scenarios.{default_params}
 use Rattle.ov_run.specs.Scenarios.{HasKind, BeginWithEvent, ComesTooLate, AreParams, AreParamsOf, IsSeedOf, IsLineFault}
 use Rattle.ov_run.specs.Scenarios.{IsFaultAtPlace, AreFaultless, IsFirstLineFault}
 use Rattle.ov_run.specs.Code.ScenarioFaults.{Gives, Same, TellsEvents, IsHead, Judges}
-use Rattle.ov_run.specs.declared.fault.RunFault.{RunFault}
-use Rattle.ov_run.specs.declared.fault.RunFault.TheVariants as fault
-use Rattle.ov_run.specs.declared.scenario_faults.Head.{Head}
+use Rattle.ov_run.specs.declared.run_fault.RunFault.{RunFault}
+use Rattle.ov_run.specs.declared.run_fault.RunFault.TheVariants as fault
+use Rattle.ov_run.specs.declared.settings_judging.Head.{Head}
 use Rattle.ov_run.specs.declared.scenario.Look.{Look}
 use Rattle.ov_run.specs.declared.scenario.Subject.{Subject}
 use Rattle.ov_run.specs.declared.statement.Stated.{Stated}

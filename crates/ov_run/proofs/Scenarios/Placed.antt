@@ -11,8 +11,8 @@ use Rattle.ov_run.specs.Draws.{AreDraws, seeded}
 use Rattle.ov_run.specs.Scenarios.{default_params}
 use Rattle.ov_run.specs.Scenarios.{stated_lines, HasKind, AreParams, AreParamsOf, IsSeedOf, IsLineFault, IsFaultAtPlace}
 use Rattle.ov_run.specs.Scenarios.{AreFaultless, IsFirstLineFault, IsScenarioFault, AskFor, AreToRun, IsScenario}
-use Rattle.ov_run.specs.declared.fault.RunFault.{RunFault}
-use Rattle.ov_run.specs.declared.fault.RunFault.TheVariants as fault
+use Rattle.ov_run.specs.declared.run_fault.RunFault.{RunFault}
+use Rattle.ov_run.specs.declared.run_fault.RunFault.TheVariants as fault
 use Rattle.ov_run.specs.declared.scenario.Line.{Line}
 use Rattle.ov_run.specs.declared.scenario.Line.TheVariants as line
 use Rattle.ov_run.specs.declared.scenario.Scenario.{Scenario}

@@ -9,7 +9,7 @@ use Rattle.ov_run.specs.declared.random_words.SeedWords.{SeedWords}
 use Rattle.ov_run.specs.declared.scenario.Line.{Line}
 use Rattle.ov_run.specs.declared.statement.Statement.{Statement}
 use Rattle.ov_run.specs.declared.statement.Statement.TheVariants as says
-use Rattle.ov_run.specs.declared.runnable_lines.Collector.{Collector}
+use Rattle.ov_run.specs.declared.lines_to_run.Collector.{Collector}
 
 -- what a generator of random words answers from now on
 unfoldable pub stream_now : SeedWords → Stream

@@ -2,8 +2,8 @@
 use Rattle.std.specs.Prelude.{◌≡◌, ℕ, Bool, true, false, List, [], ◌∷◌, ◌++◌, Option, Some, None, Result, Ok, Err}
 use Rattle.ov_ids.specs.Members.{Has}
 use Rattle.ov_run.specs.Scenarios.{HasKind, AreParams, IsLineFault}
-use Rattle.ov_run.specs.declared.fault.RunFault.{RunFault}
-use Rattle.ov_run.specs.declared.scenario_faults.Head.{Head}
+use Rattle.ov_run.specs.declared.run_fault.RunFault.{RunFault}
+use Rattle.ov_run.specs.declared.settings_judging.Head.{Head}
 use Rattle.ov_run.specs.declared.statement.Stated.{Stated}
 use Rattle.ov_run.specs.declared.statement.Statement.{Statement}
 use Rattle.ov_run.specs.declared.statement.Statement.TheVariants as says

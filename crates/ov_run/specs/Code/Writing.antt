@@ -2,8 +2,8 @@
 use Rattle.std.specs.Prelude.{◌≡◌, ◌⊎◌, ℕ, List, Option}
 use Rattle.std.specs.Io.KnownBytes.{Appends}
 use Rattle.ov_io.specs.Device.{AppendsPrefixOf}
-use Rattle.ov_run.specs.declared.fault.RunFault.{RunFault}
-use Rattle.ov_run.specs.declared.fault.RunFault.TheVariants.{Write, OutOfMemory}
+use Rattle.ov_run.specs.declared.run_fault.RunFault.{RunFault}
+use Rattle.ov_run.specs.declared.run_fault.RunFault.TheVariants.{Write, OutOfMemory}
 
 -- the writer took a whole text of this kind
 abbrev pub Writes : (List ℕ → Type 0) → Option (List ℕ) → Option (List ℕ) → Type 0

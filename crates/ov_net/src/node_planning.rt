@@ -1,0 +1,194 @@
+ghost use Rattle.std.specs.Prelude.{◌≡◌, ◌++◌, ◌∷◌, None, Some, map, IfOk, OnOk};
+ghost use Rattle.ov_wire.specs.Messages.{AreSendsInRange};
+ghost use Rattle.ov_peer.specs.Faults.{fault_of, IsInputInRange};
+ghost use Rattle.ov_peer.specs.PeerState.{newborn};
+ghost use Rattle.ov_peer.specs.declared.input.Input.TheVariants.{Boot};
+ghost use Rattle.ov_net.specs.Code.Effects.{AreEffectsOfPlan, AreEffectsOfBirth, PlansInput, SendFew, AreFew};
+ghost use Rattle.ov_net.specs.NetStep.{change_at, DrawnStep};
+ghost use Rattle.ov_net.specs.declared.effects.NodeChange.TheVariants as change;
+ghost use Rattle.ov_net.specs.declared.journal_entry.Change.TheVariants.{Born};
+
+use crate::effects::{Effects, NodeChange};
+use crate::journal_entry::{Change, copy_delivery};
+use crate::packet::Packet;
+use ov_ids::{NodeId, OutOfMemory, Params, Seq};
+use ov_peer::{Input, Output, Peer, PeerFault, Plan};
+use ov_views::ViewChange;
+use ov_wire::Message;
+use ov_words::Words;
+use std::alloc::Global;
+
+/// The effects of a live node taking an input. The node is not changed; its change is returned as a plan. The packet
+/// at the named place, if there is one, is taken out.
+pub(crate) fn effects_of_input(
+    alloc: Global,
+    node: NodeId,
+    taken: Option<usize>,
+    peer: &Peer,
+    input: Input,
+    words: &Words,
+) -> Result<Effects, OutOfMemory>
+    requires range { IsInputInRange input }
+    requires fault { fault_of peer.now input ≡ None }
+    ensures effects { IfOk result (AreEffectsOfPlan node taken peer.now input words.now) }
+    ensures few { IfOk result SendFew }
+{
+    let plan = plan_of(peer, input, words)?;
+    let mut effects = effects_of_plan(alloc, node, &plan)?;
+    effects.taken = taken;
+    effects.node = Some((node, NodeChange::Follows(plan)));
+    Ok(effects)
+}
+
+/// The plan by which a live node takes an input that it may take.
+fn plan_of(peer: &Peer, input: Input, words: &Words) -> Result<Plan, OutOfMemory>
+    requires range { IsInputInRange input }
+    requires fault { fault_of peer.now input ≡ None }
+    ensures planned { IfOk result (PlansInput peer.now input words.now) }
+    ensures few { IfOk result (λ g. AreFew g.sends.items) }
+    ensures ranges { IfOk result (λ g. AreSendsInRange g.sends.items) }
+{
+    match peer.plan(input, words) {
+        Ok(plan) => Ok(plan),
+        Err(PeerFault::OutOfMemory) => Err(OutOfMemory),
+        Err(_) => unreachable!(),
+    }
+}
+
+/// What a plan of a node sends and delivers, and how it changes the active view, as effects in which no node changes
+/// yet.
+fn effects_of_plan(alloc: Global, node: NodeId, plan: &Plan) -> Result<Effects, OutOfMemory>
+    requires { AreSendsInRange plan.now.sends.items }
+    ensures packets { IfOk result (λ b. b.packets.items ≡ plan.now.sends.items) }
+    ensures changes { IfOk result (λ b. b.changes ≡ map (change_at node) plan.now.changes.items) }
+    ensures delivery { IfOk result (λ b. b.delivery ≡ plan.now.delivered) }
+{
+    let packets = packets_of(alloc, &plan.sends)?;
+    let changes = journal_changes(alloc, node, &plan.changes)?;
+    let delivery = copy_delivery(alloc, &plan.delivered)?;
+    Ok(Effects {
+        taken: None,
+        node: None,
+        packets,
+        changes,
+        delivery,
+    })
+}
+
+/// The effects of a node's birth. It boots, by a contact if there is one.
+pub(crate) fn effects_of_birth(
+    alloc: Global,
+    node: NodeId,
+    params: Params,
+    contact: Option<NodeId>,
+    words: &Words,
+) -> Result<Effects, OutOfMemory>
+    ensures effects { IfOk result (AreEffectsOfBirth node (newborn node params) (Boot contact) words.now) }
+    ensures few { IfOk result SendFew }
+{
+    let mut peer = Peer::new(alloc, node, params);
+    let mut effects = boot_newborn(alloc, node, &mut peer, contact, words)?;
+    effects.node = Some((node, NodeChange::Born(peer)));
+    Ok(effects)
+}
+
+/// Boots a node that is being born. Returns the effects, in which no node changes yet.
+fn boot_newborn(
+    alloc: Global,
+    node: NodeId,
+    peer: &mut Peer,
+    contact: Option<NodeId>,
+    words: &Words,
+) -> Result<Effects, OutOfMemory>
+    ensures effects { IfOk result (λ b. AreEffectsOfBirth node peer.old (Boot contact) words.now
+        (record b { node = Some (node, change.Born peer.new) })) }
+    ensures few { IfOk result SendFew }
+{
+    let output = boot(peer, contact, words)?;
+    let packets = packets_of(alloc, &output.sends)?;
+    let changes = birth_changes(alloc, node, &output.changes)?;
+    Ok(Effects {
+        taken: None,
+        node: None,
+        packets,
+        changes,
+        delivery: output.delivered,
+    })
+}
+
+/// Boots a node, by a contact if there is one.
+fn boot(peer: &mut Peer, contact: Option<NodeId>, words: &Words) -> Result<Output, OutOfMemory>
+    ensures steps { IfOk result (λ o. DrawnStep peer.old (Boot contact) words.now peer.new
+        o.sends.items o.changes.items o.delivered) }
+    ensures few { IfOk result (λ o. AreFew o.sends.items) }
+    ensures ranges { IfOk result (λ o. AreSendsInRange o.sends.items) }
+{
+    match peer.step(Input::Boot(contact), words) {
+        Ok(output) => Ok(output),
+        Err(PeerFault::OutOfMemory) => Err(OutOfMemory),
+        Err(_) => unreachable!(),
+    }
+}
+
+/// These messages as packets.
+fn packets_of(alloc: Global, sends: &[(NodeId, Message)]) -> Result<Vec<Packet>, OutOfMemory>
+    requires { AreSendsInRange sends.now }
+    ensures { IfOk result (λ v. v.items ≡ sends.now) }
+{
+    let mut packets = Vec::with_capacity(alloc, sends.len())?;
+    for send in sends {
+        packets.push(Packet::new(alloc, send.0, &send.1)?)?;
+    }
+    Ok(packets)
+}
+
+/// The changes of a node's active view, for the journal.
+fn journal_changes(
+    alloc: Global,
+    node: NodeId,
+    view_changes: &[ViewChange],
+) -> Result<Seq<Change>, OutOfMemory>
+    ensures { IfOk result (λ changes. changes ≡ map (change_at node) view_changes.now) }
+{
+    let mut changes = Vec::with_capacity(alloc, view_changes.len())?;
+    add_changes(&mut changes, node, view_changes)?;
+    Ok(Seq::new(changes))
+}
+
+/// The birth of a node and then the changes of its active view, for the journal.
+fn birth_changes(
+    alloc: Global,
+    node: NodeId,
+    view_changes: &[ViewChange],
+) -> Result<Seq<Change>, OutOfMemory>
+    ensures { IfOk result (λ changes. changes ≡ Born node ∷ map (change_at node) view_changes.now) }
+{
+    let mut changes = Vec::with_capacity(alloc, view_changes.len() + 1)?;
+    changes.push(Change::Born(node))?;
+    add_changes(&mut changes, node, view_changes)?;
+    Ok(Seq::new(changes))
+}
+
+/// Appends the changes of a node's active view.
+fn add_changes(
+    changes: &mut Vec<Change>,
+    node: NodeId,
+    view_changes: &[ViewChange],
+) -> Result<(), OutOfMemory>
+    ensures { OnOk result (changes.new.items ≡ changes.old.items ++ map (change_at node) view_changes.now) }
+{
+    for change in view_changes {
+        changes.push(change_at(node, *change))?;
+    }
+    Ok(())
+}
+
+/// A change of a node's active view, for the journal.
+fn change_at(node: NodeId, change: ViewChange) -> Change
+    ensures { result ≡ change_at node change }
+{
+    match change {
+        ViewChange::Up(other) => Change::Up(node, other),
+        ViewChange::Down(other) => Change::Down(node, other),
+    }
+}

@@ -1,0 +1,107 @@
+ghost use Rattle.std.specs.Prelude.{◌≡◌, None, IfOk, IfErr, IfSome, IfNone, OnErr, string_bytes};
+ghost use Rattle.ov_even.specs.Answer.{IsAnswer};
+ghost use Rattle.ov_net.specs.Journal.{AreLinks};
+ghost use Rattle.ov_snap.specs.CoreState.{IsSound};
+ghost use Rattle.ov_snap.specs.ReportState.{ReportState, IsSo};
+ghost use Rattle.ov_ids.specs.FaultOrder.{IsRefusedBy};
+ghost use Rattle.ov_snap.specs.Refusals.{FilingJudged};
+ghost use Rattle.ov_run.specs.Printed.{report_line};
+ghost use Rattle.ov_run.specs.Subjects.{members_of, IsReportOf, AnalysisJudged, WasAnalysed};
+ghost use Rattle.ov_snap.specs.declared.fault.CoreFault.TheVariants.{OutOfMemory as wants_memory};
+
+use crate::line_texts::report_line;
+use crate::scenario::Subject;
+use ov_even::analyse_group_alone;
+use ov_graph::Graph;
+use ov_ids::NodeId;
+use ov_net::MAX_ENTRIES;
+use ov_snap::{Core, CoreFault, Job, Report};
+use std::alloc::Global;
+
+/// Analyses a subject and files the report. Returns the line of the report, or the first applicable refusal, and then
+/// nothing changed. The line is made before the report is filed, so that out of memory is a refusal too.
+pub(crate) fn file_analysis(
+    alloc: Global,
+    core: &mut Core,
+    subject: &Subject,
+) -> Result<String, CoreFault>
+    ensures analysed { IfOk result (λ line. (r : ReportState) × WasAnalysed core.old subject.now r core.new
+        × (string_bytes line ≡ report_line r.moment r.cert r.graph r.members)) }
+    ensures refused { IfErr result (IsRefusedBy wants_memory (AnalysisJudged core.old subject.now)) }
+    ensures err { OnErr result (core.new ≡ core.old) }
+{
+    let report = report_for(alloc, core, subject)?;
+    let line = report_line(alloc, report.moment(), report.checked())?;
+    core.file(report)?;
+    Ok(line)
+}
+
+/// Makes the report of a subject. The report is not filed yet.
+#[tactic(auto, using(crate::proofs::Reports::Filed::filed_refused))]
+fn report_for(alloc: Global, core: &Core, subject: &Subject) -> Result<Report, CoreFault>
+    ensures judged { IfOk result (λ r. AnalysisJudged core.now subject.now None) }
+    ensures filing { IfOk result (λ r. FilingJudged core.now r None) }
+    ensures moment { IfOk result (λ r. r.moment ≡ subject.now.moment) }
+    ensures members { IfOk result (λ r. r.members ≡ members_of subject.now.group r.graph) }
+    ensures answer { IfOk result (λ r. IsAnswer r.graph r.members r.cert) }
+    ensures refused { IfErr result (IsRefusedBy wants_memory (AnalysisJudged core.now subject.now)) }
+{
+    if let Some(_) = report_of(core, subject) {
+        return Err(CoreFault::AlreadyFiled);
+    }
+    let job = begin(core, subject)?;
+    make_report(alloc, &job, subject)
+}
+
+/// The report that is filed for a subject, if there is one.
+pub(crate) fn report_of<'a>(core: &'a Core, subject: &Subject) -> Option<&'a Report>
+    ensures some { IfSome result (λ r. IsReportOf core.now subject.now r.now) }
+    ensures none { IfNone result ((r : ReportState) → ¬ IsReportOf core.now subject.now r) }
+    ensures exact { IfSome result (λ r. IsSo core.now.world.journal r.now) }
+{
+    match &subject.group {
+        Some(ids) => core.group_report(subject.moment, ids.as_slice()),
+        None => core.report(subject.moment),
+    }
+}
+
+/// Begins the analysis of a subject of which no report is filed.
+fn begin(core: &Core, subject: &Subject) -> Result<Job, CoreFault>
+    requires free { (r : ReportState) → ¬ IsReportOf core.now subject.now r }
+    ensures judged { IfOk result (λ job. AnalysisJudged core.now subject.now None) }
+    ensures moment { IfOk result (λ job. job.moment ≡ subject.now.moment) }
+    ensures links { IfOk result (λ job. AreLinks core.now.world.journal subject.now.moment job.graph) }
+    ensures sound { IsSound core.now }
+    ensures refused { IfErr result (IsRefusedBy wants_memory (AnalysisJudged core.now subject.now)) }
+{
+    prove!(core.world().journal().len() <= MAX_ENTRIES);
+    match &subject.group {
+        Some(ids) => core.begin_group(subject.moment, ids.as_slice()),
+        None => core.begin(subject.moment),
+    }
+}
+
+/// Makes the report of a job. The ids are a group of its nodes, so that only memory can be lacking.
+fn make_report(alloc: Global, job: &Job, subject: &Subject) -> Result<Report, CoreFault>
+    ensures moment { IfOk result (λ r. r.moment ≡ job.now.moment) }
+    ensures graph { IfOk result (λ r. r.graph ≡ job.now.graph) }
+    ensures members { IfOk result (λ r. r.members ≡ members_of subject.now.group job.now.graph) }
+    ensures answer { IfOk result (λ r. IsAnswer r.graph r.members r.cert) }
+    ensures err { IfErr result (λ f. f ≡ wants_memory) }
+{
+    let members = members_of(subject, &job.graph);
+    match analyse_group_alone(alloc, &job.graph, members) {
+        Ok(checked) => Ok(Report::new(job.moment, checked)),
+        Err(_) => Err(CoreFault::OutOfMemory),
+    }
+}
+
+/// The group that is asked for, or all nodes of the graph.
+fn members_of<'a>(subject: &'a Subject, graph: &'a Graph) -> &'a [NodeId]
+    ensures { result.now ≡ members_of subject.now.group graph.now }
+{
+    match &subject.group {
+        Some(ids) => ids.as_slice(),
+        None => graph.nodes(),
+    }
+}

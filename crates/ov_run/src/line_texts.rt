@@ -1,0 +1,81 @@
+ghost use Rattle.std.specs.Prelude.{◌≡◌, IfOk, string_bytes};
+ghost use Rattle.ov_run.specs.Printed.{entry_line, refused_line, report_line, node_line, packet_line};
+
+use crate::change_texts::{ChangesText, DeliveryText};
+use arrayvec::ArrayString;
+use itoa::Buffer;
+use ov_cert::Checked;
+use ov_certfile::CertText;
+use ov_ids::{IdsText, NodeId, OutOfMemory};
+use ov_net::Entry;
+use ov_peer::Peer;
+use std::alloc::Global;
+
+/// The line of an accepted event: `entry N`, the changes in order, and what was delivered. Like every line here it ends
+/// with a line feed, and its form is chosen here. OutOfMemory (99) is returned where an allocation was refused.
+#[tactic(auto, unfolding(crate::specs::Printed::entry_line))]
+pub fn entry_line(alloc: Global, entry: &Entry) -> Result<String, OutOfMemory>
+    ensures { IfOk result (λ line. string_bytes line ≡ entry_line entry.now) }
+{
+    let number = entry.number;
+    let changes = ChangesText(entry.changes.as_slice());
+    let delivery = DeliveryText(&entry.delivery);
+    Ok(format!(in alloc; "entry {number}{changes}{delivery}\n")?)
+}
+
+/// The line of a refusal by its number: `refused N`. Nothing is allocated, so that out of memory can be printed.
+#[tactic(auto, unfolding(crate::specs::Printed::refused_line))]
+pub fn refused_line(number: u32) -> ArrayString<64>
+    ensures { result.bytes ≡ refused_line number }
+{
+    let mut digits = Buffer::new();
+    let mut line = ArrayString::new();
+    line.push_str("refused ");
+    line.push_str(digits.format(number));
+    line.push_str("\n");
+    line
+}
+
+/// The line of a report: `report M`, and what the certificate says of the graph and the group. OutOfMemory (99) where
+/// an allocation is refused.
+#[tactic(auto, unfolding(crate::specs::Printed::report_line))]
+pub fn report_line(alloc: Global, moment: u32, checked: &Checked) -> Result<String, OutOfMemory>
+    ensures { IfOk result (λ line. string_bytes line
+        ≡ report_line moment checked.now.cert checked.now.graph checked.now.members) }
+{
+    let (cert, graph, group) = (checked.cert(), checked.graph(), checked.members());
+    let claim = CertText { cert, graph, group };
+    Ok(format!(in alloc; "report {moment} {claim}\n")?)
+}
+
+/// The line of a node and its views: `node N active L passive L eager L lazy L`, where each list has commas between its
+/// ids, and is `-` without any. OutOfMemory (99) where an allocation is refused.
+#[tactic(auto, unfolding(crate::specs::Printed::node_line))]
+pub fn node_line(alloc: Global, id: NodeId, peer: &Peer) -> Result<String, OutOfMemory>
+    ensures { IfOk result (λ line. string_bytes line ≡ node_line id peer.now) }
+{
+    let id = id.number();
+    let active = IdsText(peer.active());
+    let passive = IdsText(peer.passive());
+    let eager = IdsText(peer.eager());
+    let lazy = IdsText(peer.lazy());
+    Ok(format!(in alloc;
+        "node {id} active {active} passive {passive} eager {eager} lazy {lazy}\n"
+    )?)
+}
+
+/// The line of a packet by its place among all: `packet I to N HEX`, with two digits for each byte, in lower case.
+/// OutOfMemory (99) where an allocation is refused.
+#[tactic(auto, unfolding(crate::specs::Printed::packet_line))]
+pub fn packet_line(
+    alloc: Global,
+    place: u32,
+    to: NodeId,
+    bytes: &[u8],
+) -> Result<String, OutOfMemory>
+    ensures { IfOk result (λ line. string_bytes line ≡ packet_line place to bytes.now) }
+{
+    let to = to.number();
+    let bytes = hex::encode(alloc, bytes)?;
+    Ok(format!(in alloc; "packet {place} to {to} {bytes}\n")?)
+}

@@ -1,0 +1,50 @@
+ghost use Rattle.std.specs.Prelude.{◌≡◌, ◌≢◌, ◌⊎◌, ◌+◌, ◌<◌, Err, IfOk, IfErr, OnOk, IsErrOf};
+ghost use Rattle.ov_io.specs.Device.{most_faults, ReaderFailed};
+ghost use Rattle.ov_run.specs.Ending.{Begins, Ends};
+ghost use Rattle.ov_run.specs.Faults.{read_failures, write_failures, IsOfReading, IsRunFault};
+ghost use Rattle.ov_run.specs.Running.{Prints};
+
+use crate::line_running::run_lines;
+use crate::run_fault::RunFault;
+use crate::scenario_reading::read_scenario;
+use ov_io::{Sink, Source};
+use std::alloc::Global;
+use std::io::{Read, Write};
+
+/// Reads a scenario to its end, runs its lines in order in a world in which nothing happened, and writes what each
+/// prints. Returns the program's status, 0. A refused event or analysis is a line of what is printed, and no fault.
+///
+/// Line (70) and Params (21) are returned where the file says no scenario, and Read (71) where the reader failed in
+/// this call: then nothing ran and nothing was written. Write (72) is returned where the writer failed in this call. In
+/// each case nothing was written, or a prefix of what the scenario prints.
+///
+/// An event or an analysis that is out of memory is refused with 99, and the run goes on. OutOfMemory (99) is returned
+/// only where reading the scenario was out of memory, or making the line of an event that happened, of a node or of a
+/// packet. The numbers and the form of what is printed are chosen here.
+#[tactic(auto, using(crate::proofs::Lines::Counted::run_fault))]
+pub fn run<R: Read, W: Write>(
+    alloc: Global,
+    source: &mut Source<R>,
+    sink: &mut Sink<W>,
+) -> Result<u8, RunFault>
+    requires reads { source.old.faults < most_faults }
+    requires writes { sink.old.faults < most_faults }
+    ensures status { IfOk result (λ status. status ≡ 0) }
+    ensures prints { OnOk result
+        (Prints (R.remaining source.old.reader) (W.contents sink.old.writer) (W.contents sink.new.writer)) }
+    ensures begun { (sink.new ≡ sink.old)
+        ⊎ Begins (R.remaining source.old.reader) (W.contents sink.old.writer) (W.contents sink.new.writer) }
+    ensures source { source.new.faults ≡ source.old.faults + read_failures result }
+    ensures failed { IsErrOf result RunFault.Read → ReaderFailed source.old source.new }
+    ensures not_failed { result ≢ Err RunFault.Read → source.new.failures ≡ source.old.failures }
+    ensures sink { sink.new.faults ≡ sink.old.faults + write_failures result }
+    ensures fault { IfErr result (IsRunFault (R.remaining source.old.reader)) }
+    ensures unread { IfErr result (λ f. IsOfReading f → sink.new ≡ sink.old) }
+    ensures memory { IsErrOf result RunFault.OutOfMemory → (sink.new ≡ sink.old)
+        ⊎ Ends (R.remaining source.old.reader) (W.contents sink.old.writer) (W.contents sink.new.writer) }
+{
+    let bytes = source.read_all(alloc)?;
+    let scenario = read_scenario(alloc, &bytes)?;
+    run_lines(alloc, scenario.params, scenario.lines, sink)?;
+    Ok(0)
+}

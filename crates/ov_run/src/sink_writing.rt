@@ -1,0 +1,161 @@
+ghost use Rattle.std.specs.Prelude.{◌≡◌, ◌≤◌, ◌<◌, ◌+◌, IfOk, IfErr, OnOk, IsErrOf, length, string_bytes};
+ghost use Rattle.std.specs.Io.KnownBytes.{Appends};
+ghost use Rattle.ov_io.specs.Device.{AppendsPrefixOf, most_faults, write_failures as sink_failures, write_number};
+ghost use Rattle.ov_certfile.specs.Forms.{last_moment};
+ghost use Rattle.ov_net.specs.Limits.{most_packets};
+ghost use Rattle.ov_net.specs.Net.{LivesAs};
+ghost use Rattle.ov_peer.specs.PeerState.{PeerState};
+ghost use Rattle.ov_run.specs.Ending.{BeginsPackets};
+ghost use Rattle.ov_run.specs.Faults.{write_failures};
+ghost use Rattle.ov_run.specs.Printed.{entry_line, file_text, node_line, refused_line};
+ghost use Rattle.ov_run.specs.Running.{PrintsNode, PrintsPackets, PrintsCertificate};
+ghost use Rattle.ov_run.specs.Code.Writing.{Writes, WritesPrefix, IsOfWriting};
+
+use crate::analysis_filing::report_of;
+use crate::line_texts::{entry_line, node_line, packet_line, refused_line};
+use crate::run_fault::RunFault;
+use crate::scenario::Subject;
+use ov_certfile::to_text_group;
+use ov_ids::{NodeId, OutOfMemory};
+use ov_io::{Sink, WriteFault};
+use ov_net::{Entry, MAX_ENTRIES, NetFault, Packet, World};
+use ov_peer::Peer;
+use ov_snap::{Core, CoreFault, Report};
+use std::alloc::Global;
+use std::io::Write;
+
+/// Writes the line of a refusal. Nothing is allocated, so only the writer can fail.
+pub(crate) fn write_refusal<W: Write>(number: u32, sink: &mut Sink<W>) -> Result<(), WriteFault>
+    requires faults { sink.old.faults < most_faults }
+    ensures bytes { OnOk result
+        (Appends (W.contents sink.old.writer) (W.contents sink.new.writer) (refused_line number)) }
+    ensures prefix { AppendsPrefixOf (refused_line number) (W.contents sink.old.writer) (W.contents sink.new.writer) }
+    ensures faults { sink.new.faults ≡ sink.old.faults + sink_failures write_number result }
+{
+    let line = refused_line(number);
+    sink.write_all(line.as_str().as_bytes())
+}
+
+/// Writes the line of an accepted event.
+#[tactic(auto, using(crate::proofs::Printing::Ending::none_went))]
+pub(crate) fn write_entry<W: Write>(
+    alloc: Global,
+    entry: &Entry,
+    sink: &mut Sink<W>,
+) -> Result<(), RunFault>
+    requires faults { sink.old.faults < most_faults }
+    ensures bytes { OnOk result
+        (Appends (W.contents sink.old.writer) (W.contents sink.new.writer) (entry_line entry.now)) }
+    ensures prefix { AppendsPrefixOf (entry_line entry.now) (W.contents sink.old.writer) (W.contents sink.new.writer) }
+    ensures nothing { IsErrOf result RunFault.OutOfMemory → sink.new ≡ sink.old }
+    ensures faults { sink.new.faults ≡ sink.old.faults + write_failures result }
+    ensures kind { IfErr result IsOfWriting }
+{
+    let line = entry_line(alloc, entry)?;
+    Ok(sink.write_all(line.as_bytes())?)
+}
+
+/// Writes what is printed of a node. OutOfMemory is returned only where the node lives and its line can't be made.
+pub(crate) fn write_node<W: Write>(
+    alloc: Global,
+    world: &World,
+    id: NodeId,
+    sink: &mut Sink<W>,
+) -> Result<(), RunFault>
+    requires faults { sink.old.faults < most_faults }
+    ensures prints { OnOk result (Writes (PrintsNode world.now.net id)
+        (W.contents sink.old.writer) (W.contents sink.new.writer)) }
+    ensures begun { WritesPrefix (PrintsNode world.now.net id)
+        (W.contents sink.old.writer) (W.contents sink.new.writer) }
+    ensures lives { IsErrOf result RunFault.OutOfMemory → (peer : PeerState) × LivesAs world.now.net id peer }
+    ensures nothing { IsErrOf result RunFault.OutOfMemory → sink.new ≡ sink.old }
+    ensures faults { sink.new.faults ≡ sink.old.faults + write_failures result }
+    ensures kind { IfErr result IsOfWriting }
+{
+    match world.peer(id) {
+        Some(peer) => write_peer(alloc, id, peer, sink),
+        None if world.born(id) => Ok(write_refusal(NetFault::CrashedNode.number(), sink)?),
+        None => Ok(write_refusal(NetFault::UnknownNode.number(), sink)?),
+    }
+}
+
+/// Writes the line of a node that lives.
+#[tactic(auto, using(crate::proofs::Printing::Ending::none_went))]
+fn write_peer<W: Write>(
+    alloc: Global,
+    id: NodeId,
+    peer: &Peer,
+    sink: &mut Sink<W>,
+) -> Result<(), RunFault>
+    requires faults { sink.old.faults < most_faults }
+    ensures bytes { OnOk result
+        (Appends (W.contents sink.old.writer) (W.contents sink.new.writer) (node_line id peer.now)) }
+    ensures prefix { AppendsPrefixOf (node_line id peer.now) (W.contents sink.old.writer) (W.contents sink.new.writer) }
+    ensures nothing { IsErrOf result RunFault.OutOfMemory → sink.new ≡ sink.old }
+    ensures faults { sink.new.faults ≡ sink.old.faults + write_failures result }
+    ensures kind { IfErr result IsOfWriting }
+{
+    let line = node_line(alloc, id, peer)?;
+    Ok(sink.write_all(line.as_bytes())?)
+}
+
+/// Writes the certificate file of the report that is filed for a subject, or the refusal where there is none. Out of
+/// memory is a refusal, so that only the writer can fail.
+pub(crate) fn write_certificate<W: Write>(
+    alloc: Global,
+    core: &Core,
+    subject: &Subject,
+    sink: &mut Sink<W>,
+) -> Result<(), WriteFault>
+    requires faults { sink.old.faults < most_faults }
+    ensures prints { OnOk result (Writes (PrintsCertificate core.now subject.now)
+        (W.contents sink.old.writer) (W.contents sink.new.writer)) }
+    ensures begun { WritesPrefix (PrintsCertificate core.now subject.now)
+        (W.contents sink.old.writer) (W.contents sink.new.writer) }
+    ensures faults { sink.new.faults ≡ sink.old.faults + sink_failures write_number result }
+{
+    let Some(report) = report_of(core, subject) else {
+        return write_refusal(CoreFault::NoSuchMoment.number(), sink);
+    };
+    prove!(core.world().journal().len() <= MAX_ENTRIES);
+    match file_text(alloc, report) {
+        Ok(text) => sink.write_all(text.as_bytes()),
+        Err(fault) => write_refusal(fault.number(), sink),
+    }
+}
+
+/// The certificate file of a report, with a line feed behind it.
+fn file_text(alloc: Global, report: &Report) -> Result<String, OutOfMemory>
+    requires { report.now.moment ≤ last_moment }
+    ensures { IfOk result (λ text. string_bytes text
+        ≡ file_text report.now.cert report.now.graph report.now.members report.now.moment) }
+{
+    let checked = report.checked();
+    let (cert, graph, group) = (checked.cert(), checked.graph(), checked.members());
+    let text = to_text_group(alloc, cert, graph, group, report.moment())?;
+    Ok(format!(in alloc; "{text}\n")?)
+}
+
+/// Writes the lines of packets. Where OutOfMemory is returned the lines of the first packets were written whole.
+pub(crate) fn write_packets<W: Write>(
+    alloc: Global,
+    packets: &[Packet],
+    sink: &mut Sink<W>,
+) -> Result<(), RunFault>
+    requires faults { sink.old.faults < most_faults }
+    requires few { length packets.now ≤ most_packets }
+    ensures prints { OnOk result (Writes (PrintsPackets 0 packets.now)
+        (W.contents sink.old.writer) (W.contents sink.new.writer)) }
+    ensures begun { WritesPrefix (BeginsPackets packets.now)
+        (W.contents sink.old.writer) (W.contents sink.new.writer) }
+    ensures memory { IsErrOf result RunFault.OutOfMemory → Writes (BeginsPackets packets.now)
+        (W.contents sink.old.writer) (W.contents sink.new.writer) }
+    ensures faults { sink.new.faults ≡ sink.old.faults + write_failures result }
+    ensures kind { IfErr result IsOfWriting }
+{
+    for (place, packet) in packets.iter().enumerate() {
+        let line = packet_line(alloc, place as u32, packet.to(), packet.bytes())?;
+        sink.write_all(line.as_bytes())?;
+    }
+    Ok(())
+}
