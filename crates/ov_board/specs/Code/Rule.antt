@@ -1,0 +1,107 @@
+-- The rule that the words of a board and the views of all seats keep, and what each exchange tells its seat.
+use Rattle.std.specs.Prelude.{◌≡◌, ℕ, zero, suc, ◌+◌, ◌<◌, ◌==◌, List, [], ◌∷◌, ◌++◌, length, take, drop}
+use Rattle.std.specs.List.{sum_by, count_by}
+use mathlib.Core.Option.{some}
+use lib.ListN.{get_elem?}
+use Rattle.atomic_table.specs.Seated.{TableId}
+use Rattle.atomic_table.specs.Table.{State, Me, Step}
+use Rattle.ov_ids.specs.Members.{Has}
+use Rattle.ov_claims.specs.Claims.{WorkerState, DeskState, HasWorker, fresh}
+use Rattle.ov_claims.specs.Steps.{claiming, looking, failing, Claims, Looks, Fails}
+use Rattle.ov_claims.specs.Code.Held.{IsHeld}
+use Rattle.ov_board.specs.declared.view.Plan.{Plan}
+use Rattle.ov_board.specs.declared.view.View.{View}
+use Rattle.ov_board.specs.Board.{SeatState, IsStep}
+
+-- a worker with its number
+abbrev pub Numbered : Type 0
+Numbered = ℕ × WorkerState
+
+-- a seat of the table: its view, and the slots that it holds, of which a table of words has none
+abbrev pub Holder : Type 0
+Holder = Me (Unit {0}) View
+
+-- how many of these workers have the number w
+abbrev pub times : ℕ → List Numbered → ℕ
+times w = count_by (λ q. q.0 == w)
+
+-- the words show claims of the plan. The workers of all views are exactly the workers of the claims: each stands at
+-- its number, each number has one, and no worker is left over
+pub record IsKept (p : Plan) (t : State (Unit {0}) View) : Type 0 where
+  pub claims : DeskState
+  pub words : t.words ≡ claims.next ∷ claims.least ∷ []
+  pub held : IsHeld claims
+  pub total : claims.total ≡ p.total
+  pub workers : length claims.workers ≡ p.workers
+  pub seated : (i : ℕ) (v : View) (q : Numbered) → get_elem? t.views i ≡ some v → Has v.seated q
+      → HasWorker claims q.0 q.1
+  pub once : (w : ℕ) → w < p.workers → sum_by (λ v. times w v.seated) t.views ≡ 1
+  pub all : sum_by (λ v. length v.seated) t.views ≡ p.workers
+
+-- m workers before the first claim, numbered from i
+abbrev pub fresh_from : ℕ → ℕ → List Numbered
+fresh_from i zero = []
+fresh_from i (suc m) = (i, fresh) ∷ fresh_from (i + 1) m
+
+-- the view before any seat is cut off, with all workers
+abbrev pub opening_view : Plan → View
+opening_view p = record { total = p.total; workers = p.workers; seated = fresh_from 0 p.workers }
+
+-- a view with no worker
+abbrev pub spent_view : View
+spent_view = record { total = 0; workers = 0; seated = [] }
+
+-- the view with these workers
+abbrev pub with_seated : View → List Numbered → View
+with_seated v qs = record { total = v.total; workers = v.workers; seated = qs }
+
+-- the view without its first worker, and the view with its first worker alone
+abbrev pub others_of : View → View
+others_of v = with_seated v (drop 1 v.seated)
+
+abbrev pub first_of : View → View
+first_of v = with_seated v (take 1 v.seated)
+
+-- the view with the workers of another one too
+abbrev pub both_of : View → View → View
+both_of v w = with_seated v (v.seated ++ w.seated)
+
+-- the first worker of a view; the view of a seat has no other
+abbrev pub head_of : List Numbered → Numbered
+head_of [] = (0, fresh)
+head_of (q ∷ qs) = q
+
+abbrev pub number_of : View → ℕ
+number_of v = (head_of v.seated).0
+
+abbrev pub worker_of : View → WorkerState
+worker_of v = (head_of v.seated).1
+
+-- what contracts see of a seat of this table that has this view
+abbrev pub seat_state : TableId → View → SeatState
+seat_state z v = record {
+  board = record { table = z; total = v.total; workers = v.workers };
+  number = number_of v;
+  worker = worker_of v;
+}
+
+-- an exchange of a seat made this step, and its worker has become x
+pub record Exchanged (Step : DeskState → DeskState → Type 0) (x : WorkerState) (v w : Holder) : Type 0 where
+  pub became : w ≡ (with_seated v.0 ((number_of v.0, x) ∷ []), v.1)
+  pub made : (z : TableId) → IsStep Step (seat_state z v.0) (seat_state z w.0)
+
+-- what each of the three exchanges tells, where `found` was in the word
+abbrev pub Claimed : Step (Unit {0}) → Holder → ℕ → Holder → Type 0
+Claimed e v found w =
+    Exchanged (λ s t. Claims s (number_of v.0) found t) (claiming v.0.total found (worker_of v.0)) v w
+
+abbrev pub Looked : ℕ → Step (Unit {0}) → Holder → ℕ → Holder → Type 0
+Looked index e v found w =
+    Exchanged (λ s t. Looks s (number_of v.0) index t × (found ≡ s.least)) (looking found index (worker_of v.0)) v w
+
+abbrev pub Failed : Step (Unit {0}) → Holder → ℕ → Holder → Type 0
+Failed e v found w = Exchanged (λ s t. Fails s (number_of v.0) e.first t) (failing e.first (worker_of v.0)) v w
+
+-- a seat with no worker has come
+abbrev pub Entered : Step (Unit {0}) → Holder → ℕ → Holder → Type 0
+Entered e v found w = (w.0 ≡ spent_view) × (w.1 ≡ [])

@@ -1,0 +1,86 @@
+// The rule of a board's words, and what the exchanges tell.
+use crate::view::{Plan, View};
+use atomic_table::{Join, Play, Split, TableRule};
+use std::marker::{Brand, PhantomData};
+
+/// The words and the views show legal claims.
+pub struct Lawful;
+
+impl TableRule<(), View, Plan> for Lawful {
+    ghost use Rattle.ov_board.specs.Code.Rule.{IsKept, opening_view};
+
+    ghost holds = { IsKept };
+
+    ghost first = { opening_view };
+}
+
+/// The exchange of a claim.
+pub struct Claiming;
+
+impl Play<(), View> for Claiming {
+    ghost use Rattle.ov_board.specs.Code.Rule.{Claimed};
+
+    ghost then = { Claimed };
+}
+
+/// The number that a look is about. A load has no operand that could say it.
+pub trait Number {
+    ghost use Rattle.std.specs.Prelude.{ℕ};
+
+    ghost number: { ℕ };
+}
+
+impl Number for Brand {
+    ghost number = { 0 };
+}
+
+/// The exchange of a look before work on a number.
+pub struct Looking<I> {
+    of: PhantomData<I>,
+}
+
+impl<I: Number> Play<(), View> for Looking<I> {
+    ghost use Rattle.ov_board.specs.Code.Rule.{Looked};
+
+    ghost then = { Looked I.number };
+}
+
+/// The exchange of a failure.
+pub struct Failing;
+
+impl Play<(), View> for Failing {
+    ghost use Rattle.ov_board.specs.Code.Rule.{Failed};
+
+    ghost then = { Failed };
+}
+
+/// The first worker of a view gets a seat of its own.
+pub struct Apart;
+
+impl Split<View> for Apart {
+    ghost use Rattle.ov_board.specs.Code.Rule.{others_of, first_of};
+
+    ghost left = { others_of };
+
+    ghost right = { first_of };
+}
+
+/// The workers of two seats are put together.
+pub struct Together;
+
+impl Join<View> for Together {
+    ghost use Rattle.ov_board.specs.Code.Rule.{both_of, spent_view};
+
+    ghost both = { both_of };
+
+    ghost spent = { spent_view };
+}
+
+/// A seat with no worker comes.
+pub struct Entering;
+
+impl Play<(), View> for Entering {
+    ghost use Rattle.ov_board.specs.Code.Rule.{Entered};
+
+    ghost then = { Entered };
+}
