@@ -5,3 +5,4 @@ pub mod Trials
 pub mod Narrowing
 pub mod Named
 pub mod Assembling
+pub mod ByNumbers

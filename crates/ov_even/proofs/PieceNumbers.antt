@@ -5,3 +5,4 @@ pub mod LevelSteps
 pub mod AllLevels
 pub mod Totals
 pub mod Numbering
+pub mod ByLevel

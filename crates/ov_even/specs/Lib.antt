@@ -2,6 +2,8 @@ pub mod Order
 pub mod First
 pub mod Answer
 pub mod Harvest
+pub mod Levels
+pub mod Searching
 pub mod Faults
 pub mod Theorems
 pub mod Code

@@ -6,7 +6,7 @@ ghost use Rattle.ov_cert.specs.Theorems.{IsTrueForGroup};
 ghost use Rattle.ov_even.specs.Answer.{IsAnswer, NamesParting};
 ghost use Rattle.ov_even.specs.Faults.{HasNode, IsRefusal};
 ghost use Rattle.ov_even.specs.Harvest.{AreRight, Suffice};
-ghost use Rattle.ov_even.specs.Code.Slots.{IsLevelIn};
+ghost use Rattle.ov_even.specs.Levels.{IsLevelCleared};
 ghost use Rattle.ov_even.specs.Code.Cuts.{IsDeciding};
 ghost use Rattle.ov_even.specs.declared.fault.AnalyseFault.TheVariants.{OutOfMemory as out_of_memory};
 
@@ -169,7 +169,7 @@ fn entries_at(
     requires group { IsGroup graph.now group.now }
     requires below { k < length graph.now.nodes }
     requires right { AreRight graph.now group.now hauls.now }
-    requires cleared { IsLevelIn graph.now group.now k hauls.now }
+    requires cleared { IsLevelCleared graph.now group.now hauls.now k }
     ensures pairs { IfOk result (λ entries. HavePaths graph.now group.now k entries.pairs.items) }
     ensures fans { IfOk result (λ entries. HaveFans graph.now group.now k entries.fans.items) }
 {

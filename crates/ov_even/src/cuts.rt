@@ -1,5 +1,5 @@
 //! The deciding piece among those that workers have settled.
-ghost use Rattle.std.specs.Prelude.{◌↔◌, IsTrue, List, ◌++◌};
+ghost use Rattle.std.specs.Prelude.{◌↔◌, IsTrue, IfSome, IfNone, List, ◌++◌};
 ghost use Rattle.std.specs.Option.{option_copied};
 ghost use Rattle.ov_fans.specs.Theorems.{IsNoCut};
 ghost use Rattle.ov_fans.specs.declared.settled.Settled.{Settled as settled};
@@ -48,11 +48,22 @@ fn is_earlier_cut(settled: &Settled, first: Option<&Settled>) -> bool
 }
 
 /// Whether a piece was settled with a cut.
-fn is_cut(settled: &Settled) -> bool
+pub(crate) fn is_cut(settled: &Settled) -> bool
     ensures { IsTrue result ↔ (¬ IsNoCut settled.now.found) }
 {
     match &settled.found {
         Found::Cut(_) => true,
         Found::Linked | Found::Paths(_) => false,
+    }
+}
+
+/// The size of the cut of a piece, if it has one.
+pub(crate) fn cut_size(settled: &Settled) -> Option<usize>
+    ensures some { IfSome result (λ size. ¬ IsNoCut settled.now.found) }
+    ensures none { IfNone result (IsNoCut settled.now.found) }
+{
+    match &settled.found {
+        Found::Cut(parting) => Some(parting.cut.len()),
+        Found::Linked | Found::Paths(_) => None,
     }
 }

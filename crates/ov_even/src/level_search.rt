@@ -1,25 +1,143 @@
 //! The search for the level of the deciding piece. A certificate needs only that level and the one below it. Other
 //! levels are tried only to find it: levels are doubled first, and the size of a cut that was found then guides the
 //! search.
-ghost use Rattle.std.specs.Prelude.{◌≡◌, ◌<◌, ◌≤◌, ◌+◌, ◌⊎◌, [], ◌∷◌, length, IfOk};
+ghost use Rattle.std.specs.Prelude.{◌≡◌, ◌<◌, ◌≤◌, ◌+◌, ◌++◌, length, IfOk, IfSome, IfNone};
 ghost use Rattle.ov_graph.specs.Links.{IsGraph, IsWithinLimit, IsGroup, AreAllLinked, most_nodes};
-ghost use Rattle.ov_even.specs.Harvest.{Suffice};
+ghost use Rattle.ov_even.specs.Harvest.{AreRight, Suffice};
+ghost use Rattle.ov_even.specs.Levels.{IsTried};
+ghost use Rattle.ov_even.specs.Searching.{IsSearched};
+ghost use Rattle.ov_even.specs.Code.Narrowing.{HasDeciding, AreBounds, IsBetween, HasCutWithin, tries_left};
 
+use crate::cuts::{cut_size, first_cut};
 use crate::haul::Haul;
-use crate::trying::{Tried, try_level};
+use crate::trying::try_level;
 use crate::watcher::Watcher;
-use ov_fans::{Settled, Settler};
+use ov_fans::Settler;
 use ov_graph::Graph;
 use ov_ids::{NodeId, OutOfMemory};
 use std::alloc::Global;
+use std::marker::Model;
 
-/// The state of the search: level `low` is cleared by the kept pieces, and the deciding level is guessed to be at most
-/// `high`.
+/// The search for the level of the deciding piece of a graph and a group, in which two members are not linked. It says
+/// which level to try next, and takes what was settled of it, until that suffices for a certificate. Contracts see the
+/// graph, the members, the level to try next, and a bound on how many levels are still tried.
 #[derive(Drop)]
-struct Progress {
+pub struct LevelSearch<'a> {
+    graph: &'a Graph,
+    group: &'a [NodeId],
+    /// The kept hauls clear this level.
     low: usize,
+    /// The level to try next.
+    level: usize,
+    /// The deciding level is guessed to be at most this.
     high: usize,
-    kept: Vec<Settled>,
+    kept: Vec<Haul>,
+}
+
+impl<'a> Model for LevelSearch<'a> {
+    ghost use Rattle.std.specs.Prelude.{length};
+    ghost use Rattle.ov_even.specs.Levels.{SearchState};
+    ghost use Rattle.ov_even.specs.Code.Narrowing.{HasDeciding, AreBounds, IsBetween, tries_left};
+
+    ghost Value = { SearchState };
+
+    ghost view = { λ s. record {
+      graph = s.graph.now;
+      members = s.group.now;
+      level = s.level;
+      left = tries_left (length s.graph.now.nodes) s.low s.high;
+    } };
+
+    ghost invariant = { λ s. HasDeciding s.graph.now s.group.now
+        × AreBounds s.graph.now s.group.now s.kept.items s.low s.high × IsBetween s.low s.level s.high };
+}
+
+/// What becomes of a search, once a level was tried.
+#[derive(Drop)]
+pub enum Searched<'a> {
+    /// These hauls suffice for a certificate.
+    Enough(Vec<Haul>),
+    /// The search goes on.
+    Again(LevelSearch<'a>),
+}
+
+impl<'a> LevelSearch<'a> {
+    /// Begins a search for a group in which two members are not linked.
+    pub fn new(alloc: Global, graph: &'a Graph, group: &'a [NodeId]) -> LevelSearch<'a>
+        requires group { IsGroup graph.now group.now }
+        requires apart { ¬ AreAllLinked graph.now group.now }
+        ensures graph { result.graph ≡ graph.now }
+        ensures members { result.members ≡ group.now }
+    {
+        let high = first_guess(graph, group);
+        LevelSearch::between(graph, group, 0, high, Vec::new(alloc))
+    }
+
+    /// The search with these bounds.
+    fn between(
+        graph: &'a Graph,
+        group: &'a [NodeId],
+        low: usize,
+        high: usize,
+        kept: Vec<Haul>,
+    ) -> LevelSearch<'a>
+        requires deciding { HasDeciding graph.now group.now }
+        requires bounds { AreBounds graph.now group.now kept.items low high }
+        ensures graph { result.graph ≡ graph.now }
+        ensures members { result.members ≡ group.now }
+        ensures left { result.left ≡ tries_left (length graph.now.nodes) low high }
+    {
+        LevelSearch {
+            graph,
+            group,
+            low,
+            level: next_level(low, high),
+            high,
+            kept,
+        }
+    }
+
+    /// The level to try next.
+    pub fn level(&self) -> usize
+        ensures level { result ≡ self.now.level }
+        ensures low { 1 ≤ result }
+        ensures below { result < length self.now.graph.nodes }
+        ensures graph { IsGraph self.now.graph }
+        ensures within { IsWithinLimit self.now.graph }
+        ensures group { IsGroup self.now.graph self.now.members }
+    {
+        self.level
+    }
+
+    /// Takes what was settled of the level to try next: each of its pieces, or each up to one that has a cut. The order
+    /// of the hauls does not matter, and linked pairs need not be in them. Faults: out of memory.
+    pub fn take(self, hauls: Vec<Haul>) -> Result<Searched<'a>, OutOfMemory>
+        requires right { AreRight self.graph self.members hauls.items }
+        requires tried { IsTried self.graph self.members hauls.items self.level }
+        ensures { IfOk result (IsSearched self.entry) }
+    {
+        let LevelSearch {
+            graph,
+            group,
+            low,
+            level,
+            high,
+            kept,
+        } = self;
+        match cut_within(&hauls, level) {
+            None => {
+                let high = high.max(level + 1);
+                let next = LevelSearch::between(graph, group, level, high, hauls);
+                Ok(Searched::Again(next))
+            }
+            Some(_) if level == low + 1 => Ok(Searched::Enough(joined(kept, hauls)?)),
+            Some(size) => {
+                let high = (low + 1).max(size.min(level - 1) + 1);
+                let next = LevelSearch::between(graph, group, low, high, kept);
+                Ok(Searched::Again(next))
+            }
+        }
+    }
 }
 
 /// Settles pieces until they suffice for a certificate. Two members must not be linked.
@@ -34,22 +152,12 @@ pub(crate) fn search<W: Watcher>(
     ensures { IfOk result (λ hauls. Suffice graph.now group.now hauls.items) }
 {
     let mut settler = Settler::new(alloc, graph, group)?;
-    let mut progress = Progress {
-        low: 0,
-        high: first_guess(graph, group),
-        kept: Vec::new(alloc),
-    };
+    let mut levels = LevelSearch::new(alloc, graph, group);
     loop {
-        let level = next_level(progress.low, progress.high);
-        let tried = try_level(alloc, &mut settler, group.len(), level, watcher)?;
-        match tried.cut {
-            Some(_) if level == progress.low + 1 => return hauls_of(
-                alloc,
-                progress.kept,
-                tried.pieces,
-            ),
-            Some(size) => progress.high = (progress.low + 1).max(size.min(level - 1) + 1),
-            None => progress = cleared(progress.high, level, tried.pieces),
+        let haul = try_level(alloc, &mut settler, group.len(), levels.level(), watcher)?;
+        match levels.take(vec![in alloc; haul]?)? {
+            Searched::Enough(hauls) => return Ok(hauls),
+            Searched::Again(next) => levels = next,
         }
     }
 }
@@ -58,9 +166,7 @@ pub(crate) fn search<W: Watcher>(
 fn next_level(low: usize, high: usize) -> usize
     requires rises { low < high }
     requires fits { high < most_nodes }
-    ensures above { low < result }
-    ensures most { result ≤ high }
-    ensures below { low + 1 < high → result < high }
+    ensures { IsBetween low result high }
 {
     if low + 1 == high {
         return high;
@@ -84,28 +190,23 @@ fn first_guess(graph: &Graph, group: &[NodeId]) -> usize
     least + 1
 }
 
-/// The state of the search after these pieces have cleared a level.
-fn cleared(high: usize, level: usize, pieces: Vec<Settled>) -> Progress
-    requires { level ≤ 1023 }
-    ensures low { result.low ≡ level }
-    ensures above { level < result.high }
-    ensures kept { result.kept ≡ pieces }
-    ensures high { result.high ≤ level + 1 ⊎ result.high ≡ high }
+/// The size of the first cut in the hauls, if it belongs to a piece of the level or of a lower one. The size is left
+/// open, since it only guides the search.
+fn cut_within(hauls: &[Haul], level: usize) -> Option<usize>
+    ensures some { IfSome result (λ size. HasCutWithin hauls.now level) }
+    ensures none { IfNone result (¬ HasCutWithin hauls.now level) }
 {
-    Progress {
-        low: level,
-        high: high.max(level + 1),
-        kept: pieces,
+    let first = first_cut(hauls)?;
+    if first.piece.level() as usize > level {
+        return None;
     }
+    cut_size(first)
 }
 
-/// The pieces of the two levels that suffice, as two hauls.
-fn hauls_of(
-    alloc: Global,
-    kept: Vec<Settled>,
-    pieces: Vec<Settled>,
-) -> Result<Vec<Haul>, OutOfMemory>
-    ensures { IfOk result (λ hauls. hauls.items ≡ record { pieces = kept } ∷ record { pieces = pieces } ∷ []) }
+/// The hauls of both lists.
+fn joined(mut kept: Vec<Haul>, mut hauls: Vec<Haul>) -> Result<Vec<Haul>, OutOfMemory>
+    ensures { IfOk result (λ all. all.items ≡ kept.items ++ hauls.items) }
 {
-    Ok(vec![in alloc; Haul { pieces: kept }, Haul { pieces }]?)
+    kept.append(&mut hauls)?;
+    Ok(kept)
 }

@@ -3,6 +3,7 @@ ghost use Rattle.std.specs.Prelude.{◌≡◌, ◌<◌, ◌≤◌, ◌+◌, ◌-
 ghost use Rattle.ov_graph.specs.Links.{most_nodes};
 ghost use Rattle.ov_even.specs.Order.{IsNumbered, AreSoMany};
 ghost use Rattle.ov_even.specs.Order.{AreMoreThan};
+ghost use Rattle.ov_even.specs.Levels.{AreNumbersOf};
 
 use crate::levels::{level_size, pair_count, piece_in_level};
 use ov_fans::Piece;
@@ -55,4 +56,31 @@ pub fn piece_at(nodes: usize, number: u64) -> Piece
     ensures { IsNumbered nodes nodes number result }
 {
     group_piece_at(nodes, nodes, number)
+}
+
+/// The numbers of the pieces of a level: `size` of them, from `first` on.
+#[derive(Clone, Copy, Debug, PartialEq, Eq)]
+pub struct LevelNumbers {
+    pub first: u64,
+    pub size: u64,
+}
+
+/// The numbers of the pieces of a level, for a graph of `nodes` nodes and a group of `members` members.
+pub fn level_numbers(nodes: usize, members: usize, level: usize) -> LevelNumbers
+    requires low { 1 ≤ level }
+    requires high { level < nodes }
+    requires members { members ≤ nodes }
+    requires nodes { nodes ≤ most_nodes }
+    ensures numbers { AreNumbersOf nodes members level result.first result.size }
+    ensures small { result.first + result.size < 2 ^ 32 }
+{
+    let size = level_size(members, level);
+    let mut first = 0;
+    for lower in 1..level {
+        first += level_size(members, lower);
+    }
+    LevelNumbers {
+        first: first as u64,
+        size: size as u64,
+    }
 }

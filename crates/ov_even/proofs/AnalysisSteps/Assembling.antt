@@ -19,7 +19,8 @@ use Rattle.ov_even.specs.First.{IsFirst}
 use Rattle.ov_even.specs.Harvest.{AreRight, Decides, Suffice}
 use Rattle.ov_even.specs.declared.haul.Haul.{Haul}
 use Rattle.ov_even.specs.Code.Levels.{pieces_of_level}
-use Rattle.ov_even.specs.Code.Slots.{StandsAt, AreSlotsOf, HaveSlots, ArePiecesOf, IsLevelIn}
+use Rattle.ov_even.specs.Code.Slots.{StandsAt, AreSlotsOf, HaveSlots, ArePiecesOf}
+use Rattle.ov_even.specs.Levels.{IsLevelCleared}
 use Rattle.ov_even.specs.Code.Cuts.{IsLowestCut, IsFirstCut, IsDeciding, all_settled}
 use Rattle.ov_even.proofs.PieceOrder.PieceLevels.{level_low, level_high}
 use Rattle.ov_even.proofs.PieceOrder.Ordering.{one_comes_before}
@@ -56,7 +57,7 @@ some_is : {X : Type 0} (x y : X) → Some x ≡ Some y → x ≡ y
 some_is x y e = cc
 
 pub have_slots : (g : LinkGraph) (q : List ℕ) (level : ℕ) (hauls : List Haul) (slots : List (Option (List (List ℕ))))
-    → AreRight g q hauls → IsLevelIn g q level hauls → AreSlotsOf (length q) level (all_settled hauls) slots
+    → AreRight g q hauls → IsLevelCleared g q hauls level → AreSlotsOf (length q) level (all_settled hauls) slots
     → HaveSlots g q level slots
 have_slots g q level hauls slots right cleared are p place at same apart stands = elim (cleared p at same) [
   | inl l ↦ absurd (apart l)

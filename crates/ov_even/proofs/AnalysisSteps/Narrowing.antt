@@ -1,21 +1,26 @@
 -- The search for the deciding level: where it starts, that it ends, and that its result suffices.
-use Rattle.std.proofs.Common.{◌≡◌, ◌≢◌, ◌⊎◌, inl, inr, ℕ, ◌<◌, ◌≤◌, ◌+◌, List, [], ◌∷◌, length, refl, sym}
+use Rattle.std.proofs.Common.{◌≡◌, ◌≢◌, ◌⊎◌, inl, inr, ℕ, ◌<◌, ◌≤◌, ◌+◌, List, [], ◌∷◌, length, sym}
 use Rattle.std.proofs.Common.{◌∙◌, subst, arith}
 use Rattle.std.proofs.lemmas.Bool.{cases_lt}
-use Rattle.std.proofs.Common.{Option, Some, None, Result, Ok, Err, IfOk}
+use Rattle.std.proofs.Common.{◌++◌, Option, Some, None, IfSome, IfNone}
 use Rattle.ov_ids.specs.Members.{Has}
-use Rattle.ov_ids.proofs.Members.{ascends_distinct}
-use Rattle.ov_graph.specs.Links.{LinkGraph, IsGraph, IsGroup, AreAllLinked}
-use Rattle.ov_fans.specs.Pieces.{IsGood, level_of}
+use Rattle.ov_ids.proofs.Members.{ascends_distinct, has_append_left, has_append_right, has_append_cases}
+use Rattle.ov_graph.specs.Links.{LinkGraph, IsGroup, AreAllLinked}
+use Rattle.ov_fans.specs.Pieces.{level_of}
 use Rattle.ov_fans.specs.declared.piece.Piece.{Piece}
 use Rattle.ov_fans.specs.declared.settled.Settled.{Settled}
 use Rattle.ov_fans.proofs.PieceCuts.Decided.{decides}
 use Rattle.ov_fans.proofs.PieceNets.Ranks.{fits}
-use Rattle.ov_even.specs.Harvest.{IsBroughtIn, IsCleared, Suffice}
+use Rattle.ov_even.specs.Harvest.{IsBroughtIn, IsCleared, AreRight, Suffice}
 use Rattle.ov_even.specs.declared.haul.Haul.{Haul}
-use Rattle.ov_even.specs.Code.Trying.{AreSettledRight, IsClearedBy, IsLevelCleared, StopsAt, IsTried}
+use Rattle.ov_fans.specs.Group.{GroupIn}
+use Rattle.ov_even.specs.Levels.{IsLevelCleared, StopsAt, IsTried, SearchState}
+use Rattle.ov_even.specs.Code.Narrowing.{HasDeciding, AreBounds, IsBetween, HasCutWithin}
+use Rattle.ov_even.proofs.EvenTest.Deciding.{cleared_good}
+use Rattle.ov_even.proofs.EvenTest.Passing.{passes_level, lower_good}
+use Rattle.ov_even.specs.Code.Cuts.{IsFirstCut, all_settled}
+use Rattle.ov_even.proofs.AnalysisSteps.FirstCut.{among_all, in_hauls}
 use Rattle.ov_even.proofs.EvenTest.Complete.{last_level}
-use Rattle.ov_even.proofs.PieceOrder.PieceLevels.{level_low}
 use Rattle.ov_even.proofs.PieceOrder.Comparing.{number_cases}
 
 -- a group has at most as many members as the graph has nodes
@@ -34,63 +39,112 @@ two_nodes g q group apart = elim (cases_lt (length g.nodes) 2) [
   | inr many ↦ many
 ]
 
--- level 0 has no pieces
-pub none_below : (g : LinkGraph) (q : List ℕ) (pieces : List Settled) → IsLevelCleared g q 0 pieces
-none_below g q pieces r at e = let low = level_low g q r at in absurd (omega (arith, low, e))
-
-pub none_right : (g : LinkGraph) (q : List ℕ) (pieces : List Settled) → pieces ≡ [] → AreSettledRight g q pieces
-none_right g q pieces e s h = absurd (subst (λ l. Has l s) e h)
-
-cleared_good : (g : LinkGraph) (q : List ℕ) (pieces : List Settled) (r : Piece) → IsGraph g → AreSettledRight g q pieces
-    → IsClearedBy g q pieces r → IsGood g q r
-cleared_good g q pieces r graph right cleared = elim cleared [
-  | inl l ↦ inl l
-  | inr t ↦ subst (IsGood g q) t.2 ((decides g q t.0 graph (right t.0 t.1).1).1 t.3)
-]
-
 -- the last level is not cleared
-pub not_last : (g : LinkGraph) (q : List ℕ) (level : ℕ) (pieces : List Settled) → IsGraph g → IsGroup g q
-    → ¬ AreAllLinked g q → AreSettledRight g q pieces → IsLevelCleared g q level pieces → level + 1 ≢ length g.nodes
-not_last g q level pieces graph group apart right cleared e =
-    apart (last_level g q graph group (two_nodes g q group apart)
-    (λ p at last. cleared_good g q pieces p graph right (cleared p at (omega (arith, last, e)))))
+pub not_last : (g : LinkGraph) (q : List ℕ) (hauls : List Haul) (level : ℕ) → HasDeciding g q → AreRight g q hauls
+    → IsLevelCleared g q hauls level → level + 1 ≢ length g.nodes
+not_last g q hauls level has right cleared e =
+    has.apart (last_level g q has.graph has.group (two_nodes g q has.group has.apart)
+    (λ p at last. cleared_good g q hauls p has.graph right (cleared p at (omega (arith, last, e)))))
 
--- a piece in two hauls is in one of them
-pub in_either : (kept pieces : Haul) (s : Settled) → IsBroughtIn (kept ∷ pieces ∷ []) s
-    → Has kept.pieces.items s ⊎ Has pieces.pieces.items s
-in_either kept pieces s h = elim h.1 [
-  | inl e ↦ inl (subst (λ (x : Haul). Has x.pieces.items s) (sym e) h.2)
-  | inr m ↦ elim m [
-    | inl e ↦ inr (subst (λ (x : Haul). Has x.pieces.items s) (sym e) h.2)
-    | inr m ↦ absurd m
-  ]
+-- no piece has a cut, and so none of the level or of a lower one
+pub no_cut_within : (hauls : List Haul) (level : ℕ) → IsFirstCut (all_settled hauls) None → ¬ HasCutWithin hauls level
+no_cut_within hauls level none within = within.2 (none within.0 (among_all hauls within.0 within.1))
+
+-- the first cut is of a higher level, and so are all others
+pub first_behind : (hauls : List Haul) (level : ℕ) (s : Settled) → IsFirstCut (all_settled hauls) (Some s)
+    → level < level_of s.piece → ¬ HasCutWithin hauls level
+first_behind hauls level s first behind within =
+    let low = within.3 in
+    first.lowest within.0 (among_all hauls within.0 within.1) within.2 (inl (omega (arith, behind, low)))
+
+pub first_within : (hauls : List Haul) (level : ℕ) (s : Settled) → IsFirstCut (all_settled hauls) (Some s)
+    → level_of s.piece ≤ level → HasCutWithin hauls level
+first_within hauls level s first low = (s, in_hauls hauls s first.there, first.cut, low)
+
+-- where no piece of a tried level or of a lower one has a cut, the level is cleared
+pub tried_clears : (g : LinkGraph) (q : List ℕ) (hauls : List Haul) (level : ℕ) → IsTried g q hauls level
+    → ¬ HasCutWithin hauls level → IsLevelCleared g q hauls level
+tried_clears g q hauls level tried none = elim tried [
+  | inl cleared ↦ cleared
+  | inr stop ↦
+      let at = stop.1.of_level in
+      absurd (none (stop.0, stop.1.there, stop.1.cut, omega (arith, at)))
 ]
 
-cleared_in : (g : LinkGraph) (q : List ℕ) (hauls : List Haul) (haul : Haul) (r : Piece) → Has hauls haul
-    → IsClearedBy g q haul.pieces.items r → IsCleared g q hauls r
-cleared_in g q hauls haul r there cleared = elim cleared [
+-- where such a piece has a cut, the level is not cleared
+pub tried_stops : (g : LinkGraph) (q : List ℕ) (hauls : List Haul) (level : ℕ) → HasDeciding g q → AreRight g q hauls
+    → 1 ≤ level → level < length g.nodes → IsTried g q hauls level → HasCutWithin hauls level
+    → (s : Settled) × StopsAt g q hauls level s
+tried_stops g q hauls level has right low high tried within = elim tried [
+  | inl cleared ↦
+      let s = within.0 in
+      let is = right s within.1 in
+      let even = passes_level g q level has.group low high
+      (λ p at e. cleared_good g q hauls p has.graph right (cleared p at e)) in
+      let good = lower_good g q level s.piece has.graph has.group even is.0 within.3 in
+      absurd (within.2 ((decides g q s has.graph is.1).0 good))
+  | inr stop ↦ stop
+]
+
+-- the bounds after a level was cleared: it is the lower one, and the upper one is high, or just above the level
+pub cleared_bounds : (g : LinkGraph) (q : List ℕ) (kept hauls : List Haul) (low level high top : ℕ) → HasDeciding g q
+    → AreBounds g q kept low high → IsBetween low level high → AreRight g q hauls → IsTried g q hauls level
+    → ¬ HasCutWithin hauls level → level < top → ((n : ℕ) → level + 1 < n → high < n → top < n)
+    → AreBounds g q hauls level top
+cleared_bounds g q kept hauls low level high top has bounds between right tried none rises within =
+    let cleared = tried_clears g q hauls level tried none in
+    let last = not_last g q hauls level has right cleared in
+    let most = between.most in
+    let below = bounds.below in
+    record {
+      rises = rises;
+      below = within (length g.nodes) (omega (arith, most, below, last)) below;
+      right = right;
+      cleared = cleared;
+    }
+
+-- what is in the hauls of two lists is in those of one
+pub in_either : (kept hauls : List Haul) (s : Settled) → IsBroughtIn (kept ++ hauls) s
+    → IsBroughtIn kept s ⊎ IsBroughtIn hauls s
+in_either kept hauls s h = elim (has_append_cases kept hauls h.0 h.1) [
+  | inl k ↦ inl (h.0, k, h.2)
+  | inr k ↦ inr (h.0, k, h.2)
+]
+
+cleared_left : (g : LinkGraph) (q : List ℕ) (kept hauls : List Haul) (r : Piece) → IsCleared g q kept r
+    → IsCleared g q (kept ++ hauls) r
+cleared_left g q kept hauls r cleared = elim cleared [
   | inl l ↦ inl l
-  | inr t ↦ inr (t.0, (haul, there, t.1), t.2, t.3)
+  | inr t ↦
+      let b = t.1 in
+      inr (t.0, (b.0, has_append_left kept hauls b.0 b.1, b.2), t.2, t.3)
+]
+
+cleared_right : (g : LinkGraph) (q : List ℕ) (kept hauls : List Haul) (r : Piece) → IsCleared g q hauls r
+    → IsCleared g q (kept ++ hauls) r
+cleared_right g q kept hauls r cleared = elim cleared [
+  | inl l ↦ inl l
+  | inr t ↦
+      let b = t.1 in
+      inr (t.0, (b.0, has_append_right kept hauls b.0 b.1, b.2), t.2, t.3)
 ]
 
 -- a level with a cut and the cleared level below it suffice
-pub suffices : (g : LinkGraph) (q : List ℕ) (low : ℕ) (kept pieces : Haul) (s : Settled)
-    → AreSettledRight g q kept.pieces.items → IsLevelCleared g q low kept.pieces.items
-    → AreSettledRight g q pieces.pieces.items → StopsAt g q (low + 1) pieces.pieces.items s
-    → Suffice g q (kept ∷ pieces ∷ [])
-suffices g q low kept pieces s kept_right cleared right stop =
-    let hauls = kept ∷ pieces ∷ [] in
-    let at = stop.of_level in (
-      (λ t h. elim (in_either kept pieces t h) [ inl k ↦ kept_right t k | inr k ↦ right t k ]),
+pub suffices : (g : LinkGraph) (q : List ℕ) (low : ℕ) (kept hauls : List Haul) (s : Settled) → AreRight g q kept
+    → IsLevelCleared g q kept low → AreRight g q hauls → StopsAt g q hauls (low + 1) s → Suffice g q (kept ++ hauls)
+suffices g q low kept hauls s kept_right cleared right stop =
+    let at = stop.of_level in
+    let there = stop.there in (
+      (λ t h. elim (in_either kept hauls t h) [ inl k ↦ kept_right t k | inr k ↦ right t k ]),
       inr (
         s,
         record {
-          there = (pieces, inr (inl refl), stop.there);
+          there = (there.0, has_append_right kept hauls there.0 there.1, there.2);
           cut = stop.cut;
           before = λ r is first near. elim (number_cases (level_of r) (low + 1)) [
-            | inl l ↦ cleared_in g q hauls kept r (inl refl) (cleared r is (omega (arith, l, near, at)))
+            | inl l ↦ cleared_left g q kept hauls r (cleared r is (omega (arith, l, near, at)))
             | inr n ↦ elim n [
-              | inl e ↦ cleared_in g q hauls pieces r (inr (inl refl)) (stop.before r is e first)
+              | inl e ↦ cleared_right g q kept hauls r (stop.before r is e first)
               | inr l ↦ absurd (elim first [
                 | inl m ↦ omega (arith, m, l, at)
                 | inr m ↦ let d = m.0 in omega (arith, d, l, at)
@@ -101,22 +155,38 @@ suffices g q low kept pieces s kept_right cleared right stop =
       ),
     )
 
--- a fact about a result implies a weaker fact about it
-pub ok_then : {T E : Type 0} (P Q : T → Type 0) (r : Result T E) → IfOk r P → ((x : T) → P x → Q x) → IfOk r Q
-ok_then P Q (Ok x) h then = then x h
-ok_then P Q (Err e) h then = tt
-
 -- a tried level with a cut suffices, together with the cleared level below it
-pub tried_suffices : (g : LinkGraph) (q : List ℕ) (low level size : ℕ) (kept pieces : Haul) (cut : Option ℕ)
-    → AreSettledRight g q kept.pieces.items → IsLevelCleared g q low kept.pieces.items
-    → AreSettledRight g q pieces.pieces.items → IsTried g q level pieces.pieces.items cut → cut ≡ Some size
-    → level ≡ low + 1 → Suffice g q (kept ∷ pieces ∷ [])
-tried_suffices g q low level size kept pieces cut kept_right cleared right tried e next =
-    let t : IsTried g q level pieces.pieces.items (Some size) = subst (IsTried g q level pieces.pieces.items) e tried in
-    suffices g q low kept pieces t.0 kept_right cleared right
-    (subst (λ (l : ℕ). StopsAt g q l pieces.pieces.items t.0) next t.1)
+pub tried_suffices : (g : LinkGraph) (q : List ℕ) (low level high : ℕ) (kept hauls : List Haul) → HasDeciding g q
+    → AreBounds g q kept low high → IsBetween low level high → AreRight g q hauls → IsTried g q hauls level
+    → HasCutWithin hauls level → level ≡ low + 1 → Suffice g q (kept ++ hauls)
+tried_suffices g q low level high kept hauls has bounds between right tried within next =
+    let above = between.above in
+    let most = between.most in
+    let below = bounds.below in
+    let stop = tried_stops g q hauls level has right (omega (arith, above)) (omega (arith, most, below)) tried within in
+    suffices g q low kept hauls stop.0 bounds.right bounds.cleared right
+    (subst (λ (l : ℕ). StopsAt g q hauls l stop.0) next stop.1)
 
--- a tried level without a cut is cleared
-pub tried_clears : (g : LinkGraph) (q : List ℕ) (level : ℕ) (pieces : List Settled) (cut : Option ℕ)
-    → IsTried g q level pieces cut → cut ≡ None → IsLevelCleared g q level pieces
-tried_clears g q level pieces cut tried e = subst (IsTried g q level pieces) e tried
+-- the haul of a settler for the graph and the group of a search is right for that search
+pub right_of_one : (settler : GroupIn) (g : LinkGraph) (q : List ℕ) (s : SearchState) (haul : Haul) (hauls : List Haul)
+    → settler ≡ record { graph = g; members = q } → s.graph ≡ g → s.members ≡ q → hauls ≡ haul ∷ []
+    → AreRight settler.graph settler.members (haul ∷ []) → AreRight s.graph s.members hauls
+right_of_one settler g q s haul hauls is d e f right =
+    rw (d, e, f) (subst (λ (x : GroupIn). AreRight x.graph x.members (haul ∷ [])) is right)
+
+-- a level that it tried is one that the search had tried
+pub tried_of_one : (settler : GroupIn) (g : LinkGraph) (q : List ℕ) (s : SearchState) (haul : Haul) (hauls : List Haul)
+    (level : ℕ) → settler ≡ record { graph = g; members = q } → s.graph ≡ g → s.members ≡ q → hauls ≡ haul ∷ []
+    → level ≡ s.level → IsTried settler.graph settler.members (haul ∷ []) level
+    → IsTried s.graph s.members hauls s.level
+tried_of_one settler g q s haul hauls level is d e f same tried =
+    rw (d, e, f, ← same) (subst (λ (x : GroupIn). IsTried x.graph x.members (haul ∷ []) level) is tried)
+
+-- a fact that holds anyway, where there is a value and where there is none
+pub if_some : {T : Type 0} (P : Type 0) (r : Option T) → P → IfSome r (λ x. P)
+if_some P None p = tt
+if_some P (Some x) p = p
+
+pub if_none : {T : Type 0} (P : Type 0) (r : Option T) → P → IfNone r P
+if_none P None p = p
+if_none P (Some x) p = tt

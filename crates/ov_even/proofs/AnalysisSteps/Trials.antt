@@ -5,12 +5,9 @@ use Rattle.ov_ids.specs.Members.{Has, Ordered}
 use Rattle.ov_ids.proofs.Members.{has_append_left, has_append_right, has_append_cases}
 use Rattle.ov_graph.specs.Links.{LinkGraph}
 use Rattle.ov_fans.specs.Pieces.{IsPiece, IsLinkedPair, level_of}
-use Rattle.std.proofs.Common.{Option, Some, None, true, false, IfSome, IfNone}
-use Rattle.std.specs.Option.{is_some}
 use Rattle.std.proofs.lemmas.Bool.{cases_lt}
 use Rattle.ov_even.proofs.PieceNumbers.LevelPlaces.{length_level_low, length_level_high}
 use Rattle.ov_even.proofs.PieceNumbers.Pairs.{pairs_few}
-use Rattle.ov_fans.specs.declared.settled.Found.{Found}
 use Rattle.ov_fans.specs.declared.settled.Found.TheVariants.{Linked}
 use Rattle.ov_fans.specs.Cuts.{IsRight, IsFoundFor}
 use Rattle.ov_fans.specs.Theorems.{IsNoCut}
@@ -18,7 +15,10 @@ use Rattle.ov_fans.specs.declared.piece.Piece.{Piece}
 use Rattle.ov_fans.specs.declared.settled.Settled.{Settled}
 use Rattle.ov_even.specs.Order.{ComesBefore}
 use Rattle.ov_even.specs.Code.Levels.{pieces_of_level}
-use Rattle.ov_even.specs.Code.Trying.{AreSettledRight, IsClearedBy, IsLevelCleared, StopsAt, IsTried}
+use Rattle.ov_even.specs.Code.Trying.{AreSettledRight, IsClearedBy}
+use Rattle.ov_even.specs.Harvest.{AreRight, IsCleared}
+use Rattle.ov_even.specs.Levels.{IsLevelCleared, StopsAt}
+use Rattle.ov_even.specs.declared.haul.Haul.{Haul}
 use Rattle.ov_even.proofs.PieceOrder.Comparing.{before_once}
 use Rattle.ov_even.proofs.PieceOrder.Ordering.{not_both_before}
 use Rattle.ov_even.proofs.PieceOrder.Columns.{ordered_columns}
@@ -76,20 +76,37 @@ right_more g q pieces s right at is t h = elim (has_append_cases pieces (s ∷ [
   ]
 ]
 
+-- the pieces of a haul are those of the hauls, if it is the only haul
+pub alone_right : (g : LinkGraph) (q : List ℕ) (haul : Haul) → AreSettledRight g q haul.pieces.items
+    → AreRight g q (haul ∷ [])
+alone_right g q haul right s h = elim h.1 [
+  | inl e ↦ right s (subst (λ (x : Haul). Has x.pieces.items s) (sym e) h.2)
+  | inr k ↦ absurd k
+]
+
+pub alone_cleared : (g : LinkGraph) (q : List ℕ) (haul : Haul) (r : Piece) → IsClearedBy g q haul.pieces.items r
+    → IsCleared g q (haul ∷ []) r
+alone_cleared g q haul r cleared = elim cleared [
+  | inl l ↦ inl l
+  | inr t ↦ inr (t.0, (haul, inl refl, t.1), t.2, t.3)
+]
+
 -- a piece has a cut, and the pieces before it in the level are cleared
-pub stops : (g : LinkGraph) (q : List ℕ) (level : ℕ) (pieces : List Settled) (s : Settled) (seen rest : List Piece)
+pub stops : (g : LinkGraph) (q : List ℕ) (level : ℕ) (pieces : List Settled) (haul : Haul) (s : Settled)
+    (seen rest : List Piece) → haul.pieces.items ≡ pieces ++ s ∷ []
     → pieces_of_level (length q) level ≡ seen ++ s.piece ∷ rest → level_of s.piece ≡ level → ¬ IsNoCut s.found
-    → AreCleared g q pieces seen → StopsAt g q level (pieces ++ s ∷ []) s
-stops g q level pieces s seen rest e at cut cleared =
+    → AreCleared g q pieces seen → StopsAt g q (haul ∷ []) level s
+stops g q level pieces haul s seen rest put e at cut cleared =
     let order : Ordered ComesBefore (seen ++ s.piece ∷ rest) =
     subst (Ordered ComesBefore) e (ordered_columns level 0 (length q)) in record {
-      there = has_append_right pieces (s ∷ []) s (inl refl);
+      there = (haul, inl refl, subst (λ l. Has l s) (sym put) (has_append_right pieces (s ∷ []) s (inl refl)));
       of_level = at;
       cut = cut;
       before = λ r is same first.
           let h : Has (seen ++ s.piece ∷ rest) r = subst (λ l. Has l r) e (listed g q level r is same) in
           elim (has_append_cases seen (s.piece ∷ rest) r h) [
-            | inl k ↦ cleared_more g q pieces s r (cleared r k)
+            | inl k ↦ alone_cleared g q haul r
+                (subst (λ l. IsClearedBy g q l r) (sym put) (cleared_more g q pieces s r (cleared r k)))
             | inr k ↦ absurd (elim k [
               | inl d ↦ before_once s.piece (subst (λ p. ComesBefore p s.piece) (sym d) first)
               | inr m ↦ not_both_before r s.piece first
@@ -101,10 +118,11 @@ stops g q level pieces s seen rest e at cut cleared =
     }
 
 -- no piece of the level is left
-pub level_cleared : (g : LinkGraph) (q : List ℕ) (level : ℕ) (pieces : List Settled) (seen : List Piece)
-    → pieces_of_level (length q) level ≡ seen → AreCleared g q pieces seen → IsLevelCleared g q level pieces
-level_cleared g q level pieces seen e cleared r is same =
-    cleared r (subst (λ l. Has l r) e (listed g q level r is same))
+pub level_cleared : (g : LinkGraph) (q : List ℕ) (level : ℕ) (haul : Haul) (seen : List Piece)
+    → pieces_of_level (length q) level ≡ seen → AreCleared g q haul.pieces.items seen
+    → IsLevelCleared g q (haul ∷ []) level
+level_cleared g q level haul seen e cleared r is same =
+    alone_cleared g q haul r (cleared r (subst (λ l. Has l r) e (listed g q level r is same)))
 
 -- the state of a level: the pieces yielded so far are cleared, and the others are still to come
 pub record IsUnderWay (g : LinkGraph) (q : List ℕ) (level : ℕ) (pieces : List Settled) (seen coming : List Piece)
@@ -158,37 +176,23 @@ pub more_right : (g : LinkGraph) (q : List ℕ) (level : ℕ) (pieces new : List
 more_right g q level pieces new seen coming p s way same at right put = subst (AreSettledRight g q) (sym put)
     (right_more g q pieces s way.right (subst (IsPiece g q) (sym same) at) right)
 
-pub stopped : (g : LinkGraph) (q : List ℕ) (level : ℕ) (pieces new : List Settled) (seen coming rest : List Piece)
-    (p : Piece) (s : Settled) → IsUnderWay g q level pieces seen coming → coming ≡ p ∷ rest → s.piece ≡ p
-    → level_of p ≡ level → ¬ IsNoCut s.found → new ≡ pieces ++ s ∷ [] → StopsAt g q level new s
-stopped g q level pieces new seen coming rest p s way e same at cut put =
-    subst (λ l. StopsAt g q level l s) (sym put) (stops g q level pieces s seen rest
+pub stopped : (g : LinkGraph) (q : List ℕ) (level : ℕ) (pieces : List Settled) (haul : Haul)
+    (seen coming rest : List Piece) (p : Piece) (s : Settled) → IsUnderWay g q level pieces seen coming
+    → coming ≡ p ∷ rest → s.piece ≡ p → level_of p ≡ level → ¬ IsNoCut s.found
+    → haul.pieces.items ≡ pieces ++ s ∷ [] → StopsAt g q (haul ∷ []) level s
+stopped g q level pieces haul seen coming rest p s way e same at cut put = stops g q level pieces haul s seen rest put
     (way.listed ∙ ap (λ l. seen ++ l) e ∙ ap (λ x. seen ++ x ∷ rest) (sym same)) (ap level_of same ∙ at) cut
-    way.cleared)
+    way.cleared
 
-pub ended : (g : LinkGraph) (q : List ℕ) (level : ℕ) (pieces : List Settled) (seen coming : List Piece)
-    → IsUnderWay g q level pieces seen coming → coming ≡ [] → IsLevelCleared g q level pieces
-ended g q level pieces seen coming way e = level_cleared g q level pieces seen
+pub ended : (g : LinkGraph) (q : List ℕ) (level : ℕ) (haul : Haul) (seen coming : List Piece)
+    → IsUnderWay g q level haul.pieces.items seen coming → coming ≡ [] → IsLevelCleared g q (haul ∷ []) level
+ended g q level haul seen coming way e = level_cleared g q level haul seen
     (way.listed ∙ ap (λ l. seen ++ l) e ∙ append-nil seen) way.cleared
 
 pub linked_right : (g : LinkGraph) (q : List ℕ) (s : Settled) (p : Piece) → IsRight g q s → s.found ≡ Linked
     → s.piece ≡ p → IsLinkedPair g q p
 linked_right g q s p right e same =
     subst (IsLinkedPair g q) same (subst (IsFoundFor g q s.piece) e right)
-
-pub cut_some : (cut : Option ℕ) (found : Found) → is_some cut ≡ true → IfSome cut (λ size. ¬ IsNoCut found)
-    → ¬ IsNoCut found
-cut_some None found e n = absurd (cc)
-cut_some (Some size) found e n = n
-
-pub cut_none : (cut : Option ℕ) (found : Found) → is_some cut ≡ false → IfNone cut (IsNoCut found) → IsNoCut found
-cut_none None found e n = n
-cut_none (Some size) found e n = absurd (cc)
-
-pub tried_some : (g : LinkGraph) (q : List ℕ) (level : ℕ) (pieces : List Settled) (s : Settled) (cut : Option ℕ)
-    → is_some cut ≡ true → StopsAt g q level pieces s → IsTried g q level pieces cut
-tried_some g q level pieces s None e stop = absurd (cc)
-tried_some g q level pieces s (Some size) e stop = (s, stop)
 
 -- a level has at most a million pieces
 pub level_few : (m level : ℕ) → m ≤ 1024 → length (pieces_of_level m level) ≤ 1000000

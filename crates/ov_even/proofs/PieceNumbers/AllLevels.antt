@@ -1,6 +1,6 @@
 -- The lists of all levels, one after another, are the list of all pieces in their order.
 use Rattle.std.proofs.Common.{◌≡◌, ◌↔◌, ℕ, zero, suc, ◌+◌, ◌-◌, ◌<◌, ◌≤◌, inl, inr, List, ◌++◌, length}
-use Rattle.std.proofs.Common.{sym, ap, ◌∙◌, subst, arith}
+use Rattle.std.proofs.Common.{sym, ap, ◌∙◌, subst, arith, append_assoc}
 use Rattle.std.proofs.lemmas.Bool.{cases_eq, cases_lt}
 use Rattle.std.proofs.lemmas.List.{length-append}
 use Rattle.std.specs.List.{slice_get}
@@ -25,7 +25,7 @@ piece_has n m (Pair level i j) is = has_at (pieces_of_level m level) _ (Pair lev
 piece_has n m (Fan level j) is =
     has_at (pieces_of_level m level) _ (Fan level j) (fan_placed m level j is.later is.member)
 
-level_in : (m level : ℕ) (p : Piece) → Has (pieces_of_level m level) p → level_of p ≡ level
+pub level_in : (m level : ℕ) (p : Piece) → Has (pieces_of_level m level) p → level_of p ≡ level
 level_in m level p h = let r = has_columns level 0 m p h in level_at level r.column p r.at
 
 -- the list of a level has exactly the pieces of the level
@@ -68,6 +68,22 @@ in_levels m level (suc left) at p behind within h = elim (cases_eq (suc level) a
   | inr d ↦ has_append_right (pieces_of_level m (suc level)) (levels_behind m (suc level) left) p
       (in_levels m (suc level) left at p (omega arith) (omega arith) h)
 ]
+
+-- a number of levels is split into two parts
+pub levels_split : (m level a b : ℕ)
+    → levels_behind m level (a + b) ≡ levels_behind m level a ++ levels_behind m (level + a) b
+unfolding levels_behind
+levels_split m level zero b =
+    let e : level ≡ level + 0 = omega arith in
+    let f : 0 + b ≡ b = omega arith in
+    ap (levels_behind m level) f ∙ ap (λ (x : ℕ). levels_behind m x b) e
+levels_split m level (suc a) b =
+    let e : suc a + b ≡ suc (a + b) = omega arith in
+    let f : suc level + a ≡ level + suc a = omega arith in
+    let first = pieces_of_level m (suc level) in
+    ap (levels_behind m level) e ∙ ap (λ (xs : List Piece). first ++ xs) (levels_split m (suc level) a b)
+    ∙ ap (λ (x : ℕ). first ++ (levels_behind m (suc level) a ++ levels_behind m x b)) f
+    ∙ sym (append_assoc first (levels_behind m (suc level) a) (levels_behind m (level + suc a) b))
 
 ordered_levels : (m level left : ℕ) → Ordered ComesBefore (levels_behind m level left)
 unfolding levels_behind

@@ -9,7 +9,7 @@ use Rattle.ov_fans.specs.Pieces.{level_of}
 use Rattle.ov_fans.specs.Cuts.{IsRight}
 use Rattle.ov_even.specs.Order.{ComesBefore}
 use Rattle.ov_even.specs.First.{IsFirst}
-use Rattle.ov_even.specs.Code.Slots.{IsLevelIn}
+use Rattle.ov_even.specs.Levels.{IsLevelCleared}
 use Rattle.ov_even.specs.declared.haul.Haul.{Haul}
 
 -- the pieces of all hauls, one haul after another
@@ -38,4 +38,4 @@ pub record IsDeciding (g : LinkGraph) (q : List ℕ) (hauls : List Haul) (s : Se
   pub first : IsFirst g q s.piece
   pub right : IsRight g q s
   pub cut : ¬ IsNoCut s.found
-  pub below : IsLevelIn g q (level_of s.piece - 1) hauls
+  pub below : IsLevelCleared g q hauls (level_of s.piece - 1)

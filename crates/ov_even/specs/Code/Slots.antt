@@ -8,8 +8,6 @@ use Rattle.ov_fans.specs.declared.piece.Piece.{Piece}
 use Rattle.ov_fans.specs.declared.settled.Found.TheVariants.{Paths}
 use Rattle.ov_fans.specs.declared.settled.Settled.{Settled}
 use Rattle.ov_fans.specs.Pieces.{IsPieceOf}
-use Rattle.ov_even.specs.Harvest.{IsCleared}
-use Rattle.ov_even.specs.declared.haul.Haul.{Haul}
 use Rattle.ov_even.specs.Code.Levels.{pieces_of_level}
 
 -- the piece has this place in its level, counted from 0
@@ -35,7 +33,3 @@ HaveSlots g q level slots = (p : Piece) (place : ℕ) → IsPiece g q p → leve
 -- each of these settled pieces is a piece for groups of m members
 abbrev pub ArePiecesOf : ℕ → List Settled → Type 0
 ArePiecesOf m seen = (s : Settled) → Has seen s → (n : ℕ) × IsPieceOf n m s.piece
-
--- each piece of the level is cleared by the hauls
-abbrev pub IsLevelIn : LinkGraph → List ℕ → ℕ → List Haul → Type 0
-IsLevelIn g q level hauls = (r : Piece) → IsPiece g q r → level_of r ≡ level → IsCleared g q hauls r

@@ -1,12 +1,14 @@
 -- One more piece of the level is settled.
-use Rattle.std.proofs.Common.{◌∙◌, ℕ, length, sym, subst}
+use Rattle.std.proofs.Common.{◌∙◌, ℕ, inl, inr, length, sym, subst}
+use Rattle.std.proofs.lemmas.Bool.{both_ways}
 use Rattle.ov_fans.specs.Pieces.{IsPiece}
 use Rattle.ov_fans.specs.Cuts.{IsRight}
 use Rattle.ov_fans.specs.Group.{GroupIn}
 use Rattle.ov_fans.specs.Pieces.{IsPieceOf}
 use Rattle.ov_even.proofs.AnalysisSteps.Trials.{next_is, more_linked, more_kept, more_right, stopped, ended}
-use Rattle.ov_even.proofs.AnalysisSteps.Trials.{linked_right, cut_some}
-use Rattle.ov_even.proofs.AnalysisSteps.Trials.{cut_none, tried_some}
+use Rattle.ov_even.proofs.AnalysisSteps.Trials.{linked_right, alone_right}
+use Rattle.ov_even.proofs.AnalysisSteps.FirstCut.{not_cut}
+use Rattle.ov_even.specs.declared.haul.Haul.{Haul}
 use Rattle.ov_even.proofs.trying.try_level.Goals as goal
 
 pub place_in_level-requires : goal.place_in_level-requires
@@ -56,13 +58,12 @@ loop-piece-preserved g c =
       way = more_kept s.graph s.members c.args.level c.loop-piece.pieces.items c.push.new.self.items
           c.loop-piece.yielded c.loop-piece.piece-iterator c.next.new.self c.in-Some.piece t c.loop-piece.invariant.way
           c.in-Some.ensures.steps c.in_ok-settled.ensures.piece is.0 right
-          (cut_none c.cut_size-cut.result t.found (sym c.is_some.ensures ∙ c.if-is_some.false)
-          c.cut_size-cut.ensures.none)
+          (not_cut t.found (λ cut. both_ways c.is_cut-stops.result c.if-stops.false (c.is_cut-stops.ensures.1 cut)))
           c.in_ok-push.ensures.items;
     }
 
-pub returns-then-is_some-clause-right : goal.returns-then-is_some-clause-right
-returns-then-is_some-clause-right g c =
+pub returns-then-stops-clause-right : goal.returns-then-stops-clause-right
+returns-then-stops-clause-right g c =
     let s = c.args.settler.now in
     let t = c.in_ok-settled.settled in
     let right : IsRight s.graph s.members t = subst (λ (x : GroupIn). IsRight x.graph x.members t)
@@ -70,26 +71,37 @@ returns-then-is_some-clause-right g c =
     let is = next_is s.graph s.members c.args.level c.loop-piece.pieces.items c.loop-piece.yielded
     c.loop-piece.piece-iterator c.next.new.self c.in-Some.piece c.requires.low c.requires.below
     c.loop-piece.invariant.way c.in-Some.ensures.steps in
-    more_right s.graph s.members c.args.level c.loop-piece.pieces.items c.push.new.self.items c.loop-piece.yielded
+    let haul : Haul = record { pieces = c.push.new.self } in
+    alone_right s.graph s.members haul
+    (more_right s.graph s.members c.args.level c.loop-piece.pieces.items c.push.new.self.items c.loop-piece.yielded
     c.loop-piece.piece-iterator c.in-Some.piece t c.loop-piece.invariant.way c.in_ok-settled.ensures.piece is.0 right
-    c.in_ok-push.ensures.items
+    c.in_ok-push.ensures.items)
 
-pub returns-then-is_some-clause-tried : goal.returns-then-is_some-clause-tried
-returns-then-is_some-clause-tried g c =
+pub returns-then-stops-clause-tried : goal.returns-then-stops-clause-tried
+returns-then-stops-clause-tried g c =
     let s = c.args.settler.now in
     let t = c.in_ok-settled.settled in
     let is = next_is s.graph s.members c.args.level c.loop-piece.pieces.items c.loop-piece.yielded
     c.loop-piece.piece-iterator c.next.new.self c.in-Some.piece c.requires.low c.requires.below
     c.loop-piece.invariant.way c.in-Some.ensures.steps in
-    let some = sym c.is_some.ensures ∙ c.if-is_some.true in
-    tried_some s.graph s.members c.args.level c.push.new.self.items t c.cut_size-cut.result some
-    (stopped s.graph s.members c.args.level c.loop-piece.pieces.items c.push.new.self.items c.loop-piece.yielded
-    c.loop-piece.piece-iterator c.next.new.self c.in-Some.piece t c.loop-piece.invariant.way c.in-Some.ensures.steps
-    c.in_ok-settled.ensures.piece is.1 (cut_some c.cut_size-cut.result t.found some c.cut_size-cut.ensures.some)
-    c.in_ok-push.ensures.items)
+    let haul : Haul = record { pieces = c.push.new.self } in
+    inr (
+      t,
+      stopped s.graph s.members c.args.level c.loop-piece.pieces.items haul c.loop-piece.yielded
+          c.loop-piece.piece-iterator c.next.new.self c.in-Some.piece t c.loop-piece.invariant.way
+          c.in-Some.ensures.steps c.in_ok-settled.ensures.piece is.1 (c.is_cut-stops.ensures.0 c.if-stops.true)
+          c.in_ok-push.ensures.items,
+    )
+
+pub returns-clause-right : goal.returns-clause-right
+returns-clause-right g c =
+    let s = c.args.settler.now in
+    let haul : Haul = record { pieces = c.loop-piece.pieces } in
+    alone_right s.graph s.members haul c.loop-piece.invariant.way.right
 
 pub returns-clause-tried : goal.returns-clause-tried
 returns-clause-tried g c =
     let s = c.args.settler.now in
-    ended s.graph s.members c.args.level c.loop-piece.pieces.items c.loop-piece.yielded c.loop-piece.piece-iterator
-    c.loop-piece.invariant.way c.in-None.ensures.steps.0
+    let haul : Haul = record { pieces = c.loop-piece.pieces } in
+    inl (ended s.graph s.members c.args.level haul c.loop-piece.yielded c.loop-piece.piece-iterator
+    c.loop-piece.invariant.way c.in-None.ensures.steps.0)
