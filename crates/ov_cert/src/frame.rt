@@ -3,14 +3,14 @@ ghost use Rattle.ov_ids.specs.Members.{Ascends};
 ghost use Rattle.ov_graph.specs.Links.{IsGraph};
 ghost use Rattle.ov_cert.specs.declared.cert.Cert.TheVariants.{Linked as AllLinked, Split as SplitBy};
 ghost use Rattle.ov_cert.specs.Verdict.{PassesFrame, IsFrameFault};
-ghost use Rattle.ov_cert.specs.Code.Tests.{claim_fault, frame_fault};
+ghost use Rattle.ov_cert.specs.Code.Tests.{body_fault, frame_fault};
 
+use crate::all_linked::test_all_linked;
 use crate::cert::{Cert, Split};
-use crate::complete::test_all_linked;
 use crate::fault::CheckFault;
 use crate::members::is_group;
 use crate::node_set::node_set;
-use crate::side::is_side_cut_off;
+use crate::side_judging::is_side_cut_off;
 use ov_graph::Graph;
 use ov_ids::NodeId;
 
@@ -55,7 +55,7 @@ pub(crate) fn frame_fault(graph: &Graph, group: &[NodeId], cert: &Cert) -> Optio
 }
 
 fn fault_of_linked(graph: &Graph, group: &[NodeId], k: u32) -> Option<CheckFault>
-    ensures { result ≡ claim_fault graph.now group.now (AllLinked k) }
+    ensures { result ≡ body_fault graph.now group.now (AllLinked k) }
 {
     if group.len() as u64 != k as u64 + 1 {
         return Some(CheckFault::Count);
@@ -68,7 +68,7 @@ fn fault_of_linked(graph: &Graph, group: &[NodeId], k: u32) -> Option<CheckFault
 
 fn fault_of_split(graph: &Graph, group: &[NodeId], split: &Split) -> Option<CheckFault>
     requires { Ascends group.now }
-    ensures { result ≡ claim_fault graph.now group.now (SplitBy split.now) }
+    ensures { result ≡ body_fault graph.now group.now (SplitBy split.now) }
 {
     let ids = split.cut.as_slice();
     if ids.len() != split.k as usize {

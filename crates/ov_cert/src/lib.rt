@@ -1,10 +1,10 @@
 //! Certificates of node connectivity, and their checker.
 #![tactic(auto)]
 
+mod all_linked;
 mod cert;
 mod checked;
 mod checker;
-mod complete;
 mod entries;
 mod entry;
 mod expecting;
@@ -13,13 +13,13 @@ mod frame;
 mod members;
 mod node_set;
 mod paths;
-mod side;
+mod side_judging;
 mod theorems;
 
+pub use all_linked::are_all_linked;
 pub use cert::{Cert, FanPaths, PairPaths, Paths, Split};
 pub use checked::Checked;
 pub use checker::{check, check_group};
-pub use complete::are_all_linked;
 pub use entry::Expected;
 pub use expecting::{expected, expected_group, judge_entry, judge_group_entry};
 pub use fault::CheckFault;

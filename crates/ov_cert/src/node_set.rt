@@ -1,7 +1,7 @@
 ghost use Rattle.std.specs.Prelude.{◌≡◌, ◌&&◌, not, [], IfSome, IfNone, false, true, if◌then◌else◌};
 ghost use Rattle.ov_ids.specs.Sets.{has, adding};
 ghost use Rattle.ov_graph.specs.Links.{LinkGraph};
-ghost use Rattle.ov_cert.specs.Code.Kept.{NodesOf};
+ghost use Rattle.ov_cert.specs.Code.Kept.{NodeSetState};
 ghost use Rattle.ov_cert.specs.Code.Tests.{fresh, entered, is_node_set};
 
 use ov_graph::Graph;
@@ -19,9 +19,9 @@ pub(crate) struct NodeSet<'g> {
 
 impl<'g> Model for NodeSet<'g> {
     ghost use Rattle.ov_graph.specs.Row.{picked};
-    ghost use Rattle.ov_cert.specs.Code.Kept.{NodesOf};
+    ghost use Rattle.ov_cert.specs.Code.Kept.{NodeSetState};
 
-    ghost Value = { NodesOf };
+    ghost Value = { NodeSetState };
 
     ghost view = { λ s. record { graph = s.graph.now; members = picked s.row 0 s.graph.now.nodes } };
 }

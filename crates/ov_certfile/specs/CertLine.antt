@@ -7,9 +7,9 @@ use Rattle.ov_cert.specs.declared.cert.Cert.TheVariants.{Linked, Split}
 use Rattle.ov_certfile.specs.Common.{are_same}
 
 -- the text of a certificate without its paths and its group
-unfoldable pub claim_text : Cert → List ℕ
-claim_text (Linked k) = codes "linked k " ++ decimal k
-claim_text (Split c) =
+unfoldable pub short_text : Cert → List ℕ
+short_text (Linked k) = codes "linked k " ++ decimal k
+short_text (Split c) =
     codes "split k " ++ (decimal c.k
     ++ (codes " cut " ++ (ids_text c.cut
     ++ (codes " near " ++ (decimal c.near
@@ -22,4 +22,4 @@ group_text nodes group = if are_same group nodes then [] else codes " group " ++
 
 -- the text of a certificate and its group, without the paths
 unfoldable pub cert_text : Cert → LinkGraph → List ℕ → List ℕ
-cert_text c g group = claim_text c ++ group_text g.nodes group
+cert_text c g group = short_text c ++ group_text g.nodes group

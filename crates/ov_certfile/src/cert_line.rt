@@ -21,7 +21,7 @@ impl<'a> Display for CertText<'a> {
 
     #[tactic(auto, unfolding(crate::specs::CertLine::cert_text))]
     fn fmt<W: Write>(&self, f: &mut Formatter<W>) -> Result {
-        let claim = ClaimText(self.cert);
+        let claim = ShortText(self.cert);
         if self.group == self.graph.nodes() {
             return write!(f, "{claim}");
         }
@@ -32,15 +32,15 @@ impl<'a> Display for CertText<'a> {
 
 /// Prints a certificate without its group and its paths.
 #[derive(Drop)]
-struct ClaimText<'a>(&'a Cert);
+struct ShortText<'a>(&'a Cert);
 
-impl<'a> Display for ClaimText<'a> {
+impl<'a> Display for ShortText<'a> {
     ghost use Rattle.std.specs.Prelude.{Some};
-    ghost use Rattle.ov_certfile.specs.CertLine.{claim_text};
+    ghost use Rattle.ov_certfile.specs.CertLine.{short_text};
 
-    ghost output = { λ t. Some (claim_text t.0.now) };
+    ghost output = { λ t. Some (short_text t.0.now) };
 
-    #[tactic(auto, unfolding(crate::specs::CertLine::claim_text))]
+    #[tactic(auto, unfolding(crate::specs::CertLine::short_text))]
     fn fmt<W: Write>(&self, f: &mut Formatter<W>) -> Result {
         match self.0 {
             Cert::Linked { k } => write!(f, "linked k {k}"),

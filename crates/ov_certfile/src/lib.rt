@@ -3,11 +3,11 @@
 #![tactic(auto)]
 
 mod cert_line;
-mod cert_members;
+mod cert_object;
 mod entries;
 mod fault;
 mod fields;
-mod graph_members;
+mod graph_object;
 mod heading;
 mod keys;
 mod reading;
@@ -18,4 +18,6 @@ mod writing;
 pub use cert_line::CertText;
 pub use fault::FileFault;
 pub use reading::{Filed, from_text};
+pub use verdict::Verdict;
+pub use version::Version;
 pub use writing::{to_text, to_text_group};

@@ -4,8 +4,10 @@ ghost use Rattle.ov_certfile.specs.Kinds.{verdict_text};
 /// What a file claims of its group: every two members are linked, or some nodes split the group. It stands at the key
 /// `verdict`.
 #[derive(Clone, Copy, Debug, PartialEq, Eq)]
-pub(crate) enum Verdict {
+pub enum Verdict {
+    /// Every two members are linked.
     Linked,
+    /// Some nodes split the group.
     Split,
 }
 

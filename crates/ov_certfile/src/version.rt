@@ -8,7 +8,7 @@ const MOST_NODES_OF_ONE: usize = 256;
 
 /// The version of a file. Its number stands at the key `version`.
 #[derive(Clone, Copy, Debug, PartialEq, Eq)]
-pub(crate) enum Version {
+pub enum Version {
     /// The group is all nodes, at most 256.
     One,
     /// The file names its group.

@@ -1,9 +1,10 @@
 -- What a run of a judge does: it reads a certificate file, and prints the line of its outcome.
-use Rattle.std.specs.Prelude.{◌≡◌, ◌≢◌, ◌+◌, ℕ, List, Option, IfSome, Result, Err, IfOk}
+use Rattle.std.specs.Prelude.{◌≡◌, ◌≢◌, ◌+◌, ℕ, List, Option, IfSome, Result, Ok, Err, IfOk}
 use Rattle.std.specs.Io.KnownBytes.{Appends, IsAtEnd}
 use Rattle.ov_io.specs.Device.{SourceState, SinkState, read_failures, write_failures, ReaderFailed}
 use Rattle.ov_io.specs.Device.{AppendsPrefixOf}
 use Rattle.ov_check.specs.declared.outcome.Outcome.{Outcome}
+use Rattle.ov_check.specs.declared.engine.Judged.{Judged}
 use Rattle.ov_check.specs.declared.fault.JudgeFault.{JudgeFault}
 use Rattle.ov_check.specs.declared.fault.JudgeFault.TheVariants.{Read, Write, OutOfMemory}
 use Rattle.ov_check.specs.Faults.{number_of}
@@ -47,3 +48,8 @@ pub record IsRun {R W : Type 0} (remaining : R → Option (List ℕ)) (contents 
   pub not_failed : result ≢ Err Read → source_after.failures ≡ source.failures
   pub unread : result ≡ Err Read → sink_after ≡ sink
   pub no_memory : result ≡ Err OutOfMemory → sink_after ≡ sink
+
+-- the status of the outcome that was kept, or why there is none
+abbrev pub status_in : Result Judged JudgeFault → Result ℕ JudgeFault
+status_in (Ok j) = Ok (status_of j.outcome)
+status_in (Err fault) = Err fault

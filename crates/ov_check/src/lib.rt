@@ -9,7 +9,7 @@ mod parallel;
 mod parallel_fault;
 mod program;
 
-pub use engine::{judge, judge_parallel};
+pub use engine::{Judged, judge, judge_kept, judge_parallel};
 pub use fault::JudgeFault;
 pub use outcome::{Outcome, outcome_of};
 pub use parallel::{check_group_parallel, check_parallel};

@@ -1,1 +1,2 @@
+-- What private contracts and proofs use.
 pub mod Held

@@ -21,7 +21,7 @@ failing x v = record v { failed = adding x v.failed }
 
 -- x is the last number that the worker claimed
 abbrev pub IsLast : WorkerState → ℕ → Type 0
-IsLast v x = (front : List ℕ) × (v.claimed ≡ front ++ x ∷ [])
+IsLast v x = (earlier : List ℕ) × (v.claimed ≡ earlier ++ x ∷ [])
 
 -- worker w, which has not ended, claims the next number x
 pub record Claims (s : DeskState) (w x : ℕ) (t : DeskState) : Type 0 where

@@ -1,6 +1,5 @@
-ghost use Rattle.std.specs.Prelude.{◌≡◌, ◌↔◌, ℕ, ◌<◌, ◌≤◌, ◌^◌, [], false, length, IsTrue};
-ghost use Rattle.std.specs.Prelude.{IfOk, OnOk, OnErr, IfSome, IfNone};
-ghost use Rattle.ov_claims.specs.Claims.{HasWorker, WorkerState, IsLegal, most_workers, opening_claims};
+ghost use Rattle.std.specs.Prelude.{◌≡◌, ◌↔◌, ℕ, ◌<◌, ◌≤◌, false, length, IsTrue, IfOk, OnOk, OnErr};
+ghost use Rattle.ov_claims.specs.Claims.{HasWorker, WorkerState, IsLegal, number_limit, most_workers, opening_claims};
 ghost use Rattle.ov_claims.specs.Steps.{Claims, Looks, Fails, IsLast};
 ghost use Rattle.ov_claims.specs.Theorems.{AllEnded, IsDone};
 
@@ -33,7 +32,7 @@ impl Model for Desk {
 impl Desk {
     /// A desk for `workers` workers, which share out the numbers below `total`. Faults: out of memory.
     pub fn new(alloc: Global, total: u64, workers: u32) -> Result<Desk, OutOfMemory>
-        requires total { total < 2 ^ 32 }
+        requires total { total < number_limit }
         requires some { 1 ≤ workers }
         requires few { workers ≤ most_workers }
         ensures { IfOk result (λ d. d ≡ opening_claims total workers) }
@@ -128,15 +127,6 @@ impl Desk {
         ensures { (v : WorkerState) → HasWorker self.now worker v → result ≡ v.ended }
     {
         self.workers[worker as usize].has_ended()
-    }
-
-    /// The number that this worker claimed last, if any.
-    pub fn last(&self, worker: u32) -> Option<u64>
-        requires { worker < length self.now.workers }
-        ensures some { IfSome result (λ x. (v : WorkerState) → HasWorker self.now worker v → IsLast v x) }
-        ensures none { IfNone result ((v : WorkerState) → HasWorker self.now worker v → v.claimed ≡ []) }
-    {
-        self.workers[worker as usize].last().map(|x| x as u64)
     }
 
     /// Whether all workers have ended.

@@ -1,7 +1,7 @@
-ghost use Rattle.std.specs.Prelude.{◌≡◌, ℕ, ◌<◌, ◌≤◌, ◌^◌, [], OnOk, OnErr, IfSome, IfNone};
+ghost use Rattle.std.specs.Prelude.{◌≡◌, ℕ, ◌<◌, ◌≤◌, [], OnOk, OnErr, IfSome, IfNone};
 ghost use Rattle.std.specs.List.{list_all};
 ghost use Rattle.ov_ids.specs.Members.{Has, Ascends};
-ghost use Rattle.ov_claims.specs.Claims.{WorkerState, fresh};
+ghost use Rattle.ov_claims.specs.Claims.{WorkerState, number_limit, fresh};
 ghost use Rattle.ov_claims.specs.Steps.{IsLast, claiming, looking, failing};
 
 use ov_ids::OutOfMemory;
@@ -44,7 +44,7 @@ impl Worker {
 
     /// Claims this number, or ends if the number is not below the total. Out of memory changes nothing.
     pub(crate) fn claim(&mut self, total: u64, number: u64) -> Result<(), OutOfMemory>
-        requires { total < 2 ^ 32 }
+        requires { total < number_limit }
         ensures ok { OnOk result (self.new ≡ claiming total number self.old) }
         ensures err { OnErr result (self.new ≡ self.old) }
     {

@@ -1,7 +1,7 @@
-ghost use Rattle.std.specs.Prelude.{◌≡◌, ◌↔◌, ◌<◌, ◌≤◌, ◌^◌, [], length, replicate, IsTrue, IfOk, OnOk, OnErr};
+ghost use Rattle.std.specs.Prelude.{◌≡◌, ◌↔◌, ◌<◌, ◌≤◌, [], length, replicate, IsTrue, IfOk, OnOk, OnErr};
 ghost use Rattle.ov_graph.specs.Links.{IsGroup};
 ghost use Rattle.ov_cert.specs.Theorems.{IsTrueForGroup};
-ghost use Rattle.ov_claims.specs.Claims.{most_workers};
+ghost use Rattle.ov_claims.specs.Claims.{number_limit, most_workers};
 ghost use Rattle.ov_claims.specs.Theorems.{AllEnded};
 ghost use Rattle.ov_fans.specs.Cuts.{IsRight};
 ghost use Rattle.ov_fans.specs.Theorems.{IsNoCut};
@@ -102,13 +102,6 @@ impl GroupDesk {
         ensures { result ≡ self.now.claims.least }
     {
         self.claims.least()
-    }
-
-    /// The number of workers, from 1 to 64.
-    pub fn workers(&self) -> u32
-        ensures { result ≡ length self.now.claims.workers }
-    {
-        self.claims.workers()
     }
 
     /// Whether the desk has this worker. Workers are counted from 0.
@@ -247,7 +240,7 @@ impl GroupDesk {
 fn total_to_share(graph: &Graph, group: &[NodeId]) -> u64
     requires { IsGroup graph.now group.now }
     ensures share { AreToShare graph.now group.now result }
-    ensures small { result < 2 ^ 32 }
+    ensures small { result < number_limit }
 {
     if are_all_linked(graph, group) {
         return 0;

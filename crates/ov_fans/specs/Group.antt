@@ -3,6 +3,6 @@ use Rattle.std.specs.Prelude.{ℕ, List}
 use Rattle.ov_graph.specs.Links.{LinkGraph}
 
 -- the value of a `Settler` in contracts: a graph, and the members of a group
-pub record GroupIn : Type 0 where
+pub record SettlerState : Type 0 where
   pub graph : LinkGraph
   pub members : List ℕ

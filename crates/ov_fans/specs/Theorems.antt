@@ -21,5 +21,6 @@ IsNoCut (Paths paths) = Unit {0}
 IsNoCut (Cut parting) = ⊥
 
 -- a piece is good exactly where its right result is not a cut
-abbrev pub Decides : Type 0
-Decides = (g : LinkGraph) (q : List ℕ) (s : Settled) → IsGraph g → IsRight g q s → IsGood g q s.piece ↔ IsNoCut s.found
+abbrev pub RightDecides : Type 0
+RightDecides = (g : LinkGraph) (q : List ℕ) (s : Settled) → IsGraph g → IsRight g q s
+    → IsGood g q s.piece ↔ IsNoCut s.found

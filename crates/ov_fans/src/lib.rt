@@ -1,18 +1,18 @@
 //! The pieces of Even's test. For each its paths are found, or its nearest least cut.
 #![tactic(auto)]
 
-mod aim;
-mod asked;
-mod cutting;
-mod far;
+mod far_member;
 mod members;
 mod piece;
+mod piece_net;
+mod piece_paths;
+mod row_nodes;
 mod settled;
 mod settler;
 mod theorems;
 
-pub use asked::asked_paths;
 pub use piece::Piece;
+pub use piece_paths::asked_paths;
 pub use settled::{Found, Parting, Settled};
 pub use settler::{Settler, settle, settle_group};
 pub use theorems::{right_decides, same_cut};

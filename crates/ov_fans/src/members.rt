@@ -2,6 +2,7 @@ ghost use Rattle.std.specs.Prelude.{◌≡◌, ◌↔◌, ◌<◌, ◌≤◌, �
 ghost use Rattle.ov_ids.specs.Members.{Has};
 ghost use Rattle.ov_graph.specs.Links.{IsGraph, IsWithinLimit, Linked, IsGroup};
 ghost use Rattle.ov_graph.specs.Paths.{node_at};
+ghost use Rattle.ov_graph.specs.Row.{word_bits};
 ghost use Rattle.ov_flow.specs.Flow.{AreBitsOf};
 ghost use Rattle.ov_fans.specs.Pieces.{member_at};
 
@@ -21,10 +22,10 @@ pub(crate) struct Members<'g> {
 }
 
 impl<'g> Model for Members<'g> {
-    ghost use Rattle.ov_fans.specs.Group.{GroupIn};
+    ghost use Rattle.ov_fans.specs.Group.{SettlerState};
     ghost use Rattle.ov_fans.specs.Code.Kept.{group_at, AreSeats};
 
-    ghost Value = { GroupIn };
+    ghost Value = { SettlerState };
 
     ghost view = { λ m. group_at m.graph.now m.places.items };
 
@@ -78,7 +79,7 @@ impl<'g> Members<'g> {
         requires high { i ≤ length self.now.members }
         ensures below { result < length self.now.graph.nodes }
         ensures there { node_at self.now.graph result ≡ member_at self.now.members i }
-        ensures fits { result < 64 * WORDS }
+        ensures fits { result < word_bits * WORDS }
     {
         self.places[i as usize - 1] as usize
     }
@@ -109,7 +110,7 @@ fn place_among(graph: &Graph, a: NodeId) -> usize
     requires { Has graph.now.nodes a }
     ensures below { result < length graph.now.nodes }
     ensures there { node_at graph.now result ≡ a }
-    ensures fits { result < 64 * WORDS }
+    ensures fits { result < word_bits * WORDS }
 {
     match graph.place(a) {
         Some(p) => p,

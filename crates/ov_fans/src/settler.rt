@@ -6,11 +6,11 @@ ghost use Rattle.ov_fans.specs.Cuts.{IsRight, IsFoundFor, IsParted};
 ghost use Rattle.ov_fans.specs.Theorems.{IsNoCut};
 ghost use Rattle.ov_fans.specs.Code.Nets.{net_of};
 
-use crate::aim::{aim_for, is_linked_pair};
-use crate::cutting::nodes_of_row;
-use crate::far::far_of;
+use crate::far_member::far_of;
 use crate::members::Members;
 use crate::piece::Piece;
+use crate::piece_net::{aim_for, is_linked_pair};
+use crate::row_nodes::nodes_of_row;
 use crate::settled::{Found, Parting, Settled};
 use ov_flow::{Flow, Stuck};
 use ov_graph::Graph;
@@ -31,9 +31,9 @@ pub struct Settler<'g> {
 
 impl<'g> Model for Settler<'g> {
     ghost use Rattle.std.specs.Prelude.{◌≡◌};
-    ghost use Rattle.ov_fans.specs.Group.{GroupIn};
+    ghost use Rattle.ov_fans.specs.Group.{SettlerState};
 
-    ghost Value = { GroupIn };
+    ghost Value = { SettlerState };
 
     ghost view = { λ s. s.members };
 

@@ -1,4 +1,4 @@
-ghost use Rattle.ov_fans.specs.Theorems.{SameCut, Decides};
+ghost use Rattle.ov_fans.specs.Theorems.{SameCut, RightDecides};
 
 /// A piece has at most one parting: two have the same nearest least cut, near member, far member and side (Ford and
 /// Fulkerson, Flows in Networks, 1962).
@@ -8,5 +8,5 @@ pub fn same_cut()
 
 /// The right result decides a piece: it is good where the result is a linked pair or paths, and not where it is a cut.
 pub fn right_decides()
-    ensures { Decides }
+    ensures { RightDecides }
 {}

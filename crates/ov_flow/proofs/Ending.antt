@@ -22,7 +22,7 @@ use Rattle.ov_split.proofs.ByNames.ByPlace.{side_by_place}
 use Rattle.ov_split.proofs.FanTheorem.Near.{boundary_is_nearest}
 use Rattle.ov_split.proofs.Augmenting.Prune.{flow_is_fan}
 use Rattle.ov_split.proofs.FanTheorem.Sole.{cut_bounds_fan}
-use Rattle.ov_flow.specs.declared.tree.Tree.{Tree}
+use Rattle.ov_flow.specs.declared.search_tree.Tree.{Tree}
 use Rattle.ov_flow.specs.Flow.{IsFull}
 use Rattle.ov_flow.specs.Code.Reached.{IsGrown, IsSwept}
 

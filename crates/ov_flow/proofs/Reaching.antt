@@ -12,7 +12,7 @@ use Rattle.ov_graph.proofs.EvenTest.Walks.{leads_push}
 use Rattle.ov_split.specs.Net.{Net}
 use Rattle.ov_split.specs.Code.Residual.{Table, IsFree, IsResidual, IsStuck}
 use Rattle.ov_split.proofs.Augmenting.Lists.{distinct_length, distinct_push}
-use Rattle.ov_flow.specs.declared.tree.Tree.{Tree}
+use Rattle.ov_flow.specs.declared.search_tree.Tree.{Tree}
 use Rattle.ov_flow.specs.Code.Reached.{tip_of, IsStepBy, IsTree, IsTaken, IsGrownBy, IsGrown, Extends, IsMore}
 
 pub extends_refl : (xs : List ℕ) → Extends xs xs

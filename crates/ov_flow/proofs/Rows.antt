@@ -10,7 +10,7 @@ use Rattle.ov_graph.specs.Row.{picked}
 use Rattle.ov_graph.proofs.BitRows.Bits.{bit_moved}
 use Rattle.ov_graph.proofs.BitRows.Read.{has_picked, in_picked, ascends_picked, one_place}
 use Rattle.ov_split.specs.Net.{Net}
-use Rattle.ov_flow.specs.declared.step.Stuck.{Stuck as Rows}
+use Rattle.ov_flow.specs.declared.search_result.Stuck.{Stuck as Rows}
 use Rattle.ov_flow.specs.Flow.{IsFull, IsFullBy, AreBitsOf}
 
 -- a row with bits at places of nodes alone has the bits of the nodes that it picks

@@ -12,7 +12,7 @@ use Rattle.ov_graph.proofs.EvenTest.Filtered.{linked_node}
 use Rattle.ov_split.specs.Net.{Net}
 use Rattle.ov_split.specs.Code.Residual.{Table}
 use Rattle.ov_split.specs.Placed.{IsPlaced}
-use Rattle.ov_flow.specs.declared.tree.Tree.{Tree}
+use Rattle.ov_flow.specs.declared.search_tree.Tree.{Tree}
 use Rattle.ov_flow.specs.Code.Reached.{tip_of, IsStepBy, IsTree, IsGrownBy, IsGrown, IsMore, IsClean, IsSweptAt}
 use Rattle.ov_flow.specs.Code.Walked.{table_of, IsTable}
 use Rattle.ov_flow.proofs.Reaching.{more_refl, more_trans, extends_has, grown_seen, clean_more, IsReachedBy}

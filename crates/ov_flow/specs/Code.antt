@@ -1,3 +1,4 @@
+-- What private contracts and proofs use.
 pub mod Flat
 pub mod Reached
 pub mod Walked

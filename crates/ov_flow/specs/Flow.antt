@@ -5,9 +5,9 @@ use Rattle.ov_graph.specs.Links.{LinkGraph}
 use Rattle.ov_graph.specs.Row.{HasBit}
 use Rattle.ov_graph.specs.Paths.{node_at}
 use Rattle.ov_split.specs.Net.{Net, IsFanOf, IsNearestCut, IsSideOf}
-use Rattle.ov_flow.specs.declared.step.Stuck.{Stuck as Rows}
-use Rattle.ov_flow.specs.declared.step.Step.{Step}
-use Rattle.ov_flow.specs.declared.step.Step.TheVariants.{Grew, Stuck}
+use Rattle.ov_flow.specs.declared.search_result.Stuck.{Stuck as Rows}
+use Rattle.ov_flow.specs.declared.search_result.Step.{Step}
+use Rattle.ov_flow.specs.declared.search_result.Step.TheVariants.{Grew, Stuck}
 
 -- the value of a `Flow` in contracts: the net, and how many paths of a fan are held
 pub record FlowState : Type 0 where

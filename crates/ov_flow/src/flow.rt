@@ -4,8 +4,8 @@ ghost use Rattle.ov_split.specs.Net.{IsFanOf};
 ghost use Rattle.ov_flow.specs.Flow.{FlowState, IsFullBy, IsStep, ArePlaces};
 
 use crate::place_paths::{PlacePaths, write_paths};
-use crate::step::{Step, Stuck, stuck_at};
-use crate::work::{Work, augment, new_work, settle};
+use crate::search_buffers::{Work, augment, new_work, settle};
+use crate::search_result::{Step, Stuck, stuck_at};
 use ov_ids::OutOfMemory;
 use ov_split::SplitNet;
 use std::alloc::Global;

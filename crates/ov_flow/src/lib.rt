@@ -1,17 +1,17 @@
 //! Paths from one node that share only this node, found one after another.
 #![tactic(auto)]
 
-mod direct;
+mod flat_path_reading;
 mod flow;
+mod one_link_paths;
+mod path_copying;
+mod path_search;
 mod place_paths;
-mod reading;
-mod retracing;
-mod seeking;
-mod step;
-mod tree;
-mod walk;
-mod work;
+mod search_buffers;
+mod search_result;
+mod search_tree;
+mod search_walk;
 
 pub use flow::Flow;
 pub use place_paths::PlacePaths;
-pub use step::{Step, Stuck};
+pub use search_result::{Step, Stuck};

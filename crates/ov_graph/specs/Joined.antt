@@ -1,6 +1,6 @@
 -- Walks, the sets of nodes that split a group, and the size of the smallest such set (Menger, Fund. Math. 10, 1927;
 -- Even, SIAM J. Comput. 4, 1975: "An algorithm for determining whether the connectivity of a graph is at least k").
--- `Splits` and `Fewest` are the same for the group of all nodes.
+-- `Fewest` is the same for the group of all nodes.
 use Rattle.std.specs.Prelude.{◌≡◌, ◌≢◌, ◌⊎◌, ℕ, ◌+◌, ◌<◌, List, [], ◌∷◌, length}
 use Rattle.ov_ids.specs.Members.{Has, Ascends}
 use Rattle.ov_graph.specs.Links.{LinkGraph, Linked, AreAllLinked, IsGroup}
@@ -49,10 +49,6 @@ pub record FewestForGroup (g : LinkGraph) (q : List ℕ) (k : ℕ) : Type 0 wher
   pub group : IsGroup g q
   pub reached : ((s : List ℕ) × (length s ≡ k) × SplitsGroup g q s) ⊎ (AreAllLinked g q × (length q ≡ k + 1))
   pub least : (s : List ℕ) → length s < k → ¬ SplitsGroup g q s
-
--- s splits the graph: some two different surviving nodes are not joined without it
-abbrev pub Splits : LinkGraph → List ℕ → Type 0
-Splits g s = SplitsGroup g g.nodes s
 
 -- k is the node connectivity of the graph: the size of the smallest set of nodes that splits it, or one less than the
 -- number of nodes where every two are linked

@@ -38,10 +38,6 @@ Linked g a b = Has g.links (a, b) ⊎ Has g.links (b, a)
 abbrev pub AreAllLinked : LinkGraph → List ℕ → Type 0
 AreAllLinked g xs = (a b : ℕ) → Has xs a → Has xs b → a ≢ b → Linked g a b
 
--- a complete graph: every two different nodes are linked
-abbrev pub IsComplete : LinkGraph → Type 0
-IsComplete g = AreAllLinked g g.nodes
-
 -- ns are the neighbours of a: the nodes that it is linked to, ascending
 pub record AreNeighbours (g : LinkGraph) (a : ℕ) (ns : List ℕ) : Type 0 where
   pub ascend : Ascends ns

@@ -3,6 +3,10 @@ use Rattle.std.specs.Prelude.{ℕ, suc, ◌+◌, ◌*◌, ◌/◌, ◌%◌, ◌<
 use Rattle.std.specs.Prelude.{if◌then◌else◌}
 use Rattle.std.specs.Int.{bit_at}
 
+-- how many bits a word has
+abbrev pub word_bits : ℕ
+word_bits = 64
+
 -- whether bit p is set: bit p mod 64 of word p / 64
 unfoldable pub has_bit : List ℕ → ℕ → Bool
 has_bit row p = bit_at (slice_index row (p / 64)) (p % 64) == 1
@@ -24,5 +28,5 @@ pub record IsFirstFrom (row : List ℕ) (from p : ℕ) : Type 0 where
 
 -- `words` is the least number of words with bits for n places
 pub record AreWordsFor (n words : ℕ) : Type 0 where
-  pub enough : n ≤ 64 * words
-  pub least : 64 * words < n + 64
+  pub enough : n ≤ word_bits * words
+  pub least : word_bits * words < n + word_bits

@@ -1,7 +1,7 @@
 ghost use Rattle.std.specs.Prelude.{◌≡◌, ◌↔◌, ◌⊎◌, ℕ, ◌<◌, ◌≤◌, ◌*◌, [], length, IfOk};
 ghost use Rattle.ov_ids.specs.Members.{Has, Ascends};
 ghost use Rattle.ov_graph.specs.Links.{IsGraph, most_nodes};
-ghost use Rattle.ov_graph.specs.Row.{HasBit};
+ghost use Rattle.ov_graph.specs.Row.{HasBit, word_bits};
 ghost use Rattle.ov_graph.specs.Code.Kept.{row_at, IsMarked};
 
 use crate::places::place_in;
@@ -42,7 +42,7 @@ fn mark_all(nodes: &[NodeId], links: &[(NodeId, NodeId)], rows: &mut [Row])
 /// Sets bit `q` of the row at `p`.
 pub(crate) fn mark(rows: &mut [Row], p: usize, q: usize)
     requires row { p < length rows.old }
-    requires bit { q < 64 * WORDS }
+    requires bit { q < word_bits * WORDS }
     ensures { (r s : ℕ) → HasBit (row_at rows.new r) s ↔ (((r ≡ p) × (s ≡ q)) ⊎ HasBit (row_at rows.old r) s) }
 {
     put(&mut rows[p], q);
@@ -51,7 +51,7 @@ pub(crate) fn mark(rows: &mut [Row], p: usize, q: usize)
 /// Clears bit `q` of the row at `p`.
 pub(crate) fn unmark(rows: &mut [Row], p: usize, q: usize)
     requires row { p < length rows.old }
-    requires bit { q < 64 * WORDS }
+    requires bit { q < word_bits * WORDS }
     ensures { (r s : ℕ) → HasBit (row_at rows.new r) s ↔ (¬ ((r ≡ p) × (s ≡ q)) × HasBit (row_at rows.old r) s) }
 {
     clear(&mut rows[p], q);

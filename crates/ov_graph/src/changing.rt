@@ -4,7 +4,7 @@ ghost use Rattle.std.specs.List.{insert};
 ghost use Rattle.ov_ids.specs.Members.{Has};
 ghost use Rattle.ov_graph.specs.Links.{LinkGraph, most_nodes};
 ghost use Rattle.ov_graph.specs.Changes.{GainsNode, LosesNode, GainsLink, LosesLink};
-ghost use Rattle.ov_graph.specs.Row.{HasBit};
+ghost use Rattle.ov_graph.specs.Row.{HasBit, word_bits};
 ghost use Rattle.ov_graph.specs.Code.Shifts.{HasOpened, HasClosed};
 ghost use Rattle.ov_graph.specs.Code.Kept.{row_at, graph_kept, IsKept};
 ghost use Rattle.ov_graph.specs.declared.row.TheConstants.{EMPTY};
@@ -97,7 +97,8 @@ fn insert_empty(rows: &mut Vec<Row>, p: usize)
 fn open_all(rows: &mut [Row], p: usize, words: usize)
     requires { words ≤ WORDS }
     ensures each { length rows.new ≡ length rows.old }
-    ensures bits { (r q : ℕ) → HasBit (row_at rows.new r) q ↔ ((q < 64 * words) × HasOpened (row_at rows.old r) p q) }
+    ensures bits { (r q : ℕ) → HasBit (row_at rows.new r) q
+        ↔ ((q < word_bits * words) × HasOpened (row_at rows.old r) p q) }
 {
     for place in 0..rows.len() {
         rows[place] = opened(&rows[place], p, words);
@@ -108,7 +109,8 @@ fn open_all(rows: &mut [Row], p: usize, words: usize)
 fn close_all(rows: &mut [Row], p: usize, words: usize)
     requires { words ≤ WORDS }
     ensures each { length rows.new ≡ length rows.old }
-    ensures bits { (r q : ℕ) → HasBit (row_at rows.new r) q ↔ ((q < 64 * words) × HasClosed (row_at rows.old r) p q) }
+    ensures bits { (r q : ℕ) → HasBit (row_at rows.new r) q
+        ↔ ((q < word_bits * words) × HasClosed (row_at rows.old r) p q) }
 {
     for place in 0..rows.len() {
         rows[place] = closed(&rows[place], p, words);

@@ -2,7 +2,7 @@
 //! others.
 ghost use Rattle.std.specs.Prelude.{◌≡◌, ◌≢◌, ◌↔◌, ◌⊎◌, ℕ, ◌<◌, ◌≤◌, ◌*◌, IsTrue, IfSome, IfNone};
 ghost use Rattle.std.specs.Int.{bit_at};
-ghost use Rattle.ov_graph.specs.Row.{HasBit, IsFirstFrom, AreWordsFor};
+ghost use Rattle.ov_graph.specs.Row.{HasBit, IsFirstFrom, AreWordsFor, word_bits};
 ghost use Rattle.ov_graph.specs.Code.Shifts.{IsLowest};
 
 /// How many words a row has.
@@ -16,7 +16,7 @@ pub const EMPTY: [u64; WORDS] = [0; WORDS];
 
 /// Whether bit `p` is set.
 pub fn has(row: &[u64; WORDS], p: usize) -> bool
-    requires { p < 64 * WORDS }
+    requires { p < word_bits * WORDS }
     ensures { IsTrue result ↔ HasBit row.now p }
 {
     row[p / 64] >> (p % 64) & 1 == 1
@@ -24,7 +24,7 @@ pub fn has(row: &[u64; WORDS], p: usize) -> bool
 
 /// Sets bit `p`. The other bits stay.
 pub fn put(row: &mut [u64; WORDS], p: usize)
-    requires { p < 64 * WORDS }
+    requires { p < word_bits * WORDS }
     ensures { (q : ℕ) → HasBit row.new q ↔ ((q ≡ p) ⊎ HasBit row.old q) }
 {
     row[p / 64] = with_bit(row[p / 64], (p % 64) as u32);
@@ -32,7 +32,7 @@ pub fn put(row: &mut [u64; WORDS], p: usize)
 
 /// Clears bit `p`. The other bits stay.
 pub fn clear(row: &mut [u64; WORDS], p: usize)
-    requires { p < 64 * WORDS }
+    requires { p < word_bits * WORDS }
     ensures { (q : ℕ) → HasBit row.new q ↔ ((q ≢ p) × HasBit row.old q) }
 {
     row[p / 64] = without_bit(row[p / 64], (p % 64) as u32);
@@ -41,7 +41,7 @@ pub fn clear(row: &mut [u64; WORDS], p: usize)
 /// The bits of the first `words` words that are set in both rows.
 pub fn both(a: &[u64; WORDS], b: &[u64; WORDS], words: usize) -> [u64; WORDS]
     requires { words ≤ WORDS }
-    ensures { (p : ℕ) → HasBit result p ↔ ((p < 64 * words) × HasBit a.now p × HasBit b.now p) }
+    ensures { (p : ℕ) → HasBit result p ↔ ((p < word_bits * words) × HasBit a.now p × HasBit b.now p) }
 {
     let mut kept = EMPTY;
     for word in 0..words {
@@ -53,7 +53,7 @@ pub fn both(a: &[u64; WORDS], b: &[u64; WORDS], words: usize) -> [u64; WORDS]
 /// The bits of the first `words` words that are set in `a` and not in `b`.
 pub fn without(a: &[u64; WORDS], b: &[u64; WORDS], words: usize) -> [u64; WORDS]
     requires { words ≤ WORDS }
-    ensures { (p : ℕ) → HasBit result p ↔ ((p < 64 * words) × HasBit a.now p × ¬ HasBit b.now p) }
+    ensures { (p : ℕ) → HasBit result p ↔ ((p < word_bits * words) × HasBit a.now p × ¬ HasBit b.now p) }
 {
     let mut kept = EMPTY;
     for word in 0..words {
@@ -66,8 +66,8 @@ pub fn without(a: &[u64; WORDS], b: &[u64; WORDS], words: usize) -> [u64; WORDS]
 pub fn first_from(row: &[u64; WORDS], from: usize, words: usize) -> Option<usize>
     requires { words ≤ WORDS }
     ensures some { IfSome result (λ p. IsFirstFrom row.now from p) }
-    ensures fits { IfSome result (λ p. p < 64 * words) }
-    ensures none { IfNone result ((p : ℕ) → from ≤ p → p < 64 * words → ¬ HasBit row.now p) }
+    ensures fits { IfSome result (λ p. p < word_bits * words) }
+    ensures none { IfNone result ((p : ℕ) → from ≤ p → p < word_bits * words → ¬ HasBit row.now p) }
 {
     let word = from / 64;
     if word >= words {
@@ -87,7 +87,7 @@ pub fn first_from(row: &[u64; WORDS], from: usize, words: usize) -> Option<usize
 /// Whether no bit of the first `words` words is set.
 pub fn is_empty(row: &[u64; WORDS], words: usize) -> bool
     requires { words ≤ WORDS }
-    ensures { IsTrue result ↔ ((p : ℕ) → p < 64 * words → ¬ HasBit row.now p) }
+    ensures { IsTrue result ↔ ((p : ℕ) → p < word_bits * words → ¬ HasBit row.now p) }
 {
     first_from(row, 0, words).is_none()
 }
@@ -95,7 +95,7 @@ pub fn is_empty(row: &[u64; WORDS], words: usize) -> bool
 /// Whether the first `words` words of two rows have the same bits.
 pub fn agree(a: &[u64; WORDS], b: &[u64; WORDS], words: usize) -> bool
     requires { words ≤ WORDS }
-    ensures { IsTrue result ↔ ((p : ℕ) → p < 64 * words → HasBit a.now p ↔ HasBit b.now p) }
+    ensures { IsTrue result ↔ ((p : ℕ) → p < word_bits * words → HasBit a.now p ↔ HasBit b.now p) }
 {
     for word in 0..words {
         if a[word] != b[word] {
@@ -106,8 +106,8 @@ pub fn agree(a: &[u64; WORDS], b: &[u64; WORDS], words: usize) -> bool
 }
 
 /// The least number of words with bits for `n` places.
-pub fn words_for(n: usize) -> usize
-    requires { n ≤ 64 * WORDS }
+pub(crate) fn words_for(n: usize) -> usize
+    requires { n ≤ word_bits * WORDS }
     ensures words { AreWordsFor n result }
     ensures fits { result ≤ WORDS }
 {

@@ -1,7 +1,7 @@
 //! A bit is inserted into a row, or removed from it. The bits after it move by one place.
 ghost use Rattle.std.specs.Prelude.{◌≡◌, ◌↔◌, ◌⊎◌, ℕ, ◌+◌, ◌-◌, ◌*◌, ◌/◌, ◌%◌, ◌<◌, ◌≤◌, slice_index};
 ghost use Rattle.std.specs.Int.{bit_at};
-ghost use Rattle.ov_graph.specs.Row.{HasBit};
+ghost use Rattle.ov_graph.specs.Row.{HasBit, word_bits};
 ghost use Rattle.ov_graph.specs.Code.Shifts.{HasOpened, HasClosed};
 
 use crate::row::{EMPTY, WORDS};
@@ -9,7 +9,7 @@ use crate::row::{EMPTY, WORDS};
 /// The first `words` words of a row with a bit 0 inserted at place `p`.
 pub(crate) fn opened(row: &[u64; WORDS], p: usize, words: usize) -> [u64; WORDS]
     requires { words ≤ WORDS }
-    ensures { (q : ℕ) → HasBit result q ↔ ((q < 64 * words) × HasOpened row.now p q) }
+    ensures { (q : ℕ) → HasBit result q ↔ ((q < word_bits * words) × HasOpened row.now p q) }
 {
     let mut made = EMPTY;
     for word in 0..words {
@@ -21,7 +21,7 @@ pub(crate) fn opened(row: &[u64; WORDS], p: usize, words: usize) -> [u64; WORDS]
 /// The first `words` words of a row with the bit at place `p` removed.
 pub(crate) fn closed(row: &[u64; WORDS], p: usize, words: usize) -> [u64; WORDS]
     requires { words ≤ WORDS }
-    ensures { (q : ℕ) → HasBit result q ↔ ((q < 64 * words) × HasClosed row.now p q) }
+    ensures { (q : ℕ) → HasBit result q ↔ ((q < word_bits * words) × HasClosed row.now p q) }
 {
     let mut made = EMPTY;
     for word in 0..words {

@@ -1,5 +1,5 @@
 ghost use Rattle.std.specs.Prelude.{◌≡◌, ◌↔◌, ℕ, ◌<◌, ◌≤◌, ◌*◌, IsTrue, length};
-ghost use Rattle.ov_graph.specs.Row.{HasBit};
+ghost use Rattle.ov_graph.specs.Row.{HasBit, word_bits};
 ghost use Rattle.ov_graph.specs.Code.Kept.{row_at};
 
 use crate::row::{Row, WORDS, agree};
@@ -16,7 +16,7 @@ pub(crate) fn are_equal(left: &[NodeId], right: &[NodeId]) -> bool
 pub(crate) fn have_same_rows(left: &[Row], right: &[Row], words: usize) -> bool
     requires each { length left.now ≡ length right.now }
     requires words { words ≤ WORDS }
-    ensures { IsTrue result ↔ ((p q : ℕ) → p < length left.now → q < 64 * words
+    ensures { IsTrue result ↔ ((p q : ℕ) → p < length left.now → q < word_bits * words
         → HasBit (row_at left.now p) q ↔ HasBit (row_at right.now p) q) }
 {
     for place in 0..left.len() {

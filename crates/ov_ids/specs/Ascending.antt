@@ -1,4 +1,5 @@
--- The test whether a list ascends, from its first id on. `is_ascending` says that it agrees with the relation `Ascends`.
+-- The test whether a list ascends, from its first id on. `is_ascending` says that it agrees with the relation
+-- `Ascends`.
 use Rattle.std.specs.Prelude.{ℕ, ◌&&◌, Bool, true, Option, Some, None, List, [], ◌∷◌, nat_lt}
 
 -- whether x is above the id before it, if there is one

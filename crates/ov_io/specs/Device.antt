@@ -64,7 +64,7 @@ write_failures number result = failures_numbered write_failed number result
 abbrev pub OneReadFailed : {R : Type 0} → SourceState R → SourceState R → Type 0
 OneReadFailed before after = after.failures ≡ before.failures + 1
 
--- no read of a call failed, and it came to the most reads
+-- no read of a call failed, and it reached the most reads
 abbrev pub DidNotEnd : {R : Type 0} → SourceState R → SourceState R → Type 0
 DidNotEnd before after =
     (after.failures ≡ before.failures) × (after.reads ≡ min (before.reads + most_reads) most_counted)

@@ -1,4 +1,4 @@
--- Why a world refuses an event. The refusals of each event stand in an order, and the first applicable one is answered.
+-- Why a world refuses an event. The refusals of each event stand in an order, and the first applicable one is returned.
 -- Chosen here.
 use Rattle.std.specs.Prelude.{◌≡◌, ◌≢◌, ℕ, ◌+◌, ◌<◌, ◌≤◌, IsTrue, length, Option, Some, None}
 use Rattle.std.specs.FinMap as map
@@ -15,8 +15,9 @@ use Rattle.ov_net.specs.declared.event.Event.TheVariants.{Boot, Deliver, Lose, R
 use Rattle.ov_net.specs.declared.event.Event.TheVariants.{Broadcast, Timer, Snapshot}
 use Rattle.ov_net.specs.declared.fault.NetFault.{NetFault}
 use Rattle.ov_net.specs.declared.fault.NetFault.TheVariants.{UnknownNode, UsedId, CrashedNode, TooManyNodes}
-use Rattle.ov_net.specs.declared.fault.NetFault.TheVariants.{NoSuchPacket, BagFull, TooManyEntries, NotCrashed, NoTimer}
-use Rattle.ov_net.specs.declared.fault.NetFault.TheVariants.{PayloadTooLong, TooManyMessages, OutOfMemory}
+use Rattle.ov_net.specs.declared.fault.NetFault.TheVariants.{NoSuchPacket, TooManyPackets, TooManyEntries, NotCrashed}
+use Rattle.ov_net.specs.declared.fault.NetFault.TheVariants.{NoTimer, PayloadTooLong, TooManyMessages}
+use Rattle.ov_net.specs.declared.fault.NetFault.TheVariants.{OutOfMemory}
 
 -- the number of each fault
 abbrev pub number_of : NetFault → ℕ
@@ -25,7 +26,7 @@ number_of UsedId = 11
 number_of CrashedNode = 12
 number_of TooManyNodes = 13
 number_of NoSuchPacket = 14
-number_of BagFull = 15
+number_of TooManyPackets = 15
 number_of TooManyEntries = 16
 number_of NotCrashed = 17
 number_of NoTimer = 18
@@ -60,7 +61,7 @@ ContactThen w (Some contact) After answer = LiveThen w contact After answer
 
 -- last: there is room for the packets of one step
 abbrev pub PlacesLast : Net → Option NetFault → Type 0
-PlacesLast w answer = Step (HasPlaces w) BagFull Passed answer
+PlacesLast w answer = Step (HasPlaces w) TooManyPackets Passed answer
 
 -- then: one more node may be born; and last: there is room for the packets of one step
 abbrev pub BirthLast : Net → Option NetFault → Type 0

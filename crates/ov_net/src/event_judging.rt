@@ -61,7 +61,7 @@ impl World {
         ensures { PlacesLast self.now.net (fault_in result) }
     {
         if self.packets.len() + STEP_PACKETS > MAX_PACKETS {
-            return Err(NetFault::BagFull);
+            return Err(NetFault::TooManyPackets);
         }
         Ok(())
     }

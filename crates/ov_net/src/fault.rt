@@ -24,7 +24,7 @@ pub enum NetFault {
     NoSuchPacket,
     /// Fewer than 64 of the 65,536 places for packets are free. A step may send 64.
     #[error("too few places for packets are free")]
-    BagFull,
+    TooManyPackets,
     /// The journal has 65,536 entries, as many as it may have.
     #[error("the journal is full")]
     TooManyEntries,
@@ -56,7 +56,7 @@ impl NetFault {
             NetFault::CrashedNode => 12,
             NetFault::TooManyNodes => 13,
             NetFault::NoSuchPacket => 14,
-            NetFault::BagFull => 15,
+            NetFault::TooManyPackets => 15,
             NetFault::TooManyEntries => 16,
             NetFault::NotCrashed => 17,
             NetFault::NoTimer => 18,

@@ -12,8 +12,7 @@ use Rattle.ov_views.specs.declared.moves.Moves.{Moves}
 use Rattle.ov_views.proofs.Tracking.{Tracks, tracked}
 use Rattle.ov_plum.specs.PlumState.{PlumState, is_linked}
 use Rattle.ov_plum.specs.PlumRows.{Delivered, IsStep, PlumInput, receives, broadcasts, fires, goes_up, goes_down}
-use Rattle.ov_plum.specs.PlumRows.{most_answers}
-use Rattle.ov_plum.specs.PlumRows as tree
+use Rattle.ov_plum.specs.PlumRows.{most_sends_at, most_sends_at_message}
 use Rattle.ov_plum.specs.PlumChange.{IsPlumChange, IsPlumPlan, plum_after}
 use Rattle.ov_plum.specs.declared.plum_change.PlumPlan.{PlumPlan}
 use Rattle.ov_plum.specs.declared.plum_change.PlumChange.{PlumChange}
@@ -28,8 +27,8 @@ use Rattle.ov_peer.specs.declared.input.Input.{Input}
 use Rattle.ov_peer.specs.declared.input.Input.TheVariants.{Boot, Receive, Report, Shuffle, Broadcast, Timer}
 use Rattle.ov_peer.specs.declared.plan.Plan.{Plan}
 use Rattle.ov_peer.specs.declared.plan.NextViews.{NextViews}
-use Rattle.ov_peer.specs.declared.plan.ViewsChange.{ViewsChange}
-use Rattle.ov_peer.specs.declared.plan.ViewsChange.TheVariants.{Nothing}
+use Rattle.ov_peer.specs.declared.plan.HyParViewChange.{HyParViewChange}
+use Rattle.ov_peer.specs.declared.plan.HyParViewChange.TheVariants.{Nothing}
 use Rattle.ov_peer.proofs.Linking.{linked_eager, linked_lazy}
 use Rattle.ov_peer.proofs.Steps.{peer_told, tree_rests}
 
@@ -89,7 +88,7 @@ tree_plan me p q i planned g whole mine sends changes delivered views_change plu
       node_sends = [];
       tree_sends = spread;
       delivered = d;
-      node = subst (λ (c : ViewsChange). NodePart p.node i [] (node_after p.node c) g.changes.items [])
+      node = subst (λ (c : HyParViewChange). NodePart p.node i [] (node_after p.node c) g.changes.items [])
           (sym views_change) told;
       tree = subst (λ (r : PlumChange). TreePart p.tree i (plum_after p.tree r) spread d) (sym plum_change) t;
       sends_both = ap (λ v. v.items) sends;
@@ -231,7 +230,7 @@ heard_plan me p q from body planned g whole mine sends changes delivered views_c
     views_change plum_change heard.node heard.tree.0
 
 -- the tree sends at most 64 messages at a message
-few_answers : (body : Body) → most_answers body ≤ most_sends
+few_answers : (body : Body) → most_sends_at_message body ≤ most_sends
 few_answers Join = omega arith
 few_answers (ForwardJoin node ttl) = omega arith
 few_answers Joined = omega arith
@@ -246,7 +245,7 @@ few_answers (Graft id) = omega arith
 few_answers Prune = omega arith
 
 -- and whatever comes
-few_sends : (i : PlumInput) → tree.most_sends i ≤ most_sends
+few_sends : (i : PlumInput) → most_sends_at i ≤ most_sends
 few_sends (broadcasts payload) = omega arith
 few_sends (receives message) = few_answers message.body
 few_sends (fires id) = omega arith

@@ -1,15 +1,12 @@
--- What one step of a node uses at most. All three numbers are chosen here.
-use Rattle.std.specs.Prelude.{ℕ, ◌≤◌, List, length}
+-- What one step of a node uses at most. Both numbers are chosen here.
+use Rattle.std.specs.Prelude.{ℕ, ◌-◌, ◌≤◌, List, length}
 use Rattle.ov_words.specs.Pick.{Choice, Drawn}
+use Rattle.ov_words.specs.Stream.{words_per_event}
 use Rattle.ov_views.specs.Handling.{step_words}
 
--- how many random words of an event a step uses at most: those of one handler
-abbrev pub most_words : ℕ
-most_words = step_words
-
--- how many of the 64 random words of an event a step leaves at least
+-- how many of the 64 random words of an event a step leaves at least: all but the 40 of one handler
 abbrev pub least_left : ℕ
-least_left = 24
+least_left = words_per_event - step_words
 
 -- how many messages a step sends at most
 abbrev pub most_sends : ℕ

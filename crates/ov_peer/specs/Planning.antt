@@ -8,11 +8,11 @@ use Rattle.ov_peer.specs.Step.{PartsStep, HearsChanges}
 use Rattle.ov_peer.specs.declared.input.Input.{Input}
 use Rattle.ov_peer.specs.declared.input.Output.{Output}
 use Rattle.ov_peer.specs.declared.plan.Plan.{Plan}
-use Rattle.ov_peer.specs.declared.plan.ViewsChange.{ViewsChange}
-use Rattle.ov_peer.specs.declared.plan.ViewsChange.TheVariants.{Nothing, ViewsAndAttempt, Shuffle}
+use Rattle.ov_peer.specs.declared.plan.HyParViewChange.{HyParViewChange}
+use Rattle.ov_peer.specs.declared.plan.HyParViewChange.TheVariants.{Nothing, ViewsAndAttempt, Shuffle}
 
 -- The views, the attempt and the last shuffle's list of a node after a plan's change of them.
-abbrev pub node_after : Node → ViewsChange → Node
+abbrev pub node_after : Node → HyParViewChange → Node
 node_after n Nothing = n
 node_after n (ViewsAndAttempt next) = record n { views = next.value.views; attempt = next.value.attempt }
 node_after n (Shuffle list) = record n { sent = list }

@@ -3,7 +3,7 @@ ghost use Rattle.ov_wire.specs.Messages.{AreInRange};
 ghost use Rattle.ov_words.specs.Pick.{Drawn};
 ghost use Rattle.ov_views.specs.Allowed.{Allowed, receives};
 ghost use Rattle.ov_peer.specs.Code.Messages.{AreSendable};
-ghost use Rattle.ov_peer.specs.Limits.{most_words};
+ghost use Rattle.ov_peer.specs.Code.GoodPlan.{most_words};
 
 use ov_ids::{NodeId, OutOfMemory};
 use ov_neighbor::Attempt;

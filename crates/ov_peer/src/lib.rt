@@ -11,4 +11,4 @@ mod tree_updates;
 pub use fault::PeerFault;
 pub use input::{Delivery, Input, Output};
 pub use peer::{MAX_BROADCASTS, Peer};
-pub use plan::Plan;
+pub use plan::{HyParViewChange, NextViews, Plan};

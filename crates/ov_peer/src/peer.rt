@@ -4,11 +4,11 @@ ghost use Rattle.ov_ids.specs.FaultOrder.{IsRefusedBy};
 ghost use Rattle.ov_wire.specs.Messages.{AreInRange, AreSendsInRange};
 ghost use Rattle.ov_views.specs.Changes.{after_changes};
 ghost use Rattle.ov_views.specs.ViewsState.{AreViews};
-ghost use Rattle.ov_plum.specs.PlumState.{AreBranches};
-ghost use Rattle.ov_peer.specs.Code.GoodPlan.{IsGoodPlan};
+ghost use Rattle.ov_plum.specs.PlumState.{AreBranches, IsPlum};
+ghost use Rattle.ov_peer.specs.Code.GoodPlan.{IsGoodPlan, most_words};
 ghost use Rattle.ov_peer.specs.Code.Messages.{IsOfHyParView};
 ghost use Rattle.ov_peer.specs.Faults.{IsFaultOf, IsInputInRange};
-ghost use Rattle.ov_peer.specs.Limits.{DrawnFrom, most_words, most_sends};
+ghost use Rattle.ov_peer.specs.Limits.{DrawnFrom, most_sends};
 ghost use Rattle.ov_peer.specs.PeerState.{IsPeer, newborn};
 ghost use Rattle.ov_peer.specs.Planning.{Plans, IsPlanFor, Follows, output_of};
 ghost use Rattle.ov_peer.specs.Step.{PeerStep, IsPeerStep};
@@ -19,7 +19,7 @@ ghost use Rattle.ov_peer.specs.declared.input.Input.TheVariants.{Boot, Receive, 
 use crate::dispatch::hear;
 use crate::fault::PeerFault;
 use crate::input::{Input, Output};
-use crate::plan::{NextViews, Plan, ViewsChange, follow, views_plan};
+use crate::plan::{HyParViewChange, NextViews, Plan, follow, views_plan};
 use crate::tree_updates::{joins, tell};
 use ov_ids::{MsgId, NodeId, OutOfMemory, Params, Seq};
 use ov_neighbor::Attempt;
@@ -126,9 +126,10 @@ impl Peer {
         self.plum.lazy()
     }
 
-    /// The number of the node's next broadcast. That is also how many broadcasts it has made.
+    /// The number of the node's next broadcast. That is also how many broadcasts it has made, at most 4,096.
     pub fn made(&self) -> u32
-        ensures { result ≡ self.now.tree.made }
+        ensures value { result ≡ self.now.tree.made }
+        ensures kept { IsPlum self.now.tree }
     {
         self.plum.made()
     }
@@ -237,7 +238,7 @@ impl Peer {
             sends: joins(self.alloc, self.views.me(), contact)?,
             changes: Vec::new(self.alloc),
             delivered: None,
-            views_change: ViewsChange::Nothing,
+            views_change: HyParViewChange::Nothing,
             plum_change: PlumChange::Nothing,
         })
     }
@@ -249,7 +250,7 @@ impl Peer {
     {
         let mut sent = self.sent.copy()?;
         let moves = ov_shuffle::start(self.alloc, &self.views, &mut sent, draws)?;
-        Ok(Plan::of_moves(moves, ViewsChange::Shuffle(sent)))
+        Ok(Plan::of_moves(moves, HyParViewChange::Shuffle(sent)))
     }
 
     /// The node's views and attempt, which a handler is to change.

@@ -3,7 +3,7 @@ ghost use Rattle.ov_views.specs.Allowed.{Node};
 ghost use Rattle.ov_peer.specs.Code.MovesPlan.{IsPlanOfMoves};
 ghost use Rattle.ov_peer.specs.Planning.{node_after};
 ghost use Rattle.ov_peer.specs.Step.{delivery_at};
-ghost use Rattle.ov_peer.specs.declared.plan.ViewsChange.TheVariants.{Nothing};
+ghost use Rattle.ov_peer.specs.declared.plan.HyParViewChange.TheVariants.{Nothing};
 
 use crate::input::Delivery;
 use ov_ids::{MsgId, NodeId, OutOfMemory, Seq};
@@ -16,15 +16,15 @@ use std::alloc::Global;
 
 /// The views and the attempt that a node is to have next.
 #[derive(Drop)]
-pub(crate) struct NextViews {
-    pub(crate) views: Views,
-    pub(crate) attempt: Attempt,
+pub struct NextViews {
+    pub views: Views,
+    pub attempt: Attempt,
 }
 
 /// How a plan changes a node's views, its attempt and the list of its last shuffle. The next views lie in a box, so
 /// that a plan is small and cheap to move.
 #[derive(Drop)]
-pub(crate) enum ViewsChange {
+pub enum HyParViewChange {
     /// They all stay.
     Nothing,
     /// The views and the attempt become these.
@@ -33,20 +33,20 @@ pub(crate) enum ViewsChange {
     Shuffle(Sent),
 }
 
-/// The plan of one step: the messages to send and their receivers, the changes of the active view, both in order, and
-/// what to deliver. `Peer::plan` makes it and `Peer::apply` follows it. How the node itself changes is private.
+/// The plan of one step: the messages to send and their receivers, the changes of the active view, both in order, what
+/// to deliver, and how the two parts of the node change. `Peer::plan` makes it and `Peer::apply` follows it.
 #[derive(Drop)]
 pub struct Plan {
     pub sends: Vec<(NodeId, Message)>,
     pub changes: Vec<ViewChange>,
     pub delivered: Option<Delivery>,
-    pub(crate) views_change: ViewsChange,
-    pub(crate) plum_change: PlumChange,
+    pub views_change: HyParViewChange,
+    pub plum_change: PlumChange,
 }
 
 impl Plan {
     /// The plan of a step of HyParView's part alone.
-    pub(crate) fn of_moves(moves: Moves, views_change: ViewsChange) -> Plan
+    pub(crate) fn of_moves(moves: Moves, views_change: HyParViewChange) -> Plan
         ensures { (n : Node) → IsPlanOfMoves moves n (node_after n views_change) result }
     {
         Plan {
@@ -75,7 +75,7 @@ impl Plan {
             sends,
             changes: Vec::new(alloc),
             delivered: delivery_at(me, delivered),
-            views_change: ViewsChange::Nothing,
+            views_change: HyParViewChange::Nothing,
             plum_change,
         }
     }
@@ -87,7 +87,7 @@ pub(crate) fn views_plan(alloc: Global, moves: Moves, next: NextViews) -> Result
         → IsPlanOfMoves moves n (record n { views = next.views; attempt = next.attempt }) g) }
 {
     let next = Box::new(alloc, next)?;
-    Ok(Plan::of_moves(moves, ViewsChange::ViewsAndAttempt(next)))
+    Ok(Plan::of_moves(moves, HyParViewChange::ViewsAndAttempt(next)))
 }
 
 /// What the node `me` delivers, with its id.
@@ -109,18 +109,18 @@ pub(crate) fn follow(
     views: &mut Views,
     attempt: &mut Attempt,
     sent: &mut Sent,
-    views_change: ViewsChange,
+    views_change: HyParViewChange,
 )
     ensures { record { views = views.new; attempt = attempt.new; sent = sent.new }
         ≡ node_after (record { views = views.old; attempt = attempt.old; sent = sent.old }) views_change }
 {
     match views_change {
-        ViewsChange::Nothing => {}
-        ViewsChange::ViewsAndAttempt(next) => {
+        HyParViewChange::Nothing => {}
+        HyParViewChange::ViewsAndAttempt(next) => {
             let next = Box::into_inner(next);
             *views = next.views;
             *attempt = next.attempt;
         }
-        ViewsChange::Shuffle(list) => *sent = list,
+        HyParViewChange::Shuffle(list) => *sent = list,
     }
 }

@@ -1,6 +1,6 @@
 ghost use Rattle.std.specs.Prelude.{◌≡◌, ◌≤◌, ◌+◌, [], length, IfOk};
-ghost use Rattle.ov_ids.specs.Sets.{most_members};
 ghost use Rattle.ov_views.specs.Allowed.{Node, Allowed, boots};
+ghost use Rattle.ov_plum.specs.PlumState.{most_neighbours};
 ghost use Rattle.ov_peer.specs.Code.Messages.{AreSendable};
 ghost use Rattle.ov_peer.specs.Step.{Told};
 
@@ -13,7 +13,7 @@ use std::alloc::Global;
 /// Tells the tree these changes of the active view, one after another.
 #[tactic(auto, using(crate::proofs::Changing::begun, crate::proofs::Changing::told_all))]
 pub(crate) fn tell(plum: &mut Plum, changes: &[ViewChange])
-    requires { length plum.old.branches.eager + length plum.old.branches.lazy + length changes.now ≤ most_members }
+    requires { length plum.old.branches.eager + length plum.old.branches.lazy + length changes.now ≤ most_neighbours }
     ensures { Told plum.old changes.now plum.new }
 {
     let mut left = changes;

@@ -4,7 +4,7 @@ use Rattle.std.specs.FinMap as map
 use Rattle.std.specs.FinSet as set
 use Rattle.ov_wire.specs.Messages.{AreSendsInRange}
 use Rattle.ov_plum.specs.Notes.{noting, without_notes_of, without_oldest}
-use Rattle.ov_plum.specs.PlumRows.{AllowedTree, IsStep, PlumInput, most_sends}
+use Rattle.ov_plum.specs.PlumRows.{AllowedTree, IsStep, PlumInput, most_sends_at}
 use Rattle.ov_plum.specs.PlumState.{PlumState, makes_eager, makes_lazy}
 use Rattle.ov_plum.specs.declared.plum_change.PlumChange.{PlumChange}
 use Rattle.ov_plum.specs.declared.plum_change.PlumChange.TheVariants.{Nothing, Makes, Holds, Eager, Lazy, Awaits, Asks}
@@ -38,19 +38,19 @@ abbrev pub IsPlumStep : PlumState → PlumInput → PlumState → Spread → Typ
 IsPlumStep t input u effects =
     AllowedTree t input u effects.sends.items effects.delivered
     × AreSendsInRange effects.sends.items
-    × (vec_len effects.sends ≤ most_sends input)
+    × (vec_len effects.sends ≤ most_sends_at input)
 
 -- The plan is one for this input: its effects and its change are a step from t
 abbrev pub IsPlumPlan : PlumState → PlumInput → PlumPlan → Type 0
 IsPlumPlan t input plan = IsPlumStep t input (plum_after t plan.plum_change) plan.spread
 
 -- whether a planned change may allocate
-abbrev pub wants_room : PlumChange → Bool
-wants_room Nothing = false
-wants_room (Makes id held next) = true
-wants_room (Holds id held s) = true
-wants_room (Eager s) = false
-wants_room (Lazy s) = false
-wants_room (Awaits id s) = true
-wants_room (Asks id s) = true
-wants_room (Clears id) = false
+abbrev pub may_allocate : PlumChange → Bool
+may_allocate Nothing = false
+may_allocate (Makes id held next) = true
+may_allocate (Holds id held s) = true
+may_allocate (Eager s) = false
+may_allocate (Lazy s) = false
+may_allocate (Awaits id s) = true
+may_allocate (Asks id s) = true
+may_allocate (Clears id) = false

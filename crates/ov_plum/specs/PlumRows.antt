@@ -137,15 +137,15 @@ pub record IsStep (t u : PlumState) : Type 0 where
   pub allowed : AllowedTree t input u sends delivery
 
 -- how many messages a step may send at most, at a message that says this
-abbrev pub most_answers : Body → ℕ
-most_answers (Gossip id round payload) = most_neighbours
-most_answers (Graft id) = 1
-most_answers _ = 0
+abbrev pub most_sends_at_message : Body → ℕ
+most_sends_at_message (Gossip id round payload) = most_neighbours
+most_sends_at_message (Graft id) = 1
+most_sends_at_message _ = 0
 
--- and at anything that comes
-abbrev pub most_sends : PlumInput → ℕ
-most_sends (broadcasts payload) = most_neighbours
-most_sends (receives m) = most_answers m.body
-most_sends (fires id) = 1
-most_sends (goes_up x) = 0
-most_sends (goes_down x) = 0
+-- how many messages a step may send at most, whatever comes
+abbrev pub most_sends_at : PlumInput → ℕ
+most_sends_at (broadcasts payload) = most_neighbours
+most_sends_at (receives m) = most_sends_at_message m.body
+most_sends_at (fires id) = 1
+most_sends_at (goes_up x) = 0
+most_sends_at (goes_down x) = 0

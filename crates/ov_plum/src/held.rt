@@ -1,7 +1,7 @@
 ghost use Rattle.std.specs.Prelude.{◌≡◌, ◌≤◌, length, IfOk};
 ghost use Rattle.ov_wire.specs.Messages.{most_payload};
 
-use crate::by_id::TryCopy;
+use crate::map_by_id::TryCopy;
 use ov_ids::{OutOfMemory, Seq};
 use std::alloc::Global;
 use std::marker::Model;

@@ -6,12 +6,12 @@
 #![tactic(auto)]
 
 mod branches;
-mod by_id;
 mod fault;
 mod held;
-mod notes;
+mod map_by_id;
 mod plum;
 mod plum_change;
+mod senders;
 mod spread;
 mod waiting;
 

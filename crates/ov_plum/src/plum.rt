@@ -3,16 +3,16 @@ ghost use Rattle.std.specs.Prelude.{None, Ok, Err, IfOk, OnOk, OnErr};
 ghost use Rattle.std.specs.FinSet as set;
 ghost use Rattle.ov_wire.specs.Messages.{most_payload};
 ghost use Rattle.ov_wire.specs.declared.message.Body.TheVariants.{Gossip, IHave, Graft, Prune};
-ghost use Rattle.ov_plum.specs.PlumChange.{IsPlumChange, IsPlumPlan, IsPlumStep, plum_after, wants_room};
+ghost use Rattle.ov_plum.specs.PlumChange.{IsPlumChange, IsPlumPlan, IsPlumStep, plum_after, may_allocate};
 ghost use Rattle.ov_plum.specs.PlumRows.{AllowedTree, receives, broadcasts, fires, goes_up, goes_down};
 ghost use Rattle.ov_plum.specs.PlumState.{IsPlum, most_broadcasts, most_neighbours, newborn_plum};
 ghost use Rattle.ov_plum.specs.declared.plum_change.PlumChange.TheVariants.{Nothing};
 ghost use Rattle.ov_plum.specs.declared.fault.TimerFault.TheVariants.{NoTimer};
 
 use crate::branches::Branches;
-use crate::by_id::ById;
 use crate::fault::TimerFault;
 use crate::held::Held;
+use crate::map_by_id::ById;
 use crate::plum_change::{PlumChange, PlumPlan};
 use crate::spread::{Spread, whole_message};
 use crate::waiting::Waiting;
@@ -198,7 +198,7 @@ impl Plum {
     /// allocated, neither here nor where the plan is applied.
     pub fn plan_prune(&self, from: NodeId) -> PlumPlan
         ensures allowed { IsPlumPlan self.now (receives (record { from = from; body = Prune })) result }
-        ensures room { wants_room result.plum_change ≡ false }
+        ensures room { may_allocate result.plum_change ≡ false }
     {
         if from == self.me {
             return self.nothing();
@@ -233,7 +233,7 @@ impl Plum {
         requires { IsPlumChange self.old plum_change }
         ensures ok { OnOk result (self.new ≡ plum_after self.old plum_change) }
         ensures err { OnErr result (self.new ≡ self.old) }
-        ensures room { wants_room plum_change ≡ false → result ≡ Ok tt }
+        ensures room { may_allocate plum_change ≡ false → result ≡ Ok tt }
     {
         match plum_change {
             PlumChange::Nothing => {}

@@ -4,17 +4,17 @@ ghost use Rattle.ov_plum.specs.Code.Waiting.{none_waited, waiting_asked, waiting
 ghost use Rattle.ov_plum.specs.Code.Waiting.{waiting_forgot, waiting_noted};
 ghost use Rattle.ov_plum.specs.Notes.{oldest};
 
-use crate::by_id::ById;
-use crate::notes::Notes;
+use crate::map_by_id::ById;
+use crate::senders::Senders;
 use ov_ids::{MsgId, NodeId, OutOfMemory};
 use std::alloc::Global;
 use std::marker::Model;
 
-/// The messages that a node waits for: the ids whose timers run, each with its notes. Contracts see a list of notes and
-/// a set of ids.
+/// The messages that a node waits for: the ids whose timers run, each with the senders of its notes. Contracts see a
+/// list of notes and a set of ids.
 #[derive(Drop)]
 pub(crate) struct Waiting {
-    by_id: ById<Notes>,
+    by_id: ById<Senders>,
 }
 
 impl Model for Waiting {
@@ -59,7 +59,7 @@ impl Waiting {
         ensures { result ≡ oldest id.now self.now.notes }
     {
         match self.by_id.get(id) {
-            Some(notes) => notes.oldest(),
+            Some(senders) => senders.oldest(),
             None => None,
         }
     }
@@ -69,16 +69,16 @@ impl Waiting {
         ensures ok { OnOk result (self.new ≡ waiting_noted sender id self.old) }
         ensures err { OnErr result (self.new ≡ self.old) }
     {
-        let notes = match self.by_id.get(&id) {
-            Some(notes) => {
-                if notes.contains(sender) {
+        let senders = match self.by_id.get(&id) {
+            Some(senders) => {
+                if senders.contains(sender) {
                     return Ok(());
                 }
-                notes.with(sender)?
+                senders.with(sender)?
             }
-            None => Notes::of(self.by_id.allocator(), sender)?,
+            None => Senders::of(self.by_id.allocator(), sender)?,
         };
-        self.by_id.insert(id, notes)?;
+        self.by_id.insert(id, senders)?;
         Ok(())
     }
 
@@ -87,11 +87,11 @@ impl Waiting {
         ensures ok { OnOk result (self.new ≡ waiting_asked id self.old) }
         ensures err { OnErr result (self.new ≡ self.old) }
     {
-        let notes = match self.by_id.get(&id) {
-            Some(notes) => notes.later()?,
+        let senders = match self.by_id.get(&id) {
+            Some(senders) => senders.later()?,
             None => return Ok(()),
         };
-        self.by_id.insert(id, notes)?;
+        self.by_id.insert(id, senders)?;
         Ok(())
     }
 

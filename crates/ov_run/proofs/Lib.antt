@@ -1,3 +1,4 @@
+pub mod Asked
 pub mod GraphFiles
 pub mod Lines
 pub mod Printing

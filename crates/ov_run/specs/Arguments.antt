@@ -1,16 +1,83 @@
 -- What the arguments of a command line ask for, and why they can't be read. Chosen here.
-use Rattle.std.specs.Prelude.{ℕ, ◌<◌, ⊤, List, ◌++◌, length, IfSome, codes, decimal}
+use Rattle.std.specs.Prelude.{◌≡◌, ℕ, true, ◌<◌, ◌≤◌, ⊤, List, ◌++◌, length, Option, Some, None, IfSome}
+use Rattle.std.specs.Prelude.{codes, decimal, option_map}
 use Rattle.std.specs.declared.io.ErrorKind.{ErrorKind}
 use Rattle.std.specs.declared.io.ErrorKind.TheVariants.{InvalidData}
+use Rattle.clap.specs.Simple.{on_top}
+use Rattle.clap.specs.Words.{App, Rule, first_of, new_app, new_rule, subcommand_of, with_rule, with_subcommand}
+use Rattle.clap.specs.declared.builder.action.ArgAction.TheVariants.{Set, SetTrue}
+use Rattle.ov_claims.specs.Claims.{most_workers}
+use Rattle.ov_ids.specs.Options.{◌>>=◌}
+use Rattle.ov_run.specs.Lines.{ids_of, workers_of}
 use Rattle.ov_run.specs.declared.arguments.Request.{Request}
 use Rattle.ov_run.specs.declared.arguments.Request.TheVariants.{Run, Analyse}
 use Rattle.ov_run.specs.declared.arguments.ArgumentsFault.{ArgumentsFault}
 use Rattle.ov_run.specs.declared.arguments.ArgumentsFault.TheVariants.{BadArguments, OutOfMemory}
 
+-- ---- what stands in the arguments, in the words of `clap`, which says what a command finds in which arguments
+
+-- an option with a text, `--NAME TEXT` or `--NAME=TEXT`
+abbrev pub option : List ℕ → Rule
+option name = record (new_rule name) { long = Some name; action = Some Set }
+
+-- an option without a text, `--NAME`
+abbrev pub flag : List ℕ → Rule
+flag name = record (new_rule name) { long = Some name; action = Some SetTrue }
+
+-- `run [FILE]`
+abbrev pub run_command : App
+run_command = with_rule (new_app (codes "run")) (new_rule (codes "file"))
+
+-- `analyse [FILE] [--group TEXT] [--workers TEXT] [--certificate] [--progress]`
+abbrev pub analyse_command : App
+analyse_command =
+    with_rule
+    (with_rule
+    (with_rule
+    (with_rule (with_rule (new_app (codes "analyse")) (new_rule (codes "file"))) (option (codes "group")))
+    (option (codes "workers")))
+    (flag (codes "certificate")))
+    (flag (codes "progress"))
+
+-- `overlay` with these two; its own name is none of the arguments
+abbrev pub overlay_command : App
+overlay_command =
+    with_subcommand
+    (with_subcommand (on_top (λ s. record s { no_binary_name = true }) (new_app (codes "overlay"))) run_command.top)
+    analyse_command.top
+
+-- the text of a file or an option of this name, where the arguments give it
+abbrev pub text_given : List (List ℕ) → List ℕ → Option (List ℕ)
+text_given arguments name = subcommand_of overlay_command arguments >>= λ found. first_of name found.1
+
+-- ---- what is asked for
+
 -- where an analysis for a group is asked for, the group is of one or more ids
 abbrev pub HasGroupOfIds : Request → Type 0
 HasGroupOfIds (Run file) = ⊤
-HasGroupOfIds (Analyse file group certificate progress) = IfSome group (λ ids. 0 < length ids.items)
+HasGroupOfIds (Analyse file group workers certificate progress) = IfSome group (λ ids. 0 < length ids.items)
+
+-- an analysis has workers, and no more than there may be
+abbrev pub HasWorkers : Request → Type 0
+HasWorkers (Run file) = ⊤
+HasWorkers (Analyse file group workers certificate progress) = (1 ≤ workers) × (workers ≤ most_workers)
+
+-- the group that the text of `--group` asks for, and no group, for all nodes, where it is not there
+abbrev pub group_asked : Option (List ℕ) → Option (Option (List ℕ))
+group_asked None = Some None
+group_asked (Some text) = option_map Some (ids_of text)
+
+-- the number of workers that the text of `--workers` asks for, and one where it is not there
+abbrev pub workers_asked : Option (List ℕ) → Option ℕ
+workers_asked None = Some 1
+workers_asked (Some text) = workers_of text
+
+-- where an analysis is asked for, it is for the group and by the number of workers that these arguments give
+abbrev pub IsOfGiven : List (List ℕ) → Request → Type 0
+IsOfGiven arguments (Run file) = ⊤
+IsOfGiven arguments (Analyse file group workers certificate progress) =
+    (group_asked (text_given arguments (codes "group")) ≡ Some (option_map (λ ids. ids.items) group))
+    × (workers_asked (text_given arguments (codes "workers")) ≡ Some workers)
 
 -- the fault's number
 abbrev pub number_of : ArgumentsFault → ℕ

@@ -33,7 +33,7 @@ BeginsLook b (Certificate subject) text = text ≡ []
 abbrev pub BeginsLine : CoreState → Line → List ℕ → Type 0
 BeginsLine b (line.Event event words) text = text ≡ []
 BeginsLine b (line.Look look) text = BeginsLook b look text
-BeginsLine b (line.Analyse subject) text = text ≡ []
+BeginsLine b (line.Analyse subject workers) text = text ≡ []
 
 -- the lines in order, up to some point: the first is not printed whole, or it is and the others begin
 abbrev pub BeginsLines : CoreState → List Line → List ℕ → Type 0
@@ -70,7 +70,7 @@ EndsLook b (Certificate subject) text = ⊥
 abbrev pub EndsLine : CoreState → Line → List ℕ → Type 0
 EndsLine b (line.Event event words) text = ((e : Entry) × (u : CoreState) × Happened b event words e u) × (text ≡ [])
 EndsLine b (line.Look look) text = EndsLook b look text
-EndsLine b (line.Analyse subject) text = ⊥
+EndsLine b (line.Analyse subject workers) text = ⊥
 
 -- the lines in order, up to one that ends the run out of memory
 abbrev pub EndsLines : CoreState → List Line → List ℕ → Type 0

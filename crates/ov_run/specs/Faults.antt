@@ -1,6 +1,6 @@
 -- The faults of a run and of an analysis: their numbers, the lines that they name, how they are shown, and what a run
 -- adds to the counts of failures of its reader and its writer. The numbers are chosen here.
-use Rattle.std.specs.Prelude.{ℕ, ⊤, List, ◌++◌, Option, Some, None, IfSome, Result, Ok, Err, codes, decimal}
+use Rattle.std.specs.Prelude.{ℕ, ⊤, List, ◌++◌, Option, Some, None, IfSome, Result, codes, decimal}
 use Rattle.ov_io.specs.Device as device
 use Rattle.ov_io.specs.Refusal.{refusal_text}
 use Rattle.ov_io.specs.declared.fault.ReadFault.{ReadFault}

@@ -1,12 +1,13 @@
 -- The lines of a file that count, the words of a line, and the numbers that words spell. These words are pieces of the
 -- line, and no random words. The form of the files is chosen here.
-use Rattle.std.specs.Prelude.{ℕ, ◌+◌, ◌^◌, Bool, true, not, nat_lt, nat_eq, ◌&&◌, List, [], ◌∷◌, ◌++◌, length, drop}
-use Rattle.std.specs.Prelude.{codes, Option, Some, None, unwrap_or, if◌then◌else◌}
+use Rattle.std.specs.Prelude.{ℕ, ◌+◌, ◌^◌, Bool, true, not, nat_lt, nat_le, nat_eq, ◌&&◌, List, [], ◌∷◌, ◌++◌, length}
+use Rattle.std.specs.Prelude.{drop, codes, Option, Some, None, unwrap_or, if◌then◌else◌}
 use Rattle.std.specs.List.{filter, position, slice_split, starts_with}
 use Rattle.std.specs.Cmp.Lexicographic.{pointwise}
 use Rattle.std.specs.Str.{all_ascii_digits}
 use Rattle.std.specs.Str.Lines.{lines}
 use Rattle.std.specs.Str.Parse.{digits_value}
+use Rattle.ov_claims.specs.Claims.{most_workers}
 use Rattle.ov_ids.specs.Options.{◌>>=◌}
 
 -- ---- words
@@ -106,6 +107,16 @@ three (v ∷ more) = number_within short_bits v >>= λ a. two more >>= λ b. Som
 abbrev pub each_number : ℕ → List (List ℕ) → Option (List ℕ)
 each_number bits [] = Some []
 each_number bits (w ∷ more) = number_within bits w >>= λ n. each_number bits more >>= λ ns. Some (n ∷ ns)
+
+-- ---- numbers of workers
+
+-- the number, where there may be so many workers: from 1 to `most_workers`
+abbrev pub as_workers : ℕ → Option ℕ
+as_workers n = if nat_le 1 n && nat_le n most_workers then Some n else None
+
+-- the number of workers that a word spells
+abbrev pub workers_of : List ℕ → Option ℕ
+workers_of word = number_within short_bits word >>= as_workers
 
 -- ---- lists of ids
 

@@ -72,11 +72,11 @@ PrintsLook b (Show id) text = PrintsNode b.world.net id text
 PrintsLook b Packets text = PrintsPackets 0 b.world.net.packets text
 PrintsLook b (Certificate subject) text = PrintsCertificate b subject text
 
--- one line of a scenario
+-- one line of a scenario. Any number of workers may share out an analysis: what is said of its line is the same
 abbrev pub PrintsLine : CoreState → Line → CoreState → List ℕ → Type 0
 PrintsLine b (line.Event event words) u text = PrintsEvent b event words u text
 PrintsLine b (line.Look look) u text = (u ≡ b) × PrintsLook b look text
-PrintsLine b (line.Analyse subject) u text = PrintsReportLine b subject u text
+PrintsLine b (line.Analyse subject workers) u text = PrintsReportLine b subject u text
 
 -- the lines in order
 abbrev pub PrintsLines : CoreState → List Line → CoreState → List ℕ → Type 0

@@ -65,7 +65,7 @@ IsLineFault before n (Some (says.Params numbers)) behind f =
 -- an event, a look and an analysis never are
 IsLineFault before n (Some (says.Event event)) behind f = ⊥
 IsLineFault before n (Some (says.Look look)) behind f = ⊥
-IsLineFault before n (Some (says.Analyse subject)) behind f = ⊥
+IsLineFault before n (Some (says.Analyse subject workers)) behind f = ⊥
 
 -- the line that has so many lines before it is at fault, and this is its fault
 unfoldable pub IsFaultAtPlace : List Stated → ℕ → RunFault → Type 0
@@ -111,8 +111,8 @@ AskFor (Some (says.Event event) ∷ more) drawn lines =
     × (drawn ≡ words ∷ left) × (lines ≡ line.Event event words ∷ later) × AskFor more left later
 AskFor (Some (says.Look look) ∷ more) drawn lines =
     (later : List Line) × (lines ≡ line.Look look ∷ later) × AskFor more drawn later
-AskFor (Some (says.Analyse subject) ∷ more) drawn lines =
-    (later : List Line) × (lines ≡ line.Analyse subject ∷ later) × AskFor more drawn later
+AskFor (Some (says.Analyse subject workers) ∷ more) drawn lines =
+    (later : List Line) × (lines ≡ line.Analyse subject workers ∷ later) × AskFor more drawn later
 AskFor (other ∷ more) drawn lines = AskFor more drawn lines
 
 -- these lines ask for these lines to run, with random words that are drawn from the generator of the seed

@@ -5,7 +5,7 @@ use Rattle.ov_net.specs.declared.event.Event.{Event}
 use Rattle.ov_net.specs.declared.event.Event.TheVariants as event
 use Rattle.ov_ids.specs.Options.{◌>>=◌}
 use Rattle.ov_run.specs.Lines.{words_of, behind_word, without_space, same, row, number_within, one, two, three}
-use Rattle.ov_run.specs.Lines.{each_number, short_bits, one_list, long_bits}
+use Rattle.ov_run.specs.Lines.{each_number, short_bits, one_list, long_bits, workers_of}
 use Rattle.ov_words.specs.Stream.{words_per_event}
 use Rattle.ov_run.specs.declared.scenario.Look.TheVariants as look
 use Rattle.ov_run.specs.declared.scenario.Subject.{Subject}
@@ -48,14 +48,38 @@ boot_of (n ∷ by ∷ more) =
     then (number_within short_bits n >>= λ a. one short_bits more >>= λ c. Some (event.Boot a (Some c)))
     else None
 
+-- what stands behind a moment: nothing, for all nodes, or `group IDS`, for a group of them
+abbrev pub subject_at : ℕ → List (List ℕ) → Option Subject
+subject_at moment [] = Some (record { moment = moment; group = None })
+subject_at moment (group ∷ more) =
+    if same group (codes "group")
+    then (one_list more >>= λ ids. Some (record { moment = moment; group = Some ids }))
+    else None
+
 -- `M` and `M group IDS`, behind the name: a moment, for all nodes or for a group of them
 abbrev pub subject_of : List (List ℕ) → Option Subject
 subject_of [] = None
-subject_of (m ∷ []) = number_within short_bits m >>= λ a. Some (record { moment = a; group = None })
-subject_of (m ∷ group ∷ more) =
-    if same group (codes "group")
-    then (number_within short_bits m >>= λ a. one_list more >>= λ ids. Some (record { moment = a; group = Some ids }))
-    else None
+subject_of (m ∷ more) = number_within short_bits m >>= λ a. subject_at a more
+
+-- the number of workers of `workers W`, of which this is left behind `workers`, and the words behind it
+abbrev pub workers_first : List (List ℕ) → Option (ℕ × List (List ℕ))
+workers_first [] = None
+workers_first (w ∷ more) = workers_of w >>= λ n. Some (n, more)
+
+-- the number of workers that these words name, and the words behind it: that of `workers W` where they begin so, and
+-- else one, of no words
+abbrev pub workers_named : List (List ℕ) → Option (ℕ × List (List ℕ))
+workers_named [] = Some (1, [])
+workers_named (name ∷ more) =
+    if same name (codes "workers") then workers_first more else Some (1, name ∷ more)
+
+-- `M`, `M workers W`, `M group IDS` and `M workers W group IDS`, behind the name: what is analysed, and by how many
+-- workers
+abbrev pub analysis_of : List (List ℕ) → Option Statement
+analysis_of [] = None
+analysis_of (m ∷ more) =
+    number_within short_bits m >>= λ a. workers_named more >>= λ p.
+    option_map (λ s. says.Analyse s p.0) (subject_at a p.1)
 
 -- `broadcast N TEXT`, of which this is left behind the name: the payload is all that stands behind the one space that
 -- follows the node, and nothing where none follows it
@@ -87,7 +111,7 @@ named name rest =
     ((codes "params", option_map says.Params (seven_numbers rest))
     ∷ (codes "seed", option_map says.Seed (one long_bits rest))
     ∷ (codes "words", option_map says.Words (event_words rest))
-    ∷ (codes "analyse", option_map says.Analyse (subject_of rest))
+    ∷ (codes "analyse", analysis_of rest)
     ∷ (codes "certificate", option_map (λ s. says.Look (look.Certificate s)) (subject_of rest))
     ∷ (codes "show", option_map (λ n. says.Look (look.Show n)) (one short_bits rest))
     ∷ (codes "packets", if length rest == 0 then Some (says.Look look.Packets) else None)

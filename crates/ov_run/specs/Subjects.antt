@@ -35,8 +35,8 @@ AnalysisJudged b s answer =
     (Step (IsGroupThen b s) BadGroup
     (Step (¬ ((r : ReportState) × IsReportOf b s r)) AlreadyFiled Passed))) answer
 
--- the subject was analysed: no refusal stood, and a report of it was filed, with the answer of an analysis of the links
--- of its moment for its group
+-- the subject was analysed: no refusal applied, and a report of it was filed, with the answer of an analysis of the
+-- links of its moment for its group
 pub record WasAnalysed (b : CoreState) (s : Subject) (r : ReportState) (u : CoreState) : Type 0 where
   pub judged : AnalysisJudged b s None
   pub moment : r.moment ≡ s.moment

@@ -32,8 +32,8 @@ IsMade b =
 -- snapshot was taken at its moment, and its graph has exactly the links that both ends held then; crashing the nodes
 -- that it names parts its group, or every two members are linked; and no fewer crashes part it
 pub record EveryPrintedReportIsSo : Type 0 where
-  pub analysed : (b : CoreState) (subject : Subject) (u : CoreState) (text : List ℕ) → IsMade b
-      → PrintsLine b (line.Analyse subject) u text
+  pub analysed : (b : CoreState) (subject : Subject) (workers : ℕ) (u : CoreState) (text : List ℕ) → IsMade b
+      → PrintsLine b (line.Analyse subject workers) u text
       → ((r : ReportState) × IsSoOf u subject r × (text ≡ report_line r.moment r.cert r.graph r.members))
       ⊎ Refuses b u text
   pub certified : (b : CoreState) (subject : Subject) (u : CoreState) (text : List ℕ) → IsMade b

@@ -11,26 +11,33 @@ ghost use Rattle.ov_snap.specs.declared.fault.CoreFault.TheVariants.{OutOfMemory
 
 use crate::line_texts::report_line;
 use crate::scenario::Subject;
-use ov_even::analyse_group_alone;
+use crate::workers::Workers;
+use ov_crew::analyse_group_watched;
+use ov_even::Watcher;
 use ov_graph::Graph;
 use ov_ids::NodeId;
 use ov_net::MAX_ENTRIES;
 use ov_snap::{Core, CoreFault, Job, Report};
 use std::alloc::Global;
+use std::thread::Threads;
 
-/// Analyses a subject and files the report. Returns the line of the report, or the first applicable refusal, and then
-/// nothing changed. The line is made before the report is filed, so that out of memory is a refusal too.
-pub(crate) fn file_analysis(
+/// Analyses a subject by so many workers and files the report. Returns the line of the report, or the first applicable
+/// refusal, and then nothing changed. The line is made before the report is filed, so that out of memory is a refusal
+/// too.
+#[tactic(auto, using(crate::proofs::Reports::Filed::filing_refused))]
+pub(crate) fn file_analysis<T: Threads + Sync>(
+    rt: &T,
     alloc: Global,
     core: &mut Core,
     subject: &Subject,
+    workers: Workers,
 ) -> Result<String, CoreFault>
     ensures analysed { IfOk result (λ line. (r : ReportState) × WasAnalysed core.old subject.now r core.new
         × (string_bytes line ≡ report_line r.moment r.cert r.graph r.members)) }
     ensures refused { IfErr result (IsRefusedBy wants_memory (AnalysisJudged core.old subject.now)) }
     ensures err { OnErr result (core.new ≡ core.old) }
 {
-    let report = report_for(alloc, core, subject)?;
+    let report = report_for(rt, alloc, core, subject, workers)?;
     let line = report_line(alloc, report.moment(), report.checked())?;
     core.file(report)?;
     Ok(line)
@@ -38,7 +45,13 @@ pub(crate) fn file_analysis(
 
 /// Makes the report of a subject. The report is not filed yet.
 #[tactic(auto, using(crate::proofs::Reports::Filed::filed_refused))]
-fn report_for(alloc: Global, core: &Core, subject: &Subject) -> Result<Report, CoreFault>
+fn report_for<T: Threads + Sync>(
+    rt: &T,
+    alloc: Global,
+    core: &Core,
+    subject: &Subject,
+    workers: Workers,
+) -> Result<Report, CoreFault>
     ensures judged { IfOk result (λ r. AnalysisJudged core.now subject.now None) }
     ensures filing { IfOk result (λ r. FilingJudged core.now r None) }
     ensures moment { IfOk result (λ r. r.moment ≡ subject.now.moment) }
@@ -50,7 +63,7 @@ fn report_for(alloc: Global, core: &Core, subject: &Subject) -> Result<Report, C
         return Err(CoreFault::AlreadyFiled);
     }
     let job = begin(core, subject)?;
-    make_report(alloc, &job, subject)
+    make_report(rt, alloc, &job, subject, workers)
 }
 
 /// The report that is filed for a subject, if there is one.
@@ -82,7 +95,13 @@ fn begin(core: &Core, subject: &Subject) -> Result<Job, CoreFault>
 }
 
 /// Makes the report of a job. The ids are a group of its nodes, so that only memory can be lacking.
-fn make_report(alloc: Global, job: &Job, subject: &Subject) -> Result<Report, CoreFault>
+fn make_report<T: Threads + Sync>(
+    rt: &T,
+    alloc: Global,
+    job: &Job,
+    subject: &Subject,
+    workers: Workers,
+) -> Result<Report, CoreFault>
     ensures moment { IfOk result (λ r. r.moment ≡ job.now.moment) }
     ensures graph { IfOk result (λ r. r.graph ≡ job.now.graph) }
     ensures members { IfOk result (λ r. r.members ≡ members_of subject.now.group job.now.graph) }
@@ -90,10 +109,25 @@ fn make_report(alloc: Global, job: &Job, subject: &Subject) -> Result<Report, Co
     ensures err { IfErr result (λ f. f ≡ wants_memory) }
 {
     let members = members_of(subject, &job.graph);
-    match analyse_group_alone(alloc, &job.graph, members) {
+    match analyse_group_watched(
+        rt,
+        alloc,
+        &job.graph,
+        members,
+        workers.count(),
+        &mut Unwatched,
+    ) {
         Ok(checked) => Ok(Report::new(job.moment, checked)),
         Err(_) => Err(CoreFault::OutOfMemory),
     }
+}
+
+/// Is told of an analysis, and does nothing.
+#[derive(Drop)]
+struct Unwatched;
+
+impl Watcher for Unwatched {
+    fn sees(&mut self, _level: usize, _place: usize, _size: usize) {}
 }
 
 /// The group that is asked for, or all nodes of the graph.

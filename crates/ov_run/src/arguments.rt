@@ -1,9 +1,15 @@
-ghost use Rattle.std.specs.Prelude.{◌≡◌, ◌<◌, length, IfOk, IfSome};
+ghost use Rattle.std.specs.Prelude.{◌≡◌, ◌<◌, ◌≤◌, false, length, map, codes, string_bytes, Some, option_map};
+ghost use Rattle.std.specs.Prelude.{IfOk, IfSome};
 ghost use Rattle.std.specs.IoError.{error_kind};
-ghost use Rattle.ov_run.specs.Arguments.{HasGroupOfIds, fault_of_text, number_of};
+ghost use Rattle.clap.specs.Words.{app_of, found_of, first_value, rule_of};
+ghost use Rattle.ov_claims.specs.Claims.{most_workers};
+ghost use Rattle.ov_run.specs.Arguments.{HasGroupOfIds, HasWorkers, IsOfGiven, group_asked, workers_asked};
+ghost use Rattle.ov_run.specs.Arguments.{analyse_command, flag, option, overlay_command, run_command};
+ghost use Rattle.ov_run.specs.Arguments.{fault_of_text, number_of};
 ghost use Rattle.ov_run.specs.declared.arguments.ArgumentsFault.TheVariants.{OutOfMemory as wants_memory};
 
 use crate::id_list::read_ids;
+use crate::workers::read_workers;
 use clap::error::ErrorKind;
 use clap::{Arg, ArgAction, ArgMatches, Command, Error as ClapError};
 use ov_ids::{NodeId, OutOfMemory};
@@ -20,11 +26,12 @@ pub enum Request {
     Run {
         file: Option<String>,
     },
-    /// To analyse a graph file for the group of these ids, or of all nodes. `certificate` asks for the certificate file
-    /// too, and `progress` to tell how far the analysis has come.
+    /// To analyse a graph file for the group of these ids, or of all nodes, by so many workers. `certificate` asks for
+    /// the certificate file too, and `progress` to tell how far the analysis has come.
     Analyse {
         file: Option<String>,
         group: Option<Vec<NodeId>>,
+        workers: u32,
         certificate: bool,
         progress: bool,
     },
@@ -104,13 +111,16 @@ impl From<ClapError> for ArgumentsFault {
     }
 }
 
-/// Reads the arguments that follow the program's name: `run [FILE]` or `analyse [FILE] [--group IDS] [--certificate]
-/// [--progress]`. No argument asks for `run`. A file that is absent or `-` is standard input. IDS are one or more ids
-/// of decimal digits and 32 bits, with commas between them. No option may stand twice. All other arguments are refused
+/// Reads the arguments that follow the program's name: `run [FILE]` or `analyse [FILE] [--group IDS] [--workers N]
+/// [--certificate] [--progress]`. No argument asks for `run`. A file that is absent or `-` is standard input. IDS are
+/// one or more ids of decimal digits and 32 bits, with commas between them. N is decimal digits, and from 1 to 64;
+/// without it there is one worker. No option may stand twice. All other arguments are refused
 /// with BadArguments (73), also `--` and those that ask for help. OutOfMemory (99) is returned where an allocation was
 /// refused. The arguments and the numbers are chosen here.
 pub fn read_arguments(alloc: Global, arguments: &[String]) -> Result<Request, ArgumentsFault>
     ensures group { IfOk result HasGroupOfIds }
+    ensures workers { IfOk result HasWorkers }
+    ensures given { IfOk result (IsOfGiven (map (λ argument. string_bytes argument) arguments.now)) }
 {
     if arguments.iter().any(|argument| argument.as_str() == "--") {
         return Err(ArgumentsFault::BadArguments);
@@ -124,6 +134,7 @@ pub fn read_arguments(alloc: Global, arguments: &[String]) -> Result<Request, Ar
         Some((_, matches)) => Ok(Request::Analyse {
             file: file_of(alloc, matches)?,
             group: group_of(alloc, matches)?,
+            workers: workers_of(matches)?,
             certificate: matches.get_flag("certificate"),
             progress: matches.get_flag("progress"),
         }),
@@ -131,26 +142,48 @@ pub fn read_arguments(alloc: Global, arguments: &[String]) -> Result<Request, Ar
 }
 
 /// The arguments that `overlay` takes.
-fn command<'a>(alloc: Global) -> Result<Command<'a>, AllocError> {
-    let run = Command::new(alloc, "run").arg(Arg::new(alloc, "file"))?;
-    let group = Arg::new(alloc, "group")
-        .long("group")
-        .action(ArgAction::Set);
-    let certificate = Arg::new(alloc, "certificate")
-        .long("certificate")
-        .action(ArgAction::SetTrue);
-    let progress = Arg::new(alloc, "progress")
-        .long("progress")
-        .action(ArgAction::SetTrue);
-    let analyse = Command::new(alloc, "analyse")
-        .arg(Arg::new(alloc, "file"))?
-        .arg(group)?
-        .arg(certificate)?
-        .arg(progress)?;
+fn command<'a>(alloc: Global) -> Result<Command<'a>, AllocError>
+    ensures { IfOk result (λ c. app_of c ≡ overlay_command) }
+{
     Command::new(alloc, "overlay")
         .no_binary_name(true)
-        .subcommand(run)?
-        .subcommand(analyse)
+        .subcommand(run_command(alloc)?)?
+        .subcommand(analyse_command(alloc)?)
+}
+
+/// The arguments behind `run`.
+fn run_command<'a>(alloc: Global) -> Result<Command<'a>, AllocError>
+    ensures { IfOk result (λ c. app_of c ≡ run_command) }
+{
+    Command::new(alloc, "run").arg(Arg::new(alloc, "file"))
+}
+
+/// The arguments behind `analyse`.
+fn analyse_command<'a>(alloc: Global) -> Result<Command<'a>, AllocError>
+    ensures { IfOk result (λ c. app_of c ≡ analyse_command) }
+{
+    Command::new(alloc, "analyse")
+        .arg(Arg::new(alloc, "file"))?
+        .arg(option(alloc, "group"))?
+        .arg(option(alloc, "workers"))?
+        .arg(flag(alloc, "certificate"))?
+        .arg(flag(alloc, "progress"))
+}
+
+/// An option of this name, with a text.
+fn option<'a>(alloc: Global, name: &'a str) -> Arg<'a>
+    ensures rule { rule_of result ≡ option name.entry.now }
+    ensures local { result.global ≡ false }
+{
+    Arg::new(alloc, name).long(name).action(ArgAction::Set)
+}
+
+/// An option of this name, without a text.
+fn flag<'a>(alloc: Global, name: &'a str) -> Arg<'a>
+    ensures rule { rule_of result ≡ flag name.entry.now }
+    ensures local { result.global ≡ false }
+{
+    Arg::new(alloc, name).long(name).action(ArgAction::SetTrue)
 }
 
 /// The file that is named, unless it is absent or `-`.
@@ -165,7 +198,9 @@ fn file_of(alloc: Global, matches: &ArgMatches) -> Result<Option<String>, AllocE
 /// The ids of the group that is given, or nothing.
 #[tactic(auto, using(crate::proofs::Lines::Spelling::some_id))]
 fn group_of(alloc: Global, matches: &ArgMatches) -> Result<Option<Vec<NodeId>>, ArgumentsFault>
-    ensures { IfOk result (λ group. IfSome group (λ ids. 0 < length ids.items)) }
+    ensures given { IfOk result (λ group. group_asked (first_value (found_of matches.now) (codes "group"))
+        ≡ Some (option_map (λ ids. ids.items) group)) }
+    ensures some { IfOk result (λ group. IfSome group (λ ids. 0 < length ids.items)) }
 {
     let Some(text) = matches.get_str("group") else {
         return Ok(None);
@@ -174,4 +209,20 @@ fn group_of(alloc: Global, matches: &ArgMatches) -> Result<Option<Vec<NodeId>>, 
         Some(ids) => Ok(Some(ids)),
         None => Err(ArgumentsFault::BadArguments),
     }
+}
+
+/// The number of workers that is given, or one.
+fn workers_of(matches: &ArgMatches) -> Result<u32, ArgumentsFault>
+    ensures given { IfOk result
+        (λ n. workers_asked (first_value (found_of matches.now) (codes "workers")) ≡ Some n) }
+    ensures some { IfOk result (λ n. 1 ≤ n) }
+    ensures few { IfOk result (λ n. n ≤ most_workers) }
+{
+    let Some(text) = matches.get_str("workers") else {
+        return Ok(1);
+    };
+    let Some(workers) = read_workers(text.as_bytes()) else {
+        return Err(ArgumentsFault::BadArguments);
+    };
+    Ok(workers.count())
 }

@@ -1,5 +1,7 @@
-ghost use Rattle.std.specs.Prelude.{◌≡◌, ◌≢◌, ◌⊎◌, ◌+◌, ◌<◌, option_map, string_bytes, Err, IfOk, IfErr, OnOk, IsErrOf};
+ghost use Rattle.std.specs.Prelude.{◌≡◌, ◌≢◌, ◌⊎◌, ◌+◌, ◌<◌, ◌≤◌, option_map, string_bytes, Err};
+ghost use Rattle.std.specs.Prelude.{IfOk, IfErr, OnOk, IsErrOf};
 ghost use Rattle.ov_cert.specs.Valid.{IsValidForGroup};
+ghost use Rattle.ov_claims.specs.Claims.{most_workers};
 ghost use Rattle.ov_io.specs.Device.{most_faults, ReaderFailed};
 ghost use Rattle.ov_even.specs.Answer.{IsAnswer};
 ghost use Rattle.ov_even.specs.Faults.{IsRefusal};
@@ -14,32 +16,38 @@ use crate::line_texts::{refused_line, report_line};
 use crate::run_fault::RunFault;
 use ov_cert::Checked;
 use ov_certfile::to_text_group;
-use ov_even::{AnalyseFault, Watcher, analyse_group_watched};
+use ov_crew::analyse_group_watched;
+use ov_even::{AnalyseFault, Watcher};
 use ov_graph::Graph;
 use ov_ids::{NodeId, OutOfMemory};
 use ov_io::{Sink, Source};
 use std::alloc::Global;
 use std::io::{Read, Write};
+use std::thread::Threads;
 
-/// Reads a graph file to its end, finds how few crashes of nodes part a group of its nodes, and writes the line of the
-/// answer; the certificate file follows it where that is asked for. Without a group, all nodes are the group. Returns
-/// the program's status, 0. A graph without nodes (30) and ids that are no group (34) are refusals that are printed,
-/// and no faults. The watcher is told how far the analysis has come.
+/// Reads a graph file to its end, finds how few crashes of nodes part a group of its nodes, by so many workers, and
+/// writes the line of the answer; the certificate file follows it where that is asked for. Without a group, all nodes
+/// are the group. Returns the program's status, 0. A graph without nodes (30) and ids that are no group (34) are
+/// refusals that are printed, and no faults. The watcher is told how far the analysis has come.
 ///
 /// Line (70) is returned for the first line that can't be read, Graph with the number of its fault where the lines say
 /// no graph, and Read (71) where the reader failed in this call. Write (72) is returned where the writer failed in this
 /// call, and then a prefix of the text was written. With any other fault nothing was written. OutOfMemory (99) is
 /// returned where an allocation was refused. The numbers and the form of what is printed are chosen here.
-pub fn analyse_file<R: Read, W: Write, P: Watcher>(
+pub fn analyse_file<T: Threads + Sync, R: Read, W: Write, P: Watcher>(
+    rt: &T,
     alloc: Global,
     source: &mut Source<R>,
     sink: &mut Sink<W>,
     group: Option<&[NodeId]>,
+    workers: u32,
     certificate: bool,
     watcher: &mut P,
 ) -> Result<u8, RunFault>
     requires reads { source.old.faults < most_faults }
     requires writes { sink.old.faults < most_faults }
+    requires some { 1 ≤ workers }
+    requires few { workers ≤ most_workers }
     ensures status { IfOk result (λ status. status ≡ 0) }
     ensures prints { OnOk result
         (PrintsAnalysis (R.remaining source.old.reader) (option_map (λ ids. ids.now) group.entry) certificate
@@ -55,26 +63,30 @@ pub fn analyse_file<R: Read, W: Write, P: Watcher>(
     ensures fault { IfErr result (IsAnalysisFault (R.remaining source.old.reader)) }
 {
     let bytes = source.read_all(alloc)?;
-    let text = text_for(alloc, &bytes, group, certificate, watcher)?;
+    let text = text_for(rt, alloc, &bytes, group, workers, certificate, watcher)?;
     sink.write_all(text.as_bytes())?;
     Ok(0)
 }
 
 /// What is printed of a graph file.
-fn text_for<P: Watcher>(
+fn text_for<T: Threads + Sync, P: Watcher>(
+    rt: &T,
     alloc: Global,
     bytes: &[u8],
     group: Option<&[NodeId]>,
+    workers: u32,
     certificate: bool,
     watcher: &mut P,
 ) -> Result<String, RunFault>
+    requires some { 1 ≤ workers }
+    requires few { workers ≤ most_workers }
     ensures text { IfOk result
         (λ text. IsAnalysis bytes.now (option_map (λ ids. ids.now) group.entry) certificate (string_bytes text)) }
     ensures fault { IfErr result (λ f. IsGraphFileFault bytes.now f ⊎ (f ≡ RunFault.OutOfMemory)) }
 {
     let graph = read_graph(alloc, bytes)?;
     let members = members_of(group, &graph);
-    Ok(answer_for(alloc, &graph, members, certificate, watcher)?)
+    Ok(answer_for(rt, alloc, &graph, members, workers, certificate, watcher)?)
 }
 
 /// The group that is asked for, or all nodes of the graph.
@@ -88,16 +100,20 @@ fn members_of<'a>(group: Option<&'a [NodeId]>, graph: &'a Graph) -> &'a [NodeId]
 }
 
 /// What is printed of this graph and this group.
-fn answer_for<P: Watcher>(
+fn answer_for<T: Threads + Sync, P: Watcher>(
+    rt: &T,
     alloc: Global,
     graph: &Graph,
     group: &[NodeId],
+    workers: u32,
     certificate: bool,
     watcher: &mut P,
 ) -> Result<String, OutOfMemory>
+    requires some { 1 ≤ workers }
+    requires few { workers ≤ most_workers }
     ensures { IfOk result (λ text. PrintsAnswer graph.now group.now certificate (string_bytes text)) }
 {
-    let answer = analyse_group_watched(alloc, graph, group, watcher);
+    let answer = analyse_group_watched(rt, alloc, graph, group, workers, watcher);
     text_of(alloc, graph, group, &answer, certificate)
 }
 

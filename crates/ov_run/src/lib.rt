@@ -25,6 +25,7 @@ mod sink_writing;
 mod splitting;
 mod statement;
 mod theorems;
+mod workers;
 
 pub use arguments::{ArgumentsFault, Request, read_arguments};
 pub use graph_analysis::analyse_file;
@@ -38,3 +39,4 @@ pub use scenario::{Line, Look, Scenario, Subject};
 pub use scenario_entry_points::run;
 pub use scenario_reading::read_scenario;
 pub use theorems::every_printed_report_is_so;
+pub use workers::Workers;

@@ -2,10 +2,12 @@ ghost use Rattle.std.specs.Prelude.{◌≡◌, ◌==◌, ◌∷◌, [], length, 
 ghost use Rattle.ov_run.specs.Lines.{words_of, behind_word, without_space, same, one, two, three, one_list};
 ghost use Rattle.ov_run.specs.Lines.{long_bits, short_bits};
 ghost use Rattle.ov_run.specs.Code.Spaced.{first_number};
+ghost use Rattle.ov_run.specs.Statements.{workers_named};
 
 use crate::id_list::read_ids;
 use crate::numeral::{read_number, read_short_number};
 use crate::splitting::split_word;
+use crate::workers::{Workers, read_workers};
 use ov_ids::{NodeId, OutOfMemory};
 use std::alloc::Global;
 
@@ -74,6 +76,21 @@ impl<'a> LineCursor<'a> {
         ensures behind { IfSome result (λ _. self.new.rest.now ≡ behind_word self.old.rest.now) }
     {
         Some(NodeId::new(self.short_number()?))
+    }
+
+    /// Reads `workers W`, where the next word is `workers`; else there is one worker, and nothing is read.
+    pub(crate) fn workers(&mut self) -> Option<Workers>
+        ensures { option_map (λ n. (n, words_of self.new.rest.now)) result
+            ≡ workers_named (words_of self.old.rest.now) }
+    {
+        let rest = self.rest;
+        match self.word() {
+            Some(name) if is_word(name, b"workers") => read_workers(self.word()?),
+            _ => {
+                self.rest = rest;
+                Workers::new(1)
+            }
+        }
     }
 
     /// Reads the last word of the line, which spells a number that fits 64 bits.

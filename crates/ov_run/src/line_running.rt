@@ -14,6 +14,7 @@ use crate::scenario::{Line, Look, Subject};
 use crate::sink_writing::{
     write_certificate, write_entry, write_node, write_packets, write_refusal,
 };
+use crate::workers::Workers;
 use ov_ids::Params;
 use ov_io::{Sink, WriteFault};
 use ov_net::Event;
@@ -21,9 +22,11 @@ use ov_snap::Core;
 use ov_words::Words;
 use std::alloc::Global;
 use std::io::Write;
+use std::thread::Threads;
 
 /// Runs these lines in a world in which nothing happened, and writes what they print.
-pub(crate) fn run_lines<W: Write>(
+pub(crate) fn run_lines<T: Threads + Sync, W: Write>(
+    rt: &T,
     alloc: Global,
     params: Params,
     lines: Vec<Line>,
@@ -41,13 +44,14 @@ pub(crate) fn run_lines<W: Write>(
 {
     let mut core = Core::new(alloc, params);
     for line in lines {
-        run_line(alloc, &mut core, line, sink)?;
+        run_line(rt, alloc, &mut core, line, sink)?;
     }
     Ok(())
 }
 
 /// Runs one line, and writes what it prints.
-fn run_line<W: Write>(
+fn run_line<T: Threads + Sync, W: Write>(
+    rt: &T,
     alloc: Global,
     core: &mut Core,
     line: Line,
@@ -66,7 +70,9 @@ fn run_line<W: Write>(
     match line {
         Line::Event { event, words } => run_event(alloc, core, event, &words, sink),
         Line::Look(look) => write_look(alloc, core, look, sink),
-        Line::Analyse(subject) => Ok(run_analysis(alloc, core, &subject, sink)?),
+        Line::Analyse { subject, workers } => {
+            Ok(run_analysis(rt, alloc, core, &subject, workers, sink)?)
+        }
     }
 }
 
@@ -96,12 +102,14 @@ fn run_event<W: Write>(
     }
 }
 
-/// Analyses a subject and files the report, or refuses, and writes the line of that. Out of memory is a refusal, so
-/// that only the writer can fail.
-fn run_analysis<W: Write>(
+/// Analyses a subject by so many workers and files the report, or refuses, and writes the line of that. Out of memory
+/// is a refusal, so that only the writer can fail.
+fn run_analysis<T: Threads + Sync, W: Write>(
+    rt: &T,
     alloc: Global,
     core: &mut Core,
     subject: &Subject,
+    workers: Workers,
     sink: &mut Sink<W>,
 ) -> Result<(), WriteFault>
     requires faults { sink.old.faults < most_faults }
@@ -111,7 +119,7 @@ fn run_analysis<W: Write>(
         (W.contents sink.old.writer) (W.contents sink.new.writer) }
     ensures faults { sink.new.faults ≡ sink.old.faults + sink_failures write_number result }
 {
-    match file_analysis(alloc, core, subject) {
+    match file_analysis(rt, alloc, core, subject, workers) {
         Ok(line) => sink.write_all(line.as_bytes()),
         Err(refusal) => write_refusal(refusal.number(), sink),
     }

@@ -7,6 +7,7 @@ ghost use Rattle.ov_run.specs.declared.statement.Statement.TheVariants as says;
 use crate::random_words::SeedWords;
 use crate::scenario::{Line, Look, Subject};
 use crate::statement::{Stated, Statement};
+use crate::workers::Workers;
 use ov_ids::OutOfMemory;
 use ov_net::Event;
 use ov_words::Words;
@@ -47,7 +48,7 @@ impl Collector {
         match statement {
             Statement::Event(event) => self.add_event(event),
             Statement::Look(look) => self.add_look(look),
-            Statement::Analyse(subject) => self.add_analysis(subject),
+            Statement::Analyse { subject, workers } => self.add_analysis(subject, workers),
             Statement::Words(words) => {
                 self.add_words(words);
                 Ok(())
@@ -98,11 +99,11 @@ impl Collector {
 
     /// Adds an analysis.
     #[tactic(auto, using(crate::proofs::Scenarios::Collecting::analysis_collected))]
-    fn add_analysis(&mut self, subject: Subject) -> Result<(), OutOfMemory>
-        ensures { OnOk result (Collects self.old (Some (says.Analyse subject)) self.new) }
+    fn add_analysis(&mut self, subject: Subject, workers: Workers) -> Result<(), OutOfMemory>
+        ensures { OnOk result (Collects self.old (Some (says.Analyse subject workers)) self.new) }
     {
         self.given = None;
-        self.lines.push(Line::Analyse(subject))?;
+        self.lines.push(Line::Analyse { subject, workers })?;
         Ok(())
     }
 }

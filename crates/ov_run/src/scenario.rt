@@ -1,3 +1,4 @@
+use crate::workers::Workers;
 use ov_ids::{NodeId, Params, Seq};
 use ov_net::Event;
 use ov_words::Words;
@@ -9,8 +10,8 @@ pub enum Line {
     Event { event: Event, words: Words },
     /// Something is looked at, and nothing changes.
     Look(Look),
-    /// The overlay is analysed, and a report is filed.
-    Analyse(Subject),
+    /// The overlay is analysed by so many workers, and a report is filed.
+    Analyse { subject: Subject, workers: Workers },
 }
 
 /// What is analysed: the overlay at a moment, for a group of its nodes, or for all of them where no group is named.

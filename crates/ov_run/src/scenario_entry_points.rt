@@ -10,9 +10,11 @@ use crate::scenario_reading::read_scenario;
 use ov_io::{Sink, Source};
 use std::alloc::Global;
 use std::io::{Read, Write};
+use std::thread::Threads;
 
 /// Reads a scenario to its end, runs its lines in order in a world in which nothing happened, and writes what each
-/// prints. Returns the program's status, 0. A refused event or analysis is a line of what is printed, and no fault.
+/// prints. Returns the program's status, 0. A refused event or analysis is a line of what is printed, and no fault. The
+/// workers of an analysis are threads. The line of its report is the same for any number of them.
 ///
 /// Line (70) and Params (21) are returned where the file says no scenario, and Read (71) where the reader failed in
 /// this call: then nothing ran and nothing was written. Write (72) is returned where the writer failed in this call. In
@@ -22,7 +24,8 @@ use std::io::{Read, Write};
 /// only where reading the scenario was out of memory, or making the line of an event that happened, of a node or of a
 /// packet. The numbers and the form of what is printed are chosen here.
 #[tactic(auto, using(crate::proofs::Lines::Counted::run_fault))]
-pub fn run<R: Read, W: Write>(
+pub fn run<T: Threads + Sync, R: Read, W: Write>(
+    rt: &T,
     alloc: Global,
     source: &mut Source<R>,
     sink: &mut Sink<W>,
@@ -45,6 +48,6 @@ pub fn run<R: Read, W: Write>(
 {
     let bytes = source.read_all(alloc)?;
     let scenario = read_scenario(alloc, &bytes)?;
-    run_lines(alloc, scenario.params, scenario.lines, sink)?;
+    run_lines(rt, alloc, scenario.params, scenario.lines, sink)?;
     Ok(0)
 }

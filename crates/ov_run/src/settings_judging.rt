@@ -67,7 +67,7 @@ impl Head {
                 Ok(())
             }
             Some(Statement::Look(_)) => Ok(()),
-            Some(Statement::Analyse(_)) => Ok(()),
+            Some(Statement::Analyse { .. }) => Ok(()),
         }
     }
 

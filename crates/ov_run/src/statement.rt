@@ -1,10 +1,11 @@
 ghost use Rattle.std.specs.Prelude.{◌≡◌, IfOk, option_map};
 ghost use Rattle.ov_run.specs.Lines.{words_of, two, three};
 ghost use Rattle.ov_run.specs.Statements.{seven_numbers, event_words, report_of, timer_of, boot_of, broadcast_of};
-ghost use Rattle.ov_run.specs.Statements.{event_of, subject_of, named, statement_of};
+ghost use Rattle.ov_run.specs.Statements.{event_of, subject_at, subject_of, analysis_of, named, statement_of};
 
 use crate::line_cursor::{LineCursor, is_word};
 use crate::scenario::{Look, Subject};
+use crate::workers::Workers;
 use ov_ids::{MsgId, NodeId, OutOfMemory, Seq};
 use ov_net::Event;
 use ov_words::Words;
@@ -21,8 +22,8 @@ pub(crate) enum Statement {
     Words(Words),
     Event(Event),
     Look(Look),
-    /// What is analysed.
-    Analyse(Subject),
+    /// What is analysed, and by how many workers.
+    Analyse { subject: Subject, workers: Workers },
 }
 
 /// A line that is not skipped.
@@ -77,7 +78,7 @@ fn read_named(
         return Ok(read_event_words(cursor).map(Statement::Words));
     }
     if is_word(name, b"analyse") {
-        return Ok(read_subject(alloc, cursor)?.map(Statement::Analyse));
+        return read_analysis(alloc, cursor);
     }
     if is_word(name, b"certificate") {
         let subject = read_subject(alloc, cursor)?;
@@ -96,6 +97,21 @@ fn read_named(
     Ok(read_event(name, cursor).map(Statement::Event))
 }
 
+/// Reads what follows the name `analyse`: the moment, the number of workers where one is named, and the group where one
+/// is named.
+fn read_analysis(alloc: Global, cursor: &mut LineCursor) -> Result<Option<Statement>, OutOfMemory>
+    ensures { IfOk result (λ said. said ≡ analysis_of (words_of cursor.old.rest.now)) }
+{
+    let Some(moment) = cursor.short_number() else {
+        return Ok(None);
+    };
+    let Some(workers) = cursor.workers() else {
+        return Ok(None);
+    };
+    let subject = read_group(alloc, moment, cursor)?;
+    Ok(subject.map(|subject| Statement::Analyse { subject, workers }))
+}
+
 /// Reads the moment of an analysis, and its group where one is named: `M`, or `M group IDS`.
 fn read_subject(alloc: Global, cursor: &mut LineCursor) -> Result<Option<Subject>, OutOfMemory>
     ensures { IfOk result (λ subject. subject ≡ subject_of (words_of cursor.old.rest.now)) }
@@ -103,6 +119,17 @@ fn read_subject(alloc: Global, cursor: &mut LineCursor) -> Result<Option<Subject
     let Some(moment) = cursor.short_number() else {
         return Ok(None);
     };
+    read_group(alloc, moment, cursor)
+}
+
+/// Reads what follows the moment of an analysis: nothing, or `group IDS`.
+fn read_group(
+    alloc: Global,
+    moment: u32,
+    cursor: &mut LineCursor,
+) -> Result<Option<Subject>, OutOfMemory>
+    ensures { IfOk result (λ subject. subject ≡ subject_at moment (words_of cursor.old.rest.now)) }
+{
     let Some(name) = cursor.word() else {
         let group = None;
         return Ok(Some(Subject { moment, group }));

@@ -111,7 +111,7 @@ every_report_stays b steps u run = kept_all b steps u run
 -- A CALL AND ITS STEP
 
 module _ {X : Type 0} (Judged : Option CoreFault → Type 0) (b u : CoreState) where
-  -- a call that was not out of memory did what it does, or the first refusal that stood left all as it was
+  -- a call that was not out of memory did what it does, or the first applicable refusal left all as it was
   pub taken : (r : Result X CoreFault) (Did : X → Type 0) → IfOk r Did → IfErr r (IsRefusedBy OutOfMemory Judged)
       → OnErr r (u ≡ b) → IfErr r (λ f. f ≢ OutOfMemory) → ((x : X) × Did x) ⊎ WasRefused Judged b u
   taken (Ok x) Did did refused err went = inl (x, did)

@@ -19,7 +19,7 @@ pub record HasOneDeskMore (b : CoreState) (g : LinkGraph) (m : ℕ) (q : List �
   pub counted : place ≡ length b.desks
   pub desks : u ≡ record b { desks = b.desks ++ desk ∷ [] }
 
--- a desk was opened for all nodes of a moment: no refusal stood, and the desk has the links of that moment
+-- a desk was opened for all nodes of a moment: no refusal applied, and the desk has the links of that moment
 pub record WasOpened (b : CoreState) (m workers place : ℕ) (u : CoreState) : Type 0 where
   pub judged : OpeningJudged b m workers None
   pub graph : LinkGraph
@@ -42,23 +42,23 @@ pub record HasTurned (b : CoreState) (i : ℕ) (Turn : GroupDeskState → GroupD
   pub turn : Turn before after
   pub desks : u ≡ record b { desks = slice_set b.desks i after }
 
--- worker w of desk i claimed number x: no refusal stood
+-- worker w of desk i claimed number x: no refusal applied
 pub record ClaimedAt (b : CoreState) (i w x : ℕ) (u : CoreState) : Type 0 where
   pub judged : TurnJudged ClaimsNext b i w None
   pub turned : HasTurned b i (λ d e. WasClaimed d w x e) u
 
--- worker w of desk i looked, and was told the least number that failed: no refusal stood
+-- worker w of desk i looked, and was told the least number that failed: no refusal applied
 pub record LookedAt (b : CoreState) (i w least : ℕ) (u : CoreState) : Type 0 where
   pub judged : TurnJudged LooksNext b i w None
   pub turned : HasTurned b i (λ d e. WasLookedAt d w least e) u
 
--- worker w of desk i settled its piece for the links of the desk's moment: no refusal stood
+-- worker w of desk i settled its piece for the links of the desk's moment: no refusal applied
 pub record SettledAt (b : CoreState) (i w : ℕ) (u : CoreState) : Type 0 where
   pub judged : TurnJudged SettlesNext b i w None
   pub graph : LinkGraph
   pub turned : HasTurned b i (λ d e. AreLinks b.world.journal d.moment graph × WasSettled graph d w e) u
 
--- what desk i came to was filed: no refusal stood, and the report has the desk's moment and group, and the answer of
+-- the result of desk i was filed: no refusal applied, and the report has the desk's moment and group, and the answer of
 -- an analysis of them
 pub record DeskWasFiled (b : CoreState) (i : ℕ) (u : CoreState) : Type 0 where
   pub judged : DeskFilingJudged b i None

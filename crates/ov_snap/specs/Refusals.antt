@@ -1,4 +1,4 @@
--- Why a core refuses: the refusals of each call in their order. The first that stands is the answer.
+-- Why a core refuses: the refusals of each call in their order. The first applicable one is returned.
 use Rattle.std.specs.Prelude.{ℕ, ◌<◌, ◌≤◌, List, length, Option, Some, None}
 use Rattle.ov_ids.specs.FaultOrder.{Step, Passed}
 use Rattle.ov_graph.specs.Links.{LinkGraph, IsGroup}
@@ -99,7 +99,7 @@ abbrev pub TurnJudged : (GroupDeskState → ℕ → Type 0) → CoreState → �
 TurnJudged IsNext b i w answer =
     WorkerThen b i w (Step (HoldsAt b i (λ d. IsNext d w)) WrongTurn Passed) answer
 
--- what a desk came to is filed: there is this desk, then all its workers have ended, and then no report is filed for
+-- the result of a desk is filed: there is this desk, then all its workers have ended, and then no report is filed for
 -- its moment and its group
 abbrev pub DeskFilingJudged : CoreState → ℕ → Option CoreFault → Type 0
 DeskFilingJudged b i answer =

@@ -18,7 +18,7 @@ use Rattle.ov_snap.specs.declared.step_sequences.CoreStep.{CoreStep}
 use Rattle.ov_snap.specs.declared.step_sequences.CoreStep.TheVariants.{Net, File, OpenDesk, OpenGroupDesk, Claim}
 use Rattle.ov_snap.specs.declared.step_sequences.CoreStep.TheVariants.{Look, Settle, FileDesk}
 
--- an event happened: no refusal stood, the world took one step of it, and the entry that tells it stands last in the
+-- an event happened: no refusal applied, the world took one step of it, and the entry that tells it stands last in the
 -- journal and is numbered by its place there. A snapshot's links are kept. Desks and reports are the same
 pub record Happened (b : CoreState) (what : Event) (words : List ℕ) (e : Entry) (u : CoreState) : Type 0 where
   pub judged : StepJudged b.world.net (length b.world.journal) what None
@@ -37,11 +37,11 @@ zero_words = replicate words_per_event 0
 abbrev pub TookSnapshot : CoreState → ℕ → CoreState → Type 0
 TookSnapshot b m u = (e : Entry) × (e.number ≡ m) × Happened b event.Snapshot zero_words e u
 
--- a step was refused: the first refusal that stood left all as it was
+-- a step was refused: the first applicable refusal left all as it was
 abbrev pub WasRefused : {E : Type 0} → (Option E → Type 0) → CoreState → CoreState → Type 0
 WasRefused {E} Judged b u = ((fault : E) × Judged (Some fault)) × (u ≡ b)
 
--- one step: it was accepted, or the first refusal that stood left all as it was
+-- one step: it was accepted, or the first applicable refusal left all as it was
 abbrev pub Takes : CoreState → CoreStep → CoreState → Type 0
 Takes b (Net what words) u =
     ((e : Entry) × Happened b what words e u)
@@ -69,7 +69,7 @@ TakesAll b (step ∷ steps) c = (u : CoreState) × Takes b step u × TakesAll u 
 abbrev pub CoreRun : ParamsState → List CoreStep → CoreState → Type 0
 CoreRun params steps c = TakesAll (opening_core params) steps c
 
--- the step may end out of memory: no refusal stands for it. A look never does, since it allocates nothing
+-- the step may end out of memory: no refusal applies to it. A look never does, since it allocates nothing
 abbrev pub MayRunOut : CoreState → CoreStep → Type 0
 MayRunOut b (Net what words) = StepJudged b.world.net (length b.world.journal) what None
 MayRunOut b (OpenDesk m workers) = OpeningJudged b m workers None

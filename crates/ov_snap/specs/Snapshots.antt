@@ -7,11 +7,11 @@ use Rattle.ov_net.specs.declared.event.Event.{Event}
 use Rattle.ov_net.specs.declared.event.Event.TheVariants as event
 use Rattle.ov_snap.specs.declared.snapshot.Snapshot.{Snapshot}
 
--- the entry tells a snapshot
+-- the entry is of a snapshot
 abbrev pub IsSnapshot : Entry → Type 0
 IsSnapshot e = e.event ≡ event.Snapshot
 
--- m is a moment of the journal: the number, from 1, of an entry that tells a snapshot
+-- m is a moment of the journal: the number, from 1, of an entry that is of a snapshot
 abbrev pub IsMoment : List Entry → ℕ → Type 0
 IsMoment journal m = (i : ℕ) × (e : Entry) × (slice_get journal i ≡ Some e) × IsSnapshot e × (m ≡ i + 1)
 

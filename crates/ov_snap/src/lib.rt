@@ -15,6 +15,7 @@ mod world_and_reports;
 pub use analysis_input::Job;
 pub use fault::CoreFault;
 pub use report::Report;
+pub use snapshot::Snapshot;
 pub use step_sequences::{CoreStep, run_core};
 pub use theorems::{every_report_is_so, every_report_stays};
 pub use world_and_reports::Core;

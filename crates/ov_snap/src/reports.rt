@@ -44,13 +44,6 @@ impl Reports {
         }
     }
 
-    /// All reports in the order of filing.
-    pub(crate) fn as_slice(&self) -> &[Report]
-        ensures { result.now ≡ self.now }
-    {
-        self.filed.as_slice()
-    }
-
     /// The report of this moment and group, if one is filed.
     pub(crate) fn find(&self, moment: u32, group: &[NodeId]) -> Option<&Report>
         ensures some { IfSome result (λ r. Has self.now r.now × (key_of r.now ≡ (moment, group.now))) }

@@ -6,11 +6,13 @@ ghost use Rattle.ov_snap.specs.declared.snapshot.Snapshot.{Snapshot as Kept};
 use ov_graph::Graph;
 use ov_ids::OutOfMemory;
 
-/// The links that both ends held at a moment.
+/// A snapshot: the links that both ends held at a moment.
 #[derive(Drop)]
-pub(crate) struct Snapshot {
-    pub(crate) moment: u32,
-    pub(crate) graph: Graph,
+pub struct Snapshot {
+    /// The number of the journal entry of the snapshot.
+    pub moment: u32,
+    /// The links that both ends held then.
+    pub graph: Graph,
 }
 
 /// The snapshot of a moment, if there is one. It is found by halving.

@@ -43,7 +43,7 @@ pub enum CoreStep {
         desk: u32,
         worker: u32,
     },
-    /// What a desk came to is filed.
+    /// The result of a desk is filed.
     FileDesk {
         desk: u32,
     },

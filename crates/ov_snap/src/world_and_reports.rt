@@ -1,6 +1,5 @@
 ghost use Rattle.std.specs.Prelude.{◌≡◌, ◌↔◌, length, None, Some, IfOk, IfErr, IfSome, IfNone, OnOk, OnErr, IsTrue};
 ghost use Rattle.ov_ids.specs.FaultOrder.{IsRefusedBy};
-ghost use Rattle.ov_ids.specs.Members.{Has};
 ghost use Rattle.ov_graph.specs.Links.{IsGroup};
 ghost use Rattle.ov_cert.specs.Valid.{IsValidForGroup};
 ghost use Rattle.ov_net.specs.Journal.{AreLinks};
@@ -237,14 +236,6 @@ impl Core {
             Ok(snapshot) => self.group_report(moment, snapshot.graph.nodes()),
             Err(_) => None,
         }
-    }
-
-    /// All reports, in the order of filing. What each says is so.
-    pub fn reports(&self) -> &[Report]
-        ensures reports { result.now ≡ self.now.reports }
-        ensures so { (r : ReportState) → Has result.now r → IsSo self.now.world.journal r }
-    {
-        self.reports.as_slice()
     }
 }
 

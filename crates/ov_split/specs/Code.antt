@@ -1,2 +1,3 @@
+-- What private contracts and proofs use.
 pub mod Residual
 pub mod Rows

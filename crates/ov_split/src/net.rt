@@ -1,7 +1,7 @@
 ghost use Rattle.std.specs.Prelude.{◌≡◌, ◌≢◌, ◌↔◌, ℕ, ◌<◌, ◌≤◌, ◌*◌, length, IfSome, Some};
 ghost use Rattle.ov_ids.specs.Members.{Has};
 ghost use Rattle.ov_graph.specs.Links.{Linked};
-ghost use Rattle.ov_graph.specs.Row.{HasBit, AreWordsFor};
+ghost use Rattle.ov_graph.specs.Row.{HasBit, AreWordsFor, word_bits};
 ghost use Rattle.ov_split.specs.Net.{IsNet};
 ghost use Rattle.ov_split.specs.Places.{net_at, net_by_place};
 ghost use Rattle.ov_split.specs.Placed.{IsPlaced};
@@ -110,7 +110,7 @@ impl<'g> SplitNet<'g> {
 
 /// The row with the bit of one place, or of none.
 fn row_of(place: Option<usize>) -> Row
-    requires { IfSome place (λ p. p < 64 * WORDS) }
+    requires { IfSome place (λ p. p < word_bits * WORDS) }
     ensures { (q : ℕ) → HasBit result q ↔ (place ≡ Some q) }
 {
     let mut row = EMPTY;

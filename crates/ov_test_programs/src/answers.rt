@@ -1,6 +1,7 @@
 //! What analyses of whole graph files print. The lines were worked out by hand, and by a script apart from this tree
 //! that tries all sets of nodes.
-ghost use Rattle.std.specs.Prelude.{◌<◌};
+ghost use Rattle.std.specs.Prelude.{◌<◌, ◌≤◌};
+ghost use Rattle.ov_claims.specs.Claims.{most_workers};
 ghost use Rattle.ov_io.specs.Device.{most_faults};
 
 use crate::graphs::{
@@ -10,11 +11,12 @@ use ov_check::judge;
 use ov_even::Watcher;
 use ov_ids::NodeId;
 use ov_io::{Sink, Source};
-use ov_run::{RunFault, analyse_file};
+use ov_run::{RunFault, Workers, analyse_file};
 use ov_test_kit::{Slow, ids};
 use std::alloc::{AllocError, Global};
 use std::io::{Read, Write};
 use std::test::Fail;
+use std::thread::Threads;
 
 /// Counts its calls.
 #[derive(Drop)]
@@ -28,30 +30,36 @@ impl Watcher for Counter {
     }
 }
 
-/// The result of an analysis of this file, and what it prints.
+/// The result of an analysis of this file by so many workers, and what it prints.
 pub(crate) fn analysed(
-    alloc: Global,
+    rt: &(impl AllocGlobal + Threads + Sync),
     file: &[u8],
     group: Option<&[NodeId]>,
+    workers: u32,
     certificate: bool,
-) -> (Result<u8, RunFault>, Vec<u8>) {
+) -> (Result<u8, RunFault>, Vec<u8>)
+    requires some { 1 ≤ workers }
+    requires few { workers ≤ most_workers }
+{
     let mut source = Source::new(file);
-    let mut sink = Sink::new(Vec::new(alloc));
+    let mut sink = Sink::new(Vec::new(rt.alloc()));
     let mut watcher = Counter { count: 0 };
     let told = analyse_file(
-        alloc,
+        rt,
+        rt.alloc(),
         &mut source,
         &mut sink,
         group,
+        workers,
         certificate,
         &mut watcher,
     );
     (told, sink.into_writer())
 }
 
-/// What an analysis of all nodes comes to, and how often its watcher is told.
+/// What an analysis of all nodes by one worker comes to, and how often its watcher is told.
 pub(crate) fn analysed_whole<R: Read, W: Write>(
-    alloc: Global,
+    rt: &(impl AllocGlobal + Threads + Sync),
     source: &mut Source<R>,
     sink: &mut Sink<W>,
 ) -> (Result<u8, RunFault>, u64)
@@ -59,13 +67,32 @@ pub(crate) fn analysed_whole<R: Read, W: Write>(
     requires writes { sink.old.faults < most_faults }
 {
     let mut watcher = Counter { count: 0 };
-    let told = analyse_file(alloc, source, sink, None, false, &mut watcher);
+    let told = analyse_file(rt, rt.alloc(), source, sink, None, 1, false, &mut watcher);
     (told, watcher.count)
 }
 
-/// The analysis of this file for this group ends with status 0 and prints this text.
-pub(crate) fn prints(alloc: Global, file: &str, group: Option<&[NodeId]>, text: &str) -> bool {
-    let (told, written) = analysed(alloc, file.as_bytes(), group, false);
+/// The analysis of this file for this group by one worker ends with status 0 and prints this text.
+pub(crate) fn prints(
+    rt: &(impl AllocGlobal + Threads + Sync),
+    file: &str,
+    group: Option<&[NodeId]>,
+    text: &str,
+) -> bool {
+    let (told, written) = analysed(rt, file.as_bytes(), group, 1, false);
+    told == Ok(0) && written.as_slice() == text.as_bytes()
+}
+
+/// The analysis of this file by so many workers prints the line of its answer, as one worker does.
+fn prints_by_workers(
+    rt: &(impl AllocGlobal + Threads + Sync),
+    count: u32,
+    file: &str,
+    text: &str,
+) -> bool {
+    let Some(workers) = Workers::new(count) else {
+        return false;
+    };
+    let (told, written) = analysed(rt, file.as_bytes(), None, workers.count(), false);
     told == Ok(0) && written.as_slice() == text.as_bytes()
 }
 
@@ -99,7 +126,19 @@ static WHOLE: [(&str, &str); 8] = [
 #[test]
 fn graphs_print_their_answers(rt: HostRuntime) {
     for (file, text) in &WHOLE {
-        assert!(rt; prints(rt.alloc(), file, None, text), "at {text}");
+        assert!(rt; prints(&rt, file, None, text), "at {text}");
+    }
+}
+
+#[test]
+fn any_number_of_workers_prints_one_text(rt: HostRuntime) {
+    for (file, text) in &WHOLE {
+        for count in [1, 2, 5, 64] {
+            assert!(rt;
+                prints_by_workers(&rt, count, file, text),
+                "{count} workers, at {text}"
+            );
+        }
     }
 }
 
@@ -164,7 +203,7 @@ fn put_links(file: &mut String, node: u32) -> Result<(), AllocError> {
 fn a_ring_of_200_nodes_takes_8_crashes(rt: HostRuntime) -> Result<(), Fail> {
     let file = ring(rt.alloc())?;
     let text = "report 0 split k 8 cut 2,3,4,5,197,198,199,200 near 1 far 6 side 1\n";
-    assert!(rt; prints(rt.alloc(), file.as_str(), None, text));
+    assert!(rt; prints(&rt, file.as_str(), None, text));
     Ok(())
 }
 
@@ -173,7 +212,7 @@ fn groups_print_their_answers(rt: HostRuntime) -> Result<(), Fail> {
     for (file, group, text) in &GROUPS {
         let group = ids(rt.alloc(), group)?;
         assert!(rt;
-            prints(rt.alloc(), file, Some(group.as_slice()), text),
+            prints(&rt, file, Some(group.as_slice()), text),
             "at {text}"
         );
     }
@@ -209,7 +248,7 @@ static JUDGED: [(&str, &str); 4] = [
 #[test]
 fn certificates_behind_the_line_hold(rt: HostRuntime) {
     for (file, line) in &JUDGED {
-        let (told, written) = analysed(rt.alloc(), file.as_bytes(), None, true);
+        let (told, written) = analysed(&rt, file.as_bytes(), None, 1, true);
         assert_eq!(rt; told, Ok(0));
         let judged = judged(rt.alloc(), written.as_slice());
         assert!(rt; judged.as_slice() == line.as_bytes(), "at {line}");
@@ -221,14 +260,14 @@ fn certificates_behind_the_line_hold(rt: HostRuntime) {
 fn a_watcher_is_told_of_an_analysis(rt: HostRuntime) {
     let mut source = Source::new(SQUARE.as_bytes());
     let mut sink = Sink::new(Vec::new(rt.alloc()));
-    let (told, count) = analysed_whole(rt.alloc(), &mut source, &mut sink);
+    let (told, count) = analysed_whole(&rt, &mut source, &mut sink);
     assert!(rt; told == Ok(0) && count > 0);
 }
 
 /// With a writer that is interrupted after so many calls, the path of three comes to this answer and to so many faults
 /// of the writer.
 fn comes_by_slow_writer(
-    alloc: Global,
+    rt: &(impl AllocGlobal + Threads + Sync),
     calls_left: usize,
     answer: Result<u8, RunFault>,
     faults: u64,
@@ -236,7 +275,7 @@ fn comes_by_slow_writer(
     let mut source = Source::new(PATH_OF_THREE.as_bytes());
     let rest: &[u8] = &[];
     let mut sink = Sink::new(Slow { rest, calls_left });
-    let (told, _) = analysed_whole(alloc, &mut source, &mut sink);
+    let (told, _) = analysed_whole(rt, &mut source, &mut sink);
     told == answer && source.faults() == 0 && sink.faults() == faults
 }
 
@@ -244,8 +283,8 @@ fn comes_by_slow_writer(
 fn a_writer_is_interrupted_at_each_write(rt: HostRuntime) {
     let writes = "report 0 split k 1 cut 2 near 3 far 1 side 3\n".len();
     for calls_left in 0..writes {
-        let is_refused = comes_by_slow_writer(rt.alloc(), calls_left, Err(RunFault::Write), 1);
+        let is_refused = comes_by_slow_writer(&rt, calls_left, Err(RunFault::Write), 1);
         assert!(rt; is_refused, "at {calls_left}");
     }
-    assert!(rt; comes_by_slow_writer(rt.alloc(), writes, Ok(0), 0));
+    assert!(rt; comes_by_slow_writer(&rt, writes, Ok(0), 0));
 }

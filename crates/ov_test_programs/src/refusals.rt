@@ -7,10 +7,11 @@ use ov_run::{RunFault, read_graph};
 use ov_test_kit::Slow;
 use std::alloc::Global;
 use std::test::Fail;
+use std::thread::Threads;
 
 /// The file has this fault, and nothing is printed.
-fn is_refused(alloc: Global, file: &[u8], fault: RunFault) -> bool {
-    let (told, written) = analysed(alloc, file, None, false);
+fn is_refused(rt: &(impl AllocGlobal + Threads + Sync), file: &[u8], fault: RunFault) -> bool {
+    let (told, written) = analysed(rt, file, None, 1, false);
     told == Err(fault) && written.is_empty()
 }
 
@@ -38,10 +39,7 @@ static UNREADABLE: [&[u8]; 17] = [
 #[test]
 fn unreadable_lines_of_graph_files(rt: HostRuntime) -> Result<(), Fail> {
     for line in &UNREADABLE {
-        assert!(rt;
-            is_refused(rt.alloc(), line, RunFault::Line(1)),
-            "at {line:?}"
-        );
+        assert!(rt; is_refused(&rt, line, RunFault::Line(1)), "at {line:?}");
         let mut later = Vec::from_slice(rt.alloc(), b"# one\n\nnode 1\n")?;
         later.extend_from_slice(line)?;
         later.extend_from_slice(b"\x0anode 0\nfly")?;
@@ -50,7 +48,7 @@ fn unreadable_lines_of_graph_files(rt: HostRuntime) -> Result<(), Fail> {
             _ => RunFault::Line(4),
         };
         assert!(rt;
-            is_refused(rt.alloc(), later.as_slice(), fault),
+            is_refused(&rt, later.as_slice(), fault),
             "behind others {line:?}"
         );
     }
@@ -88,10 +86,7 @@ static FIRST_FAULTS: [(&str, RunFault); 12] = [
 #[test]
 fn the_first_fault_decides(rt: HostRuntime) {
     for (file, fault) in &FIRST_FAULTS {
-        assert!(rt;
-            is_refused(rt.alloc(), file.as_bytes(), *fault),
-            "at {file}"
-        );
+        assert!(rt; is_refused(&rt, file.as_bytes(), *fault), "at {file}");
     }
 }
 
@@ -115,9 +110,9 @@ fn a_graph_has_1024_nodes_at_most(rt: HostRuntime) -> Result<(), Fail> {
     );
     let more = with_nodes(alloc, 1025, "node 3")?;
     let fault = RunFault::Graph(GraphFault::TooManyNodes);
-    assert!(rt; is_refused(alloc, more.as_bytes(), fault));
+    assert!(rt; is_refused(&rt, more.as_bytes(), fault));
     let unread = with_nodes(alloc, 1025, "fly")?;
-    assert!(rt; is_refused(alloc, unread.as_bytes(), RunFault::Line(1026)));
+    assert!(rt; is_refused(&rt, unread.as_bytes(), RunFault::Line(1026)));
     Ok(())
 }
 
@@ -125,8 +120,8 @@ fn a_graph_has_1024_nodes_at_most(rt: HostRuntime) -> Result<(), Fail> {
 fn a_graph_without_nodes_is_refused_before_a_group(rt: HostRuntime) {
     let group = [NodeId(1)];
     for file in ["", "\n# nothing\n   \n"] {
-        assert!(rt; prints(rt.alloc(), file, None, "refused 30\n"));
-        assert!(rt; prints(rt.alloc(), file, Some(&group), "refused 30\n"));
+        assert!(rt; prints(&rt, file, None, "refused 30\n"));
+        assert!(rt; prints(&rt, file, Some(&group), "refused 30\n"));
     }
 }
 
@@ -156,7 +151,7 @@ fn a_reader_that_fails_is_told_before_an_unreadable_line(rt: HostRuntime) {
     for calls_left in 0..rest.len() {
         let mut source = Source::new(Slow { rest, calls_left });
         let mut sink = Sink::new(Vec::new(rt.alloc()));
-        let (told, _) = analysed_whole(rt.alloc(), &mut source, &mut sink);
+        let (told, _) = analysed_whole(&rt, &mut source, &mut sink);
         assert_eq!(rt; told, Err(RunFault::Read));
         assert!(rt; source.faults() == 1 && sink.into_writer().is_empty());
     }

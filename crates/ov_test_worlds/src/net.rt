@@ -309,7 +309,11 @@ static FAULTS: [(NetFault, u32, &str); 12] = [
         14,
         "there is no packet at this place",
     ),
-    (NetFault::BagFull, 15, "too few places for packets are free"),
+    (
+        NetFault::TooManyPackets,
+        15,
+        "too few places for packets are free",
+    ),
     (NetFault::TooManyEntries, 16, "the journal is full"),
     (NetFault::NotCrashed, 17, "the node did not crash"),
     (NetFault::NoTimer, 18, "the timer is not set"),

@@ -7,7 +7,7 @@ mod runs;
 
 use ov_ids::{NodeId, Params};
 use ov_net::Event;
-use ov_run::{Line, Look, RunFault, Scenario, Subject, draw, read_scenario};
+use ov_run::{Line, Look, RunFault, Scenario, Subject, Workers, draw, read_scenario};
 use ov_test_kit::{ids, message_id, payload, sized, words};
 use ov_words::Words;
 use std::alloc::Global;
@@ -134,6 +134,12 @@ fn of_group(moment: u32, numbers: [u32; 2], alloc: Global) -> Result<Subject, Fa
     Ok(Subject { moment, group })
 }
 
+/// The line of an analysis by so many workers.
+fn analysis(subject: Subject, count: u32) -> Result<Line, Fail> {
+    let workers = Workers::new(count).ok_or("a number of workers")?;
+    Ok(Line::Analyse { subject, workers })
+}
+
 #[test]
 fn what_is_looked_at_and_analysed_is_read(rt: HostRuntime) -> Result<(), Fail> {
     let alloc = rt.alloc();
@@ -142,14 +148,29 @@ fn what_is_looked_at_and_analysed_is_read(rt: HostRuntime) -> Result<(), Fail> {
         Line::Look(Look::Packets),
         Line::Look(Look::Certificate(of_all(7))),
         Line::Look(Look::Certificate(of_group(7, [1, 2], alloc)?)),
-        Line::Analyse(of_all(7)),
-        Line::Analyse(of_group(8, [0, 4294967295], alloc)?),
+        analysis(of_all(7), 1)?,
+        analysis(of_group(8, [0, 4294967295], alloc)?, 1)?,
     ];
     let text =
         b"show 4\npackets\ncertificate 7\ncertificate 7 group 1,2\nanalyse 7\n analyse  8 group 0,4294967295\nseed 2\nparams 2 30 6 3 3 4 4\n";
     let scenario = has_lines(&rt, alloc, text, &expected)?;
     assert_eq!(rt; scenario.seed, 2);
     assert_eq!(rt; scenario.params, sized(2, 30)?);
+    Ok(())
+}
+
+#[test]
+fn numbers_of_workers_are_read(rt: HostRuntime) -> Result<(), Fail> {
+    let alloc = rt.alloc();
+    let expected = [
+        analysis(of_all(7), 1)?,
+        analysis(of_all(7), 64)?,
+        analysis(of_group(8, [1, 2], alloc)?, 2)?,
+        analysis(of_group(8, [1, 2], alloc)?, 1)?,
+    ];
+    let text =
+        b"analyse 7 workers 1\nanalyse 7 workers 64\nanalyse 8  workers 002 group 1,2 \nanalyse 8 group 1,2";
+    let _ = has_lines(&rt, alloc, text, &expected)?;
     Ok(())
 }
 
@@ -187,7 +208,7 @@ fn a_payload_may_be_too_long_for_a_broadcast(rt: HostRuntime) -> Result<(), Fail
 }
 
 /// Texts of which each line alone is unreadable.
-static UNREADABLE: [&str; 9] = [
+static UNREADABLE: [&str; 10] = [
     "params\nparams 5 30 6 3 3 4\nparams 5 30 6 3 3 4 4 4\nparams 5 30 6 3 3 4 x\nparams 5 30 6 3 3 4 4294967296\nparams 5 30 6 3 3 4 -4\nparams +5 30 6 3 3 4 4\nparams 0 30 6 3 3 4",
     "seed\nseed x\nseed 1 2\nseed 18446744073709551616\nseed 100000000000000000000000\nseed -1\nseed +1\nseed 0x1\nseed 1.0\nseed 1e1",
     "words\nwords x\nwords 5 x\nwords 18446744073709551616\nwords 5",
@@ -196,7 +217,8 @@ static UNREADABLE: [&str; 9] = [
     "crash\ncrash x\ncrash 1 2\ncrash 4294967296\nreport\nreport 1\nreport 1 2 3\nreport x 1\nreport 1 x\nreport 1 4294967296\nshuffle\nshuffle x\nshuffle 1 2\nshuffle 4294967296",
     "broadcast\nbroadcast \nbroadcast x\nbroadcast x hi\nbroadcast 4294967296\nbroadcast 1\thi\nbroadcasts 1 hi\ntimer\ntimer 1\ntimer 1 2\ntimer 1 2 3 4\ntimer x 2 3\ntimer 1 x 3\ntimer 1 2 4294967296\nsnapshot 1",
     "show\nshow x\nshow 1 2\nshow 4294967296\npackets 1\ncertificate\ncertificate x\ncertificate 1 2\ncertificate 4294967296",
-    "analyse\nanalyse x\nanalyse 1 workers 2\nanalyse 1 group\nanalyse 1 groups 1\nanalyse 1 group 1,\nanalyse 1 group 1 2\ncertificate 1 group\ncertificate 1 group x\ntogether\nalso\nend\nfly\nBoot 1\nboot1\n1 boot\n\tboot 1\nboot\t1\nboot 1 # first\nboot 1\r\r\n\r\r",
+    "analyse 1 workers\nanalyse 1 workers 0\nanalyse 1 workers 65\nanalyse 1 workers 4294967297\nanalyse 1 workers x\nanalyse 1 workers +2\nanalyse 1 workers 2 workers 2\nanalyse 1 workers 2 2\nanalyse 1 workers 2 group\nanalyse 1 workers group 1\nanalyse 1 group 1 workers 2\nanalyse workers 2\nanalyse 1 worker 2\nanalyse x workers 2\nanalyse 1 2\ncertificate 1 workers 2\ncertificate 1 workers 2 group 1",
+    "analyse\nanalyse x\nanalyse 1 group\nanalyse 1 groups 1\nanalyse 1 group 1,\nanalyse 1 group 1 2\ncertificate 1 group\ncertificate 1 group x\ntogether\nalso\nend\nfly\nBoot 1\nboot1\n1 boot\n\tboot 1\nboot\t1\nboot 1 # first\nboot 1\r\r\n\r\r",
 ];
 
 /// The line is refused where it is the first one, and where it is a later one.

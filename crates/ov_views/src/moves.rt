@@ -52,8 +52,7 @@ impl Moves {
 
     /// Tells the changes of one operation. Room for them must be there, and nothing is allocated.
     pub fn tell_changes(&mut self, changes: Changes)
-        requires changes { length changes ≤ 2 }
-        requires room { HasRoom self.old 0 (length changes) }
+        requires { HasRoom self.old 0 (length changes) }
         ensures changes { self.new.changes.items ≡ self.old.changes.items ++ changes }
         ensures sends { self.new.sends ≡ self.old.sends }
     {

@@ -1,4 +1,5 @@
-ghost use Rattle.std.specs.Prelude.{◌≡◌, ◌≤◌, ◌<◌, ◌+◌, ℕ, List, [], ◌∷◌, ◌++◌, Some, None, length, min, MatchBool};
+ghost use Rattle.std.specs.Prelude.{◌≡◌, ◌≤◌, ◌<◌, ◌+◌, ◌↔◌, ℕ, List, [], ◌∷◌, ◌++◌, Some, None, length, min};
+ghost use Rattle.std.specs.Prelude.{IsTrue, MatchBool};
 ghost use Rattle.ov_ids.specs.Sets.{IsSet, IsIn, has, without, without_all};
 ghost use Rattle.ov_words.specs.Pick.{Drawn, Choice};
 ghost use Rattle.ov_views.specs.ViewsState.{ViewsState, AreViews, has_place, is_close, is_known, members};
@@ -100,7 +101,8 @@ impl Views {
 
     /// Whether the node is active.
     pub fn is_active(&self, id: NodeId) -> bool
-        ensures { result ≡ has self.now.active id }
+        ensures member { IsTrue result ↔ IsIn self.now.active id }
+        ensures value { result ≡ has self.now.active id }
     {
         self.active.contains(id)
     }

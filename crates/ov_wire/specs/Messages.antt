@@ -53,6 +53,10 @@ kind_of (IHave id) = 10
 kind_of (Graft id) = 11
 kind_of Prune = 12
 
+-- a kind with a list or a payload: SHUFFLE, SHUFFLEREPLY, GOSSIP
+abbrev pub HasList : ℕ → Type 0
+HasList kind = (7 ≤ kind) × (kind ≤ 9)
+
 -- the number of a flag: 0 for no, 1 for yes
 abbrev pub flag : Bool → ℕ
 flag b = if b then 1 else 0

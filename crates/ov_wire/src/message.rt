@@ -1,5 +1,5 @@
-ghost use Rattle.std.specs.Prelude.{◌≡◌, ◌≤◌, IfOk, IsErr};
-ghost use Rattle.ov_wire.specs.Messages.{kind_of};
+ghost use Rattle.std.specs.Prelude.{◌≡◌, IfOk, IsErr};
+ghost use Rattle.ov_wire.specs.Messages.{HasList, kind_of};
 
 use ov_ids::{MsgId, NodeId, OutOfMemory, Seq};
 use std::alloc::Global;
@@ -76,7 +76,7 @@ impl Body {
     /// list or a payload.
     pub fn copy(&self, alloc: Global) -> Result<Body, OutOfMemory>
         ensures ok { IfOk result (λ body. body ≡ self.now) }
-        ensures memory { IsErr result → (7 ≤ kind_of self.now) × (kind_of self.now ≤ 9) }
+        ensures memory { IsErr result → HasList (kind_of self.now) }
     {
         Ok(match self {
             Body::Join => Body::Join,
@@ -123,7 +123,7 @@ impl Message {
     /// a list or a payload.
     pub fn copy(&self, alloc: Global) -> Result<Message, OutOfMemory>
         ensures ok { IfOk result (λ m. m ≡ self.now) }
-        ensures memory { IsErr result → (7 ≤ kind_of self.now.body) × (kind_of self.now.body ≤ 9) }
+        ensures memory { IsErr result → HasList (kind_of self.now.body) }
     {
         Ok(Message {
             from: self.from,

@@ -6,7 +6,7 @@ ghost use Rattle.ov_wire.specs.declared.fault.WireFault.TheVariants.{OutOfMemory
 ghost use Rattle.ov_wire.specs.declared.message.Message.{Message};
 ghost use Rattle.ov_wire.specs.Faults.{FirstFault};
 ghost use Rattle.ov_wire.specs.Fields.{up_to, any, Number, Ids, Payload, One, Many};
-ghost use Rattle.ov_wire.specs.Messages.{own_fields, fields_of, kind_of, said, flag, Spelling, AreInRange};
+ghost use Rattle.ov_wire.specs.Messages.{own_fields, fields_of, kind_of, said, flag, HasList, Spelling, AreInRange};
 ghost use Rattle.ov_wire.specs.Code.Reading.{Reads, Gives, number_at, values_at, ids_in};
 
 use crate::fault::WireFault;
@@ -188,7 +188,7 @@ fn body_of(alloc: Global, kind: u8, bytes: &[u8]) -> Result<Body, WireFault>
     requires high { kind ≤ 12 }
     ensures read { Gives said result (values_at (own_fields kind) bytes.now) }
     ensures kind { IfOk result (λ body. kind_of body ≡ kind) }
-    ensures memory { IsErrOf result OutOfMemory → (7 ≤ kind) × (kind ≤ 9) }
+    ensures memory { IsErrOf result OutOfMemory → HasList kind }
 {
     match kind {
         2 => forward_join(bytes),
@@ -226,7 +226,7 @@ fn message_of(alloc: Global, bytes: &[u8]) -> Result<Message, WireFault>
     ensures read { Gives (λ m. One 1 ∷ One (kind_of m.body) ∷ One m.from ∷ said m.body) result
         (values_at (fields_of (slice_index bytes.now 1)) bytes.now) }
     ensures kind { IfOk result (λ m. kind_of m.body ≡ slice_index bytes.now 1) }
-    ensures memory { IsErrOf result OutOfMemory → (7 ≤ slice_index bytes.now 1) × (slice_index bytes.now 1 ≤ 9) }
+    ensures memory { IsErrOf result OutOfMemory → HasList (slice_index bytes.now 1) }
 {
     let (_, rest) = byte_at(1, 1, WireFault::BadVersion, bytes)?;
     let (kind, rest) = byte_at(1, 12, WireFault::BadKind, rest)?;
@@ -250,7 +250,7 @@ pub fn decode(alloc: Global, bytes: &[u8]) -> Result<Message, WireFault>
         FirstFault bytes.now fault × ((m : Message) → ¬ Spelling m bytes.now)) }
     // Out of memory only where the bytes spell a message of the kinds 7, 8 and 9, which have a list or a payload.
     ensures memory { IsErrOf result OutOfMemory →
-        (7 ≤ slice_index bytes.now 1) × (slice_index bytes.now 1 ≤ 9) × ((m : Message) × Spelling m bytes.now) }
+        HasList (slice_index bytes.now 1) × ((m : Message) × Spelling m bytes.now) }
 {
     message_of(alloc, bytes)
 }

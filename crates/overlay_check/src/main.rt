@@ -1,7 +1,8 @@
 //! Reads a certificate file, and says in one line whether it holds.
 #![tactic(auto)]
 
-use ov_check::{JudgeFault, ProgramFault, exit_status, input_named, judge_parallel};
+use ov_check::{JudgeFault, Judged, ProgramFault, exit_status, input_named, judge_kept};
+use ov_check_reasons::reasons;
 use ov_io::{Sink, Source};
 use std::env::FillError;
 use std::fs::File;
@@ -15,22 +16,18 @@ use std::thread::Threads;
 const LONGEST_PATH: usize = 4096;
 
 fn main(rt: HostRuntime) -> ExitCode {
-    let answer = run(&rt);
-    if let Err(fault) = &answer {
-        let _ = eprintln!(rt; "{fault}");
-    }
-    ExitCode::from(exit_status(&answer))
+    ExitCode::from(run(&rt))
 }
 
-/// Judges the input that the words name. Word 0, the program's own path, is not looked at.
-fn run<R: Runtime + AllocGlobal + Threads + Sync>(rt: &R) -> Result<u8, ProgramFault> {
+/// Judges the input that the words name. Word 0, the program's own path, is not looked at. Returns the status.
+fn run<R: Runtime + AllocGlobal + Threads + Sync>(rt: &R) -> u8 {
     let mut room = [0u8; LONGEST_PATH];
     let length = rt.arg(1, &mut room);
-    let answer = match input_named(length, &room, has_word(rt, 2))? {
-        None => judge_from(rt, rt.reader()),
-        Some(path) => judge_file(rt, path),
-    };
-    Ok(answer?)
+    match input_named(length, &room, has_word(rt, 2)) {
+        Ok(None) => judge_from(rt, rt.reader()),
+        Ok(Some(path)) => judge_file(rt, path),
+        Err(fault) => end(rt, &Err(fault)),
+    }
 }
 
 /// Whether there is a word at a place, whatever bytes it has.
@@ -38,19 +35,43 @@ fn has_word(rt: &impl Env, place: usize) -> bool {
     !matches!(rt.arg(place, &mut []), Err(FillError::NotPresent))
 }
 
-fn judge_file<R: Runtime + AllocGlobal + Threads + Sync>(
-    rt: &R,
-    path: &str,
-) -> Result<u8, JudgeFault> {
-    let file = File::open(rt, path)?;
-    judge_from(rt, file)
+/// Prints why no line of an outcome was printed, if none was, and returns the status.
+fn end(rt: &impl Runtime, answer: &Result<u8, ProgramFault>) -> u8 {
+    if let Err(fault) = answer {
+        let _ = eprintln!(rt; "{fault}");
+    }
+    exit_status(answer)
 }
 
-fn judge_from<R: Runtime + AllocGlobal + Threads + Sync>(
-    rt: &R,
-    reader: impl Read + Drop,
-) -> Result<u8, JudgeFault> {
+fn judge_file<R: Runtime + AllocGlobal + Threads + Sync>(rt: &R, path: &str) -> u8 {
+    match File::open(rt, path) {
+        Ok(file) => judge_from(rt, file),
+        Err(error) => {
+            let status = end(rt, &Err(ProgramFault::Judge(JudgeFault::Read)));
+            let _ = eprintln!(rt; "{path} can't be opened: {error}");
+            status
+        }
+    }
+}
+
+fn judge_from<R: Runtime + AllocGlobal + Threads + Sync>(rt: &R, reader: impl Read + Drop) -> u8 {
     let mut source = Source::new(reader);
     let mut sink = Sink::new(io::writer(rt));
-    judge_parallel(rt, &mut source, &mut sink)
+    match judge_kept(rt, &mut source, &mut sink) {
+        Ok(judged) => {
+            explain(rt, &judged);
+            end(rt, &Ok(judged.outcome.status()))
+        }
+        Err(fault) => end(rt, &Err(ProgramFault::Judge(fault))),
+    }
+}
+
+/// Prints on standard error why a certificate does not hold, or why a file is refused.
+fn explain<R: Runtime + AllocGlobal>(rt: &R, judged: &Judged) {
+    if judged.outcome.status() == 0 {
+        return;
+    }
+    if let Ok(text) = reasons(rt.alloc(), &judged.bytes, &judged.outcome) {
+        let _ = eprintln!(rt; "{text}");
+    }
 }

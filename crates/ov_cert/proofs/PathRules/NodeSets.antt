@@ -14,7 +14,7 @@ use Rattle.ov_graph.specs.Row.{picked}
 use Rattle.ov_graph.specs.declared.row.TheConstants.{EMPTY}
 use Rattle.ov_graph.proofs.BitRows.Bits.{bit_moved, empty_bit}
 use Rattle.ov_graph.proofs.BitRows.Read.{has_picked, in_picked, ascends_picked, none_picked, one_place}
-use Rattle.ov_cert.specs.Code.Kept.{NodesOf}
+use Rattle.ov_cert.specs.Code.Kept.{NodeSetState}
 use Rattle.ov_cert.specs.Code.Tests.{fresh, entered}
 use Rattle.ov_cert.proofs.PathRules.Ends.{same_test}
 use Rattle.ov_cert.proofs.PathRules.Fresh.{adding_new, adding_old, adding_cases}
@@ -168,28 +168,29 @@ pub node_tested : (g : LinkGraph) (x : ℕ) → Has g.nodes x → has g.nodes x 
 node_tested g x h = (has_tested g.nodes x (has g.nodes x) refl).1 h
 
 -- a node is added to a set
-taken : (u v : NodesOf) (x : ℕ) (b : Bool) → has u.graph.nodes x ≡ true → has u.members x ≡ false
+taken : (u v : NodeSetState) (x : ℕ) (b : Bool) → has u.graph.nodes x ≡ true → has u.members x ≡ false
     → b ≡ (has u.graph.nodes x && not (has u.members x)) → v ≡ cond b (record u { members = adding x u.members }) u
     → v ≡ record u { members = adding x u.members }
 taken u v x b node out f e =
     let t : b ≡ true = f ∙ sym (fresh_yes (has u.graph.nodes x) (has u.members x) node out) in
     e ∙ ap (λ (t : Bool). cond t (record u { members = adding x u.members }) u) t
 
-pub one_entered : (g : LinkGraph) (x : ℕ) (u v : NodesOf) (b : Bool) → has g.nodes x ≡ true
+pub one_entered : (g : LinkGraph) (x : ℕ) (u v : NodeSetState) (b : Bool) → has g.nodes x ≡ true
     → u ≡ record { graph = g; members = [] } → b ≡ (has u.graph.nodes x && not (has u.members x))
     → v ≡ cond b (record u { members = adding x u.members }) u → v ≡ record { graph = g; members = x ∷ [] }
 one_entered g x u v b node e f h =
-    taken u v x b (ap (λ (w : NodesOf). has w.graph.nodes x) e ∙ node) (ap (λ (w : NodesOf). has w.members x) e) f h
-    ∙ ap (λ (w : NodesOf). record w { members = adding x w.members }) e
+    taken u v x b (ap (λ (w : NodeSetState). has w.graph.nodes x) e ∙ node)
+    (ap (λ (w : NodeSetState). has w.members x) e) f h
+    ∙ ap (λ (w : NodeSetState). record w { members = adding x w.members }) e
 
-pub two_entered : (g : LinkGraph) (i j : ℕ) (u v w : NodesOf) (b d : Bool) → has g.nodes i ≡ true → has g.nodes j ≡ true
-    → i ≢ j → u ≡ record { graph = g; members = [] } →
+pub two_entered : (g : LinkGraph) (i j : ℕ) (u v w : NodeSetState) (b d : Bool) → has g.nodes i ≡ true
+    → has g.nodes j ≡ true → i ≢ j → u ≡ record { graph = g; members = [] } →
     b ≡ (has u.graph.nodes i && not (has u.members i)) → v ≡ cond b (record u { members = adding i u.members }) u →
     d ≡ (has v.graph.nodes j && not (has v.members j)) → w ≡ cond d (record v { members = adding j v.members }) v
     → w ≡ record { graph = g; members = adding j (i ∷ []) }
 two_entered g i j u v w b d ni nj ne e f h k l =
     let first = one_entered g i u v b ni e f h in
     let out : has (i ∷ []) j ≡ false = rw (ne_eqb i j ne) refl in
-    taken v w j d (ap (λ (t : NodesOf). has t.graph.nodes j) first ∙ nj)
-    (ap (λ (t : NodesOf). has t.members j) first ∙ out) k l
-    ∙ ap (λ (t : NodesOf). record t { members = adding j t.members }) first
+    taken v w j d (ap (λ (t : NodeSetState). has t.graph.nodes j) first ∙ nj)
+    (ap (λ (t : NodeSetState). has t.members j) first ∙ out) k l
+    ∙ ap (λ (t : NodeSetState). record t { members = adding j t.members }) first

@@ -15,7 +15,7 @@ use Rattle.ov_cert.specs.declared.fault.CheckFault.TheVariants.{BadGroup}
 use Rattle.ov_cert.specs.Verdict.{AllHold, IsFirstAtFault, HasNode, IsFrameFault, PassesFrame, HoldsPair, HoldsFan}
 use Rattle.ov_cert.specs.Verdict.{IsEntryFault}
 use Rattle.ov_cert.specs.Code.Tests.{is_group, is_node_set, is_cut_off, all_linked, is_pair_entry, is_fan_entry}
-use Rattle.ov_cert.specs.Code.Tests.{expected_pairs, pairs_fault, fans_fault, no_more, claim_fault, frame_fault}
+use Rattle.ov_cert.specs.Code.Tests.{expected_pairs, pairs_fault, fans_fault, no_more, body_fault, frame_fault}
 use Rattle.ov_cert.specs.Code.Tests.{entries_fault}
 use Rattle.ov_cert.proofs.EntryOrder.Finding.{not_yes, pairs_found, fans_found, found, none_when, some_when}
 use Rattle.ov_cert.proofs.Validity.Parting.{node_set_tested, group_tested, cut_off_tested, all_linked_tested}
@@ -68,7 +68,7 @@ FrameSays g q c None = PassesFrame g q c
 FrameSays g q c (Some fault) = IsFrameFault g q c fault
 
 claim_judged : (g : LinkGraph) (q : List ℕ) (c : Cert) → IsGraph g → HasNode g → IsGroup g q
-    → FrameSays g q c (claim_fault g q c)
+    → FrameSays g q c (body_fault g q c)
 claim_judged g q (AllLinked k) graph node group =
     let counted = count_tested (length q) (k + 1) in
     let linked = all_linked_tested g q group.ascends in
@@ -97,23 +97,23 @@ group_judged g q c node n = (node, n)
 pub frame_judged : (g : LinkGraph) (q : List ℕ) (c : Cert) → IsGraph g → FrameSays g q c (frame_fault g q c)
 frame_judged g q c graph =
     cond_says (FrameSays g q c) (eqb (length g.nodes) 0) (Some NoNodes)
-    (cond (is_group g q) (claim_fault g q c) (Some BadGroup))
+    (cond (is_group g q) (body_fault g q c) (Some BadGroup))
     (λ t. (none_tested (length g.nodes)).0 t)
-    (λ f. cond_says (FrameSays g q c) (is_group g q) (claim_fault g q c) (Some BadGroup)
+    (λ f. cond_says (FrameSays g q c) (is_group g q) (body_fault g q c) (Some BadGroup)
     (λ t. claim_judged g q c graph (some (length g.nodes) f) ((group_tested g q).0 t))
     (λ n. group_judged g q c (some (length g.nodes) f) (no (is_group g q) (group_tested g q) n)))
 
-claim_at : (g : LinkGraph) (q : List ℕ) (c : Cert) → HasNode g → IsGroup g q → frame_fault g q c ≡ claim_fault g q c
-claim_at g q c node group = rw (some_off (length g.nodes) node, (group_tested g q).1 group) refl
+body_at : (g : LinkGraph) (q : List ℕ) (c : Cert) → HasNode g → IsGroup g q → frame_fault g q c ≡ body_fault g q c
+body_at g q c node group = rw (some_off (length g.nodes) node, (group_tested g q).1 group) refl
 
 linked_fault_found : (g : LinkGraph) (q : List ℕ) (k : ℕ) (fault : CheckFault) → IsFrameFault g q (AllLinked k) fault
     → frame_fault g q (AllLinked k) ≡ Some fault
 linked_fault_found g q k NoNodes p = rw ((none_tested (length g.nodes)).1 p) refl
 linked_fault_found g q k BadGroup p = rw (some_off (length g.nodes) p.0, off (is_group g q) (group_tested g q) p.1) refl
 linked_fault_found g q k Count p =
-    claim_at g q (AllLinked k) p.0 p.1 ∙ rw (off (eqb (length q) (k + 1)) (count_tested (length q) (k + 1)) p.2) refl
+    body_at g q (AllLinked k) p.0 p.1 ∙ rw (off (eqb (length q) (k + 1)) (count_tested (length q) (k + 1)) p.2) refl
 linked_fault_found g q k NotLinked p =
-    claim_at g q (AllLinked k) p.0 p.1
+    body_at g q (AllLinked k) p.0 p.1
     ∙ rw ((count_tested (length q) (k + 1)).1 p.2, off (all_linked g q) (all_linked_tested g q p.1.ascends) p.3) refl
 linked_fault_found g q k Cut p = absurd p
 linked_fault_found g q k Side p = absurd p
@@ -127,12 +127,12 @@ split_fault_found g q c graph NoNodes p = rw ((none_tested (length g.nodes)).1 p
 split_fault_found g q c graph BadGroup p = rw (some_off (length g.nodes) p.0, off (is_group g q) (group_tested g q) p.1)
     refl
 split_fault_found g q c graph Count p =
-    claim_at g q (SplitBy c) p.0 p.1 ∙ rw (off (eqb (length c.cut) c.k) (count_tested (length c.cut) c.k) p.2) refl
+    body_at g q (SplitBy c) p.0 p.1 ∙ rw (off (eqb (length c.cut) c.k) (count_tested (length c.cut) c.k) p.2) refl
 split_fault_found g q c graph Cut p =
-    claim_at g q (SplitBy c) p.0 p.1
+    body_at g q (SplitBy c) p.0 p.1
     ∙ rw ((count_tested (length c.cut) c.k).1 p.2, off (is_node_set g c.cut) (node_set_tested g c.cut) p.3) refl
 split_fault_found g q c graph Side p =
-    claim_at g q (SplitBy c) p.0 p.1
+    body_at g q (SplitBy c) p.0 p.1
     ∙ rw (
       (count_tested (length c.cut) c.k).1 p.2,
       (node_set_tested g c.cut).1 p.3,
@@ -147,13 +147,13 @@ split_fault_found g q c graph Extra p = absurd p
 pub frame_found : (g : LinkGraph) (q : List ℕ) (c : Cert) → IsGraph g → (x : Option CheckFault) → FrameSays g q c x
     → frame_fault g q c ≡ x
 frame_found g q (AllLinked k) graph None p =
-    claim_at g q (AllLinked k) p.0 p.1 ∙ rw (
+    body_at g q (AllLinked k) p.0 p.1 ∙ rw (
       (count_tested (length q) (k + 1)).1 p.2,
       (all_linked_tested g q p.1.ascends).1 p.3,
     ) refl
 frame_found g q (AllLinked k) graph (Some fault) p = linked_fault_found g q k fault p
 frame_found g q (SplitBy c) graph None p =
-    claim_at g q (SplitBy c) p.0 p.1
+    body_at g q (SplitBy c) p.0 p.1
     ∙ rw ((count_tested (length c.cut) c.k).1 p.2, (node_set_tested g c.cut).1 p.3, (cut_off_tested g q c graph).1 p.4)
     refl
 frame_found g q (SplitBy c) graph (Some fault) p = split_fault_found g q c graph fault p

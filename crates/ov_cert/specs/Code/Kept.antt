@@ -4,7 +4,7 @@ use Rattle.std.specs.Global.{Global}
 use Rattle.ov_graph.specs.Links.{LinkGraph}
 
 -- a set of nodes of a graph; the members ascend
-pub record NodesOf : Type 0 where
+pub record NodeSetState : Type 0 where
   pub graph : LinkGraph
   pub members : List ℕ
 

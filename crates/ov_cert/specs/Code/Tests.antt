@@ -153,11 +153,11 @@ abbrev pub first : Option CheckFault → Option CheckFault → Option CheckFault
 first None later = later
 first (Some e) later = Some e
 
--- the first fault of the claim, for the group: first of k, then of the links or of the cut and its side
-abbrev pub claim_fault : LinkGraph → List ℕ → Cert → Option CheckFault
-claim_fault g q (AllLinked k) = if length q == k + 1 then (if all_linked g q then None else Some NotLinked) else Some
+-- the first fault of the certificate's body, for the group: first of k, then of the links or of the cut and its side
+abbrev pub body_fault : LinkGraph → List ℕ → Cert → Option CheckFault
+body_fault g q (AllLinked k) = if length q == k + 1 then (if all_linked g q then None else Some NotLinked) else Some
     Count
-claim_fault g q (SplitBy c) =
+body_fault g q (SplitBy c) =
     if length c.cut == c.k
     then (if is_node_set g c.cut then (if is_cut_off g q c then None else Some Side) else Some Cut)
     else Some Count
@@ -165,7 +165,7 @@ claim_fault g q (SplitBy c) =
 -- the first fault of the frame
 abbrev pub frame_fault : LinkGraph → List ℕ → Cert → Option CheckFault
 frame_fault g q c = if length g.nodes == 0 then Some NoNodes else
-    (if is_group g q then claim_fault g q c else Some BadGroup)
+    (if is_group g q then body_fault g q c else Some BadGroup)
 
 -- whether the certificate has no entries beyond the expected ones
 abbrev pub no_more : LinkGraph → List ℕ → Split → Bool

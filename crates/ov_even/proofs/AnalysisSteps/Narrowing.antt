@@ -13,7 +13,7 @@ use Rattle.ov_fans.proofs.PieceCuts.Decided.{decides}
 use Rattle.ov_fans.proofs.PieceNets.Ranks.{fits}
 use Rattle.ov_even.specs.Harvest.{IsBroughtIn, IsCleared, AreRight, Suffice}
 use Rattle.ov_even.specs.declared.haul.Haul.{Haul}
-use Rattle.ov_fans.specs.Group.{GroupIn}
+use Rattle.ov_fans.specs.Group.{SettlerState}
 use Rattle.ov_even.specs.Levels.{IsLevelCleared, StopsAt, IsTried, SearchState}
 use Rattle.ov_even.specs.Code.Narrowing.{HasDeciding, AreBounds, IsBetween, HasCutWithin}
 use Rattle.ov_even.proofs.EvenTest.Deciding.{cleared_good}
@@ -168,19 +168,19 @@ tried_suffices g q low level high kept hauls has bounds between right tried with
     (subst (λ (l : ℕ). StopsAt g q hauls l stop.0) next stop.1)
 
 -- the haul of a settler for the graph and the group of a search is right for that search
-pub right_of_one : (settler : GroupIn) (g : LinkGraph) (q : List ℕ) (s : SearchState) (haul : Haul) (hauls : List Haul)
-    → settler ≡ record { graph = g; members = q } → s.graph ≡ g → s.members ≡ q → hauls ≡ haul ∷ []
+pub right_of_one : (settler : SettlerState) (g : LinkGraph) (q : List ℕ) (s : SearchState) (haul : Haul)
+    (hauls : List Haul) → settler ≡ record { graph = g; members = q } → s.graph ≡ g → s.members ≡ q → hauls ≡ haul ∷ []
     → AreRight settler.graph settler.members (haul ∷ []) → AreRight s.graph s.members hauls
 right_of_one settler g q s haul hauls is d e f right =
-    rw (d, e, f) (subst (λ (x : GroupIn). AreRight x.graph x.members (haul ∷ [])) is right)
+    rw (d, e, f) (subst (λ (x : SettlerState). AreRight x.graph x.members (haul ∷ [])) is right)
 
 -- a level that it tried is one that the search had tried
-pub tried_of_one : (settler : GroupIn) (g : LinkGraph) (q : List ℕ) (s : SearchState) (haul : Haul) (hauls : List Haul)
-    (level : ℕ) → settler ≡ record { graph = g; members = q } → s.graph ≡ g → s.members ≡ q → hauls ≡ haul ∷ []
+pub tried_of_one : (settler : SettlerState) (g : LinkGraph) (q : List ℕ) (s : SearchState) (haul : Haul)
+    (hauls : List Haul) (level : ℕ) → settler ≡ record { graph = g; members = q } → s.graph ≡ g → s.members ≡ q → hauls ≡ haul ∷ []
     → level ≡ s.level → IsTried settler.graph settler.members (haul ∷ []) level
     → IsTried s.graph s.members hauls s.level
 tried_of_one settler g q s haul hauls level is d e f same tried =
-    rw (d, e, f, ← same) (subst (λ (x : GroupIn). IsTried x.graph x.members (haul ∷ []) level) is tried)
+    rw (d, e, f, ← same) (subst (λ (x : SettlerState). IsTried x.graph x.members (haul ∷ []) level) is tried)
 
 -- a fact that holds anyway, where there is a value and where there is none
 pub if_some : {T : Type 0} (P : Type 0) (r : Option T) → P → IfSome r (λ x. P)

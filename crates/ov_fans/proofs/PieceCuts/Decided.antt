@@ -3,7 +3,7 @@ use Rattle.std.proofs.Common.{◌↔◌, ℕ, inl, inr, List}
 use Rattle.ov_graph.specs.Links.{LinkGraph, IsGraph}
 use Rattle.ov_fans.specs.Pieces.{IsGood}
 use Rattle.ov_fans.specs.Cuts.{IsFoundFor}
-use Rattle.ov_fans.specs.Theorems.{IsNoCut, Decides}
+use Rattle.ov_fans.specs.Theorems.{IsNoCut, RightDecides}
 use Rattle.ov_fans.specs.declared.piece.Piece.{Piece}
 use Rattle.ov_fans.specs.declared.settled.Found.{Found}
 use Rattle.ov_fans.specs.declared.settled.Found.TheVariants.{Linked, Paths, Cut}
@@ -18,5 +18,5 @@ found_decides g q p (Cut parting) graph right = (
   (λ h. absurd h),
 )
 
-pub decides : Decides
+pub decides : RightDecides
 decides g q s graph right = found_decides g q s.piece s.found graph right

@@ -7,7 +7,7 @@ use Rattle.ov_graph.specs.Row.{HasBit}
 use Rattle.ov_graph.specs.Row.{picked}
 use Rattle.ov_split.specs.Net.{Net, IsFanOf}
 use Rattle.ov_flow.specs.Flow.{IsFull, IsFullBy, ArePlaces}
-use Rattle.ov_flow.specs.declared.step.Stuck.{Stuck}
+use Rattle.ov_flow.specs.declared.search_result.Stuck.{Stuck}
 use Rattle.ov_flow.proofs.Rows.{full_picked, bits_within}
 use Rattle.ov_fans.specs.Pieces.{member_at, level_of, source_of, source_place, IsPiece, AreAskedPaths}
 use Rattle.ov_fans.specs.Cuts.{IsCut, IsNearest, IsFar, IsSide, IsParted, AreRightPaths}

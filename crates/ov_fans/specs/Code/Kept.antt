@@ -1,17 +1,16 @@
 -- How the code keeps members and nets: by place, in rows of bits.
-use Rattle.std.specs.Prelude.{◌≡◌, ◌≢◌, ◌↔◌, ℕ, ◌<◌, ◌≤◌, List, map, length, Option, IfSome}
+use Rattle.std.specs.Prelude.{◌≡◌, ◌≢◌, ◌↔◌, ℕ, ◌<◌, ◌≤◌, List, map, length, IfSome}
 use Rattle.ov_ids.specs.Members.{Has, Ascends}
 use Rattle.ov_graph.specs.Links.{LinkGraph, IsGraph, IsWithinLimit}
 use Rattle.ov_graph.specs.Paths.{node_at}
 use Rattle.ov_graph.specs.Row.{HasBit}
-use Rattle.ov_graph.specs.Row.{picked}
 use Rattle.ov_split.specs.Net.{Net}
-use Rattle.ov_split.specs.Places.{node_if}
-use Rattle.ov_fans.specs.Group.{GroupIn}
-use Rattle.ov_fans.specs.declared.aim.Aim.{Aim}
+use Rattle.ov_split.specs.Places.{net_at}
+use Rattle.ov_fans.specs.Group.{SettlerState}
+use Rattle.ov_fans.specs.declared.piece_net.Aim.{Aim}
 
 -- the group of the nodes at these places
-abbrev pub group_at : LinkGraph → List ℕ → GroupIn
+abbrev pub group_at : LinkGraph → List ℕ → SettlerState
 group_at g places = record { graph = g; members = map (node_at g) places }
 
 -- these are one or more places of nodes, ascending, and the row has their bits
@@ -22,15 +21,6 @@ pub record AreSeats (g : LinkGraph) (places row : List ℕ) : Type 0 where
   pub ascend : Ascends places
   pub below : (p : ℕ) → Has places p → p < length g.nodes
   pub bits : (p : ℕ) → HasBit row p ↔ Has places p
-
--- the net with the nodes at these places
-abbrev pub net_at : LinkGraph → Option ℕ → ℕ → List ℕ → Net
-net_at g avoided source targets = record {
-  graph = g;
-  avoided = node_if g avoided;
-  source = node_at g source;
-  targets = picked targets 0 g.nodes;
-}
 
 -- n is the net of the aim in g. Its places are those of nodes, and the source is neither avoided nor a target
 pub record IsAimFor (g : LinkGraph) (n : Net) (aim : Aim) : Type 0 where

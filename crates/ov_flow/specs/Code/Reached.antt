@@ -8,7 +8,7 @@ use Rattle.ov_graph.specs.Links.{Linked}
 use Rattle.ov_graph.specs.Row.{HasBit}
 use Rattle.ov_split.specs.Net.{Net}
 use Rattle.ov_split.specs.Code.Residual.{Table, IsFree, IsStuck}
-use Rattle.ov_flow.specs.declared.tree.Tree.{Tree}
+use Rattle.ov_flow.specs.declared.search_tree.Tree.{Tree}
 
 -- the open end after a link to w is taken: the node before w on its path, or w where no path comes to it
 abbrev pub tip_of : Table → ℕ → ℕ

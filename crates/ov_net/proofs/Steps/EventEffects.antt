@@ -30,8 +30,8 @@ use Rattle.ov_net.specs.declared.event.Event.TheVariants.{Boot, Deliver, Lose, R
 use Rattle.ov_net.specs.declared.event.Event.TheVariants.{Broadcast, Timer, Snapshot}
 use Rattle.ov_net.specs.declared.fault.NetFault.{NetFault}
 use Rattle.ov_net.specs.declared.fault.NetFault.TheVariants.{UnknownNode, UsedId, CrashedNode, TooManyNodes}
-use Rattle.ov_net.specs.declared.fault.NetFault.TheVariants.{NoSuchPacket, BagFull, TooManyEntries, NotCrashed, NoTimer}
-use Rattle.ov_net.specs.declared.fault.NetFault.TheVariants.{TooManyMessages, PayloadTooLong}
+use Rattle.ov_net.specs.declared.fault.NetFault.TheVariants.{NoSuchPacket, TooManyPackets, TooManyEntries, NotCrashed}
+use Rattle.ov_net.specs.declared.fault.NetFault.TheVariants.{NoTimer, TooManyMessages, PayloadTooLong}
 use Rattle.ov_net.specs.declared.member.Member.{Member}
 use Rattle.ov_net.specs.declared.member.Member.TheVariants.{Live, Gone}
 
@@ -313,7 +313,7 @@ Sends (Timer a id) = Unit {0}
 Sends Snapshot = ⊥
 
 last_place : (w : Net) → PlacesLast w None → HasPlaces w
-last_place w h = (step_none (HasPlaces w) BagFull Passed h).0
+last_place w h = (step_none (HasPlaces w) TooManyPackets Passed h).0
 
 live_next : (w : Net) (a : ℕ) (After : Option NetFault → Type 0) → LiveThen w a After None → After None
 live_next w a After h =

@@ -109,7 +109,7 @@ names before n (Some (says.Params numbers)) behind f (inl late) = inl late.1
 names before n (Some (says.Params numbers)) behind f (inr beyond) = inr beyond.2
 names before n (Some (says.Event event)) behind f is = absurd is
 names before n (Some (says.Look look)) behind f is = absurd is
-names before n (Some (says.Analyse subject)) behind f is = absurd is
+names before n (Some (says.Analyse subject workers)) behind f is = absurd is
 
 of_line : (bytes : List ℕ) (place : ℕ) (f : RunFault) → IsFaultAtPlace (stated_lines bytes) place f → IsOfALine bytes f
 unfolding IsFaultAtPlace

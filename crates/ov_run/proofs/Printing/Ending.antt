@@ -22,7 +22,7 @@ look_nothing b (Certificate subject) = refl
 line_nothing : (b : CoreState) (line : Line) → BeginsLine b line []
 line_nothing b (line.Event event words) = refl
 line_nothing b (line.Look look) = look_nothing b look
-line_nothing b (line.Analyse subject) = refl
+line_nothing b (line.Analyse subject workers) = refl
 
 -- nothing is printed yet
 pub nothing : (b : CoreState) (lines : List Line) → BeginsLines b lines []

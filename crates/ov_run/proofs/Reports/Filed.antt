@@ -5,7 +5,7 @@ use Rattle.std.proofs.lemmas.Option.{none-some}
 use Rattle.ov_ids.specs.Members.{Has}
 use Rattle.ov_snap.specs.declared.fault.CoreFault.TheVariants.{OutOfMemory}
 use Rattle.ov_ids.specs.FaultOrder.{IsRefusedBy, Passed, Step}
-use Rattle.ov_ids.proofs.Stepping.{step_none}
+use Rattle.ov_ids.proofs.Stepping.{step_none, step_passes}
 use Rattle.ov_graph.specs.Links.{LinkGraph, IsGroup}
 use Rattle.ov_cert.specs.Valid.{IsValidForGroup}
 use Rattle.ov_cert.specs.declared.cert.Cert.{Cert}
@@ -15,10 +15,11 @@ use Rattle.ov_net.specs.Journal.{AreLinks, Live}
 use Rattle.ov_net.proofs.Links.OneGraph.{links_one}
 use Rattle.ov_snap.specs.CoreState.{CoreState, HasReport, IsSound}
 use Rattle.ov_snap.specs.ReportState.{ReportState, IsSo}
-use Rattle.ov_snap.specs.Refusals.{BeginJudged, FilingJudged}
+use Rattle.ov_snap.specs.Refusals.{BeginJudged, FilingJudged, IsFiled}
 use Rattle.ov_snap.specs.Snapshots.{IsMoment}
 use Rattle.ov_snap.specs.declared.fault.CoreFault.{CoreFault}
-use Rattle.ov_snap.specs.declared.fault.CoreFault.TheVariants.{NoSuchMoment, NoNodes, BadGroup, AlreadyFiled}
+use Rattle.ov_snap.specs.declared.fault.CoreFault.TheVariants.{NoSuchMoment, NoNodes, BadGroup, OtherGraph}
+use Rattle.ov_snap.specs.declared.fault.CoreFault.TheVariants.{AlreadyFiled}
 use Rattle.ov_run.specs.Subjects.{members_of, IsReportOf, IsGroupThen, AnalysisJudged}
 use Rattle.ov_run.specs.declared.scenario.Subject.{Subject}
 
@@ -153,3 +154,21 @@ job_filed b s m g sound judged at links (Ok r) moment graph members =
     may_be_filed b s r sound judged (moment ∙ at) (subst (AreLinks b.world.journal s.moment) (sym graph) links)
     (members ∙ ap (members_of s.group) (sym graph))
 job_filed b s m g sound judged at links (Err f) moment graph members = tt
+
+-- where nothing stands against the report, only memory can refuse to file it; so it refuses the analysis
+pub filing_refused : (b : CoreState) (s : Subject) (r : ReportState) (f : CoreFault) → AnalysisJudged b s None
+    → FilingJudged b r None → IsRefusedBy OutOfMemory (FilingJudged b r) f
+    → IsRefusedBy OutOfMemory (AnalysisJudged b s) f
+filing_refused b s r f judged free (inr memory) = inr (memory.0, judged)
+filing_refused b s r f judged free (inl refused) =
+    let Links : Type 0 = AreLinks b.world.journal r.moment r.graph in
+    let Free : Type 0 = ¬ IsFiled b r.moment r.members in
+    let first = step_none (IsMoment b.world.journal r.moment) NoSuchMoment
+    (Step Links OtherGraph (Step Free AlreadyFiled Passed)) free in
+    let second = step_none Links OtherGraph (Step Free AlreadyFiled Passed) first.1 in
+    let third = step_none Free AlreadyFiled Passed second.1 in
+    let behind = step_passes (IsMoment b.world.journal r.moment) NoSuchMoment
+    (Step Links OtherGraph (Step Free AlreadyFiled Passed)) (Some f) first.0 refused in
+    let last = step_passes Links OtherGraph (Step Free AlreadyFiled Passed) (Some f) second.0 behind in
+    let none : Some f ≡ None = step_passes Free AlreadyFiled Passed (Some f) third.0 last in
+    absurd (cc)

@@ -33,9 +33,10 @@ line_leads b (line.Event event words) next own u (inl (e, happened, is)) leads =
     (Net event words ∷ leads.0, (next, inl (e, happened), leads.1))
 line_leads b (line.Event event words) next own u (inr (fault, refused, same, is)) leads = rests b next u same leads
 line_leads b (line.Look look) next own u prints leads = rests b next u prints.0 leads
-line_leads b (line.Analyse subject) next own u (inl (r, analysed, is)) leads =
+line_leads b (line.Analyse subject workers) next own u (inl (r, analysed, is)) leads =
     (File r ∷ leads.0, (next, inl analysed.filed, leads.1))
-line_leads b (line.Analyse subject) next own u (inr (fault, refused, same, is)) leads = rests b next u same leads
+line_leads b (line.Analyse subject workers) next own u (inr (fault, refused, same, is)) leads =
+    rests b next u same leads
 
 lines_lead : (b : CoreState) (lines : List Line) (u : CoreState) (text : List ℕ) → PrintsLines b lines u text
     → Leads b u
@@ -74,6 +75,6 @@ certified b subject u text made same (inr (none, is)) = inr (50, same, is)
 
 pub every_printed_report_is_so : EveryPrintedReportIsSo
 every_printed_report_is_so = record {
-  analysed = λ b subject u text made prints. analysed b subject u text made prints;
+  analysed = λ b subject workers u text made prints. analysed b subject u text made prints;
   certified = λ b subject u text made prints. certified b subject u text made prints.0 prints.1;
 }

@@ -35,14 +35,14 @@ passes None (Some (says.Seed seed)) nothing behind more later asks = asks
 passes None (Some (says.Words words)) nothing behind more later asks = absurd nothing
 passes None (Some (says.Event event)) nothing behind more later asks = absurd nothing
 passes None (Some (says.Look look)) nothing behind more later asks = absurd nothing
-passes None (Some (says.Analyse subject)) nothing behind more later asks = absurd nothing
+passes None (Some (says.Analyse subject workers)) nothing behind more later asks = absurd nothing
 passes (Some given) None nothing behind more later asks = asks
 passes (Some given) (Some (says.Params numbers)) nothing behind more later asks = asks
 passes (Some given) (Some (says.Seed seed)) nothing behind more later asks = asks
 passes (Some given) (Some (says.Words words)) nothing behind more later asks = absurd nothing
 passes (Some given) (Some (says.Event event)) nothing behind more later asks = absurd nothing
 passes (Some given) (Some (says.Look look)) nothing behind more later asks = absurd nothing
-passes (Some given) (Some (says.Analyse subject)) nothing behind more later asks = absurd nothing
+passes (Some given) (Some (says.Analyse subject workers)) nothing behind more later asks = absurd nothing
 
 -- a line that asks for nothing is added
 pub nothing_collected :
@@ -90,13 +90,13 @@ looks None look behind more later asks = (later, refl, asks)
 looks (Some given) look behind more later asks = (later, refl, asks)
 
 analyses :
-    (given : Option (List ℕ)) (subject : Subject) (behind : List (Option Statement)) (more : List (List ℕ))
-    (later : List Line)
+    (given : Option (List ℕ)) (subject : Subject) (workers : ℕ) (behind : List (Option Statement))
+    (more : List (List ℕ)) (later : List Line)
     → AskFor behind more later
-    → AskFor (waiting given ++ Some (says.Analyse subject) ∷ behind) more (line.Analyse subject ∷ later)
+    → AskFor (waiting given ++ Some (says.Analyse subject workers) ∷ behind) more (line.Analyse subject workers ∷ later)
 unfolding AskFor
-analyses None subject behind more later asks = (later, refl, asks)
-analyses (Some given) subject behind more later asks = (later, refl, asks)
+analyses None subject workers behind more later asks = (later, refl, asks)
+analyses (Some given) subject workers behind more later asks = (later, refl, asks)
 
 -- one line to run comes of what a line says, and no random words are drawn for it
 line_collected :
@@ -124,11 +124,12 @@ look_collected old new look draws given lines =
 
 -- an analysis is added
 pub analysis_collected :
-    (old new : Collector) (subject : Subject) → new.draws ≡ old.draws → new.given ≡ None
-    → new.lines.items ≡ old.lines.items ++ line.Analyse subject ∷ []
-    → Collects old (Some (says.Analyse subject)) new
-analysis_collected old new subject draws given lines =
-    line_collected old new (says.Analyse subject) (line.Analyse subject) draws given lines (analyses old.given subject)
+    (old new : Collector) (subject : Subject) (workers : ℕ) → new.draws ≡ old.draws → new.given ≡ None
+    → new.lines.items ≡ old.lines.items ++ line.Analyse subject workers ∷ []
+    → Collects old (Some (says.Analyse subject workers)) new
+analysis_collected old new subject workers draws given lines =
+    line_collected old new (says.Analyse subject workers) (line.Analyse subject workers) draws given lines
+    (analyses old.given subject workers)
 
 given_event :
     (words : List ℕ) (event : Event) (behind : List (Option Statement)) (more : List (List ℕ)) (later : List Line)

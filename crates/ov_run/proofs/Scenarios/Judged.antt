@@ -110,10 +110,11 @@ look_passes head line look behind is before h = (
 )
 
 pub analysis_passes :
-    (head : Head) (line : Stated) (subject : Subject) (behind : List Stated) → line.says ≡ Some (says.Analyse subject)
+    (head : Head) (line : Stated) (subject : Subject) (workers : ℕ) (behind : List Stated)
+    → line.says ≡ Some (says.Analyse subject workers)
     → Judges {U = Unit {0}} (Ok tt) head line behind head
-analysis_passes head line subject behind is before h = (
-  λ f at_fault. said_by before line (Some (says.Analyse subject)) behind f is at_fault,
+analysis_passes head line subject workers behind is before h = (
+  λ f at_fault. said_by before line (Some (says.Analyse subject workers)) behind f is at_fault,
   head_kept before line head (λ x e. absurd cc) (λ x e. absurd cc) (λ x e. absurd cc) h,
 )
 

@@ -71,7 +71,7 @@ one_fault_of before behind n (Some (says.Params numbers)) f g (inr one) (inl als
 one_fault_of before behind n (Some (says.Params numbers)) f g (inr one) (inr also) = one.2 ∙ sym also.2
 one_fault_of before behind n (Some (says.Event e)) f g one also = absurd one
 one_fault_of before behind n (Some (says.Look look)) f g one also = absurd one
-one_fault_of before behind n (Some (says.Analyse subject)) f g one also = absurd one
+one_fault_of before behind n (Some (says.Analyse subject workers)) f g one also = absurd one
 
 one_fault_at : (all : List Stated) (place other : ℕ) (f g : RunFault) → place ≡ other → IsFaultAtPlace all place f
     → IsFaultAtPlace all other g → f ≡ g
@@ -243,10 +243,11 @@ one_run (Some (says.Look look) ∷ more) stream drawn others left rest lines als
     is
     ∙ ap (λ ls. line.Look look ∷ ls)
     (one_run more stream drawn others left rest later later_also draws again asks asks_also) ∙ sym is_also
-one_run (Some (says.Analyse subject) ∷ more) stream drawn others left rest lines also draws again (later, is, asks)
+one_run (Some (says.Analyse subject workers) ∷ more) stream drawn others left rest lines also draws again
+    (later, is, asks)
     (later_also, is_also, asks_also) =
     is
-    ∙ ap (λ ls. line.Analyse subject ∷ ls)
+    ∙ ap (λ ls. line.Analyse subject workers ∷ ls)
     (one_run more stream drawn others left rest later later_also draws again asks asks_also) ∙ sym is_also
 one_run (other ∷ more) stream drawn others left rest lines also draws again asks asks_also =
     one_run more stream drawn others left rest lines also draws again asks asks_also

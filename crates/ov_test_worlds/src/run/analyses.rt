@@ -2,7 +2,7 @@
 use super::runs::comes_to;
 
 /// Each scenario, and all that it prints.
-static ANALYSES: [(&str, &str); 8] = [
+static ANALYSES: [(&str, &str); 9] = [
     (
         "boot 1\nboot 2 by 1\ndeliver 0\nsnapshot\ndeliver 0\nsnapshot\nanalyse 4\nanalyse 6\n",
         "entry 1 born 1\nentry 2 born 2\nentry 3 up 1 2\nentry 4\nentry 5 up 2 1\nentry 6\nreport 4 split k 0 cut - near 2 far 1 side 2\nreport 6 linked k 1\n",
@@ -28,6 +28,10 @@ static ANALYSES: [(&str, &str); 8] = [
         "entry 1 born 1\nentry 2 born 2\nentry 3\nentry 4\nrefused 50\nreport 3 split k 0 cut - near 2 far 1 side 2\n{\"cut\":[],\"fans\":[],\"far\":1,\"k\":0,\"links\":[],\"moment\":3,\"near\":2,\"nodes\":[1,2],\"pairs\":[],\"side\":[2],\"verdict\":\"split\",\"version\":1}\nrefused 50\n{\"cut\":[],\"fans\":[],\"far\":1,\"k\":0,\"links\":[],\"moment\":3,\"near\":2,\"nodes\":[1,2],\"pairs\":[],\"side\":[2],\"verdict\":\"split\",\"version\":1}\n",
     ),
     (
+        "boot 1\nboot 2\nsnapshot\nanalyse 3 workers 2\nanalyse 3\nanalyse 3 workers 64 group 2\nanalyse 3 workers 5 group 2\nanalyse 1 workers 1\n",
+        "entry 1 born 1\nentry 2 born 2\nentry 3\nreport 3 split k 0 cut - near 2 far 1 side 2\nrefused 52\nreport 3 linked k 0 group 2\nrefused 52\nrefused 50\n",
+    ),
+    (
         "boot 1\nboot 2\nboot 3\nsnapshot\nanalyse 4 group 1,3\n",
         "entry 1 born 1\nentry 2 born 2\nentry 3 born 3\nentry 4\nreport 4 split k 0 cut - near 3 far 1 side 3 group 1,3\n",
     ),
@@ -40,9 +44,6 @@ static ANALYSES: [(&str, &str); 8] = [
 #[test]
 fn analyses_print_their_lines(rt: HostRuntime) {
     for (scenario, prints) in &ANALYSES {
-        assert!(rt;
-            comes_to(rt.alloc(), scenario, Ok(0), prints),
-            "at {scenario}"
-        );
+        assert!(rt; comes_to(&rt, scenario, Ok(0), prints), "at {scenario}");
     }
 }

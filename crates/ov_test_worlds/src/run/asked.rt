@@ -51,8 +51,8 @@ fn arguments_that_ask_for_a_run(rt: HostRuntime) -> Result<(), Fail> {
     is_run(&rt, alloc, "run \u{e4}/g.txt", "\u{e4}/g.txt")
 }
 
-/// Arguments that ask for an analysis of the file g, the ids of the group if one is given, and whether the certificate
-/// and the progress are asked for.
+/// Arguments that ask for an analysis of the file g by one worker, the ids of the group if one is given, and whether
+/// the certificate and the progress are asked for.
 static ANALYSES: [(&str, &[u32], bool, bool); 11] = [
     ("analyse g", &[], false, false),
     ("analyse g --certificate", &[], true, false),
@@ -94,7 +94,7 @@ fn group_of(alloc: Global, numbers: &[u32]) -> Result<Option<Vec<NodeId>>, Fail>
     Ok(Some(group))
 }
 
-/// The line asks for an analysis of the file g.
+/// The line asks for an analysis of the file g by one worker.
 fn asks_for_g(
     alloc: Global,
     line: &str,
@@ -105,17 +105,19 @@ fn asks_for_g(
     let expected = Request::Analyse {
         file: file(alloc, "g")?,
         group: group_of(alloc, numbers)?,
+        workers: 1,
         certificate,
         progress,
     };
     asks(alloc, line, &expected)
 }
 
-/// The line asks for an analysis for the group of 9 of what is read.
+/// The line asks for an analysis by one worker for the group of 9 of what is read.
 fn asks_for_nine(alloc: Global, line: &str) -> Result<bool, Fail> {
     let expected = Request::Analyse {
         file: None,
         group: group_of(alloc, &[9])?,
+        workers: 1,
         certificate: false,
         progress: false,
     };
@@ -137,8 +139,40 @@ fn arguments_that_ask_for_an_analysis(rt: HostRuntime) -> Result<(), Fail> {
     Ok(())
 }
 
+/// Arguments that ask for an analysis of all nodes of the file g, and the number of workers.
+static BY_WORKERS: [(&str, u32); 8] = [
+    ("analyse g", 1),
+    ("analyse g --workers 1", 1),
+    ("analyse g --workers 2", 2),
+    ("analyse --workers 64 g", 64),
+    ("analyse g --workers=4", 4),
+    ("analyse --workers=5 g", 5),
+    ("analyse g --workers 007", 7),
+    ("analyse g --workers 00000000000000000000000064", 64),
+];
+
+/// The line asks for an analysis of all nodes of the file g by so many workers.
+fn asks_for_workers(alloc: Global, line: &str, workers: u32) -> Result<bool, Fail> {
+    let expected = Request::Analyse {
+        file: file(alloc, "g")?,
+        group: None,
+        workers,
+        certificate: false,
+        progress: false,
+    };
+    asks(alloc, line, &expected)
+}
+
+#[test]
+fn arguments_that_ask_for_workers(rt: HostRuntime) -> Result<(), Fail> {
+    for (line, workers) in &BY_WORKERS {
+        assert!(rt; asks_for_workers(rt.alloc(), line, *workers)?, "at {line}");
+    }
+    Ok(())
+}
+
 /// Arguments that are none of the command, or ask for help.
-static REFUSED: [&str; 54] = [
+static REFUSED: [&str; 68] = [
     "fly",
     "-",
     "--",
@@ -173,10 +207,24 @@ static REFUSED: [&str; 54] = [
     "analyse g --group 1 --group 2",
     "analyse g --group=1 --group 1",
     "analyse g --gro 1",
-    "analyse --workers",
-    "analyse --workers 1",
-    "analyse --workers=4 g",
+    "analyse g --workers",
+    "analyse g --workers=",
     "analyse g --workers 0",
+    "analyse g --workers 000",
+    "analyse g --workers 65",
+    "analyse g --workers 4x",
+    "analyse g --workers x",
+    "analyse g --workers +4",
+    "analyse g --workers -4",
+    "analyse g --workers=-4",
+    "analyse g --workers 0x4",
+    "analyse g --workers 1,2",
+    "analyse g --workers 4294967297",
+    "analyse g --workers 18446744073709551617",
+    "analyse g --workers 2 --workers 2",
+    "analyse g --workers=1 --workers 2",
+    "run --workers 1",
+    "--workers 1",
     "analyse g --certificate --certificate",
     "analyse g --certificate=yes",
     "analyse g --certificate yes",

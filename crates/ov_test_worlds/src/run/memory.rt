@@ -2,8 +2,8 @@
 use super::runs::{TWO_JOIN, TWO_JOIN_PRINTS};
 use ov_io::{Sink, Source};
 use ov_run::{RunFault, run};
-use std::alloc::Global;
 use std::test::Fail;
+use std::thread::Threads;
 
 /// A scenario, all that it prints, and what it prints where one of its lines is refused out of memory: that of the
 /// scenario without this line, with `refused 99` in its place, from the first line to the last.
@@ -44,10 +44,10 @@ struct Outcome {
 }
 
 /// Runs a scenario with a writer that has room.
-fn outcome_of(alloc: Global, story: &Story) -> Result<Outcome, Fail> {
+fn outcome_of(rt: &(impl AllocGlobal + Threads + Sync), story: &Story) -> Result<Outcome, Fail> {
     let mut source = Source::new(story.scenario.as_bytes());
-    let mut sink = Sink::new(Vec::with_capacity(alloc, 256)?);
-    let answer = run(alloc, &mut source, &mut sink);
+    let mut sink = Sink::new(Vec::with_capacity(rt.alloc(), 256)?);
+    let answer = run(rt, rt.alloc(), &mut source, &mut sink);
     Ok(Outcome {
         answer,
         written: sink.into_writer(),
@@ -98,12 +98,12 @@ fn told(outcome: &Outcome, story: &Story) -> &'static str {
 /// It prints all when it is made once more.
 #[test]
 fn out_of_memory_refuses_one_event_or_ends_the_run(rt: HostRuntime) -> Result<(), Fail> {
-    let first = outcome_of(rt.alloc(), &TWO_NODES_JOIN)?;
+    let first = outcome_of(&rt, &TWO_NODES_JOIN)?;
     if !first.is_whole(&TWO_NODES_JOIN) {
         let told = told(&first, &TWO_NODES_JOIN);
         let _ = println!(rt; "seen: join: {told}");
         assert!(rt; told != "neither");
-        assert!(rt; outcome_of(rt.alloc(), &TWO_NODES_JOIN)?.is_whole(&TWO_NODES_JOIN));
+        assert!(rt; outcome_of(&rt, &TWO_NODES_JOIN)?.is_whole(&TWO_NODES_JOIN));
     }
     Ok(())
 }
@@ -111,12 +111,12 @@ fn out_of_memory_refuses_one_event_or_ends_the_run(rt: HostRuntime) -> Result<()
 /// The same of a scenario with an analysis.
 #[test]
 fn out_of_memory_refuses_an_analysis_or_ends_the_run(rt: HostRuntime) -> Result<(), Fail> {
-    let first = outcome_of(rt.alloc(), &ONE_NODE_IS_ANALYSED)?;
+    let first = outcome_of(&rt, &ONE_NODE_IS_ANALYSED)?;
     if !first.is_whole(&ONE_NODE_IS_ANALYSED) {
         let told = told(&first, &ONE_NODE_IS_ANALYSED);
         let _ = println!(rt; "seen: analyse: {told}");
         assert!(rt; told != "neither");
-        assert!(rt; outcome_of(rt.alloc(), &ONE_NODE_IS_ANALYSED)?.is_whole(&ONE_NODE_IS_ANALYSED));
+        assert!(rt; outcome_of(&rt, &ONE_NODE_IS_ANALYSED)?.is_whole(&ONE_NODE_IS_ANALYSED));
     }
     Ok(())
 }

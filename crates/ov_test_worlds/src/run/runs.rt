@@ -2,7 +2,7 @@
 use ov_io::{Sink, Source};
 use ov_run::{RunFault, run};
 use ov_test_kit::Slow;
-use std::alloc::Global;
+use std::thread::Threads;
 
 /// Each scenario, and all that it prints.
 static SCENARIOS: [(&str, &str); 9] = [
@@ -168,14 +168,14 @@ node 4 active 2 passive - eager 2 lazy -
 
 /// The scenario comes to this answer and prints this text.
 pub(super) fn comes_to(
-    alloc: Global,
+    rt: &(impl AllocGlobal + Threads + Sync),
     scenario: &str,
     answer: Result<u8, RunFault>,
     text: &str,
 ) -> bool {
     let mut source = Source::new(scenario.as_bytes());
-    let mut sink = Sink::new(Vec::new(alloc));
-    let told = run(alloc, &mut source, &mut sink);
+    let mut sink = Sink::new(Vec::new(rt.alloc()));
+    let told = run(rt, rt.alloc(), &mut source, &mut sink);
     let written = sink.into_writer();
     told == answer && written.as_slice() == text.as_bytes()
 }
@@ -183,17 +183,14 @@ pub(super) fn comes_to(
 #[test]
 fn scenarios_print_their_lines(rt: HostRuntime) {
     for (scenario, prints) in &SCENARIOS {
-        assert!(rt;
-            comes_to(rt.alloc(), scenario, Ok(0), prints),
-            "at {scenario}"
-        );
+        assert!(rt; comes_to(&rt, scenario, Ok(0), prints), "at {scenario}");
     }
 }
 
 /// A scenario, and the fault of its lines.
 static AT_FAULT: [(&str, RunFault); 6] = [
     ("boot 1\nfly\n", RunFault::Line(2)),
-    ("boot 1\n\nanalyse 1 workers 2\n", RunFault::Line(3)),
+    ("boot 1\n\nanalyse 1 workers 65\n", RunFault::Line(3)),
     ("boot 1\ntogether\nend\n", RunFault::Line(2)),
     ("boot 1\nend\n", RunFault::Line(2)),
     ("boot 1\nwords 5\n", RunFault::Line(2)),
@@ -206,17 +203,14 @@ static AT_FAULT: [(&str, RunFault); 6] = [
 #[test]
 fn a_file_at_fault_runs_nothing(rt: HostRuntime) {
     for (scenario, fault) in &AT_FAULT {
-        assert!(rt;
-            comes_to(rt.alloc(), scenario, Err(*fault), ""),
-            "at {scenario}"
-        );
+        assert!(rt; comes_to(&rt, scenario, Err(*fault), ""), "at {scenario}");
     }
 }
 
 /// With a reader that is interrupted after so many calls, two nodes that join come to this answer, to so many faults of
 /// the reader, and to this text.
 fn comes_by_slow_reader(
-    alloc: Global,
+    rt: &(impl AllocGlobal + Threads + Sync),
     calls_left: usize,
     answer: Result<u8, RunFault>,
     faults: u64,
@@ -224,8 +218,8 @@ fn comes_by_slow_reader(
 ) -> bool {
     let rest = TWO_JOIN.as_bytes();
     let mut source = Source::new(Slow { rest, calls_left });
-    let mut sink = Sink::new(Vec::new(alloc));
-    let told = run(alloc, &mut source, &mut sink);
+    let mut sink = Sink::new(Vec::new(rt.alloc()));
+    let told = run(rt, rt.alloc(), &mut source, &mut sink);
     let written = sink.into_writer();
     told == answer && source.faults() == faults && written.as_slice() == text.as_bytes()
 }
@@ -234,16 +228,16 @@ fn comes_by_slow_reader(
 fn a_reader_is_interrupted_at_each_read(rt: HostRuntime) {
     let reads = TWO_JOIN.len() + 1;
     for calls_left in 0..reads {
-        let is_refused = comes_by_slow_reader(rt.alloc(), calls_left, Err(RunFault::Read), 1, "");
+        let is_refused = comes_by_slow_reader(&rt, calls_left, Err(RunFault::Read), 1, "");
         assert!(rt; is_refused, "at {calls_left}");
     }
-    assert!(rt; comes_by_slow_reader(rt.alloc(), reads, Ok(0), 0, TWO_JOIN_PRINTS));
+    assert!(rt; comes_by_slow_reader(&rt, reads, Ok(0), 0, TWO_JOIN_PRINTS));
 }
 
 /// With a writer that is interrupted after so many calls, two nodes that join come to this answer, to no fault of the
 /// reader, and to so many of the writer.
 fn comes_by_slow_writer(
-    alloc: Global,
+    rt: &(impl AllocGlobal + Threads + Sync),
     calls_left: usize,
     answer: Result<u8, RunFault>,
     faults: u64,
@@ -251,15 +245,15 @@ fn comes_by_slow_writer(
     let mut source = Source::new(TWO_JOIN.as_bytes());
     let rest: &[u8] = &[];
     let mut sink = Sink::new(Slow { rest, calls_left });
-    let told = run(alloc, &mut source, &mut sink);
+    let told = run(rt, rt.alloc(), &mut source, &mut sink);
     told == answer && source.faults() == 0 && sink.faults() == faults
 }
 
 #[test]
 fn a_writer_is_interrupted_at_each_write(rt: HostRuntime) {
     for calls_left in 0..TWO_JOIN_PRINTS.len() {
-        let is_refused = comes_by_slow_writer(rt.alloc(), calls_left, Err(RunFault::Write), 1);
+        let is_refused = comes_by_slow_writer(&rt, calls_left, Err(RunFault::Write), 1);
         assert!(rt; is_refused, "at {calls_left}");
     }
-    assert!(rt; comes_by_slow_writer(rt.alloc(), TWO_JOIN_PRINTS.len(), Ok(0), 0));
+    assert!(rt; comes_by_slow_writer(&rt, TWO_JOIN_PRINTS.len(), Ok(0), 0));
 }

@@ -4,7 +4,7 @@ use Rattle.std.specs.List.{list_all}
 use Rattle.ov_ids.specs.Members.{Ascends}
 use Rattle.ov_ids.specs.Sets.{has}
 use Rattle.ov_graph.specs.Links.{LinkGraph}
-use Rattle.ov_cert.specs.Code.Kept.{NodesOf}
+use Rattle.ov_cert.specs.Code.Kept.{NodeSetState}
 use Rattle.ov_cert.specs.Code.Tests.{fresh, entered}
 use Rattle.ov_cert.proofs.PathRules.NodeSets.{entered_set}
 use Rattle.ov_cert.proofs.node_set.node_set.Goals as goal
@@ -12,14 +12,15 @@ use Rattle.ov_cert.proofs.node_set.node_set.Goals as goal
 pub returns-then-enter_all-clause-some : goal.returns-then-enter_all-clause-some
 returns-then-enter_all-clause-some c =
     let up : Ascends c.args.ids.now = c.if-not-is_ascending.ensures.set.0 refl in
-    let of : LinkGraph → List ℕ → NodesOf = λ g ms. record { graph = g; members = ms } in
-    ap₂ of (c.enter_all.ensures.graph ∙ ap (λ (v : NodesOf). v.graph) c.new-set.ensures)
-    (c.enter_all.ensures.entered c.if-enter_all.true ∙ ap (λ (v : NodesOf). entered v.members c.args.ids.now)
+    let of : LinkGraph → List ℕ → NodeSetState = λ g ms. record { graph = g; members = ms } in
+    ap₂ of (c.enter_all.ensures.graph ∙ ap (λ (v : NodeSetState). v.graph) c.new-set.ensures)
+    (c.enter_all.ensures.entered c.if-enter_all.true ∙ ap (λ (v : NodeSetState). entered v.members c.args.ids.now)
     c.new-set.ensures ∙ (entered_set c.args.graph.now c.args.ids.now up).1)
 
-all_nodes : (g : LinkGraph) (ids : List ℕ) (old : NodesOf) (b : Bool) → old ≡ record { graph = g; members = [] }
+all_nodes : (g : LinkGraph) (ids : List ℕ) (old : NodeSetState) (b : Bool) → old ≡ record { graph = g; members = [] }
     → Ascends ids → b ≡ fresh old.graph old.members ids → list_all (λ x. has g.nodes x) ids ≡ b
-all_nodes g ids old b e up f = sym (entered_set g ids up).0 ∙ sym (ap (λ (v : NodesOf). fresh v.graph v.members ids) e)
+all_nodes g ids old b e up f = sym (entered_set g ids up).0
+    ∙ sym (ap (λ (v : NodeSetState). fresh v.graph v.members ids) e)
     ∙ sym f
 
 both : (a b t : Bool) → true ≡ a → b ≡ t → (a && b) ≡ t

@@ -1,6 +1,6 @@
 -- Before the first path, the two ends are used.
 use Rattle.std.proofs.Common.{ap}
-use Rattle.ov_cert.specs.Code.Kept.{NodesOf}
+use Rattle.ov_cert.specs.Code.Kept.{NodeSetState}
 use Rattle.ov_cert.specs.Code.Tests.{are_pair_paths}
 use Rattle.ov_cert.proofs.PathRules.NodeSets.{two_entered, node_tested}
 use Rattle.ov_cert.proofs.paths.are_paths.Goals as goal
@@ -13,6 +13,6 @@ loop-path-init c =
     (node_tested g c.args.i c.requires.i) (node_tested g c.args.j c.requires.j) c.requires.differ c.new-used.ensures
     c.enter.ensures.fresh c.enter.ensures.entered c.enter-2.ensures.fresh c.enter-2.ensures.entered in
     record {
-      graph = ap (λ (v : NodesOf). v.graph) e;
-      left = ap (λ (v : NodesOf). are_pair_paths g v.members c.args.i c.args.j c.args.paths.now) e;
+      graph = ap (λ (v : NodeSetState). v.graph) e;
+      left = ap (λ (v : NodeSetState). are_pair_paths g v.members c.args.i c.args.j c.args.paths.now) e;
     }

@@ -1,6 +1,6 @@
 -- Before the first path, the source is used.
 use Rattle.std.proofs.Common.{ap}
-use Rattle.ov_cert.specs.Code.Kept.{NodesOf}
+use Rattle.ov_cert.specs.Code.Kept.{NodeSetState}
 use Rattle.ov_cert.specs.Code.Tests.{are_fan_paths}
 use Rattle.ov_cert.proofs.PathRules.NodeSets.{one_entered, node_tested}
 use Rattle.ov_cert.proofs.paths.is_fan.Goals as goal
@@ -11,6 +11,6 @@ loop-path-init c =
     let e = one_entered g c.args.j c.new-used.result c.enter.new.self c.enter.result
     (node_tested g c.args.j c.requires.j) c.new-used.ensures c.enter.ensures.fresh c.enter.ensures.entered in
     record {
-      graph = ap (λ (v : NodesOf). v.graph) e;
-      left = ap (λ (v : NodesOf). are_fan_paths g c.args.group.now v.members c.args.j c.args.paths.now) e;
+      graph = ap (λ (v : NodeSetState). v.graph) e;
+      left = ap (λ (v : NodeSetState). are_fan_paths g c.args.group.now v.members c.args.j c.args.paths.now) e;
     }

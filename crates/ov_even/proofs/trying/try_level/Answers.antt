@@ -3,7 +3,7 @@ use Rattle.std.proofs.Common.{◌∙◌, ℕ, inl, inr, length, sym, subst}
 use Rattle.std.proofs.lemmas.Bool.{both_ways}
 use Rattle.ov_fans.specs.Pieces.{IsPiece}
 use Rattle.ov_fans.specs.Cuts.{IsRight}
-use Rattle.ov_fans.specs.Group.{GroupIn}
+use Rattle.ov_fans.specs.Group.{SettlerState}
 use Rattle.ov_fans.specs.Pieces.{IsPieceOf}
 use Rattle.ov_even.proofs.AnalysisSteps.Trials.{next_is, more_linked, more_kept, more_right, stopped, ended}
 use Rattle.ov_even.proofs.AnalysisSteps.Trials.{linked_right, alone_right}
@@ -28,13 +28,13 @@ settle-requires g c =
     let is = next_is s.graph s.members c.args.level c.loop-piece.pieces.items c.loop-piece.yielded
     c.loop-piece.piece-iterator c.next.new.self c.in-Some.piece c.requires.low c.requires.below
     c.loop-piece.invariant.way c.in-Some.ensures.steps in
-    subst (λ (x : GroupIn). IsPiece x.graph x.members c.in-Some.piece) (sym c.loop-piece.invariant.stays) is.0
+    subst (λ (x : SettlerState). IsPiece x.graph x.members c.in-Some.piece) (sym c.loop-piece.invariant.stays) is.0
 
 pub loop-piece-preserved-then-is_linked : goal.loop-piece-preserved-then-is_linked
 loop-piece-preserved-then-is_linked g c =
     let s = c.args.settler.now in
     let t = c.in_ok-settled.settled in
-    let right : IsRight s.graph s.members t = subst (λ (x : GroupIn). IsRight x.graph x.members t)
+    let right : IsRight s.graph s.members t = subst (λ (x : SettlerState). IsRight x.graph x.members t)
     c.loop-piece.invariant.stays c.in_ok-settled.ensures.right in
     record {
       stays = c.in_ok-settled.ensures.stays ∙ c.loop-piece.invariant.stays;
@@ -48,7 +48,7 @@ pub loop-piece-preserved : goal.loop-piece-preserved
 loop-piece-preserved g c =
     let s = c.args.settler.now in
     let t = c.in_ok-settled.settled in
-    let right : IsRight s.graph s.members t = subst (λ (x : GroupIn). IsRight x.graph x.members t)
+    let right : IsRight s.graph s.members t = subst (λ (x : SettlerState). IsRight x.graph x.members t)
     c.loop-piece.invariant.stays c.in_ok-settled.ensures.right in
     let is = next_is s.graph s.members c.args.level c.loop-piece.pieces.items c.loop-piece.yielded
     c.loop-piece.piece-iterator c.next.new.self c.in-Some.piece c.requires.low c.requires.below
@@ -66,7 +66,7 @@ pub returns-then-stops-clause-right : goal.returns-then-stops-clause-right
 returns-then-stops-clause-right g c =
     let s = c.args.settler.now in
     let t = c.in_ok-settled.settled in
-    let right : IsRight s.graph s.members t = subst (λ (x : GroupIn). IsRight x.graph x.members t)
+    let right : IsRight s.graph s.members t = subst (λ (x : SettlerState). IsRight x.graph x.members t)
     c.loop-piece.invariant.stays c.in_ok-settled.ensures.right in
     let is = next_is s.graph s.members c.args.level c.loop-piece.pieces.items c.loop-piece.yielded
     c.loop-piece.piece-iterator c.next.new.self c.in-Some.piece c.requires.low c.requires.below

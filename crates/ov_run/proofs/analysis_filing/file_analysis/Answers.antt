@@ -8,7 +8,7 @@ use Rattle.ov_run.specs.Subjects.{AnalysisJudged}
 use Rattle.ov_run.proofs.analysis_filing.file_analysis.Goals as goal
 
 pub returns-in_err-line-clause-refused : goal.returns-in_err-line-clause-refused
-returns-in_err-line-clause-refused c =
+returns-in_err-line-clause-refused g c =
     IfErr-weaker c.from_residual-in_err-line.result (λ (f : CoreFault). f ≡ OutOfMemory)
     (IsRefusedBy OutOfMemory (AnalysisJudged c.args.core.now c.args.subject.now))
     (λ f is. inr (is, c.in_ok-report.ensures.judged)) (search rules)

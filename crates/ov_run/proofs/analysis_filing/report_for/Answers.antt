@@ -3,7 +3,7 @@ use Rattle.ov_run.proofs.Reports.Filed.{job_filed}
 use Rattle.ov_run.proofs.analysis_filing.report_for.Goals as goal
 
 pub returns-clause-filing : goal.returns-clause-filing
-returns-clause-filing c =
+returns-clause-filing g c =
     let job = c.in_ok-job in
     let made = c.make_report.ensures in
     job_filed c.args.core.now c.args.subject.now job.job.moment job.job.graph job.ensures.sound job.ensures.judged

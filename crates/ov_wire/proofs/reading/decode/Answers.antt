@@ -18,10 +18,8 @@ returns-clause-fault c =
     (λ i. omega (arith, c.type_inv.bytes i)) c.message_of.ensures.read
 
 pub returns-clause-memory : goal.returns-clause-memory
-returns-clause-memory c = λ h.
-    let kind = c.message_of.ensures.memory h in (
-      kind.0,
-      kind.1,
-      memory_spelled c.args.bytes.now c.message_of.result
-          (λ i. omega (arith, c.type_inv.bytes i)) c.message_of.ensures.read h,
-    )
+returns-clause-memory c = λ h. (
+  c.message_of.ensures.memory h,
+  memory_spelled c.args.bytes.now c.message_of.result
+      (λ i. omega (arith, c.type_inv.bytes i)) c.message_of.ensures.read h,
+)

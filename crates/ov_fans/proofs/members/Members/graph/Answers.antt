@@ -1,11 +1,11 @@
 use Rattle.std.proofs.Common.{subst}
 use Rattle.ov_graph.specs.Links.{IsGroup}
-use Rattle.ov_fans.specs.Group.{GroupIn}
+use Rattle.ov_fans.specs.Group.{SettlerState}
 use Rattle.ov_fans.proofs.PieceNets.Seated.{seated_group}
 use Rattle.ov_fans.proofs.members.Members.graph.Goals as goal
 
 pub returns-clause-group : goal.returns-clause-group
 returns-clause-group c =
     let s = c.self.inside in
-    subst (λ (m : GroupIn). IsGroup m.graph m.members) c.self.view_is
+    subst (λ (m : SettlerState). IsGroup m.graph m.members) c.self.view_is
     (seated_group s.graph.now s.places.items s.row c.self.invariant)

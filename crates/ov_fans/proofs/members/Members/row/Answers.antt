@@ -1,18 +1,18 @@
 use Rattle.std.proofs.Common.{subst}
 use Rattle.ov_graph.specs.Links.{IsGroup}
 use Rattle.ov_flow.specs.Flow.{AreBitsOf}
-use Rattle.ov_fans.specs.Group.{GroupIn}
+use Rattle.ov_fans.specs.Group.{SettlerState}
 use Rattle.ov_fans.proofs.PieceNets.Seated.{seated_group, seated_row}
 use Rattle.ov_fans.proofs.members.Members.row.Goals as goal
 
 pub returns-clause-row : goal.returns-clause-row
 returns-clause-row c =
     let s = c.self.inside in
-    subst (λ (m : GroupIn). AreBitsOf m.graph s.row m.members) c.self.view_is
+    subst (λ (m : SettlerState). AreBitsOf m.graph s.row m.members) c.self.view_is
     (seated_row s.graph.now s.places.items s.row c.self.invariant)
 
 pub returns-clause-group : goal.returns-clause-group
 returns-clause-group c =
     let s = c.self.inside in
-    subst (λ (m : GroupIn). IsGroup m.graph m.members) c.self.view_is
+    subst (λ (m : SettlerState). IsGroup m.graph m.members) c.self.view_is
     (seated_group s.graph.now s.places.items s.row c.self.invariant)

@@ -1,6 +1,6 @@
 -- The place that is kept for the member.
 use Rattle.std.proofs.Common.{◌≤◌, ◌<◌, length, sym, subst}
-use Rattle.ov_fans.specs.Group.{GroupIn}
+use Rattle.ov_fans.specs.Group.{SettlerState}
 use Rattle.ov_fans.proofs.PieceNets.Seated.{seated}
 use Rattle.ov_fans.proofs.members.Members.seat.Goals as goal
 
@@ -8,13 +8,13 @@ pub returns-clause-below : goal.returns-clause-below
 returns-clause-below c =
     let s = c.self.inside in
     let p = c.index.result.now in
-    let high = subst (λ (m : GroupIn). c.args.i ≤ length m.members) (sym c.self.view_is) c.requires.high in
-    subst (λ (m : GroupIn). p < length m.graph.nodes) c.self.view_is
+    let high = subst (λ (m : SettlerState). c.args.i ≤ length m.members) (sym c.self.view_is) c.requires.high in
+    subst (λ (m : SettlerState). p < length m.graph.nodes) c.self.view_is
     (seated s.graph.now s.places.items s.row c.args.i p c.self.invariant c.requires.low high c.index.ensures).below
 
 pub returns-clause-fits : goal.returns-clause-fits
 returns-clause-fits c =
     let s = c.self.inside in
-    let high = subst (λ (m : GroupIn). c.args.i ≤ length m.members) (sym c.self.view_is) c.requires.high in
+    let high = subst (λ (m : SettlerState). c.args.i ≤ length m.members) (sym c.self.view_is) c.requires.high in
     (seated s.graph.now s.places.items s.row c.args.i c.index.result.now c.self.invariant c.requires.low high
     c.index.ensures).fits

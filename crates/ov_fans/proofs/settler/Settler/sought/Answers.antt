@@ -4,12 +4,12 @@ use Rattle.std.specs.Option.{MatchOption}
 use Rattle.ov_graph.specs.Links.{LinkGraph, IsGraph}
 use Rattle.ov_graph.specs.Paths.{node_at}
 use Rattle.ov_split.specs.Net.{IsFanOf}
+use Rattle.ov_split.specs.Places.{net_at}
 use Rattle.ov_flow.specs.Flow.{IsFullBy}
-use Rattle.ov_fans.specs.Group.{GroupIn}
+use Rattle.ov_fans.specs.Group.{SettlerState}
 use Rattle.ov_fans.specs.Pieces.{IsPiece, IsLinkedPair, level_of}
 use Rattle.ov_fans.specs.Cuts.{IsFoundFor, IsParted}
 use Rattle.ov_fans.specs.Code.Nets.{net_of}
-use Rattle.ov_fans.specs.Code.Kept.{net_at}
 use Rattle.ov_fans.specs.declared.settled.Found.TheVariants.{Paths}
 use Rattle.ov_fans.proofs.PieceNets.Settling.{right_paths}
 use Rattle.ov_fans.proofs.settler.Settler.sought.Goals as goal
@@ -21,7 +21,7 @@ returns-clause-found c =
     let p = c.args.piece in
     let aim = c.aim_for-aim.result in
     let e = c.graph.ensures in
-    let at = subst (λ (s : GroupIn). IsPiece s.graph s.members p) (sym c.self.view_is) c.requires.piece in
+    let at = subst (λ (s : SettlerState). IsPiece s.graph s.members p) (sym c.self.view_is) c.requires.piece in
     let is : c.seek.new.self.net ≡ net_of m.graph m.members p =
     c.in_ok-seek.ensures.net
     ∙ c.new-net.ensures.net
@@ -39,15 +39,15 @@ returns-clause-found c =
           held w.in_ok-paths-in-None.ensures.fan in
           let right = right_paths m.graph m.members p c.seek.new.self.net ps e.is_graph e.group at is fan
           w.in_ok-paths-in-None.ensures.places in
-          let apart = subst (λ (s : GroupIn). ¬ IsLinkedPair s.graph s.members p) (sym c.self.view_is)
+          let apart = subst (λ (s : SettlerState). ¬ IsLinkedPair s.graph s.members p) (sym c.self.view_is)
           c.requires.apart in
           subst (λ r. IfOk r (λ f. IsFoundFor c.args.self.now.graph c.args.self.now.members p f)) (sym w.result-is)
-          (subst (λ (s : GroupIn). IsFoundFor s.graph s.members p (Paths ps)) c.self.view_is (apart, right))
+          (subst (λ (s : SettlerState). IsFoundFor s.graph s.members p (Paths ps)) c.self.view_is (apart, right))
       | in-Some+in_ok-parting-in-Some w ↦
           subst (λ r. IfOk r (λ f. IsFoundFor c.args.self.now.graph c.args.self.now.members p f)) (sym w.result-is)
-          (subst (λ (s : GroupIn). IsParted s.graph s.members p w.in_ok-parting-in-Some.parting.value) c.self.view_is
-          w.in_ok-parting-in-Some.ensures)
+          (subst (λ (s : SettlerState). IsParted s.graph s.members p w.in_ok-parting-in-Some.parting.value)
+          c.self.view_is w.in_ok-parting-in-Some.ensures)
     ]
 
 pub returns-clause-graph : goal.returns-clause-graph
-returns-clause-graph c = subst (λ (s : GroupIn). IsGraph s.graph) c.self.view_is c.graph.ensures.is_graph
+returns-clause-graph c = subst (λ (s : SettlerState). IsGraph s.graph) c.self.view_is c.graph.ensures.is_graph

@@ -11,5 +11,5 @@ returns-in-None-clause-ok c =
 pub returns-clause-ok : goal.returns-clause-ok
 returns-clause-ok c =
     ap waiting_in (c.in_ok-insert.ensures.ok
-    ∙ ap (map.insert c.self.inside.by_id c.args.id) c.in_ok-notes-in-Some.ensures)
+    ∙ ap (map.insert c.self.inside.by_id c.args.id) c.in_ok-senders-in-Some.ensures)
     ∙ asked_is _ c.args.id _ (sym c.in-Some.ensures) ∙ ap (waiting_asked c.args.id) c.self.view_is

@@ -37,5 +37,6 @@ returns-in-Some-Look c =
 
 pub returns-in-Some-Analyse : goal.returns-in-Some-Analyse
 returns-in-Some-Analyse c =
-    let is : c.args.line.now.says ≡ Some (says.Analyse c.in-Some-Analyse.field-0-0) = search rules in
-    analysis_passes c.args.self.now c.args.line.now c.in-Some-Analyse.field-0-0 c.args.behind.now is
+    let said = c.in-Some-Analyse in
+    let is : c.args.line.now.says ≡ Some (says.Analyse said.field-0-0 said.field-0-1) = search rules in
+    analysis_passes c.args.self.now c.args.line.now said.field-0-0 said.field-0-1 c.args.behind.now is

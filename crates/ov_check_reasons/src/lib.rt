@@ -1,0 +1,17 @@
+//! Why a certificate file does not hold, in plain words for a person.
+#![tactic(auto)]
+
+mod entries;
+mod explain;
+mod file;
+mod forms;
+mod frame;
+mod graph;
+mod ids;
+mod keys;
+mod opening;
+mod paths;
+mod values;
+mod words;
+
+pub use explain::reasons;

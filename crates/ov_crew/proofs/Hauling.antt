@@ -1,0 +1,174 @@
+-- What a worker has brought in, piece by piece.
+use Rattle.std.proofs.Common.{◌≡◌, ◌⊎◌, ◌↔◌, ℕ, ◌+◌, List, [], ◌∷◌, ◌++◌, length, Some, None}
+use Rattle.std.proofs.Common.{refl, sym, ap, ◌∙◌, subst, inl, inr, arith}
+use Rattle.std.proofs.lemmas.Option.{none-some}
+use Rattle.ov_ids.specs.Members.{Has}
+use Rattle.ov_ids.specs.Sets.{has, adding}
+use Rattle.ov_ids.proofs.Members.{has_append_left, has_append_right, has_append_cases, has_tested}
+use Rattle.ov_ids.proofs.Sets.{members_adding}
+use Rattle.ov_graph.specs.Links.{LinkGraph}
+use Rattle.ov_fans.specs.Pieces.{IsPiece}
+use Rattle.ov_fans.specs.Cuts.{IsRight}
+use Rattle.ov_fans.specs.Theorems.{IsNoCut}
+use Rattle.ov_fans.specs.declared.piece.Piece.{Piece}
+use Rattle.ov_fans.specs.declared.settled.Found.{Found}
+use Rattle.ov_fans.specs.declared.settled.Settled.{Settled}
+use Rattle.ov_claims.specs.Claims.{WorkerState, fresh}
+use Rattle.ov_claims.specs.Steps.{failing}
+use Rattle.ov_claims.proofs.Staying.{gaining}
+use Rattle.ov_even.specs.Order.{IsNumbered}
+use Rattle.ov_even.proofs.PieceNumbers.Numbering.{numbered_piece, one_number}
+use Rattle.ov_crew.specs.Hauls.{IsAmong, IsHaulOf}
+use Rattle.ov_crew.specs.Code.Turns.{HasTaken, HasStopped, HasSettled}
+
+-- a worker that has done nothing yet has brought in nothing
+pub fresh_haul : (g : LinkGraph) (q : List ℕ) (first : ℕ) → IsHaulOf g q first fresh []
+fresh_haul g q first = record {
+  right = λ s h. absurd h;
+  settled = λ x. ((λ k. absurd k.0), (λ a. absurd a.1.0));
+  failed = λ x. ((λ h. absurd h), (λ a. absurd a.1.0));
+}
+
+-- a worker that has stopped has brought in what it had before
+pub stopped_haul : (g : LinkGraph) (q : List ℕ) (first : ℕ) (w v : WorkerState) (pieces : List Settled)
+    → w.skipped ≡ None → HasStopped w v → IsHaulOf g q first w pieces → IsHaulOf g q first v pieces
+stopped_haul g q first w v pieces none s h = record {
+  right = h.right;
+  settled = λ x. (
+    (λ k. (h.settled x).0 ((s.worked_on x).0 k, λ e. none-some x (sym none ∙ e))),
+    (λ a. (s.worked_on x).1 ((h.settled x).1 a).0),
+  );
+  failed = λ x. (
+    (λ k. (h.failed x).0 (subst (λ (xs : List ℕ). Has xs x) s.failed k)),
+    (λ a. subst (λ (xs : List ℕ). Has xs x) (sym s.failed) ((h.failed x).1 a)),
+  );
+}
+
+-- the worker w took number x, whose piece was settled with this result, and has become v
+pub record HasGained (w v : WorkerState) (x : ℕ) (found : Found) : Type 0 where
+  pub claimed : v.claimed ≡ w.claimed ++ x ∷ []
+  pub skipped : v.skipped ≡ w.skipped
+  pub ended : v.ended ≡ w.ended
+  pub failed : (y : ℕ) → Has v.failed y ↔ (Has w.failed y ⊎ ((y ≡ x) × ¬ IsNoCut found))
+
+-- the failed numbers after one more
+more_failed : (x : ℕ) (xs : List ℕ) (y : ℕ) → Has (adding x xs) y ↔ ((y ≡ x) ⊎ Has xs y)
+more_failed x xs y =
+    let new = has_tested (adding x xs) y (has (adding x xs) y) refl in
+    let old = has_tested xs y (has xs y) refl in
+    let more = members_adding x xs (adding x xs) refl y in (
+      (λ h. elim (more.0 (new.1 h)) [ inl e ↦ inl e | inr k ↦ inr (old.0 k) ]),
+      (λ h. new.0 (more.1 (elim h [ inl e ↦ inl e | inr k ↦ inr (old.1 k) ]))),
+    )
+
+-- a worker that takes a number and settles its piece has gained it
+gained : (w v : WorkerState) (x : ℕ) (found : Found)
+    → (IsNoCut found × (v ≡ gaining x w)) ⊎ ((¬ IsNoCut found) × (v ≡ failing x (gaining x w))) → HasGained w v x found
+gained w v x found became = elim became [
+  | inl k ↦ subst (λ (u : WorkerState). HasGained w u x found) (sym k.1) record {
+    claimed = refl;
+    skipped = refl;
+    ended = refl;
+    failed = λ y. ((λ h. inl h), (λ h. elim h [ inl m ↦ m | inr m ↦ absurd (m.1 k.0) ]));
+  }
+  | inr k ↦ subst (λ (u : WorkerState). HasGained w u x found) (sym k.1) record {
+    claimed = refl;
+    skipped = refl;
+    ended = refl;
+    failed = λ y.
+        let more = more_failed x w.failed y in (
+          (λ h. elim (more.0 h) [ inl e ↦ inr (e, k.0) | inr m ↦ inl m ]),
+          (λ h. more.1 (elim h [ inl m ↦ inr m | inr m ↦ inl m.0 ])),
+        );
+  }
+]
+
+pub gains : (g : LinkGraph) (q : List ℕ) (total x : ℕ) (piece : Piece) (w u v : WorkerState)
+    (before after : List Settled) → HasTaken total x w u → (s : HasSettled g q piece x u v before after)
+    → HasGained w v x s.settled.found
+gains g q total x piece w u v before after t s = gained w v x s.settled.found (elim s.became [
+  | inl k ↦ inl (k.0, k.1 ∙ t.became)
+  | inr k ↦ inr (k.0, k.1 ∙ ap (failing x) t.became)
+])
+
+-- with one piece more, it has brought in what it should
+record BringsIn (g : LinkGraph) (q : List ℕ) (first x : ℕ) (w v : WorkerState) (pieces : List Settled)
+    (piece : Settled) : Type 0 where
+  was : IsHaulOf g q first w pieces
+  none : w.skipped ≡ None
+  gained : HasGained w v x piece.found
+  numbered : IsNumbered (length g.nodes) (length q) (first + x) piece.piece
+  right : IsRight g q piece
+
+brought_in : (g : LinkGraph) (q : List ℕ) (first x : ℕ) (w v : WorkerState) (pieces : List Settled) (piece : Settled)
+    → BringsIn g q first x w v pieces piece → IsHaulOf g q first v (pieces ++ piece ∷ [])
+brought_in g q first x w v pieces piece k = record {
+  right = λ s h. elim (old_or_new s h) [
+    | inl m ↦ k.was.right s m
+    | inr e ↦
+        let is = numbered_piece (length g.nodes) (length q) (first + x) piece.piece k.numbered in
+        subst (λ (t : Settled). IsPiece g q t.piece × IsRight g q t) e (is, k.right)
+  ];
+  settled = λ y. (
+    (λ h. elim (has_append_cases w.claimed (x ∷ []) y (subst (λ (xs : List ℕ). Has xs y) k.gained.claimed h.0)) [
+      | inl m ↦ let a = (k.was.settled y).0 (m, none_before y) in (a.0, (old a.0 a.1.0, a.1.1))
+      | inr m ↦ elim m [ inl e ↦ (piece, new y (sym e)) | inr n ↦ absurd n ]
+    ]),
+    (λ a. (
+      subst (λ (xs : List ℕ). Has xs y) (sym k.gained.claimed) (elim (old_or_new a.0 a.1.0) [
+        | inl m ↦ has_append_left w.claimed (x ∷ []) y ((k.was.settled y).1 (a.0, (m, a.1.1))).0
+        | inr e ↦ has_append_right w.claimed (x ∷ []) y (inl (sym (its_number y a.0 e a.1.1)))
+      ]),
+      λ e. none_before y (sym k.gained.skipped ∙ e),
+    )),
+  );
+  failed = λ y. (
+    (λ h. elim ((k.gained.failed y).0 h) [
+      | inl m ↦ let a = (k.was.failed y).0 m in (a.0, (old a.0 a.1.0, a.1.1), a.2)
+      | inr m ↦ (piece, new y m.0, m.1)
+    ]),
+    (λ a. (k.gained.failed y).1 (elim (old_or_new a.0 a.1.0) [
+      | inl m ↦ inl ((k.was.failed y).1 (a.0, (m, a.1.1), a.2))
+      | inr e ↦ inr (its_number y a.0 e a.1.1, subst (λ (t : Settled). ¬ IsNoCut t.found) (sym e) a.2)
+    ])),
+  );
+}
+  where
+    none_before : (y : ℕ) → ¬ (w.skipped ≡ Some y)
+    none_before y e = none-some y (sym k.none ∙ e)
+
+    old : (s : Settled) → Has pieces s → Has (pieces ++ piece ∷ []) s
+    old s h = has_append_left pieces (piece ∷ []) s h
+
+    new : (y : ℕ) → y ≡ x → IsAmong g q (pieces ++ piece ∷ []) (first + y) piece
+    new y e = (
+      has_append_right pieces (piece ∷ []) piece (inl refl),
+      subst (λ (i : ℕ). IsNumbered (length g.nodes) (length q) (first + i) piece.piece) (sym e) k.numbered,
+    )
+
+    old_or_new : (s : Settled) → Has (pieces ++ piece ∷ []) s → Has pieces s ⊎ (piece ≡ s)
+    old_or_new s h = elim (has_append_cases pieces (piece ∷ []) s h) [
+      | inl m ↦ inl m
+      | inr m ↦ elim m [ inl e ↦ inr e | inr n ↦ absurd n ]
+    ]
+
+    -- the new piece has this number and no other
+    its_number : (y : ℕ) (s : Settled) → piece ≡ s → IsNumbered (length g.nodes) (length q) (first + y) s.piece → y ≡ x
+    its_number y s e a =
+        let there = λ (t : Settled). IsNumbered (length g.nodes) (length q) (first + y) t.piece in
+        let same = one_number (length g.nodes) (length q) (first + y) (first + x) piece.piece
+        (subst there (sym e) a) k.numbered in
+        omega (arith, same)
+
+pub more_haul : (g : LinkGraph) (q : List ℕ) (first total x : ℕ) (piece : Piece) (w u v : WorkerState)
+    (before after : List Settled) → IsHaulOf g q first w before → w.skipped ≡ None → HasTaken total x w u
+    → IsNumbered (length g.nodes) (length q) (first + x) piece → HasSettled g q piece x u v before after
+    → IsHaulOf g q first v after
+more_haul g q first total x piece w u v before after was none t numbered s =
+    subst (IsHaulOf g q first v) (sym s.pieces) (brought_in g q first x w v before s.settled record {
+      was = was;
+      none = none;
+      gained = gains g q total x piece w u v before after t s;
+      numbered = subst (IsNumbered (length g.nodes) (length q) (first + x)) (sym s.of_piece) numbered;
+      right = s.right;
+    })

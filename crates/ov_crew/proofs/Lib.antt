@@ -1,0 +1,4 @@
+pub mod Taking
+pub mod Hauling
+pub mod Trying
+pub mod Gathering

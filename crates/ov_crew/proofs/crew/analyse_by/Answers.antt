@@ -1,0 +1,10 @@
+-- The settled pieces suffice for a certificate.
+use Rattle.std.proofs.Common.{List, sym, subst}
+use Rattle.ov_even.specs.Harvest.{Suffice}
+use Rattle.ov_even.specs.declared.haul.Haul.{Haul}
+use Rattle.ov_crew.proofs.crew.analyse_by.Goals as goal
+
+pub assemble_group-requires-clause-suffice : goal.assemble_group-requires-clause-suffice
+assemble_group-requires-clause-suffice g c =
+    subst (λ (hauls : List Haul). Suffice c.args.graph.now c.args.group.now hauls) (sym c.deref.ensures.value)
+    c.in_ok-hauls.ensures

@@ -1,0 +1,136 @@
+-- The worker takes one number more and settles its piece, or has stopped.
+use Rattle.std.proofs.Common.{◌≡◌, ◌+◌, ℕ, List, [], ◌∷◌, length, Option, Some, Ok, refl, sym, ap, ◌∙◌}
+use Rattle.std.proofs.Common.{subst, inl, arith}
+use Rattle.std.specs.Prelude.{IfSome, IfNone, OnOk, Result}
+use Rattle.ov_ids.specs.Members.{Has}
+use Rattle.ov_ids.proofs.Members.{has_append_right}
+use Rattle.ov_ids.specs.declared.memory.OutOfMemory.{OutOfMemory}
+use Rattle.ov_graph.specs.Links.{LinkGraph}
+use Rattle.ov_fans.specs.declared.piece.Piece.{Piece}
+use Rattle.ov_fans.specs.declared.settled.Settled.{Settled}
+use Rattle.ov_fans.specs.Group.{SettlerState}
+use Rattle.ov_fans.specs.Pieces.{IsPiece}
+use Rattle.ov_claims.specs.Claims.{WorkerState}
+use Rattle.ov_even.specs.Order.{AreSoMany, IsNumbered}
+use Rattle.ov_even.proofs.AnalysisSteps.Narrowing.{members_few}
+use Rattle.ov_even.proofs.PieceNumbers.Numbering.{numbered_piece}
+use Rattle.ov_crew.specs.Code.Turns.{HasTaken, HasStopped, HasSettled}
+use Rattle.ov_crew.proofs.Taking.{fewer_left}
+use Rattle.ov_crew.proofs.Hauling.{stopped_haul, more_haul, gains}
+use Rattle.ov_crew.proofs.worker.work_range.Goals.{In_default-done}
+use Rattle.ov_crew.proofs.worker.work_range.Goals as goal
+
+-- the number that was taken
+taken_here : (total : ℕ) (w v : WorkerState) (o : Option ℕ) (x : ℕ) → o ≡ Some x
+    → IfSome o (λ y. HasTaken total y w v) → HasTaken total x w v
+taken_here total w v o x is t = subst (λ (p : Option ℕ). IfSome p (λ y. HasTaken total y w v)) is t
+
+-- what was settled and how the worker has gained it
+settled_here : (P : Type 0) (r : Result (Unit {0}) OutOfMemory) → r ≡ Ok tt → OnOk r P → P
+settled_here P r is h = subst (λ (o : Result (Unit {0}) OutOfMemory). OnOk o P) is h
+
+-- the worker's turn: it took the number x of a piece and settled that
+record HasTurned (g : LinkGraph) (q : List ℕ) (first total x : ℕ) (w v : WorkerState) (before after : List Settled)
+    : Type 0 where
+  between : WorkerState
+  piece : Piece
+  taken : HasTaken total x w between
+  numbered : IsNumbered (length g.nodes) (length q) (first + x) piece
+  settled : HasSettled g q piece x between v before after
+
+turned : (g : _) (c : In_default-done g) → HasTurned c.args.graph.now c.args.group.now c.args.first
+    c.args.board.now.total c.in-Some.number c.loop-number.seat.worker c.settle_piece-done.result.1.worker
+    c.loop-number.pieces.items c.settle_piece-done.new.pieces.items
+turned g c =
+    let u = c.take_number-next.result.1.worker in
+    let v = c.settle_piece-done.result.1.worker in
+    let x = c.in-Some.number in
+    let piece = c.group_piece_at-piece.result in
+    let m = length c.args.group.now in
+    let before = c.loop-number.pieces.items in
+    let after = c.settle_piece-done.new.pieces.items in
+    let s = c.loop-number.settler in
+    let own : SettlerState = record { graph = c.args.graph.now; members = c.args.group.now } in
+    let settled : HasSettled s.graph s.members piece x u v before after = settled_here
+    (HasSettled s.graph s.members piece x u v before after) c.settle_piece-done.result.0 c.in_default-done.is
+    c.settle_piece-done.ensures.settled in
+    record {
+      between = u;
+      piece = piece;
+      taken = taken_here c.args.board.now.total c.loop-number.seat.worker u c.take_number-next.result.0 x c.in-Some.is
+          c.take_number-next.ensures.taken;
+      numbered = subst (λ (nodes : List ℕ). IsNumbered (length nodes) m (c.args.first + x) piece)
+          {y = c.args.graph.now.nodes} c.nodes.ensures.nodes c.group_piece_at-piece.ensures;
+      settled = subst (λ (t : SettlerState). HasSettled t.graph t.members piece x u v before after)
+          {y = own} c.loop-number.invariant.settler settled;
+    }
+
+pub returns-in_default-clause-haul : goal.returns-in_default-clause-haul
+returns-in_default-clause-haul g c =
+    let i = c.loop-number.invariant in
+    let w = c.loop-number.seat.worker in
+    let v = c.take_number-next.result.1.worker in
+    let stopped : HasStopped w v = subst (λ (o : Option ℕ). IfNone o (HasStopped w v)) c.in_default.is
+    c.take_number-next.ensures.stopped in
+    stopped_haul c.args.graph.now c.args.group.now c.args.first w v c.loop-number.pieces.items i.none_skipped stopped
+    i.haul
+
+pub group_piece_at-piece-requires-clause-members : goal.group_piece_at-piece-requires-clause-members
+group_piece_at-piece-requires-clause-members g c =
+    let few = members_few c.args.graph.now c.args.group.now c.requires.group in
+    omega (arith, few, ap length c.nodes.ensures.nodes)
+
+pub group_piece_at-piece-requires-clause-below : goal.group_piece_at-piece-requires-clause-below
+group_piece_at-piece-requires-clause-below g c total many =
+    let m = length c.args.group.now in
+    let t = taken_here c.args.board.now.total c.loop-number.seat.worker c.take_number-next.result.1.worker
+    c.take_number-next.result.0 c.in-Some.number c.in-Some.is c.take_number-next.ensures.taken in
+    c.requires.range c.in-Some.number t.below total
+    (subst (λ (nodes : List ℕ). AreSoMany (length nodes) m total) c.nodes.ensures.nodes many)
+
+pub settle_piece-done-requires-clause-piece : goal.settle_piece-done-requires-clause-piece
+settle_piece-done-requires-clause-piece g c =
+    let piece = c.group_piece_at-piece.result in
+    let m = length c.args.group.now in
+    let own : SettlerState = record { graph = c.args.graph.now; members = c.args.group.now } in
+    let numbered = subst (λ (nodes : List ℕ). IsNumbered (length nodes) m (c.args.first + c.in-Some.number) piece)
+    {y = c.args.graph.now.nodes} c.nodes.ensures.nodes c.group_piece_at-piece.ensures in
+    subst (λ (s : SettlerState). IsPiece s.graph s.members piece) {x = own} (sym c.loop-number.invariant.settler)
+    (numbered_piece (length c.args.graph.now.nodes) m (c.args.first + c.in-Some.number) piece numbered)
+
+pub settle_piece-done-requires-clause-claimed : goal.settle_piece-done-requires-clause-claimed
+settle_piece-done-requires-clause-claimed g c =
+    let x = c.in-Some.number in
+    let w = c.loop-number.seat.worker in
+    let t = taken_here c.args.board.now.total w c.take_number-next.result.1.worker c.take_number-next.result.0 x
+    c.in-Some.is c.take_number-next.ensures.taken in
+    subst (λ (v : WorkerState). Has v.claimed x) (sym t.became) (has_append_right w.claimed (x ∷ []) x (inl refl))
+
+pub loop-number-smaller : goal.loop-number-smaller
+loop-number-smaller g c =
+    let t = turned g c in
+    let w = c.loop-number.seat.worker in
+    let v = c.settle_piece-done.result.1.worker in
+    let gain = gains c.args.graph.now c.args.group.now c.args.board.now.total c.in-Some.number t.piece w t.between v
+    c.loop-number.pieces.items c.settle_piece-done.new.pieces.items t.taken t.settled in
+    fewer_left c.args.board.now.total c.in-Some.number w t.between v.claimed t.taken gain.claimed
+
+pub loop-number-preserved : goal.loop-number-preserved
+loop-number-preserved g c =
+    let t = turned g c in
+    let i = c.loop-number.invariant in
+    let w = c.loop-number.seat.worker in
+    let v = c.settle_piece-done.result.1.worker in
+    let before = c.loop-number.pieces.items in
+    let after = c.settle_piece-done.new.pieces.items in
+    let gain = gains c.args.graph.now c.args.group.now c.args.board.now.total c.in-Some.number t.piece w t.between v
+    before after t.taken t.settled in
+    record {
+      settler = c.settle_piece-done.ensures.stays ∙ i.settler;
+      board = c.settle_piece-done.ensures.board ∙ (c.take_number-next.ensures.board ∙ i.board);
+      number = c.settle_piece-done.ensures.number ∙ (c.take_number-next.ensures.number ∙ i.number);
+      goes_on = gain.ended ∙ i.goes_on;
+      none_skipped = gain.skipped ∙ i.none_skipped;
+      haul = more_haul c.args.graph.now c.args.group.now c.args.first c.args.board.now.total c.in-Some.number t.piece w
+          t.between v before after i.haul i.none_skipped t.taken t.numbered t.settled;
+    }

@@ -1,0 +1,42 @@
+-- What the workers of a crew have done at a board, while they are put together.
+use Rattle.std.specs.Prelude.{◌≡◌, ℕ, ◌+◌, ◌<◌, ◌^◌, true, List, [], ◌∷◌, length, Result, Ok, IfOk, OnOk}
+use Rattle.ov_ids.specs.declared.memory.OutOfMemory.{OutOfMemory}
+use Rattle.ov_graph.specs.Links.{LinkGraph}
+use Rattle.ov_claims.specs.Claims.{fresh}
+use Rattle.ov_board.specs.Board.{BoardState, SeatState}
+use Rattle.ov_even.specs.Order.{AreMoreThan}
+use Rattle.ov_even.specs.declared.haul.Haul.{Haul}
+use Rattle.ov_crew.specs.Hauls.{IsHaulOf}
+
+-- the numbers from `first` on, `total` of them, are numbers of pieces, and fit in 32 bits
+pub record IsRange (g : LinkGraph) (q : List ℕ) (first total : ℕ) : Type 0 where
+  pub below : (x : ℕ) → x < total → AreMoreThan (length g.nodes) (length q) (first + x)
+  pub small : first + total < 2 ^ 32
+
+-- a seat of the board before its first claim
+abbrev pub IsNewAt : BoardState → SeatState → Type 0
+IsNewAt b s = (s.board ≡ b) × (s.worker ≡ fresh)
+
+-- what a worker returns: its haul, and its seat
+abbrev pub Outcome : Type 0
+Outcome = Result Haul OutOfMemory × SeatState
+
+-- a worker has worked at the board: it has ended, and this is its haul, unless it was out of memory
+pub record HasWorked (g : LinkGraph) (q : List ℕ) (first : ℕ) (b : BoardState) (o : Outcome) : Type 0 where
+  pub board : o.1.board ≡ b
+  pub ended : OnOk o.0 (o.1.worker.ended ≡ true)
+  pub haul : IfOk o.0 (λ h. IsHaulOf g q first o.1.worker h.pieces.items)
+
+-- what workers return that have these hauls and these seats
+abbrev pub outcomes : List Haul → List SeatState → List Outcome
+outcomes [] seats = []
+outcomes (h ∷ hauls) [] = []
+outcomes (h ∷ hauls) (s ∷ seats) = (Ok h, s) ∷ outcomes hauls seats
+
+-- each seat's worker has the haul at its place
+abbrev pub AreHaulsOf : LinkGraph → List ℕ → ℕ → List SeatState → List Haul → Type 0
+AreHaulsOf g q first [] [] = Unit {0}
+AreHaulsOf g q first [] (h ∷ hauls) = ⊥
+AreHaulsOf g q first (s ∷ seats) [] = ⊥
+AreHaulsOf g q first (s ∷ seats) (h ∷ hauls) =
+    IsHaulOf g q first s.worker h.pieces.items × AreHaulsOf g q first seats hauls

@@ -1,0 +1,2 @@
+pub mod Hauls
+pub mod Code

@@ -1,0 +1,237 @@
+//! The analysis of a graph and a group by several workers, each in a thread of its own.
+ghost use Rattle.std.specs.Prelude.{◌≡◌, ℕ, ◌<◌, ◌≤◌, ◌+◌, ◌^◌, length, All, IfOk, IfErr, OnOk, true};
+ghost use Rattle.ov_graph.specs.Links.{IsGroup, IsWithinLimit, AreAllLinked};
+ghost use Rattle.ov_cert.specs.Theorems.{IsTrueForGroup};
+ghost use Rattle.ov_claims.specs.Claims.{fresh, most_workers};
+ghost use Rattle.ov_even.specs.Answer.{IsAnswer};
+ghost use Rattle.ov_even.specs.Faults.{IsRefusal};
+ghost use Rattle.ov_even.specs.Harvest.{AreRight, Suffice};
+ghost use Rattle.ov_even.specs.Levels.{AreNumbersOf, IsTried};
+ghost use Rattle.ov_crew.specs.Hauls.{IsHaulOf};
+ghost use Rattle.ov_crew.specs.Code.Crews.{IsNewAt, IsRange, HasWorked, outcomes};
+
+use crate::gate::{Gate, OpenGate};
+use crate::hiring::Hiring;
+use crate::worker::work_range;
+use ov_board::{Board, Seat};
+use ov_cert::{Checked, are_all_linked};
+use ov_even::{
+    AnalyseFault, Haul, LevelNumbers, LevelSearch, Searched, Watcher,
+    analyse_group_watched as analyse_alone, assemble_group, level_numbers,
+};
+use ov_graph::Graph;
+use ov_ids::{NodeId, OutOfMemory};
+use std::alloc::Global;
+use std::thread;
+use std::thread::Threads;
+
+/// Analyses a graph for the group of all nodes. See `analyse_group`.
+pub fn analyse<R: Threads + Sync, G: Gate>(
+    rt: &R,
+    alloc: Global,
+    graph: &Graph,
+    workers: u32,
+    gate: &G,
+) -> Result<Checked, AnalyseFault>
+    requires some { 1 ≤ workers }
+    requires few { workers ≤ most_workers }
+    ensures graph { IfOk result (λ c. c.graph ≡ graph.now) }
+    ensures members { IfOk result (λ c. c.members ≡ graph.now.nodes) }
+    ensures answer { IfOk result (λ c. IsAnswer graph.now graph.now.nodes c.cert) }
+    ensures fewest { IfOk result (λ c. IsTrueForGroup graph.now graph.now.nodes c.cert) }
+    ensures refused { IfErr result (λ fault. IsRefusal graph.now graph.now.nodes fault) }
+{
+    analyse_group(rt, alloc, graph, graph.nodes(), workers, gate)
+}
+
+/// Finds the fewest node crashes that split a group, and a certificate that proves the number (Even, SIAM J. Comput.
+/// 4, 1975). There are 1 to 64 workers, each in a thread of its own. All of them try each level, and each passes the
+/// gate with each number that it claims. Faults, in this order: NoNodes (30), the graph has no node; BadGroup (34), the
+/// members are no group. OutOfMemory (99) is returned only where neither applies.
+pub fn analyse_group<R: Threads + Sync, G: Gate>(
+    rt: &R,
+    alloc: Global,
+    graph: &Graph,
+    group: &[NodeId],
+    workers: u32,
+    gate: &G,
+) -> Result<Checked, AnalyseFault>
+    requires some { 1 ≤ workers }
+    requires few { workers ≤ most_workers }
+    ensures graph { IfOk result (λ c. c.graph ≡ graph.now) }
+    ensures members { IfOk result (λ c. c.members ≡ group.now) }
+    ensures answer { IfOk result (λ c. IsAnswer graph.now group.now c.cert) }
+    ensures fewest { IfOk result (λ c. IsTrueForGroup graph.now group.now c.cert) }
+    ensures refused { IfErr result (λ fault. IsRefusal graph.now group.now fault) }
+{
+    let hiring = Hiring {
+        workers,
+        sparing: false,
+    };
+    analyse_by(rt, alloc, graph, group, hiring, gate, &mut Unwatched)
+}
+
+/// Does what `analyse_group` does, but without a gate, and a level gets only as many of the workers as its paths pay
+/// for. The watcher is told of each level before it is tried, with place 0. One worker works in the caller's thread,
+/// and the watcher is then told of each piece.
+pub fn analyse_group_watched<R: Threads + Sync, W: Watcher>(
+    rt: &R,
+    alloc: Global,
+    graph: &Graph,
+    group: &[NodeId],
+    workers: u32,
+    watcher: &mut W,
+) -> Result<Checked, AnalyseFault>
+    requires some { 1 ≤ workers }
+    requires few { workers ≤ most_workers }
+    ensures graph { IfOk result (λ c. c.graph ≡ graph.now) }
+    ensures members { IfOk result (λ c. c.members ≡ group.now) }
+    ensures answer { IfOk result (λ c. IsAnswer graph.now group.now c.cert) }
+    ensures fewest { IfOk result (λ c. IsTrueForGroup graph.now group.now c.cert) }
+    ensures refused { IfErr result (λ fault. IsRefusal graph.now group.now fault) }
+{
+    if workers == 1 {
+        return analyse_alone(alloc, graph, group, watcher);
+    }
+    let hiring = Hiring {
+        workers,
+        sparing: true,
+    };
+    analyse_by(rt, alloc, graph, group, hiring, &OpenGate, watcher)
+}
+
+/// A watcher that does nothing.
+#[derive(Drop)]
+struct Unwatched;
+
+impl Watcher for Unwatched {
+    fn sees(&mut self, _level: usize, _place: usize, _size: usize) {}
+}
+
+/// The analysis by these workers.
+fn analyse_by<R: Threads + Sync, G: Gate, W: Watcher>(
+    rt: &R,
+    alloc: Global,
+    graph: &Graph,
+    group: &[NodeId],
+    hiring: Hiring,
+    gate: &G,
+    watcher: &mut W,
+) -> Result<Checked, AnalyseFault>
+    requires some { 1 ≤ hiring.workers }
+    requires few { hiring.workers ≤ most_workers }
+    ensures graph { IfOk result (λ c. c.graph ≡ graph.now) }
+    ensures members { IfOk result (λ c. c.members ≡ group.now) }
+    ensures answer { IfOk result (λ c. IsAnswer graph.now group.now c.cert) }
+    ensures fewest { IfOk result (λ c. IsTrueForGroup graph.now group.now c.cert) }
+    ensures refused { IfErr result (λ fault. IsRefusal graph.now group.now fault) }
+{
+    if graph.nodes().is_empty() {
+        return Err(AnalyseFault::NoNodes);
+    }
+    if !graph.is_group(group) {
+        return Err(AnalyseFault::BadGroup);
+    }
+    let hauls = enough(rt, alloc, graph, group, hiring, gate, watcher)?;
+    assemble_group(alloc, graph, group, &hauls)
+}
+
+/// Settles enough pieces for a certificate: none if every two members are linked.
+fn enough<R: Threads + Sync, G: Gate, W: Watcher>(
+    rt: &R,
+    alloc: Global,
+    graph: &Graph,
+    group: &[NodeId],
+    hiring: Hiring,
+    gate: &G,
+    watcher: &mut W,
+) -> Result<Vec<Haul>, OutOfMemory>
+    requires group { IsGroup graph.now group.now }
+    requires some { 1 ≤ hiring.workers }
+    requires few { hiring.workers ≤ most_workers }
+    ensures { IfOk result (λ hauls. Suffice graph.now group.now hauls.items) }
+{
+    if are_all_linked(graph, group) {
+        return Ok(Vec::new(alloc));
+    }
+    let mut levels = LevelSearch::new(alloc, graph, group);
+    loop {
+        let level = levels.level();
+        let numbers = level_numbers(graph.nodes().len(), group.len(), level);
+        watcher.sees(level, 0, numbers.size as usize);
+        let workers = hiring.workers_for(level, numbers.size);
+        let hauls = try_level(rt, alloc, graph, group, numbers, workers, gate)?;
+        match levels.take(hauls)? {
+            Searched::Enough(hauls) => return Ok(hauls),
+            Searched::Again(next) => levels = next,
+        }
+    }
+}
+
+/// Tries the level with these numbers, by so many workers. Faults: out of memory, if any worker is.
+fn try_level<R: Threads + Sync, G: Gate>(
+    rt: &R,
+    alloc: Global,
+    graph: &Graph,
+    group: &[NodeId],
+    numbers: LevelNumbers,
+    workers: u32,
+    gate: &G,
+) -> Result<Vec<Haul>, OutOfMemory>
+    requires group { IsGroup graph.now group.now }
+    requires range { IsRange graph.now group.now numbers.first numbers.size }
+    requires some { 1 ≤ workers }
+    requires few { workers ≤ most_workers }
+    ensures right { IfOk result (λ hauls. AreRight graph.now group.now hauls.items) }
+    ensures tried { (level : ℕ)
+        → AreNumbersOf (length graph.now.nodes) (length group.now) level numbers.first numbers.size
+        → IfOk result (λ hauls. IsTried graph.now group.now hauls.items level) }
+{
+    let (board, seats) = Board::new(alloc, numbers.size, workers)?;
+    let done = run(rt, &board, graph, group, numbers.first, seats, gate)?;
+    let (hauls, seats) = gather(alloc, done)?;
+    board.close(seats);
+    Ok(hauls)
+}
+
+/// What a worker returns.
+type Outcome = (Result<Haul, OutOfMemory>, Seat);
+
+/// Lets the workers of the seats work, each in a thread of its own. Returns what they return.
+fn run<R: Threads + Sync, G: Gate>(
+    rt: &R,
+    board: &Board,
+    graph: &Graph,
+    group: &[NodeId],
+    first: u64,
+    seats: Vec<Seat>,
+    gate: &G,
+) -> Result<Vec<Outcome>, OutOfMemory>
+    requires group { IsGroup graph.now group.now }
+    requires range { IsRange graph.now group.now first board.now.total }
+    requires new { All (IsNewAt board.now) seats.items }
+    ensures count { IfOk result (λ done. length done.items ≡ length seats.items) }
+    ensures each { IfOk result (λ done. All (HasWorked graph.now group.now first board.now) done.items) }
+{
+    let alloc = *seats.allocator();
+    let work = |seat: Seat| -> (Result<Haul, OutOfMemory>, Seat)
+        requires { IsNewAt board.now seat × IsGroup graph.now group.now
+            × IsRange graph.now group.now first board.now.total }
+        ensures { HasWorked graph.entry.now group.entry.now first board.entry.now result }
+    { work_range(alloc, board, graph, group, first, seat, gate) };
+    Ok(thread::map_vec(rt, seats, &work)?)
+}
+
+/// The hauls and the seats of all workers. Out of memory if any worker is.
+fn gather(alloc: Global, done: Vec<Outcome>) -> Result<(Vec<Haul>, Vec<Seat>), OutOfMemory>
+    ensures same { IfOk result (λ r. done.items ≡ outcomes r.0.items r.1.items) }
+    ensures count { IfOk result (λ r. length r.0.items ≡ length r.1.items) }
+{
+    let mut hauls = Vec::with_capacity(alloc, done.len())?;
+    let mut seats = Vec::with_capacity(alloc, done.len())?;
+    for (haul, seat) in done {
+        hauls.push_reserved(haul?);
+        seats.push_reserved(seat);
+    }
+    Ok((hauls, seats))
+}

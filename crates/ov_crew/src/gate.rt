@@ -1,0 +1,13 @@
+/// What a worker passes with each number that it claimed.
+pub trait Gate: Sync {
+    /// Worker `worker` has claimed `number`, and looks next. The worker goes on once this returns.
+    fn pass(&self, worker: u32, number: u64);
+}
+
+/// A gate that lets everybody pass.
+#[derive(Drop)]
+pub struct OpenGate;
+
+impl Gate for OpenGate {
+    fn pass(&self, _worker: u32, _number: u64) {}
+}

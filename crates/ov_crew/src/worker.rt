@@ -1,0 +1,182 @@
+//! One worker: it claims numbers at a board and settles their pieces, until it has ended.
+ghost use Rattle.std.specs.Prelude.{◌≡◌, ◌↔◌, ℕ, ◌<◌, ◌+◌, ◌^◌, true, false, None, length, vec_capacity};
+ghost use Rattle.std.specs.Prelude.{IsTrue, IfOk, OnOk, IfSome, IfNone};
+ghost use Rattle.ov_ids.specs.Members.{Has};
+ghost use Rattle.ov_graph.specs.Links.{IsGroup};
+ghost use Rattle.ov_fans.specs.Pieces.{IsPiece};
+ghost use Rattle.ov_fans.specs.Cuts.{IsRight};
+ghost use Rattle.ov_fans.specs.Theorems.{IsNoCut};
+ghost use Rattle.ov_claims.specs.Claims.{fresh};
+ghost use Rattle.ov_even.specs.Order.{AreMoreThan, AreSoMany};
+ghost use Rattle.ov_crew.specs.Hauls.{IsHaulOf};
+ghost use Rattle.ov_crew.specs.Code.Turns.{HasTaken, HasStopped, HasSettled};
+
+use crate::gate::Gate;
+use ov_board::{Board, Seat};
+use ov_even::{Haul, group_piece_at};
+use ov_fans::{Found, Piece, Settled, Settler};
+use ov_graph::Graph;
+use ov_ids::{NodeId, OutOfMemory};
+use std::alloc::Global;
+
+/// Settles pieces with the numbers from `first` on: number x on the board stands for the piece of number `first + x`.
+/// The worker ends when no number is left, or a number below its own has failed. It waits for nobody but the gate. Out
+/// of memory returns the seat with the claims made so far.
+pub fn work_range<G: Gate>(
+    alloc: Global,
+    board: &Board,
+    graph: &Graph,
+    group: &[NodeId],
+    first: u64,
+    seat: Seat,
+    gate: &G,
+) -> (Result<Haul, OutOfMemory>, Seat)
+    requires group { IsGroup graph.now group.now }
+    requires mine { seat.board ≡ board.now }
+    requires new { seat.worker ≡ fresh }
+    requires range { (x : ℕ) → x < board.now.total
+        → AreMoreThan (length graph.now.nodes) (length group.now) (first + x) }
+    requires small { first + board.now.total < 2 ^ 32 }
+    ensures board { result.1.board ≡ seat.board }
+    ensures number { result.1.number ≡ seat.number }
+    ensures ended { OnOk result.0 (result.1.worker.ended ≡ true) }
+    ensures haul { IfOk result.0 (λ h. IsHaulOf graph.now group.now first result.1.worker h.pieces.items) }
+{
+    let mut settler = match Settler::new(alloc, graph, group) {
+        Ok(settler) => settler,
+        Err(fault) => return (Err(fault), seat),
+    };
+    let mut seat = seat;
+    let mut pieces = Vec::new(alloc);
+    loop {
+        let (next, taken) = take_number(board, seat, gate);
+        let Some(number) = next else {
+            return (Ok(Haul { pieces }), taken);
+        };
+        let piece = group_piece_at(graph.nodes().len(), group.len(), first + number);
+        let (done, settled) = settle_piece(board, &mut settler, piece, number, &mut pieces, taken);
+        if let Err(fault) = done {
+            return (Err(fault), settled);
+        }
+        seat = settled;
+    }
+}
+
+/// Claims the next number, passes the gate, and looks. Returns the number to work on, or None if the worker has ended.
+fn take_number<G: Gate>(board: &Board, seat: Seat, gate: &G) -> (Option<u64>, Seat)
+    requires mine { seat.board ≡ board.now }
+    requires goes_on { seat.worker.ended ≡ false }
+    requires none_skipped { seat.worker.skipped ≡ None }
+    ensures board { result.1.board ≡ seat.board }
+    ensures number { result.1.number ≡ seat.number }
+    ensures taken { IfSome result.0 (λ x. HasTaken board.now.total x seat.worker result.1.worker) }
+    ensures stopped { IfNone result.0 (HasStopped seat.worker result.1.worker) }
+{
+    let (number, claimed) = board.claim(seat);
+    if number >= board.total() {
+        return (None, claimed);
+    }
+    gate.pass(claimed.worker(), number);
+    let (least, looked) = board.look(number, claimed);
+    if least < number {
+        return (None, looked);
+    }
+    (Some(number), looked)
+}
+
+/// Settles the piece of a number, and reports a cut.
+fn settle_piece(
+    board: &Board,
+    settler: &mut Settler<'_>,
+    piece: Piece,
+    number: u64,
+    pieces: &mut Vec<Settled>,
+    seat: Seat,
+) -> (Result<(), OutOfMemory>, Seat)
+    requires piece { IsPiece settler.old.graph settler.old.members piece }
+    requires mine { seat.board ≡ board.now }
+    requires claimed { Has seat.worker.claimed number }
+    ensures stays { settler.new ≡ settler.old }
+    ensures board { result.1.board ≡ seat.board }
+    ensures number { result.1.number ≡ seat.number }
+    ensures settled { OnOk result.0 (HasSettled settler.old.graph settler.old.members piece number seat.worker
+        result.1.worker pieces.old.items pieces.new.items) }
+{
+    let settled = match settle_with_room(settler, piece, pieces) {
+        Ok(settled) => settled,
+        Err(fault) => return (Err(fault), seat),
+    };
+    let seat = if is_cut(&settled) {
+        board.fail(number, seat)
+    } else {
+        seat
+    };
+    pieces.push_reserved(settled);
+    (Ok(()), seat)
+}
+
+/// Settles a piece, and makes room for it.
+fn settle_with_room(
+    settler: &mut Settler<'_>,
+    piece: Piece,
+    pieces: &mut Vec<Settled>,
+) -> Result<Settled, OutOfMemory>
+    requires { IsPiece settler.old.graph settler.old.members piece }
+    ensures piece { IfOk result (λ s. s.piece ≡ piece) }
+    ensures right { IfOk result (λ s. IsRight settler.old.graph settler.old.members s) }
+    ensures room { OnOk result (length pieces.new.items < vec_capacity pieces.new) }
+    ensures pieces { pieces.new.items ≡ pieces.old.items }
+    ensures stays { settler.new ≡ settler.old }
+{
+    pieces.reserve(1)?;
+    settler.settle(piece)
+}
+
+/// Whether a piece was settled with a cut.
+fn is_cut(settled: &Settled) -> bool
+    ensures { IsTrue result ↔ ¬ IsNoCut settled.now.found }
+{
+    matches!(settled.found, Found::Cut(_))
+}
+
+/// Settles the pieces of a group, all of whose numbers the board shares out. See `work_range`.
+pub fn work_group<G: Gate>(
+    alloc: Global,
+    board: &Board,
+    graph: &Graph,
+    group: &[NodeId],
+    seat: Seat,
+    gate: &G,
+) -> (Result<Haul, OutOfMemory>, Seat)
+    requires group { IsGroup graph.now group.now }
+    requires mine { seat.board ≡ board.now }
+    requires new { seat.worker ≡ fresh }
+    requires total { AreSoMany (length graph.now.nodes) (length group.now) board.now.total }
+    ensures board { result.1.board ≡ seat.board }
+    ensures number { result.1.number ≡ seat.number }
+    ensures ended { OnOk result.0 (result.1.worker.ended ≡ true) }
+    ensures haul { IfOk result.0 (λ h. IsHaulOf graph.now group.now 0 result.1.worker h.pieces.items) }
+{
+    prove!(graph.nodes().len() <= Graph::MOST_NODES);
+    work_range(alloc, board, graph, group, 0, seat, gate)
+}
+
+/// Settles the pieces of the group of all nodes. See `work_group`.
+pub fn work<G: Gate>(
+    alloc: Global,
+    board: &Board,
+    graph: &Graph,
+    seat: Seat,
+    gate: &G,
+) -> (Result<Haul, OutOfMemory>, Seat)
+    requires some { 0 < length graph.now.nodes }
+    requires mine { seat.board ≡ board.now }
+    requires new { seat.worker ≡ fresh }
+    requires total { AreSoMany (length graph.now.nodes) (length graph.now.nodes) board.now.total }
+    ensures board { result.1.board ≡ seat.board }
+    ensures number { result.1.number ≡ seat.number }
+    ensures ended { OnOk result.0 (result.1.worker.ended ≡ true) }
+    ensures haul { IfOk result.0 (λ h. IsHaulOf graph.now graph.now.nodes 0 result.1.worker h.pieces.items) }
+{
+    work_group(alloc, board, graph, graph.nodes(), seat, gate)
+}

@@ -1,0 +1,109 @@
+-- A step back reaches the node before, which is a target, or not.
+use Rattle.std.proofs.Common.{◌≡◌, ◌∙◌, Some, length, sym, ap, subst, arith}
+use Rattle.std.proofs.lemmas.List.{get_or_read}
+use Rattle.ov_ids.specs.Members.{Has}
+use Rattle.ov_split.specs.Places.{net_by_place}
+use Rattle.ov_flow.specs.Code.Walked.{table_of}
+use Rattle.ov_flow.proofs.Reaching.{clean_more, IsReachedBy}
+use Rattle.ov_flow.proofs.Visiting.{read_below}
+use Rattle.ov_flow.proofs.path_search.step_back.Goals as goal
+
+pub offset_bounds-from-index : goal.offset_bounds-from-index
+offset_bounds-from-index c =
+    let t = c.args.tree.now in
+    let b = read_below (net_by_place c.args.net.now) (length c.args.net.now.graph.nodes) (table_of c.args.from.now)
+    t.order.items t.parents.items t.ways.items c.args.at c.index.result.now c.requires.ready c.requires.grown.is_tree
+    c.requires.at c.index.ensures in
+    let few = c.requires.ready.few in
+    omega (arith, b, few)
+
+pub bounds : goal.bounds
+bounds c =
+    let t = c.args.tree.now in
+    let b = read_below (net_by_place c.args.net.now) (length c.args.net.now.graph.nodes) (table_of c.args.from.now)
+    t.order.items t.parents.items t.ways.items c.args.at c.index.result.now c.requires.ready c.requires.grown.is_tree
+    c.requires.at c.index.ensures in
+    let e = c.requires.table.long in
+    omega (arith, b, e)
+
+pub returns-then-has-clause-grown : goal.returns-then-has-clause-grown
+returns-then-has-clause-grown c =
+    let n = net_by_place c.args.net.now in
+    let from = table_of c.args.from.now in
+    let t = c.args.tree.now in
+    let x = c.index.result.now in
+    let y = c.in-Some.before in
+    let is : from x ≡ Some y = c.in-Some.is in
+    let e = get_or_read t.order.items c.args.at x c.requires.at c.index.ensures 0 in
+    let node = (c.requires.ready.nodes y).1 (c.requires.table.told x y is) in
+    (c.in_ok-reach.ensures.grown n from c.requires.grown node (ap from (sym e) ∙ is)).0
+
+pub returns-then-has-clause-found : goal.returns-then-has-clause-found
+returns-then-has-clause-found c =
+    let n = net_by_place c.args.net.now in
+    let from = table_of c.args.from.now in
+    let t = c.args.tree.now in
+    let x = c.index.result.now in
+    let y = c.in-Some.before in
+    let is : from x ≡ Some y = c.in-Some.is in
+    let e = get_or_read t.order.items c.args.at x c.requires.at c.index.ensures 0 in
+    let node = (c.requires.ready.nodes y).1 (c.requires.table.told x y is) in
+    let r : IsReachedBy n from t c.reach.new.tree y =
+    c.in_ok-reach.ensures.grown n from c.requires.grown node (ap from (sym e) ∙ is) in
+    let s = c.requires.swept in
+    let h = (c.targets.ensures.places y).0 (c.has.ensures.0 c.if-has.true) in
+    subst (Has n.targets) (sym (r.2 (λ k. s.clean y k h))) h
+
+pub returns-else-has-clause-grown : goal.returns-else-has-clause-grown
+returns-else-has-clause-grown c =
+    let n = net_by_place c.args.net.now in
+    let from = table_of c.args.from.now in
+    let t = c.args.tree.now in
+    let x = c.index.result.now in
+    let y = c.in-Some.before in
+    let is : from x ≡ Some y = c.in-Some.is in
+    let e = get_or_read t.order.items c.args.at x c.requires.at c.index.ensures 0 in
+    let node = (c.requires.ready.nodes y).1 (c.requires.table.told x y is) in
+    (c.in_ok-reach.ensures.grown n from c.requires.grown node (ap from (sym e) ∙ is)).0
+
+pub returns-else-has-clause-found : goal.returns-else-has-clause-found
+returns-else-has-clause-found c =
+    let n = net_by_place c.args.net.now in
+    let from = table_of c.args.from.now in
+    let t = c.args.tree.now in
+    let u = c.reach.new.tree in
+    let x = c.index.result.now in
+    let y = c.in-Some.before in
+    let is : from x ≡ Some y = c.in-Some.is in
+    let e = get_or_read t.order.items c.args.at x c.requires.at c.index.ensures 0 in
+    let node = (c.requires.ready.nodes y).1 (c.requires.table.told x y is) in
+    let r : IsReachedBy n from t u y = c.in_ok-reach.ensures.grown n from c.requires.grown node
+    (ap from (sym e) ∙ is) in
+    let s = c.requires.swept in
+    let off : ¬ Has n.targets y = λ h. absurd (cc (
+      c.has.ensures.1 ((c.targets.ensures.places y).1 h),
+      c.if-has.false,
+    )) in
+    record {
+      swept = record {
+        clean = clean_more n t.order.items u.order.items y s.clean c.in_ok-reach.ensures.only off;
+        links = λ w l. c.in_ok-reach.ensures.more.seen w (s.links w l);
+      };
+      back = λ b f.
+          let g : from x ≡ Some b = ap from e ∙ f in
+          let q : y ≡ b = cc (is, g) in
+          subst (Has u.order.items) q r.1;
+    }
+
+pub returns-in_default-clause-found : goal.returns-in_default-clause-found
+returns-in_default-clause-found c =
+    let n = net_by_place c.args.net.now in
+    let from = table_of c.args.from.now in
+    let t = c.args.tree.now in
+    let x = c.index.result.now in
+    let e = get_or_read t.order.items c.args.at x c.requires.at c.index.ensures 0 in
+    let s = c.requires.swept in
+    record {
+      swept = s;
+      back = λ b f. absurd (c.in_default.not-Some b (ap from e ∙ f));
+    }

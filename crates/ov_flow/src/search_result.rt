@@ -1,0 +1,39 @@
+//! The result of a search for one more path.
+ghost use Rattle.std.specs.Prelude.{◌≡◌, ℕ, length};
+ghost use Rattle.ov_flow.specs.Code.Held.{IsReady, IsWorkOf, IsAtEnd};
+ghost use Rattle.ov_flow.specs.Flow.{IsFullBy};
+
+use crate::search_buffers::Work;
+use ov_graph::row::{Row, without};
+use ov_split::SplitNet;
+
+/// Why there is no further path: the places of the nearest least cut, and of its side, the nodes that are reached
+/// without it (Menger, Fund. Math. 10, 1927).
+#[derive(Clone, Copy)]
+pub struct Stuck {
+    pub cut: Row,
+    pub side: Row,
+}
+
+/// One more path is held, or there is none.
+#[derive(Clone, Copy)]
+pub enum Step {
+    Grew,
+    Stuck(Stuck),
+}
+
+/// The nearest least cut and its side, after a search that found no path.
+pub(crate) fn stuck_at(net: &SplitNet<'_>, work: &Work) -> Stuck
+    requires ready { IsReady net.now }
+    requires work { IsWorkOf net.now work.now }
+    requires end { IsAtEnd net.now work.now }
+    ensures { IsFullBy net.now (length work.now.ends.items) result }
+{
+    let words = net.words();
+    let tree = &work.tree;
+    let next = without(&tree.seen, &tree.reached, words);
+    Stuck {
+        cut: without(&next, net.avoided(), words),
+        side: tree.reached,
+    }
+}

@@ -1,0 +1,77 @@
+ghost use Rattle.std.specs.Prelude.{◌≡◌, ℕ, ◌-◌, ◌*◌, ◌<◌, length, slice_index, OnOk};
+ghost use Rattle.ov_ids.specs.Members.{Has};
+ghost use Rattle.ov_graph.specs.Row.{word_bits};
+ghost use Rattle.ov_split.specs.Net.{Net};
+ghost use Rattle.ov_split.specs.Code.Residual.{Table};
+ghost use Rattle.ov_split.specs.Places.{net_by_place};
+ghost use Rattle.ov_flow.specs.Code.Reached.{IsStepBy, IsGrown, IsMore, IsClean};
+ghost use Rattle.ov_flow.specs.Code.Held.{IsReady};
+
+use ov_graph::row::{EMPTY, Row, WORDS, has, put};
+use ov_split::SplitNet;
+use std::alloc::{AllocError, Global};
+
+/// The tree of a search: the reached nodes in the order of finding, for each the place of its parent in that order, and
+/// the link that was taken to it (none for a step back). Links to the nodes in `seen` need not be taken any more.
+#[derive(Drop)]
+pub(crate) struct Tree {
+    pub order: Vec<u16>,
+    pub parents: Vec<u16>,
+    pub ways: Vec<Option<u16>>,
+    pub reached: Row,
+    pub seen: Row,
+}
+
+/// An empty tree with room for so many nodes.
+pub(crate) fn new_tree(alloc: Global, room: usize) -> Result<Tree, AllocError> {
+    Ok(Tree {
+        order: Vec::with_capacity(alloc, room)?,
+        parents: Vec::with_capacity(alloc, room)?,
+        ways: Vec::with_capacity(alloc, room)?,
+        reached: EMPTY,
+        seen: EMPTY,
+    })
+}
+
+/// Starts a search at the source.
+pub(crate) fn begin(net: &SplitNet<'_>, tree: &mut Tree) -> Result<(), AllocError>
+    requires ready { IsReady net.now }
+    ensures grown { OnOk result ((from : Table) → IsGrown (net_by_place net.now) from tree.new) }
+    ensures clean { OnOk result (IsClean (net_by_place net.now) tree.new) }
+{
+    let source = net.source();
+    tree.order.clear();
+    tree.parents.clear();
+    tree.ways.clear();
+    tree.reached = EMPTY;
+    tree.seen = *net.avoided();
+    put(&mut tree.seen, source);
+    put(&mut tree.reached, source);
+    tree.order.push(source as u16)?;
+    tree.parents.push(0)?;
+    tree.ways.push(None)?;
+    Ok(())
+}
+
+/// Adds a node, unless it is reached already. A step leads to it from the node at place `at` of the order.
+pub(crate) fn reach(tree: &mut Tree, at: u16, way: Option<u16>, node: u16) -> Result<(), AllocError>
+    requires at { at < length tree.old.order.items }
+    requires node { node < word_bits * WORDS }
+    ensures grown { OnOk result ((n : Net) (from : Table) → IsGrown n from tree.old → Has n.graph.nodes node
+        → IsStepBy n from (slice_index tree.old.order.items at) node way
+        → IsGrown n from tree.new × Has tree.new.order.items node
+        × (¬ Has tree.old.order.items node
+        → slice_index tree.new.order.items (length tree.new.order.items - 1) ≡ node)) }
+    ensures more { OnOk result (IsMore tree.old tree.new) }
+    ensures only { OnOk result ((x : ℕ) → Has tree.new.order.items x → ¬ Has tree.old.order.items x → x ≡ node) }
+    ensures seen { OnOk result (tree.new.seen ≡ tree.old.seen) }
+{
+    if has(&tree.reached, node as usize) {
+        return Ok(());
+    }
+    put(&mut tree.reached, node as usize);
+    tree.order.push(node)?;
+    tree.parents.push(at)?;
+    tree.ways.push(way)?;
+    Ok(())
+}

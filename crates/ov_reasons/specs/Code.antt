@@ -1,0 +1,2 @@
+-- What only the contracts of private functions speak of; whoever reads the public ones need not believe it.
+pub mod Said

@@ -1,0 +1,5 @@
+pub mod Counts
+pub mod Paragraphs
+pub mod Reasons
+pub mod Refused
+pub mod Code

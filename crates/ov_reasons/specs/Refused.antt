@@ -1,0 +1,165 @@
+-- What is told of a line of a scenario that is refused when it is run: of an event by the world that it finds, of an
+-- analysis and a look by what they name. Chosen here.
+use Rattle.std.specs.Prelude.{◌≡◌, ◌≢◌, ◌⊎◌, ℕ, nat_eq, List, [], ◌∷◌, ◌++◌, length, Option, Some, None, codes, decimal}
+use Rattle.std.specs.Prelude.{if◌then◌else◌, unwrap_or}
+use Rattle.ov_ids.specs.Members.{Has, Ascends}
+use Rattle.ov_ids.specs.declared.id.MsgId.{MsgId}
+use Rattle.ov_net.specs.Journal.{Live}
+use Rattle.ov_net.specs.Net.{Net}
+use Rattle.ov_net.specs.Refusals.{IsBorn}
+use Rattle.ov_net.specs.World.{WorldState}
+use Rattle.ov_net.specs.declared.event.Event.{Event}
+use Rattle.ov_net.specs.declared.event.Event.TheVariants.{Boot, Deliver, Lose, Repeat, Crash, Report, Shuffle}
+use Rattle.ov_net.specs.declared.event.Event.TheVariants.{Broadcast, Timer, Snapshot}
+use Rattle.ov_snap.specs.CoreState.{CoreState}
+use Rattle.ov_run.specs.declared.scenario.Line.{Line}
+use Rattle.ov_run.specs.declared.scenario.Line.TheVariants as line
+use Rattle.ov_run.specs.declared.scenario.Look.{Look}
+use Rattle.ov_run.specs.declared.scenario.Look.TheVariants.{Show, Packets, Certificate}
+use Rattle.ov_run.specs.declared.scenario.Subject.{Subject}
+
+-- the text of the row with this number, or `otherwise` where no row has it
+abbrev pub row : ℕ → List (ℕ × List ℕ) → List ℕ → List ℕ
+row n [] otherwise = otherwise
+row n (first ∷ rows) otherwise = if nat_eq n first.0 then first.1 else row n rows otherwise
+
+-- ---- events
+
+-- the node at which an event happens, and 0 where it names none
+abbrev pub acting : Event → ℕ
+acting (Boot a contact) = a
+acting (Deliver i) = 0
+acting (Lose i) = 0
+acting (Repeat i) = 0
+acting (Crash a) = a
+acting (Report a crashed) = a
+acting (Shuffle a) = a
+acting (Broadcast a payload) = a
+acting (Timer a id) = a
+acting Snapshot = 0
+
+-- the node that must live for an event: the contact of a birth, and else the node at which it happens
+abbrev pub met : Event → ℕ
+met (Boot a (Some contact)) = contact
+met event = acting event
+
+-- the node that is said to have crashed, and else the node that must live
+abbrev pub reported : Event → ℕ
+reported (Report a crashed) = crashed
+reported event = met event
+
+-- the place of the packet that an event names, and 0 where it names none
+abbrev pub place_of : Event → ℕ
+place_of (Deliver i) = i
+place_of (Lose i) = i
+place_of (Repeat i) = i
+place_of event = 0
+
+-- a message, by its number and the node that made it
+abbrev pub message_text : MsgId → List ℕ
+message_text id = decimal id.seq ++ (codes " of node " ++ decimal id.origin)
+
+-- the timer of an event does not run
+abbrev pub timer_text : Event → List ℕ
+timer_text (Timer a id) =
+    codes "at node " ++ (decimal a ++ (codes " no timer runs for message " ++ message_text id))
+timer_text event = codes "the timer does not run"
+
+-- the payload of an event is too long
+abbrev pub payload_text : Event → List ℕ
+payload_text (Broadcast a payload) =
+    codes "the payload has " ++ (decimal (length payload) ++ codes " bytes, and may have 1024")
+payload_text event = codes "the payload is too long"
+
+-- what is told of an event that is refused with this number, but for 10
+abbrev pub event_text : WorldState → Event → ℕ → List ℕ
+event_text w e n =
+    row n
+    ((11, codes "node " ++ (decimal (acting e) ++ codes " was born before"))
+    ∷ (12, codes "node " ++ (decimal (met e) ++ codes " crashed"))
+    ∷ (13, codes "256 nodes were born, as many as may be")
+    ∷ (14, codes "no packet " ++ (decimal (place_of e) ++ (codes "; the bag has " ++ decimal (length w.net.packets))))
+    ∷ (
+      15,
+      codes "the bag has "
+          ++ (decimal (length w.net.packets) ++ codes " packets, and 64 of its 65536 places must be free"),
+    )
+    ∷ (16, codes "the journal has 65536 entries, as many as it may have")
+    ∷ (17, codes "node " ++ (decimal (reported e) ++ codes " did not crash"))
+    ∷ (18, timer_text e)
+    ∷ (19, payload_text e)
+    ∷ (20, codes "node " ++ (decimal (acting e) ++ codes " has made 4096 broadcasts, as many as it may"))
+    ∷ (99, codes "out of memory")
+    ∷ [])
+    (codes "the event is refused")
+
+-- no node with this id was born
+abbrev pub unborn_text : ℕ → List ℕ
+unborn_text a = codes "no node " ++ (decimal a ++ codes " was born")
+
+-- the text names the node that must live, where it was not born, and else the one that is said to have crashed
+abbrev pub TellsUnborn : Net → Event → List ℕ → Type 0
+TellsUnborn w e text =
+    ((¬ IsBorn w (met e)) × (text ≡ unborn_text (met e))) ⊎ (IsBorn w (met e) × (text ≡ unborn_text (reported e)))
+
+-- what is told of an event that is refused with this number
+pub record TellsOfEvent (w : WorldState) (e : Event) (n : ℕ) (text : List ℕ) : Type 0 where
+  pub unborn : n ≡ 10 → TellsUnborn w.net e text
+  pub other : n ≢ 10 → text ≡ event_text w e n
+
+-- ---- looks and analyses
+
+-- whose report it is
+abbrev pub of_whom : Option (List ℕ) → List ℕ
+of_whom (Some group) = codes "this group"
+of_whom None = codes "all nodes"
+
+-- a moment, and whose report it is
+abbrev pub subject_text : Subject → List ℕ
+subject_text s = decimal s.moment ++ (codes " and " ++ of_whom s.group)
+
+-- what is told of a look that is refused with this number
+abbrev pub look_text : Look → ℕ → List ℕ
+look_text (Show a) n =
+    row n
+    ((10, unborn_text a)
+    ∷ (12, codes "node " ++ (decimal a ++ codes " crashed"))
+    ∷ (99, codes "out of memory")
+    ∷ [])
+    (codes "the look is refused")
+look_text Packets n = row n ((99, codes "out of memory") ∷ []) (codes "the look is refused")
+look_text (Certificate s) n =
+    row n
+    ((50, codes "no report is filed of moment " ++ subject_text s) ∷ (99, codes "out of memory") ∷ [])
+    (codes "the look is refused")
+
+-- what is told of an analysis that is refused with this number, but for 34
+abbrev pub analysis_text : Subject → ℕ → List ℕ
+analysis_text s n =
+    row n
+    ((30, codes "nobody lived at moment " ++ decimal s.moment)
+    ∷ (50, codes "no snapshot was taken at moment " ++ decimal s.moment)
+    ∷ (52, codes "a report is filed of moment " ++ subject_text s)
+    ∷ (99, codes "out of memory")
+    ∷ [])
+    (codes "the analysis is refused")
+
+-- the ids are no group of those who lived then: they do not ascend, or one is named that did not live, or nothing more
+-- is said
+abbrev pub TellsOfGroup : CoreState → ℕ → List ℕ → List ℕ → Type 0
+TellsOfGroup b m ids text =
+    ((¬ Ascends ids) × (text ≡ codes "the ids of the group must ascend"))
+    ⊎ ((a : ℕ) × Has ids a × (¬ Live b.world.journal m a)
+    × (text ≡ codes "node " ++ (decimal a ++ (codes " did not live at moment " ++ decimal m))))
+    ⊎ (text ≡ codes "the ids are no group of those who lived at moment " ++ decimal m)
+
+-- what is told of an analysis that is refused with this number
+pub record TellsOfAnalysis (b : CoreState) (s : Subject) (n : ℕ) (text : List ℕ) : Type 0 where
+  pub group : n ≡ 34 → TellsOfGroup b s.moment (unwrap_or s.group []) text
+  pub other : n ≢ 34 → text ≡ analysis_text s n
+
+-- what is told of a line that is refused with this number
+abbrev pub TellsOfLine : CoreState → Line → ℕ → List ℕ → Type 0
+TellsOfLine b (line.Event event words) n text = TellsOfEvent b.world event n text
+TellsOfLine b (line.Look look) n text = text ≡ look_text look n
+TellsOfLine b (line.Analyse subject workers) n text = TellsOfAnalysis b subject n text

@@ -1,0 +1,151 @@
+ghost use Rattle.std.specs.Prelude.{◌≡◌, ◌⊎◌, IfOk, OnOk, string_bytes};
+ghost use Rattle.ov_reasons.specs.Paragraphs.{EndsWith};
+
+use crate::argument_scan::{CHOICES, Choice, Wrong, wrong_of};
+use crate::complaint::push_kind;
+use crate::marked_line::push_shown;
+use crate::names::{is_near, push_meant};
+use ov_ids::OutOfMemory;
+use std::alloc::Global;
+
+/// How the command is called.
+const USAGE: &str = "\
+usage: overlay run [FILE]
+       overlay analyse [FILE] [--group IDS] [--workers N] [--certificate] [--progress]
+";
+
+/// What stands above the usage where help is asked for.
+const HELP: &str = "\
+overlay run runs the events of a scenario file, and prints what happens.
+overlay analyse reads a graph file, and prints how few crashed nodes part it.
+  --group IDS    for these nodes alone: ids with one comma between two
+  --workers N    with 1 to 64 workers
+  --certificate  prints the certificate file too
+  --progress     tells on standard error how far it has come
+Without FILE, or with -, standard input is read. Bare overlay is overlay run.
+";
+
+/// The program, and the kit that it is proved with.
+const VERSION: &str = "overlay, proved with rattle-kit-13f\n";
+
+/// What is said of arguments that `overlay` refuses, which follow the program's name: help, the version, or what is
+/// wrong with them, with the usage. Without arguments they are those that are no UTF-8. OutOfMemory (99) where an
+/// allocation is refused.
+pub fn argument_reasons(alloc: Global, arguments: &[String]) -> Result<String, OutOfMemory>
+    ensures { IfOk result (λ text. (string_bytes text ≡ VERSION.now) ⊎ EndsWith USAGE.now (string_bytes text)) }
+{
+    if is_first(arguments, "--version") || is_first(arguments, "-V") {
+        return Ok(String::from_str(alloc, VERSION)?);
+    }
+    let mut text = String::new(alloc);
+    if asks_help(arguments) {
+        text.push_str(HELP)?;
+    } else {
+        push_wrong(alloc, &mut text, arguments)?;
+    }
+    text.push_str(USAGE)?;
+    Ok(text)
+}
+
+/// Whether this is the first argument.
+fn is_first(arguments: &[String], word: &str) -> bool {
+    match arguments.first() {
+        Some(first) => first.as_str() == word,
+        None => false,
+    }
+}
+
+/// Whether help is asked for.
+fn asks_help(arguments: &[String]) -> bool {
+    is_first(arguments, "help")
+        || arguments
+            .iter()
+            .any(|word| word.as_str() == "--help" || word.as_str() == "-h")
+}
+
+/// Appends what is wrong with arguments.
+fn push_wrong(alloc: Global, text: &mut String, arguments: &[String]) -> Result<(), OutOfMemory> {
+    match wrong_of(arguments) {
+        Some(wrong) => push_wrong_word(alloc, text, wrong)?,
+        None => text.push_str("the arguments can't be read")?,
+    }
+    text.push_str("\n")?;
+    Ok(())
+}
+
+/// Appends what is wrong with a word.
+fn push_wrong_word(alloc: Global, text: &mut String, wrong: Wrong<'_>) -> Result<(), OutOfMemory> {
+    match wrong {
+        Wrong::NoText => Ok(text.push_str("an argument is no UTF-8 text")?),
+        Wrong::Command(word) => push_no_command(alloc, text, word),
+        Wrong::Unknown(command, name) => push_unknown(alloc, text, command, name),
+        Wrong::Twice(choice) => push_said(text, choice.name(), " stands twice"),
+        Wrong::NoValue(choice) => push_takes(text, choice),
+        Wrong::Value(choice, value) => {
+            push_takes(text, choice)?;
+            push_said_of(text, ", and not ", value, "")
+        }
+        Wrong::SurplusValue(choice) => push_said(text, choice.name(), " takes no value"),
+        Wrong::SecondFile(word) => push_said(text, word, " is a second file"),
+    }
+}
+
+/// Appends that a word is no command.
+fn push_no_command(alloc: Global, text: &mut String, word: &str) -> Result<(), OutOfMemory> {
+    push_said(text, word, " is no command")?;
+    for name in ["run", "analyse"] {
+        if is_near(alloc, word, name)? {
+            return push_meant(text, name);
+        }
+    }
+    Ok(())
+}
+
+/// Appends that a command has no such option, and which may be meant, or which command has it.
+fn push_unknown(
+    alloc: Global,
+    text: &mut String,
+    command: &str,
+    name: &str,
+) -> Result<(), OutOfMemory> {
+    push_said(text, name, " is no option of ")?;
+    push_said(text, command, "")?;
+    for choice in &CHOICES {
+        if choice.command() == command && is_near(alloc, name, choice.name())? {
+            return push_meant(text, choice.name());
+        }
+        if choice.name() == name {
+            return push_said_of(text, "; it is one of ", choice.command(), "");
+        }
+    }
+    Ok(())
+}
+
+/// Appends what an option takes.
+fn push_takes(text: &mut String, choice: Choice) -> Result<(), OutOfMemory> {
+    push_said(text, choice.name(), " takes ")?;
+    match choice.value() {
+        Some(kind) => push_kind(text, &kind),
+        None => Ok(text.push_str("no value")?),
+    }
+}
+
+/// Appends a word, and what is said of it.
+fn push_said(text: &mut String, word: &str, said: &str) -> Result<(), OutOfMemory> {
+    push_said_of(text, "", word, said)
+}
+
+/// Appends a word, with what is said before and behind it.
+fn push_said_of(
+    text: &mut String,
+    before: &str,
+    word: &str,
+    behind: &str,
+) -> Result<(), OutOfMemory> {
+    text.push_str(before)?;
+    text.push_str("`")?;
+    push_shown(text, word.as_bytes())?;
+    text.push_str("`")?;
+    text.push_str(behind)?;
+    Ok(())
+}

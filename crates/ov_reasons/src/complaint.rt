@@ -1,0 +1,87 @@
+use crate::file_line::{FileLine, Word};
+use crate::hint::push_hint;
+use crate::line_form::{Form, Kind};
+use crate::marked_line::push_marked;
+use crate::names::push_unknown_name;
+use crate::recognising::{farthest_stop, stop_of};
+use ov_ids::OutOfMemory;
+use std::alloc::Global;
+
+/// What is wrong with a line that no form takes, with the line and a mark under the first word that none of the forms
+/// takes which go farthest.
+pub(crate) fn unread_line(
+    alloc: Global,
+    forms: &[Form],
+    line: &FileLine<'_>,
+    words: &[Word<'_>],
+) -> Result<String, OutOfMemory> {
+    let stop = farthest_stop(forms, words);
+    let word = words.get(stop);
+    let mut text = String::new(alloc);
+    match word {
+        Some(word) if stop == 0 => push_unknown_name(alloc, &mut text, forms, word.bytes)?,
+        _ => push_expected(&mut text, forms, words, stop)?,
+    }
+    push_marked(alloc, &mut text, line.text, place_of(line, word))?;
+    Ok(text)
+}
+
+/// Where the mark stands: at the word, or behind the line where there is none.
+fn place_of(line: &FileLine<'_>, word: Option<&Word<'_>>) -> usize {
+    match word {
+        Some(word) => word.start,
+        None => line.text.len(),
+    }
+}
+
+/// Appends what the forms that take so many words would take next, and what may help at the word that stands there.
+fn push_expected(
+    text: &mut String,
+    forms: &[Form],
+    words: &[Word<'_>],
+    stop: usize,
+) -> Result<(), OutOfMemory> {
+    let mut last = None;
+    for form in forms {
+        if stop_of(form, words) == Some(stop) {
+            let kind = form.kind_at(stop.saturating_sub(1));
+            push_next_kind(text, last, kind)?;
+            last = Some(kind);
+        }
+    }
+    match words.get(stop) {
+        Some(word) => push_hint(text, word.bytes, last.and_then(|kind| kind.limits())),
+        None => Ok(()),
+    }
+}
+
+/// Appends what else is expected, unless it was told last.
+fn push_next_kind(text: &mut String, last: Option<Kind>, kind: Kind) -> Result<(), OutOfMemory> {
+    if last == Some(kind) {
+        return Ok(());
+    }
+    text.push_str(if last.is_none() { "expected " } else { " or " })?;
+    push_kind(text, &kind)
+}
+
+/// Appends what is expected.
+pub(crate) fn push_kind(text: &mut String, kind: &Kind) -> Result<(), OutOfMemory> {
+    match kind {
+        Kind::Name(name) => {
+            text.push_str("`")?;
+            text.push_str(name)?;
+            text.push_str("`")?;
+        }
+        Kind::Short(what) | Kind::Long(what) | Kind::Within(what, _, _) => text.push_str(what)?,
+        Kind::Ids => text.push_str("ids with one comma between two")?,
+        Kind::RandomWord => text.push_str("a random word")?,
+        Kind::FurtherWord => text.push_str("a random word or the end of the line")?,
+        Kind::Payload => text.push_str("a payload")?,
+        Kind::End => text.push_str("the end of the line")?,
+        Kind::Full(why) => {
+            text.push_str("the end of the line, since ")?;
+            text.push_str(why)?;
+        }
+    }
+    Ok(())
+}

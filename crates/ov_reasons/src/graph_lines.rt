@@ -1,0 +1,100 @@
+ghost use Rattle.std.specs.Prelude.{IfOk, string_bytes};
+ghost use Rattle.ov_reasons.specs.Paragraphs.{Explains};
+
+use crate::complaint::unread_line;
+use crate::explained::Explained;
+use crate::file_line::{FileLine, Word, kept_lines, words_of};
+use crate::line_form::{GRAPH_FORMS, Says};
+use crate::numeral::number_of;
+use crate::recognising::form_of;
+use ov_ids::OutOfMemory;
+use std::alloc::Global;
+
+/// Explains the lines of a graph file that can't be read, from the line of this number on.
+pub(crate) fn explain_graph_lines(
+    alloc: Global,
+    bytes: &[u8],
+    number: usize,
+) -> Result<String, OutOfMemory>
+    ensures { IfOk result (λ text. Explains number (string_bytes text)) }
+{
+    let lines = kept_lines(alloc, bytes)?;
+    let mut explained = Explained::new(alloc, number);
+    for line in &lines {
+        if explained.is_full() {
+            return explained.into_text(alloc);
+        }
+        let words = words_of(alloc, line.text)?;
+        if form_of(&GRAPH_FORMS, &words).is_none() {
+            let text = unread_line(alloc, &GRAPH_FORMS, line, &words)?;
+            explained.add(line.number, text)?;
+        }
+    }
+    explained.into_text(alloc)
+}
+
+/// A line that says a node.
+#[derive(Clone, Copy)]
+pub(crate) struct NodeLine<'a> {
+    pub(crate) line: FileLine<'a>,
+    pub(crate) id: u64,
+}
+
+/// A line that says a link, with its ids as they are written.
+#[derive(Clone, Copy)]
+pub(crate) struct LinkLine<'a> {
+    pub(crate) line: FileLine<'a>,
+    pub(crate) from: u64,
+    pub(crate) to: u64,
+}
+
+/// What the lines of a graph file say, in order.
+#[derive(Drop)]
+pub(crate) struct GraphLines<'a> {
+    pub(crate) nodes: Vec<NodeLine<'a>>,
+    pub(crate) links: Vec<LinkLine<'a>>,
+}
+
+impl<'a> GraphLines<'a> {
+    /// Of no line.
+    fn new(alloc: Global) -> GraphLines<'a> {
+        GraphLines {
+            nodes: Vec::new(alloc),
+            links: Vec::new(alloc),
+        }
+    }
+
+    /// Adds what a line says. One that can't be read says nothing.
+    fn add(&mut self, line: FileLine<'a>, words: &[Word<'_>]) -> Result<(), OutOfMemory> {
+        let Some(form) = form_of(&GRAPH_FORMS, words) else {
+            return Ok(());
+        };
+        let from = number_at(words, 1);
+        if form.says() == Says::Node {
+            self.nodes.push(NodeLine { line, id: from })?;
+        } else {
+            let to = number_at(words, 2);
+            self.links.push(LinkLine { line, from, to })?;
+        }
+        Ok(())
+    }
+}
+
+/// The number that the word at this place spells.
+fn number_at(words: &[Word<'_>], place: usize) -> u64 {
+    words
+        .get(place)
+        .and_then(|word| number_of(word.bytes))
+        .unwrap_or(0)
+}
+
+/// What the lines of a graph file say that can be read.
+pub(crate) fn graph_lines(alloc: Global, bytes: &[u8]) -> Result<GraphLines<'_>, OutOfMemory> {
+    let lines = kept_lines(alloc, bytes)?;
+    let mut said = GraphLines::new(alloc);
+    for line in &lines {
+        let words = words_of(alloc, line.text)?;
+        said.add(*line, &words)?;
+    }
+    Ok(said)
+}

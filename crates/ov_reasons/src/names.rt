@@ -1,0 +1,80 @@
+use crate::hint::bytes_hint;
+use crate::line_form::{Form, GRAPH_FORMS, SCENARIO_FORMS};
+use ov_ids::OutOfMemory;
+use std::alloc::{AllocError, Global};
+use strsim::osa_distance;
+
+/// How many bytes a word has at most for which a name is looked for that may be meant.
+const LONGEST: usize = 32;
+
+/// Appends that no line begins with this word, and what may help.
+pub(crate) fn push_unknown_name(
+    alloc: Global,
+    text: &mut String,
+    forms: &[Form],
+    word: &[u8],
+) -> Result<(), OutOfMemory> {
+    text.push_str("no line begins with this word")?;
+    if let Some(hint) = bytes_hint(word).or(other_file(word)) {
+        text.push_str("; ")?;
+        text.push_str(hint)?;
+        return Ok(());
+    }
+    match meant_name(alloc, forms, word)? {
+        Some(name) => push_meant(text, name),
+        None => Ok(()),
+    }
+}
+
+/// What may help at a word that the lines of the other kind of file begin with.
+fn other_file(word: &[u8]) -> Option<&'static str> {
+    if has_name(&GRAPH_FORMS, word) {
+        return Some("`overlay analyse` reads graph files, which have such lines");
+    }
+    if has_name(&SCENARIO_FORMS, word) {
+        return Some("`overlay run` reads scenario files, which have such lines");
+    }
+    None
+}
+
+/// Whether a form has this name.
+fn has_name(forms: &[Form], word: &[u8]) -> bool {
+    forms.iter().any(|form| form.name().as_bytes() == word)
+}
+
+/// Appends a name that may be meant.
+pub(crate) fn push_meant(text: &mut String, name: &str) -> Result<(), OutOfMemory> {
+    text.push_str("; did you mean `")?;
+    text.push_str(name)?;
+    text.push_str("`?")?;
+    Ok(())
+}
+
+/// The first of the names that is near to a word.
+fn meant_name(
+    alloc: Global,
+    forms: &[Form],
+    word: &[u8],
+) -> Result<Option<&'static str>, AllocError> {
+    let Ok(word) = str::from_utf8(word) else {
+        return Ok(None);
+    };
+    for form in forms {
+        if is_near(alloc, word, form.name())? {
+            return Ok(Some(form.name()));
+        }
+    }
+    Ok(None)
+}
+
+/// Whether a word may be meant as this name: it differs in capital letters alone, or by one edit for each three
+/// letters.
+pub(crate) fn is_near(alloc: Global, word: &str, name: &str) -> Result<bool, AllocError> {
+    if word.len() > LONGEST {
+        return Ok(false);
+    }
+    if word.eq_ignore_ascii_case(name) {
+        return Ok(true);
+    }
+    Ok(osa_distance(alloc, word, name)? <= name.len() / 3)
+}

@@ -1,0 +1,73 @@
+use crate::file_line::{FileLine, Word};
+use crate::marked_line::push_marked;
+use crate::numeral::number_of;
+use ov_ids::OutOfMemory;
+use std::alloc::Global;
+use std::fmt::Write;
+
+/// A parameter: its name in the form of its line, and its limits.
+struct Limits(&'static str, u64, u64);
+
+/// The limits of the seven parameters, in the order of their line. R, the fourth, is at most W, the third.
+static LIMITS: [Limits; 7] = [
+    Limits("A, the size of the active view,", 1, 16),
+    Limits("P, the size of the passive view,", 1, 64),
+    Limits("W, the active random walk length,", 0, 15),
+    Limits("R, the passive random walk length,", 0, 15),
+    Limits("KA, how many active members a shuffle samples,", 0, 8),
+    Limits("KP, how many passive members a shuffle samples,", 0, 8),
+    Limits("T, the time to live of a shuffle,", 1, 15),
+];
+
+/// Says which of the seven parameters of a line are out of their limits, with a mark under the first of these.
+pub(crate) fn out_of_limits(
+    alloc: Global,
+    line: &FileLine<'_>,
+    words: &[Word<'_>],
+) -> Result<Option<String>, OutOfMemory> {
+    let mut text = String::new(alloc);
+    let mut first = None;
+    for (place, limits) in LIMITS.iter().enumerate() {
+        let high = highest(place, limits, words);
+        if let Some(word) = words.get(place + 1) {
+            let number = number_of(word.bytes).unwrap_or(0);
+            if number < limits.1 || number > high {
+                push_parameter(&mut text, limits, number, high)?;
+                first = first.or(Some(word.start));
+            }
+        }
+    }
+    let Some(start) = first else {
+        return Ok(None);
+    };
+    push_marked(alloc, &mut text, line.text, start)?;
+    Ok(Some(text))
+}
+
+/// The largest value of the parameter at this place. The fourth is at most the third.
+fn highest(place: usize, limits: &Limits, words: &[Word<'_>]) -> u64 {
+    if place != 3 {
+        return limits.2;
+    }
+    words
+        .get(3)
+        .and_then(|word| number_of(word.bytes))
+        .unwrap_or(limits.2)
+}
+
+/// Appends that a parameter is out of its limits.
+fn push_parameter(
+    text: &mut String,
+    limits: &Limits,
+    number: u64,
+    high: u64,
+) -> Result<(), OutOfMemory> {
+    if !text.is_empty() {
+        text.push_str("; ")?;
+    }
+    text.push_str(limits.0)?;
+    write!(text, " is {number}")?;
+    write!(text, " and must be {}", limits.1)?;
+    write!(text, " to {high}")?;
+    Ok(())
+}

@@ -1,0 +1,213 @@
+ghost use Rattle.std.specs.Prelude.{IfOk, string_bytes};
+ghost use Rattle.ov_reasons.specs.Paragraphs.{Explains};
+
+use crate::complaint::unread_line;
+use crate::explained::Explained;
+use crate::file_line::{FileLine, Word, kept_lines, words_of};
+use crate::line_form::{SCENARIO_FORMS, Says};
+use crate::marked_line::push_marked;
+use crate::parameters::out_of_limits;
+use crate::recognising::form_of;
+use ov_ids::OutOfMemory;
+use std::alloc::Global;
+use std::fmt::Write;
+
+/// Explains the lines of a scenario file that are at fault, from the line of this number on.
+pub(crate) fn explain_scenario(
+    alloc: Global,
+    bytes: &[u8],
+    number: usize,
+) -> Result<String, OutOfMemory>
+    ensures { IfOk result (λ text. Explains number (string_bytes text)) }
+{
+    let lines = kept_lines(alloc, bytes)?;
+    explain_lines(alloc, &lines, number)
+}
+
+/// Explains those of these lines that are at fault, from the line of this number on.
+fn explain_lines(
+    alloc: Global,
+    lines: &[FileLine<'_>],
+    number: usize,
+) -> Result<String, OutOfMemory>
+    ensures { IfOk result (λ text. Explains number (string_bytes text)) }
+{
+    let mut explained = Explained::new(alloc, number);
+    let mut head = Head::new();
+    for (place, line) in lines.iter().enumerate() {
+        if explained.is_full() {
+            return explained.into_text(alloc);
+        }
+        if let Some(text) = head.judge(alloc, line, lines.get(place + 1))? {
+            explained.add(line.number, text)?;
+        }
+    }
+    explained.into_text(alloc)
+}
+
+/// What the lines so far say, as far as it matters to the lines behind them: the numbers of the first lines that are an
+/// event, parameters and a seed.
+#[derive(Clone, Copy)]
+struct Head {
+    event: Option<usize>,
+    params: Option<usize>,
+    seed: Option<usize>,
+}
+
+impl Head {
+    /// No line was judged.
+    fn new() -> Head {
+        Head {
+            event: None,
+            params: None,
+            seed: None,
+        }
+    }
+
+    /// Judges a line, which this one follows, if there is one. Returns what is wrong with it, if anything is.
+    fn judge(
+        &mut self,
+        alloc: Global,
+        line: &FileLine<'_>,
+        next: Option<&FileLine<'_>>,
+    ) -> Result<Option<String>, OutOfMemory> {
+        let words = words_of(alloc, line.text)?;
+        let Some(form) = form_of(&SCENARIO_FORMS, &words) else {
+            return Ok(Some(unread_line(alloc, &SCENARIO_FORMS, line, &words)?));
+        };
+        match form.says() {
+            Says::Params => self.judge_params(alloc, line, &words),
+            Says::Seed => self.judge_seed(alloc, line),
+            Says::Words => judge_words(alloc, line, next),
+            Says::Event => {
+                self.event = self.event.or(Some(line.number));
+                Ok(None)
+            }
+            Says::Look | Says::Node | Says::Link => Ok(None),
+        }
+    }
+
+    /// Judges parameters: they are given once, before any event, and within their limits.
+    fn judge_params(
+        &mut self,
+        alloc: Global,
+        line: &FileLine<'_>,
+        words: &[Word<'_>],
+    ) -> Result<Option<String>, OutOfMemory> {
+        let first = self.params;
+        self.params = first.or(Some(line.number));
+        if let Some(event) = self.event {
+            return Ok(Some(late_line(alloc, line, "`params`", event)?));
+        }
+        if let Some(first) = first {
+            return Ok(Some(second_line(alloc, line, "`params`", first)?));
+        }
+        out_of_limits(alloc, line, words)
+    }
+
+    /// Judges a seed: it is given once, before any event.
+    fn judge_seed(
+        &mut self,
+        alloc: Global,
+        line: &FileLine<'_>,
+    ) -> Result<Option<String>, OutOfMemory> {
+        let first = self.seed;
+        self.seed = first.or(Some(line.number));
+        if let Some(event) = self.event {
+            return Ok(Some(late_line(alloc, line, "`seed`", event)?));
+        }
+        match first {
+            Some(first) => Ok(Some(second_line(alloc, line, "`seed`", first)?)),
+            None => Ok(None),
+        }
+    }
+}
+
+/// Says that a line comes too late, behind the event on the line of this number.
+fn late_line(
+    alloc: Global,
+    line: &FileLine<'_>,
+    what: &str,
+    event: usize,
+) -> Result<String, OutOfMemory> {
+    told_of(
+        alloc,
+        line,
+        what,
+        " must stand before any event, and line ",
+        event,
+        " is one",
+    )
+}
+
+/// Says that a line comes a second time, behind that on the line of this number.
+fn second_line(
+    alloc: Global,
+    line: &FileLine<'_>,
+    what: &str,
+    first: usize,
+) -> Result<String, OutOfMemory> {
+    told_of(
+        alloc,
+        line,
+        what,
+        " may stand once, and is on line ",
+        first,
+        " too",
+    )
+}
+
+/// What is said of a line as a whole, with another line's number in it.
+fn told_of(
+    alloc: Global,
+    line: &FileLine<'_>,
+    what: &str,
+    before: &str,
+    number: usize,
+    behind: &str,
+) -> Result<String, OutOfMemory> {
+    let mut text = String::from_str(alloc, what)?;
+    text.push_str(before)?;
+    write!(text, "{number}")?;
+    text.push_str(behind)?;
+    push_whole_line(alloc, &mut text, line)?;
+    Ok(text)
+}
+
+/// Appends a line with a mark under its first word.
+fn push_whole_line(
+    alloc: Global,
+    text: &mut String,
+    line: &FileLine<'_>,
+) -> Result<(), OutOfMemory> {
+    let start = line.text.iter().position(|byte| *byte != b' ');
+    push_marked(alloc, text, line.text, start.unwrap_or(0))
+}
+
+/// Judges random words: the next line, if there is one, is to be an event, which has them.
+fn judge_words(
+    alloc: Global,
+    line: &FileLine<'_>,
+    next: Option<&FileLine<'_>>,
+) -> Result<Option<String>, OutOfMemory> {
+    let Some(next) = next else {
+        let mut text = String::from_str(
+            alloc,
+            "random words must stand right before an event, and no line follows",
+        )?;
+        push_whole_line(alloc, &mut text, line)?;
+        return Ok(Some(text));
+    };
+    let words = words_of(alloc, next.text)?;
+    match form_of(&SCENARIO_FORMS, &words) {
+        Some(form) if form.says() == Says::Event => Ok(None),
+        _ => Ok(Some(told_of(
+            alloc,
+            line,
+            "random words",
+            " must stand right before an event, and line ",
+            next.number,
+            " is none",
+        )?)),
+    }
+}

@@ -1,0 +1,228 @@
+//! Certificates that do not hold, and what a person is told of each.
+use crate::shared::is_told;
+use ov_ids::OutOfMemory;
+use std::alloc::Global;
+use std::test::Fail;
+
+/// The square, with what stands in the place of a part: the part, what stands there, and what is told.
+const SQUARE: &str =
+    r#"{"cut":[2,4],"fans":[{"j":3,"paths":[[3,2],[3,4,1]]},{"j":4,"paths":[[4,1],[4,3]]}],"far":3,"group":[1,2,3,4],"k":2,"links":[[1,2],[1,4],[2,3],[3,4]],"moment":0,"near":1,"nodes":[1,2,3,4],"pairs":[],"side":[1],"verdict":"split","version":2}"#;
+
+static CHANGED: [(&str, &str, &str); 27] = [
+    (
+        "[1,2,3,4],\"k\"",
+        "[],\"k\"",
+        "the group is no group of nodes: it has no member",
+    ),
+    (
+        "[1,2,3,4],\"k\"",
+        "[2,1],\"k\"",
+        "the group is no group of nodes: group[1] is 1, not above 2",
+    ),
+    (
+        "[1,2,3,4],\"k\"",
+        "[1,7],\"k\"",
+        "the group is no group of nodes: group[1] is 7, which is no node",
+    ),
+    (
+        "\"k\":2",
+        "\"k\":3",
+        "the count is wrong: k is 3, and the nodes of the cut are 2",
+    ),
+    (
+        "[2,4]",
+        "[4,2]",
+        "the cut is no set of nodes: cut[1] is 2, not above 4",
+    ),
+    (
+        "[2,4]",
+        "[2,9]",
+        "the cut is no set of nodes: cut[1] is 9, which is no node",
+    ),
+    (
+        "\"near\":1",
+        "\"near\":9",
+        "the side is not cut off: near is 9, which is no member",
+    ),
+    (
+        "\"near\":1",
+        "\"near\":2",
+        "the side is not cut off: near is 2, which is in the cut",
+    ),
+    (
+        "\"far\":3",
+        "\"far\":4",
+        "the side is not cut off: far is 4, which is in the cut",
+    ),
+    (
+        "\"side\":[1]",
+        "\"side\":[1,1]",
+        "the side is not cut off: side[1] is 1, not above 1",
+    ),
+    (
+        "\"side\":[1]",
+        "\"side\":[0,1]",
+        "the side is not cut off: side[0] is 0, which is no node",
+    ),
+    (
+        "\"side\":[1]",
+        "\"side\":[1,2]",
+        "the side is not cut off: side[1] is 2, which is in the cut",
+    ),
+    (
+        "\"side\":[1]",
+        "\"side\":[]",
+        "the side is not cut off: near is 1, which is not on the side",
+    ),
+    (
+        "\"side\":[1]",
+        "\"side\":[1,3]",
+        "the side is not cut off: far is 3, which is on the side",
+    ),
+    (
+        "[1,2],[1,4],",
+        "[1,2],[1,3],[1,4],",
+        "the side is not cut off: a link leads from 1 to 3, which is neither on the side nor in the cut",
+    ),
+    (
+        "\"j\":3",
+        "\"j\":2",
+        "the fan of 3 does not hold: fans[0] has j 2",
+    ),
+    (
+        "[[3,2],[3,4,1]]",
+        "[[3,2]]",
+        "the fan of 3 does not hold: fans[0]: the number of paths is 1, and k is 2",
+    ),
+    (
+        "[[3,2],",
+        "[[],",
+        "the fan of 3 does not hold: fans[0].paths[0] has fewer than two nodes",
+    ),
+    (
+        "[[3,2],",
+        "[[2,1],",
+        "the fan of 3 does not hold: fans[0].paths[0] begins at 2, not at 3",
+    ),
+    (
+        "[3,4,1]",
+        "[3,2,1]",
+        "the fan of 3 does not hold: fans[0].paths[1] meets node 2 of paths[0]",
+    ),
+    (
+        "[3,4,1]",
+        "[3,4]",
+        "the fan of 3 does not hold: fans[0].paths[1] ends at 4, which is no member below 3",
+    ),
+    (
+        "[3,4,1]",
+        "[3,4,2]",
+        "the fan of 3 does not hold: fans[0].paths[1] goes from 4 to 2, and there is no such link",
+    ),
+    (
+        "[3,4,1]",
+        "[3,4,3,4,1]",
+        "the fan of 3 does not hold: fans[0].paths[1] has node 3 twice",
+    ),
+    (
+        ",{\"j\":4,\"paths\":[[4,1],[4,3]]}",
+        "",
+        "the fan of 4 does not hold: fans[1] is missing",
+    ),
+    (
+        "[4,3]]}",
+        "[4,3]]},{\"j\":5,\"paths\":[]}",
+        "there are more entries than expected: fans has 3, expected 2",
+    ),
+    (
+        "\"pairs\":[]",
+        "\"pairs\":[{\"i\":1,\"j\":2,\"paths\":[]}]",
+        "there are more entries than expected: pairs has 1, expected 0",
+    ),
+    ("\"moment\":0", "\"moment\":7", ""),
+];
+
+/// With one part of the square in place of another, which it has once, a person is told this.
+fn is_told_changed(alloc: Global, old: &str, new: &str, told: &str) -> Result<bool, OutOfMemory> {
+    let Some((front, back)) = SQUARE.split_once(old) else {
+        return Ok(false);
+    };
+    let text = format!(in alloc; "{front}{new}{back}")?;
+    is_told(alloc, text.as_bytes(), told)
+}
+
+#[test]
+fn the_part_that_does_not_hold_is_named(rt: HostRuntime) -> Result<(), Fail> {
+    for (old, new, told) in &CHANGED {
+        assert!(rt;
+            is_told_changed(rt.alloc(), old, new, told)?,
+            "{new} for {old}: {told}"
+        );
+    }
+    Ok(())
+}
+
+const FIVE_BUT_ONE: &str =
+    r#"{"cut":[3,4,5],"fans":[{"j":4,"paths":[[4,1],[4,2],[4,3]]},{"j":5,"paths":[[5,1],[5,2],[5,3]]}],"far":2,"k":3,"links":[[1,3],[1,4],[1,5],[2,3],[2,4],[2,5],[3,4],[3,5],[4,5]],"moment":0,"near":1,"nodes":[1,2,3,4,5],"pairs":PAIRS,"side":[1],"verdict":"split","version":1}"#;
+
+/// What stands in the place of the pairs, and what is told.
+static PAIRS: [(&str, &str); 5] = [
+    ("[]", "pairs[0] is missing"),
+    (
+        r#"[{"i":1,"j":3,"paths":[[1,3,2],[1,4,2],[1,5,2]]}]"#,
+        "pairs[0] has i 1 and j 3",
+    ),
+    (
+        r#"[{"i":1,"j":2,"paths":[[1,3,2],[1,4,2],[1,5,4]]}]"#,
+        "pairs[0].paths[2] ends at 4, not at 2",
+    ),
+    (
+        r#"[{"i":1,"j":2,"paths":[[1,3,2],[1,4,2],[1,4,2]]}]"#,
+        "pairs[0].paths[2] meets node 4 of paths[1]",
+    ),
+    (
+        r#"[{"i":1,"j":2,"paths":[[1,2],[1,4,2],[1,5,2]]}]"#,
+        "pairs[0].paths[0] goes from 1 to 2, and there is no such link",
+    ),
+];
+
+fn is_told_pairs(alloc: Global, pairs: &str, told: &str) -> Result<bool, OutOfMemory> {
+    let Some((front, back)) = FIVE_BUT_ONE.split_once("PAIRS") else {
+        return Ok(false);
+    };
+    let text = format!(in alloc; "{front}{pairs}{back}")?;
+    let told = format!(in alloc; "the paths from 1 to 2 do not hold: {told}")?;
+    is_told(alloc, text.as_bytes(), told.as_str())
+}
+
+#[test]
+fn the_path_that_does_not_hold_is_named(rt: HostRuntime) -> Result<(), Fail> {
+    for (pairs, told) in &PAIRS {
+        assert!(rt; is_told_pairs(rt.alloc(), pairs, told)?, "{pairs}: {told}");
+    }
+    Ok(())
+}
+
+/// Files that say linked.
+static LINKED: [(&str, &str); 3] = [
+    (
+        r#"{"k":2,"links":[[1,2]],"moment":6,"nodes":[1,2],"verdict":"linked","version":1}"#,
+        "the count is wrong: k is 2, and the members are 2",
+    ),
+    (
+        r#"{"k":2,"links":[[1,2],[2,3]],"moment":6,"nodes":[1,2,3],"verdict":"linked","version":1}"#,
+        "two members are not linked: 1 and 3",
+    ),
+    (
+        r#"{"k":0,"links":[],"moment":6,"nodes":[],"verdict":"linked","version":1}"#,
+        "the graph has no node",
+    ),
+];
+
+#[test]
+fn members_that_are_not_linked_are_named(rt: HostRuntime) -> Result<(), Fail> {
+    for (text, told) in &LINKED {
+        assert!(rt; is_told(rt.alloc(), text.as_bytes(), told)?, "{told}");
+    }
+    Ok(())
+}

@@ -1,0 +1,9 @@
+//! Tests of what a person is told where a certificate file does not hold.
+#![tactic(auto)]
+
+#[cfg(test)]
+mod claims;
+#[cfg(test)]
+mod files;
+#[cfg(test)]
+mod shared;

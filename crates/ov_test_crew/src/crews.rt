@@ -1,0 +1,188 @@
+//! Analyses by several workers, and a board.
+use crate::gates::{Counting, Meeting};
+use crate::graphs::{Family, of_size};
+use ov_board::Board;
+use ov_cert::Cert;
+use ov_crew::{Gate, OpenGate, analyse, analyse_group, analyse_group_watched};
+use ov_even::{AnalyseFault, Watcher};
+use ov_graph::Graph;
+use ov_ids::{NodeId, OutOfMemory};
+use std::alloc::Global;
+use std::test::Fail;
+use std::thread::Threads;
+
+/// A graph, and the answer for the group of all its nodes: a split, or linked where the cut is empty.
+struct Row {
+    family: Family,
+    nodes: u32,
+    k: u32,
+    cut: &'static [u32],
+    near: u32,
+    far: u32,
+    side: &'static [u32],
+}
+
+static PETERSEN: Row = Row {
+    family: Family::Petersen,
+    nodes: 10,
+    k: 3,
+    cut: &[2, 5, 6],
+    near: 1,
+    far: 3,
+    side: &[1],
+};
+
+static RING: Row = Row {
+    family: Family::Ring,
+    nodes: 200,
+    k: 8,
+    cut: &[2, 3, 4, 5, 197, 198, 199, 200],
+    near: 1,
+    far: 6,
+    side: &[1],
+};
+
+/// Each of five nodes is linked to each.
+static LINKED: Row = Row {
+    family: Family::All,
+    nodes: 5,
+    k: 4,
+    cut: &[],
+    near: 0,
+    far: 0,
+    side: &[],
+};
+
+/// The ids have these numbers.
+fn are(ids: &[NodeId], numbers: &[u32]) -> bool {
+    for (id, number) in ids.iter().zip(numbers) {
+        if id.0 != *number {
+            return false;
+        }
+    }
+    ids.len() == numbers.len()
+}
+
+/// The certificate gives the answer.
+fn gives(cert: &Cert, row: &Row) -> bool {
+    let split = match cert {
+        Cert::Linked { k } => return *k == row.k && row.cut.is_empty(),
+        Cert::Split(split) => split,
+    };
+    split.k == row.k
+        && split.near.0 == row.near
+        && split.far.0 == row.far
+        && are(split.cut.as_slice(), row.cut)
+        && are(split.side.as_slice(), row.side)
+}
+
+/// So many workers find the answer, and pass this gate.
+fn find<R: Threads + Sync, G: Gate>(
+    rt: &R,
+    alloc: Global,
+    row: &Row,
+    workers: u32,
+    gate: &G,
+) -> Result<bool, Fail> {
+    if workers < 1 || workers > 64 {
+        return Ok(false);
+    }
+    let graph = of_size(alloc, row.family, row.nodes)?;
+    let checked = analyse(rt, alloc, &graph, workers, gate)?;
+    Ok(gives(checked.cert(), row))
+}
+
+/// Counts the levels that it is told of.
+#[derive(Drop)]
+struct Levels {
+    count: u64,
+}
+
+impl Watcher for Levels {
+    fn sees(&mut self, _level: usize, _place: usize, _size: usize) {
+        self.count = self.count.saturating_add(1);
+    }
+}
+
+/// So many workers find the answer, and a watcher is told of a level.
+fn find_watched<R: Threads + Sync>(
+    rt: &R,
+    alloc: Global,
+    row: &Row,
+    workers: u32,
+) -> Result<bool, Fail> {
+    if workers < 1 || workers > 64 {
+        return Ok(false);
+    }
+    let graph = of_size(alloc, row.family, row.nodes)?;
+    let mut levels = Levels { count: 0 };
+    let checked = analyse_group_watched(rt, alloc, &graph, graph.nodes(), workers, &mut levels)?;
+    Ok(gives(checked.cert(), row) && levels.count > 0)
+}
+
+#[test]
+fn the_same_for_1_2_5_and_64_workers(rt: HostRuntime) -> Result<(), Fail> {
+    for workers in [1, 2, 5, 64] {
+        for row in [&PETERSEN, &RING] {
+            let is_found = find(&rt, rt.alloc(), row, workers, &OpenGate)?
+                && find_watched(&rt, rt.alloc(), row, workers)?;
+            assert!(rt; is_found);
+        }
+    }
+    Ok(())
+}
+
+#[test]
+fn two_workers_meet(rt: HostRuntime) -> Result<(), Fail> {
+    let gate = Meeting::new();
+    let is_found = find(&rt, rt.alloc(), &PETERSEN, 2, &gate)?;
+    assert!(rt; is_found && gate.saw_both());
+    Ok(())
+}
+
+/// The one worker of a board without numbers is given number 0 and has ended, and none has failed.
+fn ends_at_once(alloc: Global) -> Result<bool, OutOfMemory> {
+    let (board, mut seats) = Board::new(alloc, 0, 1)?;
+    let Some(seat) = seats.pop() else {
+        return Ok(false);
+    };
+    let (number, seat) = board.claim(seat);
+    seats.push(seat)?;
+    Ok(number == 0 && board.close(seats) == 0)
+}
+
+#[test]
+fn a_board_without_numbers(rt: HostRuntime) -> Result<(), Fail> {
+    let gate = Counting::new();
+    let is_done = ends_at_once(rt.alloc())? && find(&rt, rt.alloc(), &LINKED, 2, &gate)?;
+    assert!(rt; is_done && gate.count() == 0);
+    Ok(())
+}
+
+/// Two workers refuse a group of the nodes up to the last for this fault.
+fn refuse<R: Threads + Sync>(
+    rt: &R,
+    alloc: Global,
+    last: u32,
+    group: &[NodeId],
+    fault: AnalyseFault,
+) -> Result<bool, Fail> {
+    let graph = of_size(alloc, Family::All, last)?;
+    let refused = analyse_group(rt, alloc, &graph, group, 2, &OpenGate);
+    Ok(refused.err() == Some(fault))
+}
+
+#[test]
+fn graphs_and_groups_are_refused(rt: HostRuntime) -> Result<(), Fail> {
+    let unordered = [NodeId(2), NodeId(1)];
+    let beyond = [NodeId(1), NodeId(4)];
+    for (last, group, fault) in [
+        (0, &unordered[..], AnalyseFault::NoNodes),
+        (3, &unordered[..], AnalyseFault::BadGroup),
+        (3, &beyond[..], AnalyseFault::BadGroup),
+        (3, &beyond[..0], AnalyseFault::BadGroup),
+    ] {
+        assert!(rt; refuse(&rt, rt.alloc(), last, group, fault)?);
+    }
+    Ok(())
+}

@@ -1,0 +1,76 @@
+//! Gates that tell what workers do.
+use ov_crew::Gate;
+use std::sync::atomic::{AtomicU64, Ordering};
+
+/// How often a worker looks whether another one has come, at most.
+const LOOKS: u64 = 100_000_000;
+
+/// Counts the numbers that workers pass with.
+#[derive(Drop)]
+pub(crate) struct Counting {
+    passed: AtomicU64,
+}
+
+impl Counting {
+    pub(crate) fn new() -> Counting {
+        Counting {
+            passed: AtomicU64::new(0),
+        }
+    }
+
+    /// How many numbers passed.
+    pub(crate) fn count(&self) -> u64 {
+        self.passed.load(Ordering::SeqCst)
+    }
+}
+
+impl Gate for Counting {
+    fn pass(&self, _worker: u32, _number: u64) {
+        let _ = self.passed.fetch_add(1, Ordering::SeqCst);
+    }
+}
+
+/// Holds the worker with number 0 until another worker has passed with number 1.
+#[derive(Drop)]
+pub(crate) struct Meeting {
+    /// One more than the worker that passed with number 1, or 0.
+    other: AtomicU64,
+    met: AtomicU64,
+}
+
+impl Meeting {
+    pub(crate) fn new() -> Meeting {
+        Meeting {
+            other: AtomicU64::new(0),
+            met: AtomicU64::new(0),
+        }
+    }
+
+    /// Whether a worker that was held with number 0 saw another one pass with number 1.
+    pub(crate) fn saw_both(&self) -> bool {
+        self.met.load(Ordering::SeqCst) == 1
+    }
+
+    /// Waits for a worker other than this one, in a bounded loop.
+    fn wait_for_other(&self, own: u64) {
+        for _ in 0..LOOKS {
+            let other = self.other.load(Ordering::SeqCst);
+            if other != 0 && other != own {
+                self.met.store(1, Ordering::SeqCst);
+                return;
+            }
+        }
+    }
+}
+
+impl Gate for Meeting {
+    fn pass(&self, worker: u32, number: u64) {
+        let own = u64::from(worker) + 1;
+        if number == 1 {
+            self.other.store(own, Ordering::SeqCst);
+        }
+        if number == 0 && !self.saw_both() {
+            self.wait_for_other(own);
+        }
+    }
+}

@@ -1,0 +1,72 @@
+//! The graphs of the tests.
+use ov_graph::{Graph, GraphFault};
+use ov_ids::NodeId;
+use std::alloc::Global;
+
+/// The links of the Petersen graph, which has the nodes 1 to 10.
+static PETERSEN: [(u32, u32); 15] = [
+    (1, 2),
+    (1, 5),
+    (1, 6),
+    (2, 3),
+    (2, 7),
+    (3, 4),
+    (3, 8),
+    (4, 5),
+    (4, 9),
+    (5, 10),
+    (6, 8),
+    (6, 9),
+    (7, 9),
+    (7, 10),
+    (8, 10),
+];
+
+/// Which nodes are linked.
+#[derive(Clone, Copy)]
+pub(crate) enum Family {
+    /// Those of the Petersen graph, of 10 nodes.
+    Petersen,
+    /// Each to the four next ones round a ring of 200 nodes.
+    Ring,
+    /// Each to each.
+    All,
+}
+
+impl Family {
+    /// Whether a node is linked to a higher one.
+    fn links(self, low: u32, high: u32) -> bool {
+        let apart = high.abs_diff(low);
+        match self {
+            Family::Petersen => PETERSEN.contains(&(low, high)),
+            Family::Ring => apart <= 4 || apart >= 196,
+            Family::All => true,
+        }
+    }
+}
+
+/// The graph of the nodes 1 to `last`.
+pub(crate) fn of_size(alloc: Global, family: Family, last: u32) -> Result<Graph, GraphFault> {
+    let mut nodes = Vec::new(alloc);
+    let mut links = Vec::new(alloc);
+    for low in 1..=last {
+        nodes.push(NodeId(low))?;
+        push_links(family, low, last, &mut links)?;
+    }
+    Graph::new(alloc, &nodes, &links)
+}
+
+/// Adds the links of a node to higher ones, ascending.
+fn push_links(
+    family: Family,
+    low: u32,
+    last: u32,
+    links: &mut Vec<(NodeId, NodeId)>,
+) -> Result<(), GraphFault> {
+    for high in low..=last {
+        if high > low && family.links(low, high) {
+            links.push((NodeId(low), NodeId(high)))?;
+        }
+    }
+    Ok(())
+}

@@ -1,0 +1,11 @@
+//! What a person is told of what `overlay` refuses. The texts were written by hand from the forms of the files.
+#![tactic(auto)]
+
+#[cfg(test)]
+mod agreement;
+#[cfg(test)]
+mod command_words;
+#[cfg(test)]
+mod refusals;
+#[cfg(test)]
+mod told_files;
