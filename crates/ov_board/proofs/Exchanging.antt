@@ -15,7 +15,7 @@ use Rattle.ov_claims.proofs.Turns.{next_small}
 use Rattle.ov_board.specs.declared.view.Plan.{Plan}
 use Rattle.ov_board.specs.declared.view.View.{View}
 use Rattle.ov_board.specs.Code.Rule.{Numbered, Holder, times, IsKept, with_seated, head_of, number_of, worker_of}
-use Rattle.ov_board.specs.Board.{BoardState, SeatState, IsStep}
+use Rattle.ov_board.specs.Board.{BoardState, SeatState, IsExchange}
 use Rattle.ov_board.specs.Code.Rule.{seat_state, Exchanged, Claimed, Looked, Failed}
 use Rattle.ov_board.proofs.Views.{IsAt, sum_written, not_twice}
 
@@ -37,11 +37,11 @@ at_board p v z y total one same is = record {
 -- the step of an exchange, as contracts see the seat
 pub told : (Step : ℕ → DeskState → DeskState → Type 0) (z y : TableId) (v w : View) (seat : SeatState) → z ≡ y
     → seat_state y v ≡ seat
-    → ((u : TableId) → IsStep (Step (number_of v)) (seat_state u v) (seat_state u w))
-    → IsStep (Step seat.number) seat (seat_state z w)
+    → ((u : TableId) → IsExchange (Step (number_of v)) (seat_state u v) (seat_state u w))
+    → IsExchange (Step seat.number) seat (seat_state z w)
 told Step z y v w seat same is made =
     let was = ap (λ (u : TableId). seat_state u v) same ∙ is in
-    subst (λ (u : SeatState). IsStep (Step u.number) u (seat_state z w)) was (made z)
+    subst (λ (u : SeatState). IsExchange (Step u.number) u (seat_state z w)) was (made z)
 
 -- the view, where its worker has become x
 abbrev becoming : View → WorkerState → View

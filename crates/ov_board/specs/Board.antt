@@ -36,7 +36,7 @@ pub record AreClaimsOf (b : BoardState) (s : DeskState) : Type 0 where
 
 -- an exchange was this step of the seat's worker: the claims were s and are t, both are claims of the board, and the
 -- worker was that of the seat before and is that of the seat after
-pub record IsStep (Step : DeskState → DeskState → Type 0) (old new : SeatState) : Type 0 where
+pub record IsExchange (Step : DeskState → DeskState → Type 0) (old new : SeatState) : Type 0 where
   pub s : DeskState
   pub t : DeskState
   pub were : AreClaimsOf old.board s

@@ -2,7 +2,7 @@ ghost use Rattle.std.specs.Prelude.{◌≡◌, ℕ, ◌<◌, ◌≤◌, ◌^◌,
 ghost use Rattle.ov_ids.specs.Members.{Has};
 ghost use Rattle.ov_claims.specs.Claims.{most_workers};
 ghost use Rattle.ov_claims.specs.Steps.{Claims, Looks, Fails, claiming, looking, failing};
-ghost use Rattle.ov_board.specs.Board.{IsClosed, IsStep, after, new_seat};
+ghost use Rattle.ov_board.specs.Board.{IsClosed, IsExchange, after, new_seat};
 
 use crate::rule::{Apart, Claiming, Entering, Failing, Lawful, Looking, Number, Together};
 use crate::seat::Seat;
@@ -63,7 +63,7 @@ impl Board {
         requires mine { seat.board ≡ self.now }
         requires goes_on { seat.worker.ended ≡ false }
         ensures seat { result.1 ≡ after seat (claiming self.now.total result.0 seat.worker) }
-        ensures step { IsStep (λ s t. Claims s seat.number result.0 t) seat result.1 }
+        ensures step { IsExchange (λ s t. Claims s seat.number result.0 t) seat result.1 }
     {
         let Seat { number, mut seat } = seat;
         let index = self.table.shared.fetch_add::<Claiming>(&mut seat, 0, 1);
@@ -77,7 +77,7 @@ impl Board {
         requires goes_on { seat.worker.ended ≡ false }
         requires claimed { Has seat.worker.claimed index }
         ensures seat { result.1 ≡ after seat (looking result.0 index seat.worker) }
-        ensures step { IsStep (λ s t. Looks s seat.number index t × (result.0 ≡ s.least)) seat result.1 }
+        ensures step { IsExchange (λ s t. Looks s seat.number index t × (result.0 ≡ s.least)) seat result.1 }
     {
         self.look_as::<Brand>(index, seat)
     }
@@ -89,7 +89,7 @@ impl Board {
         requires claimed { Has seat.worker.claimed index }
         requires index { index ≡ I.number }
         ensures seat { result.1 ≡ after seat (looking result.0 index seat.worker) }
-        ensures step { IsStep (λ s t. Looks s seat.number index t × (result.0 ≡ s.least)) seat result.1 }
+        ensures step { IsExchange (λ s t. Looks s seat.number index t × (result.0 ≡ s.least)) seat result.1 }
     {
         let Seat { number, mut seat } = seat;
         let least = self.table.shared.load::<Looking<I>>(&mut seat, 1);
@@ -101,7 +101,7 @@ impl Board {
         requires mine { seat.board ≡ self.now }
         requires claimed { Has seat.worker.claimed index }
         ensures seat { result ≡ after seat (failing index seat.worker) }
-        ensures step { IsStep (λ s t. Fails s seat.number index t) seat result }
+        ensures step { IsExchange (λ s t. Fails s seat.number index t) seat result }
     {
         let Seat { number, mut seat } = seat;
         self.table.shared.fetch_min::<Failing>(&mut seat, 1, index);

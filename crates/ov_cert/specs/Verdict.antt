@@ -1,7 +1,7 @@
 -- The verdict on a certificate: it is valid, or it has a first fault. The checks have a fixed order. A fault is the
 -- first if its own check fails and all earlier checks pass.
 use Rattle.std.specs.Prelude.{◌≡◌, ℕ, ◌+◌, ◌⊎◌, ◌<◌, ◌≤◌, List, length, slice_get, Option, Some, None}
-use Rattle.ov_graph.specs.Links.{LinkGraph, AreAllLinked, IsGroup}
+use Rattle.ov_graph.specs.Links.{LinkGraph, HasNode, AreAllLinked, IsGroup}
 use Rattle.ov_graph.specs.Joined.{IsNodeSet}
 use Rattle.ov_graph.specs.Paths.{ArePaths, IsFan}
 use Rattle.ov_graph.specs.Even.{later_members, members_below}
@@ -27,10 +27,6 @@ pub record IsFirstAtFault {X : Type 0} (Holds : ℕ → X → Type 0) (xs : List
   pub before : (p : ℕ) (y : X) → p < place → slice_get xs p ≡ Some y → Holds p y
 
 -- THE FRAME: what is checked before the entries
-
--- the graph has a node
-abbrev pub HasNode : LinkGraph → Type 0
-HasNode g = 0 < length g.nodes
 
 -- k is one less than the number of members (linked), or equals the number of nodes of the cut (split)
 abbrev pub IsCounted : List ℕ → Cert → Type 0

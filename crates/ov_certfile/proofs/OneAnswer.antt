@@ -6,7 +6,7 @@ use Rattle.serde_json.specs.Read.{read}
 use Rattle.ov_ids.specs.Members.{Ascends}
 use Rattle.ov_ids.specs.FaultOrder.{Step, Passed}
 use Rattle.ov_graph.specs.Links.{LinkGraph, IsLink, most_nodes}
-use Rattle.ov_graph.specs.Faults.{GraphJudged, LinksJudged, Follows}
+use Rattle.ov_graph.specs.Faults.{GraphJudged, LinksJudged, ComesAfter}
 use Rattle.ov_graph.specs.declared.fault.GraphFault.{GraphFault}
 use Rattle.ov_graph.specs.declared.fault.GraphFault.TheVariants.{TooManyNodes, Unordered, BadLink}
 use Rattle.ov_cert.specs.declared.cert.Cert.{Cert}
@@ -41,8 +41,8 @@ step_one P fault After one x y (inr p) (inr q) = p.1 ∙ sym q.1
 links_one : (nodes : List ℕ) (before : Option (ℕ × ℕ)) (links : List (ℕ × ℕ)) → IsOne (LinksJudged nodes before links)
 links_one nodes before [] = passed_one
 links_one nodes before (l ∷ links) =
-    step_one (IsLink nodes l) BadLink (Step (Follows before l) Unordered (LinksJudged nodes (Some l) links))
-    (step_one (Follows before l) Unordered (LinksJudged nodes (Some l) links) (links_one nodes (Some l) links))
+    step_one (IsLink nodes l) BadLink (Step (ComesAfter before l) Unordered (LinksJudged nodes (Some l) links))
+    (step_one (ComesAfter before l) Unordered (LinksJudged nodes (Some l) links) (links_one nodes (Some l) links))
 
 graph_one : (nodes : List ℕ) (links : List (ℕ × ℕ)) → IsOne (GraphJudged nodes links)
 graph_one nodes links =

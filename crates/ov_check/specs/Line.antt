@@ -16,13 +16,13 @@ named_text (Fan j) = codes " " ++ decimal j
 named_text fault = []
 
 -- the fault's number, and then the nodes that it names
-unfoldable pub fault_text : CheckFault → List ℕ
-fault_text fault = decimal (check_fault.number_of fault) ++ named_text fault
+unfoldable pub check_fault_text : CheckFault → List ℕ
+check_fault_text fault = decimal (check_fault.number_of fault) ++ named_text fault
 
 -- the line, without its line feed
 unfoldable pub line_of : Outcome → List ℕ
 line_of (Holds f) = codes "holds " ++ (decimal f.moment ++ (codes " " ++ cert_text f.cert f.graph f.group))
-line_of (Fails fault) = codes "fails " ++ fault_text fault
+line_of (Fails fault) = codes "fails " ++ check_fault_text fault
 line_of (Refused fault) = refusal_text (file_fault.number_of fault)
 
 -- what is written: the line, ended by a line feed

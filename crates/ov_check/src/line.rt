@@ -40,11 +40,11 @@ struct FaultText(CheckFault);
 
 impl Display for FaultText {
     ghost use Rattle.std.specs.Prelude.{Some};
-    ghost use Rattle.ov_check.specs.Line.{fault_text};
+    ghost use Rattle.ov_check.specs.Line.{check_fault_text};
 
-    ghost output = { λ t. Some (fault_text t.0) };
+    ghost output = { λ t. Some (check_fault_text t.0) };
 
-    #[tactic(auto, unfolding(crate::specs::Line::fault_text))]
+    #[tactic(auto, unfolding(crate::specs::Line::check_fault_text))]
     fn fmt<W: Write>(&self, f: &mut Formatter<W>) -> Result {
         let number = self.0.number();
         match self.0 {

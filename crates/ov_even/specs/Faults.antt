@@ -1,7 +1,7 @@
 -- Why an analysis is refused.
-use Rattle.std.specs.Prelude.{ℕ, ◌<◌, List, length, Option}
+use Rattle.std.specs.Prelude.{ℕ, List, Option}
 use Rattle.ov_ids.specs.FaultOrder.{Step, Passed, IsRefusedBy}
-use Rattle.ov_graph.specs.Links.{LinkGraph, IsGroup}
+use Rattle.ov_graph.specs.Links.{LinkGraph, HasNode, IsGroup}
 use Rattle.ov_even.specs.declared.fault.AnalyseFault.{AnalyseFault}
 use Rattle.ov_even.specs.declared.fault.AnalyseFault.TheVariants.{NoNodes, BadGroup, OutOfMemory}
 
@@ -10,10 +10,6 @@ abbrev pub number_of : AnalyseFault → ℕ
 number_of NoNodes = 30
 number_of BadGroup = 34
 number_of OutOfMemory = 99
-
--- the graph has a node
-abbrev pub HasNode : LinkGraph → Type 0
-HasNode g = 0 < length g.nodes
 
 -- the first refusal of an analysis that applies: no node, then no group; None if no refusal applies
 abbrev pub GroupJudged : LinkGraph → List ℕ → Option AnalyseFault → Type 0

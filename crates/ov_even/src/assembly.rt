@@ -1,10 +1,10 @@
 //! Makes a certificate from the pieces that several workers have settled.
 ghost use Rattle.std.specs.Prelude.{◌≡◌, ◌+◌, ◌<◌, length, IfOk, IfErr};
-ghost use Rattle.ov_graph.specs.Links.{IsGraph, IsGroup, AreAllLinked};
+ghost use Rattle.ov_graph.specs.Links.{HasNode, IsGraph, IsGroup, AreAllLinked};
 ghost use Rattle.ov_cert.specs.Valid.{IsValidForGroup, HavePaths, HaveFans};
 ghost use Rattle.ov_cert.specs.Theorems.{IsTrueForGroup};
 ghost use Rattle.ov_even.specs.Answer.{IsAnswer, NamesParting};
-ghost use Rattle.ov_even.specs.Faults.{HasNode, IsRefusal};
+ghost use Rattle.ov_even.specs.Faults.{IsRefusal};
 ghost use Rattle.ov_even.specs.Harvest.{AreRight, Suffice};
 ghost use Rattle.ov_even.specs.Levels.{IsLevelCleared};
 ghost use Rattle.ov_even.specs.Code.Cuts.{IsDeciding};

@@ -1,7 +1,6 @@
 -- The net of a piece, and its paths.
 pub mod Ranks
 pub mod Routes
-pub mod Prefixes
 pub mod Aimed
 pub mod Settling
 pub mod Seated

@@ -6,7 +6,7 @@ use Rattle.ov_ids.specs.Members.{Has}
 use Rattle.ov_ids.proofs.Members.{has_append_left, has_append_right, has_append_cases}
 use Rattle.ov_graph.proofs.EvenTest.Filtered.{linked_node}
 use Rattle.ov_graph.proofs.EvenTest.Walks.{linked_sym}
-use Rattle.ov_split.specs.Net.{Net, IsNet}
+use Rattle.ov_split.specs.SplitNetState.{SplitNetState, IsSplitNet}
 use Rattle.ov_split.specs.Code.Residual.{Table, IsFree, IsFlow}
 use Rattle.ov_split.specs.Placed.{IsPlaced}
 use Rattle.ov_split.proofs.Augmenting.Move.{push_held, start_held, leads_map}
@@ -14,7 +14,8 @@ use Rattle.ov_flow.specs.Code.Walked.{table_of, IsTable}
 use Rattle.ov_flow.proofs.Copying.{held_turned}
 
 -- the table of the paths that are held names only places
-pub flow_table : (n : Net) (wide : ℕ) (from : List (Option ℕ)) (ends : List ℕ) → IsPlaced n wide → length from ≡ wide
+pub flow_table : (n : SplitNetState) (wide : ℕ) (from : List (Option ℕ)) (ends : List ℕ) → IsPlaced n wide
+    → length from ≡ wide
     → IsFlow n (table_of from) ends → IsTable wide from
 flow_table n wide from ends placed long flow = record {
   long = long;
@@ -24,7 +25,7 @@ flow_table n wide from ends placed long flow = record {
 }
 
 -- nothing is held
-pub flow_none : (n : Net) (from : Table) → ((v : ℕ) → from v ≡ None) → IsFlow n from []
+pub flow_none : (n : SplitNetState) (from : Table) → ((v : ℕ) → from v ≡ None) → IsFlow n from []
 flow_none n from none =
     let no : (v u : ℕ) → from v ≡ Some u → ⊥ = λ v u f. let e = none v in absurd (cc (e, f)) in
     record {
@@ -42,12 +43,12 @@ flow_none n from none =
     }
 
 -- where no path is held, the table is empty
-pub none_held : (n : Net) (from : Table) (ends : List ℕ) → IsFlow n from ends → ends ≡ [] → (v u : ℕ)
+pub none_held : (n : SplitNetState) (from : Table) (ends : List ℕ) → IsFlow n from ends → ends ≡ [] → (v u : ℕ)
     → from v ≡ Some u → ⊥
 none_held n from ends flow is v u f = let t = flow.tidy v (u, f) in subst (λ (l : List ℕ). Has l t.0) is t.1
 
 -- a path of one link to an unused target
-pub flow_direct : (n : Net) → IsNet n → (from next : Table) (ends : List ℕ) (w : ℕ) → IsFlow n from ends
+pub flow_direct : (n : SplitNetState) → IsSplitNet n → (from next : Table) (ends : List ℕ) (w : ℕ) → IsFlow n from ends
     → IsFree n n.source w → Has n.targets w → ((u : ℕ) → from w ≡ Some u → ⊥) → next w ≡ Some n.source
     → ((v : ℕ) → v ≢ w → next v ≡ from v) → IsFlow n next (ends ++ w ∷ [])
 flow_direct n net from next ends w flow free target unused there others =

@@ -5,7 +5,7 @@ use Rattle.std.proofs.lemmas.Bool.{cases_eq}
 use Rattle.ov_ids.specs.Members.{Has, IsDistinct}
 use Rattle.ov_ids.proofs.Members.{has_or_not, has_append_left, has_append_right, has_append_cases}
 use Rattle.ov_graph.specs.Joined.{Leads}
-use Rattle.ov_split.specs.Net.{Net, IsNet}
+use Rattle.ov_split.specs.SplitNetState.{SplitNetState, IsSplitNet}
 use Rattle.ov_split.specs.Code.Residual.{Table, IsUsed, AreHeld, IsTidy, IsFlow}
 use Rattle.ov_split.specs.Placed.{IsPlaced}
 use Rattle.ov_split.proofs.Augmenting.Lists.{distinct_length, distinct_push}
@@ -16,13 +16,14 @@ use Rattle.ov_flow.specs.Code.Walked.{table_of, IsTraced, IsCopied, IsPathCopied
 use Rattle.ov_flow.proofs.Walking.{said_below}
 
 -- a path to e, followed back as far as x: c leads from x to e
-pub record IsComing (n : Net) (from : Table) (e x : ℕ) (c : List ℕ) : Type 0 where
+pub record IsComing (n : SplitNetState) (from : Table) (e x : ℕ) (c : List ℕ) : Type 0 where
   pub leads : Leads (Arc from) x c e
   pub distinct : IsDistinct (x ∷ c)
   pub used : (a : ℕ) → Has c a → IsUsed from a
   pub next : (x ≡ n.source) ⊎ IsUsed from x
 
-module _ (n : Net) (net : IsNet n) (from : Table) (ends : List ℕ) (held : AreHeld n from ends) (e : ℕ) (h : Has ends e)
+module _ (n : SplitNetState) (net : IsSplitNet n) (from : Table) (ends : List ℕ) (held : AreHeld n from ends) (e : ℕ)
+    (h : Has ends e)
     (apart : e ≢ n.source) where
   pub coming_none : IsComing n from e e []
   coming_none = record {
@@ -68,14 +69,14 @@ module _ (n : Net) (net : IsNet n) (from : Table) (ends : List ℕ) (held : AreH
       go None f = f
       go (Some u) f = let b = coming_bound x u c g f in absurd (omega (arith, b, le))
 
-pub coming_all : (n : Net) (from : Table) (e x : ℕ) (c : List ℕ) → IsComing n from e x c → from x ≡ None
+pub coming_all : (n : SplitNetState) (from : Table) (e x : ℕ) (c : List ℕ) → IsComing n from e x c → from x ≡ None
     → IsTraced n from e c
 coming_all n from e x c g f = elim g.next [
   | inl s ↦ subst (λ (a : ℕ). Leads (Arc from) a c e × IsDistinct (a ∷ c)) s (g.leads, g.distinct)
   | inr u ↦ absurd (cc (u.1, f))
 ]
 
-pub coming_below : (n : Net) (wide : ℕ) (from : List (Option ℕ)) (e x : ℕ) (c : List ℕ) → IsPlaced n wide
+pub coming_below : (n : SplitNetState) (wide : ℕ) (from : List (Option ℕ)) (e x : ℕ) (c : List ℕ) → IsPlaced n wide
     → length from ≡ wide → IsComing n (table_of from) e x c → x < length from
 coming_below n wide from e x c placed long g = elim g.next [
   | inl s ↦ let l = (placed.nodes n.source).0 placed.net.source in omega (arith, s, l, long)
@@ -83,13 +84,14 @@ coming_below n wide from e x c placed long g = elim g.next [
 ]
 
 -- the part of the path to e that is copied
-pub record IsCopying (n : Net) (from old next : Table) (e x step : ℕ) : Type 0 where
+pub record IsCopying (n : SplitNetState) (from old next : Table) (e x step : ℕ) : Type 0 where
   pub c : List ℕ
   pub coming : IsComing n from e x c
   pub copied : IsCopied from old next c
   pub count : length c ≡ step
 
-module _ (n : Net) (net : IsNet n) (from old : Table) (ends : List ℕ) (held : AreHeld n from ends) (e : ℕ)
+module _ (n : SplitNetState) (net : IsSplitNet n) (from old : Table) (ends : List ℕ) (held : AreHeld n from ends)
+    (e : ℕ)
     (h : Has ends e) (apart : e ≢ n.source) where
   pub copying_none : IsCopying n from old old e e 0
   copying_none = record {
@@ -120,19 +122,19 @@ module _ (n : Net) (net : IsNet n) (from old : Table) (ends : List ℕ) (held : 
       let q = g.count in
       coming_ends n net from ends held e h apart x g.c g.coming (omega (arith, q, le))
 
-pub copying_done : (n : Net) (from old next : Table) (e x step : ℕ) → IsCopying n from old next e x step
+pub copying_done : (n : SplitNetState) (from old next : Table) (e x step : ℕ) → IsCopying n from old next e x step
     → from x ≡ None → IsPathCopied n from old next e
 copying_done n from old next e x step g f =
     record { path = g.c; traced = coming_all n from e x g.c g.coming f; copied = g.copied }
 
 -- the paths to es, as `from` has them, and nothing else
-pub record IsCopy (n : Net) (from next : Table) (es : List ℕ) : Type 0 where
+pub record IsCopy (n : SplitNetState) (from next : Table) (es : List ℕ) : Type 0 where
   pub same : (v u : ℕ) → next v ≡ Some u → from v ≡ Some u
   pub back : (v u : ℕ) → next v ≡ Some u → (u ≡ n.source) ⊎ IsUsed next u
   pub ends : (e : ℕ) → Has es e → IsUsed next e
   pub tidy : IsTidy next es
 
-pub copy_none : (n : Net) (from next : Table) → ((v : ℕ) → next v ≡ None) → IsCopy n from next []
+pub copy_none : (n : SplitNetState) (from next : Table) → ((v : ℕ) → next v ≡ None) → IsCopy n from next []
 copy_none n from next none = record {
   same = λ v u f. let e = none v in absurd (cc (e, f));
   back = λ v u f. let e = none v in absurd (cc (e, f));
@@ -141,7 +143,7 @@ copy_none n from next none = record {
 }
 
 -- one more path
-pub copy_more : (n : Net) (from next new : Table) (es : List ℕ) (e : ℕ) → e ≢ n.source → IsCopy n from next es
+pub copy_more : (n : SplitNetState) (from next new : Table) (es : List ℕ) (e : ℕ) → e ≢ n.source → IsCopy n from next es
     → IsPathCopied n from next new e → IsCopy n from new (es ++ e ∷ [])
 copy_more n from next new es e apart copy p =
     let path = p.path in
@@ -190,7 +192,7 @@ copy_more n from next new es e apart copy p =
       ];
     }
 
-pub copy_all : (n : Net) (from next : Table) (ends : List ℕ) → AreHeld n from ends → IsCopy n from next ends
+pub copy_all : (n : SplitNetState) (from next : Table) (ends : List ℕ) → AreHeld n from ends → IsCopy n from next ends
     → ((e : ℕ) → Has ends e → Has n.targets e) → IsFlow n next ends
 copy_all n from next ends held copy targets = record {
   held = record {
@@ -211,7 +213,7 @@ copy_all n from next ends held copy targets = record {
     source_none (Some u) e = let f = copy.same n.source u e in let r = held.root in absurd (cc (f, r))
 
 -- the ends in another order
-pub held_turned : (n : Net) (from : Table) (t : ℕ) (ends : List ℕ) → AreHeld n from (t ∷ ends)
+pub held_turned : (n : SplitNetState) (from : Table) (t : ℕ) (ends : List ℕ) → AreHeld n from (t ∷ ends)
     → AreHeld n from (ends ++ t ∷ [])
 held_turned n from t ends h =
     let back : (e : ℕ) → Has (ends ++ t ∷ []) e → Has (t ∷ ends) e =

@@ -12,7 +12,7 @@ use Rattle.ov_graph.specs.Row.{picked}
 use Rattle.ov_graph.proofs.BitRows.Bits.{bit_moved, AreWithout}
 use Rattle.ov_graph.proofs.EvenTest.Filtered.{linked_node}
 use Rattle.ov_graph.proofs.BitRows.Read.{has_picked, in_picked, ascends_picked}
-use Rattle.ov_split.specs.Net.{Net, IsNet, IsFanOf}
+use Rattle.ov_split.specs.SplitNetState.{SplitNetState, IsSplitNet, IsFanOf}
 use Rattle.ov_split.specs.Code.Residual.{Table, IsFlow, IsBoundary}
 use Rattle.ov_split.specs.Places.{places, net_by_place}
 use Rattle.ov_split.specs.Placed.{IsPlaced}
@@ -73,7 +73,8 @@ nodes_of_row g row graph =
     subst (Has (map (node_at g) ps)) k.node (has_map (node_at g) ps k.place
     (from_row row n k.place k.below (bit_moved row (0 + k.place) k.place (omega arith) k.bit))))
 
-module _ (n : Net) (wide words : ℕ) (placed : IsPlaced n wide) (enough : wide ≤ 64 * words) (from : Table) (t : Tree)
+module _ (n : SplitNetState) (wide words : ℕ) (placed : IsPlaced n wide) (enough : wide ≤ 64 * words) (from : Table)
+    (t : Tree)
     (avoided next cut : List ℕ) (grown : IsGrown n from t) (swept : IsSwept n from t)
     (off : (p : ℕ) → HasBit avoided p ↔ Has n.avoided p) (near : AreWithout t.seen t.reached words next)
     (bits : AreWithout next avoided words cut) where
@@ -130,7 +131,7 @@ module _ (n : Net) (wide words : ℕ) (placed : IsPlaced n wide) (enough : wide 
   side_within x h = (placed.nodes x).0 (grown.is_tree.nodes x ((grown.marked x).0 h))
 
 -- the same by ids
-pub stuck_full : (n : Net) (words : ℕ) → IsNet n → IsPlaced (net_by_place n) (length n.graph.nodes)
+pub stuck_full : (n : SplitNetState) (words : ℕ) → IsSplitNet n → IsPlaced (net_by_place n) (length n.graph.nodes)
     → length n.graph.nodes ≤ 64 * words → (from : Table) (ends : List ℕ) (t : Tree) (avoided next cut : List ℕ)
     → IsFlow (net_by_place n) from ends → IsGrown (net_by_place n) from t → IsSwept (net_by_place n) from t
     → ((p : ℕ) → HasBit avoided p ↔ Has (net_by_place n).avoided p) → AreWithout t.seen t.reached words next
@@ -168,7 +169,8 @@ stuck_full n words net placed enough from ends t avoided next cut flow grown swe
     (nodes_of_row n.graph t.reached net.graph) full)
 
 -- what is held is a fan
-pub fan_held : (n : Net) → IsNet n → IsPlaced (net_by_place n) (length n.graph.nodes) → (from : Table) (ends : List ℕ)
+pub fan_held : (n : SplitNetState) → IsSplitNet n → IsPlaced (net_by_place n) (length n.graph.nodes)
+    → (from : Table) (ends : List ℕ)
     → IsFlow (net_by_place n) from ends → (paths : List (List ℕ)) × IsFanOf n (length ends) paths
 fan_held n net placed from ends flow =
     let r = flow_is_fan (net_by_place n) placed.net from ends flow in

@@ -9,7 +9,7 @@ use Rattle.ov_graph.specs.Links.{Linked}
 use Rattle.ov_graph.specs.Joined.{Leads}
 use Rattle.ov_graph.specs.Row.{HasBit}
 use Rattle.ov_graph.proofs.EvenTest.Walks.{leads_push}
-use Rattle.ov_split.specs.Net.{Net}
+use Rattle.ov_split.specs.SplitNetState.{SplitNetState}
 use Rattle.ov_split.specs.Code.Residual.{Table, IsFree, IsResidual, IsStuck}
 use Rattle.ov_split.proofs.Augmenting.Lists.{distinct_length, distinct_push}
 use Rattle.ov_flow.specs.declared.search_tree.Tree.{Tree}
@@ -54,13 +54,14 @@ only_last xs y x h out = elim (has_append_cases xs (y ∷ []) x h) [
 pub last_of_push : (xs : List ℕ) (y : ℕ) → get_or (xs ++ y ∷ []) (length (xs ++ y ∷ []) - 1) 0 ≡ y
 last_of_push xs y = let l = length_push xs y in get_or_push xs y 0 (length (xs ++ y ∷ []) - 1) (omega (arith, l))
 
-pub step_residual : (n : Net) (from : Table) (x y : ℕ) (way : Option ℕ) → IsStepBy n from x y way
+pub step_residual : (n : SplitNetState) (from : Table) (x y : ℕ) (way : Option ℕ) → IsStepBy n from x y way
     → IsResidual n from x y
 step_residual n from x y (Some w) s = inl (w, s.0, s.1, s.2)
 step_residual n from x y None s = inr s
 
 -- one more node
-pub grow_tree : (n : Net) (from : Table) (order parents : List ℕ) (ways : List (Option ℕ)) (at y : ℕ) (way : Option ℕ)
+pub grow_tree : (n : SplitNetState) (from : Table) (order parents : List ℕ) (ways : List (Option ℕ)) (at y : ℕ)
+    (way : Option ℕ)
     → IsTree n from order parents ways → at < length order → IsStepBy n from (get_or order at 0) y way
     → Has n.graph.nodes y → ¬ Has order y → IsTree n from (order ++ y ∷ []) (parents ++ at ∷ []) (ways ++ way ∷ [])
 grow_tree n from order parents ways at y way t lt step node out =
@@ -109,11 +110,12 @@ grow_tree n from order parents ways at y way t lt step node out =
       ];
     }
 
-pub tree_bound : (n : Net) (from : Table) (order parents : List ℕ) (ways : List (Option ℕ))
+pub tree_bound : (n : SplitNetState) (from : Table) (order parents : List ℕ) (ways : List (Option ℕ))
     → IsTree n from order parents ways → length order ≤ length n.graph.nodes
 tree_bound n from order parents ways t = distinct_length order n.graph.nodes t.distinct t.nodes
 
-pub grown_push : (n : Net) (from : Table) (order parents : List ℕ) (ways : List (Option ℕ)) (reached seen : List ℕ)
+pub grown_push : (n : SplitNetState) (from : Table) (order parents : List ℕ) (ways : List (Option ℕ))
+    (reached seen : List ℕ)
     (at y : ℕ) (way : Option ℕ) (new : List ℕ) → IsGrownBy n from order parents ways reached seen → at < length order
     → IsStepBy n from (get_or order at 0) y way → Has n.graph.nodes y → ¬ Has order y
     → ((q : ℕ) → HasBit new q ↔ ((q ≡ y) ⊎ HasBit reached q))
@@ -144,7 +146,8 @@ grown_push n from order parents ways reached seen at y way new g lt step node ou
 }
 
 -- a link was taken to w, and the open end is reached
-pub grown_seen : (n : Net) (from : Table) (order parents : List ℕ) (ways : List (Option ℕ)) (reached seen : List ℕ)
+pub grown_seen : (n : SplitNetState) (from : Table) (order parents : List ℕ) (ways : List (Option ℕ))
+    (reached seen : List ℕ)
     (x w : ℕ) (new : List ℕ) → IsGrownBy n from order parents ways reached seen → Has order x → IsFree n x w
     → Has order (tip_of from w) → ((q : ℕ) → HasBit new q ↔ ((q ≡ w) ⊎ HasBit seen q))
     → IsGrownBy n from order parents ways reached new
@@ -160,16 +163,16 @@ grown_seen n from order parents ways reached seen x w new g hx free tip put = re
 }
 
 -- a node was reached: it is in the tree, and is its last node where it is new
-abbrev pub IsReachedBy : Net → Table → Tree → Tree → ℕ → Type 0
+abbrev pub IsReachedBy : SplitNetState → Table → Tree → Tree → ℕ → Type 0
 IsReachedBy n from old new node = IsGrown n from new × Has new.order.items node
     × (¬ Has old.order.items node → get_or new.order.items (length new.order.items - 1) 0 ≡ node)
 
-pub reached_before : (n : Net) (from : Table) (t : Tree) (node : ℕ) → IsGrown n from t → HasBit t.reached node
+pub reached_before : (n : SplitNetState) (from : Table) (t : Tree) (node : ℕ) → IsGrown n from t → HasBit t.reached node
     → IsReachedBy n from t t node
 reached_before n from t node g h = (g, (g.marked node).0 h, λ out. absurd (out ((g.marked node).0 h)))
 
 -- the first node
-pub grown_first : (n : Net) (from : Table) (reached seen avoided empty : List ℕ) (s : ℕ) → Has n.graph.nodes s
+pub grown_first : (n : SplitNetState) (from : Table) (reached seen avoided empty : List ℕ) (s : ℕ) → Has n.graph.nodes s
     → s ≡ n.source → ((p : ℕ) → HasBit avoided p ↔ Has n.avoided p) → ((p : ℕ) → ¬ HasBit empty p)
     → ((q : ℕ) → HasBit reached q ↔ ((q ≡ s) ⊎ HasBit empty q))
     → ((q : ℕ) → HasBit seen q ↔ ((q ≡ s) ⊎ HasBit avoided q))
@@ -195,7 +198,7 @@ grown_first n from reached seen avoided empty s node is off none first put = rec
 }
 
 -- some walk leads to each node of the tree
-tree_walk : (n : Net) (from : Table) (order parents : List ℕ) (ways : List (Option ℕ))
+tree_walk : (n : SplitNetState) (from : Table) (order parents : List ℕ) (ways : List (Option ℕ))
     → IsTree n from order parents ways → (fuel k : ℕ) → k < fuel → k < length order
     → (walk : List ℕ) × Leads (IsResidual n from) n.source walk (get_or order k 0)
 tree_walk n from order parents ways t zero k l m = absurd (omega arith)
@@ -211,7 +214,8 @@ tree_walk n from order parents ways t (suc fuel) (suc k) l m =
     )
 
 -- a tree all of whose nodes were visited is stuck
-pub all_visited : (n : Net) (from : Table) (order parents : List ℕ) (ways : List (Option ℕ)) (reached seen : List ℕ)
+pub all_visited : (n : SplitNetState) (from : Table) (order parents : List ℕ) (ways : List (Option ℕ))
+    (reached seen : List ℕ)
     → IsGrownBy n from order parents ways reached seen → ((x : ℕ) → Has order x → ¬ Has n.targets x)
     → ((k w : ℕ) → k < length order → Linked n.graph (get_or order k 0) w → HasBit seen w)
     → ((k u : ℕ) → k < length order → from (get_or order k 0) ≡ Some u → Has order u) → IsStuck n from order
@@ -237,7 +241,7 @@ all_visited n from order parents ways reached seen g clean links backs =
       no_target = clean;
     }
 
-pub clean_more : (n : Net) (xs ys : List ℕ) (y : ℕ) → ((x : ℕ) → Has xs x → ¬ Has n.targets x)
+pub clean_more : (n : SplitNetState) (xs ys : List ℕ) (y : ℕ) → ((x : ℕ) → Has xs x → ¬ Has n.targets x)
     → ((x : ℕ) → Has ys x → ¬ Has xs x → x ≡ y) → ¬ Has n.targets y → (x : ℕ) → Has ys x → ¬ Has n.targets x
 clean_more n xs ys y clean only off x h t = elim (has_or_not xs x) [
   | inl k ↦ clean x k t
@@ -245,7 +249,7 @@ clean_more n xs ys y clean only off x h t = elim (has_or_not xs x) [
 ]
 
 -- each link of the visited nodes is seen, and so it is with one more node
-pub links_more : (n : Net) (xs ys old new : List ℕ) (at : ℕ) → Extends xs ys → at < length xs
+pub links_more : (n : SplitNetState) (xs ys old new : List ℕ) (at : ℕ) → Extends xs ys → at < length xs
     → ((p : ℕ) → HasBit old p → HasBit new p)
     → ((k w : ℕ) → k < at → Linked n.graph (get_or xs k 0) w → HasBit old w)
     → ((w : ℕ) → Linked n.graph (get_or xs at 0) w → HasBit new w) → (k w : ℕ) → k < at + 1

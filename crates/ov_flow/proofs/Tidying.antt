@@ -6,7 +6,7 @@ use Rattle.ov_ids.specs.Members.{Has}
 use Rattle.ov_ids.proofs.Members.{has_append_left, has_append_right, has_append_cases}
 use Rattle.ov_graph.specs.Joined.{Leads}
 use Rattle.ov_graph.proofs.EvenTest.Walks.{leads_push}
-use Rattle.ov_split.specs.Net.{Net, IsNet}
+use Rattle.ov_split.specs.SplitNetState.{SplitNetState, IsSplitNet}
 use Rattle.ov_split.specs.Code.Residual.{Table, AreHeld, IsTidy, IsFlow}
 use Rattle.ov_split.specs.Placed.{IsPlaced}
 use Rattle.ov_split.proofs.Augmenting.Move.{leads_map, start_held}
@@ -37,7 +37,7 @@ tidy_push from next x w ends tidy none there others v u = elim (cases_eq v w) [
 ]
 
 -- a step by a link to an unused place
-pub tidy_step : (n : Net) (start from next : Table) (x t w : ℕ) (hop : Hop) (rest : List Hop) (ends : List ℕ)
+pub tidy_step : (n : SplitNetState) (start from next : Table) (x t w : ℕ) (hop : Hop) (rest : List Hop) (ends : List ℕ)
     → IsGoing n start from x (hop ∷ rest) t → hop.way ≡ Some w
     → ((v : ℕ) × (hop.way ≡ Some v) × (from v ≡ None)) → next w ≡ Some x → ((v : ℕ) → v ≢ w → next v ≡ from v)
     → IsTidy from (x ∷ ends) → IsTidy next (hop.node ∷ ends)
@@ -66,7 +66,8 @@ tidy_turned from e ends tidy v u =
     )
 
 -- the place to which a step of a walk takes a link
-pub way_below : (n : Net) (wide : ℕ) (start from : Table) (x t : ℕ) (hop : Hop) (rest : List Hop) → IsPlaced n wide
+pub way_below : (n : SplitNetState) (wide : ℕ) (start from : Table) (x t : ℕ) (hop : Hop) (rest : List Hop)
+    → IsPlaced n wide
     → IsGoing n start from x (hop ∷ rest) t → IfSome hop.way (λ w. w < wide)
 way_below n wide start from x t hop rest placed g = go hop.way refl
   where
@@ -75,7 +76,7 @@ way_below n wide start from x t hop rest placed g = go hop.way refl
     go (Some w) e = way_said n wide start from x t w hop rest placed g e
 
 -- the ends of what was held, and the new one, are targets
-pub targets_turned : (n : Net) (old : Table) (ends : List ℕ) (target : ℕ) → IsFlowBefore n old ends target
+pub targets_turned : (n : SplitNetState) (old : Table) (ends : List ℕ) (target : ℕ) → IsFlowBefore n old ends target
     → Has n.targets target → (e : ℕ) → Has ends e → Has n.targets e
 targets_turned n old ends target b there e h =
     elim (has_append_cases b.before (target ∷ []) e (subst (λ (l : List ℕ). Has l e) b.is h)) [
@@ -84,13 +85,15 @@ targets_turned n old ends target b there e h =
     ]
 
 -- the paths that were held, with the source as one more end
-pub open_before : (n : Net) → IsNet n → (old : Table) (ends : List ℕ) (target : ℕ) (b : IsFlowBefore n old ends target)
+pub open_before : (n : SplitNetState) → IsSplitNet n
+    → (old : Table) (ends : List ℕ) (target : ℕ) (b : IsFlowBefore n old ends target)
     → AreHeld n old (n.source ∷ b.before)
 open_before n net old ends target b =
     start_held n old b.before b.flow.held (λ h. net.no_target (b.flow.targets n.source h))
 
 -- a walk that met no path leaves no cycle
-pub flow_turned : (n : Net) (old now : Table) (ends : List ℕ) (target : ℕ) (b : IsFlowBefore n old ends target)
+pub flow_turned : (n : SplitNetState) (old now : Table) (ends : List ℕ) (target : ℕ)
+    (b : IsFlowBefore n old ends target)
     → Has n.targets target → AreHeld n now (target ∷ b.before) → IsTidy now (target ∷ b.before) → IsFlow n now ends
 flow_turned n old now ends target b there held tidy = record {
   held = subst (AreHeld n now) (sym b.is) (held_turned n now target b.before held);

@@ -9,7 +9,7 @@ use Rattle.ov_graph.specs.Links.{Linked}
 use Rattle.ov_graph.specs.Row.{has_bit, HasBit, IsFirstFrom}
 use Rattle.ov_graph.proofs.BitRows.Bits.{AreWithout}
 use Rattle.ov_graph.proofs.EvenTest.Filtered.{linked_node}
-use Rattle.ov_split.specs.Net.{Net}
+use Rattle.ov_split.specs.SplitNetState.{SplitNetState}
 use Rattle.ov_split.specs.Code.Residual.{Table}
 use Rattle.ov_split.specs.Placed.{IsPlaced}
 use Rattle.ov_flow.specs.declared.search_tree.Tree.{Tree}
@@ -26,12 +26,14 @@ tip_below wide from w t l = go (table_of from w) refl
     go None e = l
     go (Some u) e = t.told w u e
 
-pub order_below : (n : Net) (wide : ℕ) (from : Table) (order parents : List ℕ) (ways : List (Option ℕ)) (k : ℕ)
+pub order_below : (n : SplitNetState) (wide : ℕ) (from : Table) (order parents : List ℕ) (ways : List (Option ℕ))
+    (k : ℕ)
     → IsPlaced n wide → IsTree n from order parents ways → k < length order → get_or order k 0 < wide
 order_below n wide from order parents ways k p t l =
     (p.nodes (get_or order k 0)).0 (t.nodes (get_or order k 0) (has_place order k 0 l))
 
-pub read_below : (n : Net) (wide : ℕ) (from : Table) (order parents : List ℕ) (ways : List (Option ℕ)) (k x : ℕ)
+pub read_below : (n : SplitNetState) (wide : ℕ) (from : Table) (order parents : List ℕ) (ways : List (Option ℕ))
+    (k x : ℕ)
     → IsPlaced n wide → IsTree n from order parents ways → k < length order → x ≡ get_or order k x → x < wide
 read_below n wide from order parents ways k x p t l read =
     let e = get_or_read order k x l read 0 in
@@ -39,7 +41,7 @@ read_below n wide from order parents ways k x p t l read =
     omega (arith, e, b)
 
 -- the fresh bits before `after` are taken, and the others are still unseen
-pub record IsVisiting (n : Net) (from : Table) (began t : Tree) (fresh : List ℕ) (after : ℕ) : Type 0 where
+pub record IsVisiting (n : SplitNetState) (from : Table) (began t : Tree) (fresh : List ℕ) (after : ℕ) : Type 0 where
   pub grown : IsGrown n from t
   pub more : IsMore began t
   pub clean : IsClean n t
@@ -47,13 +49,14 @@ pub record IsVisiting (n : Net) (from : Table) (began t : Tree) (fresh : List �
   pub rest : (q : ℕ) → after ≤ q → HasBit fresh q → ¬ HasBit t.seen q
 
 -- a link to w was taken to a node, which is a target, or the search goes on
-pub record IsLinkTaken (n : Net) (from : Table) (began u : Tree) (new fresh : List ℕ) (w node : ℕ) : Type 0 where
+pub record IsLinkTaken (n : SplitNetState) (from : Table) (began u : Tree) (new fresh : List ℕ) (w node : ℕ) : Type 0
+    where
   pub grown : IsGrownBy n from u.order.items u.parents.items u.ways.items u.reached new
   pub more : IsMore began (record u { seen = new })
   pub ended : Has n.targets node → Has n.targets (get_or u.order.items (length u.order.items - 1) 0)
   pub goes : ¬ Has n.targets node → IsVisiting n from began (record u { seen = new }) fresh (w + 1)
 
-pub visiting_first : (n : Net) (from : Table) (t : Tree) (row fresh : List ℕ) (words : ℕ) → IsGrown n from t
+pub visiting_first : (n : SplitNetState) (from : Table) (t : Tree) (row fresh : List ℕ) (words : ℕ) → IsGrown n from t
     → IsClean n t → AreWithout row t.seen words fresh → IsVisiting n from t t fresh 0
 visiting_first n from t row fresh words g clean are = record {
   grown = g;
@@ -63,7 +66,7 @@ visiting_first n from t row fresh words g clean are = record {
   rest = λ q l h. ((are q).0 h).2;
 }
 
-module _ (n : Net) (wide : ℕ) (placed : IsPlaced n wide) (from : List (Option ℕ)) (table : IsTable wide from)
+module _ (n : SplitNetState) (wide : ℕ) (placed : IsPlaced n wide) (from : List (Option ℕ)) (table : IsTable wide from)
     (began t : Tree) (row fresh : List ℕ) (words at after w node : ℕ)
     (x : ℕ) (read : x ≡ get_or began.order.items at x) (bits : (q : ℕ) → HasBit row q ↔ Linked n.graph x q)
     (are : AreWithout row began.seen words fresh) (v : IsVisiting n (table_of from) began t fresh after)
@@ -94,7 +97,7 @@ module _ (n : Net) (wide : ℕ) (placed : IsPlaced n wide) (from : List (Option 
     )
 
     -- the node is reached, and the bit of the link is set
-    module _ (u : Tree) (new : List ℕ) (reach : (m : Net) (f : Table) → IsGrown m f t → Has m.graph.nodes node
+    module _ (u : Tree) (new : List ℕ) (reach : (m : SplitNetState) (f : Table) → IsGrown m f t → Has m.graph.nodes node
         → IsStepBy m f (get_or t.order.items at 0) node (Some w) → IsReachedBy m f t u node) (more : IsMore t u)
         (only : (x : ℕ) → Has u.order.items x → ¬ Has t.order.items x → x ≡ node) (same : u.seen ≡ t.seen)
         (put : (q : ℕ) → HasBit new q ↔ ((q ≡ w) ⊎ HasBit u.seen q)) where
@@ -150,7 +153,8 @@ bit_or_not row p = go (has_bit row p) refl
     go false e = inr (λ h. absurd (cc h))
 
 -- no fresh bit is left
-pub visiting_all : (n : Net) (wide : ℕ) → IsPlaced n wide → (from : Table) (began t : Tree) (row fresh : List ℕ)
+pub visiting_all : (n : SplitNetState) (wide : ℕ) → IsPlaced n wide
+    → (from : Table) (began t : Tree) (row fresh : List ℕ)
     (words at x after : ℕ) → wide ≤ 64 * words → at < length began.order.items → x ≡ get_or began.order.items at x
     → ((q : ℕ) → HasBit row q ↔ Linked n.graph x q)
     → AreWithout row began.seen words fresh → IsVisiting n from began t fresh after

@@ -8,7 +8,7 @@ use Rattle.std.proofs.Math.ListN.{get_or-eq_default}
 use Rattle.ov_ids.specs.Members.{Has, IsDistinct}
 use Rattle.ov_ids.proofs.Members.{has_place, place_in_take}
 use Rattle.ov_graph.proofs.EvenTest.Filtered.{linked_node}
-use Rattle.ov_split.specs.Net.{Net}
+use Rattle.ov_split.specs.SplitNetState.{SplitNetState}
 use Rattle.ov_split.specs.Code.Residual.{Table, AreHeld}
 use Rattle.ov_split.specs.Placed.{IsPlaced}
 use Rattle.ov_split.proofs.Augmenting.Move.{push_held, back_held}
@@ -17,7 +17,7 @@ use Rattle.ov_flow.specs.declared.search_tree.Tree.{Tree}
 use Rattle.ov_flow.specs.Code.Reached.{IsWay, IsStepBy, IsTree, IsShaped, IsGrown}
 use Rattle.ov_flow.specs.Code.Walked.{table_of, nodes_of, Goes, IsWalkBy}
 
-pub shaped_of : (n : Net) (from : Table) (order parents : List ℕ) (ways : List (Option ℕ))
+pub shaped_of : (n : SplitNetState) (from : Table) (order parents : List ℕ) (ways : List (Option ℕ))
     → IsTree n from order parents ways → IsShaped order parents ways
 shaped_of n from order parents ways t =
     record { some = t.some; count = t.count; long = t.long; parent = t.parent }
@@ -33,20 +33,21 @@ pub not_before : (xs : List ℕ) (i : ℕ) → IsDistinct xs → i < length xs �
 not_before xs i d l h = let p = place_in_take xs i (get_or xs i 0) h in places_differ xs p.0 i d p.1 l p.3
 
 -- the walk from the node at `place` to the one at `end`: each of its nodes stands after `place`
-pub record IsBranchBy (n : Net) (from : Table) (order : List ℕ) (place end : ℕ) (hops : List Hop) : Type 0 where
+pub record IsBranchBy (n : SplitNetState) (from : Table) (order : List ℕ) (place end : ℕ) (hops : List Hop) : Type 0
+    where
   pub goes : Goes n from (get_or order place 0) hops (get_or order end 0)
   pub later : (x : ℕ) → Has (nodes_of hops) x → (k : ℕ) × (place < k) × (k < length order) × (get_or order k 0 ≡ x)
   pub distinct : IsDistinct (nodes_of hops)
 
 -- the same for each net and table by which the tree has grown
 abbrev pub IsBranchOf : Tree → ℕ → ℕ → List Hop → Type 0
-IsBranchOf t place end hops = (n : Net) (from : Table) → IsGrown n from t
+IsBranchOf t place end hops = (n : SplitNetState) (from : Table) → IsGrown n from t
     → IsBranchBy n from t.order.items place end hops
 
 pub branch_none : (t : Tree) (end : ℕ) → IsBranchOf t end end []
 branch_none t end n from g = record { goes = refl; later = λ x h. absurd h; distinct = tt }
 
-branch_more : (n : Net) (from : Table) (order parents : List ℕ) (ways : List (Option ℕ)) (place end : ℕ)
+branch_more : (n : SplitNetState) (from : Table) (order parents : List ℕ) (ways : List (Option ℕ)) (place end : ℕ)
     (hops : List Hop) → IsTree n from order parents ways → 0 < place → place < length order
     → IsBranchBy n from order place end hops → IsBranchBy n from order (get_or parents place 0) end
     (record { node = get_or order place 0; way = get_or ways place None } ∷ hops)
@@ -89,7 +90,7 @@ branch_step t place end hops new x way p pos within b is at at2 at3 n from g =
     (hop_of (get_or order place 0) o ∷ reverse hops)) (sym a) m)))
 
 pub branch_all : (t : Tree) (place end : ℕ) (hops new : List Hop) → place ≤ 0 → IsBranchOf t place end hops → new ≡ hops
-    → (n : Net) (from : Table) → IsGrown n from t → IsWalkBy n from new (get_or t.order.items end 0)
+    → (n : SplitNetState) (from : Table) → IsGrown n from t → IsWalkBy n from new (get_or t.order.items end 0)
 branch_all t place end hops new le b is n from g =
     let order = t.order.items in
     let z : place ≡ 0 = omega arith in
@@ -105,7 +106,7 @@ branch_all t place end hops new le b is n from g =
     })
 
 -- a step to y changes the table at z alone. Each step that leads elsewhere stays
-stays : (n : Net) (from next : Table) (z y a b : ℕ) (way : Option ℕ) → unwrap_or (from z) z ≡ y
+stays : (n : SplitNetState) (from next : Table) (z y a b : ℕ) (way : Option ℕ) → unwrap_or (from z) z ≡ y
     → ((v : ℕ) → v ≢ z → next v ≡ from v) → b ≢ y → IsStepBy n from a b way → IsStepBy n next a b way
 stays n from next z y a b (Some w) tip others ne s = (
   s.0,
@@ -116,7 +117,7 @@ stays n from next z y a b (Some w) tip others ne s = (
 stays n from next z y a b None tip others ne s =
     others a (λ e. ne (subst (λ (o : Option ℕ). unwrap_or o z ≡ y) (ap from (sym e) ∙ s) tip)) ∙ s
 
-goes_stays : (n : Net) (from next : Table) (y a t : ℕ) (hops : List Hop)
+goes_stays : (n : SplitNetState) (from next : Table) (y a t : ℕ) (hops : List Hop)
     → ((b c : ℕ) (way : Option ℕ) → c ≢ y → IsStepBy n from b c way → IsStepBy n next b c way)
     → ¬ Has (nodes_of hops) y → Goes n from a hops t → Goes n next a hops t
 goes_stays n from next y a t [] f off g = g
@@ -126,19 +127,19 @@ goes_stays n from next y a t (h ∷ hs) f off g = (
 )
 
 -- a walk taken as far as x: x is the open end, and the rest leads on to t
-pub record IsGoing (n : Net) (start from : Table) (x : ℕ) (rest : List Hop) (t : ℕ) : Type 0 where
+pub record IsGoing (n : SplitNetState) (start from : Table) (x : ℕ) (rest : List Hop) (t : ℕ) : Type 0 where
   pub goes : Goes n from x rest t
   pub held : (ends : List ℕ) → AreHeld n start (n.source ∷ ends) → AreHeld n from (x ∷ ends)
   pub distinct : IsDistinct (x ∷ nodes_of rest)
   pub off : ¬ Has (nodes_of rest) n.source
 
-pub going_first : (n : Net) (from : Table) (hops : List Hop) (t s : ℕ) → s ≡ n.source → IsWalkBy n from hops t
+pub going_first : (n : SplitNetState) (from : Table) (hops : List Hop) (t s : ℕ) → s ≡ n.source → IsWalkBy n from hops t
     → IsGoing n from from s hops t
 going_first n from hops t s is w =
     subst (λ (a : ℕ). IsGoing n from from a hops t) (sym is)
     (record { goes = w.goes; held = λ ends h. h; distinct = w.distinct; off = w.distinct.0 })
 
-pub going_push : (n : Net) (start from next : Table) (x t w : ℕ) (hop : Hop) (rest : List Hop)
+pub going_push : (n : SplitNetState) (start from next : Table) (x t w : ℕ) (hop : Hop) (rest : List Hop)
     → IsGoing n start from x (hop ∷ rest) t → hop.way ≡ Some w → next w ≡ Some x
     → ((v : ℕ) → v ≢ w → next v ≡ from v) → IsGoing n start next hop.node rest t
 going_push n start from next x t w hop rest g is there others =
@@ -153,7 +154,7 @@ going_push n start from next x t w hop rest g is there others =
       off = λ h. g.off (inr h);
     }
 
-pub going_back : (n : Net) (start from next : Table) (x t : ℕ) (hop : Hop) (rest : List Hop)
+pub going_back : (n : SplitNetState) (start from next : Table) (x t : ℕ) (hop : Hop) (rest : List Hop)
     → IsGoing n start from x (hop ∷ rest) t → hop.way ≡ None → next x ≡ None → ((v : ℕ) → v ≢ x → next v ≡ from v)
     → IsGoing n start next hop.node rest t
 going_back n start from next x t hop rest g is there others =
@@ -188,16 +189,17 @@ said_below from v u f = elim (cases_lt v (length from)) [
 abbrev pub hop_at : List Hop → ℕ → Hop
 hop_at hops i = get_or hops i (record { node = 0; way = None })
 
-pub going_next : (n : Net) (start from : Table) (x t i : ℕ) (hops : List Hop) → i < length hops
+pub going_next : (n : SplitNetState) (start from : Table) (x t i : ℕ) (hops : List Hop) → i < length hops
     → IsGoing n start from x (drop i hops) t → IsGoing n start from x (hop_at hops i ∷ drop (i + 1) hops) t
 going_next n start from x t i hops l g =
     subst (λ (hs : List Hop). IsGoing n start from x hs t) (drop_more hops i (record { node = 0; way = None }) l) g
 
-pub back_said : (n : Net) (start from : Table) (x t : ℕ) (hop : Hop) (rest : List Hop)
+pub back_said : (n : SplitNetState) (start from : Table) (x t : ℕ) (hop : Hop) (rest : List Hop)
     → IsGoing n start from x (hop ∷ rest) t → hop.way ≡ None → from x ≡ Some hop.node
 back_said n start from x t hop rest g is = subst (IsStepBy n from x hop.node) is g.goes.0
 
-pub way_said : (n : Net) (wide : ℕ) (start from : Table) (x t w : ℕ) (hop : Hop) (rest : List Hop) → IsPlaced n wide
+pub way_said : (n : SplitNetState) (wide : ℕ) (start from : Table) (x t w : ℕ) (hop : Hop) (rest : List Hop)
+    → IsPlaced n wide
     → IsGoing n start from x (hop ∷ rest) t → hop.way ≡ Some w → w < wide
 way_said n wide start from x t w hop rest placed g is =
     let s : IsWay n from x hop.node w = subst (IsStepBy n from x hop.node) is g.goes.0 in

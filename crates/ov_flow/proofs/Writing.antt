@@ -7,7 +7,7 @@ use Rattle.ov_ids.specs.Members.{Has, IsDistinct}
 use Rattle.ov_ids.proofs.Members.{has_append_left, has_append_right, has_append_cases}
 use Rattle.ov_graph.specs.Joined.{Leads}
 use Rattle.ov_graph.specs.Paths.{ShareOnly}
-use Rattle.ov_split.specs.Net.{Net, IsNet, IsFanOf}
+use Rattle.ov_split.specs.SplitNetState.{SplitNetState, IsSplitNet, IsFanOf}
 use Rattle.ov_split.specs.Code.Residual.{Table, AreHeld, IsFlow}
 use Rattle.ov_split.proofs.Augmenting.Trace.{Arc, not_source, used_on, suffix, meet, is_path, path_off, TracedPath}
 use Rattle.ov_flow.specs.Code.Flat.{paths_after, paths_in}
@@ -16,7 +16,7 @@ use Rattle.ov_flow.proofs.Reaching.{last_of_push}
 use Rattle.ov_flow.proofs.Copying.{IsComing, coming_none, coming_more, coming_bound, coming_all}
 
 -- the part of the path to e that is written
-pub record IsWriting (n : Net) (from : Table) (old out : List ℕ) (e x : ℕ) : Type 0 where
+pub record IsWriting (n : SplitNetState) (from : Table) (old out : List ℕ) (e x : ℕ) : Type 0 where
   pub c : List ℕ
   pub coming : IsComing n from e x c
   pub items : out ≡ old ++ reverse c
@@ -29,7 +29,8 @@ backwards old out new c x e f =
     f ∙ ap (λ (l : List ℕ). l ++ x ∷ []) e ∙ append_assoc old (reverse c) (x ∷ [])
     ∙ ap (λ (l : List ℕ). old ++ l) (sym (reverse-append (x ∷ []) c))
 
-module _ (n : Net) (net : IsNet n) (from : Table) (ends : List ℕ) (held : AreHeld n from ends) (e : ℕ) (h : Has ends e)
+module _ (n : SplitNetState) (net : IsSplitNet n) (from : Table) (ends : List ℕ) (held : AreHeld n from ends) (e : ℕ)
+    (h : Has ends e)
     (apart : e ≢ n.source) (old : List ℕ) where
   pub writing_none : IsWriting n from old old e e
   writing_none = record {
@@ -57,7 +58,7 @@ module _ (n : Net) (net : IsNet n) (from : Table) (ends : List ℕ) (held : AreH
       let b = coming_bound n net from ends held e h apart x u g.c g.coming f in
       omega (arith, q, b)
 
-pub writing_done : (n : Net) (from : Table) (old out new : List ℕ) (e x s : ℕ) → IsWriting n from old out e x
+pub writing_done : (n : SplitNetState) (from : Table) (old out new : List ℕ) (e x s : ℕ) → IsWriting n from old out e x
     → from x ≡ None → s ≡ n.source → new ≡ out ++ s ∷ [] → IsWritten n from old new e
 writing_done n from old out new e x s g f same is = record {
   path = g.c;
@@ -105,7 +106,7 @@ share_push shared (r ∷ ps) p a f = (
 )
 
 -- the paths to some of the ends
-pub record AreWriting (n : Net) (from : Table) (out done : List ℕ) (k : ℕ) : Type 0 where
+pub record AreWriting (n : SplitNetState) (from : Table) (out done : List ℕ) (k : ℕ) : Type 0 where
   pub paths : List (List ℕ)
   pub count : length paths ≡ k
   pub each : (p : List ℕ) → Has paths p → (e : ℕ) × Has done e × ((c : List ℕ) × (p ≡ n.source ∷ c)
@@ -114,7 +115,7 @@ pub record AreWriting (n : Net) (from : Table) (out done : List ℕ) (k : ℕ) :
   pub reads : (more : List ℕ) → paths_after n.source [] (out ++ more) ≡ paths ++ paths_after n.source [] more
   pub last : (out ≡ []) ⊎ (get_or out (length out - 1) 0 ≡ n.source)
 
-pub none_written : (n : Net) (from : Table) (out : List ℕ) → out ≡ [] → AreWriting n from out [] 0
+pub none_written : (n : SplitNetState) (from : Table) (out : List ℕ) → out ≡ [] → AreWriting n from out [] 0
 none_written n from out is = record {
   paths = [];
   count = refl;
@@ -124,7 +125,7 @@ none_written n from out is = record {
   last = inl is;
 }
 
-module _ (n : Net) (from : Table) (ends : List ℕ) (held : AreHeld n from ends) where
+module _ (n : SplitNetState) (from : Table) (ends : List ℕ) (held : AreHeld n from ends) where
   pub one_written : (out new done : List ℕ) (k e : ℕ) → AreWriting n from out done k
       → ((a : ℕ) → Has done a → Has ends a) → Has ends e → ¬ Has done e → IsWritten n from out new e
       → AreWriting n from new (done ++ e ∷ []) (k + 1)
@@ -186,7 +187,7 @@ read_all s out paths reads last =
       | inr e ↦ ap (λ (t : ℕ). paths_after t [] out) e ∙ all
     ]
 
-pub all_written : (n : Net) → IsNet n → (from : Table) (ends out : List ℕ) (k : ℕ) → IsFlow n from ends
+pub all_written : (n : SplitNetState) → IsSplitNet n → (from : Table) (ends out : List ℕ) (k : ℕ) → IsFlow n from ends
     → AreWriting n from out ends k → k ≡ length ends → IsFanOf n (length ends) (paths_in out)
 all_written n net from ends out k flow w is =
     let traced : (p : List ℕ) → Has w.paths p → TracedPath n net from ends flow.held ends p =

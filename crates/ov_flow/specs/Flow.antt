@@ -4,18 +4,18 @@ use Rattle.ov_ids.specs.Members.{Has}
 use Rattle.ov_graph.specs.Links.{LinkGraph}
 use Rattle.ov_graph.specs.Row.{HasBit}
 use Rattle.ov_graph.specs.Paths.{node_at}
-use Rattle.ov_split.specs.Net.{Net, IsFanOf, IsNearestCut, IsSideOf}
+use Rattle.ov_split.specs.SplitNetState.{SplitNetState, IsFanOf, IsNearestCut, IsSideOf}
 use Rattle.ov_flow.specs.declared.search_result.Stuck.{Stuck as Rows}
 use Rattle.ov_flow.specs.declared.search_result.Step.{Step}
 use Rattle.ov_flow.specs.declared.search_result.Step.TheVariants.{Grew, Stuck}
 
 -- the value of a `Flow` in contracts: the net, and how many paths of a fan are held
 pub record FlowState : Type 0 where
-  pub net : Net
+  pub net : SplitNetState
   pub held : ℕ
 
 -- no fan has more than k paths: the nearest least cut has k nodes. `side` are the nodes that are reached without it
-pub record IsFull (n : Net) (k : ℕ) (cut side : List ℕ) : Type 0 where
+pub record IsFull (n : SplitNetState) (k : ℕ) (cut side : List ℕ) : Type 0 where
   pub nearest : IsNearestCut n cut
   pub size : length cut ≡ k
   pub side_of : IsSideOf n cut side
@@ -26,7 +26,7 @@ abbrev pub AreBitsOf : LinkGraph → List ℕ → List ℕ → Type 0
 AreBitsOf g row s = (p : ℕ) → HasBit row p ↔ ((p < length g.nodes) × Has s (node_at g p))
 
 -- no fan has more than k paths, and the rows have the bits of the nearest least cut and of its side
-pub record IsFullBy (n : Net) (k : ℕ) (s : Rows) : Type 0 where
+pub record IsFullBy (n : SplitNetState) (k : ℕ) (s : Rows) : Type 0 where
   pub cut : List ℕ
   pub side : List ℕ
   pub full : IsFull n k cut side
@@ -34,9 +34,9 @@ pub record IsFullBy (n : Net) (k : ℕ) (s : Rows) : Type 0 where
   pub side_row : AreBitsOf n.graph s.side side
 
 -- the result of a search for one more path: one more is held, or there is none and nothing has changed
-abbrev pub IsStep : FlowState → FlowState → Step → Type 0
-IsStep old new Grew = new ≡ record old { held = old.held + 1 }
-IsStep old new (Stuck s) = (new ≡ old) × IsFullBy old.net old.held s
+abbrev pub IsAugmentation : FlowState → FlowState → Step → Type 0
+IsAugmentation old new Grew = new ≡ record old { held = old.held + 1 }
+IsAugmentation old new (Stuck s) = (new ≡ old) × IsFullBy old.net old.held s
 
 -- each number on each path is the place of a node, counted from 0
 abbrev pub ArePlaces : LinkGraph → List (List ℕ) → Type 0

@@ -1,7 +1,7 @@
 ghost use Rattle.std.specs.Prelude.{◌≡◌, ℕ, ◌+◌, ◌<◌, List, map, length, IfOk, OnErr, IfSome, MatchOption};
 ghost use Rattle.ov_graph.specs.Paths.{node_at};
-ghost use Rattle.ov_split.specs.Net.{IsFanOf};
-ghost use Rattle.ov_flow.specs.Flow.{FlowState, IsFullBy, IsStep, ArePlaces};
+ghost use Rattle.ov_split.specs.SplitNetState.{IsFanOf};
+ghost use Rattle.ov_flow.specs.Flow.{FlowState, IsFullBy, IsAugmentation, ArePlaces};
 
 use crate::place_paths::{PlacePaths, write_paths};
 use crate::search_buffers::{Work, augment, new_work, settle};
@@ -22,7 +22,7 @@ pub struct Flow<'g> {
 
 impl<'g> Model for Flow<'g> {
     ghost use Rattle.std.specs.Prelude.{length};
-    ghost use Rattle.ov_split.specs.Net.{IsNet};
+    ghost use Rattle.ov_split.specs.SplitNetState.{IsSplitNet};
     ghost use Rattle.ov_flow.specs.Flow.{FlowState};
     ghost use Rattle.ov_flow.specs.Code.Held.{IsReady, IsWorkOf};
 
@@ -30,7 +30,7 @@ impl<'g> Model for Flow<'g> {
 
     ghost view = { λ f. record { net = f.net; held = length f.work.ends.items } };
 
-    ghost invariant = { λ f. IsNet f.net × IsReady f.net × IsWorkOf f.net f.work };
+    ghost invariant = { λ f. IsSplitNet f.net × IsReady f.net × IsWorkOf f.net f.work };
 }
 
 impl<'g> Flow<'g> {
@@ -54,7 +54,7 @@ impl<'g> Flow<'g> {
     /// paths are held (Menger, Fund. Math. 10, 1927). Out of memory (99) leaves the net and the number of paths as they
     /// were.
     pub fn augment(&mut self) -> Result<Step, OutOfMemory>
-        ensures step { IfOk result (λ step. IsStep self.old self.new step) }
+        ensures step { IfOk result (λ step. IsAugmentation self.old self.new step) }
         ensures err { OnErr result (self.new ≡ self.old) }
         ensures fans { (paths : List (List ℕ)) × IsFanOf self.new.net self.new.held paths }
     {

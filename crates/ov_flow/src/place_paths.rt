@@ -1,7 +1,7 @@
 ghost use Rattle.std.specs.Prelude.{◌≡◌, ◌≢◌, ◌≤◌, ℕ, map, length, OnOk, IfOk};
 ghost use Rattle.ov_ids.specs.Members.{Has};
 ghost use Rattle.ov_graph.specs.Paths.{node_at};
-ghost use Rattle.ov_split.specs.Net.{IsFanOf};
+ghost use Rattle.ov_split.specs.SplitNetState.{IsFanOf};
 ghost use Rattle.ov_flow.specs.Flow.{ArePlaces, ended_by};
 ghost use Rattle.ov_split.specs.Code.Residual.{AreHeld, IsFlow};
 ghost use Rattle.ov_split.specs.Places.{net_by_place};

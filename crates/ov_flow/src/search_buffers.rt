@@ -1,6 +1,6 @@
 //! The buffers of a search, and the paths that are held.
 ghost use Rattle.std.specs.Prelude.{◌≡◌, ℕ, ◌<◌, ◌≤◌, [], length, false, IfOk, OnErr, MatchBool};
-ghost use Rattle.ov_split.specs.Net.{Net};
+ghost use Rattle.ov_split.specs.SplitNetState.{SplitNetState};
 ghost use Rattle.ov_flow.specs.Code.Held.{IsReady, HasRoom, IsWorkOf, IsSame, IsLonger, IsAtEnd};
 
 use crate::one_link_paths::take_direct;
@@ -24,7 +24,7 @@ pub(crate) struct Work {
 
 /// Allocates the buffers for nets with so many places. No path is held.
 pub(crate) fn new_work(alloc: Global, places: usize) -> Result<Work, AllocError>
-    ensures work { IfOk result (λ w. (n : Net) → length n.graph.nodes ≡ places → IsWorkOf n w) }
+    ensures work { IfOk result (λ w. (n : SplitNetState) → length n.graph.nodes ≡ places → IsWorkOf n w) }
     ensures empty { IfOk result (λ w. w.ends.items ≡ []) }
 {
     Ok(Work {

@@ -1,7 +1,7 @@
 ghost use Rattle.std.specs.Prelude.{◌≡◌, ℕ, ◌-◌, ◌*◌, ◌<◌, length, slice_index, OnOk};
 ghost use Rattle.ov_ids.specs.Members.{Has};
 ghost use Rattle.ov_graph.specs.Row.{word_bits};
-ghost use Rattle.ov_split.specs.Net.{Net};
+ghost use Rattle.ov_split.specs.SplitNetState.{SplitNetState};
 ghost use Rattle.ov_split.specs.Code.Residual.{Table};
 ghost use Rattle.ov_split.specs.Places.{net_by_place};
 ghost use Rattle.ov_flow.specs.Code.Reached.{IsStepBy, IsGrown, IsMore, IsClean};
@@ -57,7 +57,7 @@ pub(crate) fn begin(net: &SplitNet<'_>, tree: &mut Tree) -> Result<(), AllocErro
 pub(crate) fn reach(tree: &mut Tree, at: u16, way: Option<u16>, node: u16) -> Result<(), AllocError>
     requires at { at < length tree.old.order.items }
     requires node { node < word_bits * WORDS }
-    ensures grown { OnOk result ((n : Net) (from : Table) → IsGrown n from tree.old → Has n.graph.nodes node
+    ensures grown { OnOk result ((n : SplitNetState) (from : Table) → IsGrown n from tree.old → Has n.graph.nodes node
         → IsStepBy n from (slice_index tree.old.order.items at) node way
         → IsGrown n from tree.new × Has tree.new.order.items node
         × (¬ Has tree.old.order.items node

@@ -1,7 +1,7 @@
 //! The walk to a target that a search found, and the change of the table by its steps.
 ghost use Rattle.std.specs.Prelude.{◌≡◌, ◌≢◌, ℕ, ◌-◌, ◌<◌, List, ◌∷◌, length, slice_index, Some};
 ghost use Rattle.std.specs.Prelude.{None, true, OnOk, IfSome};
-ghost use Rattle.ov_split.specs.Net.{Net};
+ghost use Rattle.ov_split.specs.SplitNetState.{SplitNetState};
 ghost use Rattle.ov_split.specs.Code.Residual.{Table, AreHeld, IsTidy};
 ghost use Rattle.ov_split.specs.Places.{net_by_place};
 ghost use Rattle.ov_flow.specs.Code.Reached.{IsShaped, IsGrown};
@@ -22,7 +22,7 @@ pub(crate) struct Hop {
 /// Writes the walk from the source to the last node that is reached.
 pub(crate) fn walk_back(tree: &Tree, hops: &mut Vec<Hop>) -> Result<(), AllocError>
     requires { IsShaped tree.now.order.items tree.now.parents.items tree.now.ways.items }
-    ensures { OnOk result ((n : Net) (from : Table) → IsGrown n from tree.now
+    ensures { OnOk result ((n : SplitNetState) (from : Table) → IsGrown n from tree.now
         → IsWalkBy n from hops.new.items (slice_index tree.now.order.items (length tree.now.order.items - 1))) }
 {
     hops.clear();

@@ -14,16 +14,16 @@ number_of BadLink = 33
 number_of OutOfMemory = 99
 
 -- l comes after the link before it, if there is one
-abbrev pub Follows : Option (ℕ × ℕ) → ℕ × ℕ → Type 0
-Follows None l = Unit {0}
-Follows (Some before) l = Precedes before l
+abbrev pub ComesAfter : Option (ℕ × ℕ) → ℕ × ℕ → Type 0
+ComesAfter None l = Unit {0}
+ComesAfter (Some before) l = Precedes before l
 
 -- the first fault of the links that come after the link `before`. Each must join two nodes, the lower id first, and
 -- come after the link before it
 abbrev pub LinksJudged : List ℕ → Option (ℕ × ℕ) → List (ℕ × ℕ) → Option GraphFault → Type 0
 LinksJudged nodes before [] answer = Passed answer
 LinksJudged nodes before (l ∷ links) answer =
-    Step (IsLink nodes l) BadLink (Step (Follows before l) Unordered (LinksJudged nodes (Some l) links)) answer
+    Step (IsLink nodes l) BadLink (Step (ComesAfter before l) Unordered (LinksJudged nodes (Some l) links)) answer
 
 -- the first fault of nodes and links, or None where there is none. First come too many nodes, then nodes that do not
 -- ascend, then the links one by one

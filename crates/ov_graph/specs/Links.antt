@@ -22,6 +22,10 @@ pub record IsGraph (g : LinkGraph) : Type 0 where
   pub links_ascend : Ordered Precedes g.links
   pub joins : (l : ℕ × ℕ) → Has g.links l → IsLink g.nodes l
 
+-- the graph has a node
+abbrev pub HasNode : LinkGraph → Type 0
+HasNode g = 0 < length g.nodes
+
 -- the most nodes that a graph may have in the code. The theorems have no such limit
 abbrev pub most_nodes : ℕ
 most_nodes = 1024

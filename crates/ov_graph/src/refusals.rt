@@ -1,6 +1,6 @@
 ghost use Rattle.std.specs.Prelude.{◌≡◌, ◌↔◌, IsTrue, None};
 ghost use Rattle.ov_ids.specs.Members.{Ascends};
-ghost use Rattle.ov_graph.specs.Code.Tests.{fault_of, links_fault, is_link, follows};
+ghost use Rattle.ov_graph.specs.Code.Tests.{fault_of, links_fault, is_link, comes_after};
 
 use crate::fault::GraphFault;
 use crate::graph::Graph;
@@ -46,7 +46,7 @@ fn joins(nodes: &[NodeId], link: (NodeId, NodeId)) -> bool
 }
 
 fn is_above(before: Option<(NodeId, NodeId)>, link: (NodeId, NodeId)) -> bool
-    ensures { result ≡ follows before link }
+    ensures { result ≡ comes_after before link }
 {
     match before {
         Some((a, b)) => a < link.0 || a == link.0 && b < link.1,

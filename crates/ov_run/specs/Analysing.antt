@@ -1,12 +1,11 @@
 -- What an analysis of a graph file prints.
 use Rattle.std.specs.Prelude.{◌≡◌, ◌⊎◌, ℕ, Bool, true, false, List, ◌++◌, Option, IfSome}
 use Rattle.std.specs.Io.KnownBytes.{Appends}
-use Rattle.ov_graph.specs.Links.{LinkGraph, IsGroup}
+use Rattle.ov_graph.specs.Links.{LinkGraph, HasNode, IsGroup}
 use Rattle.ov_cert.specs.Valid.{IsValidForGroup}
 use Rattle.ov_cert.specs.declared.cert.Cert.{Cert}
 use Rattle.ov_io.specs.Device.{AppendsPrefixOf}
 use Rattle.ov_even.specs.Answer.{IsAnswer}
-use Rattle.ov_even.specs.Faults.{HasNode}
 use Rattle.ov_run.specs.GraphFiles.{IsGraphFile}
 use Rattle.ov_run.specs.Printed.{report_line, file_text, refused_line}
 use Rattle.ov_run.specs.Subjects.{members_of}

@@ -85,8 +85,8 @@ number_of BadArguments = 73
 number_of OutOfMemory = 99
 
 -- the line that `overlay` prints of a fault on standard error, without its line feed
-unfoldable pub fault_text : ArgumentsFault → List ℕ
-fault_text fault = codes "refused " ++ decimal (number_of fault)
+unfoldable pub arguments_fault_text : ArgumentsFault → List ℕ
+arguments_fault_text fault = codes "refused " ++ decimal (number_of fault)
 
 -- why the arguments can't be had: those that are no text are no arguments of the command
 abbrev pub fault_of_text : ErrorKind → ArgumentsFault

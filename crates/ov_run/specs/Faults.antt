@@ -39,8 +39,8 @@ line_refusal_text (Some line) number = codes "line " ++ (decimal line ++ (codes 
 line_refusal_text None number = refusal_text number
 
 -- the line that `overlay` prints of a fault on standard error, without its line feed
-unfoldable pub fault_text : RunFault → List ℕ
-fault_text fault = line_refusal_text (line_of fault) (number_of fault)
+unfoldable pub run_fault_text : RunFault → List ℕ
+run_fault_text fault = line_refusal_text (line_of fault) (number_of fault)
 
 -- ---- where faults come from
 

@@ -1,15 +1,15 @@
 -- What the program overlay prints of a fault, and its status.
 use Rattle.std.specs.Prelude.{ℕ, List, Result, Ok, Err}
-use Rattle.ov_run.specs.Arguments as arguments
-use Rattle.ov_run.specs.Faults.{fault_text}
+use Rattle.ov_run.specs.Arguments.{arguments_fault_text}
+use Rattle.ov_run.specs.Faults.{run_fault_text}
 use Rattle.ov_run.specs.declared.arguments.ArgumentsFault.TheVariants.{BadArguments, OutOfMemory}
-use Rattle.ov_run.specs.declared.program.ProgramFault.{ProgramFault}
-use Rattle.ov_run.specs.declared.program.ProgramFault.TheVariants.{Arguments, Run}
+use Rattle.ov_run.specs.declared.program_outcome.ProgramFault.{ProgramFault}
+use Rattle.ov_run.specs.declared.program_outcome.ProgramFault.TheVariants.{Arguments, Run}
 
 -- what is printed of a fault on standard error, without its line feed
 abbrev pub program_fault_text : ProgramFault → List ℕ
-program_fault_text (Arguments fault) = arguments.fault_text fault
-program_fault_text (Run fault) = fault_text fault
+program_fault_text (Arguments fault) = arguments_fault_text fault
+program_fault_text (Run fault) = run_fault_text fault
 
 -- the program's status: that of the run or the analysis, 2 where the arguments can't be read, and 1 after another fault
 abbrev pub exit_status : Result ℕ ProgramFault → ℕ

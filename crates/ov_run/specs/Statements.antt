@@ -24,8 +24,8 @@ with_zeros ns =
     else None
 
 -- the first node hears that the second one crashed
-abbrev pub report_of : ℕ × ℕ → Event
-report_of p = event.Report p.0 p.1
+abbrev pub crash_report_of : ℕ × ℕ → Event
+crash_report_of p = event.Report p.0 p.1
 
 -- a timer of the first node, of the message with this origin and this number
 abbrev pub timer_of : ℕ × (ℕ × ℕ) → Event
@@ -97,7 +97,7 @@ event_of name rest =
     ∷ (codes "lose", option_map event.Lose (one short_bits rest))
     ∷ (codes "repeat", option_map event.Repeat (one short_bits rest))
     ∷ (codes "crash", option_map event.Crash (one short_bits rest))
-    ∷ (codes "report", option_map report_of (two rest))
+    ∷ (codes "report", option_map crash_report_of (two rest))
     ∷ (codes "shuffle", option_map event.Shuffle (one short_bits rest))
     ∷ (codes "timer", option_map timer_of (three rest))
     ∷ (codes "snapshot", if length rest == 0 then Some event.Snapshot else None)

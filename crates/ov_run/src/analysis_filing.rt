@@ -59,7 +59,7 @@ fn report_for<T: Threads + Sync>(
     ensures answer { IfOk result (λ r. IsAnswer r.graph r.members r.cert) }
     ensures refused { IfErr result (IsRefusedBy wants_memory (AnalysisJudged core.now subject.now)) }
 {
-    if let Some(_) = report_of(core, subject) {
+    if let Some(_) = filed_report(core, subject) {
         return Err(CoreFault::AlreadyFiled);
     }
     let job = begin(core, subject)?;
@@ -67,7 +67,7 @@ fn report_for<T: Threads + Sync>(
 }
 
 /// The report that is filed for a subject, if there is one.
-pub(crate) fn report_of<'a>(core: &'a Core, subject: &Subject) -> Option<&'a Report>
+pub(crate) fn filed_report<'a>(core: &'a Core, subject: &Subject) -> Option<&'a Report>
     ensures some { IfSome result (λ r. IsReportOf core.now subject.now r.now) }
     ensures none { IfNone result ((r : ReportState) → ¬ IsReportOf core.now subject.now r) }
     ensures exact { IfSome result (λ r. IsSo core.now.world.journal r.now) }

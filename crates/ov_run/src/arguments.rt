@@ -8,7 +8,7 @@ ghost use Rattle.ov_run.specs.Arguments.{analyse_command, flag, option, overlay_
 ghost use Rattle.ov_run.specs.Arguments.{fault_of_text, number_of};
 ghost use Rattle.ov_run.specs.declared.arguments.ArgumentsFault.TheVariants.{OutOfMemory as wants_memory};
 
-use crate::id_list::read_ids;
+use crate::id_list_reading::read_ids;
 use crate::workers::read_workers;
 use clap::error::ErrorKind;
 use clap::{Arg, ArgAction, ArgMatches, Command, Error as ClapError};
@@ -61,11 +61,11 @@ impl ArgumentsFault {
 
 impl Display for ArgumentsFault {
     ghost use Rattle.std.specs.Prelude.{Some};
-    ghost use Rattle.ov_run.specs.Arguments.{fault_text};
+    ghost use Rattle.ov_run.specs.Arguments.{arguments_fault_text};
 
-    ghost output = { λ fault. Some (fault_text fault) };
+    ghost output = { λ fault. Some (arguments_fault_text fault) };
 
-    #[tactic(auto, unfolding(crate::specs::Arguments::fault_text))]
+    #[tactic(auto, unfolding(crate::specs::Arguments::arguments_fault_text))]
     fn fmt<W: Write>(&self, f: &mut Formatter<W>) -> fmt::Result {
         let number = self.number();
         write!(f, "refused {number}")

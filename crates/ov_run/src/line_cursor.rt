@@ -4,7 +4,7 @@ ghost use Rattle.ov_run.specs.Lines.{long_bits, short_bits};
 ghost use Rattle.ov_run.specs.Code.Spaced.{first_number};
 ghost use Rattle.ov_run.specs.Statements.{workers_named};
 
-use crate::id_list::read_ids;
+use crate::id_list_reading::read_ids;
 use crate::numeral::{read_number, read_short_number};
 use crate::splitting::split_word;
 use crate::workers::{Workers, read_workers};

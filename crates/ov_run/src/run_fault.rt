@@ -57,11 +57,11 @@ impl RunFault {
 
 impl Display for RunFault {
     ghost use Rattle.std.specs.Prelude.{Some};
-    ghost use Rattle.ov_run.specs.Faults.{fault_text};
+    ghost use Rattle.ov_run.specs.Faults.{run_fault_text};
 
-    ghost output = { λ fault. Some (fault_text fault) };
+    ghost output = { λ fault. Some (run_fault_text fault) };
 
-    #[tactic(auto, unfolding(crate::specs::Faults::fault_text))]
+    #[tactic(auto, unfolding(crate::specs::Faults::run_fault_text))]
     fn fmt<W: Write>(&self, f: &mut Formatter<W>) -> Result {
         let number = self.number();
         match self.line() {

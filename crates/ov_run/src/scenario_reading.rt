@@ -2,7 +2,7 @@ ghost use Rattle.std.specs.Prelude.{◌≡◌, IfOk, IfErr};
 ghost use Rattle.ov_run.specs.Faults.{IsReadingFault};
 ghost use Rattle.ov_run.specs.Scenarios.{IsScenario, stated_lines};
 
-use crate::kept_lines::KeptLines;
+use crate::unskipped_lines::KeptLines;
 use crate::lines_to_run::lines_to_run;
 use crate::run_fault::RunFault;
 use crate::scenario::Scenario;

@@ -11,7 +11,7 @@ ghost use Rattle.ov_run.specs.Printed.{entry_line, file_text, node_line, refused
 ghost use Rattle.ov_run.specs.Running.{PrintsNode, PrintsPackets, PrintsCertificate};
 ghost use Rattle.ov_run.specs.Code.Writing.{Writes, WritesPrefix, IsOfWriting};
 
-use crate::analysis_filing::report_of;
+use crate::analysis_filing::filed_report;
 use crate::line_texts::{entry_line, node_line, packet_line, refused_line};
 use crate::run_fault::RunFault;
 use crate::scenario::Subject;
@@ -114,7 +114,7 @@ pub(crate) fn write_certificate<W: Write>(
         (W.contents sink.old.writer) (W.contents sink.new.writer) }
     ensures faults { sink.new.faults ≡ sink.old.faults + sink_failures write_number result }
 {
-    let Some(report) = report_of(core, subject) else {
+    let Some(report) = filed_report(core, subject) else {
         return write_refusal(CoreFault::NoSuchMoment.number(), sink);
     };
     prove!(core.world().journal().len() <= MAX_ENTRIES);

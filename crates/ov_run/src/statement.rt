@@ -1,6 +1,6 @@
 ghost use Rattle.std.specs.Prelude.{◌≡◌, IfOk, option_map};
 ghost use Rattle.ov_run.specs.Lines.{words_of, two, three};
-ghost use Rattle.ov_run.specs.Statements.{seven_numbers, event_words, report_of, timer_of, boot_of, broadcast_of};
+ghost use Rattle.ov_run.specs.Statements.{seven_numbers, event_words, crash_report_of, timer_of, boot_of, broadcast_of};
 ghost use Rattle.ov_run.specs.Statements.{event_of, subject_at, subject_of, analysis_of, named, statement_of};
 
 use crate::line_cursor::{LineCursor, is_word};
@@ -179,7 +179,7 @@ fn read_event(name: &[u8], cursor: &mut LineCursor) -> Option<Event>
 }
 
 fn read_report(cursor: &mut LineCursor) -> Option<Event>
-    ensures { result ≡ option_map report_of (two (words_of cursor.old.rest.now)) }
+    ensures { result ≡ option_map crash_report_of (two (words_of cursor.old.rest.now)) }
 {
     let (node, crashed) = cursor.last_two()?;
     Some(Event::Report(NodeId::new(node), NodeId::new(crashed)))
@@ -223,7 +223,10 @@ fn read_params(cursor: &mut LineCursor) -> Option<[u32; 7]>
 }
 
 /// Reads 1 to 64 random words. Zeros follow them.
-#[tactic(auto, using(crate::proofs::Lines::Filling::begun, crate::proofs::Lines::Filling::more, crate::proofs::Lines::Filling::unread, crate::proofs::Lines::Filling::full, crate::proofs::Lines::Filling::all_read))]
+#[tactic(auto, using(
+    crate::proofs::Lines::Filling::begun, crate::proofs::Lines::Filling::more, crate::proofs::Lines::Filling::unread,
+    crate::proofs::Lines::Filling::full, crate::proofs::Lines::Filling::all_read
+))]
 fn read_event_words(cursor: &mut LineCursor) -> Option<Words>
     ensures { result ≡ event_words (words_of cursor.old.rest.now) }
 {

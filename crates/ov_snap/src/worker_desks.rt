@@ -232,13 +232,13 @@ impl Core {
         ensures refused { IfErr result (IsRefusedBy fault.OutOfMemory (DeskFilingJudged self.old desk)) }
         ensures err { OnErr result (self.new ≡ self.old) }
     {
-        let report = self.report_of(desk)?;
+        let report = self.report_from_desk(desk)?;
         self.reports.push(report)?;
         Ok(())
     }
 
     /// Makes the report that `file_desk` files.
-    fn report_of(&self, desk: u32) -> Result<Report, CoreFault>
+    fn report_from_desk(&self, desk: u32) -> Result<Report, CoreFault>
         ensures judged { IfOk result (λ r. DeskFilingJudged self.now desk None) }
         ensures of { IfOk result (λ r. HoldsAt self.now desk
             (λ d. (r.moment ≡ d.moment) × (r.members ≡ d.members))) }

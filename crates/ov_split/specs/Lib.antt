@@ -1,4 +1,4 @@
-pub mod Net
+pub mod SplitNetState
 pub mod Places
 pub mod Placed
 pub mod Theorems

@@ -4,7 +4,7 @@ use Rattle.ov_ids.specs.Sets.{count_below}
 use Rattle.ov_graph.specs.Links.{LinkGraph}
 use Rattle.ov_graph.specs.Paths.{node_at}
 use Rattle.ov_graph.specs.Row.{picked}
-use Rattle.ov_split.specs.Net.{Net}
+use Rattle.ov_split.specs.SplitNetState.{SplitNetState}
 
 -- the places below n
 unfoldable pub places : ℕ → List ℕ
@@ -27,7 +27,7 @@ graph_by_place g = record {
 }
 
 -- the same net, by place
-unfoldable pub net_by_place : Net → Net
+unfoldable pub net_by_place : SplitNetState → SplitNetState
 net_by_place n = record {
   graph = graph_by_place n.graph;
   avoided = map (place_in n.graph) n.avoided;
@@ -41,7 +41,7 @@ node_if g None = []
 node_if g (Some p) = node_at g p ∷ []
 
 -- the net of these places: one avoided place at most, the source, and the places of the targets as a row of bits
-abbrev pub net_at : LinkGraph → Option ℕ → ℕ → List ℕ → Net
+abbrev pub net_at : LinkGraph → Option ℕ → ℕ → List ℕ → SplitNetState
 net_at g avoided source targets = record {
   graph = g;
   avoided = node_if g avoided;

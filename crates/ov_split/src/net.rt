@@ -2,7 +2,7 @@ ghost use Rattle.std.specs.Prelude.{◌≡◌, ◌≢◌, ◌↔◌, ℕ, ◌<�
 ghost use Rattle.ov_ids.specs.Members.{Has};
 ghost use Rattle.ov_graph.specs.Links.{Linked};
 ghost use Rattle.ov_graph.specs.Row.{HasBit, AreWordsFor, word_bits};
-ghost use Rattle.ov_split.specs.Net.{IsNet};
+ghost use Rattle.ov_split.specs.SplitNetState.{IsSplitNet};
 ghost use Rattle.ov_split.specs.Places.{net_at, net_by_place};
 ghost use Rattle.ov_split.specs.Placed.{IsPlaced};
 
@@ -21,10 +21,10 @@ pub struct SplitNet<'g> {
 }
 
 impl<'g> Model for SplitNet<'g> {
-    ghost use Rattle.ov_split.specs.Net.{Net};
+    ghost use Rattle.ov_split.specs.SplitNetState.{SplitNetState};
     ghost use Rattle.ov_split.specs.Code.Rows.{net_kept, IsNetKept};
 
-    ghost Value = { Net };
+    ghost Value = { SplitNetState };
 
     ghost view = { λ n. net_kept n.graph.now n.avoided n.source n.targets };
 
@@ -44,7 +44,7 @@ impl<'g> SplitNet<'g> {
         requires avoided { IfSome avoided (λ p. (p < length graph.now.nodes) × (p ≢ source)) }
         requires targets { (p : ℕ) → HasBit targets p → (p < length graph.now.nodes) × (p ≢ source) }
         ensures net { result ≡ net_at graph.now avoided source targets }
-        ensures is_net { IsNet result }
+        ensures is_net { IsSplitNet result }
     {
         prove!(source < graph.nodes().len());
         let avoided = row_of(avoided);
@@ -60,7 +60,7 @@ impl<'g> SplitNet<'g> {
     pub fn places(&self) -> usize
         ensures places { result ≡ length self.now.graph.nodes }
         ensures placed { IsPlaced (net_by_place self.now) (length self.now.graph.nodes) }
-        ensures net { IsNet self.now }
+        ensures net { IsSplitNet self.now }
     {
         self.graph.nodes().len()
     }
@@ -77,7 +77,7 @@ impl<'g> SplitNet<'g> {
     pub fn source(&self) -> usize
         ensures place { result ≡ (net_by_place self.now).source }
         ensures below { result < length self.now.graph.nodes }
-        ensures net { IsNet self.now }
+        ensures net { IsSplitNet self.now }
     {
         self.source
     }
@@ -85,7 +85,7 @@ impl<'g> SplitNet<'g> {
     /// The row of the places of the targets.
     pub fn targets(&self) -> &Row
         ensures places { (p : ℕ) → HasBit result.now p ↔ Has (net_by_place self.now).targets p }
-        ensures net { IsNet self.now }
+        ensures net { IsSplitNet self.now }
     {
         &self.targets
     }
@@ -93,7 +93,7 @@ impl<'g> SplitNet<'g> {
     /// The row of the places of the avoided nodes.
     pub fn avoided(&self) -> &Row
         ensures places { (p : ℕ) → HasBit result.now p ↔ Has (net_by_place self.now).avoided p }
-        ensures net { IsNet self.now }
+        ensures net { IsSplitNet self.now }
     {
         &self.avoided
     }
@@ -102,7 +102,7 @@ impl<'g> SplitNet<'g> {
     pub fn links_at(&self, p: usize) -> &Row
         requires { p < length self.now.graph.nodes }
         ensures links { (q : ℕ) → HasBit result.now q ↔ Linked (net_by_place self.now).graph p q }
-        ensures net { IsNet self.now }
+        ensures net { IsSplitNet self.now }
     {
         self.graph.row_at(p)
     }

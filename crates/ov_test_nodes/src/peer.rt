@@ -236,7 +236,8 @@ static FULL_VIEW: [(Given<'static>, &'static str); 17] = [
     ),
     (
         Given::Hears(&[1, 1, 0, 0, 0, 9]),
-        "active 3,9 passive 7 eager 3,9 lazy - made 0; down 7; up 9; to 7: 01 06 00000001; to 9: 01 03 00000001; to 3: 01 02 00000001 00000009 06",
+        "active 3,9 passive 7 eager 3,9 lazy - made 0; down 7; up 9; to 7: 01 06 00000001; to 9: 01 03 00000001; \
+         to 3: 01 02 00000001 00000009 06",
     ),
     (
         Given::Crash(9),
@@ -349,7 +350,8 @@ static GETS: [(Given<'static>, &'static str); 11] = [
     ),
     (
         Given::Broadcast(b"hi"),
-        "active 5 passive 1 eager 5 lazy - made 1; to 5: 01 09 00000002 00000002 00000000 0000 0002 6869; 2 delivers (2, 0) 6869",
+        "active 5 passive 1 eager 5 lazy - made 1; to 5: 01 09 00000002 00000002 00000000 0000 0002 6869; \
+         2 delivers (2, 0) 6869",
     ),
     (
         Given::Hears(&[1, 3, 0, 0, 0, 1]),
@@ -359,7 +361,8 @@ static GETS: [(Given<'static>, &'static str); 11] = [
         Given::Hears(&[
             1, 9, 0, 0, 0, 5, 0, 0, 0, 7, 0, 0, 0, 0, 0, 0, 0, 2, 104, 105,
         ]),
-        "active 1,5 passive - eager 1,5 lazy - made 1; to 1: 01 09 00000002 00000007 00000000 0001 0002 6869; 2 delivers (7, 0) 6869",
+        "active 1,5 passive - eager 1,5 lazy - made 1; to 1: 01 09 00000002 00000007 00000000 0001 0002 6869; \
+         2 delivers (7, 0) 6869",
     ),
     (
         Given::Hears(&[
@@ -417,7 +420,8 @@ static WHOLE: [(Given<'static>, &'static str); 15] = [
     ),
     (
         Given::Hears(&[1, 1, 0, 0, 0, 9]),
-        "active 3,9 passive 7 eager 3,9 lazy - made 0; down 7; up 9; to 7: 01 06 00000001; to 9: 01 03 00000001; to 3: 01 02 00000001 00000009 06",
+        "active 3,9 passive 7 eager 3,9 lazy - made 0; down 7; up 9; to 7: 01 06 00000001; to 9: 01 03 00000001; \
+         to 3: 01 02 00000001 00000009 06",
     ),
     (
         Given::Hears(&[1, 12, 0, 0, 0, 3]),
@@ -441,7 +445,8 @@ static WHOLE: [(Given<'static>, &'static str); 15] = [
     ),
     (
         Given::Broadcast(b"hi"),
-        "active 9 passive 3,7 eager 9 lazy - made 1; to 9: 01 09 00000001 00000001 00000000 0000 0002 6869; 1 delivers (1, 0) 6869",
+        "active 9 passive 3,7 eager 9 lazy - made 1; to 9: 01 09 00000001 00000001 00000000 0000 0002 6869; \
+         1 delivers (1, 0) 6869",
     ),
     (
         Given::Broadcast(&[0; 1025]),
@@ -485,7 +490,8 @@ static DROPPED: [(Given<'static>, &'static str); 5] = [
     ),
     (
         Given::Hears(&[1, 1, 0, 0, 0, 9]),
-        "active 3,9 passive 7 eager 3,9 lazy - made 0 timer; down 7; up 9; to 7: 01 06 00000001; to 9: 01 03 00000001; to 3: 01 02 00000001 00000009 06",
+        "active 3,9 passive 7 eager 3,9 lazy - made 0 timer; down 7; up 9; to 7: 01 06 00000001; \
+         to 9: 01 03 00000001; to 3: 01 02 00000001 00000009 06",
     ),
     (
         Given::Timer(7, 0),

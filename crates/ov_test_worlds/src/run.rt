@@ -152,7 +152,8 @@ fn what_is_looked_at_and_analysed_is_read(rt: HostRuntime) -> Result<(), Fail> {
         analysis(of_group(8, [0, 4294967295], alloc)?, 1)?,
     ];
     let text =
-        b"show 4\npackets\ncertificate 7\ncertificate 7 group 1,2\nanalyse 7\n analyse  8 group 0,4294967295\nseed 2\nparams 2 30 6 3 3 4 4\n";
+        b"show 4\npackets\ncertificate 7\ncertificate 7 group 1,2\nanalyse 7\n analyse  8 group 0,4294967295\nseed 2\n\
+          params 2 30 6 3 3 4 4\n";
     let scenario = has_lines(&rt, alloc, text, &expected)?;
     assert_eq!(rt; scenario.seed, 2);
     assert_eq!(rt; scenario.params, sized(2, 30)?);
@@ -209,16 +210,28 @@ fn a_payload_may_be_too_long_for_a_broadcast(rt: HostRuntime) -> Result<(), Fail
 
 /// Texts of which each line alone is unreadable.
 static UNREADABLE: [&str; 10] = [
-    "params\nparams 5 30 6 3 3 4\nparams 5 30 6 3 3 4 4 4\nparams 5 30 6 3 3 4 x\nparams 5 30 6 3 3 4 4294967296\nparams 5 30 6 3 3 4 -4\nparams +5 30 6 3 3 4 4\nparams 0 30 6 3 3 4",
-    "seed\nseed x\nseed 1 2\nseed 18446744073709551616\nseed 100000000000000000000000\nseed -1\nseed +1\nseed 0x1\nseed 1.0\nseed 1e1",
+    "params\nparams 5 30 6 3 3 4\nparams 5 30 6 3 3 4 4 4\nparams 5 30 6 3 3 4 x\nparams 5 30 6 3 3 4 4294967296\n\
+     params 5 30 6 3 3 4 -4\nparams +5 30 6 3 3 4 4\nparams 0 30 6 3 3 4",
+    "seed\nseed x\nseed 1 2\nseed 18446744073709551616\nseed 100000000000000000000000\nseed -1\nseed +1\nseed 0x1\n\
+     seed 1.0\nseed 1e1",
     "words\nwords x\nwords 5 x\nwords 18446744073709551616\nwords 5",
-    "boot\nboot x\nboot 1 by\nboot 1 2\nboot 1 by x\nboot 1 by 2 3\nboot by 1\nboot 1 to 2\nboot 4294967296\nboot 1 by 4294967296",
-    "deliver\ndeliver x\ndeliver 1 2\ndeliver 4294967296\nlose\nlose x\nlose 1 2\nlose 4294967296\nrepeat\nrepeat x\nrepeat 1 2\nrepeat 4294967296",
-    "crash\ncrash x\ncrash 1 2\ncrash 4294967296\nreport\nreport 1\nreport 1 2 3\nreport x 1\nreport 1 x\nreport 1 4294967296\nshuffle\nshuffle x\nshuffle 1 2\nshuffle 4294967296",
-    "broadcast\nbroadcast \nbroadcast x\nbroadcast x hi\nbroadcast 4294967296\nbroadcast 1\thi\nbroadcasts 1 hi\ntimer\ntimer 1\ntimer 1 2\ntimer 1 2 3 4\ntimer x 2 3\ntimer 1 x 3\ntimer 1 2 4294967296\nsnapshot 1",
-    "show\nshow x\nshow 1 2\nshow 4294967296\npackets 1\ncertificate\ncertificate x\ncertificate 1 2\ncertificate 4294967296",
-    "analyse 1 workers\nanalyse 1 workers 0\nanalyse 1 workers 65\nanalyse 1 workers 4294967297\nanalyse 1 workers x\nanalyse 1 workers +2\nanalyse 1 workers 2 workers 2\nanalyse 1 workers 2 2\nanalyse 1 workers 2 group\nanalyse 1 workers group 1\nanalyse 1 group 1 workers 2\nanalyse workers 2\nanalyse 1 worker 2\nanalyse x workers 2\nanalyse 1 2\ncertificate 1 workers 2\ncertificate 1 workers 2 group 1",
-    "analyse\nanalyse x\nanalyse 1 group\nanalyse 1 groups 1\nanalyse 1 group 1,\nanalyse 1 group 1 2\ncertificate 1 group\ncertificate 1 group x\ntogether\nalso\nend\nfly\nBoot 1\nboot1\n1 boot\n\tboot 1\nboot\t1\nboot 1 # first\nboot 1\r\r\n\r\r",
+    "boot\nboot x\nboot 1 by\nboot 1 2\nboot 1 by x\nboot 1 by 2 3\nboot by 1\nboot 1 to 2\nboot 4294967296\n\
+     boot 1 by 4294967296",
+    "deliver\ndeliver x\ndeliver 1 2\ndeliver 4294967296\nlose\nlose x\nlose 1 2\nlose 4294967296\nrepeat\nrepeat x\n\
+     repeat 1 2\nrepeat 4294967296",
+    "crash\ncrash x\ncrash 1 2\ncrash 4294967296\nreport\nreport 1\nreport 1 2 3\nreport x 1\nreport 1 x\n\
+     report 1 4294967296\nshuffle\nshuffle x\nshuffle 1 2\nshuffle 4294967296",
+    "broadcast\nbroadcast \nbroadcast x\nbroadcast x hi\nbroadcast 4294967296\nbroadcast 1\thi\nbroadcasts 1 hi\n\
+     timer\ntimer 1\ntimer 1 2\ntimer 1 2 3 4\ntimer x 2 3\ntimer 1 x 3\ntimer 1 2 4294967296\nsnapshot 1",
+    "show\nshow x\nshow 1 2\nshow 4294967296\npackets 1\ncertificate\ncertificate x\ncertificate 1 2\n\
+     certificate 4294967296",
+    "analyse 1 workers\nanalyse 1 workers 0\nanalyse 1 workers 65\nanalyse 1 workers 4294967297\nanalyse 1 workers x\n\
+     analyse 1 workers +2\nanalyse 1 workers 2 workers 2\nanalyse 1 workers 2 2\nanalyse 1 workers 2 group\n\
+     analyse 1 workers group 1\nanalyse 1 group 1 workers 2\nanalyse workers 2\nanalyse 1 worker 2\n\
+     analyse x workers 2\nanalyse 1 2\ncertificate 1 workers 2\ncertificate 1 workers 2 group 1",
+    "analyse\nanalyse x\nanalyse 1 group\nanalyse 1 groups 1\nanalyse 1 group 1,\nanalyse 1 group 1 2\n\
+     certificate 1 group\ncertificate 1 group x\ntogether\nalso\nend\nfly\nBoot 1\nboot1\n1 boot\n\tboot 1\nboot\t1\n\
+     boot 1 # first\nboot 1\r\r\n\r\r",
 ];
 
 /// The line is refused where it is the first one, and where it is a later one.

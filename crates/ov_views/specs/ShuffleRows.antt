@@ -16,14 +16,14 @@ use Rattle.ov_views.specs.declared.change.ViewChange.{ViewChange}
 -- members, and then one of the passive members. The node itself and these samples are the list that is sent
 pub record Starts (v : ViewsState) (choices : List Choice) (list : List ℕ) (sends : List (ℕ × Message)) : Type 0 where
   pub receiver : ℕ
-  pub near : List ℕ
-  pub far : List ℕ
-  pub near_choices : List Choice
-  pub far_choices : List Choice
-  pub receiver_chosen : Chosen v.active receiver choices (near_choices ++ far_choices)
-  pub near_sampled : Samples v.active v.params.ka near_choices near
-  pub far_sampled : Samples v.passive v.params.kp far_choices far
-  pub listed : list ≡ v.me ∷ (near ++ far)
+  pub active_sample : List ℕ
+  pub passive_sample : List ℕ
+  pub active_choices : List Choice
+  pub passive_choices : List Choice
+  pub receiver_chosen : Chosen v.active receiver choices (active_choices ++ passive_choices)
+  pub active_sampled : Samples v.active v.params.ka active_choices active_sample
+  pub passive_sampled : Samples v.passive v.params.kp passive_choices passive_sample
+  pub listed : list ≡ v.me ∷ (active_sample ++ passive_sample)
   pub sent : sends ≡ (receiver, say v.me (Shuffle v.me v.params.shuffle_ttl list)) ∷ []
 
 -- A shuffle starts, and its list is kept as the list of the last shuffle. Where nobody is active nothing happens, and

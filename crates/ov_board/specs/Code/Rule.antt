@@ -11,7 +11,7 @@ use Rattle.ov_claims.specs.Steps.{claiming, looking, failing, Claims, Looks, Fai
 use Rattle.ov_claims.specs.Code.Held.{IsHeld}
 use Rattle.ov_board.specs.declared.view.Plan.{Plan}
 use Rattle.ov_board.specs.declared.view.View.{View}
-use Rattle.ov_board.specs.Board.{SeatState, IsStep}
+use Rattle.ov_board.specs.Board.{SeatState, IsExchange}
 
 -- a worker with its number
 abbrev pub Numbered : Type 0
@@ -88,7 +88,7 @@ seat_state z v = record {
 -- an exchange of a seat made this step, and its worker has become x
 pub record Exchanged (Step : DeskState → DeskState → Type 0) (x : WorkerState) (v w : Holder) : Type 0 where
   pub became : w ≡ (with_seated v.0 ((number_of v.0, x) ∷ []), v.1)
-  pub made : (z : TableId) → IsStep Step (seat_state z v.0) (seat_state z w.0)
+  pub made : (z : TableId) → IsExchange Step (seat_state z v.0) (seat_state z w.0)
 
 -- what each of the three exchanges tells, where `found` was in the word
 abbrev pub Claimed : Step (Unit {0}) → Holder → ℕ → Holder → Type 0

@@ -13,22 +13,11 @@ use Rattle.ov_graph.specs.Row.{HasBit}
 use Rattle.ov_graph.specs.Row.{picked}
 use Rattle.ov_graph.specs.declared.row.TheConstants.{EMPTY}
 use Rattle.ov_graph.proofs.BitRows.Bits.{bit_moved, empty_bit}
-use Rattle.ov_graph.proofs.BitRows.Read.{has_picked, in_picked, ascends_picked, none_picked, one_place}
+use Rattle.ov_graph.proofs.BitRows.Read.{picked_at, has_picked, ascends_picked, none_picked}
 use Rattle.ov_cert.specs.Code.Kept.{NodeSetState}
 use Rattle.ov_cert.specs.Code.Tests.{fresh, entered}
 use Rattle.ov_cert.proofs.PathRules.Ends.{same_test}
 use Rattle.ov_cert.proofs.PathRules.Fresh.{adding_new, adding_old, adding_cases}
-
--- the bit of a place says whether its node is a member
-pub picked_at : (row nodes : List ℕ) (p : ℕ) → Ascends nodes → p < length nodes
-    → Has (picked row 0 nodes) (get_or nodes p 0) ↔ HasBit row p
-picked_at row nodes p up l = (
-  (λ h.
-      let k = has_picked row 0 nodes (get_or nodes p 0) h in
-      let e : k.place ≡ p = one_place nodes k.place p up k.below l k.node in
-      bit_moved row (0 + k.place) p (omega (arith, e)) k.bit),
-  (λ b. in_picked row 0 nodes p l (bit_moved row p (0 + p) (omega arith) b)),
-)
 
 -- setting the bit of a place adds its node
 pub picked_put : (old new nodes : List ℕ) (p : ℕ) → Ascends nodes → p < length nodes

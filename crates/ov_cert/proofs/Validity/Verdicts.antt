@@ -4,7 +4,7 @@ use Rattle.std.proofs.Common.{nat_lt, IsTrue, List, length, slice_get, Option, S
 use Rattle.std.proofs.lemmas.Bool.{ne_eqb, and_parts, and_from, ltb-false, le-ltb, eq-eqb, eqb-true, both_ways}
 use Rattle.ov_ids.specs.Members.{Has}
 use Rattle.ov_ids.proofs.Members.{has_from_take}
-use Rattle.ov_graph.specs.Links.{LinkGraph, IsGraph, IsGroup}
+use Rattle.ov_graph.specs.Links.{LinkGraph, HasNode, IsGraph, IsGroup}
 use Rattle.ov_graph.specs.Even.{IsUnlinkedPair, later_members}
 use Rattle.ov_cert.specs.declared.cert.Cert.{Cert}
 use Rattle.ov_cert.specs.declared.cert.Cert.TheVariants.{Linked as AllLinked, Split as SplitBy}
@@ -12,7 +12,7 @@ use Rattle.ov_cert.specs.declared.cert.Split.{Split}
 use Rattle.ov_cert.specs.declared.fault.CheckFault.{CheckFault}
 use Rattle.ov_cert.specs.declared.fault.CheckFault.TheVariants.{Count, Cut, Side, Pair, Fan, Extra, NotLinked, NoNodes}
 use Rattle.ov_cert.specs.declared.fault.CheckFault.TheVariants.{BadGroup}
-use Rattle.ov_cert.specs.Verdict.{AllHold, IsFirstAtFault, HasNode, IsFrameFault, PassesFrame, HoldsPair, HoldsFan}
+use Rattle.ov_cert.specs.Verdict.{AllHold, IsFirstAtFault, IsFrameFault, PassesFrame, HoldsPair, HoldsFan}
 use Rattle.ov_cert.specs.Verdict.{IsEntryFault}
 use Rattle.ov_cert.specs.Code.Tests.{is_group, is_node_set, is_cut_off, all_linked, is_pair_entry, is_fan_entry}
 use Rattle.ov_cert.specs.Code.Tests.{expected_pairs, pairs_fault, fans_fault, no_more, body_fault, frame_fault}

@@ -3,7 +3,7 @@ use Rattle.std.proofs.Common.{◌≡◌, ℕ, zero, suc, ◌<◌, ◌⊎◌, inl
 use Rattle.std.proofs.Common.{arith}
 use Rattle.ov_graph.specs.Links.{LinkGraph, IsGraph, IsGroup}
 use Rattle.ov_graph.proofs.EvenTest.Tested.{linked_or_not}
-use Rattle.ov_split.specs.Net.{Net, IsNet, IsFanOf, IsNearestCut}
+use Rattle.ov_split.specs.SplitNetState.{SplitNetState, IsSplitNet, IsFanOf, IsNearestCut}
 use Rattle.ov_split.specs.Code.Residual.{Table, IsFlow}
 use Rattle.ov_split.proofs.FanTheorem.FanForm.{no_flow}
 use Rattle.ov_split.proofs.Augmenting.Lists.{set_of, set_ascends}
@@ -19,20 +19,20 @@ use Rattle.ov_fans.proofs.PieceCuts.Parted.{nearest_of}
 use Rattle.ov_fans.proofs.PieceNets.Routes.{is_net, asked_paths}
 
 -- there are paths to k targets of a net
-record HoldsPaths (n : Net) (k : ℕ) : Type 0 where
+record HoldsPaths (n : SplitNetState) (k : ℕ) : Type 0 where
   from : Table
   ends : List ℕ
   flow : IsFlow n from ends
   count : length ends ≡ k
 
 -- the nearest cut of a net has fewer than k nodes
-pub record HasSmallCut (n : Net) (k : ℕ) : Type 0 where
+pub record HasSmallCut (n : SplitNetState) (k : ℕ) : Type 0 where
   pub cut : List ℕ
   pub nearest : IsNearestCut n cut
   pub few : length cut < k
 
 -- one more path, or the nearest cut
-one_more : (n : Net) → IsNet n → (k : ℕ) → HoldsPaths n k → HoldsPaths n (suc k) ⊎ HasSmallCut n (suc k)
+one_more : (n : SplitNetState) → IsSplitNet n → (k : ℕ) → HoldsPaths n k → HoldsPaths n (suc k) ⊎ HasSmallCut n (suc k)
 one_more n net k p = elim (walk_or_stuck n net p.from p.flow.held.free) [
   | inl w ↦
       let next = walk_augments n net p.from p.ends p.flow w.walk w.target w.leads w.once w.is_target in
@@ -44,7 +44,7 @@ one_more n net k p = elim (walk_or_stuck n net p.from p.flow.held.free) [
       inr (record { cut = s; nearest = near.nearest; few = omega (arith, near.count, p.count) })
 ]
 
-held_or_cut : (n : Net) → IsNet n → (k : ℕ) → HoldsPaths n k ⊎ HasSmallCut n k
+held_or_cut : (n : SplitNetState) → IsSplitNet n → (k : ℕ) → HoldsPaths n k ⊎ HasSmallCut n k
 held_or_cut n net zero = inl (record { from = λ v. None; ends = []; flow = no_flow n; count = refl })
 held_or_cut n net (suc k) = elim (held_or_cut n net k) [
   | inl p ↦ one_more n net k p
@@ -52,7 +52,8 @@ held_or_cut n net (suc k) = elim (held_or_cut n net k) [
 ]
 
 -- a net has a fan of k paths, or its nearest cut has fewer than k nodes
-pub fan_or_cut : (n : Net) → IsNet n → (k : ℕ) → ((paths : List (List ℕ)) × IsFanOf n k paths) ⊎ HasSmallCut n k
+pub fan_or_cut : (n : SplitNetState) → IsSplitNet n → (k : ℕ)
+    → ((paths : List (List ℕ)) × IsFanOf n k paths) ⊎ HasSmallCut n k
 fan_or_cut n net k = elim (held_or_cut n net k) [
   | inl p ↦
       let fan = flow_is_fan n net p.from p.ends p.flow in

@@ -8,7 +8,7 @@ use Rattle.ov_graph.specs.Code.Tests.{neighbours_in}
 use Rattle.ov_graph.proofs.EvenTest.Filtered.{are_neighbours}
 use Rattle.ov_graph.proofs.EvenTest.Walks.{AllSurvive, linked_sym, steps_of, joined_self, joined_step, joined_trans}
 use Rattle.ov_graph.proofs.EvenTest.Walks.{joined_end}
-use Rattle.ov_split.specs.Net.{IsReached, IsCutOf, IsLeastCut, IsNearestCut, IsSideOf}
+use Rattle.ov_split.specs.SplitNetState.{IsReached, IsCutOf, IsLeastCut, IsNearestCut, IsSideOf}
 use Rattle.ov_fans.specs.Pieces.{member_at, source_of, IsPiece}
 use Rattle.ov_fans.specs.Cuts.{IsCut, IsLeast, IsNearest, IsSide}
 use Rattle.ov_fans.specs.Code.Nets.{net_of}

@@ -12,7 +12,7 @@ use Rattle.ov_graph.specs.Even.{members_below}
 use Rattle.ov_graph.specs.Code.Tests.{neighbours_in}
 use Rattle.ov_graph.proofs.EvenTest.Filtered.{has_filtered, linked_node, are_neighbours}
 use Rattle.ov_graph.proofs.EvenTest.Walks.{linked_sym, leads_push}
-use Rattle.ov_split.specs.Net.{IsNet, IsFanOf}
+use Rattle.ov_split.specs.SplitNetState.{IsSplitNet, IsFanOf}
 use Rattle.ov_split.proofs.Augmenting.Lists.{distinct_push}
 use Rattle.ov_split.proofs.ByNames.Mapped.{map_has}
 use Rattle.ov_fans.specs.Pieces.{member_at, level_of, IsPiece, IsLinkedPair, AreAskedPaths, paths_of}
@@ -37,7 +37,7 @@ pair_differ g q level i j group at e =
     omega (arith, r, e)
 
 pub is_net : (g : LinkGraph) (q : List ℕ) (p : Piece) → IsGraph g → IsGroup g q → IsPiece g q p → ¬ IsLinkedPair g q p
-    → IsNet (net_of g q p)
+    → IsSplitNet (net_of g q p)
 is_net g q (Pair level i j) graph group at apart =
     let a = member_at q i in
     let b = member_at q j in

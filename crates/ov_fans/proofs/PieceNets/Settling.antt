@@ -5,7 +5,7 @@ use Rattle.ov_graph.specs.Links.{LinkGraph, IsGraph, IsGroup}
 use Rattle.ov_graph.specs.Paths.{node_at}
 use Rattle.ov_graph.specs.Row.{HasBit}
 use Rattle.ov_graph.specs.Row.{picked}
-use Rattle.ov_split.specs.Net.{Net, IsFanOf}
+use Rattle.ov_split.specs.SplitNetState.{SplitNetState, IsFanOf}
 use Rattle.ov_flow.specs.Flow.{IsFull, IsFullBy, ArePlaces}
 use Rattle.ov_flow.specs.declared.search_result.Stuck.{Stuck}
 use Rattle.ov_flow.proofs.Rows.{full_picked, bits_within}
@@ -91,15 +91,16 @@ source_at q (Pair level i j) = refl
 source_at q (Fan level j) = refl
 
 -- paths of the net, by place, are those that the piece asks for
-pub right_paths : (g : LinkGraph) (q : List ℕ) (p : Piece) (n : Net) (paths : List (List ℕ)) → IsGraph g → IsGroup g q
+pub right_paths : (g : LinkGraph) (q : List ℕ) (p : Piece) (n : SplitNetState) (paths : List (List ℕ)) → IsGraph g
+    → IsGroup g q
     → IsPiece g q p → n ≡ net_of g q p → IsFanOf n (level_of p) (map (map (node_at n.graph)) paths)
     → ArePlaces n.graph paths → AreRightPaths g q p paths
 right_paths g q p n paths graph group at is fan places =
-    let e : n.graph ≡ g = ap (λ (m : Net). m.graph) is ∙ net_graph g q p in
+    let e : n.graph ≡ g = ap (λ (m : SplitNetState). m.graph) is ∙ net_graph g q p in
     record {
       places = subst (λ (h : LinkGraph). ArePlaces h paths) e places;
       asked = asked_paths g q p (map (map (node_at g)) paths) graph group at
-          (subst (λ (m : Net). IsFanOf m (level_of p) (map (map (node_at g)) paths)) is
+          (subst (λ (m : SplitNetState). IsFanOf m (level_of p) (map (map (node_at g)) paths)) is
           (subst (λ (h : LinkGraph). IsFanOf n (level_of p) (map (map (node_at h)) paths)) e fan));
     }
   where

@@ -4,7 +4,7 @@ use Rattle.ov_ids.specs.Members.{Has, Ascends}
 use Rattle.ov_graph.specs.Links.{LinkGraph, IsGraph, IsWithinLimit}
 use Rattle.ov_graph.specs.Paths.{node_at}
 use Rattle.ov_graph.specs.Row.{HasBit}
-use Rattle.ov_split.specs.Net.{Net}
+use Rattle.ov_split.specs.SplitNetState.{SplitNetState}
 use Rattle.ov_split.specs.Places.{net_at}
 use Rattle.ov_fans.specs.Group.{SettlerState}
 use Rattle.ov_fans.specs.declared.piece_net.Aim.{Aim}
@@ -23,7 +23,7 @@ pub record AreSeats (g : LinkGraph) (places row : List ℕ) : Type 0 where
   pub bits : (p : ℕ) → HasBit row p ↔ Has places p
 
 -- n is the net of the aim in g. Its places are those of nodes, and the source is neither avoided nor a target
-pub record IsAimFor (g : LinkGraph) (n : Net) (aim : Aim) : Type 0 where
+pub record IsAimFor (g : LinkGraph) (n : SplitNetState) (aim : Aim) : Type 0 where
   pub net : net_at g aim.avoided aim.source aim.targets ≡ n
   pub source : aim.source < length g.nodes
   pub avoided : IfSome aim.avoided (λ p. (p < length g.nodes) × (p ≢ aim.source))

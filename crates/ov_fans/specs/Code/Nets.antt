@@ -3,14 +3,14 @@ use Rattle.std.specs.Prelude.{ℕ, List, [], ◌∷◌}
 use Rattle.ov_graph.specs.Links.{LinkGraph}
 use Rattle.ov_graph.specs.Even.{members_below}
 use Rattle.ov_graph.specs.Code.Tests.{neighbours_in}
-use Rattle.ov_split.specs.Net.{Net}
+use Rattle.ov_split.specs.SplitNetState.{SplitNetState}
 use Rattle.ov_fans.specs.Pieces.{member_at}
 use Rattle.ov_fans.specs.declared.piece.Piece.{Piece}
 use Rattle.ov_fans.specs.declared.piece.Piece.TheVariants.{Pair, Fan}
 
 -- the net of a pair: from one member to the neighbours of the other, which is avoided. Its paths lack only their last
 -- step, and its cuts are those of the pair
-abbrev pub pair_net : LinkGraph → List ℕ → ℕ → ℕ → Net
+abbrev pub pair_net : LinkGraph → List ℕ → ℕ → ℕ → SplitNetState
 pair_net g q i j = record {
   graph = g;
   avoided = member_at q j ∷ [];
@@ -19,11 +19,11 @@ pair_net g q i j = record {
 }
 
 -- the net of a fan: from its source to the members before it
-abbrev pub fan_net : LinkGraph → List ℕ → ℕ → Net
+abbrev pub fan_net : LinkGraph → List ℕ → ℕ → SplitNetState
 fan_net g q j =
     record { graph = g; avoided = []; source = member_at q j; targets = members_below q (member_at q j) }
 
 -- the net of a piece
-abbrev pub net_of : LinkGraph → List ℕ → Piece → Net
+abbrev pub net_of : LinkGraph → List ℕ → Piece → SplitNetState
 net_of g q (Pair level i j) = pair_net g q i j
 net_of g q (Fan level j) = fan_net g q j

@@ -1,6 +1,6 @@
 -- The paths that are held between two searches, and the buffers of a search.
 use Rattle.std.specs.Prelude.{◌≡◌, ℕ, ◌+◌, length}
-use Rattle.ov_split.specs.Net.{Net}
+use Rattle.ov_split.specs.SplitNetState.{SplitNetState}
 use Rattle.ov_split.specs.Code.Residual.{IsFlow}
 use Rattle.ov_split.specs.Places.{net_by_place}
 use Rattle.ov_split.specs.Placed.{IsPlaced}
@@ -9,7 +9,7 @@ use Rattle.ov_flow.specs.Code.Walked.{table_of}
 use Rattle.ov_flow.specs.declared.search_buffers.Work.{Work}
 
 -- the net can be searched by place
-abbrev pub IsReady : Net → Type 0
+abbrev pub IsReady : SplitNetState → Type 0
 IsReady n = IsPlaced (net_by_place n) (length n.graph.nodes)
 
 -- each table has `wide` places
@@ -18,11 +18,11 @@ pub record HasRoom (wide : ℕ) (w : Work) : Type 0 where
   pub next : length w.next.items ≡ wide
 
 -- the tables hold paths of the net
-abbrev pub Holds : Net → Work → Type 0
+abbrev pub Holds : SplitNetState → Work → Type 0
 Holds n w = IsFlow (net_by_place n) (table_of w.from.items) w.ends.items
 
 -- each table has a place for each node of the net, and paths of the net are held
-pub record IsWorkOf (n : Net) (w : Work) : Type 0 where
+pub record IsWorkOf (n : SplitNetState) (w : Work) : Type 0 where
   pub room : HasRoom (length n.graph.nodes) w
   pub flow : Holds n w
 
@@ -36,6 +36,6 @@ abbrev pub IsLonger : Work → Work → Type 0
 IsLonger old new = length new.ends.items ≡ length old.ends.items + 1
 
 -- the last search found no path
-pub record IsAtEnd (n : Net) (w : Work) : Type 0 where
+pub record IsAtEnd (n : SplitNetState) (w : Work) : Type 0 where
   pub grown : IsGrown (net_by_place n) (table_of w.from.items) w.tree
   pub swept : IsSwept (net_by_place n) (table_of w.from.items) w.tree

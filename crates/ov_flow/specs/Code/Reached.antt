@@ -6,7 +6,7 @@ use Rattle.std.specs.Option.{unwrap_or}
 use Rattle.ov_ids.specs.Members.{Has, IsDistinct}
 use Rattle.ov_graph.specs.Links.{Linked}
 use Rattle.ov_graph.specs.Row.{HasBit}
-use Rattle.ov_split.specs.Net.{Net}
+use Rattle.ov_split.specs.SplitNetState.{SplitNetState}
 use Rattle.ov_split.specs.Code.Residual.{Table, IsFree, IsStuck}
 use Rattle.ov_flow.specs.declared.search_tree.Tree.{Tree}
 
@@ -15,16 +15,16 @@ abbrev pub tip_of : Table → ℕ → ℕ
 tip_of from w = unwrap_or (from w) w
 
 -- the link from x to w may be taken, and then the open end is y
-abbrev pub IsWay : Net → Table → ℕ → ℕ → ℕ → Type 0
+abbrev pub IsWay : SplitNetState → Table → ℕ → ℕ → ℕ → Type 0
 IsWay n from x y w = IsFree n x w × (w ≢ n.source) × (tip_of from w ≡ y)
 
 -- a residual step from x to y: by a link to w, or back along a path
-abbrev pub IsStepBy : Net → Table → ℕ → ℕ → Option ℕ → Type 0
+abbrev pub IsStepBy : SplitNetState → Table → ℕ → ℕ → Option ℕ → Type 0
 IsStepBy n from x y (Some w) = IsWay n from x y w
 IsStepBy n from x y None = from x ≡ Some y
 
 -- a search tree. The first node is the source. A step leads to each later node from its parent, which stands before it
-pub record IsTree (n : Net) (from : Table) (order parents : List ℕ) (ways : List (Option ℕ)) : Type 0 where
+pub record IsTree (n : SplitNetState) (from : Table) (order parents : List ℕ) (ways : List (Option ℕ)) : Type 0 where
   pub some : 0 < length order
   pub count : length parents ≡ length order
   pub long : length ways ≡ length order
@@ -43,7 +43,7 @@ pub record IsShaped (order parents : List ℕ) (ways : List (Option ℕ)) : Type
   pub parent : (k : ℕ) → 0 < k → k < length order → slice_index parents k < k
 
 -- a link to w was taken: a path may step to w from a reached node, and the open end is reached
-pub record IsTaken (n : Net) (from : Table) (order : List ℕ) (w : ℕ) : Type 0 where
+pub record IsTaken (n : SplitNetState) (from : Table) (order : List ℕ) (w : ℕ) : Type 0 where
   pub x : ℕ
   pub behind : Has order x
   pub free : IsFree n x w
@@ -51,7 +51,7 @@ pub record IsTaken (n : Net) (from : Table) (order : List ℕ) (w : ℕ) : Type 
 
 -- a search tree with two rows of bits. `reached` has its nodes. `seen` has the avoided nodes, the source, and nodes to
 -- which links were taken
-pub record IsGrownBy (n : Net) (from : Table) (order parents : List ℕ) (ways : List (Option ℕ))
+pub record IsGrownBy (n : SplitNetState) (from : Table) (order parents : List ℕ) (ways : List (Option ℕ))
     (reached seen : List ℕ) : Type 0 where
   pub is_tree : IsTree n from order parents ways
   pub marked : (p : ℕ) → HasBit reached p ↔ Has order p
@@ -60,7 +60,7 @@ pub record IsGrownBy (n : Net) (from : Table) (order parents : List ℕ) (ways :
   pub sees : (w : ℕ) → HasBit seen w → (Has n.avoided w ⊎ (w ≡ n.source)) ⊎ IsTaken n from order w
 
 -- the same for a `Tree`
-abbrev pub IsGrown : Net → Table → Tree → Type 0
+abbrev pub IsGrown : SplitNetState → Table → Tree → Type 0
 IsGrown n from t = IsGrownBy n from t.order.items t.parents.items t.ways.items t.reached t.seen
 
 -- xs is a prefix of ys
@@ -73,24 +73,24 @@ pub record IsMore (old new : Tree) : Type 0 where
   pub seen : (w : ℕ) → HasBit old.seen w → HasBit new.seen w
 
 -- no target is reached
-abbrev pub IsClean : Net → Tree → Type 0
+abbrev pub IsClean : SplitNetState → Tree → Type 0
 IsClean n t = (x : ℕ) → Has t.order.items x → ¬ Has n.targets x
 
 -- the last node reached is a target
-abbrev pub IsEnded : Net → Tree → Type 0
+abbrev pub IsEnded : SplitNetState → Tree → Type 0
 IsEnded n t = Has n.targets (get_or t.order.items (length t.order.items - 1) 0)
 
 -- no target is reached, and each node that x is linked to is seen
-pub record IsSweptAt (n : Net) (x : ℕ) (t : Tree) : Type 0 where
+pub record IsSweptAt (n : SplitNetState) (x : ℕ) (t : Tree) : Type 0 where
   pub clean : IsClean n t
   pub links : (w : ℕ) → Linked n.graph x w → HasBit t.seen w
 
 -- each step from x was taken, and no target is reached
-pub record IsVisited (n : Net) (from : Table) (x : ℕ) (t : Tree) : Type 0 where
+pub record IsVisited (n : SplitNetState) (from : Table) (x : ℕ) (t : Tree) : Type 0 where
   pub swept : IsSweptAt n x t
   pub back : (u : ℕ) → from x ≡ Some u → Has t.order.items u
 
 -- a search found no target: it is stuck, and each node that a reached node is linked to is seen
-pub record IsSwept (n : Net) (from : Table) (t : Tree) : Type 0 where
+pub record IsSwept (n : SplitNetState) (from : Table) (t : Tree) : Type 0 where
   pub stuck : IsStuck n from t.order.items
   pub links : (x w : ℕ) → Has t.order.items x → Linked n.graph x w → HasBit t.seen w

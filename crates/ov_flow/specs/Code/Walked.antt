@@ -2,7 +2,7 @@
 use Rattle.std.specs.Prelude.{◌≡◌, ℕ, ◌<◌, List, [], ◌∷◌, ◌++◌, length, get_or, reverse, Option, Some, None}
 use Rattle.ov_ids.specs.Members.{Has, IsDistinct}
 use Rattle.ov_graph.specs.Joined.{Leads}
-use Rattle.ov_split.specs.Net.{Net}
+use Rattle.ov_split.specs.SplitNetState.{SplitNetState}
 use Rattle.ov_split.specs.Code.Residual.{Table, IsFlow}
 use Rattle.ov_flow.specs.Code.Reached.{IsStepBy}
 use Rattle.ov_flow.specs.declared.search_walk.Hop.{Hop}
@@ -22,17 +22,17 @@ nodes_of [] = []
 nodes_of (h ∷ hops) = h.node ∷ nodes_of hops
 
 -- the steps lead from x to t
-abbrev pub Goes : Net → Table → ℕ → List Hop → ℕ → Type 0
+abbrev pub Goes : SplitNetState → Table → ℕ → List Hop → ℕ → Type 0
 Goes n from x [] t = x ≡ t
 Goes n from x (h ∷ hops) t = IsStepBy n from x h.node h.way × Goes n from h.node hops t
 
 -- the steps lead from the source to t, and no node is met twice
-pub record IsWalkBy (n : Net) (from : Table) (hops : List Hop) (t : ℕ) : Type 0 where
+pub record IsWalkBy (n : SplitNetState) (from : Table) (hops : List Hop) (t : ℕ) : Type 0 where
   pub goes : Goes n from n.source hops t
   pub distinct : IsDistinct (n.source ∷ nodes_of hops)
 
 -- `path` is the path from the source to e in the table, without the source
-abbrev pub IsTraced : Net → Table → ℕ → List ℕ → Type 0
+abbrev pub IsTraced : SplitNetState → Table → ℕ → List ℕ → Type 0
 IsTraced n from e path = Leads (λ a b. from b ≡ Some a) n.source path e × IsDistinct (n.source ∷ path)
 
 -- `next` agrees with `from` on the nodes of `done`, and with `old` elsewhere
@@ -41,19 +41,19 @@ pub record IsCopied (from old next : Table) (done : List ℕ) : Type 0 where
   pub off : (v : ℕ) → ¬ Has done v → next v ≡ old v
 
 -- `next` is `old` with the path to e copied from `from`
-pub record IsPathCopied (n : Net) (from old next : Table) (e : ℕ) : Type 0 where
+pub record IsPathCopied (n : SplitNetState) (from old next : Table) (e : ℕ) : Type 0 where
   pub path : List ℕ
   pub traced : IsTraced n from e path
   pub copied : IsCopied from old next path
 
 -- the last of the ends is the new target. The table holds paths to the other ends
-pub record IsFlowBefore (n : Net) (from : Table) (ends : List ℕ) (target : ℕ) : Type 0 where
+pub record IsFlowBefore (n : SplitNetState) (from : Table) (ends : List ℕ) (target : ℕ) : Type 0 where
   pub before : List ℕ
   pub is : ends ≡ before ++ target ∷ []
   pub flow : IsFlow n from before
 
 -- `new` is `old` and then the path to e, written backwards
-pub record IsWritten (n : Net) (from : Table) (old new : List ℕ) (e : ℕ) : Type 0 where
+pub record IsWritten (n : SplitNetState) (from : Table) (old new : List ℕ) (e : ℕ) : Type 0 where
   pub path : List ℕ
   pub traced : IsTraced n from e path
   pub items : new ≡ old ++ reverse (n.source ∷ path)

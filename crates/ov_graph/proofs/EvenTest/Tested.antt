@@ -12,8 +12,8 @@ use Rattle.ov_ids.proofs.Members.{has_from_any, any_from_has, has_tested, all_me
 use Rattle.ov_ids.proofs.Rising.{ascends_tested}
 use Rattle.ov_ids.proofs.Stepping.{step_by, step_unless, step_none, step_passes}
 use Rattle.ov_graph.specs.Links.{LinkGraph, IsGraph, IsWithinLimit, IsLink, Precedes, Linked, most_nodes}
-use Rattle.ov_graph.specs.Faults.{GraphJudged, LinksJudged, Follows, IsRefusal}
-use Rattle.ov_graph.specs.Code.Tests.{is_link, follows, links_fault, fault_of, are_joined}
+use Rattle.ov_graph.specs.Faults.{GraphJudged, LinksJudged, ComesAfter, IsRefusal}
+use Rattle.ov_graph.specs.Code.Tests.{is_link, comes_after, links_fault, fault_of, are_joined}
 use Rattle.ov_graph.specs.declared.fault.GraphFault.{GraphFault}
 use Rattle.ov_graph.specs.declared.fault.GraphFault.TheVariants.{TooManyNodes, Unordered, BadLink, OutOfMemory}
 
@@ -60,9 +60,9 @@ link_tested nodes l = (
       ((has_tested nodes l.1 (has nodes l.1) refl).1 h.2))),
 )
 
-follows_tested : (before : Option (ℕ × ℕ)) (l : ℕ × ℕ) → IsTrue (follows before l) ↔ Follows before l
-follows_tested None l = ((λ h. tt), (λ h. refl))
-follows_tested (Some b) l = (
+comes_after_tested : (before : Option (ℕ × ℕ)) (l : ℕ × ℕ) → IsTrue (comes_after before l) ↔ ComesAfter before l
+comes_after_tested None l = ((λ h. tt), (λ h. refl))
+comes_after_tested (Some b) l = (
   (λ h. elim (or_cases (nat_lt b.0 l.0) (eqb b.0 l.0 && nat_lt b.1 l.1) h) [
     | inl k ↦ inl (ltb-true b.0 l.0 k)
     | inr k ↦ let p = and_parts (eqb b.0 l.0) (nat_lt b.1 l.1) k in inr (eqb-true b.0 l.0 p.0, ltb-true b.1 l.1 p.1)
@@ -79,10 +79,10 @@ links_judged : (nodes : List ℕ) (before : Option (ℕ × ℕ)) (ls : List (ℕ
 links_judged nodes before [] = refl
 links_judged nodes before (l ∷ ls) =
     step_by (IsLink nodes l) (is_link nodes l) BadLink
-    (Step (Follows before l) Unordered (LinksJudged nodes (Some l) ls))
-    (cond (follows before l) (links_fault nodes (Some l) ls) (Some Unordered)) (link_tested nodes l)
-    (step_by (Follows before l) (follows before l) Unordered (LinksJudged nodes (Some l) ls)
-    (links_fault nodes (Some l) ls) (follows_tested before l) (links_judged nodes (Some l) ls))
+    (Step (ComesAfter before l) Unordered (LinksJudged nodes (Some l) ls))
+    (cond (comes_after before l) (links_fault nodes (Some l) ls) (Some Unordered)) (link_tested nodes l)
+    (step_by (ComesAfter before l) (comes_after before l) Unordered (LinksJudged nodes (Some l) ls)
+    (links_fault nodes (Some l) ls) (comes_after_tested before l) (links_judged nodes (Some l) ls))
 
 -- the fault that the tests find is the first one
 pub judged : (nodes : List ℕ) (ls : List (ℕ × ℕ)) → GraphJudged nodes ls (fault_of nodes ls)
@@ -113,17 +113,18 @@ follow_all : (nodes : List ℕ) (l : ℕ × ℕ) (ls : List (ℕ × ℕ)) → Li
     → AllByRecursion (Precedes l) ls
 follow_all nodes l [] j = tt
 follow_all nodes l (m ∷ ls) j =
-    let p = step_none (IsLink nodes m) BadLink (Step (Follows (Some l) m) Unordered (LinksJudged nodes (Some m) ls))
+    let p = step_none (IsLink nodes m) BadLink (Step (ComesAfter (Some l) m) Unordered (LinksJudged nodes (Some m) ls))
     j in
-    let q = step_none (Follows (Some l) m) Unordered (LinksJudged nodes (Some m) ls) p.1 in
+    let q = step_none (ComesAfter (Some l) m) Unordered (LinksJudged nodes (Some m) ls) p.1 in
     (q.0, all_after l m ls q.0 (follow_all nodes m ls q.1))
 
 links_sound : (nodes : List ℕ) (before : Option (ℕ × ℕ)) (ls : List (ℕ × ℕ)) → LinksJudged nodes before ls None
     → Ordered Precedes ls × AllByRecursion (IsLink nodes) ls
 links_sound nodes before [] j = (tt, tt)
 links_sound nodes before (l ∷ ls) j =
-    let p = step_none (IsLink nodes l) BadLink (Step (Follows before l) Unordered (LinksJudged nodes (Some l) ls)) j in
-    let q = step_none (Follows before l) Unordered (LinksJudged nodes (Some l) ls) p.1 in
+    let p = step_none (IsLink nodes l) BadLink (Step (ComesAfter before l) Unordered (LinksJudged nodes (Some l) ls))
+        j in
+    let q = step_none (ComesAfter before l) Unordered (LinksJudged nodes (Some l) ls) p.1 in
     let r = links_sound nodes (Some l) ls q.1 in
     ((follow_all nodes l ls q.1, r.0), (p.0, r.1))
 
@@ -138,20 +139,20 @@ sound nodes ls j =
     (record { nodes_ascend = q.0; links_ascend = r.0; joins = λ l h. all_member (IsLink nodes) ls l r.1 h }, p.0)
 
 no_links_fault : (nodes : List ℕ) (before : Option (ℕ × ℕ)) (ls : List (ℕ × ℕ)) (x : Option GraphFault)
-    → AllByRecursion (Follows before) ls → Ordered Precedes ls → AllByRecursion (IsLink nodes) ls
+    → AllByRecursion (ComesAfter before) ls → Ordered Precedes ls → AllByRecursion (IsLink nodes) ls
     → LinksJudged nodes before ls x → x ≡ None
 no_links_fault nodes before [] x f up each j = j
 no_links_fault nodes before (l ∷ ls) x f up each j =
     no_links_fault nodes (Some l) ls x up.0 up.1 each.1
-    (step_passes (Follows before l) Unordered (LinksJudged nodes (Some l) ls) x f.0
-    (step_passes (IsLink nodes l) BadLink (Step (Follows before l) Unordered (LinksJudged nodes (Some l) ls))
+    (step_passes (ComesAfter before l) Unordered (LinksJudged nodes (Some l) ls) x f.0
+    (step_passes (IsLink nodes l) BadLink (Step (ComesAfter before l) Unordered (LinksJudged nodes (Some l) ls))
     x each.0 j))
 
 -- a graph's nodes and links have no fault
 pub no_fault : (g : LinkGraph) (x : Option GraphFault) → IsGraph g → IsWithinLimit g → GraphJudged g.nodes g.links x
     → x ≡ None
 no_fault g x graph within j =
-    no_links_fault g.nodes None g.links x (all_from_members (Follows None) g.links (λ l h. tt)) graph.links_ascend
+    no_links_fault g.nodes None g.links x (all_from_members (ComesAfter None) g.links (λ l h. tt)) graph.links_ascend
     (all_from_members (IsLink g.nodes) g.links graph.joins)
     (step_passes (Ascends g.nodes) Unordered (LinksJudged g.nodes None g.links) x graph.nodes_ascend
     (step_passes (length g.nodes ≤ most_nodes) TooManyNodes
@@ -195,8 +196,8 @@ links_judged_once : (nodes : List ℕ) (before : Option (ℕ × ℕ)) (ls : List
     → LinksJudged nodes before ls x → LinksJudged nodes before ls y → x ≡ y
 links_judged_once nodes before [] x y p q = p ∙ sym q
 links_judged_once nodes before (l ∷ ls) x y p q =
-    step_once (IsLink nodes l) BadLink (Step (Follows before l) Unordered (LinksJudged nodes (Some l) ls)) x y
-    (step_once (Follows before l) Unordered (LinksJudged nodes (Some l) ls) x y
+    step_once (IsLink nodes l) BadLink (Step (ComesAfter before l) Unordered (LinksJudged nodes (Some l) ls)) x y
+    (step_once (ComesAfter before l) Unordered (LinksJudged nodes (Some l) ls) x y
     (links_judged_once nodes (Some l) ls x y)) p q
 
 -- nodes and links have one first fault: the computed one

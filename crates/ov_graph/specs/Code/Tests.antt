@@ -21,15 +21,15 @@ abbrev pub is_link : List ℕ → ℕ × ℕ → Bool
 is_link nodes l = nat_lt l.0 l.1 && (has nodes l.0 && has nodes l.1)
 
 -- l comes after the link before it, if there is one: by the first node, and then by the second
-abbrev pub follows : Option (ℕ × ℕ) → ℕ × ℕ → Bool
-follows None l = true
-follows (Some before) l = nat_lt before.0 l.0 || ((before.0 == l.0) && nat_lt before.1 l.1)
+abbrev pub comes_after : Option (ℕ × ℕ) → ℕ × ℕ → Bool
+comes_after None l = true
+comes_after (Some before) l = nat_lt before.0 l.0 || ((before.0 == l.0) && nat_lt before.1 l.1)
 
 -- the first fault of the links that come after the link `before`
 abbrev pub links_fault : List ℕ → Option (ℕ × ℕ) → List (ℕ × ℕ) → Option GraphFault
 links_fault nodes before [] = None
 links_fault nodes before (l ∷ rest) =
-    if is_link nodes l then (if follows before l then links_fault nodes (Some l) rest else Some Unordered)
+    if is_link nodes l then (if comes_after before l then links_fault nodes (Some l) rest else Some Unordered)
     else Some BadLink
 
 -- the first fault of nodes and links: the one that `GraphJudged` names

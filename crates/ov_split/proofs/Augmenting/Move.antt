@@ -4,7 +4,7 @@ use Rattle.std.proofs.Common.{ap, subst, unwrap_or, eq-eqb, ne_eqb}
 use Rattle.std.proofs.lemmas.Bool.{cases_eq, cond-true, cond-false}
 use Rattle.ov_ids.specs.Members.{Has, IsDistinct}
 use Rattle.ov_graph.specs.Joined.{Leads}
-use Rattle.ov_split.specs.Net.{Net}
+use Rattle.ov_split.specs.SplitNetState.{SplitNetState}
 use Rattle.ov_split.specs.Code.Residual.{IsFree, Table, IsUsed, AreHeld, IsResidual}
 
 -- an unused node stays, and of a used one the node before it is the tip
@@ -14,7 +14,7 @@ tip_cases from w y None e h = inl (e, h)
 tip_cases from w y (Some u) e h = inr (e ∙ ap Some h)
 
 -- the link from x to w is taken
-module _ (n : Net) (from next : Table) (x w y : ℕ) (ends : List ℕ) (held : AreHeld n from (x ∷ ends))
+module _ (n : SplitNetState) (from next : Table) (x w y : ℕ) (ends : List ℕ) (held : AreHeld n from (x ∷ ends))
     (free : IsFree n x w) (w_free : w ≢ n.source) (y_free : y ≢ n.source) (apart : x ≢ y)
     (tip : unwrap_or (from w) w ≡ y) (there : next w ≡ Some x) (others : (v : ℕ) → v ≢ w → next v ≡ from v) where
   tips : ((from w ≡ None) × (w ≡ y)) ⊎ (from w ≡ Some y)
@@ -81,7 +81,7 @@ module _ (n : Net) (from next : Table) (x w y : ℕ) (ends : List ℕ) (held : A
   }
 
 -- the last step, from y to x, is given up
-module _ (n : Net) (from next : Table) (x y : ℕ) (ends : List ℕ) (held : AreHeld n from (x ∷ ends))
+module _ (n : SplitNetState) (from next : Table) (x y : ℕ) (ends : List ℕ) (held : AreHeld n from (x ∷ ends))
     (y_free : y ≢ n.source) (apart : x ≢ y) (was : from x ≡ Some y) (there : next x ≡ None)
     (others : (v : ℕ) → v ≢ x → next v ≡ from v) where
   x_free : x ≢ n.source
@@ -115,7 +115,7 @@ module _ (n : Net) (from next : Table) (x y : ℕ) (ends : List ℕ) (held : Are
   }
 
 -- a step to y changes the table at z alone. Each step that leads elsewhere stays
-pub residual_stays : (n : Net) (from next : Table) (z y a b : ℕ) → unwrap_or (from z) z ≡ y
+pub residual_stays : (n : SplitNetState) (from next : Table) (z y a b : ℕ) → unwrap_or (from z) z ≡ y
     → ((v : ℕ) → v ≢ z → next v ≡ from v) → b ≢ y → IsResidual n from a b → IsResidual n next a b
 residual_stays n from next z y a b tip others ne h = elim h [
   | inl r ↦ inl (
@@ -142,14 +142,15 @@ unfolding put
 put_off from z o v ne = cond-false (eqb v z) o (from v) (ne_eqb v z ne)
 
 -- the table after a step to y: it changed at z alone
-pub record Moved (n : Net) (from : Table) (ends : List ℕ) (y : ℕ) : Type 0 where
+pub record Moved (n : SplitNetState) (from : Table) (ends : List ℕ) (y : ℕ) : Type 0 where
   pub next : Table
   pub z : ℕ
   pub tip : unwrap_or (from z) z ≡ y
   pub others : (v : ℕ) → v ≢ z → next v ≡ from v
   pub held : AreHeld n next (y ∷ ends)
 
-pub move : (n : Net) (from : Table) (x y : ℕ) (ends : List ℕ) → AreHeld n from (x ∷ ends) → y ≢ n.source → x ≢ y
+pub move : (n : SplitNetState) (from : Table) (x y : ℕ) (ends : List ℕ) → AreHeld n from (x ∷ ends) → y ≢ n.source
+    → x ≢ y
     → IsResidual n from x y → Moved n from ends y
 move n from x y ends held ys xy step = elim step [
   | inl r ↦ record {
@@ -176,7 +177,8 @@ leads_map {R} {Q} a b (x ∷ xs) f l =
     (f a x (inl refl) l.0, leads_map {R = R} {Q = Q} x b xs (λ y z h. f y z (inr h)) l.1)
 
 -- a walk of residual steps that meets no node twice opens one end more
-pub grow : (n : Net) (ends : List ℕ) (t : ℕ) (walk : List ℕ) (from : Table) (x : ℕ) → AreHeld n from (x ∷ ends)
+pub grow : (n : SplitNetState) (ends : List ℕ) (t : ℕ) (walk : List ℕ) (from : Table) (x : ℕ)
+    → AreHeld n from (x ∷ ends)
     → Leads (IsResidual n from) x walk t → ¬ Has walk n.source → IsDistinct (x ∷ walk)
     → (next : Table) × AreHeld n next (t ∷ ends)
 grow n ends t [] from x held l off d = (from, subst (λ (a : ℕ). AreHeld n from (a ∷ ends)) l held)
@@ -188,7 +190,7 @@ grow n ends t (y ∷ rest) from x held l off d =
     (λ h. off (inr h)) d.1
 
 -- the source, where no path has begun, is open too
-pub start_held : (n : Net) (from : Table) (ends : List ℕ) → AreHeld n from ends → ¬ Has ends n.source
+pub start_held : (n : SplitNetState) (from : Table) (ends : List ℕ) → AreHeld n from ends → ¬ Has ends n.source
     → AreHeld n from (n.source ∷ ends)
 start_held n from ends held off = record {
   root = held.root;

@@ -4,12 +4,12 @@ use Rattle.std.proofs.Common.{subst, length}
 use Rattle.ov_ids.specs.Members.{Has, IsDistinct}
 use Rattle.ov_ids.proofs.Members.{has_or_not, has_append_left, has_append_right, has_append_cases}
 use Rattle.ov_graph.specs.Joined.{Leads}
-use Rattle.ov_split.specs.Net.{Net, IsNet, IsFanOf}
+use Rattle.ov_split.specs.SplitNetState.{SplitNetState, IsSplitNet, IsFanOf}
 use Rattle.ov_split.specs.Code.Residual.{Table, IsUsed, AreHeld, IsTidy, IsFlow, IsResidual}
 use Rattle.ov_split.proofs.Augmenting.Move.{leads_map, grow, start_held}
 use Rattle.ov_split.proofs.Augmenting.Trace.{Arc, traced, suffix, predecessor, last_of, used_on, fan_of}
 
-module _ (n : Net) (from : Table) (ends : List ℕ) where
+module _ (n : SplitNetState) (from : Table) (ends : List ℕ) where
   -- the nodes of the paths to es, each with what follows it
   pub record Kept (es : List ℕ) : Type 0 where
     pub keep : List ℕ
@@ -96,7 +96,7 @@ module _ (n : Net) (from : Table) (ends : List ℕ) where
         )
 
 -- the nodes of the paths to es, which are among the ends
-pub kept : (n : Net) → IsNet n → (from : Table) (ends : List ℕ) → AreHeld n from ends
+pub kept : (n : SplitNetState) → IsSplitNet n → (from : Table) (ends : List ℕ) → AreHeld n from ends
     → ((e : ℕ) → Has ends e → e ≢ n.source) → (es : List ℕ) → ((e : ℕ) → Has es e → Has ends e) → Kept n from ends es
 kept n net from ends held free [] f = kept_none n from ends
 kept n net from ends held free (e ∷ es) f =
@@ -123,7 +123,7 @@ restrict_off keep from v h = elim (has_or_not keep v) as (λ o. elim o [ inl m �
 ]
 
 -- a residual walk from the source to a target gives one end more
-pub walk_augments : (n : Net) → IsNet n → (from : Table) (ends : List ℕ) → IsFlow n from ends
+pub walk_augments : (n : SplitNetState) → IsSplitNet n → (from : Table) (ends : List ℕ) → IsFlow n from ends
     → (walk : List ℕ) (t : ℕ) → Leads (IsResidual n from) n.source walk t → IsDistinct (n.source ∷ walk)
     → Has n.targets t → (next : Table) × IsFlow n next (t ∷ ends)
 walk_augments n net from ends flow walk t l d h =
@@ -146,6 +146,6 @@ walk_augments n net from ends flow walk t l d h =
     )
 
 -- what is held is a fan of as many paths as there are ends
-pub flow_is_fan : (n : Net) → IsNet n → (from : Table) (ends : List ℕ) → IsFlow n from ends
+pub flow_is_fan : (n : SplitNetState) → IsSplitNet n → (from : Table) (ends : List ℕ) → IsFlow n from ends
     → (paths : List (List ℕ)) × IsFanOf n (length ends) paths
 flow_is_fan n net from ends flow = fan_of n net from ends flow.held flow.targets

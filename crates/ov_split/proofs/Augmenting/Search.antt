@@ -9,7 +9,7 @@ use Rattle.ov_graph.proofs.EvenTest.Walks.{linked_sym, leads_push}
 use Rattle.ov_graph.proofs.EvenTest.Escape.{meets_or_apart}
 use Rattle.ov_graph.proofs.EvenTest.Filtered.{linked_node}
 use Rattle.ov_graph.proofs.EvenTest.Tested.{linked_or_not}
-use Rattle.ov_split.specs.Net.{Net, IsNet}
+use Rattle.ov_split.specs.SplitNetState.{SplitNetState, IsSplitNet}
 use Rattle.ov_split.specs.Code.Residual.{IsFree, Table, IsResidual, IsStuck, IsBoundary}
 use Rattle.ov_split.proofs.Augmenting.Lists.{distinct_length, distinct_push, set_of, set_ascends, in_set, from_set}
 use Rattle.ov_split.proofs.Augmenting.Move.{tip_cases}
@@ -72,7 +72,7 @@ chosen P decide (y ∷ ys) =
       }
     ]
 
-free_decided : (n : Net) (a b : ℕ) → IsDecided (IsFree n a b)
+free_decided : (n : SplitNetState) (a b : ℕ) → IsDecided (IsFree n a b)
 free_decided n a b = both_decided _ _ (linked_or_not n.graph a b) (not_decided _ (has_or_not n.avoided b))
 
 comes_decided : (o : Option ℕ) (y : ℕ) → IsDecided (o ≡ Some y)
@@ -80,7 +80,8 @@ comes_decided None y = inr (λ e. cc)
 comes_decided (Some u) y =
     elim (cases_eq u y) [ inl e ↦ inl (ap Some e) | inr ne ↦ inr (λ e. ne (ap (λ (o : Option ℕ). unwrap_or o u) e)) ]
 
-module _ (n : Net) (net : IsNet n) (from : Table) (free : (v u : ℕ) → from v ≡ Some u → IsFree n u v) where
+module _ (n : SplitNetState) (net : IsSplitNet n) (from : Table) (free : (v u : ℕ) → from v ≡ Some u → IsFree n u v)
+    where
   before_node : (v u : ℕ) → from v ≡ Some u → Has n.graph.nodes u
   before_node v u f = linked_node n.graph v u net.graph (linked_sym n.graph u v (free v u f).0)
 
@@ -204,7 +205,7 @@ module _ (n : Net) (net : IsNet n) (from : Table) (free : (v u : ℕ) → from v
   explored = explore (length n.graph.nodes) (n.source ∷ []) led_source (omega arith)
 
 -- a walk by residual steps that leads to a target and meets no node twice
-pub record AugmentingWalk (n : Net) (from : Table) : Type 0 where
+pub record AugmentingWalk (n : SplitNetState) (from : Table) : Type 0 where
   pub target : ℕ
   pub is_target : Has n.targets target
   pub walk : List ℕ
@@ -212,7 +213,7 @@ pub record AugmentingWalk (n : Net) (from : Table) : Type 0 where
   pub once : IsDistinct (n.source ∷ walk)
 
 -- a target is found, or the search is stuck
-pub walk_or_stuck : (n : Net) → IsNet n → (from : Table) → ((v u : ℕ) → from v ≡ Some u → IsFree n u v)
+pub walk_or_stuck : (n : SplitNetState) → IsSplitNet n → (from : Table) → ((v u : ℕ) → from v ≡ Some u → IsFree n u v)
     → AugmentingWalk n from ⊎ ((reached : List ℕ) × IsStuck n from reached)
 walk_or_stuck n net from free =
     let e = explored n net from free in
@@ -236,7 +237,8 @@ walk_or_stuck n net from free =
     ]
 
 -- the reached nodes have a boundary, in ascending order
-pub boundary_of : (n : Net) → IsNet n → (reached : List ℕ) → (s : List ℕ) × IsBoundary n reached (set_of s)
+pub boundary_of : (n : SplitNetState) → IsSplitNet n → (reached : List ℕ)
+    → (s : List ℕ) × IsBoundary n reached (set_of s)
 boundary_of n net reached =
     let beside : (w : ℕ) → IsDecided ((x : ℕ) × Has reached x × IsFree n x w) = λ w.
     some_decided (λ x. IsFree n x w) (λ x. free_decided n x w) reached in

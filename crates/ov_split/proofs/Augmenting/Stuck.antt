@@ -6,12 +6,13 @@ use Rattle.ov_ids.specs.Members.{Has}
 use Rattle.ov_ids.proofs.Members.{has_or_not, has_append_left, has_append_right}
 use Rattle.ov_graph.specs.Joined.{Leads}
 use Rattle.ov_graph.proofs.EvenTest.Walks.{joined_keeps}
-use Rattle.ov_split.specs.Net.{Net, IsNet, IsReached}
+use Rattle.ov_split.specs.SplitNetState.{SplitNetState, IsSplitNet, IsReached}
 use Rattle.ov_split.specs.Code.Residual.{IsFree, Table, IsFlow, IsStuck, IsBoundary}
 use Rattle.ov_split.proofs.Augmenting.Lists.{distinct_length}
 use Rattle.ov_split.proofs.Augmenting.Trace.{Arc, traced, predecessor, on_path}
 
-module _ (n : Net) (net : IsNet n) (from : Table) (ends : List ℕ) (flow : IsFlow n from ends) (reached : List ℕ)
+module _ (n : SplitNetState) (net : IsSplitNet n) (from : Table) (ends : List ℕ) (flow : IsFlow n from ends)
+    (reached : List ℕ)
     (stuck : IsStuck n from reached) where
   -- the node before a reached node is reached
   before : (v u : ℕ) → Has reached v → from v ≡ Some u → Has reached u

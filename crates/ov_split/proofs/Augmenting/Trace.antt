@@ -6,7 +6,7 @@ use Rattle.ov_graph.specs.Links.{Linked}
 use Rattle.ov_graph.specs.Joined.{Leads}
 use Rattle.ov_graph.specs.Paths.{IsPath, ShareOnly}
 use Rattle.ov_graph.proofs.EvenTest.Filtered.{linked_node}
-use Rattle.ov_split.specs.Net.{Net, IsNet, IsFanOf}
+use Rattle.ov_split.specs.SplitNetState.{SplitNetState, IsSplitNet, IsFanOf}
 use Rattle.ov_split.specs.Code.Residual.{Table, IsUsed, AreHeld}
 use Rattle.ov_split.proofs.Augmenting.Lists.{distinct_length}
 use Rattle.ov_split.proofs.Augmenting.Move.{leads_map}
@@ -51,7 +51,7 @@ used_on from x e v [] l h = absurd h
 used_on from x e v (y ∷ c) l h =
     elim h [ inl s ↦ (x, ap from (sym s) ∙ l.0) | inr k ↦ used_on from y e v c l.1 k ]
 
-module _ (n : Net) (from : Table) (ends : List ℕ) (held : AreHeld n from ends) where
+module _ (n : SplitNetState) (from : Table) (ends : List ℕ) (held : AreHeld n from ends) where
   pub not_source : (v : ℕ) → IsUsed from v → v ≢ n.source
   not_source v u e = let r = held.root in absurd (cc (ap from e, u.1))
 
@@ -83,7 +83,7 @@ module _ (n : Net) (from : Table) (ends : List ℕ) (held : AreHeld n from ends)
   pub used_off : (v : ℕ) → IsUsed from v → ¬ Has n.avoided v
   used_off v u = (held.free v u.0 u.1).1
 
-module _ (n : Net) (net : IsNet n) (from : Table) (ends : List ℕ) (held : AreHeld n from ends) where
+module _ (n : SplitNetState) (net : IsSplitNet n) (from : Table) (ends : List ℕ) (held : AreHeld n from ends) where
   pub used_node : (v : ℕ) → IsUsed from v → Has n.graph.nodes v
   used_node v u = linked_node n.graph u.0 v net.graph (held.free v u.0 u.1).0
 

@@ -14,7 +14,7 @@ use Rattle.ov_graph.specs.Paths.{node_at}
 use Rattle.ov_graph.proofs.EvenTest.Filtered.{linked_node}
 use Rattle.ov_graph.proofs.BitRows.Read.{one_place}
 use Rattle.ov_graph.proofs.EvenTest.Walks.{linked_sym}
-use Rattle.ov_split.specs.Net.{Net, IsNet, IsFanOf, IsNearestCut, IsSideOf}
+use Rattle.ov_split.specs.SplitNetState.{SplitNetState, IsSplitNet, IsFanOf, IsNearestCut, IsSideOf}
 use Rattle.ov_split.specs.Places.{places, place_in, link_by_place, graph_by_place, net_by_place}
 use Rattle.ov_split.proofs.ByNames.Mapped.{has_map, map_has, ordered_map}
 use Rattle.ov_split.proofs.ByNames.Renamed.{IsRenamed, fan_renamed, nearest_renamed, side_renamed}
@@ -183,7 +183,7 @@ module _ (g : LinkGraph) (graph : IsGraph g) where
       let q = map_has (place_in g) s p h in
       subst (Has s) (sym (node_of_place g graph.nodes_ascend q.0 (set.nodes q.0 q.1)) ∙ ap (node_at g) q.2) q.1
 
-module _ (n : Net) (net : IsNet n) where
+module _ (n : SplitNetState) (net : IsSplitNet n) where
   up : Ascends n.graph.nodes
   up = net.graph.nodes_ascend
 
@@ -195,7 +195,7 @@ module _ (n : Net) (net : IsNet n) where
       (from_places n.graph net.graph s set (place_in n.graph n.source) h))
 
   -- the net by place is a net
-  pub net_placed : IsNet (net_by_place n)
+  pub net_placed : IsSplitNet (net_by_place n)
   unfolding net_by_place
   net_placed = record {
     graph = graph_placed n.graph net.graph;

@@ -6,13 +6,14 @@ use Rattle.ov_graph.specs.Links.{Linked}
 use Rattle.ov_graph.specs.Joined.{Leads, IsWalk, IsNodeSet}
 use Rattle.ov_graph.specs.Paths.{IsPath, ShareOnly}
 use Rattle.ov_graph.proofs.EvenTest.Walks.{joined_end}
-use Rattle.ov_split.specs.Net.{Net, IsNet, IsFanOf, IsReached, IsCutOf, IsLeastCut, IsNearestCut, IsSideOf}
+use Rattle.ov_split.specs.SplitNetState.{SplitNetState, IsSplitNet, IsFanOf, IsReached, IsCutOf, IsLeastCut,
+    IsNearestCut, IsSideOf}
 use Rattle.ov_split.proofs.ByNames.Mapped.{has_map, map_has, length_map, ordered_map}
 
 -- f maps the nodes of n to those of m, and g maps them back. Both keep the order
-pub record IsRenamed (n m : Net) (f g : ℕ → ℕ) : Type 0 where
-  pub net : IsNet n
-  pub back_net : IsNet m
+pub record IsRenamed (n m : SplitNetState) (f g : ℕ → ℕ) : Type 0 where
+  pub net : IsSplitNet n
+  pub back_net : IsSplitNet m
   pub nodes : (x : ℕ) → Has n.graph.nodes x → Has m.graph.nodes (f x)
   pub back_nodes : (v : ℕ) → Has m.graph.nodes v → Has n.graph.nodes (g v)
   pub there : (x : ℕ) → Has n.graph.nodes x → g (f x) ≡ x
@@ -27,7 +28,7 @@ pub record IsRenamed (n m : Net) (f g : ℕ → ℕ) : Type 0 where
   pub avoided : (x : ℕ) → Has n.avoided x → Has m.avoided (f x)
   pub back_avoided : (v : ℕ) → Has m.avoided v → Has n.avoided (g v)
 
-pub flip : (n m : Net) (f g : ℕ → ℕ) → IsRenamed n m f g → IsRenamed m n g f
+pub flip : (n m : SplitNetState) (f g : ℕ → ℕ) → IsRenamed n m f g → IsRenamed m n g f
 flip n m f g r = record {
   net = r.back_net;
   back_net = r.net;
@@ -46,7 +47,7 @@ flip n m f g r = record {
   back_avoided = r.avoided;
 }
 
-module _ (n m : Net) (f g : ℕ → ℕ) (r : IsRenamed n m f g) where
+module _ (n m : SplitNetState) (f g : ℕ → ℕ) (r : IsRenamed n m f g) where
   -- nodes with the same new name are equal
   one_name : (x y : ℕ) → Has n.graph.nodes x → Has n.graph.nodes y → f x ≡ f y → x ≡ y
   one_name x y hx hy e = sym (r.there x hx) ∙ ap g e ∙ r.there y hy
@@ -92,7 +93,7 @@ module _ (n m : Net) (f g : ℕ → ℕ) (r : IsRenamed n m f g) where
         subst (Has m.graph.nodes) q.2 (r.nodes q.0 (set.nodes q.0 q.1));
   }
 
-module _ (n m : Net) (f g : ℕ → ℕ) (r : IsRenamed n m f g) where
+module _ (n m : SplitNetState) (f g : ℕ → ℕ) (r : IsRenamed n m f g) where
   -- what is reached there without the renamed set is reached here without the set
   pub reached_back : (s : List ℕ) (v : ℕ) → IsReached m (map f s) v → IsReached n s (g v)
   reached_back s v j =
@@ -118,7 +119,7 @@ module _ (n m : Net) (f g : ℕ → ℕ) (r : IsRenamed n m f g) where
     parts = λ t h j. cut.parts (g t) (r.back_targets t h) (reached_back s t j);
   }
 
-module _ (n m : Net) (f g : ℕ → ℕ) (r : IsRenamed n m f g) where
+module _ (n m : SplitNetState) (f g : ℕ → ℕ) (r : IsRenamed n m f g) where
   pub least_renamed : (s : List ℕ) → IsLeastCut n s → IsLeastCut m (map f s)
   least_renamed s least = record {
     cut = cut_renamed n m f g r s least.cut;
@@ -127,7 +128,7 @@ module _ (n m : Net) (f g : ℕ → ℕ) (r : IsRenamed n m f g) where
         omega (arith, l, length_map f s, length_map g t);
   }
 
-module _ (n m : Net) (f g : ℕ → ℕ) (r : IsRenamed n m f g) where
+module _ (n m : SplitNetState) (f g : ℕ → ℕ) (r : IsRenamed n m f g) where
   -- a nearest cut here is one there under the new names
   pub nearest_renamed : (s : List ℕ) → IsNearestCut n s → IsNearestCut m (map f s)
   nearest_renamed s near = record {

@@ -10,7 +10,7 @@ use Rattle.ov_graph.specs.Row.{HasBit}
 use Rattle.ov_graph.specs.Row.{picked}
 use Rattle.ov_graph.proofs.BitRows.Bits.{bit_moved}
 use Rattle.ov_graph.proofs.BitRows.Read.{has_picked, picked_at, ascends_picked, none_picked}
-use Rattle.ov_split.specs.Net.{IsNet}
+use Rattle.ov_split.specs.SplitNetState.{IsSplitNet}
 use Rattle.ov_split.specs.Places.{place_in, net_by_place, node_if}
 use Rattle.ov_split.specs.Code.Rows.{net_kept, IsNetKept}
 use Rattle.ov_split.proofs.ByNames.Mapped.{has_map, map_has}
@@ -28,7 +28,7 @@ picked_set g row graph = record {
 
 -- what is kept is a net
 pub net_of : (g : LinkGraph) (avoided : List ℕ) (source : ℕ) (targets : List ℕ) → IsNetKept g avoided source targets
-    → IsNet (net_kept g avoided source targets)
+    → IsSplitNet (net_kept g avoided source targets)
 net_of g avoided source targets kept =
     let up = kept.graph.nodes_ascend in
     record {

@@ -1,6 +1,6 @@
 -- Menger's theorem in its fan form, by paths that are found one after another.
 use Rattle.std.proofs.Common.{◌≡◌, ℕ, zero, suc, ◌≤◌, inl, inr, List, [], ◌∷◌, length, None, refl, ap, subst, arith}
-use Rattle.ov_split.specs.Net.{Net, IsNet, IsFanOf, IsCutOf}
+use Rattle.ov_split.specs.SplitNetState.{SplitNetState, IsSplitNet, IsFanOf, IsCutOf}
 use Rattle.ov_split.specs.Theorems.{Menger}
 use Rattle.ov_split.specs.Code.Residual.{Table, IsFlow}
 use Rattle.ov_split.proofs.Augmenting.Lists.{set_of, set_ascends}
@@ -10,14 +10,14 @@ use Rattle.ov_split.proofs.FanTheorem.Sole.{cut_bounds_fan}
 use Rattle.ov_split.proofs.Augmenting.Search.{walk_or_stuck, boundary_of}
 
 -- paths to j targets
-record Paths (n : Net) (j : ℕ) : Type 0 where
+record Paths (n : SplitNetState) (j : ℕ) : Type 0 where
   from : Table
   ends : List ℕ
   flow : IsFlow n from ends
   count : length ends ≡ j
 
 -- nothing is held
-pub no_flow : (n : Net) → IsFlow n (λ v. None) []
+pub no_flow : (n : SplitNetState) → IsFlow n (λ v. None) []
 no_flow n = record {
   held = record {
     root = refl;
@@ -33,7 +33,8 @@ no_flow n = record {
 }
 
 -- where no cut has fewer than k nodes there are paths to each number of targets up to k
-paths_to : (n : Net) → IsNet n → (k : ℕ) → ((s : List ℕ) → IsCutOf n s → k ≤ length s) → (j : ℕ) → j ≤ k → Paths n j
+paths_to : (n : SplitNetState) → IsSplitNet n → (k : ℕ) → ((s : List ℕ) → IsCutOf n s → k ≤ length s) → (j : ℕ)
+    → j ≤ k → Paths n j
 paths_to n net k cuts zero l = record { from = λ v. None; ends = []; flow = no_flow n; count = refl }
 paths_to n net k cuts (suc j) l =
     let p = paths_to n net k cuts j (omega (arith, l)) in

@@ -8,7 +8,7 @@ use Rattle.ov_graph.specs.Joined.{Leads, Survives, Joined}
 use Rattle.ov_graph.proofs.EvenTest.Walks.{AllSurvive, joined_self, joined_step, joined_on, joined_trans, joined_end}
 use Rattle.ov_graph.proofs.EvenTest.Escape.{meets_or_apart, less, escape}
 use Rattle.ov_graph.proofs.EvenTest.Filtered.{linked_node}
-use Rattle.ov_split.specs.Net.{Net, IsNet, IsReached, IsCutOf, IsNearestCut, IsSideOf}
+use Rattle.ov_split.specs.SplitNetState.{SplitNetState, IsSplitNet, IsReached, IsCutOf, IsNearestCut, IsSideOf}
 use Rattle.ov_split.specs.Code.Residual.{IsFree, Table, IsFlow, IsStuck, IsResidual, IsBoundary}
 use Rattle.ov_split.proofs.Augmenting.Lists.{others_of, distinct_parts, off_both}
 use Rattle.ov_split.proofs.Augmenting.Move.{tip_cases}
@@ -66,7 +66,8 @@ distinct_in : (from : Table) (x e z : ℕ) (c : List ℕ) (p : Parted from x e z
 distinct_in from x e z c p a b d one h k =
     distinct_parts p.front (z ∷ p.after) b (subst IsDistinct p.is d) (subst (Has p.front) one h) k
 
-module _ (n : Net) (net : IsNet n) (from : Table) (ends : List ℕ) (flow : IsFlow n from ends) (t : List ℕ)
+module _ (n : SplitNetState) (net : IsSplitNet n) (from : Table) (ends : List ℕ) (flow : IsFlow n from ends)
+    (t : List ℕ)
     (cut : IsCutOf n t) where
   ends_free : (e : ℕ) → Has ends e → e ≢ n.source
   ends_free e h s = net.no_target (subst (Has n.targets) s (flow.targets e h))
@@ -216,12 +217,13 @@ module _ (n : Net) (net : IsNet n) (from : Table) (ends : List ℕ) (flow : IsFl
     led_near x walk l = near_walk n.source x walk (joined_self n.graph (n.avoided ++ t) n.source source_survives) l
 
 -- the boundary of a stuck search
-pub record IsNearestBoundary (n : Net) (ends reached s : List ℕ) : Type 0 where
+pub record IsNearestBoundary (n : SplitNetState) (ends reached s : List ℕ) : Type 0 where
   pub count : length s ≡ length ends
   pub nearest : IsNearestCut n s
   pub side : (x : ℕ) → Has reached x ↔ IsReached n s x
 
-pub boundary_is_nearest : (n : Net) → IsNet n → (from : Table) (ends : List ℕ) → IsFlow n from ends → (reached : List ℕ)
+pub boundary_is_nearest : (n : SplitNetState) → IsSplitNet n → (from : Table) (ends : List ℕ) → IsFlow n from ends
+    → (reached : List ℕ)
     → IsStuck n from reached → (s : List ℕ) → IsBoundary n reached s → Ascends s → IsNearestBoundary n ends reached s
 boundary_is_nearest n net from ends flow reached stuck s b up =
     let within = boundary_within n net from ends flow reached stuck s b in
@@ -255,7 +257,8 @@ boundary_is_nearest n net from ends flow reached stuck s b up =
     }
 
 -- the reached nodes, in ascending order, are the side of the boundary
-pub boundary_side : (n : Net) (ends reached s side : List ℕ) → IsNearestBoundary n ends reached s → Ascends side
+pub boundary_side : (n : SplitNetState) (ends reached s side : List ℕ) → IsNearestBoundary n ends reached s
+    → Ascends side
     → ((x : ℕ) → Has side x ↔ Has reached x) → IsSideOf n s side
 boundary_side n ends reached s side b up same = record {
   set = record {

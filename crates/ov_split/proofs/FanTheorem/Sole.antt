@@ -8,12 +8,12 @@ use Rattle.ov_graph.specs.Links.{LinkGraph, Linked}
 use Rattle.ov_graph.specs.Joined.{Leads, Survives, Joined}
 use Rattle.ov_graph.proofs.EvenTest.Walks.{steps_of, joined_self, joined_step, joined_trans, joined_end}
 use Rattle.ov_graph.proofs.EvenTest.Escape.{escape}
-use Rattle.ov_split.specs.Net.{Net, IsFanOf, IsCutOf, IsNearestCut}
+use Rattle.ov_split.specs.SplitNetState.{SplitNetState, IsFanOf, IsCutOf, IsNearestCut}
 use Rattle.ov_split.specs.Theorems.{OneNearestCut}
 use Rattle.ov_split.proofs.Augmenting.Lists.{others_of, off_both, set_of, set_ascends, set_short, in_set, from_set}
 
 -- a fan has no more paths than a cut has nodes
-pub cut_bounds_fan : (n : Net) (k : ℕ) (paths : List (List ℕ)) (s : List ℕ) → IsFanOf n k paths → IsCutOf n s
+pub cut_bounds_fan : (n : SplitNetState) (k : ℕ) (paths : List (List ℕ)) (s : List ℕ) → IsFanOf n k paths → IsCutOf n s
     → k ≤ length s
 cut_bounds_fan n k paths s fan cut =
     let count = fan.fan.count in
@@ -43,7 +43,7 @@ met g s a b c x (y ∷ ys) j l stay = elim (cases_eq y c) [
 ]
 
 -- each node of a nearest cut is in each other one: else the cut without it is a cut
-in_other : (n : Net) (s t : List ℕ) → IsNearestCut n s → IsNearestCut n t → (c : ℕ) → Has s c → Has t c
+in_other : (n : SplitNetState) (s t : List ℕ) → IsNearestCut n s → IsNearestCut n t → (c : ℕ) → Has s c → Has t c
 in_other n s t p q c h = elim (has_or_not t c) [
   | inl k ↦ k
   | inr o ↦

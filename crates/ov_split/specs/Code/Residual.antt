@@ -6,10 +6,10 @@ use Rattle.std.specs.Option.{unwrap_or}
 use Rattle.ov_ids.specs.Members.{Has, IsDistinct}
 use Rattle.ov_graph.specs.Links.{Linked}
 use Rattle.ov_graph.specs.Joined.{Leads}
-use Rattle.ov_split.specs.Net.{Net}
+use Rattle.ov_split.specs.SplitNetState.{SplitNetState}
 
 -- a path may step from a to b: they are linked, and b is not avoided
-abbrev pub IsFree : Net → ℕ → ℕ → Type 0
+abbrev pub IsFree : SplitNetState → ℕ → ℕ → Type 0
 IsFree n a b = Linked n.graph a b × ¬ Has n.avoided b
 
 -- the node before each node on its path, or None where no path comes to it
@@ -22,7 +22,7 @@ IsUsed from v = (u : ℕ) × (from v ≡ Some u)
 
 -- the table holds a path from the source to each of `ends`. No two paths meet after the source, and none continues
 -- after its end
-pub record AreHeld (n : Net) (from : Table) (ends : List ℕ) : Type 0 where
+pub record AreHeld (n : SplitNetState) (from : Table) (ends : List ℕ) : Type 0 where
   pub root : from n.source ≡ None
   pub free : (v u : ℕ) → from v ≡ Some u → IsFree n u v
   pub comes : (v u : ℕ) → from v ≡ Some u → (u ≡ n.source) ⊎ IsUsed from u
@@ -37,7 +37,7 @@ IsTidy from ends = (v : ℕ) → IsUsed from v → (e : ℕ) × Has ends e
     × ((steps : List ℕ) × Leads (λ a b. from b ≡ Some a) v steps e)
 
 -- what the table holds between two searches: paths to targets, and nothing else
-pub record IsFlow (n : Net) (from : Table) (ends : List ℕ) : Type 0 where
+pub record IsFlow (n : SplitNetState) (from : Table) (ends : List ℕ) : Type 0 where
   pub held : AreHeld n from ends
   pub tidy : IsTidy from ends
   pub targets : (e : ℕ) → Has ends e → Has n.targets e
@@ -46,18 +46,18 @@ pub record IsFlow (n : Net) (from : Table) (ends : List ℕ) : Type 0 where
 -- source. If no path comes to w, the new open end is w. If a path comes to w, the open path continues along it from w
 -- on, and the new open end is the node before w on that path. The second kind gives up the last step of the path to x,
 -- which came from y
-abbrev pub IsResidual : Net → Table → ℕ → ℕ → Type 0
+abbrev pub IsResidual : SplitNetState → Table → ℕ → ℕ → Type 0
 IsResidual n from x y = ((w : ℕ) × IsFree n x w × (w ≢ n.source) × (unwrap_or (from w) w ≡ y)) ⊎ (from x ≡ Some y)
 
 -- `reached` are the nodes to which residual steps lead from the source, and none of them is a target
-pub record IsStuck (n : Net) (from : Table) (reached : List ℕ) : Type 0 where
+pub record IsStuck (n : SplitNetState) (from : Table) (reached : List ℕ) : Type 0 where
   pub source : Has reached n.source
   pub closed : (x y : ℕ) → Has reached x → IsResidual n from x y → Has reached y
   pub led : (x : ℕ) → Has reached x → (walk : List ℕ) × Leads (IsResidual n from) n.source walk x
   pub no_target : (x : ℕ) → Has reached x → ¬ Has n.targets x
 
 -- s is the boundary of `reached`: the nodes outside it to which a path may step from it
-pub record IsBoundary (n : Net) (reached s : List ℕ) : Type 0 where
+pub record IsBoundary (n : SplitNetState) (reached s : List ℕ) : Type 0 where
   pub distinct : IsDistinct s
   pub out : (w : ℕ) → Has s w → ¬ Has reached w
   pub behind : (w : ℕ) → Has s w → (x : ℕ) × Has reached x × IsFree n x w

@@ -5,10 +5,10 @@ use Rattle.ov_graph.specs.Links.{LinkGraph, IsGraph}
 use Rattle.ov_graph.specs.Paths.{node_at}
 use Rattle.ov_graph.specs.Row.{HasBit}
 use Rattle.ov_graph.specs.Row.{picked}
-use Rattle.ov_split.specs.Net.{Net}
+use Rattle.ov_split.specs.SplitNetState.{SplitNetState}
 
 -- the net that these values stand for
-abbrev pub net_kept : LinkGraph → List ℕ → ℕ → List ℕ → Net
+abbrev pub net_kept : LinkGraph → List ℕ → ℕ → List ℕ → SplitNetState
 net_kept g avoided source targets = record {
   graph = g;
   avoided = picked avoided 0 g.nodes;

@@ -18,7 +18,8 @@ static FULL_VIEW: [(Line, &str); 9] = [
     (Show(1), "node 1 active 3,9 passive 7 eager 3,9 lazy -"),
     (
         Packets,
-        "packet 0 to 3 010300000001; packet 1 to 7 010300000001; packet 2 to 3 0102000000010000000706; packet 3 to 7 010600000001; packet 4 to 9 010300000001; packet 5 to 3 0102000000010000000906; ",
+        "packet 0 to 3 010300000001; packet 1 to 7 010300000001; packet 2 to 3 0102000000010000000706; \
+         packet 3 to 7 010600000001; packet 4 to 9 010300000001; packet 5 to 3 0102000000010000000906; ",
     ),
 ];
 
@@ -168,7 +169,8 @@ pub(super) static SPREAD: [(Line, &str); 11] = [
     (Deliver(0), "entry 13 delivered 3 1 0"),
     (
         Packets,
-        "packet 0 to 7 0109000000010000000100000000000000026869; packet 1 to 7 0109000000030000000100000000000100026869; ",
+        "packet 0 to 7 0109000000010000000100000000000000026869; \
+         packet 1 to 7 0109000000030000000100000000000100026869; ",
     ),
     (Deliver(0), "entry 14 delivered 7 1 0"),
     (Deliver(0), "entry 15"),

@@ -14,17 +14,23 @@ static SCENARIOS: [(&str, &str); 9] = [
     (TWO_JOIN, TWO_JOIN_PRINTS),
     (
         "boot 1\nboot 2 by 1\ndeliver 0\nrepeat 0\ndeliver 0\ndeliver 0\ncrash 1\nsnapshot\nshow 1\nreport 2 1\nshow 2",
-        "entry 1 born 1\nentry 2 born 2\nentry 3 up 1 2\nentry 4\nentry 5 up 2 1\nentry 6\nentry 7 gone 1\nentry 8\nrefused 12\nentry 9 down 2 1\nnode 2 active - passive - eager - lazy -\n",
+        "entry 1 born 1\nentry 2 born 2\nentry 3 up 1 2\nentry 4\nentry 5 up 2 1\nentry 6\nentry 7 gone 1\nentry 8\n\
+         refused 12\nentry 9 down 2 1\nnode 2 active - passive - eager - lazy -\n",
     ),
     (
-        "snapshot\ndeliver 0\nboot 1\nboot 1\ncrash 2\nreport 1 1\ntimer 1 1 0\nsnapshot\ncertificate 3\ncertificate 2\n",
-        "entry 1\nrefused 14\nentry 2 born 1\nrefused 11\nrefused 10\nrefused 17\nrefused 18\nentry 3\nrefused 50\nrefused 50\n",
+        "snapshot\ndeliver 0\nboot 1\nboot 1\ncrash 2\nreport 1 1\ntimer 1 1 0\nsnapshot\ncertificate 3\n\
+         certificate 2\n",
+        "entry 1\nrefused 14\nentry 2 born 1\nrefused 11\nrefused 10\nrefused 17\nrefused 18\nentry 3\nrefused 50\n\
+         refused 50\n",
     ),
     (FULL_VIEW, FULL_VIEW_PRINTS),
     (FOUR_NODES, FOUR_NODES_PRINTS),
     (
-        "boot 1\nboot 2 by 1\ndeliver 0\ndeliver 0\nbroadcast 1 hi\nrepeat 0\ndeliver 0\ndeliver 0\npackets\ndeliver 0\nshow 1\n",
-        "entry 1 born 1\nentry 2 born 2\nentry 3 up 1 2\nentry 4 up 2 1\nentry 5 delivered 1 1 0\nentry 6\nentry 7 delivered 2 1 0\nentry 8\npacket 0 to 1 010c00000002\nentry 9\nnode 1 active 2 passive - eager - lazy 2\n",
+        "boot 1\nboot 2 by 1\ndeliver 0\ndeliver 0\nbroadcast 1 hi\nrepeat 0\ndeliver 0\ndeliver 0\npackets\n\
+         deliver 0\nshow 1\n",
+        "entry 1 born 1\nentry 2 born 2\nentry 3 up 1 2\nentry 4 up 2 1\nentry 5 delivered 1 1 0\nentry 6\n\
+         entry 7 delivered 2 1 0\nentry 8\npacket 0 to 1 010c00000002\nentry 9\n\
+         node 1 active 2 passive - eager - lazy 2\n",
     ),
     (
         "# a joke\r\n  boot   01 \r\n\n   \nlose 0\nshuffle 1\npackets\n",

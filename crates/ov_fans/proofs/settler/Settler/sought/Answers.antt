@@ -3,7 +3,7 @@ use Rattle.std.proofs.Common.{◌≡◌, ◌∙◌, ◌<◌, ℕ, IfOk, map, sym
 use Rattle.std.specs.Option.{MatchOption}
 use Rattle.ov_graph.specs.Links.{LinkGraph, IsGraph}
 use Rattle.ov_graph.specs.Paths.{node_at}
-use Rattle.ov_split.specs.Net.{IsFanOf}
+use Rattle.ov_split.specs.SplitNetState.{IsFanOf}
 use Rattle.ov_split.specs.Places.{net_at}
 use Rattle.ov_flow.specs.Flow.{IsFullBy}
 use Rattle.ov_fans.specs.Group.{SettlerState}

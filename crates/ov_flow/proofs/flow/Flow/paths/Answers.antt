@@ -1,7 +1,7 @@
 -- The paths by place are paths of the nodes.
 use Rattle.std.proofs.Common.{ℕ, List, map, length, subst}
 use Rattle.ov_graph.specs.Paths.{node_at}
-use Rattle.ov_split.specs.Net.{IsFanOf}
+use Rattle.ov_split.specs.SplitNetState.{IsFanOf}
 use Rattle.ov_split.specs.Places.{net_by_place}
 use Rattle.ov_split.proofs.ByNames.ByPlace.{fan_by_place, placed_node}
 use Rattle.ov_flow.specs.Flow.{FlowState, ArePlaces}

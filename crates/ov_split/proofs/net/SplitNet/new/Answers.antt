@@ -2,7 +2,7 @@
 use Rattle.std.proofs.Common.{ℕ, List, ap}
 use Rattle.ov_graph.specs.Paths.{node_at}
 use Rattle.ov_graph.specs.Row.{picked}
-use Rattle.ov_split.specs.Net.{Net}
+use Rattle.ov_split.specs.SplitNetState.{SplitNetState}
 use Rattle.ov_split.proofs.ByNames.Rows.{net_of, kept_of, one_picked}
 use Rattle.ov_split.proofs.net.SplitNet.new.Goals as goal
 
@@ -10,7 +10,7 @@ pub returns-clause-net : goal.returns-clause-net
 returns-clause-net c =
     let g = c.args.graph.now in
     let row = c.row_of-avoided.result in
-    let of : List ℕ → Net = λ avoided. record {
+    let of : List ℕ → SplitNetState = λ avoided. record {
       graph = g;
       avoided = avoided;
       source = node_at g c.args.source;

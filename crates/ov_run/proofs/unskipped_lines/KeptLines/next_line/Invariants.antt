@@ -1,7 +1,7 @@
 -- the lines that are left and not skipped are still the same, and each line that was read has a byte of its own
 use Rattle.std.proofs.Common.{◌≡◌, ◌≤◌, ◌+◌, length}
 use Rattle.ov_run.specs.Code.Kept.{lines_left}
-use Rattle.ov_run.proofs.kept_lines.KeptLines.next_line.Given as goal
+use Rattle.ov_run.proofs.unskipped_lines.KeptLines.next_line.Given as goal
 
 abbrev pub invariant-loop-text : goal.invariant-loop-text
 invariant-loop-text l =

@@ -1,6 +1,6 @@
 ghost use Rattle.std.specs.Prelude.{◌≡◌};
 ghost use Rattle.ov_run.specs.Program.{exit_status};
-ghost use Rattle.ov_run.specs.declared.program.ProgramFault.TheVariants.{Arguments, Run};
+ghost use Rattle.ov_run.specs.declared.program_outcome.ProgramFault.TheVariants.{Arguments, Run};
 
 use crate::arguments::ArgumentsFault;
 use crate::run_fault::RunFault;

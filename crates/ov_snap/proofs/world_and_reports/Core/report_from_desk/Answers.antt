@@ -3,7 +3,7 @@ use Rattle.ov_net.specs.Journal.{AreLinks}
 use Rattle.ov_snap.specs.ReportState.{ReportState}
 use Rattle.ov_snap.proofs.DeskCalls.{report_free}
 use Rattle.ov_snap.proofs.DeskKeeping.{desk_sound}
-use Rattle.ov_snap.proofs.world_and_reports.Core.report_of.Goals as goal
+use Rattle.ov_snap.proofs.world_and_reports.Core.report_from_desk.Goals as goal
 
 pub certificate-requires-clause-sound : goal.certificate-requires-clause-sound
 certificate-requires-clause-sound c =

@@ -3,7 +3,7 @@ use Rattle.std.proofs.Common.{map, drop}
 use Rattle.std.specs.List.{slice_split}
 use Rattle.ov_run.specs.Lines.{is_comma}
 use Rattle.ov_run.proofs.Lines.Spelling.{Spells}
-use Rattle.ov_run.proofs.id_list.read_ids.Given as goal
+use Rattle.ov_run.proofs.id_list_reading.read_ids.Given as goal
 
 abbrev pub invariant-loop-piece : goal.invariant-loop-piece
 invariant-loop-piece l =

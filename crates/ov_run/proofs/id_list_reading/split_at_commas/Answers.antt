@@ -3,7 +3,7 @@ use Rattle.std.proofs.Common.{rules, tests}
 use Rattle.std.proofs.lemmas.Iterator.Consumers.{map_from_collect}
 use Rattle.std.proofs.lemmas.Iterator.Splits.{YieldsList-from_slice_split}
 use Rattle.ov_run.specs.Lines.{is_comma}
-use Rattle.ov_run.proofs.id_list.split_at_commas.Goals as goal
+use Rattle.ov_run.proofs.id_list_reading.split_at_commas.Goals as goal
 
 pub returns : goal.returns
 returns c =
