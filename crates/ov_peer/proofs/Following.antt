@@ -11,7 +11,7 @@ use Rattle.ov_views.specs.declared.change.ViewChange.{ViewChange}
 use Rattle.ov_views.specs.declared.moves.Moves.{Moves}
 use Rattle.ov_views.proofs.Tracking.{Tracks, tracked}
 use Rattle.ov_plum.specs.PlumState.{PlumState, is_linked}
-use Rattle.ov_plum.specs.PlumRows.{Delivered, IsPlumStep, PlumInput, receives, broadcasts, fires, goes_up, goes_down}
+use Rattle.ov_plum.specs.PlumRows.{Delivered, HasPlumStep, PlumInput, receives, broadcasts, fires, goes_up, goes_down}
 use Rattle.ov_plum.specs.PlumRows.{most_sends_at, most_sends_at_message}
 use Rattle.ov_plum.specs.PlumChange.{IsPlumChange, IsPlumPlan, plum_after}
 use Rattle.ov_plum.specs.declared.plum_change.PlumPlan.{PlumPlan}
@@ -107,12 +107,12 @@ rests t = record {
 
 -- what a step of a node does with its tree, before this is told changes, is a step of the tree
 tree_steps : (t : PlumState) (i : Input) (u : PlumState) (spread : List (ℕ × Message)) (delivered : Option Delivered)
-    → TreePart t i u spread delivered → IsPlumStep t u
-tree_steps t (Boot contact) u spread delivered h = subst (IsPlumStep t) (sym h.0) (rests t)
+    → TreePart t i u spread delivered → HasPlumStep t u
+tree_steps t (Boot contact) u spread delivered h = subst (HasPlumStep t) (sym h.0) (rests t)
 tree_steps t (Receive message) u spread delivered h =
     record { input = receives message; sends = spread; delivery = delivered; allowed = h }
-tree_steps t (Report crashed) u spread delivered h = subst (IsPlumStep t) (sym h.0) (rests t)
-tree_steps t Shuffle u spread delivered h = subst (IsPlumStep t) (sym h.0) (rests t)
+tree_steps t (Report crashed) u spread delivered h = subst (HasPlumStep t) (sym h.0) (rests t)
+tree_steps t Shuffle u spread delivered h = subst (HasPlumStep t) (sym h.0) (rests t)
 tree_steps t (Broadcast payload) u spread delivered h =
     record { input = broadcasts payload; sends = spread; delivery = delivered; allowed = h }
 tree_steps t (Timer id) u spread delivered h =

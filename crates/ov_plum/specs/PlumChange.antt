@@ -4,7 +4,7 @@ use Rattle.std.specs.FinMap as map
 use Rattle.std.specs.FinSet as set
 use Rattle.ov_wire.specs.Messages.{AreSendsInRange}
 use Rattle.ov_plum.specs.Notes.{noting, without_notes_of, without_oldest}
-use Rattle.ov_plum.specs.PlumRows.{AllowedTree, IsPlumStep, PlumInput, most_sends_at}
+use Rattle.ov_plum.specs.PlumRows.{AllowedTree, HasPlumStep, PlumInput, most_sends_at}
 use Rattle.ov_plum.specs.PlumState.{PlumState, makes_eager, makes_lazy}
 use Rattle.ov_plum.specs.declared.plum_change.PlumChange.{PlumChange}
 use Rattle.ov_plum.specs.declared.plum_change.PlumChange.TheVariants.{Nothing, Makes, Holds, Eager, Lazy, Awaits, Asks}
@@ -30,7 +30,7 @@ plum_after t (Clears id) = record t { notes = without_notes_of id t.notes; runni
 
 -- the planned change is that of a step: what it makes of t is what some step makes of it
 abbrev pub IsPlumChange : PlumState → PlumChange → Type 0
-IsPlumChange t plum_change = IsPlumStep t (plum_after t plum_change)
+IsPlumChange t plum_change = HasPlumStep t (plum_after t plum_change)
 
 -- A step from t to u at this input, with these effects: it is allowed, each message that it sends is in range, and
 -- there are at most so many

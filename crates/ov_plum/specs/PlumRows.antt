@@ -130,7 +130,7 @@ AllowedTree t (goes_up x) u sends delivery = AllowedUp t x u × IsQuiet sends de
 AllowedTree t (goes_down x) u sends delivery = AllowedDown t x u × IsQuiet sends delivery
 
 -- some step leads from t to u: something comes for which u is allowed, with what is then sent and delivered
-pub record IsPlumStep (t u : PlumState) : Type 0 where
+pub record HasPlumStep (t u : PlumState) : Type 0 where
   pub input : PlumInput
   pub sends : List (ℕ × Message)
   pub delivery : Option Delivered
