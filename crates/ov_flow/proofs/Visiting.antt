@@ -50,11 +50,11 @@ pub record IsVisiting (n : SplitNetState) (from : Table) (began t : Tree) (fresh
 
 -- a link to w was taken to a node, which is a target, or the search goes on
 pub record IsLinkTaken (n : SplitNetState) (from : Table) (began u : Tree) (new fresh : List ℕ) (w node : ℕ) : Type 0
-    where
-  pub grown : IsGrownBy n from u.order.items u.parents.items u.ways.items u.reached new
-  pub more : IsMore began (record u { seen = new })
-  pub ended : Has n.targets node → Has n.targets (get_or u.order.items (length u.order.items - 1) 0)
-  pub goes : ¬ Has n.targets node → IsVisiting n from began (record u { seen = new }) fresh (w + 1)
+  where
+    pub grown : IsGrownBy n from u.order.items u.parents.items u.ways.items u.reached new
+    pub more : IsMore began (record u { seen = new })
+    pub ended : Has n.targets node → Has n.targets (get_or u.order.items (length u.order.items - 1) 0)
+    pub goes : ¬ Has n.targets node → IsVisiting n from began (record u { seen = new }) fresh (w + 1)
 
 pub visiting_first : (n : SplitNetState) (from : Table) (t : Tree) (row fresh : List ℕ) (words : ℕ) → IsGrown n from t
     → IsClean n t → AreWithout row t.seen words fresh → IsVisiting n from t t fresh 0

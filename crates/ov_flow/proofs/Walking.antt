@@ -34,10 +34,10 @@ not_before xs i d l h = let p = place_in_take xs i (get_or xs i 0) h in places_d
 
 -- the walk from the node at `place` to the one at `end`: each of its nodes stands after `place`
 pub record IsBranchBy (n : SplitNetState) (from : Table) (order : List ℕ) (place end : ℕ) (hops : List Hop) : Type 0
-    where
-  pub goes : Goes n from (get_or order place 0) hops (get_or order end 0)
-  pub later : (x : ℕ) → Has (nodes_of hops) x → (k : ℕ) × (place < k) × (k < length order) × (get_or order k 0 ≡ x)
-  pub distinct : IsDistinct (nodes_of hops)
+  where
+    pub goes : Goes n from (get_or order place 0) hops (get_or order end 0)
+    pub later : (x : ℕ) → Has (nodes_of hops) x → (k : ℕ) × (place < k) × (k < length order) × (get_or order k 0 ≡ x)
+    pub distinct : IsDistinct (nodes_of hops)
 
 -- the same for each net and table by which the tree has grown
 abbrev pub IsBranchOf : Tree → ℕ → ℕ → List Hop → Type 0

@@ -3,9 +3,9 @@ ghost use Rattle.ov_run.specs.GraphFiles.{graph_line, graph_line_of, link_of, gr
 ghost use Rattle.ov_run.specs.GraphFiles.{nodes_said, links_said, first_unread, IsGraphFile, IsGraphFileFault};
 ghost use Rattle.ov_run.specs.Lines.{words_of, two};
 
-use crate::unskipped_lines::KeptLines;
 use crate::line_cursor::{LineCursor, is_word};
 use crate::run_fault::RunFault;
+use crate::unskipped_lines::KeptLines;
 use ov_graph::Graph;
 use ov_ids::{NodeId, OutOfMemory};
 use std::alloc::Global;
@@ -65,10 +65,7 @@ pub fn read_graph(alloc: Global, bytes: &[u8]) -> Result<Graph, RunFault>
 }
 
 /// The nodes and the links of a graph file, or the first line that can't be read.
-#[tactic(auto, using(
-    crate::proofs::GraphFiles::Gathering::unread, crate::proofs::GraphFiles::Gathering::readable,
-    crate::proofs::GraphFiles::Gathering::all_nodes, crate::proofs::GraphFiles::Gathering::all_links
-))]
+#[tactic(auto, using(crate::proofs::GraphFiles::Gathering::unread, crate::proofs::GraphFiles::Gathering::readable, crate::proofs::GraphFiles::Gathering::all_nodes, crate::proofs::GraphFiles::Gathering::all_links))]
 fn gather(alloc: Global, bytes: &[u8]) -> Result<Gathered, RunFault>
     ensures readable { OnOk result (first_unread (graph_lines bytes.now) ≡ None) }
     ensures nodes { IfOk result (λ all. all.nodes.items ≡ nodes_said (graph_lines bytes.now)) }

@@ -8,7 +8,6 @@ mod change_texts;
 mod graph_analysis;
 mod graph_file;
 mod id_list_reading;
-mod unskipped_lines;
 mod line_cursor;
 mod line_running;
 mod line_texts;
@@ -25,6 +24,7 @@ mod sink_writing;
 mod splitting;
 mod statement;
 mod theorems;
+mod unskipped_lines;
 mod workers;
 
 pub use arguments::{ArgumentsFault, Request, read_arguments};

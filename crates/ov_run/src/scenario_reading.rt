@@ -2,12 +2,12 @@ ghost use Rattle.std.specs.Prelude.{◌≡◌, IfOk, IfErr};
 ghost use Rattle.ov_run.specs.Faults.{IsReadingFault};
 ghost use Rattle.ov_run.specs.Scenarios.{IsScenario, stated_lines};
 
-use crate::unskipped_lines::KeptLines;
 use crate::lines_to_run::lines_to_run;
 use crate::run_fault::RunFault;
 use crate::scenario::Scenario;
 use crate::settings_judging::judge;
 use crate::statement::{Stated, read_statement};
+use crate::unskipped_lines::KeptLines;
 use ov_ids::OutOfMemory;
 use std::alloc::Global;
 

@@ -223,10 +223,7 @@ fn read_params(cursor: &mut LineCursor) -> Option<[u32; 7]>
 }
 
 /// Reads 1 to 64 random words. Zeros follow them.
-#[tactic(auto, using(
-    crate::proofs::Lines::Filling::begun, crate::proofs::Lines::Filling::more, crate::proofs::Lines::Filling::unread,
-    crate::proofs::Lines::Filling::full, crate::proofs::Lines::Filling::all_read
-))]
+#[tactic(auto, using(crate::proofs::Lines::Filling::begun, crate::proofs::Lines::Filling::more, crate::proofs::Lines::Filling::unread, crate::proofs::Lines::Filling::full, crate::proofs::Lines::Filling::all_read))]
 fn read_event_words(cursor: &mut LineCursor) -> Option<Words>
     ensures { result ≡ event_words (words_of cursor.old.rest.now) }
 {

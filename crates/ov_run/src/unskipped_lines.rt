@@ -37,9 +37,7 @@ impl<'a> KeptLines<'a> {
     }
 
     /// Reads the next line that is not skipped, if there is one.
-    #[tactic(auto, using(
-        crate::proofs::Lines::Kept::skipped, crate::proofs::Lines::Kept::kept, crate::proofs::Lines::Kept::none_left
-    ), unfolding(crate::specs::Code::Kept::lines_left))]
+    #[tactic(auto, using(crate::proofs::Lines::Kept::skipped, crate::proofs::Lines::Kept::kept, crate::proofs::Lines::Kept::none_left), unfolding(crate::specs::Code::Kept::lines_left))]
     pub(crate) fn next_line(&mut self) -> Option<KeptLine<'a>>
         requires room { self.old.count + length self.old.rest.now < 2 ^ 64 }
         ensures line { MatchOption result (lines_left self.old ≡ [])

@@ -26,18 +26,16 @@ ends v w s o ttl ids those first last other on foreign samples integrates =
     where_false _ _ _ other (where_false _ _ _ on
     (where_false _ _ _ foreign (first, last, those, refl, samples, integrates, refl, refl)))
 
-pub starts : (v : ViewsState) (sent : List ℕ) (target : ℕ) (first last : List Choice)
-    (active_sample passive_sample kept : List ℕ) →
-    IsIn v.active target → Samples v.active v.params.ka first active_sample
-        → Samples v.passive v.params.kp last passive_sample →
-    kept ≡ v.me ∷ (active_sample ++ passive_sample) →
+pub starts : (v : ViewsState) (sent : List ℕ) (target : ℕ) (first last : List Choice) (actives passives kept : List ℕ) →
+    IsIn v.active target → Samples v.active v.params.ka first actives → Samples v.passive v.params.kp last passives →
+    kept ≡ v.me ∷ (actives ++ passives) →
     AllowedStart v sent (record { from = v.active; member = target } ∷ (first ++ last)) kept
     ((target, say v.me (Shuffle v.me v.params.shuffle_ttl kept)) ∷ [])
-starts v sent target first last active_sample passive_sample kept h s t e =
+starts v sent target first last actives passives kept h s t e =
     where_false _ _ _ (ne_eqb (length v.active) 0 (omega (arith, length-without_less target v.active h))) (record {
       receiver = target;
-      active_sample = active_sample;
-      passive_sample = passive_sample;
+      active_sample = actives;
+      passive_sample = passives;
       active_choices = first;
       passive_choices = last;
       receiver_chosen = (h, refl);

@@ -52,10 +52,10 @@ pub fn start(
     };
     let me = views.me();
     let params = views.params();
-    let active_sample = views.sample(View::Active, params.ka(), draws);
-    let passive_sample = views.sample(View::Passive, params.kp(), draws);
-    write(&mut kept, me, active_sample.as_slice(), passive_sample.as_slice());
-    write(&mut list, me, active_sample.as_slice(), passive_sample.as_slice());
+    let actives = views.sample(View::Active, params.ka(), draws);
+    let passives = views.sample(View::Passive, params.kp(), draws);
+    write(&mut kept, me, actives.as_slice(), passives.as_slice());
+    write(&mut list, me, actives.as_slice(), passives.as_slice());
     sent.keep(kept);
     let message = Message {
         from: me,
@@ -70,14 +70,14 @@ pub fn start(
 }
 
 /// Writes the node itself and then its samples into an empty list. Room for them must be there.
-fn write(list: &mut Vec<NodeId>, me: NodeId, active_sample: &[NodeId], passive_sample: &[NodeId])
+fn write(list: &mut Vec<NodeId>, me: NodeId, actives: &[NodeId], passives: &[NodeId])
     requires empty { list.old.items ≡ [] }
-    requires room { length active_sample.now + length passive_sample.now < vec_capacity list.old }
-    ensures { list.new.items ≡ me ∷ (active_sample.now ++ passive_sample.now) }
+    requires room { length actives.now + length passives.now < vec_capacity list.old }
+    ensures { list.new.items ≡ me ∷ (actives.now ++ passives.now) }
 {
     append(list, &[me]);
-    append(list, active_sample);
-    append(list, passive_sample);
+    append(list, actives);
+    append(list, passives);
 }
 
 /// Appends ids to a list. Room for them must be there.

@@ -177,7 +177,7 @@ right_of_one settler g q s haul hauls is d e f right =
 -- a level that it tried is one that the search had tried
 pub tried_of_one : (settler : SettlerState) (g : LinkGraph) (q : List ℕ) (s : SearchState) (haul : Haul)
     (hauls : List Haul) (level : ℕ) → settler ≡ record { graph = g; members = q } → s.graph ≡ g → s.members ≡ q
-        → hauls ≡ haul ∷ []
+    → hauls ≡ haul ∷ []
     → level ≡ s.level → IsTried settler.graph settler.members (haul ∷ []) level
     → IsTried s.graph s.members hauls s.level
 tried_of_one settler g q s haul hauls level is d e f same tried =

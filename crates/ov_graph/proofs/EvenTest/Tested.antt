@@ -123,7 +123,7 @@ links_sound : (nodes : List ℕ) (before : Option (ℕ × ℕ)) (ls : List (ℕ 
 links_sound nodes before [] j = (tt, tt)
 links_sound nodes before (l ∷ ls) j =
     let p = step_none (IsLink nodes l) BadLink (Step (ComesAfter before l) Unordered (LinksJudged nodes (Some l) ls))
-        j in
+    j in
     let q = step_none (ComesAfter before l) Unordered (LinksJudged nodes (Some l) ls) p.1 in
     let r = links_sound nodes (Some l) ls q.1 in
     ((follow_all nodes l ls q.1, r.0), (p.0, r.1))

@@ -17,10 +17,10 @@ returns-clause-allowed c =
     ∙ ap (λ (p : ParamsState). p.kp) c.params-params.ensures.value in
     let ttl : c.shuffle_ttl.result ≡ v.params.shuffle_ttl = c.shuffle_ttl.ensures.value
     ∙ ap (λ (p : ParamsState). p.shuffle_ttl) c.params-params.ensures.value in
-    let active_sample = rw ka at c.sample-active_sample.ensures.drawn in
-    let passive_sample = rw kp at c.sample-passive_sample.ensures.drawn in
+    let actives = rw ka at c.sample-actives.ensures.drawn in
+    let passives = rw kp at c.sample-passives.ensures.drawn in
     let one : List Choice = record { from = v.active; member = c.in-Some.to } ∷ [] in
-    let kept : c.keep.new.self ≡ v.me ∷ (c.sample-active_sample.result ++ c.sample-passive_sample.result) =
+    let kept : c.keep.new.self ≡ v.me ∷ (c.sample-actives.result ++ c.sample-passives.result) =
     rw (c.keep.ensures, c.write.ensures, c.as_slice.ensures.value, c.as_slice-2.ensures.value, c.me-me.ensures.value)
     refl in
     let listed : c.new.result ≡ c.keep.new.self =
@@ -32,16 +32,15 @@ returns-clause-allowed c =
       c.me-me.ensures.value,
       kept,
     ) refl in (
-      one ++ (active_sample.0 ++ passive_sample.0),
-      AreDrawn-append one (active_sample.0 ++ passive_sample.0) _ _ _ picked
-          (AreDrawn-append active_sample.0 passive_sample.0 _ _ _ active_sample.1 passive_sample.1),
+      one ++ (actives.0 ++ passives.0),
+      AreDrawn-append one (actives.0 ++ passives.0) _ _ _ picked
+          (AreDrawn-append actives.0 passives.0 _ _ _ actives.1 passives.1),
       (λ node. (
         refl,
         refl,
         rw (c.send.ensures.changes, c.in_ok-moves.ensures.changes) refl,
         rw (c.send.ensures.sends, c.in_ok-moves.ensures.sends, listed, ttl, c.me-me.ensures.value)
-            (starts v c.args.sent.now c.in-Some.to active_sample.0 passive_sample.0 c.sample-active_sample.result
-                c.sample-passive_sample.result
-            c.keep.new.self h active_sample.2 passive_sample.2 kept),
+            (starts v c.args.sent.now c.in-Some.to actives.0 passives.0 c.sample-actives.result
+            c.sample-passives.result c.keep.new.self h actives.2 passives.2 kept),
       )),
     )

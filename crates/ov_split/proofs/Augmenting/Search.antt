@@ -81,128 +81,128 @@ comes_decided (Some u) y =
     elim (cases_eq u y) [ inl e ↦ inl (ap Some e) | inr ne ↦ inr (λ e. ne (ap (λ (o : Option ℕ). unwrap_or o u) e)) ]
 
 module _ (n : SplitNetState) (net : IsSplitNet n) (from : Table) (free : (v u : ℕ) → from v ≡ Some u → IsFree n u v)
-    where
-  before_node : (v u : ℕ) → from v ≡ Some u → Has n.graph.nodes u
-  before_node v u f = linked_node n.graph v u net.graph (linked_sym n.graph u v (free v u f).0)
+  where
+    before_node : (v u : ℕ) → from v ≡ Some u → Has n.graph.nodes u
+    before_node v u f = linked_node n.graph v u net.graph (linked_sym n.graph u v (free v u f).0)
 
-  -- residual steps lead to nodes
-  pub residual_node : (x y : ℕ) → IsResidual n from x y → Has n.graph.nodes y
-  residual_node x y step = elim step [
-    | inl r ↦ elim (tip_cases from r.0 y (from r.0) refl r.3) [
-      | inl p ↦ subst (Has n.graph.nodes) p.1 (linked_node n.graph x r.0 net.graph r.1.0)
-      | inr f ↦ before_node r.0 y f
+    -- residual steps lead to nodes
+    pub residual_node : (x y : ℕ) → IsResidual n from x y → Has n.graph.nodes y
+    residual_node x y step = elim step [
+      | inl r ↦ elim (tip_cases from r.0 y (from r.0) refl r.3) [
+        | inl p ↦ subst (Has n.graph.nodes) p.1 (linked_node n.graph x r.0 net.graph r.1.0)
+        | inr f ↦ before_node r.0 y f
+      ]
+      | inr f ↦ before_node x y f
     ]
-    | inr f ↦ before_node x y f
-  ]
 
-  -- a residual step by the link to w
-  abbrev IsBy : ℕ → ℕ → ℕ → Type 0
-  IsBy x y w = IsFree n x w × ((w ≢ n.source) × (unwrap_or (from w) w ≡ y))
+    -- a residual step by the link to w
+    abbrev IsBy : ℕ → ℕ → ℕ → Type 0
+    IsBy x y w = IsFree n x w × ((w ≢ n.source) × (unwrap_or (from w) w ≡ y))
 
-  residual_decided : (x y : ℕ) → IsDecided (IsResidual n from x y)
-  residual_decided x y =
-      let by : (w : ℕ) → IsDecided (IsBy x y w) = λ w.
-      both_decided _ _ (free_decided n x w)
-      (both_decided _ _ (not_decided _ (cases_eq w n.source)) (cases_eq (unwrap_or (from w) w) y)) in
-      elim (some_or_none (IsBy x y) by n.graph.nodes) [
-        | inl r ↦ inl (inl (r.0, r.2.0, r.2.1.0, r.2.1.1))
-        | inr none ↦ elim (comes_decided (from x) y) [
-          | inl f ↦ inl (inr f)
-          | inr other ↦ inr (λ step. elim step [
-            | inl r ↦ none r.0 (linked_node n.graph x r.0 net.graph r.1.0) (r.1, (r.2, r.3))
-            | inr f ↦ other f
-          ])
+    residual_decided : (x y : ℕ) → IsDecided (IsResidual n from x y)
+    residual_decided x y =
+        let by : (w : ℕ) → IsDecided (IsBy x y w) = λ w.
+        both_decided _ _ (free_decided n x w)
+        (both_decided _ _ (not_decided _ (cases_eq w n.source)) (cases_eq (unwrap_or (from w) w) y)) in
+        elim (some_or_none (IsBy x y) by n.graph.nodes) [
+          | inl r ↦ inl (inl (r.0, r.2.0, r.2.1.0, r.2.1.1))
+          | inr none ↦ elim (comes_decided (from x) y) [
+            | inl f ↦ inl (inr f)
+            | inr other ↦ inr (λ step. elim step [
+              | inl r ↦ none r.0 (linked_node n.graph x r.0 net.graph r.1.0) (r.1, (r.2, r.3))
+              | inr f ↦ other f
+            ])
+          ]
         ]
-      ]
 
-  -- walks over the reached nodes lead to each of them, without repetition
-  pub record AreLed (reached : List ℕ) : Type 0 where
-    pub source : Has reached n.source
-    pub distinct : IsDistinct reached
-    pub nodes : (x : ℕ) → Has reached x → Has n.graph.nodes x
-    pub walk : (x : ℕ) → Has reached x → List ℕ
-    pub leads : (x : ℕ) (h : Has reached x) → Leads (IsResidual n from) n.source (walk x h) x
-    pub once : (x : ℕ) (h : Has reached x) → IsDistinct (n.source ∷ walk x h)
-    pub over : (x : ℕ) (h : Has reached x) (y : ℕ) → Has (walk x h) y → Has reached y
+    -- walks over the reached nodes lead to each of them, without repetition
+    pub record AreLed (reached : List ℕ) : Type 0 where
+      pub source : Has reached n.source
+      pub distinct : IsDistinct reached
+      pub nodes : (x : ℕ) → Has reached x → Has n.graph.nodes x
+      pub walk : (x : ℕ) → Has reached x → List ℕ
+      pub leads : (x : ℕ) (h : Has reached x) → Leads (IsResidual n from) n.source (walk x h) x
+      pub once : (x : ℕ) (h : Has reached x) → IsDistinct (n.source ∷ walk x h)
+      pub over : (x : ℕ) (h : Has reached x) (y : ℕ) → Has (walk x h) y → Has reached y
 
-  pub led_source : AreLed (n.source ∷ [])
-  led_source = record {
-    source = inl refl;
-    distinct = ((λ h. h), tt);
-    nodes = λ x h. elim h [ inl e ↦ subst (Has n.graph.nodes) e net.source | inr k ↦ absurd k ];
-    walk = λ x h. [];
-    leads = λ x h. elim h [ inl e ↦ e | inr k ↦ absurd k ];
-    once = λ x h. ((λ k. k), tt);
-    over = λ x h y k. absurd k;
-  }
+    pub led_source : AreLed (n.source ∷ [])
+    led_source = record {
+      source = inl refl;
+      distinct = ((λ h. h), tt);
+      nodes = λ x h. elim h [ inl e ↦ subst (Has n.graph.nodes) e net.source | inr k ↦ absurd k ];
+      walk = λ x h. [];
+      leads = λ x h. elim h [ inl e ↦ e | inr k ↦ absurd k ];
+      once = λ x h. ((λ k. k), tt);
+      over = λ x h y k. absurd k;
+    }
 
-  -- one node more, by a residual step
-  pub led_more : (reached : List ℕ) (x y : ℕ) → AreLed reached → Has reached x → ¬ Has reached y
-      → IsResidual n from x y → AreLed (y ∷ reached)
-  led_more reached x y led hx off step =
-      let steps = led.walk x hx in
-      let next : (z : ℕ) → Has (y ∷ reached) z → (walk : List ℕ) × Leads (IsResidual n from) n.source walk z
-      × IsDistinct (n.source ∷ walk) × ((a : ℕ) → Has walk a → Has (y ∷ reached) a) = λ z h. elim h [
-        | inl e ↦ (
-          steps ++ y ∷ [],
-          subst (Leads (IsResidual n from) n.source (steps ++ y ∷ [])) e
-              (leads_push (IsResidual n from) n.source x y steps (led.leads x hx) step),
-          distinct_push (n.source ∷ steps) y (led.once x hx) (λ k. off (elim k [
-            | inl s ↦ subst (Has reached) s led.source
-            | inr m ↦ led.over x hx y m
-          ])),
-          λ a k. elim (has_append_cases steps (y ∷ []) a k) [
-            | inl m ↦ inr (led.over x hx a m)
-            | inr m ↦ elim m [ inl s ↦ inl s | inr w ↦ absurd w ]
-          ],
-        )
-        | inr k ↦ (led.walk z k, led.leads z k, led.once z k, λ a m. inr (led.over z k a m))
-      ] in
-      record {
-        source = inr led.source;
-        distinct = (off, led.distinct);
-        nodes = λ z h. elim h [
-          | inl e ↦ subst (Has n.graph.nodes) e (residual_node x y step)
-          | inr k ↦ led.nodes z k
-        ];
-        walk = λ z h. (next z h).0;
-        leads = λ z h. (next z h).1;
-        once = λ z h. (next z h).2;
-        over = λ z h. (next z h).3;
-      }
-
-  -- the reached nodes, where no step leads out of them
-  pub record Explored : Type 0 where
-    pub reached : List ℕ
-    pub led : AreLed reached
-    pub closed : (x y : ℕ) → Has reached x → IsResidual n from x y → Has reached y
-
-  -- a step that leads out of the reached nodes
-  abbrev IsOut : List ℕ → ℕ → ℕ → Type 0
-  IsOut reached x y = ¬ Has reached y × IsResidual n from x y
-
-  explore : (fuel : ℕ) (reached : List ℕ) → AreLed reached → length n.graph.nodes < fuel + length reached → Explored
-  explore zero reached led l =
-      let h = distinct_length reached n.graph.nodes led.distinct led.nodes in absurd (omega (arith, h, l))
-  explore (suc fuel) reached led l =
-      let out : (x y : ℕ) → IsDecided (IsOut reached x y) = λ x y.
-      both_decided _ _ (not_decided _ (has_or_not reached y)) (residual_decided x y) in
-      let leaves : (x : ℕ) → IsDecided ((y : ℕ) × Has n.graph.nodes y × IsOut reached x y) =
-      λ x. some_decided (IsOut reached x) (out x) n.graph.nodes in
-      elim (some_or_none (λ x. (y : ℕ) × Has n.graph.nodes y × IsOut reached x y) leaves reached) [
-        | inl r ↦ explore fuel (r.2.0 ∷ reached) (led_more reached r.0 r.2.0 led r.1 r.2.2.0 r.2.2.1) (omega arith)
-        | inr none ↦ record {
-          reached = reached;
-          led = led;
-          closed = λ x y hx step. elim (has_or_not reached y) [
-            | inl k ↦ k
-            | inr off ↦ absurd (none x hx (y, residual_node x y step, (off, step)))
+    -- one node more, by a residual step
+    pub led_more : (reached : List ℕ) (x y : ℕ) → AreLed reached → Has reached x → ¬ Has reached y
+        → IsResidual n from x y → AreLed (y ∷ reached)
+    led_more reached x y led hx off step =
+        let steps = led.walk x hx in
+        let next : (z : ℕ) → Has (y ∷ reached) z → (walk : List ℕ) × Leads (IsResidual n from) n.source walk z
+        × IsDistinct (n.source ∷ walk) × ((a : ℕ) → Has walk a → Has (y ∷ reached) a) = λ z h. elim h [
+          | inl e ↦ (
+            steps ++ y ∷ [],
+            subst (Leads (IsResidual n from) n.source (steps ++ y ∷ [])) e
+                (leads_push (IsResidual n from) n.source x y steps (led.leads x hx) step),
+            distinct_push (n.source ∷ steps) y (led.once x hx) (λ k. off (elim k [
+              | inl s ↦ subst (Has reached) s led.source
+              | inr m ↦ led.over x hx y m
+            ])),
+            λ a k. elim (has_append_cases steps (y ∷ []) a k) [
+              | inl m ↦ inr (led.over x hx a m)
+              | inr m ↦ elim m [ inl s ↦ inl s | inr w ↦ absurd w ]
+            ],
+          )
+          | inr k ↦ (led.walk z k, led.leads z k, led.once z k, λ a m. inr (led.over z k a m))
+        ] in
+        record {
+          source = inr led.source;
+          distinct = (off, led.distinct);
+          nodes = λ z h. elim h [
+            | inl e ↦ subst (Has n.graph.nodes) e (residual_node x y step)
+            | inr k ↦ led.nodes z k
           ];
+          walk = λ z h. (next z h).0;
+          leads = λ z h. (next z h).1;
+          once = λ z h. (next z h).2;
+          over = λ z h. (next z h).3;
         }
-      ]
 
-  pub explored : Explored
-  explored = explore (length n.graph.nodes) (n.source ∷ []) led_source (omega arith)
+    -- the reached nodes, where no step leads out of them
+    pub record Explored : Type 0 where
+      pub reached : List ℕ
+      pub led : AreLed reached
+      pub closed : (x y : ℕ) → Has reached x → IsResidual n from x y → Has reached y
+
+    -- a step that leads out of the reached nodes
+    abbrev IsOut : List ℕ → ℕ → ℕ → Type 0
+    IsOut reached x y = ¬ Has reached y × IsResidual n from x y
+
+    explore : (fuel : ℕ) (reached : List ℕ) → AreLed reached → length n.graph.nodes < fuel + length reached → Explored
+    explore zero reached led l =
+        let h = distinct_length reached n.graph.nodes led.distinct led.nodes in absurd (omega (arith, h, l))
+    explore (suc fuel) reached led l =
+        let out : (x y : ℕ) → IsDecided (IsOut reached x y) = λ x y.
+        both_decided _ _ (not_decided _ (has_or_not reached y)) (residual_decided x y) in
+        let leaves : (x : ℕ) → IsDecided ((y : ℕ) × Has n.graph.nodes y × IsOut reached x y) =
+        λ x. some_decided (IsOut reached x) (out x) n.graph.nodes in
+        elim (some_or_none (λ x. (y : ℕ) × Has n.graph.nodes y × IsOut reached x y) leaves reached) [
+          | inl r ↦ explore fuel (r.2.0 ∷ reached) (led_more reached r.0 r.2.0 led r.1 r.2.2.0 r.2.2.1) (omega arith)
+          | inr none ↦ record {
+            reached = reached;
+            led = led;
+            closed = λ x y hx step. elim (has_or_not reached y) [
+              | inl k ↦ k
+              | inr off ↦ absurd (none x hx (y, residual_node x y step, (off, step)))
+            ];
+          }
+        ]
+
+    pub explored : Explored
+    explored = explore (length n.graph.nodes) (n.source ∷ []) led_source (omega arith)
 
 -- a walk by residual steps that leads to a target and meets no node twice
 pub record AugmentingWalk (n : SplitNetState) (from : Table) : Type 0 where

@@ -6,8 +6,16 @@ use Rattle.ov_graph.specs.Links.{Linked}
 use Rattle.ov_graph.specs.Joined.{Leads, IsWalk, IsNodeSet}
 use Rattle.ov_graph.specs.Paths.{IsPath, ShareOnly}
 use Rattle.ov_graph.proofs.EvenTest.Walks.{joined_end}
-use Rattle.ov_split.specs.SplitNetState.{SplitNetState, IsSplitNet, IsFanOf, IsReached, IsCutOf, IsLeastCut,
-    IsNearestCut, IsSideOf}
+use Rattle.ov_split.specs.SplitNetState.{
+  SplitNetState,
+  IsSplitNet,
+  IsFanOf,
+  IsReached,
+  IsCutOf,
+  IsLeastCut,
+  IsNearestCut,
+  IsSideOf,
+}
 use Rattle.ov_split.proofs.ByNames.Mapped.{has_map, map_has, length_map, ordered_map}
 
 -- f maps the nodes of n to those of m, and g maps them back. Both keep the order
