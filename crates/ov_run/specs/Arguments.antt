@@ -1,10 +1,12 @@
 -- What the arguments of a command line ask for, and why they can't be read. Chosen here.
-use Rattle.std.specs.Prelude.{◌≡◌, ℕ, true, ◌<◌, ◌≤◌, ⊤, List, ◌++◌, length, Option, Some, None, IfSome}
-use Rattle.std.specs.Prelude.{codes, decimal, option_map}
+use Rattle.std.specs.Prelude.{◌≡◌, ◌≢◌, ℕ, Bool, true, false, ◌<◌, ◌≤◌, ⊤, List, ◌++◌, length, Option, Some, None}
+use Rattle.std.specs.Prelude.{IfSome, codes, decimal, option_map, string_bytes, if◌then◌else◌}
+use Rattle.std.specs.Str.{bytes_eq}
 use Rattle.std.specs.declared.io.ErrorKind.{ErrorKind}
 use Rattle.std.specs.declared.io.ErrorKind.TheVariants.{InvalidData}
 use Rattle.clap.specs.Simple.{on_top}
-use Rattle.clap.specs.Words.{App, Rule, first_of, new_app, new_rule, subcommand_of, with_rule, with_subcommand}
+use Rattle.clap.specs.Words.{App, Rule, first_of, new_app, new_rule, subcommand_of, takes, with_rule}
+use Rattle.clap.specs.Words.{with_subcommand}
 use Rattle.clap.specs.declared.builder.action.ArgAction.TheVariants.{Set, SetTrue}
 use Rattle.ov_claims.specs.Claims.{most_workers}
 use Rattle.ov_ids.specs.Options.{◌>>=◌}
@@ -46,7 +48,11 @@ overlay_command =
     (with_subcommand (on_top (λ s. record s { no_binary_name = true }) (new_app (codes "overlay"))) run_command.top)
     analyse_command.top
 
--- the text of a file or an option of this name, where the arguments give it
+-- the name of the command that the arguments give, if they give one
+abbrev pub command_given : List (List ℕ) → Option (List ℕ)
+command_given arguments = option_map (λ found. found.0) (subcommand_of overlay_command arguments)
+
+-- the text of a file or an option of this name, where the arguments give it. A flag that they give has the text `true`
 abbrev pub text_given : List (List ℕ) → List ℕ → Option (List ℕ)
 text_given arguments name = subcommand_of overlay_command arguments >>= λ found. first_of name found.1
 
@@ -72,12 +78,41 @@ abbrev pub workers_asked : Option (List ℕ) → Option ℕ
 workers_asked None = Some 1
 workers_asked (Some text) = workers_of text
 
--- where an analysis is asked for, it is for the group and by the number of workers that these arguments give
+-- the file that the text of FILE asks for, and none, for standard input, where it is `-` or not there
+abbrev pub file_asked : Option (List ℕ) → Option (List ℕ)
+file_asked None = None
+file_asked (Some text) = if bytes_eq text (codes "-") then None else Some text
+
+-- whether the text of a flag says that it is there
+abbrev pub is_flagged : Option (List ℕ) → Bool
+is_flagged None = false
+is_flagged (Some text) = bytes_eq text (codes "true")
+
+-- what is asked for is what the command's name and these texts of its file and its options ask for
+abbrev pub IsAsked : Option (List ℕ) → (List ℕ → Option (List ℕ)) → Request → Type 0
+IsAsked command text (Run file) =
+    (command ≢ Some (codes "analyse"))
+    × (file_asked (text (codes "file")) ≡ option_map (λ f. string_bytes f) file)
+IsAsked command text (Analyse file group workers certificate progress) =
+    (command ≡ Some (codes "analyse"))
+    × (file_asked (text (codes "file")) ≡ option_map (λ f. string_bytes f) file)
+    × (group_asked (text (codes "group")) ≡ Some (option_map (λ ids. ids.items) group))
+    × (workers_asked (text (codes "workers")) ≡ Some workers)
+    × (is_flagged (text (codes "certificate")) ≡ certificate)
+    × (is_flagged (text (codes "progress")) ≡ progress)
+
+-- the group and the number of workers that these texts ask for can be read
+pub record AreReadable (text : List ℕ → Option (List ℕ)) : Type 0 where
+  pub group : group_asked (text (codes "group")) ≢ None
+  pub workers : workers_asked (text (codes "workers")) ≢ None
+
+-- what is asked for is what these arguments give: the command, the file, the group, the number of workers and the flags
 abbrev pub IsOfGiven : List (List ℕ) → Request → Type 0
-IsOfGiven arguments (Run file) = ⊤
-IsOfGiven arguments (Analyse file group workers certificate progress) =
-    (group_asked (text_given arguments (codes "group")) ≡ Some (option_map (λ ids. ids.items) group))
-    × (workers_asked (text_given arguments (codes "workers")) ≡ Some workers)
+IsOfGiven arguments request = IsAsked (command_given arguments) (text_given arguments) request
+
+-- the command takes these arguments, and the group and the number of workers that they give can be read
+abbrev pub AreTaken : List (List ℕ) → Type 0
+AreTaken arguments = (takes overlay_command arguments ≡ true) × AreReadable (text_given arguments)
 
 -- the fault's number
 abbrev pub number_of : ArgumentsFault → ℕ

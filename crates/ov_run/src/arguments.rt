@@ -1,12 +1,13 @@
-ghost use Rattle.std.specs.Prelude.{◌≡◌, ◌<◌, ◌≤◌, false, length, map, codes, string_bytes, Some, option_map};
-ghost use Rattle.std.specs.Prelude.{IfOk, IfSome};
+ghost use Rattle.std.specs.Prelude.{◌≡◌, ◌≢◌, ◌<◌, ◌≤◌, false, length, map, codes, string_bytes, Some, None, Err};
+ghost use Rattle.std.specs.Prelude.{option_map, IfOk, IfSome, IsErrOf};
 ghost use Rattle.std.specs.IoError.{error_kind};
 ghost use Rattle.clap.specs.Words.{app_of, found_of, first_value, rule_of};
 ghost use Rattle.ov_claims.specs.Claims.{most_workers};
-ghost use Rattle.ov_run.specs.Arguments.{HasGroupOfIds, HasWorkers, IsOfGiven, group_asked, workers_asked};
+ghost use Rattle.ov_run.specs.Arguments.{AreReadable, AreTaken, HasGroupOfIds, HasWorkers, IsAsked, IsOfGiven};
+ghost use Rattle.ov_run.specs.Arguments.{file_asked, group_asked, is_flagged, workers_asked};
 ghost use Rattle.ov_run.specs.Arguments.{analyse_command, flag, option, overlay_command, run_command};
 ghost use Rattle.ov_run.specs.Arguments.{fault_of_text, number_of};
-ghost use Rattle.ov_run.specs.declared.arguments.ArgumentsFault.TheVariants.{OutOfMemory as wants_memory};
+ghost use Rattle.ov_run.specs.declared.arguments.ArgumentsFault.TheVariants.{BadArguments, OutOfMemory as wants_memory};
 
 use crate::id_list_reading::read_ids;
 use crate::workers::read_workers;
@@ -103,6 +104,12 @@ impl From<OutOfMemory> for ArgumentsFault {
 }
 
 impl From<ClapError> for ArgumentsFault {
+    ghost use Rattle.std.specs.Prelude.{◌≡◌};
+    ghost use Rattle.clap.specs.Words.{kind_of};
+    ghost use Rattle.clap.specs.declared.error.ErrorKind.TheVariants.{OutOfMemory as no_memory};
+
+    ghost from_gives = { λ error e. (kind_of error ≡ no_memory) → (e ≡ wants_memory) };
+
     fn from(error: ClapError) -> ArgumentsFault {
         match error.kind() {
             ErrorKind::OutOfMemory => ArgumentsFault::OutOfMemory,
@@ -114,31 +121,54 @@ impl From<ClapError> for ArgumentsFault {
 /// Reads the arguments that follow the program's name: `run [FILE]` or `analyse [FILE] [--group IDS] [--workers N]
 /// [--certificate] [--progress]`. No argument asks for `run`. A file that is absent or `-` is standard input. IDS are
 /// one or more ids of decimal digits and 32 bits, with commas between them. N is decimal digits, and from 1 to 64;
-/// without it there is one worker. No option may stand twice. All other arguments are refused
-/// with BadArguments (73), also `--` and those that ask for help. OutOfMemory (99) is returned where an allocation was
-/// refused. The arguments and the numbers are chosen here.
+/// without it there is one worker. No option may stand twice. Behind `--` an argument that begins with `-` is a file.
+/// All other arguments are refused with BadArguments (73), also those that ask for help. OutOfMemory (99) is returned
+/// where an allocation was refused. The arguments and the numbers are chosen here.
 pub fn read_arguments(alloc: Global, arguments: &[String]) -> Result<Request, ArgumentsFault>
     ensures group { IfOk result HasGroupOfIds }
     ensures workers { IfOk result HasWorkers }
     ensures given { IfOk result (IsOfGiven (map (λ argument. string_bytes argument) arguments.now)) }
+    ensures taken { AreTaken (map (λ argument. string_bytes argument) arguments.now)
+        → (result ≢ Err BadArguments) }
 {
-    if arguments.iter().any(|argument| argument.as_str() == "--") {
-        return Err(ArgumentsFault::BadArguments);
-    }
     let matches = command(alloc)?.try_get_matches_from(arguments)?;
     match matches.subcommand() {
         None => Ok(Request::Run { file: None }),
-        Some(("run", matches)) => Ok(Request::Run {
-            file: file_of(alloc, matches)?,
-        }),
-        Some((_, matches)) => Ok(Request::Analyse {
-            file: file_of(alloc, matches)?,
-            group: group_of(alloc, matches)?,
-            workers: workers_of(matches)?,
-            certificate: matches.get_flag("certificate"),
-            progress: matches.get_flag("progress"),
-        }),
+        Some((command, found)) => request_of(alloc, command, found),
     }
+}
+
+/// What a command asks for, by what was found behind it.
+fn request_of(alloc: Global, command: &str, found: &ArgMatches) -> Result<Request, ArgumentsFault>
+    ensures group { IfOk result HasGroupOfIds }
+    ensures workers { IfOk result HasWorkers }
+    ensures asked { IfOk result (IsAsked (Some command.now) (first_value (found_of found.now))) }
+    ensures readable { AreReadable (first_value (found_of found.now)) → (result ≢ Err BadArguments) }
+{
+    if command == "analyse" {
+        return analysis_of(alloc, found);
+    }
+    Ok(Request::Run {
+        file: file_of(alloc, found)?,
+    })
+}
+
+/// The analysis that is asked for, by what was found behind the command.
+fn analysis_of(alloc: Global, found: &ArgMatches) -> Result<Request, ArgumentsFault>
+    ensures group { IfOk result HasGroupOfIds }
+    ensures workers { IfOk result HasWorkers }
+    ensures asked { IfOk result (IsAsked (Some (codes "analyse")) (first_value (found_of found.now))) }
+    ensures readable { AreReadable (first_value (found_of found.now)) → (result ≢ Err BadArguments) }
+{
+    let group = group_of(alloc, found)?;
+    let workers = workers_of(found)?;
+    Ok(Request::Analyse {
+        file: file_of(alloc, found)?,
+        group,
+        workers,
+        certificate: has_flag(found, "certificate"),
+        progress: has_flag(found, "progress"),
+    })
 }
 
 /// The arguments that `overlay` takes.
@@ -187,12 +217,27 @@ fn flag<'a>(alloc: Global, name: &'a str) -> Arg<'a>
 }
 
 /// The file that is named, unless it is absent or `-`.
-fn file_of(alloc: Global, matches: &ArgMatches) -> Result<Option<String>, AllocError> {
-    match matches.get_str("file") {
-        None => Ok(None),
-        Some("-") => Ok(None),
-        Some(file) => Ok(Some(String::from_str(alloc, file)?)),
+fn file_of(alloc: Global, matches: &ArgMatches) -> Result<Option<String>, AllocError>
+    ensures { IfOk result (λ file. file_asked (first_value (found_of matches.now) (codes "file"))
+        ≡ option_map string_bytes file) }
+{
+    let Some(file) = matches.get_str("file") else {
+        return Ok(None);
+    };
+    if file == "-" {
+        return Ok(None);
     }
+    Ok(Some(String::from_str(alloc, file)?))
+}
+
+/// Whether a flag is there.
+fn has_flag(matches: &ArgMatches, name: &str) -> bool
+    ensures { result ≡ is_flagged (first_value (found_of matches.now) name.now) }
+{
+    let Some(text) = matches.get_str(name) else {
+        return false;
+    };
+    text == "true"
 }
 
 /// The ids of the group that is given, or nothing.
@@ -201,6 +246,8 @@ fn group_of(alloc: Global, matches: &ArgMatches) -> Result<Option<Vec<NodeId>>, 
     ensures given { IfOk result (λ group. group_asked (first_value (found_of matches.now) (codes "group"))
         ≡ Some (option_map (λ ids. ids.items) group)) }
     ensures some { IfOk result (λ group. IfSome group (λ ids. 0 < length ids.items)) }
+    ensures bad { IsErrOf result BadArguments
+        → (group_asked (first_value (found_of matches.now) (codes "group")) ≡ None) }
 {
     let Some(text) = matches.get_str("group") else {
         return Ok(None);
@@ -217,6 +264,8 @@ fn workers_of(matches: &ArgMatches) -> Result<u32, ArgumentsFault>
         (λ n. workers_asked (first_value (found_of matches.now) (codes "workers")) ≡ Some n) }
     ensures some { IfOk result (λ n. 1 ≤ n) }
     ensures few { IfOk result (λ n. n ≤ most_workers) }
+    ensures bad { IsErrOf result BadArguments
+        → (workers_asked (first_value (found_of matches.now) (codes "workers")) ≡ None) }
 {
     let Some(text) = matches.get_str("workers") else {
         return Ok(1);

@@ -1,6 +1,9 @@
 //! Reads a certificate file, and says in one line whether it holds.
 #![tactic(auto)]
 
+ghost use Rattle.std.specs.Prelude.{◌≡◌};
+ghost use Rattle.ov_check.specs.Program.{exit_status};
+
 use ov_check::{JudgeFault, Judged, ProgramFault, exit_status, input_named, judge_kept};
 use ov_check_reasons::reasons;
 use ov_io::{Sink, Source};
@@ -36,7 +39,9 @@ fn has_word(rt: &impl Env, place: usize) -> bool {
 }
 
 /// Prints why no line of an outcome was printed, if none was, and returns the status.
-fn end(rt: &impl Runtime, answer: &Result<u8, ProgramFault>) -> u8 {
+fn end(rt: &impl Runtime, answer: &Result<u8, ProgramFault>) -> u8
+    ensures { result ≡ exit_status answer.now }
+{
     if let Err(fault) = answer {
         let _ = eprintln!(rt; "{fault}");
     }
