@@ -58,7 +58,11 @@ command_found command arguments m name is has named =
 -- what equal names and texts ask for is the same
 pub asked_same : (c d : Option (List ℕ)) (t u : List ℕ → Option (List ℕ)) → c ≡ d → ((n : List ℕ) → t n ≡ u n)
     → (r : Request) → IsAsked d u r → IsAsked c t r
-asked_same c d t u e f (Run file) a = ((λ x. a.0 (sym e ∙ x)), ap file_asked (f (codes "file")) ∙ a.1)
+asked_same c d t u e f (Run file explain) a = (
+  (λ x. a.0 (sym e ∙ x)),
+  ap file_asked (f (codes "file")) ∙ a.1,
+  ap is_flagged (f (codes "explain")) ∙ a.2,
+)
 asked_same c d t u e f (Analyse file group workers certificate progress) a = (
   e ∙ a.0,
   ap file_asked (f (codes "file")) ∙ a.1,

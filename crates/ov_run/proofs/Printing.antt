@@ -1,3 +1,4 @@
 -- What a scenario prints.
 pub mod Ending
+pub mod Outcomes
 pub mod Running

@@ -26,9 +26,9 @@ option name = record (new_rule name) { long = Some name; action = Some Set }
 abbrev pub flag : List ℕ → Rule
 flag name = record (new_rule name) { long = Some name; action = Some SetTrue }
 
--- `run [FILE]`
+-- `run [FILE] [--explain]`
 abbrev pub run_command : App
-run_command = with_rule (new_app (codes "run")) (new_rule (codes "file"))
+run_command = with_rule (with_rule (new_app (codes "run")) (new_rule (codes "file"))) (flag (codes "explain"))
 
 -- `analyse [FILE] [--group TEXT] [--workers TEXT] [--certificate] [--progress]`
 abbrev pub analyse_command : App
@@ -60,12 +60,12 @@ text_given arguments name = subcommand_of overlay_command arguments >>= λ found
 
 -- where an analysis for a group is asked for, the group is of one or more ids
 abbrev pub HasGroupOfIds : Request → Type 0
-HasGroupOfIds (Run file) = ⊤
+HasGroupOfIds (Run file explain) = ⊤
 HasGroupOfIds (Analyse file group workers certificate progress) = IfSome group (λ ids. 0 < length ids.items)
 
 -- an analysis has workers, and no more than there may be
 abbrev pub HasWorkers : Request → Type 0
-HasWorkers (Run file) = ⊤
+HasWorkers (Run file explain) = ⊤
 HasWorkers (Analyse file group workers certificate progress) = (1 ≤ workers) × (workers ≤ most_workers)
 
 -- the group that the text of `--group` asks for, and no group, for all nodes, where it is not there
@@ -90,9 +90,10 @@ is_flagged (Some text) = bytes_eq text (codes "true")
 
 -- what is asked for is what the command's name and these texts of its file and its options ask for
 abbrev pub IsAsked : Option (List ℕ) → (List ℕ → Option (List ℕ)) → Request → Type 0
-IsAsked command text (Run file) =
+IsAsked command text (Run file explain) =
     (command ≢ Some (codes "analyse"))
     × (file_asked (text (codes "file")) ≡ option_map (λ f. string_bytes f) file)
+    × (is_flagged (text (codes "explain")) ≡ explain)
 IsAsked command text (Analyse file group workers certificate progress) =
     (command ≡ Some (codes "analyse"))
     × (file_asked (text (codes "file")) ≡ option_map (λ f. string_bytes f) file)

@@ -2,5 +2,6 @@
 pub mod RunnableLines
 pub mod ScenarioFaults
 pub mod Kept
+pub mod Outcomes
 pub mod Spaced
 pub mod Writing

@@ -23,9 +23,10 @@ use std::io::ErrorKind as IoErrorKind;
 /// What the arguments of a command line ask for. Without a file, standard input is read.
 #[derive(Debug, PartialEq, Eq, Drop)]
 pub enum Request {
-    /// To run a scenario file.
+    /// To run a scenario file. `explain` asks to tell why lines are refused.
     Run {
         file: Option<String>,
+        explain: bool,
     },
     /// To analyse a graph file for the group of these ids, or of all nodes, by so many workers. `certificate` asks for
     /// the certificate file too, and `progress` to tell how far the analysis has come.
@@ -118,12 +119,12 @@ impl From<ClapError> for ArgumentsFault {
     }
 }
 
-/// Reads the arguments that follow the program's name: `run [FILE]` or `analyse [FILE] [--group IDS] [--workers N]
-/// [--certificate] [--progress]`. No argument asks for `run`. A file that is absent or `-` is standard input. IDS are
-/// one or more ids of decimal digits and 32 bits, with commas between them. N is decimal digits, and from 1 to 64;
-/// without it there is one worker. No option may stand twice. Behind `--` an argument that begins with `-` is a file.
-/// All other arguments are refused with BadArguments (73), also those that ask for help. OutOfMemory (99) is returned
-/// where an allocation was refused. The arguments and the numbers are chosen here.
+/// Reads the arguments that follow the program's name: `run [FILE] [--explain]` or `analyse [FILE] [--group IDS]
+/// [--workers N] [--certificate] [--progress]`. No argument asks for `run`. A file that is absent or `-` is standard
+/// input. IDS are one or more ids of decimal digits and 32 bits, with commas between them. N is decimal digits, and
+/// from 1 to 64; without it there is one worker. No option may stand twice. Behind `--` an argument that begins with
+/// `-` is a file. All other arguments are refused with BadArguments (73), also those that ask for help. OutOfMemory
+/// (99) is returned where an allocation was refused. The arguments and the numbers are chosen here.
 pub fn read_arguments(alloc: Global, arguments: &[String]) -> Result<Request, ArgumentsFault>
     ensures group { IfOk result HasGroupOfIds }
     ensures workers { IfOk result HasWorkers }
@@ -133,7 +134,10 @@ pub fn read_arguments(alloc: Global, arguments: &[String]) -> Result<Request, Ar
 {
     let matches = command(alloc)?.try_get_matches_from(arguments)?;
     match matches.subcommand() {
-        None => Ok(Request::Run { file: None }),
+        None => Ok(Request::Run {
+            file: None,
+            explain: false,
+        }),
         Some((command, found)) => request_of(alloc, command, found),
     }
 }
@@ -150,6 +154,7 @@ fn request_of(alloc: Global, command: &str, found: &ArgMatches) -> Result<Reques
     }
     Ok(Request::Run {
         file: file_of(alloc, found)?,
+        explain: has_flag(found, "explain"),
     })
 }
 
@@ -185,7 +190,9 @@ fn command<'a>(alloc: Global) -> Result<Command<'a>, AllocError>
 fn run_command<'a>(alloc: Global) -> Result<Command<'a>, AllocError>
     ensures { IfOk result (λ c. app_of c ≡ run_command) }
 {
-    Command::new(alloc, "run").arg(Arg::new(alloc, "file"))
+    Command::new(alloc, "run")
+        .arg(Arg::new(alloc, "file"))?
+        .arg(flag(alloc, "explain"))
 }
 
 /// The arguments behind `analyse`.

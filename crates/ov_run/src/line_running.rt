@@ -1,4 +1,4 @@
-ghost use Rattle.std.specs.Prelude.{◌≡◌, ◌⊎◌, ◌<◌, ◌+◌, ◌∷◌, [], IfErr, OnOk, IsErrOf};
+ghost use Rattle.std.specs.Prelude.{◌≡◌, ◌⊎◌, ◌<◌, ◌+◌, ◌∷◌, [], IfOk, IfErr, OnOk, IsErrOf};
 ghost use Rattle.ov_io.specs.Device.{most_faults, write_failures as sink_failures, write_number};
 ghost use Rattle.ov_net.specs.declared.journal_entry.Entry.{Entry};
 ghost use Rattle.ov_snap.specs.CoreState.{CoreState, opening_core};
@@ -6,13 +6,16 @@ ghost use Rattle.ov_snap.specs.Run.{Happened};
 ghost use Rattle.ov_run.specs.Ending.{BeginsLines, BeginsLook, EndsLine, EndsLines, EndsLook};
 ghost use Rattle.ov_run.specs.Faults.{write_failures};
 ghost use Rattle.ov_run.specs.Running.{PrintsEvent, PrintsReportLine, PrintsLook, PrintsLine, PrintsLines};
+ghost use Rattle.ov_run.specs.Code.Outcomes.{DoesEvent, DoesLine, FilesReport, ShowsLook, WritesOutcome};
 ghost use Rattle.ov_run.specs.Code.Writing.{Writes, WritesPrefix, IsOfWriting};
 
 use crate::analysis_filing::file_analysis;
+use crate::outcome::Outcome;
 use crate::run_fault::RunFault;
+use crate::run_watcher::RunWatcher;
 use crate::scenario::{Line, Look, Subject};
 use crate::sink_writing::{
-    write_certificate, write_entry, write_node, write_packets, write_refusal,
+    write_certificate, write_done, write_entry, write_node, write_packets, write_refusal,
 };
 use crate::workers::Workers;
 use ov_ids::Params;
@@ -24,13 +27,15 @@ use std::alloc::Global;
 use std::io::Write;
 use std::thread::Threads;
 
-/// Runs these lines in a world in which nothing happened, and writes what they print.
-pub(crate) fn run_lines<T: Threads + Sync, W: Write>(
+/// Runs these lines in a world in which nothing happened, and writes what they print. The watcher is told what became
+/// of each, after that.
+pub(crate) fn run_lines<T: Threads + Sync, W: Write, V: RunWatcher>(
     rt: &T,
     alloc: Global,
     params: Params,
     lines: Vec<Line>,
     sink: &mut Sink<W>,
+    watcher: &mut V,
 ) -> Result<(), RunFault>
     requires faults { sink.old.faults < most_faults }
     ensures prints { OnOk result ((core : CoreState) × Writes (PrintsLines (opening_core params) lines.items core)
@@ -44,20 +49,32 @@ pub(crate) fn run_lines<T: Threads + Sync, W: Write>(
 {
     let mut core = Core::new(alloc, params);
     for line in lines {
-        run_line(rt, alloc, &mut core, line, sink)?;
+        let outcome = run_line(rt, alloc, &mut core, line, sink)?;
+        tell(watcher, &core, outcome);
     }
     Ok(())
 }
 
-/// Runs one line, and writes what it prints.
+/// Tells a watcher what became of a line that ran.
+fn tell<V: RunWatcher>(watcher: &mut V, core: &Core, outcome: Outcome) {
+    match outcome {
+        Outcome::Accepted => watcher.accepted(),
+        Outcome::Refused(number) => watcher.refused(core, number),
+    }
+}
+
+/// Runs one line, writes what it prints, and returns what became of it.
 fn run_line<T: Threads + Sync, W: Write>(
     rt: &T,
     alloc: Global,
     core: &mut Core,
     line: Line,
     sink: &mut Sink<W>,
-) -> Result<(), RunFault>
+) -> Result<Outcome, RunFault>
     requires faults { sink.old.faults < most_faults }
+    ensures outcome { IfOk result (WritesOutcome (DoesLine core.old line core.new)
+        (W.contents sink.old.writer) (W.contents sink.new.writer)) }
+    ensures unchanged { IfOk result (λ outcome. (outcome ≡ Outcome.Accepted) ⊎ (core.new ≡ core.old)) }
     ensures prints { OnOk result (Writes (PrintsLine core.old line core.new)
         (W.contents sink.old.writer) (W.contents sink.new.writer)) }
     ensures begun { WritesPrefix (BeginsLines core.old (line ∷ []))
@@ -84,8 +101,11 @@ fn run_event<W: Write>(
     event: Event,
     words: &Words,
     sink: &mut Sink<W>,
-) -> Result<(), RunFault>
+) -> Result<Outcome, RunFault>
     requires faults { sink.old.faults < most_faults }
+    ensures outcome { IfOk result (WritesOutcome (DoesEvent core.old event words.now core.new)
+        (W.contents sink.old.writer) (W.contents sink.new.writer)) }
+    ensures unchanged { IfOk result (λ outcome. (outcome ≡ Outcome.Accepted) ⊎ (core.new ≡ core.old)) }
     ensures prints { OnOk result (Writes (PrintsEvent core.old event words.now core.new)
         (W.contents sink.old.writer) (W.contents sink.new.writer)) }
     ensures begun { WritesPrefix (PrintsEvent core.old event words.now core.new)
@@ -111,8 +131,11 @@ fn run_analysis<T: Threads + Sync, W: Write>(
     subject: &Subject,
     workers: Workers,
     sink: &mut Sink<W>,
-) -> Result<(), WriteFault>
+) -> Result<Outcome, WriteFault>
     requires faults { sink.old.faults < most_faults }
+    ensures outcome { IfOk result (WritesOutcome (FilesReport core.old subject.now core.new)
+        (W.contents sink.old.writer) (W.contents sink.new.writer)) }
+    ensures unchanged { IfOk result (λ outcome. (outcome ≡ Outcome.Accepted) ⊎ (core.new ≡ core.old)) }
     ensures prints { OnOk result (Writes (PrintsReportLine core.old subject.now core.new)
         (W.contents sink.old.writer) (W.contents sink.new.writer)) }
     ensures begun { WritesPrefix (PrintsReportLine core.old subject.now core.new)
@@ -120,7 +143,7 @@ fn run_analysis<T: Threads + Sync, W: Write>(
     ensures faults { sink.new.faults ≡ sink.old.faults + sink_failures write_number result }
 {
     match file_analysis(rt, alloc, core, subject, workers) {
-        Ok(line) => sink.write_all(line.as_bytes()),
+        Ok(line) => write_done(line.as_bytes(), sink),
         Err(refusal) => write_refusal(refusal.number(), sink),
     }
 }
@@ -131,8 +154,10 @@ fn write_look<W: Write>(
     core: &Core,
     look: Look,
     sink: &mut Sink<W>,
-) -> Result<(), RunFault>
+) -> Result<Outcome, RunFault>
     requires faults { sink.old.faults < most_faults }
+    ensures outcome { IfOk result (WritesOutcome (ShowsLook core.now look)
+        (W.contents sink.old.writer) (W.contents sink.new.writer)) }
     ensures prints { OnOk result (Writes (PrintsLook core.now look)
         (W.contents sink.old.writer) (W.contents sink.new.writer)) }
     ensures begun { WritesPrefix (λ text. BeginsLook core.now look text ⊎ PrintsLook core.now look text)

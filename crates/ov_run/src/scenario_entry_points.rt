@@ -6,6 +6,7 @@ ghost use Rattle.ov_run.specs.Running.{Prints};
 
 use crate::line_running::run_lines;
 use crate::run_fault::RunFault;
+use crate::run_watcher::{RunWatcher, Unwatched};
 use crate::scenario_reading::read_scenario;
 use ov_io::{Sink, Source};
 use std::alloc::Global;
@@ -23,7 +24,6 @@ use std::thread::Threads;
 /// An event or an analysis that is out of memory is refused with 99, and the run goes on. OutOfMemory (99) is returned
 /// only where reading the scenario was out of memory, or making the line of an event that happened, of a node or of a
 /// packet. The numbers and the form of what is printed are chosen here.
-#[tactic(auto, using(crate::proofs::Lines::Counted::run_fault))]
 pub fn run<T: Threads + Sync, R: Read, W: Write>(
     rt: &T,
     alloc: Global,
@@ -46,8 +46,37 @@ pub fn run<T: Threads + Sync, R: Read, W: Write>(
     ensures memory { IsErrOf result RunFault.OutOfMemory → (sink.new ≡ sink.old)
         ⊎ Ends (R.remaining source.old.reader) (W.contents sink.old.writer) (W.contents sink.new.writer) }
 {
+    run_watched(rt, alloc, source, sink, &mut Unwatched)
+}
+
+/// Does what `run` does. The watcher is told what became of each line that ran, in order, each after what the line
+/// prints was written.
+#[tactic(auto, using(crate::proofs::Lines::Counted::run_fault))]
+pub fn run_watched<T: Threads + Sync, R: Read, W: Write, V: RunWatcher>(
+    rt: &T,
+    alloc: Global,
+    source: &mut Source<R>,
+    sink: &mut Sink<W>,
+    watcher: &mut V,
+) -> Result<u8, RunFault>
+    requires reads { source.old.faults < most_faults }
+    requires writes { sink.old.faults < most_faults }
+    ensures status { IfOk result (λ status. status ≡ 0) }
+    ensures prints { OnOk result
+        (Prints (R.remaining source.old.reader) (W.contents sink.old.writer) (W.contents sink.new.writer)) }
+    ensures begun { (sink.new ≡ sink.old)
+        ⊎ Begins (R.remaining source.old.reader) (W.contents sink.old.writer) (W.contents sink.new.writer) }
+    ensures source { source.new.faults ≡ source.old.faults + read_failures result }
+    ensures failed { IsErrOf result RunFault.Read → ReaderFailed source.old source.new }
+    ensures not_failed { result ≢ Err RunFault.Read → source.new.failures ≡ source.old.failures }
+    ensures sink { sink.new.faults ≡ sink.old.faults + write_failures result }
+    ensures fault { IfErr result (IsRunFault (R.remaining source.old.reader)) }
+    ensures unread { IfErr result (λ f. IsOfReading f → sink.new ≡ sink.old) }
+    ensures memory { IsErrOf result RunFault.OutOfMemory → (sink.new ≡ sink.old)
+        ⊎ Ends (R.remaining source.old.reader) (W.contents sink.old.writer) (W.contents sink.new.writer) }
+{
     let bytes = source.read_all(alloc)?;
     let scenario = read_scenario(alloc, &bytes)?;
-    run_lines(rt, alloc, scenario.params, scenario.lines, sink)?;
+    run_lines(rt, alloc, scenario.params, scenario.lines, sink, watcher)?;
     Ok(0)
 }

@@ -9,10 +9,12 @@ ghost use Rattle.ov_run.specs.Ending.{BeginsPackets};
 ghost use Rattle.ov_run.specs.Faults.{write_failures};
 ghost use Rattle.ov_run.specs.Printed.{entry_line, file_text, node_line, refused_line};
 ghost use Rattle.ov_run.specs.Running.{PrintsNode, PrintsPackets, PrintsCertificate};
+ghost use Rattle.ov_run.specs.Code.Outcomes.{ShowsCertificate, ShowsNode, WritesOutcome};
 ghost use Rattle.ov_run.specs.Code.Writing.{Writes, WritesPrefix, IsOfWriting};
 
 use crate::analysis_filing::filed_report;
 use crate::line_texts::{entry_line, node_line, packet_line, refused_line};
+use crate::outcome::Outcome;
 use crate::run_fault::RunFault;
 use crate::scenario::Subject;
 use ov_certfile::to_text_group;
@@ -24,16 +26,33 @@ use ov_snap::{Core, CoreFault, Report};
 use std::alloc::Global;
 use std::io::Write;
 
-/// Writes the line of a refusal. Nothing is allocated, so only the writer can fail.
-pub(crate) fn write_refusal<W: Write>(number: u32, sink: &mut Sink<W>) -> Result<(), WriteFault>
+/// Writes what is printed of a line that was done.
+pub(crate) fn write_done<W: Write>(text: &[u8], sink: &mut Sink<W>) -> Result<Outcome, WriteFault>
     requires faults { sink.old.faults < most_faults }
+    ensures outcome { IfOk result (λ outcome. outcome ≡ Outcome.Accepted) }
+    ensures bytes { OnOk result (Appends (W.contents sink.old.writer) (W.contents sink.new.writer) text.now) }
+    ensures prefix { AppendsPrefixOf text.now (W.contents sink.old.writer) (W.contents sink.new.writer) }
+    ensures faults { sink.new.faults ≡ sink.old.faults + sink_failures write_number result }
+{
+    sink.write_all(text)?;
+    Ok(Outcome::Accepted)
+}
+
+/// Writes the line of a refusal. Nothing is allocated, so only the writer can fail.
+pub(crate) fn write_refusal<W: Write>(
+    number: u32,
+    sink: &mut Sink<W>,
+) -> Result<Outcome, WriteFault>
+    requires faults { sink.old.faults < most_faults }
+    ensures outcome { IfOk result (λ outcome. outcome ≡ Outcome.Refused number) }
     ensures bytes { OnOk result
         (Appends (W.contents sink.old.writer) (W.contents sink.new.writer) (refused_line number)) }
     ensures prefix { AppendsPrefixOf (refused_line number) (W.contents sink.old.writer) (W.contents sink.new.writer) }
     ensures faults { sink.new.faults ≡ sink.old.faults + sink_failures write_number result }
 {
     let line = refused_line(number);
-    sink.write_all(line.as_str().as_bytes())
+    sink.write_all(line.as_str().as_bytes())?;
+    Ok(Outcome::Refused(number))
 }
 
 /// Writes the line of an accepted event.
@@ -42,8 +61,9 @@ pub(crate) fn write_entry<W: Write>(
     alloc: Global,
     entry: &Entry,
     sink: &mut Sink<W>,
-) -> Result<(), RunFault>
+) -> Result<Outcome, RunFault>
     requires faults { sink.old.faults < most_faults }
+    ensures outcome { IfOk result (λ outcome. outcome ≡ Outcome.Accepted) }
     ensures bytes { OnOk result
         (Appends (W.contents sink.old.writer) (W.contents sink.new.writer) (entry_line entry.now)) }
     ensures prefix { AppendsPrefixOf (entry_line entry.now) (W.contents sink.old.writer) (W.contents sink.new.writer) }
@@ -52,7 +72,7 @@ pub(crate) fn write_entry<W: Write>(
     ensures kind { IfErr result IsOfWriting }
 {
     let line = entry_line(alloc, entry)?;
-    Ok(sink.write_all(line.as_bytes())?)
+    Ok(write_done(line.as_bytes(), sink)?)
 }
 
 /// Writes what is printed of a node. OutOfMemory is returned only where the node lives and its line can't be made.
@@ -61,8 +81,10 @@ pub(crate) fn write_node<W: Write>(
     world: &World,
     id: NodeId,
     sink: &mut Sink<W>,
-) -> Result<(), RunFault>
+) -> Result<Outcome, RunFault>
     requires faults { sink.old.faults < most_faults }
+    ensures outcome { IfOk result (WritesOutcome (ShowsNode world.now.net id)
+        (W.contents sink.old.writer) (W.contents sink.new.writer)) }
     ensures prints { OnOk result (Writes (PrintsNode world.now.net id)
         (W.contents sink.old.writer) (W.contents sink.new.writer)) }
     ensures begun { WritesPrefix (PrintsNode world.now.net id)
@@ -86,8 +108,9 @@ fn write_peer<W: Write>(
     id: NodeId,
     peer: &Peer,
     sink: &mut Sink<W>,
-) -> Result<(), RunFault>
+) -> Result<Outcome, RunFault>
     requires faults { sink.old.faults < most_faults }
+    ensures outcome { IfOk result (λ outcome. outcome ≡ Outcome.Accepted) }
     ensures bytes { OnOk result
         (Appends (W.contents sink.old.writer) (W.contents sink.new.writer) (node_line id peer.now)) }
     ensures prefix { AppendsPrefixOf (node_line id peer.now) (W.contents sink.old.writer) (W.contents sink.new.writer) }
@@ -96,7 +119,7 @@ fn write_peer<W: Write>(
     ensures kind { IfErr result IsOfWriting }
 {
     let line = node_line(alloc, id, peer)?;
-    Ok(sink.write_all(line.as_bytes())?)
+    Ok(write_done(line.as_bytes(), sink)?)
 }
 
 /// Writes the certificate file of the report that is filed for a subject, or the refusal where there is none. Out of
@@ -106,8 +129,10 @@ pub(crate) fn write_certificate<W: Write>(
     core: &Core,
     subject: &Subject,
     sink: &mut Sink<W>,
-) -> Result<(), WriteFault>
+) -> Result<Outcome, WriteFault>
     requires faults { sink.old.faults < most_faults }
+    ensures outcome { IfOk result (WritesOutcome (ShowsCertificate core.now subject.now)
+        (W.contents sink.old.writer) (W.contents sink.new.writer)) }
     ensures prints { OnOk result (Writes (PrintsCertificate core.now subject.now)
         (W.contents sink.old.writer) (W.contents sink.new.writer)) }
     ensures begun { WritesPrefix (PrintsCertificate core.now subject.now)
@@ -119,7 +144,7 @@ pub(crate) fn write_certificate<W: Write>(
     };
     prove!(core.world().journal().len() <= MAX_ENTRIES);
     match file_text(alloc, report) {
-        Ok(text) => sink.write_all(text.as_bytes()),
+        Ok(text) => write_done(text.as_bytes(), sink),
         Err(fault) => write_refusal(fault.number(), sink),
     }
 }
@@ -141,9 +166,10 @@ pub(crate) fn write_packets<W: Write>(
     alloc: Global,
     packets: &[Packet],
     sink: &mut Sink<W>,
-) -> Result<(), RunFault>
+) -> Result<Outcome, RunFault>
     requires faults { sink.old.faults < most_faults }
     requires few { length packets.now ≤ most_packets }
+    ensures outcome { IfOk result (λ outcome. outcome ≡ Outcome.Accepted) }
     ensures prints { OnOk result (Writes (PrintsPackets 0 packets.now)
         (W.contents sink.old.writer) (W.contents sink.new.writer)) }
     ensures begun { WritesPrefix (BeginsPackets packets.now)
@@ -157,5 +183,5 @@ pub(crate) fn write_packets<W: Write>(
         let line = packet_line(alloc, place as u32, packet.to(), packet.bytes())?;
         sink.write_all(line.as_bytes())?;
     }
-    Ok(())
+    Ok(Outcome::Accepted)
 }

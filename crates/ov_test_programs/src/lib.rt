@@ -1,5 +1,6 @@
 //! What the engines of the programs print of whole files, in memory: graph files, their faults, and the certificates of
-//! their answers. How the programs end, and the numbers of the pieces by which they analyse.
+//! their answers. How the programs end, what the watcher of a run is told, and the numbers of the pieces by which they
+//! analyse.
 #![tactic(auto)]
 
 #[cfg(test)]
@@ -12,5 +13,7 @@ mod graphs;
 mod pieces;
 #[cfg(test)]
 mod refusals;
+#[cfg(test)]
+mod watched;
 #[cfg(test)]
 mod words;

@@ -6,14 +6,18 @@ ghost use Rattle.std.specs.Prelude.{◌≤◌};
 ghost use Rattle.ov_claims.specs.Claims.{most_workers};
 ghost use Rattle.ov_run.specs.Arguments.{HasWorkers};
 
+mod explaining;
 mod progress;
+mod run_line_numbers;
 
+use crate::explaining::Explaining;
 use crate::progress::Progress;
 use ov_ids::NodeId;
 use ov_io::{Sink, Source};
 use ov_reasons::{argument_reasons, graph_reasons, scenario_reasons};
 use ov_run::{
-    ArgumentsFault, ProgramFault, Request, RunFault, analyse_file, exit_status, read_arguments, run,
+    ArgumentsFault, ProgramFault, Request, RunFault, analyse_file, exit_status, read_arguments,
+    run, run_watched,
 };
 use std::env;
 use std::fs::File;
@@ -100,7 +104,7 @@ fn do_asked<T: Threads + Sync>(rt: &HostRuntime, threads: &T, request: Request) 
     requires { HasWorkers request }
 {
     match request {
-        Request::Run { file } => run_asked(rt, threads, file),
+        Request::Run { file, explain } => run_asked(rt, threads, file, explain),
         Request::Analyse {
             file,
             group,
@@ -125,39 +129,83 @@ fn not_opened(rt: &HostRuntime, path: &str, error: io::Error) -> Ended {
     Ended::with(Err(RunFault::Read), reason.ok())
 }
 
-/// Runs the scenario of a file, or of standard input.
-fn run_asked<T: Threads + Sync>(rt: &HostRuntime, threads: &T, file: Option<String>) -> Ended {
+/// Runs the scenario of a file, or of standard input. Where it is to be explained, it is told why lines are refused.
+fn run_asked<T: Threads + Sync>(
+    rt: &HostRuntime,
+    threads: &T,
+    file: Option<String>,
+    explain: bool,
+) -> Ended {
     let Some(path) = file else {
         if rt.stdin().is_terminal() {
             let _ = eprintln!(rt; "reading a scenario from standard input");
         }
-        return run_from(rt, threads, rt.stdin());
+        return run_from(rt, threads, rt.stdin(), explain);
     };
     match File::open(rt, path.as_str()) {
-        Ok(file) => run_from(rt, threads, file),
+        Ok(file) => run_from(rt, threads, file, explain),
         Err(error) => not_opened(rt, &path, error),
     }
 }
 
 /// Reads a scenario and runs it.
-fn run_from<T: Threads + Sync, R: Read + Drop>(rt: &HostRuntime, threads: &T, reader: R) -> Ended {
+fn run_from<T: Threads + Sync, R: Read + Drop>(
+    rt: &HostRuntime,
+    threads: &T,
+    reader: R,
+    explain: bool,
+) -> Ended {
     let mut source = Source::new(reader);
     match source.read_all(rt.alloc()) {
-        Ok(bytes) => run_bytes(rt, threads, &bytes),
+        Ok(bytes) => run_bytes(rt, threads, &bytes, explain),
         Err(fault) => Ended::with(Err(RunFault::from(fault)), None),
     }
 }
 
 /// Runs the scenario of these bytes. A fault of it is told of.
-fn run_bytes<T: Threads + Sync>(rt: &HostRuntime, threads: &T, bytes: &[u8]) -> Ended {
-    let mut source = Source::new(bytes);
-    let mut sink = Sink::new(rt.stdout());
-    let answer = run(threads, rt.alloc(), &mut source, &mut sink);
+fn run_bytes<T: Threads + Sync>(
+    rt: &HostRuntime,
+    threads: &T,
+    bytes: &[u8],
+    explain: bool,
+) -> Ended {
+    let answer = if explain {
+        run_explained(rt, threads, bytes)
+    } else {
+        run_plainly(rt, threads, bytes)
+    };
     let reason = match &answer {
         Ok(_) => None,
         Err(fault) => scenario_reasons(rt.alloc(), bytes, fault).ok(),
     };
     Ended::with(answer, reason)
+}
+
+/// Runs the scenario of these bytes, and tells nothing but what it prints.
+fn run_plainly<T: Threads + Sync>(
+    rt: &HostRuntime,
+    threads: &T,
+    bytes: &[u8],
+) -> Result<u8, RunFault> {
+    let mut source = Source::new(bytes);
+    let mut sink = Sink::new(rt.stdout());
+    run(threads, rt.alloc(), &mut source, &mut sink)
+}
+
+/// Runs the scenario of these bytes. It is told why lines are refused, and at the end how many events are.
+fn run_explained<T: Threads + Sync>(
+    rt: &HostRuntime,
+    threads: &T,
+    bytes: &[u8],
+) -> Result<u8, RunFault> {
+    let Some(mut explaining) = Explaining::new(rt, bytes) else {
+        return run_plainly(rt, threads, bytes);
+    };
+    let mut source = Source::new(bytes);
+    let mut sink = Sink::new(rt.stdout());
+    let answer = run_watched(threads, rt.alloc(), &mut source, &mut sink, &mut explaining);
+    explaining.tell_count();
+    answer
 }
 
 /// What is asked of an analysis, besides its file.

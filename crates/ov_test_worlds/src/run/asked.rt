@@ -3,7 +3,6 @@ use ov_ids::NodeId;
 use ov_run::{ArgumentsFault, Request, draw, read_arguments};
 use ov_words::Words;
 use std::alloc::Global;
-use std::process::Abort;
 use std::test::Fail;
 
 /// What the arguments of this line, one space between them, ask for. The empty line has no argument.
@@ -29,32 +28,61 @@ fn asks(alloc: Global, line: &str, expected: &Request) -> Result<bool, Fail> {
     })
 }
 
-fn is_run(rt: &impl Abort, alloc: Global, line: &str, name: &str) -> Result<(), Fail> {
-    let file = file(alloc, name)?;
-    assert!(rt; asks(alloc, line, &Request::Run { file })?, "at {line}");
-    Ok(())
+/// Arguments that ask for a run of standard input, and whether it is to be explained.
+static RUNS: [(&str, bool); 8] = [
+    ("", false),
+    ("--", false),
+    ("run", false),
+    ("run -", false),
+    ("run --", false),
+    ("run -- -", false),
+    ("run --explain", true),
+    ("run - --explain", true),
+];
+
+/// Arguments that ask for a run of a file: its name, and whether the run is to be explained.
+static FILE_RUNS: [(&str, &str, bool); 11] = [
+    ("run g", "g", false),
+    ("run -- g", "g", false),
+    ("run -- -g", "-g", false),
+    ("run -- --explain", "--explain", false),
+    ("run --explain -- --", "--", true),
+    ("run g --explain", "g", true),
+    ("run --explain g", "g", true),
+    ("run run", "run", false),
+    ("run analyse", "analyse", false),
+    ("run help", "help", false),
+    ("run \u{e4}/g.txt", "\u{e4}/g.txt", false),
+];
+
+/// The line asks for a run of this file.
+fn asks_for_run(
+    alloc: Global,
+    line: &str,
+    file: Option<String>,
+    explain: bool,
+) -> Result<bool, Fail> {
+    asks(alloc, line, &Request::Run { file, explain })
 }
 
 #[test]
 fn arguments_that_ask_for_a_run(rt: HostRuntime) -> Result<(), Fail> {
     let alloc = rt.alloc();
-    for line in ["", "run", "run -"] {
-        assert!(rt;
-            asks(alloc, line, &Request::Run { file: None })?,
-            "at {line}"
-        );
+    for (line, explain) in &RUNS {
+        assert!(rt; asks_for_run(alloc, line, None, *explain)?, "at {line}");
     }
-    is_run(&rt, alloc, "run g", "g")?;
-    is_run(&rt, alloc, "run run", "run")?;
-    is_run(&rt, alloc, "run analyse", "analyse")?;
-    is_run(&rt, alloc, "run help", "help")?;
-    is_run(&rt, alloc, "run \u{e4}/g.txt", "\u{e4}/g.txt")
+    for (line, name, explain) in &FILE_RUNS {
+        let file = file(alloc, name)?;
+        assert!(rt; asks_for_run(alloc, line, file, *explain)?, "at {line}");
+    }
+    Ok(())
 }
 
 /// Arguments that ask for an analysis of the file g by one worker, the ids of the group if one is given, and whether
 /// the certificate and the progress are asked for.
-static ANALYSES: [(&str, &[u32], bool, bool); 11] = [
+static ANALYSES: [(&str, &[u32], bool, bool); 12] = [
     ("analyse g", &[], false, false),
+    ("analyse --certificate -- g", &[], true, false),
     ("analyse g --certificate", &[], true, false),
     ("analyse g --progress", &[], false, true),
     ("analyse --progress --certificate g", &[], true, true),
@@ -172,20 +200,26 @@ fn arguments_that_ask_for_workers(rt: HostRuntime) -> Result<(), Fail> {
 }
 
 /// Arguments that are none of the command, or ask for help.
-static REFUSED: [&str; 68] = [
+static REFUSED: [&str; 74] = [
     "fly",
     "-",
-    "--",
     "g",
     "Run",
     "analys",
     "run a b",
     "run -x",
-    "run -- g",
-    "run --",
+    "run -- a b",
+    "run -- g --explain",
     "run --group 4",
     "run --certificate",
     "run --progress",
+    "run --explain --explain",
+    "run --explain=yes",
+    "run --explain yes no",
+    "run --expl",
+    "--explain",
+    "--explain run",
+    "analyse g --explain",
     "analyse a b",
     "analyse -g 4",
     "analyse g --group",
@@ -230,7 +264,7 @@ static REFUSED: [&str; 68] = [
     "analyse g --certificate yes",
     "analyse g --progress --progress",
     "analyse g --progress=yes",
-    "analyse -- g",
+    "-- run",
     "--group 4",
     "--help",
     "-h",

@@ -7,6 +7,9 @@ use Rattle.ov_run.specs.declared.scenario.Line.{Line}
 use Rattle.ov_run.proofs.Printing.Ending.{whole, looked}
 use Rattle.ov_run.proofs.line_running.run_line.Goals as goal
 
+pub returns-in-Event-clause-prints : goal.returns-in-Event-clause-prints
+returns-in-Event-clause-prints g c = rw (c.in-Event.is) c.run_event.ensures.prints
+
 pub returns-in-Event-clause-begun : goal.returns-in-Event-clause-begun
 returns-in-Event-clause-begun g c =
     let began = c.run_event.ensures.begun in
@@ -37,6 +40,13 @@ returns-in_err-run_analysis-in-Analyse-clause-begun g c =
     let began = c.run_analysis.ensures.begun in
     let said : PrintsLine c.args.core.now c.args.line c.run_analysis.new.core began.0 = rw (c.in-Analyse.is) began.1 in
     (began.0, whole _ _ _ began.0 said, began.2)
+
+pub returns-in_ok-run_analysis-in-Analyse-clause-prints : goal.returns-in_ok-run_analysis-in-Analyse-clause-prints
+returns-in_ok-run_analysis-in-Analyse-clause-prints g c =
+    let printed = c.in_ok-run_analysis-in-Analyse.ensures.prints in
+    let said : PrintsLine c.args.core.now c.args.line c.run_analysis.new.core printed.0 =
+    rw (c.in-Analyse.is) printed.1 in
+    (printed.0, said, printed.2)
 
 pub returns-in_ok-run_analysis-in-Analyse-clause-begun : goal.returns-in_ok-run_analysis-in-Analyse-clause-begun
 returns-in_ok-run_analysis-in-Analyse-clause-begun g c =

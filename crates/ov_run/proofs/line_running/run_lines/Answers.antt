@@ -25,9 +25,9 @@ loop-line-preserved g c =
     let line = c.in-Some.line in
     let lines = c.next.new.self.rest.items in
     let said = c.loop-line.invariant.printed in
-    let own = c.in_ok-run_line.ensures.prints in
+    let own = c.in_ok-outcome.ensures.prints in
     let so_far = subst (λ (ls : List Line). SoFar start all now ls said.0) c.in-Some.ensures.steps.0 said.1 in
-    let failed = c.in_ok-run_line.ensures.faults in
+    let failed = c.in_ok-outcome.ensures.faults in
     let none = c.loop-line.invariant.faults in
     record {
       printed = (
@@ -54,11 +54,11 @@ returns-clause-begun g c =
     let went = returns-clause-prints g c in
     (went.1.0, all_printed _ _ went.0 went.1.0 went.1.1, all_went _ _ went.1.0 went.1.2)
 
-pub returns-in_err-run_line-clause-begun : goal.returns-in_err-run_line-clause-begun
-returns-in_err-run_line-clause-begun g c =
+pub returns-in_err-outcome-clause-begun : goal.returns-in_err-outcome-clause-begun
+returns-in_err-outcome-clause-begun g c =
     let now = c.loop-line.core in
     let said = c.loop-line.invariant.printed in
-    let own = c.in_err-run_line.ensures.begun in
+    let own = c.in_err-outcome.ensures.begun in
     let so_far =
     subst (λ (ls : List Line). SoFar (opening_core c.args.params) c.args.lines.items now ls said.0)
     c.in-Some.ensures.steps.0 said.1 in (
@@ -67,11 +67,11 @@ returns-in_err-run_line-clause-begun g c =
       prefix_went _ _ _ said.0 own.0 said.2 own.2,
     )
 
-pub returns-in_err-run_line-clause-memory : goal.returns-in_err-run_line-clause-memory
-returns-in_err-run_line-clause-memory g c memory =
+pub returns-in_err-outcome-clause-memory : goal.returns-in_err-outcome-clause-memory
+returns-in_err-outcome-clause-memory g c memory =
     let said = c.loop-line.invariant.printed in
     let fault = err_of _ c.from_residual.result OutOfMemory c.from_residual.ensures.1 memory in
-    let own = c.in_err-run_line.ensures.memory (ap Err (sym fault)) in
+    let own = c.in_err-outcome.ensures.memory (ap Err (sym fault)) in
     let so_far =
     subst (λ (ls : List Line). SoFar (opening_core c.args.params) c.args.lines.items c.loop-line.core ls said.0)
     c.in-Some.ensures.steps.0 said.1 in

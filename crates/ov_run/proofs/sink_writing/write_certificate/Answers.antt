@@ -4,7 +4,9 @@ use Rattle.ov_net.specs.World.{WorldState}
 use Rattle.ov_snap.proofs.Moments.{moment_within}
 use Rattle.ov_run.specs.Printed.{refused_line}
 use Rattle.ov_run.specs.Running.{PrintsCertificate}
+use Rattle.ov_run.specs.Code.Outcomes.{ShowsCertificate}
 use Rattle.ov_run.proofs.Printing.Ending.{wrote}
+use Rattle.ov_run.proofs.Printing.Outcomes.{done}
 use Rattle.ov_run.proofs.sink_writing.write_certificate.Goals as goal
 
 pub returns-in_default-clause-begun : goal.returns-in_default-clause-begun
@@ -22,15 +24,21 @@ file_text-requires g c =
 
 pub returns-in-Ok-clause-prints : goal.returns-in-Ok-clause-prints
 returns-in-Ok-clause-prints g c =
-    wrote (PrintsCertificate c.args.core.now c.args.subject.now) _ _ c.as_bytes.result.now c.write_all.result
+    wrote (PrintsCertificate c.args.core.now c.args.subject.now) _ _ c.as_bytes.result.now c.write_done.result
     (inl (c.in-Some.report.now, c.in-Some.ensures.some, inl (c.as_bytes.ensures.value ∙ c.in-Ok.ensures)))
-    c.write_all.ensures.bytes
+    c.write_done.ensures.bytes
+
+pub returns-in-Ok-clause-outcome : goal.returns-in-Ok-clause-outcome
+returns-in-Ok-clause-outcome g c =
+    done (ShowsCertificate c.args.core.now c.args.subject.now) _ _ c.as_bytes.result.now c.write_done.result
+    (c.in-Some.report.now, c.in-Some.ensures.some, c.as_bytes.ensures.value ∙ c.in-Ok.ensures)
+    c.write_done.ensures.outcome c.write_done.ensures.bytes
 
 pub returns-in-Ok-clause-begun : goal.returns-in-Ok-clause-begun
 returns-in-Ok-clause-begun g c = (
   _,
   inl (c.in-Some.report.now, c.in-Some.ensures.some, inl (c.as_bytes.ensures.value ∙ c.in-Ok.ensures)),
-  c.write_all.ensures.prefix,
+  c.write_done.ensures.prefix,
 )
 
 pub returns-in-Err-clause-begun : goal.returns-in-Err-clause-begun

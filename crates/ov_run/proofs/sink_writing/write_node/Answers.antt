@@ -2,7 +2,9 @@
 use Rattle.std.proofs.Common.{ap, inl, inr, refl}
 use Rattle.ov_run.specs.Printed.{refused_line}
 use Rattle.ov_run.specs.Running.{PrintsNode}
+use Rattle.ov_run.specs.Code.Outcomes.{ShowsNode}
 use Rattle.ov_run.proofs.Printing.Ending.{wrote}
+use Rattle.ov_run.proofs.Printing.Outcomes.{done}
 use Rattle.ov_run.proofs.Printing.Running.{gone}
 use Rattle.ov_run.proofs.sink_writing.write_node.Goals as goal
 
@@ -10,6 +12,11 @@ pub returns-in-Some-clause-prints : goal.returns-in-Some-clause-prints
 returns-in-Some-clause-prints g c =
     wrote (PrintsNode c.args.world.now.net c.args.id) _ _ _ c.write_peer.result
     (inl (c.in-Some.peer.now, c.in-Some.ensures.some, refl)) c.write_peer.ensures.bytes
+
+pub returns-in-Some-clause-outcome : goal.returns-in-Some-clause-outcome
+returns-in-Some-clause-outcome g c =
+    done (ShowsNode c.args.world.now.net c.args.id) _ _ _ c.write_peer.result
+    (c.in-Some.peer.now, c.in-Some.ensures.some, refl) c.write_peer.ensures.outcome c.write_peer.ensures.bytes
 
 pub returns-in-Some-clause-begun : goal.returns-in-Some-clause-begun
 returns-in-Some-clause-begun g c =

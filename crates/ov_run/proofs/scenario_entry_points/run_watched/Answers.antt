@@ -3,7 +3,7 @@ use Rattle.std.proofs.Common.{Err, ap, inr, subst, sym}
 use Rattle.ov_run.specs.Scenarios.{IsScenario}
 use Rattle.ov_run.specs.declared.run_fault.RunFault.TheVariants.{OutOfMemory}
 use Rattle.ov_run.proofs.Printing.Ending.{output_begun, all_went, err_of}
-use Rattle.ov_run.proofs.scenario_entry_points.run.Goals as goal
+use Rattle.ov_run.proofs.scenario_entry_points.run_watched.Goals as goal
 
 pub returns-clause-prints : goal.returns-clause-prints
 returns-clause-prints g c =
