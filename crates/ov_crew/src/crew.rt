@@ -7,17 +7,19 @@ ghost use Rattle.ov_even.specs.Answer.{IsAnswer};
 ghost use Rattle.ov_even.specs.Faults.{IsRefusal};
 ghost use Rattle.ov_even.specs.Harvest.{AreRight, Suffice};
 ghost use Rattle.ov_even.specs.Levels.{AreNumbersOf, IsTried};
+ghost use Rattle.ov_even.specs.declared.fault.AnalyseFault.TheVariants.{OutOfMemory as out_of_memory};
 ghost use Rattle.ov_crew.specs.Hauls.{IsHaulOf};
 ghost use Rattle.ov_crew.specs.Code.Crews.{IsNewAt, IsRange, HasWorked, outcomes};
 
 use crate::gate::{Gate, OpenGate};
 use crate::hiring::Hiring;
+use crate::naming_crew::name_by_crew;
 use crate::worker::work_range;
 use ov_board::{Board, Seat};
 use ov_cert::{Checked, are_all_linked};
 use ov_even::{
     AnalyseFault, Haul, LevelNumbers, LevelSearch, Searched, Watcher,
-    analyse_group_watched as analyse_alone, assemble_group, level_numbers,
+    analyse_group_watched as analyse_alone, assemble_named, level_numbers, wanted_paths,
 };
 use ov_graph::Graph;
 use ov_ids::{NodeId, OutOfMemory};
@@ -133,7 +135,29 @@ fn analyse_by<R: Threads + Sync, G: Gate, W: Watcher>(
         return Err(AnalyseFault::BadGroup);
     }
     let hauls = enough(rt, alloc, graph, group, hiring, gate, watcher)?;
-    assemble_group(alloc, graph, group, &hauls)
+    assembled(rt, alloc, graph, group, &hauls, hiring)
+}
+
+/// The certificate of these hauls, whose paths are named in several threads.
+fn assembled<R: Threads + Sync>(
+    rt: &R,
+    alloc: Global,
+    graph: &Graph,
+    group: &[NodeId],
+    hauls: &[Haul],
+    hiring: Hiring,
+) -> Result<Checked, AnalyseFault>
+    requires group { IsGroup graph.now group.now }
+    requires suffice { Suffice graph.now group.now hauls.now }
+    ensures graph { IfOk result (λ c. c.graph ≡ graph.now) }
+    ensures members { IfOk result (λ c. c.members ≡ group.now) }
+    ensures answer { IfOk result (λ c. IsAnswer graph.now group.now c.cert) }
+    ensures fewest { IfOk result (λ c. IsTrueForGroup graph.now group.now c.cert) }
+    ensures refused { IfErr result (λ fault. fault ≡ out_of_memory) }
+{
+    let found = wanted_paths(alloc, graph, group, hauls)?;
+    let named = name_by_crew(rt, alloc, graph, group, &found, hiring)?;
+    assemble_named(alloc, graph, group, hauls, named)
 }
 
 /// Settles enough pieces for a certificate: none if every two members are linked.

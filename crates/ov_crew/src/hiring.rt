@@ -1,8 +1,13 @@
-//! How many workers try a level.
-ghost use Rattle.std.specs.Prelude.{◌≤◌};
+//! How many workers try a level, and how many threads name the paths of a certificate.
+ghost use Rattle.std.specs.Prelude.{◌<◌, ◌≤◌};
+
+use ov_even::FoundPaths;
 
 /// How many paths must be sought before one thread more pays.
 const PATHS_WORTH_A_THREAD: u64 = 1024;
+
+/// How many paths must be named by ids before one thread more pays.
+const NAMES_WORTH_A_THREAD: u64 = 4096;
 
 /// How many workers try each level.
 #[derive(Clone, Copy, Debug, PartialEq, Eq)]
@@ -26,5 +31,19 @@ impl Hiring {
         let paths = size.saturating_mul(level as u64);
         let paid = (paths / PATHS_WORTH_A_THREAD).max(1);
         paid.min(self.workers as u64) as u32
+    }
+
+    /// How many of these pieces, whose paths are to be named by ids, each thread gets.
+    pub(crate) fn pieces_a_thread(self, found: &[FoundPaths<'_>]) -> usize
+        ensures { 0 < result }
+    {
+        let Some(first) = found.first() else {
+            return 1;
+        };
+        let paths = (found.len() as u64).saturating_mul(first.piece.level() as u64);
+        let threads = (paths / NAMES_WORTH_A_THREAD)
+            .min(self.workers as u64)
+            .max(1);
+        found.len().div_ceil(threads as usize)
     }
 }

@@ -4,6 +4,7 @@
 mod crew;
 mod gate;
 mod hiring;
+mod naming_crew;
 mod worker;
 
 pub use crew::{analyse, analyse_group, analyse_group_watched};

@@ -4,5 +4,6 @@ pub mod Slotted
 pub mod Trials
 pub mod Narrowing
 pub mod Named
+pub mod Entered
 pub mod Assembling
 pub mod ByNumbers

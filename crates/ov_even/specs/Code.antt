@@ -4,3 +4,4 @@ pub mod Trying
 pub mod Narrowing
 pub mod Cuts
 pub mod Slots
+pub mod Entries

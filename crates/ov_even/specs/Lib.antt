@@ -4,6 +4,7 @@ pub mod Answer
 pub mod Harvest
 pub mod Levels
 pub mod Searching
+pub mod Naming
 pub mod Faults
 pub mod Theorems
 pub mod Code

@@ -1,21 +1,22 @@
 //! Makes a certificate from the pieces that several workers have settled.
-ghost use Rattle.std.specs.Prelude.{◌≡◌, ◌+◌, ◌<◌, length, IfOk, IfErr};
+ghost use Rattle.std.specs.Prelude.{◌≡◌, ◌+◌, ◌<◌, length, map, IfOk, IfErr};
 ghost use Rattle.ov_graph.specs.Links.{HasNode, IsGraph, IsGroup, AreAllLinked};
-ghost use Rattle.ov_cert.specs.Valid.{IsValidForGroup, HavePaths, HaveFans};
+ghost use Rattle.ov_cert.specs.Valid.{IsValidForGroup};
 ghost use Rattle.ov_cert.specs.Theorems.{IsTrueForGroup};
 ghost use Rattle.ov_even.specs.Answer.{IsAnswer, NamesParting};
 ghost use Rattle.ov_even.specs.Faults.{IsRefusal};
-ghost use Rattle.ov_even.specs.Harvest.{AreRight, Suffice};
-ghost use Rattle.ov_even.specs.Levels.{IsLevelCleared};
+ghost use Rattle.ov_even.specs.Harvest.{Suffice};
+ghost use Rattle.ov_even.specs.Naming.{AreWanted, HaveAskedPaths};
 ghost use Rattle.ov_even.specs.Code.Cuts.{IsDeciding};
 ghost use Rattle.ov_even.specs.declared.fault.AnalyseFault.TheVariants.{OutOfMemory as out_of_memory};
 
 use crate::cuts::first_cut;
-use crate::entries::{fan_entries, pair_entries};
+use crate::entries::{Entries, entries_of};
 use crate::fault::AnalyseFault;
 use crate::haul::Haul;
-use crate::slots::slots_of;
-use ov_cert::{Cert, Checked, FanPaths, PairPaths, Split, are_all_linked};
+use crate::naming::{NamedPaths, name_paths};
+use crate::wanted::wanted_paths;
+use ov_cert::{Cert, Checked, Split, are_all_linked};
 use ov_fans::{Found, Parting, Settled};
 use ov_graph::Graph;
 use ov_ids::{NodeId, OutOfMemory, Seq};
@@ -53,7 +54,31 @@ pub fn assemble_group(
     ensures fewest { IfOk result (λ c. IsTrueForGroup graph.now group.now c.cert) }
     ensures refused { IfErr result (λ fault. fault ≡ out_of_memory) }
 {
-    let cert = cert_of(alloc, graph, group, hauls)?;
+    let found = wanted_paths(alloc, graph, group, hauls)?;
+    let named = name_paths(alloc, graph, group, &found)?;
+    assemble_named(alloc, graph, group, hauls, named)
+}
+
+/// Makes the certificate from the hauls of all workers, in any order, and the wanted pieces with their paths by ids. See
+/// `assemble_group`. Faults: out of memory (99).
+pub fn assemble_named(
+    alloc: Global,
+    graph: &Graph,
+    group: &[NodeId],
+    hauls: &[Haul],
+    named: Vec<NamedPaths>,
+) -> Result<Checked, AnalyseFault>
+    requires group { IsGroup graph.now group.now }
+    requires suffice { Suffice graph.now group.now hauls.now }
+    requires wanted { AreWanted graph.now group.now (map (λ n. n.piece) named.items) }
+    requires asked { HaveAskedPaths graph.now group.now named.items }
+    ensures graph { IfOk result (λ c. c.graph ≡ graph.now) }
+    ensures members { IfOk result (λ c. c.members ≡ group.now) }
+    ensures answer { IfOk result (λ c. IsAnswer graph.now group.now c.cert) }
+    ensures fewest { IfOk result (λ c. IsTrueForGroup graph.now group.now c.cert) }
+    ensures refused { IfErr result (λ fault. fault ≡ out_of_memory) }
+{
+    let cert = cert_of(alloc, graph, group, hauls, named)?;
     let (graph, group) = copies(alloc, graph, group)?;
     Ok(Checked::of_valid(graph, group, cert))
 }
@@ -76,9 +101,12 @@ fn cert_of(
     graph: &Graph,
     group: &[NodeId],
     hauls: &[Haul],
+    named: Vec<NamedPaths>,
 ) -> Result<Cert, OutOfMemory>
     requires group { IsGroup graph.now group.now }
     requires suffice { Suffice graph.now group.now hauls.now }
+    requires wanted { AreWanted graph.now group.now (map (λ n. n.piece) named.items) }
+    requires asked { HaveAskedPaths graph.now group.now named.items }
     ensures answer { IfOk result (λ c. IsAnswer graph.now group.now c) }
     ensures valid { IfOk result (λ c. IsValidForGroup graph.now group.now c) }
 {
@@ -89,7 +117,7 @@ fn cert_of(
         });
     }
     match first_cut(hauls) {
-        Some(first) => split_cert(alloc, graph, group, hauls, first),
+        Some(first) => split_cert(alloc, graph, group, first, named),
         None => unreachable!(),
     }
 }
@@ -99,13 +127,14 @@ fn split_cert(
     alloc: Global,
     graph: &Graph,
     group: &[NodeId],
-    hauls: &[Haul],
     first: &Settled,
+    named: Vec<NamedPaths>,
 ) -> Result<Cert, OutOfMemory>
     requires group { IsGroup graph.now group.now }
     requires apart { ¬ AreAllLinked graph.now group.now }
-    requires right { AreRight graph.now group.now hauls.now }
-    requires first { IsDeciding graph.now group.now hauls.now first.now }
+    requires first { IsDeciding graph.now group.now first.now }
+    requires wanted { AreWanted graph.now group.now (map (λ n. n.piece) named.items) }
+    requires asked { HaveAskedPaths graph.now group.now named.items }
     ensures answer { IfOk result (λ c. IsAnswer graph.now group.now c) }
     ensures valid { IfOk result (λ c. IsValidForGroup graph.now group.now c) }
 {
@@ -114,7 +143,7 @@ fn split_cert(
         unreachable!()
     };
     let k = first.piece.level() - 1;
-    let entries = entries_at(alloc, graph, group, k as usize, hauls)?;
+    let entries = entries_of(alloc, group, named)?;
     Ok(Cert::Split(split_of(alloc, k as u32, parting, entries)?))
 }
 
@@ -149,39 +178,4 @@ fn copy_of(alloc: Global, ids: &[NodeId]) -> Result<Seq<NodeId>, OutOfMemory>
     ensures { IfOk result (λ copy. copy ≡ ids.now) }
 {
     Ok(Seq::new(Vec::from_slice(alloc, ids)?))
-}
-
-/// The entries of a certificate, for pairs and for fans.
-#[derive(Drop)]
-struct Entries {
-    pairs: Vec<PairPaths>,
-    fans: Vec<FanPaths>,
-}
-
-/// The entries of a certificate with number `k`: the paths of the pieces of level `k`. None if `k` is 0.
-fn entries_at(
-    alloc: Global,
-    graph: &Graph,
-    group: &[NodeId],
-    k: usize,
-    hauls: &[Haul],
-) -> Result<Entries, OutOfMemory>
-    requires group { IsGroup graph.now group.now }
-    requires below { k < length graph.now.nodes }
-    requires right { AreRight graph.now group.now hauls.now }
-    requires cleared { IsLevelCleared graph.now group.now hauls.now k }
-    ensures pairs { IfOk result (λ entries. HavePaths graph.now group.now k entries.pairs.items) }
-    ensures fans { IfOk result (λ entries. HaveFans graph.now group.now k entries.fans.items) }
-{
-    prove!(graph.nodes().len() <= Graph::MOST_NODES);
-    if k == 0 {
-        return Ok(Entries {
-            pairs: Vec::new(alloc),
-            fans: Vec::new(alloc),
-        });
-    }
-    let slots = slots_of(alloc, group.len(), k, hauls)?;
-    let pairs = pair_entries(alloc, graph, group, k, &slots)?;
-    let fans = fan_entries(alloc, graph, group, k, &slots)?;
-    Ok(Entries { pairs, fans })
 }

@@ -42,6 +42,20 @@ static RING: Row = Row {
     side: &[1],
 };
 
+/// The certificate has so many paths that several threads name them.
+static TWO_SIDES: Row = Row {
+    family: Family::TwoSides,
+    nodes: 80,
+    k: 40,
+    cut: &[
+        2, 4, 6, 8, 10, 12, 14, 16, 18, 20, 22, 24, 26, 28, 30, 32, 34, 36, 38, 40, 42, 44, 46, 48,
+        50, 52, 54, 56, 58, 60, 62, 64, 66, 68, 70, 72, 74, 76, 78, 80,
+    ],
+    near: 1,
+    far: 3,
+    side: &[1],
+};
+
 /// Each of five nodes is linked to each.
 static LINKED: Row = Row {
     family: Family::All,
@@ -123,7 +137,7 @@ fn find_watched<R: Threads + Sync>(
 #[test]
 fn the_same_for_1_2_5_and_64_workers(rt: HostRuntime) -> Result<(), Fail> {
     for workers in [1, 2, 5, 64] {
-        for row in [&PETERSEN, &RING] {
+        for row in [&PETERSEN, &RING, &TWO_SIDES] {
             let is_found = find(&rt, rt.alloc(), row, workers, &OpenGate)?
                 && find_watched(&rt, rt.alloc(), row, workers)?;
             assert!(rt; is_found);

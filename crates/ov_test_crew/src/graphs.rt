@@ -29,6 +29,8 @@ pub(crate) enum Family {
     Petersen,
     /// Each to the four next ones round a ring of 200 nodes.
     Ring,
+    /// Each odd node to each even one.
+    TwoSides,
     /// Each to each.
     All,
 }
@@ -40,6 +42,7 @@ impl Family {
         match self {
             Family::Petersen => PETERSEN.contains(&(low, high)),
             Family::Ring => apart <= 4 || apart >= 196,
+            Family::TwoSides => apart % 2 == 1,
             Family::All => true,
         }
     }

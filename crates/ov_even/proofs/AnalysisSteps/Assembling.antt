@@ -1,5 +1,5 @@
 -- The hauls of the workers, and the certificate that is made from them.
-use Rattle.std.proofs.Common.{◌≡◌, ◌⊎◌, inl, inr, ℕ, ◌<◌, ◌+◌, ◌-◌, List, [], length, slice_get, Option, Some, None}
+use Rattle.std.proofs.Common.{◌≡◌, ◌⊎◌, inl, inr, ℕ, ◌<◌, ◌+◌, ◌-◌, List, length, slice_get, Option, Some, None}
 use Rattle.std.proofs.Common.{refl, sym, ◌∙◌, subst, ap, arith, Box, Global}
 use Rattle.ov_graph.specs.Links.{LinkGraph, IsGraph, IsGroup, AreAllLinked}
 use Rattle.ov_fans.specs.Pieces.{IsPiece, IsLinkedPair, level_of}
@@ -11,7 +11,6 @@ use Rattle.ov_fans.specs.declared.settled.Found.{Found}
 use Rattle.ov_fans.specs.declared.settled.Found.TheVariants.{Linked, Paths, Cut}
 use Rattle.ov_fans.specs.declared.settled.Settled.{Settled}
 use Rattle.ov_fans.proofs.PieceCuts.Decided.{decides}
-use Rattle.ov_cert.specs.Valid.{HavePaths, HaveFans}
 use Rattle.std.proofs.Common.{zero, suc, eqb, false}
 use Rattle.ov_cert.specs.declared.cert.Split.{Split}
 use Rattle.ov_even.specs.Answer.{NamesParting, NamesFirstCut}
@@ -26,16 +25,6 @@ use Rattle.ov_even.proofs.PieceOrder.PieceLevels.{level_low, level_high}
 use Rattle.ov_even.proofs.PieceOrder.Ordering.{one_comes_before}
 use Rattle.ov_even.proofs.AnalysisSteps.FirstCut.{in_hauls, among_all}
 use Rattle.ov_even.proofs.EvenTest.Deciding.{decides_first}
-
--- k = 0 requires no pairs and no fans
-pub no_pairs : (g : LinkGraph) (q : List ℕ) → HavePaths g q 0 []
-no_pairs g q = record {
-  names = record { order = tt; each = λ p. ((λ h. absurd h), (λ u. absurd (u.0))) };
-  paths = λ e h. absurd h;
-}
-
-pub no_fans : (g : LinkGraph) (q : List ℕ) → HaveFans g q 0 []
-no_fans g q = record { names = refl; fans = λ e h. absurd h }
 
 pub pieces_in : (g : LinkGraph) (q : List ℕ) (hauls : List Haul) → AreRight g q hauls
     → ArePiecesOf (length q) (all_settled hauls)
@@ -96,23 +85,31 @@ same_first g q hauls s t graph group right decided low =
     ]
 
 pub deciding : (g : LinkGraph) (q : List ℕ) (hauls : List Haul) (s : Settled) → IsGraph g → IsGroup g q
-    → ¬ AreAllLinked g q → Suffice g q hauls → IsLowestCut (all_settled hauls) s → IsDeciding g q hauls s
+    → ¬ AreAllLinked g q → Suffice g q hauls → IsLowestCut (all_settled hauls) s → IsDeciding g q s
 deciding g q hauls s graph group apart suffice low = elim suffice.1 [
   | inl all ↦ absurd (apart all)
   | inr d ↦
       let t = d.0 in
       let right = suffice.0 in
-      let e : s.piece ≡ t.piece = same_first g q hauls s t graph group right d.1 low in
-      let is = right s (in_hauls hauls s low.there) in
-      let least = level_low g q s.piece is.0 in
-      let level : level_of s.piece ≡ level_of t.piece = ap level_of e in
-      record {
+      let e : s.piece ≡ t.piece = same_first g q hauls s t graph group right d.1 low in record {
         first = subst (IsFirst g q) (sym e) (decides_first g q hauls t graph group right d.1);
-        right = is.1;
+        right = (right s (in_hauls hauls s low.there)).1;
         cut = low.cut;
-        below = λ r at same. d.1.before r at (inl (omega (arith, same, least, level)))
-            (omega (arith, same, least, level));
       }
+]
+
+-- the level below that of the deciding piece is cleared
+pub cleared_under : (g : LinkGraph) (q : List ℕ) (hauls : List Haul) (s : Settled) → IsGraph g → IsGroup g q
+    → ¬ AreAllLinked g q → Suffice g q hauls → IsLowestCut (all_settled hauls) s
+    → IsLevelCleared g q hauls (level_of s.piece - 1)
+cleared_under g q hauls s graph group apart suffice low r at same = elim suffice.1 [
+  | inl all ↦ absurd (apart all)
+  | inr d ↦
+      let right = suffice.0 in
+      let e = same_first g q hauls s d.0 graph group right d.1 low in
+      let least = level_low g q s.piece (right s (in_hauls hauls s low.there)).0 in
+      let level : level_of s.piece ≡ level_of d.0.piece = ap level_of e in
+      d.1.before r at (inl (omega (arith, same, least, level))) (omega (arith, same, least, level))
 ]
 
 pub some_cut : (g : LinkGraph) (q : List ℕ) (hauls : List Haul) → ¬ AreAllLinked g q → Suffice g q hauls
@@ -128,10 +125,10 @@ some_node zero e = absurd (cc)
 some_node (suc n) e = omega arith
 
 -- the certificate names the cut of the deciding piece
-pub names_cut : (g : LinkGraph) (q : List ℕ) (hauls : List Haul) (s : Settled) (parting : Box Parting Global)
-    (c : Split) → IsDeciding g q hauls s → s.found ≡ Cut parting → level_of s.piece ≡ c.k + 1
-    → NamesParting c parting.value → NamesFirstCut g q c
-names_cut g q hauls s parting c d e level names = record {
+pub names_cut : (g : LinkGraph) (q : List ℕ) (s : Settled) (parting : Box Parting Global) (c : Split)
+    → IsDeciding g q s → s.found ≡ Cut parting → level_of s.piece ≡ c.k + 1 → NamesParting c parting.value
+    → NamesFirstCut g q c
+names_cut g q s parting c d e level names = record {
   piece = s.piece;
   first = d.first;
   level = level;

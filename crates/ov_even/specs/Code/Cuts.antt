@@ -3,13 +3,10 @@ use Rattle.std.specs.Prelude.{ℕ, List, [], ◌∷◌, ◌++◌, Option, Some, 
 use Rattle.ov_ids.specs.Members.{Has}
 use Rattle.ov_fans.specs.Theorems.{IsNoCut}
 use Rattle.ov_fans.specs.declared.settled.Settled.{Settled}
-use Rattle.std.specs.Prelude.{◌-◌}
 use Rattle.ov_graph.specs.Links.{LinkGraph}
-use Rattle.ov_fans.specs.Pieces.{level_of}
 use Rattle.ov_fans.specs.Cuts.{IsRight}
 use Rattle.ov_even.specs.Order.{ComesBefore}
 use Rattle.ov_even.specs.First.{IsFirst}
-use Rattle.ov_even.specs.Levels.{IsLevelCleared}
 use Rattle.ov_even.specs.declared.haul.Haul.{Haul}
 
 -- the pieces of all hauls, one haul after another
@@ -33,9 +30,8 @@ abbrev pub IsEarlierCut : Settled → Option Settled → Type 0
 IsEarlierCut t None = ¬ IsNoCut t.found
 IsEarlierCut t (Some s) = (¬ IsNoCut t.found) × ComesBefore t.piece s.piece
 
--- the piece is the first that is not good, its result is right and a cut, and the level below it is cleared
-pub record IsDeciding (g : LinkGraph) (q : List ℕ) (hauls : List Haul) (s : Settled) : Type 0 where
+-- the piece is the first that is not good, and its result is right and a cut
+pub record IsDeciding (g : LinkGraph) (q : List ℕ) (s : Settled) : Type 0 where
   pub first : IsFirst g q s.piece
   pub right : IsRight g q s
   pub cut : ¬ IsNoCut s.found
-  pub below : IsLevelCleared g q hauls (level_of s.piece - 1)

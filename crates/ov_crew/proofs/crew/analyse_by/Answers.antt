@@ -4,7 +4,7 @@ use Rattle.ov_even.specs.Harvest.{Suffice}
 use Rattle.ov_even.specs.declared.haul.Haul.{Haul}
 use Rattle.ov_crew.proofs.crew.analyse_by.Goals as goal
 
-pub assemble_group-requires-clause-suffice : goal.assemble_group-requires-clause-suffice
-assemble_group-requires-clause-suffice g c =
+pub assembled-requires-clause-suffice : goal.assembled-requires-clause-suffice
+assembled-requires-clause-suffice g c κs within =
     subst (λ (hauls : List Haul). Suffice c.args.graph.now c.args.group.now hauls) (sym c.deref.ensures.value)
     c.in_ok-hauls.ensures

@@ -1,12 +1,24 @@
--- The certificate is valid, and so it is true.
-use Rattle.std.proofs.Common.{sym, ap, subst}
-use Rattle.ov_cert.specs.Theorems.{IsTrueForGroup}
-use Rattle.ov_cert.proofs.Validity.Exact.{valid_means}
+-- The paths that were found are named.
+use Rattle.std.proofs.Common.{◌≡◌, ◌∙◌, map, sym, ap, subst}
+use Rattle.ov_fans.specs.declared.piece.Piece.{Piece}
+use Rattle.ov_even.specs.Naming.{AreWanted, HaveAskedPaths, named_of}
+use Rattle.ov_even.specs.declared.naming.NamedPaths.{NamedPaths}
+use Rattle.ov_even.proofs.AnalysisSteps.Entered.{same_pieces, all_asked}
 use Rattle.ov_even.proofs.assembly.assemble_group.Goals as goal
 
-pub returns-clause-fewest : goal.returns-clause-fewest
-returns-clause-fewest c =
+pub assemble_named-requires-clause-wanted : goal.assemble_named-requires-clause-wanted
+assemble_named-requires-clause-wanted c =
     let g = c.args.graph.now in
     let q = c.args.group.now in
-    subst (IsTrueForGroup g q) (sym (ap (λ x. x.cert) c.of_valid.ensures))
-    (valid_means g q c.in_ok-cert.cert c.in_ok-cert.ensures.valid)
+    let found = c.in_ok-found.found.items in
+    let is : c.in_ok-named.named.items ≡ map (named_of g q) found = rw (← c.deref.ensures.value) c.in_ok-named.ensures in
+    let piece : NamedPaths → Piece = λ n. n.piece in
+    subst (AreWanted g q) (sym (ap (map piece) is ∙ same_pieces g q found)) c.in_ok-found.ensures.wanted
+
+pub assemble_named-requires-clause-asked : goal.assemble_named-requires-clause-asked
+assemble_named-requires-clause-asked c =
+    let g = c.args.graph.now in
+    let q = c.args.group.now in
+    let found = c.in_ok-found.found.items in
+    let is : c.in_ok-named.named.items ≡ map (named_of g q) found = rw (← c.deref.ensures.value) c.in_ok-named.ensures in
+    subst (HaveAskedPaths g q) (sym is) (all_asked g q found c.in_ok-found.ensures.found)

@@ -2,7 +2,7 @@
 use Rattle.std.proofs.Common.{arith}
 use Rattle.ov_even.proofs.AnalysisSteps.Narrowing.{members_few}
 use Rattle.ov_even.proofs.AnalysisSteps.Assembling.{pieces_in, have_slots}
-use Rattle.ov_even.proofs.assembly.entries_at.Goals as goal
+use Rattle.ov_even.proofs.wanted.paths_at.Goals as goal
 
 pub slots_of-requires-clause-few : goal.slots_of-requires-clause-few
 slots_of-requires-clause-few c =
@@ -13,16 +13,7 @@ slots_of-requires-clause-few c =
 pub slots_of-requires-clause-pieces : goal.slots_of-requires-clause-pieces
 slots_of-requires-clause-pieces c = pieces_in c.args.graph.now c.args.group.now c.args.hauls.now c.requires.right
 
-pub pair_entries-requires-clause-slots : goal.pair_entries-requires-clause-slots
-pair_entries-requires-clause-slots c =
-    let g = c.args.graph.now in
-    let q = c.args.group.now in
-    have_slots g q c.args.k c.args.hauls.now _ c.requires.right c.requires.cleared
+pub found_pieces-requires-clause-slots : goal.found_pieces-requires-clause-slots
+found_pieces-requires-clause-slots c =
+    have_slots c.args.graph.now c.args.group.now c.args.level c.args.hauls.now _ c.requires.right c.requires.cleared
     (rw c.deref.ensures.value c.in_ok-slots.ensures)
-
-pub fan_entries-requires-clause-slots : goal.fan_entries-requires-clause-slots
-fan_entries-requires-clause-slots c =
-    let g = c.args.graph.now in
-    let q = c.args.group.now in
-    have_slots g q c.args.k c.args.hauls.now _ c.requires.right c.requires.cleared
-    (rw c.deref-2.ensures.value c.in_ok-slots.ensures)

@@ -8,7 +8,7 @@ use Rattle.ov_fans.specs.Pieces.{level_of}
 use Rattle.ov_even.proofs.AnalysisSteps.Narrowing.{members_few}
 use Rattle.ov_even.proofs.AnalysisSteps.Trials.{level_few}
 use Rattle.ov_even.proofs.AnalysisSteps.Slotted.{in_slot, not_none}
-use Rattle.ov_even.proofs.entries.paths_in_slot.Goals as goal
+use Rattle.ov_even.proofs.wanted.paths_in_slot.Goals as goal
 
 pub place_in_level-place-requires : goal.place_in_level-place-requires
 place_in_level-place-requires c =
@@ -32,8 +32,8 @@ offset_bounds-slots-place c =
     let below = c.place_in_level-place.ensures.below in
     omega (arith, small, below)
 
-pub asked_paths-requires-clause-right : goal.asked_paths-requires-clause-right
-asked_paths-requires-clause-right c =
+pub returns : goal.returns
+returns c =
     let slots = c.args.slots.now in
     let place = c.place_in_level-place.result in
     let r = c.requires.slots c.args.piece place c.requires.piece refl c.requires.apart
@@ -47,4 +47,5 @@ unreachable-requires c =
     let place = c.place_in_level-place.result in
     let r = c.requires.slots c.args.piece place c.requires.piece refl c.requires.apart
     c.place_in_level-place.ensures.place in
-    not_none slots place c.index-slots-place.result r.0 r.1 c.index-slots-place.is c.in-None.is
+    let slot = c.index-slots-place.result in
+    not_none slots place slot r.0 r.1 c.index-slots-place.is c.in_default.is
