@@ -24,7 +24,8 @@ impl Choice {
 }
 
 /// The options of all commands.
-pub(crate) static CHOICES: [Choice; 4] = [
+pub(crate) static CHOICES: [Choice; 5] = [
+    Choice("run", "--explain", None),
     Choice("analyse", "--group", Some(Kind::Ids)),
     Choice("analyse", "--workers", Some(CREW)),
     Choice("analyse", "--certificate", None),
@@ -64,18 +65,11 @@ pub(crate) fn wrong_of(arguments: &[String]) -> Option<Wrong<'_>> {
     let mut scan = Scan {
         command,
         awaits: None,
-        seen: [false; 4],
+        seen: [false; 5],
+        only_files: false,
         has_file: false,
     };
-    for word in words {
-        if let Some(wrong) = scan.wrong_word(word.as_str()) {
-            return Some(wrong);
-        }
-    }
-    match scan.awaits {
-        Some(choice) => Some(Wrong::NoValue(choice)),
-        None => None,
-    }
+    scan.wrong_of_words(words)
 }
 
 /// What the words so far say, as far as it matters to those behind them.
@@ -85,18 +79,37 @@ struct Scan<'a> {
     /// The option whose value comes next.
     awaits: Option<Choice>,
     /// Which options stood, in the order of all.
-    seen: [bool; 4],
+    seen: [bool; 5],
+    /// Whether `--` stood, behind which nothing is an option.
+    only_files: bool,
     has_file: bool,
 }
 
 impl<'a> Scan<'a> {
+    /// What is wrong with these words, which are all that are left, if anything is.
+    fn wrong_of_words(&mut self, words: &'a [String]) -> Option<Wrong<'a>> {
+        for word in words {
+            if let Some(wrong) = self.wrong_word(word.as_str()) {
+                return Some(wrong);
+            }
+        }
+        match self.awaits {
+            Some(choice) => Some(Wrong::NoValue(choice)),
+            None => None,
+        }
+    }
+
     /// What is wrong with the next word, if anything is.
     fn wrong_word(&mut self, word: &'a str) -> Option<Wrong<'a>> {
         if let Some(choice) = self.awaits {
             self.awaits = None;
             return wrong_value(choice, word);
         }
-        if word.starts_with('-') && word != "-" {
+        if !self.only_files && word == "--" {
+            self.only_files = true;
+            return None;
+        }
+        if !self.only_files && word.starts_with('-') && word != "-" {
             return self.wrong_option(word);
         }
         if self.has_file {
@@ -131,7 +144,7 @@ impl<'a> Scan<'a> {
 
     /// The place of the command's option of this name.
     fn place_of(&self, name: &str) -> Option<usize>
-        ensures { IfSome result (λ place. place < 4) }
+        ensures { IfSome result (λ place. place < 5) }
     {
         CHOICES.iter().position(|choice| choice.command() == self.command && choice.name() == name)
     }

@@ -5,18 +5,20 @@ use crate::argument_scan::{CHOICES, Choice, Wrong, wrong_of};
 use crate::complaint::push_kind;
 use crate::marked_line::push_shown;
 use crate::names::{is_near, push_meant};
+use crate::texts::push_all;
 use ov_ids::OutOfMemory;
 use std::alloc::Global;
 
 /// How the command is called.
 const USAGE: &str = "\
-usage: overlay run [FILE]
+usage: overlay run [FILE] [--explain]
        overlay analyse [FILE] [--group IDS] [--workers N] [--certificate] [--progress]
 ";
 
 /// What stands above the usage where help is asked for.
 const HELP: &str = "\
 overlay run runs the events of a scenario file, and prints what happens.
+  --explain      tells on standard error why lines are refused, and counts the events
 overlay analyse reads a graph file, and prints how few crashed nodes part it.
   --group IDS    for these nodes alone: ids with one comma between two
   --workers N    with 1 to 64 workers
@@ -34,17 +36,30 @@ const VERSION: &str = "overlay, proved with rattle-kit-13f\n";
 pub fn argument_reasons(alloc: Global, arguments: &[String]) -> Result<String, OutOfMemory>
     ensures { IfOk result (λ text. (string_bytes text ≡ VERSION.now) ⊎ EndsWith USAGE.now (string_bytes text)) }
 {
-    if is_first(arguments, "--version") || is_first(arguments, "-V") {
+    if asks_version(arguments) {
         return Ok(String::from_str(alloc, VERSION)?);
     }
     let mut text = String::new(alloc);
-    if asks_help(arguments) {
-        text.push_str(HELP)?;
-    } else {
-        push_wrong(alloc, &mut text, arguments)?;
-    }
+    push_help_or_wrong(alloc, &mut text, arguments)?;
     text.push_str(USAGE)?;
     Ok(text)
+}
+
+/// Appends the help where it is asked for, and else what is wrong with arguments.
+fn push_help_or_wrong(
+    alloc: Global,
+    text: &mut String,
+    arguments: &[String],
+) -> Result<(), OutOfMemory> {
+    if asks_help(arguments) {
+        return push_all(text, &[HELP]);
+    }
+    push_wrong(alloc, text, arguments)
+}
+
+/// Whether the version is asked for.
+fn asks_version(arguments: &[String]) -> bool {
+    is_first(arguments, "--version") || is_first(arguments, "-V")
 }
 
 /// Whether this is the first argument.
@@ -81,10 +96,7 @@ fn push_wrong_word(alloc: Global, text: &mut String, wrong: Wrong<'_>) -> Result
         Wrong::Unknown(command, name) => push_unknown(alloc, text, command, name),
         Wrong::Twice(choice) => push_said(text, choice.name(), " stands twice"),
         Wrong::NoValue(choice) => push_takes(text, choice),
-        Wrong::Value(choice, value) => {
-            push_takes(text, choice)?;
-            push_said_of(text, ", and not ", value, "")
-        }
+        Wrong::Value(choice, value) => push_takes_not(text, choice, value),
         Wrong::SurplusValue(choice) => push_said(text, choice.name(), " takes no value"),
         Wrong::SecondFile(word) => push_said(text, word, " is a second file"),
     }
@@ -108,17 +120,37 @@ fn push_unknown(
     command: &str,
     name: &str,
 ) -> Result<(), OutOfMemory> {
+    push_no_option(text, command, name)?;
+    match meant_choice(alloc, command, name)? {
+        Some(choice) if choice.command() == command => push_meant(text, choice.name()),
+        Some(choice) => push_said_of(text, "; it is one of ", choice.command(), ""),
+        None => Ok(()),
+    }
+}
+
+/// Appends that a command has no such option.
+fn push_no_option(text: &mut String, command: &str, name: &str) -> Result<(), OutOfMemory> {
     push_said(text, name, " is no option of ")?;
-    push_said(text, command, "")?;
+    push_said(text, command, "")
+}
+
+/// The first option that may be meant: one of the command of nearly this name, or one of another command of this name.
+fn meant_choice(alloc: Global, command: &str, name: &str) -> Result<Option<Choice>, OutOfMemory> {
     for choice in &CHOICES {
-        if choice.command() == command && is_near(alloc, name, choice.name())? {
-            return push_meant(text, choice.name());
-        }
         if choice.name() == name {
-            return push_said_of(text, "; it is one of ", choice.command(), "");
+            return Ok(Some(*choice));
+        }
+        if choice.command() == command && is_near(alloc, name, choice.name())? {
+            return Ok(Some(*choice));
         }
     }
-    Ok(())
+    Ok(None)
+}
+
+/// Appends what an option takes, and that it does not take this value.
+fn push_takes_not(text: &mut String, choice: Choice, value: &str) -> Result<(), OutOfMemory> {
+    push_takes(text, choice)?;
+    push_said_of(text, ", and not ", value, "")
 }
 
 /// Appends what an option takes.
@@ -142,10 +174,7 @@ fn push_said_of(
     word: &str,
     behind: &str,
 ) -> Result<(), OutOfMemory> {
-    text.push_str(before)?;
-    text.push_str("`")?;
+    push_all(text, &[before, "`"])?;
     push_shown(text, word.as_bytes())?;
-    text.push_str("`")?;
-    text.push_str(behind)?;
-    Ok(())
+    push_all(text, &["`", behind])
 }

@@ -4,6 +4,7 @@ use crate::line_form::{Form, Kind};
 use crate::marked_line::push_marked;
 use crate::names::push_unknown_name;
 use crate::recognising::{farthest_stop, stop_of};
+use crate::texts::push_all;
 use ov_ids::OutOfMemory;
 use std::alloc::Global;
 
@@ -16,14 +17,24 @@ pub(crate) fn unread_line(
     words: &[Word<'_>],
 ) -> Result<String, OutOfMemory> {
     let stop = farthest_stop(forms, words);
-    let word = words.get(stop);
     let mut text = String::new(alloc);
-    match word {
-        Some(word) if stop == 0 => push_unknown_name(alloc, &mut text, forms, word.bytes)?,
-        _ => push_expected(&mut text, forms, words, stop)?,
-    }
-    push_marked(alloc, &mut text, line.text, place_of(line, word))?;
+    push_unread(alloc, &mut text, forms, words, stop)?;
+    push_marked(alloc, &mut text, line.text, place_of(line, words.get(stop)))?;
     Ok(text)
+}
+
+/// Appends what is wrong with the word at this place, which none of the forms takes.
+fn push_unread(
+    alloc: Global,
+    text: &mut String,
+    forms: &[Form],
+    words: &[Word<'_>],
+    stop: usize,
+) -> Result<(), OutOfMemory> {
+    match words.get(stop) {
+        Some(word) if stop == 0 => push_unknown_name(alloc, text, forms, word.bytes),
+        _ => push_expected(text, forms, words, stop),
+    }
 }
 
 /// Where the mark stands: at the word, or behind the line where there is none.
@@ -50,38 +61,25 @@ fn push_expected(
         }
     }
     match words.get(stop) {
-        Some(word) => push_hint(text, word.bytes, last.and_then(|kind| kind.limits())),
+        Some(word) => push_hint(text, word.bytes, last.and_then(|kind| kind.untold_limits())),
         None => Ok(()),
     }
 }
 
 /// Appends what else is expected, unless it was told last.
 fn push_next_kind(text: &mut String, last: Option<Kind>, kind: Kind) -> Result<(), OutOfMemory> {
-    if last == Some(kind) {
-        return Ok(());
+    match last {
+        Some(told) if told.text() == kind.text() => return Ok(()),
+        Some(_) => text.push_str(" or ")?,
+        None => text.push_str("expected ")?,
     }
-    text.push_str(if last.is_none() { "expected " } else { " or " })?;
     push_kind(text, &kind)
 }
 
 /// Appends what is expected.
 pub(crate) fn push_kind(text: &mut String, kind: &Kind) -> Result<(), OutOfMemory> {
     match kind {
-        Kind::Name(name) => {
-            text.push_str("`")?;
-            text.push_str(name)?;
-            text.push_str("`")?;
-        }
-        Kind::Short(what) | Kind::Long(what) | Kind::Within(what, _, _) => text.push_str(what)?,
-        Kind::Ids => text.push_str("ids with one comma between two")?,
-        Kind::RandomWord => text.push_str("a random word")?,
-        Kind::FurtherWord => text.push_str("a random word or the end of the line")?,
-        Kind::Payload => text.push_str("a payload")?,
-        Kind::End => text.push_str("the end of the line")?,
-        Kind::Full(why) => {
-            text.push_str("the end of the line, since ")?;
-            text.push_str(why)?;
-        }
+        Kind::Name(name) => push_all(text, &["`", name, "`"]),
+        _ => push_all(text, &[kind.text()]),
     }
-    Ok(())
 }

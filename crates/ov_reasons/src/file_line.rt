@@ -19,12 +19,11 @@ pub(crate) struct Word<'a> {
 
 /// The lines of a file that are not skipped, in order. Lines of spaces alone and comments are skipped, but counted.
 pub(crate) fn kept_lines(alloc: Global, bytes: &[u8]) -> Result<Vec<FileLine<'_>>, OutOfMemory> {
-    let pieces: Vec<&[u8]> = bytes.split(|byte| *byte == b'\n').collect(alloc)?;
     let mut lines = Vec::new(alloc);
-    let count = pieces.len();
-    for (place, piece) in pieces.iter().enumerate() {
-        let number = place + 1;
-        let text = line_of(piece, number == count);
+    let mut number = 0usize;
+    for piece in bytes.split_inclusive(|byte| *byte == b'\n') {
+        number = number.saturating_add(1);
+        let text = line_of(piece);
         if !is_skipped(text) {
             lines.push(FileLine { number, text })?;
         }
@@ -32,18 +31,12 @@ pub(crate) fn kept_lines(alloc: Global, bytes: &[u8]) -> Result<Vec<FileLine<'_>
     Ok(lines)
 }
 
-/// The line of what stands between two line feeds. The last has no line feed behind it.
-fn line_of(piece: &[u8], is_last: bool) -> &[u8] {
-    if is_last {
-        piece
-    } else {
-        without_return(piece)
+/// A line without its line feed, and without one carriage return right before that. The last line may lack both.
+fn line_of(piece: &[u8]) -> &[u8] {
+    match piece.strip_suffix(b"\n") {
+        Some(line) => line.strip_suffix(b"\r").unwrap_or(line),
+        None => piece,
     }
-}
-
-/// The line without one carriage return at its end.
-fn without_return(line: &[u8]) -> &[u8] {
-    line.strip_suffix(b"\r").unwrap_or(line)
 }
 
 /// Whether a line has only spaces, or begins with `#` behind them.

@@ -5,6 +5,7 @@ use crate::explanation::{Explanation, push_line};
 use crate::file_line::{FileLine, words_of};
 use crate::graph_lines::{GraphLines, LinkLine, NodeLine, graph_lines};
 use crate::marked_line::push_marked;
+use crate::texts::push_all;
 use ov_graph::GraphFault;
 use ov_ids::OutOfMemory;
 use std::alloc::Global;
@@ -35,10 +36,19 @@ fn graph_fault(
     fault: GraphFault,
 ) -> Result<Option<Explanation>, OutOfMemory> {
     let said = graph_lines(alloc, bytes)?;
+    fault_in(alloc, &said, fault)
+}
+
+/// What is said of the first of these lines whose node or link is at fault.
+fn fault_in(
+    alloc: Global,
+    said: &GraphLines<'_>,
+    fault: GraphFault,
+) -> Result<Option<Explanation>, OutOfMemory> {
     match fault {
         GraphFault::TooManyNodes => too_many_nodes(alloc, &said.nodes),
-        GraphFault::Unordered => unordered(alloc, &said),
-        GraphFault::BadLink => bad_link(alloc, &said),
+        GraphFault::Unordered => unordered(alloc, said),
+        GraphFault::BadLink => bad_link(alloc, said),
         GraphFault::OutOfMemory => Ok(None),
     }
 }
@@ -121,10 +131,11 @@ fn node_below(
     node: &NodeLine<'_>,
 ) -> Result<Explanation, OutOfMemory> {
     let mut text = String::new(alloc);
-    push_order(&mut text, "nodes", "node", node.id == before.id)?;
-    let (id, number) = (before.id, before.line.number);
+    let is_same = node.id == before.id;
+    let id = before.id;
+    push_order(&mut text, "node", is_same)?;
     write!(text, "node {id}")?;
-    write!(text, " on line {number}")?;
+    push_place(&mut text, before.line.number, is_same)?;
     ended(alloc, text, &node.line, 1)
 }
 
@@ -136,42 +147,83 @@ fn link_below(
 ) -> Result<Explanation, OutOfMemory> {
     let mut text = String::new(alloc);
     let is_same = link.from == before.from && link.to == before.to;
-    push_order(&mut text, "links", "link", is_same)?;
-    let (from, to, number) = (before.from, before.to, before.line.number);
+    let (from, to) = (before.from, before.to);
+    push_order(&mut text, "link", is_same)?;
     write!(text, "link {from} {to}")?;
-    write!(text, " on line {number}")?;
+    push_place(&mut text, before.line.number, is_same)?;
     ended(alloc, text, &link.line, 1)
 }
 
-/// Appends how things go wrong that must ascend.
-fn push_order(
-    text: &mut String,
-    things: &str,
-    thing: &str,
-    is_same: bool,
-) -> Result<(), OutOfMemory> {
-    text.push_str(things)?;
-    text.push_str(" must ascend, and this ")?;
-    text.push_str(thing)?;
-    text.push_str(if is_same { " is also " } else { " is below " })?;
+/// Appends what is asked of things that ascend, and that one is the thing before it, or below that.
+fn push_order(text: &mut String, thing: &str, is_same: bool) -> Result<(), OutOfMemory> {
+    if is_same {
+        return push_all(text, &["a ", thing, " may stand once, and "]);
+    }
+    push_all(
+        text,
+        &[thing, "s must ascend, and this ", thing, " is below "],
+    )
+}
+
+/// Appends where the thing before stands.
+fn push_place(text: &mut String, number: usize, is_same: bool) -> Result<(), OutOfMemory> {
+    let (before, behind) = if is_same { (" is", " too") } else { ("", "") };
+    write!(text, "{before} on line {number}{behind}")?;
     Ok(())
 }
 
 /// Says which link does not go from a node to a higher one.
 fn bad_link(alloc: Global, said: &GraphLines<'_>) -> Result<Option<Explanation>, OutOfMemory> {
     let ids = ids_of(alloc, &said.nodes)?;
-    for link in &said.links {
-        if ids.binary_search(&link.from).is_err() {
-            return Ok(Some(no_node(alloc, link, link.from, 1)?));
-        }
-        if ids.binary_search(&link.to).is_err() {
-            return Ok(Some(no_node(alloc, link, link.to, 2)?));
-        }
-        if link.from >= link.to {
-            return Ok(Some(downward_link(alloc, link)?));
+    match first_bad_link(&said.links, &ids) {
+        Some((link, wrong)) => Ok(Some(wrong_link(alloc, &link, wrong)?)),
+        None => Ok(None),
+    }
+}
+
+/// What is wrong with a link.
+#[derive(Clone, Copy)]
+enum WrongLink {
+    /// No line says its first node.
+    NoFirst,
+    /// No line says its second node.
+    NoSecond,
+    /// It does not go to a higher node.
+    Downward,
+}
+
+/// The first link that does not go from one of these nodes to a higher one, and what is wrong with it.
+fn first_bad_link<'a>(links: &[LinkLine<'a>], ids: &[u64]) -> Option<(LinkLine<'a>, WrongLink)> {
+    for link in links {
+        if let Some(wrong) = wrong_in(link, ids) {
+            return Some((*link, wrong));
         }
     }
-    Ok(None)
+    None
+}
+
+/// What is wrong with a link between two of these nodes, if anything is.
+fn wrong_in(link: &LinkLine<'_>, ids: &[u64]) -> Option<WrongLink> {
+    if ids.binary_search(&link.from).is_err() {
+        return Some(WrongLink::NoFirst);
+    }
+    if ids.binary_search(&link.to).is_err() {
+        return Some(WrongLink::NoSecond);
+    }
+    (link.from >= link.to).then_some(WrongLink::Downward)
+}
+
+/// Says what is wrong with a link.
+fn wrong_link(
+    alloc: Global,
+    link: &LinkLine<'_>,
+    wrong: WrongLink,
+) -> Result<Explanation, OutOfMemory> {
+    match wrong {
+        WrongLink::NoFirst => no_node(alloc, link, link.from, 1),
+        WrongLink::NoSecond => no_node(alloc, link, link.to, 2),
+        WrongLink::Downward => downward_link(alloc, link),
+    }
 }
 
 /// The ids of nodes, in order.
@@ -197,11 +249,17 @@ fn no_node(
 
 /// Says that a link does not go to a higher node.
 fn downward_link(alloc: Global, link: &LinkLine<'_>) -> Result<Explanation, OutOfMemory> {
-    let mut text = String::new(alloc);
-    text.push_str("a link goes from a node to a higher one")?;
-    if link.from > link.to {
-        let (from, to) = (link.from, link.to);
+    let mut text = String::from_str(alloc, "a link goes from a node to a higher one")?;
+    push_turned(&mut text, link.from, link.to)?;
+    ended(alloc, text, &link.line, 2)
+}
+
+/// Appends how a link from one node to a lower one may be meant, or that it goes to the node itself.
+fn push_turned(text: &mut String, from: u64, to: u64) -> Result<(), OutOfMemory> {
+    if from == to {
+        text.push_str(", and not to itself")?;
+    } else {
         write!(text, "; did you mean `link {to} {from}`?")?;
     }
-    ended(alloc, text, &link.line, 2)
+    Ok(())
 }

@@ -19,18 +19,36 @@ pub(crate) fn explain_graph_lines(
     ensures { IfOk result (λ text. Explains number (string_bytes text)) }
 {
     let lines = kept_lines(alloc, bytes)?;
+    explain_lines(alloc, &lines, number)
+}
+
+/// Explains those of these lines that can't be read, from the line of this number on.
+fn explain_lines(
+    alloc: Global,
+    lines: &[FileLine<'_>],
+    number: usize,
+) -> Result<String, OutOfMemory>
+    ensures { IfOk result (λ text. Explains number (string_bytes text)) }
+{
     let mut explained = Explained::new(alloc, number);
-    for line in &lines {
+    for line in lines {
         if explained.is_full() {
             return explained.into_text(alloc);
         }
-        let words = words_of(alloc, line.text)?;
-        if form_of(&GRAPH_FORMS, &words).is_none() {
-            let text = unread_line(alloc, &GRAPH_FORMS, line, &words)?;
+        if let Some(text) = wrong_in(alloc, line)? {
             explained.add(line.number, text)?;
         }
     }
     explained.into_text(alloc)
+}
+
+/// What is wrong with a line, if it can't be read.
+fn wrong_in(alloc: Global, line: &FileLine<'_>) -> Result<Option<String>, OutOfMemory> {
+    let words = words_of(alloc, line.text)?;
+    match form_of(&GRAPH_FORMS, &words) {
+        Some(_) => Ok(None),
+        None => Ok(Some(unread_line(alloc, &GRAPH_FORMS, line, &words)?)),
+    }
 }
 
 /// A line that says a node.
@@ -64,7 +82,13 @@ impl<'a> GraphLines<'a> {
         }
     }
 
-    /// Adds what a line says. One that can't be read says nothing.
+    /// Reads a line, and adds what it says.
+    fn read(&mut self, alloc: Global, line: FileLine<'a>) -> Result<(), OutOfMemory> {
+        let words = words_of(alloc, line.text)?;
+        self.add(line, &words)
+    }
+
+    /// Adds what a line of these words says. One that can't be read says nothing.
     fn add(&mut self, line: FileLine<'a>, words: &[Word<'_>]) -> Result<(), OutOfMemory> {
         let Some(form) = form_of(&GRAPH_FORMS, words) else {
             return Ok(());
@@ -91,10 +115,14 @@ fn number_at(words: &[Word<'_>], place: usize) -> u64 {
 /// What the lines of a graph file say that can be read.
 pub(crate) fn graph_lines(alloc: Global, bytes: &[u8]) -> Result<GraphLines<'_>, OutOfMemory> {
     let lines = kept_lines(alloc, bytes)?;
+    said_by(alloc, &lines)
+}
+
+/// What these lines say that can be read.
+fn said_by<'a>(alloc: Global, lines: &[FileLine<'a>]) -> Result<GraphLines<'a>, OutOfMemory> {
     let mut said = GraphLines::new(alloc);
-    for line in &lines {
-        let words = words_of(alloc, line.text)?;
-        said.add(*line, &words)?;
+    for line in lines {
+        said.read(alloc, *line)?;
     }
     Ok(said)
 }

@@ -1,4 +1,5 @@
-use crate::numeral::{Spelled, read_digits};
+use crate::numeral::number_of;
+use crate::texts::push_all;
 use ov_ids::OutOfMemory;
 use std::fmt::Write;
 
@@ -8,26 +9,16 @@ pub(crate) fn push_hint(
     word: &[u8],
     limits: Option<(u64, u64)>,
 ) -> Result<(), OutOfMemory> {
-    match read_digits(word) {
-        Spelled::NoNumber => push_bytes_hint(text, word),
-        Spelled::Number(_) | Spelled::TooLarge => push_limits(text, limits),
+    match bytes_hint(word) {
+        Some(hint) => push_all(text, &["; ", hint]),
+        None => push_limits(text, limits),
     }
 }
 
 /// Appends the limits of a number.
 fn push_limits(text: &mut String, limits: Option<(u64, u64)>) -> Result<(), OutOfMemory> {
     if let Some((low, high)) = limits {
-        write!(text, "; it is from {low}")?;
-        write!(text, " to {high}")?;
-    }
-    Ok(())
-}
-
-/// Appends what may help at a word by its bytes.
-fn push_bytes_hint(text: &mut String, word: &[u8]) -> Result<(), OutOfMemory> {
-    if let Some(hint) = bytes_hint(word) {
-        text.push_str("; ")?;
-        text.push_str(hint)?;
+        write!(text, "; it is a number from {low} to {high}")?;
     }
     Ok(())
 }
@@ -40,16 +31,26 @@ pub(crate) fn bytes_hint(word: &[u8]) -> Option<&'static str> {
     if word.contains(&b'\t') {
         return Some("words stand between spaces, and a tab is none");
     }
-    if word.ends_with(b"\r") {
-        return Some("a carriage return is dropped only right before a line feed");
+    if word.contains(&b'\r') {
+        return Some(
+            "a line ends with a line feed, and a carriage return is dropped only right before that",
+        );
     }
     if word.starts_with(b"#") {
         return Some("a comment is a line of its own");
     }
-    if word.starts_with(b"-") || word.starts_with(b"+") {
+    if has_sign(word) {
         return Some("a number has no sign");
     }
     None
+}
+
+/// Whether a word is a number behind a sign.
+fn has_sign(word: &[u8]) -> bool {
+    match word.split_first() {
+        Some((sign, digits)) => (*sign == b'-' || *sign == b'+') && number_of(digits).is_some(),
+        None => false,
+    }
 }
 
 /// The bytes of a byte order mark in UTF-8.

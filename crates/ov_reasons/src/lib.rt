@@ -23,6 +23,7 @@ mod reasons;
 mod recognising;
 mod refused_lines;
 mod scenario_lines;
+mod texts;
 
 pub use analysis_texts::{analysis_reason, look_reason};
 pub use argument_texts::argument_reasons;

@@ -1,7 +1,7 @@
-use crate::numeral::{Spelled, read_digits};
+use crate::numeral::number_of;
 
 /// What may stand at a place of a line.
-#[derive(Clone, Copy, PartialEq, Eq)]
+#[derive(Clone, Copy)]
 pub(crate) enum Kind {
     /// This word.
     Name(&'static str),
@@ -9,7 +9,7 @@ pub(crate) enum Kind {
     Short(&'static str),
     /// A number of 64 bits, and what it is.
     Long(&'static str),
-    /// A number within these limits, and what it is.
+    /// A number within these limits, and what it is, which tells them.
     Within(&'static str, u64, u64),
     /// Ids of nodes, with one comma between two.
     Ids,
@@ -21,8 +21,8 @@ pub(crate) enum Kind {
     Payload,
     /// No further word.
     End,
-    /// No further word, since there are as many as may be: what these are.
-    Full(&'static str),
+    /// No further word, since there are as many as may be.
+    Full,
 }
 
 impl Kind {
@@ -34,7 +34,7 @@ impl Kind {
                 .split(|byte| *byte == b',')
                 .all(|piece| is_within(piece, 0, SHORT)),
             Kind::Payload => true,
-            Kind::End | Kind::Full(_) => false,
+            Kind::End | Kind::Full => false,
             _ => self.takes_number(word),
         }
     }
@@ -47,22 +47,44 @@ impl Kind {
         }
     }
 
+    /// What a word of this kind is, as a person is told.
+    pub(crate) fn text(&self) -> &'static str {
+        match self {
+            Kind::Name(name) => name,
+            Kind::Short(what) | Kind::Long(what) | Kind::Within(what, _, _) => what,
+            Kind::Ids => "ids with one comma between two, without spaces",
+            Kind::RandomWord => "a random word",
+            Kind::FurtherWord => "the end of the line or a random word",
+            Kind::Payload => "a payload",
+            Kind::End => "the end of the line",
+            Kind::Full => "the end of the line, since an event has 64 random words at most",
+        }
+    }
+
+    /// The limits of this kind that what it is does not tell, where it is one of numbers.
+    pub(crate) fn untold_limits(&self) -> Option<(u64, u64)> {
+        match self {
+            Kind::Within(_, _, _) => None,
+            _ => self.limits(),
+        }
+    }
+
     /// The least and the largest number of this kind, where it is one of numbers.
-    pub(crate) fn limits(&self) -> Option<(u64, u64)> {
+    fn limits(&self) -> Option<(u64, u64)> {
         match self {
             Kind::Short(_) => Some((0, SHORT)),
             Kind::Long(_) | Kind::RandomWord | Kind::FurtherWord => Some((0, LONG)),
             Kind::Within(_, low, high) => Some((*low, *high)),
-            Kind::Name(_) | Kind::Ids | Kind::Payload | Kind::End | Kind::Full(_) => None,
+            Kind::Name(_) | Kind::Ids | Kind::Payload | Kind::End | Kind::Full => None,
         }
     }
 }
 
 /// Whether a word spells a number within these limits.
 fn is_within(word: &[u8], low: u64, high: u64) -> bool {
-    match read_digits(word) {
-        Spelled::Number(number) => low <= number && number <= high,
-        Spelled::TooLarge | Spelled::NoNumber => false,
+    match number_of(word) {
+        Some(number) => low <= number && number <= high,
+        None => false,
     }
 }
 
@@ -106,7 +128,7 @@ impl Form {
         }
         match self.1.last() {
             Some(Kind::RandomWord) if place < MOST_RANDOM_WORDS => Kind::FurtherWord,
-            Some(Kind::RandomWord) => Kind::Full("an event has 64 random words at most"),
+            Some(Kind::RandomWord) => Kind::Full,
             Some(Kind::Payload) => Kind::Payload,
             _ => Kind::End,
         }
@@ -130,7 +152,7 @@ const ORIGIN: Kind = Kind::Short("the id of the node that made the message");
 
 const SEQUENCE: Kind = Kind::Short("the number of the message");
 
-const MOMENT: Kind = Kind::Short("a moment");
+const MOMENT: Kind = Kind::Short("the moment of a snapshot");
 
 const BY: Kind = Kind::Name("by");
 

@@ -1,3 +1,4 @@
+use crate::texts::push_all;
 use ov_ids::OutOfMemory;
 use std::alloc::Global;
 use std::fmt::Write;
@@ -18,11 +19,15 @@ pub(crate) fn push_marked(
 ) -> Result<(), OutOfMemory> {
     let (before, behind) = line.split_at(place.min(line.len()));
     let before = shown_before(alloc, before)?;
-    text.push_str("\n  ")?;
-    text.push_str(before.as_str())?;
+    push_all(text, &["\n  ", before.as_str()])?;
     push_behind(text, behind)?;
+    push_mark(text, before.as_str())
+}
+
+/// Appends a line feed, and a mark behind as many spaces as this text has characters.
+fn push_mark(text: &mut String, before: &str) -> Result<(), OutOfMemory> {
     text.push_str("\n  ")?;
-    for _ in before.as_str().chars() {
+    for _ in before.chars() {
         text.push_str(" ")?;
     }
     text.push_str("^\n")?;
@@ -70,22 +75,27 @@ fn push_chars(text: &mut String, chars: &str) -> Result<(), OutOfMemory> {
 }
 
 fn push_char(text: &mut String, c: char) -> Result<(), OutOfMemory> {
-    match c {
-        '\t' => text.push_str("\\t")?,
-        '\r' => text.push_str("\\r")?,
-        '\u{feff}' => text.push_str("\\xef\\xbb\\xbf")?,
-        _ if c.is_control() => push_control(text, u32::from(c))?,
-        _ => text.push(c)?,
+    match escape_of(c) {
+        Some(escape) => push_all(text, &[escape]),
+        None if c.is_control() => push_control(text, u32::from(c)),
+        None => Ok(text.push(c)?),
     }
-    Ok(())
+}
+
+/// How a character is shown that has a way of its own.
+fn escape_of(c: char) -> Option<&'static str> {
+    match c {
+        '\t' => Some("\\t"),
+        '\r' => Some("\\r"),
+        '\u{feff}' => Some("\\xef\\xbb\\xbf"),
+        _ => None,
+    }
 }
 
 /// Appends a control character by the bytes that it has in UTF-8.
 fn push_control(text: &mut String, code: u32) -> Result<(), OutOfMemory> {
-    if code >= 128 {
-        text.push_str("\\xc2")?;
-    }
-    write!(text, "\\x{code:02x}")?;
+    let lead = if code >= 128 { "\\xc2" } else { "" };
+    write!(text, "{lead}\\x{code:02x}")?;
     Ok(())
 }
 

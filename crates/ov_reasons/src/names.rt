@@ -1,5 +1,6 @@
 use crate::hint::bytes_hint;
 use crate::line_form::{Form, GRAPH_FORMS, SCENARIO_FORMS};
+use crate::texts::push_all;
 use ov_ids::OutOfMemory;
 use std::alloc::{AllocError, Global};
 use strsim::osa_distance;
@@ -16,12 +17,14 @@ pub(crate) fn push_unknown_name(
 ) -> Result<(), OutOfMemory> {
     text.push_str("no line begins with this word")?;
     if let Some(hint) = bytes_hint(word).or(other_file(word)) {
-        text.push_str("; ")?;
-        text.push_str(hint)?;
-        return Ok(());
+        return push_all(text, &["; ", hint]);
     }
     match meant_name(alloc, forms, word)? {
         Some(name) => push_meant(text, name),
+        None if has_name(forms, b"link") => push_all(
+            text,
+            &["; lines begin with `node` or `link`"],
+        ),
         None => Ok(()),
     }
 }
@@ -44,10 +47,7 @@ fn has_name(forms: &[Form], word: &[u8]) -> bool {
 
 /// Appends a name that may be meant.
 pub(crate) fn push_meant(text: &mut String, name: &str) -> Result<(), OutOfMemory> {
-    text.push_str("; did you mean `")?;
-    text.push_str(name)?;
-    text.push_str("`?")?;
-    Ok(())
+    push_all(text, &["; did you mean `", name, "`?"])
 }
 
 /// The first of the names that is near to a word.

@@ -1,6 +1,7 @@
 use crate::file_line::{FileLine, Word};
 use crate::marked_line::push_marked;
 use crate::numeral::number_of;
+use crate::texts::push_all;
 use ov_ids::OutOfMemory;
 use std::alloc::Global;
 use std::fmt::Write;
@@ -26,22 +27,29 @@ pub(crate) fn out_of_limits(
     words: &[Word<'_>],
 ) -> Result<Option<String>, OutOfMemory> {
     let mut text = String::new(alloc);
+    match push_parameters(&mut text, words)? {
+        Some(start) => {
+            push_marked(alloc, &mut text, line.text, start)?;
+            Ok(Some(text))
+        }
+        None => Ok(None),
+    }
+}
+
+/// Appends which of the seven parameters are out of their limits. Returns where the first of these begins.
+fn push_parameters(text: &mut String, words: &[Word<'_>]) -> Result<Option<usize>, OutOfMemory> {
     let mut first = None;
     for (place, limits) in LIMITS.iter().enumerate() {
         let high = highest(place, limits, words);
         if let Some(word) = words.get(place + 1) {
             let number = number_of(word.bytes).unwrap_or(0);
             if number < limits.1 || number > high {
-                push_parameter(&mut text, limits, number, high)?;
+                push_parameter(text, limits, number, high)?;
                 first = first.or(Some(word.start));
             }
         }
     }
-    let Some(start) = first else {
-        return Ok(None);
-    };
-    push_marked(alloc, &mut text, line.text, start)?;
-    Ok(Some(text))
+    Ok(first)
 }
 
 /// The largest value of the parameter at this place. The fourth is at most the third.
@@ -62,12 +70,9 @@ fn push_parameter(
     number: u64,
     high: u64,
 ) -> Result<(), OutOfMemory> {
-    if !text.is_empty() {
-        text.push_str("; ")?;
-    }
-    text.push_str(limits.0)?;
-    write!(text, " is {number}")?;
-    write!(text, " and must be {}", limits.1)?;
-    write!(text, " to {high}")?;
+    let between = if text.is_empty() { "" } else { "; " };
+    let low = limits.1;
+    push_all(text, &[between, limits.0])?;
+    write!(text, " is {number} and must be {low} to {high}")?;
     Ok(())
 }

@@ -72,13 +72,24 @@ impl Head {
         next: Option<&FileLine<'_>>,
     ) -> Result<Option<String>, OutOfMemory> {
         let words = words_of(alloc, line.text)?;
-        let Some(form) = form_of(&SCENARIO_FORMS, &words) else {
-            return Ok(Some(unread_line(alloc, &SCENARIO_FORMS, line, &words)?));
+        self.judge_words(alloc, line, &words, next)
+    }
+
+    /// Judges a line of these words.
+    fn judge_words(
+        &mut self,
+        alloc: Global,
+        line: &FileLine<'_>,
+        words: &[Word<'_>],
+        next: Option<&FileLine<'_>>,
+    ) -> Result<Option<String>, OutOfMemory> {
+        let Some(form) = form_of(&SCENARIO_FORMS, words) else {
+            return Ok(Some(unread_line(alloc, &SCENARIO_FORMS, line, words)?));
         };
         match form.says() {
-            Says::Params => self.judge_params(alloc, line, &words),
+            Says::Params => self.judge_params(alloc, line, words),
             Says::Seed => self.judge_seed(alloc, line),
-            Says::Words => judge_words(alloc, line, next),
+            Says::Words => judge_random_words(alloc, line, next),
             Says::Event => {
                 self.event = self.event.or(Some(line.number));
                 Ok(None)
@@ -166,10 +177,8 @@ fn told_of(
     number: usize,
     behind: &str,
 ) -> Result<String, OutOfMemory> {
-    let mut text = String::from_str(alloc, what)?;
-    text.push_str(before)?;
-    write!(text, "{number}")?;
-    text.push_str(behind)?;
+    let mut text = String::new(alloc);
+    write!(text, "{what}{before}{number}{behind}")?;
     push_whole_line(alloc, &mut text, line)?;
     Ok(text)
 }
@@ -185,29 +194,39 @@ fn push_whole_line(
 }
 
 /// Judges random words: the next line, if there is one, is to be an event, which has them.
-fn judge_words(
+fn judge_random_words(
     alloc: Global,
     line: &FileLine<'_>,
     next: Option<&FileLine<'_>>,
 ) -> Result<Option<String>, OutOfMemory> {
     let Some(next) = next else {
-        let mut text = String::from_str(
-            alloc,
-            "random words must stand right before an event, and no line follows",
-        )?;
-        push_whole_line(alloc, &mut text, line)?;
-        return Ok(Some(text));
+        return Ok(Some(last_words(alloc, line)?));
     };
-    let words = words_of(alloc, next.text)?;
-    match form_of(&SCENARIO_FORMS, &words) {
-        Some(form) if form.says() == Says::Event => Ok(None),
-        _ => Ok(Some(told_of(
-            alloc,
-            line,
-            "random words",
-            " must stand right before an event, and line ",
-            next.number,
-            " is none",
-        )?)),
+    if is_event(alloc, next)? {
+        return Ok(None);
     }
+    Ok(Some(told_of(
+        alloc,
+        line,
+        "random words",
+        " must stand right before an event, and line ",
+        next.number,
+        " is no event",
+    )?))
+}
+
+/// Says of random words that no line follows them.
+fn last_words(alloc: Global, line: &FileLine<'_>) -> Result<String, OutOfMemory> {
+    let mut text = String::from_str(
+        alloc,
+        "random words must stand right before an event, and no line follows",
+    )?;
+    push_whole_line(alloc, &mut text, line)?;
+    Ok(text)
+}
+
+/// Whether a line is an event.
+fn is_event(alloc: Global, line: &FileLine<'_>) -> Result<bool, OutOfMemory> {
+    let words = words_of(alloc, line.text)?;
+    Ok(form_of(&SCENARIO_FORMS, &words).is_some_and(|form| form.says() == Says::Event))
 }

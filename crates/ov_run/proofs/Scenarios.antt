@@ -2,4 +2,5 @@
 pub mod Collecting
 pub mod Drawn
 pub mod Judged
+pub mod Numbered
 pub mod Placed

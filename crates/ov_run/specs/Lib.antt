@@ -6,6 +6,7 @@ pub mod GraphFiles
 pub mod Theorems
 pub mod Lines
 pub mod Printed
+pub mod RunLines
 pub mod Running
 pub mod Scenarios
 pub mod Statements

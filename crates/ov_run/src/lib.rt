@@ -17,6 +17,7 @@ mod outcome;
 mod program_outcome;
 mod random_words;
 mod run_fault;
+mod run_line_numbers;
 mod run_watcher;
 mod scenario;
 mod scenario_entry_points;
@@ -37,6 +38,7 @@ pub use line_texts::{entry_line, node_line, packet_line, refused_line, report_li
 pub use program_outcome::{ProgramFault, exit_status};
 pub use random_words::draw;
 pub use run_fault::RunFault;
+pub use run_line_numbers::numbers_of_run_lines;
 pub use run_watcher::RunWatcher;
 pub use scenario::{Line, Look, Scenario, Subject};
 pub use scenario_entry_points::{run, run_watched};

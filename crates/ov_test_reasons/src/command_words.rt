@@ -6,7 +6,7 @@ use std::test::Fail;
 
 /// The usage, which stands last.
 const USAGE: &str = "\
-usage: overlay run [FILE]
+usage: overlay run [FILE] [--explain]
        overlay analyse [FILE] [--group IDS] [--workers N] [--certificate] [--progress]
 ";
 
@@ -20,7 +20,7 @@ fn told(alloc: Global, words: &[&str]) -> Result<String, OutOfMemory> {
 }
 
 /// Arguments, and what is said of them above the usage.
-static WRONG: [(&[&str], &str); 22] = [
+static WRONG: [(&[&str], &str); 29] = [
     (&[], "an argument is no UTF-8 text\n"),
     (&["foo"], "`foo` is no command\n"),
     (
@@ -40,23 +40,39 @@ static WRONG: [(&[&str], &str); 22] = [
         &["analyse", "--progress=x"],
         "`--progress` takes no value\n",
     ),
+    (&["run", "--explain=yes"], "`--explain` takes no value\n"),
+    (
+        &["run", "--explain", "a", "--explain"],
+        "`--explain` stands twice\n",
+    ),
+    (
+        &["run", "--explian"],
+        "`--explian` is no option of `run`; did you mean `--explain`?\n",
+    ),
+    (
+        &["analyse", "--explain"],
+        "`--explain` is no option of `analyse`; it is one of `run`\n",
+    ),
+    (&["run", "--explain", "a", "b"], "`b` is a second file\n"),
     (&["run", "-x"], "`-x` is no option of `run`\n"),
-    (&["run", "--"], "`--` is no option of `run`\n"),
+    (&["run", "--", "a", "b"], "`b` is a second file\n"),
+    (&["run", "--", "-x", "--"], "`--` is a second file\n"),
+    (&["--", "run"], "`--` is no command\n"),
     (
         &["analyse", "--certficate"],
         "`--certficate` is no option of `analyse`; did you mean `--certificate`?\n",
     ),
     (
         &["analyse", "a", "--group"],
-        "`--group` takes ids with one comma between two\n",
+        "`--group` takes ids with one comma between two, without spaces\n",
     ),
     (
         &["analyse", "--group", "1;2"],
-        "`--group` takes ids with one comma between two, and not `1;2`\n",
+        "`--group` takes ids with one comma between two, without spaces, and not `1;2`\n",
     ),
     (
         &["analyse", "--group="],
-        "`--group` takes ids with one comma between two, and not ``\n",
+        "`--group` takes ids with one comma between two, without spaces, and not ``\n",
     ),
     (
         &["analyse", "--group", "1", "--group", "1"],
@@ -99,6 +115,10 @@ fn help_and_version_are_told(rt: HostRuntime) -> Result<(), Fail> {
     assert!(rt;
         help.as_str()
             .starts_with("overlay run runs the events of a scenario file")
+    );
+    assert!(rt;
+        help.as_str()
+            .contains("\n  --explain      tells on standard error why")
     );
     assert!(rt; help.as_str().ends_with(USAGE));
     let asked: [&[&str]; 3] = [&["--help"], &["run", "-h"], &["analyse", "x", "--help"]];

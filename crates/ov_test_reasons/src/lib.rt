@@ -8,4 +8,6 @@ mod command_words;
 #[cfg(test)]
 mod refusals;
 #[cfg(test)]
+mod run_lines;
+#[cfg(test)]
 mod told_files;

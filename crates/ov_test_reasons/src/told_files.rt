@@ -48,7 +48,7 @@ pub(crate) fn graph_told(alloc: Global, file: &[u8]) -> Result<String, OutOfMemo
 }
 
 /// Scenario files, and what is told of them.
-static SCENARIOS: [(&[u8], &[Told]); 24] = [
+static SCENARIOS: [(&[u8], &[Told]); 26] = [
     (b"boot 1\n", &[]),
     (
         b"boot 1\nboot 2 via 1\n",
@@ -83,25 +83,30 @@ static SCENARIOS: [(&[u8], &[Told]); 24] = [
         &[
             (
                 1,
-                "expected the id of a node; it is from 0 to 4294967295",
+                "expected the id of a node; it is a number from 0 to 4294967295",
                 "crash 4294967296",
                 6,
             ),
             (
                 2,
-                "expected the place of a packet; it is from 0 to 4294967295",
+                "expected the place of a packet; it is a number from 0 to 4294967295",
                 "deliver 99999999999999999999",
                 8,
             ),
             (3, "expected the id of a node", "crash", 5),
-            (4, "expected the id of a node", "  crash  one", 9),
+            (
+                4,
+                "expected the id of a node; it is a number from 0 to 4294967295",
+                "  crash  one",
+                9,
+            ),
         ],
     ),
     (
         b"seed 18446744073709551616\n",
         &[(
             1,
-            "expected the seed; it is from 0 to 18446744073709551615",
+            "expected the seed; it is a number from 0 to 18446744073709551615",
             "seed 18446744073709551616",
             5,
         )],
@@ -139,7 +144,8 @@ static SCENARIOS: [(&[u8], &[Told]); 24] = [
         b"boot 1\r\nboot 2\r",
         &[(
             2,
-            "expected the id of a node; a carriage return is dropped only right before a line feed",
+            "expected the id of a node; \
+             a line ends with a line feed, and a carriage return is dropped only right before that",
             "boot 2\\r",
             5,
         )],
@@ -201,7 +207,7 @@ static SCENARIOS: [(&[u8], &[Told]); 24] = [
         &[
             (
                 1,
-                "random words must stand right before an event, and line 3 is none",
+                "random words must stand right before an event, and line 3 is no event",
                 "words 1",
                 0,
             ),
@@ -218,7 +224,7 @@ static SCENARIOS: [(&[u8], &[Told]); 24] = [
         &[
             (
                 1,
-                "random words must stand right before an event, and line 2 is none",
+                "random words must stand right before an event, and line 2 is no event",
                 "words 1",
                 0,
             ),
@@ -236,13 +242,13 @@ static SCENARIOS: [(&[u8], &[Told]); 24] = [
             (1, "expected a random word", "words", 5),
             (
                 2,
-                "expected a random word or the end of the line",
+                "expected the end of the line or a random word; it is a number from 0 to 18446744073709551615",
                 "words 1 x",
                 8,
             ),
             (
                 3,
-                "expected a random word; it is from 0 to 18446744073709551615",
+                "expected a random word; it is a number from 0 to 18446744073709551615",
                 "words 18446744073709551616",
                 6,
             ),
@@ -289,7 +295,7 @@ static SCENARIOS: [(&[u8], &[Told]); 24] = [
             ),
             (
                 3,
-                "expected the active random walk length",
+                "expected the active random walk length; it is a number from 0 to 4294967295",
                 "params 1 2 x 4 5 6 7",
                 11,
             ),
@@ -298,7 +304,12 @@ static SCENARIOS: [(&[u8], &[Told]); 24] = [
     (
         b"analyse x\nanalyse 3 grp 1\nanalyse 3 group\nanalyse 3 group 1,,2\ncertificate 3 group 1 2\n",
         &[
-            (1, "expected a moment", "analyse x", 8),
+            (
+                1,
+                "expected the moment of a snapshot; it is a number from 0 to 4294967295",
+                "analyse x",
+                8,
+            ),
             (
                 2,
                 "expected `workers` or `group` or the end of the line",
@@ -307,13 +318,13 @@ static SCENARIOS: [(&[u8], &[Told]); 24] = [
             ),
             (
                 3,
-                "expected ids with one comma between two",
+                "expected ids with one comma between two, without spaces",
                 "analyse 3 group",
                 15,
             ),
             (
                 4,
-                "expected ids with one comma between two",
+                "expected ids with one comma between two, without spaces",
                 "analyse 3 group 1,,2",
                 16,
             ),
@@ -332,14 +343,19 @@ static SCENARIOS: [(&[u8], &[Told]); 24] = [
             (2, "expected the number of the message", "timer 1 2", 9),
             (3, "expected the end of the line", "snapshot now", 9),
             (4, "expected the end of the line", "packets 1", 8),
-            (5, "expected the id of a node", "boot x", 5),
+            (
+                5,
+                "expected the id of a node; it is a number from 0 to 4294967295",
+                "boot x",
+                5,
+            ),
         ],
     ),
     (
         b"broadcast x \xff\x01\xc3\xa4\xc2\x85\n",
         &[(
             1,
-            "expected the id of a node",
+            "expected the id of a node; it is a number from 0 to 4294967295",
             "broadcast x \\xff\\x01\u{e4}\\xc2\\x85",
             10,
         )],
@@ -348,7 +364,7 @@ static SCENARIOS: [(&[u8], &[Told]); 24] = [
         b"words 1000001 1000002 1000003 1000004 1000005 1000006 1000007 1000008 1000009 1000010 x\nboot 1\n",
         &[(
             1,
-            "expected a random word or the end of the line",
+            "expected the end of the line or a random word; it is a number from 0 to 18446744073709551615",
             "..003 1000004 1000005 1000006 1000007 1000008 1000009 1000010 x",
             62,
         )],
@@ -357,9 +373,42 @@ static SCENARIOS: [(&[u8], &[Told]); 24] = [
         b"boot x0000000000000000000000000000000000000000000000000000000000000000000000000000000000000000000000000000",
         &[(
             1,
-            "expected the id of a node",
+            "expected the id of a node; it is a number from 0 to 4294967295",
             "boot x000000000000000000000000000000000000000000000000000000000000\
              000000000000000000000000000000000000000..",
+            5,
+        )],
+    ),
+    (
+        b"analyse 3 workers 65\nanalyse 3 group 1, 2\ncrash -x\n",
+        &[
+            (
+                1,
+                "expected a number from 1 to 64",
+                "analyse 3 workers 65",
+                18,
+            ),
+            (
+                2,
+                "expected ids with one comma between two, without spaces",
+                "analyse 3 group 1, 2",
+                16,
+            ),
+            (
+                3,
+                "expected the id of a node; it is a number from 0 to 4294967295",
+                "crash -x",
+                6,
+            ),
+        ],
+    ),
+    (
+        b"boot 1\rboot 2 by 1\r",
+        &[(
+            1,
+            "expected the id of a node; \
+             a line ends with a line feed, and a carriage return is dropped only right before that",
+            "boot 1\\rboot 2 by 1\\r",
             5,
         )],
     ),
@@ -368,7 +417,7 @@ static SCENARIOS: [(&[u8], &[Told]); 24] = [
 ];
 
 /// Graph files, and what is told of them.
-static GRAPHS: [(&[u8], &[Told]); 10] = [
+static GRAPHS: [(&[u8], &[Told]); 11] = [
     (b"node 1\nnode 2\nlink 1 2\n", &[]),
     (
         b"node 1\nnodes 2\nlink 1\nlink 1 x\nboot 1\n",
@@ -380,7 +429,12 @@ static GRAPHS: [(&[u8], &[Told]); 10] = [
                 0,
             ),
             (3, "expected the id of a node", "link 1", 6),
-            (4, "expected the id of a node", "link 1 x", 7),
+            (
+                4,
+                "expected the id of a node; it is a number from 0 to 4294967295",
+                "link 1 x",
+                7,
+            ),
             (
                 5,
                 "no line begins with this word; `overlay run` reads scenario files, which have such lines",
@@ -390,10 +444,34 @@ static GRAPHS: [(&[u8], &[Told]); 10] = [
         ],
     ),
     (
+        b"edge 1 2\nlink 1 -> 2\nlink 1,2\nnode 1 2\n",
+        &[
+            (
+                1,
+                "no line begins with this word; lines begin with `node` or `link`",
+                "edge 1 2",
+                0,
+            ),
+            (
+                2,
+                "expected the id of a node; it is a number from 0 to 4294967295",
+                "link 1 -> 2",
+                7,
+            ),
+            (
+                3,
+                "expected the id of a node; it is a number from 0 to 4294967295",
+                "link 1,2",
+                5,
+            ),
+            (4, "expected the end of the line", "node 1 2", 7),
+        ],
+    ),
+    (
         b"node 1\nnode 1\n",
         &[(
             2,
-            "nodes must ascend, and this node is also node 1 on line 1",
+            "a node may stand once, and node 1 is on line 1 too",
             "node 1",
             5,
         )],
@@ -420,7 +498,7 @@ static GRAPHS: [(&[u8], &[Told]); 10] = [
         b"node 1\nnode 2\nlink 1 2\nlink 1 2\n",
         &[(
             4,
-            "links must ascend, and this link is also link 1 2 on line 3",
+            "a link may stand once, and link 1 2 is on line 3 too",
             "link 1 2",
             5,
         )],
@@ -436,7 +514,12 @@ static GRAPHS: [(&[u8], &[Told]); 10] = [
     ),
     (
         b"node 1\nlink 1 1\n",
-        &[(2, "a link goes from a node to a higher one", "link 1 1", 7)],
+        &[(
+            2,
+            "a link goes from a node to a higher one, and not to itself",
+            "link 1 1",
+            7,
+        )],
     ),
     (
         b"node 1\nnode 2\n link  1 4\n",

@@ -1,6 +1,5 @@
-use crate::run_line_numbers::numbers_of_run_lines;
 use ov_reasons::{count_line, refusal_line, refusal_reason};
-use ov_run::{Line, RunWatcher, read_scenario};
+use ov_run::{Line, RunWatcher, numbers_of_run_lines, read_scenario};
 use ov_snap::Core;
 
 /// Tells on standard error why a run refuses a line, and at its end how many events happened and how many were refused.

@@ -2,13 +2,14 @@
 //! nodes part it.
 #![tactic(auto)]
 
-ghost use Rattle.std.specs.Prelude.{◌≤◌};
+ghost use Rattle.std.specs.Prelude.{◌≡◌, ◌≤◌, Ok, Err, MatchResult};
 ghost use Rattle.ov_claims.specs.Claims.{most_workers};
 ghost use Rattle.ov_run.specs.Arguments.{HasWorkers};
+ghost use Rattle.ov_run.specs.declared.program_outcome.ProgramFault.TheVariants.{Arguments, Run};
+ghost use Rattle.ov_run.specs.declared.run_fault.RunFault.TheVariants.{Read as read_failed};
 
 mod explaining;
 mod progress;
-mod run_line_numbers;
 
 use crate::explaining::Explaining;
 use crate::progress::Progress;
@@ -46,7 +47,11 @@ struct Ended {
 
 impl Ended {
     /// The end of a run or an analysis of these bytes, whose fault is told of by `reasons`.
-    fn with(answer: Result<u8, RunFault>, reason: Option<String>) -> Ended {
+    fn with(answer: Result<u8, RunFault>, reason: Option<String>) -> Ended
+        ensures answer { MatchResult answer (λ status. result.answer ≡ Ok status)
+            (λ fault. result.answer ≡ Err (Run fault)) }
+        ensures reason { result.reason ≡ reason }
+    {
         match answer {
             Ok(status) => Ended {
                 answer: Ok(status),
@@ -88,7 +93,9 @@ fn behind_name(words: &[String]) -> &[String] {
 }
 
 /// Ends where the arguments can't be read. Help, the version, or what is wrong with them is told.
-fn unread_arguments(rt: &HostRuntime, fault: ArgumentsFault, arguments: &[String]) -> Ended {
+fn unread_arguments(rt: &HostRuntime, fault: ArgumentsFault, arguments: &[String]) -> Ended
+    ensures { result.answer ≡ Err (Arguments fault) }
+{
     let reason = match fault {
         ArgumentsFault::BadArguments => argument_reasons(rt.alloc(), arguments).ok(),
         ArgumentsFault::OutOfMemory => None,
@@ -124,7 +131,9 @@ fn do_asked<T: Threads + Sync>(rt: &HostRuntime, threads: &T, request: Request) 
 }
 
 /// Ends where a file can't be opened. It is named, with the cause.
-fn not_opened(rt: &HostRuntime, path: &str, error: io::Error) -> Ended {
+fn not_opened(rt: &HostRuntime, path: &str, error: io::Error) -> Ended
+    ensures { result.answer ≡ Err (Run read_failed) }
+{
     let reason = format!(in rt.alloc(); "{path} can't be opened: {error}\n");
     Ended::with(Err(RunFault::Read), reason.ok())
 }
