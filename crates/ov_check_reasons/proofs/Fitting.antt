@@ -10,7 +10,7 @@ use Rattle.ov_cert.specs.declared.cert.PairPaths.{PairPaths}
 use Rattle.ov_cert.specs.declared.cert.FanPaths.{FanPaths}
 use Rattle.ov_certfile.specs.Keys.{has_just, said}
 use Rattle.ov_certfile.specs.Forms.{paths_in, pair_in, fan_in}
-use Rattle.ov_check_reasons.specs.Code.Fitting.{two_ids_in}
+use Rattle.ov_check_reasons.specs.Code.Fitting.{two_ids_in, both_ids_of}
 
 -- one item is no link
 one_option : (o : Option ℕ) → is_some ((o >>= λ x. Some [] >>= λ xs. Some (x ∷ xs)) >>= both_of) ≡ false
@@ -45,6 +45,38 @@ both_ids a b = two_options (id_in (view a)) (id_in (view b))
 pub more_ids : (a b c : Value) (vs : List Value) → is_some (two_ids_in (a ∷ b ∷ c ∷ vs)) ≡ false
 more_ids a b c vs =
     more_options (id_in (view a)) (id_in (view b)) (id_in (view c)) (each_in id_in (items_view vs))
+
+-- the same of the ids themselves
+one_none : (o : Option ℕ) → ((o >>= λ x. Some [] >>= λ xs. Some (x ∷ xs)) >>= both_of) ≡ None
+one_none None = refl
+one_none (Some x) = refl
+
+two_are : (o r : Option ℕ)
+    → ((o >>= λ x. (r >>= λ y. Some [] >>= λ ys. Some (y ∷ ys)) >>= λ xs. Some (x ∷ xs)) >>= both_of) ≡ both_ids_of o r
+two_are None r = refl
+two_are (Some x) None = refl
+two_are (Some x) (Some y) = refl
+
+more_none : (o r q : Option ℕ) (rest : Option (List ℕ))
+    → ((o >>= λ x. (r >>= λ y. (q >>= λ z. rest >>= λ zs. Some (z ∷ zs)) >>= λ ys. Some (y ∷ ys))
+    >>= λ xs. Some (x ∷ xs)) >>= both_of) ≡ None
+more_none None r q rest = refl
+more_none (Some x) None q rest = refl
+more_none (Some x) (Some y) None rest = refl
+more_none (Some x) (Some y) (Some z) None = refl
+more_none (Some x) (Some y) (Some z) (Some zs) = refl
+
+pub one_id_none : (a : Value) → two_ids_in (a ∷ []) ≡ None
+one_id_none a = one_none (id_in (view a))
+
+pub two_ids_both : (a b : Value) → two_ids_in (a ∷ b ∷ []) ≡ both_ids_of (id_in (view a)) (id_in (view b))
+two_ids_both a b = two_are (id_in (view a)) (id_in (view b))
+
+pub more_ids_none : (a b c : Value) (vs : List Value) → two_ids_in (a ∷ b ∷ c ∷ vs) ≡ None
+more_ids_none a b c vs =
+    more_none (id_in (view a)) (id_in (view b)) (id_in (view c)) (each_in id_in (items_view vs))
+
+pub ruleset two_ids_are = (one_id_none, two_ids_both, more_ids_none)
 
 pub ruleset two_ids = (one_id, both_ids, more_ids)
 

@@ -1,1 +1,11 @@
 pub mod Fitting
+pub mod Breaking
+pub mod PathRuling
+pub mod Frames
+pub mod Placing
+pub mod Telling
+pub mod EntryTelling
+pub mod FrameTelling
+pub mod Whole
+pub mod LinkRules
+pub mod GraphTelling

@@ -1,2 +1,7 @@
 -- What only the contracts of private functions and the proofs use.
 pub mod Fitting
+pub mod Words
+pub mod PathRules
+pub mod PathTexts
+pub mod Leaving
+pub mod GraphFaults

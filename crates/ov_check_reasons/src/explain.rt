@@ -1,14 +1,21 @@
-ghost use Rattle.std.specs.Prelude.{◌≡◌, ◌++◌, IfOk, string_bytes};
+ghost use Rattle.std.specs.Prelude.{Ok, IfOk, OnOk, string_bytes};
+ghost use Rattle.ov_cert.specs.declared.cert.Cert.TheVariants.{Linked as AllLinked, Split as SplitBy};
+ghost use Rattle.ov_cert.specs.Verdict.{IsFirstFault};
+ghost use Rattle.ov_check.specs.Outcome.{IsOutcome};
+ghost use Rattle.ov_check.specs.declared.outcome.Outcome.TheVariants.{Fails, Refused};
+ghost use Rattle.ov_certfile.specs.declared.fault.FileFault.TheVariants as refusal;
 ghost use Rattle.ov_check_reasons.specs.Opening.{opening, BeginsWith};
+ghost use Rattle.ov_check_reasons.specs.Places.{TellsFault, TellsPlace, Explains};
+ghost use Rattle.ov_check_reasons.specs.Code.Words.{Adds};
 
 use crate::entries::{tell_extra, tell_fan, tell_pair};
-use crate::file::tell_file;
+use crate::file::{tell_file, tell_graph_of};
 use crate::frame::{tell_count, tell_cut, tell_group, tell_side, tell_unlinked};
 use crate::opening::say_opening;
 use ov_cert::{Cert, CheckFault, Split};
 use ov_certfile::{FileFault, Filed, from_text};
 use ov_check::Outcome;
-use ov_graph::Graph;
+use ov_graph::{Graph, GraphFault};
 use ov_ids::{NodeId, OutOfMemory};
 use std::alloc::Global;
 
@@ -18,7 +25,9 @@ use std::alloc::Global;
 ///
 /// `OutOfMemory` (99): an allocation was refused.
 pub fn reasons(alloc: Global, bytes: &[u8], outcome: &Outcome) -> Result<String, OutOfMemory>
-    ensures { IfOk result (λ text. BeginsWith (opening outcome.now) (string_bytes text)) }
+    ensures opening { IfOk result (λ text. BeginsWith (opening outcome.now) (string_bytes text)) }
+    ensures place { IsOutcome bytes.now outcome.now
+        → IfOk result (λ text. Explains bytes.now outcome.now (string_bytes text)) }
 {
     let place = place_of(alloc, bytes, outcome)?;
     let mut text = String::new(alloc);
@@ -28,13 +37,48 @@ pub fn reasons(alloc: Global, bytes: &[u8], outcome: &Outcome) -> Result<String,
 }
 
 /// Where in the file the fault shows.
-fn place_of(alloc: Global, bytes: &[u8], outcome: &Outcome) -> Result<String, OutOfMemory> {
-    let mut text = String::new(alloc);
+fn place_of(alloc: Global, bytes: &[u8], outcome: &Outcome) -> Result<String, OutOfMemory>
+    ensures { IsOutcome bytes.now outcome.now
+        → IfOk result (λ text. TellsPlace bytes.now outcome.now (string_bytes text)) }
+{
     match outcome {
-        Outcome::Holds(_) => {}
-        Outcome::Fails(fault) => tell_claim(alloc, &mut text, bytes, *fault)?,
-        Outcome::Refused(fault) => tell_file(alloc, &mut text, bytes, *fault)?,
+        Outcome::Holds(_) => Ok(String::new(alloc)),
+        Outcome::Fails(fault) => place_in_claim(alloc, bytes, *fault),
+        Outcome::Refused(fault) => place_in_file(alloc, bytes, *fault),
     }
+}
+
+fn place_in_claim(alloc: Global, bytes: &[u8], fault: CheckFault) -> Result<String, OutOfMemory>
+    ensures { IsOutcome bytes.now (Fails fault)
+        → IfOk result (λ text. TellsPlace bytes.now (Fails fault) (string_bytes text)) }
+{
+    let mut text = String::new(alloc);
+    tell_claim(alloc, &mut text, bytes, fault)?;
+    Ok(text)
+}
+
+fn place_in_file(alloc: Global, bytes: &[u8], fault: FileFault) -> Result<String, OutOfMemory>
+    ensures { IsOutcome bytes.now (Refused fault)
+        → IfOk result (λ text. TellsPlace bytes.now (Refused fault) (string_bytes text)) }
+{
+    match fault {
+        FileFault::Graph(fault) => place_in_graph(alloc, bytes, fault),
+        _ => place_in_value(alloc, bytes, fault),
+    }
+}
+
+fn place_in_graph(alloc: Global, bytes: &[u8], fault: GraphFault) -> Result<String, OutOfMemory>
+    ensures { IsOutcome bytes.now (Refused (refusal.Graph fault))
+        → IfOk result (λ text. TellsPlace bytes.now (Refused (refusal.Graph fault)) (string_bytes text)) }
+{
+    let mut text = String::new(alloc);
+    tell_graph_of(alloc, &mut text, bytes, fault)?;
+    Ok(text)
+}
+
+fn place_in_value(alloc: Global, bytes: &[u8], fault: FileFault) -> Result<String, OutOfMemory> {
+    let mut text = String::new(alloc);
+    tell_file(alloc, &mut text, bytes, fault)?;
     Ok(text)
 }
 
@@ -43,14 +87,19 @@ fn tell_claim(
     text: &mut String,
     bytes: &[u8],
     fault: CheckFault,
-) -> Result<(), OutOfMemory> {
+) -> Result<(), OutOfMemory>
+    ensures { IsOutcome bytes.now (Fails fault) → OnOk result (Adds (TellsPlace bytes.now (Fails fault))
+        (string_bytes text.old) (string_bytes text.new)) }
+{
     let Ok(source) = str::from_utf8(bytes) else {
         return Ok(());
     };
     match from_text(alloc, source) {
-        Ok(filed) => tell_fault(alloc, text, &filed, fault),
-        Err(FileFault::OutOfMemory) => Err(OutOfMemory),
-        Err(_) => Ok(()),
+        Ok(filed) => Ok(tell_fault(alloc, text, &filed, fault)?),
+        Err(fault) => match fault {
+            FileFault::OutOfMemory => Err(OutOfMemory),
+            _ => Ok(()),
+        },
     }
 }
 
@@ -59,12 +108,13 @@ fn tell_fault(
     text: &mut String,
     filed: &Filed,
     fault: CheckFault,
-) -> Result<(), OutOfMemory> {
+) -> Result<(), OutOfMemory>
+    ensures { IsFirstFault filed.now.graph filed.now.group filed.now.cert fault
+        → OnOk result (Adds (TellsFault filed.now.graph filed.now.group filed.now.cert fault) (string_bytes text.old)
+        (string_bytes text.new)) }
+{
     let graph = &filed.graph;
     let group = filed.group.as_slice();
-    if let CheckFault::BadGroup = fault {
-        return tell_group(text, graph, group);
-    }
     match &filed.cert {
         Cert::Linked { k } => tell_linked(text, graph, group, *k, fault),
         Cert::Split(split) => tell_split(alloc, text, graph, group, split, fault),
@@ -77,8 +127,13 @@ fn tell_linked(
     group: &[NodeId],
     k: u32,
     fault: CheckFault,
-) -> Result<(), OutOfMemory> {
+) -> Result<(), OutOfMemory>
+    ensures { IsFirstFault graph.now group.now (AllLinked k) fault
+        → OnOk result (Adds (TellsFault graph.now group.now (AllLinked k) fault) (string_bytes text.old)
+        (string_bytes text.new)) }
+{
     match fault {
+        CheckFault::BadGroup => tell_group(text, graph, group),
         CheckFault::Count => tell_count(text, k, "the members are ", group.len()),
         CheckFault::NotLinked => tell_unlinked(text, graph, group),
         _ => Ok(()),
@@ -92,17 +147,16 @@ fn tell_split(
     group: &[NodeId],
     split: &Split,
     fault: CheckFault,
-) -> Result<(), OutOfMemory> {
+) -> Result<(), OutOfMemory>
+    ensures { IsFirstFault graph.now group.now (SplitBy split.now) fault
+        → OnOk result (Adds (TellsFault graph.now group.now (SplitBy split.now) fault) (string_bytes text.old)
+        (string_bytes text.new)) }
+{
+    let cut = split.cut.as_slice();
     match fault {
-        CheckFault::Count => {
-            tell_count(
-                text,
-                split.k,
-                "the nodes of the cut are ",
-                split.cut.as_slice().len(),
-            )
-        }
-        CheckFault::Cut => tell_cut(text, graph, split.cut.as_slice()),
+        CheckFault::BadGroup => tell_group(text, graph, group),
+        CheckFault::Count => tell_count(text, split.k, "the nodes of the cut are ", cut.len()),
+        CheckFault::Cut => tell_cut(text, graph, cut),
         CheckFault::Side => tell_side(text, graph, group, split),
         CheckFault::Pair { i, j } => tell_pair(alloc, text, graph, group, split, i, j),
         CheckFault::Fan { j } => tell_fan(alloc, text, graph, group, split, j),

@@ -1,3 +1,17 @@
+ghost use Rattle.std.specs.Prelude.{◌≡◌, Some, OnOk, string_bytes, codes};
+ghost use Rattle.serde_json.specs.View.{view};
+ghost use Rattle.ov_graph.specs.Links.{LinkGraph};
+ghost use Rattle.ov_certfile.specs.declared.fault.FileFault.TheVariants.{Graph};
+ghost use Rattle.ov_certfile.specs.declared.version.Version.{Version};
+ghost use Rattle.ov_certfile.specs.Keys.{said};
+ghost use Rattle.ov_certfile.specs.Kinds.{version_in, most_nodes_of};
+ghost use Rattle.ov_certfile.specs.Says.{SaysGraph};
+ghost use Rattle.ov_check.specs.Outcome.{IsOutcome};
+ghost use Rattle.ov_check.specs.declared.outcome.Outcome.TheVariants.{Refused};
+ghost use Rattle.ov_check_reasons.specs.Places.{TellsGraph, TellsGraphOf};
+ghost use Rattle.ov_check_reasons.specs.Code.Words.{Adds};
+ghost use Rattle.ov_check_reasons.specs.Code.GraphFaults.{IsUnsound, is_second};
+
 use crate::forms::{Form, NUMBER_LIMIT, fits_at, is_below};
 use crate::graph::tell_graph;
 use crate::keys::{first_missing, first_unknown, say_missing, say_unknown};
@@ -96,16 +110,26 @@ fn tell_value(
         FileFault::UnknownKey => tell_unknown(alloc, text, value),
         FileFault::BadValue => tell_bad_value(alloc, text, value),
         FileFault::Version => tell_version(alloc, text, value),
-        FileFault::Graph(fault) => tell_bad_graph(alloc, text, value, fault),
-        FileFault::NotJson | FileFault::OutOfMemory => Ok(()),
+        FileFault::Graph(_) | FileFault::NotJson | FileFault::OutOfMemory => Ok(()),
     }
 }
 
 /// Whether a file names its group, as one of version 2.
-fn names_group(value: &Value) -> bool {
+fn names_group(value: &Value) -> bool
+    ensures { result ≡ is_second (said version_in (codes "version") (view value.now)) }
+{
     match value.get("version") {
-        Some(version) => version.as_u64() == Some(2),
+        Some(version) => is_two(version),
         None => false,
+    }
+}
+
+fn is_two(value: &Value) -> bool
+    ensures { result ≡ is_second (version_in (view value.now)) }
+{
+    match value.as_u64() {
+        Some(2) => true,
+        _ => false,
     }
 }
 
@@ -257,12 +281,45 @@ fn tell_if<F: Form>(
     Ok(true)
 }
 
+/// How many nodes a file of this version may have.
+fn most_of(value: &Value) -> usize
+    ensures { (version : Version) → said version_in (codes "version") (view value.now) ≡ Some version
+        → result ≡ most_nodes_of version }
+{
+    if names_group(value) { 1024 } else { 256 }
+}
+
+/// Tells where a value says no graph.
 fn tell_bad_graph(
     alloc: Global,
     text: &mut String,
     value: &Value,
     fault: GraphFault,
-) -> Result<(), OutOfMemory> {
-    let most = if names_group(value) { 1024 } else { 256 };
-    tell_graph(alloc, text, value, most, fault)
+) -> Result<(), OutOfMemory>
+    ensures { (version : Version) (g : LinkGraph) → said version_in (codes "version") (view value.now) ≡ Some version
+        → SaysGraph (view value.now) g → IsUnsound g fault
+        → OnOk result (Adds (TellsGraph (most_nodes_of version) g fault) (string_bytes text.old)
+        (string_bytes text.new)) }
+{
+    tell_graph(alloc, text, value, most_of(value), fault)
+}
+
+/// Tells where bytes say no graph.
+pub(crate) fn tell_graph_of(
+    alloc: Global,
+    text: &mut String,
+    bytes: &[u8],
+    fault: GraphFault,
+) -> Result<(), OutOfMemory>
+    ensures { IsOutcome bytes.now (Refused (Graph fault)) → OnOk result (Adds (TellsGraphOf bytes.now fault)
+        (string_bytes text.old) (string_bytes text.new)) }
+{
+    let Ok(source) = str::from_utf8(bytes) else {
+        return Ok(());
+    };
+    match Value::from_str(alloc, source) {
+        Ok(value) => Ok(tell_bad_graph(alloc, text, &value, fault)?),
+        Err(error) if error.is_memory() => Err(OutOfMemory),
+        Err(_) => Ok(()),
+    }
 }

@@ -1,6 +1,12 @@
-ghost use Rattle.std.specs.Prelude.{◌≡◌, IfSome};
-ghost use Rattle.ov_graph.specs.Links.{Linked};
+ghost use Rattle.std.specs.Prelude.{◌≡◌, ◌++◌, length, is_none, not, OnOk, MatchOption, string_bytes};
+ghost use Rattle.ov_cert.specs.Code.Tests.{chained, last_of};
+ghost use Rattle.ov_check_reasons.specs.Places.{IsFirstBreak, TellsPaths, path_text, paths_text};
+ghost use Rattle.ov_check_reasons.specs.Code.Words.{Adds};
+ghost use Rattle.ov_check_reasons.specs.Code.PathRules.{KeepRule, may_end, may_share, has_ends, have};
+ghost use Rattle.ov_check_reasons.specs.Code.PathRules.{are_nodes, is_distinct, meets_none, may_follow};
+ghost use Rattle.ov_check_reasons.specs.Code.PathTexts.{stop_text, flaw_text};
 
+use crate::ids::{are_linked, is_node};
 use crate::words::{Word, count, node, say};
 use ov_graph::Graph;
 use ov_ids::{NodeId, OutOfMemory, Seq};
@@ -15,7 +21,9 @@ pub(crate) struct Rule {
 
 impl Rule {
     /// Whether a path may end at a node.
-    fn ends_at(&self, group: &[NodeId], id: NodeId) -> bool {
+    fn ends_at(&self, group: &[NodeId], id: NodeId) -> bool
+        ensures { result ≡ may_end group.now self.now.from self.now.to id }
+    {
         match self.to {
             Some(to) => id == to,
             None => id < self.from && group.contains(&id),
@@ -23,20 +31,27 @@ impl Rule {
     }
 
     /// Whether paths may share a node.
-    fn shares(&self, id: NodeId) -> bool {
-        id == self.from || self.to == Some(id)
+    fn shares(&self, id: NodeId) -> bool
+        ensures { result ≡ may_share self.now.from self.now.to id }
+    {
+        match self.to {
+            Some(to) => id == self.from || id == to,
+            None => id == self.from,
+        }
     }
 }
 
 /// What is wrong with a path.
 #[derive(Clone, Copy, Debug, PartialEq, Eq)]
 pub(crate) enum PathFlaw {
-    /// It has fewer than two nodes.
-    Short,
+    /// It has no node.
+    Empty,
     /// It begins at this node.
     Begins(NodeId),
     /// It ends at this node.
     Ends(NodeId),
+    /// It has this id, which is no node.
+    Stranger(NodeId),
     /// It goes from a node to another one that is not linked to it.
     Unlinked(NodeId, NodeId),
     /// It has this node twice.
@@ -45,30 +60,79 @@ pub(crate) enum PathFlaw {
     Shares(NodeId, usize),
 }
 
-/// The first step of a path over no link.
-fn first_unlinked_step(graph: &Graph, path: &[NodeId]) -> Option<(NodeId, NodeId)>
-    ensures { IfSome result (λ s. ¬ Linked graph.now s.0 s.1) }
+/// The last node of a path, by its first node and those behind it.
+fn last_of(first: NodeId, rest: &[NodeId]) -> NodeId
+    ensures { result ≡ last_of first rest.now }
 {
-    for at in 1..path.len() {
-        if !graph.linked(path[at - 1], path[at]) {
-            return Some((path[at - 1], path[at]));
-        }
+    match rest.split_last() {
+        Some((last, _)) => *last,
+        None => first,
+    }
+}
+
+/// What is wrong with the ends of a path.
+fn flaw_of_ends(group: &[NodeId], rule: &Rule, path: &[NodeId]) -> Option<PathFlaw>
+    ensures { is_none result ≡ has_ends group.now rule.now.from rule.now.to path.now }
+{
+    let Some((first, rest)) = path.split_first() else {
+        return Some(PathFlaw::Empty);
+    };
+    if *first != rule.from {
+        return Some(PathFlaw::Begins(*first));
+    }
+    let last = last_of(*first, rest);
+    if !rule.ends_at(group, last) {
+        return Some(PathFlaw::Ends(last));
     }
     None
 }
 
-/// The first node of a path that stands earlier in it too.
-fn first_twice(path: &[NodeId]) -> Option<NodeId> {
-    for (at, id) in path.iter().enumerate() {
-        if path[..at].contains(id) {
+/// The first id of a path that is no node.
+fn first_stranger_of(graph: &Graph, path: &[NodeId]) -> Option<NodeId>
+    ensures { is_none result ≡ are_nodes graph.now path.now }
+{
+    for id in path {
+        if !is_node(graph, *id) {
             return Some(*id);
         }
     }
     None
 }
 
+/// The first step of a path over no link.
+fn first_unlinked_step(graph: &Graph, path: &[NodeId]) -> Option<(NodeId, NodeId)>
+    ensures { is_none result ≡ chained graph.now path.now }
+{
+    let (first, mut rest) = path.split_first()?;
+    let mut at = *first;
+    while let Some((next, more)) = rest.split_first() {
+        if !are_linked(graph, at, *next) {
+            return Some((at, *next));
+        }
+        at = *next;
+        rest = more;
+    }
+    None
+}
+
+/// The first node of a path that stands in it once more.
+fn first_twice(path: &[NodeId]) -> Option<NodeId>
+    ensures { is_none result ≡ is_distinct path.now }
+{
+    let mut left = path;
+    while let Some((id, rest)) = left.split_first() {
+        if rest.contains(id) {
+            return Some(*id);
+        }
+        left = rest;
+    }
+    None
+}
+
 /// The first of these paths that has a node.
-fn first_with(id: NodeId, paths: &[Seq<NodeId>]) -> Option<usize> {
+fn first_with(id: NodeId, paths: &[Seq<NodeId>]) -> Option<usize>
+    ensures { is_none result ≡ not (have paths.now id) }
+{
     for (at, path) in paths.iter().enumerate() {
         if path.as_slice().contains(&id) {
             return Some(at);
@@ -78,7 +142,9 @@ fn first_with(id: NodeId, paths: &[Seq<NodeId>]) -> Option<usize> {
 }
 
 /// The first node of a path, none of the shared ones, that an earlier path has, and that path's place.
-fn first_shared(rule: &Rule, earlier: &[Seq<NodeId>], path: &[NodeId]) -> Option<(NodeId, usize)> {
+fn first_shared(rule: &Rule, earlier: &[Seq<NodeId>], path: &[NodeId]) -> Option<(NodeId, usize)>
+    ensures { is_none result ≡ meets_none rule.now.from rule.now.to earlier.now path.now }
+{
     for id in path {
         if rule.shares(*id) {
             continue;
@@ -90,36 +156,27 @@ fn first_shared(rule: &Rule, earlier: &[Seq<NodeId>], path: &[NodeId]) -> Option
     None
 }
 
-/// The first flaw of a path that has nothing to do with the other paths.
-fn flaw_alone(graph: &Graph, group: &[NodeId], rule: &Rule, path: &[NodeId]) -> Option<PathFlaw> {
-    let (first, rest) = path.split_first()?;
-    let last = rest.last()?;
-    if *first != rule.from {
-        return Some(PathFlaw::Begins(*first));
-    }
-    if !rule.ends_at(group, *last) {
-        return Some(PathFlaw::Ends(*last));
-    }
-    if let Some((a, b)) = first_unlinked_step(graph, path) {
-        return Some(PathFlaw::Unlinked(a, b));
-    }
-    let id = first_twice(path)?;
-    Some(PathFlaw::Twice(id))
-}
-
-/// The flaw of a path, alone or together with the earlier ones.
+/// The first flaw of a path that comes behind these.
 fn flaw_of(
     graph: &Graph,
     group: &[NodeId],
     rule: &Rule,
     earlier: &[Seq<NodeId>],
     path: &[NodeId],
-) -> Option<PathFlaw> {
-    if path.len() < 2 {
-        return Some(PathFlaw::Short);
-    }
-    if let Some(flaw) = flaw_alone(graph, group, rule, path) {
+) -> Option<PathFlaw>
+    ensures { is_none result ≡ may_follow graph.now group.now rule.now.from rule.now.to earlier.now path.now }
+{
+    if let Some(flaw) = flaw_of_ends(group, rule, path) {
         return Some(flaw);
+    }
+    if let Some(id) = first_stranger_of(graph, path) {
+        return Some(PathFlaw::Stranger(id));
+    }
+    if let Some((a, b)) = first_unlinked_step(graph, path) {
+        return Some(PathFlaw::Unlinked(a, b));
+    }
+    if let Some(id) = first_twice(path) {
+        return Some(PathFlaw::Twice(id));
     }
     let (id, at) = first_shared(rule, earlier, path)?;
     Some(PathFlaw::Shares(id, at))
@@ -131,7 +188,10 @@ fn first_flaw(
     group: &[NodeId],
     rule: &Rule,
     paths: &[Seq<NodeId>],
-) -> Option<(usize, PathFlaw)> {
+) -> Option<(usize, PathFlaw)>
+    ensures { MatchOption result (KeepRule graph.now group.now rule.now.from rule.now.to paths.now)
+        (λ f. IsFirstBreak (KeepRule graph.now group.now rule.now.from rule.now.to) paths.now f.0) }
+{
     for (at, path) in paths.iter().enumerate() {
         if let Some(flaw) = flaw_of(graph, group, rule, &paths[..at], path.as_slice()) {
             return Some((at, flaw));
@@ -148,20 +208,25 @@ pub(crate) fn tell_paths(
     rule: &Rule,
     k: u32,
     paths: &[Seq<NodeId>],
-) -> Result<(), OutOfMemory> {
+) -> Result<(), OutOfMemory>
+    ensures { ¬ ((length paths.now ≡ k) × KeepRule graph.now group.now rule.now.from rule.now.to paths.now)
+        → OnOk result (Adds (TellsPaths (KeepRule graph.now group.now rule.now.from rule.now.to) k paths.now)
+        (string_bytes text.old) (string_bytes text.new)) }
+{
     if paths.len() as u64 != u64::from(k) {
-        return say_number_of_paths(text, paths.len(), k);
+        say_number_of_paths(text, paths.len(), k)?;
+        return Ok(());
     }
-    match first_flaw(graph, group, rule, paths) {
-        Some((at, flaw)) => {
-            say(text, &[Word::Text(".paths["), count(at), Word::Text("]")])?;
-            say_flaw(text, rule, flaw)
-        }
-        None => Ok(()),
+    if let Some((at, flaw)) = first_flaw(graph, group, rule, paths) {
+        say_path(text, at)?;
+        say_flaw(text, rule, flaw)?;
     }
+    Ok(())
 }
 
-fn say_number_of_paths(text: &mut String, number: usize, k: u32) -> Result<(), OutOfMemory> {
+fn say_number_of_paths(text: &mut String, number: usize, k: u32) -> Result<(), OutOfMemory>
+    ensures { OnOk result (string_bytes text.new ≡ string_bytes text.old ++ paths_text number k) }
+{
     let k = Word::Number(u64::from(k));
     say(
         text,
@@ -174,9 +239,17 @@ fn say_number_of_paths(text: &mut String, number: usize, k: u32) -> Result<(), O
     )
 }
 
-fn say_flaw(text: &mut String, rule: &Rule, flaw: PathFlaw) -> Result<(), OutOfMemory> {
+fn say_path(text: &mut String, at: usize) -> Result<(), OutOfMemory>
+    ensures { OnOk result (string_bytes text.new ≡ string_bytes text.old ++ path_text at) }
+{
+    say(text, &[Word::Text(".paths["), count(at), Word::Text("]")])
+}
+
+fn say_flaw(text: &mut String, rule: &Rule, flaw: PathFlaw) -> Result<(), OutOfMemory>
+    ensures { OnOk result (string_bytes text.new ≡ string_bytes text.old ++ flaw_text rule.now flaw) }
+{
     match flaw {
-        PathFlaw::Short => say(text, &[Word::Text(" has fewer than two nodes")]),
+        PathFlaw::Empty => say(text, &[Word::Text(" has no node")]),
         PathFlaw::Begins(id) => say(
             text,
             &[
@@ -187,6 +260,14 @@ fn say_flaw(text: &mut String, rule: &Rule, flaw: PathFlaw) -> Result<(), OutOfM
             ],
         ),
         PathFlaw::Ends(id) => say_end(text, rule, id),
+        PathFlaw::Stranger(id) => say(
+            text,
+            &[
+                Word::Text(" has "),
+                node(id),
+                Word::Text(", which is no node"),
+            ],
+        ),
         PathFlaw::Unlinked(a, b) => say(
             text,
             &[
@@ -214,18 +295,27 @@ fn say_flaw(text: &mut String, rule: &Rule, flaw: PathFlaw) -> Result<(), OutOfM
     }
 }
 
-fn say_end(text: &mut String, rule: &Rule, id: NodeId) -> Result<(), OutOfMemory> {
-    let (what, end) = match rule.to {
-        Some(to) => (", not at ", to),
-        None => (", which is no member below ", rule.from),
-    };
-    say(
-        text,
-        &[
-            Word::Text(" ends at "),
-            node(id),
-            Word::Text(what),
-            node(end),
-        ],
-    )
+fn say_end(text: &mut String, rule: &Rule, id: NodeId) -> Result<(), OutOfMemory>
+    ensures { OnOk result (string_bytes text.new ≡ string_bytes text.old ++ stop_text rule.now.from rule.now.to id) }
+{
+    match rule.to {
+        Some(to) => say(
+            text,
+            &[
+                Word::Text(" ends at "),
+                node(id),
+                Word::Text(", not at "),
+                node(to),
+            ],
+        ),
+        None => say(
+            text,
+            &[
+                Word::Text(" ends at "),
+                node(id),
+                Word::Text(", which is no member below "),
+                node(rule.from),
+            ],
+        ),
+    }
 }

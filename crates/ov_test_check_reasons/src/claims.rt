@@ -8,7 +8,7 @@ use std::test::Fail;
 const SQUARE: &str =
     r#"{"cut":[2,4],"fans":[{"j":3,"paths":[[3,2],[3,4,1]]},{"j":4,"paths":[[4,1],[4,3]]}],"far":3,"group":[1,2,3,4],"k":2,"links":[[1,2],[1,4],[2,3],[3,4]],"moment":0,"near":1,"nodes":[1,2,3,4],"pairs":[],"side":[1],"verdict":"split","version":2}"#;
 
-static CHANGED: [(&str, &str, &str); 27] = [
+static CHANGED: [(&str, &str, &str); 31] = [
     (
         "[1,2,3,4],\"k\"",
         "[],\"k\"",
@@ -38,6 +38,11 @@ static CHANGED: [(&str, &str, &str); 27] = [
         "[2,4]",
         "[2,9]",
         "the cut is no set of nodes: cut[1] is 9, which is no node",
+    ),
+    (
+        "[2,4]",
+        "[9,2]",
+        "the cut is no set of nodes: cut[0] is 9, which is no node",
     ),
     (
         "\"near\":1",
@@ -97,7 +102,7 @@ static CHANGED: [(&str, &str, &str); 27] = [
     (
         "[[3,2],",
         "[[],",
-        "the fan of 3 does not hold: fans[0].paths[0] has fewer than two nodes",
+        "the fan of 3 does not hold: fans[0].paths[0] has no node",
     ),
     (
         "[[3,2],",
@@ -118,6 +123,21 @@ static CHANGED: [(&str, &str, &str); 27] = [
         "[3,4,1]",
         "[3,4,2]",
         "the fan of 3 does not hold: fans[0].paths[1] goes from 4 to 2, and there is no such link",
+    ),
+    (
+        "[3,4,1]",
+        "[3,9,1]",
+        "the fan of 3 does not hold: fans[0].paths[1] has 9, which is no node",
+    ),
+    (
+        "[[3,2],[3,4,1]]",
+        "[[3,1],[3,4]]",
+        "the fan of 3 does not hold: fans[0].paths[0] goes from 3 to 1, and there is no such link",
+    ),
+    (
+        "[[3,2],",
+        "[[3],",
+        "the fan of 3 does not hold: fans[0].paths[0] ends at 3, which is no member below 3",
     ),
     (
         "[3,4,1]",

@@ -233,7 +233,7 @@ fn a_value_is_named_by_its_path(rt: HostRuntime) -> Result<(), Fail> {
 }
 
 /// The nodes and links of a file, and why they are no graph.
-static GRAPHS: [(&str, &str, &str); 7] = [
+static GRAPHS: [(&str, &str, &str); 8] = [
     (
         "[2,1]",
         "[]",
@@ -253,6 +253,11 @@ static GRAPHS: [(&str, &str, &str); 7] = [
         "[1,2,3]",
         "[[1,2],[2,3],[2,3]]",
         "the nodes or the links do not ascend: links[2] is [2,3], not above the link before it",
+    ),
+    (
+        "[1,2,3]",
+        "[[1,3],[1,2],[1,9]]",
+        "the nodes or the links do not ascend: links[1] is [1,2], not above the link before it",
     ),
     (
         "[1,2]",

@@ -1,0 +1,34 @@
+-- The first id of the side that breaks a rule.
+use Rattle.std.proofs.Common.{List, ℕ, ◌++◌, string_bytes, codes, subst}
+use Rattle.ov_ids.specs.Members.{IsApart}
+use Rattle.ov_graph.specs.Joined.{IsNodeSet}
+use Rattle.ov_check_reasons.specs.Places.{TellsId, id_text}
+use Rattle.ov_check_reasons.specs.Code.Words.{Adds}
+use Rattle.ov_check_reasons.proofs.FrameTelling.{goes_on, id_told, id_told_at, set_told, cut_told}
+use Rattle.ov_check_reasons.proofs.frame.tell_side.Goals as goal
+
+pub returns-in-Some-first_misfit : goal.returns-in-Some-first_misfit
+returns-in-Some-first_misfit c = λ wrong.
+    let g = c.args.graph.now in
+    let before = string_bytes c.args.text.now in
+    let after = string_bytes c.say_misfit.new.text in
+    set_told g c.args.group.now c.args.split.now before after
+    (subst (λ (xs : List ℕ). Adds (TellsId (IsNodeSet g) (codes "side") xs) before after) c.as_slice-side.ensures
+    (id_told (IsNodeSet g) (codes "side") c.as_slice-side.result.now c.in-Some-first_misfit.at before after
+    c.in-Some-first_misfit.ensures c.in_ok-say_misfit.ensures))
+
+pub returns-in-Some-first_within : goal.returns-in-Some-first_within
+returns-in-Some-first_within c = λ wrong.
+    let cut = c.as_slice-cut.result.now in
+    let side = c.as_slice-side.result.now in
+    let before = string_bytes c.args.text.now in
+    let after = string_bytes c.say.new.text in
+    let front = before ++ id_text (codes "side") c.in-Some-first_within.at c.index-side-at.result in
+    cut_told c.args.graph.now c.args.group.now c.args.split.now before after
+    (subst (λ (xs : List ℕ). Adds (TellsId (IsApart c.args.split.now.cut) (codes "side") xs) before after)
+    c.as_slice-side.ensures
+    (subst (λ (ys : List ℕ). Adds (TellsId (IsApart ys) (codes "side") side) before after) c.as_slice-cut.ensures
+    (id_told_at (IsApart cut) (codes "side") side c.in-Some-first_within.at c.index-side-at.result before after
+    c.in-Some-first_within.ensures c.index-side-at.is
+    (goes_on front (string_bytes c.say_item.new.text) after (codes ", which is in the cut") c.in_ok-say_item.ensures
+    c.in_ok-say.ensures))))

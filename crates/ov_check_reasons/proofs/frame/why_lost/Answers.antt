@@ -1,0 +1,17 @@
+-- The tests of membership.
+use Rattle.ov_check_reasons.proofs.Breaking.{member_when, stranger_when}
+use Rattle.ov_check_reasons.proofs.frame.why_lost.Goals as goal
+
+pub returns-then-not-contains : goal.returns-then-not-contains
+returns-then-not-contains c = λ h.
+    stranger_when c.args.group.now c.args.id c.contains.result c.contains.ensures.value c.if-not-contains.true h.0
+
+pub returns-then-contains : goal.returns-then-contains
+returns-then-contains c = λ h.
+    h.1 (member_when c.args.cut.now c.args.id c.contains-2.result c.contains-2.ensures.value c.if-contains.true)
+
+pub returns : goal.returns
+returns c = (
+  member_when c.args.group.now c.args.id c.contains.result c.contains.ensures.value c.if-not-contains.false,
+  stranger_when c.args.cut.now c.args.id c.contains-2.result c.contains-2.ensures.value c.if-contains.false,
+)
