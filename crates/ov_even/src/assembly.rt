@@ -59,8 +59,8 @@ pub fn assemble_group(
     assemble_named(alloc, graph, group, hauls, named)
 }
 
-/// Makes the certificate from the hauls of all workers, in any order, and the wanted pieces with their paths by ids. See
-/// `assemble_group`. Faults: out of memory (99).
+/// Makes the certificate from the hauls of all workers, in any order, and from the pieces whose paths it has, with
+/// these paths by ids. See `assemble_group`. Faults: out of memory (99).
 pub fn assemble_named(
     alloc: Global,
     graph: &Graph,

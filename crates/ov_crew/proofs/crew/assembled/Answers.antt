@@ -11,7 +11,8 @@ assemble_named-requires-clause-wanted g c =
     let x = c.args.graph.now in
     let q = c.args.group.now in
     let found = c.in_ok-found.found.items in
-    let is : c.in_ok-named.named.items ≡ map (named_of x q) found = rw (← c.deref.ensures.value) c.in_ok-named.ensures in
+    let named = c.in_ok-named.named.items in
+    let is : named ≡ map (named_of x q) found = rw (← c.deref.ensures.value) c.in_ok-named.ensures in
     let piece : NamedPaths → Piece = λ n. n.piece in
     subst (AreWanted x q) (sym (ap (map piece) is ∙ same_pieces x q found)) c.in_ok-found.ensures.wanted
 
@@ -20,5 +21,6 @@ assemble_named-requires-clause-asked g c =
     let x = c.args.graph.now in
     let q = c.args.group.now in
     let found = c.in_ok-found.found.items in
-    let is : c.in_ok-named.named.items ≡ map (named_of x q) found = rw (← c.deref.ensures.value) c.in_ok-named.ensures in
+    let named = c.in_ok-named.named.items in
+    let is : named ≡ map (named_of x q) found = rw (← c.deref.ensures.value) c.in_ok-named.ensures in
     subst (HaveAskedPaths x q) (sym is) (all_asked x q found c.in_ok-found.ensures.found)

@@ -13,8 +13,8 @@ loop-part-preserved c =
     let part = c.in-Some.part in
     let rest = c.next.new.self.rest.items in
     let i = c.loop-part.invariant in
-    let rest_is = append_assoc seen (part ∷ []) rest ∙ (ap (λ (r : List Part). seen ++ r) (sym c.in-Some.ensures.steps.0)
-    ∙ i.rest) in
+    let rest_is = append_assoc seen (part ∷ []) rest
+    ∙ (ap (λ (r : List Part). seen ++ r) (sym c.in-Some.ensures.steps.0) ∙ i.rest) in
     record {
       rest = rest_is;
       all = λ size named are.

@@ -11,7 +11,8 @@ assemble_named-requires-clause-wanted c =
     let g = c.args.graph.now in
     let q = c.args.group.now in
     let found = c.in_ok-found.found.items in
-    let is : c.in_ok-named.named.items ≡ map (named_of g q) found = rw (← c.deref.ensures.value) c.in_ok-named.ensures in
+    let named = c.in_ok-named.named.items in
+    let is : named ≡ map (named_of g q) found = rw (← c.deref.ensures.value) c.in_ok-named.ensures in
     let piece : NamedPaths → Piece = λ n. n.piece in
     subst (AreWanted g q) (sym (ap (map piece) is ∙ same_pieces g q found)) c.in_ok-found.ensures.wanted
 
@@ -20,5 +21,6 @@ assemble_named-requires-clause-asked c =
     let g = c.args.graph.now in
     let q = c.args.group.now in
     let found = c.in_ok-found.found.items in
-    let is : c.in_ok-named.named.items ≡ map (named_of g q) found = rw (← c.deref.ensures.value) c.in_ok-named.ensures in
+    let named = c.in_ok-named.named.items in
+    let is : named ≡ map (named_of g q) found = rw (← c.deref.ensures.value) c.in_ok-named.ensures in
     subst (HaveAskedPaths g q) (sym is) (all_asked g q found c.in_ok-found.ensures.found)

@@ -38,10 +38,10 @@ returns-clause-valid c =
     let below : split.k < length g.nodes = subst (λ (k : ℕ). k < length g.nodes) (sym made.k) level.0 in
     let entries = c.in_ok-entries.ensures in
     split_valid g q split c.nodes.ensures.graph c.requires.group names
-    (subst (HavePaths g q split.k) (sym (made.pairs ∙ entries.pairs)) (have_paths g q split.k named c.requires.group below
-    wanted c.requires.asked))
-    (subst (HaveFans g q split.k) (sym (made.fans ∙ entries.fans)) (have_fans g q split.k named c.requires.group below
-    wanted c.requires.asked))
+    (subst (HavePaths g q split.k) (sym (made.pairs ∙ entries.pairs))
+    (have_paths g q split.k named c.requires.group below wanted c.requires.asked))
+    (subst (HaveFans g q split.k) (sym (made.fans ∙ entries.fans))
+    (have_fans g q split.k named c.requires.group below wanted c.requires.asked))
 
 pub entries_of-requires : goal.entries_of-requires
 entries_of-requires c = named_pieces c.args.graph.now c.args.group.now (level_of c.args.first.now.piece - 1)

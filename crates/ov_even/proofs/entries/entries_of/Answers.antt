@@ -6,7 +6,8 @@ use Rattle.ov_even.proofs.AnalysisSteps.Entered.{pair_no_fan}
 use Rattle.ov_even.proofs.entries.entries_of.Goals.{In-Pair, In-Fan}
 use Rattle.ov_even.proofs.entries.entries_of.Goals as goal
 
-pair_at : (c : In-Pair) → (nodes : ℕ) × IsPairPiece nodes (length c.args.group.now) c.in-Pair.level c.in-Pair.i c.in-Pair.j
+pair_at : (c : In-Pair) → (nodes : ℕ) × IsPairPiece nodes (length c.args.group.now) c.in-Pair.level c.in-Pair.i
+    c.in-Pair.j
 pair_at c =
     let n = c.in-Some.field-0 in
     let r = c.requires n (next_there c.args.named.items c.loop-piece.yielded c.loop-piece.piece-iterator.rest.items
@@ -55,8 +56,8 @@ loop-piece-preserved-in-Continue-1 c =
     let i = c.loop-piece.invariant in
     let p = c.in-Pair in
     record {
-      rest = rest_more c.args.named.items seen c.loop-piece.piece-iterator.rest.items c.next.new.self.rest.items n i.rest
-          c.in-Some.ensures.steps.0;
+      rest = rest_more c.args.named.items seen c.loop-piece.piece-iterator.rest.items c.next.new.self.rest.items n
+          i.rest c.in-Some.ensures.steps.0;
       pairs = pair_entered q seen n p.level p.i p.j c.member-i.result c.member-j.result n.paths
           c.loop-piece.pairs.items c.push.new.self.items p.is refl c.member-i.ensures c.member-j.ensures
           c.in_ok-push-in-Pair.ensures.items i.pairs;
@@ -81,8 +82,8 @@ loop-piece-preserved c =
     let i = c.loop-piece.invariant in
     let p = c.in-Fan in
     record {
-      rest = rest_more c.args.named.items seen c.loop-piece.piece-iterator.rest.items c.next.new.self.rest.items n i.rest
-          c.in-Some.ensures.steps.0;
+      rest = rest_more c.args.named.items seen c.loop-piece.piece-iterator.rest.items c.next.new.self.rest.items n
+          i.rest c.in-Some.ensures.steps.0;
       pairs = fan_no_pair q seen n p.level p.j c.loop-piece.pairs.items p.is i.pairs;
       fans = fan_entered q seen n p.level p.j c.member-j-in-Fan.result n.paths c.loop-piece.fans.items
           c.push-in-Fan.new.self.items p.is refl c.member-j-in-Fan.ensures

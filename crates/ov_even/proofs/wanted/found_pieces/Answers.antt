@@ -31,11 +31,12 @@ loop-piece-preserved-then-is_linked_pair c =
     let g = c.args.graph.now in
     let q = c.args.group.now in
     let i = c.loop-piece.invariant in
+    let names = map (λ f. f.piece) c.loop-piece.found.items in
     record {
       listed = listed_more (pieces_of_level (length q) c.args.level) c.loop-piece.yielded c.loop-piece.piece-iterator
           c.next.new.self c.in-Some.piece i.listed c.in-Some.ensures.steps;
-      named = named_pass ComesBefore (NamesItself g q) c.loop-piece.yielded (map (λ f. f.piece) c.loop-piece.found.items)
-          c.in-Some.piece i.named (λ x n. n.1 (c.is_linked_pair.ensures.0 c.if-is_linked_pair.true));
+      named = named_pass ComesBefore (NamesItself g q) c.loop-piece.yielded names c.in-Some.piece i.named
+          (λ x n. n.1 (c.is_linked_pair.ensures.0 c.if-is_linked_pair.true));
       found = i.found;
     }
 

@@ -15,8 +15,8 @@ use Rattle.ov_even.proofs.wanted.wanted_paths.Goals as goal
 
 pub returns-then-are_all_linked-clause-wanted : goal.returns-then-are_all_linked-clause-wanted
 returns-then-are_all_linked-clause-wanted c p first =
-    absurd (fails_apart c.args.graph.now c.args.group.now p c.nodes.ensures.graph c.requires.group first.piece first.fails
-    (c.are_all_linked.ensures.0 c.if-are_all_linked.true))
+    absurd (fails_apart c.args.graph.now c.args.group.now p c.nodes.ensures.graph c.requires.group first.piece
+    first.fails (c.are_all_linked.ensures.0 c.if-are_all_linked.true))
 
 pub unreachable-requires : goal.unreachable-requires
 unreachable-requires c =
@@ -66,8 +66,9 @@ returns-clause-wanted c p first =
     let s = c.in-Some.first.now in
     let apart : ¬ AreAllLinked g q = λ all.
     both_ways c.are_all_linked.result c.if-are_all_linked.false (c.are_all_linked.ensures.1 all) in
-    let low = subst (λ o. IsFirstCut (all_settled c.args.hauls.now) (option_copied o)) c.in-Some.is c.first_cut.ensures in
-    let decides = deciding g q c.args.hauls.now s c.nodes.ensures.graph c.requires.group apart c.requires.suffice low in
+    let hauls = c.args.hauls.now in
+    let low = subst (λ o. IsFirstCut (all_settled hauls) (option_copied o)) c.in-Some.is c.first_cut.ensures in
+    let decides = deciding g q hauls s c.nodes.ensures.graph c.requires.group apart c.requires.suffice low in
     let same = one_first g q s.piece p decides.first first in
     let level : c.level.result - 1 ≡ level_of p - 1 =
     ap (λ (l : ℕ). l - 1) (c.level.ensures ∙ ap level_of same) in
