@@ -28,7 +28,7 @@ use Rattle.ov_certfile.specs.declared.version.Version.{Version}
 use Rattle.ov_certfile.specs.Keys.{said}
 use Rattle.ov_certfile.specs.Kinds.{version_in, most_nodes_of}
 use Rattle.ov_certfile.specs.Says.{SaysGraph}
-use Rattle.ov_check.specs.Outcome.{BytesSay}
+use Rattle.ov_check.specs.Outcome.{BytesSay, IsOutcome}
 use Rattle.ov_check.specs.declared.outcome.Outcome.{Outcome}
 use Rattle.ov_check.specs.declared.outcome.Outcome.TheVariants.{Holds, Fails, Refused}
 use Rattle.ov_check_reasons.specs.Opening.{opening, BeginsWith}
@@ -246,6 +246,8 @@ TellsPlace bytes (Fails fault) text = (f : Filed) × BytesSay bytes (Ok f) × Te
 TellsPlace bytes (Refused (Graph fault)) text = TellsGraphOf bytes fault text
 TellsPlace bytes (Refused fault) text = Unit {0}
 
--- an explanation of the outcome of these bytes: the opening, and then the place
-abbrev pub Explains : List ℕ → Outcome → List ℕ → Type 0
-Explains bytes outcome text = (place : List ℕ) × (text ≡ opening outcome ++ place) × TellsPlace bytes outcome place
+-- an explanation: where the outcome is that of the bytes, the text is the opening, and then the place
+unfoldable pub Explains : List ℕ → Outcome → List ℕ → Type 0
+Explains bytes outcome text =
+    IsOutcome bytes outcome
+    → (place : List ℕ) × (text ≡ opening outcome ++ place) × TellsPlace bytes outcome place

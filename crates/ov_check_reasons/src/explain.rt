@@ -24,10 +24,10 @@ use std::alloc::Global;
 /// Where the certificate holds the text is empty.
 ///
 /// `OutOfMemory` (99): an allocation was refused.
+#[tactic(auto, unfolding(crate::specs::Places::Explains))]
 pub fn reasons(alloc: Global, bytes: &[u8], outcome: &Outcome) -> Result<String, OutOfMemory>
     ensures opening { IfOk result (λ text. BeginsWith (opening outcome.now) (string_bytes text)) }
-    ensures place { IsOutcome bytes.now outcome.now
-        → IfOk result (λ text. Explains bytes.now outcome.now (string_bytes text)) }
+    ensures place { IfOk result (λ text. Explains bytes.now outcome.now (string_bytes text)) }
 {
     let place = place_of(alloc, bytes, outcome)?;
     let mut text = String::new(alloc);
