@@ -199,6 +199,33 @@ fn arguments_that_ask_for_workers(rt: HostRuntime) -> Result<(), Fail> {
     Ok(())
 }
 
+/// All that an analysis takes at once, in one order and another.
+static ALL_AT_ONCE: [&str; 3] = [
+    "analyse g --workers 64 --certificate --group 1,2 --progress",
+    "analyse --progress --group=1,2 --certificate --workers=64 g",
+    "analyse --workers 64 --group 1,2 --certificate --progress -- g",
+];
+
+/// The line asks for the certificate of an analysis of the file g by 64 workers, for the group of 1 and 2, with progress.
+fn asks_for_all(alloc: Global, line: &str) -> Result<bool, Fail> {
+    let expected = Request::Analyse {
+        file: file(alloc, "g")?,
+        group: group_of(alloc, &[1, 2])?,
+        workers: 64,
+        certificate: true,
+        progress: true,
+    };
+    asks(alloc, line, &expected)
+}
+
+#[test]
+fn arguments_that_ask_for_all_at_once(rt: HostRuntime) -> Result<(), Fail> {
+    for line in &ALL_AT_ONCE {
+        assert!(rt; asks_for_all(rt.alloc(), line)?, "at {line}");
+    }
+    Ok(())
+}
+
 /// Arguments that are none of the command, or ask for help.
 static REFUSED: [&str; 74] = [
     "fly",
