@@ -2,7 +2,7 @@
 //! nodes part it.
 #![tactic(auto)]
 
-ghost use Rattle.std.specs.Prelude.{◌≡◌, ◌≤◌, Ok, Err, MatchResult};
+ghost use Rattle.std.specs.Prelude.{◌≡◌, ◌≤◌};
 ghost use Rattle.ov_claims.specs.Claims.{most_workers};
 ghost use Rattle.ov_run.specs.Arguments.{HasWorkers};
 ghost use Rattle.ov_run.specs.declared.program_outcome.ProgramFault.TheVariants.{Arguments, Run};
@@ -13,7 +13,7 @@ mod progress;
 
 use crate::explaining::Explaining;
 use crate::progress::Progress;
-use ov_ids::NodeId;
+use ov_ids::{NodeId, OutOfMemory};
 use ov_io::{Sink, Source};
 use ov_reasons::{argument_reasons, graph_reasons, scenario_reasons};
 use ov_run::{
@@ -26,55 +26,40 @@ use std::io::{self, IsTerminal, Read};
 use std::process::ExitCode;
 use std::thread::Threads;
 
+/// The name of what is read where no file is named.
+const STANDARD_INPUT: &str = "standard input";
+
 fn main(rt: HostRuntime) -> ExitCode {
-    let ended = overlay(&rt, &rt);
-    if let Err(fault) = &ended.answer {
-        let _ = eprintln!(rt; "{fault}");
-    }
-    if let Some(reason) = &ended.reason {
+    let answer = overlay(&rt, &rt);
+    ExitCode::from(exit_status(&answer))
+}
+
+/// Prints the line of a fault of a run or an analysis.
+fn print_fault(rt: &HostRuntime, fault: RunFault) -> ProgramFault
+    ensures { result ≡ Run fault }
+{
+    let fault = ProgramFault::Run(fault);
+    let _ = eprintln!(rt; "{fault}");
+    fault
+}
+
+/// Prints why there is a fault, below its line. Out of memory nothing is told.
+fn print_reason(rt: &HostRuntime, reason: Result<String, OutOfMemory>) {
+    if let Ok(reason) = reason {
         let _ = eprint!(rt; "{reason}");
-    }
-    ExitCode::from(exit_status(&ended.answer))
-}
-
-/// How the program ends: its status or its fault, and why, for a person.
-#[derive(Drop)]
-struct Ended {
-    answer: Result<u8, ProgramFault>,
-    /// What is told of a fault below its line.
-    reason: Option<String>,
-}
-
-impl Ended {
-    /// The end of a run or an analysis of these bytes, whose fault is told of by `reasons`.
-    fn with(answer: Result<u8, RunFault>, reason: Option<String>) -> Ended
-        ensures answer { MatchResult answer (λ status. result.answer ≡ Ok status)
-            (λ fault. result.answer ≡ Err (Run fault)) }
-        ensures reason { result.reason ≡ reason }
-    {
-        match answer {
-            Ok(status) => Ended {
-                answer: Ok(status),
-                reason,
-            },
-            Err(fault) => Ended {
-                answer: Err(ProgramFault::Run(fault)),
-                reason,
-            },
-        }
     }
 }
 
 /// Does what the arguments ask for.
-fn overlay<T: Threads + Sync>(rt: &HostRuntime, threads: &T) -> Ended {
+fn overlay<T: Threads + Sync>(rt: &HostRuntime, threads: &T) -> Result<u8, ProgramFault> {
     let words = match words_of(rt) {
         Ok(words) => words,
-        Err(fault) => return unread_arguments(rt, fault, &[]),
+        Err(fault) => return Err(unread_arguments(rt, fault, &[])),
     };
     let arguments = behind_name(&words);
     match read_arguments(rt.alloc(), arguments) {
         Ok(request) => do_asked(rt, threads, request),
-        Err(fault) => unread_arguments(rt, fault, arguments),
+        Err(fault) => Err(unread_arguments(rt, fault, arguments)),
     }
 }
 
@@ -93,21 +78,23 @@ fn behind_name(words: &[String]) -> &[String] {
 }
 
 /// Ends where the arguments can't be read. Help, the version, or what is wrong with them is told.
-fn unread_arguments(rt: &HostRuntime, fault: ArgumentsFault, arguments: &[String]) -> Ended
-    ensures { result.answer ≡ Err (Arguments fault) }
+fn unread_arguments(rt: &HostRuntime, fault: ArgumentsFault, arguments: &[String]) -> ProgramFault
+    ensures { result ≡ Arguments fault }
 {
-    let reason = match fault {
-        ArgumentsFault::BadArguments => argument_reasons(rt.alloc(), arguments).ok(),
-        ArgumentsFault::OutOfMemory => None,
-    };
-    Ended {
-        answer: Err(ProgramFault::Arguments(fault)),
-        reason,
+    let ended = ProgramFault::Arguments(fault);
+    let _ = eprintln!(rt; "{ended}");
+    if let ArgumentsFault::BadArguments = fault {
+        print_reason(rt, argument_reasons(rt.alloc(), arguments));
     }
+    ended
 }
 
 /// Does what is asked for.
-fn do_asked<T: Threads + Sync>(rt: &HostRuntime, threads: &T, request: Request) -> Ended
+fn do_asked<T: Threads + Sync>(
+    rt: &HostRuntime,
+    threads: &T,
+    request: Request,
+) -> Result<u8, ProgramFault>
     requires { HasWorkers request }
 {
     match request {
@@ -131,11 +118,23 @@ fn do_asked<T: Threads + Sync>(rt: &HostRuntime, threads: &T, request: Request) 
 }
 
 /// Ends where a file can't be opened. It is named, with the cause.
-fn not_opened(rt: &HostRuntime, path: &str, error: io::Error) -> Ended
-    ensures { result.answer ≡ Err (Run read_failed) }
+fn not_opened(rt: &HostRuntime, path: &str, error: io::Error) -> ProgramFault
+    ensures { result ≡ Run read_failed }
 {
-    let reason = format!(in rt.alloc(); "{path} can't be opened: {error}\n");
-    Ended::with(Err(RunFault::Read), reason.ok())
+    let ended = print_fault(rt, RunFault::Read);
+    let _ = eprintln!(rt; "{path} can't be opened: {error}");
+    ended
+}
+
+/// Ends where a file can't be read. It is named.
+fn not_read(rt: &HostRuntime, name: &str, fault: RunFault) -> ProgramFault
+    ensures { result ≡ Run fault }
+{
+    let ended = print_fault(rt, fault);
+    if let RunFault::Read = fault {
+        let _ = eprintln!(rt; "{name} can't be read");
+    }
+    ended
 }
 
 /// Runs the scenario of a file, or of standard input. Where it is to be explained, it is told why lines are refused.
@@ -144,16 +143,16 @@ fn run_asked<T: Threads + Sync>(
     threads: &T,
     file: Option<String>,
     explain: bool,
-) -> Ended {
+) -> Result<u8, ProgramFault> {
     let Some(path) = file else {
         if rt.stdin().is_terminal() {
             let _ = eprintln!(rt; "reading a scenario from standard input");
         }
-        return run_from(rt, threads, rt.stdin(), explain);
+        return run_from(rt, threads, rt.stdin(), STANDARD_INPUT, explain);
     };
     match File::open(rt, path.as_str()) {
-        Ok(file) => run_from(rt, threads, file, explain),
-        Err(error) => not_opened(rt, &path, error),
+        Ok(file) => run_from(rt, threads, file, &path, explain),
+        Err(error) => Err(not_opened(rt, &path, error)),
     }
 }
 
@@ -162,59 +161,57 @@ fn run_from<T: Threads + Sync, R: Read + Drop>(
     rt: &HostRuntime,
     threads: &T,
     reader: R,
+    name: &str,
     explain: bool,
-) -> Ended {
+) -> Result<u8, ProgramFault> {
     let mut source = Source::new(reader);
     match source.read_all(rt.alloc()) {
         Ok(bytes) => run_bytes(rt, threads, &bytes, explain),
-        Err(fault) => Ended::with(Err(RunFault::from(fault)), None),
+        Err(fault) => Err(not_read(rt, name, RunFault::from(fault))),
     }
 }
 
-/// Runs the scenario of these bytes. A fault of it is told of.
+/// Runs the scenario of these bytes. A fault of it is told of. Where the run is to be explained, it is told why lines
+/// are refused, and at the end how many events are.
 fn run_bytes<T: Threads + Sync>(
     rt: &HostRuntime,
     threads: &T,
     bytes: &[u8],
     explain: bool,
-) -> Ended {
-    let answer = if explain {
-        run_explained(rt, threads, bytes)
+) -> Result<u8, ProgramFault> {
+    let mut explaining = if explain {
+        Explaining::new(rt, bytes)
     } else {
-        run_plainly(rt, threads, bytes)
+        None
     };
-    let reason = match &answer {
-        Ok(_) => None,
-        Err(fault) => scenario_reasons(rt.alloc(), bytes, fault).ok(),
+    let answer = run_told(rt, threads, bytes, &mut explaining);
+    let ended = match answer {
+        Ok(status) => Ok(status),
+        Err(fault) => {
+            let ended = print_fault(rt, fault);
+            print_reason(rt, scenario_reasons(rt.alloc(), bytes, &fault));
+            Err(ended)
+        }
     };
-    Ended::with(answer, reason)
+    if let Some(explaining) = &explaining {
+        explaining.tell_count();
+    }
+    ended
 }
 
-/// Runs the scenario of these bytes, and tells nothing but what it prints.
-fn run_plainly<T: Threads + Sync>(
+/// Runs the scenario of these bytes, and tells somebody what becomes of its lines, if anybody is to be told.
+fn run_told<T: Threads + Sync>(
     rt: &HostRuntime,
     threads: &T,
     bytes: &[u8],
+    explaining: &mut Option<Explaining<'_>>,
 ) -> Result<u8, RunFault> {
     let mut source = Source::new(bytes);
     let mut sink = Sink::new(rt.stdout());
-    run(threads, rt.alloc(), &mut source, &mut sink)
-}
-
-/// Runs the scenario of these bytes. It is told why lines are refused, and at the end how many events are.
-fn run_explained<T: Threads + Sync>(
-    rt: &HostRuntime,
-    threads: &T,
-    bytes: &[u8],
-) -> Result<u8, RunFault> {
-    let Some(mut explaining) = Explaining::new(rt, bytes) else {
-        return run_plainly(rt, threads, bytes);
-    };
-    let mut source = Source::new(bytes);
-    let mut sink = Sink::new(rt.stdout());
-    let answer = run_watched(threads, rt.alloc(), &mut source, &mut sink, &mut explaining);
-    explaining.tell_count();
-    answer
+    match explaining {
+        Some(explaining) => run_watched(threads, rt.alloc(), &mut source, &mut sink, explaining),
+        None => run(threads, rt.alloc(), &mut source, &mut sink),
+    }
 }
 
 /// What is asked of an analysis, besides its file.
@@ -232,16 +229,16 @@ fn analyse_asked<T: Threads + Sync>(
     threads: &T,
     file: Option<String>,
     asked: &Analysis,
-) -> Ended
+) -> Result<u8, ProgramFault>
     requires some { 1 ≤ asked.now.workers }
     requires few { asked.now.workers ≤ most_workers }
 {
     let Some(path) = file else {
-        return analyse_from(rt, threads, rt.stdin(), asked);
+        return analyse_from(rt, threads, rt.stdin(), STANDARD_INPUT, asked);
     };
     match File::open(rt, path.as_str()) {
-        Ok(file) => analyse_from(rt, threads, file, asked),
-        Err(error) => not_opened(rt, &path, error),
+        Ok(file) => analyse_from(rt, threads, file, &path, asked),
+        Err(error) => Err(not_opened(rt, &path, error)),
     }
 }
 
@@ -250,15 +247,16 @@ fn analyse_from<T: Threads + Sync, R: Read + Drop>(
     rt: &HostRuntime,
     threads: &T,
     reader: R,
+    name: &str,
     asked: &Analysis,
-) -> Ended
+) -> Result<u8, ProgramFault>
     requires some { 1 ≤ asked.now.workers }
     requires few { asked.now.workers ≤ most_workers }
 {
     let mut source = Source::new(reader);
     match source.read_all(rt.alloc()) {
         Ok(bytes) => analyse_bytes(rt, threads, &bytes, asked),
-        Err(fault) => Ended::with(Err(RunFault::from(fault)), None),
+        Err(fault) => Err(not_read(rt, name, RunFault::from(fault))),
     }
 }
 
@@ -268,7 +266,7 @@ fn analyse_bytes<T: Threads + Sync>(
     threads: &T,
     bytes: &[u8],
     asked: &Analysis,
-) -> Ended
+) -> Result<u8, ProgramFault>
     requires some { 1 ≤ asked.now.workers }
     requires few { asked.now.workers ≤ most_workers }
 {
@@ -285,9 +283,12 @@ fn analyse_bytes<T: Threads + Sync>(
         asked.certificate,
         &mut progress,
     );
-    let reason = match &answer {
-        Ok(_) => None,
-        Err(fault) => graph_reasons(rt.alloc(), bytes, fault).ok(),
-    };
-    Ended::with(answer, reason)
+    match answer {
+        Ok(status) => Ok(status),
+        Err(fault) => {
+            let ended = print_fault(rt, fault);
+            print_reason(rt, graph_reasons(rt.alloc(), bytes, &fault));
+            Err(ended)
+        }
+    }
 }

@@ -27,7 +27,7 @@ fn run<R: Runtime + AllocGlobal + Threads + Sync>(rt: &R) -> u8 {
     let mut room = [0u8; LONGEST_PATH];
     let length = rt.arg(1, &mut room);
     match input_named(length, &room, has_word(rt, 2)) {
-        Ok(None) => judge_from(rt, rt.reader()),
+        Ok(None) => judge_from(rt, rt.reader(), "standard input"),
         Ok(Some(path)) => judge_file(rt, path),
         Err(fault) => end(rt, &Err(fault)),
     }
@@ -50,7 +50,7 @@ fn end(rt: &impl Runtime, answer: &Result<u8, ProgramFault>) -> u8
 
 fn judge_file<R: Runtime + AllocGlobal + Threads + Sync>(rt: &R, path: &str) -> u8 {
     match File::open(rt, path) {
-        Ok(file) => judge_from(rt, file),
+        Ok(file) => judge_from(rt, file, path),
         Err(error) => {
             let status = end(rt, &Err(ProgramFault::Judge(JudgeFault::Read)));
             let _ = eprintln!(rt; "{path} can't be opened: {error}");
@@ -59,7 +59,12 @@ fn judge_file<R: Runtime + AllocGlobal + Threads + Sync>(rt: &R, path: &str) -> 
     }
 }
 
-fn judge_from<R: Runtime + AllocGlobal + Threads + Sync>(rt: &R, reader: impl Read + Drop) -> u8 {
+/// Judges what a reader gives. Where that can't be read, it is named.
+fn judge_from<R: Runtime + AllocGlobal + Threads + Sync>(
+    rt: &R,
+    reader: impl Read + Drop,
+    name: &str,
+) -> u8 {
     let mut source = Source::new(reader);
     let mut sink = Sink::new(io::writer(rt));
     match judge_kept(rt, &mut source, &mut sink) {
@@ -67,7 +72,13 @@ fn judge_from<R: Runtime + AllocGlobal + Threads + Sync>(rt: &R, reader: impl Re
             explain(rt, &judged);
             end(rt, &Ok(judged.outcome.status()))
         }
-        Err(fault) => end(rt, &Err(ProgramFault::Judge(fault))),
+        Err(fault) => {
+            let status = end(rt, &Err(ProgramFault::Judge(fault)));
+            if let JudgeFault::Read = fault {
+                let _ = eprintln!(rt; "{name} can't be read");
+            }
+            status
+        }
     }
 }
 
