@@ -1,7 +1,7 @@
 //! The pieces whose paths a certificate has, with the paths that were found for them.
-ghost use Rattle.std.specs.Prelude.{◌≡◌, ◌↔◌, ◌<◌, ◌≤◌, length, map, IsTrue, IfOk};
+ghost use Rattle.std.specs.Prelude.{◌≡◌, ◌↔◌, ◌<◌, ◌≤◌, [], length, map, IsTrue, IfOk};
 ghost use Rattle.std.specs.Option.{option_copied};
-ghost use Rattle.ov_graph.specs.Links.{IsGroup};
+ghost use Rattle.ov_graph.specs.Links.{IsGroup, AreAllLinked};
 ghost use Rattle.ov_fans.specs.Cuts.{AreRightPaths};
 ghost use Rattle.ov_fans.specs.Pieces.{IsPiece, IsLinkedPair, level_of};
 ghost use Rattle.ov_even.specs.Harvest.{AreRight, Suffice};
@@ -34,6 +34,7 @@ pub fn wanted_paths<'a>(
     requires suffice { Suffice graph.now group.now hauls.now }
     ensures wanted { IfOk result (λ found. AreWanted graph.now group.now (map (λ f. f.piece) found.items)) }
     ensures found { IfOk result (λ found. AreFound graph.now group.now found.items) }
+    ensures none { AreAllLinked graph.now group.now → IfOk result (λ found. found.items ≡ []) }
 {
     prove!(graph.nodes().len() <= Graph::MOST_NODES);
     if are_all_linked(graph, group) {
