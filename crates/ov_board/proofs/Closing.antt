@@ -15,7 +15,7 @@ use Rattle.ov_claims.specs.Claims.{WorkerState, HasWorker, fresh, most_workers, 
 use Rattle.ov_claims.proofs.Changing.{one_worker}
 use Rattle.ov_claims.proofs.Staying.{stays_legal}
 use Rattle.ov_claims.proofs.Ending.{ends_done}
-use Rattle.ov_board.specs.declared.view.Plan.{Plan}
+use Rattle.ov_board.specs.declared.view.BoardSize.{BoardSize}
 use Rattle.ov_board.specs.declared.view.View.{View}
 use Rattle.ov_board.specs.Board.{BoardState, SeatState, IsClosed}
 use Rattle.ov_board.specs.Code.Rule.{Numbered, times, IsKept, fresh_from, opening_view, spent_view}
@@ -63,7 +63,7 @@ fresh_once w i (suc m) up low = elim (first_or_later w i up) [
     first_or_later w i up = grind arith
 
 -- the state at the opening
-pub opens : (p : Plan) → p.total < 2 ^ 32 → 1 ≤ p.workers → p.workers ≤ most_workers
+pub opens : (p : BoardSize) → p.total < 2 ^ 32 → 1 ≤ p.workers → p.workers ≤ most_workers
     → IsKept p (opening (0 ∷ p.total ∷ []) [] (opening_view p))
 opens p small any few =
     let n = p.workers in
@@ -121,7 +121,7 @@ counts_all f vs i v c at e =
     omega (arith, rest, nothing, c.none_is)
 
 -- each worker of the claims is in a view that has as many workers as all views
-whole : (p : Plan) (t : State (Unit {0}) View) (i : ℕ) (v : View) (k : IsKept p t) → IsAt t.views i v
+whole : (p : BoardSize) (t : State (Unit {0}) View) (i : ℕ) (v : View) (k : IsKept p t) → IsAt t.views i v
     → length v.seated ≡ p.workers → (w : ℕ) (x : WorkerState) → HasWorker k.claims w x → Has v.seated (w, x)
 whole p t i v k at all w x has =
     let low : w < p.workers = omega (arith, slice_get_within k.claims.workers w x has, k.workers) in
@@ -157,7 +157,7 @@ all_has P (x ∷ xs) seat all h = elim h [
 ]
 
 -- the state at the closing
-pub closes : (p : Plan) (b : BoardState) (id : ℕ) (v : View) (words : List ℕ) (slots : List (Unit {0})) (least : ℕ)
+pub closes : (p : BoardSize) (b : BoardState) (id : ℕ) (v : View) (words : List ℕ) (slots : List (Unit {0})) (least : ℕ)
     (seats : List SeatState) → Final (Seen (IsKept p) id v) words slots → get_elem? words 1 ≡ some least
     → p.total ≡ b.total → p.workers ≡ b.workers → v.seated ≡ map numbered seats → length seats ≡ p.workers
     → All (λ s. s.worker.ended ≡ true) seats → IsClosed b seats least

@@ -12,7 +12,7 @@ use Rattle.ov_claims.specs.Steps.{claiming, looking, failing, Claims, Looks, Fai
 use Rattle.ov_claims.proofs.Changing.{after, here, elsewhere}
 use Rattle.ov_claims.proofs.Staying.{stays_legal}
 use Rattle.ov_claims.proofs.Turns.{next_small}
-use Rattle.ov_board.specs.declared.view.Plan.{Plan}
+use Rattle.ov_board.specs.declared.view.BoardSize.{BoardSize}
 use Rattle.ov_board.specs.declared.view.View.{View}
 use Rattle.ov_board.specs.Code.Rule.{Numbered, Holder, times, IsKept, with_seated, head_of, number_of, worker_of}
 use Rattle.ov_board.specs.Board.{BoardState, SeatState, IsExchange}
@@ -20,13 +20,13 @@ use Rattle.ov_board.specs.Code.Rule.{seat_state, Exchanged, Claimed, Looked, Fai
 use Rattle.ov_board.proofs.Views.{IsAt, sum_written, not_twice}
 
 -- the view of a seat of this plan: it has one worker
-pub record IsSeat (p : Plan) (v : View) : Type 0 where
+pub record IsSeat (p : BoardSize) (v : View) : Type 0 where
   pub one : v.seated ≡ head_of v.seated ∷ []
   pub total : v.total ≡ p.total
   pub workers : v.workers ≡ p.workers
 
 -- a seat, whose board contracts see with these fields
-pub at_board : (p : Plan) (v : View) (z y : TableId) (total : ℕ) → v.seated ≡ head_of v.seated ∷ []
+pub at_board : (p : BoardSize) (v : View) (z y : TableId) (total : ℕ) → v.seated ≡ head_of v.seated ∷ []
     → (seat_state z v).board ≡ record { table = y; total = total; workers = p.workers } → total ≡ p.total → IsSeat p v
 at_board p v z y total one same is = record {
   one = one;
@@ -52,12 +52,12 @@ own : (v : View) → v.seated ≡ head_of v.seated ∷ [] → Has v.seated (head
 own v one = subst (λ (qs : List Numbered). Has qs (head_of v.seated)) (sym one) (inl refl)
 
 -- the worker of a seat stands at its number
-stands : (p : Plan) (t : State (Unit {0}) View) (id : ℕ) (v : View) (k : IsKept p t) → IsSeat p v → IsAt t.views id v
+stands : (p : BoardSize) (t : State (Unit {0}) View) (id : ℕ) (v : View) (k : IsKept p t) → IsSeat p v → IsAt t.views id v
     → HasWorker k.claims (number_of v) (worker_of v)
 stands p t id v k seat at = k.seated id v (head_of v.seated) at (own v seat.one)
 
 -- the rule holds after the worker of a seat has become x, if the claims stay legal
-kept : (p : Plan) (t : State (Unit {0}) View) (id : ℕ) (v : View) (next least : ℕ) (x : WorkerState) (k : IsKept p t)
+kept : (p : BoardSize) (t : State (Unit {0}) View) (id : ℕ) (v : View) (next least : ℕ) (x : WorkerState) (k : IsKept p t)
     → IsSeat p v → IsAt t.views id v → IsLegal (after k.claims next least (number_of v) x)
     → (words : List ℕ) → words ≡ next ∷ least ∷ []
     → IsKept p record { words = words; homes = t.homes; views = set t.views id (becoming v x) }
@@ -100,7 +100,7 @@ kept p t id v next least x k seat at legal words are =
     }
 
 -- the step that an exchange is
-made : (p : Plan) (t : State (Unit {0}) View) (id : ℕ) (me : Holder) (next least : ℕ) (x : WorkerState)
+made : (p : BoardSize) (t : State (Unit {0}) View) (id : ℕ) (me : Holder) (next least : ℕ) (x : WorkerState)
     (k : IsKept p t) → IsSeat p me.0 → IsAt t.views id me.0 → IsLegal (after k.claims next least (number_of me.0) x)
     → (Step : DeskState → DeskState → Type 0) → Step k.claims (after k.claims next least (number_of me.0) x)
     → Exchanged Step x me (becoming me.0 x, me.1)
@@ -129,7 +129,7 @@ made p t id me next least x k seat at legal Step step =
     }
 
 -- the exchange of a claim
-pub claim : (p : Plan) (slots id : ℕ) (me : Holder) → IsSeat p me.0 → (worker_of me.0).ended ≡ false
+pub claim : (p : BoardSize) (slots id : ℕ) (me : Holder) → IsSeat p me.0 → (worker_of me.0).ended ≡ false
     → Allows (IsKept p) slots id me 0 (λ n. (n + 1) % 2 ^ 64) (Claimed (step slots 0 1 0 none) me)
 claim p slots id me seat on t k _ at _ =
     let s = k.claims in
@@ -155,7 +155,7 @@ claim p slots id me seat on t k _ at _ =
     )
 
 -- the exchange of a look
-pub look : (p : Plan) (slots id : ℕ) (me : Holder) (index : ℕ) → IsSeat p me.0 → (worker_of me.0).ended ≡ false
+pub look : (p : BoardSize) (slots id : ℕ) (me : Holder) (index : ℕ) → IsSeat p me.0 → (worker_of me.0).ended ≡ false
     → Has (worker_of me.0).claimed index
     → Allows (IsKept p) slots id me 1 (λ n. n) (Looked index (step slots 1 0 0 none) me)
 look p slots id me index seat on mine t k _ at _ =
@@ -181,7 +181,7 @@ look p slots id me index seat on mine t k _ at _ =
     )
 
 -- the exchange of a failure
-pub fail : (p : Plan) (slots id : ℕ) (me : Holder) (index : ℕ) → IsSeat p me.0 → Has (worker_of me.0).claimed index
+pub fail : (p : BoardSize) (slots id : ℕ) (me : Holder) (index : ℕ) → IsSeat p me.0 → Has (worker_of me.0).claimed index
     → Allows (IsKept p) slots id me 1 (λ n. min n index) (Failed (step slots 1 index 0 none) me)
 fail p slots id me index seat mine t k _ at _ =
     let s = k.claims in

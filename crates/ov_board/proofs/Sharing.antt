@@ -9,7 +9,7 @@ use Rattle.atomic_table.specs.Table.{Splits, Joins, Enters, step}
 use Rattle.atomic_table.proofs.Lists.{at_set, at_snoc}
 use Rattle.ov_ids.specs.Members.{Has}
 use Rattle.ov_ids.proofs.Members.{has_append_cases}
-use Rattle.ov_board.specs.declared.view.Plan.{Plan}
+use Rattle.ov_board.specs.declared.view.BoardSize.{BoardSize}
 use Rattle.ov_board.specs.declared.view.View.{View}
 use Rattle.ov_board.specs.Code.Rule.{Numbered, times, IsKept, others_of, first_of, both_of, spent_view, Entered}
 use Rattle.ov_board.proofs.Views.{IsAt, hit, sum_written}
@@ -35,7 +35,7 @@ pub record IsSharedAnew (vs us : List View) : Type 0 where
       → (i : ℕ) × (v : View) × IsAt vs i v × Has v.seated q
   pub sums : (f : List Numbered → ℕ) → IsCount f → counted f us ≡ counted f vs
 
-shared_anew : (p : Plan) (words : List ℕ) (homes : List (Option (Unit {0}))) (vs us : List View) → IsSharedAnew vs us
+shared_anew : (p : BoardSize) (words : List ℕ) (homes : List (Option (Unit {0}))) (vs us : List View) → IsSharedAnew vs us
     → IsKept p record { words = words; homes = homes; views = vs }
     → IsKept p record { words = words; homes = homes; views = us }
 shared_anew p words homes vs us a k = record {
@@ -116,14 +116,14 @@ one_more vs = record {
       omega (arith, more, c.none_is);
 }
 
-pub splits : (p : Plan) (id : ℕ) (v : View) → Splits (IsKept p) id v (others_of v) (first_of v)
+pub splits : (p : BoardSize) (id : ℕ) (v : View) → Splits (IsKept p) id v (others_of v) (first_of v)
 splits p id v t k at = shared_anew p t.words t.homes t.views _ (apart t.views id v at) k
 
-pub joins : (p : Plan) (id : ℕ) (v : View) (other : ℕ) (w : View)
+pub joins : (p : BoardSize) (id : ℕ) (v : View) (other : ℕ) (w : View)
     → Joins (IsKept p) id v other w (both_of v w) spent_view
 joins p id v other w t k at far there =
     shared_anew p t.words t.homes t.views _ (together t.views id other v w at far there) k
 
-pub enters : (p : Plan) (slots : ℕ) (v : View)
+pub enters : (p : BoardSize) (slots : ℕ) (v : View)
     → Enters (IsKept p) slots 0 (λ n w. Entered (step slots 0 0 0 none) (v, []) n (w, []))
 enters p slots v t k _ _ = (spent_view, shared_anew p t.words t.homes t.views _ (one_more t.views) k, (refl, refl))

@@ -10,7 +10,7 @@ use lib.ListN.{get_elem?}
 use Rattle.atomic_table.specs.Table.{State}
 use Rattle.ov_ids.specs.Members.{Has}
 use Rattle.ov_claims.specs.Claims.{WorkerState}
-use Rattle.ov_board.specs.declared.view.Plan.{Plan}
+use Rattle.ov_board.specs.declared.view.BoardSize.{BoardSize}
 use Rattle.ov_board.specs.declared.view.View.{View}
 use Rattle.ov_board.specs.Code.Rule.{Numbered, times, IsKept}
 
@@ -77,13 +77,13 @@ times_has w [] h = absurd (omega arith)
 times_has w (q ∷ qs) h = counts_by w q qs (eqb q.0 w) refl h (times_has w qs)
 
 -- each worker of a view has a number below the number of workers
-pub number_below : (p : Plan) (t : State (Unit {0}) View) (i : ℕ) (v : View) (q : Numbered) → IsKept p t
+pub number_below : (p : BoardSize) (t : State (Unit {0}) View) (i : ℕ) (v : View) (q : Numbered) → IsKept p t
     → IsAt t.views i v → Has v.seated q → q.0 < p.workers
 number_below p t i v q k at has =
     let b = slice_get_within k.claims.workers q.0 q.1 (k.seated i v q at has) in omega (arith, b, k.workers)
 
 -- another view has no worker with the same number
-pub not_twice : (p : Plan) (t : State (Unit {0}) View) (i j : ℕ) (v w : View) (q r : Numbered) → IsKept p t → j ≢ i
+pub not_twice : (p : BoardSize) (t : State (Unit {0}) View) (i j : ℕ) (v w : View) (q r : Numbered) → IsKept p t → j ≢ i
     → IsAt t.views i v → IsAt t.views j w → Has v.seated q → Has w.seated r → r.0 ≢ q.0
 not_twice p t i j v w q r k ne at there has also e =
     let one : 1 ≤ times q.0 v.seated = has_times v.seated q has in

@@ -1,12 +1,12 @@
 // The rule of a board's words, and what the exchanges tell.
-use crate::view::{Plan, View};
+use crate::view::{BoardSize, View};
 use atomic_table::{Join, Play, Split, TableRule};
 use std::marker::{Brand, PhantomData};
 
 /// The words and the views show legal claims.
 pub struct Lawful;
 
-impl TableRule<(), View, Plan> for Lawful {
+impl TableRule<(), View, BoardSize> for Lawful {
     ghost use Rattle.ov_board.specs.Code.Rule.{IsKept, opening_view};
 
     ghost holds = { IsKept };

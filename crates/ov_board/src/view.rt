@@ -3,7 +3,7 @@ use std::marker::Model;
 
 /// What the words of a board are about: how many numbers are shared out, and among how many workers.
 #[derive(Drop)]
-pub struct Plan {
+pub struct BoardSize {
     pub total: u64,
     pub workers: u32,
 }
@@ -29,7 +29,7 @@ impl Model for Doings {
     } };
 }
 
-/// What a seat of the table knows: the plan, and workers with their numbers. No value of it is made.
+/// What a seat of the table knows: the size, and workers with their numbers. No value of it is made.
 pub struct View {
     pub total: u64,
     pub workers: u32,

@@ -1,16 +1,13 @@
 -- The forms of the values in a file. A form maps a JSON value to what it means, or to None if the value does not have
 -- the form. The forms are a choice of this project.
-use Rattle.std.specs.Prelude.{◌^◌, ◌+◌, ℕ, List, [], ◌∷◌, nat_lt, codes, if◌then◌else◌, Option, Some, None}
+use Rattle.std.specs.Prelude.{◌+◌, ℕ, List, [], ◌∷◌, nat_lt, codes, if◌then◌else◌, Option, Some, None}
+use Rattle.ov_ids.specs.Limits.{number_limit}
 use Rattle.serde_json.specs.Data.{Data, Items, no_items, item}
 use Rattle.serde_json.specs.Find.{as_number, as_u64, as_array}
 use Rattle.ov_cert.specs.declared.cert.PairPaths.{PairPaths}
 use Rattle.ov_cert.specs.declared.cert.FanPaths.{FanPaths}
 use Rattle.ov_ids.specs.Options.{◌>>=◌}
 use Rattle.ov_certfile.specs.Keys.{has_just, said}
-
--- the limit of ids and counts: each is below it
-abbrev pub number_limit : ℕ
-number_limit = 2 ^ 32
 
 -- the highest moment, which is the most entries that a journal may have
 abbrev pub last_moment : ℕ

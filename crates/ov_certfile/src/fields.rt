@@ -1,8 +1,9 @@
 ghost use Rattle.std.specs.Prelude.{◌≡◌, ◌≤◌, map, IfOk, OnOk, Some};
+ghost use Rattle.ov_ids.specs.Limits.{number_limit};
 ghost use Rattle.serde_json.specs.View.{view, items_view, members_view};
 ghost use Rattle.serde_json.specs.Data.{put as with_member};
 ghost use Rattle.ov_certfile.specs.Keys.{said};
-ghost use Rattle.ov_certfile.specs.Forms.{number_limit, whole_below, each_in, list_in};
+ghost use Rattle.ov_certfile.specs.Forms.{whole_below, each_in, list_in};
 ghost use Rattle.ov_certfile.specs.DataOf.{list_data};
 ghost use Rattle.ov_certfile.specs.Code.Reading.{Reads};
 

@@ -247,7 +247,7 @@ TellsPlace bytes (Refused (Graph fault)) text = TellsGraphOf bytes fault text
 TellsPlace bytes (Refused fault) text = Unit {0}
 
 -- an explanation: where the outcome is that of the bytes, the text is the opening, and then the place
-unfoldable pub Explains : List ℕ → Outcome → List ℕ → Type 0
-Explains bytes outcome text =
+unfoldable pub ExplainsOutcome : List ℕ → Outcome → List ℕ → Type 0
+ExplainsOutcome bytes outcome text =
     IsOutcome bytes outcome
     → (place : List ℕ) × (text ≡ opening outcome ++ place) × TellsPlace bytes outcome place

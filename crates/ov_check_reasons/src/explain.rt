@@ -5,7 +5,7 @@ ghost use Rattle.ov_check.specs.Outcome.{IsOutcome};
 ghost use Rattle.ov_check.specs.declared.outcome.Outcome.TheVariants.{Fails, Refused};
 ghost use Rattle.ov_certfile.specs.declared.fault.FileFault.TheVariants as refusal;
 ghost use Rattle.ov_check_reasons.specs.Opening.{opening, BeginsWith};
-ghost use Rattle.ov_check_reasons.specs.Places.{TellsFault, TellsPlace, Explains};
+ghost use Rattle.ov_check_reasons.specs.Places.{TellsFault, TellsPlace, ExplainsOutcome};
 ghost use Rattle.ov_check_reasons.specs.Code.Words.{Adds};
 
 use crate::entries::{tell_extra, tell_fan, tell_pair};
@@ -24,10 +24,10 @@ use std::alloc::Global;
 /// Where the certificate holds the text is empty.
 ///
 /// `OutOfMemory` (99): an allocation was refused.
-#[tactic(auto, unfolding(crate::specs::Places::Explains))]
+#[tactic(auto, unfolding(crate::specs::Places::ExplainsOutcome))]
 pub fn reasons(alloc: Global, bytes: &[u8], outcome: &Outcome) -> Result<String, OutOfMemory>
     ensures opening { IfOk result (λ text. BeginsWith (opening outcome.now) (string_bytes text)) }
-    ensures place { IfOk result (λ text. Explains bytes.now outcome.now (string_bytes text)) }
+    ensures place { IfOk result (λ text. ExplainsOutcome bytes.now outcome.now (string_bytes text)) }
 {
     let place = place_of(alloc, bytes, outcome)?;
     let mut text = String::new(alloc);

@@ -47,10 +47,10 @@ still_held d next least w z h l =
     record { legal = l; total = h.total; some = omega (arith, some, e); few = omega (arith, few, e) }
 
 -- the worker exists and has not ended
-abbrev pub GoesOn : DeskState → ℕ → Type 0
-GoesOn s w = (v : WorkerState) × HasWorker s w v × (v.ended ≡ false)
+abbrev pub HasNotEnded : DeskState → ℕ → Type 0
+HasNotEnded s w = (v : WorkerState) × HasWorker s w v × (v.ended ≡ false)
 
-claims : (d s : DeskState) (w : ℕ) (y z : WorkerState) → HasTurn d s w y → GoesOn d w → z ≡ claiming d.total d.next y
+claims : (d s : DeskState) (w : ℕ) (y z : WorkerState) → HasTurn d s w y → HasNotEnded d w → z ≡ claiming d.total d.next y
     → Claims d w d.next (after d (d.next + 1) d.least w z)
 claims d s w y z turn g e =
     let k = its_turn d s w y g.0 turn g.1 in record {
@@ -61,16 +61,16 @@ claims d s w y z turn g e =
       after = ap (after d (d.next + 1) d.least w) e;
     }
 
-pub claim_made : (d s : DeskState) (w : ℕ) (y z : WorkerState) → HasTurn d s w y → GoesOn s w
+pub claim_made : (d s : DeskState) (w : ℕ) (y z : WorkerState) → HasTurn d s w y → HasNotEnded s w
     → z ≡ claiming d.total d.next y → Claims s w d.next (after d (d.next + 1) d.least w z)
 claim_made d s w y z turn g e =
     subst (λ (u : DeskState). Claims u w d.next (after d (d.next + 1) d.least w z)) turn.seen
-    (claims d s w y z turn (of_fields d s w y (λ u. GoesOn u w) turn g) e)
+    (claims d s w y z turn (of_fields d s w y (λ u. HasNotEnded u w) turn g) e)
 
-pub claim_held : (d s : DeskState) (w : ℕ) (y z : WorkerState) → HasTurn d s w y → GoesOn s w
+pub claim_held : (d s : DeskState) (w : ℕ) (y z : WorkerState) → HasTurn d s w y → HasNotEnded s w
     → z ≡ claiming d.total d.next y → IsHeld (after d (d.next + 1) d.least w z)
 claim_held d s w y z turn g e =
-    let step = claims d s w y z turn (of_fields d s w y (λ u. GoesOn u w) turn g) e in
+    let step = claims d s w y z turn (of_fields d s w y (λ u. HasNotEnded u w) turn g) e in
     let h = turn.held in
     still_held d (d.next + 1) d.least w z h (stays_legal.claims d _ w d.next h.legal step)
 

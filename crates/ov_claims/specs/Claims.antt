@@ -1,7 +1,7 @@
 -- How workers share out the numbers 0, 1, 2, .. below a total. A worker claims the next number and looks whether a
 -- lower number has failed. If so, it skips its number and ends. Otherwise it works on its number, and reports a failure
 -- if there is one. So the lowest number that fails is found.
-use Rattle.std.specs.Prelude.{◌≡◌, ◌↔◌, ◌⊎◌, ℕ, ◌+◌, ◌^◌, ◌<◌, ◌≤◌, Bool, true, false, List, [], length, replicate}
+use Rattle.std.specs.Prelude.{◌≡◌, ◌↔◌, ◌⊎◌, ℕ, ◌+◌, ◌<◌, ◌≤◌, Bool, true, false, List, [], length, replicate}
 use Rattle.std.specs.Prelude.{Option, Some, None, slice_get}
 use Rattle.std.specs.List.{filter}
 use Rattle.ov_ids.specs.Members.{Has, Ascends}
@@ -21,10 +21,6 @@ pub record DeskState : Type 0 where
   pub next : ℕ
   pub least : ℕ
   pub workers : List WorkerState
-
--- what the total must be below: chosen here, since numbers are kept in 32 bits
-abbrev pub number_limit : ℕ
-number_limit = 2 ^ 32
 
 -- how many workers may share out numbers, at most: chosen here
 abbrev pub most_workers : ℕ

@@ -1,5 +1,6 @@
 ghost use Rattle.std.specs.Prelude.{◌≡◌, ◌↔◌, ℕ, ◌<◌, ◌≤◌, false, length, IsTrue, IfOk, OnOk, OnErr};
-ghost use Rattle.ov_claims.specs.Claims.{HasWorker, WorkerState, IsLegal, number_limit, most_workers, opening_claims};
+ghost use Rattle.ov_ids.specs.Limits.{number_limit};
+ghost use Rattle.ov_claims.specs.Claims.{HasWorker, WorkerState, IsLegal, most_workers, opening_claims};
 ghost use Rattle.ov_claims.specs.Steps.{Claims, Looks, Fails, IsLast};
 ghost use Rattle.ov_claims.specs.Theorems.{AllEnded, IsDone};
 

@@ -1,7 +1,8 @@
 ghost use Rattle.std.specs.Prelude.{◌≡◌, ℕ, ◌<◌, ◌≤◌, [], OnOk, OnErr, IfSome, IfNone};
 ghost use Rattle.std.specs.List.{list_all};
+ghost use Rattle.ov_ids.specs.Limits.{number_limit};
 ghost use Rattle.ov_ids.specs.Members.{Has, Ascends};
-ghost use Rattle.ov_claims.specs.Claims.{WorkerState, number_limit, fresh};
+ghost use Rattle.ov_claims.specs.Claims.{WorkerState, fresh};
 ghost use Rattle.ov_claims.specs.Steps.{IsLast, claiming, looking, failing};
 
 use ov_ids::OutOfMemory;

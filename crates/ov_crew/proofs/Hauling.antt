@@ -2,6 +2,7 @@
 use Rattle.std.proofs.Common.{◌≡◌, ◌⊎◌, ◌↔◌, ℕ, ◌+◌, List, [], ◌∷◌, ◌++◌, length, Some, None}
 use Rattle.std.proofs.Common.{refl, sym, ap, ◌∙◌, subst, inl, inr, arith}
 use Rattle.std.proofs.lemmas.Option.{none-some}
+use Rattle.ov_even.specs.Harvest.{SettlesNumber}
 use Rattle.ov_ids.specs.Members.{Has}
 use Rattle.ov_ids.specs.Sets.{has, adding}
 use Rattle.ov_ids.proofs.Members.{has_append_left, has_append_right, has_append_cases, has_tested}
@@ -18,7 +19,7 @@ use Rattle.ov_claims.specs.Steps.{failing}
 use Rattle.ov_claims.proofs.Staying.{gaining}
 use Rattle.ov_even.specs.Order.{IsNumbered}
 use Rattle.ov_even.proofs.PieceNumbers.Numbering.{numbered_piece, one_number}
-use Rattle.ov_crew.specs.Hauls.{IsAmong, IsHaulOf}
+use Rattle.ov_crew.specs.Hauls.{IsHaulOf}
 use Rattle.ov_crew.specs.Code.Turns.{HasTaken, HasStopped, HasSettled}
 
 -- a worker that has done nothing yet has brought in nothing
@@ -140,7 +141,7 @@ brought_in g q first x w v pieces piece k = record {
     old : (s : Settled) → Has pieces s → Has (pieces ++ piece ∷ []) s
     old s h = has_append_left pieces (piece ∷ []) s h
 
-    new : (y : ℕ) → y ≡ x → IsAmong g q (pieces ++ piece ∷ []) (first + y) piece
+    new : (y : ℕ) → y ≡ x → SettlesNumber g q (pieces ++ piece ∷ []) (first + y) piece
     new y e = (
       has_append_right pieces (piece ∷ []) piece (inl refl),
       subst (λ (i : ℕ). IsNumbered (length g.nodes) (length q) (first + i) piece.piece) (sym e) k.numbered,

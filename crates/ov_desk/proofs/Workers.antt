@@ -3,6 +3,7 @@ use Rattle.std.proofs.Common.{◌≡◌, ◌≢◌, ◌⊎◌, ◌↔◌, ℕ, B
 use Rattle.std.proofs.Common.{sym, ap, ◌∙◌, subst, inl, inr}
 use Rattle.std.proofs.lemmas.Bool.{cases_eq}
 use Rattle.std.proofs.lemmas.Option.{same_Some}
+use Rattle.ov_even.specs.Harvest.{SettlesNumber}
 use Rattle.ov_ids.specs.Members.{Has}
 use Rattle.ov_ids.proofs.Members.{has_append_left, has_append_right, has_append_cases}
 use Rattle.ov_graph.specs.Links.{LinkGraph}
@@ -19,7 +20,7 @@ use Rattle.ov_even.proofs.PieceNumbers.Numbering.{numbered_piece, one_number}
 use Rattle.ov_desk.specs.declared.hand.Hand.{Hand}
 use Rattle.ov_desk.specs.declared.hand.Hand.TheVariants.{Nothing, Claimed, Looked}
 use Rattle.ov_desk.specs.Desk.{IsNumberIn}
-use Rattle.ov_desk.specs.Sound.{IsThroughWith, IsAmong, IsSoundWorker}
+use Rattle.ov_desk.specs.Sound.{IsThroughWith, IsSoundWorker}
 
 -- a worker that has done nothing yet is sound
 pub fresh_sound : (g : LinkGraph) (q : List ℕ) → IsSoundWorker g q fresh Nothing []
@@ -182,7 +183,7 @@ settled_sound g q v z x pieces piece k = record {
     old : (s : Settled) → Has pieces s → Has (pieces ++ piece ∷ []) s
     old s h = has_append_left pieces (piece ∷ []) s h
 
-    new : (y : ℕ) → y ≡ x → IsAmong g q (pieces ++ piece ∷ []) y piece
+    new : (y : ℕ) → y ≡ x → SettlesNumber g q (pieces ++ piece ∷ []) y piece
     new y e = (
       has_append_right pieces (piece ∷ []) piece (inl refl),
       subst (λ (i : ℕ). IsNumbered (length g.nodes) (length q) i piece.piece) (sym e) k.numbered,
@@ -207,7 +208,7 @@ settled_sound g q v z x pieces piece k = record {
       put_down = λ n. n;
     }
 
-    through_then : (y : ℕ) → IsThroughWith z Nothing y → (s : Settled) × IsAmong g q (pieces ++ piece ∷ []) y s
+    through_then : (y : ℕ) → IsThroughWith z Nothing y → (s : Settled) × SettlesNumber g q (pieces ++ piece ∷ []) y s
     through_then y t = elim (cases_eq y x) [
       | inl e ↦ (piece, new y e)
       | inr o ↦

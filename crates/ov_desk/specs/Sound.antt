@@ -8,7 +8,7 @@ use Rattle.ov_fans.specs.Theorems.{IsNoCut}
 use Rattle.ov_fans.specs.declared.settled.Settled.{Settled}
 use Rattle.ov_claims.specs.Claims.{WorkerState, HasWorker, IsLegal, most_workers}
 use Rattle.ov_claims.specs.Steps.{IsLast}
-use Rattle.ov_even.specs.Order.{IsNumbered}
+use Rattle.ov_even.specs.Harvest.{SettlesNumber}
 use Rattle.ov_desk.specs.Desk.{GroupDeskState, HasHand, HaveBeenSettled, IsNumberIn, AreToShare}
 use Rattle.ov_desk.specs.declared.hand.Hand.{Hand}
 
@@ -18,10 +18,6 @@ pub record IsThroughWith (v : WorkerState) (hand : Hand) (x : ℕ) : Type 0 wher
   pub worked_on : ¬ (v.skipped ≡ Some x)
   pub put_down : ¬ IsNumberIn hand x
 
--- `s` is one of these settled pieces, and its piece has number x
-abbrev pub IsAmong : LinkGraph → List ℕ → List Settled → ℕ → Settled → Type 0
-IsAmong g q pieces x s = Has pieces s × IsNumbered (length g.nodes) (length q) x s.piece
-
 -- a sound worker. The number in its hand is the last that it claimed, and it has not ended then. Its settled pieces
 -- have right results. They are exactly the pieces of the numbers that it has finished. Its failed numbers are exactly
 -- those whose pieces were settled with a cut
@@ -30,8 +26,8 @@ pub record IsSoundWorker (g : LinkGraph) (q : List ℕ) (v : WorkerState) (hand 
   pub last : (x : ℕ) → IsNumberIn hand x → IsLast v x
   pub goes_on : (x : ℕ) → IsNumberIn hand x → v.ended ≡ false
   pub right : (s : Settled) → Has pieces s → IsPiece g q s.piece × IsRight g q s
-  pub through : (x : ℕ) → IsThroughWith v hand x ↔ ((s : Settled) × IsAmong g q pieces x s)
-  pub failed : (x : ℕ) → Has v.failed x ↔ ((s : Settled) × IsAmong g q pieces x s × ¬ IsNoCut s.found)
+  pub through : (x : ℕ) → IsThroughWith v hand x ↔ ((s : Settled) × SettlesNumber g q pieces x s)
+  pub failed : (x : ℕ) → Has v.failed x ↔ ((s : Settled) × SettlesNumber g q pieces x s × ¬ IsNoCut s.found)
 
 -- a desk is sound for these links: its members are a group, the total is right, the claims are legal, there are 1 to 64
 -- workers, and each worker is sound

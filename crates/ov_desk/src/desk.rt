@@ -1,7 +1,8 @@
 ghost use Rattle.std.specs.Prelude.{◌≡◌, ◌↔◌, ◌<◌, ◌≤◌, [], length, replicate, IsTrue, IfOk, OnOk, OnErr};
+ghost use Rattle.ov_ids.specs.Limits.{number_limit};
 ghost use Rattle.ov_graph.specs.Links.{IsGroup};
 ghost use Rattle.ov_cert.specs.Theorems.{IsTrueForGroup};
-ghost use Rattle.ov_claims.specs.Claims.{number_limit, most_workers};
+ghost use Rattle.ov_claims.specs.Claims.{most_workers};
 ghost use Rattle.ov_claims.specs.Theorems.{AllEnded};
 ghost use Rattle.ov_fans.specs.Cuts.{IsRight};
 ghost use Rattle.ov_fans.specs.Theorems.{IsNoCut};

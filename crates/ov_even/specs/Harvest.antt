@@ -1,6 +1,6 @@
 -- The pieces that several workers have settled, and when these suffice for a certificate. A haul is the list of pieces
 -- that one worker has settled.
-use Rattle.std.specs.Prelude.{◌≡◌, ◌⊎◌, ℕ, ◌+◌, ◌≤◌, List}
+use Rattle.std.specs.Prelude.{◌≡◌, ◌⊎◌, ℕ, ◌+◌, ◌≤◌, List, length}
 use Rattle.ov_ids.specs.Members.{Has}
 use Rattle.ov_graph.specs.Links.{LinkGraph, AreAllLinked}
 use Rattle.ov_fans.specs.Pieces.{IsPiece, IsLinkedPair, level_of}
@@ -8,8 +8,12 @@ use Rattle.ov_fans.specs.Cuts.{IsRight}
 use Rattle.ov_fans.specs.Theorems.{IsNoCut}
 use Rattle.ov_fans.specs.declared.piece.Piece.{Piece}
 use Rattle.ov_fans.specs.declared.settled.Settled.{Settled}
-use Rattle.ov_even.specs.Order.{ComesBefore}
+use Rattle.ov_even.specs.Order.{ComesBefore, IsNumbered}
 use Rattle.ov_even.specs.declared.haul.Haul.{Haul}
+
+-- `s` is one of these settled pieces, and its piece has this number
+abbrev pub SettlesNumber : LinkGraph → List ℕ → List Settled → ℕ → Settled → Type 0
+SettlesNumber g q pieces number s = Has pieces s × IsNumbered (length g.nodes) (length q) number s.piece
 
 -- a settled piece is in one of the hauls
 abbrev pub IsBroughtIn : List Haul → Settled → Type 0

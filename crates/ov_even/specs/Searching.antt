@@ -6,7 +6,7 @@ use Rattle.ov_even.specs.declared.level_search.Searched.{Searched}
 use Rattle.ov_even.specs.declared.level_search.Searched.TheVariants.{Enough, Again}
 
 -- the search goes on, for the same graph and group, with a lower bound on how many levels are still tried
-pub record GoesOn (s next : SearchState) : Type 0 where
+pub record SearchGoesOn (s next : SearchState) : Type 0 where
   pub graph : next.graph ≡ s.graph
   pub members : next.members ≡ s.members
   pub fewer : next.left < s.left
@@ -14,4 +14,4 @@ pub record GoesOn (s next : SearchState) : Type 0 where
 -- what becomes of a search: the hauls suffice for a certificate, or it goes on
 abbrev pub IsSearched : SearchState → Searched → Type 0
 IsSearched s (Enough hauls) = Suffice s.graph s.members hauls.items
-IsSearched s (Again next) = GoesOn s next
+IsSearched s (Again next) = SearchGoesOn s next

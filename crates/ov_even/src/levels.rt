@@ -1,6 +1,7 @@
 //! The pieces of one level: in their order, their number, and the place of each.
 ghost use Rattle.std.specs.Prelude.{◌≡◌, ◌<◌, ◌≤◌, ◌^◌, ℕ, length, slice_get, Some};
 ghost use Rattle.std.specs.Iterator.{YieldsFirst, item_count};
+ghost use Rattle.ov_ids.specs.Limits.{number_limit};
 ghost use Rattle.ov_graph.specs.Links.{most_nodes};
 ghost use Rattle.ov_fans.specs.Pieces.{level_of};
 ghost use Rattle.ov_fans.specs.Pieces.{IsPieceOf};
@@ -79,7 +80,7 @@ impl Iterator for LevelPieces {
 pub(crate) fn pair_count(members: usize) -> usize
     requires { members < 2 ^ 16 }
     ensures count { result ≡ pairs_among members }
-    ensures small { result < 2 ^ 32 }
+    ensures small { result < number_limit }
 {
     members * members.saturating_sub(1) / 2
 }

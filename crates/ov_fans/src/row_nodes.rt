@@ -25,7 +25,7 @@ pub(crate) fn bits_below(row: &[u64; WORDS], p: usize) -> Row
 
 /// The bits of a word below bit `t`.
 fn low_bits(word: u64, t: u32) -> u64
-    requires { t < 64 }
+    requires { t < word_bits }
     ensures { (i : ℕ) → (bit_at result i ≡ 1) ↔ ((i < t) × (bit_at word i ≡ 1)) }
 {
     word & ((1 << t) - 1)

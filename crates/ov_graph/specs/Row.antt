@@ -7,9 +7,9 @@ use Rattle.std.specs.Int.{bit_at}
 abbrev pub word_bits : ℕ
 word_bits = 64
 
--- whether bit p is set: bit p mod 64 of word p / 64
+-- whether bit p is set: bit p mod 64 of word p / 64, where 64 is `word_bits`
 unfoldable pub has_bit : List ℕ → ℕ → Bool
-has_bit row p = bit_at (slice_index row (p / 64)) (p % 64) == 1
+has_bit row p = bit_at (slice_index row (p / word_bits)) (p % word_bits) == 1
 
 -- bit p is set
 abbrev pub HasBit : List ℕ → ℕ → Type 0

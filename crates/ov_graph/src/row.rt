@@ -116,14 +116,14 @@ pub(crate) fn words_for(n: usize) -> usize
 
 /// The bits of one word that are set in `a` and not in `b`.
 fn minus(a: u64, b: u64) -> u64
-    ensures { (i : ℕ) → i < 64 → (bit_at result i ≡ 1) ↔ ((bit_at a i ≡ 1) × ¬ (bit_at b i ≡ 1)) }
+    ensures { (i : ℕ) → i < word_bits → (bit_at result i ≡ 1) ↔ ((bit_at a i ≡ 1) × ¬ (bit_at b i ≡ 1)) }
 {
     a & !b
 }
 
 /// The word with bit `k` set.
 fn with_bit(word: u64, k: u32) -> u64
-    requires { k < 64 }
+    requires { k < word_bits }
     ensures set { bit_at result k ≡ 1 }
     ensures others { (i : ℕ) → ¬ (i ≡ k) → bit_at result i ≡ bit_at word i }
 {
@@ -132,9 +132,9 @@ fn with_bit(word: u64, k: u32) -> u64
 
 /// The word with bit `k` cleared.
 fn without_bit(word: u64, k: u32) -> u64
-    requires { k < 64 }
+    requires { k < word_bits }
     ensures cleared { bit_at result k ≡ 0 }
-    ensures others { (i : ℕ) → i < 64 → ¬ (i ≡ k) → bit_at result i ≡ bit_at word i }
+    ensures others { (i : ℕ) → i < word_bits → ¬ (i ≡ k) → bit_at result i ≡ bit_at word i }
 {
     word & !(1 << k)
 }

@@ -33,7 +33,7 @@ pub(crate) fn closed(row: &[u64; WORDS], p: usize, words: usize) -> [u64; WORDS]
 /// A word of the row with a bit 0 inserted at place `p`.
 fn opened_word(row: &[u64; WORDS], p: usize, word: usize) -> u64
     requires { word < WORDS }
-    ensures { (q : ℕ) → q / 64 ≡ word → (bit_at result (q % 64) ≡ 1) ↔ HasOpened row.now p q }
+    ensures { (q : ℕ) → q / word_bits ≡ word → (bit_at result (q % word_bits) ≡ 1) ↔ HasOpened row.now p q }
 {
     let at = p / 64;
     if word < at {
@@ -48,7 +48,7 @@ fn opened_word(row: &[u64; WORDS], p: usize, word: usize) -> u64
 /// A word of the row with the bit at place `p` removed.
 fn closed_word(row: &[u64; WORDS], p: usize, word: usize) -> u64
     requires { word < WORDS }
-    ensures { (q : ℕ) → q / 64 ≡ word → (bit_at result (q % 64) ≡ 1) ↔ HasClosed row.now p q }
+    ensures { (q : ℕ) → q / word_bits ≡ word → (bit_at result (q % word_bits) ≡ 1) ↔ HasClosed row.now p q }
 {
     let at = p / 64;
     if word < at {
@@ -71,8 +71,8 @@ fn word_after(row: &[u64; WORDS], word: usize) -> u64
 
 /// The bits of a word below bit `t`, and the others moved one place up.
 fn parted(word: u64, t: u32) -> u64
-    requires { t < 64 }
-    ensures { (i : ℕ) → i < 64
+    requires { t < word_bits }
+    ensures { (i : ℕ) → i < word_bits
         → (bit_at result i ≡ 1) ↔ (((i < t) × (bit_at word i ≡ 1)) ⊎ ((t < i) × (bit_at word (i - 1) ≡ 1))) }
 {
     below(word, t) | up(above(word, t), 0)
@@ -80,8 +80,8 @@ fn parted(word: u64, t: u32) -> u64
 
 /// The bits of a word below bit `t`, and the bits of another from there on.
 fn joined(word: u64, other: u64, t: u32) -> u64
-    requires { t < 64 }
-    ensures { (i : ℕ) → i < 64
+    requires { t < word_bits }
+    ensures { (i : ℕ) → i < word_bits
         → (bit_at result i ≡ 1) ↔ (((i < t) × (bit_at word i ≡ 1)) ⊎ ((t ≤ i) × (bit_at other i ≡ 1))) }
 {
     below(word, t) | above(other, t)
@@ -89,7 +89,7 @@ fn joined(word: u64, other: u64, t: u32) -> u64
 
 /// The bits of a word below bit `t`.
 fn below(word: u64, t: u32) -> u64
-    requires { t < 64 }
+    requires { t < word_bits }
     ensures { (i : ℕ) → (bit_at result i ≡ 1) ↔ ((i < t) × (bit_at word i ≡ 1)) }
 {
     word & ((1 << t) - 1)
@@ -97,7 +97,7 @@ fn below(word: u64, t: u32) -> u64
 
 /// The bits of a word from bit `t` on.
 fn above(word: u64, t: u32) -> u64
-    requires { t < 64 }
+    requires { t < word_bits }
     ensures { (i : ℕ) → (bit_at result i ≡ 1) ↔ ((t ≤ i) × (bit_at word i ≡ 1)) }
 {
     word >> t << t
@@ -105,16 +105,16 @@ fn above(word: u64, t: u32) -> u64
 
 /// A word moved one place up. Its first bit is the last bit of the word before it.
 fn up(word: u64, before: u64) -> u64
-    ensures first { (bit_at result 0 ≡ 1) ↔ (bit_at before 63 ≡ 1) }
-    ensures others { (i : ℕ) → i < 63 → (bit_at result (i + 1) ≡ 1) ↔ (bit_at word i ≡ 1) }
+    ensures first { (bit_at result 0 ≡ 1) ↔ (bit_at before (word_bits - 1) ≡ 1) }
+    ensures others { (i : ℕ) → i < word_bits - 1 → (bit_at result (i + 1) ≡ 1) ↔ (bit_at word i ≡ 1) }
 {
     word << 1 | before >> 63
 }
 
 /// A word moved one place down. Its last bit is the first bit of the word after it.
 fn down(word: u64, after: u64) -> u64
-    ensures last { (bit_at result 63 ≡ 1) ↔ (bit_at after 0 ≡ 1) }
-    ensures others { (i : ℕ) → i < 63 → (bit_at result i ≡ 1) ↔ (bit_at word (i + 1) ≡ 1) }
+    ensures last { (bit_at result (word_bits - 1) ≡ 1) ↔ (bit_at after 0 ≡ 1) }
+    ensures others { (i : ℕ) → i < word_bits - 1 → (bit_at result i ≡ 1) ↔ (bit_at word (i + 1) ≡ 1) }
 {
     word >> 1 | after << 63
 }

@@ -1,3 +1,4 @@
+pub mod Limits
 pub mod Options
 pub mod Members
 pub mod Ascending

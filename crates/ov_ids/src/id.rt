@@ -7,13 +7,14 @@ use std::marker::Model;
 pub struct NodeId(pub u32);
 
 impl Model for NodeId {
-    ghost use Rattle.std.specs.Prelude.{ℕ, ◌<◌, ◌^◌};
+    ghost use Rattle.std.specs.Prelude.{ℕ, ◌<◌};
+    ghost use Rattle.ov_ids.specs.Limits.{number_limit};
 
     ghost Value = { ℕ };
 
     ghost view = { λ a. a.0 };
 
-    ghost invariant = { λ a. a.0 < 2 ^ 32 };
+    ghost invariant = { λ a. a.0 < number_limit };
 
     ghost inverse = { λ n. record { 0 = n } };
 }

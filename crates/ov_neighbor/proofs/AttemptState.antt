@@ -9,11 +9,11 @@ use Rattle.ov_ids.specs.Sets.{IsSet, IsIn, has, adding, without, without_all}
 use Rattle.ov_wire.specs.declared.message.Body.TheVariants.{Neighbor}
 use Rattle.ov_views.specs.ViewsState.{ViewsState}
 use Rattle.ov_views.specs.Sending.{say}
-use Rattle.ov_views.specs.NeighborRows.{GoesOn, IsAttempt, gives_up, untried}
+use Rattle.ov_views.specs.NeighborRows.{GoesOnAsking, IsAttempt, gives_up, untried}
 
 -- the next one is asked
 pub asks : (v : ViewsState) (tried : List ℕ) (q : ℕ) → gives_up v tried ≡ false → IsIn (untried v tried) q →
-    GoesOn v tried (record { from = untried v tried; member = q } ∷ [])
+    GoesOnAsking v tried (record { from = untried v tried; member = q } ∷ [])
     (record { asked = Some q; tried = adding q tried })
     ((q, say v.me (Neighbor (eqb (length v.active) 0))) ∷ [])
 asks v tried q on h = where_false _ _ _ on (q, (h, refl), refl, refl)

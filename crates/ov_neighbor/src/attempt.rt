@@ -2,7 +2,7 @@ ghost use Rattle.std.specs.Prelude.{◌≡◌, ◌≤◌, ◌<◌, ◌+◌, [], 
 ghost use Rattle.ov_ids.specs.Sets.{IsSet, IsIn, adding};
 ghost use Rattle.ov_views.specs.Allowed.{receives, hears_of_crash};
 ghost use Rattle.ov_views.specs.Handling.{AttemptStep, step_words};
-ghost use Rattle.ov_views.specs.NeighborRows.{GoesOn, IsAttempt};
+ghost use Rattle.ov_views.specs.NeighborRows.{GoesOnAsking, IsAttempt};
 ghost use Rattle.ov_views.specs.Room.{HasRoom};
 ghost use Rattle.ov_wire.specs.Messages.{AreSendsInRange};
 ghost use Rattle.ov_wire.specs.declared.message.Body.TheVariants.{NeighborReply};
@@ -116,7 +116,7 @@ fn go_on(
     requires sends { HasRoom moves.old 1 0 }
     requires none { moves.old.sends.items ≡ [] }
     requires set { IsSet tried.old.items }
-    ensures allowed { Drawn draws.old draws.new (λ choices. GoesOn views.now tried.old.items choices
+    ensures allowed { Drawn draws.old draws.new (λ choices. GoesOnAsking views.now tried.old.items choices
         (record { asked = result; tried = tried.new.items }) moves.new.sends.items) }
     ensures attempt { IsAttempt (record { asked = result; tried = tried.new.items }) }
     ensures changes { moves.new.changes ≡ moves.old.changes }

@@ -4,7 +4,7 @@ use Rattle.std.proofs.Common.{Bool, refl, ap, sym, append_assoc}
 use Rattle.std.proofs.lemmas.List.{append-nil, at_drop_more, at_drop_all, length-map}
 use Rattle.std.proofs.lemmas.List.Elements.{All-map}
 use Rattle.std.specs.List.{All}
-use Rattle.ov_reasons.specs.Paragraphs.{paragraph, paragraphs, remark, Explains}
+use Rattle.ov_reasons.specs.Paragraphs.{paragraph, paragraphs, remark, ExplainsLine}
 use Rattle.ov_reasons.specs.Code.Said.{said_of}
 use Rattle.ov_reasons.specs.declared.explanation.Explanation.{Explanation}
 
@@ -64,7 +64,7 @@ pub explained :
     → length others < 20 → All (λ e. n < e.number) others
     → t0 ≡ [] → t1 ≡ t0 ++ paragraph n said → items ≡ others
     → t2 ≡ t1 ++ paragraphs (map said_of items) → t3 ≡ t2 ++ remark has_more
-    → Explains n t3
+    → ExplainsLine n t3
 explained n said others items has_more t0 t1 t2 t3 bounded behind e0 e1 same e2 e3 =
     let lines : t2 ≡ paragraph n said ++ paragraphs (map said_of others) = rw (e2, e1, e0, same) refl in record {
       said = said;

@@ -20,7 +20,7 @@ abbrev pub remark : Bool → List ℕ
 remark has_more = if has_more then codes "more lines are at fault\n" else []
 
 -- a text tells of the line of this number, and then of some that stand behind it; of 20 at most
-pub record Explains (n : ℕ) (text : List ℕ) : Type 0 where
+pub record ExplainsLine (n : ℕ) (text : List ℕ) : Type 0 where
   pub said : List ℕ
   pub others : List (ℕ × List ℕ)
   pub has_more : Bool

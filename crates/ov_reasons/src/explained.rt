@@ -25,7 +25,7 @@ pub(crate) struct Explained {
 }
 
 impl Explained {
-    ghost use Rattle.ov_reasons.specs.Paragraphs.{Explains};
+    ghost use Rattle.ov_reasons.specs.Paragraphs.{ExplainsLine};
 
     /// Of no line.
     pub(crate) fn new(alloc: Global, number: usize) -> Explained
@@ -60,7 +60,7 @@ impl Explained {
 
     /// All of it as one text.
     pub(crate) fn into_text(self, alloc: Global) -> Result<String, OutOfMemory>
-        ensures { IfOk result (λ text. Explains self.number (string_bytes text)) }
+        ensures { IfOk result (λ text. ExplainsLine self.number (string_bytes text)) }
     {
         let mut text = String::new(alloc);
         push_line(&mut text, self.number, first_text(&self.first))?;

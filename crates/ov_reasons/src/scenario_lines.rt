@@ -1,5 +1,5 @@
 ghost use Rattle.std.specs.Prelude.{IfOk, string_bytes};
-ghost use Rattle.ov_reasons.specs.Paragraphs.{Explains};
+ghost use Rattle.ov_reasons.specs.Paragraphs.{ExplainsLine};
 
 use crate::complaint::unread_line;
 use crate::explained::Explained;
@@ -18,7 +18,7 @@ pub(crate) fn explain_scenario(
     bytes: &[u8],
     number: usize,
 ) -> Result<String, OutOfMemory>
-    ensures { IfOk result (λ text. Explains number (string_bytes text)) }
+    ensures { IfOk result (λ text. ExplainsLine number (string_bytes text)) }
 {
     let lines = kept_lines(alloc, bytes)?;
     explain_lines(alloc, &lines, number)
@@ -30,7 +30,7 @@ fn explain_lines(
     lines: &[FileLine<'_>],
     number: usize,
 ) -> Result<String, OutOfMemory>
-    ensures { IfOk result (λ text. Explains number (string_bytes text)) }
+    ensures { IfOk result (λ text. ExplainsLine number (string_bytes text)) }
 {
     let mut explained = Explained::new(alloc, number);
     let mut head = Head::new();

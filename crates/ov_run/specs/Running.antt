@@ -94,7 +94,7 @@ pub record IsOutput (bytes text : List ℕ) : Type 0 where
   pub lines : PrintsLines (opening_core scenario.params) scenario.lines.items core text
 
 -- all that the reader had was read, and the writer took what the scenario prints behind what it held
-abbrev pub Prints : Option (List ℕ) → Option (List ℕ) → Option (List ℕ) → Type 0
-Prints reader before after =
+abbrev pub PrintsScenario : Option (List ℕ) → Option (List ℕ) → Option (List ℕ) → Type 0
+PrintsScenario reader before after =
     (bytes : List ℕ) × (text : List ℕ) × IfSome reader (λ xs. bytes ≡ xs) × IsOutput bytes text
     × Appends before after text

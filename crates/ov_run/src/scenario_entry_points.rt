@@ -2,7 +2,7 @@ ghost use Rattle.std.specs.Prelude.{◌≡◌, ◌≢◌, ◌⊎◌, ◌+◌, �
 ghost use Rattle.ov_io.specs.Device.{most_faults, ReaderFailed};
 ghost use Rattle.ov_run.specs.Ending.{Begins, Ends};
 ghost use Rattle.ov_run.specs.Faults.{read_failures, write_failures, IsOfReading, IsRunFault};
-ghost use Rattle.ov_run.specs.Running.{Prints};
+ghost use Rattle.ov_run.specs.Running.{PrintsScenario};
 
 use crate::line_running::run_lines;
 use crate::run_fault::RunFault;
@@ -34,7 +34,7 @@ pub fn run<T: Threads + Sync, R: Read, W: Write>(
     requires writes { sink.old.faults < most_faults }
     ensures status { IfOk result (λ status. status ≡ 0) }
     ensures prints { OnOk result
-        (Prints (R.remaining source.old.reader) (W.contents sink.old.writer) (W.contents sink.new.writer)) }
+        (PrintsScenario (R.remaining source.old.reader) (W.contents sink.old.writer) (W.contents sink.new.writer)) }
     ensures begun { (sink.new ≡ sink.old)
         ⊎ Begins (R.remaining source.old.reader) (W.contents sink.old.writer) (W.contents sink.new.writer) }
     ensures source { source.new.faults ≡ source.old.faults + read_failures result }
@@ -63,7 +63,7 @@ pub fn run_watched<T: Threads + Sync, R: Read, W: Write, V: RunWatcher>(
     requires writes { sink.old.faults < most_faults }
     ensures status { IfOk result (λ status. status ≡ 0) }
     ensures prints { OnOk result
-        (Prints (R.remaining source.old.reader) (W.contents sink.old.writer) (W.contents sink.new.writer)) }
+        (PrintsScenario (R.remaining source.old.reader) (W.contents sink.old.writer) (W.contents sink.new.writer)) }
     ensures begun { (sink.new ≡ sink.old)
         ⊎ Begins (R.remaining source.old.reader) (W.contents sink.old.writer) (W.contents sink.new.writer) }
     ensures source { source.new.faults ≡ source.old.faults + read_failures result }

@@ -1,5 +1,5 @@
 ghost use Rattle.std.specs.Prelude.{◌≡◌, ◌∷◌, [], ◌+◌, ◌^◌, ◌<◌, ◌≤◌, length, IfSome, MatchOption};
-ghost use Rattle.ov_run.specs.Lines.{is_skipped, kept_lines};
+ghost use Rattle.ov_run.specs.Lines.{is_skipped, kept_lines, long_bits};
 ghost use Rattle.ov_run.specs.Code.Kept.{lines_left};
 
 use crate::line_cursor::LineCursor;
@@ -39,7 +39,7 @@ impl<'a> KeptLines<'a> {
     /// Reads the next line that is not skipped, if there is one.
     #[tactic(auto, using(crate::proofs::Lines::Kept::skipped, crate::proofs::Lines::Kept::kept, crate::proofs::Lines::Kept::none_left), unfolding(crate::specs::Code::Kept::lines_left))]
     pub(crate) fn next_line(&mut self) -> Option<KeptLine<'a>>
-        requires room { self.old.count + length self.old.rest.now < 2 ^ 64 }
+        requires room { self.old.count + length self.old.rest.now < 2 ^ long_bits }
         ensures line { MatchOption result (lines_left self.old ≡ [])
             (λ l. lines_left self.old ≡ (l.number, l.text.now) ∷ lines_left self.new) }
         ensures room { self.new.count + length self.new.rest.now ≤ self.old.count + length self.old.rest.now }

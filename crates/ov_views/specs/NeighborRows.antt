@@ -47,8 +47,8 @@ gives_up v tried = not (has_place v) || (length (untried v tried) == 0)
 -- An attempt that tried these goes on as b. It ends where it can ask nobody. Otherwise it asks a random passive
 -- member that it has not tried, by NEIGHBOR, and that member counts as tried. The priority is high where nobody is
 -- active
-abbrev pub GoesOn : ViewsState → List ℕ → List Choice → AttemptState → List (ℕ × Message) → Type 0
-GoesOn v tried choices b sends =
+abbrev pub GoesOnAsking : ViewsState → List ℕ → List Choice → AttemptState → List (ℕ × Message) → Type 0
+GoesOnAsking v tried choices b sends =
     MatchBool (gives_up v tried) ((choices ≡ []) × (b ≡ idle) × (sends ≡ []))
     ((q : ℕ) × Chosen (untried v tried) q choices []
     × (b ≡ record { asked = Some q; tried = adding q tried })
@@ -83,7 +83,7 @@ AllowedReply v a s accepted choices w b changes sends =
     (MatchBool (awaits a s)
     (MatchBool accepted
     (AddsActive v s choices w changes × (b ≡ idle) × (sends ≡ farewells v.me changes))
-    (GoesOn v a.tried choices b sends × (w ≡ v) × (changes ≡ [])))
+    (GoesOnAsking v a.tried choices b sends × (w ≡ v) × (changes ≡ [])))
     (Keeps v choices w × (b ≡ a) × (changes ≡ [])
     × (sends ≡ (if accepted && not (has v.active s) then (s, say v.me Disconnect) ∷ [] else []))))
 
@@ -100,5 +100,5 @@ abbrev pub AllowedReport : ViewsState → AttemptState → ℕ → List Choice �
     List ViewChange → List (ℕ × Message) → Type 0
 AllowedReport v a p choices w b changes sends =
     Forgets v p w changes
-    × MatchBool (has v.active p) (GoesOn w [] choices b sends)
-    (MatchBool (awaits a p) (GoesOn w a.tried choices b sends) ((choices ≡ []) × (b ≡ a) × (sends ≡ [])))
+    × MatchBool (has v.active p) (GoesOnAsking w [] choices b sends)
+    (MatchBool (awaits a p) (GoesOnAsking w a.tried choices b sends) ((choices ≡ []) × (b ≡ a) × (sends ≡ [])))

@@ -2,6 +2,7 @@
 use Rattle.std.specs.Prelude.{◌≡◌, ℕ, ◌-◌, ◌^◌, ◌<◌, ◌≤◌, List, [], ◌∷◌, ◌++◌, length}
 use Rattle.std.specs.Int.{Width, w8, w16, w32, byte_len, to_be_bytes}
 use Rattle.std.specs.List.{flat_map, AllByRecursion}
+use Rattle.ov_ids.specs.Limits.{number_limit}
 use Rattle.ov_wire.specs.declared.fault.WireFault.{WireFault}
 use Rattle.ov_wire.specs.declared.fault.WireFault.TheVariants.{BadField}
 use Rattle.ov_wire.specs.Limits.{most_ids, most_payload}
@@ -31,7 +32,7 @@ pub data Value : Type 0 where
 -- the value can stand in the field
 abbrev pub Fits : Field → Value → Type 0
 Fits (Number width least most otherwise) (One n) = (n < 256 ^ byte_len width) × (least ≤ n) × (n ≤ most)
-Fits Ids (Many ids) = (length ids ≤ most_ids) × AllByRecursion (λ id. id < 2 ^ 32) ids
+Fits Ids (Many ids) = (length ids ≤ most_ids) × AllByRecursion (λ id. id < number_limit) ids
 Fits Payload (Many bytes) = (length bytes ≤ most_payload) × AllByRecursion (λ b. b < 256) bytes
 Fits (Number width least most otherwise) (Many ns) = ⊥
 Fits Ids (One n) = ⊥

@@ -9,7 +9,7 @@ use Rattle.ov_ids.specs.Members.{Has}
 use Rattle.ov_claims.specs.Claims.{WorkerState, DeskState, HasWorker, fresh}
 use Rattle.ov_claims.specs.Steps.{claiming, looking, failing, Claims, Looks, Fails}
 use Rattle.ov_claims.specs.Code.Held.{IsHeld}
-use Rattle.ov_board.specs.declared.view.Plan.{Plan}
+use Rattle.ov_board.specs.declared.view.BoardSize.{BoardSize}
 use Rattle.ov_board.specs.declared.view.View.{View}
 use Rattle.ov_board.specs.Board.{SeatState, IsExchange}
 
@@ -27,7 +27,7 @@ times w = count_by (λ q. q.0 == w)
 
 -- the words show claims of the plan. The workers of all views are exactly the workers of the claims: each stands at
 -- its number, each number has one, and no worker is left over
-pub record IsKept (p : Plan) (t : State (Unit {0}) View) : Type 0 where
+pub record IsKept (p : BoardSize) (t : State (Unit {0}) View) : Type 0 where
   pub claims : DeskState
   pub words : t.words ≡ claims.next ∷ claims.least ∷ []
   pub held : IsHeld claims
@@ -44,7 +44,7 @@ fresh_from i zero = []
 fresh_from i (suc m) = (i, fresh) ∷ fresh_from (i + 1) m
 
 -- the view before any seat is cut off, with all workers
-abbrev pub opening_view : Plan → View
+abbrev pub opening_view : BoardSize → View
 opening_view p = record { total = p.total; workers = p.workers; seated = fresh_from 0 p.workers }
 
 -- a view with no worker

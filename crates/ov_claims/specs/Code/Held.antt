@@ -1,6 +1,7 @@
 -- The invariant of a desk.
 use Rattle.std.specs.Prelude.{ℕ, ◌<◌, ◌≤◌, List, length}
-use Rattle.ov_claims.specs.Claims.{WorkerState, DeskState, IsLegal, number_limit, most_workers}
+use Rattle.ov_ids.specs.Limits.{number_limit}
+use Rattle.ov_claims.specs.Claims.{WorkerState, DeskState, IsLegal, most_workers}
 
 -- the desk made of these parts
 abbrev pub state : ℕ → ℕ → ℕ → List WorkerState → DeskState

@@ -2,7 +2,7 @@
 -- word.
 use Rattle.std.specs.Prelude.{◌≡◌, ◌⊎◌, ℕ, ◌+◌, ◌-◌, ◌<◌, ◌≤◌, List}
 use Rattle.std.specs.Int.{bit_at}
-use Rattle.ov_graph.specs.Row.{HasBit}
+use Rattle.ov_graph.specs.Row.{HasBit, word_bits}
 
 -- bit q is set after a bit 0 is inserted at place p: the bits from p on move one place up
 abbrev pub HasOpened : List ℕ → ℕ → ℕ → Type 0
@@ -14,6 +14,6 @@ HasClosed row p q = ((q < p) × HasBit row q) ⊎ ((p ≤ q) × HasBit row (q + 
 
 -- t is the first set bit of a word
 pub record IsLowest (word t : ℕ) : Type 0 where
-  pub below : t < 64
+  pub below : t < word_bits
   pub set : bit_at word t ≡ 1
   pub first : (i : ℕ) → i < t → bit_at word i ≡ 0

@@ -17,7 +17,7 @@ use Rattle.ov_views.specs.Allowed.{Node, Allowed, receives}
 use Rattle.ov_views.specs.JoinRows.{AllowedJoin, AllowedForwardJoin, AllowedJoined, walk_ends}
 use Rattle.ov_views.specs.ViewsState.{ViewsState, has_place}
 use Rattle.ov_views.specs.NeighborRows.{AttemptState, AllowedNeighbor, AllowedReply, AllowedDisconnect, AllowedReport}
-use Rattle.ov_views.specs.NeighborRows.{GoesOn, awaits, gives_up}
+use Rattle.ov_views.specs.NeighborRows.{GoesOnAsking, awaits, gives_up}
 use Rattle.ov_views.specs.Sending.{Idles, farewells}
 use Rattle.ov_views.specs.ShuffleRows.{AllowedStart, AllowedShuffle, AllowedShuffleReply, walks_on}
 use Rattle.ov_views.specs.declared.change.ViewChange.{ViewChange}
@@ -101,7 +101,7 @@ module _ (P : MsgId → List ℕ → Type 0) where
       (λ k. one_send sends _ tt k.2))))
 
   goes_on : (v : ViewsState) (tried : List ℕ) (cs : List Choice) (b : AttemptState) (sends : List (ℕ × Message))
-      → GoesOn v tried cs b sends → AllCarry P sends
+      → GoesOnAsking v tried cs b sends → AllCarry P sends
   goes_on v tried cs b sends =
       either_way (gives_up v tried) _ _ _ (λ k. no_sends sends k.2) (λ k. one_send sends _ tt k.3)
 
