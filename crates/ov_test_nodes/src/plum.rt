@@ -1,4 +1,5 @@
 ghost use Rattle.std.specs.Prelude.{◌≤◌, length};
+ghost use Rattle.ov_wire.specs.Limits.{most_payload};
 
 use crate::told::{is_whole, put_sends};
 use ov_ids::{MsgId, NodeId, OutOfMemory};
@@ -539,7 +540,7 @@ fn is_delivered(spread: &Spread, given: &[u8]) -> bool {
 
 /// The node makes its first broadcast, of these bytes, which is delivered and goes whole to node 1.
 fn broadcasts(alloc: Global, plum: &mut Plum, given: &[u8], head: &[u8]) -> Result<bool, Fail>
-    requires { length given.now ≤ 1024 }
+    requires { length given.now ≤ most_payload }
 {
     if plum.made() != 0 {
         return Ok(false);
@@ -556,14 +557,14 @@ fn is_answered(alloc: Global, plum: &mut Plum, given: &[u8], head: &[u8]) -> Res
 
 /// The node makes that broadcast, and sends it again where it is asked.
 fn goes_twice(alloc: Global, plum: &mut Plum, given: &[u8], head: &[u8]) -> Result<bool, Fail>
-    requires { length given.now ≤ 1024 }
+    requires { length given.now ≤ most_payload }
 {
     Ok(broadcasts(alloc, plum, given, head)? && is_answered(alloc, plum, given, head)?)
 }
 
 /// One broadcast of as many bytes, which goes whole to node 1.
 fn goes_whole(rt: &impl Abort, alloc: Global, given: &[u8], head: &[u8]) -> Result<(), Fail>
-    requires { length given.now ≤ 1024 }
+    requires { length given.now ≤ most_payload }
 {
     let mut plum = node(rt, alloc, &[1]);
     assert!(rt; goes_twice(alloc, &mut plum, given, head)?);

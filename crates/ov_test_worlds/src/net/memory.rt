@@ -119,6 +119,6 @@ fn happen(rt: &impl Abort, alloc: Global, world: &mut World) -> Result<(), Fail>
 
 /// Of the memory that this takes, all but a payload is the world's.
 #[test]
-fn want_of_memory_changes_nothing(rt: HostRuntime) -> Result<(), Fail> {
+fn out_of_memory_changes_nothing(rt: HostRuntime) -> Result<(), Fail> {
     happen(&rt, rt.alloc(), &mut world(rt.alloc(), 5)?)
 }

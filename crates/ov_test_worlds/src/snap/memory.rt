@@ -186,6 +186,6 @@ fn answers(rt: &impl Abort, alloc: Global, core: &mut Core) -> Result<(), Fail> 
 
 /// Of the memory that this takes, all but the reports that are filed is the core's.
 #[test]
-fn want_of_memory_changes_nothing(rt: HostRuntime) -> Result<(), Fail> {
+fn out_of_memory_changes_nothing(rt: HostRuntime) -> Result<(), Fail> {
     answers(&rt, rt.alloc(), &mut new_core(rt.alloc())?)
 }
