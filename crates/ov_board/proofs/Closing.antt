@@ -15,10 +15,11 @@ use Rattle.ov_claims.specs.Claims.{WorkerState, HasWorker, fresh, most_workers, 
 use Rattle.ov_claims.proofs.Changing.{one_worker}
 use Rattle.ov_claims.proofs.Staying.{stays_legal}
 use Rattle.ov_claims.proofs.Ending.{ends_done}
+use Rattle.ov_board.specs.Rule.{Numbered, times, IsKept}
 use Rattle.ov_board.specs.declared.view.BoardSize.{BoardSize}
 use Rattle.ov_board.specs.declared.view.View.{View}
 use Rattle.ov_board.specs.Board.{BoardState, SeatState, IsClosed}
-use Rattle.ov_board.specs.Code.Rule.{Numbered, times, IsKept, fresh_from, opening_view, spent_view}
+use Rattle.ov_board.specs.Code.Rule.{fresh_from, opening_view, spent_view}
 use Rattle.ov_board.proofs.Views.{IsAt, hit, sum_written, times_has}
 use Rattle.ov_board.proofs.Sharing.{IsCount, times_counts, counted}
 

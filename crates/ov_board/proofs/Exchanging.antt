@@ -12,14 +12,15 @@ use Rattle.ov_claims.specs.Steps.{claiming, looking, failing, Claims, Looks, Fai
 use Rattle.ov_claims.proofs.Changing.{after, here, elsewhere}
 use Rattle.ov_claims.proofs.Staying.{stays_legal}
 use Rattle.ov_claims.proofs.Turns.{next_small}
+use Rattle.ov_board.specs.Rule.{Numbered, times, IsKept}
 use Rattle.ov_board.specs.declared.view.BoardSize.{BoardSize}
 use Rattle.ov_board.specs.declared.view.View.{View}
-use Rattle.ov_board.specs.Code.Rule.{Numbered, Holder, times, IsKept, with_seated, head_of, number_of, worker_of}
+use Rattle.ov_board.specs.Code.Rule.{Holder, with_seated, head_of, number_of, worker_of}
 use Rattle.ov_board.specs.Board.{BoardState, SeatState, IsExchange}
 use Rattle.ov_board.specs.Code.Rule.{seat_state, Exchanged, Claimed, Looked, Failed}
 use Rattle.ov_board.proofs.Views.{IsAt, sum_written, not_twice}
 
--- the view of a seat of this plan: it has one worker
+-- the view of a seat of a board of this size: it has one worker
 pub record IsSeat (p : BoardSize) (v : View) : Type 0 where
   pub one : v.seated ≡ head_of v.seated ∷ []
   pub total : v.total ≡ p.total
@@ -52,12 +53,14 @@ own : (v : View) → v.seated ≡ head_of v.seated ∷ [] → Has v.seated (head
 own v one = subst (λ (qs : List Numbered). Has qs (head_of v.seated)) (sym one) (inl refl)
 
 -- the worker of a seat stands at its number
-stands : (p : BoardSize) (t : State (Unit {0}) View) (id : ℕ) (v : View) (k : IsKept p t) → IsSeat p v → IsAt t.views id v
+stands : (p : BoardSize) (t : State (Unit {0}) View) (id : ℕ) (v : View) (k : IsKept p t) → IsSeat p v
+    → IsAt t.views id v
     → HasWorker k.claims (number_of v) (worker_of v)
 stands p t id v k seat at = k.seated id v (head_of v.seated) at (own v seat.one)
 
 -- the rule holds after the worker of a seat has become x, if the claims stay legal
-kept : (p : BoardSize) (t : State (Unit {0}) View) (id : ℕ) (v : View) (next least : ℕ) (x : WorkerState) (k : IsKept p t)
+kept : (p : BoardSize) (t : State (Unit {0}) View) (id : ℕ) (v : View) (next least : ℕ) (x : WorkerState)
+    (k : IsKept p t)
     → IsSeat p v → IsAt t.views id v → IsLegal (after k.claims next least (number_of v) x)
     → (words : List ℕ) → words ≡ next ∷ least ∷ []
     → IsKept p record { words = words; homes = t.homes; views = set t.views id (becoming v x) }

@@ -9,9 +9,10 @@ use Rattle.atomic_table.specs.Table.{Splits, Joins, Enters, step}
 use Rattle.atomic_table.proofs.Lists.{at_set, at_snoc}
 use Rattle.ov_ids.specs.Members.{Has}
 use Rattle.ov_ids.proofs.Members.{has_append_cases}
+use Rattle.ov_board.specs.Rule.{Numbered, times, IsKept}
 use Rattle.ov_board.specs.declared.view.BoardSize.{BoardSize}
 use Rattle.ov_board.specs.declared.view.View.{View}
-use Rattle.ov_board.specs.Code.Rule.{Numbered, times, IsKept, others_of, first_of, both_of, spent_view, Entered}
+use Rattle.ov_board.specs.Code.Rule.{others_of, first_of, both_of, spent_view, Entered}
 use Rattle.ov_board.proofs.Views.{IsAt, hit, sum_written}
 
 -- a count of workers: of two lists put together it is the sum
@@ -35,7 +36,8 @@ pub record IsSharedAnew (vs us : List View) : Type 0 where
       → (i : ℕ) × (v : View) × IsAt vs i v × Has v.seated q
   pub sums : (f : List Numbered → ℕ) → IsCount f → counted f us ≡ counted f vs
 
-shared_anew : (p : BoardSize) (words : List ℕ) (homes : List (Option (Unit {0}))) (vs us : List View) → IsSharedAnew vs us
+shared_anew : (p : BoardSize) (words : List ℕ) (homes : List (Option (Unit {0}))) (vs us : List View)
+    → IsSharedAnew vs us
     → IsKept p record { words = words; homes = homes; views = vs }
     → IsKept p record { words = words; homes = homes; views = us }
 shared_anew p words homes vs us a k = record {

@@ -10,9 +10,9 @@ use lib.ListN.{get_elem?}
 use Rattle.atomic_table.specs.Table.{State}
 use Rattle.ov_ids.specs.Members.{Has}
 use Rattle.ov_claims.specs.Claims.{WorkerState}
+use Rattle.ov_board.specs.Rule.{Numbered, times, IsKept}
 use Rattle.ov_board.specs.declared.view.BoardSize.{BoardSize}
 use Rattle.ov_board.specs.declared.view.View.{View}
-use Rattle.ov_board.specs.Code.Rule.{Numbered, times, IsKept}
 
 -- this view stands at this place
 abbrev pub IsAt : List View → ℕ → View → Type 0

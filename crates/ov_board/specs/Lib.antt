@@ -1,2 +1,3 @@
 pub mod Board
+pub mod Rule
 pub mod Code

@@ -7,7 +7,8 @@ use std::marker::{Brand, PhantomData};
 pub struct Lawful;
 
 impl TableRule<(), View, BoardSize> for Lawful {
-    ghost use Rattle.ov_board.specs.Code.Rule.{IsKept, opening_view};
+    ghost use Rattle.ov_board.specs.Rule.{IsKept};
+    ghost use Rattle.ov_board.specs.Code.Rule.{opening_view};
 
     ghost holds = { IsKept };
 
@@ -30,6 +31,7 @@ pub trait Number {
     ghost number: { ℕ };
 }
 
+/// A look is named by a brand of its own, for which the proof of `look` puts its number in. This 0 is never used.
 impl Number for Brand {
     ghost number = { 0 };
 }

@@ -4,9 +4,8 @@ use Rattle.std.proofs.Common.{slice_get, Option, Some, None, refl, sym, ap, ◌�
 use Rattle.std.specs.List.{list_all}
 use Rattle.std.proofs.lemmas.Bool.{and_parts}
 use Rattle.std.proofs.lemmas.Option.{none-some, same_Some}
-use Rattle.ov_claims.specs.Claims.{WorkerState, DeskState, HasWorker, IsLegal}
+use Rattle.ov_claims.specs.Claims.{WorkerState, DeskState, HasWorker, IsLegal, IsHeld}
 use Rattle.ov_claims.specs.Theorems.{AllEnded, IsDone, EndsDone}
-use Rattle.ov_claims.specs.Code.Held.{IsHeld}
 
 -- the lowest failed number is at most the total
 least_within : (s : DeskState) → IsLegal s → s.least ≤ s.total

@@ -7,9 +7,8 @@ use Rattle.std.proofs.lemmas.Option.{get_or_from_slice_get}
 use Rattle.std.proofs.lemmas.List.Sums.{length-filter, count_by-le-length}
 use Rattle.ov_ids.specs.Members.{Has, Ascends}
 use Rattle.ov_ids.proofs.Members.{has_append_right}
-use Rattle.ov_claims.specs.Claims.{WorkerState, DeskState, HasWorker, IsLegal, count_ended}
+use Rattle.ov_claims.specs.Claims.{WorkerState, DeskState, HasWorker, IsLegal, count_ended, IsHeld}
 use Rattle.ov_claims.specs.Steps.{claiming, looking, failing, IsLast, Claims, Looks, Fails}
-use Rattle.ov_claims.specs.Code.Held.{IsHeld}
 use Rattle.ov_claims.proofs.Changing.{is_ended, after}
 use Rattle.ov_claims.proofs.Staying.{stays_legal}
 
@@ -50,7 +49,8 @@ still_held d next least w z h l =
 abbrev pub HasNotEnded : DeskState → ℕ → Type 0
 HasNotEnded s w = (v : WorkerState) × HasWorker s w v × (v.ended ≡ false)
 
-claims : (d s : DeskState) (w : ℕ) (y z : WorkerState) → HasTurn d s w y → HasNotEnded d w → z ≡ claiming d.total d.next y
+claims : (d s : DeskState) (w : ℕ) (y z : WorkerState) → HasTurn d s w y → HasNotEnded d w
+    → z ≡ claiming d.total d.next y
     → Claims d w d.next (after d (d.next + 1) d.least w z)
 claims d s w y z turn g e =
     let k = its_turn d s w y g.0 turn g.1 in record {

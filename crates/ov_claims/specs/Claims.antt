@@ -4,6 +4,7 @@
 use Rattle.std.specs.Prelude.{◌≡◌, ◌↔◌, ◌⊎◌, ℕ, ◌+◌, ◌<◌, ◌≤◌, Bool, true, false, List, [], length, replicate}
 use Rattle.std.specs.Prelude.{Option, Some, None, slice_get}
 use Rattle.std.specs.List.{filter}
+use Rattle.ov_ids.specs.Limits.{number_limit}
 use Rattle.ov_ids.specs.Members.{Has, Ascends}
 
 -- a worker: the numbers it has claimed, ascending; those of them that failed, ascending; the number it skipped, if any;
@@ -71,3 +72,10 @@ pub record IsLegal (s : DeskState) : Type 0 where
   pub next : s.next ≤ s.total + count_ended s.workers
   pub least_failed : (HasFailed s s.least) ⊎ (s.least ≡ s.total)
   pub least : (x : ℕ) → HasFailed s x → s.least ≤ x
+
+-- the claims of a desk or a board: they are legal, the total fits 32 bits, and there are 1 to 64 workers
+pub record IsHeld (s : DeskState) : Type 0 where
+  pub legal : IsLegal s
+  pub total : s.total < number_limit
+  pub some : 1 ≤ length s.workers
+  pub few : length s.workers ≤ most_workers

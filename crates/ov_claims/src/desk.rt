@@ -20,8 +20,8 @@ pub struct Desk {
 }
 
 impl Model for Desk {
-    ghost use Rattle.ov_claims.specs.Claims.{DeskState};
-    ghost use Rattle.ov_claims.specs.Code.Held.{state, IsHeld};
+    ghost use Rattle.ov_claims.specs.Claims.{DeskState, IsHeld};
+    ghost use Rattle.ov_claims.specs.Code.Held.{state};
 
     ghost Value = { DeskState };
 

@@ -1,4 +1,4 @@
--- What a worker has brought in, piece by piece.
+-- The haul of a worker, piece by piece.
 use Rattle.std.proofs.Common.{◌≡◌, ◌⊎◌, ◌↔◌, ℕ, ◌+◌, List, [], ◌∷◌, ◌++◌, length, Some, None}
 use Rattle.std.proofs.Common.{refl, sym, ap, ◌∙◌, subst, inl, inr, arith}
 use Rattle.std.proofs.lemmas.Option.{none-some}
@@ -22,7 +22,7 @@ use Rattle.ov_even.proofs.PieceNumbers.Numbering.{numbered_piece, one_number}
 use Rattle.ov_crew.specs.Hauls.{IsHaulOf}
 use Rattle.ov_crew.specs.Code.Turns.{HasTaken, HasStopped, HasSettled}
 
--- a worker that has done nothing yet has brought in nothing
+-- the haul of a worker that has done nothing yet is empty
 pub fresh_haul : (g : LinkGraph) (q : List ℕ) (first : ℕ) → IsHaulOf g q first fresh []
 fresh_haul g q first = record {
   right = λ s h. absurd h;
@@ -30,7 +30,7 @@ fresh_haul g q first = record {
   failed = λ x. ((λ h. absurd h), (λ a. absurd a.1.0));
 }
 
--- a worker that has stopped has brought in what it had before
+-- a worker that has stopped has the same haul as before
 pub stopped_haul : (g : LinkGraph) (q : List ℕ) (first : ℕ) (w v : WorkerState) (pieces : List Settled)
     → w.skipped ≡ None → HasStopped w v → IsHaulOf g q first w pieces → IsHaulOf g q first v pieces
 stopped_haul g q first w v pieces none s h = record {
@@ -92,8 +92,8 @@ gains g q total x piece w u v before after t s = gained w v x s.settled.found (e
   | inr k ↦ inr (k.0, k.1 ∙ ap (failing x) t.became)
 ])
 
--- with one piece more, it has brought in what it should
-record BringsIn (g : LinkGraph) (q : List ℕ) (first x : ℕ) (w v : WorkerState) (pieces : List Settled)
+-- a worker w with this haul settles one piece more, and becomes v
+record AddsPiece (g : LinkGraph) (q : List ℕ) (first x : ℕ) (w v : WorkerState) (pieces : List Settled)
     (piece : Settled) : Type 0 where
   was : IsHaulOf g q first w pieces
   none : w.skipped ≡ None
@@ -101,9 +101,9 @@ record BringsIn (g : LinkGraph) (q : List ℕ) (first x : ℕ) (w v : WorkerStat
   numbered : IsNumbered (length g.nodes) (length q) (first + x) piece.piece
   right : IsRight g q piece
 
-brought_in : (g : LinkGraph) (q : List ℕ) (first x : ℕ) (w v : WorkerState) (pieces : List Settled) (piece : Settled)
-    → BringsIn g q first x w v pieces piece → IsHaulOf g q first v (pieces ++ piece ∷ [])
-brought_in g q first x w v pieces piece k = record {
+with_piece : (g : LinkGraph) (q : List ℕ) (first x : ℕ) (w v : WorkerState) (pieces : List Settled) (piece : Settled)
+    → AddsPiece g q first x w v pieces piece → IsHaulOf g q first v (pieces ++ piece ∷ [])
+with_piece g q first x w v pieces piece k = record {
   right = λ s h. elim (old_or_new s h) [
     | inl m ↦ k.was.right s m
     | inr e ↦
@@ -166,7 +166,7 @@ pub more_haul : (g : LinkGraph) (q : List ℕ) (first total x : ℕ) (piece : Pi
     → IsNumbered (length g.nodes) (length q) (first + x) piece → HasSettled g q piece x u v before after
     → IsHaulOf g q first v after
 more_haul g q first total x piece w u v before after was none t numbered s =
-    subst (IsHaulOf g q first v) (sym s.pieces) (brought_in g q first x w v before s.settled record {
+    subst (IsHaulOf g q first v) (sym s.pieces) (with_piece g q first x w v before s.settled record {
       was = was;
       none = none;
       gained = gains g q total x piece w u v before after t s;

@@ -1,4 +1,4 @@
--- What a crew brings in of a level: once its board is closed, the level was tried.
+-- Once the board of a level is closed, the crew has tried the level.
 use Rattle.std.proofs.Common.{◌≡◌, ◌⊎◌, ℕ, ◌+◌, ◌<◌, ◌≤◌, inl, inr, List, [], ◌∷◌, length, refl, sym, ◌∙◌}
 use Rattle.std.proofs.Common.{subst, arith}
 use Rattle.ov_ids.specs.Members.{Has}
@@ -54,7 +54,7 @@ crew_right g q first seats hauls are s h =
     let b = worker_of g q first seats hauls h.0 are h.1 in
     b.1.right s h.2
 
--- each worker of the closed board has brought in its haul
+-- each worker of the closed board has its haul
 brings : (g : LinkGraph) (q : List ℕ) (first : ℕ) (b : BoardState) (seats : List SeatState) (hauls : List Haul)
     (least w : ℕ) (v : WorkerState) → (k : IsClosed b seats least) → AreHaulsOf g q first seats hauls
     → HasWorker k.s w v → HasBrought g q first hauls v

@@ -1,4 +1,4 @@
--- What a worker of a crew brings in.
+-- The haul of a worker: the pieces that it has settled.
 use Rattle.std.specs.Prelude.{◌≡◌, ◌↔◌, ℕ, ◌+◌, List, Some}
 use Rattle.ov_ids.specs.Members.{Has}
 use Rattle.ov_graph.specs.Links.{LinkGraph}

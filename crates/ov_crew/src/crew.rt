@@ -3,7 +3,7 @@ ghost use Rattle.std.specs.Prelude.{◌≡◌, ℕ, ◌<◌, ◌≤◌, ◌+◌,
 ghost use Rattle.ov_graph.specs.Links.{IsGroup, IsWithinLimit, AreAllLinked};
 ghost use Rattle.ov_cert.specs.Theorems.{IsTrueForGroup};
 ghost use Rattle.ov_claims.specs.Claims.{fresh, most_workers};
-ghost use Rattle.ov_even.specs.Answer.{IsAnswer};
+ghost use Rattle.ov_even.specs.Answer.{IsCheckedAnswer};
 ghost use Rattle.ov_even.specs.Faults.{IsRefusal};
 ghost use Rattle.ov_even.specs.Harvest.{AreRight, Suffice};
 ghost use Rattle.ov_even.specs.Levels.{AreNumbersOf, IsTried};
@@ -11,15 +11,15 @@ ghost use Rattle.ov_even.specs.declared.fault.AnalyseFault.TheVariants.{OutOfMem
 ghost use Rattle.ov_crew.specs.Hauls.{IsHaulOf};
 ghost use Rattle.ov_crew.specs.Code.Crews.{IsNewAt, IsRange, HasWorked, outcomes};
 
-use crate::gate::{Gate, OpenGate};
+use crate::gate::Gate;
 use crate::hiring::Hiring;
 use crate::naming_crew::name_by_crew;
 use crate::worker::work_range;
 use ov_board::{Board, Seat};
 use ov_cert::{Checked, are_all_linked};
 use ov_even::{
-    AnalyseFault, Haul, LevelNumbers, LevelSearch, Searched, Watcher,
-    analyse_group_watched as analyse_alone, assemble_named, level_numbers, wanted_paths,
+    AnalyseFault, Haul, LevelNumbers, LevelSearch, Searched, Unwatched, Watcher,
+    analyse_group_watched as analyse_by_one, assemble_named, level_numbers, wanted_paths,
 };
 use ov_graph::Graph;
 use ov_ids::{NodeId, OutOfMemory};
@@ -37,9 +37,7 @@ pub fn analyse<R: Threads + Sync, G: Gate>(
 ) -> Result<Checked, AnalyseFault>
     requires some { 1 ≤ workers }
     requires few { workers ≤ most_workers }
-    ensures graph { IfOk result (λ c. c.graph ≡ graph.now) }
-    ensures members { IfOk result (λ c. c.members ≡ graph.now.nodes) }
-    ensures answer { IfOk result (λ c. IsAnswer graph.now graph.now.nodes c.cert) }
+    ensures answer { IfOk result (λ c. IsCheckedAnswer graph.now graph.now.nodes c) }
     ensures fewest { IfOk result (λ c. IsTrueForGroup graph.now graph.now.nodes c.cert) }
     ensures refused { IfErr result (λ fault. IsRefusal graph.now graph.now.nodes fault) }
 {
@@ -60,9 +58,7 @@ pub fn analyse_group<R: Threads + Sync, G: Gate>(
 ) -> Result<Checked, AnalyseFault>
     requires some { 1 ≤ workers }
     requires few { workers ≤ most_workers }
-    ensures graph { IfOk result (λ c. c.graph ≡ graph.now) }
-    ensures members { IfOk result (λ c. c.members ≡ group.now) }
-    ensures answer { IfOk result (λ c. IsAnswer graph.now group.now c.cert) }
+    ensures answer { IfOk result (λ c. IsCheckedAnswer graph.now group.now c) }
     ensures fewest { IfOk result (λ c. IsTrueForGroup graph.now group.now c.cert) }
     ensures refused { IfErr result (λ fault. IsRefusal graph.now group.now fault) }
 {
@@ -73,41 +69,32 @@ pub fn analyse_group<R: Threads + Sync, G: Gate>(
     analyse_by(rt, alloc, graph, group, hiring, gate, &mut Unwatched)
 }
 
-/// Does what `analyse_group` does, but without a gate, and a level gets only as many of the workers as its paths pay
-/// for. The watcher is told of each level before it is tried, with place 0. One worker works in the caller's thread,
-/// and the watcher is then told of each piece.
-pub fn analyse_group_watched<R: Threads + Sync, W: Watcher>(
+/// Does what `analyse_group` does, but a level gets only as many of the workers as its paths pay for. The watcher is
+/// told of each level before it is tried, with place 0. One worker works in the caller's thread and passes no gate, and
+/// the watcher is then told of each piece.
+pub fn analyse_group_watched<R: Threads + Sync, G: Gate, W: Watcher>(
     rt: &R,
     alloc: Global,
     graph: &Graph,
     group: &[NodeId],
     workers: u32,
+    gate: &G,
     watcher: &mut W,
 ) -> Result<Checked, AnalyseFault>
     requires some { 1 ≤ workers }
     requires few { workers ≤ most_workers }
-    ensures graph { IfOk result (λ c. c.graph ≡ graph.now) }
-    ensures members { IfOk result (λ c. c.members ≡ group.now) }
-    ensures answer { IfOk result (λ c. IsAnswer graph.now group.now c.cert) }
+    ensures answer { IfOk result (λ c. IsCheckedAnswer graph.now group.now c) }
     ensures fewest { IfOk result (λ c. IsTrueForGroup graph.now group.now c.cert) }
     ensures refused { IfErr result (λ fault. IsRefusal graph.now group.now fault) }
 {
     if workers == 1 {
-        return analyse_alone(alloc, graph, group, watcher);
+        return analyse_by_one(alloc, graph, group, watcher);
     }
     let hiring = Hiring {
         workers,
         sparing: true,
     };
-    analyse_by(rt, alloc, graph, group, hiring, &OpenGate, watcher)
-}
-
-/// A watcher that does nothing.
-#[derive(Drop)]
-struct Unwatched;
-
-impl Watcher for Unwatched {
-    fn sees(&mut self, _level: usize, _place: usize, _size: usize) {}
+    analyse_by(rt, alloc, graph, group, hiring, gate, watcher)
 }
 
 /// The analysis by these workers.
@@ -122,9 +109,7 @@ fn analyse_by<R: Threads + Sync, G: Gate, W: Watcher>(
 ) -> Result<Checked, AnalyseFault>
     requires some { 1 ≤ hiring.workers }
     requires few { hiring.workers ≤ most_workers }
-    ensures graph { IfOk result (λ c. c.graph ≡ graph.now) }
-    ensures members { IfOk result (λ c. c.members ≡ group.now) }
-    ensures answer { IfOk result (λ c. IsAnswer graph.now group.now c.cert) }
+    ensures answer { IfOk result (λ c. IsCheckedAnswer graph.now group.now c) }
     ensures fewest { IfOk result (λ c. IsTrueForGroup graph.now group.now c.cert) }
     ensures refused { IfErr result (λ fault. IsRefusal graph.now group.now fault) }
 {
@@ -138,7 +123,7 @@ fn analyse_by<R: Threads + Sync, G: Gate, W: Watcher>(
     assembled(rt, alloc, graph, group, &hauls, hiring)
 }
 
-/// The certificate of these hauls, whose paths are named in several threads.
+/// Makes the certificate of these hauls. Several threads name its paths.
 fn assembled<R: Threads + Sync>(
     rt: &R,
     alloc: Global,
@@ -149,9 +134,7 @@ fn assembled<R: Threads + Sync>(
 ) -> Result<Checked, AnalyseFault>
     requires group { IsGroup graph.now group.now }
     requires suffice { Suffice graph.now group.now hauls.now }
-    ensures graph { IfOk result (λ c. c.graph ≡ graph.now) }
-    ensures members { IfOk result (λ c. c.members ≡ group.now) }
-    ensures answer { IfOk result (λ c. IsAnswer graph.now group.now c.cert) }
+    ensures answer { IfOk result (λ c. IsCheckedAnswer graph.now group.now c) }
     ensures fewest { IfOk result (λ c. IsTrueForGroup graph.now group.now c.cert) }
     ensures refused { IfErr result (λ fault. fault ≡ out_of_memory) }
 {
@@ -192,7 +175,7 @@ fn enough<R: Threads + Sync, G: Gate, W: Watcher>(
     }
 }
 
-/// Tries the level with these numbers, by so many workers. Faults: out of memory, if any worker is.
+/// These workers try the level with these numbers. Faults: out of memory, if any worker is out of memory.
 fn try_level<R: Threads + Sync, G: Gate>(
     rt: &R,
     alloc: Global,
@@ -246,7 +229,7 @@ fn run<R: Threads + Sync, G: Gate>(
     Ok(thread::map_vec(rt, seats, &work)?)
 }
 
-/// The hauls and the seats of all workers. Out of memory if any worker is.
+/// The hauls and the seats of all workers. Faults: out of memory, if any worker is out of memory.
 fn gather(alloc: Global, done: Vec<Outcome>) -> Result<(Vec<Haul>, Vec<Seat>), OutOfMemory>
     ensures same { IfOk result (λ r. done.items ≡ outcomes r.0.items r.1.items) }
     ensures count { IfOk result (λ r. length r.0.items ≡ length r.1.items) }

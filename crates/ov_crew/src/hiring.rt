@@ -1,5 +1,5 @@
 //! How many workers try a level, and how many threads name the paths of a certificate.
-ghost use Rattle.std.specs.Prelude.{◌<◌, ◌≤◌};
+ghost use Rattle.std.specs.Prelude.{◌≡◌, ◌<◌, ◌≤◌, false};
 
 use ov_even::FoundPaths;
 
@@ -24,6 +24,7 @@ impl Hiring {
         requires { 1 ≤ self.workers }
         ensures some { 1 ≤ result }
         ensures few { result ≤ self.workers }
+        ensures all { self.sparing ≡ false → result ≡ self.workers }
     {
         if !self.sparing {
             return self.workers;

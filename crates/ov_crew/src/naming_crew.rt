@@ -33,7 +33,8 @@ pub(crate) fn name_by_crew<R: Threads + Sync>(
 /// A part of the list with its paths by ids, or out of memory.
 type Part = Result<Vec<NamedPaths>, OutOfMemory>;
 
-/// The parts of so many pieces each, in order, each named in a thread of its own.
+/// The parts of the list, in order. Each has `size` pieces, but the last may have fewer. Each is named in a thread of
+/// its own.
 fn name_parts<R: Threads + Sync>(
     rt: &R,
     alloc: Global,
@@ -54,7 +55,7 @@ fn name_parts<R: Threads + Sync>(
     Ok(thread::map_chunks(rt, alloc, found, size, &name)?)
 }
 
-/// All parts in one list. Out of memory if any part is.
+/// All parts in one list. Faults: out of memory, if any part is out of memory.
 fn joined(alloc: Global, parts: Vec<Part>) -> Result<Vec<NamedPaths>, OutOfMemory>
     ensures { (size : ℕ) (named : List named_paths) → AreParts size named parts.items
         → length named ≤ length parts.items * size → IfOk result (λ all. all.items ≡ named) }

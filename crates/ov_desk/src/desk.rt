@@ -6,7 +6,7 @@ ghost use Rattle.ov_claims.specs.Claims.{most_workers};
 ghost use Rattle.ov_claims.specs.Theorems.{AllEnded};
 ghost use Rattle.ov_fans.specs.Cuts.{IsRight};
 ghost use Rattle.ov_fans.specs.Theorems.{IsNoCut};
-ghost use Rattle.ov_even.specs.Answer.{IsAnswer};
+ghost use Rattle.ov_even.specs.Answer.{IsCheckedAnswer};
 ghost use Rattle.ov_even.specs.Order.{AreMoreThan, IsNumbered};
 ghost use Rattle.ov_desk.specs.declared.hand.Hand.TheVariants.{Nothing as nothing};
 ghost use Rattle.ov_desk.specs.Desk.{AreToShare, IsOpened};
@@ -223,9 +223,7 @@ impl GroupDesk {
     pub fn certificate(&self, graph: &Graph) -> Result<Checked, OutOfMemory>
         requires sound { IsSoundDesk graph.now self.now }
         requires ended { AllEnded self.now.claims }
-        ensures graph { IfOk result (λ c. c.graph ≡ graph.now) }
-        ensures members { IfOk result (λ c. c.members ≡ self.now.members) }
-        ensures answer { IfOk result (λ c. IsAnswer graph.now self.now.members c.cert) }
+        ensures answer { IfOk result (λ c. IsCheckedAnswer graph.now self.now.members c) }
         ensures fewest { IfOk result (λ c. IsTrueForGroup graph.now self.now.members c.cert) }
     {
         prove!(graph.nodes().len() <= Graph::MOST_NODES);

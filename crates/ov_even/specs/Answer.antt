@@ -2,6 +2,7 @@
 -- that make the certificate valid.
 use Rattle.std.specs.Prelude.{◌≡◌, ℕ, ◌+◌, List, length}
 use Rattle.ov_graph.specs.Links.{LinkGraph, AreAllLinked}
+use Rattle.ov_cert.specs.State.{CheckedState}
 use Rattle.ov_cert.specs.declared.cert.Cert.{Cert}
 use Rattle.ov_cert.specs.declared.cert.Cert.TheVariants.{Linked as AllLinked, Split as SplitBy}
 use Rattle.ov_cert.specs.declared.cert.Split.{Split}
@@ -33,3 +34,9 @@ pub record NamesFirstCut (g : LinkGraph) (q : List ℕ) (c : Split) : Type 0 whe
 abbrev pub IsAnswer : LinkGraph → List ℕ → Cert → Type 0
 IsAnswer g q (AllLinked k) = AreAllLinked g q × (length q ≡ k + 1)
 IsAnswer g q (SplitBy c) = ¬ AreAllLinked g q × NamesFirstCut g q c
+
+-- what an analysis returns is for this graph and this group, and its certificate is the answer
+pub record IsCheckedAnswer (g : LinkGraph) (q : List ℕ) (c : CheckedState) : Type 0 where
+  pub graph : c.graph ≡ g
+  pub members : c.members ≡ q
+  pub answer : IsAnswer g q c.cert

@@ -15,6 +15,6 @@ number_of OutOfMemory = 99
 abbrev pub GroupJudged : LinkGraph → List ℕ → Option AnalyseFault → Type 0
 GroupJudged g q answer = Step (HasNode g) NoNodes (Step (IsGroup g q) BadGroup Passed) answer
 
--- the fault is the first refusal that applies, or out of memory where no refusal applies
+-- the fault is the first applicable refusal, or out of memory where none applies
 abbrev pub IsRefusal : LinkGraph → List ℕ → AnalyseFault → Type 0
 IsRefusal g q fault = IsRefusedBy OutOfMemory (GroupJudged g q) fault

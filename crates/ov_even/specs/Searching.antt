@@ -1,4 +1,4 @@
--- What becomes of a search for the level of the deciding piece, once a level was tried.
+-- The search for the level of the deciding piece, after a level was tried.
 use Rattle.std.specs.Prelude.{◌≡◌, ◌<◌}
 use Rattle.ov_even.specs.Harvest.{Suffice}
 use Rattle.ov_even.specs.Levels.{SearchState}
@@ -11,7 +11,7 @@ pub record SearchGoesOn (s next : SearchState) : Type 0 where
   pub members : next.members ≡ s.members
   pub fewer : next.left < s.left
 
--- what becomes of a search: the hauls suffice for a certificate, or it goes on
+-- after a level was tried, the hauls suffice for a certificate, or the search goes on
 abbrev pub IsSearched : SearchState → Searched → Type 0
 IsSearched s (Enough hauls) = Suffice s.graph s.members hauls.items
 IsSearched s (Again next) = SearchGoesOn s next

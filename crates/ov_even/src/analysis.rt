@@ -1,8 +1,8 @@
 //! The analysis of a graph and a group by one worker.
-ghost use Rattle.std.specs.Prelude.{◌≡◌, IfOk, IfErr};
+ghost use Rattle.std.specs.Prelude.{IfOk, IfErr};
 ghost use Rattle.ov_graph.specs.Links.{IsGroup, AreAllLinked};
 ghost use Rattle.ov_cert.specs.Theorems.{IsTrueForGroup};
-ghost use Rattle.ov_even.specs.Answer.{IsAnswer};
+ghost use Rattle.ov_even.specs.Answer.{IsCheckedAnswer};
 ghost use Rattle.ov_even.specs.Faults.{IsRefusal};
 ghost use Rattle.ov_even.specs.Harvest.{Suffice};
 
@@ -18,9 +18,7 @@ use std::alloc::Global;
 
 /// Analyses a graph for the group of all nodes, without a watcher. See `analyse_group_watched`.
 pub fn analyse_alone(alloc: Global, graph: &Graph) -> Result<Checked, AnalyseFault>
-    ensures graph { IfOk result (λ c. c.graph ≡ graph.now) }
-    ensures members { IfOk result (λ c. c.members ≡ graph.now.nodes) }
-    ensures answer { IfOk result (λ c. IsAnswer graph.now graph.now.nodes c.cert) }
+    ensures answer { IfOk result (λ c. IsCheckedAnswer graph.now graph.now.nodes c) }
     ensures fewest { IfOk result (λ c. IsTrueForGroup graph.now graph.now.nodes c.cert) }
     ensures refused { IfErr result (λ fault. IsRefusal graph.now graph.now.nodes fault) }
 {
@@ -33,9 +31,7 @@ pub fn analyse_group_alone(
     graph: &Graph,
     group: &[NodeId],
 ) -> Result<Checked, AnalyseFault>
-    ensures graph { IfOk result (λ c. c.graph ≡ graph.now) }
-    ensures members { IfOk result (λ c. c.members ≡ group.now) }
-    ensures answer { IfOk result (λ c. IsAnswer graph.now group.now c.cert) }
+    ensures answer { IfOk result (λ c. IsCheckedAnswer graph.now group.now c) }
     ensures fewest { IfOk result (λ c. IsTrueForGroup graph.now group.now c.cert) }
     ensures refused { IfErr result (λ fault. IsRefusal graph.now group.now fault) }
 {
@@ -51,9 +47,7 @@ pub fn analyse_group_watched<W: Watcher>(
     group: &[NodeId],
     watcher: &mut W,
 ) -> Result<Checked, AnalyseFault>
-    ensures graph { IfOk result (λ c. c.graph ≡ graph.now) }
-    ensures members { IfOk result (λ c. c.members ≡ group.now) }
-    ensures answer { IfOk result (λ c. IsAnswer graph.now group.now c.cert) }
+    ensures answer { IfOk result (λ c. IsCheckedAnswer graph.now group.now c) }
     ensures fewest { IfOk result (λ c. IsTrueForGroup graph.now group.now c.cert) }
     ensures refused { IfErr result (λ fault. IsRefusal graph.now group.now fault) }
 {

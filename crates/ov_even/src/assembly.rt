@@ -3,7 +3,7 @@ ghost use Rattle.std.specs.Prelude.{◌≡◌, ◌+◌, ◌<◌, length, map, If
 ghost use Rattle.ov_graph.specs.Links.{HasNode, IsGraph, IsGroup, AreAllLinked};
 ghost use Rattle.ov_cert.specs.Valid.{IsValidForGroup};
 ghost use Rattle.ov_cert.specs.Theorems.{IsTrueForGroup};
-ghost use Rattle.ov_even.specs.Answer.{IsAnswer, NamesParting};
+ghost use Rattle.ov_even.specs.Answer.{IsAnswer, IsCheckedAnswer, NamesParting};
 ghost use Rattle.ov_even.specs.Faults.{IsRefusal};
 ghost use Rattle.ov_even.specs.Harvest.{Suffice};
 ghost use Rattle.ov_even.specs.Naming.{AreWanted, HaveAskedPaths};
@@ -25,9 +25,7 @@ use std::alloc::Global;
 /// Makes the certificate for the group of all nodes. See `assemble_group`. A graph without nodes is refused (30).
 pub fn assemble(alloc: Global, graph: &Graph, hauls: &[Haul]) -> Result<Checked, AnalyseFault>
     requires { HasNode graph.now → Suffice graph.now graph.now.nodes hauls.now }
-    ensures graph { IfOk result (λ c. c.graph ≡ graph.now) }
-    ensures members { IfOk result (λ c. c.members ≡ graph.now.nodes) }
-    ensures answer { IfOk result (λ c. IsAnswer graph.now graph.now.nodes c.cert) }
+    ensures answer { IfOk result (λ c. IsCheckedAnswer graph.now graph.now.nodes c) }
     ensures fewest { IfOk result (λ c. IsTrueForGroup graph.now graph.now.nodes c.cert) }
     ensures refused { IfErr result (λ fault. IsRefusal graph.now graph.now.nodes fault) }
 {
@@ -48,9 +46,7 @@ pub fn assemble_group(
 ) -> Result<Checked, AnalyseFault>
     requires group { IsGroup graph.now group.now }
     requires suffice { Suffice graph.now group.now hauls.now }
-    ensures graph { IfOk result (λ c. c.graph ≡ graph.now) }
-    ensures members { IfOk result (λ c. c.members ≡ group.now) }
-    ensures answer { IfOk result (λ c. IsAnswer graph.now group.now c.cert) }
+    ensures answer { IfOk result (λ c. IsCheckedAnswer graph.now group.now c) }
     ensures fewest { IfOk result (λ c. IsTrueForGroup graph.now group.now c.cert) }
     ensures refused { IfErr result (λ fault. fault ≡ out_of_memory) }
 {
@@ -72,9 +68,7 @@ pub fn assemble_named(
     requires suffice { Suffice graph.now group.now hauls.now }
     requires wanted { AreWanted graph.now group.now (map (λ n. n.piece) named.items) }
     requires asked { HaveAskedPaths graph.now group.now named.items }
-    ensures graph { IfOk result (λ c. c.graph ≡ graph.now) }
-    ensures members { IfOk result (λ c. c.members ≡ group.now) }
-    ensures answer { IfOk result (λ c. IsAnswer graph.now group.now c.cert) }
+    ensures answer { IfOk result (λ c. IsCheckedAnswer graph.now group.now c) }
     ensures fewest { IfOk result (λ c. IsTrueForGroup graph.now group.now c.cert) }
     ensures refused { IfErr result (λ fault. fault ≡ out_of_memory) }
 {

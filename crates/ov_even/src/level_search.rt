@@ -52,7 +52,7 @@ impl<'a> Model for LevelSearch<'a> {
         × AreBounds s.graph.now s.group.now s.kept.items s.low s.high × IsBetween s.low s.level s.high };
 }
 
-/// What becomes of a search, once a level was tried.
+/// The search after a level was tried.
 #[derive(Drop)]
 pub enum Searched<'a> {
     /// These hauls suffice for a certificate.

@@ -29,4 +29,4 @@ pub use numbers::{LevelNumbers, group_piece_at, group_total, level_numbers, piec
 pub use ov_fans::Piece;
 pub use theorems::{first_exists, first_gives_number, good_or_cut, one_answer, one_first};
 pub use wanted::wanted_paths;
-pub use watcher::Watcher;
+pub use watcher::{Unwatched, Watcher};

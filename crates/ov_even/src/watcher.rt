@@ -1,13 +1,14 @@
 /// Is told of the progress of an analysis.
 pub trait Watcher {
     /// A piece is about to be settled. `level` is the level being tried, `place` the place of the piece in it, counted
-    /// from 0, and `size` the number of pieces of the level.
+    /// from 0, and `size` the number of pieces of the level. An analysis by several workers tells only the beginning of
+    /// each level, with place 0.
     fn sees(&mut self, level: usize, place: usize, size: usize);
 }
 
 /// A watcher that does nothing.
 #[derive(Drop)]
-pub(crate) struct Unwatched;
+pub struct Unwatched;
 
 impl Watcher for Unwatched {
     fn sees(&mut self, _level: usize, _place: usize, _size: usize) {}

@@ -7,13 +7,13 @@ ghost use Rattle.ov_ids.specs.FaultOrder.{IsRefusedBy};
 ghost use Rattle.ov_snap.specs.Refusals.{FilingJudged};
 ghost use Rattle.ov_run.specs.Printed.{report_line};
 ghost use Rattle.ov_run.specs.Subjects.{members_of, IsReportOf, AnalysisJudged, WasAnalysed};
-ghost use Rattle.ov_snap.specs.declared.fault.CoreFault.TheVariants.{OutOfMemory as wants_memory};
+ghost use Rattle.ov_snap.specs.declared.fault.CoreFault.TheVariants.{OutOfMemory as out_of_memory};
 
 use crate::line_texts::report_line;
 use crate::scenario::Subject;
 use crate::workers::Workers;
-use ov_crew::analyse_group_watched;
-use ov_even::Watcher;
+use ov_crew::{OpenGate, analyse_group_watched};
+use ov_even::Unwatched;
 use ov_graph::Graph;
 use ov_ids::NodeId;
 use ov_net::MAX_ENTRIES;
@@ -34,7 +34,7 @@ pub(crate) fn file_analysis<T: Threads + Sync>(
 ) -> Result<String, CoreFault>
     ensures analysed { IfOk result (λ line. (r : ReportState) × WasAnalysed core.old subject.now r core.new
         × (string_bytes line ≡ report_line r.moment r.cert r.graph r.members)) }
-    ensures refused { IfErr result (IsRefusedBy wants_memory (AnalysisJudged core.old subject.now)) }
+    ensures refused { IfErr result (IsRefusedBy out_of_memory (AnalysisJudged core.old subject.now)) }
     ensures err { OnErr result (core.new ≡ core.old) }
 {
     let report = report_for(rt, alloc, core, subject, workers)?;
@@ -57,7 +57,7 @@ fn report_for<T: Threads + Sync>(
     ensures moment { IfOk result (λ r. r.moment ≡ subject.now.moment) }
     ensures members { IfOk result (λ r. r.members ≡ members_of subject.now.group r.graph) }
     ensures answer { IfOk result (λ r. IsAnswer r.graph r.members r.cert) }
-    ensures refused { IfErr result (IsRefusedBy wants_memory (AnalysisJudged core.now subject.now)) }
+    ensures refused { IfErr result (IsRefusedBy out_of_memory (AnalysisJudged core.now subject.now)) }
 {
     if let Some(_) = filed_report(core, subject) {
         return Err(CoreFault::AlreadyFiled);
@@ -85,7 +85,7 @@ fn begin(core: &Core, subject: &Subject) -> Result<Job, CoreFault>
     ensures moment { IfOk result (λ job. job.moment ≡ subject.now.moment) }
     ensures links { IfOk result (λ job. AreLinks core.now.world.journal subject.now.moment job.graph) }
     ensures sound { IsSound core.now }
-    ensures refused { IfErr result (IsRefusedBy wants_memory (AnalysisJudged core.now subject.now)) }
+    ensures refused { IfErr result (IsRefusedBy out_of_memory (AnalysisJudged core.now subject.now)) }
 {
     prove!(core.world().journal().len() <= MAX_ENTRIES);
     match &subject.group {
@@ -106,7 +106,7 @@ fn make_report<T: Threads + Sync>(
     ensures graph { IfOk result (λ r. r.graph ≡ job.now.graph) }
     ensures members { IfOk result (λ r. r.members ≡ members_of subject.now.group job.now.graph) }
     ensures answer { IfOk result (λ r. IsAnswer r.graph r.members r.cert) }
-    ensures err { IfErr result (λ f. f ≡ wants_memory) }
+    ensures err { IfErr result (λ f. f ≡ out_of_memory) }
 {
     let members = members_of(subject, &job.graph);
     match analyse_group_watched(
@@ -115,19 +115,12 @@ fn make_report<T: Threads + Sync>(
         &job.graph,
         members,
         workers.count(),
+        &OpenGate,
         &mut Unwatched,
     ) {
         Ok(checked) => Ok(Report::new(job.moment, checked)),
         Err(_) => Err(CoreFault::OutOfMemory),
     }
-}
-
-/// Is told of an analysis, and does nothing.
-#[derive(Drop)]
-struct Unwatched;
-
-impl Watcher for Unwatched {
-    fn sees(&mut self, _level: usize, _place: usize, _size: usize) {}
 }
 
 /// The group that is asked for, or all nodes of the graph.

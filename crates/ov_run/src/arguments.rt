@@ -7,7 +7,7 @@ ghost use Rattle.ov_run.specs.Arguments.{AreReadable, AreTaken, HasGroupOfIds, H
 ghost use Rattle.ov_run.specs.Arguments.{file_asked, group_asked, is_flagged, workers_asked};
 ghost use Rattle.ov_run.specs.Arguments.{analyse_command, flag, option, overlay_command, run_command};
 ghost use Rattle.ov_run.specs.Arguments.{fault_of_text, number_of};
-ghost use Rattle.ov_run.specs.declared.arguments.ArgumentsFault.TheVariants.{BadArguments, OutOfMemory as wants_memory};
+ghost use Rattle.ov_run.specs.declared.arguments.ArgumentsFault.TheVariants.{BadArguments, OutOfMemory as out_of_memory};
 
 use crate::id_list_reading::read_ids;
 use crate::workers::read_workers;
@@ -89,7 +89,7 @@ impl From<io::Error> for ArgumentsFault {
 }
 
 impl From<AllocError> for ArgumentsFault {
-    ghost from_gives = { λ _ e. e ≡ wants_memory };
+    ghost from_gives = { λ _ e. e ≡ out_of_memory };
 
     fn from(_error: AllocError) -> ArgumentsFault {
         ArgumentsFault::OutOfMemory
@@ -97,7 +97,7 @@ impl From<AllocError> for ArgumentsFault {
 }
 
 impl From<OutOfMemory> for ArgumentsFault {
-    ghost from_gives = { λ _ e. e ≡ wants_memory };
+    ghost from_gives = { λ _ e. e ≡ out_of_memory };
 
     fn from(_fault: OutOfMemory) -> ArgumentsFault {
         ArgumentsFault::OutOfMemory
@@ -109,7 +109,7 @@ impl From<ClapError> for ArgumentsFault {
     ghost use Rattle.clap.specs.Words.{kind_of};
     ghost use Rattle.clap.specs.declared.error.ErrorKind.TheVariants.{OutOfMemory as no_memory};
 
-    ghost from_gives = { λ error e. (kind_of error ≡ no_memory) → (e ≡ wants_memory) };
+    ghost from_gives = { λ error e. (kind_of error ≡ no_memory) → (e ≡ out_of_memory) };
 
     fn from(error: ClapError) -> ArgumentsFault {
         match error.kind() {

@@ -3,7 +3,7 @@ ghost use Rattle.std.specs.Prelude.{IfOk, IfErr, OnOk, IsErrOf};
 ghost use Rattle.ov_cert.specs.Valid.{IsValidForGroup};
 ghost use Rattle.ov_claims.specs.Claims.{most_workers};
 ghost use Rattle.ov_io.specs.Device.{most_faults, ReaderFailed};
-ghost use Rattle.ov_even.specs.Answer.{IsAnswer};
+ghost use Rattle.ov_even.specs.Answer.{IsCheckedAnswer};
 ghost use Rattle.ov_even.specs.Faults.{IsRefusal};
 ghost use Rattle.ov_run.specs.Analysing.{answer_text, PrintsAnswer, IsAnalysis, PrintsAnalysis, BeginsAnalysis};
 ghost use Rattle.ov_run.specs.Faults.{read_failures, write_failures, IsAnalysisFault};
@@ -16,7 +16,7 @@ use crate::line_texts::{refused_line, report_line};
 use crate::run_fault::RunFault;
 use ov_cert::Checked;
 use ov_certfile::to_text_group;
-use ov_crew::analyse_group_watched;
+use ov_crew::{OpenGate, analyse_group_watched};
 use ov_even::{AnalyseFault, Watcher};
 use ov_graph::Graph;
 use ov_ids::{NodeId, OutOfMemory};
@@ -113,7 +113,7 @@ fn answer_for<T: Threads + Sync, P: Watcher>(
     requires few { workers ≤ most_workers }
     ensures { IfOk result (λ text. PrintsAnswer graph.now group.now certificate (string_bytes text)) }
 {
-    let answer = analyse_group_watched(rt, alloc, graph, group, workers, watcher);
+    let answer = analyse_group_watched(rt, alloc, graph, group, workers, &OpenGate, watcher);
     text_of(alloc, graph, group, &answer, certificate)
 }
 
@@ -126,9 +126,7 @@ fn text_of(
     answer: &Result<Checked, AnalyseFault>,
     certificate: bool,
 ) -> Result<String, OutOfMemory>
-    requires graph { IfOk answer.now (λ c. c.graph ≡ graph.now) }
-    requires members { IfOk answer.now (λ c. c.members ≡ group.now) }
-    requires answer { IfOk answer.now (λ c. IsAnswer graph.now group.now c.cert) }
+    requires answer { IfOk answer.now (λ c. IsCheckedAnswer graph.now group.now c) }
     requires refused { IfErr answer.now (λ fault. IsRefusal graph.now group.now fault) }
     ensures { IfOk result (λ text. PrintsAnswer graph.now group.now certificate (string_bytes text)) }
 {

@@ -1,6 +1,6 @@
 ghost use Rattle.std.specs.Prelude.{◌≡◌};
 ghost use Rattle.ov_run.specs.Faults.{number_of, line_of, fault_of_read, fault_of_graph};
-ghost use Rattle.ov_run.specs.declared.run_fault.RunFault.TheVariants.{OutOfMemory as wants_memory};
+ghost use Rattle.ov_run.specs.declared.run_fault.RunFault.TheVariants.{OutOfMemory as out_of_memory};
 ghost use Rattle.ov_run.specs.declared.run_fault.RunFault.TheVariants.{Read as not_read, Write as not_written};
 
 use ov_graph::GraphFault;
@@ -83,7 +83,7 @@ impl From<io::Error> for RunFault {
 }
 
 impl From<AllocError> for RunFault {
-    ghost from_gives = { λ _ e. e ≡ wants_memory };
+    ghost from_gives = { λ _ e. e ≡ out_of_memory };
 
     fn from(_error: AllocError) -> RunFault {
         RunFault::OutOfMemory
@@ -91,7 +91,7 @@ impl From<AllocError> for RunFault {
 }
 
 impl<T: Drop> From<AllocFailed<T>> for RunFault {
-    ghost from_gives = { λ _ e. e ≡ wants_memory };
+    ghost from_gives = { λ _ e. e ≡ out_of_memory };
 
     fn from(_error: AllocFailed<T>) -> RunFault {
         RunFault::OutOfMemory
@@ -99,7 +99,7 @@ impl<T: Drop> From<AllocFailed<T>> for RunFault {
 }
 
 impl From<OutOfMemory> for RunFault {
-    ghost from_gives = { λ _ e. e ≡ wants_memory };
+    ghost from_gives = { λ _ e. e ≡ out_of_memory };
 
     fn from(_fault: OutOfMemory) -> RunFault {
         RunFault::OutOfMemory

@@ -1,10 +1,10 @@
 //! Analyses by several workers, and a board.
-use crate::gates::{Counting, Meeting};
+use crate::gates::{Counting, Meeting, Opening};
 use crate::graphs::{Family, of_size};
 use ov_board::Board;
 use ov_cert::Cert;
-use ov_crew::{Gate, OpenGate, analyse, analyse_group, analyse_group_watched};
-use ov_even::{AnalyseFault, Watcher};
+use ov_crew::{Gate, OpenGate, analyse, analyse_group, analyse_group_watched, work};
+use ov_even::{AnalyseFault, Watcher, analyse_alone, total};
 use ov_graph::Graph;
 use ov_ids::{NodeId, OutOfMemory};
 use std::alloc::Global;
@@ -12,14 +12,14 @@ use std::test::Fail;
 use std::thread::Threads;
 
 /// A graph, and the answer for the group of all its nodes: a split, or linked where the cut is empty.
-struct Row {
-    family: Family,
-    nodes: u32,
-    k: u32,
-    cut: &'static [u32],
-    near: u32,
-    far: u32,
-    side: &'static [u32],
+pub(crate) struct Row {
+    pub(crate) family: Family,
+    pub(crate) nodes: u32,
+    pub(crate) k: u32,
+    pub(crate) cut: &'static [u32],
+    pub(crate) near: u32,
+    pub(crate) far: u32,
+    pub(crate) side: &'static [u32],
 }
 
 static PETERSEN: Row = Row {
@@ -78,7 +78,7 @@ fn are(ids: &[NodeId], numbers: &[u32]) -> bool {
 }
 
 /// The certificate gives the answer.
-fn gives(cert: &Cert, row: &Row) -> bool {
+pub(crate) fn gives(cert: &Cert, row: &Row) -> bool {
     let split = match cert {
         Cert::Linked { k } => return *k == row.k && row.cut.is_empty(),
         Cert::Split(split) => split,
@@ -106,19 +106,24 @@ fn find<R: Threads + Sync, G: Gate>(
     Ok(gives(checked.cert(), row))
 }
 
-/// Counts the levels that it is told of.
+/// Counts how often it is told of the beginning of a level, and of other places.
 #[derive(Drop)]
 struct Levels {
-    count: u64,
+    begun: u64,
+    others: u64,
 }
 
 impl Watcher for Levels {
-    fn sees(&mut self, _level: usize, _place: usize, _size: usize) {
-        self.count = self.count.saturating_add(1);
+    fn sees(&mut self, _level: usize, place: usize, _size: usize) {
+        if place == 0 {
+            self.begun = self.begun.saturating_add(1);
+        } else {
+            self.others = self.others.saturating_add(1);
+        }
     }
 }
 
-/// So many workers find the answer, and a watcher is told of a level.
+/// So many workers find the answer. A watcher is told of a level, and by one worker of further pieces too.
 fn find_watched<R: Threads + Sync>(
     rt: &R,
     alloc: Global,
@@ -129,9 +134,14 @@ fn find_watched<R: Threads + Sync>(
         return Ok(false);
     }
     let graph = of_size(alloc, row.family, row.nodes)?;
-    let mut levels = Levels { count: 0 };
-    let checked = analyse_group_watched(rt, alloc, &graph, graph.nodes(), workers, &mut levels)?;
-    Ok(gives(checked.cert(), row) && levels.count > 0)
+    let mut levels = Levels {
+        begun: 0,
+        others: 0,
+    };
+    let group = graph.nodes();
+    let checked = analyse_group_watched(rt, alloc, &graph, group, workers, &OpenGate, &mut levels)?;
+    let is_told = levels.begun > 0 && (levels.others > 0) == (workers == 1);
+    Ok(gives(checked.cert(), row) && is_told)
 }
 
 #[test]
@@ -149,8 +159,57 @@ fn the_same_for_1_2_5_and_64_workers(rt: HostRuntime) -> Result<(), Fail> {
 #[test]
 fn two_workers_meet(rt: HostRuntime) -> Result<(), Fail> {
     let gate = Meeting::new();
+    gate.open();
     let is_found = find(&rt, rt.alloc(), &PETERSEN, 2, &gate)?;
     assert!(rt; is_found && gate.saw_both());
+    Ok(())
+}
+
+/// Of an analysis that hires sparingly, the levels that pay get two workers, which meet.
+#[test]
+fn a_level_that_pays_gets_two_workers(rt: HostRuntime) -> Result<(), Fail> {
+    let meeting = Meeting::new();
+    let mut opening = Opening { meeting: &meeting };
+    let graph = of_size(rt.alloc(), TWO_SIDES.family, TWO_SIDES.nodes)?;
+    let group = graph.nodes();
+    let checked = analyse_group_watched(&rt, rt.alloc(), &graph, group, 2, &meeting, &mut opening)?;
+    assert!(rt; gives(checked.cert(), &TWO_SIDES) && meeting.saw_both());
+    Ok(())
+}
+
+/// The pieces of the Petersen graph before the one that decides: 9 of level 1, 9 of level 2, 10 of level 3, and of
+/// level 4 the pair of nodes 1 and 2, which are linked. Nodes 1 and 3 are not, and have 3 paths.
+const BEFORE_THE_CUT: u64 = 29;
+
+/// One worker at a board of all pieces settles those before the cut, and the one with the cut, and ends.
+fn works_up_to_the_cut(alloc: Global) -> Result<bool, Fail> {
+    let graph = of_size(alloc, PETERSEN.family, PETERSEN.nodes)?;
+    if graph.nodes().is_empty() {
+        return Ok(false);
+    }
+    let (board, mut seats) = Board::new(alloc, total(graph.nodes().len()), 1)?;
+    let Some(seat) = seats.pop() else {
+        return Ok(false);
+    };
+    let (haul, seat) = work(alloc, &board, &graph, seat, &OpenGate);
+    let settled = haul?.pieces.len() as u64;
+    seats.push(seat)?;
+    Ok(settled == BEFORE_THE_CUT + 1 && board.close(seats) == BEFORE_THE_CUT)
+}
+
+#[test]
+fn a_worker_ends_at_the_cut(rt: HostRuntime) -> Result<(), Fail> {
+    assert!(rt; works_up_to_the_cut(rt.alloc())?);
+    Ok(())
+}
+
+#[test]
+fn one_thread_without_a_board(rt: HostRuntime) -> Result<(), Fail> {
+    for row in [&PETERSEN, &RING, &LINKED] {
+        let graph = of_size(rt.alloc(), row.family, row.nodes)?;
+        let checked = analyse_alone(rt.alloc(), &graph)?;
+        assert!(rt; gives(checked.cert(), row));
+    }
     Ok(())
 }
 

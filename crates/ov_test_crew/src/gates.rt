@@ -1,5 +1,6 @@
 //! Gates that tell what workers do.
 use ov_crew::Gate;
+use ov_even::Watcher;
 use std::sync::atomic::{AtomicU64, Ordering};
 
 /// How often a worker looks whether another one has come, at most.
@@ -30,9 +31,10 @@ impl Gate for Counting {
     }
 }
 
-/// Holds the worker with number 0 until another worker has passed with number 1.
+/// Once it is open, holds the worker with number 0 until another worker has passed with number 1.
 #[derive(Drop)]
 pub(crate) struct Meeting {
+    is_open: AtomicU64,
     /// One more than the worker that passed with number 1, or 0.
     other: AtomicU64,
     met: AtomicU64,
@@ -41,9 +43,21 @@ pub(crate) struct Meeting {
 impl Meeting {
     pub(crate) fn new() -> Meeting {
         Meeting {
+            is_open: AtomicU64::new(0),
             other: AtomicU64::new(0),
             met: AtomicU64::new(0),
         }
+    }
+
+    /// Opens it. Who passed before does not count.
+    pub(crate) fn open(&self) {
+        self.other.store(0, Ordering::SeqCst);
+        self.is_open.store(1, Ordering::SeqCst);
+    }
+
+    /// Whether a worker is to be held.
+    fn holds(&self) -> bool {
+        self.is_open.load(Ordering::SeqCst) == 1 && !self.saw_both()
     }
 
     /// Whether a worker that was held with number 0 saw another one pass with number 1.
@@ -69,8 +83,25 @@ impl Gate for Meeting {
         if number == 1 {
             self.other.store(own, Ordering::SeqCst);
         }
-        if number == 0 && !self.saw_both() {
+        if number == 0 && self.holds() {
             self.wait_for_other(own);
+        }
+    }
+}
+
+/// How many paths a level must seek, so that it gets two workers: each thread more pays for 1,024 of them.
+const PATHS_FOR_TWO: usize = 2048;
+
+/// Opens a meeting before the first level that gets two workers.
+#[derive(Drop)]
+pub(crate) struct Opening<'a> {
+    pub(crate) meeting: &'a Meeting,
+}
+
+impl<'a> Watcher for Opening<'a> {
+    fn sees(&mut self, level: usize, _place: usize, size: usize) {
+        if level.saturating_mul(size) >= PATHS_FOR_TWO {
+            self.meeting.open();
         }
     }
 }

@@ -7,3 +7,5 @@ mod crews;
 mod gates;
 #[cfg(test)]
 mod graphs;
+#[cfg(test)]
+mod memory;

@@ -1,42 +1,17 @@
--- The rule that the words of a board and the views of all seats keep, and what each exchange tells its seat.
-use Rattle.std.specs.Prelude.{◌≡◌, ℕ, zero, suc, ◌+◌, ◌<◌, ◌==◌, List, [], ◌∷◌, ◌++◌, length, take, drop}
-use Rattle.std.specs.List.{sum_by, count_by}
-use mathlib.Core.Option.{some}
-use lib.ListN.{get_elem?}
+-- The views of seats, and what each exchange tells its seat.
+use Rattle.std.specs.Prelude.{◌≡◌, ℕ, zero, suc, ◌+◌, List, [], ◌∷◌, ◌++◌, take, drop}
 use Rattle.atomic_table.specs.Seated.{TableId}
-use Rattle.atomic_table.specs.Table.{State, Me, Step}
-use Rattle.ov_ids.specs.Members.{Has}
-use Rattle.ov_claims.specs.Claims.{WorkerState, DeskState, HasWorker, fresh}
+use Rattle.atomic_table.specs.Table.{Me, Step}
+use Rattle.ov_claims.specs.Claims.{WorkerState, DeskState, fresh}
 use Rattle.ov_claims.specs.Steps.{claiming, looking, failing, Claims, Looks, Fails}
-use Rattle.ov_claims.specs.Code.Held.{IsHeld}
 use Rattle.ov_board.specs.declared.view.BoardSize.{BoardSize}
 use Rattle.ov_board.specs.declared.view.View.{View}
 use Rattle.ov_board.specs.Board.{SeatState, IsExchange}
-
--- a worker with its number
-abbrev pub Numbered : Type 0
-Numbered = ℕ × WorkerState
+use Rattle.ov_board.specs.Rule.{Numbered}
 
 -- a seat of the table: its view, and the slots that it holds, of which a table of words has none
 abbrev pub Holder : Type 0
 Holder = Me (Unit {0}) View
-
--- how many of these workers have the number w
-abbrev pub times : ℕ → List Numbered → ℕ
-times w = count_by (λ q. q.0 == w)
-
--- the words show claims of the plan. The workers of all views are exactly the workers of the claims: each stands at
--- its number, each number has one, and no worker is left over
-pub record IsKept (p : BoardSize) (t : State (Unit {0}) View) : Type 0 where
-  pub claims : DeskState
-  pub words : t.words ≡ claims.next ∷ claims.least ∷ []
-  pub held : IsHeld claims
-  pub total : claims.total ≡ p.total
-  pub workers : length claims.workers ≡ p.workers
-  pub seated : (i : ℕ) (v : View) (q : Numbered) → get_elem? t.views i ≡ some v → Has v.seated q
-      → HasWorker claims q.0 q.1
-  pub once : (w : ℕ) → w < p.workers → sum_by (λ v. times w v.seated) t.views ≡ 1
-  pub all : sum_by (λ v. length v.seated) t.views ≡ p.workers
 
 -- m workers before the first claim, numbered from i
 abbrev pub fresh_from : ℕ → ℕ → List Numbered

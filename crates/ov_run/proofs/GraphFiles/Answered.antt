@@ -2,26 +2,27 @@
 use Rattle.std.proofs.Common.{◌≡◌, inr, ℕ, Bool, List, Option, IfSome, sym, subst}
 use Rattle.std.specs.Io.KnownBytes.{Appends}
 use Rattle.ov_graph.specs.Links.{LinkGraph}
+use Rattle.ov_cert.specs.State.{CheckedState}
 use Rattle.ov_cert.specs.Valid.{IsValidForGroup}
-use Rattle.ov_cert.specs.declared.cert.Cert.{Cert}
 use Rattle.ov_io.specs.Device.{AppendsPrefixOf}
-use Rattle.ov_even.specs.Answer.{IsAnswer}
+use Rattle.ov_even.specs.Answer.{IsCheckedAnswer}
 use Rattle.ov_run.specs.Analysing.{answer_text, PrintsAnswer, IsAnalysis, PrintsAnalysis, BeginsAnalysis}
 use Rattle.ov_run.specs.GraphFiles.{IsGraphFile}
 use Rattle.ov_run.specs.Subjects.{members_of}
 
 -- a valid answer for this graph and this group is printed
 pub printed :
-    (g h : LinkGraph) (q members : List ℕ) (c : Cert) (certificate : Bool) (text : List ℕ) → h ≡ g → members ≡ q
-    → IsAnswer g q c → IsValidForGroup h members c → text ≡ answer_text c h members certificate
+    (g : LinkGraph) (q : List ℕ) (c : CheckedState) (certificate : Bool) (text : List ℕ) → IsCheckedAnswer g q c
+    → IsValidForGroup c.graph c.members c.cert → text ≡ answer_text c.cert c.graph c.members certificate
     → PrintsAnswer g q certificate text
-printed g h q members c certificate text same_graph same_group answer valid is =
+printed g q c certificate text answer valid is =
     let here =
-    subst (λ r. IsValidForGroup g r c) same_group (subst (λ f. IsValidForGroup f members c) same_graph valid) in
-    let line : text ≡ answer_text c g q certificate =
-    subst (λ r. text ≡ answer_text c g r certificate) same_group
-    (subst (λ f. text ≡ answer_text c f members certificate) same_graph is) in
-    inr (inr (c, answer, here, line))
+    subst (λ r. IsValidForGroup g r c.cert) answer.members
+    (subst (λ f. IsValidForGroup f c.members c.cert) answer.graph valid) in
+    let line : text ≡ answer_text c.cert g q certificate =
+    subst (λ r. text ≡ answer_text c.cert g r certificate) answer.members
+    (subst (λ f. text ≡ answer_text c.cert f c.members certificate) answer.graph is) in
+    inr (inr (c.cert, answer.answer, here, line))
 
 -- and with the file that says the graph it is the analysis of the file
 pub analysed :

@@ -26,7 +26,8 @@ numbers lines = map (λ line. line.number) (asking lines)
 -- with those of the lines that are left behind them, these are the numbers of the lines of the file that ask for a line
 -- to run
 abbrev pub AreNumbered : List ℕ → List ℕ → List (ℕ × List ℕ) → Type 0
-AreNumbered bytes so_far left = so_far ++ numbers (map stated_at left) ≡ map (λ (l : Stated). l.number) (run_lines bytes)
+AreNumbered bytes so_far left =
+    so_far ++ numbers (map stated_at left) ≡ map (λ (l : Stated). l.number) (run_lines bytes)
 
 -- no line was looked at
 pub begun :

@@ -206,7 +206,8 @@ static ALL_AT_ONCE: [&str; 3] = [
     "analyse --workers 64 --group 1,2 --certificate --progress -- g",
 ];
 
-/// The line asks for the certificate of an analysis of the file g by 64 workers, for the group of 1 and 2, with progress.
+/// The line asks for the certificate of an analysis of the file g by 64 workers, for the group of 1 and 2, with
+/// progress.
 fn asks_for_all(alloc: Global, line: &str) -> Result<bool, Fail> {
     let expected = Request::Analyse {
         file: file(alloc, "g")?,

@@ -1,4 +1,4 @@
--- What a level's workers bring in is handed to the search, which is one of the same graph and group.
+-- The search takes the hauls of a level's workers. It is a search of the same graph and group.
 use Rattle.std.proofs.Common.{ℕ, List, length, sym, ap, subst, arith}
 use Rattle.ov_graph.specs.Links.{LinkGraph}
 use Rattle.ov_even.specs.Harvest.{AreRight, Suffice}

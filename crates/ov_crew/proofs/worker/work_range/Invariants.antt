@@ -1,4 +1,4 @@
--- The worker goes on, has skipped nothing, and has brought in what it should.
+-- The worker goes on, has skipped nothing, and has settled the pieces of its numbers.
 use Rattle.std.proofs.Common.{◌≡◌, ◌-◌, false, None}
 use Rattle.ov_crew.specs.Hauls.{IsHaulOf}
 use Rattle.ov_crew.proofs.Taking.{bound_of}

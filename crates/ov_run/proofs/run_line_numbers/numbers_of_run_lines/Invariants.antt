@@ -1,5 +1,5 @@
--- what was numbered, with the numbers of the lines that are left behind it, are the numbers of all lines; and no line is
--- counted without a byte
+-- what was numbered, with the numbers of the lines that are left behind it, are the numbers of all lines; and no line
+-- is counted without a byte
 use Rattle.std.proofs.Common.{◌≤◌, ◌+◌, length}
 use Rattle.ov_run.specs.Code.Kept.{lines_left}
 use Rattle.ov_run.proofs.Scenarios.Numbered.{AreNumbered}

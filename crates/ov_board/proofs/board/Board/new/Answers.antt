@@ -1,9 +1,10 @@
 use Rattle.std.proofs.Common.{◌≡◌, length, List, [], ◌∷◌, take, drop, slice_get}
 use Rattle.std.proofs.Common.{ap, sym, ◌∙◌, arith, length-append}
 use Rattle.ov_claims.specs.Claims.{fresh}
+use Rattle.ov_board.specs.Rule.{Numbered}
 use Rattle.ov_board.specs.declared.view.View.{View}
 use Rattle.ov_board.specs.Board.{BoardState, SeatState, new_seat}
-use Rattle.ov_board.specs.Code.Rule.{Numbered, Holder, head_of, others_of, first_of, seat_state}
+use Rattle.ov_board.specs.Code.Rule.{Holder, head_of, others_of, first_of, seat_state}
 use Rattle.ov_board.proofs.Sharing.{splits}
 use Rattle.ov_board.proofs.Closing.{opens, fresh_next, pushed}
 use Rattle.ov_board.proofs.board.Board.new.Goals as goal

@@ -14,13 +14,13 @@ certificate-requires-clause-sound c =
 
 pub returns-clause-answer : goal.returns-clause-answer
 returns-clause-answer c =
-    let own = c.in_ok-checked.ensures in
+    let own = c.in_ok-checked.ensures.answer in
     rw c.new.ensures (rw (own.graph, own.members) own.answer)
 
 pub returns-clause-free : goal.returns-clause-free
 returns-clause-free c =
     let own = c.in_ok-own.ensures in
-    let checked = c.in_ok-checked.ensures in
+    let checked = c.in_ok-checked.ensures.answer in
     report_free c.args.self.now c.args.desk c.in_ok-own.own.now c.moment-moment.result
     c.in_ok-snapshot.snapshot.now.graph c.new.result own.has own.judged c.moment-moment.ensures
     c.in_ok-snapshot.ensures.ok
