@@ -1,5 +1,5 @@
 -- What a person is told of the lines of a file that are at fault. Chosen here.
-use Rattle.std.specs.Prelude.{◌≡◌, ◌⊎◌, ℕ, ◌<◌, Bool, List, [], ◌∷◌, ◌++◌, length, codes, decimal, if◌then◌else◌}
+use Rattle.std.specs.Prelude.{◌≡◌, ℕ, ◌<◌, Bool, List, [], ◌∷◌, ◌++◌, length, codes, decimal, if◌then◌else◌}
 use Rattle.std.specs.List.{All}
 
 -- how many lines of a file are told of at most
@@ -27,10 +27,6 @@ pub record ExplainsLine (n : ℕ) (text : List ℕ) : Type 0 where
   pub bounded : length others < most_lines
   pub behind : All (λ line. n < line.0) others
   pub whole : text ≡ paragraph n said ++ (paragraphs others ++ remark has_more)
-
--- a text tells of one line, or of none
-abbrev pub TellsOfOneLine : List ℕ → Type 0
-TellsOfOneLine text = (text ≡ []) ⊎ ((n : ℕ) × (said : List ℕ) × (text ≡ paragraph n said))
 
 -- a text ends with this
 abbrev pub EndsWith : List ℕ → List ℕ → Type 0

@@ -1,54 +1,61 @@
 ghost use Rattle.std.specs.Prelude.{IfOk, string_bytes};
-ghost use Rattle.ov_reasons.specs.Paragraphs.{TellsOfOneLine};
+ghost use Rattle.ov_reasons.specs.Reasons.{TellsOfFaultLine};
 
-use crate::explanation::{Explanation, push_line};
+use crate::explanation::push_line;
 use crate::file_line::{FileLine, words_of};
 use crate::graph_lines::{GraphLines, LinkLine, NodeLine, graph_lines};
 use crate::marked_line::push_marked;
 use crate::texts::push_all;
 use ov_graph::GraphFault;
 use ov_ids::OutOfMemory;
+use ov_run::graph_fault_line;
 use std::alloc::Global;
 use std::fmt::Write;
 
 /// How many nodes a graph has at most.
 const MOST_NODES: usize = 1024;
 
-/// Says which node or which link of a graph file is at fault, of a file whose lines can all be read.
+/// Says which node or which link of a graph file is at fault.
 pub(crate) fn explain_graph(
     alloc: Global,
     bytes: &[u8],
     fault: GraphFault,
 ) -> Result<String, OutOfMemory>
-    ensures { IfOk result (λ text. TellsOfOneLine (string_bytes text)) }
+    ensures { IfOk result (λ text. TellsOfFaultLine bytes.now fault (string_bytes text)) }
 {
     let mut text = String::new(alloc);
-    if let Some(told) = graph_fault(alloc, bytes, fault)? {
-        push_line(&mut text, told.number, told.text.as_str())?;
+    if let Some(number) = graph_fault_line(alloc, bytes, fault)? {
+        let said = wrong_on_line(alloc, bytes, fault, number)?;
+        push_line(&mut text, number, said.as_str())?;
     }
     Ok(text)
 }
 
-/// What is said of the line whose node or link is at fault.
-fn graph_fault(
+/// What is said of the line of this number, whose node or link is at fault.
+fn wrong_on_line(
     alloc: Global,
     bytes: &[u8],
     fault: GraphFault,
-) -> Result<Option<Explanation>, OutOfMemory> {
+    number: usize,
+) -> Result<String, OutOfMemory> {
     let said = graph_lines(alloc, bytes)?;
-    fault_in(alloc, &said, fault)
+    match fault_on(alloc, &said, fault, number)? {
+        Some(text) => Ok(text),
+        None => Ok(String::from_str(alloc, "this line is at fault\n")?),
+    }
 }
 
-/// What is said of the first of these lines whose node or link is at fault.
-fn fault_in(
+/// What is wrong with the node or the link on the line of this number.
+fn fault_on(
     alloc: Global,
     said: &GraphLines<'_>,
     fault: GraphFault,
-) -> Result<Option<Explanation>, OutOfMemory> {
+    number: usize,
+) -> Result<Option<String>, OutOfMemory> {
     match fault {
-        GraphFault::TooManyNodes => too_many_nodes(alloc, &said.nodes),
-        GraphFault::Unordered => unordered(alloc, said),
-        GraphFault::BadLink => bad_link(alloc, said),
+        GraphFault::TooManyNodes => too_many_nodes(alloc, &said.nodes, number),
+        GraphFault::Unordered => unordered(alloc, said, number),
+        GraphFault::BadLink => bad_link(alloc, said, number),
         GraphFault::OutOfMemory => Ok(None),
     }
 }
@@ -59,20 +66,20 @@ fn ended(
     mut text: String,
     line: &FileLine<'_>,
     place: usize,
-) -> Result<Explanation, OutOfMemory> {
+) -> Result<String, OutOfMemory> {
     let words = words_of(alloc, line.text)?;
     let start = words.get(place).map_or(0, |word| word.start);
     push_marked(alloc, &mut text, line.text, start)?;
-    let number = line.number;
-    Ok(Explanation { number, text })
+    Ok(text)
 }
 
-/// Says which node is the first past the limit.
+/// Says that the node on the line of this number is past the limit.
 fn too_many_nodes(
     alloc: Global,
     nodes: &[NodeLine<'_>],
-) -> Result<Option<Explanation>, OutOfMemory> {
-    let Some(node) = nodes.get(MOST_NODES) else {
+    number: usize,
+) -> Result<Option<String>, OutOfMemory> {
+    let Some(node) = nodes.iter().find(|node| node.line.number == number) else {
         return Ok(None);
     };
     let count = nodes.len();
@@ -84,44 +91,33 @@ fn too_many_nodes(
     Ok(Some(ended(alloc, text, &node.line, 1)?))
 }
 
-/// Says which node is not above the one before it, or else which link is not.
-fn unordered(alloc: Global, said: &GraphLines<'_>) -> Result<Option<Explanation>, OutOfMemory> {
-    match unordered_node(&said.nodes) {
-        Some((before, node)) => Ok(Some(node_below(alloc, &before, &node)?)),
-        None => match unordered_link(&said.links) {
-            Some((before, link)) => Ok(Some(link_below(alloc, &before, &link)?)),
-            None => Ok(None),
-        },
+/// Says that the node or the link on the line of this number is not above the one before it.
+fn unordered(
+    alloc: Global,
+    said: &GraphLines<'_>,
+    number: usize,
+) -> Result<Option<String>, OutOfMemory> {
+    if let Some((before, node)) = node_on_line(&said.nodes, number) {
+        return Ok(Some(node_below(alloc, &before, &node)?));
+    }
+    match link_on_line(&said.links, number) {
+        Some((before, link)) => Ok(Some(link_below(alloc, &before, &link)?)),
+        None => Ok(None),
     }
 }
 
-/// The first node that is not above the one before it, behind that one.
-fn unordered_node<'a>(nodes: &[NodeLine<'a>]) -> Option<(NodeLine<'a>, NodeLine<'a>)> {
-    let mut last: Option<NodeLine<'a>> = None;
-    for node in nodes {
-        match last {
-            Some(before) if node.id <= before.id => return Some((before, *node)),
-            _ => last = Some(*node),
-        }
-    }
-    None
+/// The node on the line of this number, behind the one before it.
+fn node_on_line<'a>(nodes: &[NodeLine<'a>], number: usize) -> Option<(NodeLine<'a>, NodeLine<'a>)> {
+    let place = nodes.iter().position(|node| node.line.number == number)?;
+    let before = nodes.get(place.checked_sub(1)?)?;
+    Some((*before, *nodes.get(place)?))
 }
 
-/// The first link that is not above the one before it, behind that one.
-fn unordered_link<'a>(links: &[LinkLine<'a>]) -> Option<(LinkLine<'a>, LinkLine<'a>)> {
-    let mut last: Option<LinkLine<'a>> = None;
-    for link in links {
-        match last {
-            Some(before) if !is_above(link, &before) => return Some((before, *link)),
-            _ => last = Some(*link),
-        }
-    }
-    None
-}
-
-/// Whether a link is above another one, by its lower node and then by its higher one.
-fn is_above(link: &LinkLine<'_>, other: &LinkLine<'_>) -> bool {
-    link.from > other.from || (link.from == other.from && link.to > other.to)
+/// The link on the line of this number, behind the one before it.
+fn link_on_line<'a>(links: &[LinkLine<'a>], number: usize) -> Option<(LinkLine<'a>, LinkLine<'a>)> {
+    let place = links.iter().position(|link| link.line.number == number)?;
+    let before = links.get(place.checked_sub(1)?)?;
+    Some((*before, *links.get(place)?))
 }
 
 /// Says that a node is not above the one before it.
@@ -129,7 +125,7 @@ fn node_below(
     alloc: Global,
     before: &NodeLine<'_>,
     node: &NodeLine<'_>,
-) -> Result<Explanation, OutOfMemory> {
+) -> Result<String, OutOfMemory> {
     let mut text = String::new(alloc);
     let is_same = node.id == before.id;
     let id = before.id;
@@ -144,7 +140,7 @@ fn link_below(
     alloc: Global,
     before: &LinkLine<'_>,
     link: &LinkLine<'_>,
-) -> Result<Explanation, OutOfMemory> {
+) -> Result<String, OutOfMemory> {
     let mut text = String::new(alloc);
     let is_same = link.from == before.from && link.to == before.to;
     let (from, to) = (before.from, before.to);
@@ -172,11 +168,18 @@ fn push_place(text: &mut String, number: usize, is_same: bool) -> Result<(), Out
     Ok(())
 }
 
-/// Says which link does not go from a node to a higher one.
-fn bad_link(alloc: Global, said: &GraphLines<'_>) -> Result<Option<Explanation>, OutOfMemory> {
+/// Says that the link on the line of this number does not go from a node to a higher one.
+fn bad_link(
+    alloc: Global,
+    said: &GraphLines<'_>,
+    number: usize,
+) -> Result<Option<String>, OutOfMemory> {
+    let Some(link) = said.links.iter().find(|link| link.line.number == number) else {
+        return Ok(None);
+    };
     let ids = ids_of(alloc, &said.nodes)?;
-    match first_bad_link(&said.links, &ids) {
-        Some((link, wrong)) => Ok(Some(wrong_link(alloc, &link, wrong)?)),
+    match wrong_in(link, &ids) {
+        Some(wrong) => Ok(Some(wrong_link(alloc, link, wrong)?)),
         None => Ok(None),
     }
 }
@@ -192,16 +195,6 @@ enum WrongLink {
     Downward,
 }
 
-/// The first link that does not go from one of these nodes to a higher one, and what is wrong with it.
-fn first_bad_link<'a>(links: &[LinkLine<'a>], ids: &[u64]) -> Option<(LinkLine<'a>, WrongLink)> {
-    for link in links {
-        if let Some(wrong) = wrong_in(link, ids) {
-            return Some((*link, wrong));
-        }
-    }
-    None
-}
-
 /// What is wrong with a link between two of these nodes, if anything is.
 fn wrong_in(link: &LinkLine<'_>, ids: &[u64]) -> Option<WrongLink> {
     if ids.binary_search(&link.from).is_err() {
@@ -214,11 +207,7 @@ fn wrong_in(link: &LinkLine<'_>, ids: &[u64]) -> Option<WrongLink> {
 }
 
 /// Says what is wrong with a link.
-fn wrong_link(
-    alloc: Global,
-    link: &LinkLine<'_>,
-    wrong: WrongLink,
-) -> Result<Explanation, OutOfMemory> {
+fn wrong_link(alloc: Global, link: &LinkLine<'_>, wrong: WrongLink) -> Result<String, OutOfMemory> {
     match wrong {
         WrongLink::NoFirst => no_node(alloc, link, link.from, 1),
         WrongLink::NoSecond => no_node(alloc, link, link.to, 2),
@@ -241,14 +230,14 @@ fn no_node(
     link: &LinkLine<'_>,
     id: u64,
     place: usize,
-) -> Result<Explanation, OutOfMemory> {
+) -> Result<String, OutOfMemory> {
     let mut text = String::new(alloc);
     write!(text, "no line says node {id}")?;
     ended(alloc, text, &link.line, place)
 }
 
 /// Says that a link does not go to a higher node.
-fn downward_link(alloc: Global, link: &LinkLine<'_>) -> Result<Explanation, OutOfMemory> {
+fn downward_link(alloc: Global, link: &LinkLine<'_>) -> Result<String, OutOfMemory> {
     let mut text = String::from_str(alloc, "a link goes from a node to a higher one")?;
     push_turned(&mut text, link.from, link.to)?;
     ended(alloc, text, &link.line, 2)

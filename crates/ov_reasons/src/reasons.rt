@@ -1,5 +1,5 @@
 ghost use Rattle.std.specs.Prelude.{◌≡◌, IfOk, string_bytes};
-ghost use Rattle.ov_reasons.specs.Reasons.{TellsOf, device_reason};
+ghost use Rattle.ov_reasons.specs.Reasons.{TellsOf, TellsOfGraphFile, device_reason};
 
 use crate::graph_faults::explain_graph;
 use crate::graph_lines::explain_graph_lines;
@@ -25,10 +25,10 @@ pub fn scenario_reasons(
 }
 
 /// Why a graph file of these bytes was refused, or its analysis ended early, with this fault. What is said of a line is
-/// as of `scenario_reasons`. Of a fault of the graph the first node or link is named that is at fault. OutOfMemory (99)
-/// where an allocation is refused.
+/// as of `scenario_reasons`. Of a fault of the graph the line is told whose node or link is at fault, and nothing where
+/// the file has not this fault. OutOfMemory (99) where an allocation is refused.
 pub fn graph_reasons(alloc: Global, bytes: &[u8], fault: &RunFault) -> Result<String, OutOfMemory>
-    ensures { IfOk result (λ text. TellsOf fault.now (string_bytes text)) }
+    ensures { IfOk result (λ text. TellsOfGraphFile bytes.now fault.now (string_bytes text)) }
 {
     match fault {
         RunFault::Line(number) | RunFault::Params(number) => {

@@ -1,3 +1,5 @@
 -- Graph files, and what their analysis prints.
 pub mod Answered
+pub mod FaultLines
 pub mod Gathering
+pub mod Walking

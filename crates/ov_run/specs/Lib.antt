@@ -1,6 +1,7 @@
 pub mod Analysing
 pub mod Ending
 pub mod Draws
+pub mod FaultLines
 pub mod Faults
 pub mod GraphFiles
 pub mod Theorems

@@ -1,4 +1,4 @@
-ghost use Rattle.std.specs.Prelude.{◌≡◌, ◌⊎◌, ◌++◌, [], option_map, Some, None, IfOk, IfErr, OnOk};
+ghost use Rattle.std.specs.Prelude.{◌≡◌, ◌≢◌, ◌⊎◌, ◌++◌, [], option_map, Some, None, IfOk, IfErr, OnOk};
 ghost use Rattle.ov_run.specs.GraphFiles.{graph_line, graph_line_of, link_of, graph_lines, node_said, link_said};
 ghost use Rattle.ov_run.specs.GraphFiles.{nodes_said, links_said, first_unread, IsGraphFile, IsGraphFileFault};
 ghost use Rattle.ov_run.specs.Lines.{words_of, two};
@@ -21,9 +21,9 @@ pub(crate) enum GraphLine {
 
 /// The nodes and the links that lines say, in order.
 #[derive(Drop)]
-struct Gathered {
-    nodes: Vec<NodeId>,
-    links: Vec<(NodeId, NodeId)>,
+pub(crate) struct Gathered {
+    pub(crate) nodes: Vec<NodeId>,
+    pub(crate) links: Vec<(NodeId, NodeId)>,
 }
 
 impl Gathered {
@@ -65,12 +65,13 @@ pub fn read_graph(alloc: Global, bytes: &[u8]) -> Result<Graph, RunFault>
 }
 
 /// The nodes and the links of a graph file, or the first line that can't be read.
-#[tactic(auto, using(crate::proofs::GraphFiles::Gathering::unread, crate::proofs::GraphFiles::Gathering::readable, crate::proofs::GraphFiles::Gathering::all_nodes, crate::proofs::GraphFiles::Gathering::all_links))]
-fn gather(alloc: Global, bytes: &[u8]) -> Result<Gathered, RunFault>
+#[tactic(auto, using(crate::proofs::GraphFiles::Gathering::unread, crate::proofs::GraphFiles::Gathering::unreadable, crate::proofs::GraphFiles::Gathering::readable, crate::proofs::GraphFiles::Gathering::all_nodes, crate::proofs::GraphFiles::Gathering::all_links))]
+pub(crate) fn gather(alloc: Global, bytes: &[u8]) -> Result<Gathered, RunFault>
     ensures readable { OnOk result (first_unread (graph_lines bytes.now) ≡ None) }
     ensures nodes { IfOk result (λ all. all.nodes.items ≡ nodes_said (graph_lines bytes.now)) }
     ensures links { IfOk result (λ all. all.links.items ≡ links_said (graph_lines bytes.now)) }
     ensures fault { IfErr result (λ f. IsGraphFileFault bytes.now f ⊎ (f ≡ RunFault.OutOfMemory)) }
+    ensures unread { IfErr result (λ f. (first_unread (graph_lines bytes.now) ≢ None) ⊎ (f ≡ RunFault.OutOfMemory)) }
 {
     let mut all = Gathered::new(alloc);
     let mut lines = KeptLines::new(bytes);
@@ -84,7 +85,7 @@ fn gather(alloc: Global, bytes: &[u8]) -> Result<Gathered, RunFault>
 }
 
 /// Reads what a line says. None is returned where it can't be read.
-fn read_graph_line(text: &[u8]) -> Option<GraphLine>
+pub(crate) fn read_graph_line(text: &[u8]) -> Option<GraphLine>
     ensures { result ≡ graph_line text.now }
 {
     let mut cursor = LineCursor::new(text);

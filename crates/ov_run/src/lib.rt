@@ -6,6 +6,7 @@ mod analysis_filing;
 mod arguments;
 mod change_texts;
 mod graph_analysis;
+mod graph_fault_lines;
 mod graph_file;
 mod id_list_reading;
 mod line_cursor;
@@ -32,6 +33,7 @@ mod workers;
 
 pub use arguments::{ArgumentsFault, Request, read_arguments};
 pub use graph_analysis::analyse_file;
+pub use graph_fault_lines::graph_fault_line;
 pub use graph_file::read_graph;
 pub use id_list_reading::read_ids;
 pub use line_texts::{entry_line, node_line, packet_line, refused_line, report_line};

@@ -3,7 +3,7 @@ use crate::answers::{analysed, analysed_whole, prints};
 use ov_graph::GraphFault;
 use ov_ids::NodeId;
 use ov_io::{Sink, Source};
-use ov_run::{RunFault, read_graph};
+use ov_run::{RunFault, graph_fault_line, read_graph};
 use ov_test_kit::Slow;
 use std::alloc::Global;
 use std::test::Fail;
@@ -113,6 +113,43 @@ fn a_graph_has_1024_nodes_at_most(rt: HostRuntime) -> Result<(), Fail> {
     assert!(rt; is_refused(&rt, more.as_bytes(), fault));
     let unread = with_nodes(alloc, 1025, "fly")?;
     assert!(rt; is_refused(&rt, unread.as_bytes(), RunFault::Line(1026)));
+    let line = graph_fault_line(alloc, more.as_bytes(), GraphFault::TooManyNodes)?;
+    assert_eq!(rt; line, Some(1025));
+    Ok(())
+}
+
+/// Graph files, a fault of a graph, and the line whose node or link is at fault.
+static FAULT_LINES: [(&str, GraphFault, Option<usize>); 10] = [
+    ("# two\nnode 2\n\nnode 1\n", GraphFault::Unordered, Some(4)),
+    ("node 1\nnode 1\n", GraphFault::Unordered, Some(2)),
+    ("node 2\nlink 1 2\nnode 1\n", GraphFault::Unordered, Some(3)),
+    ("node 2\nlink 1 2\nnode 1\n", GraphFault::BadLink, None),
+    (
+        "link 1 2\nnode 1\nnode 2\nlink 1 2\n",
+        GraphFault::Unordered,
+        Some(4),
+    ),
+    (
+        "link 1 3\nnode 1\nlink 1 2\nnode 2\n",
+        GraphFault::BadLink,
+        Some(1),
+    ),
+    (
+        "node 1\nnode 2\nlink 1 2\nlink 2 1\n",
+        GraphFault::BadLink,
+        Some(4),
+    ),
+    ("node 1\nfly\nnode 1\n", GraphFault::Unordered, None),
+    ("node 1\nnode 2\nlink 1 2\n", GraphFault::BadLink, None),
+    ("node 1\n", GraphFault::OutOfMemory, None),
+];
+
+#[test]
+fn the_line_at_fault_is_found(rt: HostRuntime) -> Result<(), Fail> {
+    for (file, fault, expected) in &FAULT_LINES {
+        let line = graph_fault_line(rt.alloc(), file.as_bytes(), *fault)?;
+        assert!(rt; line == *expected, "at {file}");
+    }
     Ok(())
 }
 

@@ -1,6 +1,6 @@
 -- What the lines of a graph file say, one after the other, and why they say no graph.
 use Rattle.std.proofs.Common.{◌≡◌, ◌∙◌, ◌⊎◌, inl, inr, ℕ, List, [], ◌∷◌, ◌++◌, map, Option, Some, None, refl, ap, sym}
-use Rattle.std.proofs.Common.{subst, append_assoc, append-nil}
+use Rattle.std.proofs.Common.{◌≢◌, subst, append_assoc, append-nil}
 use Rattle.ov_graph.specs.Faults.{IsRefusal}
 use Rattle.ov_graph.specs.declared.fault.GraphFault.{GraphFault}
 use Rattle.ov_graph.specs.declared.fault.GraphFault.TheVariants as graph_fault
@@ -73,6 +73,16 @@ unfolding first_unread
 unread bytes nodes links now later n text says g first reads is =
     sym g.unread ∙ ap (λ ls. first_unread (map graph_line_at ls)) first
     ∙ ap (λ s. first_unread ((n, s) ∷ map graph_line_at later)) (sym reads ∙ is)
+
+-- so there is a line that can't be read
+pub unreadable :
+    (bytes nodes : List ℕ) (links : List (ℕ × ℕ)) (now later : List (ℕ × List ℕ)) (n : ℕ) (text : List ℕ)
+    (says : Option GraphLine)
+    → Gathers bytes nodes links now → now ≡ (n, text) ∷ later → says ≡ graph_line text → says ≡ None
+    → first_unread (graph_lines bytes) ≢ None
+unreadable bytes nodes links now later n text says g first reads is every =
+    let both : Some n ≡ None = sym (unread bytes nodes links now later n text says g first reads is) ∙ every in
+    absurd (cc)
 
 -- all lines were taken in
 pub readable :
