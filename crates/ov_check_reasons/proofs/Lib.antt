@@ -1,11 +1,3 @@
 pub mod Fitting
-pub mod Breaking
-pub mod PathRuling
-pub mod Frames
-pub mod Placing
+pub mod Rules
 pub mod Telling
-pub mod EntryTelling
-pub mod FrameTelling
-pub mod Whole
-pub mod LinkRules
-pub mod GraphTelling

@@ -1,48 +1,8 @@
--- Texts that grow, and what was told in them.
-use Rattle.std.proofs.Common.{◌≡◌, ◌∙◌, ℕ, ◌+◌, ◌<◌, List, [], ◌∷◌, ◌++◌, length, drop, get_or}
-use Rattle.std.proofs.Common.{refl, sym, ap, append_assoc, append-nil, add-one}
-use Rattle.std.proofs.Math.Seq.{drop-cons}
-use Rattle.ov_check_reasons.specs.declared.words.Word.{Word}
-use Rattle.ov_check_reasons.specs.Opening.{BeginsWith}
-use Rattle.ov_check_reasons.specs.Code.Words.{word_text, words_text, Adds}
-
--- SENTENCES
-
-words_cons : (w : Word) (ws : List Word) → words_text (w ∷ ws) ≡ word_text w ++ words_text ws
-words_cons w [] = sym (append-nil (word_text w))
-words_cons w (v ∷ ws) = refl
-
--- one word more
-pub word_more : (before after : List ℕ) (words : List Word) (i : ℕ) (w : Word) → i < length words
-    → w ≡ get_or words i w → after ≡ before ++ word_text w
-    → after ++ words_text (drop (i + 1) words) ≡ before ++ words_text (drop i words)
-word_more before after words i w l is e =
-    let rest = drop (i + 1) words in
-    let at : drop i words ≡ w ∷ rest = drop-cons words i w l ∙ rw (← is, add-one i) refl in
-    ap (λ t. t ++ words_text rest) e ∙ append_assoc before (word_text w) (words_text rest)
-    ∙ ap (λ t. before ++ t) (sym (ap words_text at ∙ words_cons w rest))
-
--- WHAT WAS TOLD
-
-pub nothing_added : (Tells : List ℕ → Type 0) (before : List ℕ) → Tells [] → Adds Tells before before
-nothing_added Tells before t = ([], sym (append-nil before), t)
-
--- it was appended by one call
-pub added : (Tells : List ℕ → Type 0) (before after text : List ℕ) → after ≡ before ++ text → Tells text
-    → Adds Tells before after
-added Tells before after text e t = (text, e, t)
-
--- it begins with what one call appended, and other calls appended the rest
-pub added_more : (Tells : List ℕ → Type 0) (before mid after front rest : List ℕ) → mid ≡ before ++ front
-    → after ≡ mid ++ rest → Tells (front ++ rest) → Adds Tells before after
-added_more Tells before mid after front rest e f t =
-    (front ++ rest, f ∙ ap (λ xs. xs ++ rest) e ∙ append_assoc before front rest, t)
-
-pub added_front : (Tells : List ℕ → Type 0) (before after front : List ℕ) → BeginsWith (before ++ front) after
-    → ((text : List ℕ) → BeginsWith front text → Tells text) → Adds Tells before after
-added_front Tells before after front b t =
-    (front ++ b.0, b.1 ∙ append_assoc before front b.0, t (front ++ b.0) (b.0, refl))
-
-pub added_weaker : (P Q : List ℕ → Type 0) (before after : List ℕ) → Adds P before after
-    → ((text : List ℕ) → P text → Q text) → Adds Q before after
-added_weaker P Q before after a f = (a.0, a.1, f a.0 a.2)
+-- What is told of a fault.
+pub mod Texts
+pub mod Placing
+pub mod Entries
+pub mod Frames
+pub mod Graphs
+pub mod Keys
+pub mod Whole

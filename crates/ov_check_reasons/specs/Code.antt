@@ -5,3 +5,4 @@ pub mod PathRules
 pub mod PathTexts
 pub mod Leaving
 pub mod GraphFaults
+pub mod Failing

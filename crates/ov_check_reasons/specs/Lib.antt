@@ -1,3 +1,4 @@
 pub mod Opening
+pub mod FilePlaces
 pub mod Places
 pub mod Code

@@ -30,17 +30,17 @@ pair_opening i j = from_words i ++ to_words j
 abbrev pub fan_opening : ℕ → List ℕ
 fan_opening j = codes "the fan of " ++ (decimal j ++ codes " does not hold")
 
--- the claim of a certificate that does not hold
-abbrev pub claim_opening : CheckFault → List ℕ
-claim_opening Count = codes "the count is wrong"
-claim_opening Cut = codes "the cut is no set of nodes"
-claim_opening Side = codes "the side is not cut off"
-claim_opening (Pair i j) = pair_opening i j
-claim_opening (Fan j) = fan_opening j
-claim_opening Extra = codes "there are more entries than expected"
-claim_opening NotLinked = codes "two members are not linked"
-claim_opening NoNodes = codes "the graph has no node"
-claim_opening BadGroup = codes "the group is no group of nodes"
+-- the statement of a certificate that does not hold
+abbrev pub statement_opening : CheckFault → List ℕ
+statement_opening Count = codes "the count is wrong"
+statement_opening Cut = codes "the cut is no set of nodes"
+statement_opening Side = codes "the side is not cut off"
+statement_opening (Pair i j) = pair_opening i j
+statement_opening (Fan j) = fan_opening j
+statement_opening Extra = codes "there are more entries than expected"
+statement_opening NotLinked = codes "two members are not linked"
+statement_opening NoNodes = codes "the graph has no node"
+statement_opening BadGroup = codes "the group is no group of nodes"
 
 -- why bytes are no certificate file
 abbrev pub file_opening : FileFault → List ℕ
@@ -58,5 +58,5 @@ file_opening OutOfMemory = codes "out of memory"
 -- of a file that holds there is nothing to say
 abbrev pub opening : Outcome → List ℕ
 opening (Holds f) = []
-opening (Fails fault) = claim_opening fault
+opening (Fails fault) = statement_opening fault
 opening (Refused fault) = file_opening fault

@@ -22,7 +22,9 @@ use Rattle.ov_cert.specs.declared.fault.CheckFault.TheVariants.{Count, Cut, Side
 use Rattle.ov_cert.specs.declared.fault.CheckFault.TheVariants.{NoNodes, BadGroup}
 use Rattle.ov_cert.specs.Valid.{AreUnlinkedPairs}
 use Rattle.ov_cert.specs.Entries.{IsExpected}
-use Rattle.ov_certfile.specs.declared.fault.FileFault.TheVariants.{Graph}
+use Rattle.ov_certfile.specs.declared.fault.FileFault.{FileFault}
+use Rattle.ov_certfile.specs.declared.fault.FileFault.TheVariants.{Graph, NotJson, MissingKey}
+use Rattle.ov_certfile.specs.declared.fault.FileFault.TheVariants.{Version as AnotherVersion}
 use Rattle.ov_certfile.specs.declared.reading.Filed.{Filed}
 use Rattle.ov_certfile.specs.declared.version.Version.{Version}
 use Rattle.ov_certfile.specs.Keys.{said}
@@ -32,6 +34,7 @@ use Rattle.ov_check.specs.Outcome.{BytesSay, IsOutcome}
 use Rattle.ov_check.specs.declared.outcome.Outcome.{Outcome}
 use Rattle.ov_check.specs.declared.outcome.Outcome.TheVariants.{Holds, Fails, Refused}
 use Rattle.ov_check_reasons.specs.Opening.{opening, BeginsWith}
+use Rattle.ov_check_reasons.specs.FilePlaces.{TellsMissing, TellsVersion}
 
 -- the place of the first item that breaks a rule: the items before it keep the rule, and with it they do not
 pub record IsFirstBreak {X : Type 0} (Keep : List X → Type 0) (xs : List X) (place : ℕ) : Type 0 where
@@ -228,23 +231,28 @@ TellsFault g q (SplitBy c) (Fan j) text = TellsFan g q c j text
 TellsFault g q (SplitBy c) Extra text = TellsExtra g q c text
 TellsFault g q c fault text = Unit {0}
 
--- what is told of a fault of the graph that the bytes say, whose version says how many nodes are allowed
-pub record TellsGraphOf (bytes : List ℕ) (fault : GraphFault) (text : List ℕ) : Type 0 where
-  pub value : Data
-  pub json : read bytes ≡ Some value
+-- what is told of a fault of the graph that a value says, whose version says how many nodes are allowed
+pub record TellsGraphIn (fault : GraphFault) (value : Data) (text : List ℕ) : Type 0 where
   pub version : Version
   pub version_said : said version_in (codes "version") value ≡ Some version
   pub given : LinkGraph
   pub graph : SaysGraph value given
   pub tells : TellsGraph (most_nodes_of version) given fault text
 
+-- what is told of a JSON value that is refused for a missing key, for its version or for its graph
+abbrev pub TellsValue : FileFault → Data → List ℕ → Type 0
+TellsValue MissingKey value text = TellsMissing value text
+TellsValue AnotherVersion value text = TellsVersion value text
+TellsValue (Graph fault) value text = TellsGraphIn fault value text
+TellsValue fault value text = Unit {0}
+
 -- What is told behind the opening. Of a certificate that holds nothing is told. Of one that does not it is told where
--- it breaks. Of a file that is refused for its graph it is told where that breaks.
+-- it breaks. Of bytes that are a JSON value and are refused it is told what TellsValue says of that value.
 abbrev pub TellsPlace : List ℕ → Outcome → List ℕ → Type 0
 TellsPlace bytes (Holds f) text = text ≡ []
 TellsPlace bytes (Fails fault) text = (f : Filed) × BytesSay bytes (Ok f) × TellsFault f.graph f.group f.cert fault text
-TellsPlace bytes (Refused (Graph fault)) text = TellsGraphOf bytes fault text
-TellsPlace bytes (Refused fault) text = Unit {0}
+TellsPlace bytes (Refused NotJson) text = Unit {0}
+TellsPlace bytes (Refused fault) text = (d : Data) × (read bytes ≡ Some d) × TellsValue fault d text
 
 -- an explanation: where the outcome is that of the bytes, the text is the opening, and then the place
 unfoldable pub ExplainsOutcome : List ℕ → Outcome → List ℕ → Type 0

@@ -2,20 +2,19 @@ ghost use Rattle.std.specs.Prelude.{Ok, IfOk, OnOk, string_bytes};
 ghost use Rattle.ov_cert.specs.declared.cert.Cert.TheVariants.{Linked as AllLinked, Split as SplitBy};
 ghost use Rattle.ov_cert.specs.Verdict.{IsFirstFault};
 ghost use Rattle.ov_check.specs.Outcome.{IsOutcome};
-ghost use Rattle.ov_check.specs.declared.outcome.Outcome.TheVariants.{Fails, Refused};
-ghost use Rattle.ov_certfile.specs.declared.fault.FileFault.TheVariants as refusal;
+ghost use Rattle.ov_check.specs.declared.outcome.Outcome.TheVariants.{Fails};
 ghost use Rattle.ov_check_reasons.specs.Opening.{opening, BeginsWith};
 ghost use Rattle.ov_check_reasons.specs.Places.{TellsFault, TellsPlace, ExplainsOutcome};
 ghost use Rattle.ov_check_reasons.specs.Code.Words.{Adds};
 
 use crate::entries::{tell_extra, tell_fan, tell_pair};
-use crate::file::{tell_file, tell_graph_of};
+use crate::file::place_in_file;
 use crate::frame::{tell_count, tell_cut, tell_group, tell_side, tell_unlinked};
 use crate::opening::say_opening;
 use ov_cert::{Cert, CheckFault, Split};
 use ov_certfile::{FileFault, Filed, from_text};
 use ov_check::Outcome;
-use ov_graph::{Graph, GraphFault};
+use ov_graph::Graph;
 use ov_ids::{NodeId, OutOfMemory};
 use std::alloc::Global;
 
@@ -43,46 +42,21 @@ fn place_of(alloc: Global, bytes: &[u8], outcome: &Outcome) -> Result<String, Ou
 {
     match outcome {
         Outcome::Holds(_) => Ok(String::new(alloc)),
-        Outcome::Fails(fault) => place_in_claim(alloc, bytes, *fault),
+        Outcome::Fails(fault) => place_in_statement(alloc, bytes, *fault),
         Outcome::Refused(fault) => place_in_file(alloc, bytes, *fault),
     }
 }
 
-fn place_in_claim(alloc: Global, bytes: &[u8], fault: CheckFault) -> Result<String, OutOfMemory>
+fn place_in_statement(alloc: Global, bytes: &[u8], fault: CheckFault) -> Result<String, OutOfMemory>
     ensures { IsOutcome bytes.now (Fails fault)
         → IfOk result (λ text. TellsPlace bytes.now (Fails fault) (string_bytes text)) }
 {
     let mut text = String::new(alloc);
-    tell_claim(alloc, &mut text, bytes, fault)?;
+    tell_statement(alloc, &mut text, bytes, fault)?;
     Ok(text)
 }
 
-fn place_in_file(alloc: Global, bytes: &[u8], fault: FileFault) -> Result<String, OutOfMemory>
-    ensures { IsOutcome bytes.now (Refused fault)
-        → IfOk result (λ text. TellsPlace bytes.now (Refused fault) (string_bytes text)) }
-{
-    match fault {
-        FileFault::Graph(fault) => place_in_graph(alloc, bytes, fault),
-        _ => place_in_value(alloc, bytes, fault),
-    }
-}
-
-fn place_in_graph(alloc: Global, bytes: &[u8], fault: GraphFault) -> Result<String, OutOfMemory>
-    ensures { IsOutcome bytes.now (Refused (refusal.Graph fault))
-        → IfOk result (λ text. TellsPlace bytes.now (Refused (refusal.Graph fault)) (string_bytes text)) }
-{
-    let mut text = String::new(alloc);
-    tell_graph_of(alloc, &mut text, bytes, fault)?;
-    Ok(text)
-}
-
-fn place_in_value(alloc: Global, bytes: &[u8], fault: FileFault) -> Result<String, OutOfMemory> {
-    let mut text = String::new(alloc);
-    tell_file(alloc, &mut text, bytes, fault)?;
-    Ok(text)
-}
-
-fn tell_claim(
+fn tell_statement(
     alloc: Global,
     text: &mut String,
     bytes: &[u8],
@@ -95,7 +69,7 @@ fn tell_claim(
         return Ok(());
     };
     match from_text(alloc, source) {
-        Ok(filed) => Ok(tell_fault(alloc, text, &filed, fault)?),
+        Ok(filed) => tell_fault(alloc, text, &filed, fault),
         Err(fault) => match fault {
             FileFault::OutOfMemory => Err(OutOfMemory),
             _ => Ok(()),

@@ -1,71 +1,69 @@
-ghost use Rattle.std.specs.Prelude.{◌≡◌, Some, OnOk, string_bytes, codes};
+ghost use Rattle.std.specs.Prelude.{◌≡◌, Some, IfOk, OnOk, string_bytes, codes};
 ghost use Rattle.serde_json.specs.View.{view};
-ghost use Rattle.ov_graph.specs.Links.{LinkGraph};
-ghost use Rattle.ov_certfile.specs.declared.fault.FileFault.TheVariants.{Graph};
 ghost use Rattle.ov_certfile.specs.declared.version.Version.{Version};
 ghost use Rattle.ov_certfile.specs.Keys.{said};
 ghost use Rattle.ov_certfile.specs.Kinds.{version_in, most_nodes_of};
-ghost use Rattle.ov_certfile.specs.Says.{SaysGraph};
+ghost use Rattle.ov_certfile.specs.Says.{IsNoGraph, IsFault};
 ghost use Rattle.ov_check.specs.Outcome.{IsOutcome};
 ghost use Rattle.ov_check.specs.declared.outcome.Outcome.TheVariants.{Refused};
-ghost use Rattle.ov_check_reasons.specs.Places.{TellsGraph, TellsGraphOf};
+ghost use Rattle.ov_certfile.specs.declared.fault.FileFault.TheVariants.{MissingKey};
+ghost use Rattle.ov_certfile.specs.declared.fault.FileFault.TheVariants.{Version as AnotherVersion};
+ghost use Rattle.ov_check_reasons.specs.FilePlaces.{TellsMissing, TellsVersion};
+ghost use Rattle.ov_check_reasons.specs.Places.{TellsGraphIn, TellsValue, TellsPlace};
 ghost use Rattle.ov_check_reasons.specs.Code.Words.{Adds};
-ghost use Rattle.ov_check_reasons.specs.Code.GraphFaults.{IsUnsound, is_second};
 
-use crate::forms::{Form, NUMBER_LIMIT, fits_at, is_below};
+use crate::bad_value::tell_bad_value;
 use crate::graph::tell_graph;
-use crate::keys::{first_missing, first_unknown, say_missing, say_unknown};
-use crate::values::say_found;
+use crate::wanted::{names_group, tell_missing, tell_unknown, tell_version};
 use crate::words::{Word, count, say};
-use ov_cert::{FanPaths, PairPaths};
 use ov_certfile::FileFault;
 use ov_graph::GraphFault;
-use ov_ids::{NodeId, OutOfMemory, Seq};
+use ov_ids::OutOfMemory;
 use serde_json::Value;
 use std::alloc::Global;
 
-/// The keys of a file of version 1 with verdict linked; with two more it is those of version 1 with verdict split.
-const LINKED_ONE: &[&str] = &["version", "verdict", "k", "links", "moment", "nodes"];
-
-const LINKED_TWO: &[&str] = &[
-    "version", "verdict", "k", "links", "moment", "nodes", "group",
-];
-
-const SPLIT_ONE: &[&str] = &[
-    "version", "verdict", "k", "links", "moment", "nodes", "cut", "near", "far", "side", "pairs",
-    "fans",
-];
-
-const SPLIT_TWO: &[&str] = &[
-    "version", "verdict", "k", "links", "moment", "nodes", "group", "cut", "near", "far", "side",
-    "pairs", "fans",
-];
-
-/// The limit of moments: each is below it.
-const MOMENT_LIMIT: u64 = 65_537;
-
-/// Tells where in a file its fault shows.
-pub(crate) fn tell_file(
+/// Where in a file the fault shows for which it is refused.
+pub(crate) fn place_in_file(
     alloc: Global,
-    text: &mut String,
     bytes: &[u8],
     fault: FileFault,
-) -> Result<(), OutOfMemory> {
+) -> Result<String, OutOfMemory>
+    ensures { IsOutcome bytes.now (Refused fault)
+        → IfOk result (λ text. TellsPlace bytes.now (Refused fault) (string_bytes text)) }
+{
     let source = match str::from_utf8(bytes) {
         Ok(source) => source,
-        Err(error) => {
-            let byte = count(error.valid_up_to().saturating_add(1));
-            return say(
-                text,
-                &[Word::Text(": no UTF-8 from byte "), byte, Word::Text(" on")],
-            );
-        }
+        Err(error) => return place_of_no_text(alloc, error.valid_up_to()),
     };
     match Value::from_str(alloc, source) {
-        Ok(value) => tell_value(alloc, text, &value, fault),
+        Ok(value) => place_in_value(alloc, &value, fault),
         Err(error) if error.is_memory() => Err(OutOfMemory),
-        Err(error) => tell_no_json(text, source, error.line(), error.column(), error.is_eof()),
+        Err(error) => place_in_text(alloc, source, error.line(), error.column(), error.is_eof()),
     }
+}
+
+/// Where bytes are no text, of which so many first bytes are.
+fn place_of_no_text(alloc: Global, valid: usize) -> Result<String, OutOfMemory> {
+    let mut text = String::new(alloc);
+    let byte = count(valid.saturating_add(1));
+    say(
+        &mut text,
+        &[Word::Text(": no UTF-8 from byte "), byte, Word::Text(" on")],
+    )?;
+    Ok(text)
+}
+
+/// Where a text is no JSON.
+fn place_in_text(
+    alloc: Global,
+    source: &str,
+    line: usize,
+    column: usize,
+    is_cut: bool,
+) -> Result<String, OutOfMemory> {
+    let mut text = String::new(alloc);
+    tell_no_json(&mut text, source, line, column, is_cut)?;
+    Ok(text)
 }
 
 /// Tells where a text is no JSON.
@@ -98,187 +96,58 @@ fn tell_no_json(
     )
 }
 
-/// Tells where a JSON value is no certificate file.
-fn tell_value(
-    alloc: Global,
-    text: &mut String,
-    value: &Value,
-    fault: FileFault,
-) -> Result<(), OutOfMemory> {
+/// Where a JSON value is no certificate file.
+fn place_in_value(alloc: Global, value: &Value, fault: FileFault) -> Result<String, OutOfMemory>
+    ensures { IsFault (view value.now) fault
+        → IfOk result (λ text. TellsValue fault (view value.now) (string_bytes text)) }
+{
     match fault {
-        FileFault::MissingKey => tell_missing(alloc, text, value),
-        FileFault::UnknownKey => tell_unknown(alloc, text, value),
-        FileFault::BadValue => tell_bad_value(alloc, text, value),
-        FileFault::Version => tell_version(alloc, text, value),
-        FileFault::Graph(_) | FileFault::NotJson | FileFault::OutOfMemory => Ok(()),
+        FileFault::Graph(fault) => place_in_graph(alloc, value, fault),
+        FileFault::MissingKey => place_of_missing(alloc, value),
+        FileFault::UnknownKey => place_of_unknown(alloc, value),
+        FileFault::Version => place_of_version(alloc, value),
+        FileFault::BadValue => place_of_bad_value(alloc, value),
+        FileFault::NotJson | FileFault::OutOfMemory => Ok(String::new(alloc)),
     }
 }
 
-/// Whether a file names its group, as one of version 2.
-fn names_group(value: &Value) -> bool
-    ensures { result ≡ is_second (said version_in (codes "version") (view value.now)) }
+fn place_in_graph(alloc: Global, value: &Value, fault: GraphFault) -> Result<String, OutOfMemory>
+    ensures { IsNoGraph (view value.now) fault
+        → IfOk result (λ text. TellsGraphIn fault (view value.now) (string_bytes text)) }
 {
-    match value.get("version") {
-        Some(version) => is_two(version),
-        None => false,
-    }
+    let mut text = String::new(alloc);
+    tell_bad_graph(alloc, &mut text, value, fault)?;
+    Ok(text)
 }
 
-fn is_two(value: &Value) -> bool
-    ensures { result ≡ is_second (version_in (view value.now)) }
+fn place_of_missing(alloc: Global, value: &Value) -> Result<String, OutOfMemory>
+    ensures { IsFault (view value.now) MissingKey
+        → IfOk result (λ text. TellsMissing (view value.now) (string_bytes text)) }
 {
-    match value.as_u64() {
-        Some(2) => true,
-        _ => false,
-    }
+    let mut text = String::new(alloc);
+    tell_missing(alloc, &mut text, value)?;
+    Ok(text)
 }
 
-/// Whether a file says that some nodes split the group.
-fn says_split(value: &Value) -> bool {
-    match value.get("verdict") {
-        Some(verdict) => verdict.as_str() == Some("split"),
-        None => false,
-    }
+fn place_of_unknown(alloc: Global, value: &Value) -> Result<String, OutOfMemory> {
+    let mut text = String::new(alloc);
+    tell_unknown(alloc, &mut text, value)?;
+    Ok(text)
 }
 
-/// The keys that a file must have.
-fn keys_of(value: &Value) -> &'static [&'static str] {
-    match (names_group(value), says_split(value)) {
-        (false, false) => LINKED_ONE,
-        (false, true) => SPLIT_ONE,
-        (true, false) => LINKED_TWO,
-        (true, true) => SPLIT_TWO,
-    }
+fn place_of_version(alloc: Global, value: &Value) -> Result<String, OutOfMemory>
+    ensures { IsFault (view value.now) AnotherVersion
+        → IfOk result (λ text. TellsVersion (view value.now) (string_bytes text)) }
+{
+    let mut text = String::new(alloc);
+    tell_version(alloc, &mut text, value)?;
+    Ok(text)
 }
 
-fn tell_missing(alloc: Global, text: &mut String, value: &Value) -> Result<(), OutOfMemory> {
-    let Some(key) = first_missing(keys_of(value), value) else {
-        return Ok(());
-    };
-    say(text, &[Word::Text(": ")])?;
-    say_missing(alloc, text, SPLIT_TWO, value, key)
-}
-
-fn tell_unknown(alloc: Global, text: &mut String, value: &Value) -> Result<(), OutOfMemory> {
-    let keys = keys_of(value);
-    let Some(key) = first_unknown(keys, value) else {
-        return Ok(());
-    };
-    say(text, &[Word::Text(": ")])?;
-    say_unknown(alloc, text, keys, key)?;
-    match key {
-        "group" => say(text, &[Word::Text(", which version 1 does not have")]),
-        "cut" | "near" | "far" | "side" | "pairs" | "fans" => {
-            say(text, &[Word::Text(", which a linked file does not have")])
-        }
-        _ => Ok(()),
-    }
-}
-
-fn tell_version(alloc: Global, text: &mut String, value: &Value) -> Result<(), OutOfMemory> {
-    match value.get("version") {
-        Some(version) => say_found(alloc, text, "1 or 2", version),
-        None => Ok(()),
-    }
-}
-
-/// Tells which value does not have its form.
-fn tell_bad_value(alloc: Global, text: &mut String, value: &Value) -> Result<(), OutOfMemory> {
-    if !value.is_object() {
-        return say_found(alloc, text, "an object", value);
-    }
-    if tell_heading(alloc, text, value)? {
-        return Ok(());
-    }
-    if tell_if::<Seq<(NodeId, NodeId)>>(alloc, text, value, "links")? {
-        return Ok(());
-    }
-    if tell_if::<Seq<NodeId>>(alloc, text, value, "nodes")? {
-        return Ok(());
-    }
-    if names_group(value) && tell_if::<Seq<NodeId>>(alloc, text, value, "group")? {
-        return Ok(());
-    }
-    if says_split(value) {
-        return tell_split(alloc, text, value);
-    }
-    Ok(())
-}
-
-/// Tells a verdict, a k or a moment that does not have its form, and whether there was one.
-fn tell_heading(alloc: Global, text: &mut String, value: &Value) -> Result<bool, OutOfMemory> {
-    let Some(verdict) = value.get("verdict") else {
-        return Ok(false);
-    };
-    if !matches!(verdict.as_str(), Some("linked") | Some("split")) {
-        say(text, &[Word::Text(", verdict")])?;
-        say_found(alloc, text, "\"linked\" or \"split\"", verdict)?;
-        return Ok(true);
-    }
-    let limit = "a whole number from 0 to 4294967295";
-    if tell_number(alloc, text, value, "k", NUMBER_LIMIT, limit)? {
-        return Ok(true);
-    }
-    let limit = "a whole number from 0 to 65536";
-    tell_number(alloc, text, value, "moment", MOMENT_LIMIT, limit)
-}
-
-fn tell_number(
-    alloc: Global,
-    text: &mut String,
-    value: &Value,
-    key: &str,
-    limit: u64,
-    expected: &str,
-) -> Result<bool, OutOfMemory> {
-    let Some(value) = value.get(key) else {
-        return Ok(false);
-    };
-    if is_below(value, limit) {
-        return Ok(false);
-    }
-    say(text, &[Word::Text(", "), Word::Text(key)])?;
-    say_found(alloc, text, expected, value)?;
-    Ok(true)
-}
-
-/// Tells which value of a cut, its side or the entries does not have its form.
-fn tell_split(alloc: Global, text: &mut String, value: &Value) -> Result<(), OutOfMemory> {
-    if tell_if::<Seq<NodeId>>(alloc, text, value, "cut")? {
-        return Ok(());
-    }
-    if tell_if::<NodeId>(alloc, text, value, "near")? {
-        return Ok(());
-    }
-    if tell_if::<NodeId>(alloc, text, value, "far")? {
-        return Ok(());
-    }
-    if tell_if::<Seq<NodeId>>(alloc, text, value, "side")? {
-        return Ok(());
-    }
-    if tell_if::<Seq<PairPaths>>(alloc, text, value, "pairs")? {
-        return Ok(());
-    }
-    tell_if::<Seq<FanPaths>>(alloc, text, value, "fans")?;
-    Ok(())
-}
-
-/// Tells where the value at a key breaks its form, and whether it does.
-fn tell_if<F: Form>(
-    alloc: Global,
-    text: &mut String,
-    value: &Value,
-    key: &str,
-) -> Result<bool, OutOfMemory> {
-    if fits_at::<F>(value, key) {
-        return Ok(false);
-    }
-    let Some(value) = value.get(key) else {
-        return Ok(false);
-    };
-    say(text, &[Word::Text(", "), Word::Text(key)])?;
-    F::tell(alloc, text, value)?;
-    Ok(true)
+fn place_of_bad_value(alloc: Global, value: &Value) -> Result<String, OutOfMemory> {
+    let mut text = String::new(alloc);
+    tell_bad_value(alloc, &mut text, value)?;
+    Ok(text)
 }
 
 /// How many nodes a file of this version may have.
@@ -296,30 +165,9 @@ fn tell_bad_graph(
     value: &Value,
     fault: GraphFault,
 ) -> Result<(), OutOfMemory>
-    ensures { (version : Version) (g : LinkGraph) → said version_in (codes "version") (view value.now) ≡ Some version
-        → SaysGraph (view value.now) g → IsUnsound g fault
-        → OnOk result (Adds (TellsGraph (most_nodes_of version) g fault) (string_bytes text.old)
-        (string_bytes text.new)) }
-{
-    tell_graph(alloc, text, value, most_of(value), fault)
-}
-
-/// Tells where bytes say no graph.
-pub(crate) fn tell_graph_of(
-    alloc: Global,
-    text: &mut String,
-    bytes: &[u8],
-    fault: GraphFault,
-) -> Result<(), OutOfMemory>
-    ensures { IsOutcome bytes.now (Refused (Graph fault)) → OnOk result (Adds (TellsGraphOf bytes.now fault)
+    ensures { IsNoGraph (view value.now) fault → OnOk result (Adds (TellsGraphIn fault (view value.now))
         (string_bytes text.old) (string_bytes text.new)) }
 {
-    let Ok(source) = str::from_utf8(bytes) else {
-        return Ok(());
-    };
-    match Value::from_str(alloc, source) {
-        Ok(value) => Ok(tell_bad_graph(alloc, text, &value, fault)?),
-        Err(error) if error.is_memory() => Err(OutOfMemory),
-        Err(_) => Ok(()),
-    }
+    tell_graph(alloc, text, value, most_of(value), fault)?;
+    Ok(())
 }

@@ -1,8 +1,11 @@
-ghost use Rattle.std.specs.Prelude.{◌≡◌, ◌≤◌, length, map, is_none, false, IfSome, string_bytes};
+ghost use Rattle.std.specs.Prelude.{◌≡◌, ◌≤◌, ◌++◌, length, map, is_none, false, option_map, IfSome, OnOk, string_bytes};
 ghost use Rattle.std.specs.List.{list_all};
 ghost use Rattle.std.specs.BTreeMap.{keys};
 ghost use Rattle.serde_json.specs.View.{view};
 ghost use Rattle.ov_certfile.specs.Keys.{is_among, has_key, has_all, has_no_other, has_just};
+ghost use Rattle.ov_check_reasons.specs.Opening.{BeginsWith};
+ghost use Rattle.ov_check_reasons.specs.FilePlaces.{key_text};
+ghost use Rattle.ov_check_reasons.specs.Code.Failing.{first_failing};
 
 use crate::values::say_key;
 use crate::words::{Word, say};
@@ -16,7 +19,8 @@ const MOST_APART: usize = 2;
 /// The first of these keys that a value lacks.
 pub(crate) fn first_missing(keys: &'static [&'static str], value: &Value) -> Option<&'static str>
     ensures none { is_none result ≡ has_all (map (λ k. k.now) keys.now) (view value.now) }
-    ensures lacks { IfSome result (λ key. has_key key.now (view value.now) ≡ false) }
+    ensures first { option_map (λ k. k.now) result
+        ≡ first_failing (λ k. has_key k (view value.now)) (map (λ k. k.now) keys.now) }
 {
     for key in keys {
         if value.get(*key).is_none() {
@@ -39,7 +43,8 @@ pub(crate) fn first_unknown<'v>(keys: &[&str], value: &'v Value) -> Option<&'v s
     None
 }
 
-fn is_one_of(keys: &[&str], key: &str) -> bool
+/// Whether a key is one of these.
+pub(crate) fn is_one_of(keys: &[&str], key: &str) -> bool
     ensures { result ≡ is_among (map (λ k. k.now) keys.now) key.now }
 {
     for other in keys {
@@ -135,14 +140,14 @@ pub(crate) fn say_missing(
     keys: &[&str],
     value: &Value,
     key: &str,
-) -> Result<(), OutOfMemory> {
+) -> Result<(), OutOfMemory>
+    ensures { OnOk result (BeginsWith (string_bytes text.old ++ key_text key.now) (string_bytes text.new)) }
+{
     say_key(alloc, text, key)?;
-    let Some(other) = near_unknown(keys, value, key) else {
-        return Ok(());
-    };
-    say(text, &[Word::Text("; is it written ")])?;
-    say_key(alloc, text, other)?;
-    say(text, &[Word::Text("?")])
+    if let Some(other) = near_unknown(keys, value, key) {
+        say_guess(alloc, text, "; is it written ", other)?;
+    }
+    Ok(())
 }
 
 /// Tells an unknown key, and the key that may have been meant.
@@ -153,10 +158,18 @@ pub(crate) fn say_unknown(
     key: &str,
 ) -> Result<(), OutOfMemory> {
     say_key(alloc, text, key)?;
-    let Some(other) = near_key(keys, key) else {
-        return Ok(());
-    };
-    say(text, &[Word::Text("; did you mean ")])?;
-    say_key(alloc, text, other)?;
-    say(text, &[Word::Text("?")])
+    if let Some(other) = near_key(keys, key) {
+        say_guess(alloc, text, "; did you mean ", other)?;
+    }
+    Ok(())
+}
+
+/// Asks whether a key is meant.
+fn say_guess(alloc: Global, text: &mut String, question: &str, key: &str) -> Result<(), OutOfMemory>
+    ensures { OnOk result (BeginsWith (string_bytes text.old) (string_bytes text.new)) }
+{
+    say(text, &[Word::Text(question)])?;
+    say_key(alloc, text, key)?;
+    say(text, &[Word::Text("?")])?;
+    Ok(())
 }

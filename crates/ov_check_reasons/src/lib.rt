@@ -1,6 +1,7 @@
 //! Why a certificate file does not hold, in plain words for a person.
 #![tactic(auto)]
 
+mod bad_value;
 mod entries;
 mod explain;
 mod file;
@@ -12,6 +13,7 @@ mod keys;
 mod opening;
 mod paths;
 mod values;
+mod wanted;
 mod words;
 
 pub use explain::reasons;

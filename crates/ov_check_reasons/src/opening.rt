@@ -1,6 +1,6 @@
 ghost use Rattle.std.specs.Prelude.{◌≡◌, ◌++◌, OnOk, string_bytes};
 ghost use Rattle.ov_check_reasons.specs.Opening.{from_words, to_words, pair_opening, fan_opening};
-ghost use Rattle.ov_check_reasons.specs.Opening.{claim_opening, file_opening, opening};
+ghost use Rattle.ov_check_reasons.specs.Opening.{statement_opening, file_opening, opening};
 
 use ov_cert::CheckFault;
 use ov_certfile::FileFault;
@@ -14,13 +14,13 @@ pub(crate) fn say_opening(text: &mut String, outcome: &Outcome) -> Result<(), Ou
 {
     match outcome {
         Outcome::Holds(_) => Ok(()),
-        Outcome::Fails(fault) => say_claim(text, *fault),
+        Outcome::Fails(fault) => say_statement(text, *fault),
         Outcome::Refused(fault) => say_text(text, words_of_file(*fault)),
     }
 }
 
-fn say_claim(text: &mut String, fault: CheckFault) -> Result<(), OutOfMemory>
-    ensures { OnOk result (string_bytes text.new ≡ string_bytes text.old ++ claim_opening fault) }
+fn say_statement(text: &mut String, fault: CheckFault) -> Result<(), OutOfMemory>
+    ensures { OnOk result (string_bytes text.new ≡ string_bytes text.old ++ statement_opening fault) }
 {
     match fault {
         CheckFault::Pair { i, j } => say_pair(text, i, j),

@@ -1,4 +1,5 @@
 ghost use Rattle.std.specs.Prelude.{◌≡◌, ◌++◌, length, is_none, not, OnOk, MatchOption, string_bytes};
+ghost use Rattle.std.specs.Prelude.{codes, decimal};
 ghost use Rattle.ov_cert.specs.Code.Tests.{chained, last_of};
 ghost use Rattle.ov_check_reasons.specs.Places.{IsFirstBreak, TellsPaths, path_text, paths_text};
 ghost use Rattle.ov_check_reasons.specs.Code.Words.{Adds};
@@ -250,49 +251,72 @@ fn say_flaw(text: &mut String, rule: &Rule, flaw: PathFlaw) -> Result<(), OutOfM
 {
     match flaw {
         PathFlaw::Empty => say(text, &[Word::Text(" has no node")]),
-        PathFlaw::Begins(id) => say(
-            text,
-            &[
-                Word::Text(" begins at "),
-                node(id),
-                Word::Text(", not at "),
-                node(rule.from),
-            ],
-        ),
+        PathFlaw::Begins(id) => say_begins(text, rule.from, id),
         PathFlaw::Ends(id) => say_end(text, rule, id),
-        PathFlaw::Stranger(id) => say(
-            text,
-            &[
-                Word::Text(" has "),
-                node(id),
-                Word::Text(", which is no node"),
-            ],
-        ),
-        PathFlaw::Unlinked(a, b) => say(
-            text,
-            &[
-                Word::Text(" goes from "),
-                node(a),
-                Word::Text(" to "),
-                node(b),
-                Word::Text(", and there is no such link"),
-            ],
-        ),
-        PathFlaw::Twice(id) => say(
-            text,
-            &[Word::Text(" has node "), node(id), Word::Text(" twice")],
-        ),
-        PathFlaw::Shares(id, at) => say(
-            text,
-            &[
-                Word::Text(" meets node "),
-                node(id),
-                Word::Text(" of paths["),
-                count(at),
-                Word::Text("]"),
-            ],
-        ),
+        PathFlaw::Stranger(id) => say_id(text, " has ", id, ", which is no node"),
+        PathFlaw::Unlinked(a, b) => say_unlinked(text, a, b),
+        PathFlaw::Twice(id) => say_id(text, " has node ", id, " twice"),
+        PathFlaw::Shares(id, at) => say_shared(text, id, at),
     }
+}
+
+fn say_begins(text: &mut String, from: NodeId, id: NodeId) -> Result<(), OutOfMemory>
+    ensures { OnOk result (string_bytes text.new ≡ string_bytes text.old ++ (codes " begins at " ++ (decimal id
+        ++ (codes ", not at " ++ decimal from)))) }
+{
+    say(
+        text,
+        &[
+            Word::Text(" begins at "),
+            node(id),
+            Word::Text(", not at "),
+            node(from),
+        ],
+    )
+}
+
+/// Appends an id between two texts.
+fn say_id<'x>(
+    text: &mut String,
+    front: &'x str,
+    id: NodeId,
+    back: &'x str,
+) -> Result<(), OutOfMemory>
+    ensures { OnOk result (string_bytes text.new ≡ string_bytes text.old ++ (front.now ++ (decimal id ++ back.now))) }
+{
+    say(text, &[Word::Text(front), node(id), Word::Text(back)])
+}
+
+fn say_unlinked(text: &mut String, a: NodeId, b: NodeId) -> Result<(), OutOfMemory>
+    ensures { OnOk result (string_bytes text.new ≡ string_bytes text.old ++ (codes " goes from " ++ (decimal a
+        ++ (codes " to " ++ (decimal b ++ codes ", and there is no such link"))))) }
+{
+    say(
+        text,
+        &[
+            Word::Text(" goes from "),
+            node(a),
+            Word::Text(" to "),
+            node(b),
+            Word::Text(", and there is no such link"),
+        ],
+    )
+}
+
+fn say_shared(text: &mut String, id: NodeId, at: usize) -> Result<(), OutOfMemory>
+    ensures { OnOk result (string_bytes text.new ≡ string_bytes text.old ++ (codes " meets node " ++ (decimal id
+        ++ (codes " of paths[" ++ (decimal at ++ codes "]"))))) }
+{
+    say(
+        text,
+        &[
+            Word::Text(" meets node "),
+            node(id),
+            Word::Text(" of paths["),
+            count(at),
+            Word::Text("]"),
+        ],
+    )
 }
 
 fn say_end(text: &mut String, rule: &Rule, id: NodeId) -> Result<(), OutOfMemory>

@@ -1,3 +1,9 @@
+ghost use Rattle.std.specs.Prelude.{◌≡◌, ◌++◌, IfOk, OnOk, string_bytes, codes};
+ghost use Rattle.serde_json.specs.Data.{string};
+ghost use Rattle.serde_json.specs.Written.{compact_text};
+ghost use Rattle.ov_check_reasons.specs.Opening.{BeginsWith};
+ghost use Rattle.ov_check_reasons.specs.FilePlaces.{key_text};
+
 use crate::words::{Word, say};
 use ov_ids::OutOfMemory;
 use serde_json::Value;
@@ -12,7 +18,10 @@ pub(crate) fn say_found(
     text: &mut String,
     expected: &str,
     value: &Value,
-) -> Result<(), OutOfMemory> {
+) -> Result<(), OutOfMemory>
+    ensures { OnOk result (BeginsWith (string_bytes text.old ++ (codes ": expected " ++ (expected.now
+        ++ codes ", found "))) (string_bytes text.new)) }
+{
     say(
         text,
         &[
@@ -21,25 +30,54 @@ pub(crate) fn say_found(
             Word::Text(", found "),
         ],
     )?;
-    say_value(alloc, text, value)
+    say_value(alloc, text, value)?;
+    Ok(())
 }
 
-fn say_value(alloc: Global, text: &mut String, value: &Value) -> Result<(), OutOfMemory> {
+fn say_value(alloc: Global, text: &mut String, value: &Value) -> Result<(), OutOfMemory>
+    ensures { OnOk result (BeginsWith (string_bytes text.old) (string_bytes text.new)) }
+{
+    match kind_of(value) {
+        Some(kind) => say(text, &[Word::Text(kind)])?,
+        None => say_json(alloc, text, value)?,
+    }
+    Ok(())
+}
+
+/// What is said in place of a value that may be long.
+fn kind_of(value: &Value) -> Option<&'static str> {
     match value {
-        Value::Array(_) => say(text, &[Word::Text("a list")]),
-        Value::Object(_) => say(text, &[Word::Text("an object")]),
-        Value::String(found) if found.len() > LONGEST_SHOWN => {
-            say(text, &[Word::Text("a long text")])
-        }
-        _ => {
-            let shown = value.to_string(alloc)?;
-            say(text, &[Word::Text(shown.as_str())])
-        }
+        Value::Array(_) => Some("a list"),
+        Value::Object(_) => Some("an object"),
+        Value::String(found) if found.len() > LONGEST_SHOWN => Some("a long text"),
+        _ => None,
     }
 }
 
-/// Appends a key of the file as JSON writes it.
-pub(crate) fn say_key(alloc: Global, text: &mut String, key: &str) -> Result<(), OutOfMemory> {
+/// Appends a value as JSON writes it.
+fn say_json(alloc: Global, text: &mut String, value: &Value) -> Result<(), OutOfMemory>
+    ensures { OnOk result (BeginsWith (string_bytes text.old) (string_bytes text.new)) }
+{
+    let shown = value.to_string(alloc)?;
+    say(text, &[Word::Text(shown.as_str())])?;
+    Ok(())
+}
+
+/// Appends a key as JSON writes it, if it is not too long.
+pub(crate) fn say_key(alloc: Global, text: &mut String, key: &str) -> Result<(), OutOfMemory>
+    ensures { OnOk result (string_bytes text.new ≡ string_bytes text.old ++ key_text key.now) }
+{
+    if key.len() > LONGEST_SHOWN {
+        return say(text, &[Word::Text("a long text")]);
+    }
+    let shown = quoted(alloc, key)?;
+    say(text, &[Word::Text(shown.as_str())])
+}
+
+/// A key as JSON writes it.
+fn quoted(alloc: Global, key: &str) -> Result<String, OutOfMemory>
+    ensures { IfOk result (λ shown. string_bytes shown ≡ compact_text (string key.now)) }
+{
     let key = Value::String(String::from_str(alloc, key)?);
-    say_value(alloc, text, &key)
+    Ok(key.to_string(alloc)?)
 }

@@ -33,7 +33,7 @@ fn no_json_has_its_place(rt: HostRuntime) -> Result<(), Fail> {
 }
 
 /// Files of two linked nodes whose keys or values are wrong.
-static LINKED: [(&str, &str); 21] = [
+static LINKED: [(&str, &str); 24] = [
     (
         "[1]",
         "a value has another form: expected an object, found a list",
@@ -51,7 +51,19 @@ static LINKED: [(&str, &str); 21] = [
         r#"{"version":"1"}"#,
         r#"the version is unknown: expected 1 or 2, found "1""#,
     ),
+    (
+        r#"{"version":{}}"#,
+        "the version is unknown: expected 1 or 2, found an object",
+    ),
     (r#"{"version":1}"#, r#"a key is missing: "verdict""#),
+    (
+        r#"{"verdict":"linked","version":1}"#,
+        r#"a key is missing: "k""#,
+    ),
+    (
+        r#"{"fans":[],"k":0,"links":[],"moment":0,"nodes":[],"verdict":"split","version":1}"#,
+        r#"a key is missing: "cut""#,
+    ),
     (
         r#"{"version":1,"verdict":"Split"}"#,
         r#"a value has another form, verdict: expected "linked" or "split", found "Split""#,

@@ -2,8 +2,8 @@
 #![tactic(auto)]
 
 #[cfg(test)]
-mod claims;
-#[cfg(test)]
 mod files;
 #[cfg(test)]
 mod shared;
+#[cfg(test)]
+mod statements;

@@ -4,7 +4,7 @@ use Rattle.std.specs.Prelude.{MatchOption}
 use Rattle.ov_ids.specs.Members.{Has}
 use Rattle.ov_cert.specs.declared.entry.Expected.{Expected}
 use Rattle.ov_cert.specs.declared.entry.Expected.TheVariants.{Fan}
-use Rattle.ov_check_reasons.proofs.Placing.{fan_found}
+use Rattle.ov_check_reasons.proofs.Telling.Placing.{fan_found}
 use Rattle.ov_check_reasons.proofs.entries.fan_place.Goals as goal
 
 pub returns : goal.returns

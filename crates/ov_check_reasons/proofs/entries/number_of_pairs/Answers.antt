@@ -1,6 +1,6 @@
 -- What is expected beside the fans are pairs.
 use Rattle.std.proofs.Common.{arith}
-use Rattle.ov_check_reasons.proofs.Placing.{entries_counted}
+use Rattle.ov_check_reasons.proofs.Telling.Placing.{entries_counted}
 use Rattle.ov_check_reasons.proofs.entries.number_of_pairs.Goals as goal
 
 pub overflow_sub-result : goal.overflow_sub-result

@@ -4,7 +4,7 @@ use Rattle.std.specs.Prelude.{MatchOption}
 use Rattle.ov_ids.specs.Members.{Has}
 use Rattle.ov_cert.specs.declared.entry.Expected.{Expected}
 use Rattle.ov_cert.specs.declared.entry.Expected.TheVariants.{Pair}
-use Rattle.ov_check_reasons.proofs.Placing.{pair_found}
+use Rattle.ov_check_reasons.proofs.Telling.Placing.{pair_found}
 use Rattle.ov_check_reasons.proofs.entries.pair_place.Goals as goal
 
 pub returns : goal.returns

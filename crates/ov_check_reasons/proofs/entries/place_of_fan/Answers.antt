@@ -2,7 +2,7 @@
 use Rattle.std.proofs.Common.{subst}
 use Rattle.ov_ids.specs.Members.{Has}
 use Rattle.ov_cert.specs.declared.entry.Expected.TheVariants.{Fan}
-use Rattle.ov_check_reasons.proofs.Breaking.{item_has, none_next}
+use Rattle.ov_check_reasons.proofs.Rules.Breaking.{item_has, none_next}
 use Rattle.ov_check_reasons.proofs.entries.place_of_fan.Goals as goal
 
 pub returns-in-Some : goal.returns-in-Some

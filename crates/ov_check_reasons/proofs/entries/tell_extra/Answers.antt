@@ -1,6 +1,6 @@
 -- There are no more pairs than expected, so there are more fans.
 use Rattle.std.proofs.Common.{length, ap, arith, string_bytes}
-use Rattle.ov_check_reasons.proofs.EntryTelling.{more_fans}
+use Rattle.ov_check_reasons.proofs.Telling.Entries.{more_fans}
 use Rattle.ov_check_reasons.proofs.entries.tell_extra.Goals as goal
 
 pub returns : goal.returns

@@ -1,6 +1,6 @@
 -- The place, and then what is told of the entry there.
 use Rattle.std.proofs.Common.{string_bytes}
-use Rattle.ov_check_reasons.proofs.EntryTelling.{fan_told, fan_expected}
+use Rattle.ov_check_reasons.proofs.Telling.Entries.{fan_told, fan_expected}
 use Rattle.ov_check_reasons.proofs.entries.tell_fan.Goals as goal
 
 pub returns-in_ok-tell_fan_entry : goal.returns-in_ok-tell_fan_entry

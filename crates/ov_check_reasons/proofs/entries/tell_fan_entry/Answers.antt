@@ -3,8 +3,8 @@ use Rattle.std.proofs.Common.{◌≡◌, ◌∙◌, List, ℕ, length, slice_get
 use Rattle.std.proofs.lemmas.Option.{slice_get_read}
 use Rattle.ov_check_reasons.specs.Places.{KeepFan, TellsPaths}
 use Rattle.ov_check_reasons.specs.Code.Words.{Adds}
-use Rattle.ov_check_reasons.proofs.EntryTelling.{fan_entry_told}
-use Rattle.ov_check_reasons.proofs.Frames.{same_when}
+use Rattle.ov_check_reasons.proofs.Telling.Entries.{fan_entry_told}
+use Rattle.ov_check_reasons.proofs.Rules.Members.{same_when}
 use Rattle.ov_check_reasons.proofs.entries.tell_fan_entry.Goals as goal
 
 pub returns : goal.returns

@@ -1,6 +1,6 @@
 -- The place, and then what is told of the entry there.
 use Rattle.std.proofs.Common.{string_bytes}
-use Rattle.ov_check_reasons.proofs.EntryTelling.{pair_told, pair_expected}
+use Rattle.ov_check_reasons.proofs.Telling.Entries.{pair_told, pair_expected}
 use Rattle.ov_check_reasons.proofs.entries.tell_pair.Goals as goal
 
 pub returns-in_ok-tell_pair_entry : goal.returns-in_ok-tell_pair_entry

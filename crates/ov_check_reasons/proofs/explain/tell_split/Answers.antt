@@ -6,7 +6,7 @@ use Rattle.ov_cert.specs.declared.fault.CheckFault.{CheckFault}
 use Rattle.ov_cert.specs.Verdict.{IsFirstFault}
 use Rattle.ov_check_reasons.specs.Places.{TellsFault}
 use Rattle.ov_check_reasons.specs.Code.Words.{Adds}
-use Rattle.ov_check_reasons.proofs.Whole.{not_cut_off}
+use Rattle.ov_check_reasons.proofs.Telling.Whole.{not_cut_off}
 use Rattle.ov_check_reasons.proofs.explain.tell_split.Goals as goal
 
 pub returns-in-Side : goal.returns-in-Side

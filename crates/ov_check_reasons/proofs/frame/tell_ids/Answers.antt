@@ -1,7 +1,7 @@
 -- The first id that is no node above those before it.
 use Rattle.std.proofs.Common.{string_bytes}
 use Rattle.ov_graph.specs.Joined.{IsNodeSet}
-use Rattle.ov_check_reasons.proofs.FrameTelling.{id_told}
+use Rattle.ov_check_reasons.proofs.Telling.Frames.{id_told}
 use Rattle.ov_check_reasons.proofs.frame.tell_ids.Goals as goal
 
 pub returns-in_ok-say_misfit : goal.returns-in_ok-say_misfit

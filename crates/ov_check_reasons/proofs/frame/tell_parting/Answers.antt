@@ -1,8 +1,8 @@
 -- Near or far is on the wrong side, or a link leaves the side.
 use Rattle.std.proofs.Common.{List, ℕ, string_bytes, subst}
 use Rattle.ov_ids.specs.Members.{Has}
-use Rattle.ov_check_reasons.proofs.Breaking.{member_when, stranger_when}
-use Rattle.ov_check_reasons.proofs.FrameTelling.{near_told, far_told, leaving_told, no_parting}
+use Rattle.ov_check_reasons.proofs.Rules.Breaking.{member_when, stranger_when}
+use Rattle.ov_check_reasons.proofs.Telling.Frames.{near_told, far_told, leaving_told, no_parting}
 use Rattle.ov_check_reasons.proofs.frame.tell_parting.Goals as goal
 
 pub returns-then-not-contains : goal.returns-then-not-contains

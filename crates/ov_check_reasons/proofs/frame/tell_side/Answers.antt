@@ -4,7 +4,7 @@ use Rattle.ov_ids.specs.Members.{IsApart}
 use Rattle.ov_graph.specs.Joined.{IsNodeSet}
 use Rattle.ov_check_reasons.specs.Places.{TellsId, id_text}
 use Rattle.ov_check_reasons.specs.Code.Words.{Adds}
-use Rattle.ov_check_reasons.proofs.FrameTelling.{goes_on, id_told, id_told_at, set_told, cut_told}
+use Rattle.ov_check_reasons.proofs.Telling.Frames.{goes_on, id_told, id_told_at, set_told, cut_told}
 use Rattle.ov_check_reasons.proofs.frame.tell_side.Goals as goal
 
 pub returns-in-Some-first_misfit : goal.returns-in-Some-first_misfit

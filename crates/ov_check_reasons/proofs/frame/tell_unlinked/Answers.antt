@@ -1,7 +1,7 @@
 -- The two members stand at the places that were found.
 use Rattle.std.proofs.Common.{string_bytes, arith}
 use Rattle.std.proofs.lemmas.List.{length-take-le}
-use Rattle.ov_check_reasons.proofs.FrameTelling.{unlinked_told}
+use Rattle.ov_check_reasons.proofs.Telling.Frames.{unlinked_told}
 use Rattle.ov_check_reasons.proofs.frame.tell_unlinked.Goals as goal
 
 pub returns-in_ok-say_two : goal.returns-in_ok-say_two

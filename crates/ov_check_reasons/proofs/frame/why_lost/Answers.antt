@@ -1,5 +1,5 @@
 -- The tests of membership.
-use Rattle.ov_check_reasons.proofs.Breaking.{member_when, stranger_when}
+use Rattle.ov_check_reasons.proofs.Rules.Breaking.{member_when, stranger_when}
 use Rattle.ov_check_reasons.proofs.frame.why_lost.Goals as goal
 
 pub returns-then-not-contains : goal.returns-then-not-contains

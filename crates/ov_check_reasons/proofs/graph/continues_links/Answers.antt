@@ -1,7 +1,7 @@
 -- The link is one, and comes after the link before it.
 use Rattle.std.proofs.Common.{◌∙◌, ◌-◌, sym, arith}
 use Rattle.std.proofs.lemmas.Bool.{both_ways}
-use Rattle.ov_check_reasons.proofs.LinkRules.{first_link, later_link, no_link}
+use Rattle.ov_check_reasons.proofs.Rules.Links.{first_link, later_link, no_link}
 use Rattle.ov_check_reasons.proofs.graph.continues_links.Goals as goal
 
 pub returns-then-at-eq0 : goal.returns-then-at-eq0

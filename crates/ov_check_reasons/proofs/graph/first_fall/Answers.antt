@@ -1,7 +1,7 @@
 -- The first id that is not above the one before it breaks the order.
 use Rattle.std.proofs.Common.{◌-◌, arith}
 use Rattle.std.proofs.lemmas.Bool.{both_ways}
-use Rattle.ov_check_reasons.proofs.Frames.{ascends_next, ascends_breaks}
+use Rattle.ov_check_reasons.proofs.Rules.Members.{ascends_next, ascends_breaks}
 use Rattle.ov_check_reasons.proofs.graph.first_fall.Goals as goal
 
 pub returns-then-not-is_above : goal.returns-then-not-is_above

@@ -2,8 +2,8 @@
 use Rattle.std.proofs.Common.{◌++◌, codes, string_bytes}
 use Rattle.ov_ids.specs.Members.{Ascends}
 use Rattle.ov_check_reasons.specs.Places.{id_text}
-use Rattle.ov_check_reasons.proofs.FrameTelling.{goes_on, id_told_at}
-use Rattle.ov_check_reasons.proofs.GraphTelling.{node_told, link_told}
+use Rattle.ov_check_reasons.proofs.Telling.Frames.{goes_on, id_told_at}
+use Rattle.ov_check_reasons.proofs.Telling.Graphs.{node_told, link_told}
 use Rattle.ov_check_reasons.proofs.graph.tell_first.Goals as goal
 
 pub returns-in-Some : goal.returns-in-Some

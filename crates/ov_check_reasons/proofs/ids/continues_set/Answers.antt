@@ -1,8 +1,8 @@
 -- The id is a node, and is above the one before it.
 use Rattle.std.proofs.Common.{◌↔◌, ◌-◌, ◌<◌, IsTrue, arith, rules, tests}
 use Rattle.std.proofs.lemmas.Bool.{both_ways}
-use Rattle.ov_check_reasons.proofs.Breaking.{member_when, stranger_when}
-use Rattle.ov_check_reasons.proofs.Frames.{first_id, later_id, no_node}
+use Rattle.ov_check_reasons.proofs.Rules.Breaking.{member_when, stranger_when}
+use Rattle.ov_check_reasons.proofs.Rules.Members.{first_id, later_id, no_node}
 use Rattle.ov_check_reasons.proofs.ids.continues_set.Goals as goal
 
 pub returns-then-at-eq0 : goal.returns-then-at-eq0

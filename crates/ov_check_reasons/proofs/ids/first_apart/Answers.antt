@@ -1,5 +1,5 @@
 -- The first node that is not linked to all before it breaks the rule.
-use Rattle.ov_check_reasons.proofs.Frames.{linked_next, linked_breaks, linked_at}
+use Rattle.ov_check_reasons.proofs.Rules.Members.{linked_next, linked_breaks, linked_at}
 use Rattle.ov_check_reasons.proofs.ids.first_apart.Goals as goal
 
 pub returns-in-Some : goal.returns-in-Some

@@ -1,6 +1,6 @@
 -- The node is on the side.
 use Rattle.ov_check_reasons.specs.Code.Leaving.{EndsWithin}
-use Rattle.ov_check_reasons.proofs.Breaking.{item_has, each_next}
+use Rattle.ov_check_reasons.proofs.Rules.Breaking.{item_has, each_next}
 use Rattle.ov_check_reasons.proofs.ids.first_leaving.Goals as goal
 
 pub returns-in-Some : goal.returns-in-Some

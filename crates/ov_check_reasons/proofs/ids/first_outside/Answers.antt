@@ -5,7 +5,7 @@ use Rattle.std.proofs.lemmas.List.{take_all}
 use Rattle.ov_ids.specs.Members.{Has}
 use Rattle.ov_graph.specs.Links.{Linked}
 use Rattle.ov_graph.proofs.EvenTest.Filtered.{linked_node}
-use Rattle.ov_check_reasons.proofs.Breaking.{member_when, stranger_when, each_next}
+use Rattle.ov_check_reasons.proofs.Rules.Breaking.{member_when, stranger_when, each_next}
 use Rattle.ov_check_reasons.proofs.ids.first_outside.Goals as goal
 use Rattle.ov_check_reasons.proofs.ids.first_outside.Goals.{
   else-linked-via-then-linked+then-not-contains+else-not-contains-2,

@@ -2,8 +2,8 @@
 use Rattle.std.proofs.Common.{◌≢◌}
 use Rattle.std.proofs.lemmas.Bool.{both_ways}
 use Rattle.ov_graph.specs.Links.{Linked}
-use Rattle.ov_check_reasons.proofs.Breaking.{each_next, each_breaks}
-use Rattle.ov_check_reasons.proofs.Frames.{differ_when, same_when}
+use Rattle.ov_check_reasons.proofs.Rules.Breaking.{each_next, each_breaks}
+use Rattle.ov_check_reasons.proofs.Rules.Members.{differ_when, same_when}
 use Rattle.ov_check_reasons.proofs.ids.first_unlinked.Goals as goal
 use Rattle.ov_check_reasons.proofs.ids.first_unlinked.Goals.{else-ne-via-then-ne+else-not-linked}
 use Rattle.ov_check_reasons.proofs.ids.first_unlinked.Goals.{else-ne-via-else-ne}

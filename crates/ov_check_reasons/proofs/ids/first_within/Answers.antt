@@ -1,6 +1,6 @@
 -- The first id that stands in the other list breaks the rule.
 use Rattle.ov_ids.specs.Members.{Has}
-use Rattle.ov_check_reasons.proofs.Breaking.{member_when, stranger_when, each_next, each_breaks}
+use Rattle.ov_check_reasons.proofs.Rules.Breaking.{member_when, stranger_when, each_next, each_breaks}
 use Rattle.ov_check_reasons.proofs.ids.first_within.Goals as goal
 
 pub returns-then-contains : goal.returns-then-contains

@@ -1,7 +1,7 @@
 -- The first path that may not follow breaks the rule.
 use Rattle.std.proofs.Common.{◌∙◌, sym, ap, take}
 use Rattle.ov_check_reasons.specs.Code.PathRules.{may_follow}
-use Rattle.ov_check_reasons.proofs.PathRuling.{rule_none, rule_next, rule_breaks}
+use Rattle.ov_check_reasons.proofs.Rules.Paths.{rule_none, rule_next, rule_breaks}
 use Rattle.ov_check_reasons.proofs.paths.first_flaw.Goals as goal
 
 pub loop-at-init : goal.loop-at-init

@@ -10,7 +10,7 @@ use Rattle.ov_graph.specs.Code.Tests.{is_link, comes_after}
 use Rattle.ov_graph.specs.declared.fault.GraphFault.TheVariants.{Unordered, BadLink}
 use Rattle.ov_cert.proofs.Validity.Parting.{and_tested, or_tested, member_tested}
 use Rattle.ov_check_reasons.specs.Places.{KeepLinks}
-use Rattle.ov_check_reasons.proofs.Breaking.{next_is}
+use Rattle.ov_check_reasons.proofs.Rules.Breaking.{next_is}
 
 below_tested : (a b : ℕ) → IsTrue (nat_lt a b) ↔ (a < b)
 below_tested a b = ((λ h. ltb-true a b h), (λ l. lt-ltb a b l))

@@ -1,27 +1,21 @@
 -- What is told of nodes and links that are no graph.
 use Rattle.std.proofs.Common.{◌≡◌, ◌∙◌, ℕ, List, [], ◌∷◌, ◌++◌, length, get_or}
-use Rattle.std.proofs.Common.{Option, Some, None, Err, inl, inr, refl, ap, subst, codes, append_assoc}
-use Rattle.std.proofs.Common.{IfSome}
-use Rattle.std.specs.Prelude.{IsUtf8}
+use Rattle.std.proofs.Common.{Option, Some, None, inl, inr, refl, ap, subst, codes, append_assoc}
 use Rattle.std.proofs.lemmas.Option.{slice_get_read}
 use Rattle.serde_json.specs.Data.{Data}
-use Rattle.serde_json.specs.Read.{read}
 use Rattle.ov_ids.specs.Members.{Ascends}
 use Rattle.ov_graph.specs.Links.{LinkGraph}
 use Rattle.ov_graph.specs.Faults.{LinksJudged}
 use Rattle.ov_graph.specs.declared.fault.GraphFault.{GraphFault}
 use Rattle.ov_graph.specs.declared.fault.GraphFault.TheVariants.{TooManyNodes, Unordered, BadLink, OutOfMemory}
-use Rattle.ov_certfile.specs.declared.fault.FileFault.TheVariants.{Graph}
 use Rattle.ov_certfile.specs.Keys.{said}
 use Rattle.ov_certfile.specs.Kinds.{version_in, most_nodes_of}
 use Rattle.ov_certfile.specs.Demands.{FileGraphJudged}
-use Rattle.ov_certfile.specs.Says.{SaysGraph, IsNoGraph, SaysFile}
-use Rattle.ov_check.specs.Outcome.{IsOutcome}
-use Rattle.ov_check.specs.declared.outcome.Outcome.TheVariants.{Refused}
+use Rattle.ov_certfile.specs.Says.{SaysGraph, IsNoGraph}
 use Rattle.ov_certfile.specs.declared.version.Version.{Version}
 use Rattle.ov_check_reasons.specs.Opening.{BeginsWith}
 use Rattle.ov_check_reasons.specs.Places.{IsFirstBreak, TellsId, KeepLinks, TellsNoGraph, link_text}
-use Rattle.ov_check_reasons.specs.Places.{TellsGraph, TellsGraphOf}
+use Rattle.ov_check_reasons.specs.Places.{TellsGraph, TellsGraphIn}
 use Rattle.ov_check_reasons.specs.Code.Words.{Adds}
 use Rattle.ov_check_reasons.specs.Code.GraphFaults.{IsUnsound}
 
@@ -81,35 +75,21 @@ unsound version g Unordered h = judged_fails version g Unordered (λ e. cc) h
 unsound version g BadLink h = judged_fails version g BadLink (λ e. cc) h
 unsound version g OutOfMemory h = tt
 
--- THE GRAPH THAT A FILE SAYS
+-- THE GRAPH THAT A VALUE SAYS
 
--- what is told of the graph of a value
-abbrev pub TellsOfValue : Data → GraphFault → List ℕ → List ℕ → Type 0
-TellsOfValue d fault before after =
-    (version : Version) (g : LinkGraph) → said version_in (codes "version") d ≡ Some version → SaysGraph d g
-    → IsUnsound g fault → Adds (TellsGraph (most_nodes_of version) g fault) before after
-
-no_graph : (bytes : List ℕ) (d : Data) (fault : GraphFault) → IsUtf8 bytes → read bytes ≡ Some d
-    → IsOutcome bytes (Refused (Graph fault)) → IsNoGraph d fault
-no_graph bytes d fault utf8 json (inl h) = subst (λ o. IfSome o (λ d. SaysFile d (Err (Graph fault)))) json h.1.json
-no_graph bytes d fault utf8 json (inr h) = absurd (h.0 utf8)
-
-pub graph_told : (bytes source : List ℕ) (d : Data) (fault : GraphFault) (before after : List ℕ) → source ≡ bytes
-    → IsUtf8 bytes → read source ≡ Some d → TellsOfValue d fault before after
-    → IsOutcome bytes (Refused (Graph fault)) → Adds (TellsGraphOf bytes fault) before after
-graph_told bytes source d fault before after same utf8 json told outcome =
-    let there : read bytes ≡ Some d = subst (λ (xs : List ℕ). read xs ≡ Some d) same json in
-    let n = no_graph bytes d fault utf8 there outcome in
-    let a = told n.version n.given n.version_said n.graph (unsound n.version n.given fault n.judged) in (
+pub graph_told : (d : Data) (fault : GraphFault) (most : ℕ) (before after : List ℕ)
+    → ((version : Version) → said version_in (codes "version") d ≡ Some version → most ≡ most_nodes_of version)
+    → ((g : LinkGraph) → SaysGraph d g → IsUnsound g fault → Adds (TellsGraph most g fault) before after)
+    → IsNoGraph d fault → Adds (TellsGraphIn fault d) before after
+graph_told d fault most before after is_most told n =
+    let a = told n.given n.graph (unsound n.version n.given fault n.judged) in (
       a.0,
       a.1,
       record {
-        value = d;
-        json = there;
         version = n.version;
         version_said = n.version_said;
         given = n.given;
         graph = n.graph;
-        tells = a.2;
+        tells = subst (λ (m : ℕ). TellsGraph m n.given fault a.0) (is_most n.version n.version_said) a.2;
       },
     )

@@ -12,7 +12,7 @@ use Rattle.ov_check_reasons.specs.Places.{IsFirstBreak, TellsId, TellsSide, Near
 use Rattle.ov_check_reasons.specs.Places.{two_text, end_text, leaving_text, TellsUnlinked}
 use Rattle.ov_check_reasons.specs.Code.Words.{Adds}
 use Rattle.ov_check_reasons.specs.Code.Leaving.{EndsWithin, Parts}
-use Rattle.ov_check_reasons.proofs.Telling.{added, added_front}
+use Rattle.ov_check_reasons.proofs.Telling.Texts.{added, added_front}
 
 -- a text that goes on
 pub goes_on : (front mid after rest : List ℕ) → mid ≡ front → after ≡ mid ++ rest → BeginsWith front after

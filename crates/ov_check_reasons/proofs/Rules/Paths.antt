@@ -17,7 +17,7 @@ use Rattle.ov_cert.proofs.Validity.Parting.{and_tested, or_tested, not_tested, a
 use Rattle.ov_check_reasons.specs.Places.{IsFirstBreak}
 use Rattle.ov_check_reasons.specs.Code.PathRules.{targets_of, shared_of, KeepRule, MayFollow, may_end, may_share}
 use Rattle.ov_check_reasons.specs.Code.PathRules.{has_ends, are_nodes, is_distinct, have, meets_none, may_follow}
-use Rattle.ov_check_reasons.proofs.Breaking.{breaks_here, next_is, last_has}
+use Rattle.ov_check_reasons.proofs.Rules.Breaking.{breaks_here, next_is, last_has}
 
 -- EACH TEST AND ITS RELATION
 

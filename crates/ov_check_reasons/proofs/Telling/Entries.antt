@@ -16,8 +16,8 @@ use Rattle.ov_cert.specs.Entries.{IsExpected}
 use Rattle.ov_check_reasons.specs.Places.{item_text, number_text, TellsPairEntry, TellsFanEntry, TellsPair, TellsFan}
 use Rattle.ov_check_reasons.specs.Places.{TellsExtra, TellsPaths, KeepFan}
 use Rattle.ov_check_reasons.specs.Code.Words.{Adds}
-use Rattle.ov_check_reasons.proofs.Telling.{added, added_more}
-use Rattle.ov_check_reasons.proofs.Placing.{about_pair, about_fan, about_extra}
+use Rattle.ov_check_reasons.proofs.Telling.Texts.{added, added_more}
+use Rattle.ov_check_reasons.proofs.Telling.Placing.{about_pair, about_fan, about_extra}
 
 module _ (g : LinkGraph) (q : List ℕ) (c : Split) (before mid after : List ℕ) where
   pub pair_told : (i j at : ℕ) → IsExpected g q c.k (Pair at i j) → mid ≡ before ++ item_text (codes "pairs") at

@@ -12,7 +12,7 @@ use Rattle.ov_graph.specs.Joined.{IsNodeSet}
 use Rattle.ov_graph.proofs.EvenTest.Walks.{linked_sym}
 use Rattle.ov_cert.proofs.PathRules.Ends.{not_true, not_false}
 use Rattle.ov_check_reasons.specs.Places.{IsFirstBreak}
-use Rattle.ov_check_reasons.proofs.Breaking.{breaks_here, next_is, last_has, front_has}
+use Rattle.ov_check_reasons.proofs.Rules.Breaking.{breaks_here, next_is, last_has, front_has}
 
 -- what the tests of equality say
 pub differ_when : (x a : ℕ) (b : Bool) → b ≡ not (eqb x a) → b ≡ true → x ≢ a

@@ -1,6 +1,6 @@
 -- What a file says, and what is told of it.
 use Rattle.std.proofs.Common.{◌≡◌, ◌∙◌, ℕ, List, Result, Ok, Err, inl, inr, sym, subst}
-use Rattle.std.specs.Prelude.{IsUtf8}
+use Rattle.std.specs.Prelude.{IsUtf8, OnOk}
 use Rattle.ov_graph.specs.Links.{LinkGraph}
 use Rattle.ov_cert.specs.declared.cert.Cert.TheVariants.{Split as SplitBy}
 use Rattle.ov_cert.specs.declared.cert.Split.{Split}
@@ -21,6 +21,11 @@ pub not_cut_off : (g : LinkGraph) (q : List ℕ) (c : Split) → IsFirstFault g 
 not_cut_off g q c (inl h) = h.4
 not_cut_off g q c (inr h) = absurd h.1.2
 
+-- what follows where a call succeeds
+on_ok : {A E : Type 0} (r : Result A E) (P Q : Type 0) → (P → Q) → OnOk r P → OnOk r Q
+on_ok (Ok a) P Q f h = f h
+on_ok (Err e) P Q f h = h
+
 -- bytes that are text say one thing
 module _ (bytes source : List ℕ) (same : source ≡ bytes) (utf8 : IsUtf8 bytes) (result : Result Filed FileFault)
     (only : (answer : Result Filed FileFault) → SaysText source answer → answer ≡ result) (fault : CheckFault) where
@@ -28,14 +33,16 @@ module _ (bytes source : List ℕ) (same : source ≡ bytes) (utf8 : IsUtf8 byte
   one_meaning f (inl h) = only (Ok f) (subst (λ (xs : List ℕ). SaysText xs (Ok f)) (sym same) h.1)
   one_meaning f (inr h) = absurd (h.0 utf8)
 
-  pub told_of : (filed : Filed) → result ≡ Ok filed → (before after : List ℕ)
+  pub told_of : {A E : Type 0} (r : Result A E) (filed : Filed) → result ≡ Ok filed → (before after : List ℕ)
       → (IsFirstFault filed.graph filed.group filed.cert fault
-      → Adds (TellsFault filed.graph filed.group filed.cert fault) before after)
-      → IsOutcome bytes (Fails fault) → Adds (TellsPlace bytes (Fails fault)) before after
-  told_of filed is before after told outcome =
+      → OnOk r (Adds (TellsFault filed.graph filed.group filed.cert fault) before after))
+      → IsOutcome bytes (Fails fault) → OnOk r (Adds (TellsPlace bytes (Fails fault)) before after)
+  told_of r filed is before after told outcome =
       let e : outcome.0 ≡ filed = let k : Ok outcome.0 ≡ Ok filed = one_meaning outcome.0 outcome.1 ∙ is in cc in
-      let a = told (subst (λ (f : Filed). IsFirstFault f.graph f.group f.cert fault) e outcome.2) in
-      (a.0, a.1, (filed, subst (λ (f : Filed). BytesSay bytes (Ok f)) e outcome.1, a.2))
+      on_ok r (Adds (TellsFault filed.graph filed.group filed.cert fault) before after)
+      (Adds (TellsPlace bytes (Fails fault)) before after)
+      (λ a. (a.0, a.1, (filed, subst (λ (f : Filed). BytesSay bytes (Ok f)) e outcome.1, a.2)))
+      (told (subst (λ (f : Filed). IsFirstFault f.graph f.group f.cert fault) e outcome.2))
 
   pub told_nothing : {P : Type 0} (e : FileFault) → result ≡ Err e → IsOutcome bytes (Fails fault) → P
   told_nothing e is outcome =

@@ -1,0 +1,5 @@
+-- The first item of a list that breaks a rule.
+pub mod Breaking
+pub mod Paths
+pub mod Members
+pub mod Links

@@ -1,0 +1,40 @@
+-- The place that an explanation names in a JSON value that lacks a key or has another version.
+use Rattle.std.specs.Prelude.{◌≡◌, ℕ, List, ◌∷◌, ◌++◌, Bool, true, false, length, nat_lt, if◌then◌else◌, codes}
+use Rattle.std.specs.Prelude.{Some, None}
+use Rattle.std.specs.List.{list_all}
+use Rattle.serde_json.specs.Written.{compact_text}
+use Rattle.serde_json.specs.Data.{Data, string}
+use Rattle.serde_json.specs.Find.{get}
+use Rattle.ov_certfile.specs.Keys.{has_key}
+use Rattle.ov_certfile.specs.Kinds.{version_in, names_of}
+use Rattle.ov_certfile.specs.Demands.{wanted_keys}
+use Rattle.ov_check_reasons.specs.Opening.{BeginsWith}
+
+-- the key is the first of these that fails a test: those before it pass
+pub record IsFirstFailing (test : List ℕ → Bool) (keys : List (List ℕ)) (key : List ℕ) : Type 0 where
+  pub before : List (List ℕ)
+  pub after : List (List ℕ)
+  pub parts : keys ≡ before ++ key ∷ after
+  pub pass : list_all test before ≡ true
+  pub fails : test key ≡ false
+
+-- a key as JSON writes it, in quotation marks; of one that is longer than 40 bytes only that it is long
+abbrev pub key_text : List ℕ → List ℕ
+key_text key = if nat_lt 40 (length key) then codes "a long text" else compact_text (string key)
+
+-- the keys that a value must have, in the order in which they are demanded: a version, a verdict, and the keys of both
+abbrev pub demanded_keys : Data → List (List ℕ)
+demanded_keys d = codes "version" ∷ codes "verdict" ∷ names_of (wanted_keys d)
+
+-- What is told of a value that lacks a key: the first of the demanded keys that it lacks. A key that may have been
+-- meant for it follows.
+abbrev pub TellsMissing : Data → List ℕ → Type 0
+TellsMissing d text =
+    (key : List ℕ) × IsFirstFailing (λ k. has_key k d) (demanded_keys d) key
+    × BeginsWith (codes ": " ++ key_text key) text
+
+-- What is told of a value whose version is another: which versions there are. What stands at the key follows.
+abbrev pub TellsVersion : Data → List ℕ → Type 0
+TellsVersion d text =
+    (v : Data) × (get (codes "version") d ≡ Some v) × (version_in v ≡ None)
+    × BeginsWith (codes ": expected 1 or 2, found ") text
