@@ -1,1 +1,2 @@
+mod GroupFaults
 mod Telling

@@ -1,4 +1,5 @@
 pub mod Counts
+pub mod Groups
 pub mod Paragraphs
 pub mod Reasons
 pub mod Refused

@@ -5,6 +5,7 @@ ghost use Rattle.ov_reasons.specs.Refused.{subject_text, look_text, TellsOfGroup
 ghost use Rattle.ov_run.specs.declared.scenario.Look.TheVariants.{Show, Certificate};
 
 use crate::event_texts::{fixed, node_text};
+use crate::members::first_stranger;
 use ov_graph::Graph;
 use ov_ids::{NodeId, OutOfMemory, is_ascending};
 use ov_run::{Look, Subject};
@@ -132,22 +133,20 @@ fn stranger(core: &Core, moment: u32, ids: &[NodeId]) -> Option<NodeId>
     ensures { IfSome result (λ a. Has ids.now a × ¬ Live core.now.world.journal moment a) }
 {
     match core.begin(moment) {
-        Ok(job) => first_stranger(&job.graph, ids),
+        Ok(job) => outsider(&job.graph, ids),
         Err(_) => None,
     }
 }
 
-/// The first of these ids that is no node of the graph.
-fn first_stranger(graph: &Graph, ids: &[NodeId]) -> Option<NodeId>
+/// One of these ids that is no node of the graph, where one is found.
+#[tactic(auto, using(crate::proofs::GroupFaults::is_stranger))]
+fn outsider(graph: &Graph, ids: &[NodeId]) -> Option<NodeId>
     ensures { IfSome result (λ a. Has ids.now a × ¬ Has graph.now.nodes a) }
 {
-    for id in ids {
-        match graph.place(*id) {
-            None => return Some(*id),
-            Some(_) => {}
-        }
+    match first_stranger(graph, ids) {
+        Some(id) => Some(id),
+        None => None,
     }
-    None
 }
 
 /// That a node did not live at a moment.

@@ -23,8 +23,11 @@ impl Choice {
     }
 }
 
+/// How many options there are.
+const OPTIONS: usize = 5;
+
 /// The options of all commands.
-pub(crate) static CHOICES: [Choice; 5] = [
+pub(crate) static CHOICES: [Choice; OPTIONS] = [
     Choice("run", "--explain", None),
     Choice("analyse", "--group", Some(Kind::Ids)),
     Choice("analyse", "--workers", Some(CREW)),
@@ -65,7 +68,7 @@ pub(crate) fn wrong_of(arguments: &[String]) -> Option<Wrong<'_>> {
     let mut scan = Scan {
         command,
         awaits: None,
-        seen: [false; 5],
+        seen: [false; OPTIONS],
         only_files: false,
         has_file: false,
     };
@@ -79,7 +82,7 @@ struct Scan<'a> {
     /// The option whose value comes next.
     awaits: Option<Choice>,
     /// Which options stood, in the order of all.
-    seen: [bool; 5],
+    seen: [bool; OPTIONS],
     /// Whether `--` stood, behind which nothing is an option.
     only_files: bool,
     has_file: bool,
@@ -144,7 +147,7 @@ impl<'a> Scan<'a> {
 
     /// The place of the command's option of this name.
     fn place_of(&self, name: &str) -> Option<usize>
-        ensures { IfSome result (λ place. place < 5) }
+        ensures { IfSome result (λ place. place < OPTIONS) }
     {
         CHOICES.iter().position(|choice| choice.command() == self.command && choice.name() == name)
     }

@@ -3,6 +3,7 @@ ghost use Rattle.ov_reasons.specs.Paragraphs.{EndsWith};
 
 use crate::argument_scan::{CHOICES, Choice, Wrong, wrong_of};
 use crate::complaint::push_kind;
+use crate::hint::push_limits;
 use crate::marked_line::push_shown;
 use crate::names::{is_near, push_meant};
 use crate::texts::push_all;
@@ -27,8 +28,8 @@ overlay analyse reads a graph file, and prints how few crashed nodes part it.
 Without FILE, or with -, standard input is read. Bare overlay is overlay run.
 ";
 
-/// The program, and the kit that it is proved with.
-const VERSION: &str = "overlay, proved with rattle-kit-13f\n";
+/// The program with its version, and the kit that it is proved with.
+const VERSION: &str = "overlay 1.0, proved with rattle-kit-13f\n";
 
 /// What is said of arguments that `overlay` refuses, which follow the program's name: help, the version, or what is
 /// wrong with them, with the usage. Without arguments they are those that are no UTF-8. OutOfMemory (99) where an
@@ -150,7 +151,11 @@ fn meant_choice(alloc: Global, command: &str, name: &str) -> Result<Option<Choic
 /// Appends what an option takes, and that it does not take this value.
 fn push_takes_not(text: &mut String, choice: Choice, value: &str) -> Result<(), OutOfMemory> {
     push_takes(text, choice)?;
-    push_said_of(text, ", and not ", value, "")
+    push_said_of(text, ", and not ", value, "")?;
+    match choice.value() {
+        Some(kind) => push_limits(text, value.as_bytes(), &kind),
+        None => Ok(()),
+    }
 }
 
 /// Appends what an option takes.

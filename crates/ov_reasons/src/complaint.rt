@@ -18,21 +18,22 @@ pub(crate) fn unread_line(
 ) -> Result<String, OutOfMemory> {
     let stop = farthest_stop(forms, words);
     let mut text = String::new(alloc);
-    push_unread(alloc, &mut text, forms, words, stop)?;
+    push_unread(alloc, &mut text, forms, line, words, stop)?;
     push_marked(alloc, &mut text, line.text, place_of(line, words.get(stop)))?;
     Ok(text)
 }
 
-/// Appends what is wrong with the word at this place, which none of the forms takes.
+/// Appends what is wrong with the word at this place of a line, which none of the forms takes.
 fn push_unread(
     alloc: Global,
     text: &mut String,
     forms: &[Form],
+    line: &FileLine<'_>,
     words: &[Word<'_>],
     stop: usize,
 ) -> Result<(), OutOfMemory> {
     match words.get(stop) {
-        Some(word) if stop == 0 => push_unknown_name(alloc, text, forms, word.bytes),
+        Some(word) if stop == 0 => push_unknown_name(alloc, text, forms, line, word),
         _ => push_expected(text, forms, words, stop),
     }
 }
@@ -60,9 +61,9 @@ fn push_expected(
             last = Some(kind);
         }
     }
-    match words.get(stop) {
-        Some(word) => push_hint(text, word.bytes, last.and_then(|kind| kind.untold_limits())),
-        None => Ok(()),
+    match (words.get(stop), last) {
+        (Some(word), Some(kind)) => push_hint(text, word.bytes, &kind),
+        _ => Ok(()),
     }
 }
 

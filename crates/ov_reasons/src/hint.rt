@@ -1,33 +1,47 @@
-use crate::numeral::number_of;
+use crate::file_line::{FileLine, Word};
+use crate::line_form::{Kind, SHORT};
+use crate::numeral::{is_numeral, number_of};
 use crate::texts::push_all;
 use ov_ids::OutOfMemory;
 use std::fmt::Write;
 
-/// Appends what may help at a word that stands where a number within these limits is expected, or no number.
-pub(crate) fn push_hint(
-    text: &mut String,
-    word: &[u8],
-    limits: Option<(u64, u64)>,
-) -> Result<(), OutOfMemory> {
+/// Appends what may help at a word that stands where another kind of word is expected.
+pub(crate) fn push_hint(text: &mut String, word: &[u8], kind: &Kind) -> Result<(), OutOfMemory> {
     match bytes_hint(word) {
         Some(hint) => push_all(text, &["; ", hint]),
-        None => push_limits(text, limits),
+        None => push_limits(text, word, kind),
     }
 }
 
-/// Appends the limits of a number.
-fn push_limits(text: &mut String, limits: Option<(u64, u64)>) -> Result<(), OutOfMemory> {
-    if let Some((low, high)) = limits {
+/// Appends the limits of a number of this kind, or of each id of a list whose ids are all written as numbers.
+pub(crate) fn push_limits(text: &mut String, word: &[u8], kind: &Kind) -> Result<(), OutOfMemory> {
+    if let Kind::Ids = kind {
+        return push_id_limits(text, word);
+    }
+    if let Some((low, high)) = kind.untold_limits() {
         write!(text, "; it is a number from {low} to {high}")?;
     }
     Ok(())
 }
 
-/// What may help at a word by its bytes.
-pub(crate) fn bytes_hint(word: &[u8]) -> Option<&'static str> {
-    if word.starts_with(BYTE_ORDER_MARK) {
+/// Appends the limits of the ids of a list, where these are all written as numbers.
+fn push_id_limits(text: &mut String, word: &[u8]) -> Result<(), OutOfMemory> {
+    if word.split(|byte| *byte == b',').all(is_numeral) {
+        write!(text, "; each is a number from 0 to {SHORT}")?;
+    }
+    Ok(())
+}
+
+/// What may help at the first word of a file.
+pub(crate) fn first_hint(line: &FileLine<'_>, word: &Word<'_>) -> Option<&'static str> {
+    if line.number == 1 && word.start == 0 && word.bytes.starts_with(BYTE_ORDER_MARK) {
         return Some("the file begins with a byte order mark, which no line may have");
     }
+    None
+}
+
+/// What may help at a word by its bytes.
+pub(crate) fn bytes_hint(word: &[u8]) -> Option<&'static str> {
     if word.contains(&b'\t') {
         return Some("words stand between spaces, and a tab is none");
     }

@@ -136,7 +136,7 @@ impl Form {
 }
 
 /// The largest number of 32 bits.
-const SHORT: u64 = 4_294_967_295;
+pub(crate) const SHORT: u64 = 4_294_967_295;
 
 /// The largest number of 64 bits.
 const LONG: u64 = 18_446_744_073_709_551_615;

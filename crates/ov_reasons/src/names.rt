@@ -1,4 +1,5 @@
-use crate::hint::bytes_hint;
+use crate::file_line::{FileLine, Word};
+use crate::hint::{bytes_hint, first_hint};
 use crate::line_form::{Form, GRAPH_FORMS, SCENARIO_FORMS};
 use crate::texts::push_all;
 use ov_ids::OutOfMemory;
@@ -8,25 +9,62 @@ use strsim::osa_distance;
 /// How many bytes a word has at most for which a name is looked for that may be meant.
 const LONGEST: usize = 32;
 
-/// Appends that no line begins with this word, and what may help.
+/// Appends that no line begins with this word, which begins this line, and what may help.
 pub(crate) fn push_unknown_name(
+    alloc: Global,
+    text: &mut String,
+    forms: &[Form],
+    line: &FileLine<'_>,
+    word: &Word<'_>,
+) -> Result<(), OutOfMemory> {
+    text.push_str("no line begins with this word")?;
+    match name_hint(line, word) {
+        Some(hint) => push_all(text, &["; ", hint]),
+        None => push_names(alloc, text, forms, word.bytes),
+    }
+}
+
+/// What may help at a word that no line begins with, by its bytes and its place.
+fn name_hint(line: &FileLine<'_>, word: &Word<'_>) -> Option<&'static str> {
+    first_hint(line, word)
+        .or(bytes_hint(word.bytes))
+        .or(other_file(word.bytes))
+}
+
+/// Appends the name that may be meant, or else all names of these forms.
+fn push_names(
     alloc: Global,
     text: &mut String,
     forms: &[Form],
     word: &[u8],
 ) -> Result<(), OutOfMemory> {
-    text.push_str("no line begins with this word")?;
-    if let Some(hint) = bytes_hint(word).or(other_file(word)) {
-        return push_all(text, &["; ", hint]);
-    }
     match meant_name(alloc, forms, word)? {
         Some(name) => push_meant(text, name),
-        None if has_name(forms, b"link") => push_all(
-            text,
-            &["; lines begin with `node` or `link`"],
-        ),
-        None => Ok(()),
+        None => push_all_names(text, forms),
     }
+}
+
+/// Appends the names of these forms, each once. Forms of one name stand together.
+fn push_all_names(text: &mut String, forms: &[Form]) -> Result<(), OutOfMemory> {
+    text.push_str("; lines begin with ")?;
+    let end = forms.last().map_or("", |form| form.name());
+    let mut told = "";
+    for form in forms {
+        let name = form.name();
+        if name != told {
+            push_all(text, &[between(told, name == end), "`", name, "`"])?;
+            told = name;
+        }
+    }
+    Ok(())
+}
+
+/// What stands between two names of a list, before the last of them or not. Before the first stands nothing.
+fn between(before: &str, is_last: bool) -> &'static str {
+    if before.is_empty() {
+        return "";
+    }
+    if is_last { " or " } else { ", " }
 }
 
 /// What may help at a word that the lines of the other kind of file begin with.

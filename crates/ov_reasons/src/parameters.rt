@@ -60,7 +60,7 @@ fn highest(place: usize, limits: &Limits, words: &[Word<'_>]) -> u64 {
     words
         .get(3)
         .and_then(|word| number_of(word.bytes))
-        .unwrap_or(limits.2)
+        .map_or(limits.2, |number| number.min(limits.2))
 }
 
 /// Appends that a parameter is out of its limits.

@@ -1,6 +1,6 @@
 ghost use Rattle.std.specs.Prelude.{◌≡◌, ◌++◌, IfOk, codes, string_bytes};
 ghost use Rattle.ov_reasons.specs.Paragraphs.{paragraph};
-ghost use Rattle.ov_reasons.specs.Counts.{count_line};
+ghost use Rattle.ov_reasons.specs.Counts.{events_word, count_line};
 ghost use Rattle.ov_reasons.specs.Refused.{TellsOfLine};
 
 use crate::analysis_texts::{analysis_reason, look_reason};
@@ -44,5 +44,13 @@ pub fn refusal_line(alloc: Global, number: usize, reason: &str) -> Result<String
 pub fn count_line(alloc: Global, accepted: u64, refused: u64) -> Result<String, OutOfMemory>
     ensures { IfOk result (λ text. string_bytes text ≡ count_line accepted refused) }
 {
-    Ok(format!(in alloc; "{accepted} events accepted, {refused} refused\n")?)
+    let events = events_word(accepted);
+    Ok(format!(in alloc; "{accepted} {events} accepted, {refused} refused\n")?)
+}
+
+/// The word for so many events.
+fn events_word(count: u64) -> &'static str
+    ensures { result.now ≡ events_word count }
+{
+    if count == 1 { "event" } else { "events" }
 }

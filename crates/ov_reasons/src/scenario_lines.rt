@@ -46,7 +46,7 @@ fn explain_lines(
 }
 
 /// What the lines so far say, as far as it matters to the lines behind them: the numbers of the first lines that are an
-/// event, parameters and a seed.
+/// event, parameters and a seed. A line that begins as an event is one, whether or not the rest of it can be read.
 #[derive(Clone, Copy)]
 struct Head {
     event: Option<usize>,
@@ -83,6 +83,9 @@ impl Head {
         words: &[Word<'_>],
         next: Option<&FileLine<'_>>,
     ) -> Result<Option<String>, OutOfMemory> {
+        if is_named_event(words) {
+            self.event = self.event.or(Some(line.number));
+        }
         let Some(form) = form_of(&SCENARIO_FORMS, words) else {
             return Ok(Some(unread_line(alloc, &SCENARIO_FORMS, line, words)?));
         };
@@ -90,11 +93,7 @@ impl Head {
             Says::Params => self.judge_params(alloc, line, words),
             Says::Seed => self.judge_seed(alloc, line),
             Says::Words => judge_random_words(alloc, line, next),
-            Says::Event => {
-                self.event = self.event.or(Some(line.number));
-                Ok(None)
-            }
-            Says::Look | Says::Node | Says::Link => Ok(None),
+            Says::Event | Says::Look | Says::Node | Says::Link => Ok(None),
         }
     }
 
@@ -132,6 +131,15 @@ impl Head {
             None => Ok(None),
         }
     }
+}
+
+/// Whether the first of these words is the name of an event.
+fn is_named_event(words: &[Word<'_>]) -> bool {
+    let Some(name) = words.first() else {
+        return false;
+    };
+    SCENARIO_FORMS.iter().any(|form| form.says() == Says::Event
+        && form.name().as_bytes() == name.bytes)
 }
 
 /// Says that a line comes too late, behind the event on the line of this number.

@@ -20,7 +20,7 @@ fn told(alloc: Global, words: &[&str]) -> Result<String, OutOfMemory> {
 }
 
 /// Arguments, and what is said of them above the usage.
-static WRONG: [(&[&str], &str); 29] = [
+static WRONG: [(&[&str], &str); 30] = [
     (&[], "an argument is no UTF-8 text\n"),
     (&["foo"], "`foo` is no command\n"),
     (
@@ -69,6 +69,11 @@ static WRONG: [(&[&str], &str); 29] = [
     (
         &["analyse", "--group", "1;2"],
         "`--group` takes ids with one comma between two, without spaces, and not `1;2`\n",
+    ),
+    (
+        &["analyse", "--group", "1,4294967296"],
+        "`--group` takes ids with one comma between two, without spaces, and not `1,4294967296`; \
+         each is a number from 0 to 4294967295\n",
     ),
     (
         &["analyse", "--group="],
@@ -126,6 +131,9 @@ fn help_and_version_are_told(rt: HostRuntime) -> Result<(), Fail> {
         assert_eq!(rt; told(rt.alloc(), words)?.as_str(), help.as_str());
     }
     let version = told(rt.alloc(), &["--version"])?;
-    assert_eq!(rt; version.as_str(), "overlay, proved with rattle-kit-13f\n");
+    assert_eq!(rt;
+        version.as_str(),
+        "overlay 1.0, proved with rattle-kit-13f\n"
+    );
     Ok(())
 }

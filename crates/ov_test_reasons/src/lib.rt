@@ -6,6 +6,8 @@ mod agreement;
 #[cfg(test)]
 mod command_words;
 #[cfg(test)]
+mod group_refusals;
+#[cfg(test)]
 mod refusals;
 #[cfg(test)]
 mod run_lines;

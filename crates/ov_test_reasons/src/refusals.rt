@@ -171,11 +171,20 @@ fn limits_are_told(rt: HostRuntime) -> Result<(), Fail> {
     Ok(())
 }
 
+/// How many events were accepted, how many refused, and what is told of that.
+static COUNTED: [(u64, u64, &str); 3] = [
+    (12, 3, "12 events accepted, 3 refused\n"),
+    (1, 1, "1 event accepted, 1 refused\n"),
+    (0, 0, "0 events accepted, 0 refused\n"),
+];
+
 #[test]
 fn lines_of_a_run_are_told(rt: HostRuntime) -> Result<(), Fail> {
     let line = refusal_line(rt.alloc(), 31, "no packet 7; the bag has 4")?;
     assert_eq!(rt; line.as_str(), "line 31: no packet 7; the bag has 4\n");
-    let line = count_line(rt.alloc(), 12, 3)?;
-    assert_eq!(rt; line.as_str(), "12 events accepted, 3 refused\n");
+    for (accepted, refused, text) in &COUNTED {
+        let line = count_line(rt.alloc(), *accepted, *refused)?;
+        assert_eq!(rt; line.as_str(), *text);
+    }
     Ok(())
 }

@@ -47,8 +47,13 @@ pub(crate) fn graph_told(alloc: Global, file: &[u8]) -> Result<String, OutOfMemo
     }
 }
 
+/// What is said of a first word that is near to no name.
+const NO_NAME: &str = "no line begins with this word; lines begin with \
+    `params`, `seed`, `words`, `boot`, `deliver`, `lose`, `repeat`, `crash`, `report`, `shuffle`, `broadcast`, `timer`, \
+    `snapshot`, `analyse`, `certificate`, `show` or `packets`";
+
 /// Scenario files, and what is told of them.
-static SCENARIOS: [(&[u8], &[Told]); 26] = [
+static SCENARIOS: [(&[u8], &[Told]); 29] = [
     (b"boot 1\n", &[]),
     (
         b"boot 1\nboot 2 via 1\n",
@@ -69,7 +74,7 @@ static SCENARIOS: [(&[u8], &[Told]); 26] = [
                 "crahs 1",
                 0,
             ),
-            (5, "no line begins with this word", "foo", 0),
+            (5, NO_NAME, "foo", 0),
             (
                 6,
                 "no line begins with this word; `overlay analyse` reads graph files, which have such lines",
@@ -203,6 +208,38 @@ static SCENARIOS: [(&[u8], &[Told]); 26] = [
         )],
     ),
     (
+        b"boot 1\n\xef\xbb\xbfboot 2\n",
+        &[(
+            2,
+            "no line begins with this word; did you mean `boot`?",
+            "\\xef\\xbb\\xbfboot 2",
+            0,
+        )],
+    ),
+    (
+        b"boot x\nseed 3\nparams 5 30 6 3 3 4 4\n",
+        &[
+            (
+                1,
+                "expected the id of a node; it is a number from 0 to 4294967295",
+                "boot x",
+                5,
+            ),
+            (
+                2,
+                "`seed` must stand before any event, and line 1 is one",
+                "seed 3",
+                0,
+            ),
+            (
+                3,
+                "`params` must stand before any event, and line 1 is one",
+                "params 5 30 6 3 3 4 4",
+                0,
+            ),
+        ],
+    ),
+    (
         b"words 1\n\nshow 1\nwords 2\n# none\n",
         &[
             (
@@ -261,12 +298,22 @@ static SCENARIOS: [(&[u8], &[Told]); 26] = [
             "A, the size of the active view, is 17 and must be 1 to 16; \
              P, the size of the passive view, is 0 and must be 1 to 64; \
              W, the active random walk length, is 16 and must be 0 to 15; \
-             R, the passive random walk length, is 17 and must be 0 to 16; \
+             R, the passive random walk length, is 17 and must be 0 to 15; \
              KA, how many active members a shuffle samples, is 9 and must be 0 to 8; \
              KP, how many passive members a shuffle samples, is 9 and must be 0 to 8; \
              T, the time to live of a shuffle, is 16 and must be 1 to 15",
             "params 17 0 16 17 9 9 16",
             7,
+        )],
+    ),
+    (
+        b"params 5 30 16 16 3 4 4\n",
+        &[(
+            1,
+            "W, the active random walk length, is 16 and must be 0 to 15; \
+             R, the passive random walk length, is 16 and must be 0 to 15",
+            "params 5 30 16 16 3 4 4",
+            12,
         )],
     ),
     (
@@ -380,7 +427,7 @@ static SCENARIOS: [(&[u8], &[Told]); 26] = [
         )],
     ),
     (
-        b"analyse 3 workers 65\nanalyse 3 group 1, 2\ncrash -x\n",
+        b"analyse 3 workers 65\nanalyse 3 group 1, 2\ncrash -x\ncertificate 3 group 1,4294967296\n",
         &[
             (
                 1,
@@ -399,6 +446,12 @@ static SCENARIOS: [(&[u8], &[Told]); 26] = [
                 "expected the id of a node; it is a number from 0 to 4294967295",
                 "crash -x",
                 6,
+            ),
+            (
+                4,
+                "expected ids with one comma between two, without spaces; each is a number from 0 to 4294967295",
+                "certificate 3 group 1,4294967296",
+                20,
             ),
         ],
     ),
@@ -558,10 +611,7 @@ fn told_of_many(alloc: Global, count: usize, has_more: bool) -> Result<bool, Out
     let file = of_lines(alloc, "foo\n", count)?;
     let mut text = String::new(alloc);
     for number in 1..count.min(20).saturating_add(1) {
-        push_told(
-            &mut text,
-            &(number, "no line begins with this word", "foo", 0),
-        )?;
+        push_told(&mut text, &(number, NO_NAME, "foo", 0))?;
     }
     if has_more {
         text.push_str("more lines are at fault\n")?;

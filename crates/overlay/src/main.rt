@@ -15,12 +15,14 @@ use crate::explaining::Explaining;
 use crate::progress::Progress;
 use ov_ids::{NodeId, OutOfMemory};
 use ov_io::{Sink, Source};
-use ov_reasons::{argument_reasons, graph_reasons, scenario_reasons};
+use ov_reasons::{argument_reasons, graph_reasons, group_reason, scenario_reasons};
 use ov_run::{
     ArgumentsFault, ProgramFault, Request, RunFault, analyse_file, exit_status, read_arguments,
     run, run_watched,
 };
+use std::alloc::{AllocError, Global};
 use std::env;
+use std::fmt::Write;
 use std::fs::File;
 use std::io::{self, IsTerminal, Read};
 use std::process::ExitCode;
@@ -122,7 +124,9 @@ fn not_opened(rt: &HostRuntime, path: &str, error: io::Error) -> ProgramFault
     ensures { result ≡ Run read_failed }
 {
     let ended = print_fault(rt, RunFault::Read);
-    let _ = eprintln!(rt; "{path} can't be opened: {error}");
+    if let Ok(path) = shown(rt.alloc(), path) {
+        let _ = eprintln!(rt; "{path} can't be opened: {error}");
+    }
     ended
 }
 
@@ -131,10 +135,31 @@ fn not_read(rt: &HostRuntime, name: &str, fault: RunFault) -> ProgramFault
     ensures { result ≡ Run fault }
 {
     let ended = print_fault(rt, fault);
-    if let RunFault::Read = fault {
+    if let RunFault::Read = fault
+        && let Ok(name) = shown(rt.alloc(), name)
+    {
         let _ = eprintln!(rt; "{name} can't be read");
     }
     ended
+}
+
+/// The name of a file as a person can read it: control characters are escaped.
+fn shown(alloc: Global, name: &str) -> Result<String, AllocError> {
+    let mut text = String::new(alloc);
+    for c in name.chars() {
+        push_shown(&mut text, c)?;
+    }
+    Ok(text)
+}
+
+/// Appends a character, or where it is a control character, its escape.
+fn push_shown(text: &mut String, c: char) -> Result<(), AllocError> {
+    if c.is_control() {
+        let escape = c.escape_debug();
+        write!(text, "{escape}")?;
+        return Ok(());
+    }
+    text.push(c)
 }
 
 /// Runs the scenario of a file, or of standard input. Where it is to be explained, it is told why lines are refused.
@@ -260,7 +285,7 @@ fn analyse_from<T: Threads + Sync, R: Read + Drop>(
     }
 }
 
-/// Analyses the graph file of these bytes. A fault of it is told of.
+/// Analyses the graph file of these bytes. A fault of it is told of, and so is a refusal.
 fn analyse_bytes<T: Threads + Sync>(
     rt: &HostRuntime,
     threads: &T,
@@ -284,11 +309,21 @@ fn analyse_bytes<T: Threads + Sync>(
         &mut progress,
     );
     match answer {
-        Ok(status) => Ok(status),
+        Ok(status) => {
+            print_refusal(rt, bytes, asked.group.as_deref());
+            Ok(status)
+        }
         Err(fault) => {
             let ended = print_fault(rt, fault);
             print_reason(rt, graph_reasons(rt.alloc(), bytes, &fault));
             Err(ended)
         }
+    }
+}
+
+/// Prints why the analysis of a graph file is refused, if it is, behind its line. Out of memory nothing is told.
+fn print_refusal(rt: &HostRuntime, bytes: &[u8], group: Option<&[NodeId]>) {
+    if let Ok(Some(reason)) = group_reason(rt.alloc(), bytes, group) {
+        let _ = eprint!(rt; "{reason}");
     }
 }

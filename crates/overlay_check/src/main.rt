@@ -7,7 +7,9 @@ ghost use Rattle.ov_check.specs.Program.{exit_status};
 use ov_check::{JudgeFault, Judged, ProgramFault, exit_status, input_named, judge_kept};
 use ov_check_reasons::reasons;
 use ov_io::{Sink, Source};
+use std::alloc::{AllocError, Global};
 use std::env::FillError;
+use std::fmt::Write;
 use std::fs::File;
 use std::io;
 use std::io::Read;
@@ -53,7 +55,9 @@ fn judge_file<R: Runtime + AllocGlobal + Threads + Sync>(rt: &R, path: &str) -> 
         Ok(file) => judge_from(rt, file, path),
         Err(error) => {
             let status = end(rt, &Err(ProgramFault::Judge(JudgeFault::Read)));
-            let _ = eprintln!(rt; "{path} can't be opened: {error}");
+            if let Ok(path) = shown(rt.alloc(), path) {
+                let _ = eprintln!(rt; "{path} can't be opened: {error}");
+            }
             status
         }
     }
@@ -74,12 +78,33 @@ fn judge_from<R: Runtime + AllocGlobal + Threads + Sync>(
         }
         Err(fault) => {
             let status = end(rt, &Err(ProgramFault::Judge(fault)));
-            if let JudgeFault::Read = fault {
+            if let JudgeFault::Read = fault
+                && let Ok(name) = shown(rt.alloc(), name)
+            {
                 let _ = eprintln!(rt; "{name} can't be read");
             }
             status
         }
     }
+}
+
+/// The name of a file as a person can read it: control characters are escaped.
+fn shown(alloc: Global, name: &str) -> Result<String, AllocError> {
+    let mut text = String::new(alloc);
+    for c in name.chars() {
+        push_shown(&mut text, c)?;
+    }
+    Ok(text)
+}
+
+/// Appends a character, or where it is a control character, its escape.
+fn push_shown(text: &mut String, c: char) -> Result<(), AllocError> {
+    if c.is_control() {
+        let escape = c.escape_debug();
+        write!(text, "{escape}")?;
+        return Ok(());
+    }
+    text.push(c)
 }
 
 /// Prints on standard error why a certificate does not hold, or why a file is refused.
