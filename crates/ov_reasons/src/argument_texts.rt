@@ -71,12 +71,21 @@ fn is_first(arguments: &[String], word: &str) -> bool {
     }
 }
 
-/// Whether help is asked for.
+/// Whether help is asked for, by the first argument or by an option. Behind `--` nothing is an option.
 fn asks_help(arguments: &[String]) -> bool {
-    is_first(arguments, "help")
-        || arguments
-            .iter()
-            .any(|word| word.as_str() == "--help" || word.as_str() == "-h")
+    if is_first(arguments, "help") {
+        return true;
+    }
+    for word in arguments {
+        let option = word.as_str();
+        if option == "--" {
+            return false;
+        }
+        if option == "--help" || option == "-h" {
+            return true;
+        }
+    }
+    false
 }
 
 /// Appends what is wrong with arguments.

@@ -20,8 +20,9 @@ fn told(alloc: Global, words: &[&str]) -> Result<String, OutOfMemory> {
 }
 
 /// Arguments, and what is said of them above the usage.
-static WRONG: [(&[&str], &str); 30] = [
+static WRONG: [(&[&str], &str); 31] = [
     (&[], "an argument is no UTF-8 text\n"),
+    (&["run", "--", "a", "--help"], "`--help` is a second file\n"),
     (&["foo"], "`foo` is no command\n"),
     (
         &["analyze", "x"],
