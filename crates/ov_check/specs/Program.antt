@@ -6,19 +6,19 @@ use Rattle.ov_check.specs.declared.program.ProgramFault.{ProgramFault}
 use Rattle.ov_check.specs.declared.program.ProgramFault.TheVariants.{Usage, Judge}
 use Rattle.ov_check.specs.Faults.{number_of}
 
--- The input that one word names, where `bytes` are the bytes of a name. `-` is standard input, each other text is the
--- name of a file, and what is not text names nothing that can be read.
+-- The input that one argument names, where `bytes` are the bytes of a name. `-` is standard input, each other text is
+-- the name of a file, and what is not text names nothing that can be read.
 abbrev pub NamesInput : {Text : Type 0} → (Text → List ℕ) → List ℕ → Result (Option Text) ProgramFault → Type 0
-NamesInput bytes word (Ok None) = word ≡ codes "-"
-NamesInput bytes word (Ok (Some name)) = (bytes name ≡ word) × (word ≢ codes "-")
-NamesInput bytes word (Err fault) = (fault ≡ Judge Read) × (¬ IsUtf8 word)
+NamesInput bytes argument (Ok None) = argument ≡ codes "-"
+NamesInput bytes argument (Ok (Some name)) = (bytes name ≡ argument) × (argument ≢ codes "-")
+NamesInput bytes argument (Err fault) = (fault ≡ Judge Read) × (¬ IsUtf8 argument)
 
 -- the line on standard error, without its line feed
 abbrev pub fault_line : ProgramFault → List ℕ
 fault_line Usage = codes "usage: overlay-check [FILE]"
 fault_line (Judge fault) = refusal_text (number_of fault)
 
--- the program's status: that of the judge, 2 where the words are too many, and 1 after a fault
+-- the program's status: that of the judge, 2 where there are too many arguments, and 1 after a fault
 abbrev pub exit_status : Result ℕ ProgramFault → ℕ
 exit_status (Ok status) = status
 exit_status (Err Usage) = 2

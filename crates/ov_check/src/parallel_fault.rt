@@ -1,6 +1,6 @@
 ghost use Rattle.std.specs.Prelude.{◌≡◌};
 ghost use Rattle.ov_check.specs.Parallel.{number_of};
-ghost use Rattle.ov_check.specs.declared.parallel_fault.ParallelFault.TheVariants.{OutOfMemory as Wanted};
+ghost use Rattle.ov_check.specs.declared.parallel_fault.ParallelFault.TheVariants.{OutOfMemory as out_of_memory};
 
 use ov_cert::CheckFault;
 use ov_ids::OutOfMemory;
@@ -30,7 +30,7 @@ impl ParallelFault {
 }
 
 impl From<OutOfMemory> for ParallelFault {
-    ghost from_gives = { λ _ e. e ≡ Wanted };
+    ghost from_gives = { λ _ e. e ≡ out_of_memory };
 
     fn from(_fault: OutOfMemory) -> ParallelFault {
         ParallelFault::OutOfMemory

@@ -42,11 +42,11 @@ impl Display for ProgramFault {
 
 impl Error for ProgramFault {}
 
-/// The name of the file that the words behind the program's name ask for, or nothing for standard input. No word and
-/// the word `-` ask for standard input. `length` is the length of the first word, which is a prefix of `room`, or why
-/// the word is not there. `has_second` is whether there is a second word.
+/// The name of the file that the arguments ask for, or nothing for standard input. No argument and the argument `-` ask
+/// for standard input. `length` is the length of the first argument, which is a prefix of `room`, or why it is not
+/// there. `has_second` is whether there is a second argument.
 ///
-/// `Usage`: there is a second word. `Judge(Read)` (71): the word is longer than the room, or is not text.
+/// `Usage`: there is a second argument. `Judge(Read)` (71): the argument is longer than the room, or is not text.
 pub fn input_named(
     length: Result<usize, FillError>,
     room: &[u8],
@@ -54,9 +54,9 @@ pub fn input_named(
 ) -> Result<Option<&str>, ProgramFault>
     requires { WritesAtMost length room.now }
     ensures usage { IsTrue has_second → result ≡ Err ProgramFault.Usage }
-    ensures no_word { IsFalse has_second → length ≡ Err FillError.NotPresent → result ≡ Ok None }
+    ensures no_argument { IsFalse has_second → length ≡ Err FillError.NotPresent → result ≡ Ok None }
     ensures too_long { IsFalse has_second → length ≡ Err FillError.TooLong → result ≡ Err (Judge Read) }
-    ensures word { IsFalse has_second → IfOk length (λ n. NamesInput (λ name. name.now) (take n room.now) result) }
+    ensures argument { IsFalse has_second → IfOk length (λ n. NamesInput (λ name. name.now) (take n room.now) result) }
 {
     if has_second {
         return Err(ProgramFault::Usage);
@@ -68,18 +68,18 @@ pub fn input_named(
     }
 }
 
-/// The input that a word names.
-fn named_by(word: &[u8]) -> Result<Option<&str>, ProgramFault>
-    ensures { NamesInput (λ name. name.now) word.now result }
+/// The input that an argument names.
+fn named_by(argument: &[u8]) -> Result<Option<&str>, ProgramFault>
+    ensures { NamesInput (λ name. name.now) argument.now result }
 {
-    match str::from_utf8(word) {
+    match str::from_utf8(argument) {
         Ok("-") => Ok(None),
         Ok(name) => Ok(Some(name)),
         Err(_) => Err(ProgramFault::Judge(JudgeFault::Read)),
     }
 }
 
-/// The program's status: that of the judge, 2 where the words are too many, and 1 after a fault.
+/// The program's status: that of the judge, 2 where there are too many arguments, and 1 after a fault.
 pub fn exit_status(answer: &Result<u8, ProgramFault>) -> u8
     ensures { result ≡ exit_status answer.now }
 {

@@ -4,9 +4,11 @@
 
 mod counted;
 mod fault;
+mod name;
 mod sink;
 mod source;
 
 pub use fault::{ReadFault, WriteFault};
+pub use name::shown_name;
 pub use sink::Sink;
 pub use source::Source;

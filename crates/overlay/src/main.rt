@@ -14,15 +14,13 @@ mod progress;
 use crate::explaining::Explaining;
 use crate::progress::Progress;
 use ov_ids::{NodeId, OutOfMemory};
-use ov_io::{Sink, Source};
+use ov_io::{Sink, Source, shown_name};
 use ov_reasons::{argument_reasons, graph_reasons, group_reason, scenario_reasons};
 use ov_run::{
     ArgumentsFault, ProgramFault, Request, RunFault, analyse_file, exit_status, read_arguments,
     run, run_watched,
 };
-use std::alloc::{AllocError, Global};
 use std::env;
-use std::fmt::Write;
 use std::fs::File;
 use std::io::{self, IsTerminal, Read};
 use std::process::ExitCode;
@@ -54,26 +52,26 @@ fn print_reason(rt: &HostRuntime, reason: Result<String, OutOfMemory>) {
 
 /// Does what the arguments ask for.
 fn overlay<T: Threads + Sync>(rt: &HostRuntime, threads: &T) -> Result<u8, ProgramFault> {
-    let words = match words_of(rt) {
-        Ok(words) => words,
+    let command_line = match command_line(rt) {
+        Ok(texts) => texts,
         Err(fault) => return Err(unread_arguments(rt, fault, &[])),
     };
-    let arguments = behind_name(&words);
+    let arguments = behind_name(&command_line);
     match read_arguments(rt.alloc(), arguments) {
         Ok(request) => do_asked(rt, threads, request),
         Err(fault) => Err(unread_arguments(rt, fault, arguments)),
     }
 }
 
-/// The words of the command line.
-fn words_of(rt: &HostRuntime) -> Result<Vec<String>, ArgumentsFault> {
-    let words = env::args(rt)?;
-    Ok(words.collect(rt.alloc())?)
+/// The program's name and the arguments behind it.
+fn command_line(rt: &HostRuntime) -> Result<Vec<String>, ArgumentsFault> {
+    let texts = env::args(rt)?;
+    Ok(texts.collect(rt.alloc())?)
 }
 
-/// The words behind the program's name.
-fn behind_name(words: &[String]) -> &[String] {
-    match words.split_first() {
+/// The arguments, which stand behind the program's name.
+fn behind_name(command_line: &[String]) -> &[String] {
+    match command_line.split_first() {
         None => &[],
         Some((_, arguments)) => arguments,
     }
@@ -124,7 +122,7 @@ fn not_opened(rt: &HostRuntime, path: &str, error: io::Error) -> ProgramFault
     ensures { result ≡ Run read_failed }
 {
     let ended = print_fault(rt, RunFault::Read);
-    if let Ok(path) = shown(rt.alloc(), path) {
+    if let Ok(path) = shown_name(rt.alloc(), path) {
         let _ = eprintln!(rt; "{path} can't be opened: {error}");
     }
     ended
@@ -136,30 +134,11 @@ fn not_read(rt: &HostRuntime, name: &str, fault: RunFault) -> ProgramFault
 {
     let ended = print_fault(rt, fault);
     if let RunFault::Read = fault
-        && let Ok(name) = shown(rt.alloc(), name)
+        && let Ok(name) = shown_name(rt.alloc(), name)
     {
         let _ = eprintln!(rt; "{name} can't be read");
     }
     ended
-}
-
-/// The name of a file as a person can read it: control characters are escaped.
-fn shown(alloc: Global, name: &str) -> Result<String, AllocError> {
-    let mut text = String::new(alloc);
-    for c in name.chars() {
-        push_shown(&mut text, c)?;
-    }
-    Ok(text)
-}
-
-/// Appends a character, or where it is a control character, its escape.
-fn push_shown(text: &mut String, c: char) -> Result<(), AllocError> {
-    if c.is_control() {
-        let escape = c.escape_debug();
-        write!(text, "{escape}")?;
-        return Ok(());
-    }
-    text.push(c)
 }
 
 /// Runs the scenario of a file, or of standard input. Where it is to be explained, it is told why lines are refused.

@@ -6,10 +6,8 @@ ghost use Rattle.ov_check.specs.Program.{exit_status};
 
 use ov_check::{JudgeFault, Judged, ProgramFault, exit_status, input_named, judge_kept};
 use ov_check_reasons::reasons;
-use ov_io::{Sink, Source};
-use std::alloc::{AllocError, Global};
+use ov_io::{Sink, Source, shown_name};
 use std::env::FillError;
-use std::fmt::Write;
 use std::fs::File;
 use std::io;
 use std::io::Read;
@@ -24,19 +22,19 @@ fn main(rt: HostRuntime) -> ExitCode {
     ExitCode::from(run(&rt))
 }
 
-/// Judges the input that the words name. Word 0, the program's own path, is not looked at. Returns the status.
+/// Judges the input that the arguments name. Argument 0, the program's own path, is not looked at. Returns the status.
 fn run<R: Runtime + AllocGlobal + Threads + Sync>(rt: &R) -> u8 {
     let mut room = [0u8; LONGEST_PATH];
     let length = rt.arg(1, &mut room);
-    match input_named(length, &room, has_word(rt, 2)) {
+    match input_named(length, &room, has_argument(rt, 2)) {
         Ok(None) => judge_from(rt, rt.reader(), "standard input"),
         Ok(Some(path)) => judge_file(rt, path),
         Err(fault) => end(rt, &Err(fault)),
     }
 }
 
-/// Whether there is a word at a place, whatever bytes it has.
-fn has_word(rt: &impl Env, place: usize) -> bool {
+/// Whether there is an argument at a place, whatever bytes it has.
+fn has_argument(rt: &impl Env, place: usize) -> bool {
     !matches!(rt.arg(place, &mut []), Err(FillError::NotPresent))
 }
 
@@ -55,7 +53,7 @@ fn judge_file<R: Runtime + AllocGlobal + Threads + Sync>(rt: &R, path: &str) -> 
         Ok(file) => judge_from(rt, file, path),
         Err(error) => {
             let status = end(rt, &Err(ProgramFault::Judge(JudgeFault::Read)));
-            if let Ok(path) = shown(rt.alloc(), path) {
+            if let Ok(path) = shown_name(rt.alloc(), path) {
                 let _ = eprintln!(rt; "{path} can't be opened: {error}");
             }
             status
@@ -79,32 +77,13 @@ fn judge_from<R: Runtime + AllocGlobal + Threads + Sync>(
         Err(fault) => {
             let status = end(rt, &Err(ProgramFault::Judge(fault)));
             if let JudgeFault::Read = fault
-                && let Ok(name) = shown(rt.alloc(), name)
+                && let Ok(name) = shown_name(rt.alloc(), name)
             {
                 let _ = eprintln!(rt; "{name} can't be read");
             }
             status
         }
     }
-}
-
-/// The name of a file as a person can read it: control characters are escaped.
-fn shown(alloc: Global, name: &str) -> Result<String, AllocError> {
-    let mut text = String::new(alloc);
-    for c in name.chars() {
-        push_shown(&mut text, c)?;
-    }
-    Ok(text)
-}
-
-/// Appends a character, or where it is a control character, its escape.
-fn push_shown(text: &mut String, c: char) -> Result<(), AllocError> {
-    if c.is_control() {
-        let escape = c.escape_debug();
-        write!(text, "{escape}")?;
-        return Ok(());
-    }
-    text.push(c)
 }
 
 /// Prints on standard error why a certificate does not hold, or why a file is refused.

@@ -1,0 +1,30 @@
+ghost use Rattle.std.specs.Prelude.{◌≡◌, ◌++◌, IfOk, OnOk, string_bytes};
+ghost use Rattle.std.specs.Str.{chars};
+ghost use Rattle.ov_io.specs.Name.{shown_char, shown_chars};
+
+use std::alloc::{AllocError, Global};
+use std::fmt::Write;
+
+/// The name of a file as a person can read it on one line: a control character stands as its code, as `\u{a}` for a
+/// line feed. AllocError where an allocation is refused.
+pub fn shown_name(alloc: Global, name: &str) -> Result<String, AllocError>
+    ensures { IfOk result (λ text. string_bytes text ≡ shown_chars (chars name.now)) }
+{
+    let mut text = String::new(alloc);
+    for c in name.chars() {
+        push_shown(&mut text, c)?;
+    }
+    Ok(text)
+}
+
+/// Appends a character of a name.
+fn push_shown(text: &mut String, c: char) -> Result<(), AllocError>
+    ensures { OnOk result (string_bytes text.new ≡ string_bytes text.old ++ shown_char c) }
+{
+    if !c.is_control() {
+        return text.push(c);
+    }
+    let code = u32::from(c);
+    write!(text, "\\u{{{code:x}}}")?;
+    Ok(())
+}
