@@ -1,10 +1,11 @@
 //! The analysis of a graph and a group by several workers, each in a thread of its own.
 ghost use Rattle.std.specs.Prelude.{◌≡◌, ℕ, ◌<◌, ◌≤◌, ◌+◌, ◌^◌, length, All, IfOk, IfErr, OnOk, true};
+ghost use Rattle.ov_ids.specs.FaultOrder.{IsRefusedBy};
 ghost use Rattle.ov_graph.specs.Links.{IsGroup, IsWithinLimit, AreAllLinked};
 ghost use Rattle.ov_cert.specs.Theorems.{IsTrueForGroup};
 ghost use Rattle.ov_claims.specs.Claims.{fresh, most_workers};
 ghost use Rattle.ov_even.specs.Answer.{IsCheckedAnswer};
-ghost use Rattle.ov_even.specs.Faults.{IsRefusal};
+ghost use Rattle.ov_even.specs.Faults.{GroupJudged};
 ghost use Rattle.ov_even.specs.Harvest.{AreRight, Suffice};
 ghost use Rattle.ov_even.specs.Levels.{AreNumbersOf, IsTried};
 ghost use Rattle.ov_even.specs.declared.fault.AnalyseFault.TheVariants.{OutOfMemory as out_of_memory};
@@ -39,7 +40,7 @@ pub fn analyse<R: Threads + Sync, G: Gate>(
     requires few { workers ≤ most_workers }
     ensures answer { IfOk result (λ c. IsCheckedAnswer graph.now graph.now.nodes c) }
     ensures fewest { IfOk result (λ c. IsTrueForGroup graph.now graph.now.nodes c.cert) }
-    ensures refused { IfErr result (λ fault. IsRefusal graph.now graph.now.nodes fault) }
+    ensures refused { IfErr result (IsRefusedBy out_of_memory (GroupJudged graph.now graph.now.nodes)) }
 {
     analyse_group(rt, alloc, graph, graph.nodes(), workers, gate)
 }
@@ -60,7 +61,7 @@ pub fn analyse_group<R: Threads + Sync, G: Gate>(
     requires few { workers ≤ most_workers }
     ensures answer { IfOk result (λ c. IsCheckedAnswer graph.now group.now c) }
     ensures fewest { IfOk result (λ c. IsTrueForGroup graph.now group.now c.cert) }
-    ensures refused { IfErr result (λ fault. IsRefusal graph.now group.now fault) }
+    ensures refused { IfErr result (IsRefusedBy out_of_memory (GroupJudged graph.now group.now)) }
 {
     let hiring = Hiring {
         workers,
@@ -85,7 +86,7 @@ pub fn analyse_group_watched<R: Threads + Sync, G: Gate, W: Watcher>(
     requires few { workers ≤ most_workers }
     ensures answer { IfOk result (λ c. IsCheckedAnswer graph.now group.now c) }
     ensures fewest { IfOk result (λ c. IsTrueForGroup graph.now group.now c.cert) }
-    ensures refused { IfErr result (λ fault. IsRefusal graph.now group.now fault) }
+    ensures refused { IfErr result (IsRefusedBy out_of_memory (GroupJudged graph.now group.now)) }
 {
     if workers == 1 {
         return analyse_by_one(alloc, graph, group, watcher);
@@ -111,7 +112,7 @@ fn analyse_by<R: Threads + Sync, G: Gate, W: Watcher>(
     requires few { hiring.workers ≤ most_workers }
     ensures answer { IfOk result (λ c. IsCheckedAnswer graph.now group.now c) }
     ensures fewest { IfOk result (λ c. IsTrueForGroup graph.now group.now c.cert) }
-    ensures refused { IfErr result (λ fault. IsRefusal graph.now group.now fault) }
+    ensures refused { IfErr result (IsRefusedBy out_of_memory (GroupJudged graph.now group.now)) }
 {
     if graph.nodes().is_empty() {
         return Err(AnalyseFault::NoNodes);

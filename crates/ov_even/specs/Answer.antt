@@ -14,10 +14,10 @@ use Rattle.ov_even.specs.First.{IsFirst}
 
 -- the certificate has the cut, the near and far members and the side of this parting
 pub record NamesParting (c : Split) (parting : Parting) : Type 0 where
-  pub cut : c.cut ≡ parting.cut.items
+  pub cut : c.cut ≡ parting.cut
   pub near : c.near ≡ parting.near
   pub far : c.far ≡ parting.far
-  pub side : c.side ≡ parting.side.items
+  pub side : c.side ≡ parting.side
 
 -- the certificate names the nearest cut of the first piece that is not good, and its number k is one less than the
 -- level of that piece

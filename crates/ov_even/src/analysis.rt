@@ -1,10 +1,12 @@
 //! The analysis of a graph and a group by one worker.
 ghost use Rattle.std.specs.Prelude.{IfOk, IfErr};
+ghost use Rattle.ov_ids.specs.FaultOrder.{IsRefusedBy};
 ghost use Rattle.ov_graph.specs.Links.{IsGroup, AreAllLinked};
 ghost use Rattle.ov_cert.specs.Theorems.{IsTrueForGroup};
 ghost use Rattle.ov_even.specs.Answer.{IsCheckedAnswer};
-ghost use Rattle.ov_even.specs.Faults.{IsRefusal};
+ghost use Rattle.ov_even.specs.Faults.{GroupJudged};
 ghost use Rattle.ov_even.specs.Harvest.{Suffice};
+ghost use Rattle.ov_even.specs.declared.fault.AnalyseFault.TheVariants.{OutOfMemory as out_of_memory};
 
 use crate::assembly::assemble_group;
 use crate::fault::AnalyseFault;
@@ -20,7 +22,7 @@ use std::alloc::Global;
 pub fn analyse_alone(alloc: Global, graph: &Graph) -> Result<Checked, AnalyseFault>
     ensures answer { IfOk result (λ c. IsCheckedAnswer graph.now graph.now.nodes c) }
     ensures fewest { IfOk result (λ c. IsTrueForGroup graph.now graph.now.nodes c.cert) }
-    ensures refused { IfErr result (λ fault. IsRefusal graph.now graph.now.nodes fault) }
+    ensures refused { IfErr result (IsRefusedBy out_of_memory (GroupJudged graph.now graph.now.nodes)) }
 {
     analyse_group_alone(alloc, graph, graph.nodes())
 }
@@ -33,7 +35,7 @@ pub fn analyse_group_alone(
 ) -> Result<Checked, AnalyseFault>
     ensures answer { IfOk result (λ c. IsCheckedAnswer graph.now group.now c) }
     ensures fewest { IfOk result (λ c. IsTrueForGroup graph.now group.now c.cert) }
-    ensures refused { IfErr result (λ fault. IsRefusal graph.now group.now fault) }
+    ensures refused { IfErr result (IsRefusedBy out_of_memory (GroupJudged graph.now group.now)) }
 {
     analyse_group_watched(alloc, graph, group, &mut Unwatched)
 }
@@ -49,7 +51,7 @@ pub fn analyse_group_watched<W: Watcher>(
 ) -> Result<Checked, AnalyseFault>
     ensures answer { IfOk result (λ c. IsCheckedAnswer graph.now group.now c) }
     ensures fewest { IfOk result (λ c. IsTrueForGroup graph.now group.now c.cert) }
-    ensures refused { IfErr result (λ fault. IsRefusal graph.now group.now fault) }
+    ensures refused { IfErr result (IsRefusedBy out_of_memory (GroupJudged graph.now group.now)) }
 {
     if graph.nodes().is_empty() {
         return Err(AnalyseFault::NoNodes);

@@ -1,10 +1,11 @@
 //! Makes a certificate from the pieces that several workers have settled.
 ghost use Rattle.std.specs.Prelude.{◌≡◌, ◌+◌, ◌<◌, length, map, IfOk, IfErr};
+ghost use Rattle.ov_ids.specs.FaultOrder.{IsRefusedBy};
 ghost use Rattle.ov_graph.specs.Links.{HasNode, IsGraph, IsGroup, AreAllLinked};
 ghost use Rattle.ov_cert.specs.Valid.{IsValidForGroup};
 ghost use Rattle.ov_cert.specs.Theorems.{IsTrueForGroup};
 ghost use Rattle.ov_even.specs.Answer.{IsAnswer, IsCheckedAnswer, NamesParting};
-ghost use Rattle.ov_even.specs.Faults.{IsRefusal};
+ghost use Rattle.ov_even.specs.Faults.{GroupJudged};
 ghost use Rattle.ov_even.specs.Harvest.{Suffice};
 ghost use Rattle.ov_even.specs.Naming.{AreWanted, HaveAskedPaths};
 ghost use Rattle.ov_even.specs.Code.Cuts.{IsDeciding};
@@ -27,7 +28,7 @@ pub fn assemble(alloc: Global, graph: &Graph, hauls: &[Haul]) -> Result<Checked,
     requires { HasNode graph.now → Suffice graph.now graph.now.nodes hauls.now }
     ensures answer { IfOk result (λ c. IsCheckedAnswer graph.now graph.now.nodes c) }
     ensures fewest { IfOk result (λ c. IsTrueForGroup graph.now graph.now.nodes c.cert) }
-    ensures refused { IfErr result (λ fault. IsRefusal graph.now graph.now.nodes fault) }
+    ensures refused { IfErr result (IsRefusedBy out_of_memory (GroupJudged graph.now graph.now.nodes)) }
 {
     if graph.nodes().is_empty() {
         return Err(AnalyseFault::NoNodes);
@@ -154,8 +155,8 @@ fn split_of(
     ensures fans { IfOk result (λ c. c.fans ≡ entries.fans.items) }
 {
     let Entries { pairs, fans } = entries;
-    let cut = copy_of(alloc, &parting.cut)?;
-    let side = copy_of(alloc, &parting.side)?;
+    let cut = parting.cut.copy(alloc)?;
+    let side = parting.side.copy(alloc)?;
     Ok(Split {
         k,
         cut,
@@ -165,11 +166,4 @@ fn split_of(
         pairs: Seq::new(pairs),
         fans: Seq::new(fans),
     })
-}
-
-/// A copy of the list.
-fn copy_of(alloc: Global, ids: &[NodeId]) -> Result<Seq<NodeId>, OutOfMemory>
-    ensures { IfOk result (λ copy. copy ≡ ids.now) }
-{
-    Ok(Seq::new(Vec::from_slice(alloc, ids)?))
 }

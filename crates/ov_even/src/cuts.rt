@@ -63,7 +63,7 @@ pub(crate) fn cut_size(settled: &Settled) -> Option<usize>
     ensures none { IfNone result (IsNoCut settled.now.found) }
 {
     match &settled.found {
-        Found::Cut(parting) => Some(parting.cut.len()),
+        Found::Cut(parting) => Some(parting.cut.as_slice().len()),
         Found::Linked | Found::Paths(_) => None,
     }
 }

@@ -50,11 +50,11 @@ pub record IsSide (g : LinkGraph) (cut : List ℕ) (near : ℕ) (side : List ℕ
 -- c is the parting of the piece: its cut is the nearest least cut, with fewer nodes than the level, and near, far and
 -- side are those of this cut
 pub record IsParted (g : LinkGraph) (q : List ℕ) (p : Piece) (c : Parting) : Type 0 where
-  pub cut : IsNearest g q p c.cut.items
-  pub few : length c.cut.items < level_of p
+  pub cut : IsNearest g q p c.cut
+  pub few : length c.cut < level_of p
   pub near : c.near ≡ source_of q p
-  pub far : IsFar q p c.cut.items c.far
-  pub side : IsSide g c.cut.items c.near c.side.items
+  pub far : IsFar q p c.cut c.far
+  pub side : IsSide g c.cut c.near c.side
 
 -- the paths, which are by places of nodes, are paths that the piece asks for
 pub record AreRightPaths (g : LinkGraph) (q : List ℕ) (p : Piece) (paths : List (List ℕ)) : Type 0 where

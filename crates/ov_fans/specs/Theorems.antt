@@ -12,7 +12,7 @@ use Rattle.ov_fans.specs.declared.settled.Settled.{Settled}
 -- a piece has at most one parting: two have the same cut, near, far and side
 abbrev pub SameCut : Type 0
 SameCut = (g : LinkGraph) (q : List ℕ) (p : Piece) (c d : Parting) → IsParted g q p c → IsParted g q p d
-    → (c.cut.items ≡ d.cut.items) × (c.near ≡ d.near) × (c.far ≡ d.far) × (c.side.items ≡ d.side.items)
+    → (c.cut ≡ d.cut) × (c.near ≡ d.near) × (c.far ≡ d.far) × (c.side ≡ d.side)
 
 -- the result is not a cut
 abbrev pub IsNoCut : Found → Type 0

@@ -1,12 +1,11 @@
 //! The lower bits of a row, and the nodes whose bits are set.
 ghost use Rattle.std.specs.Prelude.{◌≡◌, ◌↔◌, ℕ, ◌<◌, ◌≤◌, ◌*◌, IfOk};
-ghost use Rattle.std.specs.Int.{bit_at};
 ghost use Rattle.ov_graph.specs.Row.{HasBit, picked, word_bits};
 ghost use Rattle.ov_graph.specs.Code.Kept.{IsRowOf};
 
 use ov_graph::Graph;
-use ov_graph::row::{EMPTY, Row, WORDS, first_from};
-use ov_ids::{NodeId, OutOfMemory};
+use ov_graph::row::{EMPTY, Row, WORDS, first_from, low_bits};
+use ov_ids::{NodeId, OutOfMemory, Seq};
 use std::alloc::Global;
 
 /// The bits of a row below place `p`.
@@ -23,22 +22,14 @@ pub(crate) fn bits_below(row: &[u64; WORDS], p: usize) -> Row
     kept
 }
 
-/// The bits of a word below bit `t`.
-fn low_bits(word: u64, t: u32) -> u64
-    requires { t < word_bits }
-    ensures { (i : ℕ) → (bit_at result i ≡ 1) ↔ ((i < t) × (bit_at word i ≡ 1)) }
-{
-    word & ((1 << t) - 1)
-}
-
 /// The nodes whose bits are set, ascending.
 pub(crate) fn nodes_of_row(
     alloc: Global,
     graph: &Graph,
     row: &[u64; WORDS],
-) -> Result<Vec<NodeId>, OutOfMemory>
+) -> Result<Seq<NodeId>, OutOfMemory>
     requires { IsRowOf graph.now.nodes row.now }
-    ensures { IfOk result (λ nodes. nodes.items ≡ picked row.now 0 graph.now.nodes) }
+    ensures { IfOk result (λ nodes. nodes ≡ picked row.now 0 graph.now.nodes) }
 {
     let nodes = graph.nodes();
     let words = graph.words();
@@ -48,7 +39,7 @@ pub(crate) fn nodes_of_row(
         found.push(nodes[place])?;
         next = place + 1;
     }
-    Ok(found)
+    Ok(Seq::new(found))
 }
 
 /// How many bits of the first `words` words are set, by which room is allocated. The contract needs only the upper

@@ -1,18 +1,18 @@
 use crate::piece::Piece;
 use ov_flow::PlacePaths;
-use ov_ids::NodeId;
+use ov_ids::{NodeId, Seq};
 
 /// The nearest least cut of a piece, and two members that it separates: the piece's source, `near`, and `far`.
 #[derive(Drop)]
 pub struct Parting {
     /// The nodes of the cut, ascending.
-    pub cut: Vec<NodeId>,
+    pub cut: Seq<NodeId>,
     /// The member at the piece's source.
     pub near: NodeId,
     /// Of a pair the other member. Of a fan the lowest member before its source that is not in the cut.
     pub far: NodeId,
     /// The nodes that are joined to `near` without the cut, ascending.
-    pub side: Vec<NodeId>,
+    pub side: Seq<NodeId>,
 }
 
 /// The result of a piece.

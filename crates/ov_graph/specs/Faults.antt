@@ -1,7 +1,7 @@
 -- Why nodes and links are refused as a graph.
 use Rattle.std.specs.Prelude.{ℕ, ◌≤◌, List, [], ◌∷◌, length, Option, Some, None}
 use Rattle.ov_ids.specs.Members.{Ascends}
-use Rattle.ov_ids.specs.FaultOrder.{Step, Passed, IsRefusedBy}
+use Rattle.ov_ids.specs.FaultOrder.{Step, Passed}
 use Rattle.ov_graph.specs.Links.{IsLink, Precedes, most_nodes}
 use Rattle.ov_graph.specs.declared.fault.GraphFault.{GraphFault}
 use Rattle.ov_graph.specs.declared.fault.GraphFault.TheVariants.{TooManyNodes, Unordered, BadLink, OutOfMemory}
@@ -30,7 +30,3 @@ LinksJudged nodes before (l ∷ links) answer =
 abbrev pub GraphJudged : List ℕ → List (ℕ × ℕ) → Option GraphFault → Type 0
 GraphJudged nodes links answer =
     Step (length nodes ≤ most_nodes) TooManyNodes (Step (Ascends nodes) Unordered (LinksJudged nodes None links)) answer
-
--- the fault is the first one that applies, or out of memory where none applies
-abbrev pub IsRefusal : List ℕ → List (ℕ × ℕ) → GraphFault → Type 0
-IsRefusal nodes links fault = IsRefusedBy OutOfMemory (GraphJudged nodes links) fault

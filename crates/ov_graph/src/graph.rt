@@ -2,10 +2,12 @@ ghost use Rattle.std.specs.Prelude.{◌≡◌, ◌≢◌, ◌↔◌, ℕ, ◌<�
 ghost use Rattle.std.specs.Prelude.{IfOk, IfSome, IfNone, MatchResult, OnOk, OnErr};
 ghost use Rattle.ov_graph.specs.Links.{LinkGraph, IsGraph, IsWithinLimit, Linked, AreNeighbours, IsGroup, most_nodes};
 ghost use Rattle.ov_graph.specs.Changes.{GainsNode, LosesNode, GainsLink, LosesLink};
-ghost use Rattle.ov_graph.specs.Faults.{GraphJudged, IsRefusal};
+ghost use Rattle.ov_graph.specs.Faults.{GraphJudged};
 ghost use Rattle.ov_graph.specs.Paths.{node_at};
 ghost use Rattle.ov_graph.specs.Row.{HasBit, AreWordsFor};
 ghost use Rattle.ov_graph.specs.Code.Kept.{IsMarked};
+ghost use Rattle.ov_graph.specs.declared.fault.GraphFault.TheVariants.{OutOfMemory as out_of_memory};
+ghost use Rattle.ov_ids.specs.FaultOrder.{IsRefusedBy};
 ghost use Rattle.ov_ids.specs.Members.{Has};
 
 use crate::adjacency::rows_of;
@@ -54,7 +56,7 @@ impl Graph {
         ensures is_graph { IfOk result IsGraph }
         ensures within { IfOk result IsWithinLimit }
         ensures judged { MatchResult result (λ _. GraphJudged nodes.now links.now None)
-            (IsRefusal nodes.now links.now) }
+            (IsRefusedBy out_of_memory (GraphJudged nodes.now links.now)) }
     {
         if let Some(fault) = first_fault(nodes, links) {
             return Err(fault);

@@ -105,6 +105,14 @@ pub fn agree(a: &[u64; WORDS], b: &[u64; WORDS], words: usize) -> bool
     true
 }
 
+/// The bits of a word below bit `t`.
+pub fn low_bits(word: u64, t: u32) -> u64
+    requires { t < word_bits }
+    ensures { (i : ℕ) → (bit_at result i ≡ 1) ↔ ((i < t) × (bit_at word i ≡ 1)) }
+{
+    word & ((1 << t) - 1)
+}
+
 /// The least number of words with bits for `n` places.
 pub(crate) fn words_for(n: usize) -> usize
     requires { n ≤ word_bits * WORDS }

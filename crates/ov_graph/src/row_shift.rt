@@ -4,7 +4,7 @@ ghost use Rattle.std.specs.Int.{bit_at};
 ghost use Rattle.ov_graph.specs.Row.{HasBit, word_bits};
 ghost use Rattle.ov_graph.specs.Code.Shifts.{HasOpened, HasClosed};
 
-use crate::row::{EMPTY, WORDS};
+use crate::row::{EMPTY, WORDS, low_bits};
 
 /// The first `words` words of a row with a bit 0 inserted at place `p`.
 pub(crate) fn opened(row: &[u64; WORDS], p: usize, words: usize) -> [u64; WORDS]
@@ -75,7 +75,7 @@ fn parted(word: u64, t: u32) -> u64
     ensures { (i : ℕ) → i < word_bits
         → (bit_at result i ≡ 1) ↔ (((i < t) × (bit_at word i ≡ 1)) ⊎ ((t < i) × (bit_at word (i - 1) ≡ 1))) }
 {
-    below(word, t) | up(above(word, t), 0)
+    low_bits(word, t) | up(above(word, t), 0)
 }
 
 /// The bits of a word below bit `t`, and the bits of another from there on.
@@ -84,15 +84,7 @@ fn joined(word: u64, other: u64, t: u32) -> u64
     ensures { (i : ℕ) → i < word_bits
         → (bit_at result i ≡ 1) ↔ (((i < t) × (bit_at word i ≡ 1)) ⊎ ((t ≤ i) × (bit_at other i ≡ 1))) }
 {
-    below(word, t) | above(other, t)
-}
-
-/// The bits of a word below bit `t`.
-fn below(word: u64, t: u32) -> u64
-    requires { t < word_bits }
-    ensures { (i : ℕ) → (bit_at result i ≡ 1) ↔ ((i < t) × (bit_at word i ≡ 1)) }
-{
-    word & ((1 << t) - 1)
+    low_bits(word, t) | above(other, t)
 }
 
 /// The bits of a word from bit `t` on.

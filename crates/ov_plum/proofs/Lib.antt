@@ -4,3 +4,4 @@ mod InMap
 mod InOrder
 pub mod Maps
 mod Noting
+mod Planning

@@ -1,7 +1,7 @@
 ghost use Rattle.std.specs.Prelude.{◌≡◌, ◌<◌, ◌≤◌, ◌+◌, ◌↔◌, [], false, length, vec_len};
-ghost use Rattle.std.specs.Prelude.{None, Ok, Err, IfOk, OnOk, OnErr};
+ghost use Rattle.std.specs.Prelude.{None, Ok, Err, IfOk, IsOk, OnOk, OnErr};
 ghost use Rattle.std.specs.FinSet as set;
-ghost use Rattle.ov_wire.specs.Messages.{most_payload};
+ghost use Rattle.ov_wire.specs.Messages.{most_payload, say};
 ghost use Rattle.ov_wire.specs.declared.message.Body.TheVariants.{Gossip, IHave, Graft, Prune};
 ghost use Rattle.ov_plum.specs.PlumChange.{IsPlumChange, IsPlumPlan, IsPlumStep, plum_after, may_allocate};
 ghost use Rattle.ov_plum.specs.PlumRows.{AllowedTree, receives, broadcasts, fires, goes_up, goes_down};
@@ -141,7 +141,7 @@ impl Plum {
     ) -> Result<PlumPlan, OutOfMemory>
         requires { length payload ≤ most_payload }
         ensures { IfOk result
-            (IsPlumPlan self.now (receives (record { from = from; body = Gossip id round payload }))) }
+            (IsPlumPlan self.now (receives (say from (Gossip id round payload)))) }
     {
         if from == self.me {
             return Ok(self.nothing());
@@ -167,7 +167,7 @@ impl Plum {
     /// the node itself; else the sender is to be noted behind the older notes of the message, unless it is noted, and
     /// the timer is to run. Nothing is allocated.
     pub fn plan_ihave(&self, from: NodeId, id: MsgId) -> PlumPlan
-        ensures { IsPlumPlan self.now (receives (record { from = from; body = IHave id })) result }
+        ensures { IsPlumPlan self.now (receives (say from (IHave id))) result }
     {
         if from == self.me || self.held.contains(&id) || !self.branches.is_linked(from) {
             return self.nothing();
@@ -178,7 +178,7 @@ impl Plum {
     /// Plans the step at GRAFT from a node: it is to become eager, and to get the message where that is held. GRAFT
     /// from the node itself does nothing. OutOfMemory (99) where an allocation is refused.
     pub fn plan_graft(&self, from: NodeId, id: MsgId) -> Result<PlumPlan, OutOfMemory>
-        ensures { IfOk result (IsPlumPlan self.now (receives (record { from = from; body = Graft id }))) }
+        ensures { IfOk result (IsPlumPlan self.now (receives (say from (Graft id)))) }
     {
         if from == self.me {
             return Ok(self.nothing());
@@ -197,7 +197,7 @@ impl Plum {
     /// Plans the step at PRUNE from a node: it is to become lazy. PRUNE from the node itself does nothing. Nothing is
     /// allocated, neither here nor where the plan is applied.
     pub fn plan_prune(&self, from: NodeId) -> PlumPlan
-        ensures allowed { IsPlumPlan self.now (receives (record { from = from; body = Prune })) result }
+        ensures allowed { IsPlumPlan self.now (receives (say from Prune)) result }
         ensures room { may_allocate result.plum_change ≡ false }
     {
         if from == self.me {
@@ -266,12 +266,8 @@ impl Plum {
         ensures ok { IfOk result (IsPlumStep self.old (broadcasts payload) self.new) }
         ensures err { OnErr result (self.new ≡ self.old) }
     {
-        let PlumPlan {
-            spread,
-            plum_change,
-        } = self.plan_broadcast(payload)?;
-        self.apply(plum_change)?;
-        Ok(spread)
+        let plan = self.plan_broadcast(payload)?;
+        Ok(self.follow(plan)?)
     }
 
     /// Plans the step by `plan_gossip`, and applies it. The payload has at most 1,024 bytes. Out of memory (99),
@@ -285,53 +281,38 @@ impl Plum {
     ) -> Result<Spread, OutOfMemory>
         requires { length payload ≤ most_payload }
         ensures ok { IfOk result
-            (IsPlumStep self.old (receives (record { from = from; body = Gossip id round payload })) self.new) }
+            (IsPlumStep self.old (receives (say from (Gossip id round payload))) self.new) }
         ensures err { OnErr result (self.new ≡ self.old) }
     {
-        let PlumPlan {
-            spread,
-            plum_change,
-        } = self.plan_gossip(from, id, round, payload)?;
-        self.apply(plum_change)?;
-        Ok(spread)
+        let plan = self.plan_gossip(from, id, round, payload)?;
+        Ok(self.follow(plan)?)
     }
 
     /// Plans the step by `plan_ihave`, and applies it. Out of memory (99), nothing has changed.
     pub fn on_ihave(&mut self, from: NodeId, id: MsgId) -> Result<Spread, OutOfMemory>
-        ensures ok { IfOk result (IsPlumStep self.old (receives (record { from = from; body = IHave id })) self.new) }
+        ensures ok { IfOk result (IsPlumStep self.old (receives (say from (IHave id))) self.new) }
         ensures err { OnErr result (self.new ≡ self.old) }
     {
-        let PlumPlan {
-            spread,
-            plum_change,
-        } = self.plan_ihave(from, id);
-        self.apply(plum_change)?;
-        Ok(spread)
+        let plan = self.plan_ihave(from, id);
+        Ok(self.follow(plan)?)
     }
 
     /// Plans the step by `plan_graft`, and applies it. Out of memory (99), nothing has changed.
     pub fn on_graft(&mut self, from: NodeId, id: MsgId) -> Result<Spread, OutOfMemory>
-        ensures ok { IfOk result (IsPlumStep self.old (receives (record { from = from; body = Graft id })) self.new) }
+        ensures ok { IfOk result (IsPlumStep self.old (receives (say from (Graft id))) self.new) }
         ensures err { OnErr result (self.new ≡ self.old) }
     {
-        let PlumPlan {
-            spread,
-            plum_change,
-        } = self.plan_graft(from, id)?;
-        self.apply(plum_change)?;
-        Ok(spread)
+        let plan = self.plan_graft(from, id)?;
+        Ok(self.follow(plan)?)
     }
 
     /// Plans the step by `plan_prune`, and applies it. Nothing is allocated.
     pub fn on_prune(&mut self, from: NodeId) -> Spread
-        ensures { IsPlumStep self.old (receives (record { from = from; body = Prune })) self.new result }
+        ensures { IsPlumStep self.old (receives (say from Prune)) self.new result }
     {
-        let PlumPlan {
-            spread,
-            plum_change,
-        } = self.plan_prune(from);
-        match self.apply(plum_change) {
-            Ok(()) => spread,
+        let plan = self.plan_prune(from);
+        match self.follow(plan) {
+            Ok(spread) => spread,
             Err(_) => unreachable!(),
         }
     }
@@ -343,12 +324,8 @@ impl Plum {
         ensures no_timer { result ≡ Err NoTimer ↔ set.contains self.old.running id ≡ false }
         ensures err { OnErr result (self.new ≡ self.old) }
     {
-        let PlumPlan {
-            spread,
-            plum_change,
-        } = self.plan_timer(id)?;
-        self.apply(plum_change)?;
-        Ok(spread)
+        let plan = self.plan_timer(id)?;
+        Ok(self.follow(plan)?)
     }
 
     /// A node becomes a neighbour: it is eager. There must be fewer than 64 neighbours. Nothing is allocated.
@@ -365,6 +342,22 @@ impl Plum {
     {
         self.branches.down(id);
         self.waiting.forget(id);
+    }
+
+    /// Applies a plan, and returns its effects. Out of memory (99), nothing has changed.
+    fn follow(&mut self, plan: PlumPlan) -> Result<Spread, OutOfMemory>
+        requires { IsPlumChange self.old plan.plum_change }
+        ensures spread { IfOk result (λ effects. effects ≡ plan.spread) }
+        ensures ok { OnOk result (self.new ≡ plum_after self.old plan.plum_change) }
+        ensures err { OnErr result (self.new ≡ self.old) }
+        ensures room { may_allocate plan.plum_change ≡ false → IsOk result }
+    {
+        let PlumPlan {
+            spread,
+            plum_change,
+        } = plan;
+        self.apply(plum_change)?;
+        Ok(spread)
     }
 
     /// A message of this node.

@@ -1,10 +1,12 @@
 ghost use Rattle.std.specs.Prelude.{◌≡◌, ◌≢◌, ◌⊎◌, ◌+◌, ◌<◌, ◌≤◌, option_map, string_bytes, Err};
 ghost use Rattle.std.specs.Prelude.{IfOk, IfErr, OnOk, IsErrOf};
+ghost use Rattle.ov_ids.specs.FaultOrder.{IsRefusedBy};
 ghost use Rattle.ov_cert.specs.Valid.{IsValidForGroup};
 ghost use Rattle.ov_claims.specs.Claims.{most_workers};
 ghost use Rattle.ov_io.specs.Device.{most_faults, ReaderFailed};
 ghost use Rattle.ov_even.specs.Answer.{IsCheckedAnswer};
-ghost use Rattle.ov_even.specs.Faults.{IsRefusal};
+ghost use Rattle.ov_even.specs.Faults.{GroupJudged};
+ghost use Rattle.ov_even.specs.declared.fault.AnalyseFault.TheVariants.{OutOfMemory as out_of_memory};
 ghost use Rattle.ov_run.specs.Analysing.{answer_text, PrintsAnswer, IsAnalysis, PrintsAnalysis, BeginsAnalysis};
 ghost use Rattle.ov_run.specs.Faults.{read_failures, write_failures, IsAnalysisFault};
 ghost use Rattle.ov_run.specs.GraphFiles.{IsGraphFileFault};
@@ -127,7 +129,7 @@ fn text_of(
     certificate: bool,
 ) -> Result<String, OutOfMemory>
     requires answer { IfOk answer.now (λ c. IsCheckedAnswer graph.now group.now c) }
-    requires refused { IfErr answer.now (λ fault. IsRefusal graph.now group.now fault) }
+    requires refused { IfErr answer.now (IsRefusedBy out_of_memory (GroupJudged graph.now group.now)) }
     ensures { IfOk result (λ text. PrintsAnswer graph.now group.now certificate (string_bytes text)) }
 {
     match answer {

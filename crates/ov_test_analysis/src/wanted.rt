@@ -78,7 +78,7 @@ pub(crate) fn are_numbered(ids: &[NodeId], numbers: &[u32]) -> bool {
 }
 
 fn is_cut(parting: &Parting, cut: &[u32], side: &[u32]) -> bool {
-    are_numbered(&parting.cut, cut) && are_numbered(&parting.side, side)
+    are_numbered(parting.cut.as_slice(), cut) && are_numbered(parting.side.as_slice(), side)
 }
 
 fn is_parting(parting: &Parting, want: Want<'_>) -> bool {

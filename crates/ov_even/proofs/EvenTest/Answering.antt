@@ -49,7 +49,7 @@ pub answer_valid : (g : LinkGraph) (q : List ℕ) (c : Split) (p : Piece) (parti
     → HavePaths g q c.k c.pairs → HaveFans g q c.k c.fans → IsValidSplit g q c
 answer_valid g q c p parting graph group first level right names pairs fans =
     let cut = right.cut.least.cut in
-    let count = first_counts g q p c.k parting.cut.items group first level cut right.few in
+    let count = first_counts g q p c.k parting.cut group first level cut right.few in
     let set : IsNodeSet g c.cut = rw names.cut cut.set in
     let parts : PartsMembers g q c.cut c.near c.far = rw (names.cut, names.near, names.far)
     (parted_parts g q p parting group first.piece right) in

@@ -85,13 +85,13 @@ piece_splits g q p s group at cut few =
 
 -- the parting of a piece separates near from far
 pub parted_parts : (g : LinkGraph) (q : List ℕ) (p : Piece) (c : Parting) → IsGroup g q → IsPiece g q p
-    → IsParted g q p c → PartsMembers g q c.cut.items c.near c.far
+    → IsParted g q p c → PartsMembers g q c.cut c.near c.far
 parted_parts g q p c group at right =
-    subst (λ (a : ℕ). PartsMembers g q c.cut.items a c.far) (sym right.near)
-    (piece_parts g q p c.cut.items c.far group at right.cut.least.cut right.far)
+    subst (λ (a : ℕ). PartsMembers g q c.cut a c.far) (sym right.near)
+    (piece_parts g q p c.cut c.far group at right.cut.least.cut right.far)
 
 -- the cut of a parting splits the group: near and far are not joined without it
 pub parted_splits : (g : LinkGraph) (q : List ℕ) (p : Piece) (c : Parting) → IsGroup g q → IsPiece g q p
-    → IsParted g q p c → SplitsGroup g q c.cut.items
+    → IsParted g q p c → SplitsGroup g q c.cut
 parted_splits g q p c group at right =
-    parts_split g q c.cut.items c.near c.far right.cut.least.cut.set (parted_parts g q p c group at right)
+    parts_split g q c.cut c.near c.far right.cut.least.cut.set (parted_parts g q p c group at right)

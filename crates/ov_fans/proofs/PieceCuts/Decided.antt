@@ -14,7 +14,7 @@ pub found_decides : (g : LinkGraph) (q : List ℕ) (p : Piece) (found : Found) �
 found_decides g q p Linked graph right = ((λ h. tt), (λ h. inl right))
 found_decides g q p (Paths paths) graph right = ((λ h. tt), (λ h. inr (_, right.1.asked)))
 found_decides g q p (Cut parting) graph right = (
-  (λ h. cut_refutes g q p parting.value.cut.items graph right.cut.least.cut right.few h),
+  (λ h. cut_refutes g q p parting.value.cut graph right.cut.least.cut right.few h),
   (λ h. absurd h),
 )
 

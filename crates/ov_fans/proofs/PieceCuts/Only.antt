@@ -92,10 +92,10 @@ one_side g s a xs ys f h =
 
 pub same_cut : SameCut
 same_cut g q p c d m n =
-    let cut = one_nearest g q p c.cut.items d.cut.items m.cut n.cut in
+    let cut = one_nearest g q p c.cut d.cut m.cut n.cut in
     let near : c.near ≡ d.near = m.near ∙ sym n.near in
-    let far = one_far q p d.cut.items c.far d.far (subst (λ (s : List ℕ). IsFar q p s c.far) cut m.far) n.far in
-    let moved = subst (λ (a : ℕ). IsSide g c.cut.items a c.side.items) near m.side in
-    let side = one_side g d.cut.items d.near c.side.items d.side.items
-    (subst (λ (s : List ℕ). IsSide g s d.near c.side.items) cut moved) n.side in
+    let far = one_far q p d.cut c.far d.far (subst (λ (s : List ℕ). IsFar q p s c.far) cut m.far) n.far in
+    let moved = subst (λ (a : ℕ). IsSide g c.cut a c.side) near m.side in
+    let side = one_side g d.cut d.near c.side d.side
+    (subst (λ (s : List ℕ). IsSide g s d.near c.side) cut moved) n.side in
     (cut, near, far, side)

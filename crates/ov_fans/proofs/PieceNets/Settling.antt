@@ -28,20 +28,20 @@ cut_found g q p k cut side graph group at full few = (
 
 -- and with its far member and its side it parts the piece
 pub parted_of : (g : LinkGraph) (q : List ℕ) (p : Piece) (k : ℕ) (cut side : List ℕ) (c : Parting) → IsGraph g
-    → IsGroup g q → IsPiece g q p → IsFull (net_of g q p) k cut side → k < level_of p → c.cut.items ≡ cut
-    → c.near ≡ source_of q p → IsFar q p cut c.far → c.side.items ≡ side → IsParted g q p c
+    → IsGroup g q → IsPiece g q p → IsFull (net_of g q p) k cut side → k < level_of p → c.cut ≡ cut
+    → c.near ≡ source_of q p → IsFar q p cut c.far → c.side ≡ side → IsParted g q p c
 parted_of g q p k cut side c graph group at full few same near far sides =
     let n = (nearest_of g q p graph group at cut).0 full.nearest in
     let s = side_of g q p cut side n.least.cut full.side_of in
     let t = subst (λ (xs : List ℕ). IsSide g cut (source_of q p) xs) (sym sides) s in
-    let u = subst (λ (a : ℕ). IsSide g cut a c.side.items) (sym near) t in
+    let u = subst (λ (a : ℕ). IsSide g cut a c.side) (sym near) t in
     record {
       cut = subst (λ (xs : List ℕ). IsNearest g q p xs) (sym same) n;
       few = subst (λ (xs : List ℕ). length xs < level_of p) (sym same)
           (cut_found g q p k cut side graph group at full few).1;
       near = near;
       far = subst (λ (xs : List ℕ). IsFar q p xs c.far) (sym same) far;
-      side = subst (λ (xs : List ℕ). IsSide g xs c.near c.side.items) (sym same) u;
+      side = subst (λ (xs : List ℕ). IsSide g xs c.near c.side) (sym same) u;
     }
 
 pub map_push : (f : ℕ → ℕ) (path : List ℕ) (x : ℕ) → map f (path ++ x ∷ []) ≡ map f path ++ f x ∷ []

@@ -7,12 +7,12 @@ use Rattle.std.specs.List.{list_any, AllByRecursion}
 use Rattle.ov_ids.specs.Members.{Has, Ordered, Ascends}
 use Rattle.ov_ids.specs.Sets.{has}
 use Rattle.ov_ids.specs.Ascending.{ascends_after}
-use Rattle.ov_ids.specs.FaultOrder.{Step}
+use Rattle.ov_ids.specs.FaultOrder.{Step, IsRefusedBy}
 use Rattle.ov_ids.proofs.Members.{has_from_any, any_from_has, has_tested, all_member, all_from_members}
 use Rattle.ov_ids.proofs.Rising.{ascends_tested}
 use Rattle.ov_ids.proofs.Stepping.{step_by, step_unless, step_none, step_passes}
 use Rattle.ov_graph.specs.Links.{LinkGraph, IsGraph, IsWithinLimit, IsLink, Precedes, Linked, most_nodes}
-use Rattle.ov_graph.specs.Faults.{GraphJudged, LinksJudged, ComesAfter, IsRefusal}
+use Rattle.ov_graph.specs.Faults.{GraphJudged, LinksJudged, ComesAfter}
 use Rattle.ov_graph.specs.Code.Tests.{is_link, comes_after, links_fault, fault_of, are_joined}
 use Rattle.ov_graph.specs.declared.fault.GraphFault.{GraphFault}
 use Rattle.ov_graph.specs.declared.fault.GraphFault.TheVariants.{TooManyNodes, Unordered, BadLink, OutOfMemory}
@@ -165,11 +165,13 @@ pub passed : (nodes : List ℕ) (ls : List (ℕ × ℕ)) → fault_of nodes ls �
 passed nodes ls h = subst (GraphJudged nodes ls) h (judged nodes ls)
 
 -- the fault that is found is the first one
-pub refused : (nodes : List ℕ) (ls : List (ℕ × ℕ)) (e : GraphFault) → fault_of nodes ls ≡ Some e → IsRefusal nodes ls e
+pub refused : (nodes : List ℕ) (ls : List (ℕ × ℕ)) (e : GraphFault) → fault_of nodes ls ≡ Some e
+    → IsRefusedBy OutOfMemory (GraphJudged nodes ls) e
 refused nodes ls e h = inl (subst (GraphJudged nodes ls) h (judged nodes ls))
 
 -- where nodes and links have no fault, out of memory is the refusal
-pub out_of_memory : (nodes : List ℕ) (ls : List (ℕ × ℕ)) → fault_of nodes ls ≡ None → IsRefusal nodes ls OutOfMemory
+pub out_of_memory : (nodes : List ℕ) (ls : List (ℕ × ℕ)) → fault_of nodes ls ≡ None
+    → IsRefusedBy OutOfMemory (GraphJudged nodes ls) OutOfMemory
 out_of_memory nodes ls h = inr (refl, passed nodes ls h)
 
 pub graph_of : (nodes : List ℕ) (ls : List (ℕ × ℕ)) → fault_of nodes ls ≡ None
@@ -211,11 +213,11 @@ computed nodes ls x j =
     (judged nodes ls) j
 
 -- a refusal other than out of memory is the first fault
-pub judged_refusal : (nodes : List ℕ) (ls : List (ℕ × ℕ)) (e : GraphFault) → e ≢ OutOfMemory → IsRefusal nodes ls e
-    → GraphJudged nodes ls (Some e)
+pub judged_refusal : (nodes : List ℕ) (ls : List (ℕ × ℕ)) (e : GraphFault) → e ≢ OutOfMemory
+    → IsRefusedBy OutOfMemory (GraphJudged nodes ls) e → GraphJudged nodes ls (Some e)
 judged_refusal nodes ls e ne j = elim j [ inl k ↦ k | inr m ↦ absurd (ne m.0) ]
 
 -- a refusal other than out of memory is the computed fault
-pub computed_refusal : (nodes : List ℕ) (ls : List (ℕ × ℕ)) (e : GraphFault) → e ≢ OutOfMemory → IsRefusal nodes ls e
-    → fault_of nodes ls ≡ Some e
+pub computed_refusal : (nodes : List ℕ) (ls : List (ℕ × ℕ)) (e : GraphFault) → e ≢ OutOfMemory
+    → IsRefusedBy OutOfMemory (GraphJudged nodes ls) e → fault_of nodes ls ≡ Some e
 computed_refusal nodes ls e ne j = computed nodes ls (Some e) (judged_refusal nodes ls e ne j)

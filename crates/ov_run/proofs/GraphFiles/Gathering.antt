@@ -1,7 +1,8 @@
 -- What the lines of a graph file say, one after the other, and why they say no graph.
 use Rattle.std.proofs.Common.{◌≡◌, ◌∙◌, ◌⊎◌, inl, inr, ℕ, List, [], ◌∷◌, ◌++◌, map, Option, Some, None, refl, ap, sym}
 use Rattle.std.proofs.Common.{◌≢◌, subst, append_assoc, append-nil}
-use Rattle.ov_graph.specs.Faults.{IsRefusal}
+use Rattle.ov_ids.specs.FaultOrder.{IsRefusedBy}
+use Rattle.ov_graph.specs.Faults.{GraphJudged}
 use Rattle.ov_graph.specs.declared.fault.GraphFault.{GraphFault}
 use Rattle.ov_graph.specs.declared.fault.GraphFault.TheVariants as graph_fault
 use Rattle.ov_graph.proofs.EvenTest.Tested.{judged_refusal}
@@ -111,7 +112,8 @@ all_links bytes nodes links left g none =
 -- nodes and links that are no graph are the fault of the file
 by_kind :
     (bytes : List ℕ) (why : GraphFault) → first_unread (graph_lines bytes) ≡ None
-    → IsRefusal (nodes_said (graph_lines bytes)) (links_said (graph_lines bytes)) why
+    → IsRefusedBy graph_fault.OutOfMemory
+    (GraphJudged (nodes_said (graph_lines bytes)) (links_said (graph_lines bytes))) why
     → IsGraphFileFault bytes (fault_of_graph why) ⊎ (fault_of_graph why ≡ fault.OutOfMemory)
 by_kind bytes graph_fault.TooManyNodes every refused =
     inl (every, judged_refusal (nodes_said (graph_lines bytes)) (links_said (graph_lines bytes)) _ (λ e. cc) refused)
@@ -125,10 +127,12 @@ pub graph_refused :
     (bytes nodes : List ℕ) (links : List (ℕ × ℕ)) (why : GraphFault) (f : RunFault)
     → first_unread (graph_lines bytes) ≡ None → nodes ≡ nodes_said (graph_lines bytes)
     → links ≡ links_said (graph_lines bytes)
-    → IsRefusal nodes links why → f ≡ fault_of_graph why → IsGraphFileFault bytes f ⊎ (f ≡ fault.OutOfMemory)
+    → IsRefusedBy graph_fault.OutOfMemory (GraphJudged nodes links) why → f ≡ fault_of_graph why
+    → IsGraphFileFault bytes f ⊎ (f ≡ fault.OutOfMemory)
 graph_refused bytes nodes links why f every has_nodes has_links refused is =
-    let by_lines : IsRefusal (nodes_said (graph_lines bytes)) (links_said (graph_lines bytes)) why =
-    subst (λ ns. IsRefusal ns (links_said (graph_lines bytes)) why) has_nodes
-    (subst (λ ls. IsRefusal nodes ls why) has_links refused) in
+    let Refuses : List ℕ → List (ℕ × ℕ) → Type 0 =
+    λ ns ls. IsRefusedBy graph_fault.OutOfMemory (GraphJudged ns ls) why in
+    let by_lines : Refuses (nodes_said (graph_lines bytes)) (links_said (graph_lines bytes)) =
+    subst (λ ns. Refuses ns (links_said (graph_lines bytes))) has_nodes (subst (Refuses nodes) has_links refused) in
     subst (λ (e : RunFault). IsGraphFileFault bytes e ⊎ (e ≡ fault.OutOfMemory)) (sym is)
     (by_kind bytes why every by_lines)

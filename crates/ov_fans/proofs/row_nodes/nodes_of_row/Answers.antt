@@ -32,6 +32,7 @@ returns c =
     let kept : IsRowOf nodes row = subst (λ (ns : List ℕ). IsRowOf ns row) (sym e) c.requires in
     let wide = subst (λ (ns : List ℕ). AreWordsFor (length ns) c.words-words.result) (sym e) c.words-words.ensures.words
     in
-    found_all row nodes c.loop-place.found.items c.loop-place.next c.words-words.result kept wide
+    c.new.ensures
+    ∙ found_all row nodes c.loop-place.found.items c.loop-place.next c.words-words.result kept wide
     c.in_default.ensures.none c.loop-place.invariant.found
     ∙ ap (λ (ns : List ℕ). picked row 0 ns) e

@@ -10,8 +10,8 @@ pub returns : goal.returns
 returns c i l =
     let n = c.up.result in
     let t = c.args.t in
-    let o = or_one c.below.result n i in
-    let low = c.below.ensures i in
+    let o = or_one c.low_bits.result n i in
+    let low = c.low_bits.ensures i in
     let high : (bit_at n i ≡ 1) ↔ ((t < i) × (bit_at c.args.word (i - 1) ≡ 1)) = elim (cases_eq i 0) [
       | inl z ↦
           let f : bit_at n i ≡ bit_at n 0 = ap (λ (k : ℕ). bit_at n k) z in
