@@ -71,6 +71,11 @@ payload_text (Broadcast a payload) =
     codes "the payload has " ++ (decimal (length payload) ++ codes " bytes, and may have 1024")
 payload_text event = codes "the payload is too long"
 
+-- there is no packet at this place of a bag of so many
+abbrev pub no_packet_text : ℕ → ℕ → List ℕ
+no_packet_text place count =
+    codes "no packet " ++ (decimal place ++ (codes "; packets are counted from 0, and the bag has " ++ decimal count))
+
 -- what is told of an event that is refused with this number, but for 10
 abbrev pub event_text : WorldState → Event → ℕ → List ℕ
 event_text w e n =
@@ -78,7 +83,7 @@ event_text w e n =
     ((11, codes "node " ++ (decimal (acting e) ++ codes " was born before"))
     ∷ (12, codes "node " ++ (decimal (met e) ++ codes " crashed"))
     ∷ (13, codes "256 nodes were born, as many as may be")
-    ∷ (14, codes "no packet " ++ (decimal (place_of e) ++ (codes "; the bag has " ++ decimal (length w.net.packets))))
+    ∷ (14, no_packet_text (place_of e) (length w.net.packets))
     ∷ (
       15,
       codes "the bag has "

@@ -38,8 +38,6 @@ pub(crate) static CHOICES: [Choice; OPTIONS] = [
 /// What is wrong with arguments.
 #[derive(Clone, Copy)]
 pub(crate) enum Wrong<'a> {
-    /// They are no text, so that there are none to look at.
-    NoText,
     /// The first is no command.
     Command(&'a str),
     /// The command has no such option: the command, and the option.
@@ -58,9 +56,7 @@ pub(crate) enum Wrong<'a> {
 
 /// What is wrong with the arguments behind the program's name, if it is found.
 pub(crate) fn wrong_of(arguments: &[String]) -> Option<Wrong<'_>> {
-    let Some((command, words)) = arguments.split_first() else {
-        return Some(Wrong::NoText);
-    };
+    let (command, words) = arguments.split_first()?;
     let command = command.as_str();
     if command != "run" && command != "analyse" {
         return Some(Wrong::Command(command));

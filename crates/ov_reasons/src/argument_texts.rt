@@ -1,8 +1,10 @@
-ghost use Rattle.std.specs.Prelude.{◌≡◌, ◌⊎◌, IfOk, OnOk, string_bytes};
-ghost use Rattle.ov_reasons.specs.Paragraphs.{EndsWith};
+ghost use Rattle.std.specs.Prelude.{◌≡◌, ◌++◌, ◌↔◌, IfOk, IsTrue, map, string_bytes};
+ghost use Rattle.ov_reasons.specs.Arguments.{AsksHelp, AsksVersion, HasHelpOption, IsFirst, IsHelpOption};
+ghost use Rattle.ov_reasons.specs.Arguments.{SaysWrong, TellsOfArguments, TellsWrong};
 
 use crate::argument_scan::{CHOICES, Choice, Wrong, wrong_of};
 use crate::complaint::push_kind;
+use crate::event_texts::fixed;
 use crate::hint::push_limits;
 use crate::marked_line::push_shown;
 use crate::names::{is_near, push_meant};
@@ -35,73 +37,115 @@ const VERSION: &str = "overlay 1.0, proved with rattle-kit-13f\n";
 /// wrong with them, with the usage. Without arguments they are those that are no UTF-8. OutOfMemory (99) where an
 /// allocation is refused.
 pub fn argument_reasons(alloc: Global, arguments: &[String]) -> Result<String, OutOfMemory>
-    ensures { IfOk result (λ text. (string_bytes text ≡ VERSION.now) ⊎ EndsWith USAGE.now (string_bytes text)) }
+    ensures { IfOk result (λ text. TellsOfArguments VERSION.now HELP.now USAGE.now
+        (map string_bytes arguments.now) (string_bytes text)) }
 {
     if asks_version(arguments) {
-        return Ok(String::from_str(alloc, VERSION)?);
+        return Ok(fixed(alloc, VERSION)?);
     }
-    let mut text = String::new(alloc);
-    push_help_or_wrong(alloc, &mut text, arguments)?;
+    if asks_help(arguments) {
+        return Ok(help_text(alloc)?);
+    }
+    Ok(wrong_text(alloc, arguments)?)
+}
+
+/// The help, and the usage.
+fn help_text(alloc: Global) -> Result<String, OutOfMemory>
+    ensures { IfOk result (λ text. string_bytes text ≡ HELP.now ++ USAGE.now) }
+{
+    let mut text = fixed(alloc, HELP)?;
     text.push_str(USAGE)?;
     Ok(text)
 }
 
-/// Appends the help where it is asked for, and else what is wrong with arguments.
-fn push_help_or_wrong(
-    alloc: Global,
-    text: &mut String,
-    arguments: &[String],
-) -> Result<(), OutOfMemory> {
-    if asks_help(arguments) {
-        return push_all(text, &[HELP]);
+/// What is wrong with arguments, and the usage.
+fn wrong_text(alloc: Global, arguments: &[String]) -> Result<String, OutOfMemory>
+    ensures { IfOk result (λ text. TellsWrong USAGE.now (map string_bytes arguments.now) (string_bytes text)) }
+{
+    let mut text = wrong_line(alloc, arguments)?;
+    text.push_str(USAGE)?;
+    Ok(text)
+}
+
+/// What is wrong with arguments.
+fn wrong_line(alloc: Global, arguments: &[String]) -> Result<String, OutOfMemory>
+    ensures { IfOk result (λ text. SaysWrong (map string_bytes arguments.now) (string_bytes text)) }
+{
+    if arguments.is_empty() {
+        return Ok(fixed(alloc, "an argument is no UTF-8 text\n")?);
     }
-    push_wrong(alloc, text, arguments)
+    let mut text = String::new(alloc);
+    push_wrong(alloc, &mut text, arguments)?;
+    text.push_str("\n")?;
+    Ok(text)
 }
 
 /// Whether the version is asked for.
-fn asks_version(arguments: &[String]) -> bool {
+fn asks_version(arguments: &[String]) -> bool
+    ensures { IsTrue result ↔ AsksVersion (map string_bytes arguments.now) }
+{
     is_first(arguments, "--version") || is_first(arguments, "-V")
 }
 
 /// Whether this is the first argument.
-fn is_first(arguments: &[String], word: &str) -> bool {
-    match arguments.first() {
-        Some(first) => first.as_str() == word,
+fn is_first(arguments: &[String], word: &str) -> bool
+    ensures { IsTrue result ↔ IsFirst word.now (map string_bytes arguments.now) }
+{
+    match arguments.split_first() {
+        Some((first, _)) => is_word(first.as_str(), word),
         None => false,
     }
 }
 
-/// Whether help is asked for, by the first argument or by an option. Behind `--` nothing is an option.
-fn asks_help(arguments: &[String]) -> bool {
-    if is_first(arguments, "help") {
-        return true;
-    }
-    for word in arguments {
-        let option = word.as_str();
-        if option == "--" {
-            return false;
-        }
-        if option == "--help" || option == "-h" {
+/// Whether help is asked for, by the first argument or by an option.
+fn asks_help(arguments: &[String]) -> bool
+    ensures { IsTrue result ↔ AsksHelp (map string_bytes arguments.now) }
+{
+    is_first(arguments, "help") || has_help_option(arguments)
+}
+
+/// Whether an option asks for help. Behind `--` nothing is an option.
+fn has_help_option(arguments: &[String]) -> bool
+    ensures { IsTrue result ↔ HasHelpOption (map string_bytes arguments.now) }
+{
+    let mut left = arguments;
+    while let Some((first, rest)) = left.split_first() {
+        if is_help_option(first.as_str()) {
             return true;
         }
+        if is_word(first.as_str(), "--") {
+            return false;
+        }
+        left = rest;
     }
     false
+}
+
+/// Whether an argument is an option that asks for help.
+fn is_help_option(word: &str) -> bool
+    ensures { IsTrue result ↔ IsHelpOption word.now }
+{
+    is_word(word, "--help") || is_word(word, "-h")
+}
+
+/// Whether a word is this one.
+fn is_word(word: &str, other: &str) -> bool
+    ensures { IsTrue result ↔ word.now ≡ other.now }
+{
+    word == other
 }
 
 /// Appends what is wrong with arguments.
 fn push_wrong(alloc: Global, text: &mut String, arguments: &[String]) -> Result<(), OutOfMemory> {
     match wrong_of(arguments) {
-        Some(wrong) => push_wrong_word(alloc, text, wrong)?,
-        None => text.push_str("the arguments can't be read")?,
+        Some(wrong) => push_wrong_word(alloc, text, wrong),
+        None => Ok(text.push_str("the arguments can't be read")?),
     }
-    text.push_str("\n")?;
-    Ok(())
 }
 
 /// Appends what is wrong with a word.
 fn push_wrong_word(alloc: Global, text: &mut String, wrong: Wrong<'_>) -> Result<(), OutOfMemory> {
     match wrong {
-        Wrong::NoText => Ok(text.push_str("an argument is no UTF-8 text")?),
         Wrong::Command(word) => push_no_command(alloc, text, word),
         Wrong::Unknown(command, name) => push_unknown(alloc, text, command, name),
         Wrong::Twice(choice) => push_said(text, choice.name(), " stands twice"),

@@ -1,6 +1,6 @@
 ghost use Rattle.std.specs.Prelude.{◌≡◌, ◌++◌, IfOk, codes, decimal, length, string_bytes};
 ghost use Rattle.ov_reasons.specs.Refused.{acting, met, reported, place_of, timer_text, payload_text, TellsUnborn};
-ghost use Rattle.ov_reasons.specs.Refused.{TellsOfEvent};
+ghost use Rattle.ov_reasons.specs.Refused.{no_packet_text, TellsOfEvent};
 ghost use Rattle.ov_net.specs.declared.event.Event.TheVariants.{Timer};
 
 use ov_ids::{MsgId, NodeId, OutOfMemory};
@@ -121,11 +121,10 @@ fn place_of(event: &Event) -> u32
 
 /// That there is no packet at a place.
 fn no_packet(alloc: Global, world: &World, place: u32) -> Result<String, OutOfMemory>
-    ensures { IfOk result (λ text. string_bytes text
-        ≡ codes "no packet " ++ (decimal place ++ (codes "; the bag has " ++ decimal (length world.now.net.packets)))) }
+    ensures { IfOk result (λ text. string_bytes text ≡ no_packet_text place (length world.now.net.packets)) }
 {
     let count = world.packets().len();
-    Ok(format!(in alloc; "no packet {place}; the bag has {count}")?)
+    Ok(format!(in alloc; "no packet {place}; packets are counted from 0, and the bag has {count}")?)
 }
 
 /// That too few places for packets are free.

@@ -2,4 +2,5 @@
 pub mod Answered
 pub mod FaultLines
 pub mod Gathering
+pub mod Unread
 pub mod Walking

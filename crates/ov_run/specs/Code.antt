@@ -4,5 +4,6 @@ pub mod ScenarioFaults
 pub mod GraphFaults
 pub mod Kept
 pub mod Outcomes
+pub mod Seen
 pub mod Spaced
 pub mod Writing

@@ -6,6 +6,7 @@ pub mod Faults
 pub mod GraphFiles
 pub mod Theorems
 pub mod Lines
+pub mod LinesAtFault
 pub mod Printed
 pub mod RunLines
 pub mod Running

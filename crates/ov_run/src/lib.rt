@@ -5,6 +5,7 @@
 mod analysis_filing;
 mod arguments;
 mod change_texts;
+mod fault_lines;
 mod graph_analysis;
 mod graph_fault_lines;
 mod graph_file;
@@ -32,6 +33,7 @@ mod unskipped_lines;
 mod workers;
 
 pub use arguments::{ArgumentsFault, Request, read_arguments};
+pub use fault_lines::{scenario_fault_lines, unread_graph_lines};
 pub use graph_analysis::analyse_file;
 pub use graph_fault_lines::graph_fault_line;
 pub use graph_file::read_graph;

@@ -31,7 +31,7 @@ pub fn read_scenario(alloc: Global, bytes: &[u8]) -> Result<Scenario, RunFault>
 
 /// Reads what the lines of a file say, in order. Lines that are skipped are left out.
 #[tactic(auto, unfolding(crate::specs::Scenarios::stated_lines))]
-fn read_statements(alloc: Global, bytes: &[u8]) -> Result<Vec<Stated>, OutOfMemory>
+pub(crate) fn read_statements(alloc: Global, bytes: &[u8]) -> Result<Vec<Stated>, OutOfMemory>
     ensures { IfOk result (λ stated. stated.items ≡ stated_lines bytes.now) }
 {
     let mut stated = Vec::new(alloc);

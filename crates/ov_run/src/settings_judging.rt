@@ -110,7 +110,7 @@ impl Head {
 }
 
 /// Whether the first of these lines is an event.
-fn begin_with_event(lines: &[Stated]) -> bool
+pub(crate) fn begin_with_event(lines: &[Stated]) -> bool
     ensures { IsTrue result ↔ BeginWithEvent lines.now }
 {
     match lines.first() {

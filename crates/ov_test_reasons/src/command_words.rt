@@ -131,10 +131,12 @@ fn help_and_version_are_told(rt: HostRuntime) -> Result<(), Fail> {
     for words in asked {
         assert_eq!(rt; told(rt.alloc(), words)?.as_str(), help.as_str());
     }
-    let version = told(rt.alloc(), &["--version"])?;
-    assert_eq!(rt;
-        version.as_str(),
-        "overlay 1.0, proved with rattle-kit-13f\n"
-    );
+    let asked: [&[&str]; 3] = [&["--version"], &["-V"], &["-V", "--help"]];
+    for words in asked {
+        assert_eq!(rt;
+            told(rt.alloc(), words)?.as_str(),
+            "overlay 1.0, proved with rattle-kit-13f\n"
+        );
+    }
     Ok(())
 }

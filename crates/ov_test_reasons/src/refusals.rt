@@ -57,10 +57,18 @@ static REFUSED: [(&[u8], u32, &str); 26] = [
     (
         b"boot 1\nboot 2 by 1\ndeliver 7\n",
         14,
-        "no packet 7; the bag has 1",
+        "no packet 7; packets are counted from 0, and the bag has 1",
     ),
-    (b"lose 0\n", 14, "no packet 0; the bag has 0"),
-    (b"repeat 1\n", 14, "no packet 1; the bag has 0"),
+    (
+        b"lose 0\n",
+        14,
+        "no packet 0; packets are counted from 0, and the bag has 0",
+    ),
+    (
+        b"repeat 1\n",
+        14,
+        "no packet 1; packets are counted from 0, and the bag has 0",
+    ),
     (b"boot 1\nboot 2\nreport 1 2\n", 17, "node 2 did not crash"),
     (
         b"boot 1\ntimer 1 2 5\n",
@@ -180,8 +188,8 @@ static COUNTED: [(u64, u64, &str); 3] = [
 
 #[test]
 fn lines_of_a_run_are_told(rt: HostRuntime) -> Result<(), Fail> {
-    let line = refusal_line(rt.alloc(), 31, "no packet 7; the bag has 4")?;
-    assert_eq!(rt; line.as_str(), "line 31: no packet 7; the bag has 4\n");
+    let line = refusal_line(rt.alloc(), 31, "node 7 crashed")?;
+    assert_eq!(rt; line.as_str(), "line 31: node 7 crashed\n");
     for (accepted, refused, text) in &COUNTED {
         let line = count_line(rt.alloc(), *accepted, *refused)?;
         assert_eq!(rt; line.as_str(), *text);

@@ -23,10 +23,10 @@ use Rattle.ov_run.proofs.Scenarios.Placed.{fault_there}
 -- ---- what lines say, with one more
 
 -- a line that does not say this
-abbrev NeverSays : {A : Type 0} → (A → Statement) → Option Statement → Type 0
+abbrev pub NeverSays : {A : Type 0} → (A → Statement) → Option Statement → Type 0
 NeverSays {A} kind said = (x : A) → ¬ ◌≡◌ {A = Option Statement} said (Some (kind x))
 
-kind_cases :
+pub kind_cases :
     {A : Type 0} (kind : A → Statement) (before : List Stated) (line : Stated)
     → HasKind kind (before ++ line ∷ []) → HasKind kind before ⊎ ((x : A) × (line.says ≡ Some (kind x)))
 kind_cases kind before line (other, x, has, is) =
