@@ -60,8 +60,9 @@ fn verdict_of(value: &Value) -> Option<Verdict>
     }
 }
 
-/// The keys of a file of this version and verdict.
-fn names_of(version: Version, verdict: Verdict) -> &'static [&'static str]
+/// The keys that a file of this version and verdict must have, in the order in which they are demanded. It may have no
+/// others.
+pub fn names_of(version: Version, verdict: Verdict) -> &'static [&'static str]
     ensures { map (λ k. k.now) result.now ≡ names_of (keys_of version verdict) }
 {
     match (version, verdict) {

@@ -17,6 +17,7 @@ mod writing;
 
 pub use cert_line::CertText;
 pub use fault::FileFault;
+pub use heading::names_of;
 pub use reading::{Filed, from_text};
 pub use verdict::Verdict;
 pub use version::Version;

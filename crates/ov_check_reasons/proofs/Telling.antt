@@ -5,4 +5,5 @@ pub mod Entries
 pub mod Frames
 pub mod Graphs
 pub mod Keys
+pub mod Forms
 pub mod Whole

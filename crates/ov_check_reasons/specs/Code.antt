@@ -6,3 +6,4 @@ pub mod PathTexts
 pub mod Leaving
 pub mod GraphFaults
 pub mod Failing
+pub mod FileKeys

@@ -23,7 +23,7 @@ use Rattle.ov_cert.specs.declared.fault.CheckFault.TheVariants.{NoNodes, BadGrou
 use Rattle.ov_cert.specs.Valid.{AreUnlinkedPairs}
 use Rattle.ov_cert.specs.Entries.{IsExpected}
 use Rattle.ov_certfile.specs.declared.fault.FileFault.{FileFault}
-use Rattle.ov_certfile.specs.declared.fault.FileFault.TheVariants.{Graph, NotJson, MissingKey}
+use Rattle.ov_certfile.specs.declared.fault.FileFault.TheVariants.{Graph, NotJson, MissingKey, UnknownKey, BadValue}
 use Rattle.ov_certfile.specs.declared.fault.FileFault.TheVariants.{Version as AnotherVersion}
 use Rattle.ov_certfile.specs.declared.reading.Filed.{Filed}
 use Rattle.ov_certfile.specs.declared.version.Version.{Version}
@@ -34,7 +34,8 @@ use Rattle.ov_check.specs.Outcome.{BytesSay, IsOutcome}
 use Rattle.ov_check.specs.declared.outcome.Outcome.{Outcome}
 use Rattle.ov_check.specs.declared.outcome.Outcome.TheVariants.{Holds, Fails, Refused}
 use Rattle.ov_check_reasons.specs.Opening.{opening, BeginsWith}
-use Rattle.ov_check_reasons.specs.FilePlaces.{TellsMissing, TellsVersion}
+use Rattle.ov_check_reasons.specs.FilePlaces.{TellsMissing, TellsUnknown, TellsVersion}
+use Rattle.ov_check_reasons.specs.FormPlaces.{TellsBadValue}
 
 -- the place of the first item that breaks a rule: the items before it keep the rule, and with it they do not
 pub record IsFirstBreak {X : Type 0} (Keep : List X → Type 0) (xs : List X) (place : ℕ) : Type 0 where
@@ -221,9 +222,10 @@ TellsExtra g q c text =
 abbrev pub TellsFault : LinkGraph → List ℕ → Cert → CheckFault → List ℕ → Type 0
 TellsFault g q c NoNodes text = text ≡ []
 TellsFault g q c BadGroup text = TellsGroup g q text
-TellsFault g q (AllLinked k) Count text = text ≡ count_text k (codes "the members are ") (length q)
+TellsFault g q (AllLinked k) Count text = text ≡ count_text k (codes "the number of members is ") (length q)
 TellsFault g q (AllLinked k) NotLinked text = TellsUnlinked g q text
-TellsFault g q (SplitBy c) Count text = text ≡ count_text c.k (codes "the nodes of the cut are ") (length c.cut)
+TellsFault g q (SplitBy c) Count text =
+    text ≡ count_text c.k (codes "the number of nodes of the cut is ") (length c.cut)
 TellsFault g q (SplitBy c) Cut text = TellsId (IsNodeSet g) (codes "cut") c.cut text
 TellsFault g q (SplitBy c) Side text = TellsSide g q c text
 TellsFault g q (SplitBy c) (Pair i j) text = TellsPair g q c i j text
@@ -239,15 +241,19 @@ pub record TellsGraphIn (fault : GraphFault) (value : Data) (text : List ℕ) : 
   pub graph : SaysGraph value given
   pub tells : TellsGraph (most_nodes_of version) given fault text
 
--- what is told of a JSON value that is refused for a missing key, for its version or for its graph
+-- what is told of a JSON value that is refused: the first missing key, the first unknown one, where the first value
+-- that lacks its form breaks it, another version, or where its graph is none
 abbrev pub TellsValue : FileFault → Data → List ℕ → Type 0
 TellsValue MissingKey value text = TellsMissing value text
+TellsValue UnknownKey value text = TellsUnknown value text
+TellsValue BadValue value text = TellsBadValue value text
 TellsValue AnotherVersion value text = TellsVersion value text
 TellsValue (Graph fault) value text = TellsGraphIn fault value text
 TellsValue fault value text = Unit {0}
 
 -- What is told behind the opening. Of a certificate that holds nothing is told. Of one that does not it is told where
--- it breaks. Of bytes that are a JSON value and are refused it is told what TellsValue says of that value.
+-- it breaks. Of bytes that are a JSON value and are refused it is told what TellsValue says of that value. Of bytes
+-- that are no JSON nothing is said here.
 abbrev pub TellsPlace : List ℕ → Outcome → List ℕ → Type 0
 TellsPlace bytes (Holds f) text = text ≡ []
 TellsPlace bytes (Fails fault) text = (f : Filed) × BytesSay bytes (Ok f) × TellsFault f.graph f.group f.cert fault text

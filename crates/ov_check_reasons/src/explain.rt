@@ -108,7 +108,7 @@ fn tell_linked(
 {
     match fault {
         CheckFault::BadGroup => tell_group(text, graph, group),
-        CheckFault::Count => tell_count(text, k, "the members are ", group.len()),
+        CheckFault::Count => tell_count(text, k, "the number of members is ", group.len()),
         CheckFault::NotLinked => tell_unlinked(text, graph, group),
         _ => Ok(()),
     }
@@ -129,7 +129,12 @@ fn tell_split(
     let cut = split.cut.as_slice();
     match fault {
         CheckFault::BadGroup => tell_group(text, graph, group),
-        CheckFault::Count => tell_count(text, split.k, "the nodes of the cut are ", cut.len()),
+        CheckFault::Count => tell_count(
+            text,
+            split.k,
+            "the number of nodes of the cut is ",
+            cut.len(),
+        ),
         CheckFault::Cut => tell_cut(text, graph, cut),
         CheckFault::Side => tell_side(text, graph, group, split),
         CheckFault::Pair { i, j } => tell_pair(alloc, text, graph, group, split, i, j),

@@ -6,9 +6,10 @@ ghost use Rattle.ov_certfile.specs.Kinds.{version_in, most_nodes_of};
 ghost use Rattle.ov_certfile.specs.Says.{IsNoGraph, IsFault};
 ghost use Rattle.ov_check.specs.Outcome.{IsOutcome};
 ghost use Rattle.ov_check.specs.declared.outcome.Outcome.TheVariants.{Refused};
-ghost use Rattle.ov_certfile.specs.declared.fault.FileFault.TheVariants.{MissingKey};
+ghost use Rattle.ov_certfile.specs.declared.fault.FileFault.TheVariants.{MissingKey, UnknownKey, BadValue};
 ghost use Rattle.ov_certfile.specs.declared.fault.FileFault.TheVariants.{Version as AnotherVersion};
-ghost use Rattle.ov_check_reasons.specs.FilePlaces.{TellsMissing, TellsVersion};
+ghost use Rattle.ov_check_reasons.specs.FilePlaces.{TellsMissing, TellsUnknown, TellsVersion};
+ghost use Rattle.ov_check_reasons.specs.FormPlaces.{TellsBadValue};
 ghost use Rattle.ov_check_reasons.specs.Places.{TellsGraphIn, TellsValue, TellsPlace};
 ghost use Rattle.ov_check_reasons.specs.Code.Words.{Adds};
 
@@ -129,7 +130,10 @@ fn place_of_missing(alloc: Global, value: &Value) -> Result<String, OutOfMemory>
     Ok(text)
 }
 
-fn place_of_unknown(alloc: Global, value: &Value) -> Result<String, OutOfMemory> {
+fn place_of_unknown(alloc: Global, value: &Value) -> Result<String, OutOfMemory>
+    ensures { IsFault (view value.now) UnknownKey
+        → IfOk result (λ text. TellsUnknown (view value.now) (string_bytes text)) }
+{
     let mut text = String::new(alloc);
     tell_unknown(alloc, &mut text, value)?;
     Ok(text)
@@ -144,7 +148,10 @@ fn place_of_version(alloc: Global, value: &Value) -> Result<String, OutOfMemory>
     Ok(text)
 }
 
-fn place_of_bad_value(alloc: Global, value: &Value) -> Result<String, OutOfMemory> {
+fn place_of_bad_value(alloc: Global, value: &Value) -> Result<String, OutOfMemory>
+    ensures { IsFault (view value.now) BadValue
+        → IfOk result (λ text. TellsBadValue (view value.now) (string_bytes text)) }
+{
     let mut text = String::new(alloc);
     tell_bad_value(alloc, &mut text, value)?;
     Ok(text)

@@ -1,8 +1,14 @@
-ghost use Rattle.std.specs.Prelude.{◌≡◌, ◌<◌, length, is_none, is_some, IfSome};
+ghost use Rattle.std.specs.Prelude.{◌≡◌, ◌++◌, map, false, true, is_none, is_some, option_map};
+ghost use Rattle.std.specs.Prelude.{OnOk, string_bytes, codes};
 ghost use Rattle.serde_json.specs.View.{view, items_view};
-ghost use Rattle.ov_certfile.specs.Keys.{said};
+ghost use Rattle.ov_certfile.specs.Keys.{said, has_key, has_just};
 ghost use Rattle.ov_certfile.specs.Forms.{whole_below, each_in};
+ghost use Rattle.ov_check_reasons.specs.FilePlaces.{key_text};
+ghost use Rattle.ov_check_reasons.specs.Opening.{BeginsWith};
+ghost use Rattle.ov_check_reasons.specs.FormPlaces.{TellsItem, TellsTwo, TellsAt, TellsNames};
+ghost use Rattle.ov_check_reasons.specs.Code.Failing.{failing_from};
 ghost use Rattle.ov_check_reasons.specs.Code.Fitting.{two_ids_in};
+ghost use Rattle.ov_check_reasons.specs.Code.Words.{Adds};
 
 use crate::keys::{first_missing, first_unknown, has_just, say_missing, say_unknown};
 use crate::values::say_found;
@@ -23,11 +29,14 @@ const FAN_KEYS: &[&str] = &["j", "paths"];
 
 /// A form that a value of a file may have: that in which a certificate file writes values of the type.
 pub(crate) trait Form: Drop {
-    ghost use Rattle.std.specs.Prelude.{◌≡◌, Option, is_some};
+    ghost use Rattle.std.specs.Prelude.{◌≡◌, ℕ, List, Option, is_some, false, OnOk, string_bytes};
     ghost use Rattle.serde_json.specs.Data.{Data};
     ghost use Rattle.serde_json.specs.View.{view};
+    ghost use Rattle.ov_check_reasons.specs.Code.Words.{Adds};
 
     ghost form: { Data → Option Self };
+
+    ghost tells: { Data → List ℕ → Type 0 };
 
     /// Whether a value has the form.
     fn fits(value: &Value) -> bool
@@ -38,7 +47,9 @@ pub(crate) trait Form: Drop {
     /// Appends where in a value the form is broken, what is expected there, and what is found.
     fn tell(alloc: Global, text: &mut String, value: &Value) -> Result<(), OutOfMemory>
     where
-        Self: Sized;
+        Self: Sized,
+        ensures { is_some (form (view value.now)) ≡ false → OnOk result (Adds (tells (view value.now))
+            (string_bytes text.old) (string_bytes text.new)) };
 }
 
 /// Whether a value is a whole number below a limit.
@@ -53,8 +64,11 @@ pub(crate) fn is_below(value: &Value, limit: u64) -> bool
 
 impl Form for NodeId {
     ghost use Rattle.ov_certfile.specs.Forms.{id_in};
+    ghost use Rattle.ov_check_reasons.specs.FormPlaces.{TellsNoId};
 
     ghost form = { id_in };
+
+    ghost tells = { TellsNoId };
 
     fn fits(value: &Value) -> bool {
         is_below(value, NUMBER_LIMIT)
@@ -65,23 +79,40 @@ impl Form for NodeId {
     }
 }
 
-/// The first item that does not have a form.
-fn first_unfit<F: Form>(values: &[Value]) -> Option<usize>
+/// The first item that does not have a form, and its place.
+fn first_unfit<F: Form>(values: &[Value]) -> Option<(usize, &Value)>
     ensures none { is_none result ≡ is_some (each_in F.form (items_view values.now)) }
-    ensures within { IfSome result (λ at. at < length values.now) }
+    ensures first { option_map (λ p. (p.0, view p.1.now)) result
+        ≡ failing_from (λ d. is_some (F.form d)) 0 (map view values.now) }
 {
     for at in 0..values.len() {
         if !F::fits(&values[at]) {
-            return Some(at);
+            return Some((at, &values[at]));
         }
     }
     None
 }
 
+/// Appends the place of the first item that does not have a form, and where it breaks the form.
+fn tell_item<F: Form>(alloc: Global, text: &mut String, values: &[Value]) -> Result<(), OutOfMemory>
+    ensures { is_some (each_in F.form (items_view values.now)) ≡ false
+        → OnOk result (Adds (TellsItem F.form F.tells (map view values.now)) (string_bytes text.old)
+        (string_bytes text.new)) }
+{
+    let Some((at, value)) = first_unfit::<F>(values) else {
+        return Ok(());
+    };
+    say(text, &[Word::Text("["), count(at), Word::Text("]")])?;
+    F::tell(alloc, text, value)
+}
+
 impl<F: Form> Form for Seq<F> {
     ghost use Rattle.ov_certfile.specs.Forms.{list_in};
+    ghost use Rattle.ov_check_reasons.specs.FormPlaces.{TellsList};
 
     ghost form = { list_in F.form };
+
+    ghost tells = { TellsList F.form F.tells };
 
     fn fits(value: &Value) -> bool {
         match value.as_array() {
@@ -91,24 +122,20 @@ impl<F: Form> Form for Seq<F> {
     }
 
     fn tell(alloc: Global, text: &mut String, value: &Value) -> Result<(), OutOfMemory> {
-        let Some(values) = value.as_array() else {
-            return say_found(alloc, text, "a list", value);
-        };
-        let values = values.as_slice();
-        match first_unfit::<F>(values) {
-            Some(at) => {
-                say(text, &[Word::Text("["), count(at), Word::Text("]")])?;
-                F::tell(alloc, text, &values[at])
-            }
-            None => Ok(()),
+        match value.as_array() {
+            Some(values) => tell_item::<F>(alloc, text, values.as_slice()),
+            None => say_found(alloc, text, "a list", value),
         }
     }
 }
 
 impl Form for (NodeId, NodeId) {
     ghost use Rattle.ov_certfile.specs.Forms.{link_in};
+    ghost use Rattle.ov_check_reasons.specs.FormPlaces.{TellsNoLink};
 
     ghost form = { link_in };
+
+    ghost tells = { TellsNoLink };
 
     fn fits(value: &Value) -> bool {
         match value.as_array() {
@@ -119,16 +146,22 @@ impl Form for (NodeId, NodeId) {
 
     fn tell(alloc: Global, text: &mut String, value: &Value) -> Result<(), OutOfMemory> {
         match value.as_array() {
-            Some(values) if values.len() != 2 => say(
-                text,
-                &[
-                    Word::Text(": expected two ids, found "),
-                    count(values.len()),
-                ],
-            ),
-            _ => Seq::<NodeId>::tell(alloc, text, value),
+            Some(values) => tell_two(alloc, text, values.as_slice()),
+            None => say_found(alloc, text, "a list", value),
         }
     }
+}
+
+/// Appends how many items there are, if they are not two, and else the place of the first that is no id.
+fn tell_two(alloc: Global, text: &mut String, values: &[Value]) -> Result<(), OutOfMemory>
+    ensures { is_some (two_ids_in values.now) ≡ false → OnOk result (Adds (TellsTwo (map view values.now))
+        (string_bytes text.old) (string_bytes text.new)) }
+{
+    if values.len() == 2 {
+        return tell_item::<NodeId>(alloc, text, values);
+    }
+    let number = count(values.len());
+    say(text, &[Word::Text(": expected two ids, found "), number])
 }
 
 /// Whether the items are two, and both ids.
@@ -150,12 +183,15 @@ fn are_two_ids(values: &[Value]) -> bool
 
 impl Form for PairPaths {
     ghost use Rattle.ov_certfile.specs.Forms.{pair_in};
+    ghost use Rattle.ov_check_reasons.specs.FormPlaces.{TellsEntry, pair_keys};
 
     ghost form = { pair_in };
 
+    ghost tells = { TellsEntry pair_keys };
+
     #[tactic(auto, using(crate::proofs::Fitting::pair_fits))]
     fn fits(value: &Value) -> bool {
-        if !has_just(&["i", "j", "paths"], value) {
+        if !has_just(PAIR_KEYS, value) {
             return false;
         }
         if !fits_at::<NodeId>(value, "i") {
@@ -168,21 +204,30 @@ impl Form for PairPaths {
     }
 
     fn tell(alloc: Global, text: &mut String, value: &Value) -> Result<(), OutOfMemory> {
-        if !fits_at::<NodeId>(value, "i") && has_just(PAIR_KEYS, value) {
-            return tell_at::<NodeId>(alloc, text, value, "i");
+        if !has_just(PAIR_KEYS, value) {
+            return tell_names(alloc, text, PAIR_KEYS, value);
         }
-        tell_entry(alloc, text, PAIR_KEYS, value)
+        if !fits_at::<NodeId>(value, "i") {
+            return tell_at::<NodeId>(alloc, text, value, ".", "i");
+        }
+        if !fits_at::<NodeId>(value, "j") {
+            return tell_at::<NodeId>(alloc, text, value, ".", "j");
+        }
+        tell_at::<Seq<Seq<NodeId>>>(alloc, text, value, ".", "paths")
     }
 }
 
 impl Form for FanPaths {
     ghost use Rattle.ov_certfile.specs.Forms.{fan_in};
+    ghost use Rattle.ov_check_reasons.specs.FormPlaces.{TellsEntry, fan_keys};
 
     ghost form = { fan_in };
 
+    ghost tells = { TellsEntry fan_keys };
+
     #[tactic(auto, using(crate::proofs::Fitting::fan_fits))]
     fn fits(value: &Value) -> bool {
-        if !has_just(&["j", "paths"], value) {
+        if !has_just(FAN_KEYS, value) {
             return false;
         }
         if !fits_at::<NodeId>(value, "j") {
@@ -192,7 +237,13 @@ impl Form for FanPaths {
     }
 
     fn tell(alloc: Global, text: &mut String, value: &Value) -> Result<(), OutOfMemory> {
-        tell_entry(alloc, text, FAN_KEYS, value)
+        if !has_just(FAN_KEYS, value) {
+            return tell_names(alloc, text, FAN_KEYS, value);
+        }
+        if !fits_at::<NodeId>(value, "j") {
+            return tell_at::<NodeId>(alloc, text, value, ".", "j");
+        }
+        tell_at::<Seq<Seq<NodeId>>>(alloc, text, value, ".", "paths")
     }
 }
 
@@ -206,40 +257,71 @@ pub(crate) fn fits_at<F: Form>(value: &Value, key: &str) -> bool
     }
 }
 
-/// Appends a key behind a point, and where the value there breaks its form.
-fn tell_at<F: Form>(
+/// Appends a key behind a mark, and where the value there breaks its form.
+pub(crate) fn tell_at<F: Form>(
     alloc: Global,
     text: &mut String,
     value: &Value,
+    mark: &str,
     key: &str,
-) -> Result<(), OutOfMemory> {
+) -> Result<(), OutOfMemory>
+    ensures { has_key key.now (view value.now) ≡ true → is_some (said F.form key.now (view value.now)) ≡ false
+        → OnOk result (Adds (TellsAt mark.now key.now F.tells (view value.now)) (string_bytes text.old)
+        (string_bytes text.new)) }
+{
     let Some(value) = value.get(key) else {
         return Ok(());
     };
-    say(text, &[Word::Text("."), Word::Text(key)])?;
+    say(text, &[Word::Text(mark), Word::Text(key)])?;
     F::tell(alloc, text, value)
 }
 
-/// Tells where an entry breaks its form, but for the value at `i`.
-fn tell_entry(
+/// Tells that a value is no object, or which of these keys it lacks, or which other one it has.
+fn tell_names(
     alloc: Global,
     text: &mut String,
-    keys: &'static [&'static str],
+    names: &'static [&'static str],
     value: &Value,
-) -> Result<(), OutOfMemory> {
+) -> Result<(), OutOfMemory>
+    ensures { has_just (map (λ k. k.now) names.now) (view value.now) ≡ false
+        → OnOk result (Adds (TellsNames (map (λ k. k.now) names.now) (view value.now)) (string_bytes text.old)
+        (string_bytes text.new)) }
+{
     if !value.is_object() {
         return say_found(alloc, text, "an object", value);
     }
-    if let Some(key) = first_missing(keys, value) {
-        say(text, &[Word::Text(" lacks the key ")])?;
-        return say_missing(alloc, text, keys, value, key);
+    if let Some(name) = first_missing(names, value) {
+        return say_lacked(alloc, text, names, value, name);
     }
-    if let Some(key) = first_unknown(keys, value) {
-        say(text, &[Word::Text(" has the unknown key ")])?;
-        return say_unknown(alloc, text, keys, key);
+    match first_unknown(names, value) {
+        Some(name) => say_other(alloc, text, names, name),
+        None => Ok(()),
     }
-    if !fits_at::<NodeId>(value, "j") {
-        return tell_at::<NodeId>(alloc, text, value, "j");
-    }
-    tell_at::<Seq<Seq<NodeId>>>(alloc, text, value, "paths")
+}
+
+fn say_lacked(
+    alloc: Global,
+    text: &mut String,
+    names: &[&str],
+    value: &Value,
+    name: &str,
+) -> Result<(), OutOfMemory>
+    ensures { OnOk result (BeginsWith (string_bytes text.old ++ (codes " lacks the key " ++ key_text name.now))
+        (string_bytes text.new)) }
+{
+    say(text, &[Word::Text(" lacks the key ")])?;
+    say_missing(alloc, text, names, value, name)
+}
+
+fn say_other(
+    alloc: Global,
+    text: &mut String,
+    names: &'static [&'static str],
+    name: &str,
+) -> Result<(), OutOfMemory>
+    ensures { OnOk result (BeginsWith (string_bytes text.old ++ (codes " has the unknown key " ++ key_text name.now))
+        (string_bytes text.new)) }
+{
+    say(text, &[Word::Text(" has the unknown key ")])?;
+    say_unknown(alloc, text, names, name)
 }

@@ -1,8 +1,8 @@
-ghost use Rattle.std.specs.Prelude.{◌≡◌, ◌≤◌, ◌++◌, length, map, is_none, false, option_map, IfSome, OnOk, string_bytes};
+ghost use Rattle.std.specs.Prelude.{◌≡◌, ◌≤◌, ◌++◌, length, map, is_none, false, option_map, OnOk, string_bytes};
 ghost use Rattle.std.specs.List.{list_all};
 ghost use Rattle.std.specs.BTreeMap.{keys};
 ghost use Rattle.serde_json.specs.View.{view};
-ghost use Rattle.ov_certfile.specs.Keys.{is_among, has_key, has_all, has_no_other, has_just};
+ghost use Rattle.ov_certfile.specs.Keys.{is_among, keys_in, has_key, has_all, has_no_other, has_just};
 ghost use Rattle.ov_check_reasons.specs.Opening.{BeginsWith};
 ghost use Rattle.ov_check_reasons.specs.FilePlaces.{key_text};
 ghost use Rattle.ov_check_reasons.specs.Code.Failing.{first_failing};
@@ -31,12 +31,23 @@ pub(crate) fn first_missing(keys: &'static [&'static str], value: &Value) -> Opt
 }
 
 /// The first key of a value that is none of these.
-pub(crate) fn first_unknown<'v>(keys: &[&str], value: &'v Value) -> Option<&'v str>
-    ensures { IfSome result (λ key. is_among (map (λ k. k.now) keys.now) key.now ≡ false) }
+pub(crate) fn first_unknown<'v>(wanted: &[&str], value: &'v Value) -> Option<&'v str>
+    ensures { option_map (λ k. k.now) result
+        ≡ first_failing (λ k. is_among (map (λ t. t.now) wanted.now) k) (keys_in (view value.now)) }
 {
-    let members = value.as_object()?;
+    match value.as_object() {
+        Some(members) => first_other(wanted, members),
+        None => None,
+    }
+}
+
+/// The first key of an object that is none of these.
+fn first_other<'v>(wanted: &[&str], members: &'v Map<String, Value>) -> Option<&'v str>
+    ensures { option_map (λ k. k.now) result
+        ≡ first_failing (λ k. is_among (map (λ t. t.now) wanted.now) k) (map string_bytes (keys members.now)) }
+{
     for key in members.keys() {
-        if !is_one_of(keys, key.as_str()) {
+        if !is_one_of(wanted, key.as_str()) {
             return Some(key.as_str());
         }
     }
@@ -156,7 +167,9 @@ pub(crate) fn say_unknown(
     text: &mut String,
     keys: &'static [&'static str],
     key: &str,
-) -> Result<(), OutOfMemory> {
+) -> Result<(), OutOfMemory>
+    ensures { OnOk result (BeginsWith (string_bytes text.old ++ key_text key.now) (string_bytes text.new)) }
+{
     say_key(alloc, text, key)?;
     if let Some(other) = near_key(keys, key) {
         say_guess(alloc, text, "; did you mean ", other)?;

@@ -4,6 +4,7 @@
 mod bad_value;
 mod entries;
 mod explain;
+mod fields;
 mod file;
 mod forms;
 mod frame;

@@ -1,8 +1,9 @@
-ghost use Rattle.std.specs.Prelude.{◌≡◌, ◌++◌, IfOk, OnOk, string_bytes, codes};
+ghost use Rattle.std.specs.Prelude.{◌≡◌, ◌++◌, IfOk, OnOk, string_bytes};
 ghost use Rattle.serde_json.specs.Data.{string};
 ghost use Rattle.serde_json.specs.Written.{compact_text};
 ghost use Rattle.ov_check_reasons.specs.Opening.{BeginsWith};
-ghost use Rattle.ov_check_reasons.specs.FilePlaces.{key_text};
+ghost use Rattle.ov_check_reasons.specs.FilePlaces.{key_text, TellsExpected};
+ghost use Rattle.ov_check_reasons.specs.Code.Words.{Adds};
 
 use crate::words::{Word, say};
 use ov_ids::OutOfMemory;
@@ -19,8 +20,7 @@ pub(crate) fn say_found(
     expected: &str,
     value: &Value,
 ) -> Result<(), OutOfMemory>
-    ensures { OnOk result (BeginsWith (string_bytes text.old ++ (codes ": expected " ++ (expected.now
-        ++ codes ", found "))) (string_bytes text.new)) }
+    ensures { OnOk result (Adds (TellsExpected expected.now) (string_bytes text.old) (string_bytes text.new)) }
 {
     say(
         text,

@@ -1,19 +1,20 @@
-ghost use Rattle.std.specs.Prelude.{◌≡◌, map, option_map, OnOk, string_bytes, codes};
+ghost use Rattle.std.specs.Prelude.{◌≡◌, ◌++◌, map, option_map, OnOk, string_bytes, codes};
 ghost use Rattle.serde_json.specs.View.{view};
-ghost use Rattle.ov_certfile.specs.declared.fault.FileFault.TheVariants.{MissingKey};
+ghost use Rattle.ov_certfile.specs.declared.fault.FileFault.TheVariants.{MissingKey, UnknownKey};
 ghost use Rattle.ov_certfile.specs.declared.fault.FileFault.TheVariants.{Version as AnotherVersion};
 ghost use Rattle.ov_certfile.specs.Keys.{said};
-ghost use Rattle.ov_certfile.specs.Kinds.{version_in, verdict_in, keys_of, names_of};
+ghost use Rattle.ov_certfile.specs.Kinds.{version_in, verdict_in};
 ghost use Rattle.ov_certfile.specs.Says.{IsFault};
-ghost use Rattle.ov_check_reasons.specs.FilePlaces.{TellsMissing, TellsVersion};
-ghost use Rattle.ov_check_reasons.specs.Code.Failing.{missing_in, names_said};
+ghost use Rattle.ov_check_reasons.specs.FilePlaces.{key_text, TellsMissing, TellsUnknown, TellsVersion};
+ghost use Rattle.ov_check_reasons.specs.Opening.{BeginsWith};
+ghost use Rattle.ov_check_reasons.specs.Code.Failing.{first_other, missing_in, names_said};
 ghost use Rattle.ov_check_reasons.specs.Code.GraphFaults.{is_second};
 ghost use Rattle.ov_check_reasons.specs.Code.Words.{Adds};
 
 use crate::keys::{first_missing, first_unknown, is_one_of, say_missing, say_unknown};
 use crate::values::say_found;
 use crate::words::{Word, say};
-use ov_certfile::{Verdict, Version};
+use ov_certfile::{Verdict, Version, names_of};
 use ov_ids::OutOfMemory;
 use serde_json::Value;
 use std::alloc::Global;
@@ -28,7 +29,7 @@ const ALL_KEYS: &[&str] = &[
 const SPLIT_KEYS: &[&str] = &["cut", "near", "far", "side", "pairs", "fans"];
 
 /// The version of a file, if it has one.
-fn version_of(value: &Value) -> Option<Version>
+pub(crate) fn version_of(value: &Value) -> Option<Version>
     ensures { result ≡ said version_in (codes "version") (view value.now) }
 {
     let version = value.get("version")?;
@@ -73,38 +74,6 @@ pub(crate) fn names_group(value: &Value) -> bool
     }
 }
 
-/// Whether a file says that some nodes split the group.
-pub(crate) fn says_split(value: &Value) -> bool {
-    match verdict_of(value) {
-        Some(Verdict::Split) => true,
-        _ => false,
-    }
-}
-
-/// The keys of a file of this version and verdict.
-fn names_of(version: Version, verdict: Verdict) -> &'static [&'static str]
-    ensures { map (λ k. k.now) result.now ≡ names_of (keys_of version verdict) }
-{
-    match (version, verdict) {
-        (Version::One, Verdict::Linked) => {
-            &["k", "links", "moment", "nodes", "verdict", "version"]
-        }
-        (Version::One, Verdict::Split) => &[
-            "k", "links", "moment", "nodes", "verdict", "version", "cut", "near", "far", "side",
-            "pairs", "fans",
-        ],
-        (Version::Two, Verdict::Linked) => {
-            &[
-                "k", "links", "moment", "nodes", "verdict", "version", "group",
-            ]
-        }
-        (Version::Two, Verdict::Split) => &[
-            "k", "links", "moment", "nodes", "verdict", "version", "group", "cut", "near", "far",
-            "side", "pairs", "fans",
-        ],
-    }
-}
-
 /// The keys that a file with a version and a verdict must have.
 fn wanted_names(value: &Value) -> Option<&'static [&'static str]>
     ensures { option_map (λ ks. map (λ k. k.now) ks.now) result ≡ names_said (view value.now) }
@@ -128,8 +97,10 @@ fn missing_key(value: &Value) -> Option<&'static str>
     first_missing(keys, value)
 }
 
-/// A key of a file that is none of those that it must have.
-fn unknown_key(value: &Value) -> Option<&str> {
+/// The first key of a file that is none of those that it must have.
+fn unknown_key(value: &Value) -> Option<&str>
+    ensures { option_map (λ k. k.now) result ≡ first_other (view value.now) (names_said (view value.now)) }
+{
     let keys = wanted_names(value)?;
     first_unknown(keys, value)
 }
@@ -155,7 +126,10 @@ pub(crate) fn tell_unknown(
     alloc: Global,
     text: &mut String,
     value: &Value,
-) -> Result<(), OutOfMemory> {
+) -> Result<(), OutOfMemory>
+    ensures { IsFault (view value.now) UnknownKey → OnOk result (Adds (TellsUnknown (view value.now))
+        (string_bytes text.old) (string_bytes text.new)) }
+{
     if let Some(key) = unknown_key(value) {
         say(text, &[Word::Text(": ")])?;
         say_stranger(alloc, text, value, key)?;
@@ -169,7 +143,9 @@ fn say_stranger(
     text: &mut String,
     value: &Value,
     key: &str,
-) -> Result<(), OutOfMemory> {
+) -> Result<(), OutOfMemory>
+    ensures { OnOk result (BeginsWith (string_bytes text.old ++ key_text key.now) (string_bytes text.new)) }
+{
     say_unknown(alloc, text, wanted_names(value).unwrap_or(ALL_KEYS), key)?;
     say(text, &[Word::Text(who_lacks(key))])?;
     Ok(())

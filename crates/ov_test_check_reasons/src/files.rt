@@ -33,7 +33,7 @@ fn no_json_has_its_place(rt: HostRuntime) -> Result<(), Fail> {
 }
 
 /// Files of two linked nodes whose keys or values are wrong.
-static LINKED: [(&str, &str); 24] = [
+static LINKED: [(&str, &str); 27] = [
     (
         "[1]",
         "a value has another form: expected an object, found a list",
@@ -123,6 +123,19 @@ static LINKED: [(&str, &str); 24] = [
     (
         r#"{"group":["of the nodes one and two, and of no other"],"k":1,"links":[[1,2]],"moment":6,"nodes":[1,2],"verdict":"linked","version":2}"#,
         "a value has another form, group[0]: expected an id, found a long text",
+    ),
+    // Of two faults the first is named: of unknown keys in the order of their bytes, of values in the order of demand.
+    (
+        r#"{"zone":1,"extra":2,"k":1,"links":[[1,2]],"moment":6,"nodes":[1,2],"verdict":"linked","version":1}"#,
+        r#"a key is unknown: "extra""#,
+    ),
+    (
+        r#"{"k":1,"links":[[1]],"moment":65537,"nodes":[1,2],"verdict":"linked","version":1}"#,
+        "a value has another form, links[0]: expected two ids, found 1",
+    ),
+    (
+        r#"{"k":1,"links":[[1,2]],"moment":6,"nodes":[1,true,null],"verdict":"linked","version":1}"#,
+        "a value has another form, nodes[1]: expected an id, found true",
     ),
 ];
 

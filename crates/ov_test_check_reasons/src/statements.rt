@@ -27,7 +27,7 @@ static CHANGED: [(&str, &str, &str); 31] = [
     (
         "\"k\":2",
         "\"k\":3",
-        "the count is wrong: k is 3, and the nodes of the cut are 2",
+        "the count is wrong: k is 3, and the number of nodes of the cut is 2",
     ),
     (
         "[2,4]",
@@ -227,7 +227,7 @@ fn the_path_that_does_not_hold_is_named(rt: HostRuntime) -> Result<(), Fail> {
 static LINKED: [(&str, &str); 3] = [
     (
         r#"{"k":2,"links":[[1,2]],"moment":6,"nodes":[1,2],"verdict":"linked","version":1}"#,
-        "the count is wrong: k is 2, and the members are 2",
+        "the count is wrong: k is 2, and the number of members is 2",
     ),
     (
         r#"{"k":2,"links":[[1,2],[2,3]],"moment":6,"nodes":[1,2,3],"verdict":"linked","version":1}"#,

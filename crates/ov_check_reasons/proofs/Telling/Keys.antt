@@ -1,13 +1,15 @@
--- What is told of a missing key, and of a version.
-use Rattle.std.proofs.Common.{◌≡◌, ◌∙◌, ◌⊎◌, ◌&&◌, ℕ, List, [], ◌∷◌, ◌++◌, Bool, true, false, if◌then◌else◌, codes}
-use Rattle.std.proofs.Common.{Option, Some, None, is_some, refl, sym, ap, subst, inl, inr, append_assoc}
-use Rattle.std.proofs.Common.{unwrap_or}
+-- What is told of a missing key, of an unknown key, and of a version.
+use Rattle.std.proofs.Common.{◌≡◌, ◌∙◌, ◌⊎◌, ◌&&◌, ℕ, suc, ◌+◌, map, length, String, Global, string_bytes, option_map}
+use Rattle.std.proofs.Common.{List, [], ◌∷◌, ◌++◌, Bool, true, false, if◌then◌else◌, codes, unwrap_or, arith}
+use Rattle.std.proofs.Common.{Option, Some, None, is_some, refl, sym, ap, subst, inl, inr}
 use Rattle.std.proofs.lemmas.Bool.{both_ways}
 use Rattle.std.specs.List.{list_all}
-use Rattle.serde_json.specs.Data.{Data}
+use Rattle.serde_json.specs.Data.{Data, Members}
+use Rattle.serde_json.specs.View.{members_view}
+use Rattle.serde_json.specs.declared.value.Value.{Value}
 use Rattle.serde_json.specs.Find.{as_object, get}
 use Rattle.ov_ids.specs.Options.{◌>>=◌}
-use Rattle.ov_certfile.specs.Keys.{has_key, has_all, has_no_other, said}
+use Rattle.ov_certfile.specs.Keys.{has_key, has_all, has_no_other, is_among, keys_in, member_keys, said}
 use Rattle.ov_certfile.specs.Kinds.{version_in, verdict_in, keys_of, names_of}
 use Rattle.ov_certfile.specs.Demands.{demands, first_unmet, wanted_keys, has_forms}
 use Rattle.ov_certfile.specs.declared.fault.FileFault.{FileFault}
@@ -17,55 +19,86 @@ use Rattle.ov_certfile.specs.declared.version.Version.{Version}
 use Rattle.ov_certfile.specs.declared.verdict.Verdict.{Verdict}
 use Rattle.ov_check_reasons.specs.Opening.{BeginsWith}
 use Rattle.ov_check_reasons.specs.FilePlaces.{IsFirstFailing, key_text, demanded_keys}
-use Rattle.ov_check_reasons.specs.FilePlaces.{TellsMissing, TellsVersion}
+use Rattle.ov_check_reasons.specs.FilePlaces.{TellsMissing, TellsUnknown, TellsVersion, TellsExpected}
 use Rattle.ov_check_reasons.specs.Code.Words.{Adds}
-use Rattle.ov_check_reasons.specs.Code.Failing.{first_failing, first_lacked, names_said, missing_in}
-use Rattle.ov_check_reasons.proofs.Telling.Texts.{added_front}
+use Rattle.ov_check_reasons.specs.Code.Failing.{first_failing, failing_from, first_lacked, first_other, names_said}
+use Rattle.ov_check_reasons.specs.Code.Failing.{missing_in}
+use Rattle.ov_check_reasons.proofs.Telling.Texts.{added_front, begins_behind}
 
--- THE FIRST KEY THAT FAILS A TEST
+-- THE FIRST ITEM THAT FAILS A TEST
 
-first_more : (test : List ℕ → Bool) (k : List ℕ) (ks : List (List ℕ)) (key : List ℕ) → test k ≡ true
-    → IsFirstFailing test ks key → IsFirstFailing test (k ∷ ks) key
-first_more test k ks key t r = record {
-  before = k ∷ r.before;
-  after = r.after;
-  parts = ap (λ (xs : List (List ℕ)). k ∷ xs) r.parts;
-  pass = ap (λ (b : Bool). b && list_all test r.before) t ∙ r.pass;
-  fails = r.fails;
-}
+some_is : {X : Type 0} (k x : X) → Some k ≡ Some x → k ≡ x
+some_is k x e = cc
 
-first_here : (test : List ℕ → Bool) (k : List ℕ) (ks : List (List ℕ)) (key : List ℕ) → test k ≡ false → k ≡ key
-    → IsFirstFailing test (k ∷ ks) key
-first_here test k ks key f e = record {
-  before = [];
-  after = ks;
-  parts = ap (λ (x : List ℕ). x ∷ ks) e;
-  pass = refl;
-  fails = subst (λ (x : List ℕ). test x ≡ false) e f;
-}
+module _ {X : Type 0} (test : X → Bool) where
+  abbrev first_more : (k : X) (ks : List X) (x : X) → test k ≡ true → IsFirstFailing test ks x
+      → IsFirstFailing test (k ∷ ks) x
+  first_more k ks x t r = record {
+    before = k ∷ r.before;
+    after = r.after;
+    parts = ap (λ (xs : List X). k ∷ xs) r.parts;
+    pass = ap (λ (b : Bool). b && list_all test r.before) t ∙ r.pass;
+    fails = r.fails;
+  }
 
-some_is : (k key : List ℕ) → Some k ≡ Some key → k ≡ key
-some_is k key e = cc
+  abbrev first_here : (k : X) (ks : List X) (x : X) → test k ≡ false → k ≡ x → IsFirstFailing test (k ∷ ks) x
+  first_here k ks x f e = record {
+    before = [];
+    after = ks;
+    parts = ap (λ (y : X). y ∷ ks) e;
+    pass = refl;
+    fails = subst (λ (y : X). test y ≡ false) e f;
+  }
 
-pub first_found : (test : List ℕ → Bool) (keys : List (List ℕ)) (key : List ℕ) → first_failing test keys ≡ Some key
-    → IsFirstFailing test keys key
-first_found test [] key e = absurd cc
-first_found test (k ∷ ks) key e =
-    elim (test k) as (λ (b : Bool). test k ≡ b → (if b then first_failing test ks else Some k) ≡ Some key
-    → IsFirstFailing test (k ∷ ks) key) [
-      | true ↦ λ t h. first_more test k ks key t (first_found test ks key h)
-      | false ↦ λ f h. first_here test k ks key f (some_is k key h)
-    ] refl e
+  pub first_found : (xs : List X) (x : X) → first_failing test xs ≡ Some x → IsFirstFailing test xs x
+  first_found [] x e = absurd cc
+  first_found (k ∷ ks) x e =
+      elim (test k) as (λ (b : Bool). test k ≡ b → (if b then first_failing test ks else Some k) ≡ Some x
+      → IsFirstFailing test (k ∷ ks) x) [
+        | true ↦ λ t h. first_more k ks x t (first_found ks x h)
+        | false ↦ λ f h. first_here k ks x f (some_is k x h)
+      ] refl e
 
-pub none_found : (test : List ℕ → Bool) (keys : List (List ℕ)) → first_failing test keys ≡ None
-    → list_all test keys ≡ true
-none_found test [] e = refl
-none_found test (k ∷ ks) e =
-    elim (test k) as (λ (b : Bool). (if b then first_failing test ks else Some k) ≡ None
-    → (b && list_all test ks) ≡ true) [
-      | true ↦ λ h. none_found test ks h
-      | false ↦ λ h. absurd (let s : Some k ≡ None = h in cc)
-    ] e
+  pub none_found : (xs : List X) → first_failing test xs ≡ None → list_all test xs ≡ true
+  none_found [] e = refl
+  none_found (k ∷ ks) e =
+      elim (test k) as (λ (b : Bool). (if b then first_failing test ks else Some k) ≡ None
+      → (b && list_all test ks) ≡ true) [
+        | true ↦ λ h. none_found ks h
+        | false ↦ λ h. absurd (let s : Some k ≡ None = h in cc)
+      ] e
+
+  -- the same with its place
+  pub found_at : (n : ℕ) (xs : List X) (i : ℕ) (x : X) → failing_from test n xs ≡ Some (i, x)
+      → (r : IsFirstFailing test xs x) × (i ≡ n + length r.before)
+  found_at n [] i x e = absurd cc
+  found_at n (k ∷ ks) i x e =
+      elim (test k) as (λ (b : Bool). test k ≡ b
+      → (if b then failing_from test (n + 1) ks else Some (n, k)) ≡ Some (i, x)
+      → (r : IsFirstFailing test (k ∷ ks) x) × (i ≡ n + length r.before)) [
+        | true ↦ λ t h.
+            let found = found_at (n + 1) ks i x h in
+            let place = found.1 in
+            let later : i ≡ n + suc (length found.0.before) = omega (arith, place) in
+            (first_more k ks x t found.0, later)
+        | false ↦ λ f h.
+            let same = some_is (n, k) (i, x) h in
+            let place : n ≡ i = ap (λ (p : ℕ × X). p.0) same in
+            let here : i ≡ n + 0 = omega (arith, place) in
+            (first_here k ks x f (ap (λ (p : ℕ × X). p.1) same), here)
+      ] refl e
+
+-- the keys of a map are those of the object that it represents
+entry_keys : (es : List (String Global × Value)) → map string_bytes (map (λ e. e.0) es) ≡ member_keys (members_view es)
+entry_keys [] = refl
+entry_keys (e ∷ es) = ap (λ (ks : List (List ℕ)). string_bytes e.0 ∷ ks) (entry_keys es)
+
+pub first_of_entries : (test : List ℕ → Bool) (d : Data) (es : List (String Global × Value))
+    → Some (members_view es) ≡ as_object d
+    → first_failing test (map string_bytes (map (λ e. e.0) es)) ≡ first_failing test (keys_in d)
+first_of_entries test d es h =
+    ap (λ (ks : List (List ℕ)). first_failing test ks)
+    (entry_keys es ∙ ap (λ (o : Option Members). unwrap_or (option_map member_keys o) []) h)
 
 -- THE FIRST UNMET DEMAND
 
@@ -106,26 +139,56 @@ version_when true true true true true true true false k =
     absurd (let s : Some BadValue ≡ Some AnotherVersion = k in cc)
 version_when true true true true true true true true k = absurd (let s : None ≡ Some AnotherVersion = k in cc)
 
+-- what is met before a key is unknown
+unknown_when : (a b c e f g h last : Bool) → unmet a b c e f g h last ≡ Some UnknownKey
+    → (c ≡ true) × (f ≡ true) × (h ≡ false)
+unknown_when false b c e f g h last k = absurd (let s : Some BadValue ≡ Some UnknownKey = k in cc)
+unknown_when true false c e f g h last k = absurd (let s : Some MissingKey ≡ Some UnknownKey = k in cc)
+unknown_when true true false e f g h last k = absurd (let s : Some AnotherVersion ≡ Some UnknownKey = k in cc)
+unknown_when true true true false f g h last k = absurd (let s : Some MissingKey ≡ Some UnknownKey = k in cc)
+unknown_when true true true true false g h last k = absurd (let s : Some BadValue ≡ Some UnknownKey = k in cc)
+unknown_when true true true true true false h last k = absurd (let s : Some MissingKey ≡ Some UnknownKey = k in cc)
+unknown_when true true true true true true false last k = (refl, refl, refl)
+unknown_when true true true true true true true false k = absurd (let s : Some BadValue ≡ Some UnknownKey = k in cc)
+unknown_when true true true true true true true true k = absurd (let s : None ≡ Some UnknownKey = k in cc)
+
+-- what is met, and what is not, where a value lacks its form
+abbrev pub IsUnformed : Bool → Bool → Bool → Bool → Bool → Bool → Type 0
+IsUnformed a c e f g last =
+    (a ≡ false) ⊎ ((a ≡ true) × (c ≡ true) × (e ≡ true) × ((f ≡ false)
+    ⊎ ((f ≡ true) × (g ≡ true) × (last ≡ false))))
+
+unformed_when : (a b c e f g h last : Bool) → unmet a b c e f g h last ≡ Some BadValue → IsUnformed a c e f g last
+unformed_when false b c e f g h last k = inl refl
+unformed_when true false c e f g h last k = absurd (let s : Some MissingKey ≡ Some BadValue = k in cc)
+unformed_when true true false e f g h last k = absurd (let s : Some AnotherVersion ≡ Some BadValue = k in cc)
+unformed_when true true true false f g h last k = absurd (let s : Some MissingKey ≡ Some BadValue = k in cc)
+unformed_when true true true true false g h last k = inr (refl, refl, refl, inl refl)
+unformed_when true true true true true false h last k = absurd (let s : Some MissingKey ≡ Some BadValue = k in cc)
+unformed_when true true true true true true false last k = absurd (let s : Some UnknownKey ≡ Some BadValue = k in cc)
+unformed_when true true true true true true true false k = inr (refl, refl, refl, inr (refl, refl, refl))
+unformed_when true true true true true true true true k = absurd (let s : None ≡ Some BadValue = k in cc)
+
 module _ (d : Data) where
-  abbrev version_there : Bool
+  abbrev pub version_there : Bool
   version_there = has_key (codes "version") d
 
-  abbrev version_read : Bool
+  abbrev pub version_read : Bool
   version_read = is_some (said version_in (codes "version") d)
 
-  abbrev verdict_there : Bool
+  abbrev pub verdict_there : Bool
   verdict_there = has_key (codes "verdict") d
 
-  abbrev verdict_read : Bool
+  abbrev pub verdict_read : Bool
   verdict_read = is_some (said verdict_in (codes "verdict") d)
 
-  abbrev all_there : Bool
+  abbrev pub all_there : Bool
   all_there = has_all (names_of (wanted_keys d)) d
 
-  abbrev no_other : Bool
+  abbrev pub no_other : Bool
   no_other = has_no_other (names_of (wanted_keys d)) d
 
-  abbrev formed : Bool
+  abbrev pub formed : Bool
   formed = has_forms (wanted_keys d) d
 
   missing_is : first_unmet (demands d) ≡ Some MissingKey
@@ -139,6 +202,20 @@ module _ (d : Data) where
   unfolding demands
   version_is k =
       version_when (is_some (as_object d)) version_there version_read verdict_there verdict_read all_there no_other
+      formed k
+
+  unknown_is : first_unmet (demands d) ≡ Some UnknownKey
+      → (version_read ≡ true) × (verdict_read ≡ true) × (no_other ≡ false)
+  unfolding demands
+  unknown_is k =
+      unknown_when (is_some (as_object d)) version_there version_read verdict_there verdict_read all_there no_other
+      formed k
+
+  pub unformed_is : first_unmet (demands d) ≡ Some BadValue
+      → IsUnformed (is_some (as_object d)) version_read verdict_there verdict_read all_there formed
+  unfolding demands
+  unformed_is k =
+      unformed_when (is_some (as_object d)) version_there version_read verdict_there verdict_read all_there no_other
       formed k
 
 pair_names : (o : Option Version) (p : Option Verdict) → is_some o ≡ true → is_some p ≡ true
@@ -201,11 +278,8 @@ key_told : (Tells : List ℕ → Type 0) (before mid after key : List ℕ) → m
     → BeginsWith (mid ++ key_text key) after
     → ((text : List ℕ) → BeginsWith (codes ": " ++ key_text key) text → Tells text) → Adds Tells before after
 key_told Tells before mid after key e b told =
-    added_front Tells before after (codes ": " ++ key_text key) (
-      b.0,
-      b.1 ∙ ap (λ (t : List ℕ). (t ++ key_text key) ++ b.0) e
-          ∙ ap (λ (t : List ℕ). t ++ b.0) (append_assoc before (codes ": ") (key_text key)),
-    ) told
+    added_front Tells before after (codes ": " ++ key_text key)
+    (begins_behind before mid after (codes ": ") (key_text key) e b) told
 
 pub missing_told : (d : Data) (before mid after key : List ℕ) → Some key ≡ missing_in d
     → first_unmet (demands d) ≡ Some MissingKey → mid ≡ before ++ codes ": " → BeginsWith (mid ++ key_text key) after
@@ -222,20 +296,43 @@ missing_told d before mid after key is fault e b =
 pub missing_there : {P : Type 0} (d : Data) → None ≡ missing_in d → first_unmet (demands d) ≡ Some MissingKey → P
 missing_there d none fault = absurd (missing_none d fault (sym none))
 
+-- AN UNKNOWN KEY
+
+unknown_first : (d : Data) → first_unmet (demands d) ≡ Some UnknownKey
+    → first_other d (names_said d) ≡ first_failing (λ k. is_among (names_of (wanted_keys d)) k) (keys_in d)
+unknown_first d fault =
+    let u = unknown_is d fault in
+    ap (λ (o : Option (List (List ℕ))). first_other d o) (names_both d u.0 u.1)
+
+pub unknown_told : (d : Data) (before mid after key : List ℕ) → Some key ≡ first_other d (names_said d)
+    → first_unmet (demands d) ≡ Some UnknownKey → mid ≡ before ++ codes ": " → BeginsWith (mid ++ key_text key) after
+    → Adds (TellsUnknown d) before after
+unknown_told d before mid after key is fault e b =
+    key_told (TellsUnknown d) before mid after key e b
+    (λ text t. (
+      key,
+      first_found (λ k. is_among (names_of (wanted_keys d)) k) (keys_in d) key (sym (unknown_first d fault) ∙ sym is),
+      t,
+    ))
+
+pub unknown_there : {P : Type 0} (d : Data) → None ≡ first_other d (names_said d)
+    → first_unmet (demands d) ≡ Some UnknownKey → P
+unknown_there d none fault =
+    absurd (both_ways (no_other d) (unknown_is d fault).2
+    (none_found (λ k. is_among (names_of (wanted_keys d)) k) (keys_in d) (sym (unknown_first d fault) ∙ sym none)))
+
 -- THE VERSION
 
-none_of : {X : Type 0} (o : Option X) → is_some o ≡ false → o ≡ None
+pub none_of : {X : Type 0} (o : Option X) → is_some o ≡ false → o ≡ None
 none_of None h = refl
 none_of (Some x) h = absurd (let s : true ≡ false = h in cc)
 
 pub version_told : (d v : Data) (before after : List ℕ) → Some v ≡ get (codes "version") d
     → first_unmet (demands d) ≡ Some AnotherVersion
-    → BeginsWith (before ++ (codes ": expected " ++ (codes "1 or 2" ++ codes ", found "))) after
-    → Adds (TellsVersion d) before after
+    → Adds (TellsExpected (codes "1 or 2")) before after → Adds (TellsVersion d) before after
 version_told d v before after is fault b =
     let wrong = subst (λ (o : Option Data). is_some (o >>= version_in) ≡ false) (sym is) (version_is d fault).1 in
-    added_front (TellsVersion d) before after (codes ": expected 1 or 2, found ") b
-    (λ text t. (v, sym is, none_of (version_in v) wrong, t))
+    (b.0, b.1, (v, sym is, none_of (version_in v) wrong, b.2))
 
 pub version_stands : {P : Type 0} (d : Data) → None ≡ get (codes "version") d
     → first_unmet (demands d) ≡ Some AnotherVersion → P

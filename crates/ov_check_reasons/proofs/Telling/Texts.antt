@@ -1,6 +1,7 @@
 -- Texts that grow, and what was told in them.
 use Rattle.std.proofs.Common.{◌≡◌, ◌∙◌, ℕ, ◌+◌, ◌<◌, List, [], ◌∷◌, ◌++◌, length, drop, get_or}
-use Rattle.std.proofs.Common.{refl, sym, ap, append_assoc, append-nil, add-one}
+use Rattle.std.proofs.Common.{refl, sym, ap, append_assoc, append-nil, add-one, Result, Ok, Err}
+use Rattle.std.specs.Prelude.{OnOk}
 use Rattle.std.proofs.Math.Seq.{drop-cons}
 use Rattle.ov_check_reasons.specs.declared.words.Word.{Word}
 use Rattle.ov_check_reasons.specs.Opening.{BeginsWith}
@@ -42,6 +43,24 @@ pub added_front : (Tells : List ℕ → Type 0) (before after front : List ℕ) 
     → ((text : List ℕ) → BeginsWith front text → Tells text) → Adds Tells before after
 added_front Tells before after front b t =
     (front ++ b.0, b.1 ∙ append_assoc before front b.0, t (front ++ b.0) (b.0, refl))
+
+-- it stands behind what another call appended
+pub added_behind : (P Q : List ℕ → Type 0) (before mid after front : List ℕ) → mid ≡ before ++ front
+    → Adds P mid after → ((rest : List ℕ) → P rest → Q (front ++ rest)) → Adds Q before after
+added_behind P Q before mid after front e a f = added_more Q before mid after front a.0 e a.1 (f a.0 a.2)
+
+-- so does what a text begins with
+pub begins_behind : (before mid after front key : List ℕ) → mid ≡ before ++ front → BeginsWith (mid ++ key) after
+    → BeginsWith (before ++ (front ++ key)) after
+begins_behind before mid after front key e b = (
+  b.0,
+  b.1 ∙ ap (λ (t : List ℕ). (t ++ key) ++ b.0) e ∙ ap (λ (t : List ℕ). t ++ b.0) (append_assoc before front key),
+)
+
+-- what follows where a call succeeds
+pub on_ok : {A E : Type 0} (r : Result A E) (P Q : Type 0) → (P → Q) → OnOk r P → OnOk r Q
+on_ok (Ok a) P Q f h = f h
+on_ok (Err e) P Q f h = h
 
 pub added_weaker : (P Q : List ℕ → Type 0) (before after : List ℕ) → Adds P before after
     → ((text : List ℕ) → P text → Q text) → Adds Q before after

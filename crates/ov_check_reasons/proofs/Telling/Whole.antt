@@ -16,15 +16,11 @@ use Rattle.ov_check.specs.Outcome.{BytesSay, IsOutcome}
 use Rattle.ov_check.specs.declared.outcome.Outcome.TheVariants.{Fails}
 use Rattle.ov_check_reasons.specs.Places.{TellsFault, TellsPlace}
 use Rattle.ov_check_reasons.specs.Code.Words.{Adds}
+use Rattle.ov_check_reasons.proofs.Telling.Texts.{on_ok}
 
 pub not_cut_off : (g : LinkGraph) (q : List ℕ) (c : Split) → IsFirstFault g q (SplitBy c) Side → ¬ IsCutOff g q c
 not_cut_off g q c (inl h) = h.4
 not_cut_off g q c (inr h) = absurd h.1.2
-
--- what follows where a call succeeds
-on_ok : {A E : Type 0} (r : Result A E) (P Q : Type 0) → (P → Q) → OnOk r P → OnOk r Q
-on_ok (Ok a) P Q f h = f h
-on_ok (Err e) P Q f h = h
 
 -- bytes that are text say one thing
 module _ (bytes source : List ℕ) (same : source ≡ bytes) (utf8 : IsUtf8 bytes) (result : Result Filed FileFault)
