@@ -1,12 +1,11 @@
 //! One worker: it claims numbers at a board and settles their pieces, until it has ended.
-ghost use Rattle.std.specs.Prelude.{◌≡◌, ◌↔◌, ℕ, ◌<◌, ◌+◌, true, false, None, length, vec_capacity};
-ghost use Rattle.std.specs.Prelude.{IsTrue, IfOk, OnOk, IfSome, IfNone};
+ghost use Rattle.std.specs.Prelude.{◌≡◌, ℕ, ◌<◌, ◌+◌, true, false, None, length, vec_capacity};
+ghost use Rattle.std.specs.Prelude.{IfOk, OnOk, IfSome, IfNone};
 ghost use Rattle.ov_ids.specs.Limits.{number_limit};
 ghost use Rattle.ov_ids.specs.Members.{Has};
 ghost use Rattle.ov_graph.specs.Links.{IsGroup};
 ghost use Rattle.ov_fans.specs.Pieces.{IsPiece};
 ghost use Rattle.ov_fans.specs.Cuts.{IsRight};
-ghost use Rattle.ov_fans.specs.Theorems.{IsNoCut};
 ghost use Rattle.ov_claims.specs.Claims.{fresh};
 ghost use Rattle.ov_even.specs.Order.{AreMoreThan, AreSoMany};
 ghost use Rattle.ov_crew.specs.Hauls.{IsHaulOf};
@@ -15,7 +14,7 @@ ghost use Rattle.ov_crew.specs.Code.Turns.{HasTaken, HasStopped, HasSettled};
 use crate::gate::Gate;
 use ov_board::{Board, Seat};
 use ov_even::{Haul, group_piece_at};
-use ov_fans::{Found, Piece, Settled, Settler};
+use ov_fans::{Piece, Settled, Settler};
 use ov_graph::Graph;
 use ov_ids::{NodeId, OutOfMemory};
 use std::alloc::Global;
@@ -107,7 +106,7 @@ fn settle_piece(
         Ok(settled) => settled,
         Err(fault) => return (Err(fault), seat),
     };
-    let seat = if is_cut(&settled) {
+    let seat = if settled.is_cut() {
         board.fail(number, seat)
     } else {
         seat
@@ -131,13 +130,6 @@ fn settle_with_room(
 {
     pieces.reserve(1)?;
     settler.settle(piece)
-}
-
-/// Whether a piece was settled with a cut.
-fn is_cut(settled: &Settled) -> bool
-    ensures { IsTrue result ↔ ¬ IsNoCut settled.now.found }
-{
-    matches!(settled.found, Found::Cut(_))
 }
 
 /// Settles the pieces of a group, all of whose numbers the board shares out. See `work_range`.

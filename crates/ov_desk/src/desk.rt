@@ -5,7 +5,6 @@ ghost use Rattle.ov_cert.specs.Theorems.{IsTrueForGroup};
 ghost use Rattle.ov_claims.specs.Claims.{most_workers};
 ghost use Rattle.ov_claims.specs.Theorems.{AllEnded};
 ghost use Rattle.ov_fans.specs.Cuts.{IsRight};
-ghost use Rattle.ov_fans.specs.Theorems.{IsNoCut};
 ghost use Rattle.ov_even.specs.Answer.{IsCheckedAnswer};
 ghost use Rattle.ov_even.specs.Order.{AreMoreThan, IsNumbered};
 ghost use Rattle.ov_desk.specs.declared.hand.Hand.TheVariants.{Nothing as nothing};
@@ -19,7 +18,7 @@ use crate::hand::Hand;
 use ov_cert::{Checked, are_all_linked};
 use ov_claims::Desk;
 use ov_even::{Haul, assemble_group, group_piece_at, group_total};
-use ov_fans::{Found, Settled, settle_group};
+use ov_fans::{Settled, settle_group};
 use ov_graph::Graph;
 use ov_ids::{NodeId, OutOfMemory};
 use std::alloc::Global;
@@ -189,7 +188,7 @@ impl GroupDesk {
         let settled = self.settled_at(graph, number)?;
         let own = &mut self.hauls[place];
         own.pieces.reserve(1)?;
-        if is_cut(&settled) {
+        if settled.is_cut() {
             self.claims.fail(worker)?;
         }
         own.pieces.push_reserved(settled);
@@ -270,11 +269,4 @@ fn empty_hauls(alloc: Global, workers: u32) -> Result<Vec<Haul>, OutOfMemory>
         })?;
     }
     Ok(hauls)
-}
-
-/// Whether a piece was settled with a cut.
-fn is_cut(settled: &Settled) -> bool
-    ensures { IsTrue result ↔ ¬ IsNoCut settled.now.found }
-{
-    matches!(settled.found, Found::Cut(_))
 }

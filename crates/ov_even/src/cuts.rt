@@ -38,22 +38,12 @@ fn earlier_cut<'a>(pieces: &'a [Settled], known: Option<&'a Settled>) -> Option<
 fn is_earlier_cut(settled: &Settled, first: Option<&Settled>) -> bool
     ensures { IsTrue result ↔ IsEarlierCut settled.now (option_copied first.entry) }
 {
-    if !is_cut(settled) {
+    if !settled.is_cut() {
         return false;
     }
     match first {
         Some(known) => comes_before(settled.piece, known.piece),
         None => true,
-    }
-}
-
-/// Whether a piece was settled with a cut.
-pub(crate) fn is_cut(settled: &Settled) -> bool
-    ensures { IsTrue result ↔ (¬ IsNoCut settled.now.found) }
-{
-    match &settled.found {
-        Found::Cut(_) => true,
-        Found::Linked | Found::Paths(_) => false,
     }
 }
 

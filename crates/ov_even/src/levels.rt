@@ -1,11 +1,11 @@
 //! The pieces of one level: in their order, their number, and the place of each.
-ghost use Rattle.std.specs.Prelude.{◌≡◌, ◌<◌, ◌≤◌, ◌^◌, ℕ, length, slice_get, Some};
+ghost use Rattle.std.specs.Prelude.{◌≡◌, ◌<◌, ◌≤◌, ℕ, length, slice_get, Some};
 ghost use Rattle.std.specs.Iterator.{YieldsFirst, item_count};
 ghost use Rattle.ov_ids.specs.Limits.{number_limit};
 ghost use Rattle.ov_graph.specs.Links.{most_nodes};
 ghost use Rattle.ov_fans.specs.Pieces.{level_of};
 ghost use Rattle.ov_fans.specs.Pieces.{IsPieceOf};
-ghost use Rattle.ov_even.specs.Code.Levels.{pieces_of_level, pairs_among, IsPairPlaced};
+ghost use Rattle.ov_even.specs.Code.Levels.{pieces_of_level, pairs_among, place_limit, IsPairPlaced};
 
 use ov_fans::Piece;
 use std::marker::Model;
@@ -78,7 +78,7 @@ impl Iterator for LevelPieces {
 
 /// The number of pairs among this many members.
 pub(crate) fn pair_count(members: usize) -> usize
-    requires { members < 2 ^ 16 }
+    requires { members < place_limit }
     ensures count { result ≡ pairs_among members }
     ensures small { result < number_limit }
 {

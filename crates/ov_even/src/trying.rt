@@ -5,7 +5,6 @@ ghost use Rattle.ov_fans.specs.declared.settled.Found.TheVariants.{Linked as lin
 ghost use Rattle.ov_even.specs.Harvest.{AreRight};
 ghost use Rattle.ov_even.specs.Levels.{IsTried};
 
-use crate::cuts::is_cut;
 use crate::haul::Haul;
 use crate::levels::{LevelPieces, level_size, place_in_level};
 use crate::watcher::Watcher;
@@ -39,7 +38,7 @@ pub(crate) fn try_level<W: Watcher>(
         if is_linked(&settled) {
             continue;
         }
-        let stops = is_cut(&settled);
+        let stops = settled.is_cut();
         pieces.push(settled)?;
         if stops {
             return Ok(Haul { pieces });

@@ -1,3 +1,6 @@
+ghost use Rattle.std.specs.Prelude.{◌↔◌, IsTrue};
+ghost use Rattle.ov_fans.specs.Theorems.{IsNoCut};
+
 use crate::piece::Piece;
 use ov_flow::PlacePaths;
 use ov_ids::{NodeId, Seq};
@@ -31,4 +34,16 @@ pub enum Found {
 pub struct Settled {
     pub piece: Piece,
     pub found: Found,
+}
+
+impl Settled {
+    /// Whether the result is a cut.
+    pub fn is_cut(&self) -> bool
+        ensures { IsTrue result ↔ (¬ IsNoCut self.now.found) }
+    {
+        match &self.found {
+            Found::Cut(_) => true,
+            Found::Linked | Found::Paths(_) => false,
+        }
+    }
 }

@@ -1,3 +1,3 @@
+mod Adding
 mod Asking
 mod GroupFaults
-mod Telling

@@ -1,6 +1,6 @@
 -- What a person is told of the lines of a file that are at fault. Chosen here.
-use Rattle.std.specs.Prelude.{◌≡◌, ℕ, ◌<◌, Bool, List, [], ◌∷◌, ◌++◌, length, codes, decimal, if◌then◌else◌}
-use Rattle.std.specs.List.{All}
+use Rattle.std.specs.Prelude.{◌≡◌, ℕ, nat_lt, Bool, List, [], ◌∷◌, ◌++◌, length, take, map, codes, decimal}
+use Rattle.std.specs.Prelude.{if◌then◌else◌}
 
 -- how many lines of a file are told of at most
 abbrev pub most_lines : ℕ
@@ -19,14 +19,12 @@ paragraphs (line ∷ more) = paragraph line.0 line.1 ++ paragraphs more
 abbrev pub remark : Bool → List ℕ
 remark has_more = if has_more then codes "more lines are at fault\n" else []
 
--- a text tells of the line of this number, and then of some that stand behind it; of 20 at most
-pub record ExplainsLine (n : ℕ) (text : List ℕ) : Type 0 where
-  pub said : List ℕ
-  pub others : List (ℕ × List ℕ)
-  pub has_more : Bool
-  pub bounded : length others < most_lines
-  pub behind : All (λ line. n < line.0) others
-  pub whole : text ≡ paragraph n said ++ (paragraphs others ++ remark has_more)
+-- A text tells of the lines of these numbers, in order, but of 20 at most. Where there are more, it ends with the
+-- remark.
+pub record ExplainsLines (numbers text : List ℕ) : Type 0 where
+  pub told : List (ℕ × List ℕ)
+  pub numbered : map (λ line. line.0) told ≡ take most_lines numbers
+  pub whole : text ≡ paragraphs told ++ remark (nat_lt most_lines (length numbers))
 
 -- a text ends with this
 abbrev pub EndsWith : List ℕ → List ℕ → Type 0

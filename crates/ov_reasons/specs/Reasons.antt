@@ -1,9 +1,10 @@
 -- What a person is told of the fault of a file. Chosen here.
 use Rattle.std.specs.Prelude.{◌≡◌, ◌⊎◌, ℕ, List, [], codes}
 use Rattle.ov_graph.specs.declared.fault.GraphFault.{GraphFault}
-use Rattle.ov_reasons.specs.Paragraphs.{paragraph, ExplainsLine}
+use Rattle.ov_reasons.specs.Paragraphs.{paragraph, ExplainsLines}
 use Rattle.ov_run.specs.FaultLines.{IsFaultLine}
 use Rattle.ov_run.specs.GraphFiles.{IsGraphFileFault}
+use Rattle.ov_run.specs.LinesAtFault.{AreFaultLines, unread_lines}
 use Rattle.ov_run.specs.declared.run_fault.RunFault.{RunFault}
 use Rattle.ov_run.specs.declared.run_fault.RunFault.TheVariants.{Line, Params, Graph, Read, Write, OutOfMemory}
 
@@ -14,14 +15,15 @@ device_reason Write = codes "writing failed\n"
 device_reason OutOfMemory = codes "out of memory\n"
 device_reason other = []
 
--- what is told of a fault of a scenario file, which has none of a graph. One of a line is told with that line first
-abbrev pub TellsOf : RunFault → List ℕ → Type 0
-TellsOf (Line n) text = ExplainsLine n text
-TellsOf (Params n) text = ExplainsLine n text
-TellsOf (Graph fault) text = text ≡ []
-TellsOf Read text = text ≡ device_reason Read
-TellsOf Write text = text ≡ device_reason Write
-TellsOf OutOfMemory text = text ≡ device_reason OutOfMemory
+-- a text tells of the lines of a scenario file that are at fault. The first of them is the one whose fault the file has
+abbrev pub TellsOfFaultLines : List ℕ → List ℕ → Type 0
+TellsOfFaultLines bytes text = (numbers : List ℕ) × AreFaultLines bytes numbers × ExplainsLines numbers text
+
+-- what is told of a fault of a scenario file, which has none of a graph: of one of a line all lines at fault
+abbrev pub TellsOfScenario : List ℕ → RunFault → List ℕ → Type 0
+TellsOfScenario bytes (Line n) text = TellsOfFaultLines bytes text
+TellsOfScenario bytes (Params n) text = TellsOfFaultLines bytes text
+TellsOfScenario bytes other text = text ≡ device_reason other
 
 -- a text tells of the line of a graph file whose node or link is at fault. Where the file has not this fault nothing is
 -- told
@@ -31,7 +33,10 @@ TellsOfFaultLine bytes fault text =
     × (text ≡ paragraph n said))
     ⊎ ((¬ IsGraphFileFault bytes (Graph fault)) × (text ≡ []))
 
--- what is told of a fault of a graph file: of one of the graph its line, and else what is told of a scenario file's
+-- what is told of a fault of a graph file: of one of a line all lines that can't be read, and of one of the graph the
+-- line of the node or the link that is at fault
 abbrev pub TellsOfGraphFile : List ℕ → RunFault → List ℕ → Type 0
+TellsOfGraphFile bytes (Line n) text = ExplainsLines (unread_lines bytes) text
+TellsOfGraphFile bytes (Params n) text = ExplainsLines (unread_lines bytes) text
 TellsOfGraphFile bytes (Graph fault) text = TellsOfFaultLine bytes fault text
-TellsOfGraphFile bytes other text = TellsOf other text
+TellsOfGraphFile bytes other text = text ≡ device_reason other

@@ -1,81 +1,64 @@
-ghost use Rattle.std.specs.Prelude.{◌≡◌, ◌<◌, ◌++◌, length, IfOk, OnOk, string_bytes};
-ghost use Rattle.std.specs.List.{All};
-ghost use Rattle.ov_reasons.specs.Paragraphs.{remark};
+ghost use Rattle.std.specs.Prelude.{◌≡◌, ◌++◌, take, IfOk, OnOk, string_bytes};
+ghost use Rattle.ov_reasons.specs.Paragraphs.{remark, most_lines, ExplainsLines};
+ghost use Rattle.ov_reasons.specs.Code.Said.{AddsParagraphs};
 
-use crate::explanation::{Explanation, push_line, push_lines};
+use crate::explanation::{Explanation, push_line};
 use ov_ids::OutOfMemory;
 use std::alloc::Global;
 
-/// How many lines are explained at most besides the first.
-const MOST_OTHERS: usize = 19;
+/// How many lines are told of at most.
+const MOST_LINES: usize = 20;
 
-/// The explanations of the lines at fault, from the line whose fault is the verdict.
-#[derive(Drop)]
-pub(crate) struct Explained {
-    /// The number of the line whose fault is the verdict.
-    number: usize,
-    /// What is said of that line.
-    first: Option<String>,
-    /// What is said of later lines, up to the limit.
-    others: Vec<Explanation>,
-    /// Whether further lines are at fault.
-    has_more: bool,
-    ghost bounded: { length others.items < 20 },
-    ghost behind: { All (λ line. number < line.number) others.items },
-}
-
-impl Explained {
-    ghost use Rattle.ov_reasons.specs.Paragraphs.{ExplainsLine};
-
-    /// Of no line.
-    pub(crate) fn new(alloc: Global, number: usize) -> Explained
-        ensures { result.number ≡ number }
-    {
-        Explained {
-            number,
-            first: None,
-            others: Vec::new(alloc),
-            has_more: false,
-        }
-    }
-
-    /// Adds what is said of the next line at fault. Lines before the one whose fault is the verdict are left out.
-    pub(crate) fn add(&mut self, number: usize, text: String) -> Result<(), OutOfMemory>
-        ensures { self.new.number ≡ self.old.number }
-    {
-        if number == self.number {
-            self.first = Some(text);
-        } else if number > self.number && self.others.len() < MOST_OTHERS {
-            self.others.push(Explanation { number, text })?;
-        } else if number > self.number {
-            self.has_more = true;
-        }
-        Ok(())
-    }
-
-    /// Whether all lines that are told are there.
-    pub(crate) fn is_full(&self) -> bool {
-        self.has_more
-    }
-
-    /// All of it as one text.
-    pub(crate) fn into_text(self, alloc: Global) -> Result<String, OutOfMemory>
-        ensures { IfOk result (λ text. ExplainsLine self.number (string_bytes text)) }
-    {
-        let mut text = String::new(alloc);
-        push_line(&mut text, self.number, first_text(&self.first))?;
-        push_lines(&mut text, &self.others)?;
-        push_remark(&mut text, self.has_more)?;
-        Ok(text)
+/// The numbers of the lines that are told of, where the lines of these numbers are at fault: the first, up to the limit.
+pub(crate) fn told_of(numbers: &[usize]) -> &[usize]
+    ensures { result.now ≡ take most_lines numbers.now }
+{
+    match numbers.get(..MOST_LINES) {
+        Some(first) => first,
+        None => numbers,
     }
 }
 
-/// What is said of the line whose fault is the verdict.
-fn first_text(first: &Option<String>) -> &str {
-    match first {
-        Some(text) => text.as_str(),
-        None => "this line can't be read\n",
+/// Whether a line of this number stands behind all of these.
+pub(crate) fn is_past(numbers: &[usize], number: usize) -> bool {
+    match numbers.last() {
+        Some(last) => number > *last,
+        None => true,
     }
+}
+
+/// What is told where the lines of these numbers are at fault, and this was found to be said of lines.
+pub(crate) fn explain(
+    alloc: Global,
+    numbers: &[usize],
+    said: &[Explanation],
+) -> Result<String, OutOfMemory>
+    ensures { IfOk result (λ text. ExplainsLines numbers.now (string_bytes text)) }
+{
+    let mut text = String::new(alloc);
+    push_told(&mut text, told_of(numbers), said)?;
+    push_remark(&mut text, numbers.len() > MOST_LINES)?;
+    Ok(text)
+}
+
+/// Appends what is said of the lines of these numbers.
+fn push_told(text: &mut String, numbers: &[usize], said: &[Explanation]) -> Result<(), OutOfMemory>
+    ensures { OnOk result (AddsParagraphs numbers.now (string_bytes text.old) (string_bytes text.new)) }
+{
+    for number in numbers {
+        push_line(text, *number, said_of(said, *number))?;
+    }
+    Ok(())
+}
+
+/// What was found to be said of the line of this number.
+fn said_of(said: &[Explanation], number: usize) -> &str {
+    for line in said {
+        if line.number == number {
+            return line.text.as_str();
+        }
+    }
+    "this line can't be read\n"
 }
 
 /// Appends that more lines are at fault, where they are.

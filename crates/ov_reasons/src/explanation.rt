@@ -1,6 +1,5 @@
-ghost use Rattle.std.specs.Prelude.{◌≡◌, ◌++◌, map, OnOk, string_bytes};
-ghost use Rattle.ov_reasons.specs.Paragraphs.{paragraph, paragraphs};
-ghost use Rattle.ov_reasons.specs.Code.Said.{said_of};
+ghost use Rattle.std.specs.Prelude.{◌≡◌, ◌++◌, OnOk, string_bytes};
+ghost use Rattle.ov_reasons.specs.Paragraphs.{paragraph};
 
 use ov_ids::OutOfMemory;
 use std::fmt::Write;
@@ -18,15 +17,5 @@ pub(crate) fn push_line(text: &mut String, number: usize, said: &str) -> Result<
     ensures { OnOk result (string_bytes text.new ≡ string_bytes text.old ++ paragraph number said.now) }
 {
     write!(text, "line {number}: {said}")?;
-    Ok(())
-}
-
-/// Appends what is said of several lines.
-pub(crate) fn push_lines(text: &mut String, lines: &[Explanation]) -> Result<(), OutOfMemory>
-    ensures { OnOk result (string_bytes text.new ≡ string_bytes text.old ++ paragraphs (map said_of lines.now)) }
-{
-    for line in lines {
-        push_line(text, line.number, line.text.as_str())?;
-    }
     Ok(())
 }

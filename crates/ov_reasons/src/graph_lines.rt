@@ -1,45 +1,47 @@
 ghost use Rattle.std.specs.Prelude.{IfOk, string_bytes};
-ghost use Rattle.ov_reasons.specs.Paragraphs.{ExplainsLine};
+ghost use Rattle.ov_reasons.specs.Paragraphs.{ExplainsLines};
+ghost use Rattle.ov_run.specs.LinesAtFault.{unread_lines};
 
 use crate::complaint::unread_line;
-use crate::explained::Explained;
+use crate::explained::{explain, is_past, told_of};
+use crate::explanation::Explanation;
 use crate::file_line::{FileLine, Word, kept_lines, words_of};
 use crate::line_form::{GRAPH_FORMS, Says};
 use crate::numeral::number_of;
 use crate::recognising::form_of;
 use ov_ids::OutOfMemory;
+use ov_run::unread_graph_lines;
 use std::alloc::Global;
 
-/// Explains the lines of a graph file that can't be read, from the line of this number on.
-pub(crate) fn explain_graph_lines(
-    alloc: Global,
-    bytes: &[u8],
-    number: usize,
-) -> Result<String, OutOfMemory>
-    ensures { IfOk result (λ text. ExplainsLine number (string_bytes text)) }
+/// Explains the lines of a graph file that can't be read.
+pub(crate) fn explain_graph_lines(alloc: Global, bytes: &[u8]) -> Result<String, OutOfMemory>
+    ensures { IfOk result (λ text. ExplainsLines (unread_lines bytes.now) (string_bytes text)) }
 {
+    let numbers = unread_graph_lines(alloc, bytes)?;
     let lines = kept_lines(alloc, bytes)?;
-    explain_lines(alloc, &lines, number)
+    let said = said_of_lines(alloc, told_of(&numbers), &lines)?;
+    explain(alloc, &numbers, &said)
 }
 
-/// Explains those of these lines that can't be read, from the line of this number on.
-fn explain_lines(
+/// What is said of those of these lines that have one of these numbers, which ascend.
+fn said_of_lines(
     alloc: Global,
+    numbers: &[usize],
     lines: &[FileLine<'_>],
-    number: usize,
-) -> Result<String, OutOfMemory>
-    ensures { IfOk result (λ text. ExplainsLine number (string_bytes text)) }
-{
-    let mut explained = Explained::new(alloc, number);
+) -> Result<Vec<Explanation>, OutOfMemory> {
+    let mut said = Vec::new(alloc);
     for line in lines {
-        if explained.is_full() {
-            return explained.into_text(alloc);
+        if is_past(numbers, line.number) {
+            return Ok(said);
         }
-        if let Some(text) = wrong_in(alloc, line)? {
-            explained.add(line.number, text)?;
+        if numbers.contains(&line.number)
+            && let Some(text) = wrong_in(alloc, line)?
+        {
+            let number = line.number;
+            said.push(Explanation { number, text })?;
         }
     }
-    explained.into_text(alloc)
+    Ok(said)
 }
 
 /// What is wrong with a line, if it can't be read.

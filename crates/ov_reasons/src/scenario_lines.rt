@@ -1,52 +1,54 @@
 ghost use Rattle.std.specs.Prelude.{IfOk, string_bytes};
-ghost use Rattle.ov_reasons.specs.Paragraphs.{ExplainsLine};
+ghost use Rattle.ov_reasons.specs.Reasons.{TellsOfFaultLines};
 
 use crate::complaint::unread_line;
-use crate::explained::Explained;
+use crate::explained::{explain, is_past, told_of};
+use crate::explanation::Explanation;
 use crate::file_line::{FileLine, Word, kept_lines, words_of};
 use crate::line_form::{SCENARIO_FORMS, Says};
 use crate::marked_line::push_marked;
 use crate::parameters::out_of_limits;
 use crate::recognising::form_of;
 use ov_ids::OutOfMemory;
+use ov_run::scenario_fault_lines;
 use std::alloc::Global;
 use std::fmt::Write;
 
-/// Explains the lines of a scenario file that are at fault, from the line of this number on.
-pub(crate) fn explain_scenario(
-    alloc: Global,
-    bytes: &[u8],
-    number: usize,
-) -> Result<String, OutOfMemory>
-    ensures { IfOk result (λ text. ExplainsLine number (string_bytes text)) }
+/// Explains the lines of a scenario file that are at fault.
+pub(crate) fn explain_scenario(alloc: Global, bytes: &[u8]) -> Result<String, OutOfMemory>
+    ensures { IfOk result (λ text. TellsOfFaultLines bytes.now (string_bytes text)) }
 {
+    let numbers = scenario_fault_lines(alloc, bytes)?;
     let lines = kept_lines(alloc, bytes)?;
-    explain_lines(alloc, &lines, number)
+    let said = said_of_lines(alloc, told_of(&numbers), &lines)?;
+    explain(alloc, &numbers, &said)
 }
 
-/// Explains those of these lines that are at fault, from the line of this number on.
-fn explain_lines(
+/// What is said of those of these lines that have one of these numbers, which ascend.
+fn said_of_lines(
     alloc: Global,
+    numbers: &[usize],
     lines: &[FileLine<'_>],
-    number: usize,
-) -> Result<String, OutOfMemory>
-    ensures { IfOk result (λ text. ExplainsLine number (string_bytes text)) }
-{
-    let mut explained = Explained::new(alloc, number);
+) -> Result<Vec<Explanation>, OutOfMemory> {
+    let mut said = Vec::new(alloc);
     let mut head = Head::new();
     for (place, line) in lines.iter().enumerate() {
-        if explained.is_full() {
-            return explained.into_text(alloc);
+        if is_past(numbers, line.number) {
+            return Ok(said);
         }
-        if let Some(text) = head.judge(alloc, line, lines.get(place + 1))? {
-            explained.add(line.number, text)?;
+        let text = head.judge(alloc, line, lines.get(place + 1))?;
+        if numbers.contains(&line.number)
+            && let Some(text) = text
+        {
+            let number = line.number;
+            said.push(Explanation { number, text })?;
         }
     }
-    explained.into_text(alloc)
+    Ok(said)
 }
 
 /// What the lines so far say, as far as it matters to the lines behind them: the numbers of the first lines that are an
-/// event, parameters and a seed. A line that begins as an event is one, whether or not the rest of it can be read.
+/// event, parameters and a seed.
 #[derive(Clone, Copy)]
 struct Head {
     event: Option<usize>,
@@ -83,9 +85,6 @@ impl Head {
         words: &[Word<'_>],
         next: Option<&FileLine<'_>>,
     ) -> Result<Option<String>, OutOfMemory> {
-        if is_named_event(words) {
-            self.event = self.event.or(Some(line.number));
-        }
         let Some(form) = form_of(&SCENARIO_FORMS, words) else {
             return Ok(Some(unread_line(alloc, &SCENARIO_FORMS, line, words)?));
         };
@@ -93,7 +92,11 @@ impl Head {
             Says::Params => self.judge_params(alloc, line, words),
             Says::Seed => self.judge_seed(alloc, line),
             Says::Words => judge_random_words(alloc, line, next),
-            Says::Event | Says::Look | Says::Node | Says::Link => Ok(None),
+            Says::Event => {
+                self.event = self.event.or(Some(line.number));
+                Ok(None)
+            }
+            Says::Look | Says::Node | Says::Link => Ok(None),
         }
     }
 
@@ -131,15 +134,6 @@ impl Head {
             None => Ok(None),
         }
     }
-}
-
-/// Whether the first of these words is the name of an event.
-fn is_named_event(words: &[Word<'_>]) -> bool {
-    let Some(name) = words.first() else {
-        return false;
-    };
-    SCENARIO_FORMS.iter().any(|form| form.says() == Says::Event
-        && form.name().as_bytes() == name.bytes)
 }
 
 /// Says that a line comes too late, behind the event on the line of this number.

@@ -218,26 +218,12 @@ static SCENARIOS: [(&[u8], &[Told]); 29] = [
     ),
     (
         b"boot x\nseed 3\nparams 5 30 6 3 3 4 4\n",
-        &[
-            (
-                1,
-                "expected the id of a node; it is a number from 0 to 4294967295",
-                "boot x",
-                5,
-            ),
-            (
-                2,
-                "`seed` must stand before any event, and line 1 is one",
-                "seed 3",
-                0,
-            ),
-            (
-                3,
-                "`params` must stand before any event, and line 1 is one",
-                "params 5 30 6 3 3 4 4",
-                0,
-            ),
-        ],
+        &[(
+            1,
+            "expected the id of a node; it is a number from 0 to 4294967295",
+            "boot x",
+            5,
+        )],
     ),
     (
         b"words 1\n\nshow 1\nwords 2\n# none\n",

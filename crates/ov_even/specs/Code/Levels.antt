@@ -1,9 +1,13 @@
 -- The pieces as lists, in their order: of one level, and of all levels. Column j of a level has the pieces of that
 -- level whose last member is j. Up to the level a column consists of pairs; each later column is one fan.
-use Rattle.std.specs.Prelude.{◌≡◌, ℕ, zero, suc, ◌+◌, ◌-◌, ◌<◌, ◌≤◌, List, [], ◌∷◌, ◌++◌, if◌then◌else◌, nat_le}
+use Rattle.std.specs.Prelude.{◌≡◌, ℕ, zero, suc, ◌+◌, ◌-◌, ◌<◌, ◌≤◌, ◌^◌, List, [], ◌∷◌, ◌++◌, if◌then◌else◌, nat_le}
 use Rattle.ov_graph.specs.Links.{most_nodes}
 use Rattle.ov_fans.specs.declared.piece.Piece.{Piece}
 use Rattle.ov_fans.specs.declared.piece.Piece.TheVariants.{Pair, Fan}
+
+-- what the places of members in a group are below: each fits 16 bits
+abbrev pub place_limit : ℕ
+place_limit = 2 ^ 16
 
 -- this many pairs of j: with i and the next members
 unfoldable pub pairs_from : ℕ → ℕ → ℕ → ℕ → List Piece

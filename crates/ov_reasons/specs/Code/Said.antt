@@ -1,7 +1,8 @@
--- What the parts of an explanation say.
-use Rattle.std.specs.Prelude.{ℕ, List, string_bytes}
-use Rattle.ov_reasons.specs.declared.explanation.Explanation.{Explanation}
+-- How an explanation is put together.
+use Rattle.std.specs.Prelude.{◌≡◌, ℕ, List, ◌++◌, map}
+use Rattle.ov_reasons.specs.Paragraphs.{paragraphs}
 
--- what is said of a line, and its number
-abbrev pub said_of : Explanation → ℕ × List ℕ
-said_of e = (e.number, string_bytes e.text)
+-- what is said of the lines of these numbers is appended to a text
+abbrev pub AddsParagraphs : List ℕ → List ℕ → List ℕ → Type 0
+AddsParagraphs numbers before after =
+    (told : List (ℕ × List ℕ)) × (map (λ line. line.0) told ≡ numbers) × (after ≡ before ++ paragraphs told)
