@@ -2,3 +2,4 @@
 pub mod Ending
 pub mod Outcomes
 pub mod Running
+pub mod WholeRuns

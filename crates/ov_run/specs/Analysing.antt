@@ -6,6 +6,8 @@ use Rattle.ov_cert.specs.Valid.{IsValidForGroup}
 use Rattle.ov_cert.specs.declared.cert.Cert.{Cert}
 use Rattle.ov_io.specs.Device.{AppendsPrefixOf}
 use Rattle.ov_even.specs.Answer.{IsAnswer}
+use Rattle.ov_even.specs.Faults as even
+use Rattle.ov_even.specs.declared.fault.AnalyseFault.TheVariants.{NoNodes, BadGroup}
 use Rattle.ov_run.specs.GraphFiles.{IsGraphFile}
 use Rattle.ov_run.specs.Printed.{report_line, file_text, refused_line}
 use Rattle.ov_run.specs.Subjects.{members_of}
@@ -19,8 +21,8 @@ answer_text c g q true = report_line 0 c g q ++ file_text c g q 0
 -- of the analysis is printed, a certificate that is valid for the group
 abbrev pub PrintsAnswer : LinkGraph → List ℕ → Bool → List ℕ → Type 0
 PrintsAnswer g q certificate text =
-    ((¬ HasNode g) × (text ≡ refused_line 30))
-    ⊎ (HasNode g × (¬ IsGroup g q) × (text ≡ refused_line 34))
+    ((¬ HasNode g) × (text ≡ refused_line (even.number_of NoNodes)))
+    ⊎ (HasNode g × (¬ IsGroup g q) × (text ≡ refused_line (even.number_of BadGroup)))
     ⊎ ((c : Cert) × IsAnswer g q c × IsValidForGroup g q c × (text ≡ answer_text c g q certificate))
 
 -- the bytes of a file say a graph, and this text is printed of its analysis

@@ -9,6 +9,7 @@ pub mod Lines
 pub mod LinesAtFault
 pub mod Printed
 pub mod RunLines
+pub mod Run
 pub mod Running
 pub mod Scenarios
 pub mod Statements

@@ -11,10 +11,11 @@ use Rattle.ov_net.specs.Refusals as net
 use Rattle.ov_net.specs.declared.journal_entry.Entry.{Entry}
 use Rattle.ov_net.specs.declared.event.Event.{Event}
 use Rattle.ov_net.specs.declared.fault.NetFault.{NetFault}
+use Rattle.ov_net.specs.declared.fault.NetFault.TheVariants.{UnknownNode, CrashedNode}
 use Rattle.ov_snap.specs.CoreState.{CoreState, opening_core}
 use Rattle.ov_snap.specs.ReportState.{ReportState}
 use Rattle.ov_snap.specs.Refusals as core
-use Rattle.ov_snap.specs.declared.fault.CoreFault.TheVariants.{OutOfMemory}
+use Rattle.ov_snap.specs.declared.fault.CoreFault.TheVariants.{NoSuchMoment, OutOfMemory}
 use Rattle.ov_ids.specs.FaultOrder.{IsRefusedBy}
 use Rattle.ov_snap.specs.Run.{Happened}
 use Rattle.ov_snap.specs.declared.fault.CoreFault.{CoreFault}
@@ -44,12 +45,12 @@ PrintsReportLine b subject u text =
     ⊎ ((fault : CoreFault) × IsRefusedBy OutOfMemory (AnalysisJudged b subject) fault × (u ≡ b)
     × (text ≡ refused_line (core.number_of fault)))
 
--- the views of a node that lives; one that was never born is refused with 10, and one that crashed with 12
+-- the views of a node that lives; one that was never born is refused as unknown (10), one that crashed as crashed (12)
 abbrev pub PrintsNode : Net → ℕ → List ℕ → Type 0
 PrintsNode w id text =
     ((p : PeerState) × LivesAs w id p × (text ≡ node_line id p))
-    ⊎ ((¬ net.IsBorn w id) × (text ≡ refused_line 10))
-    ⊎ (IsGone w id × (text ≡ refused_line 12))
+    ⊎ ((¬ net.IsBorn w id) × (text ≡ refused_line (net.number_of UnknownNode)))
+    ⊎ (IsGone w id × (text ≡ refused_line (net.number_of CrashedNode)))
 
 -- packets in order, each by the bytes that spell its message; the first of them stands at this place
 abbrev pub PrintsPackets : ℕ → List (ℕ × Message) → List ℕ → Type 0
@@ -58,13 +59,13 @@ PrintsPackets place (packet ∷ packets) text =
     (bytes : List ℕ) × (others : List ℕ) × Spelling packet.1 bytes × PrintsPackets (place + 1) packets others
     × (text ≡ packet_line place packet.0 bytes ++ others)
 
--- the certificate file of the report that is filed for this subject, or the refusal 99 where making the file is out of
--- memory; without a report it is refused with 50
+-- the certificate file of the report that is filed for this subject, or the refusal of out of memory (99) where the
+-- file can't be made; without a report the refusal is that of a moment without a snapshot (50)
 abbrev pub PrintsCertificate : CoreState → Subject → List ℕ → Type 0
 PrintsCertificate b subject text =
     ((r : ReportState) × IsReportOf b subject r
-    × ((text ≡ file_text r.cert r.graph r.members r.moment) ⊎ (text ≡ refused_line 99)))
-    ⊎ (((r : ReportState) → ¬ IsReportOf b subject r) × (text ≡ refused_line 50))
+    × ((text ≡ file_text r.cert r.graph r.members r.moment) ⊎ (text ≡ refused_line (core.number_of OutOfMemory))))
+    ⊎ (((r : ReportState) → ¬ IsReportOf b subject r) × (text ≡ refused_line (core.number_of NoSuchMoment)))
 
 -- what is looked at
 abbrev pub PrintsLook : CoreState → Look → List ℕ → Type 0

@@ -2,15 +2,14 @@
 -- core after.
 use Rattle.std.specs.Prelude.{◌≡◌, ℕ, List, Option, Some, None}
 use Rattle.ov_ids.specs.FaultOrder.{Step, Passed}
-use Rattle.ov_graph.specs.Links.{LinkGraph, IsGroup}
-use Rattle.ov_net.specs.Journal.{AreLinks, Live}
+use Rattle.ov_graph.specs.Links.{LinkGraph}
 use Rattle.ov_even.specs.Answer.{IsAnswer}
 use Rattle.ov_snap.specs.CoreState.{CoreState, HasReport}
 use Rattle.ov_snap.specs.ReportState.{ReportState}
 use Rattle.ov_snap.specs.Filing.{WasFiled}
-use Rattle.ov_snap.specs.Snapshots.{IsMoment}
+use Rattle.ov_snap.specs.Refusals.{SomebodyLivedThen, GroupThen}
 use Rattle.ov_snap.specs.declared.fault.CoreFault.{CoreFault}
-use Rattle.ov_snap.specs.declared.fault.CoreFault.TheVariants.{NoSuchMoment, NoNodes, BadGroup, AlreadyFiled}
+use Rattle.ov_snap.specs.declared.fault.CoreFault.TheVariants.{AlreadyFiled}
 use Rattle.ov_run.specs.declared.scenario.Subject.{Subject}
 
 -- the group that is asked for, or all nodes where none is
@@ -22,18 +21,19 @@ members_of (Some ids) g = ids
 abbrev pub IsReportOf : CoreState → Subject → ReportState → Type 0
 IsReportOf b s r = HasReport b s.moment (members_of s.group r.graph) r
 
--- the group that is asked for is one of the graph of the moment
-abbrev pub IsGroupThen : CoreState → Subject → Type 0
-IsGroupThen b s = (g : LinkGraph) × AreLinks b.world.journal s.moment g × IsGroup g (members_of s.group g)
+-- a report is filed for the subject
+abbrev pub IsReported : CoreState → Subject → Type 0
+IsReported b s = (r : ReportState) × IsReportOf b s r
+
+-- m is a moment, somebody lived at it, the ids are a group of its nodes where a group is asked for, and then
+abbrev pub SubjectThen : CoreState → ℕ → Option (List ℕ) → (Option CoreFault → Type 0) → Option CoreFault → Type 0
+SubjectThen b m None After answer = SomebodyLivedThen b m After answer
+SubjectThen b m (Some ids) After answer = GroupThen b m ids After answer
 
 -- the first applicable refusal of an analysis in a scenario, in this order: its moment is no snapshot's, nobody lived
--- at that moment, the ids are no group of those who did, a report is filed for the moment and the group
+-- at that moment, the ids that are asked for are no group of those who did, a report is filed for the subject
 abbrev pub AnalysisJudged : CoreState → Subject → Option CoreFault → Type 0
-AnalysisJudged b s answer =
-    Step (IsMoment b.world.journal s.moment) NoSuchMoment
-    (Step ((a : ℕ) × Live b.world.journal s.moment a) NoNodes
-    (Step (IsGroupThen b s) BadGroup
-    (Step (¬ ((r : ReportState) × IsReportOf b s r)) AlreadyFiled Passed))) answer
+AnalysisJudged b s answer = SubjectThen b s.moment s.group (Step (¬ IsReported b s) AlreadyFiled Passed) answer
 
 -- the subject was analysed: no refusal applied, and a report of it was filed, with the answer of an analysis of the
 -- links of its moment for its group

@@ -5,8 +5,8 @@ ghost use Rattle.ov_run.specs.Code.Spaced.{first_number};
 ghost use Rattle.ov_run.specs.Statements.{workers_named};
 
 use crate::id_list_reading::read_ids;
+use crate::line_and_word_splitting::split_word;
 use crate::numeral::{read_number, read_short_number};
-use crate::splitting::split_word;
 use crate::workers::{Workers, read_workers};
 use ov_ids::{NodeId, OutOfMemory};
 use std::alloc::Global;

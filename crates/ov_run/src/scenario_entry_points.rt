@@ -1,8 +1,6 @@
-ghost use Rattle.std.specs.Prelude.{◌≡◌, ◌≢◌, ◌⊎◌, ◌+◌, ◌<◌, Err, IfOk, IfErr, OnOk, IsErrOf};
-ghost use Rattle.ov_io.specs.Device.{most_faults, ReaderFailed};
-ghost use Rattle.ov_run.specs.Ending.{Begins, Ends};
-ghost use Rattle.ov_run.specs.Faults.{read_failures, write_failures, IsOfReading, IsRunFault};
-ghost use Rattle.ov_run.specs.Running.{PrintsScenario};
+ghost use Rattle.std.specs.Prelude.{◌<◌};
+ghost use Rattle.ov_io.specs.Device.{most_faults};
+ghost use Rattle.ov_run.specs.Run.{IsRun};
 
 use crate::line_running::run_lines;
 use crate::run_fault::RunFault;
@@ -32,19 +30,7 @@ pub fn run<T: Threads + Sync, R: Read, W: Write>(
 ) -> Result<u8, RunFault>
     requires reads { source.old.faults < most_faults }
     requires writes { sink.old.faults < most_faults }
-    ensures status { IfOk result (λ status. status ≡ 0) }
-    ensures prints { OnOk result
-        (PrintsScenario (R.remaining source.old.reader) (W.contents sink.old.writer) (W.contents sink.new.writer)) }
-    ensures begun { (sink.new ≡ sink.old)
-        ⊎ Begins (R.remaining source.old.reader) (W.contents sink.old.writer) (W.contents sink.new.writer) }
-    ensures source { source.new.faults ≡ source.old.faults + read_failures result }
-    ensures failed { IsErrOf result RunFault.Read → ReaderFailed source.old source.new }
-    ensures not_failed { result ≢ Err RunFault.Read → source.new.failures ≡ source.old.failures }
-    ensures sink { sink.new.faults ≡ sink.old.faults + write_failures result }
-    ensures fault { IfErr result (IsRunFault (R.remaining source.old.reader)) }
-    ensures unread { IfErr result (λ f. IsOfReading f → sink.new ≡ sink.old) }
-    ensures memory { IsErrOf result RunFault.OutOfMemory → (sink.new ≡ sink.old)
-        ⊎ Ends (R.remaining source.old.reader) (W.contents sink.old.writer) (W.contents sink.new.writer) }
+    ensures run { IsRun R.remaining W.contents source.old sink.old source.new sink.new result }
 {
     run_watched(rt, alloc, source, sink, &mut Unwatched)
 }
@@ -61,19 +47,7 @@ pub fn run_watched<T: Threads + Sync, R: Read, W: Write, V: RunWatcher>(
 ) -> Result<u8, RunFault>
     requires reads { source.old.faults < most_faults }
     requires writes { sink.old.faults < most_faults }
-    ensures status { IfOk result (λ status. status ≡ 0) }
-    ensures prints { OnOk result
-        (PrintsScenario (R.remaining source.old.reader) (W.contents sink.old.writer) (W.contents sink.new.writer)) }
-    ensures begun { (sink.new ≡ sink.old)
-        ⊎ Begins (R.remaining source.old.reader) (W.contents sink.old.writer) (W.contents sink.new.writer) }
-    ensures source { source.new.faults ≡ source.old.faults + read_failures result }
-    ensures failed { IsErrOf result RunFault.Read → ReaderFailed source.old source.new }
-    ensures not_failed { result ≢ Err RunFault.Read → source.new.failures ≡ source.old.failures }
-    ensures sink { sink.new.faults ≡ sink.old.faults + write_failures result }
-    ensures fault { IfErr result (IsRunFault (R.remaining source.old.reader)) }
-    ensures unread { IfErr result (λ f. IsOfReading f → sink.new ≡ sink.old) }
-    ensures memory { IsErrOf result RunFault.OutOfMemory → (sink.new ≡ sink.old)
-        ⊎ Ends (R.remaining source.old.reader) (W.contents sink.old.writer) (W.contents sink.new.writer) }
+    ensures run { IsRun R.remaining W.contents source.old sink.old source.new sink.new result }
 {
     let bytes = source.read_all(alloc)?;
     let scenario = read_scenario(alloc, &bytes)?;

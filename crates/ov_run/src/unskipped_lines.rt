@@ -2,8 +2,8 @@ ghost use Rattle.std.specs.Prelude.{◌≡◌, ◌∷◌, [], ◌+◌, ◌^◌, 
 ghost use Rattle.ov_run.specs.Lines.{is_skipped, kept_lines, long_bits};
 ghost use Rattle.ov_run.specs.Code.Kept.{lines_left};
 
+use crate::line_and_word_splitting::split_line;
 use crate::line_cursor::LineCursor;
-use crate::splitting::split_line;
 
 /// A line of a file that is not skipped, without its line feed and one carriage return before that.
 #[derive(Clone, Copy)]

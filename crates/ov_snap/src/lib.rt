@@ -3,19 +3,19 @@
 #![tactic(auto)]
 
 mod analysis_input;
+mod core_steps;
 mod fault;
 mod report;
 mod reports;
 mod snapshot;
-mod step_sequences;
 mod theorems;
 mod worker_desks;
 mod world_and_reports;
 
 pub use analysis_input::Job;
+pub use core_steps::{CoreStep, run_core};
 pub use fault::CoreFault;
 pub use report::Report;
 pub use snapshot::Snapshot;
-pub use step_sequences::{CoreStep, run_core};
 pub use theorems::{every_report_is_so, every_report_stays};
 pub use world_and_reports::Core;

@@ -1,5 +1,5 @@
 -- What is printed up to some point, and what went to a writer of that.
-use Rattle.std.proofs.Common.{◌⊎◌, inl, inr, ℕ, Option, List, [], ◌∷◌, ◌++◌, append_assoc, ap, sym, ◌∙◌, refl}
+use Rattle.std.proofs.Common.{◌≡◌, ◌⊎◌, inl, inr, ℕ, Option, List, [], ◌∷◌, ◌++◌, append_assoc, ap, sym, ◌∙◌, refl}
 use Rattle.std.proofs.Common.{Result, Ok, Err, OnOk, IsErrAnd, IsErrOf, subst}
 use Rattle.std.proofs.KnownBytes.{Appends-nil, Appends-trans}
 use Rattle.std.proofs.lemmas.List.{append-nil}
@@ -94,3 +94,8 @@ wrote IsText a b text (Err e) is appends = tt
 -- the fault of a failure is of the kind that all its faults are
 pub err_of : {T E : Type 0} (Is : E → Type 0) (r : Result T E) (f : E) → IsErrAnd r Is → IsErrOf r f → Is f
 err_of Is r f all is = subst (λ q. IsErrAnd q Is) is all
+
+-- so it is this failure
+pub failed_by : {T E : Type 0} (r : Result T E) (f : E) → IsErrAnd r (λ e. e ≡ f) → r ≡ Err f
+failed_by (Ok t) f is = absurd is
+failed_by (Err e) f is = ap Err is

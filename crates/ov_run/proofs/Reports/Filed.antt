@@ -1,7 +1,8 @@
 -- Analyses of subjects: why they are refused, and that the report which they bring may be filed.
-use Rattle.std.proofs.Common.{◌≡◌, ◌∙◌, ℕ, ◌<◌, List, [], ◌∷◌, length, Option, Some, None, Result, Ok, Err, IfOk}
+use Rattle.std.proofs.Common.{◌≡◌, ◌∙◌, ℕ, ◌<◌, List, [], ◌∷◌, length, Option, Some, None, Result, Ok, Err, IfOk, IfErr}
 use Rattle.std.proofs.Common.{inl, inr, refl, sym, ap, subst, arith}
 use Rattle.std.proofs.lemmas.Option.{none-some}
+use Rattle.std.proofs.lemmas.Result.{IfOk-weaker, IfErr-weaker}
 use Rattle.ov_ids.specs.Members.{Has}
 use Rattle.ov_snap.specs.declared.fault.CoreFault.TheVariants.{OutOfMemory}
 use Rattle.ov_ids.specs.FaultOrder.{IsRefusedBy, Passed, Step}
@@ -10,17 +11,17 @@ use Rattle.ov_graph.specs.Links.{LinkGraph, IsGroup}
 use Rattle.ov_cert.specs.Valid.{IsValidForGroup}
 use Rattle.ov_cert.specs.declared.cert.Cert.{Cert}
 use Rattle.ov_cert.specs.declared.cert.Cert.TheVariants.{Linked as AllLinked, Split as SplitBy}
-use Rattle.ov_even.proofs.AnalysisSteps.Assembling.{whole_group}
 use Rattle.ov_net.specs.Journal.{AreLinks, Live}
 use Rattle.ov_net.proofs.Links.OneGraph.{links_one}
 use Rattle.ov_snap.specs.CoreState.{CoreState, HasReport, IsSound}
 use Rattle.ov_snap.specs.ReportState.{ReportState, IsSo}
-use Rattle.ov_snap.specs.Refusals.{BeginJudged, FilingJudged, IsFiled}
+use Rattle.ov_snap.specs.Refusals.{FilingJudged, IsFiled}
 use Rattle.ov_snap.specs.Snapshots.{IsMoment}
+use Rattle.ov_snap.proofs.Refusing.{lived_then, group_then}
 use Rattle.ov_snap.specs.declared.fault.CoreFault.{CoreFault}
 use Rattle.ov_snap.specs.declared.fault.CoreFault.TheVariants.{NoSuchMoment, NoNodes, BadGroup, OtherGraph}
 use Rattle.ov_snap.specs.declared.fault.CoreFault.TheVariants.{AlreadyFiled}
-use Rattle.ov_run.specs.Subjects.{members_of, IsReportOf, IsGroupThen, AnalysisJudged}
+use Rattle.ov_run.specs.Subjects.{members_of, IsReportOf, IsReported, SubjectThen, AnalysisJudged}
 use Rattle.ov_run.specs.declared.scenario.Subject.{Subject}
 
 -- somebody lived at this moment
@@ -31,50 +32,72 @@ Lived b m = (a : ℕ) × Live b.world.journal m a
 abbrev pub IsFree : CoreState → Subject → Type 0
 IsFree b s = (r : ReportState) → ¬ IsReportOf b s r
 
--- ---- judgements
+-- ---- judgements that begin with a subject
 
--- no refusal stands
-passes : (b : CoreState) (s : Subject) → IsMoment b.world.journal s.moment → Lived b s.moment → IsGroupThen b s
+-- what passes the whole judgement has a moment, and passes what stands behind
+subject_then : (b : CoreState) (m : ℕ) (group : Option (List ℕ)) (After : Option CoreFault → Type 0)
+    → SubjectThen b m group After None
+    → IsMoment b.world.journal m × After None
+subject_then b m None After h = let parts = lived_then b m After h in (parts.0, parts.2)
+subject_then b m (Some ids) After h = let parts = group_then b m ids After h in (parts.0, parts.2)
+
+-- where the beginning passes, what stands behind decides
+begun_then : (b : CoreState) (m : ℕ) (group : Option (List ℕ)) (After : Option CoreFault → Type 0)
+    → SubjectThen b m group Passed None → After None
+    → SubjectThen b m group After None
+begun_then b m None After h later = let parts = lived_then b m Passed h in inl (parts.0, inl (parts.1, later))
+begun_then b m (Some ids) After (inl (moment, inl (lived, inl (group, none)))) later =
+    inl (moment, inl (lived, inl (group, later)))
+begun_then b m (Some ids) After (inl (moment, inl (lived, inr (none, is)))) later = absurd (none-some BadGroup is)
+begun_then b m (Some ids) After (inl (moment, inr (none, is))) later = absurd (none-some NoNodes is)
+begun_then b m (Some ids) After (inr (none, is)) later = absurd (none-some NoSuchMoment is)
+
+-- where it fails, it decides
+failed_then : (b : CoreState) (m : ℕ) (group : Option (List ℕ)) (After : Option CoreFault → Type 0) (f : CoreFault)
+    → SubjectThen b m group Passed (Some f)
+    → SubjectThen b m group After (Some f)
+failed_then b m None After f (inr h) = inr h
+failed_then b m None After f (inl (moment, inr h)) = inl (moment, inr h)
+failed_then b m None After f (inl (moment, inl (lived, none))) = absurd (none-some f (sym none))
+failed_then b m (Some ids) After f (inr h) = inr h
+failed_then b m (Some ids) After f (inl (moment, inr h)) = inl (moment, inr h)
+failed_then b m (Some ids) After f (inl (moment, inl (lived, inr h))) = inl (moment, inl (lived, inr h))
+failed_then b m (Some ids) After f (inl (moment, inl (lived, inl (group, none)))) = absurd (none-some f (sym none))
+
+-- ---- an analysis begins, of whose subject no report is filed
+
+-- how the analysis of a subject begins, of all nodes or of a group
+abbrev pub BeginningJudged : CoreState → Subject → Option CoreFault → Type 0
+BeginningJudged b s answer = SubjectThen b s.moment s.group Passed answer
+
+begins : (b : CoreState) (s : Subject) → IsFree b s → BeginningJudged b s None → AnalysisJudged b s None
+begins b s free judged =
+    begun_then b s.moment s.group (Step (¬ IsReported b s) AlreadyFiled Passed) judged
+    (inl ((λ k. free k.0 k.1), refl))
+
+begins_not : (b : CoreState) (s : Subject) (f : CoreFault) → IsFree b s → IsRefusedBy OutOfMemory (BeginningJudged b s) f
+    → IsRefusedBy OutOfMemory (AnalysisJudged b s) f
+begins_not b s f free (inl fails) =
+    inl (failed_then b s.moment s.group (Step (¬ IsReported b s) AlreadyFiled Passed) f fails)
+begins_not b s f free (inr memory) = inr (memory.0, begins b s free memory.1)
+
+-- the same of a call that begins it, for the group that is asked for
+pub begun : {T : Type 0} (b : CoreState) (s : Subject) (group : Option (List ℕ)) (made : Result T CoreFault) → IsFree b s
+    → s.group ≡ group → IfOk made (λ t. SubjectThen b s.moment group Passed None)
+    → IfOk made (λ t. AnalysisJudged b s None)
+begun b s group made free is judged =
+    IfOk-weaker made (λ t. SubjectThen b s.moment group Passed None) (λ t. AnalysisJudged b s None)
+    (λ t h. begins b s free (subst (λ g. SubjectThen b s.moment g Passed None) (sym is) h)) judged
+
+pub not_begun : {T : Type 0} (b : CoreState) (s : Subject) (group : Option (List ℕ)) (made : Result T CoreFault)
     → IsFree b s
-    → AnalysisJudged b s None
-passes b s moment lived group free = inl (moment, inl (lived, inl (group, inl ((λ k. free k.0 k.1), refl))))
-
--- all who lived at a moment are a group
-some_member : (ns : List ℕ) (a : ℕ) → Has ns a → 0 < length ns
-some_member [] a h = absurd h
-some_member (n ∷ ns) a h = omega arith
-
-all_then : (b : CoreState) (s : Subject) → IsSound b → s.group ≡ None → IsMoment b.world.journal s.moment
-    → Lived b s.moment
-    → IsGroupThen b s
-all_then b s sound is moment lived =
-    let kept = sound.snapshots.every s.moment moment in
-    let g = kept.0.graph in
-    let links = subst (λ m. AreLinks b.world.journal m g) kept.2 (sound.snapshots.links kept.0 kept.1) in
-    let some = some_member g.nodes lived.0 ((links.nodes lived.0).1 lived.1) in
-    subst (λ (o : Option (List ℕ)). (h : LinkGraph) × AreLinks b.world.journal s.moment h × IsGroup h (members_of o h))
-    (sym is) (g, links, whole_group g links.graph some)
-
--- ---- an analysis of all who lived begins, of which no report is filed
-
-pub all_begins : (b : CoreState) (s : Subject) → IsSound b → s.group ≡ None → IsFree b s → BeginJudged b s.moment None
-    → AnalysisJudged b s None
-all_begins b s sound is free judged =
-    let first = step_none (IsMoment b.world.journal s.moment) NoSuchMoment (Step (Lived b s.moment) NoNodes Passed)
-    judged in
-    let lived = (step_none (Lived b s.moment) NoNodes Passed first.1).0 in
-    passes b s first.0 lived (all_then b s sound is first.0 lived) free
-
-all_fails : (b : CoreState) (s : Subject) (f : CoreFault) → BeginJudged b s.moment (Some f)
-    → AnalysisJudged b s (Some f)
-all_fails b s f (inr h) = inr h
-all_fails b s f (inl (moment, inr h)) = inl (moment, inr h)
-all_fails b s f (inl (moment, inl (lived, none))) = absurd (none-some f (sym none))
-
-pub all_refused : (b : CoreState) (s : Subject) (f : CoreFault) → IsSound b → s.group ≡ None → IsFree b s
-    → IsRefusedBy OutOfMemory (BeginJudged b s.moment) f → IsRefusedBy OutOfMemory (AnalysisJudged b s) f
-all_refused b s f sound is free (inl fails) = inl (all_fails b s f fails)
-all_refused b s f sound is free (inr memory) = inr (memory.0, all_begins b s sound is free memory.1)
+    → s.group ≡ group → IfErr made (IsRefusedBy OutOfMemory (SubjectThen b s.moment group Passed))
+    → IfErr made (IsRefusedBy OutOfMemory (AnalysisJudged b s))
+not_begun b s group made free is refused =
+    IfErr-weaker made (IsRefusedBy OutOfMemory (SubjectThen b s.moment group Passed))
+    (IsRefusedBy OutOfMemory (AnalysisJudged b s))
+    (λ f h. begins_not b s f free (subst (λ g. IsRefusedBy OutOfMemory (SubjectThen b s.moment g Passed) f) (sym is) h))
+    refused
 
 -- ---- a report of the subject is filed
 
@@ -88,18 +111,32 @@ first_of (a ∷ q) some = (a, inl refl)
 
 pub filed_before : (b : CoreState) (s : Subject) (r : ReportState) → IsReportOf b s r → IsSo b.world.journal r
     → AnalysisJudged b s (Some AlreadyFiled)
-filed_before b s r filed exact =
-    let group = valid_group r.graph r.members r.cert exact.verdict in
-    let links = subst (λ m. AreLinks b.world.journal m r.graph) filed.moment exact.links in
-    let member = first_of r.members group.some_member in
-    let own = subst (λ q. IsGroup r.graph q) filed.members group in
-    inl (
-      subst (IsMoment b.world.journal) filed.moment exact.moment,
-      inl (
-        (member.0, (links.nodes member.0).0 (group.nodes member.0 member.1)),
-        inl ((r.graph, links, own), inr ((λ free. free (r, filed)), refl)),
-      ),
-    )
+filed_before b s r filed exact = by s.group filed.members where
+  group : IsGroup r.graph r.members
+  group = valid_group r.graph r.members r.cert exact.verdict
+
+  links : AreLinks b.world.journal s.moment r.graph
+  links = subst (λ m. AreLinks b.world.journal m r.graph) filed.moment exact.links
+
+  moment : IsMoment b.world.journal s.moment
+  moment = subst (IsMoment b.world.journal) filed.moment exact.moment
+
+  lived : Lived b s.moment
+  lived =
+      let member = first_of r.members group.some_member in
+      (member.0, (links.nodes member.0).0 (group.nodes member.0 member.1))
+
+  Again : Option CoreFault → Type 0
+  Again = Step (¬ IsReported b s) AlreadyFiled Passed
+
+  again : Again (Some AlreadyFiled)
+  again = inr ((λ free. free (r, filed)), refl)
+
+  by : (asked : Option (List ℕ)) → r.members ≡ members_of asked r.graph
+      → SubjectThen b s.moment asked Again (Some AlreadyFiled)
+  by None members = inl (moment, inl (lived, again))
+  by (Some ids) members =
+      inl (moment, inl (lived, inl ((r.graph, links, subst (IsGroup r.graph) members group), again)))
 
 pub filed_refused : (b : CoreState) (s : Subject) (r : ReportState) → IsReportOf b s r → IsSo b.world.journal r
     → IsRefusedBy OutOfMemory (AnalysisJudged b s) AlreadyFiled
@@ -109,14 +146,9 @@ filed_refused b s r filed exact = inl (filed_before b s r filed exact)
 
 judged_parts : (b : CoreState) (s : Subject) → AnalysisJudged b s None → IsMoment b.world.journal s.moment × IsFree b s
 judged_parts b s judged =
-    let Free : Type 0 = ¬ ((r : ReportState) × IsReportOf b s r) in
-    let first = step_none (IsMoment b.world.journal s.moment) NoSuchMoment
-    (Step (Lived b s.moment) NoNodes (Step (IsGroupThen b s) BadGroup (Step Free AlreadyFiled Passed))) judged in
-    let second = step_none (Lived b s.moment) NoNodes
-    (Step (IsGroupThen b s) BadGroup (Step Free AlreadyFiled Passed)) first.1 in
-    let third = step_none (IsGroupThen b s) BadGroup (Step Free AlreadyFiled Passed) second.1 in
-    let last = (step_none Free AlreadyFiled Passed third.1).0 in
-    (first.0, λ r k. last (r, k))
+    let parts = subject_then b s.moment s.group (Step (¬ IsReported b s) AlreadyFiled Passed) judged in
+    let last = (step_none (¬ IsReported b s) AlreadyFiled Passed parts.1).0 in
+    (parts.0, λ r k. last (r, k))
 
 pub may_be_filed : (b : CoreState) (s : Subject) (r : ReportState) → IsSound b → AnalysisJudged b s None
     → r.moment ≡ s.moment

@@ -1,16 +1,23 @@
--- Where an analysis of all who lived does not begin, it is refused.
-use Rattle.std.proofs.lemmas.Result.{IfErr-weaker}
-use Rattle.ov_snap.specs.declared.fault.CoreFault.TheVariants.{OutOfMemory}
-use Rattle.ov_ids.specs.FaultOrder.{IsRefusedBy}
-use Rattle.ov_snap.specs.Refusals.{BeginJudged}
-use Rattle.ov_run.specs.Subjects.{AnalysisJudged}
-use Rattle.ov_run.proofs.Reports.Filed.{all_refused}
+-- The analysis of a subject begins, or is refused, as that of all nodes of the moment or of the group.
+use Rattle.std.proofs.Common.{◌∙◌, None, Some, ap, sym}
+use Rattle.ov_run.proofs.Reports.Filed.{begun, not_begun}
 use Rattle.ov_run.proofs.analysis_filing.begin.Goals as goal
+
+pub returns-in-None-clause-judged : goal.returns-in-None-clause-judged
+returns-in-None-clause-judged c =
+    begun c.args.core.now c.args.subject.now None c.begin.result c.requires.free c.in-None.is c.begin.ensures.judged
 
 pub returns-in-None-clause-refused : goal.returns-in-None-clause-refused
 returns-in-None-clause-refused c =
-    let b = c.args.core.now in
-    let s = c.args.subject.now in
-    IfErr-weaker c.begin.result (IsRefusedBy OutOfMemory (BeginJudged b s.moment))
-    (IsRefusedBy OutOfMemory (AnalysisJudged b s))
-    (λ f. all_refused b s f c.world.ensures.sound c.in-None.is c.requires.free) c.begin.ensures.refused
+    not_begun c.args.core.now c.args.subject.now None c.begin.result c.requires.free c.in-None.is
+    c.begin.ensures.refused
+
+pub returns-in-Some-clause-judged : goal.returns-in-Some-clause-judged
+returns-in-Some-clause-judged c =
+    begun c.args.core.now c.args.subject.now (Some c.as_slice.result.now) c.begin_group.result c.requires.free
+    (c.in-Some.is ∙ ap Some (sym c.as_slice.ensures)) c.begin_group.ensures.judged
+
+pub returns-in-Some-clause-refused : goal.returns-in-Some-clause-refused
+returns-in-Some-clause-refused c =
+    not_begun c.args.core.now c.args.subject.now (Some c.as_slice.result.now) c.begin_group.result c.requires.free
+    (c.in-Some.is ∙ ap Some (sym c.as_slice.ensures)) c.begin_group.ensures.refused

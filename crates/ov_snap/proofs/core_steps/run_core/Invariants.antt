@@ -1,7 +1,7 @@
 -- the steps so far were taken
 use Rattle.std.proofs.Common.{◌≡◌, ◌++◌}
 use Rattle.ov_snap.specs.Run.{CoreRun}
-use Rattle.ov_snap.proofs.step_sequences.run_core.Given as goal
+use Rattle.ov_snap.proofs.core_steps.run_core.Given as goal
 
 abbrev pub invariant-loop-step : goal.invariant-loop-step
 invariant-loop-step l = record {

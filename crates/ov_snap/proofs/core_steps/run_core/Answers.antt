@@ -1,7 +1,7 @@
 use Rattle.std.proofs.Common.{◌++◌, ◌∷◌, [], ◌∙◌, sym, ap, append_assoc}
 use Rattle.ov_snap.specs.CoreState.{opening_core}
 use Rattle.ov_snap.proofs.Running.{every_report_is_so, on_err, run_more}
-use Rattle.ov_snap.proofs.step_sequences.run_core.Goals as goal
+use Rattle.ov_snap.proofs.core_steps.run_core.Goals as goal
 
 pub loop-step-preserved : goal.loop-step-preserved
 loop-step-preserved c = record {

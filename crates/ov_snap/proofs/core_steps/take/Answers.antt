@@ -3,7 +3,7 @@ use Rattle.ov_desk.specs.Turns.{ClaimsNext, LooksNext, SettlesNext}
 use Rattle.ov_snap.specs.CoreState.{CoreState}
 use Rattle.ov_snap.specs.Refusals.{DeskFilingJudged, FilingJudged, GroupOpeningJudged, OpeningJudged, TurnJudged}
 use Rattle.ov_snap.proofs.Running.{done, taken, taken_at_once, went_on}
-use Rattle.ov_snap.proofs.step_sequences.take.Goals as goal
+use Rattle.ov_snap.proofs.core_steps.take.Goals as goal
 
 pub returns-in-OpenDesk-clause-took : goal.returns-in-OpenDesk-clause-took
 returns-in-OpenDesk-clause-took c =

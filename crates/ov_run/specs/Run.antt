@@ -1,0 +1,38 @@
+-- What a run of a scenario does: it reads a scenario, and writes what the scenario prints.
+use Rattle.std.specs.Prelude.{◌≡◌, ◌≢◌, ◌⊎◌, ◌+◌, ℕ, List, Option, Result, Err, IfOk, IfErr, OnOk, IsErrOf}
+use Rattle.ov_io.specs.Device.{SourceState, SinkState, ReaderFailed}
+use Rattle.ov_run.specs.Ending.{Begins, Ends}
+use Rattle.ov_run.specs.Faults.{read_failures, write_failures, IsOfReading, IsRunFault}
+use Rattle.ov_run.specs.Running.{PrintsScenario}
+use Rattle.ov_run.specs.declared.run_fault.RunFault.{RunFault}
+use Rattle.ov_run.specs.declared.run_fault.RunFault.TheVariants.{Read, OutOfMemory}
+
+-- A run, from a source and a sink before it to what they are after it. `remaining` are the bytes that a reader still
+-- has, and `contents` those that a writer holds, where they are known.
+pub record IsRun {R W : Type 0} (remaining : R → Option (List ℕ)) (contents : W → Option (List ℕ))
+    (source_before : SourceState R) (sink_before : SinkState W) (source_after : SourceState R)
+    (sink_after : SinkState W) (result : Result ℕ RunFault) : Type 0 where
+  -- without fault, status 0 is returned
+  pub status : IfOk result (λ status. status ≡ 0)
+  -- without fault, the writer took what the scenario prints behind what it held, and nothing else
+  pub prints : OnOk result
+      (PrintsScenario (remaining source_before.reader) (contents sink_before.writer) (contents sink_after.writer))
+  -- however it ends, the sink is as before, or the writer took a prefix of what the scenario prints up to some point
+  pub begun : (sink_after ≡ sink_before)
+      ⊎ Begins (remaining source_before.reader) (contents sink_before.writer) (contents sink_after.writer)
+  -- after Read the source counts one fault more, and else as many as before
+  pub source : source_after.faults ≡ source_before.faults + read_failures result
+  -- Read is returned only where the reader failed in this run
+  pub failed : IsErrOf result Read → ReaderFailed source_before source_after
+  -- after anything but Read no read of this run failed
+  pub not_failed : result ≢ Err Read → source_after.failures ≡ source_before.failures
+  -- after Write the sink counts one fault more, and else as many as before
+  pub sink : sink_after.faults ≡ sink_before.faults + write_failures result
+  -- a fault of a line is that of the first line at fault, and no fault is one of a graph
+  pub fault : IfErr result (IsRunFault (remaining source_before.reader))
+  -- after a fault of reading, Line, Params or Read, the sink is as before
+  pub unread : IfErr result (λ fault. IsOfReading fault → sink_after ≡ sink_before)
+  -- after OutOfMemory the sink is as before, or the writer took all that the scenario prints up to the line that ends
+  -- the run so
+  pub memory : IsErrOf result OutOfMemory → (sink_after ≡ sink_before)
+      ⊎ Ends (remaining source_before.reader) (contents sink_before.writer) (contents sink_after.writer)
