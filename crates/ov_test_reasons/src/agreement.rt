@@ -1,7 +1,6 @@
-//! A line is told of exactly where the programs refuse a file of this line alone.
+//! Of each line that the programs do not read something is found to say.
 use crate::told_files::{graph_told, scenario_told};
 use ov_ids::OutOfMemory;
-use ov_run::{RunFault, read_graph, read_scenario};
 use std::alloc::Global;
 use std::test::Fail;
 
@@ -91,36 +90,22 @@ fn second(alloc: Global, name: &str, tail: &str) -> Result<String, OutOfMemory> 
     Ok(file)
 }
 
-/// Whether a scenario file of this line alone is refused exactly where the line is told of.
-fn agrees_in_scenarios(alloc: Global, name: &str, tail: &str) -> Result<bool, OutOfMemory> {
-    let line = format!(in alloc; "{name}{tail}")?;
-    let file = second(alloc, name, tail)?;
-    let told = scenario_told(alloc, file.as_bytes())?;
-    let is_refused = read_scenario(alloc, line.as_bytes()).is_err();
-    Ok(told.as_str().contains("\nline 2: ") == is_refused)
-}
+/// What is said of a line at fault where nothing was found to say of it.
+const NOTHING_FOUND: &str = "this line can't be read";
 
-/// Whether a line of a graph file can't be read exactly where it is told of.
-fn agrees_in_graphs(alloc: Global, name: &str, tail: &str) -> Result<bool, OutOfMemory> {
-    let line = format!(in alloc; "{name}{tail}")?;
+/// Whether something is found to say of this line in a scenario file and in a graph file, if it is at fault there.
+fn has_words(alloc: Global, name: &str, tail: &str) -> Result<bool, OutOfMemory> {
     let file = second(alloc, name, tail)?;
-    let told = graph_told(alloc, file.as_bytes())?;
-    let is_unread = matches!(read_graph(alloc, line.as_bytes()), Err(RunFault::Line(_)));
-    Ok(told.as_str().contains("\nline 2: ") == is_unread)
+    let scenario = scenario_told(alloc, file.as_bytes())?;
+    let graph = graph_told(alloc, file.as_bytes())?;
+    Ok(!scenario.as_str().contains(NOTHING_FOUND) && !graph.as_str().contains(NOTHING_FOUND))
 }
 
 #[test]
-fn a_line_that_is_read_is_never_told_of(rt: HostRuntime) -> Result<(), Fail> {
+fn something_is_said_of_each_line_at_fault(rt: HostRuntime) -> Result<(), Fail> {
     for name in &NAMES {
         for tail in &TAILS {
-            assert!(rt;
-                agrees_in_scenarios(rt.alloc(), name, tail)?,
-                "at {name}{tail}"
-            );
-            assert!(rt;
-                agrees_in_graphs(rt.alloc(), name, tail)?,
-                "at {name}{tail}"
-            );
+            assert!(rt; has_words(rt.alloc(), name, tail)?, "at {name}{tail}");
         }
     }
     Ok(())
