@@ -1,13 +1,20 @@
--- The first id of a group that is at fault: the ids so far ascend, or are nodes.
+-- The first id of a group that is at fault: the ids so far ascend, or belong.
 use Rattle.std.proofs.Common.{◌≡◌, ◌∙◌, ℕ, suc, ◌+◌, ◌<◌, ◌≤◌, List, [], ◌∷◌, ◌++◌, length, take, drop, get_or}
-use Rattle.std.proofs.Common.{refl, sym, subst, ap, inl, inr, arith, append_assoc}
+use Rattle.std.proofs.Common.{◌≢◌, Option, Some, None, MatchOption, refl, sym, subst, ap, inl, inr, arith, append_assoc}
 use Rattle.std.proofs.lemmas.List.{take_more, take_all}
 use Rattle.std.proofs.Math.Seq.{split_at}
 use Rattle.std.specs.List.{AllByRecursion}
 use Rattle.ov_ids.specs.Members.{Has, Ascends}
-use Rattle.ov_ids.proofs.Members.{has_append_cases, has_append_right}
+use Rattle.ov_ids.proofs.Members.{has_append_cases}
+use Rattle.ov_ids.specs.FaultOrder.{IsRefusedBy}
 use Rattle.ov_graph.specs.Links.{LinkGraph}
+use Rattle.ov_net.specs.Journal.{AreLinks}
+use Rattle.ov_snap.specs.CoreState.{CoreState}
+use Rattle.ov_snap.specs.Refusals.{BeginJudged}
+use Rattle.ov_snap.specs.declared.fault.CoreFault.{CoreFault}
+use Rattle.ov_snap.specs.declared.fault.CoreFault.TheVariants.{OutOfMemory}
 use Rattle.ov_reasons.specs.Groups.{IsFirstFall, IsFirstStranger}
+use Rattle.ov_reasons.specs.Code.Absent.{FindsAbsent}
 
 -- the items up to a place, and from there on
 parted : (xs : List ℕ) (i x : ℕ) → i < length xs → x ≡ get_or xs i x → xs ≡ take i xs ++ x ∷ drop (suc i) xs
@@ -82,39 +89,55 @@ module _ (ids : List ℕ) (at j a b : ℕ) (next : j + 1 ≡ at) (within : at < 
 pub all_rise : (ids : List ℕ) (at : ℕ) → length ids ≤ at → Ascends (take at ids) → Ascends ids
 all_rise ids at past up = subst Ascends (take_all at ids past) up
 
--- NODES
+-- IDS THAT BELONG
 
--- the ids are nodes of the graph
-abbrev pub AreNodes : LinkGraph → List ℕ → Type 0
-AreNodes g ids = (x : ℕ) → Has ids x → Has g.nodes x
+-- the ids belong
+abbrev pub BelongAll : (ℕ → Type 0) → List ℕ → Type 0
+BelongAll Belongs ids = (x : ℕ) → Has ids x → Belongs x
 
--- one more node
-pub nodes_more : (g : LinkGraph) (ids : List ℕ) (i a : ℕ) → i < length ids → a ≡ get_or ids i a
-    → AreNodes g (take i ids) → Has g.nodes a → AreNodes g (take (i + 1) ids)
-nodes_more g ids i a l e nodes node x h =
-    elim (has_append_cases (take i ids) (a ∷ []) x (subst (λ xs. Has xs x) (next_is ids i a l e) h)) [
-      | inl k ↦ nodes x k
-      | inr k ↦ elim k [ inl s ↦ subst (Has g.nodes) s node | inr m ↦ absurd m ]
-    ]
+module _ (Belongs : ℕ → Type 0) (ids : List ℕ) where
+  -- one more does
+  pub belongs_more : (i a : ℕ) → i < length ids → a ≡ get_or ids i a
+      → BelongAll Belongs (take i ids) → Belongs a → BelongAll Belongs (take (i + 1) ids)
+  belongs_more i a l e belong here x h =
+      elim (has_append_cases (take i ids) (a ∷ []) x (subst (λ xs. Has xs x) (next_is ids i a l e) h)) [
+        | inl k ↦ belong x k
+        | inr k ↦ elim k [ inl s ↦ subst Belongs s here | inr m ↦ absurd m ]
+      ]
 
--- all are nodes
-pub nodes_all : (g : LinkGraph) (ids : List ℕ) (i : ℕ) → length ids ≤ i → AreNodes g (take i ids) → AreNodes g ids
-nodes_all g ids i past nodes = subst (AreNodes g) (take_all i ids past) nodes
+  -- all do
+  pub belongs_all : (i : ℕ) → length ids ≤ i → BelongAll Belongs (take i ids) → BelongAll Belongs ids
+  belongs_all i past belong = subst (BelongAll Belongs) (take_all i ids past) belong
 
--- the next id is no node
-pub nodes_end : (g : LinkGraph) (ids : List ℕ) (i a : ℕ) → i < length ids → a ≡ get_or ids i a
-    → AreNodes g (take i ids) → ¬ Has g.nodes a → IsFirstStranger g ids a
-nodes_end g ids i a l e nodes none = record {
-  before = take i ids;
-  rest = drop (suc i) ids;
-  there = parted ids i a l e;
-  nodes = nodes;
-  stranger = none;
+  -- the next does not
+  pub belongs_end : (i a : ℕ) → i < length ids → a ≡ get_or ids i a
+      → BelongAll Belongs (take i ids) → ¬ Belongs a → IsFirstStranger Belongs ids a
+  belongs_end i a l e belong none = record {
+    before = take i ids;
+    rest = drop (suc i) ids;
+    there = parted ids i a l e;
+    belong = belong;
+    stranger = none;
+  }
+
+-- WHO LIVED
+
+-- by the graph of a moment
+pub found_by_links : (b : CoreState) (m : ℕ) (ids : List ℕ) (g : LinkGraph) (found : Option ℕ)
+    → AreLinks b.world.journal m g
+    → MatchOption found ((x : ℕ) → Has ids x → Has g.nodes x) (IsFirstStranger (Has g.nodes) ids)
+    → FindsAbsent b m ids found
+found_by_links b m ids g None links all = inl (λ a h. (links.nodes a).0 (all a h))
+found_by_links b m ids g (Some a) links first = record {
+  before = first.before;
+  rest = first.rest;
+  there = first.there;
+  belong = λ x h. (links.nodes x).0 (first.belong x h);
+  stranger = λ lived. first.stranger ((links.nodes a).1 lived);
 }
 
--- the first stranger is one of the ids, and no node
-pub is_stranger : (g : LinkGraph) (ids : List ℕ) (a : ℕ) → IsFirstStranger g ids a → Has ids a × ¬ Has g.nodes a
-is_stranger g ids a first = (
-  subst (λ xs. Has xs a) (sym first.there) (has_append_right first.before (a ∷ first.rest) a (inl refl)),
-  first.stranger,
-)
+-- a refusal other than out of memory tells that it is not known
+pub not_known : (b : CoreState) (m : ℕ) (ids : List ℕ) (fault : CoreFault) → fault ≢ OutOfMemory
+    → IsRefusedBy OutOfMemory (BeginJudged b m) fault → FindsAbsent b m ids None
+not_known b m ids fault other (inl judged) = inr (fault, judged)
+not_known b m ids fault other (inr memory) = absurd (other memory.0)

@@ -15,22 +15,27 @@ pub record IsFirstFall (ids : List ℕ) (a b : ℕ) : Type 0 where
   pub ascends : Ascends (before ++ (a ∷ []))
   pub falls : ¬ (a < b)
 
--- a is the first of the ids that is no node of the graph: those before it are nodes
-pub record IsFirstStranger (g : LinkGraph) (ids : List ℕ) (a : ℕ) : Type 0 where
+-- a is the first of the ids that does not belong: those before it do. What belongs is said by `Belongs`, as being a
+-- node of a graph
+pub record IsFirstStranger (Belongs : ℕ → Type 0) (ids : List ℕ) (a : ℕ) : Type 0 where
   pub before : List ℕ
   pub rest : List ℕ
   pub there : ids ≡ before ++ (a ∷ rest)
-  pub nodes : (x : ℕ) → Has before x → Has g.nodes x
-  pub stranger : ¬ Has g.nodes a
+  pub belong : (x : ℕ) → Has before x → Belongs x
+  pub stranger : ¬ Belongs a
 
 -- where b stands, which is not above a, the id before it
 abbrev pub behind_text : ℕ → ℕ → List ℕ
 behind_text a b =
-    if nat_eq a b then codes " stands twice\n" else (codes " stands behind " ++ (decimal a ++ codes "\n"))
+    if nat_eq a b then codes " stands twice" else (codes " stands behind " ++ decimal a)
 
--- b is not above a, the id before it
+-- b is not above a, the id of the group before it
 abbrev pub fall_text : ℕ → ℕ → List ℕ
 fall_text a b = codes "the ids of the group must ascend, and " ++ (decimal b ++ behind_text a b)
+
+-- a group without ids
+abbrev pub empty_text : List ℕ
+empty_text = codes "the group has no members"
 
 -- an id of the group is no node
 abbrev pub stranger_text : ℕ → List ℕ
@@ -42,9 +47,9 @@ stranger_text a = codes "the graph has no node " ++ (decimal a ++ codes "\n")
 abbrev pub TellsOfMembers : LinkGraph → List ℕ → Option (List ℕ) → Type 0
 TellsOfMembers g ids said =
     ((¬ HasNode g) × (said ≡ Some (codes "the graph has no nodes\n")))
-    ⊎ (HasNode g × (ids ≡ []) × (said ≡ Some (codes "the group has no members\n")))
-    ⊎ (HasNode g × ((a : ℕ) × (b : ℕ) × IsFirstFall ids a b × (said ≡ Some (fall_text a b))))
-    ⊎ (HasNode g × Ascends ids × ((a : ℕ) × IsFirstStranger g ids a × (said ≡ Some (stranger_text a))))
+    ⊎ (HasNode g × (ids ≡ []) × (said ≡ Some (empty_text ++ codes "\n")))
+    ⊎ (HasNode g × ((a : ℕ) × (b : ℕ) × IsFirstFall ids a b × (said ≡ Some (fall_text a b ++ codes "\n"))))
+    ⊎ (HasNode g × Ascends ids × ((a : ℕ) × IsFirstStranger (Has g.nodes) ids a × (said ≡ Some (stranger_text a))))
     ⊎ (HasNode g × IsGroup g ids × (said ≡ None))
 
 -- what is told of the bytes of a graph file and the group that is asked for; of bytes that say no graph nothing is told

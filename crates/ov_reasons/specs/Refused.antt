@@ -1,7 +1,7 @@
 -- What is told of a line of a scenario that is refused when it is run: of an event by the world that it finds, of an
 -- analysis and a look by what they name. Chosen here.
 use Rattle.std.specs.Prelude.{◌≡◌, ◌≢◌, ◌⊎◌, ℕ, nat_eq, List, [], ◌∷◌, ◌++◌, length, Option, Some, None, codes, decimal}
-use Rattle.std.specs.Prelude.{if◌then◌else◌, unwrap_or}
+use Rattle.std.specs.Prelude.{if◌then◌else◌}
 use Rattle.ov_ids.specs.Members.{Has, Ascends}
 use Rattle.ov_ids.specs.declared.id.MsgId.{MsgId}
 use Rattle.ov_net.specs.Journal.{Live}
@@ -12,6 +12,9 @@ use Rattle.ov_net.specs.declared.event.Event.{Event}
 use Rattle.ov_net.specs.declared.event.Event.TheVariants.{Boot, Deliver, Lose, Repeat, Crash, Report, Shuffle}
 use Rattle.ov_net.specs.declared.event.Event.TheVariants.{Broadcast, Timer, Snapshot}
 use Rattle.ov_snap.specs.CoreState.{CoreState}
+use Rattle.ov_snap.specs.Refusals.{BeginJudged}
+use Rattle.ov_snap.specs.declared.fault.CoreFault.{CoreFault}
+use Rattle.ov_reasons.specs.Groups.{IsFirstFall, IsFirstStranger, empty_text, fall_text}
 use Rattle.ov_run.specs.declared.scenario.Line.{Line}
 use Rattle.ov_run.specs.declared.scenario.Line.TheVariants as line
 use Rattle.ov_run.specs.declared.scenario.Look.{Look}
@@ -149,18 +152,36 @@ analysis_text s n =
     ∷ [])
     (codes "the analysis is refused")
 
--- the ids are no group of those who lived then: they do not ascend, or one is named that did not live, or nothing more
--- is said
-abbrev pub TellsOfGroup : CoreState → ℕ → List ℕ → List ℕ → Type 0
-TellsOfGroup b m ids text =
-    ((¬ Ascends ids) × (text ≡ codes "the ids of the group must ascend"))
-    ⊎ ((a : ℕ) × Has ids a × (¬ Live b.world.journal m a)
-    × (text ≡ codes "node " ++ (decimal a ++ (codes " did not live at moment " ++ decimal m))))
-    ⊎ (text ≡ codes "the ids are no group of those who lived at moment " ++ decimal m)
+-- a node did not live at a moment
+abbrev pub absent_text : ℕ → ℕ → List ℕ
+absent_text a m = codes "node " ++ (decimal a ++ (codes " did not live at moment " ++ decimal m))
+
+-- all these nodes lived at a moment
+abbrev pub LivedAll : CoreState → ℕ → List ℕ → Type 0
+LivedAll b m ids = (a : ℕ) → Has ids a → Live b.world.journal m a
+
+-- who lived at a moment is not known: no snapshot was taken then, or nobody lived
+abbrev pub IsUnknown : CoreState → ℕ → Type 0
+IsUnknown b m = (fault : CoreFault) × BeginJudged b m (Some fault)
+
+-- What is told of ids that are asked for as a group of those who lived at a moment: that there are none; or the first
+-- that is not above the one before it; or where they ascend the first that did not live then; and else nothing more
+-- than the refusal
+abbrev pub TellsOfIds : CoreState → ℕ → List ℕ → List ℕ → Type 0
+TellsOfIds b m ids text =
+    ((ids ≡ []) × (text ≡ empty_text))
+    ⊎ ((before : ℕ) × (id : ℕ) × IsFirstFall ids before id × (text ≡ fall_text before id))
+    ⊎ (Ascends ids × ((a : ℕ) × IsFirstStranger (Live b.world.journal m) ids a × (text ≡ absent_text a m)))
+    ⊎ ((ids ≢ []) × Ascends ids × (LivedAll b m ids ⊎ IsUnknown b m) × (text ≡ codes "the analysis is refused"))
+
+-- what is told of the group of an analysis: of its ids, and of all nodes nothing more than the refusal
+abbrev pub TellsOfGroup : CoreState → ℕ → Option (List ℕ) → List ℕ → Type 0
+TellsOfGroup b m (Some ids) text = TellsOfIds b m ids text
+TellsOfGroup b m None text = text ≡ codes "the analysis is refused"
 
 -- what is told of an analysis that is refused with this number
 pub record TellsOfAnalysis (b : CoreState) (s : Subject) (n : ℕ) (text : List ℕ) : Type 0 where
-  pub group : n ≡ 34 → TellsOfGroup b s.moment (unwrap_or s.group []) text
+  pub group : n ≡ 34 → TellsOfGroup b s.moment s.group text
   pub other : n ≢ 34 → text ≡ analysis_text s n
 
 -- what is told of a line that is refused with this number

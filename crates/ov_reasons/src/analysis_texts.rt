@@ -1,15 +1,15 @@
-ghost use Rattle.std.specs.Prelude.{◌≡◌, ◌++◌, [], IfOk, IfSome, Some, codes, decimal, unwrap_or, string_bytes};
-ghost use Rattle.ov_ids.specs.Members.{Has};
-ghost use Rattle.ov_net.specs.Journal.{Live};
-ghost use Rattle.ov_reasons.specs.Refused.{subject_text, look_text, TellsOfGroup, TellsOfAnalysis};
+ghost use Rattle.std.specs.Prelude.{◌≡◌, ◌++◌, IfOk, codes, decimal, string_bytes};
+ghost use Rattle.ov_reasons.specs.Refused.{absent_text, subject_text, look_text, TellsOfIds, TellsOfGroup};
+ghost use Rattle.ov_reasons.specs.Refused.{TellsOfAnalysis};
+ghost use Rattle.ov_reasons.specs.Code.Absent.{FindsAbsent};
 ghost use Rattle.ov_run.specs.declared.scenario.Look.TheVariants.{Show, Certificate};
 
 use crate::event_texts::{fixed, node_text};
-use crate::members::first_stranger;
-use ov_graph::Graph;
-use ov_ids::{NodeId, OutOfMemory, is_ascending};
+use crate::group_texts::fall_text;
+use crate::members::{first_fall, first_stranger};
+use ov_ids::{NodeId, OutOfMemory};
 use ov_run::{Look, Subject};
-use ov_snap::Core;
+use ov_snap::{Core, CoreFault};
 use std::alloc::Global;
 
 /// Why the analysis of a subject is refused with this number, as a sentence without a full stop. The core is as the
@@ -32,14 +32,14 @@ pub fn analysis_reason(
     }
 }
 
-/// That the ids that are named are no group of those who lived at the moment.
+/// Why the group of a subject is refused.
 fn bad_group(alloc: Global, core: &Core, subject: &Subject) -> Result<String, OutOfMemory>
     ensures { IfOk result
-        (λ text. TellsOfGroup core.now subject.now.moment (unwrap_or subject.now.group []) (string_bytes text)) }
+        (λ text. TellsOfGroup core.now subject.now.moment subject.now.group (string_bytes text)) }
 {
     match &subject.group {
-        Some(ids) => group_text(alloc, core, subject.moment, ids.as_slice()),
-        None => group_text(alloc, core, subject.moment, &[]),
+        Some(ids) => ids_text(alloc, core, subject.moment, ids.as_slice()),
+        None => fixed(alloc, "the analysis is refused"),
     }
 }
 
@@ -106,54 +106,40 @@ fn report_text(
     Ok(format!(in alloc; "{before}{moment} and {of_whom}")?)
 }
 
-/// That ids are no group of those who lived at a moment: that they do not ascend, or which one did not live.
-fn group_text(
-    alloc: Global,
-    core: &Core,
-    moment: u32,
-    ids: &[NodeId],
-) -> Result<String, OutOfMemory>
-    ensures { IfOk result (λ text. TellsOfGroup core.now moment ids.now (string_bytes text)) }
+/// Why ids are refused as a group of those who lived at a moment.
+fn ids_text(alloc: Global, core: &Core, moment: u32, ids: &[NodeId]) -> Result<String, OutOfMemory>
+    ensures { IfOk result (λ text. TellsOfIds core.now moment ids.now (string_bytes text)) }
 {
-    if !is_ascending(ids) {
-        return fixed(alloc, "the ids of the group must ascend");
+    if ids.is_empty() {
+        return fixed(alloc, "the group has no members");
     }
-    match stranger(core, moment, ids) {
-        Some(node) => stranger_text(alloc, node, moment),
-        None => moment_text(
-            alloc,
-            "the ids are no group of those who lived at moment ",
-            moment,
-        ),
+    if let Some((before, id)) = first_fall(ids) {
+        return fall_text(alloc, before, id);
+    }
+    match first_absent(core, moment, ids)? {
+        Some(id) => absent_text(alloc, id, moment),
+        None => fixed(alloc, "the analysis is refused"),
     }
 }
 
-/// One of these ids that did not live at a moment, where one is found.
-fn stranger(core: &Core, moment: u32, ids: &[NodeId]) -> Option<NodeId>
-    ensures { IfSome result (λ a. Has ids.now a × ¬ Live core.now.world.journal moment a) }
+/// The first of these ids that did not live at a moment. None also where it is not known who lived then.
+#[tactic(auto, using(crate::proofs::GroupFaults::found_by_links, crate::proofs::GroupFaults::not_known))]
+fn first_absent(core: &Core, moment: u32, ids: &[NodeId]) -> Result<Option<NodeId>, OutOfMemory>
+    ensures { IfOk result (λ found. FindsAbsent core.now moment ids.now found) }
 {
     match core.begin(moment) {
-        Ok(job) => outsider(&job.graph, ids),
-        Err(_) => None,
-    }
-}
-
-/// One of these ids that is no node of the graph, where one is found.
-#[tactic(auto, using(crate::proofs::GroupFaults::is_stranger))]
-fn outsider(graph: &Graph, ids: &[NodeId]) -> Option<NodeId>
-    ensures { IfSome result (λ a. Has ids.now a × ¬ Has graph.now.nodes a) }
-{
-    match first_stranger(graph, ids) {
-        Some(id) => Some(id),
-        None => None,
+        Ok(job) => Ok(first_stranger(&job.graph, ids)),
+        Err(fault) => match fault {
+            CoreFault::OutOfMemory => Err(OutOfMemory),
+            _ => Ok(None),
+        },
     }
 }
 
 /// That a node did not live at a moment.
-fn stranger_text(alloc: Global, node: NodeId, moment: u32) -> Result<String, OutOfMemory>
-    ensures { IfOk result (λ text. string_bytes text
-        ≡ codes "node " ++ (decimal node ++ (codes " did not live at moment " ++ decimal moment))) }
+fn absent_text(alloc: Global, id: NodeId, moment: u32) -> Result<String, OutOfMemory>
+    ensures { IfOk result (λ text. string_bytes text ≡ absent_text id moment) }
 {
-    let node = node.number();
-    Ok(format!(in alloc; "node {node} did not live at moment {moment}")?)
+    let id = id.number();
+    Ok(format!(in alloc; "node {id} did not live at moment {moment}")?)
 }

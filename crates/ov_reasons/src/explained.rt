@@ -9,7 +9,8 @@ use std::alloc::Global;
 /// How many lines are told of at most.
 const MOST_LINES: usize = 20;
 
-/// The numbers of the lines that are told of, where the lines of these numbers are at fault: the first, up to the limit.
+/// The numbers of the lines that are told of, where the lines of these numbers are at fault: the first ones, up to the
+/// limit.
 pub(crate) fn told_of(numbers: &[usize]) -> &[usize]
     ensures { result.now ≡ take most_lines numbers.now }
 {

@@ -6,14 +6,14 @@ use crate::file_line::{FileLine, words_of};
 use crate::graph_lines::{GraphLines, LinkLine, NodeLine, graph_lines};
 use crate::marked_line::push_marked;
 use crate::texts::push_all;
-use ov_graph::GraphFault;
+use ov_graph::{Graph, GraphFault};
 use ov_ids::OutOfMemory;
 use ov_run::graph_fault_line;
 use std::alloc::Global;
 use std::fmt::Write;
 
 /// How many nodes a graph has at most.
-const MOST_NODES: usize = 1024;
+const MOST_NODES: usize = Graph::MOST_NODES;
 
 /// Says which node or which link of a graph file is at fault.
 pub(crate) fn explain_graph(

@@ -1,4 +1,4 @@
-ghost use Rattle.std.specs.Prelude.{◌≡◌, IfOk, codes, option_map, string_bytes};
+ghost use Rattle.std.specs.Prelude.{◌≡◌, ◌++◌, IfOk, codes, option_map, string_bytes};
 ghost use Rattle.ov_reasons.specs.Groups.{fall_text, stranger_text, TellsOfMembers, TellsOfGraphGroup};
 
 use crate::event_texts::{fixed, node_text};
@@ -43,7 +43,7 @@ fn why_refused(alloc: Global, graph: &Graph, ids: &[NodeId]) -> Result<Option<St
         return Ok(Some(fixed(alloc, "the group has no members\n")?));
     }
     if let Some((before, id)) = first_fall(ids) {
-        return Ok(Some(fall_text(alloc, before, id)?));
+        return Ok(Some(fall_line(alloc, before, id)?));
     }
     match first_stranger(graph, ids) {
         Some(id) => Ok(Some(stranger_text(alloc, id)?)),
@@ -51,8 +51,17 @@ fn why_refused(alloc: Global, graph: &Graph, ids: &[NodeId]) -> Result<Option<St
     }
 }
 
+/// That an id is not above the one before it, with a line feed.
+fn fall_line(alloc: Global, before: NodeId, id: NodeId) -> Result<String, OutOfMemory>
+    ensures { IfOk result (λ text. string_bytes text ≡ fall_text before id ++ codes "\n") }
+{
+    let mut text = fall_text(alloc, before, id)?;
+    text.push_str("\n")?;
+    Ok(text)
+}
+
 /// That an id is not above the one before it.
-fn fall_text(alloc: Global, before: NodeId, id: NodeId) -> Result<String, OutOfMemory>
+pub(crate) fn fall_text(alloc: Global, before: NodeId, id: NodeId) -> Result<String, OutOfMemory>
     ensures { IfOk result (λ text. string_bytes text ≡ fall_text before id) }
 {
     if before == id {
@@ -60,11 +69,11 @@ fn fall_text(alloc: Global, before: NodeId, id: NodeId) -> Result<String, OutOfM
             alloc,
             "the ids of the group must ascend, and ",
             id,
-            " stands twice\n",
+            " stands twice",
         );
     }
     let (before, id) = (before.number(), id.number());
-    Ok(format!(in alloc; "the ids of the group must ascend, and {id} stands behind {before}\n")?)
+    Ok(format!(in alloc; "the ids of the group must ascend, and {id} stands behind {before}")?)
 }
 
 /// That an id of the group is no node.

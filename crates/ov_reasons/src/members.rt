@@ -29,7 +29,7 @@ pub(crate) fn first_fall(ids: &[NodeId]) -> Option<(NodeId, NodeId)>
 /// The first of these ids that is no node of the graph.
 pub(crate) fn first_stranger(graph: &Graph, ids: &[NodeId]) -> Option<NodeId>
     ensures { MatchOption result ((x : ℕ) → Has ids.now x → Has graph.now.nodes x)
-        (IsFirstStranger graph.now ids.now) }
+        (IsFirstStranger (Has graph.now.nodes) ids.now) }
 {
     for id in ids {
         if !is_node(graph, *id) {

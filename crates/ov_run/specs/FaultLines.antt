@@ -21,9 +21,9 @@ abbrev pub IsLinkAtFault : GraphFault → List ℕ → List (ℕ × ℕ) → ℕ
 IsLinkAtFault fault nodes before l = GraphJudged nodes before None × GraphJudged nodes (before ++ l ∷ []) (Some fault)
 
 -- what a line says is at fault behind the lines before it, in a file of these nodes
-abbrev pub IsAtFault : GraphFault → List ℕ → List (ℕ × Option GraphLine) → GraphLine → Type 0
-IsAtFault fault nodes before (Node x) = IsNodeAtFault fault (nodes_said before) x
-IsAtFault fault nodes before (Link a b) = IsLinkAtFault fault nodes (links_said before) (a, b)
+abbrev pub IsGraphLineAtFault : GraphFault → List ℕ → List (ℕ × Option GraphLine) → GraphLine → Type 0
+IsGraphLineAtFault fault nodes before (Node x) = IsNodeAtFault fault (nodes_said before) x
+IsGraphLineAtFault fault nodes before (Link a b) = IsLinkAtFault fault nodes (links_said before) (a, b)
 
 -- the line of this number is the one whose node or link is at fault: the lines before it have no such fault
 pub record IsFaultLine (bytes : List ℕ) (fault : GraphFault) (n : ℕ) : Type 0 where
@@ -31,4 +31,4 @@ pub record IsFaultLine (bytes : List ℕ) (fault : GraphFault) (n : ℕ) : Type 
   pub says : GraphLine
   pub after : List (ℕ × Option GraphLine)
   pub lines : graph_lines bytes ≡ before ++ (n, Some says) ∷ after
-  pub at_fault : IsAtFault fault (nodes_said (graph_lines bytes)) before says
+  pub at_fault : IsGraphLineAtFault fault (nodes_said (graph_lines bytes)) before says

@@ -7,7 +7,8 @@ ghost use Rattle.ov_run.specs.Arguments.{AreReadable, AreTaken, HasGroupOfIds, H
 ghost use Rattle.ov_run.specs.Arguments.{file_asked, group_asked, is_flagged, workers_asked};
 ghost use Rattle.ov_run.specs.Arguments.{analyse_command, flag, option, overlay_command, run_command};
 ghost use Rattle.ov_run.specs.Arguments.{fault_of_text, number_of};
-ghost use Rattle.ov_run.specs.declared.arguments.ArgumentsFault.TheVariants.{BadArguments, OutOfMemory as out_of_memory};
+ghost use Rattle.ov_run.specs.declared.arguments.ArgumentsFault.TheVariants.{BadArguments};
+ghost use Rattle.ov_run.specs.declared.arguments.ArgumentsFault.TheVariants.{OutOfMemory as out_of_memory};
 
 use crate::id_list_reading::read_ids;
 use crate::workers::read_workers;

@@ -13,7 +13,7 @@ use Rattle.ov_graph.specs.declared.fault.GraphFault.{GraphFault}
 use Rattle.ov_graph.specs.declared.fault.GraphFault.TheVariants.{TooManyNodes, Unordered, BadLink}
 use Rattle.ov_graph.proofs.EvenTest.Tested.{judged}
 use Rattle.ov_run.specs.Code.GraphFaults.{node_after, link_after}
-use Rattle.ov_run.specs.FaultLines.{IsAtFault, IsFaultLine}
+use Rattle.ov_run.specs.FaultLines.{IsGraphLineAtFault, IsFaultLine}
 use Rattle.ov_run.specs.GraphFiles.{graph_line, graph_line_at, graph_lines, node_said, link_said, nodes_said}
 use Rattle.ov_run.specs.GraphFiles.{links_said}
 use Rattle.ov_run.specs.Lines.{kept_lines}
@@ -69,7 +69,7 @@ found :
     (text : List ℕ) (line : GraphLine) (fault : GraphFault)
     → Walks bytes Now now → now ≡ (n, text) ∷ later → Some line ≡ graph_line text
     → ((before : List (ℕ × Option GraphLine)) → Now before
-    → IsAtFault fault (nodes_said (graph_lines bytes)) before line)
+    → IsGraphLineAtFault fault (nodes_said (graph_lines bytes)) before line)
     → IsFaultLine bytes fault n
 found bytes Now now later n text line fault w first reads wrong =
     record {

@@ -75,14 +75,16 @@ begins b s free judged =
     begun_then b s.moment s.group (Step (¬ IsReported b s) AlreadyFiled Passed) judged
     (inl ((λ k. free k.0 k.1), refl))
 
-begins_not : (b : CoreState) (s : Subject) (f : CoreFault) → IsFree b s → IsRefusedBy OutOfMemory (BeginningJudged b s) f
+begins_not : (b : CoreState) (s : Subject) (f : CoreFault) → IsFree b s
+    → IsRefusedBy OutOfMemory (BeginningJudged b s) f
     → IsRefusedBy OutOfMemory (AnalysisJudged b s) f
 begins_not b s f free (inl fails) =
     inl (failed_then b s.moment s.group (Step (¬ IsReported b s) AlreadyFiled Passed) f fails)
 begins_not b s f free (inr memory) = inr (memory.0, begins b s free memory.1)
 
 -- the same of a call that begins it, for the group that is asked for
-pub begun : {T : Type 0} (b : CoreState) (s : Subject) (group : Option (List ℕ)) (made : Result T CoreFault) → IsFree b s
+pub begun : {T : Type 0} (b : CoreState) (s : Subject) (group : Option (List ℕ)) (made : Result T CoreFault)
+    → IsFree b s
     → s.group ≡ group → IfOk made (λ t. SubjectThen b s.moment group Passed None)
     → IfOk made (λ t. AnalysisJudged b s None)
 begun b s group made free is judged =

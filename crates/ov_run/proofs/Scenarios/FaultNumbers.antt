@@ -9,7 +9,7 @@ use Rattle.ov_ids.proofs.Members.{has_append_left, has_append_right, all_member,
 use Rattle.ov_run.specs.Code.Seen.{TellsKind, IsSeen, seen_with, AreWithin, Tells, IsFaulty, IsFaultyNumber, AreFaulty}
 use Rattle.ov_run.specs.Code.Seen.{numbers_of}
 use Rattle.ov_run.specs.Lines.{is_skipped, kept_from, kept_lines}
-use Rattle.ov_run.specs.LinesAtFault.{IsNumberAtFault, AreFaultLines}
+use Rattle.ov_run.specs.LinesAtFault.{IsScenarioLineAtFault, AreFaultLines}
 use Rattle.ov_run.specs.Scenarios.{HasKind, ComesTooLate, IsLineFault, IsFaultAtPlace, stated_at}
 use Rattle.ov_run.specs.Scenarios.{stated_lines}
 use Rattle.ov_run.specs.declared.fault_lines.Seen.{Seen}
@@ -312,7 +312,7 @@ params_named m n (inr same) = cc
 
 at_place :
     (bytes : List ℕ) (lines front behind : List Stated) (line : Stated) (n : ℕ) → lines ≡ stated_lines bytes
-    → lines ≡ front ++ line ∷ behind → line.number ≡ n → IsFaulty front line behind → IsNumberAtFault bytes n
+    → lines ≡ front ++ line ∷ behind → line.number ≡ n → IsFaulty front line behind → IsScenarioLineAtFault bytes n
 unfolding IsFaultAtPlace
 at_place bytes lines front behind line n is parts number (f, at_fault) = (
   length front,
@@ -340,7 +340,7 @@ at_place bytes lines front behind line n is parts number (f, at_fault) = (
 )
 
 from_place :
-    (bytes : List ℕ) (lines : List Stated) (n : ℕ) → lines ≡ stated_lines bytes → IsNumberAtFault bytes n
+    (bytes : List ℕ) (lines : List Stated) (n : ℕ) → lines ≡ stated_lines bytes → IsScenarioLineAtFault bytes n
     → IsFaultyNumber [] lines n
 unfolding IsFaultAtPlace
 from_place bytes lines n is (place, inl (front, line, behind, parts, long, at_fault)) =
@@ -363,6 +363,6 @@ of_file bytes lines numbers is right = record {
     (λ at_fault. (right.all n).1 (from_place bytes lines n is at_fault)),
   );
 } where
-  from_stands : (n : ℕ) → Stands [] lines n → IsNumberAtFault bytes n
+  from_stands : (n : ℕ) → Stands [] lines n → IsScenarioLineAtFault bytes n
   from_stands n (front, line, behind, parts, number, at_fault) =
       at_place bytes lines front behind line n is parts number at_fault

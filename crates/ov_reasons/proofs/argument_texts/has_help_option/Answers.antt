@@ -6,7 +6,8 @@ use Rattle.ov_reasons.proofs.argument_texts.has_help_option.Goals as goal
 
 pub returns-then-is_help_option : goal.returns-then-is_help_option
 returns-then-is_help_option c =
-    let found = found c.is_help_option.result c.as_str.result.now _ _ _ _ c.is_help_option.ensures c.as_str.ensures.value
+    let found = found c.is_help_option.result c.as_str.result.now _ _ _ _ c.is_help_option.ensures
+    c.as_str.ensures.value
     (ap (map string_bytes) c.in-Some.ensures.cases.0) c.loop-first.invariant c.if-is_help_option.true in
     ((λ h. found), (λ h. refl))
 

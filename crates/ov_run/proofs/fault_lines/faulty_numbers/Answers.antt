@@ -20,9 +20,11 @@ loop-line-preserved c =
       | then-is_at_fault+in_ok-push w ↦
           let gains : then ≡ so_far ++ line.number ∷ [] = search rules in
           fault_more all behind line seen c.with-seen.result so_far then counts
-          (subst (λ b. Tells seen line.says behind b) w.if-is_at_fault.true c.is_at_fault.ensures) c.with-seen.ensures gains
+          (subst (λ b. Tells seen line.says behind b) w.if-is_at_fault.true c.is_at_fault.ensures)
+          c.with-seen.ensures gains
       | else-is_at_fault w ↦
           let same : then ≡ so_far = search rules in
           faultless_more all behind line seen c.with-seen.result so_far then counts
-          (subst (λ b. Tells seen line.says behind b) w.if-is_at_fault.false c.is_at_fault.ensures) c.with-seen.ensures same
+          (subst (λ b. Tells seen line.says behind b) w.if-is_at_fault.false c.is_at_fault.ensures)
+          c.with-seen.ensures same
     ]

@@ -36,6 +36,7 @@ loop-line-preserved c =
       walks =
           count_more c.args.bytes.now before.count own (before.count + own) (lines_left before.lines)
           (lines_left c.next_line.new.self) line.number line.text.now c.read_graph_line-says.result
-          before.invariant.walks c.in-Some.ensures.line c.read_graph_line-says.ensures c.nodes_of.ensures.count refl few;
+          before.invariant.walks c.in-Some.ensures.line c.read_graph_line-says.ensures c.nodes_of.ensures.count refl
+          few;
       room = omega (arith, c.next_line.ensures.room, before.invariant.room);
     }
