@@ -83,8 +83,13 @@ fn unread_arguments(rt: &HostRuntime, fault: ArgumentsFault, arguments: &[String
 {
     let ended = ProgramFault::Arguments(fault);
     let _ = eprintln!(rt; "{ended}");
-    if let ArgumentsFault::BadArguments = fault {
-        print_reason(rt, argument_reasons(rt.alloc(), arguments));
+    match fault {
+        ArgumentsFault::BadArguments => {
+            print_reason(rt, argument_reasons(rt.alloc(), arguments));
+        }
+        ArgumentsFault::OutOfMemory => {
+            let _ = eprintln!(rt; "out of memory");
+        }
     }
     ended
 }
@@ -128,14 +133,14 @@ fn not_opened(rt: &HostRuntime, path: &str, error: io::Error) -> ProgramFault
     ended
 }
 
-/// Ends where a file can't be read. It is named.
+/// Ends where a file can't be read. It is named, unless memory ended.
 fn not_read(rt: &HostRuntime, name: &str, fault: RunFault) -> ProgramFault
     ensures { result ≡ Run fault }
 {
     let ended = print_fault(rt, fault);
-    if let RunFault::Read = fault
-        && let Ok(name) = shown_name(rt.alloc(), name)
-    {
+    if let RunFault::OutOfMemory = fault {
+        let _ = eprintln!(rt; "out of memory");
+    } else if let Ok(name) = shown_name(rt.alloc(), name) {
         let _ = eprintln!(rt; "{name} can't be read");
     }
     ended

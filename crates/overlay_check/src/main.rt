@@ -29,8 +29,21 @@ fn run<R: Runtime + AllocGlobal + Threads + Sync>(rt: &R) -> u8 {
     match input_named(length, &room, has_argument(rt, 2)) {
         Ok(None) => judge_from(rt, rt.reader(), "standard input"),
         Ok(Some(path)) => judge_file(rt, path),
-        Err(fault) => end(rt, &Err(fault)),
+        Err(fault) => {
+            let status = end(rt, &Err(fault));
+            tell_wrong_arguments(rt, &fault);
+            status
+        }
     }
+}
+
+/// Prints why the arguments name no input.
+fn tell_wrong_arguments(rt: &impl Runtime, fault: &ProgramFault) {
+    let why = match fault {
+        ProgramFault::Usage => "more than one file is named",
+        ProgramFault::Judge(_) => "the name of the file is no UTF-8 text, or is longer than 4096 bytes",
+    };
+    let _ = eprintln!(rt; "{why}");
 }
 
 /// Whether there is an argument at a place, whatever bytes it has.
@@ -76,12 +89,25 @@ fn judge_from<R: Runtime + AllocGlobal + Threads + Sync>(
         }
         Err(fault) => {
             let status = end(rt, &Err(ProgramFault::Judge(fault)));
-            if let JudgeFault::Read = fault
-                && let Ok(name) = shown_name(rt.alloc(), name)
-            {
+            tell_failure(rt, fault, name);
+            status
+        }
+    }
+}
+
+/// Prints what failed: reading the input of this name, writing, or memory.
+fn tell_failure<R: Runtime + AllocGlobal>(rt: &R, fault: JudgeFault, name: &str) {
+    match fault {
+        JudgeFault::Read => {
+            if let Ok(name) = shown_name(rt.alloc(), name) {
                 let _ = eprintln!(rt; "{name} can't be read");
             }
-            status
+        }
+        JudgeFault::Write => {
+            let _ = eprintln!(rt; "writing failed");
+        }
+        JudgeFault::OutOfMemory => {
+            let _ = eprintln!(rt; "out of memory");
         }
     }
 }
