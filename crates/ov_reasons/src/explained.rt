@@ -11,7 +11,7 @@ const MOST_LINES: usize = 20;
 
 /// The numbers of the lines that are told of, where the lines of these numbers are at fault: the first ones, up to the
 /// limit.
-pub(crate) fn told_of(numbers: &[usize]) -> &[usize]
+pub(crate) fn first_told(numbers: &[usize]) -> &[usize]
     ensures { result.now ≡ take most_lines numbers.now }
 {
     match numbers.get(..MOST_LINES) {
@@ -37,7 +37,7 @@ pub(crate) fn explain(
     ensures { IfOk result (λ text. ExplainsLines numbers.now (string_bytes text)) }
 {
     let mut text = String::new(alloc);
-    push_told(&mut text, told_of(numbers), said)?;
+    push_told(&mut text, first_told(numbers), said)?;
     push_remark(&mut text, numbers.len() > MOST_LINES)?;
     Ok(text)
 }

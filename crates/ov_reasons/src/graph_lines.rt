@@ -3,7 +3,7 @@ ghost use Rattle.ov_reasons.specs.Paragraphs.{ExplainsLines};
 ghost use Rattle.ov_run.specs.LinesAtFault.{unread_lines};
 
 use crate::complaint::unread_line;
-use crate::explained::{explain, is_past, told_of};
+use crate::explained::{explain, first_told, is_past};
 use crate::explanation::Explanation;
 use crate::file_line::{FileLine, Word, kept_lines, words_of};
 use crate::line_form::{GRAPH_FORMS, Says};
@@ -19,7 +19,7 @@ pub(crate) fn explain_graph_lines(alloc: Global, bytes: &[u8]) -> Result<String,
 {
     let numbers = unread_graph_lines(alloc, bytes)?;
     let lines = kept_lines(alloc, bytes)?;
-    let said = said_of_lines(alloc, told_of(&numbers), &lines)?;
+    let said = said_of_lines(alloc, first_told(&numbers), &lines)?;
     explain(alloc, &numbers, &said)
 }
 

@@ -2,7 +2,7 @@ ghost use Rattle.std.specs.Prelude.{IfOk, string_bytes};
 ghost use Rattle.ov_reasons.specs.Reasons.{TellsOfFaultLines};
 
 use crate::complaint::unread_line;
-use crate::explained::{explain, is_past, told_of};
+use crate::explained::{explain, first_told, is_past};
 use crate::explanation::Explanation;
 use crate::file_line::{FileLine, Word, kept_lines, words_of};
 use crate::line_form::{SCENARIO_FORMS, Says};
@@ -20,7 +20,7 @@ pub(crate) fn explain_scenario(alloc: Global, bytes: &[u8]) -> Result<String, Ou
 {
     let numbers = scenario_fault_lines(alloc, bytes)?;
     let lines = kept_lines(alloc, bytes)?;
-    let said = said_of_lines(alloc, told_of(&numbers), &lines)?;
+    let said = said_of_lines(alloc, first_told(&numbers), &lines)?;
     explain(alloc, &numbers, &said)
 }
 
