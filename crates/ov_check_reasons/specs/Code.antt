@@ -2,7 +2,6 @@
 pub mod Fitting
 pub mod Words
 pub mod PathRules
-pub mod PathTexts
 pub mod Leaving
 pub mod GraphFaults
 pub mod Failing

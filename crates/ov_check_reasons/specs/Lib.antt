@@ -1,5 +1,6 @@
 pub mod Opening
 pub mod FilePlaces
 pub mod FormPlaces
+pub mod PathFlaws
 pub mod Places
 pub mod Code

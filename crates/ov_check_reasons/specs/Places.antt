@@ -1,6 +1,6 @@
 -- The place that an explanation names: where in a certificate file its fault shows.
-use Rattle.std.specs.Prelude.{◌≡◌, ◌≢◌, ◌⊎◌, ℕ, ◌+◌, ◌<◌, List, [], ◌++◌, length, take, slice_get, Option, Some, None}
-use Rattle.std.specs.Prelude.{Ok, codes, decimal}
+use Rattle.std.specs.Prelude.{◌≡◌, ◌≢◌, ◌⊎◌, ℕ, ◌+◌, ◌<◌, List, [], ◌∷◌, ◌++◌, length, take, slice_get, Option, Some}
+use Rattle.std.specs.Prelude.{None, Ok, codes, decimal}
 use Rattle.serde_json.specs.Data.{Data}
 use Rattle.serde_json.specs.Read.{read}
 use Rattle.ov_ids.specs.Members.{Has, IsApart, Ascends}
@@ -34,6 +34,7 @@ use Rattle.ov_check.specs.Outcome.{BytesSay, IsOutcome}
 use Rattle.ov_check.specs.declared.outcome.Outcome.{Outcome}
 use Rattle.ov_check.specs.declared.outcome.Outcome.TheVariants.{Holds, Fails, Refused}
 use Rattle.ov_check_reasons.specs.Opening.{opening, BeginsWith}
+use Rattle.ov_check_reasons.specs.PathFlaws.{TellsFlaw}
 use Rattle.ov_check_reasons.specs.FilePlaces.{TellsMissing, TellsUnknown, TellsVersion}
 use Rattle.ov_check_reasons.specs.FormPlaces.{TellsBadValue}
 
@@ -45,9 +46,10 @@ pub record IsFirstBreak {X : Type 0} (Keep : List X → Type 0) (xs : List X) (p
 
 -- IDS OF A LIST
 
--- an id in a list of the file, by its place, as `: cut[1] is 9`
+-- an id in a list of the file, by its place, as `: cut[1] is 9,`; the comma ends the id
 abbrev pub id_text : List ℕ → ℕ → ℕ → List ℕ
-id_text name place id = codes ": " ++ (name ++ (codes "[" ++ (decimal place ++ (codes "] is " ++ decimal id))))
+id_text name place id =
+    codes ": " ++ (name ++ (codes "[" ++ (decimal place ++ (codes "] is " ++ (decimal id ++ codes ",")))))
 
 -- What is told of ids that break a rule: the first one that breaks it, by its place. Why it breaks it follows.
 abbrev pub TellsId : (List ℕ → Type 0) → List ℕ → List ℕ → List ℕ → Type 0
@@ -114,9 +116,15 @@ pub record TellsUnlinked (g : LinkGraph) (q : List ℕ) (text : List ℕ) : Type
   pub apart : IsFirstBreak (λ xs. (x : ℕ) → Has xs x → x ≢ member → Linked g x member) (take place q) earlier
   pub told : text ≡ two_text other member
 
--- near or far, as `: near is 9`
-abbrev pub end_text : List ℕ → ℕ → List ℕ
-end_text name id = codes ": " ++ (name ++ (codes " is " ++ decimal id))
+-- near or far, and why it is wrong, as `: near is 9, which is no member`
+abbrev pub end_text : List ℕ → ℕ → List ℕ → List ℕ
+end_text name id why = codes ": " ++ (name ++ (codes " is " ++ (decimal id ++ why)))
+
+-- why an id is no surviving member: it is no member, or it is in the cut
+abbrev pub SaysLost : List ℕ → List ℕ → ℕ → List ℕ → Type 0
+SaysLost q cut x why =
+    ((¬ Has q x) × (why ≡ codes ", which is no member"))
+    ⊎ (Has q x × Has cut x × (why ≡ codes ", which is in the cut"))
 
 -- a link that leaves a side, but for the cut
 abbrev pub leaving_text : ℕ → ℕ → List ℕ
@@ -124,16 +132,31 @@ leaving_text a b =
     codes ": a link leads from " ++ (decimal a ++ (codes " to " ++ (decimal b
     ++ codes ", which is neither on the side nor in the cut")))
 
--- What is told of a side that is not cut off. It is an end that does not survive or is on the wrong side, or the first
--- id of the side that is no node above those before it, or the first that is in the cut, or a link that leaves it.
+-- near and far are surviving members
+abbrev pub EndsSurvive : List ℕ → Split → Type 0
+EndsSurvive q c = Survives q c.cut c.near × Survives q c.cut c.far
+
+-- the side is a set of nodes outside the cut
+abbrev pub IsOutsideCut : LinkGraph → Split → Type 0
+IsOutsideCut g c = IsNodeSet g c.side × IsApart c.cut c.side
+
+-- What is told of a side that is not cut off, the first of these: that near is lost, or far; the first id of the side
+-- that is no node above those before it; the first that is in the cut; that near is not on the side, or that far is;
+-- a link that leaves the side.
 pub data TellsSide (g : LinkGraph) (q : List ℕ) (c : Split) (text : List ℕ) : Type 0 where
-  Near : (wrong : ¬ (Survives q c.cut c.near × Has c.side c.near)) (told : BeginsWith (end_text (codes "near") c.near)
+  NearLost : (why : List ℕ) (lost : SaysLost q c.cut c.near why) (told : text ≡ end_text (codes "near") c.near why)
+      → TellsSide g q c text
+  FarLost : (near : Survives q c.cut c.near) (why : List ℕ) (lost : SaysLost q c.cut c.far why)
+      (told : text ≡ end_text (codes "far") c.far why) → TellsSide g q c text
+  NoSet : (ends : EndsSurvive q c) (told : TellsId (IsNodeSet g) (codes "side") c.side text) → TellsSide g q c text
+  Meets : (ends : EndsSurvive q c) (set : IsNodeSet g c.side) (told : TellsId (IsApart c.cut) (codes "side") c.side
       text) → TellsSide g q c text
-  Far : (wrong : ¬ (Survives q c.cut c.far × (¬ Has c.side c.far))) (told : BeginsWith (end_text (codes "far") c.far)
-      text) → TellsSide g q c text
-  NoSet : (told : TellsId (IsNodeSet g) (codes "side") c.side text) → TellsSide g q c text
-  Meets : (told : TellsId (IsApart c.cut) (codes "side") c.side text) → TellsSide g q c text
-  Leaves : (a b : ℕ) (inside : Has c.side a) (linked : Linked g a b) (outside : ¬ Has c.side b) (uncut : ¬ Has c.cut b)
+  NearOutside : (ends : EndsSurvive q c) (side : IsOutsideCut g c) (wrong : ¬ Has c.side c.near)
+      (told : text ≡ end_text (codes "near") c.near (codes ", which is not on the side")) → TellsSide g q c text
+  FarInside : (ends : EndsSurvive q c) (side : IsOutsideCut g c) (near : Has c.side c.near) (wrong : Has c.side c.far)
+      (told : text ≡ end_text (codes "far") c.far (codes ", which is on the side")) → TellsSide g q c text
+  Leaves : (ends : EndsSurvive q c) (side : IsOutsideCut g c) (near : Has c.side c.near) (far : ¬ Has c.side c.far)
+      (a b : ℕ) (inside : Has c.side a) (linked : Linked g a b) (outside : ¬ Has c.side b) (uncut : ¬ Has c.cut b)
       (told : text ≡ leaving_text a b) → TellsSide g q c text
 
 -- THE ENTRIES
@@ -151,11 +174,14 @@ abbrev pub paths_text : ℕ → ℕ → List ℕ
 paths_text number k = codes ": the number of paths is " ++ (decimal number ++ (codes ", and k is " ++ decimal k))
 
 -- What is told of the paths of an entry: how many there are, where they are not k, and else the first path that breaks
--- the rule. What is wrong with that path follows.
-abbrev pub TellsPaths : (List (List ℕ) → Type 0) → ℕ → List (List ℕ) → List ℕ → Type 0
-TellsPaths Keep k paths text =
+-- the rule, by its place, and what is told of that path behind the paths before it.
+abbrev pub TellsPaths : (List (List ℕ) → Type 0) → (List (List ℕ) → List ℕ → List ℕ → Type 0) → ℕ → List (List ℕ)
+    → List ℕ → Type 0
+TellsPaths Keep TellsPath k paths text =
     ((length paths ≢ k) × (text ≡ paths_text (length paths) k))
-    ⊎ ((length paths ≡ k) × ((place : ℕ) × IsFirstBreak Keep paths place × BeginsWith (path_text place) text))
+    ⊎ ((length paths ≡ k) × ((place : ℕ) × (path : List ℕ) × (rest : List ℕ) × IsFirstBreak Keep paths place
+    × (slice_get paths place ≡ Some path) × TellsPath (take place paths) path rest
+    × (text ≡ path_text place ++ rest)))
 
 -- the rule of a pair: these are paths from i to j that share only i and j
 abbrev pub KeepPair : LinkGraph → ℕ → ℕ → List (List ℕ) → Type 0
@@ -164,6 +190,14 @@ KeepPair g i j paths = ArePaths g i j (length paths) paths
 -- the rule of a fan: these are paths from j to members below j that share only j
 abbrev pub KeepFan : LinkGraph → List ℕ → ℕ → List (List ℕ) → Type 0
 KeepFan g q j paths = IsFan g j (members_below q j) (length paths) paths
+
+-- what is told of a path of the pair i, j, behind earlier ones: a flaw that it has
+abbrev pub TellsPairPath : LinkGraph → ℕ → ℕ → List (List ℕ) → List ℕ → List ℕ → Type 0
+TellsPairPath g i j = TellsFlaw g i (Some j) (j ∷ []) (i ∷ j ∷ [])
+
+-- what is told of a path of the fan of j, behind earlier ones: a flaw that it has
+abbrev pub TellsFanPath : LinkGraph → List ℕ → ℕ → List (List ℕ) → List ℕ → List ℕ → Type 0
+TellsFanPath g q j = TellsFlaw g j None (members_below q j) (j ∷ [])
 
 -- an entry of a pair names these nodes
 abbrev pub other_pair_text : ℕ → ℕ → List ℕ
@@ -178,14 +212,14 @@ abbrev pub TellsPairEntry : LinkGraph → ℕ → ℕ → ℕ → Option PairPat
 TellsPairEntry g k i j None text = text ≡ codes " is missing"
 TellsPairEntry g k i j (Some e) text =
     ((¬ ((e.i ≡ i) × (e.j ≡ j))) × (text ≡ other_pair_text e.i e.j))
-    ⊎ ((e.i ≡ i) × (e.j ≡ j) × TellsPaths (KeepPair g i j) k e.paths text)
+    ⊎ ((e.i ≡ i) × (e.j ≡ j) × TellsPaths (KeepPair g i j) (TellsPairPath g i j) k e.paths text)
 
 -- what is told of the entry of a fan: that it is missing, or which member it names in place of j, or its paths
 abbrev pub TellsFanEntry : LinkGraph → List ℕ → ℕ → ℕ → Option FanPaths → List ℕ → Type 0
 TellsFanEntry g q k j None text = text ≡ codes " is missing"
 TellsFanEntry g q k j (Some e) text =
     ((e.j ≢ j) × (text ≡ other_fan_text e.j))
-    ⊎ ((e.j ≡ j) × TellsPaths (KeepFan g q j) k e.paths text)
+    ⊎ ((e.j ≡ j) × TellsPaths (KeepFan g q j) (TellsFanPath g q j) k e.paths text)
 
 -- the place of the pair among the expected pairs, and what is told of the entry there
 pub record TellsPair (g : LinkGraph) (q : List ℕ) (c : Split) (i j : ℕ) (text : List ℕ) : Type 0 where

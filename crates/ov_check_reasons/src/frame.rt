@@ -5,6 +5,7 @@ ghost use Rattle.ov_cert.specs.Valid.{IsCutOff};
 ghost use Rattle.ov_check_reasons.specs.Opening.{BeginsWith};
 ghost use Rattle.ov_check_reasons.specs.Places.{TellsId, TellsGroup, TellsUnlinked, TellsSide};
 ghost use Rattle.ov_check_reasons.specs.Places.{id_text, count_text, two_text, end_text, leaving_text};
+ghost use Rattle.ov_check_reasons.specs.Places.{SaysLost, EndsSurvive, IsOutsideCut};
 ghost use Rattle.ov_check_reasons.specs.Code.Words.{Adds};
 ghost use Rattle.ov_check_reasons.specs.Code.Leaving.{Parts};
 
@@ -14,7 +15,7 @@ use ov_cert::Split;
 use ov_graph::Graph;
 use ov_ids::{NodeId, OutOfMemory};
 
-/// Appends an item of a list with its place.
+/// Appends an item of a list with its place, and a comma.
 pub(crate) fn say_item(
     text: &mut String,
     name: &str,
@@ -32,6 +33,7 @@ pub(crate) fn say_item(
             count(at),
             Word::Text("] is "),
             node(id),
+            Word::Text(","),
         ],
     )
 }
@@ -44,9 +46,9 @@ fn say_misfit(text: &mut String, name: &str, ids: &[NodeId], at: usize) -> Resul
 {
     say_item(text, name, at, ids[at])?;
     if at > 0 && ids[at] <= ids[at - 1] {
-        say(text, &[Word::Text(", not above "), node(ids[at - 1])])?;
+        say(text, &[Word::Text(" not above "), node(ids[at - 1])])?;
     } else {
-        say(text, &[Word::Text(", which is no node")])?;
+        say(text, &[Word::Text(" which is no node")])?;
     }
     Ok(())
 }
@@ -158,7 +160,7 @@ pub(crate) fn tell_side(
     }
     if let Some(at) = first_within(cut, side) {
         say_item(text, "side", at, side[at])?;
-        say(text, &[Word::Text(", which is in the cut")])?;
+        say(text, &[Word::Text(" which is in the cut")])?;
         return Ok(());
     }
     tell_parting(text, graph, group, split)?;
@@ -172,8 +174,9 @@ fn tell_parting(
     group: &[NodeId],
     split: &Split,
 ) -> Result<(), OutOfMemory>
-    ensures { ¬ Parts graph.now split.now → OnOk result (Adds (TellsSide graph.now group.now split.now)
-        (string_bytes text.old) (string_bytes text.new)) }
+    ensures { EndsSurvive group.now split.now → IsOutsideCut graph.now split.now → ¬ Parts graph.now split.now
+        → OnOk result (Adds (TellsSide graph.now group.now split.now) (string_bytes text.old)
+        (string_bytes text.new)) }
 {
     let side = split.side.as_slice();
     if !side.contains(&split.near) {
@@ -192,7 +195,7 @@ fn tell_parting(
 
 /// Why a node is no surviving member.
 fn why_lost(group: &[NodeId], cut: &[NodeId], id: NodeId) -> Option<&'static str>
-    ensures { MatchOption result (Survives group.now cut.now id) (λ _. ¬ Survives group.now cut.now id) }
+    ensures { MatchOption result (Survives group.now cut.now id) (λ why. SaysLost group.now cut.now id why.now) }
 {
     if !group.contains(&id) {
         return Some(", which is no member");
@@ -209,7 +212,7 @@ fn say_end<'x>(
     id: NodeId,
     why: &'x str,
 ) -> Result<(), OutOfMemory>
-    ensures { OnOk result (BeginsWith (string_bytes text.old ++ end_text name.now id) (string_bytes text.new)) }
+    ensures { OnOk result (string_bytes text.new ≡ string_bytes text.old ++ end_text name.now id why.now) }
 {
     say(
         text,
@@ -218,10 +221,9 @@ fn say_end<'x>(
             Word::Text(name),
             Word::Text(" is "),
             node(id),
+            Word::Text(why),
         ],
-    )?;
-    say(text, &[Word::Text(why)])?;
-    Ok(())
+    )
 }
 
 fn say_leaving(text: &mut String, link: (NodeId, NodeId)) -> Result<(), OutOfMemory>

@@ -237,7 +237,7 @@ fn tell_first(
 {
     if let Some(at) = first_fall(nodes) {
         say_item(text, "nodes", at, nodes[at])?;
-        say(text, &[Word::Text(", not above "), node(nodes[at - 1])])?;
+        say(text, &[Word::Text(" not above "), node(nodes[at - 1])])?;
         return Ok(());
     }
     if let Some(at) = first_bad_link(nodes, links) {

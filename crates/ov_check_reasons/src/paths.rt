@@ -1,11 +1,14 @@
-ghost use Rattle.std.specs.Prelude.{◌≡◌, ◌++◌, length, is_none, not, OnOk, MatchOption, string_bytes};
-ghost use Rattle.std.specs.Prelude.{codes, decimal};
+ghost use Rattle.std.specs.Prelude.{◌≡◌, ◌++◌, ℕ, List, length, take, slice_get, Some, is_none, not, OnOk, MatchOption};
+ghost use Rattle.std.specs.Prelude.{codes, decimal, string_bytes};
+ghost use Rattle.ov_ids.specs.Members.{Has};
+ghost use Rattle.ov_graph.specs.Links.{LinkGraph, Linked};
 ghost use Rattle.ov_cert.specs.Code.Tests.{chained, last_of};
 ghost use Rattle.ov_check_reasons.specs.Places.{IsFirstBreak, TellsPaths, path_text, paths_text};
 ghost use Rattle.ov_check_reasons.specs.Code.Words.{Adds};
-ghost use Rattle.ov_check_reasons.specs.Code.PathRules.{KeepRule, may_end, may_share, has_ends, have};
+ghost use Rattle.ov_check_reasons.specs.Code.PathRules.{KeepRule, RuleFlaw, TellsRuleFlaw, may_end};
+ghost use Rattle.ov_check_reasons.specs.Code.PathRules.{shared_of, may_share, has_ends, have};
 ghost use Rattle.ov_check_reasons.specs.Code.PathRules.{are_nodes, is_distinct, meets_none, may_follow};
-ghost use Rattle.ov_check_reasons.specs.Code.PathTexts.{stop_text, flaw_text};
+ghost use Rattle.ov_check_reasons.specs.PathFlaws.{HasStep, HasTwice, HasAt, stop_text, flaw_text};
 
 use crate::ids::{are_linked, is_node};
 use crate::words::{Word, count, node, say};
@@ -73,7 +76,9 @@ fn last_of(first: NodeId, rest: &[NodeId]) -> NodeId
 
 /// What is wrong with the ends of a path.
 fn flaw_of_ends(group: &[NodeId], rule: &Rule, path: &[NodeId]) -> Option<PathFlaw>
-    ensures { is_none result ≡ has_ends group.now rule.now.from rule.now.to path.now }
+    ensures none { is_none result ≡ has_ends group.now rule.now.from rule.now.to path.now }
+    ensures flaw { (g : LinkGraph) (earlier : List (List ℕ)) → MatchOption result (Unit {0})
+        (RuleFlaw g group.now rule.now.from rule.now.to earlier path.now) }
 {
     let Some((first, rest)) = path.split_first() else {
         return Some(PathFlaw::Empty);
@@ -90,7 +95,8 @@ fn flaw_of_ends(group: &[NodeId], rule: &Rule, path: &[NodeId]) -> Option<PathFl
 
 /// The first id of a path that is no node.
 fn first_stranger_of(graph: &Graph, path: &[NodeId]) -> Option<NodeId>
-    ensures { is_none result ≡ are_nodes graph.now path.now }
+    ensures none { is_none result ≡ are_nodes graph.now path.now }
+    ensures flaw { MatchOption result (Unit {0}) (λ x. Has path.now x × (¬ Has graph.now.nodes x)) }
 {
     for id in path {
         if !is_node(graph, *id) {
@@ -102,7 +108,9 @@ fn first_stranger_of(graph: &Graph, path: &[NodeId]) -> Option<NodeId>
 
 /// The first step of a path over no link.
 fn first_unlinked_step(graph: &Graph, path: &[NodeId]) -> Option<(NodeId, NodeId)>
-    ensures { is_none result ≡ chained graph.now path.now }
+    ensures none { is_none result ≡ chained graph.now path.now }
+    ensures flaw { MatchOption result (Unit {0})
+        (λ step. HasStep path.now step.0 step.1 × (¬ Linked graph.now step.0 step.1)) }
 {
     let (first, mut rest) = path.split_first()?;
     let mut at = *first;
@@ -118,7 +126,8 @@ fn first_unlinked_step(graph: &Graph, path: &[NodeId]) -> Option<(NodeId, NodeId
 
 /// The first node of a path that stands in it once more.
 fn first_twice(path: &[NodeId]) -> Option<NodeId>
-    ensures { is_none result ≡ is_distinct path.now }
+    ensures none { is_none result ≡ is_distinct path.now }
+    ensures flaw { MatchOption result (Unit {0}) (HasTwice path.now) }
 {
     let mut left = path;
     while let Some((id, rest)) = left.split_first() {
@@ -132,7 +141,8 @@ fn first_twice(path: &[NodeId]) -> Option<NodeId>
 
 /// The first of these paths that has a node.
 fn first_with(id: NodeId, paths: &[Seq<NodeId>]) -> Option<usize>
-    ensures { is_none result ≡ not (have paths.now id) }
+    ensures none { is_none result ≡ not (have paths.now id) }
+    ensures flaw { MatchOption result (Unit {0}) (λ at. HasAt paths.now at id) }
 {
     for (at, path) in paths.iter().enumerate() {
         if path.as_slice().contains(&id) {
@@ -144,7 +154,9 @@ fn first_with(id: NodeId, paths: &[Seq<NodeId>]) -> Option<usize>
 
 /// The first node of a path, none of the shared ones, that an earlier path has, and that path's place.
 fn first_shared(rule: &Rule, earlier: &[Seq<NodeId>], path: &[NodeId]) -> Option<(NodeId, usize)>
-    ensures { is_none result ≡ meets_none rule.now.from rule.now.to earlier.now path.now }
+    ensures none { is_none result ≡ meets_none rule.now.from rule.now.to earlier.now path.now }
+    ensures flaw { MatchOption result (Unit {0}) (λ s. Has path.now s.0
+        × (¬ Has (shared_of rule.now.from rule.now.to) s.0) × HasAt earlier.now s.1 s.0) }
 {
     for id in path {
         if rule.shares(*id) {
@@ -165,7 +177,9 @@ fn flaw_of(
     earlier: &[Seq<NodeId>],
     path: &[NodeId],
 ) -> Option<PathFlaw>
-    ensures { is_none result ≡ may_follow graph.now group.now rule.now.from rule.now.to earlier.now path.now }
+    ensures none { is_none result ≡ may_follow graph.now group.now rule.now.from rule.now.to earlier.now path.now }
+    ensures flaw { MatchOption result (Unit {0})
+        (RuleFlaw graph.now group.now rule.now.from rule.now.to earlier.now path.now) }
 {
     if let Some(flaw) = flaw_of_ends(group, rule, path) {
         return Some(flaw);
@@ -191,7 +205,9 @@ fn first_flaw(
     paths: &[Seq<NodeId>],
 ) -> Option<(usize, PathFlaw)>
     ensures { MatchOption result (KeepRule graph.now group.now rule.now.from rule.now.to paths.now)
-        (λ f. IsFirstBreak (KeepRule graph.now group.now rule.now.from rule.now.to) paths.now f.0) }
+        (λ f. IsFirstBreak (KeepRule graph.now group.now rule.now.from rule.now.to) paths.now f.0
+        × ((path : List ℕ) × (slice_get paths.now f.0 ≡ Some path)
+        × RuleFlaw graph.now group.now rule.now.from rule.now.to (take f.0 paths.now) path f.1)) }
 {
     for (at, path) in paths.iter().enumerate() {
         if let Some(flaw) = flaw_of(graph, group, rule, &paths[..at], path.as_slice()) {
@@ -211,8 +227,9 @@ pub(crate) fn tell_paths(
     paths: &[Seq<NodeId>],
 ) -> Result<(), OutOfMemory>
     ensures { ¬ ((length paths.now ≡ k) × KeepRule graph.now group.now rule.now.from rule.now.to paths.now)
-        → OnOk result (Adds (TellsPaths (KeepRule graph.now group.now rule.now.from rule.now.to) k paths.now)
-        (string_bytes text.old) (string_bytes text.new)) }
+        → OnOk result (Adds (TellsPaths (KeepRule graph.now group.now rule.now.from rule.now.to)
+        (TellsRuleFlaw graph.now group.now rule.now.from rule.now.to) k paths.now) (string_bytes text.old)
+        (string_bytes text.new)) }
 {
     if paths.len() as u64 != u64::from(k) {
         say_number_of_paths(text, paths.len(), k)?;
@@ -247,7 +264,7 @@ fn say_path(text: &mut String, at: usize) -> Result<(), OutOfMemory>
 }
 
 fn say_flaw(text: &mut String, rule: &Rule, flaw: PathFlaw) -> Result<(), OutOfMemory>
-    ensures { OnOk result (string_bytes text.new ≡ string_bytes text.old ++ flaw_text rule.now flaw) }
+    ensures { OnOk result (string_bytes text.new ≡ string_bytes text.old ++ flaw_text rule.now.from rule.now.to flaw) }
 {
     match flaw {
         PathFlaw::Empty => say(text, &[Word::Text(" has no node")]),

@@ -41,7 +41,8 @@ fn run<R: Runtime + AllocGlobal + Threads + Sync>(rt: &R) -> u8 {
 fn tell_wrong_arguments(rt: &impl Runtime, fault: &ProgramFault) {
     let why = match fault {
         ProgramFault::Usage => "more than one file is named",
-        ProgramFault::Judge(_) => "the name of the file is no UTF-8 text, or is longer than 4096 bytes",
+        ProgramFault::Judge(_) =>
+            "the name of the file is no UTF-8 text, or is longer than 4096 bytes",
     };
     let _ = eprintln!(rt; "{why}");
 }

@@ -24,7 +24,7 @@ use Rattle.ov_check_reasons.proofs.Rules.Breaking.{breaks_here, next_is, last_ha
 equal_tested : (a b : ℕ) → IsTrue (eqb a b) ↔ (a ≡ b)
 equal_tested a b = ((λ h. eqb-true a b h), (λ e. eq-eqb a b e))
 
-end_tested : (q : List ℕ) (from : ℕ) (to : Option ℕ) (x : ℕ)
+pub end_tested : (q : List ℕ) (from : ℕ) (to : Option ℕ) (x : ℕ)
     → IsTrue (may_end q from to x) ↔ Has (targets_of q from to) x
 end_tested q from None x = (
   (λ t. let p = and_parts (nat_lt x from) (has q x) t in
@@ -37,7 +37,7 @@ end_tested q from (Some to) x = (
   (λ h. elim h [ inl e ↦ eq-eqb x to (sym e) | inr m ↦ absurd m ]),
 )
 
-share_tested : (from : ℕ) (to : Option ℕ) (x : ℕ) → IsTrue (may_share from to x) ↔ Has (shared_of from to) x
+pub share_tested : (from : ℕ) (to : Option ℕ) (x : ℕ) → IsTrue (may_share from to x) ↔ Has (shared_of from to) x
 share_tested from None x = (
   (λ t. inl (sym (eqb-true x from t))),
   (λ h. elim h [ inl e ↦ eq-eqb x from (sym e) | inr m ↦ absurd m ]),

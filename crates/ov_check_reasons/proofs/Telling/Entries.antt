@@ -3,8 +3,9 @@ use Rattle.std.proofs.Common.{◌≡◌, ℕ, ◌<◌, ◌≤◌, List, ◌++◌
 use Rattle.std.proofs.Common.{◌∙◌, ap, inr, Option, Some, None}
 use Rattle.std.specs.Prelude.{MatchOption}
 use Rattle.ov_graph.specs.Links.{LinkGraph, IsGroup}
-use Rattle.ov_graph.specs.Paths.{IsFan}
+use Rattle.ov_graph.specs.Paths.{ArePaths, IsFan}
 use Rattle.ov_graph.specs.Even.{later_members, members_below}
+use Rattle.ov_cert.specs.declared.cert.PairPaths.{PairPaths}
 use Rattle.ov_cert.specs.declared.cert.FanPaths.{FanPaths}
 use Rattle.ov_cert.specs.declared.cert.Cert.TheVariants.{Split as SplitBy}
 use Rattle.ov_cert.specs.declared.cert.Split.{Split}
@@ -14,7 +15,7 @@ use Rattle.ov_cert.specs.Valid.{AreUnlinkedPairs}
 use Rattle.ov_cert.specs.Verdict.{IsPairEntry, IsFanEntry, IsFirstFault}
 use Rattle.ov_cert.specs.Entries.{IsExpected}
 use Rattle.ov_check_reasons.specs.Places.{item_text, number_text, TellsPairEntry, TellsFanEntry, TellsPair, TellsFan}
-use Rattle.ov_check_reasons.specs.Places.{TellsExtra, TellsPaths, KeepFan}
+use Rattle.ov_check_reasons.specs.Places.{TellsExtra, TellsPaths, KeepPair, KeepFan, TellsPairPath, TellsFanPath}
 use Rattle.ov_check_reasons.specs.Code.Words.{Adds}
 use Rattle.ov_check_reasons.proofs.Telling.Texts.{added, added_more}
 use Rattle.ov_check_reasons.proofs.Telling.Placing.{about_pair, about_fan, about_extra}
@@ -86,11 +87,23 @@ more_fans g q c before after (Some j) n m k l h is same few is_fans is_later e f
     (e ∙ ap (λ (x : List ℕ). before ++ x) d)
     (h.0, h.1, inr (above (length c.fans) later (λ l. (about_extra g q c first).1 h.0 h.1 (fits, l)), refl))
 
--- THE ENTRY OF A FAN
+-- THE ENTRY OF A PAIR AND OF A FAN
+
+pub pair_entry_told : (g : LinkGraph) (k i j : ℕ) (o : Option PairPaths) (e : PairPaths) (before after : List ℕ)
+    → o ≡ Some e → e.i ≡ i → e.j ≡ j
+    → (¬ ((length e.paths ≡ k) × KeepPair g i j e.paths)
+    → Adds (TellsPaths (KeepPair g i j) (TellsPairPath g i j) k e.paths) before after)
+    → ¬ IsPairEntry g k (i, j) o → Adds (TellsPairEntry g k i j o) before after
+pair_entry_told g k i j o e before after is same_i same_j told wrong =
+    let n = subst (λ (o : Option PairPaths). ¬ IsPairEntry g k (i, j) o) is wrong in
+    let a = told (λ h. n (same_i, same_j, subst (λ (m : ℕ). ArePaths g i j m e.paths) h.0 h.1)) in
+    subst (λ (o : Option PairPaths). Adds (TellsPairEntry g k i j o) before after) (sym is)
+    (a.0, a.1, inr (same_i, same_j, a.2))
 
 pub fan_entry_told : (g : LinkGraph) (q : List ℕ) (k j : ℕ) (o : Option FanPaths) (e : FanPaths)
     (before after : List ℕ) → o ≡ Some e → e.j ≡ j
-    → (¬ ((length e.paths ≡ k) × KeepFan g q j e.paths) → Adds (TellsPaths (KeepFan g q j) k e.paths) before after)
+    → (¬ ((length e.paths ≡ k) × KeepFan g q j e.paths)
+    → Adds (TellsPaths (KeepFan g q j) (TellsFanPath g q j) k e.paths) before after)
     → ¬ IsFanEntry g q k j o → Adds (TellsFanEntry g q k j o) before after
 fan_entry_told g q k j o e before after is same told wrong =
     let n = subst (λ (o : Option FanPaths). ¬ IsFanEntry g q k j o) is wrong in

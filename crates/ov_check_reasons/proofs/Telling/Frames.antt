@@ -8,8 +8,9 @@ use Rattle.ov_graph.specs.Links.{LinkGraph, Linked, AreAllLinked}
 use Rattle.ov_graph.specs.Joined.{IsNodeSet}
 use Rattle.ov_cert.specs.declared.cert.Split.{Split}
 use Rattle.ov_check_reasons.specs.Opening.{BeginsWith}
-use Rattle.ov_check_reasons.specs.Places.{IsFirstBreak, TellsId, TellsSide, Near, Far, NoSet, Meets, Leaves, id_text}
-use Rattle.ov_check_reasons.specs.Places.{two_text, end_text, leaving_text, TellsUnlinked}
+use Rattle.ov_check_reasons.specs.Places.{IsFirstBreak, TellsId, TellsSide, NoSet, Meets, NearOutside, FarInside}
+use Rattle.ov_check_reasons.specs.Places.{Leaves, EndsSurvive, IsOutsideCut, id_text, two_text, end_text}
+use Rattle.ov_check_reasons.specs.Places.{leaving_text, TellsUnlinked}
 use Rattle.ov_check_reasons.specs.Code.Words.{Adds}
 use Rattle.ov_check_reasons.specs.Code.Leaving.{EndsWithin, Parts}
 use Rattle.ov_check_reasons.proofs.Telling.Texts.{added, added_front}
@@ -34,31 +35,40 @@ id_told_at Keep name ids at id before after first is b =
 
 -- THE SIDE
 
-module _ (g : LinkGraph) (q : List ℕ) (c : Split) (before after : List ℕ) where
+module _ (g : LinkGraph) (q : List ℕ) (c : Split) (before after : List ℕ) (ends : EndsSurvive q c) where
   pub set_told : Adds (TellsId (IsNodeSet g) (codes "side") c.side) before after → Adds (TellsSide g q c) before after
-  set_told a = (a.0, a.1, NoSet a.2)
+  set_told a = (a.0, a.1, NoSet ends a.2)
 
-  pub cut_told : Adds (TellsId (IsApart c.cut) (codes "side") c.side) before after → Adds (TellsSide g q c) before after
-  cut_told a = (a.0, a.1, Meets a.2)
-
-  pub near_told : ¬ Has c.side c.near → BeginsWith (before ++ end_text (codes "near") c.near) after
+  pub cut_told : IsNodeSet g c.side → Adds (TellsId (IsApart c.cut) (codes "side") c.side) before after
       → Adds (TellsSide g q c) before after
-  near_told n b =
-      added_front (TellsSide g q c) before after (end_text (codes "near") c.near) b (λ text t. Near (λ h. n h.1) t)
+  cut_told set a = (a.0, a.1, Meets ends set a.2)
 
-  pub far_told : Has c.side c.far → BeginsWith (before ++ end_text (codes "far") c.far) after
-      → Adds (TellsSide g q c) before after
-  far_told h b =
-      added_front (TellsSide g q c) before after (end_text (codes "far") c.far) b (λ text t. Far (λ n. n.1 h) t)
+  module _ (side_set : IsOutsideCut g c) where
+    pub near_told : ¬ Has c.side c.near
+        → after ≡ before ++ end_text (codes "near") c.near (codes ", which is not on the side")
+        → Adds (TellsSide g q c) before after
+    near_told n e =
+        added (TellsSide g q c) before after (end_text (codes "near") c.near (codes ", which is not on the side")) e
+        (NearOutside ends side_set n refl)
 
-  pub leaving_told : (a b : ℕ) (side cut : List ℕ) → side ≡ c.side → cut ≡ c.cut
-      → Has side a × Linked g a b × (¬ Has side b) × (¬ Has cut b)
-      → after ≡ before ++ leaving_text a b → Adds (TellsSide g q c) before after
-  leaving_told a b side cut is_side is_cut h e =
-      added (TellsSide g q c) before after (leaving_text a b) e
-      (Leaves a b (subst (λ (xs : List ℕ). Has xs a) is_side h.0) h.1
-      (subst (λ (xs : List ℕ). ¬ Has xs b) is_side h.2) (subst (λ (xs : List ℕ). ¬ Has xs b) is_cut h.3) refl)
+    pub far_told : Has c.side c.near → Has c.side c.far
+        → after ≡ before ++ end_text (codes "far") c.far (codes ", which is on the side")
+        → Adds (TellsSide g q c) before after
+    far_told near h e =
+        added (TellsSide g q c) before after (end_text (codes "far") c.far (codes ", which is on the side")) e
+        (FarInside ends side_set near h refl)
 
+    pub leaving_told : (a b : ℕ) (side cut : List ℕ) → side ≡ c.side → cut ≡ c.cut → Has side c.near
+        → ¬ Has side c.far → Has side a × Linked g a b × (¬ Has side b) × (¬ Has cut b)
+        → after ≡ before ++ leaving_text a b → Adds (TellsSide g q c) before after
+    leaving_told a b side cut is_side is_cut near far h e =
+        added (TellsSide g q c) before after (leaving_text a b) e
+        (Leaves ends side_set (subst (λ (xs : List ℕ). Has xs c.near) is_side near)
+        (subst (λ (xs : List ℕ). ¬ Has xs c.far) is_side far) a b
+        (subst (λ (xs : List ℕ). Has xs a) is_side h.0) h.1
+        (subst (λ (xs : List ℕ). ¬ Has xs b) is_side h.2) (subst (λ (xs : List ℕ). ¬ Has xs b) is_cut h.3) refl)
+
+module _ (g : LinkGraph) (q : List ℕ) (c : Split) (before after : List ℕ) where
   -- no id of the side breaks a rule, and no link leaves it, so it parts near from far
   pub no_parting : {P : Type 0} (side cut : List ℕ) → side ≡ c.side → cut ≡ c.cut → Has side c.near → ¬ Has side c.far
       → ((a : ℕ) → Has side a → EndsWithin g side cut a) → ¬ Parts g c → P

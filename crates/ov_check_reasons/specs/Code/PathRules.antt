@@ -7,6 +7,8 @@ use Rattle.ov_graph.specs.Links.{LinkGraph}
 use Rattle.ov_graph.specs.Paths.{IsPath}
 use Rattle.ov_graph.specs.Even.{members_below}
 use Rattle.ov_cert.specs.Code.Tests.{chained, last_of, is_earlier}
+use Rattle.ov_check_reasons.specs.declared.paths.PathFlaw.{PathFlaw}
+use Rattle.ov_check_reasons.specs.PathFlaws.{IsFlaw, TellsFlaw}
 use Rattle.ov_check_reasons.specs.Places.{KeepPair, KeepFan}
 
 -- the nodes at which paths from a node may end
@@ -29,6 +31,14 @@ pub record MayFollow (g : LinkGraph) (q : List ℕ) (from : ℕ) (to : Option �
     (path : List ℕ) : Type 0 where
   pub leads : (t : ℕ) × Has (targets_of q from to) t × IsPath g from path t
   pub apart : (p : List ℕ) (x : ℕ) → Has earlier p → Has p x → Has path x → Has (shared_of from to) x
+
+-- a flaw of a path behind these
+abbrev pub RuleFlaw : LinkGraph → List ℕ → ℕ → Option ℕ → List (List ℕ) → List ℕ → PathFlaw → Type 0
+RuleFlaw g q from to earlier path flaw = IsFlaw g from (targets_of q from to) (shared_of from to) earlier path flaw
+
+-- what is told of a path behind these: a flaw that it has
+abbrev pub TellsRuleFlaw : LinkGraph → List ℕ → ℕ → Option ℕ → List (List ℕ) → List ℕ → List ℕ → Type 0
+TellsRuleFlaw g q from to = TellsFlaw g from to (targets_of q from to) (shared_of from to)
 
 -- whether a path may end at x
 abbrev pub may_end : List ℕ → ℕ → Option ℕ → ℕ → Bool

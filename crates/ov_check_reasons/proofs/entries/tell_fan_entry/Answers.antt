@@ -1,7 +1,7 @@
 -- The entry is there, names the member, and does not keep the rule.
 use Rattle.std.proofs.Common.{◌≡◌, ◌∙◌, List, ℕ, length, slice_get, Some, string_bytes, refl, sym, ap, subst}
 use Rattle.std.proofs.lemmas.Option.{slice_get_read}
-use Rattle.ov_check_reasons.specs.Places.{KeepFan, TellsPaths}
+use Rattle.ov_check_reasons.specs.Places.{KeepFan, TellsFanPath, TellsPaths}
 use Rattle.ov_check_reasons.specs.Code.Words.{Adds}
 use Rattle.ov_check_reasons.proofs.Telling.Entries.{fan_entry_told}
 use Rattle.ov_check_reasons.proofs.Rules.Members.{same_when}
@@ -21,4 +21,5 @@ returns c =
     fan_entry_told g q s.k c.args.j (slice_get s.fans c.args.at) e before after there
     (same_when e.j c.args.j c.ne.result c.ne.ensures c.if-ne.false)
     (subst (λ (ps : List (List ℕ)). ¬ ((length ps ≡ s.k) × KeepFan g q c.args.j ps)
-    → Adds (TellsPaths (KeepFan g q c.args.j) s.k ps) before after) c.as_slice-2.ensures c.in_ok-tell_paths.ensures)
+    → Adds (TellsPaths (KeepFan g q c.args.j) (TellsFanPath g q c.args.j) s.k ps) before after) c.as_slice-2.ensures
+    c.in_ok-tell_paths.ensures)
