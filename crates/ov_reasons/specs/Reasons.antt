@@ -15,7 +15,8 @@ device_reason Write = codes "writing failed\n"
 device_reason OutOfMemory = codes "out of memory\n"
 device_reason other = []
 
--- a text tells of the lines of a scenario file that are at fault. The first of them is the one whose fault the file has
+-- A text tells of the lines of a scenario file that are at fault. The first of them is the one whose fault the file
+-- has: that is the theorem `first_line_has_the_fault` of ov_run.
 abbrev pub TellsOfFaultLines : List ℕ → List ℕ → Type 0
 TellsOfFaultLines bytes text = (numbers : List ℕ) × AreFaultLines bytes numbers × ExplainsLines numbers text
 

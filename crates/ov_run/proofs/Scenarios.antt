@@ -2,6 +2,7 @@
 pub mod Collecting
 pub mod Drawn
 pub mod FaultNumbers
+pub mod FirstLines
 pub mod Judged
 pub mod Numbered
 pub mod Placed

@@ -47,5 +47,5 @@ pub use run_watcher::RunWatcher;
 pub use scenario::{Line, Look, Scenario, Subject};
 pub use scenario_entry_points::{run, run_watched};
 pub use scenario_reading::read_scenario;
-pub use theorems::every_printed_report_is_so;
+pub use theorems::{every_printed_report_is_so, first_line_has_the_fault};
 pub use workers::Workers;

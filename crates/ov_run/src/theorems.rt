@@ -1,3 +1,4 @@
+ghost use Rattle.ov_run.specs.LinesAtFault.{FirstLineHasTheFault};
 ghost use Rattle.ov_run.specs.Theorems.{EveryPrintedReportIsSo};
 
 /// The main theorem, as who runs a scenario meets it. Whatever lines ran before: what `analyse` prints is a refusal, or
@@ -9,4 +10,10 @@ ghost use Rattle.ov_run.specs.Theorems.{EveryPrintedReportIsSo};
 /// says yes.
 pub fn every_printed_report_is_so()
     ensures { EveryPrintedReportIsSo }
+{}
+
+/// Of the lines at fault that `scenario_fault_lines` returns, and of those that `unread_graph_lines` returns, the first
+/// is the one whose fault the file has, as `read_scenario` and `read_graph` return it.
+pub fn first_line_has_the_fault()
+    ensures { FirstLineHasTheFault }
 {}

@@ -289,7 +289,7 @@ there before lines (first ∷ front) behind line n is number at_fault =
     (subst (λ b. IsFaulty b line behind) (sym (append_assoc before (first ∷ []) front)) at_fault)))
 
 -- the fault of a line is one of its number
-fault_is :
+pub fault_is :
     (before : List Stated) (n : ℕ) (said : Option Statement) (behind : List Stated) (f : RunFault)
     → IsLineFault before n said behind f → (f ≡ fault.Line n) ⊎ (f ≡ fault.Params n)
 fault_is before n None behind f at_fault = inl at_fault
@@ -302,11 +302,11 @@ fault_is before n (Some (says.Look look)) behind f at_fault = absurd at_fault
 fault_is before n (Some (says.Analyse subject workers)) behind f at_fault = absurd at_fault
 
 -- the fault names the line
-line_named : (m n : ℕ) → (fault.Line n ≡ fault.Line m) ⊎ (fault.Line n ≡ fault.Params m) → m ≡ n
+pub line_named : (m n : ℕ) → (fault.Line n ≡ fault.Line m) ⊎ (fault.Line n ≡ fault.Params m) → m ≡ n
 line_named m n (inl same) = cc
 line_named m n (inr other) = absurd cc
 
-params_named : (m n : ℕ) → (fault.Params n ≡ fault.Line m) ⊎ (fault.Params n ≡ fault.Params m) → m ≡ n
+pub params_named : (m n : ℕ) → (fault.Params n ≡ fault.Line m) ⊎ (fault.Params n ≡ fault.Params m) → m ≡ n
 params_named m n (inl other) = absurd cc
 params_named m n (inr same) = cc
 
