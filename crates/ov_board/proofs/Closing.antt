@@ -11,13 +11,13 @@ use mathlib.Core.Option.{some, some-injective, some-ne-none}
 use lib.ListN.{get_elem?}
 use Rattle.atomic_table.specs.Table.{State, Final, Seen, opening}
 use Rattle.ov_ids.specs.Members.{Has}
-use Rattle.ov_claims.specs.Claims.{WorkerState, HasWorker, fresh, most_workers, opening_claims}
+use Rattle.ov_claims.specs.Claims.{WorkerState, HasWorker, MayWork, fresh, opening_claims}
 use Rattle.ov_claims.proofs.Changing.{one_worker}
 use Rattle.ov_claims.proofs.Staying.{stays_legal}
 use Rattle.ov_claims.proofs.Ending.{ends_done}
-use Rattle.ov_board.specs.Rule.{Numbered, times, IsKept}
+use Rattle.ov_board.specs.Rule.{Numbered, times, ShowsClaims}
 use Rattle.ov_board.specs.declared.view.BoardSize.{BoardSize}
-use Rattle.ov_board.specs.declared.view.View.{View}
+use Rattle.ov_board.specs.declared.view.SeatView.{SeatView}
 use Rattle.ov_board.specs.Board.{BoardState, SeatState, IsClosed}
 use Rattle.ov_board.specs.Code.Rule.{fresh_from, opening_view, spent_view}
 use Rattle.ov_board.proofs.Views.{IsAt, hit, sum_written, times_has}
@@ -64,19 +64,18 @@ fresh_once w i (suc m) up low = elim (first_or_later w i up) [
     first_or_later w i up = grind arith
 
 -- the state at the opening
-pub opens : (p : BoardSize) → p.total < 2 ^ 32 → 1 ≤ p.workers → p.workers ≤ most_workers
-    → IsKept p (opening (0 ∷ p.total ∷ []) [] (opening_view p))
-opens p small any few =
+pub opens : (p : BoardSize) → p.total < 2 ^ 32 → MayWork p.workers
+    → ShowsClaims p (opening (0 ∷ p.total ∷ []) [] (opening_view p))
+opens p small may =
     let n = p.workers in
     let long : length (replicate n fresh) ≡ n = length-replicate n fresh in
     record {
       claims = opening_claims p.total n;
       words = refl;
-      held = record {
+      sound = record {
         legal = stays_legal.opens p.total n;
         total = small;
-        some = omega (arith, long, any);
-        few = omega (arith, long, few);
+        may_work = subst MayWork (sym long) may;
       };
       total = refl;
       workers = long;
@@ -85,9 +84,9 @@ opens p small any few =
       all = omega (arith, fresh_long 0 n);
     }
   where
-    here : (i : ℕ) (v : View) (q : Numbered) → IsAt (opening_view p ∷ []) i v → Has v.seated q
+    here : (i : ℕ) (v : SeatView) (q : Numbered) → IsAt (opening_view p ∷ []) i v → Has v.seated q
         → Has (fresh_from 0 p.workers) q
-    here zero v q at has = subst (λ (y : View). Has y.seated q) (sym (some-injective (opening_view p) v at)) has
+    here zero v q at has = subst (λ (y : SeatView). Has y.seated q) (sym (some-injective (opening_view p) v at)) has
     here (suc i) v q at has = absurd (some-ne-none v (sym at))
 
     stands : (n : ℕ) (q : Numbered) → Has (fresh_from 0 n) q → slice_get (replicate n fresh) q.0 ≡ Some q.1
@@ -98,11 +97,11 @@ opens p small any few =
         ∙ ap Some (get_or-replicate n q.0 fresh fresh (omega (arith, r.0)) ∙ sym r.1)
 
 -- views with no worker count for nothing
-counts_nothing : (f : List Numbered → ℕ) (vs : List View) → IsCount f → counted length vs ≡ 0 → counted f vs ≡ 0
+counts_nothing : (f : List Numbered → ℕ) (vs : List SeatView) → IsCount f → counted length vs ≡ 0 → counted f vs ≡ 0
 counts_nothing f [] c e = refl
 counts_nothing f (v ∷ vs) c e =
-    let long = sum_by-cons (λ (u : View). length u.seated) v vs in
-    let count = sum_by-cons (λ (u : View). f u.seated) v vs in
+    let long = sum_by-cons (λ (u : SeatView). length u.seated) v vs in
+    let count = sum_by-cons (λ (u : SeatView). f u.seated) v vs in
     let none_here : f v.seated ≡ 0 = ap f (empty v.seated (omega (arith, long, e))) ∙ c.none_is in
     omega (arith, count, none_here, counts_nothing f vs c (omega (arith, long, e)))
   where
@@ -111,7 +110,7 @@ counts_nothing f (v ∷ vs) c e =
     empty (q ∷ qs) e = absurd (omega arith)
 
 -- where one view has as many workers as all views, all that counts is in it
-counts_all : (f : List Numbered → ℕ) (vs : List View) (i : ℕ) (v : View) → IsCount f → IsAt vs i v
+counts_all : (f : List Numbered → ℕ) (vs : List SeatView) (i : ℕ) (v : SeatView) → IsCount f → IsAt vs i v
     → counted length vs ≡ length v.seated → counted f vs ≡ f v.seated
 counts_all f vs i v c at e =
     let long : counted length (set vs i spent_view) + length v.seated ≡ counted length vs + 0 =
@@ -122,7 +121,7 @@ counts_all f vs i v c at e =
     omega (arith, rest, nothing, c.none_is)
 
 -- each worker of the claims is in a view that has as many workers as all views
-whole : (p : BoardSize) (t : State (Unit {0}) View) (i : ℕ) (v : View) (k : IsKept p t) → IsAt t.views i v
+whole : (p : BoardSize) (t : State (Unit {0}) SeatView) (i : ℕ) (v : SeatView) (k : ShowsClaims p t) → IsAt t.views i v
     → length v.seated ≡ p.workers → (w : ℕ) (x : WorkerState) → HasWorker k.claims w x → Has v.seated (w, x)
 whole p t i v k at all w x has =
     let low : w < p.workers = omega (arith, slice_get_within k.claims.workers w x has, k.workers) in
@@ -158,13 +157,14 @@ all_has P (x ∷ xs) seat all h = elim h [
 ]
 
 -- the state at the closing
-pub closes : (p : BoardSize) (b : BoardState) (id : ℕ) (v : View) (words : List ℕ) (slots : List (Unit {0})) (least : ℕ)
-    (seats : List SeatState) → Final (Seen (IsKept p) id v) words slots → get_elem? words 1 ≡ some least
+pub closes : (p : BoardSize) (b : BoardState) (id : ℕ) (v : SeatView) (words : List ℕ) (slots : List (Unit {0}))
+    (least : ℕ) (seats : List SeatState) → Final (Seen (ShowsClaims p) id v) words slots
+    → get_elem? words 1 ≡ some least
     → p.total ≡ b.total → p.workers ≡ b.workers → v.seated ≡ map numbered seats → length seats ≡ p.workers
     → All (λ s. s.worker.ended ≡ true) seats → IsClosed b seats least
 closes p b id v words slots least seats f found total workers is long ended =
     let t = f.0 in
-    let k : IsKept p t = f.1.0 in
+    let k : ShowsClaims p t = f.1.0 in
     let at : IsAt t.views id v = f.1.1 in
     let s = k.claims in
     let all : length v.seated ≡ p.workers = ap length is ∙ (length_numbered seats ∙ long) in
@@ -172,12 +172,12 @@ closes p b id v words slots least seats f found total workers is long ended =
     (subst (λ (qs : List Numbered). Has qs (w, x)) is (whole p t id v k at all w x has)) in
     record {
       s = s;
-      are = record { legal = k.held.legal; total = k.total ∙ total; workers = k.workers ∙ workers };
+      are = record { legal = k.sound.legal; total = k.total ∙ total; workers = k.workers ∙ workers };
       least = some-injective s.least least (ap (λ (ws : List ℕ). get_elem? ws 1) (sym k.words ∙ f.2) ∙ found);
       seated = λ seat has. k.seated id v (numbered seat) at
           (subst (λ (qs : List Numbered). Has qs (numbered seat)) (sym is) (has_numbered seats seat has));
       each = each;
-      done = ends_done s k.held.legal (omega (arith, k.held.some)) (λ w x has.
+      done = ends_done s k.sound.legal (k.sound.may_work.0) (λ w x has.
           let o = each w x has in
           ap (λ (y : WorkerState). y.ended) (sym o.3) ∙ all_has (λ seat. seat.worker.ended ≡ true) seats o.0 ended o.1);
     }

@@ -10,16 +10,16 @@ use lib.ListN.{get_elem?}
 use Rattle.atomic_table.specs.Table.{State}
 use Rattle.ov_ids.specs.Members.{Has}
 use Rattle.ov_claims.specs.Claims.{WorkerState}
-use Rattle.ov_board.specs.Rule.{Numbered, times, IsKept}
+use Rattle.ov_board.specs.Rule.{Numbered, times, ShowsClaims}
 use Rattle.ov_board.specs.declared.view.BoardSize.{BoardSize}
-use Rattle.ov_board.specs.declared.view.View.{View}
+use Rattle.ov_board.specs.declared.view.SeatView.{SeatView}
 
 -- this view stands at this place
-abbrev pub IsAt : List View → ℕ → View → Type 0
+abbrev pub IsAt : List SeatView → ℕ → SeatView → Type 0
 IsAt vs i v = get_elem? vs i ≡ some v
 
 -- a sum over the views after one view was written
-pub sum_written : (f : View → ℕ) (vs : List View) (i : ℕ) (v u : View) → IsAt vs i v
+pub sum_written : (f : SeatView → ℕ) (vs : List SeatView) (i : ℕ) (v u : SeatView) → IsAt vs i v
     → sum_by f (set vs i u) + f v ≡ sum_by f vs + f u
 sum_written f [] i v u at = absurd (some-ne-none v (sym at))
 sum_written f (x ∷ xs) zero v u at =
@@ -29,13 +29,13 @@ sum_written f (x ∷ xs) (suc i) v u at =
     omega (arith, sum_by-cons f x (set xs i u), sum_by-cons f x xs, sum_written f xs i v u at)
 
 -- one view counts for no more than all, and so do two views
-pub one_of_sum : (f : View → ℕ) (vs : List View) (i : ℕ) (v : View) → IsAt vs i v → f v ≤ sum_by f vs
+pub one_of_sum : (f : SeatView → ℕ) (vs : List SeatView) (i : ℕ) (v : SeatView) → IsAt vs i v → f v ≤ sum_by f vs
 one_of_sum f [] i v at = absurd (some-ne-none v (sym at))
 one_of_sum f (x ∷ xs) zero v at =
     let same : f x ≡ f v = ap f (some-injective x v at) in omega (arith, same, sum_by-cons f x xs)
 one_of_sum f (x ∷ xs) (suc i) v at = omega (arith, sum_by-cons f x xs, one_of_sum f xs i v at)
 
-pub two_of_sum : (f : View → ℕ) (vs : List View) (i j : ℕ) (v w : View) → j ≢ i → IsAt vs i v → IsAt vs j w
+pub two_of_sum : (f : SeatView → ℕ) (vs : List SeatView) (i j : ℕ) (v w : SeatView) → j ≢ i → IsAt vs i v → IsAt vs j w
     → f v + f w ≤ sum_by f vs
 two_of_sum f [] i j v w ne at there = absurd (some-ne-none v (sym at))
 two_of_sum f (x ∷ xs) zero zero v w ne at there = absurd (ne refl)
@@ -77,17 +77,19 @@ times_has w [] h = absurd (omega arith)
 times_has w (q ∷ qs) h = counts_by w q qs (eqb q.0 w) refl h (times_has w qs)
 
 -- each worker of a view has a number below the number of workers
-pub number_below : (p : BoardSize) (t : State (Unit {0}) View) (i : ℕ) (v : View) (q : Numbered) → IsKept p t
+pub number_below : (p : BoardSize) (t : State (Unit {0}) SeatView) (i : ℕ) (v : SeatView) (q : Numbered)
+    → ShowsClaims p t
     → IsAt t.views i v → Has v.seated q → q.0 < p.workers
 number_below p t i v q k at has =
     let b = slice_get_within k.claims.workers q.0 q.1 (k.seated i v q at has) in omega (arith, b, k.workers)
 
 -- another view has no worker with the same number
-pub not_twice : (p : BoardSize) (t : State (Unit {0}) View) (i j : ℕ) (v w : View) (q r : Numbered) → IsKept p t → j ≢ i
+pub not_twice : (p : BoardSize) (t : State (Unit {0}) SeatView) (i j : ℕ) (v w : SeatView) (q r : Numbered)
+    → ShowsClaims p t → j ≢ i
     → IsAt t.views i v → IsAt t.views j w → Has v.seated q → Has w.seated r → r.0 ≢ q.0
 not_twice p t i j v w q r k ne at there has also e =
     let one : 1 ≤ times q.0 v.seated = has_times v.seated q has in
     let other : 1 ≤ times q.0 w.seated = subst (λ (n : ℕ). 1 ≤ times n w.seated) e (has_times w.seated r also) in
-    let both = two_of_sum (λ (u : View). times q.0 u.seated) t.views i j v w ne at there in
+    let both = two_of_sum (λ (u : SeatView). times q.0 u.seated) t.views i j v w ne at there in
     let once = k.once q.0 (number_below p t i v q k at has) in
     absurd (omega (arith, one, other, both, once))

@@ -36,7 +36,7 @@ pub record AreClaimsOf (b : BoardState) (s : DeskState) : Type 0 where
 
 -- an exchange was this step of the seat's worker: the claims were s and are t, both are claims of the board, and the
 -- worker was that of the seat before and is that of the seat after. That the board shows s just then, and that s comes
--- after what this worker saw before, is left to the rule of the board (`IsKept`)
+-- after what this worker saw before, is left to the rule of the board (`ShowsClaims`)
 pub record IsExchange (Step : DeskState → DeskState → Type 0) (old new : SeatState) : Type 0 where
   pub s : DeskState
   pub t : DeskState

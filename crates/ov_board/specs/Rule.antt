@@ -7,9 +7,9 @@ use mathlib.Core.Option.{some}
 use lib.ListN.{get_elem?}
 use Rattle.atomic_table.specs.Table.{State}
 use Rattle.ov_ids.specs.Members.{Has}
-use Rattle.ov_claims.specs.Claims.{WorkerState, DeskState, HasWorker, IsHeld}
+use Rattle.ov_claims.specs.Claims.{WorkerState, DeskState, HasWorker, AreSoundClaims}
 use Rattle.ov_board.specs.declared.view.BoardSize.{BoardSize}
-use Rattle.ov_board.specs.declared.view.View.{View}
+use Rattle.ov_board.specs.declared.view.SeatView.{SeatView}
 
 -- a worker with its number
 abbrev pub Numbered : Type 0
@@ -21,13 +21,13 @@ times w = count_by (λ q. q.0 == w)
 
 -- the words show claims of a board of this size. The workers of all views are exactly the workers of the claims: each
 -- stands at its number, each number has one, and no worker is left over
-pub record IsKept (p : BoardSize) (t : State (Unit {0}) View) : Type 0 where
+pub record ShowsClaims (p : BoardSize) (t : State (Unit {0}) SeatView) : Type 0 where
   pub claims : DeskState
   pub words : t.words ≡ claims.next ∷ claims.least ∷ []
-  pub held : IsHeld claims
+  pub sound : AreSoundClaims claims
   pub total : claims.total ≡ p.total
   pub workers : length claims.workers ≡ p.workers
-  pub seated : (i : ℕ) (v : View) (q : Numbered) → get_elem? t.views i ≡ some v → Has v.seated q
+  pub seated : (i : ℕ) (v : SeatView) (q : Numbered) → get_elem? t.views i ≡ some v → Has v.seated q
       → HasWorker claims q.0 q.1
   pub once : (w : ℕ) → w < p.workers → sum_by (λ v. times w v.seated) t.views ≡ 1
   pub all : sum_by (λ v. length v.seated) t.views ≡ p.workers

@@ -1,14 +1,14 @@
-ghost use Rattle.std.specs.Prelude.{◌≡◌, ℕ, ◌<◌, ◌≤◌, true, false, length, slice_get, All, IfOk, Some};
+ghost use Rattle.std.specs.Prelude.{◌≡◌, ℕ, ◌<◌, true, false, length, slice_get, All, IfOk, Some};
 ghost use Rattle.ov_ids.specs.Limits.{number_limit};
 ghost use Rattle.ov_ids.specs.Members.{Has};
-ghost use Rattle.ov_claims.specs.Claims.{most_workers};
 ghost use Rattle.ov_claims.specs.Steps.{Claims, Looks, Fails, claiming, looking, failing};
 ghost use Rattle.ov_board.specs.Board.{IsClosed, IsExchange, after, new_seat};
 
 use crate::rule::{Apart, Claiming, Entering, Failing, Lawful, Looking, Number, Together};
 use crate::seat::Seat;
-use crate::view::{BoardSize, View};
+use crate::view::{BoardSize, SeatView};
 use atomic_table::{Seat as TableSeat, Table};
+use ov_claims::Workers;
 use ov_ids::OutOfMemory;
 use std::alloc::Global;
 use std::marker::{Brand, Model};
@@ -18,7 +18,7 @@ use std::marker::{Brand, Model};
 #[derive(Drop)]
 pub struct Board {
     total: u64,
-    table: Table<(), View, BoardSize, Lawful, Global>,
+    table: Table<(), SeatView, BoardSize, Lawful, Global>,
 }
 
 impl Model for Board {
@@ -40,19 +40,25 @@ impl Model for Board {
 impl Board {
     /// A board that shares out the numbers below `total`, and a seat for each worker, in the order of their numbers.
     /// Faults: out of memory.
-    pub fn new(alloc: Global, total: u64, workers: u32) -> Result<(Board, Vec<Seat>), OutOfMemory>
-        requires total { total < number_limit }
-        requires some { 1 ≤ workers }
-        requires few { workers ≤ most_workers }
+    pub fn new(
+        alloc: Global,
+        total: u64,
+        workers: Workers,
+    ) -> Result<(Board, Vec<Seat>), OutOfMemory>
+        requires { total < number_limit }
         ensures total { IfOk result (λ r. r.0.total ≡ total) }
         ensures workers { IfOk result (λ r. r.0.workers ≡ workers) }
         ensures count { IfOk result (λ r. length r.1.items ≡ workers) }
         ensures seats { IfOk result (λ r. (i : ℕ) → i < workers → slice_get r.1.items i ≡ Some (new_seat r.0 i)) }
     {
-        let mut seats = Vec::with_capacity(alloc, workers as usize)?;
-        let size = BoardSize { total, workers };
+        let count = workers.count();
+        let mut seats = Vec::with_capacity(alloc, count as usize)?;
+        let size = BoardSize {
+            total,
+            workers: count,
+        };
         let (table, mut pool) = Table::of_words(alloc, &[0, total], &size)?;
-        for number in 0..workers {
+        for number in 0..count {
             let seat = table.shared.split_seat::<Apart>(&mut pool);
             seats.push_reserved(Seat { number, seat });
         }

@@ -1,16 +1,16 @@
 // The rule of a board's words, and what the exchanges tell.
-use crate::view::{BoardSize, View};
+use crate::view::{BoardSize, SeatView};
 use atomic_table::{Join, Play, Split, TableRule};
 use std::marker::{Brand, PhantomData};
 
 /// The words and the views show legal claims.
 pub struct Lawful;
 
-impl TableRule<(), View, BoardSize> for Lawful {
-    ghost use Rattle.ov_board.specs.Rule.{IsKept};
+impl TableRule<(), SeatView, BoardSize> for Lawful {
+    ghost use Rattle.ov_board.specs.Rule.{ShowsClaims};
     ghost use Rattle.ov_board.specs.Code.Rule.{opening_view};
 
-    ghost holds = { IsKept };
+    ghost holds = { ShowsClaims };
 
     ghost first = { opening_view };
 }
@@ -18,13 +18,13 @@ impl TableRule<(), View, BoardSize> for Lawful {
 /// The exchange of a claim.
 pub struct Claiming;
 
-impl Play<(), View> for Claiming {
+impl Play<(), SeatView> for Claiming {
     ghost use Rattle.ov_board.specs.Code.Rule.{Claimed};
 
     ghost then = { Claimed };
 }
 
-/// The number that a look is about. A load has no operand that could say it.
+/// The number that a look is about. A look is a load, whose operands can't carry a number; so a type carries it.
 pub trait Number {
     ghost use Rattle.std.specs.Prelude.{ℕ};
 
@@ -41,7 +41,7 @@ pub struct Looking<I> {
     of: PhantomData<I>,
 }
 
-impl<I: Number> Play<(), View> for Looking<I> {
+impl<I: Number> Play<(), SeatView> for Looking<I> {
     ghost use Rattle.ov_board.specs.Code.Rule.{Looked};
 
     ghost then = { Looked I.number };
@@ -50,7 +50,7 @@ impl<I: Number> Play<(), View> for Looking<I> {
 /// The exchange of a failure.
 pub struct Failing;
 
-impl Play<(), View> for Failing {
+impl Play<(), SeatView> for Failing {
     ghost use Rattle.ov_board.specs.Code.Rule.{Failed};
 
     ghost then = { Failed };
@@ -59,7 +59,7 @@ impl Play<(), View> for Failing {
 /// The first worker of a view gets a seat of its own.
 pub struct Apart;
 
-impl Split<View> for Apart {
+impl Split<SeatView> for Apart {
     ghost use Rattle.ov_board.specs.Code.Rule.{others_of, first_of};
 
     ghost left = { others_of };
@@ -70,7 +70,7 @@ impl Split<View> for Apart {
 /// The workers of two seats are put together.
 pub struct Together;
 
-impl Join<View> for Together {
+impl Join<SeatView> for Together {
     ghost use Rattle.ov_board.specs.Code.Rule.{both_of, spent_view};
 
     ghost both = { both_of };
@@ -78,10 +78,10 @@ impl Join<View> for Together {
     ghost spent = { spent_view };
 }
 
-/// A seat with no worker comes.
+/// The step by which a new seat, which has no worker yet, comes to the board.
 pub struct Entering;
 
-impl Play<(), View> for Entering {
+impl Play<(), SeatView> for Entering {
     ghost use Rattle.ov_board.specs.Code.Rule.{Entered};
 
     ghost then = { Entered };

@@ -1,6 +1,6 @@
 ghost use Rattle.std.specs.Prelude.{◌≡◌};
 
-use crate::view::View;
+use crate::view::SeatView;
 use atomic_table::Seat as TableSeat;
 use std::marker::Model;
 
@@ -9,7 +9,7 @@ use std::marker::Model;
 #[derive(Drop)]
 pub struct Seat {
     pub(crate) number: u32,
-    pub(crate) seat: TableSeat<(), View>,
+    pub(crate) seat: TableSeat<(), SeatView>,
 }
 
 impl Model for Seat {

@@ -9,14 +9,14 @@ pub struct BoardSize {
 }
 
 /// What one worker has done. No value of it is made.
-pub struct Doings {
+pub struct SeatedWorker {
     claimed: LinkedList<u64>,
     failed: LinkedList<u64>,
     skipped: Option<u64>,
     ended: bool,
 }
 
-impl Model for Doings {
+impl Model for SeatedWorker {
     ghost use Rattle.ov_claims.specs.Claims.{WorkerState};
 
     ghost Value = { WorkerState };
@@ -30,8 +30,8 @@ impl Model for Doings {
 }
 
 /// What a seat of the table knows: the size, and workers with their numbers. No value of it is made.
-pub struct View {
+pub struct SeatView {
     pub total: u64,
     pub workers: u32,
-    pub seated: LinkedList<(u32, Doings)>,
+    pub seated: LinkedList<(u32, SeatedWorker)>,
 }

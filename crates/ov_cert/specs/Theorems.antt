@@ -3,7 +3,7 @@ use Rattle.std.specs.Prelude.{◌≡◌, ◌≢◌, ℕ, ◌+◌, List, length, 
 use Rattle.ov_graph.specs.Links.{LinkGraph, IsGraph, AreAllLinked}
 use Rattle.ov_graph.specs.Joined.{Survives, Joined, IsNodeSet, NoFewerSplit, FewestForGroup}
 use Rattle.ov_cert.specs.declared.cert.Cert.{Cert}
-use Rattle.ov_cert.specs.declared.cert.Cert.TheVariants.{Linked as AllLinked, Split as SplitBy}
+use Rattle.ov_cert.specs.declared.cert.Cert.TheVariants as cert
 use Rattle.ov_cert.specs.declared.cert.Split.{Split}
 use Rattle.ov_cert.specs.declared.fault.CheckFault.{CheckFault}
 use Rattle.ov_cert.specs.Valid.{IsValidForGroup, k_of}
@@ -21,8 +21,8 @@ pub record CutSplits (g : LinkGraph) (q : List ℕ) (c : Split) : Type 0 where
 -- the number k of the certificate is attained: the cut of k nodes splits the group, or every two members are linked and
 -- k is one less than the number of members
 abbrev pub ReachesNumber : LinkGraph → List ℕ → Cert → Type 0
-ReachesNumber g q (AllLinked k) = AreAllLinked g q × (length q ≡ k + 1)
-ReachesNumber g q (SplitBy c) = CutSplits g q c
+ReachesNumber g q (cert.Linked k) = AreAllLinked g q × (length q ≡ k + 1)
+ReachesNumber g q (cert.Split c) = CutSplits g q c
 
 -- the certificate is true of the group: its number is attained, fewer nodes never split the group, and so its number is
 -- the fewest

@@ -7,15 +7,15 @@ use Rattle.ov_graph.specs.Joined.{Survives, IsNodeSet}
 use Rattle.ov_graph.specs.Paths.{ArePaths, IsFan}
 use Rattle.ov_graph.specs.Even.{IsUnlinkedPair, later_members, members_below}
 use Rattle.ov_cert.specs.declared.cert.Cert.{Cert}
-use Rattle.ov_cert.specs.declared.cert.Cert.TheVariants.{Linked as AllLinked, Split as SplitBy}
+use Rattle.ov_cert.specs.declared.cert.Cert.TheVariants as cert
 use Rattle.ov_cert.specs.declared.cert.Split.{Split}
 use Rattle.ov_cert.specs.declared.cert.PairPaths.{PairPaths}
 use Rattle.ov_cert.specs.declared.cert.FanPaths.{FanPaths}
 
 -- the number k that a certificate proves
 abbrev pub k_of : Cert → ℕ
-k_of (AllLinked k) = k
-k_of (SplitBy c) = c.k
+k_of (cert.Linked k) = k
+k_of (cert.Split c) = c.k
 
 -- the side is a set of surviving nodes that has near and not far. Near and far are surviving members. Every link of a
 -- node of the side ends in the side or in the cut, so the cut separates near from far
@@ -59,8 +59,8 @@ pub record IsValidSplit (g : LinkGraph) (q : List ℕ) (c : Split) : Type 0 wher
 -- the members are a group of the graph. If the certificate says linked, every two members are linked, and k is one less
 -- than the number of members. If it says split, its parts are valid as in `IsValidSplit`
 abbrev pub IsValidForGroup : LinkGraph → List ℕ → Cert → Type 0
-IsValidForGroup g q (AllLinked k) = IsGroup g q × (length q ≡ k + 1) × AreAllLinked g q
-IsValidForGroup g q (SplitBy c) = IsGroup g q × IsValidSplit g q c
+IsValidForGroup g q (cert.Linked k) = IsGroup g q × (length q ≡ k + 1) × AreAllLinked g q
+IsValidForGroup g q (cert.Split c) = IsGroup g q × IsValidSplit g q c
 
 -- the certificate is valid for the group of all nodes
 abbrev pub IsValid : LinkGraph → Cert → Type 0

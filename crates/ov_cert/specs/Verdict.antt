@@ -6,7 +6,7 @@ use Rattle.ov_graph.specs.Joined.{IsNodeSet}
 use Rattle.ov_graph.specs.Paths.{ArePaths, IsFan}
 use Rattle.ov_graph.specs.Even.{later_members, members_below}
 use Rattle.ov_cert.specs.declared.cert.Cert.{Cert}
-use Rattle.ov_cert.specs.declared.cert.Cert.TheVariants.{Linked as AllLinked, Split as SplitBy}
+use Rattle.ov_cert.specs.declared.cert.Cert.TheVariants as cert
 use Rattle.ov_cert.specs.declared.cert.Split.{Split}
 use Rattle.ov_cert.specs.declared.cert.PairPaths.{PairPaths}
 use Rattle.ov_cert.specs.declared.cert.FanPaths.{FanPaths}
@@ -30,24 +30,25 @@ pub record IsFirstAtFault {X : Type 0} (Holds : ℕ → X → Type 0) (xs : List
 
 -- k is one less than the number of members (linked), or equals the number of nodes of the cut (split)
 abbrev pub IsCounted : List ℕ → Cert → Type 0
-IsCounted q (AllLinked k) = length q ≡ k + 1
-IsCounted q (SplitBy c) = length c.cut ≡ c.k
+IsCounted q (cert.Linked k) = length q ≡ k + 1
+IsCounted q (cert.Split c) = length c.cut ≡ c.k
 
 -- the fault is the first fault of the frame
 abbrev pub IsFrameFault : LinkGraph → List ℕ → Cert → CheckFault → Type 0
 IsFrameFault g q c NoNodes = ¬ HasNode g
 IsFrameFault g q c BadGroup = HasNode g × ¬ IsGroup g q
 IsFrameFault g q c Count = HasNode g × IsGroup g q × ¬ IsCounted q c
-IsFrameFault g q (AllLinked k) NotLinked = HasNode g × IsGroup g q × IsCounted q (AllLinked k) × ¬ AreAllLinked g q
-IsFrameFault g q (SplitBy c) Cut = HasNode g × IsGroup g q × IsCounted q (SplitBy c) × ¬ IsNodeSet g c.cut
-IsFrameFault g q (SplitBy c) Side = HasNode g × IsGroup g q × IsCounted q (SplitBy c) × IsNodeSet g c.cut
+IsFrameFault g q (cert.Linked k) NotLinked = HasNode g × IsGroup g q × IsCounted q (cert.Linked k) × ¬ AreAllLinked g q
+IsFrameFault g q (cert.Split c) Cut = HasNode g × IsGroup g q × IsCounted q (cert.Split c) × ¬ IsNodeSet g c.cut
+IsFrameFault g q (cert.Split c) Side = HasNode g × IsGroup g q × IsCounted q (cert.Split c) × IsNodeSet g c.cut
     × ¬ IsCutOff g q c
 IsFrameFault g q c other = ⊥
 
 -- the frame has no fault
 abbrev pub PassesFrame : LinkGraph → List ℕ → Cert → Type 0
-PassesFrame g q (AllLinked k) = HasNode g × IsGroup g q × IsCounted q (AllLinked k) × AreAllLinked g q
-PassesFrame g q (SplitBy c) = HasNode g × IsGroup g q × IsCounted q (SplitBy c) × IsNodeSet g c.cut × IsCutOff g q c
+PassesFrame g q (cert.Linked k) = HasNode g × IsGroup g q × IsCounted q (cert.Linked k) × AreAllLinked g q
+PassesFrame g q (cert.Split c) = HasNode g × IsGroup g q × IsCounted q (cert.Split c) × IsNodeSet g c.cut
+    × IsCutOff g q c
 
 -- THE ENTRIES: one at the place of each expected pair, and one at the place of each expected fan
 
@@ -84,9 +85,9 @@ IsEntryFault g q c pairs other = ⊥
 -- the fault is the first fault of the certificate: a fault of the frame, or, if the frame has none, a fault of the
 -- entries
 abbrev pub IsFirstFault : LinkGraph → List ℕ → Cert → CheckFault → Type 0
-IsFirstFault g q (AllLinked k) fault = IsFrameFault g q (AllLinked k) fault
-IsFirstFault g q (SplitBy c) fault = IsFrameFault g q (SplitBy c) fault
-    ⊎ (PassesFrame g q (SplitBy c) × ((pairs : List (ℕ × ℕ)) × AreUnlinkedPairs g q c.k pairs
+IsFirstFault g q (cert.Linked k) fault = IsFrameFault g q (cert.Linked k) fault
+IsFirstFault g q (cert.Split c) fault = IsFrameFault g q (cert.Split c) fault
+    ⊎ (PassesFrame g q (cert.Split c) × ((pairs : List (ℕ × ℕ)) × AreUnlinkedPairs g q c.k pairs
     × IsEntryFault g q c pairs fault))
 
 -- the verdict for a group: None if the certificate is valid, otherwise its first fault

@@ -1,9 +1,9 @@
-ghost use Rattle.std.specs.Prelude.{◌≡◌, ◌≢◌, ◌+◌, ℕ, ◌<◌, length, true, false, Some, None, slice_get, MatchResult};
+ghost use Rattle.std.specs.Prelude.{◌≡◌, ◌≢◌, ◌+◌, ℕ, ◌<◌, length, true, Some, slice_get};
 ghost use Rattle.ov_ids.specs.Members.{Has, Ascends};
 ghost use Rattle.ov_graph.specs.Links.{IsGroup};
 ghost use Rattle.ov_graph.specs.Even.{later_members};
 ghost use Rattle.ov_cert.specs.Code.Tests.{is_pair_entry, is_fan_entry, unlinked_before, pairs_after, expected_pairs};
-ghost use Rattle.ov_cert.specs.Code.Tests.{pairs_fault, fans_fault};
+ghost use Rattle.ov_cert.specs.Code.Tests.{pairs_fault, fans_fault, IsCheckOf};
 
 use crate::cert::{FanPaths, PairPaths};
 use crate::fault::CheckFault;
@@ -85,10 +85,8 @@ fn check_pairs_of(
 ) -> Result<usize, CheckFault>
     requires earlier { (i : ℕ) → Has earlier.now i → Has graph.now.nodes i × (i ≢ j) }
     requires j { Has graph.now.nodes j }
-    ensures { MatchResult result
-        (λ next. (next ≡ place + length (unlinked_before graph.now earlier.now j))
-        × (pairs_fault graph.now k entries.now place (unlinked_before graph.now earlier.now j) ≡ None))
-        (λ fault. pairs_fault graph.now k entries.now place (unlinked_before graph.now earlier.now j) ≡ Some fault) }
+    ensures { IsCheckOf (place + length (unlinked_before graph.now earlier.now j))
+        (pairs_fault graph.now k entries.now place (unlinked_before graph.now earlier.now j)) result }
 {
     let mut next = place;
     for i in earlier {
@@ -111,10 +109,8 @@ pub(crate) fn check_pairs(
     entries: &[PairPaths],
 ) -> Result<usize, CheckFault>
     requires { IsGroup graph.now group.now }
-    ensures { MatchResult result
-        (λ count. (count ≡ length (expected_pairs graph.now group.now k))
-        × (pairs_fault graph.now k entries.now 0 (expected_pairs graph.now group.now k) ≡ None))
-        (λ fault. pairs_fault graph.now k entries.now 0 (expected_pairs graph.now group.now k) ≡ Some fault) }
+    ensures { IsCheckOf (length (expected_pairs graph.now group.now k))
+        (pairs_fault graph.now k entries.now 0 (expected_pairs graph.now group.now k)) result }
 {
     let first = first_members(group, k);
     let mut count = 0;
@@ -135,10 +131,8 @@ pub(crate) fn check_fans(
     entries: &[FanPaths],
 ) -> Result<usize, CheckFault>
     requires { IsGroup graph.now group.now }
-    ensures { MatchResult result
-        (λ count. (count ≡ length (later_members group.now k))
-        × (fans_fault graph.now group.now k entries.now 0 (later_members group.now k) ≡ None))
-        (λ fault. fans_fault graph.now group.now k entries.now 0 (later_members group.now k) ≡ Some fault) }
+    ensures { IsCheckOf (length (later_members group.now k))
+        (fans_fault graph.now group.now k entries.now 0 (later_members group.now k)) result }
 {
     let later = later_members(group, k);
     for (place, j) in later.iter().enumerate() {

@@ -1,8 +1,8 @@
-ghost use Rattle.std.specs.Prelude.{◌≡◌, ◌↔◌, ◌++◌, length, [], IsTrue, IfOk, OnOk, MatchResult};
+ghost use Rattle.std.specs.Prelude.{◌≡◌, ◌↔◌, ◌++◌, length, [], IsTrue, IsOk, IfOk, IfErr, OnOk};
 ghost use Rattle.ov_ids.specs.Members.{Has, Ascends};
 ghost use Rattle.ov_graph.specs.Joined.{IsNodeSet};
 ghost use Rattle.ov_graph.specs.Even.{later_members};
-ghost use Rattle.ov_cert.specs.declared.cert.Cert.TheVariants.{Split as SplitBy};
+ghost use Rattle.ov_cert.specs.declared.cert.Cert.TheVariants as cert;
 ghost use Rattle.ov_cert.specs.Verdict.{PassesFrame};
 ghost use Rattle.ov_cert.specs.Entries.{of_pairs, of_fans, AreExpected, IsExpected, HoldsEntry, entry_fault};
 ghost use Rattle.ov_cert.specs.Code.Tests.{unlinked_before, pairs_after, expected_pairs};
@@ -90,11 +90,10 @@ fn add_fans(later: &[NodeId], entries: &mut Vec<Expected>) -> Result<(), OutOfMe
 
 /// Checks one expected entry of a certificate for the group of all nodes. See `judge_group_entry`. Allocates nothing.
 pub fn judge_entry(graph: &Graph, split: &Split, entry: Expected) -> Result<(), CheckFault>
-    requires frame { PassesFrame graph.now graph.now.nodes (SplitBy split.now) }
+    requires frame { PassesFrame graph.now graph.now.nodes (cert.Split split.now) }
     requires expected { IsExpected graph.now graph.now.nodes split.now.k entry }
-    ensures { MatchResult result
-        (λ _. HoldsEntry graph.now graph.now.nodes split.now entry)
-        (λ fault. (¬ HoldsEntry graph.now graph.now.nodes split.now entry) × (fault ≡ entry_fault entry)) }
+    ensures holds { IsOk result ↔ HoldsEntry graph.now graph.now.nodes split.now entry }
+    ensures fault { IfErr result (λ fault. fault ≡ entry_fault entry) }
 {
     judge_group_entry(graph, graph.nodes(), split, entry)
 }
@@ -107,11 +106,10 @@ pub fn judge_group_entry(
     split: &Split,
     entry: Expected,
 ) -> Result<(), CheckFault>
-    requires frame { PassesFrame graph.now group.now (SplitBy split.now) }
+    requires frame { PassesFrame graph.now group.now (cert.Split split.now) }
     requires expected { IsExpected graph.now group.now split.now.k entry }
-    ensures { MatchResult result
-        (λ _. HoldsEntry graph.now group.now split.now entry)
-        (λ fault. (¬ HoldsEntry graph.now group.now split.now entry) × (fault ≡ entry_fault entry)) }
+    ensures holds { IsOk result ↔ HoldsEntry graph.now group.now split.now entry }
+    ensures fault { IfErr result (λ fault. fault ≡ entry_fault entry) }
 {
     if !holds_entry(graph, group, split, entry) {
         return Err(entry.fault());
@@ -121,7 +119,7 @@ pub fn judge_group_entry(
 
 /// Whether a certificate has the right entry at the place of an expected entry.
 fn holds_entry(graph: &Graph, group: &[NodeId], split: &Split, entry: Expected) -> bool
-    requires frame { PassesFrame graph.now group.now (SplitBy split.now) }
+    requires frame { PassesFrame graph.now group.now (cert.Split split.now) }
     requires expected { IsExpected graph.now group.now split.now.k entry }
     ensures { IsTrue result ↔ HoldsEntry graph.now group.now split.now entry }
 {

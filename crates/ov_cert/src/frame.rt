@@ -1,7 +1,7 @@
 ghost use Rattle.std.specs.Prelude.{◌≡◌, MatchResult};
 ghost use Rattle.ov_ids.specs.Members.{Ascends};
 ghost use Rattle.ov_graph.specs.Links.{IsGraph};
-ghost use Rattle.ov_cert.specs.declared.cert.Cert.TheVariants.{Linked as AllLinked, Split as SplitBy};
+ghost use Rattle.ov_cert.specs.declared.cert.Cert.TheVariants as cert;
 ghost use Rattle.ov_cert.specs.Verdict.{PassesFrame, IsFrameFault};
 ghost use Rattle.ov_cert.specs.Code.Tests.{body_fault, frame_fault};
 
@@ -55,7 +55,7 @@ pub(crate) fn frame_fault(graph: &Graph, group: &[NodeId], cert: &Cert) -> Optio
 }
 
 fn fault_of_linked(graph: &Graph, group: &[NodeId], k: u32) -> Option<CheckFault>
-    ensures { result ≡ body_fault graph.now group.now (AllLinked k) }
+    ensures { result ≡ body_fault graph.now group.now (cert.Linked k) }
 {
     if group.len() as u64 != k as u64 + 1 {
         return Some(CheckFault::Count);
@@ -68,7 +68,7 @@ fn fault_of_linked(graph: &Graph, group: &[NodeId], k: u32) -> Option<CheckFault
 
 fn fault_of_split(graph: &Graph, group: &[NodeId], split: &Split) -> Option<CheckFault>
     requires { Ascends group.now }
-    ensures { result ≡ body_fault graph.now group.now (SplitBy split.now) }
+    ensures { result ≡ body_fault graph.now group.now (cert.Split split.now) }
 {
     let ids = split.cut.as_slice();
     if ids.len() != split.k as usize {

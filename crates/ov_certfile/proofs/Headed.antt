@@ -8,7 +8,7 @@ use Rattle.ov_certfile.specs.Kinds.{version_in, verdict_in, keys_of, names_of}
 use Rattle.ov_certfile.specs.Demands.{demands, first_unmet, wanted_keys, has_forms}
 use Rattle.ov_certfile.specs.Code.Reading.{IsHeaded}
 use Rattle.ov_certfile.specs.declared.fault.FileFault.TheVariants.{MissingKey, UnknownKey, BadValue}
-use Rattle.ov_certfile.specs.declared.fault.FileFault.TheVariants.{Version as AnotherVersion}
+use Rattle.ov_certfile.specs.declared.fault.FileFault.TheVariants.{BadVersion}
 use Rattle.ov_certfile.specs.declared.version.Version.{Version}
 use Rattle.ov_certfile.specs.declared.verdict.Verdict.{Verdict}
 
@@ -23,7 +23,7 @@ wanted version verdict d v w = rw (v, w) refl
 
 -- if all demands but the last are met, the last one decides
 last_decides : (a b c e f g h last : Bool) → a ≡ true → b ≡ true → c ≡ true → e ≡ true → f ≡ true → g ≡ true → h ≡ true
-    → first_unmet ((a, BadValue) ∷ (b, MissingKey) ∷ (c, AnotherVersion) ∷ (e, MissingKey) ∷ (f, BadValue)
+    → first_unmet ((a, BadValue) ∷ (b, MissingKey) ∷ (c, BadVersion) ∷ (e, MissingKey) ∷ (f, BadValue)
     ∷ (g, MissingKey) ∷ (h, UnknownKey) ∷ (last, BadValue) ∷ []) ≡ cond last None (Some BadValue)
 last_decides a b c e f g h last p q r s t u v = rw (p, q, r, s, t, u, v) refl
 

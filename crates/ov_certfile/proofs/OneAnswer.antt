@@ -4,7 +4,7 @@ use Rattle.std.proofs.Common.{Err, refl, sym, subst, ap, codes, IfSome, IfNone}
 use Rattle.serde_json.specs.Data.{Data}
 use Rattle.serde_json.specs.Read.{read}
 use Rattle.ov_ids.specs.Members.{Ascends}
-use Rattle.ov_ids.specs.FaultOrder.{Step, Passed}
+use Rattle.ov_ids.specs.FaultOrder.{HoldsThen, Passed}
 use Rattle.ov_graph.specs.Links.{LinkGraph, IsLink, most_nodes}
 use Rattle.ov_graph.specs.Faults.{GraphJudged, LinksJudged, ComesAfter}
 use Rattle.ov_graph.specs.declared.fault.GraphFault.{GraphFault}
@@ -18,7 +18,7 @@ use Rattle.ov_certfile.specs.Demands.{demands, first_unmet, FileGraphJudged}
 use Rattle.ov_certfile.specs.Says.{SaysGraph, SaysGroup, SaysCert, Says, IsNoGraph, IsFault, SaysFile, SaysText}
 use Rattle.ov_certfile.specs.declared.fault.FileFault.{FileFault}
 use Rattle.ov_certfile.specs.declared.fault.FileFault.TheVariants.{NotJson, MissingKey, UnknownKey, BadValue}
-use Rattle.ov_certfile.specs.declared.fault.FileFault.TheVariants.{Version as AnotherVersion, Graph, OutOfMemory}
+use Rattle.ov_certfile.specs.declared.fault.FileFault.TheVariants.{BadVersion, Graph, OutOfMemory}
 use Rattle.ov_certfile.specs.declared.version.Version.{Version}
 use Rattle.ov_certfile.specs.declared.version.Version.TheVariants.{One, Two}
 use Rattle.ov_certfile.specs.declared.verdict.Verdict.TheVariants.{Linked, Split as VerdictSplit}
@@ -32,7 +32,7 @@ pub passed_one : {E : Type 0} → IsOne (Passed {E = E})
 passed_one x y p q = p ∙ sym q
 
 pub step_one : {E : Type 0} (P : Type 0) (fault : E) (After : Option E → Type 0) → IsOne After
-    → IsOne (Step P fault After)
+    → IsOne (HoldsThen P fault After)
 step_one P fault After one x y (inl p) (inl q) = one x y p.1 q.1
 step_one P fault After one x y (inl p) (inr q) = absurd (q.0 p.0)
 step_one P fault After one x y (inr p) (inl q) = absurd (p.0 q.0)
@@ -41,12 +41,13 @@ step_one P fault After one x y (inr p) (inr q) = p.1 ∙ sym q.1
 links_one : (nodes : List ℕ) (before : Option (ℕ × ℕ)) (links : List (ℕ × ℕ)) → IsOne (LinksJudged nodes before links)
 links_one nodes before [] = passed_one
 links_one nodes before (l ∷ links) =
-    step_one (IsLink nodes l) BadLink (Step (ComesAfter before l) Unordered (LinksJudged nodes (Some l) links))
+    step_one (IsLink nodes l) BadLink (HoldsThen (ComesAfter before l) Unordered (LinksJudged nodes (Some l) links))
     (step_one (ComesAfter before l) Unordered (LinksJudged nodes (Some l) links) (links_one nodes (Some l) links))
 
 graph_one : (nodes : List ℕ) (links : List (ℕ × ℕ)) → IsOne (GraphJudged nodes links)
 graph_one nodes links =
-    step_one (length nodes ≤ most_nodes) TooManyNodes (Step (Ascends nodes) Unordered (LinksJudged nodes None links))
+    step_one (length nodes ≤ most_nodes) TooManyNodes
+    (HoldsThen (Ascends nodes) Unordered (LinksJudged nodes None links))
     (step_one (Ascends nodes) Unordered (LinksJudged nodes None links) (links_one nodes None links))
 
 judged_one : (version : Version) (g : LinkGraph) → IsOne (FileGraphJudged version g)
@@ -120,7 +121,7 @@ cases d NotJson h = inl h
 cases d MissingKey h = inl h
 cases d UnknownKey h = inl h
 cases d BadValue h = inl h
-cases d AnotherVersion h = inl h
+cases d BadVersion h = inl h
 cases d (Graph f) h = inr (f, refl, h)
 cases d OutOfMemory h = inl h
 

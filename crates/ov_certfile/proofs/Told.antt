@@ -12,7 +12,7 @@ use Rattle.ov_certfile.proofs.Headed.{headed}
 use Rattle.ov_certfile.proofs.Parts.{cert_lacks, dated_lacks, all_from}
 use Rattle.ov_certfile.specs.declared.fault.FileFault.{FileFault}
 use Rattle.ov_certfile.specs.declared.fault.FileFault.TheVariants.{NotJson, MissingKey, UnknownKey, BadValue}
-use Rattle.ov_certfile.specs.declared.fault.FileFault.TheVariants.{Version as AnotherVersion, Graph, OutOfMemory}
+use Rattle.ov_certfile.specs.declared.fault.FileFault.TheVariants.{BadVersion, Graph, OutOfMemory}
 use Rattle.ov_certfile.specs.declared.version.Version.{Version}
 use Rattle.ov_certfile.specs.declared.verdict.Verdict.{Verdict}
 use Rattle.ov_certfile.specs.declared.reading.Filed.{Filed}
@@ -39,7 +39,7 @@ module _ (version : Version) (verdict : Verdict) (d : Data) (h : IsHeaded versio
   cert_told NotJson l n = absurd l
   cert_told MissingKey l n = absurd l
   cert_told UnknownKey l n = absurd l
-  cert_told AnotherVersion l n = absurd l
+  cert_told BadVersion l n = absurd l
   cert_told (Graph f) l n = absurd l
 
   pub dated_told : (e : FileFault) → has_forms (cert_keys verdict) d ≡ true → IsUndated version (dated_keys version) d e
@@ -49,7 +49,7 @@ module _ (version : Version) (verdict : Verdict) (d : Data) (h : IsHeaded versio
   dated_told NotJson c l n = absurd l
   dated_told MissingKey c l n = absurd l
   dated_told UnknownKey c l n = absurd l
-  dated_told AnotherVersion c l n = absurd l
+  dated_told BadVersion c l n = absurd l
   dated_told (Graph f) c l n = record {
     met = met c l.forms;
     version = version;
@@ -82,4 +82,4 @@ graph_told version d g NotJson f s h = absurd h
 graph_told version d g MissingKey f s h = absurd h
 graph_told version d g UnknownKey f s h = absurd h
 graph_told version d g BadValue f s h = absurd h
-graph_told version d g AnotherVersion f s h = absurd h
+graph_told version d g BadVersion f s h = absurd h

@@ -3,13 +3,13 @@ use Rattle.std.specs.Prelude.{ℕ, List, [], ◌++◌, codes, decimal, if◌then
 use Rattle.ov_ids.specs.Text.{ids_text}
 use Rattle.ov_graph.specs.Links.{LinkGraph}
 use Rattle.ov_cert.specs.declared.cert.Cert.{Cert}
-use Rattle.ov_cert.specs.declared.cert.Cert.TheVariants.{Linked, Split}
+use Rattle.ov_cert.specs.declared.cert.Cert.TheVariants as cert
 use Rattle.ov_certfile.specs.Common.{are_same}
 
 -- the text of a certificate without its paths and its group
 unfoldable pub short_text : Cert → List ℕ
-short_text (Linked k) = codes "linked k " ++ decimal k
-short_text (Split c) =
+short_text (cert.Linked k) = codes "linked k " ++ decimal k
+short_text (cert.Split c) =
     codes "split k " ++ (decimal c.k
     ++ (codes " cut " ++ (ids_text c.cut
     ++ (codes " near " ++ (decimal c.near

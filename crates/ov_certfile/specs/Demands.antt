@@ -4,7 +4,7 @@ use Rattle.std.specs.Prelude.{unwrap_or}
 use Rattle.std.specs.List.{list_all}
 use Rattle.serde_json.specs.Data.{Data}
 use Rattle.serde_json.specs.Find.{as_object}
-use Rattle.ov_ids.specs.FaultOrder.{Step}
+use Rattle.ov_ids.specs.FaultOrder.{HoldsThen}
 use Rattle.ov_graph.specs.Links.{LinkGraph}
 use Rattle.ov_graph.specs.Faults.{GraphJudged}
 use Rattle.ov_graph.specs.declared.fault.GraphFault.{GraphFault}
@@ -14,7 +14,7 @@ use Rattle.ov_certfile.specs.Keys.{has_key, has_all, has_no_other, said}
 use Rattle.ov_certfile.specs.Kinds.{version_in, verdict_in, most_nodes_of, Key, keys_of, names_of}
 use Rattle.ov_certfile.specs.declared.fault.FileFault.{FileFault}
 use Rattle.ov_certfile.specs.declared.fault.FileFault.TheVariants.{MissingKey, UnknownKey, BadValue}
-use Rattle.ov_certfile.specs.declared.fault.FileFault.TheVariants.{Version as AnotherVersion}
+use Rattle.ov_certfile.specs.declared.fault.FileFault.TheVariants.{BadVersion}
 use Rattle.ov_certfile.specs.declared.version.Version.{Version}
 
 -- the keys of a file with the version and the verdict of the value; None if the value lacks either
@@ -37,7 +37,7 @@ unfoldable pub demands : Data → List (Bool × FileFault)
 demands d =
     (is_some (as_object d), BadValue)
     ∷ (has_key (codes "version") d, MissingKey)
-    ∷ (is_some (said version_in (codes "version") d), AnotherVersion)
+    ∷ (is_some (said version_in (codes "version") d), BadVersion)
     ∷ (has_key (codes "verdict") d, MissingKey)
     ∷ (is_some (said verdict_in (codes "verdict") d), BadValue)
     ∷ (has_all (names_of (wanted_keys d)) d, MissingKey)
@@ -54,4 +54,4 @@ first_unmet (demand ∷ rest) = if demand.0 then first_unmet rest else Some dema
 -- graph
 abbrev pub FileGraphJudged : Version → LinkGraph → Option GraphFault → Type 0
 FileGraphJudged version g answer =
-    Step (length g.nodes ≤ most_nodes_of version) TooManyNodes (GraphJudged g.nodes g.links) answer
+    HoldsThen (length g.nodes ≤ most_nodes_of version) TooManyNodes (GraphJudged g.nodes g.links) answer

@@ -1,7 +1,7 @@
 -- The forms of the values in a file. A form maps a JSON value to what it means, or to None if the value does not have
 -- the form. The forms are a choice of this project.
 use Rattle.std.specs.Prelude.{◌+◌, ℕ, List, [], ◌∷◌, nat_lt, codes, if◌then◌else◌, Option, Some, None}
-use Rattle.ov_ids.specs.Limits.{number_limit}
+use Rattle.ov_ids.specs.Limits.{number_limit, longest_journal}
 use Rattle.serde_json.specs.Data.{Data, Items, no_items, item}
 use Rattle.serde_json.specs.Find.{as_number, as_u64, as_array}
 use Rattle.ov_cert.specs.declared.cert.PairPaths.{PairPaths}
@@ -9,9 +9,9 @@ use Rattle.ov_cert.specs.declared.cert.FanPaths.{FanPaths}
 use Rattle.ov_ids.specs.Options.{◌>>=◌}
 use Rattle.ov_certfile.specs.Keys.{has_just, said}
 
--- the highest moment, which is the most entries that a journal may have
+-- the highest moment: no journal has an entry of a higher number
 abbrev pub last_moment : ℕ
-last_moment = 65536
+last_moment = longest_journal
 
 -- a whole number that is not negative, written without fraction and exponent
 abbrev pub whole_in : Data → Option ℕ

@@ -2,8 +2,8 @@
 use Rattle.std.specs.Prelude.{ℕ}
 use Rattle.ov_graph.specs.Faults as graph
 use Rattle.ov_certfile.specs.declared.fault.FileFault.{FileFault}
-use Rattle.ov_certfile.specs.declared.fault.FileFault.TheVariants.{NotJson, MissingKey, UnknownKey, BadValue, Version}
-use Rattle.ov_certfile.specs.declared.fault.FileFault.TheVariants.{Graph, OutOfMemory}
+use Rattle.ov_certfile.specs.declared.fault.FileFault.TheVariants.{NotJson, MissingKey, UnknownKey, BadValue}
+use Rattle.ov_certfile.specs.declared.fault.FileFault.TheVariants.{BadVersion, Graph, OutOfMemory}
 
 -- the number of each fault; a fault of the graph keeps its own number
 abbrev pub number_of : FileFault → ℕ
@@ -11,6 +11,6 @@ number_of NotJson = 60
 number_of MissingKey = 61
 number_of UnknownKey = 62
 number_of BadValue = 63
-number_of Version = 64
+number_of BadVersion = 64
 number_of (Graph f) = graph.number_of f
 number_of OutOfMemory = 99

@@ -23,7 +23,7 @@ pub enum FileFault {
     BadValue,
     /// 64: the version is neither 1 nor 2.
     #[error("another version")]
-    Version,
+    BadVersion,
     /// 31 to 33: the nodes and links are not a graph.
     #[error("the graph: {0}")]
     Graph(GraphFault),
@@ -42,7 +42,7 @@ impl FileFault {
             FileFault::MissingKey => 61,
             FileFault::UnknownKey => 62,
             FileFault::BadValue => 63,
-            FileFault::Version => 64,
+            FileFault::BadVersion => 64,
             FileFault::Graph(fault) => fault.number(),
             FileFault::OutOfMemory => 99,
         }

@@ -8,12 +8,9 @@ ghost use Rattle.ov_certfile.specs.DataOf.{list_data};
 ghost use Rattle.ov_certfile.specs.Code.Reading.{Reads};
 
 use crate::fault::FileFault;
-use ov_ids::{NodeId, Seq};
+use ov_ids::{NUMBER_LIMIT, NodeId, Seq};
 use serde_json::{Map, Value, json, put};
 use std::alloc::{AllocError, Global};
-
-/// The limit of ids and counts: each is below it.
-pub(crate) const NUMBER_LIMIT: u64 = 1 << 32;
 
 /// A type whose values stand in a file. `form` reads a JSON value as such a field, if the value has its form. `as_data`
 /// is the value that is written for a field.

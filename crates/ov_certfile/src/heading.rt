@@ -22,7 +22,7 @@ pub(crate) fn heading_of(value: &Value) -> Result<(Version, Verdict), FileFault>
         return Err(FileFault::MissingKey);
     };
     let Some(version) = version_of(version) else {
-        return Err(FileFault::Version);
+        return Err(FileFault::BadVersion);
     };
     let Some(verdict) = value.get("verdict") else {
         return Err(FileFault::MissingKey);

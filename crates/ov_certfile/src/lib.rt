@@ -4,7 +4,7 @@
 
 mod cert_line;
 mod cert_object;
-mod entries;
+mod entry_fields;
 mod fault;
 mod fields;
 mod graph_object;
@@ -18,7 +18,7 @@ mod writing;
 pub use cert_line::CertText;
 pub use fault::FileFault;
 pub use heading::names_of;
-pub use reading::{Filed, from_text};
+pub use reading::{Filed, LAST_MOMENT, from_text};
 pub use verdict::Verdict;
 pub use version::Version;
 pub use writing::{to_text, to_text_group};

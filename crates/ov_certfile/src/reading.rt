@@ -10,18 +10,18 @@ ghost use Rattle.ov_certfile.specs.Code.Reading.{Reads, IsHeaded, IsCert, IsGrap
 ghost use Rattle.ov_certfile.specs.Code.Reading.{IsUndated, IsGraphFault, cert_keys, graph_keys, dated_keys};
 
 use crate::fault::FileFault;
-use crate::fields::{NUMBER_LIMIT, read_at, whole_at};
+use crate::fields::{read_at, whole_at};
 use crate::heading::heading_of;
 use crate::verdict::Verdict;
 use crate::version::Version;
 use ov_cert::{Cert, Split};
 use ov_graph::{Graph, GraphFault};
-use ov_ids::{NodeId, Seq};
+use ov_ids::{NUMBER_LIMIT, NodeId, Seq};
 use serde_json::Value;
 use std::alloc::Global;
 
-/// The highest moment.
-const LAST_MOMENT: u64 = 65_536;
+/// The highest moment: no journal has more entries. (Chosen here.)
+pub const LAST_MOMENT: u64 = 65_536;
 
 /// The content of a certificate file.
 #[derive(Drop)]

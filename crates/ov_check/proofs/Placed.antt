@@ -4,7 +4,7 @@ use Rattle.std.proofs.Common.{get_or, slice_get, Some, None, refl, sym, ap, subs
 use Rattle.std.proofs.lemmas.Option.{slice_get-get_or}
 use Rattle.ov_graph.specs.Links.{LinkGraph}
 use Rattle.ov_graph.specs.Even.{later_members}
-use Rattle.ov_cert.specs.declared.cert.Cert.TheVariants.{Split as SplitBy}
+use Rattle.ov_cert.specs.declared.cert.Cert.TheVariants as cert
 use Rattle.ov_cert.specs.declared.cert.Split.{Split}
 use Rattle.ov_cert.specs.declared.fault.CheckFault.TheVariants.{Extra}
 use Rattle.ov_cert.specs.declared.entry.Expected.{Expected}
@@ -183,7 +183,7 @@ length_of_fans : (n : ℕ) (js : List ℕ) → length (of_fans n js) ≡ length 
 length_of_fans n [] = refl
 length_of_fans n (j ∷ js) = ap suc (length_of_fans (suc n) js)
 
-module _ (g : LinkGraph) (q : List ℕ) (c : Split) (frame : PassesFrame g q (SplitBy c)) (entries : List Expected)
+module _ (g : LinkGraph) (q : List ℕ) (c : Split) (frame : PassesFrame g q (cert.Split c)) (entries : List Expected)
     (are : AreExpected g q c.k entries) where
   abbrev OneHolds : ℕ → Expected → Type 0
   OneHolds place e = HoldsEntry g q c e
@@ -197,7 +197,7 @@ module _ (g : LinkGraph) (q : List ℕ) (c : Split) (frame : PassesFrame g q (Sp
 
   -- the first entry that is missing is the verdict
   pub judged_missing : (e : Expected) → IsFirstAtFault OneHolds entries e
-      → JudgedForGroup g q (SplitBy c) (Some (entry_fault e))
+      → JudgedForGroup g q (cert.Split c) (Some (entry_fault e))
   judged_missing e f =
       let first = subst (λ (es : List Expected). IsFirstAtFault OneHolds es e) are.2 f in
       inr (frame, (are.0, are.1, first_fault g q c are.0 e first))
@@ -220,7 +220,7 @@ module _ (g : LinkGraph) (q : List ℕ) (c : Split) (frame : PassesFrame g q (Sp
     HasNoMore = (length c.pairs ≤ count - fans) × (length c.fans ≤ fans)
 
     -- all hold, and there are more
-    pub judged_extra : AllHold OneHolds entries → ¬ HasNoMore → JudgedForGroup g q (SplitBy c) (Some Extra)
+    pub judged_extra : AllHold OneHolds entries → ¬ HasNoMore → JudgedForGroup g q (cert.Split c) (Some Extra)
     judged_extra each more =
         let h = held each in
         let e = pairs_left.1 in
@@ -230,7 +230,7 @@ module _ (g : LinkGraph) (q : List ℕ) (c : Split) (frame : PassesFrame g q (Sp
         inr (frame, (are.0, are.1, (h.0, h.1, none)))
 
     -- all hold, and there are no more
-    pub judged_valid : AllHold OneHolds entries → HasNoMore → JudgedForGroup g q (SplitBy c) None
+    pub judged_valid : AllHold OneHolds entries → HasNoMore → JudgedForGroup g q (cert.Split c) None
     judged_valid each fits =
         let h = held each in
         let e = pairs_left.1 in

@@ -2,7 +2,7 @@
 use Rattle.std.specs.Prelude.{ℕ, ◌<◌, List, Option, Some, None, Result, Ok, Err}
 use Rattle.ov_graph.specs.Links.{LinkGraph}
 use Rattle.ov_cert.specs.declared.cert.Cert.{Cert}
-use Rattle.ov_cert.specs.declared.cert.Cert.TheVariants.{Linked as AllLinked, Split as SplitBy}
+use Rattle.ov_cert.specs.declared.cert.Cert.TheVariants as cert
 use Rattle.ov_cert.specs.declared.fault.CheckFault.{CheckFault}
 use Rattle.ov_cert.specs.Number as check_fault
 use Rattle.ov_cert.specs.Verdict.{PassesFrame}
@@ -22,5 +22,5 @@ SaysVerdict IsVerdict (Err OutOfMemory) = Unit {0}
 
 -- there are entries to judge: the certificate says that k nodes split the group, k is not 0, and its frame has no fault
 abbrev pub NeedsEntries : LinkGraph → List ℕ → Cert → Type 0
-NeedsEntries g q (AllLinked k) = ⊥
-NeedsEntries g q (SplitBy c) = (0 < c.k) × PassesFrame g q (SplitBy c)
+NeedsEntries g q (cert.Linked k) = ⊥
+NeedsEntries g q (cert.Split c) = (0 < c.k) × PassesFrame g q (cert.Split c)

@@ -1,6 +1,6 @@
 ghost use Rattle.std.specs.Prelude.{◌≡◌};
 ghost use Rattle.ov_check.specs.Faults.{number_of, fault_of_read};
-ghost use Rattle.ov_check.specs.declared.fault.JudgeFault.TheVariants.{Read as not_read, Write as not_written};
+ghost use Rattle.ov_check.specs.declared.fault.JudgeFault.TheVariants.{Write as not_written};
 ghost use Rattle.ov_check.specs.declared.fault.JudgeFault.TheVariants.{OutOfMemory as out_of_memory};
 
 use ov_ids::OutOfMemory;
@@ -8,7 +8,6 @@ use ov_io::{ReadFault, WriteFault};
 use std::alloc::AllocError;
 use std::error::Error;
 use std::fmt::{Display, Formatter, Result, Write};
-use std::io;
 
 /// Why no line of an outcome was printed. It is shown as the line that is printed of it on standard error.
 #[derive(Clone, Copy, Debug, PartialEq, Eq)]
@@ -57,15 +56,6 @@ impl From<ReadFault> for JudgeFault {
             ReadFault::Read => JudgeFault::Read,
             ReadFault::OutOfMemory => JudgeFault::OutOfMemory,
         }
-    }
-}
-
-/// A file that can't be opened can't be read.
-impl From<io::Error> for JudgeFault {
-    ghost from_gives = { λ _ e. e ≡ not_read };
-
-    fn from(_error: io::Error) -> JudgeFault {
-        JudgeFault::Read
     }
 }
 

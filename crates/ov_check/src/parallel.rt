@@ -2,7 +2,7 @@ ghost use Rattle.std.specs.Prelude.{◌≡◌, ◌≢◌, ◌↔◌, ◌^◌, �
 ghost use Rattle.std.specs.Prelude.{MatchOption, MatchResult};
 ghost use Rattle.ov_graph.specs.Joined.{Fewest, FewestForGroup, IsNodeSet};
 ghost use Rattle.ov_graph.specs.Even.{later_members};
-ghost use Rattle.ov_cert.specs.declared.cert.Cert.TheVariants.{Split as SplitBy};
+ghost use Rattle.ov_cert.specs.declared.cert.Cert.TheVariants as cert;
 ghost use Rattle.ov_cert.specs.Valid.{IsValid, IsValidForGroup, k_of};
 ghost use Rattle.ov_cert.specs.Verdict.{AllHold, IsFirstAtFault, PassesFrame, JudgedForAll, JudgedForGroup};
 ghost use Rattle.ov_cert.specs.Entries.{AreExpected, IsExpected, HoldsEntry};
@@ -87,9 +87,9 @@ fn verdict_on_entries(
     group: &[NodeId],
     split: &Split,
 ) -> Result<Option<CheckFault>, OutOfMemory>
-    requires { PassesFrame graph.now group.now (SplitBy split.now) }
-    ensures { MatchResult result (λ fault. JudgedForGroup graph.now group.now (SplitBy split.now) fault)
-        (λ _. NeedsEntries graph.now group.now (SplitBy split.now)) }
+    requires { PassesFrame graph.now group.now (cert.Split split.now) }
+    ensures { MatchResult result (λ fault. JudgedForGroup graph.now group.now (cert.Split split.now) fault)
+        (λ _. NeedsEntries graph.now group.now (cert.Split split.now)) }
 {
     let entries = entries_of(rt.alloc(), graph, group, split)?;
     let count = entries.len();
@@ -129,7 +129,7 @@ fn first_missing(
     split: &Split,
     entries: &[Expected],
 ) -> Option<Expected>
-    requires frame { PassesFrame graph.now group.now (SplitBy split.now) }
+    requires frame { PassesFrame graph.now group.now (cert.Split split.now) }
     requires expected { AreExpected graph.now group.now split.now.k entries.now }
     requires few { length entries.now < 2 ^ 63 }
     ensures { MatchOption result
@@ -139,7 +139,7 @@ fn first_missing(
     let place = entries.par_iter().with_min_len(LEAST_SHARE).position_first(
         rt,
         |wanted: &Expected| -> bool
-            requires frame { PassesFrame graph.now group.now (SplitBy split.now) }
+            requires frame { PassesFrame graph.now group.now (cert.Split split.now) }
             requires expected { IsExpected graph.now group.now split.now.k wanted.now }
             ensures { Misses (HoldsEntry graph.entry.now group.entry.now split.entry.now) wanted.now result }
         { judge_group_entry(graph, group, split, *wanted).is_err() },

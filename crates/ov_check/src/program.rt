@@ -12,9 +12,9 @@ use std::fmt::{Display, Formatter, Result as Printed, Write};
 /// Why the program prints no line of an outcome. It is shown as the line that the program prints on standard error.
 #[derive(Clone, Copy, Debug, PartialEq, Eq)]
 pub enum ProgramFault {
-    /// There is more than one word.
+    /// There is more than one argument.
     Usage,
-    /// Judging came to no line.
+    /// The judge failed before it printed a line.
     Judge(JudgeFault),
 }
 

@@ -1,6 +1,6 @@
 -- What only the contracts of private functions and the proofs use.
 pub mod Fitting
-pub mod Words
+pub mod Sentences
 pub mod PathRules
 pub mod Leaving
 pub mod GraphFaults

@@ -27,7 +27,8 @@ longest_shown = 40
 abbrev pub key_text : List ℕ → List ℕ
 key_text key = if nat_lt longest_shown (length key) then codes "a long text" else compact_text (string key)
 
--- what is told where something else was expected than what stands there: what was expected; what stands there follows
+-- What is told where something else was expected than what stands there. The text begins with what was expected; what
+-- stands after it is left open.
 abbrev pub TellsExpected : List ℕ → List ℕ → Type 0
 TellsExpected expected text = BeginsWith (codes ": expected " ++ (expected ++ codes ", found ")) text
 
@@ -35,22 +36,22 @@ TellsExpected expected text = BeginsWith (codes ": expected " ++ (expected ++ co
 abbrev pub demanded_keys : Data → List (List ℕ)
 demanded_keys d = codes "version" ∷ codes "verdict" ∷ names_of (wanted_keys d)
 
--- What is told of a value that lacks a key: the first of the demanded keys that it lacks. A key that may have been
--- meant for it follows.
+-- What is told of a value that lacks a key. The text begins with the first of the demanded keys that the value lacks;
+-- what stands after it is left open.
 abbrev pub TellsMissing : Data → List ℕ → Type 0
 TellsMissing d text =
     (key : List ℕ) × IsFirstFailing (λ k. has_key k d) (demanded_keys d) key
     × BeginsWith (codes ": " ++ key_text key) text
 
--- What is told of a value that has an unknown key: the first of its keys, in the order in which they stand in the value
--- as it is read, that is none of those that it must have. A key that may have been meant, and which files do not have
--- that key, follow.
+-- What is told of a value that has an unknown key. The text begins with the first of its keys that is none of those
+-- that it must have, in the order in which they stand in the value as it is read; what stands after it is left open.
 abbrev pub TellsUnknown : Data → List ℕ → Type 0
 TellsUnknown d text =
     (key : List ℕ) × IsFirstFailing (λ k. is_among (names_of (wanted_keys d)) k) (keys_in d) key
     × BeginsWith (codes ": " ++ key_text key) text
 
--- What is told of a value whose version is another: which versions there are. What stands at the key follows.
+-- What is told of a value whose version is another. The text begins with the versions that there are; what stands after
+-- them is left open.
 abbrev pub TellsVersion : Data → List ℕ → Type 0
 TellsVersion d text =
     (v : Data) × (get (codes "version") d ≡ Some v) × (version_in v ≡ None) × TellsExpected (codes "1 or 2") text

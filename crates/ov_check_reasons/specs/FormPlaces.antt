@@ -1,12 +1,13 @@
 -- The place that an explanation names in a JSON value that lacks its form: where in it the form is broken.
-use Rattle.std.specs.Prelude.{◌≡◌, ◌≢◌, ◌⊎◌, ℕ, List, [], ◌∷◌, ◌++◌, true, length, codes, decimal, is_some}
+use Rattle.std.specs.Prelude.{◌≡◌, ◌≢◌, ◌⊎◌, ℕ, ◌-◌, List, [], ◌∷◌, ◌++◌, true, length, codes, decimal, is_some}
 use Rattle.std.specs.Prelude.{Option, Some, None}
 use Rattle.serde_json.specs.Data.{Data}
 use Rattle.serde_json.specs.Find.{get, as_array, as_object}
 use Rattle.serde_json.specs.View.{items_of}
 use Rattle.ov_certfile.specs.Keys.{is_among, keys_in, has_key, has_all, has_just, said}
 use Rattle.ov_certfile.specs.Forms.{count_in, moment_in, id_in, ids_in, link_in, links_in, paths_in, pair_in, pairs_in}
-use Rattle.ov_certfile.specs.Forms.{fan_in, fans_in}
+use Rattle.ov_certfile.specs.Forms.{fan_in, fans_in, last_moment}
+use Rattle.ov_ids.specs.Limits.{number_limit}
 use Rattle.ov_certfile.specs.Kinds.{Key, key, names_of, verdict_in}
 use Rattle.ov_certfile.specs.Demands.{wanted_keys}
 use Rattle.ov_check_reasons.specs.Opening.{BeginsWith}
@@ -83,8 +84,9 @@ abbrev pub TellsKey : {X : Type 0} → List Key → List ℕ → List ℕ → (D
 TellsKey keys mark name form Tells d text =
     IsFirstFailing (λ k. k.1 d) keys (key name form) × TellsAt mark name Tells d text
 
--- What is told of a value that has not just the keys with these names: that it is no object, or the first of them that
--- it lacks, or else the first of its own that is none of them. A key that may have been meant follows.
+-- What is told of a value that has not just the keys with these names. The text begins with this: that the value is no
+-- object, or the first of these keys that it lacks, or else the first of its own keys that is none of these. What
+-- stands after it is left open.
 pub data TellsNames (names : List (List ℕ)) (d : Data) (text : List ℕ) : Type 0 where
   NoEntry : (none : as_object d ≡ None) (told : TellsExpected (codes "an object") text) → TellsNames names d text
   Lacks : (object : is_some (as_object d) ≡ true) (name : List ℕ)
@@ -115,8 +117,8 @@ pub data TellsEntry (keys : List Key) (d : Data) (text : List ℕ) : Type 0 wher
 -- THE WHOLE VALUE
 
 -- what is told of a value that is no number from 0 to this one
-abbrev pub TellsNoNumber : List ℕ → Data → List ℕ → Type 0
-TellsNoNumber last d text = TellsExpected (codes "a whole number from 0 to " ++ last) text
+abbrev pub TellsNoNumber : ℕ → Data → List ℕ → Type 0
+TellsNoNumber last d text = TellsExpected (codes "a whole number from 0 to " ++ decimal last) text
 
 -- what is told of a value that is no verdict
 abbrev pub TellsNoVerdict : Data → List ℕ → Type 0
@@ -125,11 +127,11 @@ TellsNoVerdict d text = TellsExpected (codes "\"linked\" or \"split\"") text
 -- what is told of the first of the keys that the value must have, in the order in which they are demanded, whose value
 -- lacks its form
 pub data TellsForm (d : Data) (text : List ℕ) : Type 0 where
-  K : TellsKey (wanted_keys d) (codes ", ") (codes "k") count_in (TellsNoNumber (codes "4294967295")) d text
+  K : TellsKey (wanted_keys d) (codes ", ") (codes "k") count_in (TellsNoNumber (number_limit - 1)) d text
       → TellsForm d text
   Links : TellsKey (wanted_keys d) (codes ", ") (codes "links") links_in (TellsList link_in TellsNoLink) d text
       → TellsForm d text
-  Moment : TellsKey (wanted_keys d) (codes ", ") (codes "moment") moment_in (TellsNoNumber (codes "65536")) d text
+  Moment : TellsKey (wanted_keys d) (codes ", ") (codes "moment") moment_in (TellsNoNumber last_moment) d text
       → TellsForm d text
   Nodes : TellsKey (wanted_keys d) (codes ", ") (codes "nodes") ids_in TellsIds d text → TellsForm d text
   Group : TellsKey (wanted_keys d) (codes ", ") (codes "group") ids_in TellsIds d text → TellsForm d text

@@ -5,8 +5,8 @@ use Rattle.ov_cert.specs.declared.fault.CheckFault.{CheckFault}
 use Rattle.ov_cert.specs.declared.fault.CheckFault.TheVariants.{Count, Cut, Side, Pair, Fan, Extra, NotLinked, NoNodes}
 use Rattle.ov_cert.specs.declared.fault.CheckFault.TheVariants.{BadGroup}
 use Rattle.ov_certfile.specs.declared.fault.FileFault.{FileFault}
-use Rattle.ov_certfile.specs.declared.fault.FileFault.TheVariants.{NotJson, MissingKey, UnknownKey, BadValue, Version}
-use Rattle.ov_certfile.specs.declared.fault.FileFault.TheVariants.{Graph, OutOfMemory}
+use Rattle.ov_certfile.specs.declared.fault.FileFault.TheVariants.{NotJson, MissingKey, UnknownKey, BadValue}
+use Rattle.ov_certfile.specs.declared.fault.FileFault.TheVariants.{BadVersion, Graph, OutOfMemory}
 use Rattle.ov_check.specs.declared.outcome.Outcome.{Outcome}
 use Rattle.ov_check.specs.declared.outcome.Outcome.TheVariants.{Holds, Fails, Refused}
 
@@ -48,7 +48,7 @@ file_opening NotJson = codes "the file is no JSON"
 file_opening MissingKey = codes "a key is missing"
 file_opening UnknownKey = codes "a key is unknown"
 file_opening BadValue = codes "a value has another form"
-file_opening Version = codes "the version is unknown"
+file_opening BadVersion = codes "the version is unknown"
 file_opening (Graph graph.TooManyNodes) = codes "the graph has too many nodes"
 file_opening (Graph graph.Unordered) = codes "the nodes or the links do not ascend"
 file_opening (Graph graph.BadLink) = codes "a link does not join a node to a higher one"
@@ -56,7 +56,7 @@ file_opening (Graph graph.OutOfMemory) = codes "out of memory"
 file_opening OutOfMemory = codes "out of memory"
 
 -- of a file that holds there is nothing to say
-abbrev pub opening : Outcome → List ℕ
-opening (Holds f) = []
-opening (Fails fault) = statement_opening fault
-opening (Refused fault) = file_opening fault
+abbrev pub opening_text : Outcome → List ℕ
+opening_text (Holds f) = []
+opening_text (Fails fault) = statement_opening fault
+opening_text (Refused fault) = file_opening fault

@@ -2,9 +2,9 @@
 use Rattle.std.specs.Prelude.{◌≡◌, ◌≢◌, ℕ, List, [], ◌∷◌, ◌++◌, slice_get, codes, decimal, Option, Some, None}
 use Rattle.ov_ids.specs.Members.{Has}
 use Rattle.ov_graph.specs.Links.{LinkGraph, Linked}
-use Rattle.ov_check_reasons.specs.declared.paths.PathFlaw.{PathFlaw}
-use Rattle.ov_check_reasons.specs.declared.paths.PathFlaw.TheVariants.{Empty, Begins, Ends, Stranger, Unlinked, Twice}
-use Rattle.ov_check_reasons.specs.declared.paths.PathFlaw.TheVariants.{Shares}
+use Rattle.ov_check_reasons.specs.declared.path_faults.PathFlaw.{PathFlaw}
+use Rattle.ov_check_reasons.specs.declared.path_faults.PathFlaw.TheVariants.{Empty, Begins, Ends, Stranger}
+use Rattle.ov_check_reasons.specs.declared.path_faults.PathFlaw.TheVariants.{Unlinked, Twice, Shares}
 
 -- the path steps from a to b
 abbrev pub HasStep : List ℕ → ℕ → ℕ → Type 0

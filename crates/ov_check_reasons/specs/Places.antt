@@ -12,7 +12,7 @@ use Rattle.ov_graph.specs.Joined.{Survives, IsNodeSet}
 use Rattle.ov_graph.specs.Paths.{ArePaths, IsFan}
 use Rattle.ov_graph.specs.Even.{later_members, members_below}
 use Rattle.ov_cert.specs.declared.cert.Cert.{Cert}
-use Rattle.ov_cert.specs.declared.cert.Cert.TheVariants.{Linked as AllLinked, Split as SplitBy}
+use Rattle.ov_cert.specs.declared.cert.Cert.TheVariants as cert
 use Rattle.ov_cert.specs.declared.cert.Split.{Split}
 use Rattle.ov_cert.specs.declared.cert.PairPaths.{PairPaths}
 use Rattle.ov_cert.specs.declared.cert.FanPaths.{FanPaths}
@@ -23,8 +23,8 @@ use Rattle.ov_cert.specs.declared.fault.CheckFault.TheVariants.{NoNodes, BadGrou
 use Rattle.ov_cert.specs.Valid.{AreUnlinkedPairs}
 use Rattle.ov_cert.specs.Entries.{IsExpected}
 use Rattle.ov_certfile.specs.declared.fault.FileFault.{FileFault}
-use Rattle.ov_certfile.specs.declared.fault.FileFault.TheVariants.{Graph, NotJson, MissingKey, UnknownKey, BadValue}
-use Rattle.ov_certfile.specs.declared.fault.FileFault.TheVariants.{Version as AnotherVersion}
+use Rattle.ov_certfile.specs.declared.fault.FileFault.TheVariants.{NotJson, MissingKey, UnknownKey, BadValue}
+use Rattle.ov_certfile.specs.declared.fault.FileFault.TheVariants.{BadVersion, Graph}
 use Rattle.ov_certfile.specs.declared.reading.Filed.{Filed}
 use Rattle.ov_certfile.specs.declared.version.Version.{Version}
 use Rattle.ov_certfile.specs.Keys.{said}
@@ -33,7 +33,7 @@ use Rattle.ov_certfile.specs.Says.{SaysGraph}
 use Rattle.ov_check.specs.Outcome.{BytesSay, IsOutcome}
 use Rattle.ov_check.specs.declared.outcome.Outcome.{Outcome}
 use Rattle.ov_check.specs.declared.outcome.Outcome.TheVariants.{Holds, Fails, Refused}
-use Rattle.ov_check_reasons.specs.Opening.{opening, BeginsWith}
+use Rattle.ov_check_reasons.specs.Opening.{opening_text, BeginsWith}
 use Rattle.ov_check_reasons.specs.PathFlaws.{TellsFlaw}
 use Rattle.ov_check_reasons.specs.FilePlaces.{TellsMissing, TellsUnknown, TellsVersion}
 use Rattle.ov_check_reasons.specs.FormPlaces.{TellsBadValue}
@@ -51,7 +51,8 @@ abbrev pub id_text : List ℕ → ℕ → ℕ → List ℕ
 id_text name place id =
     codes ": " ++ (name ++ (codes "[" ++ (decimal place ++ (codes "] is " ++ (decimal id ++ codes ",")))))
 
--- What is told of ids that break a rule: the first one that breaks it, by its place. Why it breaks it follows.
+-- What is told of ids that break a rule. The text begins with the first id that breaks it, by its place; what stands
+-- after it is left open.
 abbrev pub TellsId : (List ℕ → Type 0) → List ℕ → List ℕ → List ℕ → Type 0
 TellsId Keep name ids text =
     (place : ℕ) × (id : ℕ) × IsFirstBreak Keep ids place × (slice_get ids place ≡ Some id)
@@ -73,8 +74,8 @@ link_text place l =
 abbrev pub size_text : ℕ → ℕ → List ℕ
 size_text number most = codes ": it has " ++ (decimal number ++ (codes ", and this version allows " ++ decimal most))
 
--- What is told of nodes and links that are no graph: the first node that is not above those before it, or where the
--- nodes ascend, the first link that breaks the rule of links. Why it does follows.
+-- What is told of nodes and links that are no graph. The text begins with the first node that is not above those before
+-- it, or where the nodes ascend, with the first link that breaks the rule of links; what stands after it is left open.
 abbrev pub TellsNoGraph : List ℕ → List (ℕ × ℕ) → List ℕ → Type 0
 TellsNoGraph nodes links text =
     TellsId Ascends (codes "nodes") nodes text
@@ -256,15 +257,15 @@ TellsExtra g q c text =
 abbrev pub TellsFault : LinkGraph → List ℕ → Cert → CheckFault → List ℕ → Type 0
 TellsFault g q c NoNodes text = text ≡ []
 TellsFault g q c BadGroup text = TellsGroup g q text
-TellsFault g q (AllLinked k) Count text = text ≡ count_text k (codes "the number of members is ") (length q)
-TellsFault g q (AllLinked k) NotLinked text = TellsUnlinked g q text
-TellsFault g q (SplitBy c) Count text =
+TellsFault g q (cert.Linked k) Count text = text ≡ count_text k (codes "the number of members is ") (length q)
+TellsFault g q (cert.Linked k) NotLinked text = TellsUnlinked g q text
+TellsFault g q (cert.Split c) Count text =
     text ≡ count_text c.k (codes "the number of nodes of the cut is ") (length c.cut)
-TellsFault g q (SplitBy c) Cut text = TellsId (IsNodeSet g) (codes "cut") c.cut text
-TellsFault g q (SplitBy c) Side text = TellsSide g q c text
-TellsFault g q (SplitBy c) (Pair i j) text = TellsPair g q c i j text
-TellsFault g q (SplitBy c) (Fan j) text = TellsFan g q c j text
-TellsFault g q (SplitBy c) Extra text = TellsExtra g q c text
+TellsFault g q (cert.Split c) Cut text = TellsId (IsNodeSet g) (codes "cut") c.cut text
+TellsFault g q (cert.Split c) Side text = TellsSide g q c text
+TellsFault g q (cert.Split c) (Pair i j) text = TellsPair g q c i j text
+TellsFault g q (cert.Split c) (Fan j) text = TellsFan g q c j text
+TellsFault g q (cert.Split c) Extra text = TellsExtra g q c text
 TellsFault g q c fault text = Unit {0}
 
 -- what is told of a fault of the graph that a value says, whose version says how many nodes are allowed
@@ -281,7 +282,7 @@ abbrev pub TellsValue : FileFault → Data → List ℕ → Type 0
 TellsValue MissingKey value text = TellsMissing value text
 TellsValue UnknownKey value text = TellsUnknown value text
 TellsValue BadValue value text = TellsBadValue value text
-TellsValue AnotherVersion value text = TellsVersion value text
+TellsValue BadVersion value text = TellsVersion value text
 TellsValue (Graph fault) value text = TellsGraphIn fault value text
 TellsValue fault value text = Unit {0}
 
@@ -298,4 +299,4 @@ TellsPlace bytes (Refused fault) text = (d : Data) × (read bytes ≡ Some d) ×
 unfoldable pub ExplainsOutcome : List ℕ → Outcome → List ℕ → Type 0
 ExplainsOutcome bytes outcome text =
     IsOutcome bytes outcome
-    → (place : List ℕ) × (text ≡ opening outcome ++ place) × TellsPlace bytes outcome place
+    → (place : List ℕ) × (text ≡ opening_text outcome ++ place) × TellsPlace bytes outcome place

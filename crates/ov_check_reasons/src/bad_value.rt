@@ -4,24 +4,22 @@ ghost use Rattle.ov_certfile.specs.declared.fault.FileFault.TheVariants.{BadValu
 ghost use Rattle.ov_certfile.specs.Keys.{has_key};
 ghost use Rattle.ov_certfile.specs.Says.{IsFault};
 ghost use Rattle.ov_check_reasons.specs.FilePlaces.{TellsExpected};
-ghost use Rattle.ov_check_reasons.specs.FormPlaces.{TellsAt, TellsBadValue};
+ghost use Rattle.ov_check_reasons.specs.FormPlaces.{TellsAt, TellsBadValue, TellsNoNumber};
 ghost use Rattle.ov_check_reasons.specs.Code.FileKeys.{key_of, TellsField};
-ghost use Rattle.ov_check_reasons.specs.Code.Words.{Adds};
+ghost use Rattle.ov_check_reasons.specs.Code.Sentences.{Adds};
 
-use crate::fields::{FileKey, first_unformed, wanted_fields};
-use crate::forms::tell_at;
-use crate::values::say_found;
-use crate::words::{Word, say};
+use crate::file_keys::{FileKey, first_unformed, wanted_fields};
+use crate::found_values::say_found;
+use crate::sentence_parts::{Part, say};
+use crate::value_forms::tell_at;
 use ov_cert::{FanPaths, PairPaths};
-use ov_ids::{NodeId, OutOfMemory, Seq};
+use ov_certfile::LAST_MOMENT;
+use ov_ids::{NUMBER_LIMIT, NodeId, OutOfMemory, Seq};
 use serde_json::Value;
 use std::alloc::Global;
 
-/// What k may be.
-const COUNTS: &str = "a whole number from 0 to 4294967295";
-
-/// What a moment may be.
-const MOMENTS: &str = "a whole number from 0 to 65536";
+/// The largest k.
+const LAST_COUNT: u64 = NUMBER_LIMIT - 1;
 
 /// What a verdict may be.
 const VERDICTS: &str = "\"linked\" or \"split\"";
@@ -58,9 +56,9 @@ fn tell_field(
         → OnOk result (Adds (TellsField field (view value.now)) (string_bytes text.old) (string_bytes text.new)) }
 {
     match field {
-        FileKey::K => tell_other(alloc, text, value, "k", COUNTS),
+        FileKey::K => tell_no_number(alloc, text, value, "k", LAST_COUNT),
         FileKey::Links => { tell_at::<Seq<(NodeId, NodeId)>>(alloc, text, value, ", ", "links") }
-        FileKey::Moment => tell_other(alloc, text, value, "moment", MOMENTS),
+        FileKey::Moment => tell_no_number(alloc, text, value, "moment", LAST_MOMENT),
         FileKey::Nodes => tell_at::<Seq<NodeId>>(alloc, text, value, ", ", "nodes"),
         FileKey::Verdict => tell_other(alloc, text, value, "verdict", VERDICTS),
         FileKey::Version => tell_other(alloc, text, value, "version", "1 or 2"),
@@ -72,6 +70,22 @@ fn tell_field(
         FileKey::Pairs => tell_at::<Seq<PairPaths>>(alloc, text, value, ", ", "pairs"),
         FileKey::Fans => tell_at::<Seq<FanPaths>>(alloc, text, value, ", ", "fans"),
     }
+}
+
+/// Tells which other value stands at a key, where a number up to this one is expected.
+fn tell_no_number(
+    alloc: Global,
+    text: &mut String,
+    value: &Value,
+    key: &str,
+    last: u64,
+) -> Result<(), OutOfMemory>
+    ensures { has_key key.now (view value.now) ≡ true
+        → OnOk result (Adds (TellsAt (codes ", ") key.now (TellsNoNumber last) (view value.now))
+        (string_bytes text.old) (string_bytes text.new)) }
+{
+    let expected = format!(in alloc; "a whole number from 0 to {last}")?;
+    tell_other(alloc, text, value, key, expected.as_str())
 }
 
 /// Tells which other value stands at a key, and what is expected there.
@@ -89,6 +103,6 @@ fn tell_other(
     let Some(value) = value.get(key) else {
         return Ok(());
     };
-    say(text, &[Word::Text(", "), Word::Text(key)])?;
+    say(text, &[Part::Text(", "), Part::Text(key)])?;
     say_found(alloc, text, expected, value)
 }

@@ -1,16 +1,16 @@
 ghost use Rattle.std.specs.Prelude.{Ok, IfOk, OnOk, string_bytes};
-ghost use Rattle.ov_cert.specs.declared.cert.Cert.TheVariants.{Linked as AllLinked, Split as SplitBy};
+ghost use Rattle.ov_cert.specs.declared.cert.Cert.TheVariants as cert;
 ghost use Rattle.ov_cert.specs.Verdict.{IsFirstFault};
 ghost use Rattle.ov_check.specs.Outcome.{IsOutcome};
 ghost use Rattle.ov_check.specs.declared.outcome.Outcome.TheVariants.{Fails};
-ghost use Rattle.ov_check_reasons.specs.Opening.{opening, BeginsWith};
+ghost use Rattle.ov_check_reasons.specs.Opening.{opening_text, BeginsWith};
 ghost use Rattle.ov_check_reasons.specs.Places.{TellsFault, TellsPlace, ExplainsOutcome};
-ghost use Rattle.ov_check_reasons.specs.Code.Words.{Adds};
+ghost use Rattle.ov_check_reasons.specs.Code.Sentences.{Adds};
 
-use crate::entries::{tell_extra, tell_fan, tell_pair};
-use crate::file::place_in_file;
-use crate::frame::{tell_count, tell_cut, tell_group, tell_side, tell_unlinked};
-use crate::opening::say_opening;
+use crate::entry_faults::{tell_extra, tell_fan, tell_pair};
+use crate::fault_in_words::say_opening;
+use crate::frame_faults::{tell_count, tell_cut, tell_group, tell_side, tell_unlinked};
+use crate::refused_file::place_in_file;
 use ov_cert::{Cert, CheckFault, Split};
 use ov_certfile::{FileFault, Filed, from_text};
 use ov_check::Outcome;
@@ -25,7 +25,7 @@ use std::alloc::Global;
 /// `OutOfMemory` (99): an allocation was refused.
 #[tactic(auto, unfolding(crate::specs::Places::ExplainsOutcome))]
 pub fn reasons(alloc: Global, bytes: &[u8], outcome: &Outcome) -> Result<String, OutOfMemory>
-    ensures opening { IfOk result (λ text. BeginsWith (opening outcome.now) (string_bytes text)) }
+    ensures opening { IfOk result (λ text. BeginsWith (opening_text outcome.now) (string_bytes text)) }
     ensures place { IfOk result (λ text. ExplainsOutcome bytes.now outcome.now (string_bytes text)) }
 {
     let place = place_of(alloc, bytes, outcome)?;
@@ -102,8 +102,8 @@ fn tell_linked(
     k: u32,
     fault: CheckFault,
 ) -> Result<(), OutOfMemory>
-    ensures { IsFirstFault graph.now group.now (AllLinked k) fault
-        → OnOk result (Adds (TellsFault graph.now group.now (AllLinked k) fault) (string_bytes text.old)
+    ensures { IsFirstFault graph.now group.now (cert.Linked k) fault
+        → OnOk result (Adds (TellsFault graph.now group.now (cert.Linked k) fault) (string_bytes text.old)
         (string_bytes text.new)) }
 {
     match fault {
@@ -122,8 +122,8 @@ fn tell_split(
     split: &Split,
     fault: CheckFault,
 ) -> Result<(), OutOfMemory>
-    ensures { IsFirstFault graph.now group.now (SplitBy split.now) fault
-        → OnOk result (Adds (TellsFault graph.now group.now (SplitBy split.now) fault) (string_bytes text.old)
+    ensures { IsFirstFault graph.now group.now (cert.Split split.now) fault
+        → OnOk result (Adds (TellsFault graph.now group.now (cert.Split split.now) fault) (string_bytes text.old)
         (string_bytes text.new)) }
 {
     let cut = split.cut.as_slice();

@@ -2,19 +2,19 @@
 #![tactic(auto)]
 
 mod bad_value;
-mod entries;
+mod entry_faults;
 mod explain;
-mod fields;
-mod file;
-mod forms;
-mod frame;
-mod graph;
-mod ids;
-mod keys;
-mod opening;
-mod paths;
-mod values;
-mod wanted;
-mod words;
+mod fault_in_words;
+mod file_keys;
+mod found_values;
+mod frame_faults;
+mod graph_faults;
+mod id_tests;
+mod key_faults;
+mod path_faults;
+mod refused_file;
+mod sentence_parts;
+mod value_forms;
+mod wanted_keys;
 
 pub use explain::reasons;

@@ -4,7 +4,7 @@ use Rattle.std.proofs.Common.{slice_get, Option, Some, None, refl, sym, ap, ◌�
 use Rattle.std.specs.List.{list_all}
 use Rattle.std.proofs.lemmas.Bool.{and_parts}
 use Rattle.std.proofs.lemmas.Option.{none-some, same_Some}
-use Rattle.ov_claims.specs.Claims.{WorkerState, DeskState, HasWorker, IsLegal, IsHeld}
+use Rattle.ov_claims.specs.Claims.{WorkerState, DeskState, HasWorker, IsLegal, AreSoundClaims}
 use Rattle.ov_claims.specs.Theorems.{AllEnded, IsDone, EndsDone}
 
 -- the lowest failed number is at most the total
@@ -72,9 +72,9 @@ ended_tested d s ws b seen same e =
     let f : b ≡ have_ended s.workers = e ∙ ap have_ended k in
     ((λ t. all_from_test s.workers (sym f ∙ t)), (λ a. f ∙ test_from_all s.workers a))
 
-pub done_tested : (d s : DeskState) (ws : List WorkerState) (b : Bool) → d ≡ s → IsHeld d → ws ≡ d.workers
+pub done_tested : (d s : DeskState) (ws : List WorkerState) (b : Bool) → d ≡ s → AreSoundClaims d → ws ≡ d.workers
     → b ≡ have_ended ws → IsTrue b → IsDone s
 done_tested d s ws b seen held same e t =
-    let h : IsHeld s = subst IsHeld seen held in
-    let some = h.some in
+    let h : AreSoundClaims s = subst AreSoundClaims seen held in
+    let some = h.may_work.0 in
     ends_done s h.legal (omega arith) ((ended_tested d s ws b seen same e).0 t)

@@ -7,7 +7,7 @@ use Rattle.std.proofs.lemmas.Option.{get_or_from_slice_get}
 use Rattle.std.proofs.lemmas.List.Sums.{length-filter, count_by-le-length}
 use Rattle.ov_ids.specs.Members.{Has, Ascends}
 use Rattle.ov_ids.proofs.Members.{has_append_right}
-use Rattle.ov_claims.specs.Claims.{WorkerState, DeskState, HasWorker, IsLegal, count_ended, IsHeld}
+use Rattle.ov_claims.specs.Claims.{WorkerState, DeskState, HasWorker, IsLegal, MayWork, count_ended, AreSoundClaims}
 use Rattle.ov_claims.specs.Steps.{claiming, looking, failing, IsLast, Claims, Looks, Fails}
 use Rattle.ov_claims.proofs.Changing.{is_ended, after}
 use Rattle.ov_claims.proofs.Staying.{stays_legal}
@@ -15,7 +15,7 @@ use Rattle.ov_claims.proofs.Staying.{stays_legal}
 -- worker w, which is y, takes a turn at a desk with the fields d; contracts see s
 pub record HasTurn (d s : DeskState) (w : ℕ) (y : WorkerState) : Type 0 where
   pub seen : d ≡ s
-  pub held : IsHeld d
+  pub held : AreSoundClaims d
   pub read : y ≡ get_or d.workers w y
 
 -- the worker that takes the turn is the worker with that number
@@ -27,23 +27,21 @@ of_fields : (d s : DeskState) (w : ℕ) (y : WorkerState) (P : DeskState → Typ
 of_fields d s w y P turn = subst P (sym turn.seen)
 
 -- the next number plus one fits in 64 bits
-pub next_small : (d : DeskState) → IsHeld d → d.next + 1 < 2 ^ 64
+pub next_small : (d : DeskState) → AreSoundClaims d → d.next + 1 < 2 ^ 64
 next_small d h =
     let next = h.legal.next in
     let total = h.total in
-    let few = h.few in
+    let few = h.may_work.1 in
     let ended : count_ended d.workers ≤ length d.workers =
     omega (arith, length-filter is_ended d.workers, count_by-le-length is_ended d.workers) in
     omega (arith, next, total, few, ended)
 
 -- a turn that leaves the claims legal keeps the invariant of the desk
-still_held : (d : DeskState) (next least w : ℕ) (z : WorkerState) → IsHeld d → IsLegal (after d next least w z)
-    → IsHeld (after d next least w z)
+still_held : (d : DeskState) (next least w : ℕ) (z : WorkerState) → AreSoundClaims d → IsLegal (after d next least w z)
+    → AreSoundClaims (after d next least w z)
 still_held d next least w z h l =
     let e : length (set d.workers w z) ≡ length d.workers = length-set d.workers w z in
-    let some = h.some in
-    let few = h.few in
-    record { legal = l; total = h.total; some = omega (arith, some, e); few = omega (arith, few, e) }
+    record { legal = l; total = h.total; may_work = subst MayWork (sym e) h.may_work }
 
 -- the worker exists and has not ended
 abbrev pub HasNotEnded : DeskState → ℕ → Type 0
@@ -68,7 +66,7 @@ claim_made d s w y z turn g e =
     (claims d s w y z turn (of_fields d s w y (λ u. HasNotEnded u w) turn g) e)
 
 pub claim_held : (d s : DeskState) (w : ℕ) (y z : WorkerState) → HasTurn d s w y → HasNotEnded s w
-    → z ≡ claiming d.total d.next y → IsHeld (after d (d.next + 1) d.least w z)
+    → z ≡ claiming d.total d.next y → AreSoundClaims (after d (d.next + 1) d.least w z)
 claim_held d s w y z turn g e =
     let step = claims d s w y z turn (of_fields d s w y (λ u. HasNotEnded u w) turn g) e in
     let h = turn.held in
@@ -118,7 +116,7 @@ look_made d s w y z turn g e v x has last =
     (of_fields d s w y (λ u. HasWorker u w v) turn has) last)
 
 pub look_held : (d s : DeskState) (w : ℕ) (y z : WorkerState) → HasTurn d s w y → MayLook s w → LooksAtLast d y z
-    → IsHeld (after d d.next d.least w z)
+    → AreSoundClaims (after d d.next d.least w z)
 look_held d s w y z turn g e =
     let f : MayLook d w = of_fields d s w y (λ u. MayLook u w) turn g in
     let step = looks d s w y z turn f e f.0 f.1 f.2 f.4 in
@@ -156,7 +154,7 @@ fail_made d s w x least y z turn f v n has last =
     (fails d s w x least y z turn f v n (of_fields d s w y (λ u. HasWorker u w v) turn has) last)
 
 pub fail_held : (d s : DeskState) (w x least : ℕ) (y z : WorkerState) → HasTurn d s w y → FailsAtLast d x least y z
-    → MayFail s w → IsHeld (after d d.next least w z)
+    → MayFail s w → AreSoundClaims (after d d.next least w z)
 fail_held d s w x least y z turn f may =
     let g : MayFail d w = of_fields d s w y (λ u. MayFail u w) turn may in
     let step = fails d s w x least y z turn f g.0 g.1 g.2 g.3 in

@@ -27,6 +27,10 @@ pub record DeskState : Type 0 where
 abbrev pub most_workers : ℕ
 most_workers = 64
 
+-- so many workers may share out numbers
+abbrev pub MayWork : ℕ → Type 0
+MayWork n = (1 ≤ n) × (n ≤ most_workers)
+
 -- a worker that has not claimed a number yet
 abbrev pub fresh : WorkerState
 fresh = record { claimed = []; failed = []; skipped = None; ended = false }
@@ -73,9 +77,9 @@ pub record IsLegal (s : DeskState) : Type 0 where
   pub least_failed : (HasFailed s s.least) ⊎ (s.least ≡ s.total)
   pub least : (x : ℕ) → HasFailed s x → s.least ≤ x
 
--- the claims of a desk or a board: they are legal, the total fits 32 bits, and there are 1 to 64 workers
-pub record IsHeld (s : DeskState) : Type 0 where
+-- sound claims, as those of a desk or a board are: they are legal, the total fits 32 bits, and there are 1 to 64
+-- workers
+pub record AreSoundClaims (s : DeskState) : Type 0 where
   pub legal : IsLegal s
   pub total : s.total < number_limit
-  pub some : 1 ≤ length s.workers
-  pub few : length s.workers ≤ most_workers
+  pub may_work : MayWork (length s.workers)

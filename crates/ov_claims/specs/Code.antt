@@ -1,2 +1,2 @@
 -- What private contracts and proofs use.
-pub mod Held
+pub mod Kept

@@ -1,10 +1,11 @@
-ghost use Rattle.std.specs.Prelude.{◌≡◌, ◌↔◌, ℕ, ◌<◌, ◌≤◌, false, length, IsTrue, IfOk, OnOk, OnErr};
+ghost use Rattle.std.specs.Prelude.{◌≡◌, ◌↔◌, ℕ, ◌<◌, false, length, IsTrue, IfOk, OnOk, OnErr};
 ghost use Rattle.ov_ids.specs.Limits.{number_limit};
-ghost use Rattle.ov_claims.specs.Claims.{HasWorker, WorkerState, IsLegal, most_workers, opening_claims};
+ghost use Rattle.ov_claims.specs.Claims.{HasWorker, WorkerState, IsLegal, MayWork, opening_claims};
 ghost use Rattle.ov_claims.specs.Steps.{Claims, Looks, Fails, IsLast};
 ghost use Rattle.ov_claims.specs.Theorems.{AllEnded, IsDone};
 
 use crate::worker::{Worker, have_ended};
+use crate::workers::Workers;
 use ov_ids::OutOfMemory;
 use std::alloc::Global;
 use std::marker::Model;
@@ -20,26 +21,24 @@ pub struct Desk {
 }
 
 impl Model for Desk {
-    ghost use Rattle.ov_claims.specs.Claims.{DeskState, IsHeld};
-    ghost use Rattle.ov_claims.specs.Code.Held.{state};
+    ghost use Rattle.ov_claims.specs.Claims.{DeskState, AreSoundClaims};
+    ghost use Rattle.ov_claims.specs.Code.Kept.{state};
 
     ghost Value = { DeskState };
 
     ghost view = { λ d. state d.total d.next d.least d.workers.items };
 
-    ghost invariant = { λ d. IsHeld (state d.total d.next d.least d.workers.items) };
+    ghost invariant = { λ d. AreSoundClaims (state d.total d.next d.least d.workers.items) };
 }
 
 impl Desk {
     /// A desk for `workers` workers, which share out the numbers below `total`. Faults: out of memory.
-    pub fn new(alloc: Global, total: u64, workers: u32) -> Result<Desk, OutOfMemory>
-        requires total { total < number_limit }
-        requires some { 1 ≤ workers }
-        requires few { workers ≤ most_workers }
+    pub fn new(alloc: Global, total: u64, workers: Workers) -> Result<Desk, OutOfMemory>
+        requires { total < number_limit }
         ensures { IfOk result (λ d. d ≡ opening_claims total workers) }
     {
         let mut fresh = Vec::new(alloc);
-        for _ in 0..workers {
+        for _ in 0..workers.count() {
             fresh.push(Worker::new(alloc))?;
         }
         Ok(Desk {
@@ -116,8 +115,7 @@ impl Desk {
     pub fn workers(&self) -> u32
         ensures number { result ≡ length self.now.workers }
         ensures legal { IsLegal self.now }
-        ensures some { 1 ≤ result }
-        ensures few { result ≤ most_workers }
+        ensures may_work { MayWork result }
     {
         self.workers.len() as u32
     }

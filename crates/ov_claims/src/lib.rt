@@ -4,6 +4,8 @@
 mod desk;
 mod theorems;
 mod worker;
+mod workers;
 
 pub use desk::Desk;
 pub use theorems::{ends_done, stays_legal};
+pub use workers::Workers;

@@ -6,7 +6,7 @@ use Rattle.std.specs.Prelude.{All}
 use Rattle.ov_graph.specs.Links.{LinkGraph}
 use Rattle.ov_board.specs.Board.{BoardState, SeatState, new_seat}
 use Rattle.ov_even.specs.Levels.{AreNumbersOf}
-use Rattle.ov_even.specs.declared.haul.Haul.{Haul}
+use Rattle.ov_even.specs.declared.worker_haul.Haul.{Haul}
 use Rattle.ov_crew.specs.Code.Crews.{IsNewAt, IsRange, Outcome, HasWorked, outcomes, AreHaulsOf}
 
 -- one more worker

@@ -9,7 +9,7 @@ use Rattle.ov_board.specs.Board.{BoardState, SeatState, IsClosed}
 use Rattle.ov_even.specs.Harvest.{AreRight, IsCleared}
 use Rattle.ov_even.specs.Levels.{AreNumbersOf, IsTried}
 use Rattle.ov_even.specs.Order.{IsNumbered}
-use Rattle.ov_even.specs.declared.haul.Haul.{Haul}
+use Rattle.ov_even.specs.declared.worker_haul.Haul.{Haul}
 use Rattle.ov_even.proofs.AnalysisSteps.ByNumbers.{IsCutAt, tried_by_numbers}
 use Rattle.ov_even.proofs.AnalysisSteps.FirstCut.{cut_or_not}
 use Rattle.ov_even.proofs.PieceNumbers.Numbering.{one_piece}

@@ -1,11 +1,7 @@
 //! The analysis of a graph and a group by several workers, each in a thread of its own.
-ghost use Rattle.std.specs.Prelude.{◌≡◌, ℕ, ◌<◌, ◌≤◌, ◌+◌, ◌^◌, length, All, IfOk, IfErr, OnOk, true};
-ghost use Rattle.ov_ids.specs.FaultOrder.{IsRefusedBy};
+ghost use Rattle.std.specs.Prelude.{◌≡◌, ℕ, ◌<◌, ◌+◌, length, All, IfOk, IfErr, OnOk, true};
 ghost use Rattle.ov_graph.specs.Links.{IsGroup, IsWithinLimit, AreAllLinked};
-ghost use Rattle.ov_cert.specs.Theorems.{IsTrueForGroup};
-ghost use Rattle.ov_claims.specs.Claims.{fresh, most_workers};
-ghost use Rattle.ov_even.specs.Answer.{IsCheckedAnswer};
-ghost use Rattle.ov_even.specs.Faults.{GroupJudged};
+ghost use Rattle.ov_even.specs.Answer.{IsAnalysed, IsCheckedAnswer};
 ghost use Rattle.ov_even.specs.Harvest.{AreRight, Suffice};
 ghost use Rattle.ov_even.specs.Levels.{AreNumbersOf, IsTried};
 ghost use Rattle.ov_even.specs.declared.fault.AnalyseFault.TheVariants.{OutOfMemory as out_of_memory};
@@ -18,6 +14,7 @@ use crate::naming_crew::name_by_crew;
 use crate::worker::work_range;
 use ov_board::{Board, Seat};
 use ov_cert::{Checked, are_all_linked};
+use ov_claims::Workers;
 use ov_even::{
     AnalyseFault, Haul, LevelNumbers, LevelSearch, Searched, Unwatched, Watcher,
     analyse_group_watched as analyse_by_one, assemble_named, level_numbers, wanted_paths,
@@ -33,14 +30,10 @@ pub fn analyse<R: Threads + Sync, G: Gate>(
     rt: &R,
     alloc: Global,
     graph: &Graph,
-    workers: u32,
+    workers: Workers,
     gate: &G,
 ) -> Result<Checked, AnalyseFault>
-    requires some { 1 ≤ workers }
-    requires few { workers ≤ most_workers }
-    ensures answer { IfOk result (λ c. IsCheckedAnswer graph.now graph.now.nodes c) }
-    ensures fewest { IfOk result (λ c. IsTrueForGroup graph.now graph.now.nodes c.cert) }
-    ensures refused { IfErr result (IsRefusedBy out_of_memory (GroupJudged graph.now graph.now.nodes)) }
+    ensures analysed { IsAnalysed graph.now graph.now.nodes result }
 {
     analyse_group(rt, alloc, graph, graph.nodes(), workers, gate)
 }
@@ -54,20 +47,16 @@ pub fn analyse_group<R: Threads + Sync, G: Gate>(
     alloc: Global,
     graph: &Graph,
     group: &[NodeId],
-    workers: u32,
+    workers: Workers,
     gate: &G,
 ) -> Result<Checked, AnalyseFault>
-    requires some { 1 ≤ workers }
-    requires few { workers ≤ most_workers }
-    ensures answer { IfOk result (λ c. IsCheckedAnswer graph.now group.now c) }
-    ensures fewest { IfOk result (λ c. IsTrueForGroup graph.now group.now c.cert) }
-    ensures refused { IfErr result (IsRefusedBy out_of_memory (GroupJudged graph.now group.now)) }
+    ensures analysed { IsAnalysed graph.now group.now result }
 {
     let hiring = Hiring {
         workers,
         sparing: false,
     };
-    analyse_by(rt, alloc, graph, group, hiring, gate, &mut Unwatched)
+    analyse_by(rt, alloc, graph, group, &hiring, gate, &mut Unwatched)
 }
 
 /// Does what `analyse_group` does, but a level gets only as many of the workers as its paths pay for. The watcher is
@@ -78,24 +67,20 @@ pub fn analyse_group_watched<R: Threads + Sync, G: Gate, W: Watcher>(
     alloc: Global,
     graph: &Graph,
     group: &[NodeId],
-    workers: u32,
+    workers: Workers,
     gate: &G,
     watcher: &mut W,
 ) -> Result<Checked, AnalyseFault>
-    requires some { 1 ≤ workers }
-    requires few { workers ≤ most_workers }
-    ensures answer { IfOk result (λ c. IsCheckedAnswer graph.now group.now c) }
-    ensures fewest { IfOk result (λ c. IsTrueForGroup graph.now group.now c.cert) }
-    ensures refused { IfErr result (IsRefusedBy out_of_memory (GroupJudged graph.now group.now)) }
+    ensures analysed { IsAnalysed graph.now group.now result }
 {
-    if workers == 1 {
+    if workers == Workers::ONE {
         return analyse_by_one(alloc, graph, group, watcher);
     }
     let hiring = Hiring {
         workers,
         sparing: true,
     };
-    analyse_by(rt, alloc, graph, group, hiring, gate, watcher)
+    analyse_by(rt, alloc, graph, group, &hiring, gate, watcher)
 }
 
 /// The analysis by these workers.
@@ -104,15 +89,11 @@ fn analyse_by<R: Threads + Sync, G: Gate, W: Watcher>(
     alloc: Global,
     graph: &Graph,
     group: &[NodeId],
-    hiring: Hiring,
+    hiring: &Hiring,
     gate: &G,
     watcher: &mut W,
 ) -> Result<Checked, AnalyseFault>
-    requires some { 1 ≤ hiring.workers }
-    requires few { hiring.workers ≤ most_workers }
-    ensures answer { IfOk result (λ c. IsCheckedAnswer graph.now group.now c) }
-    ensures fewest { IfOk result (λ c. IsTrueForGroup graph.now group.now c.cert) }
-    ensures refused { IfErr result (IsRefusedBy out_of_memory (GroupJudged graph.now group.now)) }
+    ensures analysed { IsAnalysed graph.now group.now result }
 {
     if graph.nodes().is_empty() {
         return Err(AnalyseFault::NoNodes);
@@ -131,12 +112,11 @@ fn assembled<R: Threads + Sync>(
     graph: &Graph,
     group: &[NodeId],
     hauls: &[Haul],
-    hiring: Hiring,
+    hiring: &Hiring,
 ) -> Result<Checked, AnalyseFault>
     requires group { IsGroup graph.now group.now }
     requires suffice { Suffice graph.now group.now hauls.now }
     ensures answer { IfOk result (λ c. IsCheckedAnswer graph.now group.now c) }
-    ensures fewest { IfOk result (λ c. IsTrueForGroup graph.now group.now c.cert) }
     ensures refused { IfErr result (λ fault. fault ≡ out_of_memory) }
 {
     let found = wanted_paths(alloc, graph, group, hauls)?;
@@ -150,13 +130,11 @@ fn enough<R: Threads + Sync, G: Gate, W: Watcher>(
     alloc: Global,
     graph: &Graph,
     group: &[NodeId],
-    hiring: Hiring,
+    hiring: &Hiring,
     gate: &G,
     watcher: &mut W,
 ) -> Result<Vec<Haul>, OutOfMemory>
-    requires group { IsGroup graph.now group.now }
-    requires some { 1 ≤ hiring.workers }
-    requires few { hiring.workers ≤ most_workers }
+    requires { IsGroup graph.now group.now }
     ensures { IfOk result (λ hauls. Suffice graph.now group.now hauls.items) }
 {
     if are_all_linked(graph, group) {
@@ -183,13 +161,11 @@ fn try_level<R: Threads + Sync, G: Gate>(
     graph: &Graph,
     group: &[NodeId],
     numbers: LevelNumbers,
-    workers: u32,
+    workers: Workers,
     gate: &G,
 ) -> Result<Vec<Haul>, OutOfMemory>
     requires group { IsGroup graph.now group.now }
     requires range { IsRange graph.now group.now numbers.first numbers.size }
-    requires some { 1 ≤ workers }
-    requires few { workers ≤ most_workers }
     ensures right { IfOk result (λ hauls. AreRight graph.now group.now hauls.items) }
     ensures tried { (level : ℕ)
         → AreNumbersOf (length graph.now.nodes) (length group.now) level numbers.first numbers.size

@@ -1,7 +1,7 @@
 //! Names paths by ids in several threads.
 ghost use Rattle.std.specs.Prelude.{◌≡◌, ℕ, ◌<◌, ◌≤◌, ◌*◌, List, length, map, IfOk};
 ghost use Rattle.ov_even.specs.Naming.{AreFound, named_of};
-ghost use Rattle.ov_even.specs.declared.naming.NamedPaths.{NamedPaths as named_paths};
+ghost use Rattle.ov_even.specs.declared.path_naming.NamedPaths.{NamedPaths as named_paths};
 ghost use Rattle.ov_crew.specs.Code.Parts.{AreParts};
 
 use crate::hiring::Hiring;
@@ -20,7 +20,7 @@ pub(crate) fn name_by_crew<R: Threads + Sync>(
     graph: &Graph,
     group: &[NodeId],
     found: &[FoundPaths<'_>],
-    hiring: Hiring,
+    hiring: &Hiring,
 ) -> Result<Vec<NamedPaths>, OutOfMemory>
     requires { AreFound graph.now group.now found.now }
     ensures { IfOk result (λ named. named.items ≡ map (named_of graph.now group.now) found.now) }

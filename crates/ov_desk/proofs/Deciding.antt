@@ -21,7 +21,7 @@ use Rattle.ov_claims.proofs.Ending.{ends_done}
 use Rattle.ov_even.specs.Code.Levels.{all_pieces}
 use Rattle.ov_even.specs.Harvest.{IsBroughtIn, Decides, Suffice}
 use Rattle.ov_even.specs.Order.{IsNumbered}
-use Rattle.ov_even.specs.declared.haul.Haul.{Haul}
+use Rattle.ov_even.specs.declared.worker_haul.Haul.{Haul}
 use Rattle.ov_even.proofs.PieceNumbers.AllLevels.{all_listed}
 use Rattle.ov_even.proofs.AnalysisSteps.FirstCut.{cut_or_not}
 use Rattle.ov_even.proofs.PieceOrder.InOrder.{has_at, at_has, at_within}
@@ -160,8 +160,7 @@ decided g d s ended done f =
 -- if all workers of a sound desk have ended, every two members are linked or the desk has decided
 pub ended_decides : EndedDecides
 ended_decides g d graph s ended =
-    let some = s.some in
-    let done = ends_done d.claims s.legal (omega (arith, some)) ended in
+    let done = ends_done d.claims s.legal s.may_work.0 ended in
     elim (linked_or_apart g d.members s.group) [
       | inl all ↦ inl all
       | inr apart ↦ inr (decided g d s ended done (one_failed g d graph s ended done apart))

@@ -6,12 +6,12 @@ use Rattle.std.proofs.lemmas.List.{length-set, set-get_or}
 use Rattle.std.proofs.lemmas.Bool.{lt-ltb, le-ltb}
 use Rattle.std.proofs.lemmas.Option.{same_Some, slice_get_within, get_or_from_slice_get}
 use Rattle.ov_even.proofs.PieceOrder.InOrder.{at_within}
-use Rattle.ov_claims.specs.Claims.{WorkerState, DeskState, HasWorker}
+use Rattle.ov_claims.specs.Claims.{WorkerState, DeskState, HasWorker, MayWork}
 use Rattle.ov_claims.specs.Steps.{claiming, looking, IsLast, Claims, Looks}
 use Rattle.ov_claims.proofs.Changing.{at_changed}
 use Rattle.ov_desk.specs.Desk.{GroupDeskState, HasHand}
 use Rattle.ov_desk.specs.Turns.{ClaimsNext, WasClaimed, WasLookedAt}
-use Rattle.ov_desk.specs.Code.Held.{IsHeld, IsClaimedLast}
+use Rattle.ov_desk.specs.Code.Kept.{IsKept, IsClaimedLast}
 use Rattle.ov_desk.specs.declared.hand.Hand.{Hand}
 use Rattle.ov_desk.specs.declared.hand.Hand.TheVariants.{Nothing, Claimed, Looked}
 
@@ -28,19 +28,16 @@ pub record IsTurn (d : GroupDeskState) (w : ℕ) (z : WorkerState) (hand : Hand)
   pub claimed : IsClaimedLast z hand
 
 -- a turn keeps the invariant of the desk
-pub still_held : (d e : GroupDeskState) (w : ℕ) (z : WorkerState) (hand : Hand) → IsHeld d → IsTurn d w z hand e
-    → IsHeld e
+pub still_held : (d e : GroupDeskState) (w : ℕ) (z : WorkerState) (hand : Hand) → IsKept d → IsTurn d w z hand e
+    → IsKept e
 still_held d e w z hand h t =
     let many = ap length t.claims ∙ length-set d.claims.workers w z in
     let held = ap length t.hands ∙ length-set d.hands w hand in
-    let some = h.some in
-    let few = h.few in
     let hands = h.hands in
     let settled = h.settled in
     let brought = t.settled in
     record {
-      some = omega (arith, some, many);
-      few = omega (arith, few, many);
+      may_work = subst MayWork (sym many) h.may_work;
       hands = omega (arith, hands, many, held);
       settled = omega (arith, settled, many, brought);
       claimed = λ u v k has at.
@@ -62,7 +59,7 @@ still_held d e w z hand h t =
     }
 
 -- whoever has a number in hand is a worker of the desk, and claimed the number last
-pub its_worker : (d : GroupDeskState) (w : ℕ) (hand : Hand) → IsHeld d → HasHand d w hand
+pub its_worker : (d : GroupDeskState) (w : ℕ) (hand : Hand) → IsKept d → HasHand d w hand
     → (v : WorkerState) × HasWorker d.claims w v × IsClaimedLast v hand
 its_worker d w hand h at =
     let within = slice_get_within d.hands w hand at in
@@ -95,8 +92,8 @@ takes_none s t w x total c e high =
     ap (λ (b : Bool). cond b (Claimed x) Nothing) (sym (le-ltb x s.total (omega (arith, high, e, same))))
 
 -- a claim keeps the invariant of the desk
-pub claim_held : (d e : GroupDeskState) (w x : ℕ) → IsHeld d → Claims d.claims w x e.claims
-    → e.hands ≡ set d.hands w (taking d.claims.total x) → length e.settled ≡ length d.settled → IsHeld e
+pub claim_held : (d e : GroupDeskState) (w x : ℕ) → IsKept d → Claims d.claims w x e.claims
+    → e.hands ≡ set d.hands w (taking d.claims.total x) → length e.settled ≡ length d.settled → IsKept e
 claim_held d e w x h c hands settled =
     let v = c.worker in
     still_held d e w (claiming d.claims.total x v) (taking d.claims.total x) h record {
@@ -122,8 +119,8 @@ abbrev pub LooksAtLast : DeskState → ℕ → DeskState → Type 0
 LooksAtLast s w t = (v : WorkerState) (x : ℕ) → HasWorker s w v → IsLast v x → Looks s w x t
 
 -- a look keeps the invariant of the desk
-pub look_held : (d e : GroupDeskState) (w x : ℕ) → IsHeld d → HasHand d w (Claimed x) → LooksAtLast d.claims w e.claims
-    → e.hands ≡ set d.hands w (keeping d.claims.least x) → length e.settled ≡ length d.settled → IsHeld e
+pub look_held : (d e : GroupDeskState) (w x : ℕ) → IsKept d → HasHand d w (Claimed x) → LooksAtLast d.claims w e.claims
+    → e.hands ≡ set d.hands w (keeping d.claims.least x) → length e.settled ≡ length d.settled → IsKept e
 look_held d e w x h at looks hands settled =
     let v = its_worker d w (Claimed x) h at in
     let last = v.2 x refl in
@@ -139,7 +136,7 @@ look_held d e w x h at looks hands settled =
     }
 
 -- a worker with a claimed number in hand may look; it has claimed this number
-pub may_look : (d : GroupDeskState) (w x : ℕ) → IsHeld d → HasHand d w (Claimed x)
+pub may_look : (d : GroupDeskState) (w x : ℕ) → IsKept d → HasHand d w (Claimed x)
     → (v : WorkerState) × (n : ℕ) × HasWorker d.claims w v × (v.ended ≡ false) × IsLast v n
 may_look d w x h at =
     let v = its_worker d w (Claimed x) h at in
@@ -147,7 +144,7 @@ may_look d w x h at =
     (v.0, x, v.1, last.1, last.0)
 
 -- a worker that goes on with a number may fail at it
-pub may_fail : (d : GroupDeskState) (w x : ℕ) → IsHeld d → HasHand d w (Looked x)
+pub may_fail : (d : GroupDeskState) (w x : ℕ) → IsKept d → HasHand d w (Looked x)
     → (v : WorkerState) × (n : ℕ) × HasWorker d.claims w v × IsLast v n
 may_fail d w x h at =
     let v = its_worker d w (Looked x) h at in
@@ -174,7 +171,7 @@ claim_made d s w x t hands seen next c e =
     }
 
 -- a look is the turn that the definition describes
-pub look_made : (d s : GroupDeskState) (w x least : ℕ) (t : DeskState) (hand : Hand) → IsHeld d → d ≡ s
+pub look_made : (d s : GroupDeskState) (w x least : ℕ) (t : DeskState) (hand : Hand) → IsKept d → d ≡ s
     → HasHand d w (Claimed x) → LooksAtLast d.claims w t → least ≡ d.claims.least → hand ≡ keeping least x
     → WasLookedAt s w least (record d { claims = t; hands = set d.hands w hand })
 look_made d s w x least t hand h seen at looks told e =

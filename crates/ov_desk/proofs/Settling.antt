@@ -16,7 +16,7 @@ use Rattle.ov_claims.specs.Claims.{WorkerState, DeskState, HasWorker}
 use Rattle.ov_claims.specs.Steps.{failing, IsLast, Fails}
 use Rattle.ov_claims.proofs.Turns.{own_last}
 use Rattle.ov_even.specs.Order.{AreMoreThan, IsNumbered}
-use Rattle.ov_even.specs.declared.haul.Haul.{Haul}
+use Rattle.ov_even.specs.declared.worker_haul.Haul.{Haul}
 use Rattle.ov_even.proofs.AnalysisSteps.FirstCut.{cut_or_not}
 use Rattle.ov_even.proofs.PieceOrder.InOrder.{at_within}
 use Rattle.ov_even.proofs.PieceNumbers.Numbering.{more_from_total}
@@ -25,7 +25,7 @@ use Rattle.ov_desk.specs.declared.hand.Hand.TheVariants.{Nothing, Claimed, Looke
 use Rattle.ov_desk.specs.Desk.{GroupDeskState, HasHand, HaveBeenSettled}
 use Rattle.ov_desk.specs.Sound.{IsSoundDesk}
 use Rattle.ov_desk.specs.Turns.{IsWorkerOf, ClaimsNext, WasSettled}
-use Rattle.ov_desk.specs.Code.Held.{IsHeld, pieces_in}
+use Rattle.ov_desk.specs.Code.Kept.{IsKept, pieces_in}
 use Rattle.ov_desk.proofs.Deciding.{linked_or_apart}
 use Rattle.ov_desk.proofs.Keeping.{still_held, its_worker, written_again}
 
@@ -46,7 +46,7 @@ number_shared g d w x s at =
     ]
 
 -- each worker with a hand has a haul
-pub haul_within : (d : GroupDeskState) (hauls : List Haul) (w : ℕ) (hand : Hand) → IsHeld d
+pub haul_within : (d : GroupDeskState) (hauls : List Haul) (w : ℕ) (hand : Hand) → IsKept d
     → d.settled ≡ pieces_in hauls → HasHand d w hand → w < length hauls
 haul_within d hauls w hand h e at =
     let within = slice_get_within d.hands w hand at in
@@ -101,7 +101,7 @@ abbrev pub FailsAtLast : DeskState → ℕ → DeskState → Type 0
 FailsAtLast s w t = (v : WorkerState) (x : ℕ) → HasWorker s w v → IsLast v x → Fails s w x t
 
 -- the claims are right after a piece was settled with a cut
-pub claims_failed : (d : GroupDeskState) (w x : ℕ) (found : Found) (t : DeskState) → IsHeld d → HasHand d w (Looked x)
+pub claims_failed : (d : GroupDeskState) (w x : ℕ) (found : Found) (t : DeskState) → IsKept d → HasHand d w (Looked x)
     → ¬ IsNoCut found → FailsAtLast d.claims w t → ClaimsSettled d.claims w x found t
 claims_failed d w x found t h at cut fails =
     let v = its_worker d w (Looked x) h at in
@@ -116,9 +116,9 @@ claims_stay s w x found b test off = elim (cut_or_not found) [
 ]
 
 -- settling a piece keeps the invariant of the desk
-pub settle_held : (d e : GroupDeskState) (w x : ℕ) (found : Found) → IsHeld d → HasHand d w (Looked x)
+pub settle_held : (d e : GroupDeskState) (w x : ℕ) (found : Found) → IsKept d → HasHand d w (Looked x)
     → ClaimsSettled d.claims w x found e.claims → e.hands ≡ set d.hands w Nothing
-    → length e.settled ≡ length d.settled → IsHeld e
+    → length e.settled ≡ length d.settled → IsKept e
 settle_held d e w x found h at claims hands settled = elim claims [
   | inl k ↦
       let v = its_worker d w (Looked x) h at in
@@ -166,7 +166,7 @@ settle_made g d s w x t piece before settled seen at is claims had e =
     }
 
 -- the hand read at a worker's place is its hand
-pub read_hand : (d s : GroupDeskState) (w : ℕ) (read hand : Hand) → d ≡ s → IsHeld d → IsWorkerOf s w
+pub read_hand : (d s : GroupDeskState) (w : ℕ) (read hand : Hand) → d ≡ s → IsKept d → IsWorkerOf s w
     → read ≡ get_or d.hands w read → read ≡ hand → HasHand s w hand
 read_hand d s w read hand seen h is at e =
     let worker : IsWorkerOf d w = subst (λ (u : GroupDeskState). IsWorkerOf u w) (sym seen) is in

@@ -1,5 +1,5 @@
 -- A new desk is sound, and each turn keeps a sound desk sound.
-use Rattle.std.proofs.Common.{◌≡◌, ◌≢◌, ◌⊎◌, ◌↔◌, ℕ, ◌<◌, ◌≤◌, false, cond, nat_lt, List, [], ◌∷◌}
+use Rattle.std.proofs.Common.{◌≡◌, ◌≢◌, ◌⊎◌, ◌↔◌, ℕ, ◌<◌, false, cond, nat_lt, List, [], ◌∷◌}
 use Rattle.std.proofs.Common.{◌++◌, length, set, Some, refl, sym, ap, ◌∙◌, subst, inl, inr, arith}
 use Rattle.std.proofs.lemmas.Bool.{both_ways}
 use Rattle.std.proofs.lemmas.List.{length-replicate}
@@ -10,7 +10,7 @@ use Rattle.ov_graph.specs.Links.{LinkGraph, IsGroup}
 use Rattle.ov_fans.specs.Theorems.{IsNoCut}
 use Rattle.ov_fans.specs.declared.settled.Found.{Found}
 use Rattle.ov_fans.specs.declared.settled.Settled.{Settled}
-use Rattle.ov_claims.specs.Claims.{WorkerState, DeskState, HasWorker, IsLegal, fresh, most_workers}
+use Rattle.ov_claims.specs.Claims.{WorkerState, DeskState, HasWorker, IsLegal, MayWork, fresh}
 use Rattle.ov_claims.specs.Steps.{claiming, looking, failing}
 use Rattle.ov_claims.proofs.Changing.{all_same}
 use Rattle.ov_claims.proofs.Staying.{stays_legal, has_added, has_self, has_still}
@@ -25,14 +25,13 @@ use Rattle.ov_desk.proofs.Turned.{IsChangedAt, changed_by_set, changed_by_none, 
 use Rattle.ov_desk.proofs.Workers.{fresh_sound, claimed_sound, looked_sound, settled_sound}
 
 -- a new desk is sound
-pub sound_opened : (g : LinkGraph) (m : ℕ) (q : List ℕ) (workers : ℕ) (d : GroupDeskState) → IsGroup g q → 1 ≤ workers
-    → workers ≤ most_workers → IsOpened g m q workers d → IsSoundDesk g d
-sound_opened g m q workers d group some few o = subst (IsSoundDesk g) (sym o.desk) record {
+pub sound_opened : (g : LinkGraph) (m : ℕ) (q : List ℕ) (workers : ℕ) (d : GroupDeskState) → IsGroup g q
+    → MayWork workers → IsOpened g m q workers d → IsSoundDesk g d
+sound_opened g m q workers d group may o = subst (IsSoundDesk g) (sym o.desk) record {
   group = group;
   share = o.share;
   legal = stays_legal.opens o.total workers;
-  some = omega (arith, some, length-replicate workers fresh);
-  few = omega (arith, few, length-replicate workers fresh);
+  may_work = subst MayWork (sym (length-replicate workers fresh)) may;
   hands = length-replicate workers Nothing ∙ sym (length-replicate workers fresh);
   settled = length-replicate workers none ∙ sym (length-replicate workers fresh);
   workers = λ w v hand pieces at has had.

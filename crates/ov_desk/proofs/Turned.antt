@@ -6,7 +6,7 @@ use Rattle.std.proofs.lemmas.List.{length-set}
 use Rattle.std.proofs.lemmas.Option.{same_Some, slice_get_within}
 use Rattle.ov_graph.specs.Links.{LinkGraph}
 use Rattle.ov_fans.specs.declared.settled.Settled.{Settled}
-use Rattle.ov_claims.specs.Claims.{WorkerState, DeskState, HasWorker, IsLegal}
+use Rattle.ov_claims.specs.Claims.{WorkerState, DeskState, HasWorker, MayWork, IsLegal}
 use Rattle.ov_even.proofs.AnalysisSteps.Slotted.{at_set_same, at_set_other}
 use Rattle.ov_desk.specs.declared.hand.Hand.{Hand}
 use Rattle.ov_desk.specs.Desk.{GroupDeskState, HasHand, HaveBeenSettled, AreToShare}
@@ -62,15 +62,12 @@ pub turned : (g : LinkGraph) (d : GroupDeskState) (claims : DeskState) (hands : 
     → IsSoundDesk g (with_parts d claims hands settled)
 turned g d claims hands settled w s t =
     let n = t.workers.count in
-    let some = s.some in
-    let few = s.few in
     let k = s.hands in
     let m = s.settled in record {
       group = s.group;
       share = subst (AreToShare g d.members) (sym t.total) s.share;
       legal = t.legal;
-      some = omega (arith, some, n);
-      few = omega (arith, few, n);
+      may_work = subst MayWork (sym n) s.may_work;
       hands = omega (arith, k, n, t.hands.count);
       settled = omega (arith, m, n, t.settled.count);
       workers = λ u v hand pieces at has had. elim (cases_eq u w) [

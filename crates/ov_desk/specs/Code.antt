@@ -1,2 +1,2 @@
 -- How the code stores a desk. The definitions do not use it.
-pub mod Held
+pub mod Kept

@@ -1,12 +1,12 @@
 -- The invariant of a desk: it holds after any turns of its workers.
-use Rattle.std.specs.Prelude.{◌≡◌, ◌↔◌, ℕ, ◌≤◌, false, List, length, Some}
+use Rattle.std.specs.Prelude.{◌≡◌, ◌↔◌, ℕ, false, List, length, Some}
 use Rattle.ov_ids.specs.Members.{Has}
 use Rattle.ov_graph.specs.Links.{LinkGraph, IsGroup}
 use Rattle.ov_fans.specs.Pieces.{IsPiece}
 use Rattle.ov_fans.specs.Cuts.{IsRight}
 use Rattle.ov_fans.specs.Theorems.{IsNoCut}
 use Rattle.ov_fans.specs.declared.settled.Settled.{Settled}
-use Rattle.ov_claims.specs.Claims.{WorkerState, HasWorker, IsLegal, most_workers}
+use Rattle.ov_claims.specs.Claims.{WorkerState, HasWorker, IsLegal, MayWork}
 use Rattle.ov_claims.specs.Steps.{IsLast}
 use Rattle.ov_even.specs.Harvest.{SettlesNumber}
 use Rattle.ov_desk.specs.Desk.{GroupDeskState, HasHand, HaveBeenSettled, IsNumberIn, AreToShare}
@@ -35,8 +35,7 @@ pub record IsSoundDesk (g : LinkGraph) (d : GroupDeskState) : Type 0 where
   pub group : IsGroup g d.members
   pub share : AreToShare g d.members d.claims.total
   pub legal : IsLegal d.claims
-  pub some : 1 ≤ length d.claims.workers
-  pub few : length d.claims.workers ≤ most_workers
+  pub may_work : MayWork (length d.claims.workers)
   pub hands : length d.hands ≡ length d.claims.workers
   pub settled : length d.settled ≡ length d.claims.workers
   pub workers : (w : ℕ) (v : WorkerState) (hand : Hand) (pieces : List Settled) → HasWorker d.claims w v

@@ -1,11 +1,11 @@
 -- Theorems about all desks.
-use Rattle.std.specs.Prelude.{◌≡◌, ◌⊎◌, ℕ, ◌≤◌, List, length}
+use Rattle.std.specs.Prelude.{◌≡◌, ◌⊎◌, ℕ, List, length}
 use Rattle.ov_graph.specs.Links.{LinkGraph, IsGraph, IsGroup, AreAllLinked}
 use Rattle.ov_fans.specs.Pieces.{IsPiece}
 use Rattle.ov_fans.specs.Theorems.{IsNoCut}
 use Rattle.ov_fans.specs.declared.piece.Piece.{Piece}
 use Rattle.ov_fans.specs.declared.settled.Settled.{Settled}
-use Rattle.ov_claims.specs.Claims.{most_workers}
+use Rattle.ov_claims.specs.Claims.{MayWork}
 use Rattle.ov_claims.specs.Theorems.{AllEnded}
 use Rattle.ov_even.specs.Order.{ComesBefore, IsNumbered}
 use Rattle.ov_desk.specs.Desk.{GroupDeskState, IsOpened, IsSettledAt}
@@ -14,8 +14,8 @@ use Rattle.ov_desk.specs.Turns.{WasClaimed, WasLookedAt, WasSettled}
 
 -- a new desk is sound, and each turn keeps a sound desk sound
 pub record StaysSound : Type 0 where
-  pub opened : (g : LinkGraph) (m : ℕ) (q : List ℕ) (workers : ℕ) (d : GroupDeskState) → IsGroup g q → 1 ≤ workers
-      → workers ≤ most_workers → IsOpened g m q workers d → IsSoundDesk g d
+  pub opened : (g : LinkGraph) (m : ℕ) (q : List ℕ) (workers : ℕ) (d : GroupDeskState) → IsGroup g q
+      → MayWork workers → IsOpened g m q workers d → IsSoundDesk g d
   pub claimed : (g : LinkGraph) (d e : GroupDeskState) (w x : ℕ) → IsSoundDesk g d → WasClaimed d w x e
       → IsSoundDesk g e
   pub looked_at : (g : LinkGraph) (d e : GroupDeskState) (w least : ℕ) → IsSoundDesk g d → WasLookedAt d w least e

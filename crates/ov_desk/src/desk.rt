@@ -1,22 +1,20 @@
-ghost use Rattle.std.specs.Prelude.{◌≡◌, ◌↔◌, ◌<◌, ◌≤◌, [], length, replicate, IsTrue, IfOk, OnOk, OnErr};
+ghost use Rattle.std.specs.Prelude.{◌≡◌, ◌↔◌, ◌<◌, [], length, replicate, IsTrue, IfOk, OnOk, OnErr};
 ghost use Rattle.ov_ids.specs.Limits.{number_limit};
 ghost use Rattle.ov_graph.specs.Links.{IsGroup};
-ghost use Rattle.ov_cert.specs.Theorems.{IsTrueForGroup};
-ghost use Rattle.ov_claims.specs.Claims.{most_workers};
 ghost use Rattle.ov_claims.specs.Theorems.{AllEnded};
 ghost use Rattle.ov_fans.specs.Cuts.{IsRight};
 ghost use Rattle.ov_even.specs.Answer.{IsCheckedAnswer};
 ghost use Rattle.ov_even.specs.Order.{AreMoreThan, IsNumbered};
 ghost use Rattle.ov_desk.specs.declared.hand.Hand.TheVariants.{Nothing as nothing};
 ghost use Rattle.ov_desk.specs.Desk.{AreToShare, IsOpened};
-ghost use Rattle.ov_desk.specs.Code.Held.{pieces_in};
+ghost use Rattle.ov_desk.specs.Code.Kept.{pieces_in};
 ghost use Rattle.ov_desk.specs.Sound.{IsSoundDesk};
 ghost use Rattle.ov_desk.specs.Turns.{ClaimsNext, IsWorkerOf, LooksNext, SettlesNext};
 ghost use Rattle.ov_desk.specs.Turns.{WasClaimed, WasLookedAt, WasSettled};
 
 use crate::hand::Hand;
 use ov_cert::{Checked, are_all_linked};
-use ov_claims::Desk;
+use ov_claims::{Desk, Workers};
 use ov_even::{Haul, assemble_group, group_piece_at, group_total};
 use ov_fans::{Settled, settle_group};
 use ov_graph::Graph;
@@ -38,13 +36,13 @@ pub struct GroupDesk {
 
 impl Model for GroupDesk {
     ghost use Rattle.ov_desk.specs.Desk.{GroupDeskState};
-    ghost use Rattle.ov_desk.specs.Code.Held.{state, IsHeld};
+    ghost use Rattle.ov_desk.specs.Code.Kept.{state, IsKept};
 
     ghost Value = { GroupDeskState };
 
     ghost view = { λ d. state d.moment d.members.items d.claims d.hands.items d.hauls.items };
 
-    ghost invariant = { λ d. IsHeld (state d.moment d.members.items d.claims d.hands.items d.hauls.items) };
+    ghost invariant = { λ d. IsKept (state d.moment d.members.items d.claims d.hands.items d.hauls.items) };
 }
 
 impl GroupDesk {
@@ -55,14 +53,13 @@ impl GroupDesk {
         moment: u32,
         graph: &Graph,
         group: Vec<NodeId>,
-        workers: u32,
+        workers: Workers,
     ) -> Result<GroupDesk, OutOfMemory>
-        requires group { IsGroup graph.now group.items }
-        requires some { 1 ≤ workers }
-        requires few { workers ≤ most_workers }
+        requires { IsGroup graph.now group.items }
         ensures opened { IfOk result (λ d. IsOpened graph.now moment group.items workers d) }
         ensures sound { IfOk result (λ d. IsSoundDesk graph.now d) }
     {
+        prove!(workers.count() >= 1);
         let total = total_to_share(graph, &group);
         let claims = Desk::new(alloc, total, workers)?;
         let hands = empty_hands(alloc, workers)?;
@@ -223,7 +220,6 @@ impl GroupDesk {
         requires sound { IsSoundDesk graph.now self.now }
         requires ended { AllEnded self.now.claims }
         ensures answer { IfOk result (λ c. IsCheckedAnswer graph.now self.now.members c) }
-        ensures fewest { IfOk result (λ c. IsTrueForGroup graph.now self.now.members c.cert) }
     {
         prove!(graph.nodes().len() <= Graph::MOST_NODES);
         let alloc = *self.members.allocator();
@@ -247,23 +243,23 @@ fn total_to_share(graph: &Graph, group: &[NodeId]) -> u64
     group_total(graph.nodes().len(), group.len())
 }
 
-/// The hands of `workers` workers, all empty.
-fn empty_hands(alloc: Global, workers: u32) -> Result<Vec<Hand>, OutOfMemory>
+/// The hands of so many workers, all empty.
+fn empty_hands(alloc: Global, workers: Workers) -> Result<Vec<Hand>, OutOfMemory>
     ensures { IfOk result (λ hands. hands.items ≡ replicate workers nothing) }
 {
     let mut hands = Vec::new(alloc);
-    for _ in 0..workers {
+    for _ in 0..workers.count() {
         hands.push(Hand::Nothing)?;
     }
     Ok(hands)
 }
 
-/// The hauls of `workers` workers, all without pieces.
-fn empty_hauls(alloc: Global, workers: u32) -> Result<Vec<Haul>, OutOfMemory>
+/// The hauls of so many workers, all without pieces.
+fn empty_hauls(alloc: Global, workers: Workers) -> Result<Vec<Haul>, OutOfMemory>
     ensures { IfOk result (λ hauls. pieces_in hauls.items ≡ replicate workers []) }
 {
     let mut hauls = Vec::new(alloc);
-    for _ in 0..workers {
+    for _ in 0..workers.count() {
         hauls.push(Haul {
             pieces: Vec::new(alloc),
         })?;

@@ -9,7 +9,7 @@ use Rattle.ov_fans.specs.Theorems.{IsNoCut}
 use Rattle.ov_fans.specs.declared.piece.Piece.{Piece}
 use Rattle.ov_fans.specs.declared.settled.Settled.{Settled}
 use Rattle.ov_even.specs.Order.{ComesBefore, IsNumbered}
-use Rattle.ov_even.specs.declared.haul.Haul.{Haul}
+use Rattle.ov_even.specs.declared.worker_haul.Haul.{Haul}
 
 -- `s` is one of these settled pieces, and its piece has this number
 abbrev pub SettlesNumber : LinkGraph → List ℕ → List Settled → ℕ → Settled → Type 0

@@ -8,7 +8,7 @@ use Rattle.ov_fans.specs.declared.piece.Piece.{Piece}
 use Rattle.ov_fans.specs.declared.settled.Settled.{Settled}
 use Rattle.ov_even.specs.Order.{ComesBefore, IsNumbered, AreSoMany}
 use Rattle.ov_even.specs.Harvest.{IsBroughtIn, IsCleared}
-use Rattle.ov_even.specs.declared.haul.Haul.{Haul}
+use Rattle.ov_even.specs.declared.worker_haul.Haul.{Haul}
 
 -- the hauls clear a level: each of its pieces is cleared
 abbrev pub IsLevelCleared : LinkGraph → List ℕ → List Haul → ℕ → Type 0

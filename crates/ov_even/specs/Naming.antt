@@ -8,8 +8,8 @@ use Rattle.ov_fans.specs.Cuts.{AreRightPaths}
 use Rattle.ov_fans.specs.declared.piece.Piece.{Piece}
 use Rattle.ov_even.specs.First.{IsFirst}
 use Rattle.ov_even.specs.Order.{ComesBefore}
-use Rattle.ov_even.specs.declared.naming.FoundPaths.{FoundPaths}
-use Rattle.ov_even.specs.declared.naming.NamedPaths.{NamedPaths}
+use Rattle.ov_even.specs.declared.path_naming.FoundPaths.{FoundPaths}
+use Rattle.ov_even.specs.declared.path_naming.NamedPaths.{NamedPaths}
 
 -- a piece of the level that is no linked pair
 abbrev pub IsUnlinked : LinkGraph → List ℕ → ℕ → Piece → Type 0
@@ -21,7 +21,7 @@ pub record AreUnlinkedPieces (g : LinkGraph) (q : List ℕ) (level : ℕ) (piece
   pub each : (p : Piece) → Has pieces p ↔ IsUnlinked g q level p
 
 -- the pieces whose paths a certificate has: those of the level below the first piece that is not good, but for linked
--- pairs. None have level 0
+-- pairs. At level 0 there are none
 abbrev pub AreWanted : LinkGraph → List ℕ → List Piece → Type 0
 AreWanted g q pieces = (p : Piece) → IsFirst g q p → AreUnlinkedPieces g q (level_of p - 1) pieces
 

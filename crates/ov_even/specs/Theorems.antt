@@ -3,7 +3,7 @@ use Rattle.std.specs.Prelude.{◌≡◌, ◌⊎◌, ℕ, ◌-◌, ◌<◌, List,
 use Rattle.ov_graph.specs.Links.{LinkGraph, IsGraph, IsGroup, AreAllLinked}
 use Rattle.ov_graph.specs.Joined.{FewestForGroup}
 use Rattle.ov_cert.specs.declared.cert.Cert.{Cert}
-use Rattle.ov_cert.specs.declared.cert.Cert.TheVariants.{Linked as AllLinked, Split as SplitBy}
+use Rattle.ov_cert.specs.declared.cert.Cert.TheVariants as cert
 use Rattle.ov_cert.specs.declared.cert.Split.{Split}
 use Rattle.ov_fans.specs.Pieces.{IsPiece, IsGood, level_of}
 use Rattle.ov_fans.specs.Cuts.{IsNearest}
@@ -40,10 +40,10 @@ pub record SameSplit (c d : Split) : Type 0 where
 
 -- two certificates agree in everything but their paths
 abbrev pub AreAlike : Cert → Cert → Type 0
-AreAlike (AllLinked k) (AllLinked l) = k ≡ l
-AreAlike (SplitBy c) (SplitBy d) = SameSplit c d
-AreAlike (AllLinked k) (SplitBy d) = ⊥
-AreAlike (SplitBy c) (AllLinked l) = ⊥
+AreAlike (cert.Linked k) (cert.Linked l) = k ≡ l
+AreAlike (cert.Split c) (cert.Split d) = SameSplit c d
+AreAlike (cert.Linked k) (cert.Split d) = ⊥
+AreAlike (cert.Split c) (cert.Linked l) = ⊥
 
 -- a graph and a group have one answer, apart from the paths, whoever computes it
 abbrev pub OneAnswer : Type 0

@@ -1,18 +1,14 @@
 //! The analysis of a graph and a group by one worker.
-ghost use Rattle.std.specs.Prelude.{IfOk, IfErr};
-ghost use Rattle.ov_ids.specs.FaultOrder.{IsRefusedBy};
+ghost use Rattle.std.specs.Prelude.{IfOk};
 ghost use Rattle.ov_graph.specs.Links.{IsGroup, AreAllLinked};
-ghost use Rattle.ov_cert.specs.Theorems.{IsTrueForGroup};
-ghost use Rattle.ov_even.specs.Answer.{IsCheckedAnswer};
-ghost use Rattle.ov_even.specs.Faults.{GroupJudged};
+ghost use Rattle.ov_even.specs.Answer.{IsAnalysed};
 ghost use Rattle.ov_even.specs.Harvest.{Suffice};
-ghost use Rattle.ov_even.specs.declared.fault.AnalyseFault.TheVariants.{OutOfMemory as out_of_memory};
 
 use crate::assembly::assemble_group;
 use crate::fault::AnalyseFault;
-use crate::haul::Haul;
 use crate::level_search::search;
-use crate::watcher::{Unwatched, Watcher};
+use crate::progress_watcher::{Unwatched, Watcher};
+use crate::worker_haul::Haul;
 use ov_cert::{Checked, are_all_linked};
 use ov_graph::Graph;
 use ov_ids::{NodeId, OutOfMemory};
@@ -20,9 +16,7 @@ use std::alloc::Global;
 
 /// Analyses a graph for the group of all nodes, without a watcher. See `analyse_group_watched`.
 pub fn analyse_alone(alloc: Global, graph: &Graph) -> Result<Checked, AnalyseFault>
-    ensures answer { IfOk result (λ c. IsCheckedAnswer graph.now graph.now.nodes c) }
-    ensures fewest { IfOk result (λ c. IsTrueForGroup graph.now graph.now.nodes c.cert) }
-    ensures refused { IfErr result (IsRefusedBy out_of_memory (GroupJudged graph.now graph.now.nodes)) }
+    ensures analysed { IsAnalysed graph.now graph.now.nodes result }
 {
     analyse_group_alone(alloc, graph, graph.nodes())
 }
@@ -33,9 +27,7 @@ pub fn analyse_group_alone(
     graph: &Graph,
     group: &[NodeId],
 ) -> Result<Checked, AnalyseFault>
-    ensures answer { IfOk result (λ c. IsCheckedAnswer graph.now group.now c) }
-    ensures fewest { IfOk result (λ c. IsTrueForGroup graph.now group.now c.cert) }
-    ensures refused { IfErr result (IsRefusedBy out_of_memory (GroupJudged graph.now group.now)) }
+    ensures analysed { IsAnalysed graph.now group.now result }
 {
     analyse_group_watched(alloc, graph, group, &mut Unwatched)
 }
@@ -49,9 +41,7 @@ pub fn analyse_group_watched<W: Watcher>(
     group: &[NodeId],
     watcher: &mut W,
 ) -> Result<Checked, AnalyseFault>
-    ensures answer { IfOk result (λ c. IsCheckedAnswer graph.now group.now c) }
-    ensures fewest { IfOk result (λ c. IsTrueForGroup graph.now group.now c.cert) }
-    ensures refused { IfErr result (IsRefusedBy out_of_memory (GroupJudged graph.now group.now)) }
+    ensures analysed { IsAnalysed graph.now group.now result }
 {
     if graph.nodes().is_empty() {
         return Err(AnalyseFault::NoNodes);

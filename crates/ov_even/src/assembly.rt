@@ -1,22 +1,19 @@
 //! Makes a certificate from the pieces that several workers have settled.
 ghost use Rattle.std.specs.Prelude.{◌≡◌, ◌+◌, ◌<◌, length, map, IfOk, IfErr};
-ghost use Rattle.ov_ids.specs.FaultOrder.{IsRefusedBy};
 ghost use Rattle.ov_graph.specs.Links.{HasNode, IsGraph, IsGroup, AreAllLinked};
 ghost use Rattle.ov_cert.specs.Valid.{IsValidForGroup};
-ghost use Rattle.ov_cert.specs.Theorems.{IsTrueForGroup};
-ghost use Rattle.ov_even.specs.Answer.{IsAnswer, IsCheckedAnswer, NamesParting};
-ghost use Rattle.ov_even.specs.Faults.{GroupJudged};
+ghost use Rattle.ov_even.specs.Answer.{IsAnswer, IsCheckedAnswer, IsAnalysed, NamesParting};
 ghost use Rattle.ov_even.specs.Harvest.{Suffice};
 ghost use Rattle.ov_even.specs.Naming.{AreWanted, HaveAskedPaths};
 ghost use Rattle.ov_even.specs.Code.Cuts.{IsDeciding};
 ghost use Rattle.ov_even.specs.declared.fault.AnalyseFault.TheVariants.{OutOfMemory as out_of_memory};
 
-use crate::cuts::first_cut;
-use crate::entries::{Entries, entries_of};
+use crate::certificate_entries::{Entries, entries_of};
+use crate::certificate_paths::wanted_paths;
 use crate::fault::AnalyseFault;
-use crate::haul::Haul;
-use crate::naming::{NamedPaths, name_paths};
-use crate::wanted::wanted_paths;
+use crate::first_piece_with_cut::first_cut;
+use crate::path_naming::{NamedPaths, name_paths};
+use crate::worker_haul::Haul;
 use ov_cert::{Cert, Checked, Split, are_all_linked};
 use ov_fans::{Found, Parting, Settled};
 use ov_graph::Graph;
@@ -26,9 +23,7 @@ use std::alloc::Global;
 /// Makes the certificate for the group of all nodes. See `assemble_group`. A graph without nodes is refused (30).
 pub fn assemble(alloc: Global, graph: &Graph, hauls: &[Haul]) -> Result<Checked, AnalyseFault>
     requires { HasNode graph.now → Suffice graph.now graph.now.nodes hauls.now }
-    ensures answer { IfOk result (λ c. IsCheckedAnswer graph.now graph.now.nodes c) }
-    ensures fewest { IfOk result (λ c. IsTrueForGroup graph.now graph.now.nodes c.cert) }
-    ensures refused { IfErr result (IsRefusedBy out_of_memory (GroupJudged graph.now graph.now.nodes)) }
+    ensures analysed { IsAnalysed graph.now graph.now.nodes result }
 {
     if graph.nodes().is_empty() {
         return Err(AnalyseFault::NoNodes);
@@ -48,7 +43,6 @@ pub fn assemble_group(
     requires group { IsGroup graph.now group.now }
     requires suffice { Suffice graph.now group.now hauls.now }
     ensures answer { IfOk result (λ c. IsCheckedAnswer graph.now group.now c) }
-    ensures fewest { IfOk result (λ c. IsTrueForGroup graph.now group.now c.cert) }
     ensures refused { IfErr result (λ fault. fault ≡ out_of_memory) }
 {
     let found = wanted_paths(alloc, graph, group, hauls)?;
@@ -70,7 +64,6 @@ pub fn assemble_named(
     requires wanted { AreWanted graph.now group.now (map (λ n. n.piece) named.items) }
     requires asked { HaveAskedPaths graph.now group.now named.items }
     ensures answer { IfOk result (λ c. IsCheckedAnswer graph.now group.now c) }
-    ensures fewest { IfOk result (λ c. IsTrueForGroup graph.now group.now c.cert) }
     ensures refused { IfErr result (λ fault. fault ≡ out_of_memory) }
 {
     let cert = cert_of(alloc, graph, group, hauls, named)?;

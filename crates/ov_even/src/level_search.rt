@@ -8,10 +8,10 @@ ghost use Rattle.ov_even.specs.Levels.{IsTried};
 ghost use Rattle.ov_even.specs.Searching.{IsSearched};
 ghost use Rattle.ov_even.specs.Code.Narrowing.{HasDeciding, AreBounds, IsBetween, HasCutWithin, tries_left};
 
-use crate::cuts::{cut_size, first_cut};
-use crate::haul::Haul;
-use crate::trying::try_level;
-use crate::watcher::Watcher;
+use crate::first_piece_with_cut::{cut_size, first_cut};
+use crate::level_trying::try_level;
+use crate::progress_watcher::Watcher;
+use crate::worker_haul::Haul;
 use ov_fans::Settler;
 use ov_graph::Graph;
 use ov_ids::{NodeId, OutOfMemory};
@@ -190,8 +190,8 @@ fn first_guess(graph: &Graph, group: &[NodeId]) -> usize
     least + 1
 }
 
-/// The size of the first cut in the hauls, if it belongs to a piece of the level or of a lower one. The size is left
-/// open, since it only guides the search.
+/// The size of the first cut in the hauls, if it belongs to a piece of the level or of a lower one. The contract leaves
+/// the size open, since it only guides the search.
 fn cut_within(hauls: &[Haul], level: usize) -> Option<usize>
     ensures some { IfSome result (λ size. HasCutWithin hauls.now level) }
     ensures none { IfNone result (¬ HasCutWithin hauls.now level) }

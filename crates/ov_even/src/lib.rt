@@ -4,29 +4,31 @@
 
 mod analysis;
 mod assembly;
-mod cuts;
-mod entries;
+mod certificate_entries;
+mod certificate_paths;
 mod fault;
-mod haul;
+mod first_piece_with_cut;
+mod level_pieces;
 mod level_search;
-mod levels;
-mod naming;
-mod numbers;
-mod order;
-mod slots;
+mod level_trying;
+mod path_naming;
+mod piece_numbers;
+mod piece_order;
+mod progress_watcher;
+mod settled_paths;
 mod theorems;
-mod trying;
-mod wanted;
-mod watcher;
+mod worker_haul;
 
 pub use analysis::{analyse_alone, analyse_group_alone, analyse_group_watched};
 pub use assembly::{assemble, assemble_group, assemble_named};
+pub use certificate_paths::wanted_paths;
 pub use fault::AnalyseFault;
-pub use haul::Haul;
 pub use level_search::{LevelSearch, Searched};
-pub use naming::{FoundPaths, NamedPaths, name_paths};
-pub use numbers::{LevelNumbers, group_piece_at, group_total, level_numbers, piece_at, total};
 pub use ov_fans::Piece;
+pub use path_naming::{FoundPaths, NamedPaths, name_paths};
+pub use piece_numbers::{
+    LevelNumbers, group_piece_at, group_total, level_numbers, piece_at, total,
+};
+pub use progress_watcher::{Unwatched, Watcher};
 pub use theorems::{first_exists, first_gives_number, good_or_cut, one_answer, one_first};
-pub use wanted::wanted_paths;
-pub use watcher::{Unwatched, Watcher};
+pub use worker_haul::Haul;

@@ -3,5 +3,5 @@ pub mod Ranks
 pub mod Routes
 pub mod Aimed
 pub mod Settling
-pub mod Seated
+pub mod MemberPlaces
 pub mod Ended

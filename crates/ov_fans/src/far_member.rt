@@ -6,25 +6,25 @@ ghost use Rattle.ov_fans.specs.Pieces.{level_of, IsPiece};
 ghost use Rattle.ov_fans.specs.Cuts.{IsCut, IsFar};
 ghost use Rattle.ov_fans.specs.Code.Kept.{IsLowestOutside};
 
-use crate::members::Members;
 use crate::piece::Piece;
 use crate::row_nodes::bits_below;
+use crate::settler_group::SettlerGroup;
 use ov_graph::Graph;
 use ov_graph::row::{WORDS, first_from, without};
 use ov_ids::NodeId;
 
 /// The lowest target of a piece that is not in a cut. The cut has fewer nodes than the level, so there is one.
-pub(crate) fn far_of(members: &Members<'_>, piece: Piece, cut: &[u64; WORDS]) -> NodeId
-    requires piece { IsPiece members.now.graph members.now.members piece }
-    requires cut { IsCut members.now.graph members.now.members piece (picked cut.now 0 members.now.graph.nodes) }
-    requires few { length (picked cut.now 0 members.now.graph.nodes) < level_of piece }
-    ensures { IsFar members.now.members piece (picked cut.now 0 members.now.graph.nodes) result }
+pub(crate) fn far_of(group: &SettlerGroup<'_>, piece: Piece, cut: &[u64; WORDS]) -> NodeId
+    requires piece { IsPiece group.now.graph group.now.members piece }
+    requires cut { IsCut group.now.graph group.now.members piece (picked cut.now 0 group.now.graph.nodes) }
+    requires few { length (picked cut.now 0 group.now.graph.nodes) < level_of piece }
+    ensures { IsFar group.now.members piece (picked cut.now 0 group.now.graph.nodes) result }
 {
     match piece {
-        Piece::Pair { j, .. } => members.member(j),
+        Piece::Pair { j, .. } => group.member(j),
         Piece::Fan { j, .. } => {
-            let before = bits_below(members.row(), members.seat(j));
-            lowest_outside(members.graph(), &before, cut)
+            let before = bits_below(group.row(), group.place_in_graph(j));
+            lowest_outside(group.graph(), &before, cut)
         }
     }
 }

@@ -2,13 +2,13 @@
 #![tactic(auto)]
 
 mod far_member;
-mod members;
 mod piece;
 mod piece_net;
 mod piece_paths;
 mod row_nodes;
 mod settled;
 mod settler;
+mod settler_group;
 mod theorems;
 
 pub use piece::Piece;

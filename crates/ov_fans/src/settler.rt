@@ -7,12 +7,12 @@ ghost use Rattle.ov_fans.specs.Theorems.{IsNoCut};
 ghost use Rattle.ov_fans.specs.Code.Nets.{net_of};
 
 use crate::far_member::far_of;
-use crate::members::Members;
 use crate::piece::Piece;
 use crate::piece_net::{aim_for, is_linked_pair};
 use crate::row_nodes::nodes_of_row;
 use crate::settled::{Found, Parting, Settled};
-use ov_flow::{Flow, Stuck};
+use crate::settler_group::SettlerGroup;
+use ov_flow::{CutRows, Flow};
 use ov_graph::Graph;
 use ov_graph::row::EMPTY;
 use ov_ids::{NodeId, OutOfMemory};
@@ -24,7 +24,7 @@ use std::marker::Model;
 /// see the graph and the members.
 #[derive(Drop)]
 pub struct Settler<'g> {
-    members: Members<'g>,
+    group: SettlerGroup<'g>,
     flow: Flow<'g>,
     alloc: Global,
 }
@@ -35,9 +35,9 @@ impl<'g> Model for Settler<'g> {
 
     ghost Value = { SettlerState };
 
-    ghost view = { λ s. s.members };
+    ghost view = { λ s. s.group };
 
-    ghost invariant = { λ s. s.flow.net.graph ≡ s.members.graph };
+    ghost invariant = { λ s. s.flow.net.graph ≡ s.group.graph };
 }
 
 impl<'g> Settler<'g> {
@@ -50,14 +50,10 @@ impl<'g> Settler<'g> {
         requires { IsGroup graph.now group.now }
         ensures { IfOk result (λ s. s ≡ record { graph = graph.now; members = group.now }) }
     {
-        let members = Members::new(alloc, graph, group)?;
-        let net = SplitNet::new(graph, None, members.seat(1), EMPTY);
+        let group = SettlerGroup::new(alloc, graph, group)?;
+        let net = SplitNet::new(graph, None, group.place_in_graph(1), EMPTY);
         let flow = Flow::new(alloc, net)?;
-        Ok(Settler {
-            members,
-            flow,
-            alloc,
-        })
+        Ok(Settler { group, flow, alloc })
     }
 
     /// Settles a piece. The result is a linked pair or paths where the piece is good, and else its nearest least cut,
@@ -70,7 +66,7 @@ impl<'g> Settler<'g> {
         ensures good { IfOk result (λ s. IsGood self.old.graph self.old.members piece ↔ IsNoCut s.found) }
         ensures stays { self.new ≡ self.old }
     {
-        if is_linked_pair(&self.members, piece) {
+        if is_linked_pair(&self.group, piece) {
             return Ok(Settled {
                 piece,
                 found: Found::Linked,
@@ -88,13 +84,13 @@ impl<'g> Settler<'g> {
         ensures stays { self.new ≡ self.old }
         ensures graph { IsGraph self.old.graph }
     {
-        let aim = aim_for(&self.members, piece);
-        let net = SplitNet::new(self.members.graph(), aim.avoided, aim.source, aim.targets);
+        let aim = aim_for(&self.group, piece);
+        let net = SplitNet::new(self.group.graph(), aim.avoided, aim.source, aim.targets);
         match self.flow.seek(net, piece.level() as usize)? {
             None => Ok(Found::Paths(self.flow.paths()?)),
-            Some(stuck) => {
+            Some(rows) => {
                 let held = self.flow.held();
-                let parting = parting(self.alloc, &self.members, piece, &stuck, held)?;
+                let parting = parting(self.alloc, &self.group, piece, &rows, held)?;
                 Ok(Found::Cut(parting))
             }
         }
@@ -133,23 +129,23 @@ pub fn settle_group(
 /// The parting of a piece, from the rows of its nearest least cut and of its side.
 fn parting(
     alloc: Global,
-    members: &Members<'_>,
+    group: &SettlerGroup<'_>,
     piece: Piece,
-    stuck: &Stuck,
+    rows: &CutRows,
     held: usize,
 ) -> Result<Box<Parting>, OutOfMemory>
-    requires piece { IsPiece members.now.graph members.now.members piece }
-    requires full { IsFullBy (net_of members.now.graph members.now.members piece) held stuck.now }
+    requires piece { IsPiece group.now.graph group.now.members piece }
+    requires full { IsFullBy (net_of group.now.graph group.now.members piece) held rows.now }
     requires few { held < level_of piece }
-    ensures { IfOk result (λ c. IsParted members.now.graph members.now.members piece c.value) }
+    ensures { IfOk result (λ c. IsParted group.now.graph group.now.members piece c.value) }
 {
-    let graph = members.graph();
-    let cut = nodes_of_row(alloc, graph, &stuck.cut)?;
-    let side = nodes_of_row(alloc, graph, &stuck.side)?;
+    let graph = group.graph();
+    let cut = nodes_of_row(alloc, graph, &rows.cut)?;
+    let side = nodes_of_row(alloc, graph, &rows.side)?;
     let parting = Parting {
         cut,
-        near: members.member(piece.source()),
-        far: far_of(members, piece, &stuck.cut),
+        near: group.member(piece.source()),
+        far: far_of(group, piece, &rows.cut),
         side,
     };
     Ok(Box::new(alloc, parting)?)

@@ -10,7 +10,7 @@ use Rattle.ov_graph.specs.Row.{picked}
 use Rattle.ov_graph.proofs.BitRows.Bits.{bit_moved}
 use Rattle.ov_graph.proofs.BitRows.Read.{has_picked, in_picked, ascends_picked, one_place}
 use Rattle.ov_split.specs.SplitNetState.{SplitNetState}
-use Rattle.ov_flow.specs.declared.search_result.Stuck.{Stuck as Rows}
+use Rattle.ov_flow.specs.declared.search_result.CutRows.{CutRows}
 use Rattle.ov_flow.specs.Flow.{IsFull, IsFullBy, AreBitsOf}
 
 -- a row with bits at places of nodes alone has the bits of the nodes that it picks
@@ -48,7 +48,7 @@ pub bits_within : (g : LinkGraph) (row s : List ℕ) → AreBitsOf g row s → (
 bits_within g row s bits p b = ((bits p).0 b).0
 
 -- the cut and the side are what the rows pick
-pub full_picked : (n : SplitNetState) (k : ℕ) (s : Rows) → IsGraph n.graph → IsFullBy n k s
+pub full_picked : (n : SplitNetState) (k : ℕ) (s : CutRows) → IsGraph n.graph → IsFullBy n k s
     → IsFull n k (picked s.cut 0 n.graph.nodes) (picked s.side 0 n.graph.nodes)
 full_picked n k s graph f =
     subst (λ (c : List ℕ). IsFull n k c (picked s.side 0 n.graph.nodes))

@@ -5,9 +5,9 @@ use Rattle.ov_graph.specs.Links.{LinkGraph}
 use Rattle.ov_graph.specs.Row.{HasBit}
 use Rattle.ov_graph.specs.Paths.{node_at}
 use Rattle.ov_split.specs.SplitNetState.{SplitNetState, IsFanOf, IsNearestCut, IsSideOf}
-use Rattle.ov_flow.specs.declared.search_result.Stuck.{Stuck as Rows}
-use Rattle.ov_flow.specs.declared.search_result.Step.{Step}
-use Rattle.ov_flow.specs.declared.search_result.Step.TheVariants.{Grew, Stuck}
+use Rattle.ov_flow.specs.declared.search_result.CutRows.{CutRows}
+use Rattle.ov_flow.specs.declared.search_result.Augmentation.{Augmentation}
+use Rattle.ov_flow.specs.declared.search_result.Augmentation.TheVariants.{Grew, Stuck}
 
 -- the value of a `Flow` in contracts: the net, and how many paths of a fan are held
 pub record FlowState : Type 0 where
@@ -26,7 +26,7 @@ abbrev pub AreBitsOf : LinkGraph → List ℕ → List ℕ → Type 0
 AreBitsOf g row s = (p : ℕ) → HasBit row p ↔ ((p < length g.nodes) × Has s (node_at g p))
 
 -- no fan has more than k paths, and the rows have the bits of the nearest least cut and of its side
-pub record IsFullBy (n : SplitNetState) (k : ℕ) (s : Rows) : Type 0 where
+pub record IsFullBy (n : SplitNetState) (k : ℕ) (s : CutRows) : Type 0 where
   pub cut : List ℕ
   pub side : List ℕ
   pub full : IsFull n k cut side
@@ -34,7 +34,7 @@ pub record IsFullBy (n : SplitNetState) (k : ℕ) (s : Rows) : Type 0 where
   pub side_row : AreBitsOf n.graph s.side side
 
 -- the result of a search for one more path: one more is held, or there is none and nothing has changed
-abbrev pub IsAugmentation : FlowState → FlowState → Step → Type 0
+abbrev pub IsAugmentation : FlowState → FlowState → Augmentation → Type 0
 IsAugmentation old new Grew = new ≡ record old { held = old.held + 1 }
 IsAugmentation old new (Stuck s) = (new ≡ old) × IsFullBy old.net old.held s
 

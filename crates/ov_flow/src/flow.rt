@@ -3,15 +3,15 @@ ghost use Rattle.ov_graph.specs.Paths.{node_at};
 ghost use Rattle.ov_split.specs.SplitNetState.{IsFanOf};
 ghost use Rattle.ov_flow.specs.Flow.{FlowState, IsFullBy, IsAugmentation, ArePlaces};
 
-use crate::place_paths::{PlacePaths, write_paths};
+use crate::flat_paths::{PlacePaths, write_paths};
 use crate::search_buffers::{Work, augment, new_work, settle};
-use crate::search_result::{Step, Stuck, stuck_at};
+use crate::search_result::{Augmentation, CutRows, stuck_at};
 use ov_ids::OutOfMemory;
 use ov_split::SplitNet;
 use std::alloc::Global;
 use std::marker::Model;
 
-/// Paths of a net that share only the source. Each step searches for one more (Even, SIAM J. Comput. 4, 1975).
+/// Paths of a net that share only the source. Each augmentation searches for one more (Even, SIAM J. Comput. 4, 1975).
 /// Contracts see the net, and how many paths are held.
 #[derive(Drop)]
 pub struct Flow<'g> {
@@ -53,21 +53,21 @@ impl<'g> Flow<'g> {
     /// Searches for one more path. Where there is none, the result is the nearest least cut, which has as many nodes as
     /// paths are held (Menger, Fund. Math. 10, 1927). Out of memory (99) leaves the net and the number of paths as they
     /// were.
-    pub fn augment(&mut self) -> Result<Step, OutOfMemory>
-        ensures step { IfOk result (λ step. IsAugmentation self.old self.new step) }
+    pub fn augment(&mut self) -> Result<Augmentation, OutOfMemory>
+        ensures augmentation { IfOk result (λ a. IsAugmentation self.old self.new a) }
         ensures err { OnErr result (self.new ≡ self.old) }
         ensures fans { (paths : List (List ℕ)) × IsFanOf self.new.net self.new.held paths }
     {
         if augment(&self.net, &mut self.work)? {
-            return Ok(Step::Grew);
+            return Ok(Augmentation::Grew);
         }
-        Ok(Step::Stuck(stuck_at(&self.net, &self.work)))
+        Ok(Augmentation::Stuck(stuck_at(&self.net, &self.work)))
     }
 
     /// Starts again with another net of the same graph, and searches for `level` paths, those of one link first. The
     /// result is `None` where they are found. Else fewer paths are held, no fan has more, and the result is the nearest
     /// least cut (Menger, Fund. Math. 10, 1927). Out of memory (99) leaves some paths of the new net held.
-    pub fn seek(&mut self, net: SplitNet<'g>, level: usize) -> Result<Option<Stuck>, OutOfMemory>
+    pub fn seek(&mut self, net: SplitNet<'g>, level: usize) -> Result<Option<CutRows>, OutOfMemory>
         requires { net.graph ≡ self.old.net.graph }
         ensures net { self.new.net ≡ net.entry }
         ensures held { IfOk result (λ stuck. MatchOption stuck (self.new.held ≡ level)

@@ -2,16 +2,16 @@
 #![tactic(auto)]
 
 mod flat_path_reading;
+mod flat_paths;
 mod flow;
 mod one_link_paths;
 mod path_copying;
 mod path_search;
-mod place_paths;
 mod search_buffers;
 mod search_result;
 mod search_tree;
-mod search_walk;
+mod walk_taking;
 
+pub use flat_paths::PlacePaths;
 pub use flow::Flow;
-pub use place_paths::PlacePaths;
-pub use search_result::{Step, Stuck};
+pub use search_result::{Augmentation, CutRows};

@@ -7,7 +7,7 @@ use crate::one_link_paths::take_direct;
 use crate::path_copying::{clear, empty_table, replace_paths};
 use crate::path_search::search;
 use crate::search_tree::{Tree, new_tree};
-use crate::search_walk::{Hop, walk_back};
+use crate::walk_taking::{Hop, walk_back};
 use ov_split::SplitNet;
 use std::alloc::{AllocError, Global};
 

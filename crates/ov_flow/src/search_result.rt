@@ -10,20 +10,20 @@ use ov_split::SplitNet;
 /// Why there is no further path: the places of the nearest least cut, and of its side, the nodes that are reached
 /// without it (Menger, Fund. Math. 10, 1927).
 #[derive(Clone, Copy)]
-pub struct Stuck {
+pub struct CutRows {
     pub cut: Row,
     pub side: Row,
 }
 
 /// One more path is held, or there is none.
 #[derive(Clone, Copy)]
-pub enum Step {
+pub enum Augmentation {
     Grew,
-    Stuck(Stuck),
+    Stuck(CutRows),
 }
 
 /// The nearest least cut and its side, after a search that found no path.
-pub(crate) fn stuck_at(net: &SplitNet<'_>, work: &Work) -> Stuck
+pub(crate) fn stuck_at(net: &SplitNet<'_>, work: &Work) -> CutRows
     requires ready { IsReady net.now }
     requires work { IsWorkOf net.now work.now }
     requires end { IsAtEnd net.now work.now }
@@ -32,7 +32,7 @@ pub(crate) fn stuck_at(net: &SplitNet<'_>, work: &Work) -> Stuck
     let words = net.words();
     let tree = &work.tree;
     let next = without(&tree.seen, &tree.reached, words);
-    Stuck {
+    CutRows {
         cut: without(&next, net.avoided(), words),
         side: tree.reached,
     }

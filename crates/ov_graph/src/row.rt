@@ -84,14 +84,6 @@ pub fn first_from(row: &[u64; WORDS], from: usize, words: usize) -> Option<usize
     None
 }
 
-/// Whether no bit of the first `words` words is set.
-pub fn is_empty(row: &[u64; WORDS], words: usize) -> bool
-    requires { words ≤ WORDS }
-    ensures { IsTrue result ↔ ((p : ℕ) → p < word_bits * words → ¬ HasBit row.now p) }
-{
-    first_from(row, 0, words).is_none()
-}
-
 /// Whether the first `words` words of two rows have the same bits.
 pub fn agree(a: &[u64; WORDS], b: &[u64; WORDS], words: usize) -> bool
     requires { words ≤ WORDS }

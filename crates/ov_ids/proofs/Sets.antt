@@ -2,11 +2,11 @@
 use Rattle.std.proofs.Common.{subst, ap, zero, ◌≡◌, ◌≢◌, ◌↔◌, ℕ, suc, ◌<◌, ◌≤◌, ◌+◌, Bool, true, false, cond, not}
 use Rattle.std.proofs.Common.{IsTrue, ◌||◌, ◌&&◌, eqb, ltb, List, [], ◌∷◌, length, get_or, refl, inl, inr, sym, ◌∙◌}
 use Rattle.std.proofs.Common.{◌⊎◌, arith}
-use Rattle.std.specs.Prelude.{insert, remove}
+use Rattle.std.specs.Prelude.{insert, remove, slice_index}
 use Rattle.std.specs.List.{AllByRecursion}
 use Rattle.std.proofs.lemmas.Bool.{and_parts, not-true, or_cases, or_left, or_right, ltb-true, ltb-false, lt-ltb}
 use Rattle.std.proofs.lemmas.Bool.{le-ltb, eq-eqb, ne_eqb, eqb-false, eqb-true, or_parts, cases_order, both_ways}
-use Rattle.ov_ids.specs.Sets.{IsSet, has, IsIn, adding, without, count_below}
+use Rattle.ov_ids.specs.Sets.{IsSet, has, IsIn, adding, without, count_below, IsPlaceFor}
 
 All-map : (P Q : ℕ → Type 0) → ((y : ℕ) → P y → Q y) → (t : List ℕ) → AllByRecursion P t → AllByRecursion Q t
 All-map P Q f [] a = tt
@@ -68,6 +68,30 @@ pub count_below-le-length : (x : ℕ) (t : List ℕ) → count_below x t ≤ len
 count_below-le-length x [] = omega arith
 count_below-le-length x (y ∷ t) =
     count_below_cases x y t (λ i. i ≤ suc (length t)) (λ _. omega (arith, count_below-le-length x t)) (λ _. omega arith)
+
+below_more : (x y : ℕ) (t : List ℕ) (n : ℕ) → y < x → ((i : ℕ) → i < n → slice_index t i < x)
+    → (i : ℕ) → i < suc n → slice_index (y ∷ t) i < x
+below_more x y t n first more zero l = first
+below_more x y t n first more (suc i) l = more i (omega (arith, l))
+
+-- so many ids stand before the place for x
+place_counted : (x : ℕ) (t : List ℕ) → IsPlaceFor t x (count_below x t)
+place_counted x [] = record {
+  within = omega arith;
+  below = λ i l. absurd (omega (arith, l));
+  reached = λ l. absurd (omega (arith, l));
+}
+place_counted x (y ∷ t) =
+    count_below_cases x y t (λ i. IsPlaceFor (y ∷ t) x i)
+    (λ first. let rest = place_counted x t in record {
+      within = omega (arith, rest.within);
+      below = below_more x y t (count_below x t) first rest.below;
+      reached = λ l. rest.reached (omega (arith, l));
+    })
+    (λ reached. record { within = omega arith; below = λ i l. absurd (omega (arith, l)); reached = λ l. reached })
+
+pub place_found : (xs : List ℕ) (x p : ℕ) → p ≡ count_below x xs → IsPlaceFor xs x p
+place_found xs x p e = subst (IsPlaceFor xs x) (sym e) (place_counted x xs)
 
 pub has_past_end : (x : ℕ) (t : List ℕ) → length t ≤ count_below x t → has t x ≡ false
 has_past_end x [] p = refl

@@ -1,10 +1,10 @@
--- The order of faults. A judgement is a chain of steps. Each step has a condition and a fault. The fault of the first
--- step whose condition fails is returned, or none.
+-- The order of faults. A judgement is a chain of conditions, each with a fault. The fault of the first condition that
+-- fails is returned, or none.
 use Rattle.std.specs.Prelude.{◌≡◌, ◌⊎◌, Option, Some, None}
 
--- one step: its condition holds and the rest of the chain decides, or it fails and its fault is returned
-abbrev pub Step : {E : Type 0} → Type 0 → E → (Option E → Type 0) → Option E → Type 0
-Step Passes fault After result = (Passes × After result) ⊎ ((¬ Passes) × (result ≡ Some fault))
+-- one condition of the chain: it holds and the rest decides, or it fails and its fault is returned
+abbrev pub HoldsThen : {E : Type 0} → Type 0 → E → (Option E → Type 0) → Option E → Type 0
+HoldsThen Passes fault After result = (Passes × After result) ⊎ ((¬ Passes) × (result ≡ Some fault))
 
 -- the end of a chain: there is no fault
 abbrev pub Passed : {E : Type 0} → Option E → Type 0

@@ -1,5 +1,6 @@
 -- Sets of ids, each written as the list of its members in ascending order.
-use Rattle.std.specs.Prelude.{ℕ, suc, Bool, IsTrue, not, List, [], ◌∷◌, ◌==◌, nat_lt, filter, if◌then◌else◌}
+use Rattle.std.specs.Prelude.{ℕ, suc, ◌<◌, ◌≤◌, Bool, IsTrue, not, List, [], ◌∷◌, ◌==◌, length, slice_index, nat_lt}
+use Rattle.std.specs.Prelude.{filter, if◌then◌else◌}
 use Rattle.std.specs.List.{list_any}
 use Rattle.ov_ids.specs.Members.{Ascends}
 
@@ -37,3 +38,9 @@ without_all (y ∷ ys) xs = without_all ys (without y xs)
 abbrev pub count_below : ℕ → List ℕ → ℕ
 count_below x [] = 0
 count_below x (y ∷ ys) = if nat_lt y x then suc (count_below x ys) else 0
+
+-- p is the place for x: each id before it is below x, and the id at it, if there is one, is not
+pub record IsPlaceFor (xs : List ℕ) (x p : ℕ) : Type 0 where
+  pub within : p ≤ length xs
+  pub below : (i : ℕ) → i < p → slice_index xs i < x
+  pub reached : p < length xs → x ≤ slice_index xs p

@@ -5,6 +5,7 @@
 
 mod id;
 mod id_set;
+mod limits;
 mod memory;
 mod order;
 mod params;
@@ -13,8 +14,9 @@ mod text;
 
 pub use id::{MsgId, NodeId};
 pub use id_set::{IdSet, place_for};
+pub use limits::NUMBER_LIMIT;
 pub use memory::OutOfMemory;
 pub use order::is_ascending;
-pub use params::{BadParams, Params};
+pub use params::{BadParams, LONGEST_WALK, MAX_ACTIVE, MAX_PASSIVE, MAX_SAMPLED, Params};
 pub use seq::Seq;
 pub use text::IdsText;

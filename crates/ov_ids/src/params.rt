@@ -4,6 +4,18 @@ ghost use Rattle.ov_ids.specs.ParamsState.{AreWithinLimits, params_of};
 use std::marker::Model;
 use thiserror::Error;
 
+/// The most active members of a node. (Chosen here.)
+pub const MAX_ACTIVE: u32 = 16;
+
+/// The most passive members of a node. (Chosen here.)
+pub const MAX_PASSIVE: u32 = 64;
+
+/// The longest walk, and the longest time to live of a shuffle. (Chosen here.)
+pub const LONGEST_WALK: u32 = 15;
+
+/// How many members of a view a shuffle samples at most. (Chosen here.)
+pub const MAX_SAMPLED: u32 = 8;
+
 /// A parameter is out of its limits.
 #[derive(Clone, Copy, Debug, PartialEq, Eq, Error)]
 #[error("a parameter is out of its limits")]
@@ -66,15 +78,15 @@ impl Params {
         ensures value { IfOk result (λ params. params ≡ params_of active passive arwl prwl ka kp shuffle_ttl) }
     {
         if active < 1
-            || active > 16
+            || active > MAX_ACTIVE
             || passive < 1
-            || passive > 64
-            || arwl > 15
+            || passive > MAX_PASSIVE
+            || arwl > LONGEST_WALK
             || prwl > arwl
-            || ka > 8
-            || kp > 8
+            || ka > MAX_SAMPLED
+            || kp > MAX_SAMPLED
             || shuffle_ttl < 1
-            || shuffle_ttl > 15
+            || shuffle_ttl > LONGEST_WALK
         {
             return Err(BadParams);
         }

@@ -9,7 +9,7 @@ use Rattle.ov_io.specs.declared.fault.WriteFault.{WriteFault}
 abbrev pub most_faults : ℕ
 most_faults = 2 ^ 64 - 1
 
--- the count of reads stops here: a reader that answers a read in each nanosecond comes here after 584 years
+-- the counts of reads and of ends stop here: a reader that answers a read in each nanosecond comes here after 584 years
 abbrev pub most_counted : ℕ
 most_counted = 2 ^ 64 - 1
 
@@ -17,12 +17,13 @@ most_counted = 2 ^ 64 - 1
 abbrev pub most_reads : ℕ
 most_reads = 2 ^ 32 - 1
 
--- A source: its reader, how many reads it was asked for, how many of these failed, and how many faults it counts. A
--- fault is a read that failed, or a call that reached the most reads.
+-- A source: its reader, how many reads it was asked for, how many of these failed, how many were answered by the end,
+-- and how many faults it counts. A fault is a read that failed, or a call that reached the most reads.
 pub record SourceState (R : Type 0) : Type 0 where
   pub reader : R
   pub reads : ℕ
   pub failures : ℕ
+  pub ends : ℕ
   pub faults : ℕ
 
 -- A sink: its writer, and how many faults it counts. A fault is a write that failed or took nothing.
@@ -60,14 +61,21 @@ read_failures number result = failures_numbered read_failed number result
 abbrev pub write_failures : {A E : Type 0} → (E → ℕ) → Result A E → ℕ
 write_failures number result = failures_numbered write_failed number result
 
+-- how many ends one read adds: one where it had room for a byte and was answered by none
+abbrev pub end_answers : {E : Type 0} → Result ℕ E → ℕ
+end_answers (Ok count) = if count == 0 then 1 else 0
+end_answers (Err e) = 0
+
 -- one read of a call failed
 abbrev pub OneReadFailed : {R : Type 0} → SourceState R → SourceState R → Type 0
 OneReadFailed before after = after.failures ≡ before.failures + 1
 
--- no read of a call failed, and it reached the most reads
+-- no read of a call failed, none was answered by the end, and it reached the most reads
 abbrev pub DidNotEnd : {R : Type 0} → SourceState R → SourceState R → Type 0
 DidNotEnd before after =
-    (after.failures ≡ before.failures) × (after.reads ≡ min (before.reads + most_reads) most_counted)
+    (after.failures ≡ before.failures)
+    × (after.ends ≡ before.ends)
+    × (after.reads ≡ min (before.reads + most_reads) most_counted)
 
 -- the reader failed in a call: exactly one read failed, or the reader did not end
 abbrev pub ReaderFailed : {R : Type 0} → SourceState R → SourceState R → Type 0

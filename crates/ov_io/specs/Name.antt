@@ -1,5 +1,5 @@
 -- The name of a file as a person is shown it. Chosen here.
-use Rattle.std.specs.Prelude.{ℕ, List, ◌++◌, codes, false, if◌then◌else◌}
+use Rattle.std.specs.Prelude.{◌≡◌, ℕ, List, ◌++◌, codes, false, if◌then◌else◌}
 use Rattle.std.specs.Fmt.{digits}
 use Rattle.std.specs.Char.{is_control, encode_utf8}
 use Rattle.std.specs.List.{flat_map}
@@ -12,3 +12,12 @@ shown_char c =
 -- the characters of a name, each as it is shown
 abbrev pub shown_chars : List ℕ → List ℕ
 shown_chars cs = flat_map shown_char cs
+
+-- what is told of a file with a name of these characters that can't be opened: the name as it is shown, and a cause;
+-- which cause is left open
+abbrev pub TellsUnopened : List ℕ → List ℕ → Type 0
+TellsUnopened cs text = (cause : List ℕ) × (text ≡ shown_chars cs ++ (codes " can't be opened: " ++ cause))
+
+-- what is told of an input with a name of these characters that can't be read
+abbrev pub unread_text : List ℕ → List ℕ
+unread_text cs = shown_chars cs ++ codes " can't be read"

@@ -2,18 +2,19 @@
 ghost use Rattle.std.specs.Prelude.{◌≡◌, ◌+◌, ◌<◌, min, length, IfOk};
 ghost use Rattle.std.specs.Io.{ReadsAtMost, WritesAtMost};
 ghost use Rattle.std.specs.Io.KnownBytes.{ReadConsumes, WriteAppends};
-ghost use Rattle.ov_io.specs.Device.{most_faults, most_counted, read_failures, read_number};
+ghost use Rattle.ov_io.specs.Device.{most_faults, most_counted, end_answers, read_failures, read_number};
 ghost use Rattle.ov_io.specs.Device.{write_failures, write_number};
 
 use crate::fault::{ReadFault, WriteFault};
 use std::io::{Read, Write};
 
-/// A reader, how many reads it answered, and how many of these answers were errors.
+/// A reader, how many reads it answered, how many of these answers were errors, and how many were no byte, the end.
 #[derive(Drop)]
 pub(crate) struct CountedReader<R> {
     reader: R,
     reads: u64,
     failures: u64,
+    ends: u64,
 }
 
 impl<R: Read> CountedReader<R> {
@@ -22,11 +23,13 @@ impl<R: Read> CountedReader<R> {
         ensures reader { result.reader ≡ reader }
         ensures reads { result.reads ≡ 0 }
         ensures failures { result.failures ≡ 0 }
+        ensures ends { result.ends ≡ 0 }
     {
         CountedReader {
             reader,
             reads: 0,
             failures: 0,
+            ends: 0,
         }
     }
 
@@ -37,16 +40,22 @@ impl<R: Read> CountedReader<R> {
         self.failures
     }
 
-    /// Reads once, and counts the answer. The count of reads stops at 2^64 - 1.
+    /// Reads once into a buffer with room, and counts the answer. The counts of reads and of ends stop at 2^64 - 1.
     pub(crate) fn read(&mut self, buffer: &mut [u8]) -> Result<usize, ReadFault>
-        requires { self.old.failures < most_faults }
+        requires failures { self.old.failures < most_faults }
+        requires room { 0 < length buffer.old }
         ensures bound { ReadsAtMost result buffer.new }
         ensures bytes { ReadConsumes (R.remaining self.old.reader) (R.remaining self.new.reader) result buffer.new }
         ensures reads { self.new.reads ≡ min (self.old.reads + 1) most_counted }
         ensures failures { self.new.failures ≡ self.old.failures + read_failures read_number result }
+        ensures ends { self.new.ends ≡ min (self.old.ends + end_answers result) most_counted }
     {
         self.reads = self.reads.saturating_add(1);
         match self.reader.read(buffer) {
+            Ok(0) => {
+                self.ends = self.ends.saturating_add(1);
+                Ok(0)
+            }
             Ok(count) => Ok(count),
             Err(_) => {
                 self.failures += 1;

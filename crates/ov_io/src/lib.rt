@@ -9,6 +9,6 @@ mod sink;
 mod source;
 
 pub use fault::{ReadFault, WriteFault};
-pub use name::shown_name;
+pub use name::{shown_name, unopened_text, unread_text};
 pub use sink::Sink;
 pub use source::Source;

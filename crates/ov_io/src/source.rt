@@ -29,10 +29,15 @@ impl<R> Model for Source<R> {
       reader = s.reader.reader;
       reads = s.reader.reads;
       failures = s.reader.failures;
+      ends = s.reader.ends;
       faults = s.reader.failures + s.endless;
     } };
 
-    ghost invariant = { λ s. (s.reader.reads ≤ most_counted) × (s.reader.failures + s.endless ≤ most_faults) };
+    ghost invariant = { λ s. record {
+      reads : s.reader.reads ≤ most_counted;
+      ends : s.reader.ends ≤ most_counted;
+      faults : s.reader.failures + s.endless ≤ most_faults;
+    } };
 }
 
 impl<R: Read> Source<R> {
@@ -41,6 +46,7 @@ impl<R: Read> Source<R> {
         ensures reader { result.reader ≡ reader }
         ensures reads { result.reads ≡ 0 }
         ensures failures { result.failures ≡ 0 }
+        ensures ends { result.ends ≡ 0 }
         ensures faults { result.faults ≡ 0 }
     {
         Source {

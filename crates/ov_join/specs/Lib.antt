@@ -1,2 +1,2 @@
--- Nothing of its own: the rules of these steps are in ov_views, in specs/JoinRows.antt, and what a handler owes is in
--- specs/Handling.antt there.
+-- Nothing of its own: the rules of these steps are in ov_views, in specs/JoinRows.antt, and what a handler promises is
+-- in specs/Handling.antt there.

@@ -4,15 +4,15 @@
 //! new node who made it active, is chosen here. Every call makes all its room before it changes anything, so nothing
 //! has changed where it is out of memory.
 //!
-//! The rules of these steps are in `ov_views/specs/JoinRows.antt`, and what a handler owes in `Handling.antt` beside
-//! it.
+//! The rules of these steps are in `ov_views/specs/JoinRows.antt`, and what a handler promises in `Handling.antt`
+//! beside it.
 #![tactic(auto)]
 
 ghost use Rattle.std.specs.Prelude.{◌≡◌, ◌≤◌, ◌<◌, ◌+◌, ◌++◌, ℕ, length, vec_len, IfOk, OnErr};
 ghost use Rattle.ov_wire.specs.Messages.{AreSendsInRange, most_ttl};
 ghost use Rattle.ov_words.specs.Pick.{Drawn};
 ghost use Rattle.ov_views.specs.Room.{HasRoom};
-ghost use Rattle.ov_views.specs.Allowed.{receives};
+ghost use Rattle.ov_views.specs.Allowed.{hears};
 ghost use Rattle.ov_views.specs.Handling.{ViewsStep, step_words, step_sends};
 ghost use Rattle.ov_views.specs.JoinRows.{Remembers, forwards, walk_ends, walk_targets};
 ghost use Rattle.ov_wire.specs.declared.message.Body.TheVariants.{Join, ForwardJoin, Joined};
@@ -34,7 +34,7 @@ pub fn on_join(
     from: NodeId,
 ) -> Result<Moves, OutOfMemory>
     requires { step_words ≤ length draws.old }
-    ensures allowed { IfOk result (ViewsStep views.old draws.old (receives from Join) views.new draws.new) }
+    ensures allowed { IfOk result (ViewsStep views.old draws.old (hears from Join) views.new draws.new) }
     ensures words { length draws.old ≤ length draws.new + 2 }
     ensures few { IfOk result (λ m. vec_len m.sends ≤ step_sends) }
     ensures ranges { IfOk result (λ m. AreSendsInRange m.sends.items) }
@@ -91,7 +91,7 @@ pub fn on_forward_join(
     requires words { step_words ≤ length draws.old }
     requires ttl { ttl ≤ most_ttl }
     ensures allowed { IfOk result
-        (ViewsStep views.old draws.old (receives from (ForwardJoin node ttl)) views.new draws.new) }
+        (ViewsStep views.old draws.old (hears from (ForwardJoin node ttl)) views.new draws.new) }
     ensures words { length draws.old ≤ length draws.new + 2 }
     ensures few { IfOk result (λ m. vec_len m.sends ≤ 2) }
     ensures ranges { IfOk result (λ m. AreSendsInRange m.sends.items) }
@@ -154,7 +154,7 @@ pub fn on_joined(
     from: NodeId,
 ) -> Result<Moves, OutOfMemory>
     requires { step_words ≤ length draws.old }
-    ensures allowed { IfOk result (ViewsStep views.old draws.old (receives from Joined) views.new draws.new) }
+    ensures allowed { IfOk result (ViewsStep views.old draws.old (hears from Joined) views.new draws.new) }
     ensures words { length draws.old ≤ length draws.new + 2 }
     ensures few { IfOk result (λ m. vec_len m.sends ≤ 1) }
     ensures ranges { IfOk result (λ m. AreSendsInRange m.sends.items) }

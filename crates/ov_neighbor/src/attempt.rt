@@ -1,6 +1,6 @@
 ghost use Rattle.std.specs.Prelude.{◌≡◌, ◌≤◌, ◌<◌, ◌+◌, [], length, vec_len, vec_capacity, IfOk, OnErr};
 ghost use Rattle.ov_ids.specs.Sets.{IsSet, IsIn, adding};
-ghost use Rattle.ov_views.specs.Allowed.{receives, hears_of_crash};
+ghost use Rattle.ov_views.specs.Allowed.{hears, hears_of_crash};
 ghost use Rattle.ov_views.specs.Handling.{AttemptStep, step_words};
 ghost use Rattle.ov_views.specs.NeighborRows.{GoesOnAsking, IsAttempt};
 ghost use Rattle.ov_views.specs.Room.{HasRoom};
@@ -158,7 +158,7 @@ pub fn on_reply(
     accepted: bool,
 ) -> Result<Moves, OutOfMemory>
     requires { step_words ≤ length draws.old }
-    ensures allowed { IfOk result (AttemptStep views.old attempt.old draws.old (receives from (NeighborReply accepted))
+    ensures allowed { IfOk result (AttemptStep views.old attempt.old draws.old (hears from (NeighborReply accepted))
         views.new attempt.new draws.new) }
     ensures words { length draws.old ≤ length draws.new + 2 }
     ensures few { IfOk result (λ m. vec_len m.sends ≤ 1) }
@@ -196,7 +196,7 @@ pub fn on_reply(
 /// for it, the attempt goes on. At most one random word is used. OutOfMemory (99) where an allocation is refused, and
 /// then nothing has changed. (That a lost active member is replaced by a passive one is HyParView's; how an attempt
 /// goes on is chosen here.)
-pub fn on_report(
+pub fn on_crash_report(
     alloc: Global,
     views: &mut Views,
     attempt: &mut Attempt,

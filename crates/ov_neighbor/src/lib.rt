@@ -6,12 +6,12 @@
 //! waits for, are chosen here. Every call makes all its room before it changes anything, so nothing has changed where
 //! it is out of memory.
 //!
-//! The rules of these steps are in `ov_views/specs/NeighborRows.antt`, and what a handler owes in `Handling.antt`
+//! The rules of these steps are in `ov_views/specs/NeighborRows.antt`, and what a handler promises in `Handling.antt`
 //! beside it.
 #![tactic(auto)]
 
 mod attempt;
 mod neighbor;
 
-pub use attempt::{Attempt, on_reply, on_report};
+pub use attempt::{Attempt, on_crash_report, on_reply};
 pub use neighbor::{on_disconnect, on_neighbor};

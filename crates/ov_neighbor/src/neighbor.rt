@@ -1,5 +1,5 @@
 ghost use Rattle.std.specs.Prelude.{◌≡◌, ◌≤◌, ◌+◌, length, vec_len, IfOk, OnErr};
-ghost use Rattle.ov_views.specs.Allowed.{receives};
+ghost use Rattle.ov_views.specs.Allowed.{hears};
 ghost use Rattle.ov_views.specs.Handling.{ViewsStep, step_words};
 ghost use Rattle.ov_views.specs.Sending.{say};
 ghost use Rattle.ov_wire.specs.declared.message.Body.TheVariants.{Neighbor, NeighborReply, Disconnect};
@@ -24,7 +24,7 @@ pub fn on_neighbor(
     high: bool,
 ) -> Result<Moves, OutOfMemory>
     requires { step_words ≤ length draws.old }
-    ensures allowed { IfOk result (ViewsStep views.old draws.old (receives from (Neighbor high)) views.new draws.new) }
+    ensures allowed { IfOk result (ViewsStep views.old draws.old (hears from (Neighbor high)) views.new draws.new) }
     ensures words { length draws.old ≤ length draws.new + 2 }
     ensures few { IfOk result (λ m. vec_len m.sends ≤ 2) }
     ensures ranges { IfOk result (λ m. AreSendsInRange m.sends.items) }
@@ -66,7 +66,7 @@ pub fn on_disconnect(
     from: NodeId,
 ) -> Result<Moves, OutOfMemory>
     requires { step_words ≤ length draws.old }
-    ensures allowed { IfOk result (ViewsStep views.old draws.old (receives from Disconnect) views.new draws.new) }
+    ensures allowed { IfOk result (ViewsStep views.old draws.old (hears from Disconnect) views.new draws.new) }
     ensures words { length draws.old ≤ length draws.new + 1 }
     ensures none { IfOk result (λ m. vec_len m.sends ≡ 0) }
     ensures err { OnErr result ((views.new ≡ views.old) × (draws.new ≡ draws.old)) }

@@ -18,12 +18,12 @@ use Rattle.ov_net.specs.Limits.{most_world_nodes, most_packets, most_entries}
 use Rattle.ov_net.specs.Net.{Net, LivesAs}
 use Rattle.ov_net.specs.NetStep.{NetStep, Happens, TakesInput, LiveTakesInput, Received}
 use Rattle.ov_net.specs.Refusals.{MayHappen, EventJudged, ContactThen, BirthLast, PlacesLast}
-use Rattle.ov_net.specs.World.{WorldState, Stands, opening}
+use Rattle.ov_net.specs.World.{WorldState, Stands, opening_world}
 use Rattle.ov_net.specs.declared.effects.Effects.{Effects}
 use Rattle.ov_net.specs.declared.journal_entry.Change.{Change}
 use Rattle.ov_net.specs.declared.journal_entry.Entry.{Entry}
 use Rattle.ov_net.specs.declared.event.Event.{Event}
-use Rattle.ov_net.specs.declared.event.Event.TheVariants.{Boot, Deliver, Lose, Repeat, Crash, Report, Shuffle}
+use Rattle.ov_net.specs.declared.event.Event.TheVariants.{Boot, Deliver, Lose, Repeat, Crash, CrashReport, Shuffle}
 use Rattle.ov_net.specs.declared.event.Event.TheVariants.{Broadcast, Timer, Snapshot}
 use Rattle.ov_net.specs.declared.fault.NetFault.TheVariants.{UsedId, TooManyNodes, TooManyEntries}
 use Rattle.ov_net.specs.declared.member.Member.{Member}
@@ -94,8 +94,8 @@ few_nodes w (Repeat i) words u changes delivery judged h few =
 few_nodes w (Crash a) words u changes delivery judged h few =
     let same : map.len u.nodes ≡ map.len w.nodes = ap (λ (x : Net). map.len x.nodes) h.2
     ∙ put_again w a (member.Live h.0) member.Gone h.1 in omega (arith, same, few)
-few_nodes w (Report a crashed) words u changes delivery judged h few =
-    let same = live_nodes w a (input.Report crashed) words u changes delivery h.1 in omega (arith, same, few)
+few_nodes w (CrashReport a crashed) words u changes delivery judged h few =
+    let same = live_nodes w a (input.CrashReport crashed) words u changes delivery h.1 in omega (arith, same, few)
 few_nodes w (Shuffle a) words u changes delivery judged h few =
     let same = live_nodes w a input.Shuffle words u changes delivery h in omega (arith, same, few)
 few_nodes w (Broadcast a payload) words u changes delivery judged h few =
@@ -119,7 +119,7 @@ numbered_more (y ∷ journal) k e each last (suc i) x at =
     let r = numbered_more journal (suc k) e (λ j z h. let s = each (suc j) z h in omega (arith, s))
     (omega (arith, last)) i x at in omega (arith, r)
 
-stands_begun : (params : ParamsState) → Stands (opening params)
+stands_begun : (params : ParamsState) → Stands (opening_world params)
 stands_begun params = record {
   nodes = omega (arith, map.len-empty nat_cmp Member);
   packets = omega arith;
@@ -134,7 +134,7 @@ pub stands_new : (params : ParamsState) (nodes : map.FinMap nat_cmp Member) (pac
     (journal : List Entry) → nodes ≡ map.empty → packets ≡ [] → journal ≡ []
     → Stands (world_of params nodes packets journal)
 stands_new params nodes packets journal n p j =
-    let e : ◌≡◌ {A = WorldState} (world_of params nodes packets journal) (opening params) =
+    let e : ◌≡◌ {A = WorldState} (world_of params nodes packets journal) (opening_world params) =
     λ i. world_of params (n i) (p i) (j i) in
     subst Stands (sym e) (stands_begun params)
 

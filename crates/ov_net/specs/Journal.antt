@@ -37,8 +37,8 @@ abbrev pub LivesAfter : List Change → ℕ → Type 0
 LivesAfter changes a = Has changes (Born a) × ¬ Has changes (Gone a)
 
 -- after the first m entries a holds b in its active view
-abbrev pub Held : List Entry → ℕ → ℕ → ℕ → Type 0
-Held journal m a b = HoldsAfter (changes_of (take m journal)) a b
+abbrev pub HasActive : List Entry → ℕ → ℕ → ℕ → Type 0
+HasActive journal m a b = HoldsAfter (changes_of (take m journal)) a b
 
 -- after the first m entries a is alive
 abbrev pub Live : List Entry → ℕ → ℕ → Type 0
@@ -47,7 +47,7 @@ Live journal m a = LivesAfter (changes_of (take m journal)) a
 -- after the first m entries a and b are two live nodes, and each holds the other
 abbrev pub HoldMutually : List Entry → ℕ → ℕ → ℕ → Type 0
 HoldMutually journal m a b =
-    Live journal m a × Live journal m b × (a ≢ b) × Held journal m a b × Held journal m b a
+    Live journal m a × Live journal m b × (a ≢ b) × HasActive journal m a b × HasActive journal m b a
 
 -- g is the graph after the first m entries: its nodes are the live ones, and two of them are linked where each holds
 -- the other

@@ -26,4 +26,4 @@ IsGone w a = map.get w.nodes a ≡ Some Gone
 
 -- each live node is stored under its own id
 abbrev pub HaveOwnIds : Net → Type 0
-HaveOwnIds w = (a : ℕ) (p : PeerState) → LivesAs w a p → (p.node.views.me ≡ a) × (p.tree.me ≡ a)
+HaveOwnIds w = (a : ℕ) (p : PeerState) → LivesAs w a p → (p.hyparview.views.me ≡ a) × (p.tree.me ≡ a)

@@ -16,7 +16,7 @@ use Rattle.ov_net.specs.declared.journal_entry.Change.{Change}
 use Rattle.ov_net.specs.declared.journal_entry.Change.TheVariants.{Born, Up, Down, Gone}
 use Rattle.ov_net.specs.declared.journal_entry.Entry.{Entry}
 use Rattle.ov_net.specs.declared.event.Event.{Event}
-use Rattle.ov_net.specs.declared.event.Event.TheVariants.{Boot, Deliver, Lose, Repeat, Crash, Report, Shuffle}
+use Rattle.ov_net.specs.declared.event.Event.TheVariants.{Boot, Deliver, Lose, Repeat, Crash, CrashReport, Shuffle}
 use Rattle.ov_net.specs.declared.event.Event.TheVariants.{Broadcast, Timer, Snapshot}
 use Rattle.ov_net.specs.declared.member.Member.{Member}
 use Rattle.ov_net.specs.declared.member.Member.TheVariants as member
@@ -62,8 +62,8 @@ Received w a message None words u changes delivery = OnlyPackets w w.packets u c
 
 -- what each event does. Boot: node a, which was never born, is born, and boots by its contact if there is one.
 -- Deliver: packet i is taken out, and its receiver handles it if it is alive. Lose: packet i is taken out. Repeat: a
--- packet equal to packet i goes last. Crash: a live node is gone for good. Report: a live node is told that another
--- one crashed. Shuffle, Broadcast, Timer: a live node takes that input. Snapshot: nothing changes
+-- packet equal to packet i goes last. Crash: a live node is gone for good. CrashReport: a live node is told that
+-- another one crashed. Shuffle, Broadcast, Timer: a live node takes that input. Snapshot: nothing changes
 abbrev pub Happens : Net → Event → List ℕ → Net → List Change → Option Delivery → Type 0
 Happens w (Boot a contact) words u changes delivery =
     (map.get w.nodes a ≡ None) × (rest : List Change)
@@ -82,8 +82,8 @@ Happens w (Repeat i) words u changes delivery =
 Happens w (Crash a) words u changes delivery =
     (p : PeerState) × LivesAs w a p × (u ≡ record w { nodes = map.insert w.nodes a member.Gone })
     × (changes ≡ Gone a ∷ []) × (delivery ≡ None)
-Happens w (Report a crashed) words u changes delivery =
-    IsGone w crashed × LiveTakesInput w a (input.Report crashed) words u changes delivery
+Happens w (CrashReport a crashed) words u changes delivery =
+    IsGone w crashed × LiveTakesInput w a (input.CrashReport crashed) words u changes delivery
 Happens w (Shuffle a) words u changes delivery = LiveTakesInput w a input.Shuffle words u changes delivery
 Happens w (Broadcast a payload) words u changes delivery =
     LiveTakesInput w a (input.Broadcast payload) words u changes delivery

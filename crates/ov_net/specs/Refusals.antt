@@ -3,7 +3,7 @@
 use Rattle.std.specs.Prelude.{◌≡◌, ◌≢◌, ℕ, ◌+◌, ◌<◌, ◌≤◌, IsTrue, length, Option, Some, None}
 use Rattle.std.specs.FinMap as map
 use Rattle.std.specs.FinSet as set
-use Rattle.ov_ids.specs.FaultOrder.{Step, Passed, IsRefusedBy}
+use Rattle.ov_ids.specs.FaultOrder.{HoldsThen, Passed, IsRefusedBy}
 use Rattle.ov_ids.specs.declared.id.MsgId.{MsgId}
 use Rattle.ov_wire.specs.Messages.{most_payload}
 use Rattle.ov_plum.specs.PlumState.{most_broadcasts}
@@ -11,7 +11,7 @@ use Rattle.ov_peer.specs.PeerState.{PeerState}
 use Rattle.ov_net.specs.Limits.{most_world_nodes, most_packets, step_packets, most_entries}
 use Rattle.ov_net.specs.Net.{Net, LivesAs, IsGone}
 use Rattle.ov_net.specs.declared.event.Event.{Event}
-use Rattle.ov_net.specs.declared.event.Event.TheVariants.{Boot, Deliver, Lose, Repeat, Crash, Report, Shuffle}
+use Rattle.ov_net.specs.declared.event.Event.TheVariants.{Boot, Deliver, Lose, Repeat, Crash, CrashReport, Shuffle}
 use Rattle.ov_net.specs.declared.event.Event.TheVariants.{Broadcast, Timer, Snapshot}
 use Rattle.ov_net.specs.declared.fault.NetFault.{NetFault}
 use Rattle.ov_net.specs.declared.fault.NetFault.TheVariants.{UnknownNode, UsedId, CrashedNode, TooManyNodes}
@@ -50,45 +50,47 @@ MayBroadcast w a = (p : PeerState) → LivesAs w a p → p.tree.made < most_broa
 abbrev pub HasTimer : Net → ℕ → MsgId → Type 0
 HasTimer w a id = (p : PeerState) → LivesAs w a p → IsTrue (set.contains p.tree.running id)
 
--- first: a was born and is not gone
+-- a must be born, else UnknownNode, and not gone, else CrashedNode; then `After` decides
 abbrev pub LiveThen : Net → ℕ → (Option NetFault → Type 0) → Option NetFault → Type 0
-LiveThen w a After answer = Step (IsBorn w a) UnknownNode (Step (¬ IsGone w a) CrashedNode After) answer
+LiveThen w a After answer = HoldsThen (IsBorn w a) UnknownNode (HoldsThen (¬ IsGone w a) CrashedNode After) answer
 
--- first: the contact, if there is one, was born and is not gone
+-- the contact, if there is one, must be born, else UnknownNode, and not gone, else CrashedNode; then `After` decides
 abbrev pub ContactThen : Net → Option ℕ → (Option NetFault → Type 0) → Option NetFault → Type 0
 ContactThen w None After answer = After answer
 ContactThen w (Some contact) After answer = LiveThen w contact After answer
 
--- last: there is room for the packets of one step
+-- there must be room for the packets of one step, else TooManyPackets; no other refusal follows
 abbrev pub PlacesLast : Net → Option NetFault → Type 0
-PlacesLast w answer = Step (HasPlaces w) TooManyPackets Passed answer
+PlacesLast w answer = HoldsThen (HasPlaces w) TooManyPackets Passed answer
 
--- then: one more node may be born; and last: there is room for the packets of one step
+-- there must be room for one more node, else TooManyNodes, and then for the packets of one step, else TooManyPackets;
+-- no other refusal follows
 abbrev pub BirthLast : Net → Option NetFault → Type 0
-BirthLast w answer = Step (map.len w.nodes < most_world_nodes) TooManyNodes (PlacesLast w) answer
+BirthLast w answer = HoldsThen (map.len w.nodes < most_world_nodes) TooManyNodes (PlacesLast w) answer
 
 -- the first applicable refusal of each event but those of `StepJudged`, or None where there is none
 abbrev pub EventJudged : Net → Event → Option NetFault → Type 0
 EventJudged w (Boot a contact) answer =
-    Step (map.get w.nodes a ≡ None) UsedId (ContactThen w contact (BirthLast w)) answer
-EventJudged w (Deliver i) answer = Step (i < length w.packets) NoSuchPacket (PlacesLast w) answer
-EventJudged w (Lose i) answer = Step (i < length w.packets) NoSuchPacket Passed answer
-EventJudged w (Repeat i) answer = Step (i < length w.packets) NoSuchPacket (PlacesLast w) answer
+    HoldsThen (map.get w.nodes a ≡ None) UsedId (ContactThen w contact (BirthLast w)) answer
+EventJudged w (Deliver i) answer = HoldsThen (i < length w.packets) NoSuchPacket (PlacesLast w) answer
+EventJudged w (Lose i) answer = HoldsThen (i < length w.packets) NoSuchPacket Passed answer
+EventJudged w (Repeat i) answer = HoldsThen (i < length w.packets) NoSuchPacket (PlacesLast w) answer
 EventJudged w (Crash a) answer = LiveThen w a Passed answer
-EventJudged w (Report a crashed) answer =
-    LiveThen w a (Step (IsBorn w crashed) UnknownNode (Step (IsGone w crashed) NotCrashed (PlacesLast w))) answer
+EventJudged w (CrashReport a crashed) answer =
+    LiveThen w a
+    (HoldsThen (IsBorn w crashed) UnknownNode (HoldsThen (IsGone w crashed) NotCrashed (PlacesLast w))) answer
 EventJudged w (Shuffle a) answer = LiveThen w a (PlacesLast w) answer
 EventJudged w (Broadcast a payload) answer =
     LiveThen w a
-    (Step (length payload ≤ most_payload) PayloadTooLong (Step (MayBroadcast w a) TooManyMessages (PlacesLast w)))
-    answer
-EventJudged w (Timer a id) answer = LiveThen w a (Step (HasTimer w a id) NoTimer (PlacesLast w)) answer
+    (HoldsThen (length payload ≤ most_payload) PayloadTooLong
+    (HoldsThen (MayBroadcast w a) TooManyMessages (PlacesLast w))) answer
+EventJudged w (Timer a id) answer = LiveThen w a (HoldsThen (HasTimer w a id) NoTimer (PlacesLast w)) answer
 EventJudged w Snapshot answer = Passed answer
 
 -- the first applicable refusal of an event where the journal has so many entries, or None where there is none. That the
 -- journal is full is the first refusal of every event
 abbrev pub StepJudged : Net → ℕ → Event → Option NetFault → Type 0
-StepJudged w entries event answer = Step (entries < most_entries) TooManyEntries (EventJudged w event) answer
+StepJudged w entries event answer = HoldsThen (entries < most_entries) TooManyEntries (EventJudged w event) answer
 
 -- no refusal applies to the event
 abbrev pub MayHappen : Net → ℕ → Event → Type 0

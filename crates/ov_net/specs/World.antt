@@ -7,7 +7,7 @@ use Rattle.ov_ids.specs.declared.id.MsgId.{MsgId}
 use Rattle.ov_wire.specs.declared.message.Body.TheVariants.{Gossip}
 use Rattle.ov_peer.specs.PeerState.{PeerState}
 use Rattle.ov_plum.specs.PlumState.{HeldState}
-use Rattle.ov_net.specs.Journal.{changes_of, node_of, Held, Live, Delivers, DeliversOnce}
+use Rattle.ov_net.specs.Journal.{changes_of, node_of, HasActive, Live, Delivers, DeliversOnce}
 use Rattle.ov_net.specs.Limits.{most_world_nodes, most_packets, most_entries}
 use Rattle.ov_net.specs.Net.{Net, LivesAs, HaveOwnIds}
 use Rattle.ov_net.specs.declared.journal_entry.Change.{Change}
@@ -20,15 +20,15 @@ pub record WorldState : Type 0 where
   pub journal : List Entry
 
 -- the world in which nothing has happened
-abbrev pub opening : ParamsState → WorldState
-opening params = record { net = record { params = params; nodes = map.empty; packets = [] }; journal = [] }
+abbrev pub opening_world : ParamsState → WorldState
+opening_world params = record { net = record { params = params; nodes = map.empty; packets = [] }; journal = [] }
 
 -- the journal says who is alive now, and whom each live node holds in its active view. No change in it is of a node
 -- that was never born
 pub record TellsViews (c : WorldState) : Type 0 where
   pub live : (a : ℕ) → Live c.journal (length c.journal) a ↔ ((p : PeerState) × LivesAs c.net a p)
   pub held : (a b : ℕ) (p : PeerState)
-      → LivesAs c.net a p → (Has p.node.views.active b ↔ Held c.journal (length c.journal) a b)
+      → LivesAs c.net a p → (Has p.hyparview.views.active b ↔ HasActive c.journal (length c.journal) a b)
   pub unborn : (a : ℕ) (change : Change)
       → map.get c.net.nodes a ≡ None → Has (changes_of c.journal) change → node_of change ≢ a
 

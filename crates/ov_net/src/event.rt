@@ -17,7 +17,7 @@ pub enum Event {
     /// A node crashes, for good.
     Crash(NodeId),
     /// The first node is told that the second one crashed.
-    Report(NodeId, NodeId),
+    CrashReport(NodeId, NodeId),
     /// A node starts a shuffle.
     Shuffle(NodeId),
     /// A node broadcasts a payload of at most 1,024 bytes.
@@ -39,7 +39,7 @@ impl Event {
             Event::Lose(place) => Event::Lose(*place),
             Event::Repeat(place) => Event::Repeat(*place),
             Event::Crash(node) => Event::Crash(*node),
-            Event::Report(node, crashed) => Event::Report(*node, *crashed),
+            Event::CrashReport(node, crashed) => Event::CrashReport(*node, *crashed),
             Event::Shuffle(node) => Event::Shuffle(*node),
             Event::Broadcast(node, payload) => Event::Broadcast(*node, payload.copy(alloc)?),
             Event::Timer(node, id) => Event::Timer(*node, *id),

@@ -3,7 +3,7 @@ ghost use Rattle.ov_net.specs.Code.Refusals.{fault_in, IsAbsent};
 ghost use Rattle.ov_net.specs.Net.{LivesAs, IsGone};
 ghost use Rattle.ov_net.specs.Refusals.{EventJudged, StepJudged, BirthLast, PlacesLast};
 ghost use Rattle.ov_net.specs.declared.event.Event.TheVariants.{Boot, Deliver, Lose, Crash};
-ghost use Rattle.ov_net.specs.declared.event.Event.TheVariants.{Report, Shuffle, Broadcast, Timer};
+ghost use Rattle.ov_net.specs.declared.event.Event.TheVariants.{CrashReport, Shuffle, Broadcast, Timer};
 
 use crate::event::Event;
 use crate::fault::NetFault;
@@ -35,7 +35,7 @@ impl World {
             Event::Lose(place) => self.judge_place(*place),
             Event::Repeat(place) => self.judge_deliver(*place),
             Event::Crash(node) => self.judge_crash(*node),
-            Event::Report(node, crashed) => self.judge_report(*node, *crashed),
+            Event::CrashReport(node, crashed) => self.judge_crash_report(*node, *crashed),
             Event::Shuffle(node) => self.judge_shuffle(*node),
             Event::Broadcast(node, payload) => self.judge_broadcast(*node, payload.as_slice()),
             Event::Timer(node, id) => self.judge_timer(*node, *id),
@@ -123,8 +123,8 @@ impl World {
 
     /// The first applicable refusal of a crash report.
     #[tactic(auto, using(crate::proofs::Steps::Refusing::live_then, crate::proofs::Steps::Refusing::absent_then))]
-    fn judge_report(&self, node: NodeId, crashed: NodeId) -> Result<(), NetFault>
-        ensures { EventJudged self.now.net (Report node crashed) (fault_in result) }
+    fn judge_crash_report(&self, node: NodeId, crashed: NodeId) -> Result<(), NetFault>
+        ensures { EventJudged self.now.net (CrashReport node crashed) (fault_in result) }
     {
         self.live_or_fault(node)?;
         match self.nodes.get(crashed) {

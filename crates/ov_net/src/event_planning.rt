@@ -6,7 +6,7 @@ ghost use Rattle.ov_net.specs.Code.Effects.{AreEffects, HaveRoom, SendFew};
 ghost use Rattle.ov_net.specs.Net.{LivesAs, IsGone};
 ghost use Rattle.ov_net.specs.Refusals.{MayHappen, IsBorn, MayBroadcast, HasTimer};
 ghost use Rattle.ov_net.specs.declared.event.Event.TheVariants.{Boot, Deliver, Lose, Repeat, Crash};
-ghost use Rattle.ov_net.specs.declared.event.Event.TheVariants.{Report, Shuffle, Broadcast, Timer};
+ghost use Rattle.ov_net.specs.declared.event.Event.TheVariants.{CrashReport, Shuffle, Broadcast, Timer};
 
 use crate::effects::{Effects, NodeChange};
 use crate::event::Event;
@@ -32,7 +32,9 @@ impl World {
             Event::Lose(place) => self.effects_of_lose(*place),
             Event::Repeat(place) => self.effects_of_repeat(*place),
             Event::Crash(node) => self.effects_of_crash(*node),
-            Event::Report(node, crashed) => self.effects_of_report(*node, *crashed, words),
+            Event::CrashReport(node, crashed) => self.effects_of_crash_report(
+                *node, *crashed, words,
+            ),
             Event::Shuffle(node) => self.effects_of_shuffle(*node, words),
             Event::Broadcast(node, payload) => self.effects_of_broadcast(*node, payload, words),
             Event::Timer(node, id) => self.effects_of_timer(*node, *id, words),
@@ -153,7 +155,7 @@ impl World {
     }
 
     /// The effects of a crash report: a live node is told that another node crashed.
-    fn effects_of_report(
+    fn effects_of_crash_report(
         &self,
         node: NodeId,
         crashed: NodeId,
@@ -162,11 +164,18 @@ impl World {
         requires born { IsBorn self.now.net node }
         requires live { ¬ IsGone self.now.net node }
         requires gone { IsGone self.now.net crashed }
-        ensures effects { IfOk result (AreEffects self.now.net (Report node crashed) words.now) }
+        ensures effects { IfOk result (AreEffects self.now.net (CrashReport node crashed) words.now) }
         ensures few { IfOk result SendFew }
     {
         let peer = self.live_peer(node);
-        effects_of_input(self.alloc, node, None, peer, Input::Report(crashed), words)
+        effects_of_input(
+            self.alloc,
+            node,
+            None,
+            peer,
+            Input::CrashReport(crashed),
+            words,
+        )
     }
 
     /// The effects of a shuffle: a live node starts one.

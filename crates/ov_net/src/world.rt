@@ -8,7 +8,7 @@ ghost use Rattle.ov_net.specs.Limits.{most_packets, most_entries};
 ghost use Rattle.ov_net.specs.Net.{LivesAs};
 ghost use Rattle.ov_net.specs.NetStep.{NetStep};
 ghost use Rattle.ov_net.specs.Refusals.{MayHappen, IsBorn, IsRefusal};
-ghost use Rattle.ov_net.specs.World.{Stands, opening};
+ghost use Rattle.ov_net.specs.World.{Stands, opening_world};
 
 use crate::effects::{Effects, NodeChange};
 use crate::event::Event;
@@ -61,7 +61,7 @@ impl Model for World {
 impl World {
     /// The world in which nothing has happened. Its nodes will have these parameters. Nothing is allocated.
     pub fn new(alloc: Global, params: Params) -> World
-        ensures { result ≡ opening params }
+        ensures { result ≡ opening_world params }
     {
         World {
             alloc,

@@ -31,8 +31,8 @@ within (x ∷ xs) ys all s t apart p q =
 
 -- a node has no more neighbours than active members
 pub neighbours_fit : (p : PeerState) → IsPeer p → AreBranches p.tree.branches
-    → length p.tree.branches.eager + length p.tree.branches.lazy ≤ length p.node.views.active
+    → length p.tree.branches.eager + length p.tree.branches.lazy ≤ length p.hyparview.views.active
 neighbours_fit p w b =
-    within p.tree.branches.eager p.tree.branches.lazy p.node.views.active b.eager_set b.lazy_set b.apart
+    within p.tree.branches.eager p.tree.branches.lazy p.hyparview.views.active b.eager_set b.lazy_set b.apart
     (λ z h. sym (w.neighbours z) ∙ or_left _ _ h)
     (λ z h. sym (w.neighbours z) ∙ or_right (has p.tree.branches.eager z) _ h)

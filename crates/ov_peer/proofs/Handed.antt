@@ -4,52 +4,52 @@ use Rattle.ov_wire.specs.declared.message.Body.{Body}
 use Rattle.ov_words.specs.Pick.{Drawn}
 use Rattle.ov_views.specs.ViewsState.{ViewsState}
 use Rattle.ov_views.specs.NeighborRows.{AttemptState}
-use Rattle.ov_views.specs.Allowed.{Node, Allowed, receives}
+use Rattle.ov_views.specs.Allowed.{HyParViewState, Allowed, hears}
 use Rattle.ov_views.specs.declared.moves.Moves.{Moves}
 
-hears : {E : Type 0} (n : Node) (from : ℕ) (body said : Body) (words left : List ℕ) (before after : Node → Node)
-    (r : Result Moves E) → body ≡ said
-    → IfOk r (λ m. Drawn words left (λ cs. (k : Node)
-    → Allowed (before k) (receives from said) cs (after k) m.changes.items m.sends.items))
-    → IfOk r (λ m. Drawn words left (λ cs. Allowed (before n) (receives from body) cs (after n) m.changes.items
+heard : {E : Type 0} (n : HyParViewState) (from : ℕ) (body said : Body) (words left : List ℕ)
+    (before after : HyParViewState → HyParViewState) (r : Result Moves E) → body ≡ said
+    → IfOk r (λ m. Drawn words left (λ cs. (k : HyParViewState)
+    → Allowed (before k) (hears from said) cs (after k) m.changes.items m.sends.items))
+    → IfOk r (λ m. Drawn words left (λ cs. Allowed (before n) (hears from body) cs (after n) m.changes.items
     m.sends.items))
-hears n from body said words left before after (Ok m) is h =
-    let P : Body → Type 0 = λ b. Allowed (before n) (receives from b) h.0 (after n) m.changes.items m.sends.items in
+heard n from body said words left before after (Ok m) is h =
+    let P : Body → Type 0 = λ b. Allowed (before n) (hears from b) h.0 (after n) m.changes.items m.sends.items in
     (h.0, h.1, subst P (sym is) (h.2 n))
-hears n from body said words left before after (Err e) is h = tt
+heard n from body said words left before after (Err e) is h = tt
 
 -- of a handler that is handed the views
 pub with_views : {E : Type 0} (v w : ViewsState) (a : AttemptState) (sent : List ℕ) (from : ℕ) (body said : Body)
     (words left : List ℕ) (r : Result Moves E) → body ≡ said
-    → IfOk r (λ m. Drawn words left (λ cs. (k : Node)
-    → Allowed (record k { views = v }) (receives from said) cs (record k { views = w }) m.changes.items
+    → IfOk r (λ m. Drawn words left (λ cs. (k : HyParViewState)
+    → Allowed (record k { views = v }) (hears from said) cs (record k { views = w }) m.changes.items
     m.sends.items))
-    → IfOk r (λ m. Drawn words left (λ cs. Allowed (record { views = v; attempt = a; sent = sent }) (receives from body)
+    → IfOk r (λ m. Drawn words left (λ cs. Allowed (record { views = v; attempt = a; sent = sent }) (hears from body)
     cs (record { views = w; attempt = a; sent = sent }) m.changes.items m.sends.items))
 with_views v w a sent from body said words left r =
-    hears (record { views = v; attempt = a; sent = sent }) from body said words left (λ k. record k { views = v })
+    heard (record { views = v; attempt = a; sent = sent }) from body said words left (λ k. record k { views = v })
     (λ k. record k { views = w }) r
 
 -- of one that is handed the attempt too
 pub with_attempt : {E : Type 0} (v w : ViewsState) (a b : AttemptState) (sent : List ℕ) (from : ℕ) (body said : Body)
     (words left : List ℕ) (r : Result Moves E) → body ≡ said
-    → IfOk r (λ m. Drawn words left (λ cs. (k : Node)
-    → Allowed (record k { views = v; attempt = a }) (receives from said) cs (record k { views = w; attempt = b })
+    → IfOk r (λ m. Drawn words left (λ cs. (k : HyParViewState)
+    → Allowed (record k { views = v; attempt = a }) (hears from said) cs (record k { views = w; attempt = b })
     m.changes.items m.sends.items))
-    → IfOk r (λ m. Drawn words left (λ cs. Allowed (record { views = v; attempt = a; sent = sent }) (receives from body)
+    → IfOk r (λ m. Drawn words left (λ cs. Allowed (record { views = v; attempt = a; sent = sent }) (hears from body)
     cs (record { views = w; attempt = b; sent = sent }) m.changes.items m.sends.items))
 with_attempt v w a b sent from body said words left r =
-    hears (record { views = v; attempt = a; sent = sent }) from body said words left
+    heard (record { views = v; attempt = a; sent = sent }) from body said words left
     (λ k. record k { views = v; attempt = a }) (λ k. record k { views = w; attempt = b }) r
 
 -- of one that is handed the list of the last shuffle too
 pub with_sent : {E : Type 0} (v w : ViewsState) (a : AttemptState) (sent : List ℕ) (from : ℕ) (body said : Body)
     (words left : List ℕ) (r : Result Moves E) → body ≡ said
-    → IfOk r (λ m. Drawn words left (λ cs. (k : Node)
-    → Allowed (record k { views = v; sent = sent }) (receives from said) cs (record k { views = w; sent = sent })
+    → IfOk r (λ m. Drawn words left (λ cs. (k : HyParViewState)
+    → Allowed (record k { views = v; sent = sent }) (hears from said) cs (record k { views = w; sent = sent })
     m.changes.items m.sends.items))
-    → IfOk r (λ m. Drawn words left (λ cs. Allowed (record { views = v; attempt = a; sent = sent }) (receives from body)
+    → IfOk r (λ m. Drawn words left (λ cs. Allowed (record { views = v; attempt = a; sent = sent }) (hears from body)
     cs (record { views = w; attempt = a; sent = sent }) m.changes.items m.sends.items))
 with_sent v w a sent from body said words left r =
-    hears (record { views = v; attempt = a; sent = sent }) from body said words left
+    heard (record { views = v; attempt = a; sent = sent }) from body said words left
     (λ k. record k { views = v; sent = sent }) (λ k. record k { views = w; sent = sent }) r

@@ -10,7 +10,7 @@ use Rattle.ov_wire.specs.declared.message.Body.TheVariants.{NeighborReply, Disco
 use Rattle.ov_wire.specs.declared.message.Body.TheVariants.{Gossip, IHave, Graft, Prune}
 use Rattle.ov_views.specs.ViewsState.{ViewsState}
 use Rattle.ov_views.specs.NeighborRows.{AttemptState}
-use Rattle.ov_views.specs.Allowed.{Node}
+use Rattle.ov_views.specs.Allowed.{HyParViewState}
 use Rattle.ov_views.specs.Changes.{after_changes}
 use Rattle.ov_views.specs.declared.change.ViewChange.{ViewChange}
 use Rattle.ov_views.specs.declared.change.ViewChange.TheVariants.{Up, Down}
@@ -25,7 +25,7 @@ use Rattle.ov_peer.proofs.Linking.{linked_up, linked_down}
 -- a node of these parts
 abbrev pub peer_of : ViewsState → AttemptState → List ℕ → PlumState → PeerState
 peer_of views attempt sent tree =
-    record { node = record { views = views; attempt = attempt; sent = sent }; tree = tree }
+    record { hyparview = record { views = views; attempt = attempt; sent = sent }; tree = tree }
 
 pub told_me : (t : PlumState) (changes : List ViewChange) (u : PlumState) → Told t changes u → u.me ≡ t.me
 told_me t [] u h = ap (λ (s : PlumState). s.me) h
@@ -46,8 +46,9 @@ told_linked t (Down y ∷ changes) u active before h x =
     ∙ ap (λ b. b && not (eqb y z)) (before z) ∙ sym (has_without y active z)) h.2 x
 
 -- the neighbours of a node whose views changed and whose tree heard so are its active members
-pub peer_told : (n m : Node) (t u : PlumState) (changes : List ViewChange) → IsPeer (record { node = n; tree = t })
-    → Tracks n.views changes m.views → Told t changes u → IsPeer (record { node = m; tree = u })
+pub peer_told : (n m : HyParViewState) (t u : PlumState) (changes : List ViewChange)
+    → IsPeer (record { hyparview = n; tree = t }) → Tracks n.views changes m.views → Told t changes u
+    → IsPeer (record { hyparview = m; tree = u })
 peer_told n m t u changes w tracks told = record {
   me = told_me t changes u told ∙ w.me ∙ sym tracks.me;
   neighbours = λ x. told_linked t changes u n.views.active w.neighbours told x ∙ ap (λ a. has a x) (sym tracks.active);

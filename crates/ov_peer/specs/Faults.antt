@@ -9,7 +9,7 @@ use Rattle.ov_peer.specs.PeerState.{PeerState}
 use Rattle.ov_peer.specs.declared.fault.PeerFault.{PeerFault}
 use Rattle.ov_peer.specs.declared.fault.PeerFault.TheVariants.{NoTimer, PayloadTooLong, TooManyMessages, OutOfMemory}
 use Rattle.ov_peer.specs.declared.input.Input.{Input}
-use Rattle.ov_peer.specs.declared.input.Input.TheVariants.{Boot, Receive, Report, Broadcast, Timer}
+use Rattle.ov_peer.specs.declared.input.Input.TheVariants.{Boot, Receive, CrashReport, Broadcast, Timer}
 use Rattle.ov_peer.specs.declared.input.Input.TheVariants as input
 
 -- The fault of an input, if it has one. Of a broadcast: the payload has more than 1,024 bytes; else the node has made
@@ -17,7 +17,7 @@ use Rattle.ov_peer.specs.declared.input.Input.TheVariants as input
 abbrev pub fault_of : PeerState → Input → Option PeerFault
 fault_of p (Boot contact) = None
 fault_of p (Receive message) = None
-fault_of p (Report crashed) = None
+fault_of p (CrashReport crashed) = None
 fault_of p input.Shuffle = None
 fault_of p (Broadcast payload) =
     if nat_lt most_payload (length payload) then Some PayloadTooLong
@@ -39,7 +39,7 @@ number_of OutOfMemory = 99
 abbrev pub IsInputInRange : Input → Type 0
 IsInputInRange (Boot contact) = Unit {0}
 IsInputInRange (Receive message) = AreInRange message
-IsInputInRange (Report crashed) = Unit {0}
+IsInputInRange (CrashReport crashed) = Unit {0}
 IsInputInRange input.Shuffle = Unit {0}
 IsInputInRange (Broadcast payload) = Unit {0}
 IsInputInRange (Timer id) = Unit {0}

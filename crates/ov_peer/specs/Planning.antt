@@ -1,7 +1,7 @@
 -- Steps that are planned and then applied. That a step has these two halves is chosen here.
 use Rattle.std.specs.Prelude.{List}
 use Rattle.ov_words.specs.Pick.{Choice}
-use Rattle.ov_views.specs.Allowed.{Node}
+use Rattle.ov_views.specs.Allowed.{HyParViewState}
 use Rattle.ov_plum.specs.PlumChange.{plum_after}
 use Rattle.ov_peer.specs.PeerState.{PeerState}
 use Rattle.ov_peer.specs.Step.{PartsStep, HearsChanges}
@@ -11,15 +11,18 @@ use Rattle.ov_peer.specs.declared.plan.Plan.{Plan}
 use Rattle.ov_peer.specs.declared.plan.HyParViewChange.{HyParViewChange}
 use Rattle.ov_peer.specs.declared.plan.HyParViewChange.TheVariants.{Nothing, ViewsAndAttempt, Shuffle}
 
--- The views, the attempt and the last shuffle's list of a node after a plan's change of them.
-abbrev pub node_after : Node → HyParViewChange → Node
-node_after n Nothing = n
-node_after n (ViewsAndAttempt next) = record n { views = next.value.views; attempt = next.value.attempt }
-node_after n (Shuffle list) = record n { sent = list }
+-- HyParView's part of a node after a plan's change of it.
+abbrev pub hyparview_after : HyParViewState → HyParViewChange → HyParViewState
+hyparview_after n Nothing = n
+hyparview_after n (ViewsAndAttempt next) = record n { views = next.value.views; attempt = next.value.attempt }
+hyparview_after n (Shuffle list) = record n { sent = list }
 
 -- The node p after the plan's changes of its parts. Its tree has not heard yet how the active view changed.
 abbrev pub after_plan : PeerState → Plan → PeerState
-after_plan p plan = record { node = node_after p.node plan.views_change; tree = plum_after p.tree plan.plum_change }
+after_plan p plan = record {
+  hyparview = hyparview_after p.hyparview plan.views_change;
+  tree = plum_after p.tree plan.plum_change;
+}
 
 -- The node p follows the plan and is q then: its parts change as planned, and its tree hears how the active view
 -- changed.

@@ -1,7 +1,7 @@
 ghost use Rattle.std.specs.Prelude.{◌≡◌, ◌≤◌, ◌+◌, length, IfOk, OnErr};
 ghost use Rattle.ov_wire.specs.Messages.{AreInRange};
 ghost use Rattle.ov_words.specs.Pick.{Drawn};
-ghost use Rattle.ov_views.specs.Allowed.{Allowed, receives};
+ghost use Rattle.ov_views.specs.Allowed.{Allowed, hears};
 ghost use Rattle.ov_peer.specs.Code.Messages.{AreSendable};
 ghost use Rattle.ov_peer.specs.Code.GoodPlan.{most_words};
 
@@ -26,7 +26,7 @@ pub(crate) fn hear(
     requires words { most_words ≤ length draws.old }
     requires range { AreInRange (record { from = from; body = body.now }) }
     ensures allowed { IfOk result (λ m. Drawn draws.old draws.new (λ choices. Allowed
-        (record { views = views.old; attempt = attempt.old; sent = sent.now }) (receives from body.now) choices
+        (record { views = views.old; attempt = attempt.old; sent = sent.now }) (hears from body.now) choices
         (record { views = views.new; attempt = attempt.new; sent = sent.now }) m.changes.items m.sends.items)) }
     ensures words { length draws.old ≤ length draws.new + most_words }
     ensures sendable { IfOk result (λ m. AreSendable m.sends.items) }

@@ -10,7 +10,7 @@ pub enum Input {
     /// A message comes.
     Receive(Message),
     /// A node is reported to have crashed.
-    Report(NodeId),
+    CrashReport(NodeId),
     /// The node is to start a shuffle.
     Shuffle,
     /// The node is to broadcast a payload.

@@ -1,9 +1,11 @@
-ghost use Rattle.std.specs.Prelude.{◌≡◌, ◌≤◌, ℕ, List, length, vec_len, None, IfOk, IfErr, OnOk, OnErr};
+ghost use Rattle.std.specs.Prelude.{◌≡◌, ◌≤◌, ℕ, List, length, vec_len, None, false, IfOk, IfErr, IsOk};
+ghost use Rattle.std.specs.Prelude.{OnOk, OnErr};
 ghost use Rattle.std.specs.FinSet as set;
 ghost use Rattle.ov_ids.specs.FaultOrder.{IsRefusedBy};
 ghost use Rattle.ov_wire.specs.Messages.{AreInRange, AreSendsInRange};
 ghost use Rattle.ov_views.specs.Changes.{after_changes};
 ghost use Rattle.ov_views.specs.ViewsState.{AreViews};
+ghost use Rattle.ov_plum.specs.PlumChange.{may_allocate};
 ghost use Rattle.ov_plum.specs.PlumState.{AreBranches, IsPlum};
 ghost use Rattle.ov_peer.specs.Code.GoodPlan.{IsGoodPlan, most_words};
 ghost use Rattle.ov_peer.specs.Code.Messages.{IsOfHyParView};
@@ -14,7 +16,7 @@ ghost use Rattle.ov_peer.specs.Planning.{Plans, IsPlanFor, Follows, output_of};
 ghost use Rattle.ov_peer.specs.Step.{PeerStep, IsPeerStep};
 ghost use Rattle.ov_peer.specs.declared.fault.PeerFault.TheVariants.{OutOfMemory as out_of_memory};
 ghost use Rattle.ov_peer.specs.declared.input.Input.TheVariants as input;
-ghost use Rattle.ov_peer.specs.declared.input.Input.TheVariants.{Boot, Receive, Report, Broadcast, Timer};
+ghost use Rattle.ov_peer.specs.declared.input.Input.TheVariants.{Boot, Receive, CrashReport, Broadcast, Timer};
 
 use crate::dispatch::hear;
 use crate::fault::PeerFault;
@@ -54,12 +56,12 @@ impl Model for Peer {
     ghost coded = { peer_code };
 
     ghost view = { λ a. record {
-      node = record { views = a.views; attempt = a.attempt; sent = a.sent };
+      hyparview = record { views = a.views; attempt = a.attempt; sent = a.sent };
       tree = a.plum;
     } };
 
     ghost invariant = { λ a. IsPeer (record {
-      node = record { views = a.views; attempt = a.attempt; sent = a.sent };
+      hyparview = record { views = a.views; attempt = a.attempt; sent = a.sent };
       tree = a.plum;
     }) };
 }
@@ -93,8 +95,8 @@ impl Peer {
 
     /// The active members, ascending.
     pub fn active(&self) -> &[NodeId]
-        ensures value { result.now ≡ self.now.node.views.active }
-        ensures views { AreViews self.now.node.views }
+        ensures value { result.now ≡ self.now.hyparview.views.active }
+        ensures views { AreViews self.now.hyparview.views }
         ensures whole { IsPeer self.now }
     {
         self.views.active()
@@ -102,8 +104,8 @@ impl Peer {
 
     /// The passive members, ascending.
     pub fn passive(&self) -> &[NodeId]
-        ensures value { result.now ≡ self.now.node.views.passive }
-        ensures views { AreViews self.now.node.views }
+        ensures value { result.now ≡ self.now.hyparview.views.passive }
+        ensures views { AreViews self.now.hyparview.views }
     {
         self.views.passive()
     }
@@ -171,7 +173,7 @@ impl Peer {
         match input {
             Input::Boot(contact) => Ok(self.boot(contact)?),
             Input::Receive(message) => Ok(self.receive(message, draws)?),
-            Input::Report(crashed) => Ok(self.report(crashed, draws)?),
+            Input::CrashReport(crashed) => Ok(self.crash_report(crashed, draws)?),
             Input::Shuffle => Ok(self.shuffle(draws)?),
             Input::Broadcast(payload) => self.broadcast(payload),
             Input::Timer(id) => self.timer(id),
@@ -180,13 +182,15 @@ impl Peer {
 
     /// Follows a plan, which must be one for the node as it now is. So the node takes a step, and what is returned is
     /// what this step sends, changes and delivers: what the plan says. It is the step that was planned if the node has
-    /// not changed since. Out of memory (99), the node is as it was.
+    /// not changed since. Out of memory (99), the node is as it was. That happens only where the plan's change of the
+    /// tree may allocate.
     pub fn apply(&mut self, plan: Plan) -> Result<Output, OutOfMemory>
         requires { IsPlanFor self.old plan }
         ensures follows { OnOk result (Follows self.old plan self.new) }
         ensures step { IfOk result (λ o. IsPeerStep self.old self.new o.sends.items o.changes.items o.delivered) }
         ensures output { IfOk result (λ o. o ≡ output_of plan) }
         ensures err { OnErr result (self.new ≡ self.old) }
+        ensures room { may_allocate plan.plum_change ≡ false → IsOk result }
     {
         let Plan {
             sends,
@@ -218,8 +222,8 @@ impl Peer {
         requires { IsInputInRange input }
         ensures allowed { IfOk result (λ o. DrawnFrom words.now
             (λ choices. PeerStep self.old input choices self.new o.sends.items o.changes.items o.delivered)) }
-        ensures told { IfOk result (λ o. self.new.node.views.active
-            ≡ after_changes o.changes.items self.old.node.views.active) }
+        ensures told { IfOk result (λ o. self.new.hyparview.views.active
+            ≡ after_changes o.changes.items self.old.hyparview.views.active) }
         ensures few { IfOk result (λ o. vec_len o.sends ≤ most_sends) }
         ensures ranges { IfOk result (λ o. AreSendsInRange o.sends.items) }
         ensures judged { IfOk result (λ _. IsFaultOf self.old input None) }
@@ -255,7 +259,8 @@ impl Peer {
 
     /// The node's views and attempt, which a handler is to change.
     fn next_views(&self) -> Result<NextViews, OutOfMemory>
-        ensures { IfOk result (λ n. n ≡ record { views = self.now.node.views; attempt = self.now.node.attempt }) }
+        ensures { IfOk result (λ n. n
+            ≡ record { views = self.now.hyparview.views; attempt = self.now.hyparview.attempt }) }
     {
         let views = self.views.copy();
         let attempt = self.attempt.copy()?;
@@ -263,15 +268,21 @@ impl Peer {
     }
 
     /// A node is reported to have crashed.
-    fn report(&self, crashed: NodeId, draws: &mut Draws<'_>) -> Result<Plan, OutOfMemory>
+    fn crash_report(&self, crashed: NodeId, draws: &mut Draws<'_>) -> Result<Plan, OutOfMemory>
         requires { most_words ≤ length draws.old }
-        ensures { IfOk result (IsGoodPlan self.now (Report crashed) draws.old draws.new) }
+        ensures { IfOk result (IsGoodPlan self.now (CrashReport crashed) draws.old draws.new) }
     {
         let NextViews {
             mut views,
             mut attempt,
         } = self.next_views()?;
-        let moves = ov_neighbor::on_report(self.alloc, &mut views, &mut attempt, draws, crashed)?;
+        let moves = ov_neighbor::on_crash_report(
+            self.alloc,
+            &mut views,
+            &mut attempt,
+            draws,
+            crashed,
+        )?;
         Ok(views_plan(self.alloc, moves, NextViews { views, attempt })?)
     }
 

@@ -1,7 +1,7 @@
 ghost use Rattle.std.specs.Prelude.{◌≡◌, [], None, IfOk};
-ghost use Rattle.ov_views.specs.Allowed.{Node};
+ghost use Rattle.ov_views.specs.Allowed.{HyParViewState};
 ghost use Rattle.ov_peer.specs.Code.MovesPlan.{IsPlanOfMoves};
-ghost use Rattle.ov_peer.specs.Planning.{node_after};
+ghost use Rattle.ov_peer.specs.Planning.{hyparview_after};
 ghost use Rattle.ov_peer.specs.Step.{delivery_at};
 ghost use Rattle.ov_peer.specs.declared.plan.HyParViewChange.TheVariants.{Nothing};
 
@@ -47,7 +47,7 @@ pub struct Plan {
 impl Plan {
     /// The plan of a step of HyParView's part alone.
     pub(crate) fn of_moves(moves: Moves, views_change: HyParViewChange) -> Plan
-        ensures { (n : Node) → IsPlanOfMoves moves n (node_after n views_change) result }
+        ensures { (n : HyParViewState) → IsPlanOfMoves moves n (hyparview_after n views_change) result }
     {
         Plan {
             sends: moves.sends,
@@ -83,7 +83,7 @@ impl Plan {
 
 /// The plan of a step of HyParView's part alone, after which the node has these views and this attempt.
 pub(crate) fn views_plan(alloc: Global, moves: Moves, next: NextViews) -> Result<Plan, OutOfMemory>
-    ensures { IfOk result (λ g. (n : Node)
+    ensures { IfOk result (λ g. (n : HyParViewState)
         → IsPlanOfMoves moves n (record n { views = next.views; attempt = next.attempt }) g) }
 {
     let next = Box::new(alloc, next)?;
@@ -112,7 +112,7 @@ pub(crate) fn follow(
     views_change: HyParViewChange,
 )
     ensures { record { views = views.new; attempt = attempt.new; sent = sent.new }
-        ≡ node_after (record { views = views.old; attempt = attempt.old; sent = sent.old }) views_change }
+        ≡ hyparview_after (record { views = views.old; attempt = attempt.old; sent = sent.old }) views_change }
 {
     match views_change {
         HyParViewChange::Nothing => {}

@@ -1,5 +1,5 @@
 ghost use Rattle.std.specs.Prelude.{◌≡◌, ◌≤◌, ◌+◌, [], length, IfOk};
-ghost use Rattle.ov_views.specs.Allowed.{Node, Allowed, boots};
+ghost use Rattle.ov_views.specs.Allowed.{HyParViewState, Allowed, boots};
 ghost use Rattle.ov_plum.specs.PlumState.{most_neighbours};
 ghost use Rattle.ov_peer.specs.Code.Messages.{AreSendable};
 ghost use Rattle.ov_peer.specs.Step.{Told};
@@ -32,7 +32,8 @@ pub(crate) fn joins(
     me: NodeId,
     contact: Option<NodeId>,
 ) -> Result<Vec<(NodeId, Message)>, OutOfMemory>
-    ensures allowed { IfOk result (λ v. (n : Node) → n.views.me ≡ me → Allowed n (boots contact) [] n [] v.items) }
+    ensures allowed { IfOk result (λ v. (n : HyParViewState) → n.views.me ≡ me
+        → Allowed n (boots contact) [] n [] v.items) }
     ensures sendable { IfOk result (λ v. AreSendable v.items) }
 {
     let mut sends = Vec::new(alloc);

@@ -119,7 +119,7 @@ pub data PlumInput : Type 0 where
   goes_up : ℕ → PlumInput
   goes_down : ℕ → PlumInput
 
--- What is kept before, what comes, what is kept after, what the node sends to whom, in order, and what it delivers. A
+-- The step from t to u that is allowed at an input, with what is sent to whom, in order, and what is delivered. A
 -- message whose sender is the node itself does nothing
 abbrev pub AllowedTree : PlumState → PlumInput → PlumState → List (ℕ × Message) → Option Delivered → Type 0
 AllowedTree t (broadcasts payload) u sends delivery = AllowedBroadcast t payload u sends delivery
@@ -129,7 +129,7 @@ AllowedTree t (fires id) u sends delivery = AllowedTimer t id u sends delivery
 AllowedTree t (goes_up x) u sends delivery = AllowedUp t x u × IsQuiet sends delivery
 AllowedTree t (goes_down x) u sends delivery = AllowedDown t x u × IsQuiet sends delivery
 
--- some step leads from t to u: something comes for which u is allowed, with what is then sent and delivered
+-- some input leads from t to u, with what is then sent and delivered
 pub record HasPlumStep (t u : PlumState) : Type 0 where
   pub input : PlumInput
   pub sends : List (ℕ × Message)

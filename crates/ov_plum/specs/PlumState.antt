@@ -77,7 +77,7 @@ newborn_plum me = record {
   made = 0;
 }
 
--- What a node's part of Plumtree always keeps
+-- the invariant of a node's part of Plumtree
 pub record IsPlum (t : PlumState) : Type 0 where
   pub branches : AreBranches t.branches
   pub notes : AreNotes t.notes t.running

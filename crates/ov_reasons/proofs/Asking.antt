@@ -3,13 +3,13 @@ use Rattle.std.proofs.Common.{◌≡◌, ◌∙◌, ◌↔◌, ℕ, Bool, false,
 use Rattle.std.proofs.Common.{refl, sym, ap, subst, inl, inr}
 use Rattle.std.proofs.lemmas.Bool.{both_ways}
 use Rattle.ov_ids.specs.Members.{Has}
-use Rattle.ov_reasons.specs.Arguments.{IsFirst, IsHelpOption, HasHelpOption, SaysWrong}
+use Rattle.ov_reasons.specs.Arguments.{IsFirstArgument, IsHelpOption, HasHelpOption, SaysWrong}
 
--- the first argument is the word that is asked for, exactly where this test says so
-pub first_tested : (b : Bool) (word said first : List ℕ) (args rest : List (List ℕ))
-    → (IsTrue b ↔ said ≡ word) → said ≡ first → args ≡ first ∷ rest → IsTrue b ↔ IsFirst word args
-first_tested b word said first args rest tested same e = (
-  (λ h. (rest, e ∙ ap (λ w. w ∷ rest) (sym same ∙ tested.0 h))),
+-- the first argument is the one that is asked for, exactly where this test says so
+pub first_tested : (b : Bool) (arg said first : List ℕ) (args rest : List (List ℕ))
+    → (IsTrue b ↔ said ≡ arg) → said ≡ first → args ≡ first ∷ rest → IsTrue b ↔ IsFirstArgument arg args
+first_tested b arg said first args rest tested same e = (
+  (λ h. (rest, e ∙ ap (λ a. a ∷ rest) (sym same ∙ tested.0 h))),
   (λ is. tested.1 (same ∙ ap (λ xs. get_or xs 0 first) (sym e ∙ is.1))),
 )
 
@@ -18,8 +18,8 @@ first_tested b word said first args rest tested same e = (
 -- an option asks for help behind those before it
 abbrev HelpsBehind : List (List ℕ) → List (List ℕ) → Type 0
 HelpsBehind args before =
-    (word : List ℕ) × (rest : List (List ℕ)) × (args ≡ before ++ word ∷ rest)
-    × IsHelpOption word × (¬ Has before (codes "--"))
+    (arg : List ℕ) × (rest : List (List ℕ)) × (args ≡ before ++ arg ∷ rest)
+    × IsHelpOption arg × (¬ Has before (codes "--"))
 
 module _ (first : List ℕ) (rest : List (List ℕ)) where
   -- the first is such an option
@@ -63,9 +63,9 @@ found helps said first left rest args option same parted kept h =
     kept.0 (subst HasHelpOption (sym parted) (helps_here first rest (subst IsHelpOption same (option.0 h))))
 
 -- it does not: it is `--`, or passed over
-module _ (helps stops : Bool) (said word first : List ℕ) (left rest args : List (List ℕ))
-    (option : IsTrue helps ↔ IsHelpOption said) (end : IsTrue stops ↔ word ≡ codes "--")
-    (same : said ≡ first) (again : word ≡ first) (parted : left ≡ first ∷ rest)
+module _ (helps stops : Bool) (said text first : List ℕ) (left rest args : List (List ℕ))
+    (option : IsTrue helps ↔ IsHelpOption said) (end : IsTrue stops ↔ text ≡ codes "--")
+    (same : said ≡ first) (again : text ≡ first) (parted : left ≡ first ∷ rest)
     (kept : HasHelpOption left ↔ HasHelpOption args) where
   is_none : helps ≡ false → ¬ IsHelpOption first
   is_none none is = both_ways helps none (option.1 (subst IsHelpOption (sym same) is))

@@ -1,6 +1,6 @@
 -- The first id of a group that is at fault: the ids so far ascend, or belong.
 use Rattle.std.proofs.Common.{◌≡◌, ◌∙◌, ℕ, suc, ◌+◌, ◌<◌, ◌≤◌, List, [], ◌∷◌, ◌++◌, length, take, drop, get_or}
-use Rattle.std.proofs.Common.{◌≢◌, Option, Some, None, MatchOption, refl, sym, subst, ap, inl, inr, arith, append_assoc}
+use Rattle.std.proofs.Common.{◌≢◌, Option, Some, None, MatchOption, sym, subst, ap, inl, inr, arith, append_assoc}
 use Rattle.std.proofs.lemmas.List.{take_more, take_all}
 use Rattle.std.proofs.Math.Seq.{split_at}
 use Rattle.std.specs.List.{AllByRecursion}

@@ -1,3 +1,4 @@
 mod Adding
 mod Asking
 mod GroupFaults
+mod LineWords

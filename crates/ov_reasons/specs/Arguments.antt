@@ -4,27 +4,27 @@ use Rattle.std.specs.Prelude.{◌≡◌, ◌⊎◌, ℕ, List, [], ◌∷◌, �
 use Rattle.ov_ids.specs.Members.{Has}
 use Rattle.ov_reasons.specs.Paragraphs.{EndsWith}
 
--- the first argument is this word
-abbrev pub IsFirst : List ℕ → List (List ℕ) → Type 0
-IsFirst word args = (rest : List (List ℕ)) × (args ≡ word ∷ rest)
+-- the first argument is this one
+abbrev pub IsFirstArgument : List ℕ → List (List ℕ) → Type 0
+IsFirstArgument arg args = (rest : List (List ℕ)) × (args ≡ arg ∷ rest)
 
 -- the version is asked for: the first argument is `--version` or `-V`
 abbrev pub AsksVersion : List (List ℕ) → Type 0
-AsksVersion args = IsFirst (codes "--version") args ⊎ IsFirst (codes "-V") args
+AsksVersion args = IsFirstArgument (codes "--version") args ⊎ IsFirstArgument (codes "-V") args
 
 -- an argument is one of the options that ask for help
 abbrev pub IsHelpOption : List ℕ → Type 0
-IsHelpOption word = (word ≡ codes "--help") ⊎ (word ≡ codes "-h")
+IsHelpOption arg = (arg ≡ codes "--help") ⊎ (arg ≡ codes "-h")
 
 -- one of the arguments asks for help as an option: no `--` stands before it
 abbrev pub HasHelpOption : List (List ℕ) → Type 0
 HasHelpOption args =
-    (before : List (List ℕ)) × (word : List ℕ) × (rest : List (List ℕ)) × (args ≡ before ++ word ∷ rest)
-    × IsHelpOption word × (¬ Has before (codes "--"))
+    (before : List (List ℕ)) × (arg : List ℕ) × (rest : List (List ℕ)) × (args ≡ before ++ arg ∷ rest)
+    × IsHelpOption arg × (¬ Has before (codes "--"))
 
 -- help is asked for: the first argument is `help`, or an option asks for it
 abbrev pub AsksHelp : List (List ℕ) → Type 0
-AsksHelp args = IsFirst (codes "help") args ⊎ HasHelpOption args
+AsksHelp args = IsFirstArgument (codes "help") args ⊎ HasHelpOption args
 
 -- what is said of arguments that are wrong: it ends with a line feed. Where there are none, those that were given are
 -- no text

@@ -4,12 +4,15 @@ use Rattle.std.specs.Prelude.{◌≡◌, ◌≢◌, ◌⊎◌, ℕ, nat_eq, List
 use Rattle.std.specs.Prelude.{if◌then◌else◌}
 use Rattle.ov_ids.specs.Members.{Has, Ascends}
 use Rattle.ov_ids.specs.declared.id.MsgId.{MsgId}
+use Rattle.ov_wire.specs.Limits.{most_payload}
+use Rattle.ov_plum.specs.PlumState.{most_broadcasts}
 use Rattle.ov_net.specs.Journal.{Live}
+use Rattle.ov_net.specs.Limits.{most_world_nodes, most_packets, step_packets, most_entries}
 use Rattle.ov_net.specs.Net.{Net}
 use Rattle.ov_net.specs.Refusals.{IsBorn}
 use Rattle.ov_net.specs.World.{WorldState}
 use Rattle.ov_net.specs.declared.event.Event.{Event}
-use Rattle.ov_net.specs.declared.event.Event.TheVariants.{Boot, Deliver, Lose, Repeat, Crash, Report, Shuffle}
+use Rattle.ov_net.specs.declared.event.Event.TheVariants.{Boot, Deliver, Lose, Repeat, Crash, CrashReport, Shuffle}
 use Rattle.ov_net.specs.declared.event.Event.TheVariants.{Broadcast, Timer, Snapshot}
 use Rattle.ov_snap.specs.CoreState.{CoreState}
 use Rattle.ov_snap.specs.Refusals.{BeginJudged}
@@ -35,7 +38,7 @@ acting (Deliver i) = 0
 acting (Lose i) = 0
 acting (Repeat i) = 0
 acting (Crash a) = a
-acting (Report a crashed) = a
+acting (CrashReport a crashed) = a
 acting (Shuffle a) = a
 acting (Broadcast a payload) = a
 acting (Timer a id) = a
@@ -48,7 +51,7 @@ met event = acting event
 
 -- the node that is said to have crashed, and else the node that must live
 abbrev pub reported : Event → ℕ
-reported (Report a crashed) = crashed
+reported (CrashReport a crashed) = crashed
 reported event = met event
 
 -- the place of the packet that an event names, and 0 where it names none
@@ -71,7 +74,7 @@ timer_text event = codes "the timer does not run"
 -- the payload of an event is too long
 abbrev pub payload_text : Event → List ℕ
 payload_text (Broadcast a payload) =
-    codes "the payload has " ++ (decimal (length payload) ++ codes " bytes, and may have 1024")
+    codes "the payload has " ++ (decimal (length payload) ++ (codes " bytes, and may have " ++ decimal most_payload))
 payload_text event = codes "the payload is too long"
 
 -- there is no packet at this place of a bag of so many
@@ -79,24 +82,32 @@ abbrev pub no_packet_text : ℕ → ℕ → List ℕ
 no_packet_text place count =
     codes "no packet " ++ (decimal place ++ (codes "; packets are counted from 0, and the bag has " ++ decimal count))
 
+-- too few places are free in a bag of so many packets
+abbrev pub full_bag_text : ℕ → List ℕ
+full_bag_text count =
+    codes "the bag has " ++ (decimal count ++ (codes " packets, and " ++ (decimal step_packets
+    ++ (codes " of its " ++ (decimal most_packets ++ codes " places must be free")))))
+
+-- a node has made as many broadcasts as it may
+abbrev pub broadcasts_text : ℕ → List ℕ
+broadcasts_text a =
+    codes "node " ++ (decimal a ++ (codes " has made " ++ (decimal most_broadcasts
+    ++ codes " broadcasts, as many as it may")))
+
 -- what is told of an event that is refused with this number, but for 10
 abbrev pub event_text : WorldState → Event → ℕ → List ℕ
 event_text w e n =
     row n
     ((11, codes "node " ++ (decimal (acting e) ++ codes " was born before"))
     ∷ (12, codes "node " ++ (decimal (met e) ++ codes " crashed"))
-    ∷ (13, codes "256 nodes were born, as many as may be")
+    ∷ (13, decimal most_world_nodes ++ codes " nodes were born, as many as may be")
     ∷ (14, no_packet_text (place_of e) (length w.net.packets))
-    ∷ (
-      15,
-      codes "the bag has "
-          ++ (decimal (length w.net.packets) ++ codes " packets, and 64 of its 65536 places must be free"),
-    )
-    ∷ (16, codes "the journal has 65536 entries, as many as it may have")
+    ∷ (15, full_bag_text (length w.net.packets))
+    ∷ (16, codes "the journal has " ++ (decimal most_entries ++ codes " entries, as many as it may have"))
     ∷ (17, codes "node " ++ (decimal (reported e) ++ codes " did not crash"))
     ∷ (18, timer_text e)
     ∷ (19, payload_text e)
-    ∷ (20, codes "node " ++ (decimal (acting e) ++ codes " has made 4096 broadcasts, as many as it may"))
+    ∷ (20, broadcasts_text (acting e))
     ∷ (99, codes "out of memory")
     ∷ [])
     (codes "the event is refused")

@@ -5,8 +5,8 @@ ghost use Rattle.ov_reasons.specs.Code.Absent.{FindsAbsent};
 ghost use Rattle.ov_run.specs.declared.scenario.Look.TheVariants.{Show, Certificate};
 
 use crate::event_texts::{fixed, node_text};
-use crate::group_texts::fall_text;
-use crate::members::{first_fall, first_stranger};
+use crate::group_misfits::{first_fall, first_stranger};
+use crate::group_refusals::fall_text;
 use ov_ids::{NodeId, OutOfMemory};
 use ov_run::{Look, Subject};
 use ov_snap::{Core, CoreFault};

@@ -2,11 +2,11 @@ ghost use Rattle.std.specs.Prelude.{◌<◌, IfSome};
 
 use crate::line_form::{CREW, Kind};
 
-/// An option of a command: the command, the option, and the value that it takes, if it takes one.
+/// An option of a command: the command, the option as it is written, and the value that it takes, if it takes one.
 #[derive(Clone, Copy)]
-pub(crate) struct Choice(&'static str, &'static str, Option<Kind>);
+pub(crate) struct CommandOption(&'static str, &'static str, Option<Kind>);
 
-impl Choice {
+impl CommandOption {
     /// The command that takes the option.
     pub(crate) fn command(&self) -> &'static str {
         self.0
@@ -27,12 +27,12 @@ impl Choice {
 const OPTIONS: usize = 5;
 
 /// The options of all commands.
-pub(crate) static CHOICES: [Choice; OPTIONS] = [
-    Choice("run", "--explain", None),
-    Choice("analyse", "--group", Some(Kind::Ids)),
-    Choice("analyse", "--workers", Some(CREW)),
-    Choice("analyse", "--certificate", None),
-    Choice("analyse", "--progress", None),
+pub(crate) static COMMAND_OPTIONS: [CommandOption; OPTIONS] = [
+    CommandOption("run", "--explain", None),
+    CommandOption("analyse", "--group", Some(Kind::Ids)),
+    CommandOption("analyse", "--workers", Some(CREW)),
+    CommandOption("analyse", "--certificate", None),
+    CommandOption("analyse", "--progress", None),
 ];
 
 /// What is wrong with arguments.
@@ -43,20 +43,20 @@ pub(crate) enum Wrong<'a> {
     /// The command has no such option: the command, and the option.
     Unknown(&'a str, &'a str),
     /// The option stands twice.
-    Twice(Choice),
+    Twice(CommandOption),
     /// The option has no value, and takes one.
-    NoValue(Choice),
+    NoValue(CommandOption),
     /// The option does not take this value.
-    Value(Choice, &'a str),
+    Value(CommandOption, &'a str),
     /// The option has a value, and takes none.
-    SurplusValue(Choice),
+    SurplusValue(CommandOption),
     /// A file is named, and was named before.
     SecondFile(&'a str),
 }
 
 /// What is wrong with the arguments behind the program's name, if it is found.
 pub(crate) fn wrong_of(arguments: &[String]) -> Option<Wrong<'_>> {
-    let (command, words) = arguments.split_first()?;
+    let (command, rest) = arguments.split_first()?;
     let command = command.as_str();
     if command != "run" && command != "analyse" {
         return Some(Wrong::Command(command));
@@ -68,15 +68,15 @@ pub(crate) fn wrong_of(arguments: &[String]) -> Option<Wrong<'_>> {
         only_files: false,
         has_file: false,
     };
-    scan.wrong_of_words(words)
+    scan.wrong_of_rest(rest)
 }
 
-/// What the words so far say, as far as it matters to those behind them.
+/// What the arguments so far say, as far as it matters to those behind them.
 #[derive(Clone, Copy)]
 struct Scan<'a> {
     command: &'a str,
     /// The option whose value comes next.
-    awaits: Option<Choice>,
+    awaits: Option<CommandOption>,
     /// Which options stood, in the order of all.
     seen: [bool; OPTIONS],
     /// Whether `--` stood, behind which nothing is an option.
@@ -85,57 +85,57 @@ struct Scan<'a> {
 }
 
 impl<'a> Scan<'a> {
-    /// What is wrong with these words, which are all that are left, if anything is.
-    fn wrong_of_words(&mut self, words: &'a [String]) -> Option<Wrong<'a>> {
-        for word in words {
-            if let Some(wrong) = self.wrong_word(word.as_str()) {
+    /// What is wrong with these arguments, which are all that are left, if anything is.
+    fn wrong_of_rest(&mut self, arguments: &'a [String]) -> Option<Wrong<'a>> {
+        for argument in arguments {
+            if let Some(wrong) = self.wrong_argument(argument.as_str()) {
                 return Some(wrong);
             }
         }
         match self.awaits {
-            Some(choice) => Some(Wrong::NoValue(choice)),
+            Some(option) => Some(Wrong::NoValue(option)),
             None => None,
         }
     }
 
-    /// What is wrong with the next word, if anything is.
-    fn wrong_word(&mut self, word: &'a str) -> Option<Wrong<'a>> {
-        if let Some(choice) = self.awaits {
+    /// What is wrong with the next argument, if anything is.
+    fn wrong_argument(&mut self, argument: &'a str) -> Option<Wrong<'a>> {
+        if let Some(option) = self.awaits {
             self.awaits = None;
-            return wrong_value(choice, word);
+            return wrong_value(option, argument);
         }
-        if !self.only_files && word == "--" {
+        if !self.only_files && argument == "--" {
             self.only_files = true;
             return None;
         }
-        if !self.only_files && word.starts_with('-') && word != "-" {
-            return self.wrong_option(word);
+        if !self.only_files && argument.starts_with('-') && argument != "-" {
+            return self.wrong_option(argument);
         }
         if self.has_file {
-            return Some(Wrong::SecondFile(word));
+            return Some(Wrong::SecondFile(argument));
         }
         self.has_file = true;
         None
     }
 
-    /// What is wrong with the next word, which is written as an option.
-    fn wrong_option(&mut self, word: &'a str) -> Option<Wrong<'a>> {
-        let (name, value) = match word.split_once('=') {
+    /// What is wrong with the next argument, which is written as an option.
+    fn wrong_option(&mut self, argument: &'a str) -> Option<Wrong<'a>> {
+        let (name, value) = match argument.split_once('=') {
             Some((name, value)) => (name, Some(value)),
-            None => (word, None),
+            None => (argument, None),
         };
         let Some(place) = self.place_of(name) else {
             return Some(Wrong::Unknown(self.command, name));
         };
-        let choice = CHOICES[place];
+        let option = COMMAND_OPTIONS[place];
         if self.seen[place] {
-            return Some(Wrong::Twice(choice));
+            return Some(Wrong::Twice(option));
         }
         self.seen[place] = true;
         match value {
-            Some(value) => wrong_value(choice, value),
+            Some(value) => wrong_value(option, value),
             None => {
-                self.awaits = choice.value().map(|_| choice);
+                self.awaits = option.value().map(|_| option);
                 None
             }
         }
@@ -145,15 +145,16 @@ impl<'a> Scan<'a> {
     fn place_of(&self, name: &str) -> Option<usize>
         ensures { IfSome result (λ place. place < OPTIONS) }
     {
-        CHOICES.iter().position(|choice| choice.command() == self.command && choice.name() == name)
+        COMMAND_OPTIONS.iter().position(|option| option.command() == self.command
+            && option.name() == name)
     }
 }
 
 /// What is wrong with the value of an option, if anything is.
-fn wrong_value(choice: Choice, value: &str) -> Option<Wrong<'_>> {
-    match choice.value() {
-        None => Some(Wrong::SurplusValue(choice)),
+fn wrong_value(option: CommandOption, value: &str) -> Option<Wrong<'_>> {
+    match option.value() {
+        None => Some(Wrong::SurplusValue(option)),
         Some(kind) if kind.takes(value.as_bytes()) => None,
-        Some(_) => Some(Wrong::Value(choice, value)),
+        Some(_) => Some(Wrong::Value(option, value)),
     }
 }

@@ -1,14 +1,14 @@
 ghost use Rattle.std.specs.Prelude.{◌≡◌, ◌++◌, ◌↔◌, IfOk, IsTrue, map, string_bytes};
-ghost use Rattle.ov_reasons.specs.Arguments.{AsksHelp, AsksVersion, HasHelpOption, IsFirst, IsHelpOption};
+ghost use Rattle.ov_reasons.specs.Arguments.{AsksHelp, AsksVersion, HasHelpOption, IsFirstArgument, IsHelpOption};
 ghost use Rattle.ov_reasons.specs.Arguments.{SaysWrong, TellsOfArguments, TellsWrong};
 
-use crate::argument_scan::{CHOICES, Choice, Wrong, wrong_of};
-use crate::complaint::push_kind;
+use crate::argument_scan::{COMMAND_OPTIONS, CommandOption, Wrong, wrong_of};
 use crate::event_texts::fixed;
 use crate::hint::push_limits;
+use crate::line_complaint::push_kind;
 use crate::marked_line::push_shown;
-use crate::names::{is_near, push_meant};
-use crate::texts::push_all;
+use crate::text_joining::push_all;
+use crate::unknown_names::{is_near, push_meant};
 use ov_ids::OutOfMemory;
 use std::alloc::Global;
 
@@ -30,8 +30,8 @@ overlay analyse reads a graph file, and prints how few crashed nodes part it.
 Without FILE, or with -, standard input is read. Bare overlay is overlay run.
 ";
 
-/// The program with its version, and the kit that it is proved with.
-const VERSION: &str = "overlay 1.0, proved with rattle-kit-13f\n";
+/// The program with its version, and the logic that it is proved with. Each kit of that logic may build it.
+const VERSION: &str = "overlay 1.0, proved with Rattle's logic dac8208d650f15bf\n";
 
 /// What is said of arguments that `overlay` refuses, which follow the program's name: help, the version, or what is
 /// wrong with them, with the usage. Without arguments they are those that are no UTF-8. OutOfMemory (99) where an
@@ -84,15 +84,15 @@ fn wrong_line(alloc: Global, arguments: &[String]) -> Result<String, OutOfMemory
 fn asks_version(arguments: &[String]) -> bool
     ensures { IsTrue result ↔ AsksVersion (map string_bytes arguments.now) }
 {
-    is_first(arguments, "--version") || is_first(arguments, "-V")
+    is_first_argument(arguments, "--version") || is_first_argument(arguments, "-V")
 }
 
 /// Whether this is the first argument.
-fn is_first(arguments: &[String], word: &str) -> bool
-    ensures { IsTrue result ↔ IsFirst word.now (map string_bytes arguments.now) }
+fn is_first_argument(arguments: &[String], argument: &str) -> bool
+    ensures { IsTrue result ↔ IsFirstArgument argument.now (map string_bytes arguments.now) }
 {
     match arguments.split_first() {
-        Some((first, _)) => is_word(first.as_str(), word),
+        Some((first, _)) => is_same(first.as_str(), argument),
         None => false,
     }
 }
@@ -101,7 +101,7 @@ fn is_first(arguments: &[String], word: &str) -> bool
 fn asks_help(arguments: &[String]) -> bool
     ensures { IsTrue result ↔ AsksHelp (map string_bytes arguments.now) }
 {
-    is_first(arguments, "help") || has_help_option(arguments)
+    is_first_argument(arguments, "help") || has_help_option(arguments)
 }
 
 /// Whether an option asks for help. Behind `--` nothing is an option.
@@ -113,7 +113,7 @@ fn has_help_option(arguments: &[String]) -> bool
         if is_help_option(first.as_str()) {
             return true;
         }
-        if is_word(first.as_str(), "--") {
+        if is_same(first.as_str(), "--") {
             return false;
         }
         left = rest;
@@ -122,46 +122,50 @@ fn has_help_option(arguments: &[String]) -> bool
 }
 
 /// Whether an argument is an option that asks for help.
-fn is_help_option(word: &str) -> bool
-    ensures { IsTrue result ↔ IsHelpOption word.now }
+fn is_help_option(argument: &str) -> bool
+    ensures { IsTrue result ↔ IsHelpOption argument.now }
 {
-    is_word(word, "--help") || is_word(word, "-h")
+    is_same(argument, "--help") || is_same(argument, "-h")
 }
 
-/// Whether a word is this one.
-fn is_word(word: &str, other: &str) -> bool
-    ensures { IsTrue result ↔ word.now ≡ other.now }
+/// Whether two texts are the same.
+fn is_same(text: &str, other: &str) -> bool
+    ensures { IsTrue result ↔ text.now ≡ other.now }
 {
-    word == other
+    text == other
 }
 
 /// Appends what is wrong with arguments.
 fn push_wrong(alloc: Global, text: &mut String, arguments: &[String]) -> Result<(), OutOfMemory> {
     match wrong_of(arguments) {
-        Some(wrong) => push_wrong_word(alloc, text, wrong),
+        Some(wrong) => push_wrong_argument(alloc, text, wrong),
         None => Ok(text.push_str("the arguments can't be read")?),
     }
 }
 
-/// Appends what is wrong with a word.
-fn push_wrong_word(alloc: Global, text: &mut String, wrong: Wrong<'_>) -> Result<(), OutOfMemory> {
+/// Appends what is wrong with an argument.
+fn push_wrong_argument(
+    alloc: Global,
+    text: &mut String,
+    wrong: Wrong<'_>,
+) -> Result<(), OutOfMemory> {
     match wrong {
-        Wrong::Command(word) => push_no_command(alloc, text, word),
+        Wrong::Command(name) => push_no_command(alloc, text, name),
         Wrong::Unknown(command, name) => push_unknown(alloc, text, command, name),
-        Wrong::Twice(choice) => push_said(text, choice.name(), " stands twice"),
-        Wrong::NoValue(choice) => push_takes(text, choice),
-        Wrong::Value(choice, value) => push_takes_not(text, choice, value),
-        Wrong::SurplusValue(choice) => push_said(text, choice.name(), " takes no value"),
-        Wrong::SecondFile(word) => push_said(text, word, " is a second file"),
+        Wrong::Twice(option) => push_said(text, option.name(), " stands twice"),
+        Wrong::NoValue(option) => push_takes(text, option),
+        Wrong::Value(option, value) => push_takes_not(text, option, value),
+        Wrong::SurplusValue(option) => push_said(text, option.name(), " takes no value"),
+        Wrong::SecondFile(file) => push_said(text, file, " is a second file"),
     }
 }
 
-/// Appends that a word is no command.
-fn push_no_command(alloc: Global, text: &mut String, word: &str) -> Result<(), OutOfMemory> {
-    push_said(text, word, " is no command")?;
-    for name in ["run", "analyse"] {
-        if is_near(alloc, word, name)? {
-            return push_meant(text, name);
+/// Appends that an argument is no command.
+fn push_no_command(alloc: Global, text: &mut String, name: &str) -> Result<(), OutOfMemory> {
+    push_said(text, name, " is no command")?;
+    for command in ["run", "analyse"] {
+        if is_near(alloc, name, command)? {
+            return push_meant(text, command);
         }
     }
     Ok(())
@@ -175,9 +179,9 @@ fn push_unknown(
     name: &str,
 ) -> Result<(), OutOfMemory> {
     push_no_option(text, command, name)?;
-    match meant_choice(alloc, command, name)? {
-        Some(choice) if choice.command() == command => push_meant(text, choice.name()),
-        Some(choice) => push_said_of(text, "; it is one of ", choice.command(), ""),
+    match meant_option(alloc, command, name)? {
+        Some(option) if option.command() == command => push_meant(text, option.name()),
+        Some(option) => push_said_of(text, "; it is one of ", option.command(), ""),
         None => Ok(()),
     }
 }
@@ -189,50 +193,58 @@ fn push_no_option(text: &mut String, command: &str, name: &str) -> Result<(), Ou
 }
 
 /// The first option that may be meant: one of the command of nearly this name, or one of another command of this name.
-fn meant_choice(alloc: Global, command: &str, name: &str) -> Result<Option<Choice>, OutOfMemory> {
-    for choice in &CHOICES {
-        if choice.name() == name {
-            return Ok(Some(*choice));
+fn meant_option(
+    alloc: Global,
+    command: &str,
+    name: &str,
+) -> Result<Option<CommandOption>, OutOfMemory> {
+    for option in &COMMAND_OPTIONS {
+        if option.name() == name {
+            return Ok(Some(*option));
         }
-        if choice.command() == command && is_near(alloc, name, choice.name())? {
-            return Ok(Some(*choice));
+        if option.command() == command && is_near(alloc, name, option.name())? {
+            return Ok(Some(*option));
         }
     }
     Ok(None)
 }
 
 /// Appends what an option takes, and that it does not take this value.
-fn push_takes_not(text: &mut String, choice: Choice, value: &str) -> Result<(), OutOfMemory> {
-    push_takes(text, choice)?;
+fn push_takes_not(
+    text: &mut String,
+    option: CommandOption,
+    value: &str,
+) -> Result<(), OutOfMemory> {
+    push_takes(text, option)?;
     push_said_of(text, ", and not ", value, "")?;
-    match choice.value() {
+    match option.value() {
         Some(kind) => push_limits(text, value.as_bytes(), &kind),
         None => Ok(()),
     }
 }
 
 /// Appends what an option takes.
-fn push_takes(text: &mut String, choice: Choice) -> Result<(), OutOfMemory> {
-    push_said(text, choice.name(), " takes ")?;
-    match choice.value() {
+fn push_takes(text: &mut String, option: CommandOption) -> Result<(), OutOfMemory> {
+    push_said(text, option.name(), " takes ")?;
+    match option.value() {
         Some(kind) => push_kind(text, &kind),
         None => Ok(text.push_str("no value")?),
     }
 }
 
-/// Appends a word, and what is said of it.
-fn push_said(text: &mut String, word: &str, said: &str) -> Result<(), OutOfMemory> {
-    push_said_of(text, "", word, said)
+/// Appends an argument, or a part of one, and what is said of it.
+fn push_said(text: &mut String, argument: &str, said: &str) -> Result<(), OutOfMemory> {
+    push_said_of(text, "", argument, said)
 }
 
-/// Appends a word, with what is said before and behind it.
+/// Appends an argument, or a part of one, with what is said before and behind it.
 fn push_said_of(
     text: &mut String,
     before: &str,
-    word: &str,
+    argument: &str,
     behind: &str,
 ) -> Result<(), OutOfMemory> {
     push_all(text, &[before, "`"])?;
-    push_shown(text, word.as_bytes())?;
+    push_shown(text, argument.as_bytes())?;
     push_all(text, &["`", behind])
 }

@@ -1,11 +1,27 @@
 ghost use Rattle.std.specs.Prelude.{◌≡◌, ◌++◌, IfOk, codes, decimal, length, string_bytes};
 ghost use Rattle.ov_reasons.specs.Refused.{acting, met, reported, place_of, timer_text, payload_text, TellsUnborn};
-ghost use Rattle.ov_reasons.specs.Refused.{no_packet_text, TellsOfEvent};
+ghost use Rattle.ov_reasons.specs.Refused.{no_packet_text, full_bag_text, broadcasts_text, TellsOfEvent};
+ghost use Rattle.ov_wire.specs.Limits.{most_payload};
 ghost use Rattle.ov_net.specs.declared.event.Event.TheVariants.{Timer};
 
 use ov_ids::{MsgId, NodeId, OutOfMemory};
-use ov_net::{Event, World};
+use ov_net::{Event, MAX_ENTRIES, World};
 use std::alloc::Global;
+
+/// How many nodes may be born in a world.
+const MOST_NODES: usize = 256;
+
+/// How many packets the bag of a world may have.
+const MOST_PACKETS: usize = 65_536;
+
+/// How many packets one step may send.
+const STEP_PACKETS: usize = 64;
+
+/// How many broadcasts a node may make.
+const MOST_BROADCASTS: u32 = 4096;
+
+/// How many bytes a payload may have.
+const MOST_PAYLOAD: usize = 1024;
 
 /// Why a world refuses an event with this number, as a sentence without a full stop. The world is as the event found
 /// it. The numbers are those of `NetFault`; of any other, that the event was refused. OutOfMemory (99) where an
@@ -22,22 +38,19 @@ pub fn event_reason(
         10 => unknown_node(alloc, world, event),
         11 => node_text(alloc, "node ", acting(event), " was born before"),
         12 => node_text(alloc, "node ", met(event), " crashed"),
-        13 => fixed(alloc, "256 nodes were born, as many as may be"),
+        13 => count_text(alloc, "", MOST_NODES, " nodes were born, as many as may be"),
         14 => no_packet(alloc, world, place_of(event)),
         15 => bag_full(alloc, world),
-        16 => fixed(
+        16 => count_text(
             alloc,
-            "the journal has 65536 entries, as many as it may have",
+            "the journal has ",
+            MAX_ENTRIES,
+            " entries, as many as it may have",
         ),
         17 => node_text(alloc, "node ", reported(event), " did not crash"),
         18 => no_timer(alloc, event),
         19 => too_long(alloc, event),
-        20 => node_text(
-            alloc,
-            "node ",
-            acting(event),
-            " has made 4096 broadcasts, as many as it may",
-        ),
+        20 => broadcasts_text(alloc, acting(event)),
         99 => fixed(alloc, "out of memory"),
         _ => fixed(alloc, "the event is refused"),
     }
@@ -63,6 +76,18 @@ pub(crate) fn node_text(
     Ok(format!(in alloc; "{before}{node}{behind}")?)
 }
 
+/// A text with a count.
+fn count_text(
+    alloc: Global,
+    before: &str,
+    count: usize,
+    behind: &str,
+) -> Result<String, OutOfMemory>
+    ensures { IfOk result (λ text. string_bytes text ≡ before.now ++ (decimal count ++ behind.now)) }
+{
+    Ok(format!(in alloc; "{before}{count}{behind}")?)
+}
+
 /// The node at which the event happens; 0 where it names none.
 fn acting(event: &Event) -> NodeId
     ensures { result ≡ acting event.now }
@@ -70,7 +95,7 @@ fn acting(event: &Event) -> NodeId
     match event {
         Event::Boot(node, _)
         | Event::Crash(node)
-        | Event::Report(node, _)
+        | Event::CrashReport(node, _)
         | Event::Shuffle(node)
         | Event::Broadcast(node, _)
         | Event::Timer(node, _) => *node,
@@ -93,7 +118,7 @@ fn reported(event: &Event) -> NodeId
     ensures { result ≡ reported event.now }
 {
     match event {
-        Event::Report(_, crashed) => *crashed,
+        Event::CrashReport(_, crashed) => *crashed,
         _ => met(event),
     }
 }
@@ -129,11 +154,20 @@ fn no_packet(alloc: Global, world: &World, place: u32) -> Result<String, OutOfMe
 
 /// That too few places for packets are free.
 fn bag_full(alloc: Global, world: &World) -> Result<String, OutOfMemory>
-    ensures { IfOk result (λ text. string_bytes text ≡ codes "the bag has "
-        ++ (decimal (length world.now.net.packets) ++ codes " packets, and 64 of its 65536 places must be free")) }
+    ensures { IfOk result (λ text. string_bytes text ≡ full_bag_text (length world.now.net.packets)) }
 {
     let count = world.packets().len();
-    Ok(format!(in alloc; "the bag has {count} packets, and 64 of its 65536 places must be free")?)
+    Ok(format!(in alloc;
+        "the bag has {count} packets, and {STEP_PACKETS} of its {MOST_PACKETS} places must be free"
+    )?)
+}
+
+/// That a node has made as many broadcasts as it may.
+fn broadcasts_text(alloc: Global, node: NodeId) -> Result<String, OutOfMemory>
+    ensures { IfOk result (λ text. string_bytes text ≡ broadcasts_text node) }
+{
+    let node = node.number();
+    Ok(format!(in alloc; "node {node} has made {MOST_BROADCASTS} broadcasts, as many as it may")?)
 }
 
 /// That a timer does not run.
@@ -165,7 +199,7 @@ fn too_long(alloc: Global, event: &Event) -> Result<String, OutOfMemory>
 
 fn payload_text(alloc: Global, count: usize) -> Result<String, OutOfMemory>
     ensures { IfOk result (λ text. string_bytes text
-        ≡ codes "the payload has " ++ (decimal count ++ codes " bytes, and may have 1024")) }
+        ≡ codes "the payload has " ++ (decimal count ++ (codes " bytes, and may have " ++ decimal most_payload))) }
 {
-    Ok(format!(in alloc; "the payload has {count} bytes, and may have 1024")?)
+    Ok(format!(in alloc; "the payload has {count} bytes, and may have {MOST_PAYLOAD}")?)
 }

@@ -1,8 +1,9 @@
-use crate::file_line::{FileLine, Word};
 use crate::line_form::{Kind, SHORT};
+use crate::line_words::Word;
 use crate::numeral::{is_numeral, number_of};
-use crate::texts::push_all;
+use crate::text_joining::push_all;
 use ov_ids::OutOfMemory;
+use ov_run::KeptLine;
 use std::fmt::Write;
 
 /// Appends what may help at a word that stands where another kind of word is expected.
@@ -33,7 +34,7 @@ fn push_id_limits(text: &mut String, word: &[u8]) -> Result<(), OutOfMemory> {
 }
 
 /// What may help at the first word of a file.
-pub(crate) fn first_hint(line: &FileLine<'_>, word: &Word<'_>) -> Option<&'static str> {
+pub(crate) fn first_hint(line: &KeptLine<'_>, word: &Word<'_>) -> Option<&'static str> {
     if line.number == 1 && word.start == 0 && word.bytes.starts_with(BYTE_ORDER_MARK) {
         return Some("the file begins with a byte order mark, which no line may have");
     }

@@ -1,4 +1,5 @@
 use crate::numeral::number_of;
+use ov_words::WORDS_PER_EVENT;
 
 /// What may stand at a place of a line.
 #[derive(Clone, Copy)]
@@ -9,7 +10,7 @@ pub(crate) enum Kind {
     Short(&'static str),
     /// A number of 64 bits, and what it is.
     Long(&'static str),
-    /// A number within these limits, and what it is, which tells them.
+    /// A number with its least and its largest value. The text says what it is, and tells both limits.
     Within(&'static str, u64, u64),
     /// Ids of nodes, with one comma between two.
     Ids,
@@ -61,7 +62,7 @@ impl Kind {
         }
     }
 
-    /// The limits of this kind that what it is does not tell, where it is one of numbers.
+    /// The least and the largest number of this kind, where it is one of numbers and its text does not tell them.
     pub(crate) fn untold_limits(&self) -> Option<(u64, u64)> {
         match self {
             Kind::Within(_, _, _) => None,
@@ -127,7 +128,7 @@ impl Form {
             return *kind;
         }
         match self.1.last() {
-            Some(Kind::RandomWord) if place < MOST_RANDOM_WORDS => Kind::FurtherWord,
+            Some(Kind::RandomWord) if place < WORDS_PER_EVENT => Kind::FurtherWord,
             Some(Kind::RandomWord) => Kind::Full,
             Some(Kind::Payload) => Kind::Payload,
             _ => Kind::End,
@@ -140,9 +141,6 @@ pub(crate) const SHORT: u64 = 4_294_967_295;
 
 /// The largest number of 64 bits.
 const LONG: u64 = 18_446_744_073_709_551_615;
-
-/// How many random words an event has.
-const MOST_RANDOM_WORDS: usize = 64;
 
 const ID: Kind = Kind::Short("the id of a node");
 

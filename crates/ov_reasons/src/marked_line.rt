@@ -1,4 +1,4 @@
-use crate::texts::push_all;
+use crate::text_joining::push_all;
 use ov_ids::OutOfMemory;
 use std::alloc::Global;
 use std::fmt::Write;

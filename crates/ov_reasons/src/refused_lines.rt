@@ -5,7 +5,7 @@ ghost use Rattle.ov_reasons.specs.Refused.{TellsOfLine};
 
 use crate::analysis_texts::{analysis_reason, look_reason};
 use crate::event_texts::event_reason;
-use crate::explanation::push_line;
+use crate::line_explanation::push_line;
 use ov_ids::OutOfMemory;
 use ov_run::Line;
 use ov_snap::Core;

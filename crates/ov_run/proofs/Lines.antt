@@ -2,6 +2,7 @@
 pub mod Counted
 pub mod Filling
 pub mod Kept
+pub mod KeptList
 pub mod Lined
 pub mod Numbers
 pub mod Numerals

@@ -1,14 +1,15 @@
 -- What the arguments of a command line ask for, and why they can't be read. Chosen here.
-use Rattle.std.specs.Prelude.{◌≡◌, ◌≢◌, ℕ, Bool, true, false, ◌<◌, ◌≤◌, ⊤, List, ◌++◌, length, Option, Some, None}
-use Rattle.std.specs.Prelude.{IfSome, codes, decimal, option_map, string_bytes, if◌then◌else◌}
+use Rattle.std.specs.Prelude.{◌≡◌, ◌≢◌, ℕ, Bool, true, false, ◌<◌, ⊤, List, [], length, Option, Some, None}
+use Rattle.std.specs.Prelude.{IfSome, codes, option_map, string_bytes, if◌then◌else◌}
 use Rattle.std.specs.Str.{bytes_eq}
 use Rattle.std.specs.declared.io.ErrorKind.{ErrorKind}
 use Rattle.std.specs.declared.io.ErrorKind.TheVariants.{InvalidData}
 use Rattle.clap.specs.Simple.{on_top}
-use Rattle.clap.specs.Words.{App, Rule, first_of, new_app, new_rule, subcommand_of, takes, with_rule}
+use Rattle.clap.specs.Words.{App, Rule, fault_of, first_of, new_app, new_rule, subcommand_of, with_rule}
 use Rattle.clap.specs.Words.{with_subcommand}
 use Rattle.clap.specs.declared.builder.action.ArgAction.TheVariants.{Set, SetTrue}
-use Rattle.ov_claims.specs.Claims.{most_workers}
+use Rattle.clap.specs.declared.error.kind.ErrorKind.{ErrorKind as ParseErrorKind}
+use Rattle.clap.specs.declared.error.kind.ErrorKind.TheVariants as parse_error
 use Rattle.ov_ids.specs.Options.{◌>>=◌}
 use Rattle.ov_run.specs.Lines.{ids_of, workers_of}
 use Rattle.ov_run.specs.declared.arguments.Request.{Request}
@@ -61,12 +62,7 @@ text_given arguments name = subcommand_of overlay_command arguments >>= λ found
 -- where an analysis for a group is asked for, the group is of one or more ids
 abbrev pub HasGroupOfIds : Request → Type 0
 HasGroupOfIds (Run file explain) = ⊤
-HasGroupOfIds (Analyse file group workers certificate progress) = IfSome group (λ ids. 0 < length ids.items)
-
--- an analysis has workers, and no more than there may be
-abbrev pub HasWorkers : Request → Type 0
-HasWorkers (Run file explain) = ⊤
-HasWorkers (Analyse file group workers certificate progress) = (1 ≤ workers) × (workers ≤ most_workers)
+HasGroupOfIds (Analyse file analysis) = IfSome analysis.group (λ ids. 0 < length ids.items)
 
 -- the group that the text of `--group` asks for, and no group, for all nodes, where it is not there
 abbrev pub group_asked : Option (List ℕ) → Option (Option (List ℕ))
@@ -94,37 +90,44 @@ IsAsked command text (Run file explain) =
     (command ≢ Some (codes "analyse"))
     × (file_asked (text (codes "file")) ≡ option_map (λ f. string_bytes f) file)
     × (is_flagged (text (codes "explain")) ≡ explain)
-IsAsked command text (Analyse file group workers certificate progress) =
+IsAsked command text (Analyse file analysis) =
     (command ≡ Some (codes "analyse"))
     × (file_asked (text (codes "file")) ≡ option_map (λ f. string_bytes f) file)
-    × (group_asked (text (codes "group")) ≡ Some (option_map (λ ids. ids.items) group))
-    × (workers_asked (text (codes "workers")) ≡ Some workers)
-    × (is_flagged (text (codes "certificate")) ≡ certificate)
-    × (is_flagged (text (codes "progress")) ≡ progress)
+    × (group_asked (text (codes "group")) ≡ Some (option_map (λ ids. ids.items) analysis.group))
+    × (workers_asked (text (codes "workers")) ≡ Some analysis.workers)
+    × (is_flagged (text (codes "certificate")) ≡ analysis.certificate)
+    × (is_flagged (text (codes "progress")) ≡ analysis.progress)
 
 -- the group and the number of workers that these texts ask for can be read
 pub record AreReadable (text : List ℕ → Option (List ℕ)) : Type 0 where
   pub group : group_asked (text (codes "group")) ≢ None
   pub workers : workers_asked (text (codes "workers")) ≢ None
 
+-- the texts of `analyse` can be read; the texts of another command need no reading
+abbrev pub AreReadableFor : Option (List ℕ) → (List ℕ → Option (List ℕ)) → Type 0
+AreReadableFor command text = (command ≡ Some (codes "analyse")) → AreReadable text
+
 -- what is asked for is what these arguments give: the command, the file, the group, the number of workers and the flags
 abbrev pub IsOfGiven : List (List ℕ) → Request → Type 0
 IsOfGiven arguments request = IsAsked (command_given arguments) (text_given arguments) request
 
--- the command takes these arguments, and the group and the number of workers that they give can be read
+-- These arguments ask for something: `clap` finds no fault in them, so no request for help either, and the group and
+-- the number of workers that they give to `analyse` can be read.
 abbrev pub AreTaken : List (List ℕ) → Type 0
-AreTaken arguments = (takes overlay_command arguments ≡ true) × AreReadable (text_given arguments)
+AreTaken arguments =
+    (fault_of overlay_command arguments ≡ []) × AreReadableFor (command_given arguments) (text_given arguments)
 
 -- the fault's number
 abbrev pub number_of : ArgumentsFault → ℕ
 number_of BadArguments = 73
 number_of OutOfMemory = 99
 
--- the line that `overlay` prints of a fault on standard error, without its line feed
-unfoldable pub arguments_fault_text : ArgumentsFault → List ℕ
-arguments_fault_text fault = codes "refused " ++ decimal (number_of fault)
-
 -- why the arguments can't be had: those that are no text are no arguments of the command
 abbrev pub fault_of_text : ErrorKind → ArgumentsFault
 fault_of_text InvalidData = BadArguments
 fault_of_text kind = OutOfMemory
+
+-- why `clap` finds nothing in the arguments: it found a fault in them, or was out of memory
+abbrev pub fault_of_parse : ParseErrorKind → ArgumentsFault
+fault_of_parse parse_error.OutOfMemory = OutOfMemory
+fault_of_parse kind = BadArguments

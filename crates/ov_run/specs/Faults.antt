@@ -35,7 +35,7 @@ line_of OutOfMemory = None
 
 -- a refusal with this number, of this line where one is named: `line 3: refused 70`, or `refused 71`
 abbrev pub line_refusal_text : Option ℕ → ℕ → List ℕ
-line_refusal_text (Some line) number = codes "line " ++ (decimal line ++ (codes ": refused " ++ decimal number))
+line_refusal_text (Some line) number = codes "line " ++ (decimal line ++ (codes ": " ++ refusal_text number))
 line_refusal_text None number = refusal_text number
 
 -- the line that `overlay` prints of a fault on standard error, without its line feed

@@ -48,8 +48,8 @@ file_text c g q m = compact_text (data_of c g q m) ++ codes "\n"
 unfoldable pub node_line : ℕ → PeerState → List ℕ
 node_line id p =
     codes "node " ++ (decimal id
-    ++ (codes " active " ++ (ids_text p.node.views.active
-    ++ (codes " passive " ++ (ids_text p.node.views.passive
+    ++ (codes " active " ++ (ids_text p.hyparview.views.active
+    ++ (codes " passive " ++ (ids_text p.hyparview.views.passive
     ++ (codes " eager " ++ (ids_text p.tree.branches.eager
     ++ (codes " lazy " ++ (ids_text p.tree.branches.lazy ++ codes "\n")))))))))
 

@@ -1,6 +1,7 @@
 -- What the program overlay prints of a fault, and its status.
 use Rattle.std.specs.Prelude.{ℕ, List, Result, Ok, Err}
-use Rattle.ov_run.specs.Arguments.{arguments_fault_text}
+use Rattle.ov_io.specs.Refusal.{refusal_text}
+use Rattle.ov_run.specs.Arguments.{number_of}
 use Rattle.ov_run.specs.Faults.{run_fault_text}
 use Rattle.ov_run.specs.declared.arguments.ArgumentsFault.TheVariants.{BadArguments, OutOfMemory}
 use Rattle.ov_run.specs.declared.program_outcome.ProgramFault.{ProgramFault}
@@ -8,10 +9,10 @@ use Rattle.ov_run.specs.declared.program_outcome.ProgramFault.TheVariants.{Argum
 
 -- what is printed of a fault on standard error, without its line feed
 abbrev pub program_fault_text : ProgramFault → List ℕ
-program_fault_text (Arguments fault) = arguments_fault_text fault
+program_fault_text (Arguments fault) = refusal_text (number_of fault)
 program_fault_text (Run fault) = run_fault_text fault
 
--- the program's status: that of the run or the analysis, 2 where the arguments can't be read, and 1 after another fault
+-- the program's status: that of the run or the analysis, 2 where the arguments are refused, and 1 after another fault
 abbrev pub exit_status : Result ℕ ProgramFault → ℕ
 exit_status (Ok status) = status
 exit_status (Err (Arguments BadArguments)) = 2

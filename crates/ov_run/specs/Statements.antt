@@ -25,7 +25,7 @@ with_zeros ns =
 
 -- the first node hears that the second one crashed
 abbrev pub crash_report_of : ℕ × ℕ → Event
-crash_report_of p = event.Report p.0 p.1
+crash_report_of p = event.CrashReport p.0 p.1
 
 -- a timer of the first node, of the message with this origin and this number
 abbrev pub timer_of : ℕ × (ℕ × ℕ) → Event

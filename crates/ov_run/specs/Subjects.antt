@@ -1,7 +1,7 @@
 -- What a scenario analyses, why an analysis is refused, and what it does to a core: b is the core before, and u the
 -- core after.
 use Rattle.std.specs.Prelude.{◌≡◌, ℕ, List, Option, Some, None}
-use Rattle.ov_ids.specs.FaultOrder.{Step, Passed}
+use Rattle.ov_ids.specs.FaultOrder.{HoldsThen, Passed}
 use Rattle.ov_graph.specs.Links.{LinkGraph}
 use Rattle.ov_even.specs.Answer.{IsAnswer}
 use Rattle.ov_snap.specs.CoreState.{CoreState, HasReport}
@@ -25,7 +25,8 @@ IsReportOf b s r = HasReport b s.moment (members_of s.group r.graph) r
 abbrev pub IsReported : CoreState → Subject → Type 0
 IsReported b s = (r : ReportState) × IsReportOf b s r
 
--- m is a moment, somebody lived at it, the ids are a group of its nodes where a group is asked for, and then
+-- somebody must have lived at the moment m, and where ids are asked for they must be a group of its nodes; then `After`
+-- decides
 abbrev pub SubjectThen : CoreState → ℕ → Option (List ℕ) → (Option CoreFault → Type 0) → Option CoreFault → Type 0
 SubjectThen b m None After answer = SomebodyLivedThen b m After answer
 SubjectThen b m (Some ids) After answer = GroupThen b m ids After answer
@@ -33,7 +34,7 @@ SubjectThen b m (Some ids) After answer = GroupThen b m ids After answer
 -- the first applicable refusal of an analysis in a scenario, in this order: its moment is no snapshot's, nobody lived
 -- at that moment, the ids that are asked for are no group of those who did, a report is filed for the subject
 abbrev pub AnalysisJudged : CoreState → Subject → Option CoreFault → Type 0
-AnalysisJudged b s answer = SubjectThen b s.moment s.group (Step (¬ IsReported b s) AlreadyFiled Passed) answer
+AnalysisJudged b s answer = SubjectThen b s.moment s.group (HoldsThen (¬ IsReported b s) AlreadyFiled Passed) answer
 
 -- the subject was analysed: no refusal applied, and a report of it was filed, with the answer of an analysis of the
 -- links of its moment for its group

@@ -9,13 +9,14 @@ ghost use Rattle.ov_run.specs.Printed.{report_line};
 ghost use Rattle.ov_run.specs.Subjects.{members_of, IsReportOf, AnalysisJudged, WasAnalysed};
 ghost use Rattle.ov_snap.specs.declared.fault.CoreFault.TheVariants.{OutOfMemory as out_of_memory};
 
+use crate::graph_analysis::members_of;
 use crate::line_texts::report_line;
 use crate::scenario::Subject;
-use crate::workers::Workers;
+use ov_claims::Workers;
 use ov_crew::{OpenGate, analyse_group_watched};
 use ov_even::Unwatched;
 use ov_graph::Graph;
-use ov_ids::NodeId;
+use ov_ids::Seq;
 use ov_net::MAX_ENTRIES;
 use ov_snap::{Core, CoreFault, Job, Report};
 use std::alloc::Global;
@@ -108,27 +109,18 @@ fn make_report<T: Threads + Sync>(
     ensures answer { IfOk result (λ r. IsAnswer r.graph r.members r.cert) }
     ensures err { IfErr result (λ f. f ≡ out_of_memory) }
 {
-    let members = members_of(subject, &job.graph);
+    let group = subject.group.as_ref().map(Seq::as_slice);
+    let members = members_of(group, &job.graph);
     match analyse_group_watched(
         rt,
         alloc,
         &job.graph,
         members,
-        workers.count(),
+        workers,
         &OpenGate,
         &mut Unwatched,
     ) {
         Ok(checked) => Ok(Report::new(job.moment, checked)),
         Err(_) => Err(CoreFault::OutOfMemory),
-    }
-}
-
-/// The group that is asked for, or all nodes of the graph.
-fn members_of<'a>(subject: &'a Subject, graph: &'a Graph) -> &'a [NodeId]
-    ensures { result.now ≡ members_of subject.now.group graph.now }
-{
-    match &subject.group {
-        Some(ids) => ids.as_slice(),
-        None => graph.nodes(),
     }
 }

@@ -1,19 +1,20 @@
-ghost use Rattle.std.specs.Prelude.{◌≡◌, ◌≢◌, ◌<◌, ◌≤◌, false, length, map, codes, string_bytes, Some, None, Err};
+ghost use Rattle.std.specs.Prelude.{◌≡◌, ◌≢◌, ◌<◌, false, length, map, codes, string_bytes, Some, None, Err};
 ghost use Rattle.std.specs.Prelude.{option_map, IfOk, IfSome, IsErrOf};
 ghost use Rattle.std.specs.IoError.{error_kind};
 ghost use Rattle.clap.specs.Words.{app_of, found_of, first_value, rule_of};
-ghost use Rattle.ov_claims.specs.Claims.{most_workers};
-ghost use Rattle.ov_run.specs.Arguments.{AreReadable, AreTaken, HasGroupOfIds, HasWorkers, IsAsked, IsOfGiven};
+ghost use Rattle.ov_run.specs.Arguments.{AreReadable, AreReadableFor, AreTaken, HasGroupOfIds, IsAsked};
+ghost use Rattle.ov_run.specs.Arguments.{IsOfGiven};
 ghost use Rattle.ov_run.specs.Arguments.{file_asked, group_asked, is_flagged, workers_asked};
 ghost use Rattle.ov_run.specs.Arguments.{analyse_command, flag, option, overlay_command, run_command};
-ghost use Rattle.ov_run.specs.Arguments.{fault_of_text, number_of};
+ghost use Rattle.ov_run.specs.Arguments.{fault_of_parse, fault_of_text, number_of};
 ghost use Rattle.ov_run.specs.declared.arguments.ArgumentsFault.TheVariants.{BadArguments};
 ghost use Rattle.ov_run.specs.declared.arguments.ArgumentsFault.TheVariants.{OutOfMemory as out_of_memory};
 
 use crate::id_list_reading::read_ids;
-use crate::workers::read_workers;
+use crate::workers_reading::read_workers;
 use clap::error::ErrorKind;
 use clap::{Arg, ArgAction, ArgMatches, Command, Error as ClapError};
+use ov_claims::Workers;
 use ov_ids::{NodeId, OutOfMemory};
 use std::alloc::{AllocError, Global};
 use std::error::Error;
@@ -29,15 +30,24 @@ pub enum Request {
         file: Option<String>,
         explain: bool,
     },
-    /// To analyse a graph file for the group of these ids, or of all nodes, by so many workers. `certificate` asks for
-    /// the certificate file too, and `progress` to tell how far the analysis has come.
+    /// To analyse a graph file.
     Analyse {
         file: Option<String>,
-        group: Option<Vec<NodeId>>,
-        workers: u32,
-        certificate: bool,
-        progress: bool,
+        analysis: AnalysisRequest,
     },
+}
+
+/// What is asked of an analysis, besides its file.
+#[derive(Debug, PartialEq, Eq, Drop)]
+pub struct AnalysisRequest {
+    /// The members of the group. Without it, all nodes are the group.
+    pub group: Option<Vec<NodeId>>,
+    /// How many workers share out the analysis.
+    pub workers: Workers,
+    /// Whether the certificate file is asked for too.
+    pub certificate: bool,
+    /// Whether it is to be told how far the analysis has come.
+    pub progress: bool,
 }
 
 /// Why the arguments of a command line can't be read. It is shown as the line that `overlay` prints of it on standard
@@ -64,11 +74,10 @@ impl ArgumentsFault {
 
 impl Display for ArgumentsFault {
     ghost use Rattle.std.specs.Prelude.{Some};
-    ghost use Rattle.ov_run.specs.Arguments.{arguments_fault_text};
+    ghost use Rattle.ov_io.specs.Refusal.{refusal_text};
 
-    ghost output = { λ fault. Some (arguments_fault_text fault) };
+    ghost output = { λ fault. Some (refusal_text (number_of fault)) };
 
-    #[tactic(auto, unfolding(crate::specs::Arguments::arguments_fault_text))]
     fn fmt<W: Write>(&self, f: &mut Formatter<W>) -> fmt::Result {
         let number = self.number();
         write!(f, "refused {number}")
@@ -105,12 +114,11 @@ impl From<OutOfMemory> for ArgumentsFault {
     }
 }
 
+/// Arguments in which `clap` finds nothing: those with a fault are no arguments of the command.
 impl From<ClapError> for ArgumentsFault {
-    ghost use Rattle.std.specs.Prelude.{◌≡◌};
     ghost use Rattle.clap.specs.Words.{kind_of};
-    ghost use Rattle.clap.specs.declared.error.ErrorKind.TheVariants.{OutOfMemory as no_memory};
 
-    ghost from_gives = { λ error e. (kind_of error ≡ no_memory) → (e ≡ out_of_memory) };
+    ghost from_gives = { λ error e. e ≡ fault_of_parse (kind_of error) };
 
     fn from(error: ClapError) -> ArgumentsFault {
         match error.kind() {
@@ -128,10 +136,10 @@ impl From<ClapError> for ArgumentsFault {
 /// (99) is returned where an allocation was refused. The arguments and the numbers are chosen here.
 pub fn read_arguments(alloc: Global, arguments: &[String]) -> Result<Request, ArgumentsFault>
     ensures group { IfOk result HasGroupOfIds }
-    ensures workers { IfOk result HasWorkers }
     ensures given { IfOk result (IsOfGiven (map (λ argument. string_bytes argument) arguments.now)) }
     ensures taken { AreTaken (map (λ argument. string_bytes argument) arguments.now)
         → (result ≢ Err BadArguments) }
+    ensures only { IfOk result (λ _. AreTaken (map (λ argument. string_bytes argument) arguments.now)) }
 {
     let matches = command(alloc)?.try_get_matches_from(arguments)?;
     match matches.subcommand() {
@@ -146,9 +154,9 @@ pub fn read_arguments(alloc: Global, arguments: &[String]) -> Result<Request, Ar
 /// What a command asks for, by what was found behind it.
 fn request_of(alloc: Global, command: &str, found: &ArgMatches) -> Result<Request, ArgumentsFault>
     ensures group { IfOk result HasGroupOfIds }
-    ensures workers { IfOk result HasWorkers }
     ensures asked { IfOk result (IsAsked (Some command.now) (first_value (found_of found.now))) }
-    ensures readable { AreReadable (first_value (found_of found.now)) → (result ≢ Err BadArguments) }
+    ensures readable { AreReadableFor (Some command.now) (first_value (found_of found.now))
+        → (result ≢ Err BadArguments) }
 {
     if command == "analyse" {
         return analysis_of(alloc, found);
@@ -162,7 +170,6 @@ fn request_of(alloc: Global, command: &str, found: &ArgMatches) -> Result<Reques
 /// The analysis that is asked for, by what was found behind the command.
 fn analysis_of(alloc: Global, found: &ArgMatches) -> Result<Request, ArgumentsFault>
     ensures group { IfOk result HasGroupOfIds }
-    ensures workers { IfOk result HasWorkers }
     ensures asked { IfOk result (IsAsked (Some (codes "analyse")) (first_value (found_of found.now))) }
     ensures readable { AreReadable (first_value (found_of found.now)) → (result ≢ Err BadArguments) }
 {
@@ -170,10 +177,12 @@ fn analysis_of(alloc: Global, found: &ArgMatches) -> Result<Request, ArgumentsFa
     let workers = workers_of(found)?;
     Ok(Request::Analyse {
         file: file_of(alloc, found)?,
-        group,
-        workers,
-        certificate: has_flag(found, "certificate"),
-        progress: has_flag(found, "progress"),
+        analysis: AnalysisRequest {
+            group,
+            workers,
+            certificate: has_flag(found, "certificate"),
+            progress: has_flag(found, "progress"),
+        },
     })
 }
 
@@ -267,19 +276,17 @@ fn group_of(alloc: Global, matches: &ArgMatches) -> Result<Option<Vec<NodeId>>, 
 }
 
 /// The number of workers that is given, or one.
-fn workers_of(matches: &ArgMatches) -> Result<u32, ArgumentsFault>
+fn workers_of(matches: &ArgMatches) -> Result<Workers, ArgumentsFault>
     ensures given { IfOk result
         (λ n. workers_asked (first_value (found_of matches.now) (codes "workers")) ≡ Some n) }
-    ensures some { IfOk result (λ n. 1 ≤ n) }
-    ensures few { IfOk result (λ n. n ≤ most_workers) }
     ensures bad { IsErrOf result BadArguments
         → (workers_asked (first_value (found_of matches.now) (codes "workers")) ≡ None) }
 {
     let Some(text) = matches.get_str("workers") else {
-        return Ok(1);
+        return Ok(Workers::ONE);
     };
     let Some(workers) = read_workers(text.as_bytes()) else {
         return Err(ArgumentsFault::BadArguments);
     };
-    Ok(workers.count())
+    Ok(workers)
 }

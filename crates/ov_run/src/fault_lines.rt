@@ -64,7 +64,7 @@ struct Seen {
 }
 
 impl Seen {
-    /// No line.
+    /// No line was seen yet.
     fn nothing() -> Seen
         ensures { IsSeen [] result }
     {

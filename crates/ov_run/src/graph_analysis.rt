@@ -1,14 +1,8 @@
-ghost use Rattle.std.specs.Prelude.{◌≡◌, ◌≢◌, ◌⊎◌, ◌+◌, ◌<◌, ◌≤◌, option_map, string_bytes, Err};
-ghost use Rattle.std.specs.Prelude.{IfOk, IfErr, OnOk, IsErrOf};
-ghost use Rattle.ov_ids.specs.FaultOrder.{IsRefusedBy};
+ghost use Rattle.std.specs.Prelude.{◌≡◌, ◌⊎◌, ◌<◌, option_map, string_bytes, IfOk, IfErr};
 ghost use Rattle.ov_cert.specs.Valid.{IsValidForGroup};
-ghost use Rattle.ov_claims.specs.Claims.{most_workers};
-ghost use Rattle.ov_io.specs.Device.{most_faults, ReaderFailed};
-ghost use Rattle.ov_even.specs.Answer.{IsCheckedAnswer};
-ghost use Rattle.ov_even.specs.Faults.{GroupJudged};
-ghost use Rattle.ov_even.specs.declared.fault.AnalyseFault.TheVariants.{OutOfMemory as out_of_memory};
-ghost use Rattle.ov_run.specs.Analysing.{answer_text, PrintsAnswer, IsAnalysis, PrintsAnalysis, BeginsAnalysis};
-ghost use Rattle.ov_run.specs.Faults.{read_failures, write_failures, IsAnalysisFault};
+ghost use Rattle.ov_io.specs.Device.{most_faults};
+ghost use Rattle.ov_even.specs.Answer.{IsAnalysed};
+ghost use Rattle.ov_run.specs.Analysing.{answer_text, PrintsAnswer, IsAnalysis, IsFileAnalysis};
 ghost use Rattle.ov_run.specs.GraphFiles.{IsGraphFileFault};
 ghost use Rattle.ov_run.specs.Printed.{refused_line};
 ghost use Rattle.ov_run.specs.Subjects.{members_of};
@@ -18,6 +12,7 @@ use crate::line_texts::{refused_line, report_line};
 use crate::run_fault::RunFault;
 use ov_cert::Checked;
 use ov_certfile::to_text_group;
+use ov_claims::Workers;
 use ov_crew::{OpenGate, analyse_group_watched};
 use ov_even::{AnalyseFault, Watcher};
 use ov_graph::Graph;
@@ -42,27 +37,14 @@ pub fn analyse_file<T: Threads + Sync, R: Read, W: Write, P: Watcher>(
     source: &mut Source<R>,
     sink: &mut Sink<W>,
     group: Option<&[NodeId]>,
-    workers: u32,
+    workers: Workers,
     certificate: bool,
     watcher: &mut P,
 ) -> Result<u8, RunFault>
     requires reads { source.old.faults < most_faults }
     requires writes { sink.old.faults < most_faults }
-    requires some { 1 ≤ workers }
-    requires few { workers ≤ most_workers }
-    ensures status { IfOk result (λ status. status ≡ 0) }
-    ensures prints { OnOk result
-        (PrintsAnalysis (R.remaining source.old.reader) (option_map (λ ids. ids.now) group.entry) certificate
-        (W.contents sink.old.writer) (W.contents sink.new.writer)) }
-    ensures begun { (sink.new ≡ sink.old)
-        ⊎ BeginsAnalysis (R.remaining source.old.reader) (option_map (λ ids. ids.now) group.entry) certificate
-        (W.contents sink.old.writer) (W.contents sink.new.writer) }
-    ensures source { source.new.faults ≡ source.old.faults + read_failures result }
-    ensures failed { IsErrOf result RunFault.Read → ReaderFailed source.old source.new }
-    ensures not_failed { result ≢ Err RunFault.Read → source.new.failures ≡ source.old.failures }
-    ensures sink { sink.new.faults ≡ sink.old.faults + write_failures result }
-    ensures unwritten { IfErr result (λ f. ¬ (f ≡ RunFault.Write) → sink.new ≡ sink.old) }
-    ensures fault { IfErr result (IsAnalysisFault (R.remaining source.old.reader)) }
+    ensures analysis { IsFileAnalysis R.remaining W.contents source.old sink.old
+        (option_map (λ ids. ids.now) group.entry) certificate source.new sink.new result }
 {
     let bytes = source.read_all(alloc)?;
     let text = text_for(rt, alloc, &bytes, group, workers, certificate, watcher)?;
@@ -76,12 +58,10 @@ fn text_for<T: Threads + Sync, P: Watcher>(
     alloc: Global,
     bytes: &[u8],
     group: Option<&[NodeId]>,
-    workers: u32,
+    workers: Workers,
     certificate: bool,
     watcher: &mut P,
 ) -> Result<String, RunFault>
-    requires some { 1 ≤ workers }
-    requires few { workers ≤ most_workers }
     ensures text { IfOk result
         (λ text. IsAnalysis bytes.now (option_map (λ ids. ids.now) group.entry) certificate (string_bytes text)) }
     ensures fault { IfErr result (λ f. IsGraphFileFault bytes.now f ⊎ (f ≡ RunFault.OutOfMemory)) }
@@ -92,7 +72,7 @@ fn text_for<T: Threads + Sync, P: Watcher>(
 }
 
 /// The group that is asked for, or all nodes of the graph.
-fn members_of<'a>(group: Option<&'a [NodeId]>, graph: &'a Graph) -> &'a [NodeId]
+pub(crate) fn members_of<'a>(group: Option<&'a [NodeId]>, graph: &'a Graph) -> &'a [NodeId]
     ensures { result.now ≡ members_of (option_map (λ ids. ids.now) group.entry) graph.now }
 {
     match group {
@@ -107,12 +87,10 @@ fn answer_for<T: Threads + Sync, P: Watcher>(
     alloc: Global,
     graph: &Graph,
     group: &[NodeId],
-    workers: u32,
+    workers: Workers,
     certificate: bool,
     watcher: &mut P,
 ) -> Result<String, OutOfMemory>
-    requires some { 1 ≤ workers }
-    requires few { workers ≤ most_workers }
     ensures { IfOk result (λ text. PrintsAnswer graph.now group.now certificate (string_bytes text)) }
 {
     let answer = analyse_group_watched(rt, alloc, graph, group, workers, &OpenGate, watcher);
@@ -128,16 +106,14 @@ fn text_of(
     answer: &Result<Checked, AnalyseFault>,
     certificate: bool,
 ) -> Result<String, OutOfMemory>
-    requires answer { IfOk answer.now (λ c. IsCheckedAnswer graph.now group.now c) }
-    requires refused { IfErr answer.now (IsRefusedBy out_of_memory (GroupJudged graph.now group.now)) }
+    requires { IsAnalysed graph.now group.now answer.now }
     ensures { IfOk result (λ text. PrintsAnswer graph.now group.now certificate (string_bytes text)) }
 {
     match answer {
         Ok(checked) => report_text(alloc, checked, certificate),
         Err(fault) => match fault {
             AnalyseFault::OutOfMemory => Err(OutOfMemory),
-            AnalyseFault::NoNodes => refused_text(alloc, 30),
-            AnalyseFault::BadGroup => refused_text(alloc, 34),
+            AnalyseFault::NoNodes | AnalyseFault::BadGroup => refused_text(alloc, fault.number()),
         },
     }
 }

@@ -27,7 +27,7 @@ pub(crate) struct Gathered {
 }
 
 impl Gathered {
-    /// Of no line.
+    /// A graph file of which no line was read.
     fn new(alloc: Global) -> Gathered
         ensures nodes { result.nodes.items ≡ [] }
         ensures links { result.links.items ≡ [] }

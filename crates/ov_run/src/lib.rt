@@ -30,9 +30,9 @@ mod sink_writing;
 mod statement;
 mod theorems;
 mod unskipped_lines;
-mod workers;
+mod workers_reading;
 
-pub use arguments::{ArgumentsFault, Request, read_arguments};
+pub use arguments::{AnalysisRequest, ArgumentsFault, Request, read_arguments};
 pub use fault_lines::{scenario_fault_lines, unread_graph_lines};
 pub use graph_analysis::analyse_file;
 pub use graph_fault_lines::graph_fault_line;
@@ -48,4 +48,4 @@ pub use scenario::{Line, Look, Scenario, Subject};
 pub use scenario_entry_points::{run, run_watched};
 pub use scenario_reading::read_scenario;
 pub use theorems::{every_printed_report_is_so, first_line_has_the_fault};
-pub use workers::Workers;
+pub use unskipped_lines::{KeptLine, kept_lines};

@@ -7,7 +7,8 @@ ghost use Rattle.ov_run.specs.Statements.{workers_named};
 use crate::id_list_reading::read_ids;
 use crate::line_and_word_splitting::split_word;
 use crate::numeral::{read_number, read_short_number};
-use crate::workers::{Workers, read_workers};
+use crate::workers_reading::read_workers;
+use ov_claims::Workers;
 use ov_ids::{NodeId, OutOfMemory};
 use std::alloc::Global;
 
@@ -88,7 +89,7 @@ impl<'a> LineCursor<'a> {
             Some(name) if is_word(name, b"workers") => read_workers(self.word()?),
             _ => {
                 self.rest = rest;
-                Workers::new(1)
+                Some(Workers::ONE)
             }
         }
     }

@@ -17,7 +17,7 @@ use crate::scenario::{Line, Look, Subject};
 use crate::sink_writing::{
     write_certificate, write_done, write_entry, write_node, write_packets, write_refusal,
 };
-use crate::workers::Workers;
+use ov_claims::Workers;
 use ov_ids::Params;
 use ov_io::{Sink, WriteFault};
 use ov_net::Event;

@@ -7,7 +7,7 @@ ghost use Rattle.ov_run.specs.declared.statement.Statement.TheVariants as says;
 use crate::random_words::SeedWords;
 use crate::scenario::{Line, Look, Subject};
 use crate::statement::{Stated, Statement};
-use crate::workers::Workers;
+use ov_claims::Workers;
 use ov_ids::OutOfMemory;
 use ov_net::Event;
 use ov_words::Words;
@@ -23,7 +23,7 @@ struct Collector {
 }
 
 impl Collector {
-    /// Of no line.
+    /// A collector to which no line was added.
     fn new(alloc: Global, seed: u64) -> Collector
         ensures draws { stream_now result.draws ≡ seeded seed }
         ensures given { result.given ≡ None }

@@ -10,7 +10,7 @@ use std::fmt::{Display, Formatter, Result as Printed, Write};
 /// Why the program `overlay` ended before its end. It is shown as the line that the program prints on standard error.
 #[derive(Clone, Copy, Debug, PartialEq, Eq)]
 pub enum ProgramFault {
-    /// The arguments can't be read.
+    /// The arguments are refused, or reading them was out of memory.
     Arguments(ArgumentsFault),
     /// A run or an analysis ended before its end.
     Run(RunFault),

@@ -1,7 +1,7 @@
 ghost use Rattle.std.specs.Prelude.{◌≡◌};
 ghost use Rattle.ov_run.specs.Faults.{number_of, line_of, fault_of_read, fault_of_graph};
 ghost use Rattle.ov_run.specs.declared.run_fault.RunFault.TheVariants.{OutOfMemory as out_of_memory};
-ghost use Rattle.ov_run.specs.declared.run_fault.RunFault.TheVariants.{Read as not_read, Write as not_written};
+ghost use Rattle.ov_run.specs.declared.run_fault.RunFault.TheVariants.{Write as not_written};
 
 use ov_graph::GraphFault;
 use ov_ids::OutOfMemory;
@@ -9,7 +9,6 @@ use ov_io::{ReadFault, WriteFault};
 use std::alloc::{AllocError, AllocFailed};
 use std::error::Error;
 use std::fmt::{Display, Formatter, Result, Write};
-use std::io;
 
 /// Why a scenario is not run to its end, or a graph file not analysed. It is shown as the line that `overlay` prints of
 /// it on standard error. The numbers are chosen here.
@@ -72,15 +71,6 @@ impl Display for RunFault {
 }
 
 impl Error for RunFault {}
-
-/// A file that can't be opened can't be read.
-impl From<io::Error> for RunFault {
-    ghost from_gives = { λ _ e. e ≡ not_read };
-
-    fn from(_error: io::Error) -> RunFault {
-        RunFault::Read
-    }
-}
 
 impl From<AllocError> for RunFault {
     ghost from_gives = { λ _ e. e ≡ out_of_memory };

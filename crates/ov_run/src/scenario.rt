@@ -1,4 +1,4 @@
-use crate::workers::Workers;
+use ov_claims::Workers;
 use ov_ids::{NodeId, Params, Seq};
 use ov_net::Event;
 use ov_words::Words;

@@ -5,10 +5,10 @@ ghost use Rattle.ov_run.specs.Statements.{event_of, subject_at, subject_of, anal
 
 use crate::line_cursor::{LineCursor, is_word};
 use crate::scenario::{Look, Subject};
-use crate::workers::Workers;
+use ov_claims::Workers;
 use ov_ids::{MsgId, NodeId, OutOfMemory, Seq};
 use ov_net::Event;
-use ov_words::Words;
+use ov_words::{WORDS_PER_EVENT, Words};
 use std::alloc::Global;
 
 /// What one line says by itself, whatever stands before it and behind it.
@@ -182,7 +182,7 @@ fn read_report(cursor: &mut LineCursor) -> Option<Event>
     ensures { result ≡ option_map crash_report_of (two (words_of cursor.old.rest.now)) }
 {
     let (node, crashed) = cursor.last_two()?;
-    Some(Event::Report(NodeId::new(node), NodeId::new(crashed)))
+    Some(Event::CrashReport(NodeId::new(node), NodeId::new(crashed)))
 }
 
 fn read_timer(cursor: &mut LineCursor) -> Option<Event>
@@ -227,10 +227,10 @@ fn read_params(cursor: &mut LineCursor) -> Option<[u32; 7]>
 fn read_event_words(cursor: &mut LineCursor) -> Option<Words>
     ensures { result ≡ event_words (words_of cursor.old.rest.now) }
 {
-    let mut words = [0; 64];
+    let mut words = [0; WORDS_PER_EVENT];
     let mut count = 0;
     while !cursor.is_at_end() {
-        if count == 64 {
+        if count == WORDS_PER_EVENT {
             return None;
         }
         words[count] = cursor.number()?;

@@ -1,16 +1,18 @@
-ghost use Rattle.std.specs.Prelude.{◌≡◌, ◌∷◌, [], ◌+◌, ◌^◌, ◌<◌, ◌≤◌, length, IfSome, MatchOption};
+ghost use Rattle.std.specs.Prelude.{◌≡◌, ◌∷◌, [], ◌+◌, ◌^◌, ◌<◌, ◌≤◌, length, map, IfOk, IfSome, MatchOption};
 ghost use Rattle.ov_run.specs.Lines.{is_skipped, kept_lines, long_bits};
 ghost use Rattle.ov_run.specs.Code.Kept.{lines_left};
 
 use crate::line_and_word_splitting::split_line;
 use crate::line_cursor::LineCursor;
+use ov_ids::OutOfMemory;
+use std::alloc::Global;
 
 /// A line of a file that is not skipped, without its line feed and one carriage return before that.
 #[derive(Clone, Copy)]
-pub(crate) struct KeptLine<'a> {
+pub struct KeptLine<'a> {
     /// Its number among all lines of the file. These are counted from 1.
-    pub(crate) number: usize,
-    pub(crate) text: &'a [u8],
+    pub number: usize,
+    pub text: &'a [u8],
 }
 
 /// The lines of a file that are left to read. Lines without a word and comments, which begin with `#`, are skipped, but
@@ -56,6 +58,20 @@ impl<'a> KeptLines<'a> {
         }
         None
     }
+}
+
+/// The lines of a file that are not skipped, in order. Lines without a word and comments, which begin with `#`, are
+/// skipped, but counted. OutOfMemory (99) is returned where an allocation was refused.
+#[tactic(auto, using(crate::proofs::Lines::KeptList::kept_more, crate::proofs::Lines::KeptList::all_kept))]
+pub fn kept_lines(alloc: Global, bytes: &[u8]) -> Result<Vec<KeptLine<'_>>, OutOfMemory>
+    ensures { IfOk result (λ lines. map (λ l. (l.number, l.text.now)) lines.items ≡ kept_lines bytes.now) }
+{
+    let mut lines = Vec::new(alloc);
+    let mut left = KeptLines::new(bytes);
+    while let Some(line) = left.next_line() {
+        lines.push(line)?;
+    }
+    Ok(lines)
 }
 
 /// Whether a line has no word, or is a comment.

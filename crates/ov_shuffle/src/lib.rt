@@ -4,14 +4,14 @@
 //! chosen here, and that a node's own shuffle does nothing where it ends at that node. Every call makes all its room
 //! before it changes anything, so nothing has changed where it is out of memory.
 //!
-//! The rules of these steps are in `ov_views/specs/ShuffleRows.antt`, and what a handler owes in `Handling.antt`
+//! The rules of these steps are in `ov_views/specs/ShuffleRows.antt`, and what a handler promises in `Handling.antt`
 //! beside it.
 #![tactic(auto)]
 
 ghost use Rattle.std.specs.Prelude.{◌≡◌, ◌≤◌, ◌<◌, ◌+◌, ◌++◌, ◌∷◌, [], length, vec_len, vec_capacity};
 ghost use Rattle.std.specs.Prelude.{IfOk, OnErr, IsTrue};
 ghost use Rattle.ov_wire.specs.Messages.{AreSendsInRange, most_ttl, most_ids};
-ghost use Rattle.ov_views.specs.Allowed.{receives, shuffles};
+ghost use Rattle.ov_views.specs.Allowed.{hears, shuffles};
 ghost use Rattle.ov_views.specs.Handling.{ViewsStep, SentStep, step_words};
 ghost use Rattle.ov_views.specs.ShuffleRows.{walks_on};
 ghost use Rattle.ov_wire.specs.declared.message.Body.TheVariants.{Shuffle, ShuffleReply};
@@ -112,7 +112,7 @@ pub fn on_shuffle(
     requires ttl { ttl ≤ most_ttl }
     requires ids { length ids.now ≤ most_ids }
     ensures allowed { IfOk result
-        (ViewsStep views.old draws.old (receives from (Shuffle origin ttl ids.now)) views.new draws.new) }
+        (ViewsStep views.old draws.old (hears from (Shuffle origin ttl ids.now)) views.new draws.new) }
     ensures words { length draws.old ≤ length draws.new + most_ids }
     ensures few { IfOk result (λ m. vec_len m.sends ≤ 1) }
     ensures ranges { IfOk result (λ m. AreSendsInRange m.sends.items) }
@@ -172,7 +172,7 @@ pub fn on_reply(
 ) -> Result<Moves, OutOfMemory>
     requires words { step_words ≤ length draws.old }
     requires ids { length ids.now ≤ most_ids }
-    ensures allowed { IfOk result (SentStep views.old sent.now draws.old (receives from (ShuffleReply ids.now))
+    ensures allowed { IfOk result (SentStep views.old sent.now draws.old (hears from (ShuffleReply ids.now))
         views.new sent.now draws.new) }
     ensures words { length draws.old ≤ length draws.new + most_ids }
     ensures none { IfOk result (λ m. vec_len m.sends ≡ 0) }

@@ -3,7 +3,7 @@ use Rattle.std.proofs.Common.{◌≡◌, ℕ, ◌<◌, List, [], ◌∷◌, ◌+
 use Rattle.std.proofs.Common.{is_some, true, inl, inr, refl, sym, ◌∙◌, subst}
 use Rattle.std.proofs.lemmas.Option.{get_or_from_slice_get}
 use Rattle.ov_ids.specs.Members.{Has}
-use Rattle.ov_ids.specs.FaultOrder.{Step, Passed}
+use Rattle.ov_ids.specs.FaultOrder.{HoldsThen, Passed}
 use Rattle.ov_ids.proofs.Stepping.{step_none}
 use Rattle.ov_graph.specs.Links.{LinkGraph}
 use Rattle.ov_net.specs.Journal.{AreLinks}
@@ -155,9 +155,9 @@ desk_filing_passed : (b : CoreState) (i : ℕ) (d : GroupDeskState) → HasDesk 
     → ¬ IsFiled b d.moment d.members
 desk_filing_passed b i d has h filed =
     let Filed : Type 0 = HoldsAt b i (λ o. IsFiled b o.moment o.members) in
-    let Third : Option CoreFault → Type 0 = Step (¬ Filed) AlreadyFiled Passed in
+    let Third : Option CoreFault → Type 0 = HoldsThen (¬ Filed) AlreadyFiled Passed in
     let Ended : Type 0 = HoldsAt b i (λ o. AllEnded o.claims) in
-    let there = step_none ((o : GroupDeskState) × HasDesk b i o) NoSuchDesk (Step Ended NotEnded Third) h in
+    let there = step_none ((o : GroupDeskState) × HasDesk b i o) NoSuchDesk (HoldsThen Ended NotEnded Third) h in
     let ended = step_none Ended NotEnded Third there.1 in
     let free = step_none (¬ Filed) AlreadyFiled Passed ended.1 in
     free.0 (d, has, filed)

@@ -9,6 +9,7 @@ use Rattle.ov_net.specs.Journal.{AreLinks, Live}
 use Rattle.ov_net.specs.declared.journal_entry.Entry.{Entry}
 use Rattle.ov_net.proofs.Links.OneGraph.{links_one}
 use Rattle.ov_net.proofs.Steps.Places.{at_cases}
+use Rattle.ov_claims.specs.Claims.{MayWork}
 use Rattle.ov_even.proofs.AnalysisSteps.Assembling.{whole_group}
 use Rattle.ov_even.proofs.AnalysisSteps.Slotted.{at_set_same, at_set_other}
 use Rattle.ov_desk.specs.Desk.{GroupDeskState}
@@ -18,7 +19,7 @@ use Rattle.ov_snap.specs.CoreState.{CoreState, HasDesk, HasReport, IsDeskOf, IsS
 use Rattle.ov_snap.specs.DeskSteps.{HasOneDeskMore, HasTurned, WasOpened, WasOpenedForGroup, ClaimedAt, LookedAt}
 use Rattle.ov_snap.specs.DeskSteps.{DeskWasFiled, SettledAt}
 use Rattle.ov_snap.specs.ReportState.{ReportState}
-use Rattle.ov_snap.specs.Refusals.{IsGroupAt, MayWork, WorkersJudged}
+use Rattle.ov_snap.specs.Refusals.{IsGroupAt, WorkersJudged}
 use Rattle.ov_snap.specs.Snapshots.{IsMoment}
 use Rattle.ov_snap.proofs.Keeping.{sound_filed}
 use Rattle.ov_snap.proofs.Refusing.{group_then, lived_then, workers_passed}
@@ -84,12 +85,12 @@ desk_sound journal d g h links =
 sound_opened : (b : CoreState) (g : LinkGraph) (m : ℕ) (q : List ℕ) (workers place : ℕ) (u : CoreState) → IsSound b
     → IsMoment b.world.journal m → AreLinks b.world.journal m g → IsGroup g q → length b.desks < most_desks
     → MayWork workers → HasOneDeskMore b g m q workers place u → IsSound u
-sound_opened b g m q workers place u sound moment links group room few h =
+sound_opened b g m q workers place u sound moment links group room may h =
     subst IsSound (sym h.desks) (sound_more b h.desk sound room (record {
       moment = subst (IsMoment b.world.journal) (sym same) moment;
       graph = g;
       links = subst (λ n. AreLinks b.world.journal n g) (sym same) links;
-      sound = stays_sound.opened g m q workers h.desk group few.0 few.1 h.opened;
+      sound = stays_sound.opened g m q workers h.desk group may h.opened;
     }))
   where
     same : h.desk.moment ≡ m

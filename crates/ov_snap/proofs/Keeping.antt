@@ -1,11 +1,11 @@
 -- A core stays sound, whatever happens and whatever is filed.
 use Rattle.std.proofs.Common.{◌≡◌, ◌≢◌, ◌⊎◌, ℕ, ◌<◌, List, [], ◌∷◌, ◌++◌, length, length-append, Option, Some, None}
 use Rattle.std.proofs.Common.{IfSome, IfNone, Result, Ok, Err, IfOk, OnErr, true≢false, Bool, IsTrue, ◌↔◌, false, inl}
-use Rattle.std.proofs.Common.{◌≤◌, slice_get, inr, refl, sym, ap, ap₂, ◌∙◌, subst, append-nil, arith}
+use Rattle.std.proofs.Common.{◌≤◌, slice_get, inr, refl, sym, ap, ap₂, ◌∙◌, subst, arith}
 use Rattle.std.proofs.lemmas.Option.{none-some}
 use Rattle.ov_ids.specs.ParamsState.{ParamsState}
 use Rattle.ov_ids.specs.Members.{Has, Ordered}
-use Rattle.ov_ids.specs.FaultOrder.{Step, Passed}
+use Rattle.ov_ids.specs.FaultOrder.{HoldsThen, Passed}
 use Rattle.ov_ids.proofs.Members.{has_append_cases, has_append_left, has_append_right}
 use Rattle.ov_ids.proofs.Stepping.{step_none}
 use Rattle.ov_graph.specs.Links.{LinkGraph}
@@ -18,11 +18,11 @@ use Rattle.ov_net.specs.declared.event.Event.TheVariants as event
 use Rattle.ov_net.specs.NetStep.{NetStep}
 use Rattle.ov_net.specs.Refusals.{StepJudged}
 use Rattle.ov_net.specs.declared.fault.NetFault.{NetFault}
-use Rattle.ov_net.specs.World.{WorldState, opening}
+use Rattle.ov_net.specs.World.{WorldState, opening_world}
 use Rattle.ov_net.proofs.Links.OneGraph.{links_one}
 use Rattle.ov_net.proofs.Journal.Telling.{links_stay}
 use Rattle.ov_desk.specs.Desk.{GroupDeskState}
-use Rattle.ov_snap.specs.CoreState.{CoreState, HasReport, HasReportOfAll, IsDeskOf, IsSound, KeepsReports}
+use Rattle.ov_snap.specs.CoreState.{CoreState, HasReport, HasReportOfAll, IsDeskOf, IsSound}
 use Rattle.ov_snap.specs.CoreState.{most_desks, opening_core}
 use Rattle.ov_snap.specs.Code.Index.{Key, key_of}
 use Rattle.ov_snap.specs.ReportState.{IsSo, ReportState}
@@ -56,7 +56,7 @@ sound_begun params = record {
 
 -- the parts of a new core
 pub sound_new : (params : ParamsState) (world : WorldState) (snapshots : List Snapshot) (desks : List GroupDeskState)
-    (reports : List ReportState) → world ≡ opening params → snapshots ≡ [] → desks ≡ [] → reports ≡ []
+    (reports : List ReportState) → world ≡ opening_world params → snapshots ≡ [] → desks ≡ [] → reports ≡ []
     → IsSound (record { world = world; snapshots = snapshots; desks = desks; reports = reports })
 sound_new params world snapshots desks reports w s d r = rw (w, s, d, r) (sound_begun params)
 
@@ -158,9 +158,9 @@ sound_happened b what words e u sound h = record {
 filing_passed : (b : CoreState) (r : ReportState) → FilingJudged b r None
     → IsMoment b.world.journal r.moment × AreLinks b.world.journal r.moment r.graph × (¬ IsFiled b r.moment r.members)
 filing_passed b r h =
-    let After : Option CoreFault → Type 0 = Step (¬ IsFiled b r.moment r.members) AlreadyFiled Passed in
+    let After : Option CoreFault → Type 0 = HoldsThen (¬ IsFiled b r.moment r.members) AlreadyFiled Passed in
     let first = step_none (IsMoment b.world.journal r.moment) NoSuchMoment
-    (Step (AreLinks b.world.journal r.moment r.graph) OtherGraph After) h in
+    (HoldsThen (AreLinks b.world.journal r.moment r.graph) OtherGraph After) h in
     let second = step_none (AreLinks b.world.journal r.moment r.graph) OtherGraph After first.1 in
     let third = step_none (¬ IsFiled b r.moment r.members) AlreadyFiled Passed second.1 in
     (first.0, second.0, third.0)

@@ -3,14 +3,15 @@ use Rattle.std.proofs.Common.{◌≡◌, ◌≢◌, Bool, false, true≢false, e
 use Rattle.std.proofs.Common.{inl, inr, refl, sym, ap, ◌∙◌, subst}
 use Rattle.std.proofs.lemmas.Option.{none-some}
 use Rattle.ov_ids.specs.Members.{Has}
-use Rattle.ov_ids.specs.FaultOrder.{Step, Passed}
+use Rattle.ov_ids.specs.FaultOrder.{HoldsThen, Passed}
 use Rattle.ov_ids.proofs.Stepping.{step_none}
 use Rattle.ov_graph.specs.Links.{LinkGraph, IsGroup}
 use Rattle.ov_net.specs.Journal.{AreLinks, Live}
 use Rattle.ov_net.proofs.Links.OneGraph.{links_one}
+use Rattle.ov_claims.specs.Claims.{MayWork}
 use Rattle.ov_snap.specs.CoreState.{CoreState, HasReport, most_desks}
 use Rattle.ov_snap.specs.ReportState.{ReportState}
-use Rattle.ov_snap.specs.Refusals.{BeginJudged, FilingJudged, GroupBeginJudged, GroupThen, IsGroupAt, MayWork}
+use Rattle.ov_snap.specs.Refusals.{BeginJudged, FilingJudged, GroupBeginJudged, GroupThen, IsGroupAt}
 use Rattle.ov_snap.specs.Refusals.{SomebodyLivedThen, WorkersJudged}
 use Rattle.ov_snap.specs.Snapshots.{IsMoment}
 use Rattle.ov_snap.specs.declared.fault.CoreFault.{CoreFault}
@@ -43,7 +44,7 @@ pub lived_then : (b : CoreState) (m : ℕ) (After : Option CoreFault → Type 0)
     → IsMoment b.world.journal m × ((a : ℕ) × Live b.world.journal m a) × After None
 lived_then b m After h =
     let Lived : Type 0 = (a : ℕ) × Live b.world.journal m a in
-    let moment = step_none (IsMoment b.world.journal m) NoSuchMoment (Step Lived NoNodes After) h in
+    let moment = step_none (IsMoment b.world.journal m) NoSuchMoment (HoldsThen Lived NoNodes After) h in
     let lived = step_none Lived NoNodes After moment.1 in
     (moment.0, lived.0, lived.1)
 
@@ -51,7 +52,7 @@ lived_then b m After h =
 pub group_then : (b : CoreState) (m : ℕ) (q : List ℕ) (After : Option CoreFault → Type 0) → GroupThen b m q After None
     → IsMoment b.world.journal m × IsGroupAt b m q × After None
 group_then b m q After h =
-    let lived = lived_then b m (Step (IsGroupAt b m q) BadGroup After) h in
+    let lived = lived_then b m (HoldsThen (IsGroupAt b m q) BadGroup After) h in
     let group = step_none (IsGroupAt b m q) BadGroup After lived.2 in
     (lived.0, group.0, group.1)
 
@@ -59,7 +60,8 @@ group_then b m q After h =
 pub workers_passed : (b : CoreState) (workers : ℕ) → WorkersJudged b workers None
     → (length b.desks < most_desks) × MayWork workers
 workers_passed b workers h =
-    let room = step_none (length b.desks < most_desks) TooManyDesks (Step (MayWork workers) NoSuchWorker Passed) h in
+    let room = step_none (length b.desks < most_desks) TooManyDesks
+    (HoldsThen (MayWork workers) NoSuchWorker Passed) h in
     (room.0, (step_none (MayWork workers) NoSuchWorker Passed room.1).0)
 
 -- an analysis of a group begins, from what holds of one of all nodes

@@ -1,4 +1,4 @@
 -- What only private functions and proofs need: how contracts see a core, and how the code finds reports.
 pub mod Codes
-pub mod View
+pub mod Kept
 pub mod Index

@@ -5,7 +5,7 @@ use Rattle.ov_ids.specs.ParamsState.{ParamsState}
 use Rattle.ov_ids.specs.Members.{Has, Ordered}
 use Rattle.ov_graph.specs.Links.{LinkGraph}
 use Rattle.ov_net.specs.Journal.{AreLinks}
-use Rattle.ov_net.specs.World.{WorldState, opening}
+use Rattle.ov_net.specs.World.{WorldState, opening_world}
 use Rattle.ov_net.specs.declared.journal_entry.Entry.{Entry}
 use Rattle.ov_desk.specs.Desk.{GroupDeskState}
 use Rattle.ov_desk.specs.Sound.{IsSoundDesk}
@@ -23,7 +23,7 @@ pub record CoreState : Type 0 where
 
 -- a core in which nothing happened
 abbrev pub opening_core : ParamsState → CoreState
-opening_core params = record { world = opening params; snapshots = []; desks = []; reports = [] }
+opening_core params = record { world = opening_world params; snapshots = []; desks = []; reports = [] }
 
 -- this report is filed, for moment m and the group q
 pub record HasReport (b : CoreState) (m : ℕ) (q : List ℕ) (r : ReportState) : Type 0 where

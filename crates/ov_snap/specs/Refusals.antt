@@ -1,9 +1,11 @@
--- Why a core refuses: the refusals of each call in their order. The first applicable one is returned.
-use Rattle.std.specs.Prelude.{ℕ, ◌<◌, ◌≤◌, List, length, Option, Some, None}
-use Rattle.ov_ids.specs.FaultOrder.{Step, Passed}
+-- Why a core refuses: the refusals of each call in their order. The first applicable one is returned. A word `..Judged`
+-- holds of the first applicable refusal of a call, or of None where no refusal applies. A word `..Then` begins such a
+-- chain: its own conditions come first, and where they all hold `After` decides.
+use Rattle.std.specs.Prelude.{ℕ, ◌<◌, List, length, Option}
+use Rattle.ov_ids.specs.FaultOrder.{HoldsThen, Passed}
 use Rattle.ov_graph.specs.Links.{LinkGraph, IsGroup}
 use Rattle.ov_net.specs.Journal.{AreLinks, Live}
-use Rattle.ov_claims.specs.Claims.{most_workers}
+use Rattle.ov_claims.specs.Claims.{MayWork}
 use Rattle.ov_claims.specs.Theorems.{AllEnded}
 use Rattle.ov_desk.specs.Desk.{GroupDeskState}
 use Rattle.ov_desk.specs.Turns.{IsWorkerOf}
@@ -29,56 +31,53 @@ number_of OtherGraph = 51
 number_of AlreadyFiled = 52
 number_of OutOfMemory = 99
 
--- m is a moment, and then
+-- m must be a moment, else NoSuchMoment; then `After` decides
 abbrev pub MomentThen : CoreState → ℕ → (Option CoreFault → Type 0) → Option CoreFault → Type 0
-MomentThen b m After answer = Step (IsMoment b.world.journal m) NoSuchMoment After answer
+MomentThen b m After answer = HoldsThen (IsMoment b.world.journal m) NoSuchMoment After answer
 
--- m is a moment, somebody lived at it, and then
+-- m must be a moment; somebody must have lived at it, else NoNodes; then `After` decides
 abbrev pub SomebodyLivedThen : CoreState → ℕ → (Option CoreFault → Type 0) → Option CoreFault → Type 0
-SomebodyLivedThen b m After answer = MomentThen b m (Step ((a : ℕ) × Live b.world.journal m a) NoNodes After) answer
+SomebodyLivedThen b m After answer =
+    MomentThen b m (HoldsThen ((a : ℕ) × Live b.world.journal m a) NoNodes After) answer
 
 -- these are a group of the nodes of this moment
 abbrev pub IsGroupAt : CoreState → ℕ → List ℕ → Type 0
 IsGroupAt b m q = (g : LinkGraph) × AreLinks b.world.journal m g × IsGroup g q
 
--- m is a moment, somebody lived at it, these are a group of its nodes, and then
+-- somebody must have lived at the moment m, and these must be a group of its nodes, else BadGroup; then `After` decides
 abbrev pub GroupThen : CoreState → ℕ → List ℕ → (Option CoreFault → Type 0) → Option CoreFault → Type 0
-GroupThen b m q After answer = SomebodyLivedThen b m (Step (IsGroupAt b m q) BadGroup After) answer
+GroupThen b m q After answer = SomebodyLivedThen b m (HoldsThen (IsGroupAt b m q) BadGroup After) answer
 
--- an analysis of all nodes of a moment begins
+-- the first applicable refusal of beginning an analysis of all nodes of a moment
 abbrev pub BeginJudged : CoreState → ℕ → Option CoreFault → Type 0
 BeginJudged b m answer = SomebodyLivedThen b m Passed answer
 
--- an analysis of a group begins
+-- the first applicable refusal of beginning an analysis of a group at a moment
 abbrev pub GroupBeginJudged : CoreState → ℕ → List ℕ → Option CoreFault → Type 0
 GroupBeginJudged b m q answer = GroupThen b m q Passed answer
 
--- a report is filed for this moment and group
+-- there is a report for this moment and group among those that are filed
 abbrev pub IsFiled : CoreState → ℕ → List ℕ → Type 0
 IsFiled b m q = (r : ReportState) × HasReport b m q r
 
--- a report is filed: its moment is one, then its graph has the links of that moment, and then none is filed for that
--- moment and its group
+-- the first applicable refusal of filing a report: its moment is no snapshot's; its graph has not the links of that
+-- moment; a report is filed already for that moment and its group
 abbrev pub FilingJudged : CoreState → ReportState → Option CoreFault → Type 0
 FilingJudged b r answer =
     MomentThen b r.moment
-    (Step (AreLinks b.world.journal r.moment r.graph) OtherGraph
-    (Step (¬ IsFiled b r.moment r.members) AlreadyFiled Passed)) answer
+    (HoldsThen (AreLinks b.world.journal r.moment r.graph) OtherGraph
+    (HoldsThen (¬ IsFiled b r.moment r.members) AlreadyFiled Passed)) answer
 
--- a desk may have so many workers
-abbrev pub MayWork : ℕ → Type 0
-MayWork workers = (1 ≤ workers) × (workers ≤ most_workers)
-
--- one more desk may be opened, and then so many workers may work at it
+-- the last two refusals of opening a desk: no more desks may be opened; so many workers may not work at one
 abbrev pub WorkersJudged : CoreState → ℕ → Option CoreFault → Type 0
 WorkersJudged b workers answer =
-    Step (length b.desks < most_desks) TooManyDesks (Step (MayWork workers) NoSuchWorker Passed) answer
+    HoldsThen (length b.desks < most_desks) TooManyDesks (HoldsThen (MayWork workers) NoSuchWorker Passed) answer
 
--- a desk is opened for all nodes of a moment
+-- the first applicable refusal of opening a desk for all nodes of a moment
 abbrev pub OpeningJudged : CoreState → ℕ → ℕ → Option CoreFault → Type 0
 OpeningJudged b m workers answer = SomebodyLivedThen b m (WorkersJudged b workers) answer
 
--- a desk is opened for a group
+-- the first applicable refusal of opening a desk for a group at a moment
 abbrev pub GroupOpeningJudged : CoreState → ℕ → List ℕ → ℕ → Option CoreFault → Type 0
 GroupOpeningJudged b m q workers answer = GroupThen b m q (WorkersJudged b workers) answer
 
@@ -86,23 +85,24 @@ GroupOpeningJudged b m q workers answer = GroupThen b m q (WorkersJudged b worke
 abbrev pub HoldsAt : CoreState → ℕ → (GroupDeskState → Type 0) → Type 0
 HoldsAt b i Holds = (d : GroupDeskState) × HasDesk b i d × Holds d
 
--- there is a desk i, and then
+-- there must be a desk i, else NoSuchDesk; then `After` decides
 abbrev pub DeskThen : CoreState → ℕ → (Option CoreFault → Type 0) → Option CoreFault → Type 0
-DeskThen b i After answer = Step ((d : GroupDeskState) × HasDesk b i d) NoSuchDesk After answer
+DeskThen b i After answer = HoldsThen ((d : GroupDeskState) × HasDesk b i d) NoSuchDesk After answer
 
--- there is a desk i, it has a worker w, and then
+-- there must be a desk i, and it must have a worker w, else NoSuchWorker; then `After` decides
 abbrev pub WorkerThen : CoreState → ℕ → ℕ → (Option CoreFault → Type 0) → Option CoreFault → Type 0
-WorkerThen b i w After answer = DeskThen b i (Step (HoldsAt b i (λ d. IsWorkerOf d w)) NoSuchWorker After) answer
+WorkerThen b i w After answer = DeskThen b i (HoldsThen (HoldsAt b i (λ d. IsWorkerOf d w)) NoSuchWorker After) answer
 
--- a worker takes a turn at a desk: both are there, and then this is the worker's next turn
+-- the first applicable refusal of a turn of a worker at a desk: there is no such desk; it has no such worker; this is
+-- not the worker's next turn
 abbrev pub TurnJudged : (GroupDeskState → ℕ → Type 0) → CoreState → ℕ → ℕ → Option CoreFault → Type 0
 TurnJudged IsNext b i w answer =
-    WorkerThen b i w (Step (HoldsAt b i (λ d. IsNext d w)) WrongTurn Passed) answer
+    WorkerThen b i w (HoldsThen (HoldsAt b i (λ d. IsNext d w)) WrongTurn Passed) answer
 
--- the result of a desk is filed: there is this desk, then all its workers have ended, and then no report is filed for
--- its moment and its group
+-- the first applicable refusal of filing the result of a desk: there is no such desk; not all its workers have ended; a
+-- report is filed already for its moment and its group
 abbrev pub DeskFilingJudged : CoreState → ℕ → Option CoreFault → Type 0
 DeskFilingJudged b i answer =
     DeskThen b i
-    (Step (HoldsAt b i (λ d. AllEnded d.claims)) NotEnded
-    (Step (¬ HoldsAt b i (λ d. IsFiled b d.moment d.members)) AlreadyFiled Passed)) answer
+    (HoldsThen (HoldsAt b i (λ d. AllEnded d.claims)) NotEnded
+    (HoldsThen (¬ HoldsAt b i (λ d. IsFiled b d.moment d.members)) AlreadyFiled Passed)) answer

@@ -5,6 +5,7 @@ ghost use Rattle.ov_ids.specs.FaultOrder.{IsRefusedBy, Passed};
 ghost use Rattle.ov_graph.specs.Links.{LinkGraph};
 ghost use Rattle.ov_cert.specs.Valid.{IsValidForGroup};
 ghost use Rattle.ov_net.specs.Journal.{AreLinks};
+ghost use Rattle.ov_claims.specs.Claims.{MayWork};
 ghost use Rattle.ov_claims.specs.Theorems.{AllEnded};
 ghost use Rattle.ov_even.specs.Answer.{IsAnswer};
 ghost use Rattle.ov_desk.specs.Desk.{GroupDeskState, IsOpened};
@@ -13,7 +14,7 @@ ghost use Rattle.ov_desk.specs.Turns.{ClaimsNext, IsWorkerOf, LooksNext, Settles
 ghost use Rattle.ov_snap.specs.CoreState.{HasDesk, IsDeskOf, most_desks};
 ghost use Rattle.ov_snap.specs.DeskSteps.{WasOpened, WasOpenedForGroup, ClaimedAt, LookedAt, SettledAt, DeskWasFiled};
 ghost use Rattle.ov_snap.specs.Refusals.{OpeningJudged, GroupOpeningJudged, TurnJudged, DeskFilingJudged};
-ghost use Rattle.ov_snap.specs.Refusals.{FilingJudged, HoldsAt, MayWork, WorkersJudged, WorkerThen};
+ghost use Rattle.ov_snap.specs.Refusals.{FilingJudged, HoldsAt, WorkersJudged, WorkerThen};
 ghost use Rattle.ov_snap.specs.Snapshots.{WasBefore};
 ghost use Rattle.ov_snap.specs.declared.fault.CoreFault.TheVariants as fault;
 ghost use Rattle.ov_snap.specs.declared.snapshot.Snapshot.{Snapshot as Kept};
@@ -22,15 +23,13 @@ use crate::fault::CoreFault;
 use crate::report::Report;
 use crate::snapshot::{Snapshot, find};
 use crate::world_and_reports::Core;
+use ov_claims::Workers;
 use ov_desk::GroupDesk;
 use ov_ids::{NodeId, OutOfMemory};
 use std::alloc::Global;
 
 /// A core has so many desks at most.
 const MOST_DESKS: usize = 65_536;
-
-/// A desk has so many workers at most.
-const MOST_WORKERS: u32 = 64;
 
 impl Core {
     /// Opens a desk at which so many workers share out the analysis of all nodes of this moment. Returns the desk's
@@ -75,7 +74,7 @@ impl Core {
         ensures refused { IfErr result (IsRefusedBy fault.OutOfMemory (OpeningJudged self.now moment workers)) }
     {
         let snapshot = self.lived(moment)?;
-        self.judge_workers(workers)?;
+        let workers = self.judge_workers(workers)?;
         let alloc = *self.desks.allocator();
         let group = copied(alloc, snapshot.graph.nodes())?;
         Ok(GroupDesk::open(alloc, moment, &snapshot.graph, group, workers)?)
@@ -100,23 +99,24 @@ impl Core {
         if !snapshot.graph.is_group(&group) {
             return Err(CoreFault::BadGroup);
         }
-        self.judge_workers(workers)?;
+        let workers = self.judge_workers(workers)?;
         let alloc = *self.desks.allocator();
         Ok(GroupDesk::open(alloc, moment, &snapshot.graph, group, workers)?)
     }
 
-    /// The first applicable refusal of one more desk with so many workers.
-    fn judge_workers(&self, workers: u32) -> Result<(), CoreFault>
+    /// So many workers, for one more desk, or the first applicable refusal of that.
+    fn judge_workers(&self, workers: u32) -> Result<Workers, CoreFault>
         ensures ok { OnOk result ((length self.now.desks < most_desks) × MayWork workers) }
+        ensures same { IfOk result (λ w. w ≡ workers) }
         ensures err { IfErr result (λ f. WorkersJudged self.now workers (Some f)) }
     {
         if self.desks.len() >= MOST_DESKS {
             return Err(CoreFault::TooManyDesks);
         }
-        if workers < 1 || workers > MOST_WORKERS {
-            return Err(CoreFault::NoSuchWorker);
+        match Workers::new(workers) {
+            Some(workers) => Ok(workers),
+            None => Err(CoreFault::NoSuchWorker),
         }
-        Ok(())
     }
 
     /// Puts a desk behind the others. Returns its number.
@@ -160,9 +160,10 @@ impl Core {
         Ok(own.look(worker))
     }
 
-    /// A worker of a desk settles the piece of its number, and fails there if the answer is a cut. It is refused where
-    /// there is no such desk (53), then where the desk has no such worker (57), and then where the worker does not
-    /// settle next (54); where none of these applies, it may be out of memory (99). What is refused changes nothing.
+    /// A worker of a desk settles the piece of its number. If the result is a cut, the number fails. It is refused
+    /// where there is no such desk (53), then where the desk has no such worker (57), and then where the worker does
+    /// not settle next (54); where none of these applies, it may be out of memory (99). What is refused changes
+    /// nothing.
     pub fn settle(&mut self, desk: u32, worker: u32) -> Result<(), CoreFault>
         ensures settled { OnOk result (SettledAt self.old desk worker self.new) }
         ensures refused { IfErr result (IsRefusedBy fault.OutOfMemory (TurnJudged SettlesNext self.old desk worker)) }

@@ -22,7 +22,7 @@ use ov_desk::GroupDesk;
 use ov_graph::Graph;
 use ov_ids::{NodeId, OutOfMemory, Params};
 use ov_net::{Entry, Event, MAX_ENTRIES, NetFault, World};
-use ov_words::Words;
+use ov_words::{WORDS_PER_EVENT, Words};
 use std::alloc::Global;
 use std::marker::Model;
 
@@ -44,7 +44,7 @@ impl Model for Core {
 
     ghost coded = { core_code };
 
-    ghost use Rattle.ov_snap.specs.Code.View.{core_of};
+    ghost use Rattle.ov_snap.specs.Code.Kept.{core_of};
 
     ghost view = { core_of };
 
@@ -96,7 +96,7 @@ impl Core {
             (λ f. IsRefusal self.old.world.net (length self.old.world.journal) told.Snapshot f) }
         ensures err { OnErr result (self.new ≡ self.old) }
     {
-        let entry = self.take_snapshot(&Words::new([0; 64]))?;
+        let entry = self.take_snapshot(&Words::new([0; WORDS_PER_EVENT]))?;
         Ok(entry.number)
     }
 

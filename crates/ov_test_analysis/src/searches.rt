@@ -3,7 +3,7 @@ ghost use Rattle.std.specs.Prelude.{◌≡◌, IfSome};
 
 use crate::drawn::{SQUARE, graph};
 use crate::wanted::are_numbered;
-use ov_flow::{Flow, Step, Stuck};
+use ov_flow::{Augmentation, CutRows, Flow};
 use ov_graph::Graph;
 use ov_graph::row::{EMPTY, Row, WORDS, agree, put};
 use ov_ids::{NodeId, OutOfMemory, Seq};
@@ -33,8 +33,8 @@ fn has_alone(row: &Row, one: u8, other: u8) -> bool {
 }
 
 /// Of the square: the second and the fourth node part the third one from the first.
-fn is_cut_of_square(stuck: &Stuck) -> bool {
-    has_alone(&stuck.cut, 1, 3) && has_alone(&stuck.side, 2, 2)
+fn is_cut_of_square(rows: &CutRows) -> bool {
+    has_alone(&rows.cut, 1, 3) && has_alone(&rows.side, 2, 2)
 }
 
 /// Two paths are found, and no third one.
@@ -50,7 +50,7 @@ fn seeks_two(alloc: Global, graph: &Graph) -> Result<bool, OutOfMemory> {
         return Ok(false);
     };
     Ok(match flow.seek(net, 3)? {
-        Some(stuck) => flow.held() == 2 && is_cut_of_square(&stuck),
+        Some(rows) => flow.held() == 2 && is_cut_of_square(&rows),
         None => false,
     })
 }
@@ -85,7 +85,7 @@ fn tells_two(alloc: Global, graph: &Graph) -> Result<bool, OutOfMemory> {
 
 /// What the search for one path more answers. Out of memory leaves as many paths as before, and the search is made
 /// once more.
-fn grown(flow: &mut Flow<'_>) -> Result<Step, Fail> {
+fn grown(flow: &mut Flow<'_>) -> Result<Augmentation, Fail> {
     let held = flow.held();
     if let Ok(step) = flow.augment() {
         return Ok(step);
@@ -105,13 +105,13 @@ fn grows_twice(flow: &mut Flow<'_>) -> Result<bool, Fail> {
         if flow.held() != held {
             return Ok(false);
         }
-        if let Step::Stuck(_) = grown(flow)? {
+        if let Augmentation::Stuck(_) = grown(flow)? {
             return Ok(false);
         }
     }
     Ok(match grown(flow)? {
-        Step::Stuck(stuck) => flow.held() == 2 && is_cut_of_square(&stuck),
-        Step::Grew => false,
+        Augmentation::Stuck(rows) => flow.held() == 2 && is_cut_of_square(&rows),
+        Augmentation::Grew => false,
     })
 }
 

@@ -2,7 +2,7 @@
 ghost use Rattle.std.specs.Prelude.{◌<◌, length};
 ghost use Rattle.ov_cert.specs.Entries.{AreExpected};
 ghost use Rattle.ov_cert.specs.Verdict.{PassesFrame};
-ghost use Rattle.ov_cert.specs.declared.cert.Cert.TheVariants.{Split as SplitBy};
+ghost use Rattle.ov_cert.specs.declared.cert.Cert.TheVariants as cert;
 
 use crate::files::{FIVE_BUT_ONE, RING_GROUP, SQUARE, SQUARE_GROUP, TWO_UNLINKED};
 use crate::told::{Verdict, changed, put_verdict};
@@ -57,7 +57,7 @@ fn put_names(alloc: Global, told: &mut String, filed: &Filed) -> Result<(), Fail
 
 /// The verdict on the entry at a place.
 fn verdict_at(graph: &Graph, split: &Split, entries: &[Expected], place: usize) -> Verdict
-    requires frame { PassesFrame graph.now graph.now.nodes (SplitBy split.now) }
+    requires frame { PassesFrame graph.now graph.now.nodes (cert.Split split.now) }
     requires expected { AreExpected graph.now graph.now.nodes split.now.k entries.now }
     requires place { place < length entries.now }
 {
@@ -72,7 +72,7 @@ fn verdict_of_at(
     entries: &[Expected],
     place: usize,
 ) -> Verdict
-    requires frame { PassesFrame graph.now group.now (SplitBy split.now) }
+    requires frame { PassesFrame graph.now group.now (cert.Split split.now) }
     requires expected { AreExpected graph.now group.now split.now.k entries.now }
     requires place { place < length entries.now }
 {
@@ -93,7 +93,7 @@ fn put_each(
     split: &Split,
     entries: &[Expected],
 ) -> Result<(), AllocError>
-    requires frame { PassesFrame graph.now graph.now.nodes (SplitBy split.now) }
+    requires frame { PassesFrame graph.now graph.now.nodes (cert.Split split.now) }
     requires expected { AreExpected graph.now graph.now.nodes split.now.k entries.now }
 {
     for place in 0..entries.len() {
@@ -110,7 +110,7 @@ fn put_each_of(
     split: &Split,
     entries: &[Expected],
 ) -> Result<(), AllocError>
-    requires frame { PassesFrame graph.now group.now (SplitBy split.now) }
+    requires frame { PassesFrame graph.now group.now (cert.Split split.now) }
     requires expected { AreExpected graph.now group.now split.now.k entries.now }
 {
     for place in 0..entries.len() {

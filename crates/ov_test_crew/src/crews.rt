@@ -3,6 +3,7 @@ use crate::gates::{Counting, Meeting, Opening};
 use crate::graphs::{Family, of_size};
 use ov_board::Board;
 use ov_cert::Cert;
+use ov_claims::Workers;
 use ov_crew::{Gate, OpenGate, analyse, analyse_group, analyse_group_watched, work};
 use ov_even::{AnalyseFault, Watcher, analyse_alone, total};
 use ov_graph::Graph;
@@ -90,17 +91,20 @@ pub(crate) fn gives(cert: &Cert, row: &Row) -> bool {
         && are(split.side.as_slice(), row.side)
 }
 
+/// So many workers.
+pub(crate) fn crew_of(count: u32) -> Result<Workers, Fail> {
+    Ok(Workers::new(count).ok_or("a number of workers")?)
+}
+
 /// So many workers find the answer, and pass this gate.
 fn find<R: Threads + Sync, G: Gate>(
     rt: &R,
     alloc: Global,
     row: &Row,
-    workers: u32,
+    count: u32,
     gate: &G,
 ) -> Result<bool, Fail> {
-    if workers < 1 || workers > 64 {
-        return Ok(false);
-    }
+    let workers = crew_of(count)?;
     let graph = of_size(alloc, row.family, row.nodes)?;
     let checked = analyse(rt, alloc, &graph, workers, gate)?;
     Ok(gives(checked.cert(), row))
@@ -128,11 +132,9 @@ fn find_watched<R: Threads + Sync>(
     rt: &R,
     alloc: Global,
     row: &Row,
-    workers: u32,
+    count: u32,
 ) -> Result<bool, Fail> {
-    if workers < 1 || workers > 64 {
-        return Ok(false);
-    }
+    let workers = crew_of(count)?;
     let graph = of_size(alloc, row.family, row.nodes)?;
     let mut levels = Levels {
         begun: 0,
@@ -140,16 +142,16 @@ fn find_watched<R: Threads + Sync>(
     };
     let group = graph.nodes();
     let checked = analyse_group_watched(rt, alloc, &graph, group, workers, &OpenGate, &mut levels)?;
-    let is_told = levels.begun > 0 && (levels.others > 0) == (workers == 1);
+    let is_told = levels.begun > 0 && (levels.others > 0) == (count == 1);
     Ok(gives(checked.cert(), row) && is_told)
 }
 
 #[test]
 fn the_same_for_1_2_5_and_64_workers(rt: HostRuntime) -> Result<(), Fail> {
-    for workers in [1, 2, 5, 64] {
+    for count in [1, 2, 5, 64] {
         for row in [&PETERSEN, &RING, &TWO_SIDES] {
-            let is_found = find(&rt, rt.alloc(), row, workers, &OpenGate)?
-                && find_watched(&rt, rt.alloc(), row, workers)?;
+            let is_found = find(&rt, rt.alloc(), row, count, &OpenGate)?
+                && find_watched(&rt, rt.alloc(), row, count)?;
             assert!(rt; is_found);
         }
     }
@@ -172,7 +174,16 @@ fn a_level_that_pays_gets_two_workers(rt: HostRuntime) -> Result<(), Fail> {
     let mut opening = Opening { meeting: &meeting };
     let graph = of_size(rt.alloc(), TWO_SIDES.family, TWO_SIDES.nodes)?;
     let group = graph.nodes();
-    let checked = analyse_group_watched(&rt, rt.alloc(), &graph, group, 2, &meeting, &mut opening)?;
+    let two = crew_of(2)?;
+    let checked = analyse_group_watched(
+        &rt,
+        rt.alloc(),
+        &graph,
+        group,
+        two,
+        &meeting,
+        &mut opening,
+    )?;
     assert!(rt; gives(checked.cert(), &TWO_SIDES) && meeting.saw_both());
     Ok(())
 }
@@ -187,7 +198,7 @@ fn works_up_to_the_cut(alloc: Global) -> Result<bool, Fail> {
     if graph.nodes().is_empty() {
         return Ok(false);
     }
-    let (board, mut seats) = Board::new(alloc, total(graph.nodes().len()), 1)?;
+    let (board, mut seats) = Board::new(alloc, total(graph.nodes().len()), Workers::ONE)?;
     let Some(seat) = seats.pop() else {
         return Ok(false);
     };
@@ -215,7 +226,7 @@ fn one_thread_without_a_board(rt: HostRuntime) -> Result<(), Fail> {
 
 /// The one worker of a board without numbers is given number 0 and has ended, and none has failed.
 fn ends_at_once(alloc: Global) -> Result<bool, OutOfMemory> {
-    let (board, mut seats) = Board::new(alloc, 0, 1)?;
+    let (board, mut seats) = Board::new(alloc, 0, Workers::ONE)?;
     let Some(seat) = seats.pop() else {
         return Ok(false);
     };
@@ -241,7 +252,7 @@ fn refuse<R: Threads + Sync>(
     fault: AnalyseFault,
 ) -> Result<bool, Fail> {
     let graph = of_size(alloc, Family::All, last)?;
-    let refused = analyse_group(rt, alloc, &graph, group, 2, &OpenGate);
+    let refused = analyse_group(rt, alloc, &graph, group, crew_of(2)?, &OpenGate);
     Ok(refused.err() == Some(fault))
 }
 

@@ -1,10 +1,9 @@
 //! Refused allocations in an analysis whose certificate has so many paths that two threads name them.
-use crate::crews::{Row, gives};
+use crate::crews::{Row, crew_of, gives};
 use crate::graphs::{Family, of_size};
-use ov_cert::{Cert, Checked};
+use ov_cert::Cert;
 use ov_crew::{OpenGate, analyse};
 use ov_even::AnalyseFault;
-use ov_graph::Graph;
 use std::alloc::Global;
 use std::test::Fail;
 use std::thread::Threads;
@@ -36,21 +35,13 @@ fn is_whole(cert: &Cert) -> bool {
     gives(cert, &NAMED_BY_TWO) && entries == ENTRIES
 }
 
-/// The analysis by two workers.
-fn by_two<R: Threads + Sync>(
-    rt: &R,
-    alloc: Global,
-    graph: &Graph,
-) -> Result<Checked, AnalyseFault> {
-    analyse(rt, alloc, graph, 2, &OpenGate)
-}
-
 /// Analyses twice. The first answer is out of memory or a whole certificate, the second one is whole. Tells whether the
 /// first was out of memory.
 fn is_out_of_memory_once<R: Threads + Sync>(rt: &R, alloc: Global) -> Result<bool, Fail> {
     let graph = of_size(alloc, NAMED_BY_TWO.family, NAMED_BY_TWO.nodes)?;
-    let first = by_two(rt, alloc, &graph);
-    let again = by_two(rt, alloc, &graph)?;
+    let two = crew_of(2)?;
+    let first = analyse(rt, alloc, &graph, two, &OpenGate);
+    let again = analyse(rt, alloc, &graph, two, &OpenGate)?;
     match first {
         Ok(first) if is_whole(first.cert()) && is_whole(again.cert()) => Ok(false),
         Err(AnalyseFault::OutOfMemory) if is_whole(again.cert()) => Ok(true),

@@ -2,7 +2,7 @@ ghost use Rattle.std.specs.Prelude.{◌≡◌, ◌≤◌, length, OnErr};
 
 use crate::nodes::{Spelt, are_spelt, views_with};
 use ov_ids::{BadParams, NodeId, OutOfMemory};
-use ov_neighbor::{Attempt, on_disconnect, on_neighbor, on_reply, on_report};
+use ov_neighbor::{Attempt, on_crash_report, on_disconnect, on_neighbor, on_reply};
 use ov_test_kit::{sized, words};
 use ov_views::{Moves, ViewChange, Views};
 use ov_wire::Body;
@@ -73,7 +73,7 @@ fn handle(
         Event::Yes => on_reply(alloc, views, attempt, draws, from, true),
         Event::No => on_reply(alloc, views, attempt, draws, from, false),
         Event::Disconnect => on_disconnect(alloc, views, draws, from),
-        Event::Crash => on_report(alloc, views, attempt, draws, from),
+        Event::Crash => on_crash_report(alloc, views, attempt, draws, from),
     }
 }
 

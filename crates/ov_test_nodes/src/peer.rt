@@ -33,7 +33,7 @@ fn input_of(alloc: Global, given: Given<'_>) -> Result<Input, Fail>
         Given::Boot => Input::Boot(None),
         Given::BootBy(contact) => Input::Boot(Some(NodeId(contact))),
         Given::Hears(bytes) => Input::Receive(decode(alloc, bytes)?),
-        Given::Crash(id) => Input::Report(NodeId(id)),
+        Given::Crash(id) => Input::CrashReport(NodeId(id)),
         Given::Shuffle => Input::Shuffle,
         Given::Broadcast(bytes) => Input::Broadcast(payload(alloc, bytes)?),
         Given::Timer(origin, seq) => Input::Timer(message_id(origin, seq)),

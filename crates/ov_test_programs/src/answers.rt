@@ -1,17 +1,17 @@
 //! What analyses of whole graph files print. The lines were worked out by hand, and by a script apart from this tree
 //! that tries all sets of nodes.
-ghost use Rattle.std.specs.Prelude.{◌<◌, ◌≤◌};
-ghost use Rattle.ov_claims.specs.Claims.{most_workers};
+ghost use Rattle.std.specs.Prelude.{◌<◌};
 ghost use Rattle.ov_io.specs.Device.{most_faults};
 
 use crate::graphs::{
     FIVE_BUT_ONE, ONE_NODE, PATH_OF_THREE, PETERSEN, SQUARE, TWO_TRIANGLES, TWO_UNLINKED,
 };
 use ov_check::judge;
+use ov_claims::Workers;
 use ov_even::Watcher;
 use ov_ids::NodeId;
 use ov_io::{Sink, Source};
-use ov_run::{RunFault, Workers, analyse_file};
+use ov_run::{RunFault, analyse_file};
 use ov_test_kit::{Slow, ids};
 use std::alloc::{AllocError, Global};
 use std::io::{Read, Write};
@@ -35,12 +35,9 @@ pub(crate) fn analysed(
     rt: &(impl AllocGlobal + Threads + Sync),
     file: &[u8],
     group: Option<&[NodeId]>,
-    workers: u32,
+    workers: Workers,
     certificate: bool,
-) -> (Result<u8, RunFault>, Vec<u8>)
-    requires some { 1 ≤ workers }
-    requires few { workers ≤ most_workers }
-{
+) -> (Result<u8, RunFault>, Vec<u8>) {
     let mut source = Source::new(file);
     let mut sink = Sink::new(Vec::new(rt.alloc()));
     let mut watcher = Counter { count: 0 };
@@ -67,7 +64,16 @@ pub(crate) fn analysed_whole<R: Read, W: Write>(
     requires writes { sink.old.faults < most_faults }
 {
     let mut watcher = Counter { count: 0 };
-    let told = analyse_file(rt, rt.alloc(), source, sink, None, 1, false, &mut watcher);
+    let told = analyse_file(
+        rt,
+        rt.alloc(),
+        source,
+        sink,
+        None,
+        Workers::ONE,
+        false,
+        &mut watcher,
+    );
     (told, watcher.count)
 }
 
@@ -78,7 +84,7 @@ pub(crate) fn prints(
     group: Option<&[NodeId]>,
     text: &str,
 ) -> bool {
-    let (told, written) = analysed(rt, file.as_bytes(), group, 1, false);
+    let (told, written) = analysed(rt, file.as_bytes(), group, Workers::ONE, false);
     told == Ok(0) && written.as_slice() == text.as_bytes()
 }
 
@@ -92,7 +98,7 @@ fn prints_by_workers(
     let Some(workers) = Workers::new(count) else {
         return false;
     };
-    let (told, written) = analysed(rt, file.as_bytes(), None, workers.count(), false);
+    let (told, written) = analysed(rt, file.as_bytes(), None, workers, false);
     told == Ok(0) && written.as_slice() == text.as_bytes()
 }
 
@@ -248,7 +254,7 @@ static JUDGED: [(&str, &str); 4] = [
 #[test]
 fn certificates_behind_the_line_hold(rt: HostRuntime) {
     for (file, line) in &JUDGED {
-        let (told, written) = analysed(&rt, file.as_bytes(), None, 1, true);
+        let (told, written) = analysed(&rt, file.as_bytes(), None, Workers::ONE, true);
         assert_eq!(rt; told, Ok(0));
         let judged = judged(rt.alloc(), written.as_slice());
         assert!(rt; judged.as_slice() == line.as_bytes(), "at {line}");

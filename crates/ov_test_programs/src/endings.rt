@@ -1,9 +1,7 @@
-//! How `overlay` ends early: its status, and its line on standard error. Both programs, where there is no such file.
-use ov_check::JudgeFault;
+//! How `overlay` ends early: its status, and its line on standard error.
 use ov_graph::GraphFault;
 use ov_run::ProgramFault::{Arguments, Run};
 use ov_run::{ArgumentsFault, ProgramFault, RunFault, exit_status};
-use std::fs::File;
 use std::io::{Error, ErrorKind};
 use std::test::Fail;
 
@@ -30,14 +28,6 @@ fn each_way_out_has_its_status(rt: HostRuntime) -> Result<(), Fail> {
     }
     assert_eq!(rt; exit_status(&Ok(0)), 0);
     Ok(())
-}
-
-#[test]
-fn a_file_that_is_not_there_can_not_be_read(rt: HostRuntime) {
-    let run = File::open(&rt, "no such file").map_err(RunFault::from);
-    assert_eq!(rt; run.err(), Some(RunFault::Read));
-    let check = File::open(&rt, "no such file").map_err(JudgeFault::from);
-    assert_eq!(rt; check.err(), Some(JudgeFault::Read));
 }
 
 #[test]

@@ -1,5 +1,6 @@
 //! Graph files at fault, and the order of faults.
 use crate::answers::{analysed, analysed_whole, prints};
+use ov_claims::Workers;
 use ov_graph::GraphFault;
 use ov_ids::NodeId;
 use ov_io::{Sink, Source};
@@ -11,7 +12,7 @@ use std::thread::Threads;
 
 /// The file has this fault, and nothing is printed.
 fn is_refused(rt: &(impl AllocGlobal + Threads + Sync), file: &[u8], fault: RunFault) -> bool {
-    let (told, written) = analysed(rt, file, None, 1, false);
+    let (told, written) = analysed(rt, file, None, Workers::ONE, false);
     told == Err(fault) && written.is_empty()
 }
 

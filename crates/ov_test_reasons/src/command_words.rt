@@ -135,7 +135,7 @@ fn help_and_version_are_told(rt: HostRuntime) -> Result<(), Fail> {
     for words in asked {
         assert_eq!(rt;
             told(rt.alloc(), words)?.as_str(),
-            "overlay 1.0, proved with rattle-kit-13f\n"
+            "overlay 1.0, proved with Rattle's logic dac8208d650f15bf\n"
         );
     }
     Ok(())

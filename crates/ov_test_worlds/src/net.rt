@@ -54,7 +54,7 @@ fn event_of(alloc: Global, line: Line) -> Result<Option<Event>, Fail> {
         Line::Lose(place) => Event::Lose(place),
         Line::Repeat(place) => Event::Repeat(place),
         Line::Crash(node) => Event::Crash(NodeId(node)),
-        Line::Report(node, crashed) => Event::Report(NodeId(node), NodeId(crashed)),
+        Line::Report(node, crashed) => Event::CrashReport(NodeId(node), NodeId(crashed)),
         Line::Shuffle(node) => Event::Shuffle(NodeId(node)),
         Line::Broadcast(node, bytes) => Event::Broadcast(NodeId(node), payload(alloc, bytes)?),
         Line::Timer(node, origin, seq) => Event::Timer(NodeId(node), message_id(origin, seq)),

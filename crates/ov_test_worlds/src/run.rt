@@ -5,9 +5,10 @@ mod memory;
 mod printed;
 mod runs;
 
+use ov_claims::Workers;
 use ov_ids::{NodeId, Params};
 use ov_net::Event;
-use ov_run::{Line, Look, RunFault, Scenario, Subject, Workers, draw, read_scenario};
+use ov_run::{Line, Look, RunFault, Scenario, Subject, draw, read_scenario};
 use ov_test_kit::{ids, message_id, payload, sized, words};
 use ov_words::Words;
 use std::alloc::Global;
@@ -69,7 +70,12 @@ fn each_event_is_read(rt: HostRuntime) -> Result<(), Fail> {
     is_event(&rt, alloc, b"lose 4", Event::Lose(4))?;
     is_event(&rt, alloc, b"repeat 4", Event::Repeat(4))?;
     is_event(&rt, alloc, b"crash 4", Event::Crash(four))?;
-    is_event(&rt, alloc, b"report 4 7", Event::Report(four, NodeId(7)))?;
+    is_event(
+        &rt,
+        alloc,
+        b"report 4 7",
+        Event::CrashReport(four, NodeId(7)),
+    )?;
     is_event(&rt, alloc, b"shuffle 4", Event::Shuffle(four))?;
     is_event(
         &rt,
@@ -134,9 +140,14 @@ fn of_group(moment: u32, numbers: [u32; 2], alloc: Global) -> Result<Subject, Fa
     Ok(Subject { moment, group })
 }
 
+/// So many workers.
+pub(crate) fn crew_of(count: u32) -> Result<Workers, Fail> {
+    Ok(Workers::new(count).ok_or("a number of workers")?)
+}
+
 /// The line of an analysis by so many workers.
 fn analysis(subject: Subject, count: u32) -> Result<Line, Fail> {
-    let workers = Workers::new(count).ok_or("a number of workers")?;
+    let workers = crew_of(count)?;
     Ok(Line::Analyse { subject, workers })
 }
 

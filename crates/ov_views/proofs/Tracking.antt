@@ -19,7 +19,7 @@ use Rattle.ov_views.specs.Sending.{Idles}
 use Rattle.ov_views.specs.JoinRows.{Remembers, walk_ends}
 use Rattle.ov_views.specs.NeighborRows.{awaits}
 use Rattle.ov_views.specs.ShuffleRows.{walks_on}
-use Rattle.ov_views.specs.Allowed.{Node, NodeInput, boots, receives, hears_of_crash, shuffles, Allowed}
+use Rattle.ov_views.specs.Allowed.{HyParViewState, HyParViewInput, boots, hears, hears_of_crash, shuffles, Allowed}
 use Rattle.ov_views.specs.declared.change.ViewChange.{ViewChange}
 use Rattle.ov_views.specs.declared.change.ViewChange.TheVariants.{Up, Down}
 use Rattle.ov_views.proofs.Keeping.{AddsPassive-keeps}
@@ -142,8 +142,8 @@ remembered : (v : ViewsState) (n ttl : ℕ) (cs : List Choice) (w : ViewsState) 
 remembered v n ttl cs w = either_way (eqb ttl v.params.prwl) _ _ _ (λ k. passive v n cs w [] k refl)
     (λ k. still v w [] k.1 refl)
 
-message : (n : Node) (s : ℕ) (body : Body) (cs : List Choice) (m : Node) (changes : List ViewChange)
-    (sends : List (ℕ × Message)) → Allowed n (receives s body) cs m changes sends → Tracks n.views changes m.views
+message : (n : HyParViewState) (s : ℕ) (body : Body) (cs : List Choice) (m : HyParViewState) (changes : List ViewChange)
+    (sends : List (ℕ × Message)) → Allowed n (hears s body) cs m changes sends → Tracks n.views changes m.views
 message n s Join cs m changes sends h =
     either_way (eqb s n.views.me) _ _ _ (idle n.views cs m.views changes sends)
     (λ k. enters n.views s cs m.views changes k.0) h.1
@@ -179,17 +179,22 @@ message n s (ShuffleReply ids) cs m changes sends h =
     either_way (eqb s n.views.me) _ _ _ (idle n.views cs m.views changes sends)
     (λ k. with_none n.views m.views changes k.1 (integrated n.views ids n.sent cs m.views k.0)) h.1
 message n s (Gossip id round payload) cs m changes sends h =
-    still n.views m.views changes (ap (λ (u : Node). u.views) h.0.1) h.0.2
-message n s (IHave id) cs m changes sends h = still n.views m.views changes (ap (λ (u : Node). u.views) h.0.1) h.0.2
-message n s (Graft id) cs m changes sends h = still n.views m.views changes (ap (λ (u : Node). u.views) h.0.1) h.0.2
-message n s Prune cs m changes sends h = still n.views m.views changes (ap (λ (u : Node). u.views) h.0.1) h.0.2
+    still n.views m.views changes (ap (λ (u : HyParViewState). u.views) h.0.1) h.0.2
+message n s (IHave id) cs m changes sends h =
+    still n.views m.views changes (ap (λ (u : HyParViewState). u.views) h.0.1) h.0.2
+message n s (Graft id) cs m changes sends h =
+    still n.views m.views changes (ap (λ (u : HyParViewState). u.views) h.0.1) h.0.2
+message n s Prune cs m changes sends h =
+    still n.views m.views changes (ap (λ (u : HyParViewState). u.views) h.0.1) h.0.2
 
 -- at every step that is allowed
-pub tracked : (n : Node) (p : NodeInput) (cs : List Choice) (m : Node) (changes : List ViewChange)
-    (sends : List (ℕ × Message)) → Allowed n p cs m changes sends → Tracks n.views changes m.views
-tracked n (boots None) cs m changes sends h = still n.views m.views changes (ap (λ (u : Node). u.views) h.0.1) h.0.2
+pub tracked : (n : HyParViewState) (p : HyParViewInput) (cs : List Choice) (m : HyParViewState)
+    (changes : List ViewChange) (sends : List (ℕ × Message)) → Allowed n p cs m changes sends
+    → Tracks n.views changes m.views
+tracked n (boots None) cs m changes sends h =
+    still n.views m.views changes (ap (λ (u : HyParViewState). u.views) h.0.1) h.0.2
 tracked n (boots (Some contact)) cs m changes sends h =
-    still n.views m.views changes (ap (λ (u : Node). u.views) h.0.1) h.0.2
-tracked n (receives s body) cs m changes sends h = message n s body cs m changes sends h
+    still n.views m.views changes (ap (λ (u : HyParViewState). u.views) h.0.1) h.0.2
+tracked n (hears s body) cs m changes sends h = message n s body cs m changes sends h
 tracked n (hears_of_crash p) cs m changes sends h = forgets n.views p m.views changes h.1.0
 tracked n shuffles cs m changes sends h = still n.views m.views changes h.0 h.2

@@ -1,11 +1,11 @@
--- The step of a handler, which is handed only some parts of the node: the step is allowed whatever the other parts
--- are. Its choices are drawn from the random words before it, and it leaves those after it. v are the views before
--- the step and w those after, a and b the attempt, s and t the list of the last shuffle.
+-- The step of a handler, which is handed only some parts of HyParView's state: the step is allowed whatever the other
+-- parts are. Its choices are drawn from the random words before it, and it leaves those after it. v are the views
+-- before the step and w those after, a and b the attempt, s and t the list of the last shuffle.
 use Rattle.std.specs.Prelude.{ℕ, List}
 use Rattle.ov_words.specs.Pick.{Drawn}
 use Rattle.ov_views.specs.ViewsState.{ViewsState}
 use Rattle.ov_views.specs.NeighborRows.{AttemptState}
-use Rattle.ov_views.specs.Allowed.{Node, NodeInput, Allowed}
+use Rattle.ov_views.specs.Allowed.{HyParViewState, HyParViewInput, Allowed}
 use Rattle.ov_views.specs.declared.moves.Moves.{Moves}
 
 -- how many random words a handler must find, of which none draws more than 17: chosen here
@@ -17,20 +17,20 @@ abbrev pub step_sends : ℕ
 step_sends = 17
 
 -- a handler that is handed the views alone
-abbrev pub ViewsStep : ViewsState → List ℕ → NodeInput → ViewsState → List ℕ → Moves → Type 0
+abbrev pub ViewsStep : ViewsState → List ℕ → HyParViewInput → ViewsState → List ℕ → Moves → Type 0
 ViewsStep v before input w after moves =
-    Drawn before after (λ choices. (n : Node) → Allowed (record n { views = v }) input choices
+    Drawn before after (λ choices. (n : HyParViewState) → Allowed (record n { views = v }) input choices
     (record n { views = w }) moves.changes.items moves.sends.items)
 
 -- a handler that is handed the views and the attempt
 abbrev pub AttemptStep :
-    ViewsState → AttemptState → List ℕ → NodeInput → ViewsState → AttemptState → List ℕ → Moves → Type 0
+    ViewsState → AttemptState → List ℕ → HyParViewInput → ViewsState → AttemptState → List ℕ → Moves → Type 0
 AttemptStep v a before input w b after moves =
-    Drawn before after (λ choices. (n : Node) → Allowed (record n { views = v; attempt = a }) input choices
+    Drawn before after (λ choices. (n : HyParViewState) → Allowed (record n { views = v; attempt = a }) input choices
     (record n { views = w; attempt = b }) moves.changes.items moves.sends.items)
 
 -- a handler that is handed the views and the list of the last shuffle
-abbrev pub SentStep : ViewsState → List ℕ → List ℕ → NodeInput → ViewsState → List ℕ → List ℕ → Moves → Type 0
+abbrev pub SentStep : ViewsState → List ℕ → List ℕ → HyParViewInput → ViewsState → List ℕ → List ℕ → Moves → Type 0
 SentStep v s before input w t after moves =
-    Drawn before after (λ choices. (n : Node) → Allowed (record n { views = v; sent = s }) input choices
+    Drawn before after (λ choices. (n : HyParViewState) → Allowed (record n { views = v; sent = s }) input choices
     (record n { views = w; sent = t }) moves.changes.items moves.sends.items)

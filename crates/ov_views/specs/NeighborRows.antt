@@ -94,11 +94,11 @@ AllowedDisconnect v s choices w changes sends =
     MatchBool ((s == v.me) || not (has v.active s)) (Idles v choices w changes sends)
     ((u : ViewsState) × RemovesActive v s u changes × AddsPassive u s choices w × (sends ≡ []))
 
--- A report that p crashed: p leaves the view that has it. Where it was active, a new attempt begins with nobody
+-- A crash report of p: p leaves the view that has it. Where it was active, a new attempt begins with nobody
 -- tried, in place of one that waits. Otherwise, where the attempt waits for p, it goes on
-abbrev pub AllowedReport : ViewsState → AttemptState → ℕ → List Choice → ViewsState → AttemptState →
+abbrev pub AllowedCrashReport : ViewsState → AttemptState → ℕ → List Choice → ViewsState → AttemptState →
     List ViewChange → List (ℕ × Message) → Type 0
-AllowedReport v a p choices w b changes sends =
+AllowedCrashReport v a p choices w b changes sends =
     Forgets v p w changes
     × MatchBool (has v.active p) (GoesOnAsking w [] choices b sends)
     (MatchBool (awaits a p) (GoesOnAsking w a.tried choices b sends) ((choices ≡ []) × (b ≡ a) × (sends ≡ [])))

@@ -8,7 +8,7 @@
 //!
 //! The rules of the whole behaviour are in `specs/`: `Changes` and `Sampling` for the operations, `JoinRows`,
 //! `NeighborRows` and `ShuffleRows` for the inputs of a node, and `Allowed` for one step at any input. `Handling`
-//! says what a handler owes.
+//! says what a handler promises.
 #![tactic(auto)]
 
 mod change;

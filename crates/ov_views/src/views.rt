@@ -1,5 +1,6 @@
 ghost use Rattle.std.specs.Prelude.{◌≡◌, ◌≤◌, ◌<◌, ◌+◌, ◌↔◌, ℕ, List, [], ◌∷◌, ◌++◌, Some, None, length, min};
 ghost use Rattle.std.specs.Prelude.{IsTrue, MatchBool};
+ghost use Rattle.ov_ids.specs.Members.{Has};
 ghost use Rattle.ov_ids.specs.Sets.{IsSet, IsIn, has, without, without_all};
 ghost use Rattle.ov_words.specs.Pick.{Drawn, Choice};
 ghost use Rattle.ov_views.specs.ViewsState.{ViewsState, AreViews, has_place, is_close, is_known, members};
@@ -101,7 +102,7 @@ impl Views {
 
     /// Whether the node is active.
     pub fn is_active(&self, id: NodeId) -> bool
-        ensures member { IsTrue result ↔ IsIn self.now.active id }
+        ensures member { IsTrue result ↔ Has self.now.active id }
         ensures value { result ≡ has self.now.active id }
     {
         self.active.contains(id)

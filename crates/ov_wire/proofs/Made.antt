@@ -7,7 +7,7 @@ use Rattle.ov_wire.specs.declared.fault.WireFault.{WireFault}
 use Rattle.ov_wire.specs.declared.message.Message.{Message}
 use Rattle.ov_wire.specs.Fields.{Ids, Payload, up_to, any, Value, One, Many, AllFit, Spells}
 use Rattle.ov_wire.specs.Limits.{most_ttl}
-use Rattle.ov_wire.specs.Messages.{kinds, fields_of, kind_of, said, Spelling}
+use Rattle.ov_wire.specs.Messages.{kinds, fields_of, kind_of, own_values, most_kind, Spelling}
 use Rattle.ov_wire.specs.Theorems.{SpelledOrAtFault}
 use Rattle.ov_wire.specs.Code.Reading.{values_at}
 use Rattle.ov_wire.proofs.Numbers.{IsBytes}
@@ -21,7 +21,7 @@ no_values : (vs : List Value) → AllFit [] vs → [] ≡ vs
 no_values [] fit = refl
 no_values (v ∷ vs) fit = absurd fit
 
-forward_join_says : (vs : List Value) → AllFit (any w32 ∷ up_to w8 most_ttl ∷ []) vs → said (body_in 2 vs) ≡ vs
+forward_join_says : (vs : List Value) → AllFit (any w32 ∷ up_to w8 most_ttl ∷ []) vs → own_values (body_in 2 vs) ≡ vs
 unfolding body_in number_in
 forward_join_says (One a ∷ One b ∷ []) fit = refl
 forward_join_says (One a ∷ One b ∷ v ∷ vs) fit = absurd fit.1.1
@@ -30,7 +30,7 @@ forward_join_says (One a ∷ []) fit = absurd fit.1
 forward_join_says (Many a ∷ vs) fit = absurd fit.0
 forward_join_says [] fit = absurd fit
 
-neighbor_says : (vs : List Value) → AllFit (up_to w8 1 ∷ []) vs → said (body_in 4 vs) ≡ vs
+neighbor_says : (vs : List Value) → AllFit (up_to w8 1 ∷ []) vs → own_values (body_in 4 vs) ≡ vs
 unfolding body_in number_in
 neighbor_says (One zero ∷ []) fit = refl
 neighbor_says (One (suc zero) ∷ []) fit = refl
@@ -39,7 +39,7 @@ neighbor_says (One a ∷ v ∷ vs) fit = absurd fit.1
 neighbor_says (Many a ∷ vs) fit = absurd fit.0
 neighbor_says [] fit = absurd fit
 
-reply_says : (vs : List Value) → AllFit (up_to w8 1 ∷ []) vs → said (body_in 5 vs) ≡ vs
+reply_says : (vs : List Value) → AllFit (up_to w8 1 ∷ []) vs → own_values (body_in 5 vs) ≡ vs
 unfolding body_in number_in
 reply_says (One zero ∷ []) fit = refl
 reply_says (One (suc zero) ∷ []) fit = refl
@@ -48,7 +48,7 @@ reply_says (One a ∷ v ∷ vs) fit = absurd fit.1
 reply_says (Many a ∷ vs) fit = absurd fit.0
 reply_says [] fit = absurd fit
 
-shuffle_says : (vs : List Value) → AllFit (any w32 ∷ up_to w8 most_ttl ∷ Ids ∷ []) vs → said (body_in 7 vs) ≡ vs
+shuffle_says : (vs : List Value) → AllFit (any w32 ∷ up_to w8 most_ttl ∷ Ids ∷ []) vs → own_values (body_in 7 vs) ≡ vs
 unfolding body_in number_in list_in
 shuffle_says (One a ∷ One b ∷ Many c ∷ []) fit = refl
 shuffle_says (One a ∷ One b ∷ Many c ∷ v ∷ vs) fit = absurd fit.1.1.1
@@ -59,14 +59,15 @@ shuffle_says (One a ∷ []) fit = absurd fit.1
 shuffle_says (Many a ∷ vs) fit = absurd fit.0
 shuffle_says [] fit = absurd fit
 
-shuffle_reply_says : (vs : List Value) → AllFit (Ids ∷ []) vs → said (body_in 8 vs) ≡ vs
+shuffle_reply_says : (vs : List Value) → AllFit (Ids ∷ []) vs → own_values (body_in 8 vs) ≡ vs
 unfolding body_in number_in list_in
 shuffle_reply_says (Many a ∷ []) fit = refl
 shuffle_reply_says (Many a ∷ v ∷ vs) fit = absurd fit.1
 shuffle_reply_says (One a ∷ vs) fit = absurd fit.0
 shuffle_reply_says [] fit = absurd fit
 
-gossip_says : (vs : List Value) → AllFit (any w32 ∷ any w32 ∷ any w16 ∷ Payload ∷ []) vs → said (body_in 9 vs) ≡ vs
+gossip_says : (vs : List Value) → AllFit (any w32 ∷ any w32 ∷ any w16 ∷ Payload ∷ []) vs
+    → own_values (body_in 9 vs) ≡ vs
 unfolding body_in number_in list_in
 gossip_says (One a ∷ One b ∷ One c ∷ Many d ∷ []) fit = refl
 gossip_says (One a ∷ One b ∷ One c ∷ Many d ∷ v ∷ vs) fit = absurd fit.1.1.1.1
@@ -91,10 +92,10 @@ id_says [] fit = absurd fit
 -- the body has this kind and these values
 record Says (kind : ℕ) (vs : List Value) : Type 0 where
   same_kind : kind_of (body_in kind vs) ≡ kind
-  same_values : said (body_in kind vs) ≡ vs
+  same_values : own_values (body_in kind vs) ≡ vs
 
-body_says : (kind : ℕ) → 1 ≤ kind → kind ≤ 12 → (vs : List Value) → AllFit (slice_index_or kinds (kind - 1) []) vs
-    → Says kind vs
+body_says : (kind : ℕ) → 1 ≤ kind → kind ≤ most_kind → (vs : List Value)
+    → AllFit (slice_index_or kinds (kind - 1) []) vs → Says kind vs
 unfolding body_in
 body_says zero low high vs fit = absurd (omega arith)
 body_says (suc zero) low high vs fit = record { same_kind = refl; same_values = no_values vs fit }
@@ -138,10 +139,13 @@ made_of kind bytes (One a ∷ One b ∷ One c ∷ vs) is s =
     let m : Message = record { from = c; body = body_in kind vs } in
     let whole : Spells (fields_of kind) (One 1 ∷ One kind ∷ One c ∷ vs) bytes =
     subst (λ (x : List Value). Spells (fields_of kind) x bytes) (cc (one, same)) s in
-    let values : Spells (fields_of kind) (One 1 ∷ One kind ∷ One c ∷ said m.body) bytes =
+    let values : Spells (fields_of kind) (One 1 ∷ One kind ∷ One c ∷ own_values m.body) bytes =
     subst (λ (x : List Value). Spells (fields_of kind) (One 1 ∷ One kind ∷ One c ∷ x) bytes)
-    (sym says.same_values) whole in
-    (m, subst (λ (k : ℕ). Spells (fields_of k) (One 1 ∷ One k ∷ One c ∷ said m.body) bytes) (sym says.same_kind) values)
+    (sym says.same_values) whole in (
+      m,
+      subst (λ (k : ℕ). Spells (fields_of k) (One 1 ∷ One k ∷ One c ∷ own_values m.body) bytes) (sym says.same_kind)
+          values,
+    )
 
 pub some_message : (bytes : List ℕ) (vs : List Value)
     → IsBytes bytes → values_at (fields_of (slice_index bytes 1)) bytes ≡ Ok vs → (m : Message) × Spelling m bytes

@@ -9,7 +9,7 @@ use Rattle.ov_wire.specs.declared.message.Body.TheVariants.{Join, ForwardJoin, J
 use Rattle.ov_wire.specs.declared.message.Body.TheVariants.{Disconnect, Shuffle, ShuffleReply, Gossip, IHave, Graft}
 use Rattle.ov_wire.specs.declared.message.Body.TheVariants.{Prune}
 use Rattle.ov_wire.specs.Fields.{Field, Value, One, AllFit}
-use Rattle.ov_wire.specs.Messages.{kinds, fields_of, kind_of, said, Spelling, IsBodyInRange, AreInRange}
+use Rattle.ov_wire.specs.Messages.{kinds, fields_of, kind_of, own_values, Spelling, IsBodyInRange, AreInRange}
 use Rattle.ov_wire.specs.Faults.{FirstFault}
 use Rattle.ov_wire.specs.Code.Meaning.{number_in, list_in, body_in, message_with, message_in}
 use Rattle.ov_wire.specs.Code.Reading.{values_at}
@@ -64,9 +64,9 @@ sound kind = (wide8, (wide8, (wide32, row_sound kinds kinds_sound (kind - 1))))
 -- ---- the values of a message, and the message of values
 
 abbrev pub values_of : Message → List Value
-values_of m = One 1 ∷ One (kind_of m.body) ∷ One m.from ∷ said m.body
+values_of m = One 1 ∷ One (kind_of m.body) ∷ One m.from ∷ own_values m.body
 
-body_again : (b : Body) → body_in (kind_of b) (said b) ≡ b
+body_again : (b : Body) → body_in (kind_of b) (own_values b) ≡ b
 unfolding number_in list_in body_in
 body_again Join = refl
 body_again (ForwardJoin node ttl) = refl
@@ -86,9 +86,9 @@ body_again Prune = refl
 same_message : (m n : Message) → values_of m ≡ values_of n → m ≡ n
 same_message m n e =
     let kinds_are : kind_of m.body ≡ kind_of n.body = cc in
-    let said_are : said m.body ≡ said n.body = cc in
+    let values_are : own_values m.body ≡ own_values n.body = cc in
     let from_are : m.from ≡ n.from = cc in
-    let bodies : m.body ≡ n.body = sym (body_again m.body) ∙ ap₂ body_in kinds_are said_are ∙ body_again n.body in
+    let bodies : m.body ≡ n.body = sym (body_again m.body) ∙ ap₂ body_in kinds_are values_are ∙ body_again n.body in
     let made : ℕ → Body → Message = λ f b. record { from = f; body = b } in
     ap₂ made from_are bodies
 
@@ -119,7 +119,7 @@ is_spelled m bytes fits is e =
     values_read (fields_of (kind_of m.body)) (sound (kind_of m.body)) bytes (values_of m) fits
     (ap (λ (k : ℕ). values_at (fields_of k) bytes) is ∙ e)
 
-body_in_range : (b : Body) → AllFit (slice_index_or kinds (kind_of b - 1) []) (said b) → IsBodyInRange b
+body_in_range : (b : Body) → AllFit (slice_index_or kinds (kind_of b - 1) []) (own_values b) → IsBodyInRange b
 body_in_range Join fit = tt
 body_in_range (ForwardJoin node ttl) fit = fit.1.0.2
 body_in_range Joined fit = tt

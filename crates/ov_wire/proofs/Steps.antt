@@ -9,7 +9,7 @@ use Rattle.ov_wire.specs.declared.fault.WireFault.{WireFault}
 use Rattle.ov_wire.specs.declared.fault.WireFault.TheVariants.{Short, BadVersion, BadKind, BadField, Trailing}
 use Rattle.ov_wire.specs.declared.fault.WireFault.TheVariants.{OutOfMemory}
 use Rattle.ov_wire.specs.Fields.{Value, One}
-use Rattle.ov_wire.specs.Messages.{kinds, fields_of}
+use Rattle.ov_wire.specs.Messages.{kinds, fields_of, most_kind}
 use Rattle.ov_wire.specs.Code.Reading.{◌>>=◌, number_at, bytes_at, values_at, Fails}
 
 -- a step that did not fail has a value
@@ -89,7 +89,7 @@ regroup a b c (Err e) = refl
 
 -- after version, kind and sender the fields of the kind are read
 pub read_on : (bytes r1 r2 r3 : List ℕ) (v kind from : ℕ)
-    → number_at w8 1 1 BadVersion bytes ≡ Ok (v, r1) → number_at w8 1 12 BadKind r1 ≡ Ok (kind, r2)
+    → number_at w8 1 1 BadVersion bytes ≡ Ok (v, r1) → number_at w8 1 most_kind BadKind r1 ≡ Ok (kind, r2)
     → number_at w32 0 (256 ^ 4 - 1) BadField r2 ≡ Ok (from, r3)
     → values_at (fields_of kind) bytes
     ≡ (values_at (slice_index_or kinds (kind - 1) []) r3 >>= λ vs. Ok (One v ∷ One kind ∷ One from ∷ vs))

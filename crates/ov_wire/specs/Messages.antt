@@ -34,9 +34,13 @@ kinds =
 abbrev pub own_fields : ℕ → List Field
 own_fields kind = slice_index_or kinds (kind - 1) []
 
+-- the last kind
+abbrev pub most_kind : ℕ
+most_kind = 12
+
 -- All fields of a message of this kind: version, kind and sender come first.
 abbrev pub fields_of : ℕ → List Field
-fields_of kind = Number w8 1 1 BadVersion ∷ Number w8 1 12 BadKind ∷ any w32 ∷ own_fields kind
+fields_of kind = Number w8 1 1 BadVersion ∷ Number w8 1 most_kind BadKind ∷ any w32 ∷ own_fields kind
 
 -- the kind of a message that says this
 abbrev pub kind_of : Body → ℕ
@@ -62,23 +66,24 @@ abbrev pub flag : Bool → ℕ
 flag b = if b then 1 else 0
 
 -- the values of the fields after the sender
-abbrev pub said : Body → List Value
-said Join = []
-said (ForwardJoin node ttl) = One node ∷ One ttl ∷ []
-said Joined = []
-said (Neighbor high) = One (flag high) ∷ []
-said (NeighborReply accepted) = One (flag accepted) ∷ []
-said Disconnect = []
-said (Shuffle origin ttl ids) = One origin ∷ One ttl ∷ Many ids ∷ []
-said (ShuffleReply ids) = Many ids ∷ []
-said (Gossip id round payload) = One id.origin ∷ One id.seq ∷ One round ∷ Many payload ∷ []
-said (IHave id) = One id.origin ∷ One id.seq ∷ []
-said (Graft id) = One id.origin ∷ One id.seq ∷ []
-said Prune = []
+abbrev pub own_values : Body → List Value
+own_values Join = []
+own_values (ForwardJoin node ttl) = One node ∷ One ttl ∷ []
+own_values Joined = []
+own_values (Neighbor high) = One (flag high) ∷ []
+own_values (NeighborReply accepted) = One (flag accepted) ∷ []
+own_values Disconnect = []
+own_values (Shuffle origin ttl ids) = One origin ∷ One ttl ∷ Many ids ∷ []
+own_values (ShuffleReply ids) = Many ids ∷ []
+own_values (Gossip id round payload) = One id.origin ∷ One id.seq ∷ One round ∷ Many payload ∷ []
+own_values (IHave id) = One id.origin ∷ One id.seq ∷ []
+own_values (Graft id) = One id.origin ∷ One id.seq ∷ []
+own_values Prune = []
 
 -- The bytes spell the message: version 1, its kind, its sender and what it says, in the fields of its kind.
 abbrev pub Spelling : Message → List ℕ → Type 0
-Spelling m bytes = Spells (fields_of (kind_of m.body)) (One 1 ∷ One (kind_of m.body) ∷ One m.from ∷ said m.body) bytes
+Spelling m bytes =
+    Spells (fields_of (kind_of m.body)) (One 1 ∷ One (kind_of m.body) ∷ One m.from ∷ own_values m.body) bytes
 
 -- the time to live, the number of ids and the length of the payload are within their limits
 abbrev pub IsBodyInRange : Body → Type 0

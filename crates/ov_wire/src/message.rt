@@ -4,6 +4,9 @@ ghost use Rattle.ov_wire.specs.Messages.{HasList, kind_of};
 use ov_ids::{MsgId, NodeId, OutOfMemory, Seq};
 use std::alloc::Global;
 
+/// The last kind of a message. (Chosen here.)
+pub(crate) const MAX_KIND: u8 = 12;
+
 /// The greatest time to live of a message on a random walk. (Chosen here.)
 pub const MAX_TTL: u8 = 15;
 

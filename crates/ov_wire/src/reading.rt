@@ -6,11 +6,12 @@ ghost use Rattle.ov_wire.specs.declared.fault.WireFault.TheVariants.{OutOfMemory
 ghost use Rattle.ov_wire.specs.declared.message.Message.{Message};
 ghost use Rattle.ov_wire.specs.Faults.{FirstFault};
 ghost use Rattle.ov_wire.specs.Fields.{up_to, any, Number, Ids, Payload, One, Many};
-ghost use Rattle.ov_wire.specs.Messages.{own_fields, fields_of, kind_of, said, flag, HasList, Spelling, AreInRange};
+ghost use Rattle.ov_wire.specs.Messages.{own_fields, fields_of, kind_of, own_values, flag, HasList, Spelling};
+ghost use Rattle.ov_wire.specs.Messages.{AreInRange, most_kind};
 ghost use Rattle.ov_wire.specs.Code.Reading.{Reads, Gives, number_at, values_at, ids_in};
 
 use crate::fault::WireFault;
-use crate::message::{Body, MAX_IDS, MAX_PAYLOAD, MAX_TTL, Message};
+use crate::message::{Body, MAX_IDS, MAX_KIND, MAX_PAYLOAD, MAX_TTL, Message};
 use ov_ids::{MsgId, NodeId, Seq};
 use std::alloc::{AllocError, Global};
 
@@ -132,7 +133,7 @@ fn last_id(bytes: &[u8]) -> Result<MsgId, WireFault>
 }
 
 fn forward_join(bytes: &[u8]) -> Result<Body, WireFault>
-    ensures read { Reads said result (values_at (own_fields 2) bytes.now) }
+    ensures read { Reads own_values result (values_at (own_fields 2) bytes.now) }
     ensures kind { IfOk result (λ body. kind_of body ≡ 2) }
 {
     let (node, rest) = u32_at(bytes)?;
@@ -154,7 +155,7 @@ fn last_flag(bytes: &[u8]) -> Result<bool, WireFault>
 }
 
 fn shuffle(alloc: Global, bytes: &[u8]) -> Result<Body, WireFault>
-    ensures read { Gives said result (values_at (own_fields 7) bytes.now) }
+    ensures read { Gives own_values result (values_at (own_fields 7) bytes.now) }
     ensures kind { IfOk result (λ body. kind_of body ≡ 7) }
 {
     let (origin, rest) = u32_at(bytes)?;
@@ -168,7 +169,7 @@ fn shuffle(alloc: Global, bytes: &[u8]) -> Result<Body, WireFault>
 }
 
 fn gossip(alloc: Global, bytes: &[u8]) -> Result<Body, WireFault>
-    ensures read { Gives said result (values_at (own_fields 9) bytes.now) }
+    ensures read { Gives own_values result (values_at (own_fields 9) bytes.now) }
     ensures kind { IfOk result (λ body. kind_of body ≡ 9) }
 {
     let (origin, rest) = u32_at(bytes)?;
@@ -185,8 +186,8 @@ fn gossip(alloc: Global, bytes: &[u8]) -> Result<Body, WireFault>
 /// Reads the body of a message of this kind.
 fn body_of(alloc: Global, kind: u8, bytes: &[u8]) -> Result<Body, WireFault>
     requires low { 1 ≤ kind }
-    requires high { kind ≤ 12 }
-    ensures read { Gives said result (values_at (own_fields kind) bytes.now) }
+    requires high { kind ≤ most_kind }
+    ensures read { Gives own_values result (values_at (own_fields kind) bytes.now) }
     ensures kind { IfOk result (λ body. kind_of body ≡ kind) }
     ensures memory { IsErrOf result OutOfMemory → HasList kind }
 {
@@ -223,13 +224,13 @@ fn body_of(alloc: Global, kind: u8, bytes: &[u8]) -> Result<Body, WireFault>
 
 /// Reads a message, by all fields of its kind.
 fn message_of(alloc: Global, bytes: &[u8]) -> Result<Message, WireFault>
-    ensures read { Gives (λ m. One 1 ∷ One (kind_of m.body) ∷ One m.from ∷ said m.body) result
+    ensures read { Gives (λ m. One 1 ∷ One (kind_of m.body) ∷ One m.from ∷ own_values m.body) result
         (values_at (fields_of (slice_index bytes.now 1)) bytes.now) }
     ensures kind { IfOk result (λ m. kind_of m.body ≡ slice_index bytes.now 1) }
     ensures memory { IsErrOf result OutOfMemory → HasList (slice_index bytes.now 1) }
 {
     let (_, rest) = byte_at(1, 1, WireFault::BadVersion, bytes)?;
-    let (kind, rest) = byte_at(1, 12, WireFault::BadKind, rest)?;
+    let (kind, rest) = byte_at(1, MAX_KIND, WireFault::BadKind, rest)?;
     let (from, rest) = u32_at(rest)?;
     let body = body_of(alloc, kind, rest)?;
     Ok(Message {

@@ -2,7 +2,7 @@ ghost use Rattle.std.specs.Prelude.{◌≡◌, ◌≤◌, ◌∷◌, ◌+◌, �
 ghost use Rattle.std.specs.Int.{w32};
 ghost use Rattle.ov_wire.specs.Fields.{spelled, spelled_all, AllFit, Fits, any, Ids, Payload, One, Many};
 ghost use Rattle.ov_wire.specs.Limits.{most_ids, most_payload};
-ghost use Rattle.ov_wire.specs.Messages.{own_fields, kind_of, said, Spelling, AreInRange, IsBodyInRange};
+ghost use Rattle.ov_wire.specs.Messages.{own_fields, kind_of, own_values, Spelling, AreInRange, IsBodyInRange};
 
 use crate::message::{Body, Message};
 use ov_ids::{MsgId, NodeId, OutOfMemory};
@@ -61,7 +61,7 @@ fn kind_of(body: &Body) -> u8
 /// The number of bytes of a message with this body.
 fn len_of(body: &Body) -> usize
     requires { IsBodyInRange body.now }
-    ensures { result ≡ 6 + length (spelled_all (own_fields (kind_of body.now)) (said body.now)) }
+    ensures { result ≡ 6 + length (spelled_all (own_fields (kind_of body.now)) (own_values body.now)) }
 {
     match body {
         Body::Join | Body::Joined | Body::Disconnect | Body::Prune => 6,
@@ -77,8 +77,8 @@ fn len_of(body: &Body) -> usize
 fn put_body(out: &mut Vec<u8>, body: &Body) -> Result<(), AllocError>
     requires { IsBodyInRange body.now }
     ensures ok { OnOk result (out.new.items ≡
-        out.old.items ++ spelled_all (own_fields (kind_of body.now)) (said body.now)) }
-    ensures fit { OnOk result (AllFit (own_fields (kind_of body.now)) (said body.now)) }
+        out.old.items ++ spelled_all (own_fields (kind_of body.now)) (own_values body.now)) }
+    ensures fit { OnOk result (AllFit (own_fields (kind_of body.now)) (own_values body.now)) }
 {
     match body {
         Body::Join | Body::Joined | Body::Disconnect | Body::Prune => Ok(()),

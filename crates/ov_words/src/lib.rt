@@ -5,4 +5,4 @@ mod draws;
 mod words;
 
 pub use draws::Draws;
-pub use words::Words;
+pub use words::{WORDS_PER_EVENT, Words};

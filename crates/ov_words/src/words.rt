@@ -4,9 +4,12 @@ ghost use Rattle.ov_words.specs.Stream.{AreOutputs, words_per_event};
 use rand_core::Rng;
 use std::marker::Model;
 
+/// How many random words come with an event. (Chosen here.)
+pub const WORDS_PER_EVENT: usize = 64;
+
 /// The 64 random words that come with an event. Its random choices are drawn from them. Contracts see them in order.
 #[derive(Clone, Copy, Debug, PartialEq, Eq)]
-pub struct Words([u64; 64]);
+pub struct Words([u64; WORDS_PER_EVENT]);
 
 impl Model for Words {
     ghost use Rattle.std.specs.Prelude.{◌≡◌, List, ℕ, length};
@@ -23,7 +26,7 @@ impl Model for Words {
 
 impl Words {
     /// These words, in this order.
-    pub fn new(words: [u64; 64]) -> Words
+    pub fn new(words: [u64; WORDS_PER_EVENT]) -> Words
         ensures value { result ≡ words }
         ensures count { length result ≡ words_per_event }
     {
@@ -36,7 +39,7 @@ impl Words {
         ensures outputs { AreOutputs (R.stream rng.old) result (R.stream rng.new) }
         ensures count { length result ≡ words_per_event }
     {
-        let mut outputs = [0; 64];
+        let mut outputs = [0; WORDS_PER_EVENT];
         for word in outputs.iter_mut() {
             *word = rng.next_u64();
         }

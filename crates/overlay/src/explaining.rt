@@ -18,7 +18,7 @@ pub(crate) struct Explaining<'a> {
 }
 
 impl<'a> Explaining<'a> {
-    /// Of a run of the scenario file of these bytes, if it says a scenario.
+    /// A watcher of the run of a scenario file of these bytes. None where they say no scenario, and out of memory.
     pub(crate) fn new(rt: &'a HostRuntime, bytes: &[u8]) -> Option<Explaining<'a>> {
         let scenario = read_scenario(rt.alloc(), bytes).ok()?;
         let numbers = numbers_of_run_lines(rt.alloc(), bytes).ok()?;

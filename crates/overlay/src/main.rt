@@ -2,11 +2,18 @@
 //! nodes part it.
 #![tactic(auto)]
 
-ghost use Rattle.std.specs.Prelude.{◌≡◌, ◌≤◌};
-ghost use Rattle.ov_claims.specs.Claims.{most_workers};
-ghost use Rattle.ov_run.specs.Arguments.{HasWorkers};
+ghost use Rattle.std.specs.Prelude.{◌≡◌, ◌≢◌, ◌⊎◌, ◌+◌, ◌<◌, ℕ, List, drop, map, option_map, string_bytes};
+ghost use Rattle.std.specs.Prelude.{Some, Err, IfOk, IfErr, OnOk};
+ghost use Rattle.ov_io.specs.Device.{most_faults};
+ghost use Rattle.ov_run.specs.Analysing.{PrintsAnalysis, BeginsAnalysis};
+ghost use Rattle.ov_run.specs.Arguments.{AreTaken};
+ghost use Rattle.ov_run.specs.Ending.{Begins};
+ghost use Rattle.ov_run.specs.Faults.{write_failures, IsAnalysisFault, IsOfReading, IsRunFault};
+ghost use Rattle.ov_run.specs.Run.{IsRun};
+ghost use Rattle.ov_run.specs.Running.{PrintsScenario};
+ghost use Rattle.ov_run.specs.declared.arguments.ArgumentsFault.TheVariants.{BadArguments};
 ghost use Rattle.ov_run.specs.declared.program_outcome.ProgramFault.TheVariants.{Arguments, Run};
-ghost use Rattle.ov_run.specs.declared.run_fault.RunFault.TheVariants.{Read as read_failed};
+ghost use Rattle.overlay.specs.Done.{AnalysedGraph, AreAnswered, IsDone, RanScenario};
 
 mod explaining;
 mod progress;
@@ -14,15 +21,15 @@ mod progress;
 use crate::explaining::Explaining;
 use crate::progress::Progress;
 use ov_ids::{NodeId, OutOfMemory};
-use ov_io::{Sink, Source, shown_name};
+use ov_io::{Sink, Source, unopened_text, unread_text};
 use ov_reasons::{argument_reasons, graph_reasons, group_reason, scenario_reasons};
 use ov_run::{
-    ArgumentsFault, ProgramFault, Request, RunFault, analyse_file, exit_status, read_arguments,
-    run, run_watched,
+    AnalysisRequest, ArgumentsFault, ProgramFault, Request, RunFault, analyse_file, exit_status,
+    read_arguments, run, run_watched,
 };
 use std::env;
 use std::fs::File;
-use std::io::{self, IsTerminal, Read};
+use std::io::{self, IsTerminal, Read, Write};
 use std::process::ExitCode;
 use std::thread::Threads;
 
@@ -35,10 +42,9 @@ fn main(rt: HostRuntime) -> ExitCode {
 }
 
 /// Prints the line of a fault of a run or an analysis.
-fn print_fault(rt: &HostRuntime, fault: RunFault) -> ProgramFault
-    ensures { result ≡ Run fault }
+fn print_fault(rt: &HostRuntime, fault: RunFault) -> RunFault
+    ensures { result ≡ fault }
 {
-    let fault = ProgramFault::Run(fault);
     let _ = eprintln!(rt; "{fault}");
     fault
 }
@@ -50,13 +56,28 @@ fn print_reason(rt: &HostRuntime, reason: Result<String, OutOfMemory>) {
     }
 }
 
-/// Does what the arguments ask for.
-fn overlay<T: Threads + Sync>(rt: &HostRuntime, threads: &T) -> Result<u8, ProgramFault> {
-    let command_line = match command_line(rt) {
-        Ok(texts) => texts,
-        Err(fault) => return Err(unread_arguments(rt, fault, &[])),
-    };
-    let arguments = behind_name(&command_line);
+/// Does what the command line asks for.
+fn overlay<T: Threads + Sync>(rt: &HostRuntime, threads: &T) -> Result<u8, ProgramFault>
+    ensures status { IfOk result (λ status. status ≡ 0) }
+    ensures done { OnOk result ((arguments : List (List ℕ)) × AreAnswered arguments) }
+{
+    match command_line(rt) {
+        Ok(texts) => answer(rt, threads, behind_name(&texts)),
+        Err(fault) => Err(unread_arguments(rt, fault, &[])),
+    }
+}
+
+/// Does what these arguments ask for.
+fn answer<T: Threads + Sync>(
+    rt: &HostRuntime,
+    threads: &T,
+    arguments: &[String],
+) -> Result<u8, ProgramFault>
+    ensures status { IfOk result (λ status. status ≡ 0) }
+    ensures done { OnOk result (AreAnswered (map (λ argument. string_bytes argument) arguments.now)) }
+    ensures taken { AreTaken (map (λ argument. string_bytes argument) arguments.now)
+        → (result ≢ Err (Arguments BadArguments)) }
+{
     match read_arguments(rt.alloc(), arguments) {
         Ok(request) => do_asked(rt, threads, request),
         Err(fault) => Err(unread_arguments(rt, fault, arguments)),
@@ -70,7 +91,9 @@ fn command_line(rt: &HostRuntime) -> Result<Vec<String>, ArgumentsFault> {
 }
 
 /// The arguments, which stand behind the program's name.
-fn behind_name(command_line: &[String]) -> &[String] {
+fn behind_name(command_line: &[String]) -> &[String]
+    ensures { result.now ≡ drop 1 command_line.now }
+{
     match command_line.split_first() {
         None => &[],
         Some((_, arguments)) => arguments,
@@ -100,50 +123,57 @@ fn do_asked<T: Threads + Sync>(
     threads: &T,
     request: Request,
 ) -> Result<u8, ProgramFault>
-    requires { HasWorkers request }
+    ensures status { IfOk result (λ status. status ≡ 0) }
+    ensures done { OnOk result (IsDone request) }
+    ensures fault { IfErr result (λ e. (fault : RunFault) × (e ≡ Run fault)) }
 {
     match request {
         Request::Run { file, explain } => run_asked(rt, threads, file, explain),
-        Request::Analyse {
-            file,
-            group,
-            workers,
-            certificate,
-            progress,
-        } => {
-            let asked = Analysis {
-                group,
-                workers,
-                certificate,
-                progress,
-            };
-            analyse_asked(rt, threads, file, &asked)
-        }
+        Request::Analyse { file, analysis } => analyse_asked(rt, threads, file, &analysis),
     }
 }
 
 /// Ends where a file can't be opened. It is named, with the cause.
-fn not_opened(rt: &HostRuntime, path: &str, error: io::Error) -> ProgramFault
-    ensures { result ≡ Run read_failed }
+fn not_opened(rt: &HostRuntime, path: &str, error: io::Error) -> RunFault
+    ensures { result ≡ RunFault.Read }
 {
     let ended = print_fault(rt, RunFault::Read);
-    if let Ok(path) = shown_name(rt.alloc(), path) {
-        let _ = eprintln!(rt; "{path} can't be opened: {error}");
+    if let Ok(text) = unopened_text(rt.alloc(), path, &error) {
+        let _ = eprintln!(rt; "{text}");
     }
     ended
 }
 
 /// Ends where a file can't be read. It is named, unless memory ended.
-fn not_read(rt: &HostRuntime, name: &str, fault: RunFault) -> ProgramFault
-    ensures { result ≡ Run fault }
+fn not_read(rt: &HostRuntime, name: &str, fault: RunFault) -> RunFault
+    ensures { result ≡ fault }
 {
     let ended = print_fault(rt, fault);
     if let RunFault::OutOfMemory = fault {
         let _ = eprintln!(rt; "out of memory");
-    } else if let Ok(name) = shown_name(rt.alloc(), name) {
-        let _ = eprintln!(rt; "{name} can't be read");
+    } else if let Ok(text) = unread_text(rt.alloc(), name) {
+        let _ = eprintln!(rt; "{text}");
     }
     ended
+}
+
+/// All bytes of a file, or of standard input. Where there are none, it is told why.
+///
+/// `Read` (71): the file can't be opened, or can't be read. `OutOfMemory` (99): an allocation was refused.
+fn input_bytes(rt: &HostRuntime, file: Option<&str>) -> Result<Vec<u8>, RunFault>
+    ensures { IfErr result (λ fault. (fault ≡ RunFault.Read) ⊎ (fault ≡ RunFault.OutOfMemory)) }
+{
+    let (answer, name) = match file {
+        None => (Source::new(rt.stdin()).read_all(rt.alloc()), STANDARD_INPUT),
+        Some(path) => match File::open(rt, path) {
+            Ok(file) => (Source::new(file).read_all(rt.alloc()), path),
+            Err(error) => return Err(not_opened(rt, path, error)),
+        },
+    };
+    match answer {
+        Ok(bytes) => Ok(bytes),
+        Err(fault) => Err(not_read(rt, name, RunFault::from(fault))),
+    }
 }
 
 /// Runs the scenario of a file, or of standard input. Where it is to be explained, it is told why lines are refused.
@@ -152,84 +182,71 @@ fn run_asked<T: Threads + Sync>(
     threads: &T,
     file: Option<String>,
     explain: bool,
-) -> Result<u8, ProgramFault> {
-    let Some(path) = file else {
-        if rt.stdin().is_terminal() {
-            let _ = eprintln!(rt; "reading a scenario from standard input");
-        }
-        return run_from(rt, threads, rt.stdin(), STANDARD_INPUT, explain);
-    };
-    match File::open(rt, path.as_str()) {
-        Ok(file) => run_from(rt, threads, file, &path, explain),
-        Err(error) => Err(not_opened(rt, &path, error)),
+) -> Result<u8, ProgramFault>
+    ensures status { IfOk result (λ status. status ≡ 0) }
+    ensures done { OnOk result RanScenario }
+    ensures fault { IfErr result (λ e. (fault : RunFault) × (e ≡ Run fault)) }
+{
+    if file.is_none() && rt.stdin().is_terminal() {
+        let _ = eprintln!(rt; "reading a scenario from standard input");
     }
-}
-
-/// Reads a scenario and runs it.
-fn run_from<T: Threads + Sync, R: Read + Drop>(
-    rt: &HostRuntime,
-    threads: &T,
-    reader: R,
-    name: &str,
-    explain: bool,
-) -> Result<u8, ProgramFault> {
-    let mut source = Source::new(reader);
-    match source.read_all(rt.alloc()) {
-        Ok(bytes) => run_bytes(rt, threads, &bytes, explain),
-        Err(fault) => Err(not_read(rt, name, RunFault::from(fault))),
-    }
+    let bytes = input_bytes(rt, file.as_deref())?;
+    let mut sink = Sink::new(rt.stdout());
+    Ok(run_bytes(rt, threads, &bytes, &mut sink, explain)?)
 }
 
 /// Runs the scenario of these bytes. A fault of it is told of. Where the run is to be explained, it is told why lines
 /// are refused, and at the end how many events are.
-fn run_bytes<T: Threads + Sync>(
+fn run_bytes<T: Threads + Sync, W: Write>(
     rt: &HostRuntime,
     threads: &T,
     bytes: &[u8],
+    sink: &mut Sink<W>,
     explain: bool,
-) -> Result<u8, ProgramFault> {
+) -> Result<u8, RunFault>
+    requires { sink.old.faults < most_faults }
+    ensures status { IfOk result (λ status. status ≡ 0) }
+    ensures prints { OnOk result
+        (PrintsScenario (Some bytes.now) (W.contents sink.old.writer) (W.contents sink.new.writer)) }
+    ensures begun { (sink.new ≡ sink.old)
+        ⊎ Begins (Some bytes.now) (W.contents sink.old.writer) (W.contents sink.new.writer) }
+    ensures sink { sink.new.faults ≡ sink.old.faults + write_failures result }
+    ensures fault { IfErr result (IsRunFault (Some bytes.now)) }
+    ensures unread { IfErr result (λ fault. IsOfReading fault → sink.new ≡ sink.old) }
+{
     let mut explaining = if explain {
         Explaining::new(rt, bytes)
     } else {
         None
     };
-    let answer = run_told(rt, threads, bytes, &mut explaining);
-    let ended = match answer {
-        Ok(status) => Ok(status),
-        Err(fault) => {
-            let ended = print_fault(rt, fault);
-            print_reason(rt, scenario_reasons(rt.alloc(), bytes, &fault));
-            Err(ended)
-        }
-    };
+    let mut source = Source::new(bytes);
+    let answer = run_told(rt, threads, &mut source, sink, &mut explaining);
+    if let Err(fault) = answer {
+        print_fault(rt, fault);
+        print_reason(rt, scenario_reasons(rt.alloc(), bytes, &fault));
+    }
     if let Some(explaining) = &explaining {
         explaining.tell_count();
     }
-    ended
+    answer
 }
 
-/// Runs the scenario of these bytes, and tells somebody what becomes of its lines, if anybody is to be told.
-fn run_told<T: Threads + Sync>(
+/// Runs a scenario. Where the run is to be explained, `explaining` is told what becomes of each line.
+fn run_told<T: Threads + Sync, R: Read, W: Write>(
     rt: &HostRuntime,
     threads: &T,
-    bytes: &[u8],
+    source: &mut Source<R>,
+    sink: &mut Sink<W>,
     explaining: &mut Option<Explaining<'_>>,
-) -> Result<u8, RunFault> {
-    let mut source = Source::new(bytes);
-    let mut sink = Sink::new(rt.stdout());
+) -> Result<u8, RunFault>
+    requires reads { source.old.faults < most_faults }
+    requires writes { sink.old.faults < most_faults }
+    ensures run { IsRun R.remaining W.contents source.old sink.old source.new sink.new result }
+{
     match explaining {
-        Some(explaining) => run_watched(threads, rt.alloc(), &mut source, &mut sink, explaining),
-        None => run(threads, rt.alloc(), &mut source, &mut sink),
+        Some(explaining) => run_watched(threads, rt.alloc(), source, sink, explaining),
+        None => run(threads, rt.alloc(), source, sink),
     }
-}
-
-/// What is asked of an analysis, besides its file.
-#[derive(Drop)]
-struct Analysis {
-    group: Option<Vec<NodeId>>,
-    workers: u32,
-    certificate: bool,
-    progress: bool,
 }
 
 /// Analyses the graph of a file, or of standard input.
@@ -237,72 +254,58 @@ fn analyse_asked<T: Threads + Sync>(
     rt: &HostRuntime,
     threads: &T,
     file: Option<String>,
-    asked: &Analysis,
+    analysis: &AnalysisRequest,
 ) -> Result<u8, ProgramFault>
-    requires some { 1 ≤ asked.now.workers }
-    requires few { asked.now.workers ≤ most_workers }
+    ensures status { IfOk result (λ status. status ≡ 0) }
+    ensures done { OnOk result
+        (AnalysedGraph (option_map (λ ids. ids.items) analysis.now.group) analysis.now.certificate) }
+    ensures fault { IfErr result (λ e. (fault : RunFault) × (e ≡ Run fault)) }
 {
-    let Some(path) = file else {
-        return analyse_from(rt, threads, rt.stdin(), STANDARD_INPUT, asked);
-    };
-    match File::open(rt, path.as_str()) {
-        Ok(file) => analyse_from(rt, threads, file, &path, asked),
-        Err(error) => Err(not_opened(rt, &path, error)),
-    }
-}
-
-/// Reads a graph file and analyses it.
-fn analyse_from<T: Threads + Sync, R: Read + Drop>(
-    rt: &HostRuntime,
-    threads: &T,
-    reader: R,
-    name: &str,
-    asked: &Analysis,
-) -> Result<u8, ProgramFault>
-    requires some { 1 ≤ asked.now.workers }
-    requires few { asked.now.workers ≤ most_workers }
-{
-    let mut source = Source::new(reader);
-    match source.read_all(rt.alloc()) {
-        Ok(bytes) => analyse_bytes(rt, threads, &bytes, asked),
-        Err(fault) => Err(not_read(rt, name, RunFault::from(fault))),
-    }
+    let bytes = input_bytes(rt, file.as_deref())?;
+    let mut sink = Sink::new(rt.stdout());
+    Ok(analyse_bytes(rt, threads, &bytes, &mut sink, analysis)?)
 }
 
 /// Analyses the graph file of these bytes. A fault of it is told of, and so is a refusal.
-fn analyse_bytes<T: Threads + Sync>(
+fn analyse_bytes<T: Threads + Sync, W: Write>(
     rt: &HostRuntime,
     threads: &T,
     bytes: &[u8],
-    asked: &Analysis,
-) -> Result<u8, ProgramFault>
-    requires some { 1 ≤ asked.now.workers }
-    requires few { asked.now.workers ≤ most_workers }
+    sink: &mut Sink<W>,
+    analysis: &AnalysisRequest,
+) -> Result<u8, RunFault>
+    requires writes { sink.old.faults < most_faults }
+    ensures status { IfOk result (λ status. status ≡ 0) }
+    ensures prints { OnOk result
+        (PrintsAnalysis (Some bytes.now) (option_map (λ ids. ids.items) analysis.now.group) analysis.now.certificate
+        (W.contents sink.old.writer) (W.contents sink.new.writer)) }
+    ensures begun { (sink.new ≡ sink.old)
+        ⊎ BeginsAnalysis (Some bytes.now) (option_map (λ ids. ids.items) analysis.now.group) analysis.now.certificate
+        (W.contents sink.old.writer) (W.contents sink.new.writer) }
+    ensures sink { sink.new.faults ≡ sink.old.faults + write_failures result }
+    ensures unwritten { IfErr result (λ fault. ¬ (fault ≡ RunFault.Write) → sink.new ≡ sink.old) }
+    ensures fault { IfErr result (IsAnalysisFault (Some bytes.now)) }
 {
     let mut source = Source::new(bytes);
-    let mut sink = Sink::new(rt.stdout());
-    let mut progress = Progress::new(rt, asked.progress || rt.stderr().is_terminal());
+    let mut progress = Progress::new(rt, analysis.progress || rt.stderr().is_terminal());
     let answer = analyse_file(
         threads,
         rt.alloc(),
         &mut source,
-        &mut sink,
-        asked.group.as_deref(),
-        asked.workers,
-        asked.certificate,
+        sink,
+        analysis.group.as_deref(),
+        analysis.workers,
+        analysis.certificate,
         &mut progress,
     );
     match answer {
-        Ok(status) => {
-            print_refusal(rt, bytes, asked.group.as_deref());
-            Ok(status)
-        }
+        Ok(_) => print_refusal(rt, bytes, analysis.group.as_deref()),
         Err(fault) => {
-            let ended = print_fault(rt, fault);
+            print_fault(rt, fault);
             print_reason(rt, graph_reasons(rt.alloc(), bytes, &fault));
-            Err(ended)
         }
     }
+    answer
 }
 
 /// Prints why the analysis of a graph file is refused, if it is, behind its line. Out of memory nothing is told.

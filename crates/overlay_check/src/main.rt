@@ -1,16 +1,18 @@
 //! Reads a certificate file, and says in one line whether it holds.
 #![tactic(auto)]
 
-ghost use Rattle.std.specs.Prelude.{◌≡◌};
+ghost use Rattle.std.specs.Prelude.{◌≡◌, ◌<◌};
+ghost use Rattle.ov_io.specs.Device.{most_faults};
 ghost use Rattle.ov_check.specs.Program.{exit_status};
+ghost use Rattle.ov_check.specs.Run.{Prints};
 
 use ov_check::{JudgeFault, Judged, ProgramFault, exit_status, input_named, judge_kept};
 use ov_check_reasons::reasons;
-use ov_io::{Sink, Source, shown_name};
+use ov_io::{Sink, Source, unopened_text, unread_text};
 use std::env::FillError;
 use std::fs::File;
 use std::io;
-use std::io::Read;
+use std::io::{Read, Write};
 use std::process::ExitCode;
 use std::rt::{Env, Files, Runtime};
 use std::thread::Threads;
@@ -27,7 +29,10 @@ fn run<R: Runtime + AllocGlobal + Threads + Sync>(rt: &R) -> u8 {
     let mut room = [0u8; LONGEST_PATH];
     let length = rt.arg(1, &mut room);
     match input_named(length, &room, has_argument(rt, 2)) {
-        Ok(None) => judge_from(rt, rt.reader(), "standard input"),
+        Ok(None) => {
+            let mut sink = Sink::new(io::writer(rt));
+            judge_from(rt, rt.reader(), &mut sink, "standard input")
+        }
         Ok(Some(path)) => judge_file(rt, path),
         Err(fault) => {
             let status = end(rt, &Err(fault));
@@ -62,28 +67,36 @@ fn end(rt: &impl Runtime, answer: &Result<u8, ProgramFault>) -> u8
     exit_status(answer)
 }
 
+/// Judges what the file of this name has.
 fn judge_file<R: Runtime + AllocGlobal + Threads + Sync>(rt: &R, path: &str) -> u8 {
     match File::open(rt, path) {
-        Ok(file) => judge_from(rt, file, path),
+        Ok(file) => {
+            let mut sink = Sink::new(io::writer(rt));
+            judge_from(rt, file, &mut sink, path)
+        }
         Err(error) => {
             let status = end(rt, &Err(ProgramFault::Judge(JudgeFault::Read)));
-            if let Ok(path) = shown_name(rt.alloc(), path) {
-                let _ = eprintln!(rt; "{path} can't be opened: {error}");
+            if let Ok(text) = unopened_text(rt.alloc(), path, &error) {
+                let _ = eprintln!(rt; "{text}");
             }
             status
         }
     }
 }
 
-/// Judges what a reader gives. Where that can't be read, it is named.
-fn judge_from<R: Runtime + AllocGlobal + Threads + Sync>(
+/// Judges what a reader gives. Where that can't be read, it is named. The status that is returned is 0 only where the
+/// bytes that were read say an exact number, and the line of their outcome was written.
+fn judge_from<R: Runtime + AllocGlobal + Threads + Sync, I: Read + Drop, W: Write>(
     rt: &R,
-    reader: impl Read + Drop,
+    reader: I,
+    sink: &mut Sink<W>,
     name: &str,
-) -> u8 {
+) -> u8
+    requires { sink.old.faults < most_faults }
+    ensures { result ≡ 0 → Prints (I.remaining reader) (W.contents sink.old.writer) (W.contents sink.new.writer) result }
+{
     let mut source = Source::new(reader);
-    let mut sink = Sink::new(io::writer(rt));
-    match judge_kept(rt, &mut source, &mut sink) {
+    match judge_kept(rt, &mut source, sink) {
         Ok(judged) => {
             explain(rt, &judged);
             end(rt, &Ok(judged.outcome.status()))
@@ -100,8 +113,8 @@ fn judge_from<R: Runtime + AllocGlobal + Threads + Sync>(
 fn tell_failure<R: Runtime + AllocGlobal>(rt: &R, fault: JudgeFault, name: &str) {
     match fault {
         JudgeFault::Read => {
-            if let Ok(name) = shown_name(rt.alloc(), name) {
-                let _ = eprintln!(rt; "{name} can't be read");
+            if let Ok(text) = unread_text(rt.alloc(), name) {
+                let _ = eprintln!(rt; "{text}");
             }
         }
         JudgeFault::Write => {

@@ -5,13 +5,13 @@ use Rattle.atomic_table.specs.Table.{Me, Step}
 use Rattle.ov_claims.specs.Claims.{WorkerState, DeskState, fresh}
 use Rattle.ov_claims.specs.Steps.{claiming, looking, failing, Claims, Looks, Fails}
 use Rattle.ov_board.specs.declared.view.BoardSize.{BoardSize}
-use Rattle.ov_board.specs.declared.view.View.{View}
+use Rattle.ov_board.specs.declared.view.SeatView.{SeatView}
 use Rattle.ov_board.specs.Board.{SeatState, IsExchange}
 use Rattle.ov_board.specs.Rule.{Numbered}
 
 -- a seat of the table: its view, and the slots that it holds, of which a table of words has none
 abbrev pub Holder : Type 0
-Holder = Me (Unit {0}) View
+Holder = Me (Unit {0}) SeatView
 
 -- m workers before the first claim, numbered from i
 abbrev pub fresh_from : ℕ → ℕ → List Numbered
@@ -19,26 +19,26 @@ fresh_from i zero = []
 fresh_from i (suc m) = (i, fresh) ∷ fresh_from (i + 1) m
 
 -- the view before any seat is cut off, with all workers
-abbrev pub opening_view : BoardSize → View
+abbrev pub opening_view : BoardSize → SeatView
 opening_view p = record { total = p.total; workers = p.workers; seated = fresh_from 0 p.workers }
 
 -- a view with no worker
-abbrev pub spent_view : View
+abbrev pub spent_view : SeatView
 spent_view = record { total = 0; workers = 0; seated = [] }
 
 -- the view with these workers
-abbrev pub with_seated : View → List Numbered → View
+abbrev pub with_seated : SeatView → List Numbered → SeatView
 with_seated v qs = record { total = v.total; workers = v.workers; seated = qs }
 
 -- the view without its first worker, and the view with its first worker alone
-abbrev pub others_of : View → View
+abbrev pub others_of : SeatView → SeatView
 others_of v = with_seated v (drop 1 v.seated)
 
-abbrev pub first_of : View → View
+abbrev pub first_of : SeatView → SeatView
 first_of v = with_seated v (take 1 v.seated)
 
 -- the view with the workers of another one too
-abbrev pub both_of : View → View → View
+abbrev pub both_of : SeatView → SeatView → SeatView
 both_of v w = with_seated v (v.seated ++ w.seated)
 
 -- the first worker of a view; the view of a seat has no other
@@ -46,14 +46,14 @@ abbrev pub head_of : List Numbered → Numbered
 head_of [] = (0, fresh)
 head_of (q ∷ qs) = q
 
-abbrev pub number_of : View → ℕ
+abbrev pub number_of : SeatView → ℕ
 number_of v = (head_of v.seated).0
 
-abbrev pub worker_of : View → WorkerState
+abbrev pub worker_of : SeatView → WorkerState
 worker_of v = (head_of v.seated).1
 
 -- what contracts see of a seat of this table that has this view
-abbrev pub seat_state : TableId → View → SeatState
+abbrev pub seat_state : TableId → SeatView → SeatState
 seat_state z v = record {
   board = record { table = z; total = v.total; workers = v.workers };
   number = number_of v;

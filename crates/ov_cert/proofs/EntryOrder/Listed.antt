@@ -8,7 +8,7 @@ use Rattle.ov_ids.proofs.Members.{has_from_take}
 use Rattle.ov_graph.specs.Links.{LinkGraph, IsGroup}
 use Rattle.ov_graph.specs.Even.{IsUnlinkedPair}
 use Rattle.ov_graph.specs.Code.Tests.{are_joined}
-use Rattle.ov_cert.specs.declared.cert.Cert.TheVariants.{Split as SplitBy}
+use Rattle.ov_cert.specs.declared.cert.Cert.TheVariants as cert
 use Rattle.ov_cert.specs.declared.cert.Split.{Split}
 use Rattle.ov_cert.specs.declared.entry.Expected.{Expected}
 use Rattle.ov_cert.specs.declared.entry.Expected.TheVariants.{Pair, Fan}
@@ -90,7 +90,7 @@ fan_added entries xs p j l is =
     ∙ ap (λ t. entries ++ t) (sym (ap (of_fans p) e ∙ ap (λ (m : ℕ). Fan p j ∷ of_fans m (drop (p + 1) xs))
     (sym (add-one p))))
 
-frame_group : (g : LinkGraph) (q : List ℕ) (c : Split) → PassesFrame g q (SplitBy c) → IsGroup g q
+frame_group : (g : LinkGraph) (q : List ℕ) (c : Split) → PassesFrame g q (cert.Split c) → IsGroup g q
 frame_group g q c p = p.1
 
 -- an expected pair: what its two ends are, and the test of its entry
@@ -100,7 +100,7 @@ pub record PairAt (g : LinkGraph) (q : List ℕ) (c : Split) (entry : Expected) 
   pub differ : i ≢ j
   pub tested : IsTrue (is_pair_entry g c.k (i, j) (slice_get c.pairs at)) ↔ HoldsEntry g q c entry
 
-pub pair_at : (g : LinkGraph) (q : List ℕ) (c : Split) (entry : Expected) (at i j : ℕ) → PassesFrame g q (SplitBy c)
+pub pair_at : (g : LinkGraph) (q : List ℕ) (c : Split) (entry : Expected) (at i j : ℕ) → PassesFrame g q (cert.Split c)
     → IsExpected g q c.k entry
     → entry ≡ Pair at i j → PairAt g q c entry at i j
 pair_at g q c entry at i j frame expected e = subst (λ (x : Expected). PairAt g q c x at i j) (sym e)
@@ -126,7 +126,7 @@ pub record FanAt (g : LinkGraph) (q : List ℕ) (c : Split) (entry : Expected) (
   pub node : Has g.nodes j
   pub tested : IsTrue (is_fan_entry g q c.k j (slice_get c.fans at)) ↔ HoldsEntry g q c entry
 
-pub fan_at : (g : LinkGraph) (q : List ℕ) (c : Split) (entry : Expected) (at j : ℕ) → PassesFrame g q (SplitBy c)
+pub fan_at : (g : LinkGraph) (q : List ℕ) (c : Split) (entry : Expected) (at j : ℕ) → PassesFrame g q (cert.Split c)
     → IsExpected g q c.k entry
     → entry ≡ Fan at j → FanAt g q c entry at j
 fan_at g q c entry at j frame expected e = subst (λ (x : Expected). FanAt g q c x at j) (sym e)

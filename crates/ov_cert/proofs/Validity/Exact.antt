@@ -11,7 +11,7 @@ use Rattle.ov_graph.specs.Paths.{ArePaths, IsFan}
 use Rattle.ov_graph.specs.Even.{later_members, members_below, PassesEven}
 use Rattle.ov_graph.proofs.EvenTest.Sufficing.{even_suffices, linked_joined, linked_whole}
 use Rattle.ov_cert.specs.declared.cert.Cert.{Cert}
-use Rattle.ov_cert.specs.declared.cert.Cert.TheVariants.{Linked as AllLinked, Split as SplitBy}
+use Rattle.ov_cert.specs.declared.cert.Cert.TheVariants as cert
 use Rattle.ov_cert.specs.declared.cert.Split.{Split}
 use Rattle.ov_cert.specs.declared.cert.PairPaths.{PairPaths}
 use Rattle.ov_cert.specs.declared.cert.FanPaths.{FanPaths}
@@ -74,9 +74,9 @@ length_names name [] = refl
 length_names name (e ∷ es) = ap suc (length_names name es)
 
 -- entries without a fault are the entries of a valid certificate
-pub valid_split : (g : LinkGraph) (q : List ℕ) (c : Split) (pairs : List (ℕ × ℕ)) → PassesFrame g q (SplitBy c)
+pub valid_split : (g : LinkGraph) (q : List ℕ) (c : Split) (pairs : List (ℕ × ℕ)) → PassesFrame g q (cert.Split c)
     → AreUnlinkedPairs g q c.k pairs
-    → EntriesSay g q c pairs None → IsValidForGroup g q (SplitBy c)
+    → EntriesSay g q c pairs None → IsValidForGroup g q (cert.Split c)
 valid_split g q c pairs frame are h =
     let ps = matched pair_name (λ e. ArePaths g e.i e.j c.k e.paths) (IsPairEntry g c.k) (λ p n. n) (good_pair g c.k)
     c.pairs pairs h.0 h.2.0 in
@@ -111,11 +111,11 @@ some_node g q group = elim g.nodes as (λ ns. ((x : ℕ) → Has q x → Has ns 
 
 -- the frame of a valid certificate passes
 valid_frame : (g : LinkGraph) (q : List ℕ) (c : Cert) → IsValidForGroup g q c → PassesFrame g q c
-valid_frame g q (AllLinked k) v = (some_node g q v.0, v.0, v.1, v.2)
-valid_frame g q (SplitBy c) v = (some_node g q v.0, v.0, v.1.count, v.1.cut, v.1.side)
+valid_frame g q (cert.Linked k) v = (some_node g q v.0, v.0, v.1, v.2)
+valid_frame g q (cert.Split c) v = (some_node g q v.0, v.0, v.1.count, v.1.cut, v.1.side)
 
 -- the entries of a valid certificate have no fault
-valid_entries : (g : LinkGraph) (q : List ℕ) (c : Split) → IsValidForGroup g q (SplitBy c)
+valid_entries : (g : LinkGraph) (q : List ℕ) (c : Split) → IsValidForGroup g q (cert.Split c)
     → EntriesSay g q c (expected_pairs g q c.k) None
 valid_entries g q c v =
     let w = v.1 in
@@ -144,21 +144,21 @@ first_some x y fault e = rw e refl
 -- a verdict equals the computed verdict
 pub computed : (g : LinkGraph) (q : List ℕ) (c : Cert) → IsGraph g → (x : Option CheckFault) → JudgedForGroup g q c x
     → fault_of g q c ≡ x
-computed g q (AllLinked k) graph None v = first_none _ _ (frame_found g q (AllLinked k) graph None
-    (valid_frame g q (AllLinked k) v))
-computed g q (AllLinked k) graph (Some fault) h = first_some _ _ fault
-    (frame_found g q (AllLinked k) graph (Some fault) h)
-computed g q (SplitBy c) graph None v =
-    first_none _ _ (frame_found g q (SplitBy c) graph None (valid_frame g q (SplitBy c) v))
+computed g q (cert.Linked k) graph None v = first_none _ _ (frame_found g q (cert.Linked k) graph None
+    (valid_frame g q (cert.Linked k) v))
+computed g q (cert.Linked k) graph (Some fault) h = first_some _ _ fault
+    (frame_found g q (cert.Linked k) graph (Some fault) h)
+computed g q (cert.Split c) graph None v =
+    first_none _ _ (frame_found g q (cert.Split c) graph None (valid_frame g q (cert.Split c) v))
     ∙ entries_found g q v.0 c None (valid_entries g q c v)
-computed g q (SplitBy c) graph (Some fault) (inl h) = first_some _ _ fault
-    (frame_found g q (SplitBy c) graph (Some fault) h)
-computed g q (SplitBy c) graph (Some fault) (inr h) =
+computed g q (cert.Split c) graph (Some fault) (inl h) = first_some _ _ fault
+    (frame_found g q (cert.Split c) graph (Some fault) h)
+computed g q (cert.Split c) graph (Some fault) (inr h) =
     let frame = h.0 in
     let are = h.1.1 in
     let pairs = expected_pairs g q c.k in
     let same = unlinked_pairs_one g q c.k h.1.0 pairs are (expected g q c.k frame.1.ascends) in
-    first_none _ _ (frame_found g q (SplitBy c) graph None frame)
+    first_none _ _ (frame_found g q (cert.Split c) graph None frame)
     ∙ entries_found g q frame.1 c (Some fault) (subst (λ (ps : List (ℕ × ℕ)). IsEntryFault g q c ps fault) same h.1.2)
 
 -- a certificate has one verdict only
@@ -167,13 +167,13 @@ one_verdict g q c graph x y a b = sym (computed g q c graph x a) ∙ computed g 
 
 behind_frame : (g : LinkGraph) (q : List ℕ) (c : Cert) → PassesFrame g q c → (x : Option CheckFault)
     → later_fault g q c ≡ x → JudgedForGroup g q c x
-behind_frame g q (AllLinked k) frame None e = (frame.1, frame.2, frame.3)
-behind_frame g q (AllLinked k) frame (Some fault) e = absurd cc
-behind_frame g q (SplitBy c) frame None e =
+behind_frame g q (cert.Linked k) frame None e = (frame.1, frame.2, frame.3)
+behind_frame g q (cert.Linked k) frame (Some fault) e = absurd cc
+behind_frame g q (cert.Split c) frame None e =
     let pairs = expected_pairs g q c.k in
     valid_split g q c pairs frame (expected g q c.k frame.1.ascends)
     (subst (EntriesSay g q c pairs) e (entries_judged g q frame.1 c))
-behind_frame g q (SplitBy c) frame (Some fault) e =
+behind_frame g q (cert.Split c) frame (Some fault) e =
     let pairs = expected_pairs g q c.k in
     inr (
       frame,
@@ -187,8 +187,8 @@ behind_frame g q (SplitBy c) frame (Some fault) e =
 
 frame_fails : (g : LinkGraph) (q : List ℕ) (c : Cert) (fault : CheckFault) → FrameSays g q c (Some fault)
     → IsFirstFault g q c fault
-frame_fails g q (AllLinked k) fault h = h
-frame_fails g q (SplitBy c) fault h = inl h
+frame_fails g q (cert.Linked k) fault h = h
+frame_fails g q (cert.Split c) fault h = inl h
 
 -- the computed verdict is a verdict
 pub judged : (g : LinkGraph) (q : List ℕ) (c : Cert) → IsGraph g → JudgedForGroup g q c (fault_of g q c)
@@ -228,12 +228,12 @@ passes_even g q c w = record {
 }
 
 no_fewer : (g : LinkGraph) (q : List ℕ) (c : Cert) → IsValidForGroup g q c → NoFewerSplit g q (k_of c)
-no_fewer g q (AllLinked k) v = λ s few. linked_joined g q v.0.nodes v.2 s
-no_fewer g q (SplitBy c) v = λ s few. even_suffices g q c.k v.0 (passes_even g q c v.1) s few
+no_fewer g q (cert.Linked k) v = λ s few. linked_joined g q v.0.nodes v.2 s
+no_fewer g q (cert.Split c) v = λ s few. even_suffices g q c.k v.0 (passes_even g q c v.1) s few
 
 reached : (g : LinkGraph) (q : List ℕ) (c : Cert) → IsValidForGroup g q c → ReachesNumber g q c
-reached g q (AllLinked k) v = (v.2, v.1)
-reached g q (SplitBy c) v = record {
+reached g q (cert.Linked k) v = (v.2, v.1)
+reached g q (cert.Split c) v = record {
   nodes = v.1.cut;
   count = v.1.count;
   near_survives = v.1.side.near_survives;
@@ -244,15 +244,15 @@ reached g q (SplitBy c) v = record {
 
 -- the number of a valid certificate is the fewest
 pub fewest : (g : LinkGraph) (q : List ℕ) (c : Cert) → IsValidForGroup g q c → FewestForGroup g q (k_of c)
-fewest g q (AllLinked k) v = record {
+fewest g q (cert.Linked k) v = record {
   group = v.0;
   reached = inr (v.2, v.1);
   least = λ s few. linked_whole g q v.0.nodes v.2 s;
 }
-fewest g q (SplitBy c) v = record {
+fewest g q (cert.Split c) v = record {
   group = v.0;
   reached = inl (c.cut, v.1.count, cut_splits g q c v.1.cut v.1.side);
-  least = λ s few d. d.parted (no_fewer g q (SplitBy c) v s few d.a d.b d.a_survives d.b_survives);
+  least = λ s few d. d.parted (no_fewer g q (cert.Split c) v s few d.a d.b d.a_survives d.b_survives);
 }
 
 -- a valid certificate is true

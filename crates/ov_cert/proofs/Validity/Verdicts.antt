@@ -7,7 +7,7 @@ use Rattle.ov_ids.proofs.Members.{has_from_take}
 use Rattle.ov_graph.specs.Links.{LinkGraph, HasNode, IsGraph, IsGroup}
 use Rattle.ov_graph.specs.Even.{IsUnlinkedPair, later_members}
 use Rattle.ov_cert.specs.declared.cert.Cert.{Cert}
-use Rattle.ov_cert.specs.declared.cert.Cert.TheVariants.{Linked as AllLinked, Split as SplitBy}
+use Rattle.ov_cert.specs.declared.cert.Cert.TheVariants as cert
 use Rattle.ov_cert.specs.declared.cert.Split.{Split}
 use Rattle.ov_cert.specs.declared.fault.CheckFault.{CheckFault}
 use Rattle.ov_cert.specs.declared.fault.CheckFault.TheVariants.{Count, Cut, Side, Pair, Fan, Extra, NotLinked, NoNodes}
@@ -69,23 +69,23 @@ FrameSays g q c (Some fault) = IsFrameFault g q c fault
 
 claim_judged : (g : LinkGraph) (q : List ℕ) (c : Cert) → IsGraph g → HasNode g → IsGroup g q
     → FrameSays g q c (body_fault g q c)
-claim_judged g q (AllLinked k) graph node group =
+claim_judged g q (cert.Linked k) graph node group =
     let counted = count_tested (length q) (k + 1) in
     let linked = all_linked_tested g q group.ascends in
-    cond_says (FrameSays g q (AllLinked k)) (eqb (length q) (k + 1)) (cond (all_linked g q) None (Some NotLinked))
+    cond_says (FrameSays g q (cert.Linked k)) (eqb (length q) (k + 1)) (cond (all_linked g q) None (Some NotLinked))
     (Some Count)
-    (λ t. cond_says (FrameSays g q (AllLinked k)) (all_linked g q) None (Some NotLinked)
+    (λ t. cond_says (FrameSays g q (cert.Linked k)) (all_linked g q) None (Some NotLinked)
     (λ u. (node, group, counted.0 t, linked.0 u)) (λ f. (node, group, counted.0 t, no (all_linked g q) linked f)))
     (λ f. (node, group, no (eqb (length q) (k + 1)) counted f))
-claim_judged g q (SplitBy c) graph node group =
+claim_judged g q (cert.Split c) graph node group =
     let counted = count_tested (length c.cut) c.k in
     let cut = node_set_tested g c.cut in
     let side = cut_off_tested g q c graph in
-    cond_says (FrameSays g q (SplitBy c)) (eqb (length c.cut) c.k)
+    cond_says (FrameSays g q (cert.Split c)) (eqb (length c.cut) c.k)
     (cond (is_node_set g c.cut) (cond (is_cut_off g q c) None (Some Side)) (Some Cut)) (Some Count)
-    (λ t. cond_says (FrameSays g q (SplitBy c)) (is_node_set g c.cut) (cond (is_cut_off g q c) None (Some Side))
+    (λ t. cond_says (FrameSays g q (cert.Split c)) (is_node_set g c.cut) (cond (is_cut_off g q c) None (Some Side))
     (Some Cut)
-    (λ u. cond_says (FrameSays g q (SplitBy c)) (is_cut_off g q c) None (Some Side)
+    (λ u. cond_says (FrameSays g q (cert.Split c)) (is_cut_off g q c) None (Some Side)
     (λ v. (node, group, counted.0 t, cut.0 u, side.0 v)) (λ f.
     (node, group, counted.0 t, cut.0 u, no (is_cut_off g q c) side f)))
     (λ f. (node, group, counted.0 t, no (is_node_set g c.cut) cut f)))
@@ -106,14 +106,14 @@ frame_judged g q c graph =
 body_at : (g : LinkGraph) (q : List ℕ) (c : Cert) → HasNode g → IsGroup g q → frame_fault g q c ≡ body_fault g q c
 body_at g q c node group = rw (some_off (length g.nodes) node, (group_tested g q).1 group) refl
 
-linked_fault_found : (g : LinkGraph) (q : List ℕ) (k : ℕ) (fault : CheckFault) → IsFrameFault g q (AllLinked k) fault
-    → frame_fault g q (AllLinked k) ≡ Some fault
+linked_fault_found : (g : LinkGraph) (q : List ℕ) (k : ℕ) (fault : CheckFault) → IsFrameFault g q (cert.Linked k) fault
+    → frame_fault g q (cert.Linked k) ≡ Some fault
 linked_fault_found g q k NoNodes p = rw ((none_tested (length g.nodes)).1 p) refl
 linked_fault_found g q k BadGroup p = rw (some_off (length g.nodes) p.0, off (is_group g q) (group_tested g q) p.1) refl
 linked_fault_found g q k Count p =
-    body_at g q (AllLinked k) p.0 p.1 ∙ rw (off (eqb (length q) (k + 1)) (count_tested (length q) (k + 1)) p.2) refl
+    body_at g q (cert.Linked k) p.0 p.1 ∙ rw (off (eqb (length q) (k + 1)) (count_tested (length q) (k + 1)) p.2) refl
 linked_fault_found g q k NotLinked p =
-    body_at g q (AllLinked k) p.0 p.1
+    body_at g q (cert.Linked k) p.0 p.1
     ∙ rw ((count_tested (length q) (k + 1)).1 p.2, off (all_linked g q) (all_linked_tested g q p.1.ascends) p.3) refl
 linked_fault_found g q k Cut p = absurd p
 linked_fault_found g q k Side p = absurd p
@@ -122,17 +122,17 @@ linked_fault_found g q k (Fan j) p = absurd p
 linked_fault_found g q k Extra p = absurd p
 
 split_fault_found : (g : LinkGraph) (q : List ℕ) (c : Split) → IsGraph g → (fault : CheckFault)
-    → IsFrameFault g q (SplitBy c) fault → frame_fault g q (SplitBy c) ≡ Some fault
+    → IsFrameFault g q (cert.Split c) fault → frame_fault g q (cert.Split c) ≡ Some fault
 split_fault_found g q c graph NoNodes p = rw ((none_tested (length g.nodes)).1 p) refl
 split_fault_found g q c graph BadGroup p = rw (some_off (length g.nodes) p.0, off (is_group g q) (group_tested g q) p.1)
     refl
 split_fault_found g q c graph Count p =
-    body_at g q (SplitBy c) p.0 p.1 ∙ rw (off (eqb (length c.cut) c.k) (count_tested (length c.cut) c.k) p.2) refl
+    body_at g q (cert.Split c) p.0 p.1 ∙ rw (off (eqb (length c.cut) c.k) (count_tested (length c.cut) c.k) p.2) refl
 split_fault_found g q c graph Cut p =
-    body_at g q (SplitBy c) p.0 p.1
+    body_at g q (cert.Split c) p.0 p.1
     ∙ rw ((count_tested (length c.cut) c.k).1 p.2, off (is_node_set g c.cut) (node_set_tested g c.cut) p.3) refl
 split_fault_found g q c graph Side p =
-    body_at g q (SplitBy c) p.0 p.1
+    body_at g q (cert.Split c) p.0 p.1
     ∙ rw (
       (count_tested (length c.cut) c.k).1 p.2,
       (node_set_tested g c.cut).1 p.3,
@@ -146,22 +146,22 @@ split_fault_found g q c graph Extra p = absurd p
 
 pub frame_found : (g : LinkGraph) (q : List ℕ) (c : Cert) → IsGraph g → (x : Option CheckFault) → FrameSays g q c x
     → frame_fault g q c ≡ x
-frame_found g q (AllLinked k) graph None p =
-    body_at g q (AllLinked k) p.0 p.1 ∙ rw (
+frame_found g q (cert.Linked k) graph None p =
+    body_at g q (cert.Linked k) p.0 p.1 ∙ rw (
       (count_tested (length q) (k + 1)).1 p.2,
       (all_linked_tested g q p.1.ascends).1 p.3,
     ) refl
-frame_found g q (AllLinked k) graph (Some fault) p = linked_fault_found g q k fault p
-frame_found g q (SplitBy c) graph None p =
-    body_at g q (SplitBy c) p.0 p.1
+frame_found g q (cert.Linked k) graph (Some fault) p = linked_fault_found g q k fault p
+frame_found g q (cert.Split c) graph None p =
+    body_at g q (cert.Split c) p.0 p.1
     ∙ rw ((count_tested (length c.cut) c.k).1 p.2, (node_set_tested g c.cut).1 p.3, (cut_off_tested g q c graph).1 p.4)
     refl
-frame_found g q (SplitBy c) graph (Some fault) p = split_fault_found g q c graph fault p
+frame_found g q (cert.Split c) graph (Some fault) p = split_fault_found g q c graph fault p
 
 -- if the frame passes, the members are a group
 pub frame_group : (g : LinkGraph) (q : List ℕ) (c : Cert) → PassesFrame g q c → IsGroup g q
-frame_group g q (AllLinked k) p = p.1
-frame_group g q (SplitBy c) p = p.1
+frame_group g q (cert.Linked k) p = p.1
+frame_group g q (cert.Split c) p = p.1
 
 -- THE ENTRIES
 

@@ -1,14 +1,14 @@
 -- The verdict as tests that compute. The code is proved against these tests. Each test is equivalent to a relation of
 -- `Valid` or `Verdict`.
 use Rattle.std.specs.Prelude.{ℕ, suc, ◌+◌, ◌&&◌, ◌||◌, ◌==◌, nat_lt, not, Bool, true, false, List, [], ◌∷◌, ◌++◌}
-use Rattle.std.specs.Prelude.{length, take, slice_get, if◌then◌else◌, Option, Some, None}
+use Rattle.std.specs.Prelude.{◌≡◌, length, take, slice_get, if◌then◌else◌, Option, Some, None, Result, MatchResult}
 use Rattle.std.specs.List.{list_all}
 use Rattle.ov_ids.specs.Sets.{has, adding}
 use Rattle.ov_ids.specs.Ascending.{ascends_after}
 use Rattle.ov_graph.specs.Links.{LinkGraph}
 use Rattle.ov_graph.specs.Code.Tests.{are_joined, neighbours_in}
 use Rattle.ov_cert.specs.declared.cert.Cert.{Cert}
-use Rattle.ov_cert.specs.declared.cert.Cert.TheVariants.{Linked as AllLinked, Split as SplitBy}
+use Rattle.ov_cert.specs.declared.cert.Cert.TheVariants as cert
 use Rattle.ov_cert.specs.declared.cert.Split.{Split}
 use Rattle.ov_cert.specs.declared.cert.PairPaths.{PairPaths}
 use Rattle.ov_cert.specs.declared.cert.FanPaths.{FanPaths}
@@ -155,9 +155,9 @@ first (Some e) later = Some e
 
 -- the first fault of the certificate's body, for the group: first of k, then of the links or of the cut and its side
 abbrev pub body_fault : LinkGraph → List ℕ → Cert → Option CheckFault
-body_fault g q (AllLinked k) = if length q == k + 1 then (if all_linked g q then None else Some NotLinked) else Some
+body_fault g q (cert.Linked k) = if length q == k + 1 then (if all_linked g q then None else Some NotLinked) else Some
     Count
-body_fault g q (SplitBy c) =
+body_fault g q (cert.Split c) =
     if length c.cut == c.k
     then (if is_node_set g c.cut then (if is_cut_off g q c then None else Some Side) else Some Cut)
     else Some Count
@@ -166,6 +166,10 @@ body_fault g q (SplitBy c) =
 abbrev pub frame_fault : LinkGraph → List ℕ → Cert → Option CheckFault
 frame_fault g q c = if length g.nodes == 0 then Some NoNodes else
     (if is_group g q then body_fault g q c else Some BadGroup)
+
+-- the result of a check of entries: the count if they have no fault, otherwise their first fault
+abbrev pub IsCheckOf : ℕ → Option CheckFault → Result ℕ CheckFault → Type 0
+IsCheckOf count fault result = MatchResult result (λ n. (n ≡ count) × (fault ≡ None)) (λ f. fault ≡ Some f)
 
 -- whether the certificate has no entries beyond the expected ones
 abbrev pub no_more : LinkGraph → List ℕ → Split → Bool
@@ -181,8 +185,8 @@ entries_fault g q c =
 
 -- the first fault after the frame
 abbrev pub later_fault : LinkGraph → List ℕ → Cert → Option CheckFault
-later_fault g q (AllLinked k) = None
-later_fault g q (SplitBy c) = entries_fault g q c
+later_fault g q (cert.Linked k) = None
+later_fault g q (cert.Split c) = entries_fault g q c
 
 -- the first fault of a certificate; it is the one that `JudgedForGroup` allows
 abbrev pub fault_of : LinkGraph → List ℕ → Cert → Option CheckFault

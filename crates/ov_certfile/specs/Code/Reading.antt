@@ -12,7 +12,7 @@ use Rattle.ov_certfile.specs.Demands.{has_forms, FileGraphJudged}
 use Rattle.ov_certfile.specs.Says.{SaysGraph, SaysGroup, SaysCert}
 use Rattle.ov_certfile.specs.declared.fault.FileFault.{FileFault}
 use Rattle.ov_certfile.specs.declared.fault.FileFault.TheVariants.{NotJson, MissingKey, UnknownKey, BadValue}
-use Rattle.ov_certfile.specs.declared.fault.FileFault.TheVariants.{Version as AnotherVersion, Graph, OutOfMemory}
+use Rattle.ov_certfile.specs.declared.fault.FileFault.TheVariants.{BadVersion, Graph, OutOfMemory}
 use Rattle.ov_certfile.specs.declared.version.Version.{Version}
 use Rattle.ov_certfile.specs.declared.version.Version.TheVariants.{One, Two}
 use Rattle.ov_certfile.specs.declared.verdict.Verdict.{Verdict}
@@ -24,7 +24,7 @@ IsBadValue P BadValue = P
 IsBadValue P NotJson = ⊥
 IsBadValue P MissingKey = ⊥
 IsBadValue P UnknownKey = ⊥
-IsBadValue P AnotherVersion = ⊥
+IsBadValue P BadVersion = ⊥
 IsBadValue P (Graph f) = ⊥
 
 -- the value read, seen by `view`, is the one that was found; BadValue only if none was found
@@ -77,7 +77,7 @@ IsUndated version keys d BadValue = has_forms keys d ≡ false
 IsUndated version keys d NotJson = ⊥
 IsUndated version keys d MissingKey = ⊥
 IsUndated version keys d UnknownKey = ⊥
-IsUndated version keys d AnotherVersion = ⊥
+IsUndated version keys d BadVersion = ⊥
 IsUndated version keys d (Graph f) = HasGraphFault version keys d f
 
 -- the graph of the file, whose nodes were read before
@@ -108,4 +108,4 @@ IsGraphFault version g NotJson = ⊥
 IsGraphFault version g MissingKey = ⊥
 IsGraphFault version g UnknownKey = ⊥
 IsGraphFault version g BadValue = ⊥
-IsGraphFault version g AnotherVersion = ⊥
+IsGraphFault version g BadVersion = ⊥

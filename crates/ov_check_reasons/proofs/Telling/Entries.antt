@@ -7,7 +7,7 @@ use Rattle.ov_graph.specs.Paths.{ArePaths, IsFan}
 use Rattle.ov_graph.specs.Even.{later_members, members_below}
 use Rattle.ov_cert.specs.declared.cert.PairPaths.{PairPaths}
 use Rattle.ov_cert.specs.declared.cert.FanPaths.{FanPaths}
-use Rattle.ov_cert.specs.declared.cert.Cert.TheVariants.{Split as SplitBy}
+use Rattle.ov_cert.specs.declared.cert.Cert.TheVariants as cert
 use Rattle.ov_cert.specs.declared.cert.Split.{Split}
 use Rattle.ov_cert.specs.declared.entry.Expected.TheVariants.{Pair, Fan}
 use Rattle.ov_cert.specs.declared.fault.CheckFault.TheVariants as fault
@@ -16,7 +16,7 @@ use Rattle.ov_cert.specs.Verdict.{IsPairEntry, IsFanEntry, IsFirstFault}
 use Rattle.ov_cert.specs.Entries.{IsExpected}
 use Rattle.ov_check_reasons.specs.Places.{item_text, number_text, TellsPairEntry, TellsFanEntry, TellsPair, TellsFan}
 use Rattle.ov_check_reasons.specs.Places.{TellsExtra, TellsPaths, KeepPair, KeepFan, TellsPairPath, TellsFanPath}
-use Rattle.ov_check_reasons.specs.Code.Words.{Adds}
+use Rattle.ov_check_reasons.specs.Code.Sentences.{Adds}
 use Rattle.ov_check_reasons.proofs.Telling.Texts.{added, added_more}
 use Rattle.ov_check_reasons.proofs.Telling.Placing.{about_pair, about_fan, about_extra}
 
@@ -24,7 +24,7 @@ module _ (g : LinkGraph) (q : List ℕ) (c : Split) (before mid after : List ℕ
   pub pair_told : (i j at : ℕ) → IsExpected g q c.k (Pair at i j) → mid ≡ before ++ item_text (codes "pairs") at
       → (¬ IsPairEntry g c.k (i, j) (slice_get c.pairs at)
       → Adds (TellsPairEntry g c.k i j (slice_get c.pairs at)) mid after)
-      → IsFirstFault g q (SplitBy c) (fault.Pair i j) → Adds (TellsPair g q c i j) before after
+      → IsFirstFault g q (cert.Split c) (fault.Pair i j) → Adds (TellsPair g q c i j) before after
   pair_told i j at expected e told first =
       let a = told ((about_pair g q c i j first).fails at expected) in
       added_more (TellsPair g q c i j) before mid after (item_text (codes "pairs") at) a.0 e a.1
@@ -33,7 +33,7 @@ module _ (g : LinkGraph) (q : List ℕ) (c : Split) (before mid after : List ℕ
   pub fan_told : (j at : ℕ) → IsExpected g q c.k (Fan at j) → mid ≡ before ++ item_text (codes "fans") at
       → (¬ IsFanEntry g q c.k j (slice_get c.fans at)
       → Adds (TellsFanEntry g q c.k j (slice_get c.fans at)) mid after)
-      → IsFirstFault g q (SplitBy c) (fault.Fan j) → Adds (TellsFan g q c j) before after
+      → IsFirstFault g q (cert.Split c) (fault.Fan j) → Adds (TellsFan g q c j) before after
   fan_told j at expected e told first =
       let a = told ((about_fan g q c j first).fails at expected) in
       added_more (TellsFan g q c j) before mid after (item_text (codes "fans") at) a.0 e a.1
@@ -41,11 +41,12 @@ module _ (g : LinkGraph) (q : List ℕ) (c : Split) (before mid after : List ℕ
 
 -- an entry that a fault is about is expected
 pub pair_expected : (g : LinkGraph) (q : List ℕ) (c : Split) (i j : ℕ) {P : Type 0}
-    → (IsGroup g q → (at : ℕ) → ¬ IsExpected g q c.k (Pair at i j)) → IsFirstFault g q (SplitBy c) (fault.Pair i j) → P
+    → (IsGroup g q → (at : ℕ) → ¬ IsExpected g q c.k (Pair at i j))
+    → IsFirstFault g q (cert.Split c) (fault.Pair i j) → P
 pair_expected g q c i j none first = let a = about_pair g q c i j first in absurd (none a.group a.place a.expected)
 
 pub fan_expected : (g : LinkGraph) (q : List ℕ) (c : Split) (j : ℕ) {P : Type 0}
-    → (IsGroup g q → (at : ℕ) → ¬ IsExpected g q c.k (Fan at j)) → IsFirstFault g q (SplitBy c) (fault.Fan j) → P
+    → (IsGroup g q → (at : ℕ) → ¬ IsExpected g q c.k (Fan at j)) → IsFirstFault g q (cert.Split c) (fault.Fan j) → P
 fan_expected g q c j none first = let a = about_fan g q c j first in absurd (none a.group a.place a.expected)
 
 -- SUPERFLUOUS ENTRIES
@@ -74,7 +75,7 @@ more_pairs g q c before after (Some k) n m h is same l e =
 pub more_fans : (g : LinkGraph) (q : List ℕ) (c : Split) (before after : List ℕ) (o : Option ℕ) (n m k l : ℕ)
     → IsNumberOfPairs g q c o → o ≡ Some n → m ≡ length c.pairs → m ≤ n → k ≡ length c.fans
     → l ≡ length (later_members q c.k) → after ≡ before ++ number_text (codes "fans") k l
-    → IsFirstFault g q (SplitBy c) fault.Extra → Adds (TellsExtra g q c) before after
+    → IsFirstFault g q (cert.Split c) fault.Extra → Adds (TellsExtra g q c) before after
 more_fans g q c before after None n m k l h is same few is_fans is_later e first = absurd cc
 more_fans g q c before after (Some j) n m k l h is same few is_fans is_later e first =
     let w : j ≡ n = let s : Some j ≡ Some n = is in cc in

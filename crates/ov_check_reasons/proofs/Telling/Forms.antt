@@ -1,5 +1,5 @@
 -- What is told of a value that lacks its form.
-use Rattle.std.proofs.Common.{◌≡◌, ◌∙◌, ◌&&◌, ℕ, List, [], ◌∷◌, ◌++◌, Bool, true, false, map, length, codes}
+use Rattle.std.proofs.Common.{◌≡◌, ◌∙◌, ◌&&◌, ℕ, ◌-◌, List, [], ◌∷◌, ◌++◌, Bool, true, false, map, length, codes}
 use Rattle.std.proofs.Common.{Option, Some, None, is_some, unwrap_or, Result, refl, sym, ap, subst, inl, inr}
 use Rattle.std.proofs.Common.{append_assoc, arith}
 use Rattle.std.proofs.lemmas.Bool.{both_ways}
@@ -11,14 +11,15 @@ use Rattle.serde_json.specs.declared.value.Value.{Value}
 use Rattle.ov_ids.specs.Options.{◌>>=◌}
 use Rattle.ov_certfile.specs.Keys.{has_key, has_all, has_no_other, has_just, is_among, keys_in, said}
 use Rattle.ov_certfile.specs.Forms.{id_in, each_in, both_of, paths_in, pair_in, fan_in, count_in, moment_in, ids_in}
-use Rattle.ov_certfile.specs.Forms.{link_in, links_in, pairs_in, fans_in}
+use Rattle.ov_certfile.specs.Forms.{link_in, links_in, pairs_in, fans_in, last_moment}
+use Rattle.ov_ids.specs.Limits.{number_limit}
 use Rattle.ov_certfile.specs.Kinds.{Key, key, names_of, version_in, verdict_in, keys_of}
 use Rattle.ov_certfile.specs.Demands.{demands, first_unmet, keys_said, wanted_keys, has_forms}
 use Rattle.ov_certfile.specs.declared.fault.FileFault.TheVariants.{BadValue}
 use Rattle.ov_certfile.specs.declared.version.Version.{Version}
 use Rattle.ov_certfile.specs.declared.verdict.Verdict.{Verdict}
-use Rattle.ov_check_reasons.specs.declared.fields.FileKey.{FileKey}
-use Rattle.ov_check_reasons.specs.declared.fields.FileKey.TheVariants as file_key
+use Rattle.ov_check_reasons.specs.declared.file_keys.FileKey.{FileKey}
+use Rattle.ov_check_reasons.specs.declared.file_keys.FileKey.TheVariants as file_key
 use Rattle.ov_check_reasons.specs.Opening.{BeginsWith}
 use Rattle.ov_check_reasons.specs.FilePlaces.{IsFirstFailing, key_text, TellsExpected}
 use Rattle.ov_check_reasons.specs.FormPlaces.{place_text, TellsItem, TellsTwo, TellsNoId, TellsNoPaths, TellsAt}
@@ -30,7 +31,7 @@ use Rattle.ov_check_reasons.specs.FormPlaces.{Pairs, Fans}
 use Rattle.ov_check_reasons.specs.Code.Failing.{first_failing, failing_from}
 use Rattle.ov_check_reasons.specs.Code.FileKeys.{key_of, TellsField}
 use Rattle.ov_check_reasons.specs.Code.Fitting.{two_ids_in}
-use Rattle.ov_check_reasons.specs.Code.Words.{Adds}
+use Rattle.ov_check_reasons.specs.Code.Sentences.{Adds}
 use Rattle.ov_check_reasons.proofs.Fitting.{pair_fits, fan_fits}
 use Rattle.ov_check_reasons.proofs.Telling.Texts.{on_ok, added_behind, added_weaker, added_front}
 use Rattle.ov_check_reasons.proofs.Telling.Keys.{first_found, none_found, found_at, none_of, unformed_is}
@@ -330,11 +331,11 @@ module _ (d : Data) (object : is_some (as_object d) ≡ true) (fault : first_unm
         → (has_key (key_of field).0 d ≡ true → (key_of field).1 d ≡ false
         → OnOk r (Adds (TellsField field d) before after)) → Told
     at_field file_key.K first told =
-        at_key (codes "k") count_in (TellsNoNumber (codes "4294967295")) first told (λ text t. K t)
+        at_key (codes "k") count_in (TellsNoNumber (number_limit - 1)) first told (λ text t. K t)
     at_field file_key.Links first told =
         at_key (codes "links") links_in (TellsList link_in TellsNoLink) first told (λ text t. Links t)
     at_field file_key.Moment first told =
-        at_key (codes "moment") moment_in (TellsNoNumber (codes "65536")) first told (λ text t. Moment t)
+        at_key (codes "moment") moment_in (TellsNoNumber last_moment) first told (λ text t. Moment t)
     at_field file_key.Nodes first told = at_key (codes "nodes") ids_in TellsIds first told (λ text t. Nodes t)
     at_field file_key.Verdict first told = absurd (both_ways (verdict_read d) first.fails verdict)
     at_field file_key.Version first told = absurd (both_ways (version_read d) first.fails version)

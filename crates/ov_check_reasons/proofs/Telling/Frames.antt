@@ -11,7 +11,7 @@ use Rattle.ov_check_reasons.specs.Opening.{BeginsWith}
 use Rattle.ov_check_reasons.specs.Places.{IsFirstBreak, TellsId, TellsSide, NoSet, Meets, NearOutside, FarInside}
 use Rattle.ov_check_reasons.specs.Places.{Leaves, EndsSurvive, IsOutsideCut, id_text, two_text, end_text}
 use Rattle.ov_check_reasons.specs.Places.{leaving_text, TellsUnlinked}
-use Rattle.ov_check_reasons.specs.Code.Words.{Adds}
+use Rattle.ov_check_reasons.specs.Code.Sentences.{Adds}
 use Rattle.ov_check_reasons.specs.Code.Leaving.{EndsWithin, Parts}
 use Rattle.ov_check_reasons.proofs.Telling.Texts.{added, added_front}
 

@@ -16,7 +16,7 @@ use Rattle.ov_certfile.specs.declared.version.Version.{Version}
 use Rattle.ov_check_reasons.specs.Opening.{BeginsWith}
 use Rattle.ov_check_reasons.specs.Places.{IsFirstBreak, TellsId, KeepLinks, TellsNoGraph, link_text}
 use Rattle.ov_check_reasons.specs.Places.{TellsGraph, TellsGraphIn}
-use Rattle.ov_check_reasons.specs.Code.Words.{Adds}
+use Rattle.ov_check_reasons.specs.Code.Sentences.{Adds}
 use Rattle.ov_check_reasons.specs.Code.GraphFaults.{IsUnsound}
 
 -- the first node that is not above those before it

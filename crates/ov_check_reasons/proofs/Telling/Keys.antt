@@ -13,14 +13,13 @@ use Rattle.ov_certfile.specs.Keys.{has_key, has_all, has_no_other, is_among, key
 use Rattle.ov_certfile.specs.Kinds.{version_in, verdict_in, keys_of, names_of}
 use Rattle.ov_certfile.specs.Demands.{demands, first_unmet, wanted_keys, has_forms}
 use Rattle.ov_certfile.specs.declared.fault.FileFault.{FileFault}
-use Rattle.ov_certfile.specs.declared.fault.FileFault.TheVariants.{MissingKey, UnknownKey, BadValue}
-use Rattle.ov_certfile.specs.declared.fault.FileFault.TheVariants.{Version as AnotherVersion}
+use Rattle.ov_certfile.specs.declared.fault.FileFault.TheVariants.{MissingKey, UnknownKey, BadValue, BadVersion}
 use Rattle.ov_certfile.specs.declared.version.Version.{Version}
 use Rattle.ov_certfile.specs.declared.verdict.Verdict.{Verdict}
 use Rattle.ov_check_reasons.specs.Opening.{BeginsWith}
 use Rattle.ov_check_reasons.specs.FilePlaces.{IsFirstFailing, key_text, demanded_keys}
 use Rattle.ov_check_reasons.specs.FilePlaces.{TellsMissing, TellsUnknown, TellsVersion, TellsExpected}
-use Rattle.ov_check_reasons.specs.Code.Words.{Adds}
+use Rattle.ov_check_reasons.specs.Code.Sentences.{Adds}
 use Rattle.ov_check_reasons.specs.Code.Failing.{first_failing, failing_from, first_lacked, first_other, names_said}
 use Rattle.ov_check_reasons.specs.Code.Failing.{missing_in}
 use Rattle.ov_check_reasons.proofs.Telling.Texts.{added_front, begins_behind}
@@ -104,7 +103,7 @@ first_of_entries test d es h =
 
 abbrev unmet : Bool → Bool → Bool → Bool → Bool → Bool → Bool → Bool → Option FileFault
 unmet a b c e f g h last =
-    first_unmet ((a, BadValue) ∷ (b, MissingKey) ∷ (c, AnotherVersion) ∷ (e, MissingKey) ∷ (f, BadValue)
+    first_unmet ((a, BadValue) ∷ (b, MissingKey) ∷ (c, BadVersion) ∷ (e, MissingKey) ∷ (f, BadValue)
     ∷ (g, MissingKey) ∷ (h, UnknownKey) ∷ (last, BadValue) ∷ [])
 
 -- what is met before a key is missing
@@ -115,7 +114,7 @@ IsMissing b c e f g =
 missing_when : (a b c e f g h last : Bool) → unmet a b c e f g h last ≡ Some MissingKey → IsMissing b c e f g
 missing_when false b c e f g h last k = absurd (let s : Some BadValue ≡ Some MissingKey = k in cc)
 missing_when true false c e f g h last k = inl refl
-missing_when true true false e f g h last k = absurd (let s : Some AnotherVersion ≡ Some MissingKey = k in cc)
+missing_when true true false e f g h last k = absurd (let s : Some BadVersion ≡ Some MissingKey = k in cc)
 missing_when true true true false f g h last k = inr (refl, refl, inl refl)
 missing_when true true true true false g h last k = absurd (let s : Some BadValue ≡ Some MissingKey = k in cc)
 missing_when true true true true true false h last k = inr (refl, refl, inr (refl, refl, refl))
@@ -124,27 +123,27 @@ missing_when true true true true true true false last k =
 missing_when true true true true true true true false k = absurd (let s : Some BadValue ≡ Some MissingKey = k in cc)
 missing_when true true true true true true true true k = absurd (let s : None ≡ Some MissingKey = k in cc)
 
-version_when : (a b c e f g h last : Bool) → unmet a b c e f g h last ≡ Some AnotherVersion
+version_when : (a b c e f g h last : Bool) → unmet a b c e f g h last ≡ Some BadVersion
     → (b ≡ true) × (c ≡ false)
-version_when false b c e f g h last k = absurd (let s : Some BadValue ≡ Some AnotherVersion = k in cc)
-version_when true false c e f g h last k = absurd (let s : Some MissingKey ≡ Some AnotherVersion = k in cc)
+version_when false b c e f g h last k = absurd (let s : Some BadValue ≡ Some BadVersion = k in cc)
+version_when true false c e f g h last k = absurd (let s : Some MissingKey ≡ Some BadVersion = k in cc)
 version_when true true false e f g h last k = (refl, refl)
-version_when true true true false f g h last k = absurd (let s : Some MissingKey ≡ Some AnotherVersion = k in cc)
-version_when true true true true false g h last k = absurd (let s : Some BadValue ≡ Some AnotherVersion = k in cc)
+version_when true true true false f g h last k = absurd (let s : Some MissingKey ≡ Some BadVersion = k in cc)
+version_when true true true true false g h last k = absurd (let s : Some BadValue ≡ Some BadVersion = k in cc)
 version_when true true true true true false h last k =
-    absurd (let s : Some MissingKey ≡ Some AnotherVersion = k in cc)
+    absurd (let s : Some MissingKey ≡ Some BadVersion = k in cc)
 version_when true true true true true true false last k =
-    absurd (let s : Some UnknownKey ≡ Some AnotherVersion = k in cc)
+    absurd (let s : Some UnknownKey ≡ Some BadVersion = k in cc)
 version_when true true true true true true true false k =
-    absurd (let s : Some BadValue ≡ Some AnotherVersion = k in cc)
-version_when true true true true true true true true k = absurd (let s : None ≡ Some AnotherVersion = k in cc)
+    absurd (let s : Some BadValue ≡ Some BadVersion = k in cc)
+version_when true true true true true true true true k = absurd (let s : None ≡ Some BadVersion = k in cc)
 
 -- what is met before a key is unknown
 unknown_when : (a b c e f g h last : Bool) → unmet a b c e f g h last ≡ Some UnknownKey
     → (c ≡ true) × (f ≡ true) × (h ≡ false)
 unknown_when false b c e f g h last k = absurd (let s : Some BadValue ≡ Some UnknownKey = k in cc)
 unknown_when true false c e f g h last k = absurd (let s : Some MissingKey ≡ Some UnknownKey = k in cc)
-unknown_when true true false e f g h last k = absurd (let s : Some AnotherVersion ≡ Some UnknownKey = k in cc)
+unknown_when true true false e f g h last k = absurd (let s : Some BadVersion ≡ Some UnknownKey = k in cc)
 unknown_when true true true false f g h last k = absurd (let s : Some MissingKey ≡ Some UnknownKey = k in cc)
 unknown_when true true true true false g h last k = absurd (let s : Some BadValue ≡ Some UnknownKey = k in cc)
 unknown_when true true true true true false h last k = absurd (let s : Some MissingKey ≡ Some UnknownKey = k in cc)
@@ -161,7 +160,7 @@ IsUnformed a c e f g last =
 unformed_when : (a b c e f g h last : Bool) → unmet a b c e f g h last ≡ Some BadValue → IsUnformed a c e f g last
 unformed_when false b c e f g h last k = inl refl
 unformed_when true false c e f g h last k = absurd (let s : Some MissingKey ≡ Some BadValue = k in cc)
-unformed_when true true false e f g h last k = absurd (let s : Some AnotherVersion ≡ Some BadValue = k in cc)
+unformed_when true true false e f g h last k = absurd (let s : Some BadVersion ≡ Some BadValue = k in cc)
 unformed_when true true true false f g h last k = absurd (let s : Some MissingKey ≡ Some BadValue = k in cc)
 unformed_when true true true true false g h last k = inr (refl, refl, refl, inl refl)
 unformed_when true true true true true false h last k = absurd (let s : Some MissingKey ≡ Some BadValue = k in cc)
@@ -198,7 +197,7 @@ module _ (d : Data) where
       missing_when (is_some (as_object d)) version_there version_read verdict_there verdict_read all_there no_other
       formed k
 
-  version_is : first_unmet (demands d) ≡ Some AnotherVersion → (version_there ≡ true) × (version_read ≡ false)
+  version_is : first_unmet (demands d) ≡ Some BadVersion → (version_there ≡ true) × (version_read ≡ false)
   unfolding demands
   version_is k =
       version_when (is_some (as_object d)) version_there version_read verdict_there verdict_read all_there no_other
@@ -328,13 +327,13 @@ none_of None h = refl
 none_of (Some x) h = absurd (let s : true ≡ false = h in cc)
 
 pub version_told : (d v : Data) (before after : List ℕ) → Some v ≡ get (codes "version") d
-    → first_unmet (demands d) ≡ Some AnotherVersion
+    → first_unmet (demands d) ≡ Some BadVersion
     → Adds (TellsExpected (codes "1 or 2")) before after → Adds (TellsVersion d) before after
 version_told d v before after is fault b =
     let wrong = subst (λ (o : Option Data). is_some (o >>= version_in) ≡ false) (sym is) (version_is d fault).1 in
     (b.0, b.1, (v, sym is, none_of (version_in v) wrong, b.2))
 
 pub version_stands : {P : Type 0} (d : Data) → None ≡ get (codes "version") d
-    → first_unmet (demands d) ≡ Some AnotherVersion → P
+    → first_unmet (demands d) ≡ Some BadVersion → P
 version_stands d none fault =
     absurd (let s : false ≡ true = ap (λ (o : Option Data). is_some o) none ∙ (version_is d fault).0 in cc)

@@ -7,7 +7,7 @@ use Rattle.ov_ids.specs.Members.{Has, Ordered, Ascends}
 use Rattle.ov_ids.proofs.Members.{has_append_left, has_append_right, all_member}
 use Rattle.ov_graph.specs.Links.{LinkGraph, IsGroup}
 use Rattle.ov_graph.specs.Even.{later_members}
-use Rattle.ov_cert.specs.declared.cert.Cert.TheVariants.{Split as SplitBy}
+use Rattle.ov_cert.specs.declared.cert.Cert.TheVariants as cert
 use Rattle.ov_cert.specs.declared.cert.Split.{Split}
 use Rattle.ov_cert.specs.declared.entry.Expected.{Expected}
 use Rattle.ov_cert.specs.declared.entry.Expected.TheVariants.{Pair, Fan}
@@ -141,7 +141,7 @@ pub record IsAbout (g : LinkGraph) (q : List ℕ) (k : ℕ) (entry : ℕ → Exp
   pub fails : (at : ℕ) → IsExpected g q k (entry at) → ¬ Holds at
 
 pub about_pair : (g : LinkGraph) (q : List ℕ) (c : Split) (i j : ℕ)
-    → IsFirstFault g q (SplitBy c) (fault.Pair i j)
+    → IsFirstFault g q (cert.Split c) (fault.Pair i j)
     → IsAbout g q c.k (λ at. Pair at i j) (λ at. HoldsPair g c at (i, j))
 about_pair g q c i j (inl h) = absurd h
 about_pair g q c i j (inr h) =
@@ -158,7 +158,7 @@ about_pair g q c i j (inr h) =
           first.fails (subst (λ (n : ℕ). HoldsPair g c n (i, j)) one held);
     }
 
-pub about_fan : (g : LinkGraph) (q : List ℕ) (c : Split) (j : ℕ) → IsFirstFault g q (SplitBy c) (fault.Fan j)
+pub about_fan : (g : LinkGraph) (q : List ℕ) (c : Split) (j : ℕ) → IsFirstFault g q (cert.Split c) (fault.Fan j)
     → IsAbout g q c.k (λ at. Fan at j) (λ at. HoldsFan g q c at j)
 about_fan g q c j (inl h) = absurd h
 about_fan g q c j (inr h) =
@@ -175,7 +175,7 @@ about_fan g q c j (inr h) =
     }
 
 -- there are superfluous entries
-pub about_extra : (g : LinkGraph) (q : List ℕ) (c : Split) → IsFirstFault g q (SplitBy c) fault.Extra
+pub about_extra : (g : LinkGraph) (q : List ℕ) (c : Split) → IsFirstFault g q (cert.Split c) fault.Extra
     → IsGroup g q × ((pairs : List (ℕ × ℕ)) → AreUnlinkedPairs g q c.k pairs
     → ¬ ((length c.pairs ≤ length pairs) × (length c.fans ≤ length (later_members q c.k))))
 about_extra g q c (inl h) = absurd h

@@ -3,25 +3,25 @@ use Rattle.std.proofs.Common.{◌≡◌, ◌∙◌, ℕ, ◌+◌, ◌<◌, List,
 use Rattle.std.proofs.Common.{refl, sym, ap, append_assoc, append-nil, add-one, Result, Ok, Err}
 use Rattle.std.specs.Prelude.{OnOk}
 use Rattle.std.proofs.Math.Seq.{drop-cons}
-use Rattle.ov_check_reasons.specs.declared.words.Word.{Word}
+use Rattle.ov_check_reasons.specs.declared.sentence_parts.Part.{Part}
 use Rattle.ov_check_reasons.specs.Opening.{BeginsWith}
-use Rattle.ov_check_reasons.specs.Code.Words.{word_text, words_text, Adds}
+use Rattle.ov_check_reasons.specs.Code.Sentences.{part_text, sentence_text, Adds}
 
 -- SENTENCES
 
-words_cons : (w : Word) (ws : List Word) → words_text (w ∷ ws) ≡ word_text w ++ words_text ws
-words_cons w [] = sym (append-nil (word_text w))
-words_cons w (v ∷ ws) = refl
+sentence_cons : (w : Part) (ws : List Part) → sentence_text (w ∷ ws) ≡ part_text w ++ sentence_text ws
+sentence_cons w [] = sym (append-nil (part_text w))
+sentence_cons w (v ∷ ws) = refl
 
--- one word more
-pub word_more : (before after : List ℕ) (words : List Word) (i : ℕ) (w : Word) → i < length words
-    → w ≡ get_or words i w → after ≡ before ++ word_text w
-    → after ++ words_text (drop (i + 1) words) ≡ before ++ words_text (drop i words)
-word_more before after words i w l is e =
-    let rest = drop (i + 1) words in
-    let at : drop i words ≡ w ∷ rest = drop-cons words i w l ∙ rw (← is, add-one i) refl in
-    ap (λ t. t ++ words_text rest) e ∙ append_assoc before (word_text w) (words_text rest)
-    ∙ ap (λ t. before ++ t) (sym (ap words_text at ∙ words_cons w rest))
+-- one part more
+pub part_more : (before after : List ℕ) (parts : List Part) (i : ℕ) (w : Part) → i < length parts
+    → w ≡ get_or parts i w → after ≡ before ++ part_text w
+    → after ++ sentence_text (drop (i + 1) parts) ≡ before ++ sentence_text (drop i parts)
+part_more before after parts i w l is e =
+    let rest = drop (i + 1) parts in
+    let at : drop i parts ≡ w ∷ rest = drop-cons parts i w l ∙ rw (← is, add-one i) refl in
+    ap (λ t. t ++ sentence_text rest) e ∙ append_assoc before (part_text w) (sentence_text rest)
+    ∙ ap (λ t. before ++ t) (sym (ap sentence_text at ∙ sentence_cons w rest))
 
 -- WHAT WAS TOLD
 

@@ -2,7 +2,7 @@
 use Rattle.std.proofs.Common.{◌≡◌, ◌∙◌, ℕ, List, Result, Ok, Err, inl, inr, sym, subst}
 use Rattle.std.specs.Prelude.{IsUtf8, OnOk}
 use Rattle.ov_graph.specs.Links.{LinkGraph}
-use Rattle.ov_cert.specs.declared.cert.Cert.TheVariants.{Split as SplitBy}
+use Rattle.ov_cert.specs.declared.cert.Cert.TheVariants as cert
 use Rattle.ov_cert.specs.declared.cert.Split.{Split}
 use Rattle.ov_cert.specs.declared.fault.CheckFault.{CheckFault}
 use Rattle.ov_cert.specs.declared.fault.CheckFault.TheVariants.{Side}
@@ -15,10 +15,10 @@ use Rattle.ov_certfile.specs.Says.{SaysText}
 use Rattle.ov_check.specs.Outcome.{BytesSay, IsOutcome}
 use Rattle.ov_check.specs.declared.outcome.Outcome.TheVariants.{Fails}
 use Rattle.ov_check_reasons.specs.Places.{TellsFault, TellsPlace}
-use Rattle.ov_check_reasons.specs.Code.Words.{Adds}
+use Rattle.ov_check_reasons.specs.Code.Sentences.{Adds}
 use Rattle.ov_check_reasons.proofs.Telling.Texts.{on_ok}
 
-pub not_cut_off : (g : LinkGraph) (q : List ℕ) (c : Split) → IsFirstFault g q (SplitBy c) Side → ¬ IsCutOff g q c
+pub not_cut_off : (g : LinkGraph) (q : List ℕ) (c : Split) → IsFirstFault g q (cert.Split c) Side → ¬ IsCutOff g q c
 not_cut_off g q c (inl h) = h.4
 not_cut_off g q c (inr h) = absurd h.1.2
 

@@ -1,15 +1,16 @@
 -- The keys of files, as code names them, and what is told of the values there.
-use Rattle.std.specs.Prelude.{ℕ, List, codes}
+use Rattle.std.specs.Prelude.{ℕ, ◌-◌, List, codes}
 use Rattle.serde_json.specs.Data.{Data}
 use Rattle.ov_certfile.specs.Forms.{count_in, moment_in, id_in, ids_in, link_in, links_in, pair_in, pairs_in}
-use Rattle.ov_certfile.specs.Forms.{fan_in, fans_in}
+use Rattle.ov_certfile.specs.Forms.{fan_in, fans_in, last_moment}
+use Rattle.ov_ids.specs.Limits.{number_limit}
 use Rattle.ov_certfile.specs.Kinds.{Key, key, version_in, verdict_in}
 use Rattle.ov_check_reasons.specs.FilePlaces.{TellsExpected}
 use Rattle.ov_check_reasons.specs.FormPlaces.{TellsAt, TellsList, TellsNoId, TellsIds, TellsNoLink, TellsEntry}
 use Rattle.ov_check_reasons.specs.FormPlaces.{pair_keys, fan_keys, TellsNoNumber, TellsNoVerdict}
-use Rattle.ov_check_reasons.specs.declared.fields.FileKey.{FileKey}
-use Rattle.ov_check_reasons.specs.declared.fields.FileKey.TheVariants.{K, Links, Moment, Nodes, Verdict, Version}
-use Rattle.ov_check_reasons.specs.declared.fields.FileKey.TheVariants.{Group, Cut, Near, Far, Side, Pairs, Fans}
+use Rattle.ov_check_reasons.specs.declared.file_keys.FileKey.{FileKey}
+use Rattle.ov_check_reasons.specs.declared.file_keys.FileKey.TheVariants.{K, Links, Moment, Nodes, Verdict, Version}
+use Rattle.ov_check_reasons.specs.declared.file_keys.FileKey.TheVariants.{Group, Cut, Near, Far, Side, Pairs, Fans}
 
 -- its name and its form
 abbrev pub key_of : FileKey → Key
@@ -29,9 +30,9 @@ key_of Fans = key (codes "fans") fans_in
 
 -- what is told where the value at a key lacks its form
 abbrev pub TellsField : FileKey → Data → List ℕ → Type 0
-TellsField K d text = TellsAt (codes ", ") (codes "k") (TellsNoNumber (codes "4294967295")) d text
+TellsField K d text = TellsAt (codes ", ") (codes "k") (TellsNoNumber (number_limit - 1)) d text
 TellsField Links d text = TellsAt (codes ", ") (codes "links") (TellsList link_in TellsNoLink) d text
-TellsField Moment d text = TellsAt (codes ", ") (codes "moment") (TellsNoNumber (codes "65536")) d text
+TellsField Moment d text = TellsAt (codes ", ") (codes "moment") (TellsNoNumber last_moment) d text
 TellsField Nodes d text = TellsAt (codes ", ") (codes "nodes") TellsIds d text
 TellsField Verdict d text = TellsAt (codes ", ") (codes "verdict") TellsNoVerdict d text
 TellsField Version d text = TellsAt (codes ", ") (codes "version") (λ v. TellsExpected (codes "1 or 2")) d text

@@ -7,7 +7,7 @@ use Rattle.ov_graph.specs.Links.{LinkGraph}
 use Rattle.ov_graph.specs.Paths.{IsPath}
 use Rattle.ov_graph.specs.Even.{members_below}
 use Rattle.ov_cert.specs.Code.Tests.{chained, last_of, is_earlier}
-use Rattle.ov_check_reasons.specs.declared.paths.PathFlaw.{PathFlaw}
+use Rattle.ov_check_reasons.specs.declared.path_faults.PathFlaw.{PathFlaw}
 use Rattle.ov_check_reasons.specs.PathFlaws.{IsFlaw, TellsFlaw}
 use Rattle.ov_check_reasons.specs.Places.{KeepPair, KeepFan}
 

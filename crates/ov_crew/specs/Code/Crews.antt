@@ -6,7 +6,7 @@ use Rattle.ov_graph.specs.Links.{LinkGraph}
 use Rattle.ov_claims.specs.Claims.{fresh}
 use Rattle.ov_board.specs.Board.{BoardState, SeatState}
 use Rattle.ov_even.specs.Order.{AreMoreThan}
-use Rattle.ov_even.specs.declared.haul.Haul.{Haul}
+use Rattle.ov_even.specs.declared.worker_haul.Haul.{Haul}
 use Rattle.ov_crew.specs.Hauls.{IsHaulOf}
 
 -- the numbers from `first` on, `total` of them, are numbers of pieces, and fit in 32 bits

@@ -1,4 +1,4 @@
--- One turn of a worker: it takes a number or stops, and settles the piece of the number that it took. The worker was w
+-- One round of a worker: it takes a number or stops, and settles the piece of the number that it took. The worker was w
 -- and has become v.
 use Rattle.std.specs.Prelude.{◌≡◌, ◌↔◌, ◌⊎◌, ℕ, ◌<◌, true, List, [], ◌∷◌, ◌++◌, Some}
 use Rattle.ov_ids.specs.Members.{Has}

@@ -8,7 +8,7 @@ use Rattle.ov_fans.specs.declared.settled.Settled.{Settled}
 use Rattle.ov_even.specs.Order.{IsNumbered}
 use Rattle.ov_even.specs.Harvest.{IsBroughtIn, IsCleared}
 use Rattle.ov_even.specs.Levels.{IsTried, AreNumbersOf}
-use Rattle.ov_even.specs.declared.haul.Haul.{Haul}
+use Rattle.ov_even.specs.declared.worker_haul.Haul.{Haul}
 use Rattle.ov_even.proofs.PieceNumbers.Numbering.{every_number, numbers_order}
 
 -- the hauls clear the first pieces of a level, `least` of them

@@ -11,7 +11,7 @@ use Rattle.ov_fans.specs.declared.settled.Found.TheVariants.{Linked, Paths, Cut}
 use Rattle.ov_fans.specs.declared.settled.Settled.{Settled}
 use Rattle.ov_even.specs.Order.{ComesBefore}
 use Rattle.ov_even.specs.Harvest.{IsBroughtIn}
-use Rattle.ov_even.specs.declared.haul.Haul.{Haul}
+use Rattle.ov_even.specs.declared.worker_haul.Haul.{Haul}
 use Rattle.ov_even.specs.Code.Cuts.{IsFirstCut, IsEarlierCut, all_settled}
 use Rattle.ov_even.proofs.PieceOrder.Comparing.{before_trans, before_once}
 

@@ -12,7 +12,7 @@ use Rattle.ov_fans.specs.declared.settled.Settled.{Settled}
 use Rattle.ov_fans.proofs.PieceCuts.Decided.{decides}
 use Rattle.ov_fans.proofs.PieceNets.Ranks.{fits}
 use Rattle.ov_even.specs.Harvest.{IsBroughtIn, IsCleared, AreRight, Suffice}
-use Rattle.ov_even.specs.declared.haul.Haul.{Haul}
+use Rattle.ov_even.specs.declared.worker_haul.Haul.{Haul}
 use Rattle.ov_fans.specs.Group.{SettlerState}
 use Rattle.ov_even.specs.Levels.{IsLevelCleared, StopsAt, IsTried, SearchState}
 use Rattle.ov_even.specs.Code.Narrowing.{HasDeciding, AreBounds, IsBetween, HasCutWithin}

@@ -18,7 +18,7 @@ use Rattle.ov_even.specs.Code.Levels.{pieces_of_level}
 use Rattle.ov_even.specs.Code.Trying.{AreSettledRight, IsClearedBy}
 use Rattle.ov_even.specs.Harvest.{AreRight, IsCleared}
 use Rattle.ov_even.specs.Levels.{IsLevelCleared, StopsAt}
-use Rattle.ov_even.specs.declared.haul.Haul.{Haul}
+use Rattle.ov_even.specs.declared.worker_haul.Haul.{Haul}
 use Rattle.ov_even.proofs.PieceOrder.Comparing.{before_once}
 use Rattle.ov_even.proofs.PieceOrder.Ordering.{not_both_before}
 use Rattle.ov_even.proofs.PieceOrder.Columns.{ordered_columns}

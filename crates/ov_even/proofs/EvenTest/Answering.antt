@@ -7,7 +7,7 @@ use Rattle.ov_graph.proofs.EvenTest.Filtered.{linked_node}
 use Rattle.ov_graph.proofs.EvenTest.Sufficing.{linked_whole}
 use Rattle.ov_graph.proofs.EvenTest.Walks.{joined_self, joined_step, joined_trans, joined_end}
 use Rattle.ov_cert.specs.declared.cert.Cert.{Cert}
-use Rattle.ov_cert.specs.declared.cert.Cert.TheVariants.{Linked as AllLinked, Split as SplitBy}
+use Rattle.ov_cert.specs.declared.cert.Cert.TheVariants as cert
 use Rattle.ov_cert.specs.declared.cert.Split.{Split}
 use Rattle.ov_cert.specs.Valid.{IsCutOff, HavePaths, HaveFans, IsValidSplit, IsValidForGroup, k_of}
 use Rattle.ov_fans.specs.Pieces.{level_of}
@@ -64,24 +64,24 @@ answer_valid g q c p parting graph group first level right names pairs fans =
 
 -- an answer whose paths pass Even's test is valid
 pub split_valid : (g : LinkGraph) (q : List ℕ) (c : Split) → IsGraph g → IsGroup g q → NamesFirstCut g q c
-    → HavePaths g q c.k c.pairs → HaveFans g q c.k c.fans → IsValidForGroup g q (SplitBy c)
+    → HavePaths g q c.k c.pairs → HaveFans g q c.k c.fans → IsValidForGroup g q (cert.Split c)
 split_valid g q c graph group n pairs fans =
     (group, answer_valid g q c n.piece n.parting graph group n.first n.level n.parted n.names pairs fans)
 
 -- if every two members are linked, it suffices that k is one less than their number
 pub linked_valid : (g : LinkGraph) (q : List ℕ) (k : ℕ) → IsGroup g q → AreAllLinked g q → length q ≡ k + 1
-    → IsValidForGroup g q (AllLinked k)
+    → IsValidForGroup g q (cert.Linked k)
 linked_valid g q k group all count = (group, count, all)
 
 -- the number of an answer is the fewest node crashes that split the group
 pub answer_number : (g : LinkGraph) (q : List ℕ) (c : Cert) → IsGraph g → IsGroup g q → IsAnswer g q c
     → FewestForGroup g q (k_of c)
-answer_number g q (AllLinked k) graph group a = record {
+answer_number g q (cert.Linked k) graph group a = record {
   group = group;
   reached = inr a;
   least = λ s few split. linked_whole g q group.nodes a.0 s split;
 }
-answer_number g q (SplitBy c) graph group a =
+answer_number g q (cert.Split c) graph group a =
     let n = a.1 in
     number_is g q n.piece c.k graph group n.first n.level
 
@@ -102,7 +102,7 @@ one_split g q c d m n =
 
 -- a graph and a group have one answer, apart from its paths
 pub one_answer : OneAnswer
-one_answer g q (AllLinked k) (AllLinked l) graph a b = let m = a.1 in let n = b.1 in omega (arith, m, n)
-one_answer g q (AllLinked k) (SplitBy d) graph a b = b.0 a.0
-one_answer g q (SplitBy c) (AllLinked l) graph a b = a.0 b.0
-one_answer g q (SplitBy c) (SplitBy d) graph a b = one_split g q c d a.1 b.1
+one_answer g q (cert.Linked k) (cert.Linked l) graph a b = let m = a.1 in let n = b.1 in omega (arith, m, n)
+one_answer g q (cert.Linked k) (cert.Split d) graph a b = b.0 a.0
+one_answer g q (cert.Split c) (cert.Linked l) graph a b = a.0 b.0
+one_answer g q (cert.Split c) (cert.Split d) graph a b = one_split g q c d a.1 b.1

@@ -7,7 +7,7 @@ use Rattle.ov_graph.specs.Links.{LinkGraph}
 use Rattle.ov_fans.specs.Cuts.{IsRight}
 use Rattle.ov_even.specs.Order.{ComesBefore}
 use Rattle.ov_even.specs.First.{IsFirst}
-use Rattle.ov_even.specs.declared.haul.Haul.{Haul}
+use Rattle.ov_even.specs.declared.worker_haul.Haul.{Haul}
 
 -- the pieces of all hauls, one haul after another
 abbrev pub all_settled : List Haul → List Settled

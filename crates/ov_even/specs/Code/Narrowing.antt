@@ -7,7 +7,7 @@ use Rattle.ov_fans.specs.Theorems.{IsNoCut}
 use Rattle.ov_fans.specs.declared.settled.Settled.{Settled}
 use Rattle.ov_even.specs.Harvest.{IsBroughtIn, AreRight}
 use Rattle.ov_even.specs.Levels.{IsLevelCleared}
-use Rattle.ov_even.specs.declared.haul.Haul.{Haul}
+use Rattle.ov_even.specs.declared.worker_haul.Haul.{Haul}
 
 -- the graph and the group are such that there is a deciding piece
 pub record HasDeciding (g : LinkGraph) (q : List ℕ) : Type 0 where

@@ -14,7 +14,7 @@ abbrev pub group_at : LinkGraph → List ℕ → SettlerState
 group_at g places = record { graph = g; members = map (node_at g) places }
 
 -- these are one or more places of nodes, ascending, and the row has their bits
-pub record AreSeats (g : LinkGraph) (places row : List ℕ) : Type 0 where
+pub record AreMemberPlaces (g : LinkGraph) (places row : List ℕ) : Type 0 where
   pub graph : IsGraph g
   pub within : IsWithinLimit g
   pub some_place : 0 < length places

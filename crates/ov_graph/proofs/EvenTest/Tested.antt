@@ -7,7 +7,7 @@ use Rattle.std.specs.List.{list_any, AllByRecursion}
 use Rattle.ov_ids.specs.Members.{Has, Ordered, Ascends}
 use Rattle.ov_ids.specs.Sets.{has}
 use Rattle.ov_ids.specs.Ascending.{ascends_after}
-use Rattle.ov_ids.specs.FaultOrder.{Step, IsRefusedBy}
+use Rattle.ov_ids.specs.FaultOrder.{HoldsThen, IsRefusedBy}
 use Rattle.ov_ids.proofs.Members.{has_from_any, any_from_has, has_tested, all_member, all_from_members}
 use Rattle.ov_ids.proofs.Rising.{ascends_tested}
 use Rattle.ov_ids.proofs.Stepping.{step_by, step_unless, step_none, step_passes}
@@ -79,7 +79,7 @@ links_judged : (nodes : List ℕ) (before : Option (ℕ × ℕ)) (ls : List (ℕ
 links_judged nodes before [] = refl
 links_judged nodes before (l ∷ ls) =
     step_by (IsLink nodes l) (is_link nodes l) BadLink
-    (Step (ComesAfter before l) Unordered (LinksJudged nodes (Some l) ls))
+    (HoldsThen (ComesAfter before l) Unordered (LinksJudged nodes (Some l) ls))
     (cond (comes_after before l) (links_fault nodes (Some l) ls) (Some Unordered)) (link_tested nodes l)
     (step_by (ComesAfter before l) (comes_after before l) Unordered (LinksJudged nodes (Some l) ls)
     (links_fault nodes (Some l) ls) (comes_after_tested before l) (links_judged nodes (Some l) ls))
@@ -88,7 +88,7 @@ links_judged nodes before (l ∷ ls) =
 pub judged : (nodes : List ℕ) (ls : List (ℕ × ℕ)) → GraphJudged nodes ls (fault_of nodes ls)
 judged nodes ls =
     step_unless (length nodes ≤ most_nodes) (nat_lt most_nodes (length nodes)) TooManyNodes
-    (Step (Ascends nodes) Unordered (LinksJudged nodes None ls))
+    (HoldsThen (Ascends nodes) Unordered (LinksJudged nodes None ls))
     (cond (ascends_after None nodes) (links_fault nodes None ls) (Some Unordered))
     (λ t l. let m = ltb-true most_nodes (length nodes) t in omega (arith, l, m))
     (λ f. ltb-false most_nodes (length nodes) f)
@@ -113,8 +113,8 @@ follow_all : (nodes : List ℕ) (l : ℕ × ℕ) (ls : List (ℕ × ℕ)) → Li
     → AllByRecursion (Precedes l) ls
 follow_all nodes l [] j = tt
 follow_all nodes l (m ∷ ls) j =
-    let p = step_none (IsLink nodes m) BadLink (Step (ComesAfter (Some l) m) Unordered (LinksJudged nodes (Some m) ls))
-    j in
+    let p = step_none (IsLink nodes m) BadLink
+    (HoldsThen (ComesAfter (Some l) m) Unordered (LinksJudged nodes (Some m) ls)) j in
     let q = step_none (ComesAfter (Some l) m) Unordered (LinksJudged nodes (Some m) ls) p.1 in
     (q.0, all_after l m ls q.0 (follow_all nodes m ls q.1))
 
@@ -122,8 +122,8 @@ links_sound : (nodes : List ℕ) (before : Option (ℕ × ℕ)) (ls : List (ℕ 
     → Ordered Precedes ls × AllByRecursion (IsLink nodes) ls
 links_sound nodes before [] j = (tt, tt)
 links_sound nodes before (l ∷ ls) j =
-    let p = step_none (IsLink nodes l) BadLink (Step (ComesAfter before l) Unordered (LinksJudged nodes (Some l) ls))
-    j in
+    let p = step_none (IsLink nodes l) BadLink
+    (HoldsThen (ComesAfter before l) Unordered (LinksJudged nodes (Some l) ls)) j in
     let q = step_none (ComesAfter before l) Unordered (LinksJudged nodes (Some l) ls) p.1 in
     let r = links_sound nodes (Some l) ls q.1 in
     ((follow_all nodes l ls q.1, r.0), (p.0, r.1))
@@ -133,7 +133,7 @@ pub sound : (nodes : List ℕ) (ls : List (ℕ × ℕ)) → GraphJudged nodes ls
     → IsGraph (record { nodes = nodes; links = ls }) × (length nodes ≤ most_nodes)
 sound nodes ls j =
     let p = step_none (length nodes ≤ most_nodes) TooManyNodes
-    (Step (Ascends nodes) Unordered (LinksJudged nodes None ls)) j in
+    (HoldsThen (Ascends nodes) Unordered (LinksJudged nodes None ls)) j in
     let q = step_none (Ascends nodes) Unordered (LinksJudged nodes None ls) p.1 in
     let r = links_sound nodes None ls q.1 in
     (record { nodes_ascend = q.0; links_ascend = r.0; joins = λ l h. all_member (IsLink nodes) ls l r.1 h }, p.0)
@@ -145,7 +145,7 @@ no_links_fault nodes before [] x f up each j = j
 no_links_fault nodes before (l ∷ ls) x f up each j =
     no_links_fault nodes (Some l) ls x up.0 up.1 each.1
     (step_passes (ComesAfter before l) Unordered (LinksJudged nodes (Some l) ls) x f.0
-    (step_passes (IsLink nodes l) BadLink (Step (ComesAfter before l) Unordered (LinksJudged nodes (Some l) ls))
+    (step_passes (IsLink nodes l) BadLink (HoldsThen (ComesAfter before l) Unordered (LinksJudged nodes (Some l) ls))
     x each.0 j))
 
 -- a graph's nodes and links have no fault
@@ -156,7 +156,7 @@ no_fault g x graph within j =
     (all_from_members (IsLink g.nodes) g.links graph.joins)
     (step_passes (Ascends g.nodes) Unordered (LinksJudged g.nodes None g.links) x graph.nodes_ascend
     (step_passes (length g.nodes ≤ most_nodes) TooManyNodes
-    (Step (Ascends g.nodes) Unordered (LinksJudged g.nodes None g.links)) x within j))
+    (HoldsThen (Ascends g.nodes) Unordered (LinksJudged g.nodes None g.links)) x within j))
 
 pub no_fault_found : (g : LinkGraph) → IsGraph g → IsWithinLimit g → fault_of g.nodes g.links ≡ None
 no_fault_found g graph within = no_fault g (fault_of g.nodes g.links) graph within (judged g.nodes g.links)
@@ -188,7 +188,7 @@ linked_or_not g a b = grind (arith, has_pair_or_not g.links a b, has_pair_or_not
 
 -- there is one first fault
 step_once : {E : Type 0} (P : Type 0) (fault : E) (After : Option E → Type 0) (x y : Option E)
-    → (After x → After y → x ≡ y) → Step P fault After x → Step P fault After y → x ≡ y
+    → (After x → After y → x ≡ y) → HoldsThen P fault After x → HoldsThen P fault After y → x ≡ y
 step_once P fault After x y one (inl p) (inl q) = one p.1 q.1
 step_once P fault After x y one (inl p) (inr q) = absurd (q.0 p.0)
 step_once P fault After x y one (inr p) (inl q) = absurd (p.0 q.0)
@@ -198,7 +198,7 @@ links_judged_once : (nodes : List ℕ) (before : Option (ℕ × ℕ)) (ls : List
     → LinksJudged nodes before ls x → LinksJudged nodes before ls y → x ≡ y
 links_judged_once nodes before [] x y p q = p ∙ sym q
 links_judged_once nodes before (l ∷ ls) x y p q =
-    step_once (IsLink nodes l) BadLink (Step (ComesAfter before l) Unordered (LinksJudged nodes (Some l) ls)) x y
+    step_once (IsLink nodes l) BadLink (HoldsThen (ComesAfter before l) Unordered (LinksJudged nodes (Some l) ls)) x y
     (step_once (ComesAfter before l) Unordered (LinksJudged nodes (Some l) ls) x y
     (links_judged_once nodes (Some l) ls x y)) p q
 
@@ -206,7 +206,7 @@ links_judged_once nodes before (l ∷ ls) x y p q =
 pub computed : (nodes : List ℕ) (ls : List (ℕ × ℕ)) (x : Option GraphFault) → GraphJudged nodes ls x
     → fault_of nodes ls ≡ x
 computed nodes ls x j =
-    step_once (length nodes ≤ most_nodes) TooManyNodes (Step (Ascends nodes) Unordered (LinksJudged nodes None ls))
+    step_once (length nodes ≤ most_nodes) TooManyNodes (HoldsThen (Ascends nodes) Unordered (LinksJudged nodes None ls))
     (fault_of nodes ls) x
     (step_once (Ascends nodes) Unordered (LinksJudged nodes None ls) (fault_of nodes ls) x
     (links_judged_once nodes None ls (fault_of nodes ls) x))

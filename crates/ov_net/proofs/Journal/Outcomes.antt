@@ -16,7 +16,7 @@ use Rattle.ov_net.specs.NetStep.{Happens, TakesInput, OnlyPackets, Received, cha
 use Rattle.ov_net.specs.declared.journal_entry.Change.{Change}
 use Rattle.ov_net.specs.declared.journal_entry.Change.TheVariants.{Born, Gone}
 use Rattle.ov_net.specs.declared.event.Event.{Event}
-use Rattle.ov_net.specs.declared.event.Event.TheVariants.{Boot, Deliver, Lose, Repeat, Crash, Report, Shuffle}
+use Rattle.ov_net.specs.declared.event.Event.TheVariants.{Boot, Deliver, Lose, Repeat, Crash, CrashReport, Shuffle}
 use Rattle.ov_net.specs.declared.event.Event.TheVariants.{Broadcast, Timer, Snapshot}
 use Rattle.ov_net.specs.declared.member.Member.{Member}
 use Rattle.ov_net.specs.declared.member.Member.TheVariants as member
@@ -110,8 +110,8 @@ outcome w (Lose i) words u changes delivery h = rests_out w (remove w.packets i)
 outcome w (Repeat i) words u changes delivery h = rests_out w (w.packets ++ h.0 ∷ []) u changes delivery h.2
 outcome w (Crash a) words u changes delivery h =
     gone a (put_in w.nodes u.nodes a member.Gone (ap (λ (v : Net). v.nodes) h.2)) h.3
-outcome w (Report a crashed) words u changes delivery h =
-    input_out w a h.1.0 (input.Report crashed) words u changes delivery h.1.1 h.1.2
+outcome w (CrashReport a crashed) words u changes delivery h =
+    input_out w a h.1.0 (input.CrashReport crashed) words u changes delivery h.1.1 h.1.2
 outcome w (Shuffle a) words u changes delivery h = input_out w a h.0 input.Shuffle words u changes delivery h.1 h.2
 outcome w (Broadcast a payload) words u changes delivery h =
     input_out w a h.0 (input.Broadcast payload) words u changes delivery h.1 h.2

@@ -16,7 +16,7 @@ use Rattle.ov_graph.specs.Links.{LinkGraph, IsGraph, Linked}
 use Rattle.ov_net.specs.Journal.{changes_of, node_of, HoldsAfter, LivesAfter, HoldMutually, AreLinks}
 use Rattle.ov_net.specs.Net.{HaveOwnIds, Net, LivesAs}
 use Rattle.ov_net.specs.NetStep.{NetStep, change_at}
-use Rattle.ov_net.specs.World.{WorldState, TellsViews, opening}
+use Rattle.ov_net.specs.World.{WorldState, TellsViews, opening_world}
 use Rattle.ov_net.specs.declared.journal_entry.Change.{Change}
 use Rattle.ov_net.specs.declared.journal_entry.Change.TheVariants.{Born, Up, Gone}
 use Rattle.ov_net.specs.declared.journal_entry.Entry.{Entry}
@@ -30,23 +30,23 @@ use Rattle.ov_net.proofs.Journal.Outcomes.{same_live, gone_dead, not_none}
 
 -- each live member is stored under its own id, that of its views and of its tree
 abbrev OwnIds : (ℕ → Option Member) → Type 0
-OwnIds look = (a : ℕ) (p : PeerState) → look a ≡ Some (member.Live p) → (p.node.views.me ≡ a) × (p.tree.me ≡ a)
+OwnIds look = (a : ℕ) (p : PeerState) → look a ≡ Some (member.Live p) → (p.hyparview.views.me ≡ a) × (p.tree.me ≡ a)
 
 -- this stays so where a member is put in under its own id
 put_own : (g : ℕ → Option Member) (a : ℕ) (m : Member) (h : ℕ → Option Member) → Puts g a m h → OwnIds g
-    → ((p : PeerState) → m ≡ member.Live p → (p.node.views.me ≡ a) × (p.tree.me ≡ a)) → OwnIds h
+    → ((p : PeerState) → m ≡ member.Live p → (p.hyparview.views.me ≡ a) × (p.tree.me ≡ a)) → OwnIds h
 put_own g a m h put own here x p at = by (cases_eq x a)
   where
-    by : (x ≡ a) ⊎ (x ≢ a) → (p.node.views.me ≡ x) × (p.tree.me ≡ x)
+    by : (x ≡ a) ⊎ (x ≢ a) → (p.hyparview.views.me ≡ x) × (p.tree.me ≡ x)
     by (inl e) =
         let r = here p (same_some m (member.Live p) (sym put.here ∙ ap h (sym e) ∙ at)) in (r.0 ∙ sym e, r.1 ∙ sym e)
     by (inr other) = own x p (sym (put.others x other) ∙ at)
 
 live_own : (g : ℕ → Option Member) (a : ℕ) (q : PeerState) (h : ℕ → Option Member) → Puts g a (member.Live q) h
-    → OwnIds g → q.node.views.me ≡ a → q.tree.me ≡ a → OwnIds h
+    → OwnIds g → q.hyparview.views.me ≡ a → q.tree.me ≡ a → OwnIds h
 live_own g a q h put own views tree =
     put_own g a (member.Live q) h put own
-    (λ p e. subst (λ (s : PeerState). (s.node.views.me ≡ a) × (s.tree.me ≡ a)) (same_live q p e) (views, tree))
+    (λ p e. subst (λ (s : PeerState). (s.hyparview.views.me ≡ a) × (s.tree.me ≡ a)) (same_live q p e) (views, tree))
 
 -- and after every event
 own_after : (g h : ℕ → Option Member) (changes : List Change) → OwnIds g → Outcome g h changes → OwnIds h
@@ -61,13 +61,13 @@ own_after g h changes own (gone a put is) = put_own g a member.Gone h put own (�
 record Tells (look : ℕ → Option Member) (changes : List Change) : Type 0 where
   live : (a : ℕ) → LivesAfter changes a ↔ ((p : PeerState) × (look a ≡ Some (member.Live p)))
   held : (a b : ℕ) (p : PeerState) → look a ≡ Some (member.Live p)
-      → (Has p.node.views.active b ↔ HoldsAfter changes a b)
+      → (Has p.hyparview.views.active b ↔ HoldsAfter changes a b)
   unborn : (a : ℕ) (change : Change) → look a ≡ None → Has changes change → node_of change ≢ a
 
 -- the same of one node
 record TellsOf (a : ℕ) (m : Member) (changes : List Change) : Type 0 where
   live : LivesAfter changes a ↔ ((p : PeerState) × (m ≡ member.Live p))
-  held : (b : ℕ) (p : PeerState) → m ≡ member.Live p → (Has p.node.views.active b ↔ HoldsAfter changes a b)
+  held : (b : ℕ) (p : PeerState) → m ≡ member.Live p → (Has p.hyparview.views.active b ↔ HoldsAfter changes a b)
 
 -- more changes of one node, which tell its views, leave what is told of the others
 put_told : (g : ℕ → Option Member) (a : ℕ) (m : Member) (h : ℕ → Option Member) (before more : List Change)
@@ -89,9 +89,9 @@ put_told g a m h before more put told all here = record
         )
 
     held : (x b : ℕ) (p : PeerState) → h x ≡ Some (member.Live p) → (x ≡ a) ⊎ (x ≢ a)
-        → Has p.node.views.active b ↔ HoldsAfter (before ++ more) x b
+        → Has p.hyparview.views.active b ↔ HoldsAfter (before ++ more) x b
     held x b p at (inl e) =
-        subst (λ y. Has p.node.views.active b ↔ HoldsAfter (before ++ more) y b) (sym e)
+        subst (λ y. Has p.hyparview.views.active b ↔ HoldsAfter (before ++ more) y b) (sym e)
         (here.held b p (same_some m (member.Live p) (sym put.here ∙ ap h (sym e) ∙ at)))
     held x b p at (inr other) =
         let rests = holds_rests before more x b (others_silent a b x more all other) in
@@ -138,9 +138,9 @@ born_told g a params h before put told none =
         ]
 
     nobody : (b : ℕ) (p : PeerState) → member.Live (newborn a params) ≡ member.Live p
-        → Has p.node.views.active b ↔ HoldsAfter (before ++ Born a ∷ []) a b
+        → Has p.hyparview.views.active b ↔ HoldsAfter (before ++ Born a ∷ []) a b
     nobody b p e =
-        subst (λ (s : PeerState). Has s.node.views.active b ↔ HoldsAfter (before ++ Born a ∷ []) a b)
+        subst (λ (s : PeerState). Has s.hyparview.views.active b ↔ HoldsAfter (before ++ Born a ∷ []) a b)
         (same_live (newborn a params) p e) ((λ k. absurd k), (λ k. absurd (untold b k)))
 
 -- a node crashes
@@ -161,7 +161,7 @@ gone_told g a h before put told = put_told g a member.Gone h before (Gone a ∷ 
 moves_told : (g : ℕ → Option Member) (a : ℕ) (p : PeerState) (q : PeerState) (h : ℕ → Option Member)
     (before : List Change) (told : List ViewChange)
     → Puts g a (member.Live q) h → Tells g before → g a ≡ Some (member.Live p)
-    → q.node.views.active ≡ after_changes told p.node.views.active
+    → q.hyparview.views.active ≡ after_changes told p.hyparview.views.active
     → Tells h (before ++ each (change_at a) told)
 moves_told g a p q h before told put tells at follows =
     put_told g a (member.Live q) h before (each (change_at a) told) put tells (told_node a told) record {
@@ -171,14 +171,14 @@ moves_told g a p q h before told put tells at follows =
             ((tells.live a).1 (p, at))),
       );
       held = λ b r e.
-          subst (λ (s : PeerState). Has s.node.views.active b ↔ HoldsAfter (before ++ each (change_at a) told) a b)
+          subst (λ (s : PeerState). Has s.hyparview.views.active b ↔ HoldsAfter (before ++ each (change_at a) told) a b)
           (same_live q r e) (holds b);
     }
   where
-    holds : (b : ℕ) → Has q.node.views.active b ↔ HoldsAfter (before ++ each (change_at a) told) a b
+    holds : (b : ℕ) → Has q.hyparview.views.active b ↔ HoldsAfter (before ++ each (change_at a) told) a b
     holds b =
         subst (λ s. Has s b ↔ HoldsAfter (before ++ each (change_at a) told) a b) (sym follows)
-        (moves_hold before a b told p.node.views.active (tells.held a b p at))
+        (moves_hold before a b told p.hyparview.views.active (tells.held a b p at))
 
 -- the changes of an event tell what it does
 told_after : (g h : ℕ → Option Member) (before changes : List Change) → Tells g before → Outcome g h changes
@@ -211,7 +211,7 @@ told_views c t = record {
       subst (λ (l : List Entry). LivesAfter (changes_of l) a ↔ ((p : PeerState) × LivesAs c.net a p))
       (sym (take-length c.journal)) (t.live a);
   held = λ a b p at.
-      subst (λ (l : List Entry). Has p.node.views.active b ↔ HoldsAfter (changes_of l) a b)
+      subst (λ (l : List Entry). Has p.hyparview.views.active b ↔ HoldsAfter (changes_of l) a b)
       (sym (take-length c.journal)) (t.held a b p at);
   unborn = t.unborn;
 }
@@ -222,19 +222,19 @@ views_told c t = record {
       subst (λ (l : List Entry). LivesAfter (changes_of l) a ↔ ((p : PeerState) × LivesAs c.net a p))
       (take-length c.journal) (t.live a);
   held = λ a b p at.
-      subst (λ (l : List Entry). Has p.node.views.active b ↔ HoldsAfter (changes_of l) a b) (take-length c.journal)
+      subst (λ (l : List Entry). Has p.hyparview.views.active b ↔ HoldsAfter (changes_of l) a b) (take-length c.journal)
       (t.held a b p at);
   unborn = t.unborn;
 }
 
 -- at the beginning nobody is alive
-nobody_lives : (params : ParamsState) (a : ℕ) (p : PeerState) → ¬ LivesAs (opening params).net a p
+nobody_lives : (params : ParamsState) (a : ℕ) (p : PeerState) → ¬ LivesAs (opening_world params).net a p
 nobody_lives params a p at = not_none (member.Live p) _ at (map.get-empty nat_cmp a)
 
-pub own_begun : (params : ParamsState) → HaveOwnIds (opening params).net
+pub own_begun : (params : ParamsState) → HaveOwnIds (opening_world params).net
 own_begun params a p at = absurd (nobody_lives params a p at)
 
-pub tells_begun : (params : ParamsState) → TellsViews (opening params)
+pub tells_begun : (params : ParamsState) → TellsViews (opening_world params)
 tells_begun params = record {
   live = λ a. ((λ h. absurd h.0), (λ h. absurd (nobody_lives params a h.0 h.1)));
   held = λ a b p at. absurd (nobody_lives params a p at);
@@ -261,7 +261,7 @@ tells_kept c event words u e tells own step =
 pub links_of : (c : WorldState) (g : LinkGraph) → TellsViews c → IsGraph g
     → ((a : ℕ) → Has g.nodes a ↔ ((p : PeerState) × LivesAs c.net a p))
     → ((a b : ℕ) → Linked g a b ↔ ((p : PeerState) × (q : PeerState) × LivesAs c.net a p × LivesAs c.net b q × (a ≢ b)
-    × Has p.node.views.active b × Has q.node.views.active a))
+    × Has p.hyparview.views.active b × Has q.hyparview.views.active a))
     → AreLinks c.journal (length c.journal) g
 links_of c g tells graph nodes links = record {
   graph = graph;

@@ -10,14 +10,14 @@ use Rattle.ov_wire.specs.declared.message.Body.TheVariants.{Join, ForwardJoin, J
 use Rattle.ov_wire.specs.declared.message.Body.TheVariants.{Disconnect, Shuffle, ShuffleReply, Gossip, IHave, Graft}
 use Rattle.ov_wire.specs.declared.message.Body.TheVariants.{Prune}
 use Rattle.ov_words.specs.Pick.{Choice}
-use Rattle.ov_views.specs.Allowed.{Node, DoesNothing, boots, receives as hears, hears_of_crash, shuffles}
+use Rattle.ov_views.specs.Allowed.{HyParViewState, DoesNothing, boots, hears, hears_of_crash, shuffles}
 use Rattle.ov_views.specs.Changes.{after_changes}
 use Rattle.ov_views.specs.declared.change.ViewChange.{ViewChange}
 use Rattle.ov_views.proofs.Tracking.{Tracks, tracked}
 use Rattle.ov_plum.specs.Notes.{oldest}
 use Rattle.ov_plum.specs.PlumRows.{AllowedFrom, AllowedTimer, Delivered}
 use Rattle.ov_plum.specs.PlumState.{PlumState, is_linked}
-use Rattle.ov_peer.specs.Step.{NodePart, TreePart, PeerStep}
+use Rattle.ov_peer.specs.Step.{HyParViewPart, TreePart, PeerStep}
 use Rattle.ov_peer.specs.PeerState.{PeerState}
 use Rattle.ov_peer.specs.declared.input.Delivery.{Delivery}
 use Rattle.ov_peer.specs.declared.input.Input.{Input}
@@ -26,21 +26,22 @@ use Rattle.ov_peer.proofs.Steps.{told_me}
 use Rattle.ov_net.proofs.Steps.Places.{some_way}
 
 -- where nothing changes, the step has no changes
-views_rest : (n : Node) (choices : List Choice) (m : Node) (changes : List ViewChange) → DoesNothing n choices m changes
-    → Tracks n.views changes m.views
+views_rest : (n : HyParViewState) (choices : List Choice) (m : HyParViewState) (changes : List ViewChange)
+    → DoesNothing n choices m changes → Tracks n.views changes m.views
 views_rest n choices m changes h = record {
-  me = ap (λ (u : Node). u.views.me) h.1;
-  active = ap (λ (u : Node). u.views.active) h.1 ∙ ap (λ c. after_changes c n.views.active) (sym h.2);
+  me = ap (λ (u : HyParViewState). u.views.me) h.1;
+  active = ap (λ (u : HyParViewState). u.views.active) h.1 ∙ ap (λ c. after_changes c n.views.active) (sym h.2);
   few = omega (arith, ap length h.2);
 }
 
 -- HyParView's part of a step changes the active view as its changes say
-views_tracked : (n : Node) (i : Input) (choices : List Choice) (m : Node) (changes : List ViewChange)
-    (heard : List (ℕ × Message)) → NodePart n i choices m changes heard → Tracks n.views changes m.views
+views_tracked : (n : HyParViewState) (i : Input) (choices : List Choice) (m : HyParViewState)
+    (changes : List ViewChange) (heard : List (ℕ × Message)) → HyParViewPart n i choices m changes heard
+    → Tracks n.views changes m.views
 views_tracked n (input.Boot contact) choices m changes heard h = tracked n (boots contact) choices m changes heard h
 views_tracked n (input.Receive message) choices m changes heard h =
     tracked n (hears message.from message.body) choices m changes heard h
-views_tracked n (input.Report p) choices m changes heard h = tracked n (hears_of_crash p) choices m changes heard h
+views_tracked n (input.CrashReport p) choices m changes heard h = tracked n (hears_of_crash p) choices m changes heard h
 views_tracked n input.Shuffle choices m changes heard h = tracked n shuffles choices m changes heard h
 views_tracked n (input.Broadcast payload) choices m changes heard h = views_rest n choices m changes h.0
 views_tracked n (input.Timer id) choices m changes heard h = views_rest n choices m changes h.0
@@ -79,14 +80,14 @@ tree_stays t (input.Boot contact) u spread delivered h = ap (λ (s : PlumState).
 tree_stays t (input.Receive message) u spread delivered h =
     either_way (eqb message.from t.me) _ _ _ (λ k. ap (λ (s : PlumState). s.me) k.0)
     (heard_me t message.from message.body u spread delivered) h
-tree_stays t (input.Report p) u spread delivered h = ap (λ (s : PlumState). s.me) h.0
+tree_stays t (input.CrashReport p) u spread delivered h = ap (λ (s : PlumState). s.me) h.0
 tree_stays t input.Shuffle u spread delivered h = ap (λ (s : PlumState). s.me) h.0
 tree_stays t (input.Broadcast payload) u spread delivered h = ap (λ (s : PlumState). s.me) h.0
 tree_stays t (input.Timer id) u spread delivered h = timed_me t id u spread delivered h
 
 -- after a step a node has the ids that it had, and its active view is the old one after the step's changes
 pub record PeerTracks (p : PeerState) (told : List ViewChange) (q : PeerState) : Type 0 where
-  pub views : Tracks p.node.views told q.node.views
+  pub views : Tracks p.hyparview.views told q.hyparview.views
   pub tree : q.tree.me ≡ p.tree.me
 
 -- at every input
@@ -95,9 +96,9 @@ pub peer_tracked : (p : PeerState) (i : Input) (choices : List Choice) (q : Peer
     → PeerStep p i choices q sends told delivery → PeerTracks p told q
 peer_tracked p i choices q sends told delivery h = record {
   views =
-      let m = h.between.node in
-      subst (λ (n : Node). Tracks p.node.views told n.views) (sym h.told.node)
-      (views_tracked p.node i choices m told h.parts.node_sends h.parts.node);
+      let m = h.between.hyparview in
+      subst (λ (n : HyParViewState). Tracks p.hyparview.views told n.views) (sym h.told.hyparview)
+      (views_tracked p.hyparview i choices m told h.parts.hyparview_sends h.parts.hyparview);
   tree =
       told_me h.between.tree told q.tree h.told.told
       ∙ tree_stays p.tree i h.between.tree h.parts.tree_sends h.parts.delivered h.parts.tree;

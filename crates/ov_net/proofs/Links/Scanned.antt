@@ -115,12 +115,12 @@ live_scanned es nodes ids view up is =
 
 -- a node whose active view has a member is alive
 holds_live : (m : Option Member) (x : ℕ) → Has (active_of m) x
-    → (p : PeerState) × (m ≡ Some (Live p)) × Has p.node.views.active x
+    → (p : PeerState) × (m ≡ Some (Live p)) × Has p.hyparview.views.active x
 holds_live (Some (Live p)) x h = (p, refl, h)
 holds_live (Some Gone) x h = absurd h
 holds_live None x h = absurd h
 
-live_holds : (m : Option Member) (p : PeerState) (x : ℕ) → m ≡ Some (Live p) → Has p.node.views.active x
+live_holds : (m : Option Member) (p : PeerState) (x : ℕ) → m ≡ Some (Live p) → Has p.hyparview.views.active x
     → Has (active_of m) x
 live_holds m p x e h = subst (λ n. Has (active_of n) x) (sym e) h
 
@@ -245,8 +245,8 @@ scanned_graph w ns live views = record {
 -- a and b are two live nodes, and each holds the other
 abbrev HoldEachOther : Net → ℕ → ℕ → Type 0
 HoldEachOther w a b =
-    (p : PeerState) × (q : PeerState) × LivesAs w a p × LivesAs w b q × (a ≢ b) × Has p.node.views.active b
-    × Has q.node.views.active a
+    (p : PeerState) × (q : PeerState) × LivesAs w a p × LivesAs w b q × (a ≢ b) × Has p.hyparview.views.active b
+    × Has q.hyparview.views.active a
 
 joined_hold : (w : Net) (a b : ℕ) → Joins w a b → HoldEachOther w a b
 joined_hold w a b j =

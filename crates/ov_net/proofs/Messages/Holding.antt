@@ -174,7 +174,7 @@ tree_spreads t (input.Boot contact) u sends delivered h = quiet t _ u sends deli
 tree_spreads t (input.Receive m) u sends delivered h =
     either_way (eqb m.from t.me) _ _ _ (λ k. quiet t _ u sends delivered k.0 k.1)
     (received t m m.from m.body u sends delivered refl) h
-tree_spreads t (input.Report p) u sends delivered h = quiet t _ u sends delivered h.0 h.1
+tree_spreads t (input.CrashReport p) u sends delivered h = quiet t _ u sends delivered h.0 h.1
 tree_spreads t input.Shuffle u sends delivered h = quiet t _ u sends delivered h.0 h.1
 tree_spreads t (input.Broadcast payload) u sends delivered h =
     let made : u.made ≡ t.made + 1 = ap (λ (r : PlumState). r.made) h.0 in
@@ -209,14 +209,16 @@ pub peer_spreads : (p : PeerState) (i : Input) (cs : List Choice) (q : PeerState
     (changes : List ViewChange) (delivery : Option Delivery)
     → PeerStep p i cs q sends changes delivery
     → (delivered : Option Delivered) × Spreads p.tree i q.tree.held q.tree.made sends delivered
-    × (delivery ≡ delivery_at p.node.views.me delivered)
+    × (delivery ≡ delivery_at p.hyparview.views.me delivered)
 peer_spreads p i cs q sends changes delivery h =
     let parts = h.parts in
     let middle = h.between.tree in
     let spread = tree_spreads p.tree i middle parts.tree_sends parts.delivered parts.tree in
     let s = told_spreads p.tree i middle changes q.tree parts.tree_sends parts.delivered spread h.told.told in
-    let quiet = heard_quiet (Holds q.tree.held) p.node i cs h.between.node changes parts.node_sends parts.node in
-    let all = carry_append (Holds q.tree.held) parts.node_sends parts.tree_sends quiet s.carried in (
+    let quiet =
+    heard_quiet (Holds q.tree.held) p.hyparview i cs h.between.hyparview changes parts.hyparview_sends
+    parts.hyparview in
+    let all = carry_append (Holds q.tree.held) parts.hyparview_sends parts.tree_sends quiet s.carried in (
       parts.delivered,
       record {
         grows = s.grows;

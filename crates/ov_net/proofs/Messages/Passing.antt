@@ -25,7 +25,7 @@ use Rattle.ov_net.specs.NetStep.{NetStep, TakesInput, LiveTakesInput, OnlyPacket
 use Rattle.ov_net.specs.declared.journal_entry.Change.{Change}
 use Rattle.ov_net.specs.declared.journal_entry.Entry.{Entry}
 use Rattle.ov_net.specs.declared.event.Event.{Event}
-use Rattle.ov_net.specs.declared.event.Event.TheVariants.{Boot, Deliver, Lose, Repeat, Crash, Report, Shuffle}
+use Rattle.ov_net.specs.declared.event.Event.TheVariants.{Boot, Deliver, Lose, Repeat, Crash, CrashReport, Shuffle}
 use Rattle.ov_net.specs.declared.event.Event.TheVariants.{Broadcast, Timer, Snapshot}
 use Rattle.ov_net.specs.declared.member.Member.{Member}
 use Rattle.ov_net.specs.declared.member.Member.TheVariants.{Live, Gone}
@@ -113,7 +113,7 @@ came_from w event a p q (input.Receive m) id payload me of_event c =
           (a, record { from = m.from; body = body })) c.2 of_event,
     )
 came_from w event a p q (input.Boot contact) id payload me of_event c = absurd c
-came_from w event a p q (input.Report crashed) id payload me of_event c = absurd c
+came_from w event a p q (input.CrashReport crashed) id payload me of_event c = absurd c
 came_from w event a p q input.Shuffle id payload me of_event c = absurd c
 came_from w event a p q (input.Timer timer) id payload me of_event c = absurd c
 
@@ -140,8 +140,8 @@ sent_on w packets a p i q sends delivered left s packet h = elim (has_append_cas
 -- a live node takes an input
 moved : (w : Net) (packets : List (ℕ × Message)) (a : ℕ) (p : PeerState) (i : Input) (q : PeerState)
     (sends : List (ℕ × Message)) (delivered : Option Delivered) (e : Entry)
-    → (p.node.views.me ≡ a) × (p.tree.me ≡ a) → LivesAs w a p → AreLeft w packets → IsInputOf w e.event a i
-    → Spreads p.tree i q.tree.held q.tree.made sends delivered → e.delivery ≡ delivery_at p.node.views.me delivered
+    → (p.hyparview.views.me ≡ a) × (p.tree.me ≡ a) → LivesAs w a p → AreLeft w packets → IsInputOf w e.event a i
+    → Spreads p.tree i q.tree.held q.tree.made sends delivered → e.delivery ≡ delivery_at p.hyparview.views.me delivered
     → Passes w (after w packets a q sends) e
 moved w packets a p i q sends delivered e own lives left of_event s is = record {
   born = inserted_stays nat_cmp_total w.nodes a (Live q);
@@ -159,14 +159,14 @@ moved w packets a p i q sends delivered e own lives left of_event s is = record 
   held = λ b r id kept h k. elim (lives_cases w a (Live q) b r h) [
     | inl c ↦ elim (s.known id kept (ap (λ (z : PeerState). map.get z.tree.held id) (same_live q r c.1) ∙ k)) [
       | inl f ↦ inl (p, subst (λ z. LivesAs w z p) c.0 lives, f)
-      | inr f ↦ inr (is ∙ ap (delivery_at p.node.views.me) f
+      | inr f ↦ inr (is ∙ ap (delivery_at p.hyparview.views.me) f
           ∙ ap (λ n. Some (record { node = n; id = id; payload = kept.payload })) (own.0 ∙ c.0))
     ]
     | inr l ↦ inl (r, l, k)
   ];
   sent = sent_on w packets a p i q sends delivered left s;
   delivers = λ b id payload h.
-      let parts = delivered_parts p.node.views.me delivered b id payload (sym is ∙ h) in
+      let parts = delivered_parts p.hyparview.views.me delivered b id payload (sym is ∙ h) in
       let came = s.came id payload parts.1 in
       subst (λ z. Source w (after w packets a q sends) e.event z id payload) (sym own.0 ∙ parts.0) (
         p,
@@ -183,7 +183,7 @@ booted : (w : Net) (a : ℕ) (p : PeerState) (contact : Option ℕ) (q : PeerSta
     (delivered : Option Delivered) (e : Entry)
     → map.get w.nodes a ≡ None → ((id : MsgId) → map.get p.tree.held id ≡ None)
     → Spreads p.tree (input.Boot contact) q.tree.held q.tree.made sends delivered
-    → e.delivery ≡ delivery_at p.node.views.me delivered → Passes w (after w w.packets a q sends) e
+    → e.delivery ≡ delivery_at p.hyparview.views.me delivered → Passes w (after w w.packets a q sends) e
 booted w a p contact q sends delivered e unborn none s is = record {
   born = inserted_stays nat_cmp_total w.nodes a (Live q);
   lives = λ b r h. elim (lives_cases w a (Live q) b r h) [
@@ -199,7 +199,7 @@ booted w a p contact q sends delivered e unborn none s is = record {
   ];
   sent = sent_on w w.packets a p (input.Boot contact) q sends delivered (λ packet h. h) s;
   delivers = λ b id payload h.
-      absurd (s.came id payload (delivered_parts p.node.views.me delivered b id payload (sym is ∙ h)).1).1;
+      absurd (s.came id payload (delivered_parts p.hyparview.views.me delivered b id payload (sym is ∙ h)).1).1;
 }
 
 -- nothing is delivered, and every live node was alive in the same state
@@ -280,7 +280,8 @@ passed w (Lose i) words u e own h = only_packets w (remove w.packets i) u e.chan
 passed w (Repeat i) words u e own h =
     only_packets w (w.packets ++ h.2.0 ∷ []) u e.changes e (repeated w i h.2.0 (has_at w.packets i h.2.0 h.2.1)) h.2.2
 passed w (Crash a) words u e own h = crashed w a u e h.2.2 h.2.4
-passed w (Report a crashed) words u e own h = live_moves w a (input.Report crashed) words u e.changes e own tt h.2.1
+passed w (CrashReport a crashed) words u e own h =
+    live_moves w a (input.CrashReport crashed) words u e.changes e own tt h.2.1
 passed w (Shuffle a) words u e own h = live_moves w a input.Shuffle words u e.changes e own tt h.2
 passed w (Broadcast a payload) words u e own h =
     live_moves w a (input.Broadcast payload) words u e.changes e own h.0 h.2

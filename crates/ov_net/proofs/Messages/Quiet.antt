@@ -13,16 +13,16 @@ use Rattle.ov_wire.specs.declared.message.Body.TheVariants.{Join, ForwardJoin, J
 use Rattle.ov_wire.specs.declared.message.Body.TheVariants.{Disconnect, Shuffle, ShuffleReply, Gossip, IHave, Graft}
 use Rattle.ov_wire.specs.declared.message.Body.TheVariants.{Prune}
 use Rattle.ov_words.specs.Pick.{Choice}
-use Rattle.ov_views.specs.Allowed.{Node, Allowed, receives}
+use Rattle.ov_views.specs.Allowed.{HyParViewState, Allowed, hears}
 use Rattle.ov_views.specs.JoinRows.{AllowedJoin, AllowedForwardJoin, AllowedJoined, walk_ends}
 use Rattle.ov_views.specs.ViewsState.{ViewsState, has_place}
-use Rattle.ov_views.specs.NeighborRows.{AttemptState, AllowedNeighbor, AllowedReply, AllowedDisconnect, AllowedReport}
-use Rattle.ov_views.specs.NeighborRows.{GoesOnAsking, awaits, gives_up}
+use Rattle.ov_views.specs.NeighborRows.{AttemptState, AllowedNeighbor, AllowedReply, AllowedDisconnect}
+use Rattle.ov_views.specs.NeighborRows.{AllowedCrashReport, GoesOnAsking, awaits, gives_up}
 use Rattle.ov_views.specs.Sending.{Idles, farewells}
 use Rattle.ov_views.specs.ShuffleRows.{AllowedStart, AllowedShuffle, AllowedShuffleReply, walks_on}
 use Rattle.ov_views.specs.declared.change.ViewChange.{ViewChange}
 use Rattle.ov_views.specs.declared.change.ViewChange.TheVariants.{Up, Down}
-use Rattle.ov_peer.specs.Step.{NodePart}
+use Rattle.ov_peer.specs.Step.{HyParViewPart}
 use Rattle.ov_peer.specs.declared.input.Input.{Input}
 use Rattle.ov_peer.specs.declared.input.Input.TheVariants as input
 
@@ -129,10 +129,10 @@ module _ (P : MsgId → List ℕ → Type 0) where
   disconnect v s cs w changes sends =
       either_way (eqb s v.me || not (has v.active s)) _ _ _ (idles v cs w changes sends) (λ k. no_sends sends k.3)
 
-  report : (v : ViewsState) (a : AttemptState) (p : ℕ) (cs : List Choice) (w : ViewsState) (b : AttemptState)
-      (changes : List ViewChange) (sends : List (ℕ × Message)) → AllowedReport v a p cs w b changes sends
+  crash_report : (v : ViewsState) (a : AttemptState) (p : ℕ) (cs : List Choice) (w : ViewsState) (b : AttemptState)
+      (changes : List ViewChange) (sends : List (ℕ × Message)) → AllowedCrashReport v a p cs w b changes sends
       → AllCarry P sends
-  report v a p cs w b changes sends h =
+  crash_report v a p cs w b changes sends h =
       either_way (has v.active p) _ _ _ (goes_on w [] cs b sends)
       (either_way (awaits a p) _ _ _ (goes_on w a.tried cs b sends) (λ k. no_sends sends k.2)) h.1
 
@@ -155,8 +155,9 @@ module _ (P : MsgId → List ℕ → Type 0) where
   shuffle_reply v sent s ids cs w changes sends =
       either_way (eqb s v.me) _ _ _ (idles v cs w changes sends) (λ k. no_sends sends k.2)
 
-  message : (n : Node) (s : ℕ) (body : Body) (cs : List Choice) (m : Node) (changes : List ViewChange)
-      (sends : List (ℕ × Message)) → Allowed n (receives s body) cs m changes sends → AllCarry P sends
+  message : (n : HyParViewState) (s : ℕ) (body : Body) (cs : List Choice) (m : HyParViewState)
+      (changes : List ViewChange) (sends : List (ℕ × Message)) → Allowed n (hears s body) cs m changes sends
+      → AllCarry P sends
   message n s Join cs m changes sends h = joins n.views s cs m.views changes sends h.1
   message n s (ForwardJoin node ttl) cs m changes sends h =
       forwards_join n.views s node ttl cs m.views changes sends h.1
@@ -174,13 +175,13 @@ module _ (P : MsgId → List ℕ → Type 0) where
   message n s Prune cs m changes sends h = no_sends sends h.1
 
   -- at every input: any P holds of each GOSSIP, since there is none
-  pub heard_quiet : (n : Node) (i : Input) (cs : List Choice) (m : Node) (changes : List ViewChange)
-      (sends : List (ℕ × Message)) → NodePart n i cs m changes sends → AllCarry P sends
+  pub heard_quiet : (n : HyParViewState) (i : Input) (cs : List Choice) (m : HyParViewState) (changes : List ViewChange)
+      (sends : List (ℕ × Message)) → HyParViewPart n i cs m changes sends → AllCarry P sends
   heard_quiet n (input.Boot None) cs m changes sends h = no_sends sends h.1
   heard_quiet n (input.Boot (Some contact)) cs m changes sends h = one_send sends _ tt h.1
   heard_quiet n (input.Receive msg) cs m changes sends h = message n msg.from msg.body cs m changes sends h
-  heard_quiet n (input.Report p) cs m changes sends h =
-      report n.views n.attempt p cs m.views m.attempt changes sends h.1
+  heard_quiet n (input.CrashReport p) cs m changes sends h =
+      crash_report n.views n.attempt p cs m.views m.attempt changes sends h.1
   heard_quiet n input.Shuffle cs m changes sends h = starts n.views n.sent cs m.sent sends h.3
   heard_quiet n (input.Broadcast payload) cs m changes sends h = no_sends sends h.1
   heard_quiet n (input.Timer id) cs m changes sends h = no_sends sends h.1

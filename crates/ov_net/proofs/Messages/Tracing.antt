@@ -13,7 +13,7 @@ use Rattle.ov_peer.specs.PeerState.{PeerState}
 use Rattle.ov_net.specs.Journal.{Delivers}
 use Rattle.ov_net.specs.Net.{HaveOwnIds, Net, LivesAs}
 use Rattle.ov_net.specs.NetStep.{NetStep}
-use Rattle.ov_net.specs.World.{WorldState, Traced, WasBroadcast, opening}
+use Rattle.ov_net.specs.World.{WorldState, Traced, WasBroadcast, opening_world}
 use Rattle.ov_net.specs.declared.journal_entry.Entry.{Entry}
 use Rattle.ov_net.specs.declared.event.Event.{Event}
 use Rattle.ov_net.specs.declared.event.Event.TheVariants.{Broadcast}
@@ -21,7 +21,7 @@ use Rattle.ov_net.proofs.Messages.Passing.{Passes, lives_one, passed}
 use Rattle.ov_net.proofs.Steps.Places.{at_prefix, at_end, at_cases, has_at, at_has}
 
 -- in the world in which nothing has happened
-pub traced_begun : (params : ParamsState) → Traced (opening params)
+pub traced_begun : (params : ParamsState) → Traced (opening_world params)
 traced_begun params = record {
   once = record {
     once = λ i j e f n id p q h. absurd (none-some _ h);

@@ -4,7 +4,7 @@ use Rattle.std.proofs.Common.{List, [], ◌∷◌, ◌++◌, map as each, length
 use Rattle.std.proofs.lemmas.Result.{IfOk-weaker}
 use Rattle.std.specs.Prelude.{remove, slice_get}
 use Rattle.std.specs.FinMap as map
-use Rattle.ov_ids.specs.FaultOrder.{Step, Passed}
+use Rattle.ov_ids.specs.FaultOrder.{HoldsThen, Passed}
 use Rattle.ov_ids.proofs.Stepping.{step_none}
 use Rattle.ov_wire.specs.Messages.{most_payload}
 use Rattle.ov_wire.specs.declared.message.Message.{Message}
@@ -26,7 +26,7 @@ use Rattle.ov_net.specs.declared.effects.NodeChange.{NodeChange}
 use Rattle.ov_net.specs.declared.effects.NodeChange.TheVariants as change
 use Rattle.ov_net.specs.declared.journal_entry.Change.TheVariants as entry
 use Rattle.ov_net.specs.declared.event.Event.{Event}
-use Rattle.ov_net.specs.declared.event.Event.TheVariants.{Boot, Deliver, Lose, Repeat, Crash, Report, Shuffle}
+use Rattle.ov_net.specs.declared.event.Event.TheVariants.{Boot, Deliver, Lose, Repeat, Crash, CrashReport, Shuffle}
 use Rattle.ov_net.specs.declared.event.Event.TheVariants.{Broadcast, Timer, Snapshot}
 use Rattle.ov_net.specs.declared.fault.NetFault.{NetFault}
 use Rattle.ov_net.specs.declared.fault.NetFault.TheVariants.{UnknownNode, UsedId, CrashedNode, TooManyNodes}
@@ -270,10 +270,10 @@ module _ {E : Type 0} where
 
 -- of three steps that pass the third one passed
 passed_short : {F : Type 0} (P Q R : Type 0) (f g h : F) (After : Option F → Type 0)
-    → Step P f (Step Q g (Step R h After)) None → R
+    → HoldsThen P f (HoldsThen Q g (HoldsThen R h After)) None → R
 passed_short P Q R f g h After all =
-    let q = (step_none P f (Step Q g (Step R h After)) all).1 in
-    let r = (step_none Q g (Step R h After) q).1 in
+    let q = (step_none P f (HoldsThen Q g (HoldsThen R h After)) all).1 in
+    let r = (step_none Q g (HoldsThen R h After) q).1 in
     (step_none R h After r).0
 
 pub broadcast_short : (w : Net) (entries : ℕ) (event : Event) (a : ℕ) (payload : List ℕ) → event ≡ Broadcast a payload
@@ -283,7 +283,7 @@ broadcast_short w entries event a payload same judged =
     let event_passes : EventJudged w (Broadcast a payload) None =
     (step_none (entries < most_entries) TooManyEntries (EventJudged w (Broadcast a payload)) all).1 in
     passed_short (IsBorn w a) (¬ IsGone w a) (length payload ≤ most_payload) UnknownNode CrashedNode PayloadTooLong
-    (Step (MayBroadcast w a) TooManyMessages (PlacesLast w)) event_passes
+    (HoldsThen (MayBroadcast w a) TooManyMessages (PlacesLast w)) event_passes
 
 remove_few : {X : Type 0} (xs : List X) (i : ℕ) → length (remove xs i) ≤ length xs
 remove_few [] zero = omega arith
@@ -306,7 +306,7 @@ Sends (Deliver i) = Unit {0}
 Sends (Lose i) = ⊥
 Sends (Repeat i) = Unit {0}
 Sends (Crash a) = ⊥
-Sends (Report a crashed) = Unit {0}
+Sends (CrashReport a crashed) = Unit {0}
 Sends (Shuffle a) = Unit {0}
 Sends (Broadcast a payload) = Unit {0}
 Sends (Timer a id) = Unit {0}
@@ -318,7 +318,7 @@ last_place w h = (step_none (HasPlaces w) TooManyPackets Passed h).0
 live_next : (w : Net) (a : ℕ) (After : Option NetFault → Type 0) → LiveThen w a After None → After None
 live_next w a After h =
     (step_none (¬ IsGone w a) CrashedNode After
-    (step_none (IsBorn w a) UnknownNode (Step (¬ IsGone w a) CrashedNode After) h).1).1
+    (step_none (IsBorn w a) UnknownNode (HoldsThen (¬ IsGone w a) CrashedNode After) h).1).1
 
 pub contact_next : (w : Net) (contact : Option ℕ) (After : Option NetFault → Type 0) → ContactThen w contact After None
     → After None
@@ -334,20 +334,20 @@ places_of w (Deliver i) sends h = last_place w (step_none (i < length w.packets)
 places_of w (Lose i) sends h = absurd sends
 places_of w (Repeat i) sends h = last_place w (step_none (i < length w.packets) NoSuchPacket (PlacesLast w) h).1
 places_of w (Crash a) sends h = absurd sends
-places_of w (Report a crashed) sends h =
-    let gone : Option NetFault → Type 0 = Step (IsGone w crashed) NotCrashed (PlacesLast w) in
-    let known = live_next w a (Step (IsBorn w crashed) UnknownNode gone) h in
+places_of w (CrashReport a crashed) sends h =
+    let gone : Option NetFault → Type 0 = HoldsThen (IsGone w crashed) NotCrashed (PlacesLast w) in
+    let known = live_next w a (HoldsThen (IsBorn w crashed) UnknownNode gone) h in
     last_place w (step_none (IsGone w crashed) NotCrashed (PlacesLast w)
     (step_none (IsBorn w crashed) UnknownNode gone known).1).1
 places_of w (Shuffle a) sends h = last_place w (live_next w a (PlacesLast w) h)
 places_of w (Broadcast a payload) sends h =
-    let made : Option NetFault → Type 0 = Step (MayBroadcast w a) TooManyMessages (PlacesLast w) in
-    let short = live_next w a (Step (length payload ≤ most_payload) PayloadTooLong made) h in
+    let made : Option NetFault → Type 0 = HoldsThen (MayBroadcast w a) TooManyMessages (PlacesLast w) in
+    let short = live_next w a (HoldsThen (length payload ≤ most_payload) PayloadTooLong made) h in
     last_place w (step_none (MayBroadcast w a) TooManyMessages (PlacesLast w)
     (step_none (length payload ≤ most_payload) PayloadTooLong made short).1).1
 places_of w (Timer a id) sends h =
     last_place w (step_none (HasTimer w a id) NoTimer (PlacesLast w)
-    (live_next w a (Step (HasTimer w a id) NoTimer (PlacesLast w)) h)).1
+    (live_next w a (HoldsThen (HasTimer w a id) NoTimer (PlacesLast w)) h)).1
 places_of w Snapshot sends h = absurd sends
 
 pub few_sent : (w : Net) (entries : ℕ) (event this : Event) (b : Effects) → event ≡ this → Sends this

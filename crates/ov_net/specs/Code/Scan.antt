@@ -19,7 +19,7 @@ pub record AreLive (nodes : map.FinMap nat_cmp Member) (ids : List ℕ) : Type 0
 
 -- the active view of a member. It is empty unless the member is alive
 abbrev pub active_of : Option Member → List ℕ
-active_of (Some (Live p)) = p.node.views.active
+active_of (Some (Live p)) = p.hyparview.views.active
 active_of (Some Gone) = []
 active_of None = []
 

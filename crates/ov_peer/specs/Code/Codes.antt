@@ -4,7 +4,7 @@ use Rattle.std.specs.Coded.{Coded, code_by, coded×, coded_ℕ, coded_list, code
 use Rattle.ov_ids.specs.ParamsState.{ParamsState}
 use Rattle.ov_views.specs.ViewsState.{ViewsState}
 use Rattle.ov_views.specs.NeighborRows.{AttemptState}
-use Rattle.ov_views.specs.Allowed.{Node}
+use Rattle.ov_views.specs.Allowed.{HyParViewState}
 use Rattle.ov_plum.specs.PlumState.{PlumState}
 use Rattle.ov_plum.specs.Code.Codes.{plum_code}
 use Rattle.ov_peer.specs.PeerState.{PeerState}
@@ -38,13 +38,13 @@ attempt_code =
     code_by (Option ℕ × List ℕ) (coded× (coded_option coded_ℕ) (coded_list coded_ℕ))
     (λ a. (a.asked, a.tried)) (λ p. record { asked = p.0; tried = p.1 }) (λ _. refl)
 
-abbrev node_code : Coded Node
-node_code =
+abbrev hyparview_code : Coded HyParViewState
+hyparview_code =
     code_by (ViewsState × (AttemptState × List ℕ)) (coded× views_code (coded× attempt_code (coded_list coded_ℕ)))
     (λ n. (n.views, (n.attempt, n.sent))) (λ p. record { views = p.0; attempt = p.1.0; sent = p.1.1 }) (λ _. refl)
 
 -- The code of a node, made of those of its parts.
 abbrev pub peer_code : Coded PeerState
 peer_code =
-    code_by (Node × PlumState) (coded× node_code plum_code)
-    (λ p. (p.node, p.tree)) (λ parts. record { node = parts.0; tree = parts.1 }) (λ _. refl)
+    code_by (HyParViewState × PlumState) (coded× hyparview_code plum_code)
+    (λ p. (p.hyparview, p.tree)) (λ parts. record { hyparview = parts.0; tree = parts.1 }) (λ _. refl)

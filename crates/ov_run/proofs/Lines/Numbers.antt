@@ -1,7 +1,10 @@
 -- Numbers, one after the other, by what stands first and what is left.
-use Rattle.std.proofs.Common.{◌≡◌, ◌==◌, ℕ, List, [], ◌∷◌, length, drop, Some, None, if◌then◌else◌, refl, ap, sym}
+use Rattle.std.proofs.Common.{◌≡◌, ◌==◌, ℕ, List, [], ◌∷◌, length, drop, Option, Some, None, IfSome, IfNone}
+use Rattle.std.proofs.Common.{if◌then◌else◌, refl, ap, sym, arith}
+use Rattle.std.proofs.lemmas.Grind.{common_steps}
 use Rattle.ov_ids.specs.Options.{◌>>=◌}
-use Rattle.ov_run.specs.Lines.{number_within, one, two, three, ids_of, one_list}
+use Rattle.ov_claims.specs.Claims.{MayWork}
+use Rattle.ov_run.specs.Lines.{number_within, one, two, three, ids_of, one_list, as_workers}
 use Rattle.ov_run.specs.Code.Spaced.{first_number, first_list}
 use Rattle.ov_run.proofs.Lines.Parted.{not_empty}
 
@@ -26,3 +29,9 @@ pub three_numbers : (words : List (List ℕ))
     → three words ≡ (first_number 32 words >>= λ a. two (drop 1 words) >>= λ b. Some (a, b))
 three_numbers [] = refl
 three_numbers (v ∷ more) = refl
+
+-- whether there may be so many workers
+pub workers_judged : (n : ℕ) (told : Option ℕ) → IfSome told (λ w. (w ≡ n) × MayWork n) → IfNone told (¬ MayWork n)
+    → told ≡ as_workers n
+workers_judged n (Some w) (same, may) none = grind (arith, common_steps)
+workers_judged n None some not = grind (arith, common_steps)

@@ -5,12 +5,12 @@ use Rattle.std.proofs.lemmas.Option.{none-some}
 use Rattle.std.proofs.lemmas.Result.{IfOk-weaker, IfErr-weaker}
 use Rattle.ov_ids.specs.Members.{Has}
 use Rattle.ov_snap.specs.declared.fault.CoreFault.TheVariants.{OutOfMemory}
-use Rattle.ov_ids.specs.FaultOrder.{IsRefusedBy, Passed, Step}
+use Rattle.ov_ids.specs.FaultOrder.{IsRefusedBy, Passed, HoldsThen}
 use Rattle.ov_ids.proofs.Stepping.{step_none, step_passes}
 use Rattle.ov_graph.specs.Links.{LinkGraph, IsGroup}
 use Rattle.ov_cert.specs.Valid.{IsValidForGroup}
 use Rattle.ov_cert.specs.declared.cert.Cert.{Cert}
-use Rattle.ov_cert.specs.declared.cert.Cert.TheVariants.{Linked as AllLinked, Split as SplitBy}
+use Rattle.ov_cert.specs.declared.cert.Cert.TheVariants as cert
 use Rattle.ov_net.specs.Journal.{AreLinks, Live}
 use Rattle.ov_net.proofs.Links.OneGraph.{links_one}
 use Rattle.ov_snap.specs.CoreState.{CoreState, HasReport, IsSound}
@@ -72,14 +72,14 @@ BeginningJudged b s answer = SubjectThen b s.moment s.group Passed answer
 
 begins : (b : CoreState) (s : Subject) → IsFree b s → BeginningJudged b s None → AnalysisJudged b s None
 begins b s free judged =
-    begun_then b s.moment s.group (Step (¬ IsReported b s) AlreadyFiled Passed) judged
+    begun_then b s.moment s.group (HoldsThen (¬ IsReported b s) AlreadyFiled Passed) judged
     (inl ((λ k. free k.0 k.1), refl))
 
 begins_not : (b : CoreState) (s : Subject) (f : CoreFault) → IsFree b s
     → IsRefusedBy OutOfMemory (BeginningJudged b s) f
     → IsRefusedBy OutOfMemory (AnalysisJudged b s) f
 begins_not b s f free (inl fails) =
-    inl (failed_then b s.moment s.group (Step (¬ IsReported b s) AlreadyFiled Passed) f fails)
+    inl (failed_then b s.moment s.group (HoldsThen (¬ IsReported b s) AlreadyFiled Passed) f fails)
 begins_not b s f free (inr memory) = inr (memory.0, begins b s free memory.1)
 
 -- the same of a call that begins it, for the group that is asked for
@@ -104,8 +104,8 @@ not_begun b s group made free is refused =
 -- ---- a report of the subject is filed
 
 valid_group : (g : LinkGraph) (q : List ℕ) (c : Cert) → IsValidForGroup g q c → IsGroup g q
-valid_group g q (AllLinked k) valid = valid.0
-valid_group g q (SplitBy c) valid = valid.0
+valid_group g q (cert.Linked k) valid = valid.0
+valid_group g q (cert.Split c) valid = valid.0
 
 first_of : (q : List ℕ) → 0 < length q → (a : ℕ) × Has q a
 first_of [] some = absurd (omega (arith, some))
@@ -129,7 +129,7 @@ filed_before b s r filed exact = by s.group filed.members where
       (member.0, (links.nodes member.0).0 (group.nodes member.0 member.1))
 
   Again : Option CoreFault → Type 0
-  Again = Step (¬ IsReported b s) AlreadyFiled Passed
+  Again = HoldsThen (¬ IsReported b s) AlreadyFiled Passed
 
   again : Again (Some AlreadyFiled)
   again = inr ((λ free. free (r, filed)), refl)
@@ -148,7 +148,7 @@ filed_refused b s r filed exact = inl (filed_before b s r filed exact)
 
 judged_parts : (b : CoreState) (s : Subject) → AnalysisJudged b s None → IsMoment b.world.journal s.moment × IsFree b s
 judged_parts b s judged =
-    let parts = subject_then b s.moment s.group (Step (¬ IsReported b s) AlreadyFiled Passed) judged in
+    let parts = subject_then b s.moment s.group (HoldsThen (¬ IsReported b s) AlreadyFiled Passed) judged in
     let last = (step_none (¬ IsReported b s) AlreadyFiled Passed parts.1).0 in
     (parts.0, λ r k. last (r, k))
 
@@ -198,11 +198,11 @@ filing_refused b s r f judged free (inl refused) =
     let Links : Type 0 = AreLinks b.world.journal r.moment r.graph in
     let Free : Type 0 = ¬ IsFiled b r.moment r.members in
     let first = step_none (IsMoment b.world.journal r.moment) NoSuchMoment
-    (Step Links OtherGraph (Step Free AlreadyFiled Passed)) free in
-    let second = step_none Links OtherGraph (Step Free AlreadyFiled Passed) first.1 in
+    (HoldsThen Links OtherGraph (HoldsThen Free AlreadyFiled Passed)) free in
+    let second = step_none Links OtherGraph (HoldsThen Free AlreadyFiled Passed) first.1 in
     let third = step_none Free AlreadyFiled Passed second.1 in
     let behind = step_passes (IsMoment b.world.journal r.moment) NoSuchMoment
-    (Step Links OtherGraph (Step Free AlreadyFiled Passed)) (Some f) first.0 refused in
-    let last = step_passes Links OtherGraph (Step Free AlreadyFiled Passed) (Some f) second.0 behind in
+    (HoldsThen Links OtherGraph (HoldsThen Free AlreadyFiled Passed)) (Some f) first.0 refused in
+    let last = step_passes Links OtherGraph (HoldsThen Free AlreadyFiled Passed) (Some f) second.0 behind in
     let none : Some f ≡ None = step_passes Free AlreadyFiled Passed (Some f) third.0 last in
     absurd (cc)

@@ -1,6 +1,8 @@
 //! The arguments of the command line, and the random words that a seed gives.
+use crate::run::crew_of;
+use ov_claims::Workers;
 use ov_ids::NodeId;
-use ov_run::{ArgumentsFault, Request, draw, read_arguments};
+use ov_run::{AnalysisRequest, ArgumentsFault, Request, draw, read_arguments};
 use ov_words::Words;
 use std::alloc::Global;
 use std::test::Fail;
@@ -132,10 +134,12 @@ fn asks_for_g(
 ) -> Result<bool, Fail> {
     let expected = Request::Analyse {
         file: file(alloc, "g")?,
-        group: group_of(alloc, numbers)?,
-        workers: 1,
-        certificate,
-        progress,
+        analysis: AnalysisRequest {
+            group: group_of(alloc, numbers)?,
+            workers: Workers::ONE,
+            certificate,
+            progress,
+        },
     };
     asks(alloc, line, &expected)
 }
@@ -144,10 +148,12 @@ fn asks_for_g(
 fn asks_for_nine(alloc: Global, line: &str) -> Result<bool, Fail> {
     let expected = Request::Analyse {
         file: None,
-        group: group_of(alloc, &[9])?,
-        workers: 1,
-        certificate: false,
-        progress: false,
+        analysis: AnalysisRequest {
+            group: group_of(alloc, &[9])?,
+            workers: Workers::ONE,
+            certificate: false,
+            progress: false,
+        },
     };
     asks(alloc, line, &expected)
 }
@@ -180,21 +186,23 @@ static BY_WORKERS: [(&str, u32); 8] = [
 ];
 
 /// The line asks for an analysis of all nodes of the file g by so many workers.
-fn asks_for_workers(alloc: Global, line: &str, workers: u32) -> Result<bool, Fail> {
+fn asks_for_workers(alloc: Global, line: &str, count: u32) -> Result<bool, Fail> {
     let expected = Request::Analyse {
         file: file(alloc, "g")?,
-        group: None,
-        workers,
-        certificate: false,
-        progress: false,
+        analysis: AnalysisRequest {
+            group: None,
+            workers: crew_of(count)?,
+            certificate: false,
+            progress: false,
+        },
     };
     asks(alloc, line, &expected)
 }
 
 #[test]
 fn arguments_that_ask_for_workers(rt: HostRuntime) -> Result<(), Fail> {
-    for (line, workers) in &BY_WORKERS {
-        assert!(rt; asks_for_workers(rt.alloc(), line, *workers)?, "at {line}");
+    for (line, count) in &BY_WORKERS {
+        assert!(rt; asks_for_workers(rt.alloc(), line, *count)?, "at {line}");
     }
     Ok(())
 }
@@ -211,10 +219,12 @@ static ALL_AT_ONCE: [&str; 3] = [
 fn asks_for_all(alloc: Global, line: &str) -> Result<bool, Fail> {
     let expected = Request::Analyse {
         file: file(alloc, "g")?,
-        group: group_of(alloc, &[1, 2])?,
-        workers: 64,
-        certificate: true,
-        progress: true,
+        analysis: AnalysisRequest {
+            group: group_of(alloc, &[1, 2])?,
+            workers: crew_of(64)?,
+            certificate: true,
+            progress: true,
+        },
     };
     asks(alloc, line, &expected)
 }

@@ -1,7 +1,7 @@
 -- The entries by their places say the verdict.
 use Rattle.std.proofs.Common.{◌∙◌, List, length, Some, sym, ap, subst}
 use Rattle.std.proofs.lemmas.Bool.{both_ways}
-use Rattle.ov_cert.specs.declared.cert.Cert.TheVariants.{Split as SplitBy}
+use Rattle.ov_cert.specs.declared.cert.Cert.TheVariants as cert
 use Rattle.ov_cert.specs.declared.entry.Expected.{Expected}
 use Rattle.ov_cert.specs.Verdict.{AllHold, IsFirstAtFault, JudgedForGroup}
 use Rattle.ov_cert.specs.Entries.{HoldsEntry}
@@ -16,7 +16,7 @@ returns-in-Some g c =
     let entry = c.in-Some.entry in
     let IsFirst = λ (es : List Expected). IsFirstAtFault (λ _ e. HoldsEntry graph group split e) es entry in
     let first = subst IsFirst c.deref.ensures.value c.in-Some.ensures in
-    subst (λ fault. JudgedForGroup graph group (SplitBy split) (Some fault)) (sym c.fault.ensures)
+    subst (λ fault. JudgedForGroup graph group (cert.Split split) (Some fault)) (sym c.fault.ensures)
     (judged_missing graph group split c.requires c.in_ok-entries.entries.items c.in_ok-entries.ensures entry first)
 
 pub overflow_sub-count : goal.overflow_sub-count

@@ -10,7 +10,7 @@ use Rattle.ov_crew.proofs.crew.enough.Goals as goal
 
 pub level_numbers-numbers-requires-clause-members : goal.level_numbers-numbers-requires-clause-members
 level_numbers-numbers-requires-clause-members g c =
-    let few = members_few c.args.graph.now c.args.group.now c.requires.group in
+    let few = members_few c.args.graph.now c.args.group.now c.requires in
     omega (arith, few, ap length c.nodes.ensures.nodes)
 
 pub try_level-requires-clause-range : goal.try_level-requires-clause-range

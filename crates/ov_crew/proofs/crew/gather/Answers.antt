@@ -2,7 +2,7 @@
 use Rattle.std.proofs.Common.{◌≡◌, List, [], ◌∷◌, ◌++◌, length, Ok, sym, ap, ◌∙◌, arith, append_assoc, length-append}
 use Rattle.std.specs.Prelude.{Result}
 use Rattle.ov_ids.specs.declared.memory.OutOfMemory.{OutOfMemory}
-use Rattle.ov_even.specs.declared.haul.Haul.{Haul}
+use Rattle.ov_even.specs.declared.worker_haul.Haul.{Haul}
 use Rattle.ov_crew.specs.Code.Crews.{Outcome, outcomes}
 use Rattle.ov_crew.proofs.Gathering.{outcomes_more}
 use Rattle.ov_crew.proofs.crew.gather.Goals as goal

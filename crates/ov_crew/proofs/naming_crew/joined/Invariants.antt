@@ -1,6 +1,6 @@
 -- The parts so far are joined.
 use Rattle.std.proofs.Common.{◌≡◌, ◌*◌, ℕ, List, ◌++◌, length, take}
-use Rattle.ov_even.specs.declared.naming.NamedPaths.{NamedPaths}
+use Rattle.ov_even.specs.declared.path_naming.NamedPaths.{NamedPaths}
 use Rattle.ov_crew.specs.Code.Parts.{AreParts}
 use Rattle.ov_crew.proofs.naming_crew.joined.Given as goal
 

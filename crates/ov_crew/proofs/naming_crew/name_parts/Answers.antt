@@ -3,7 +3,7 @@ use Rattle.std.proofs.Common.{◌≡◌, ◌∙◌, ◌*◌, ◌<◌, List, leng
 use Rattle.std.specs.Prelude.{IfOk}
 use Rattle.std.proofs.lemmas.Option.{same_Some, slice_get_within, slice_get-get_or}
 use Rattle.ov_even.specs.Naming.{named_of}
-use Rattle.ov_even.specs.declared.naming.NamedPaths.{NamedPaths}
+use Rattle.ov_even.specs.declared.path_naming.NamedPaths.{NamedPaths}
 use Rattle.ov_crew.specs.Code.Parts.{Part}
 use Rattle.ov_crew.proofs.Joining.{has_part, map_part}
 use Rattle.ov_crew.proofs.naming_crew.name_parts.Goals as goal

@@ -1,5 +1,5 @@
 use Rattle.std.proofs.Common.{◌≡◌, [], replicate}
-use Rattle.ov_desk.specs.Code.Held.{pieces_in}
+use Rattle.ov_desk.specs.Code.Kept.{pieces_in}
 use Rattle.ov_desk.proofs.desk.empty_hauls.Given as goal
 
 abbrev pub invariant-loop : goal.invariant-loop

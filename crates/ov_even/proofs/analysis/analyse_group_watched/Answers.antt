@@ -1,7 +1,7 @@
 -- The settled pieces suffice for a certificate.
 use Rattle.std.proofs.Common.{List, sym, subst}
 use Rattle.ov_even.specs.Harvest.{Suffice}
-use Rattle.ov_even.specs.declared.haul.Haul.{Haul}
+use Rattle.ov_even.specs.declared.worker_haul.Haul.{Haul}
 use Rattle.ov_even.proofs.analysis.analyse_group_watched.Goals as goal
 
 pub assemble_group-requires-clause-suffice : goal.assemble_group-requires-clause-suffice

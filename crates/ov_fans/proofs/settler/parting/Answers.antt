@@ -11,24 +11,24 @@ use Rattle.ov_fans.proofs.settler.parting.Goals as goal
 
 pub nodes_of_row-requires : goal.nodes_of_row-requires
 nodes_of_row-requires c =
-    let m = c.args.members.now in
-    let f = full_in m.graph m.members c.args.piece c.args.held c.args.stuck.now c.graph-graph.ensures.is_graph
+    let m = c.args.group.now in
+    let f = full_in m.graph m.members c.args.piece c.args.held c.args.rows.now c.graph-graph.ensures.is_graph
     c.requires.full in
-    subst (λ (g : LinkGraph). IsRowOf g.nodes c.args.stuck.now.cut) (sym c.graph-graph.ensures.graph)
+    subst (λ (g : LinkGraph). IsRowOf g.nodes c.args.rows.now.cut) (sym c.graph-graph.ensures.graph)
     (record { few = c.graph-graph.ensures.within; within = f.cut_places })
 
 pub nodes_of_row-requires-2 : goal.nodes_of_row-requires-2
 nodes_of_row-requires-2 c =
-    let m = c.args.members.now in
-    let f = full_in m.graph m.members c.args.piece c.args.held c.args.stuck.now c.graph-graph.ensures.is_graph
+    let m = c.args.group.now in
+    let f = full_in m.graph m.members c.args.piece c.args.held c.args.rows.now c.graph-graph.ensures.is_graph
     c.requires.full in
-    subst (λ (g : LinkGraph). IsRowOf g.nodes c.args.stuck.now.side) (sym c.graph-graph.ensures.graph)
+    subst (λ (g : LinkGraph). IsRowOf g.nodes c.args.rows.now.side) (sym c.graph-graph.ensures.graph)
     (record { few = c.graph-graph.ensures.within; within = f.side_places })
 
 pub far_of-requires-clause-cut : goal.far_of-requires-clause-cut
 far_of-requires-clause-cut c =
-    let m = c.args.members.now in
-    let s = c.args.stuck.now in
+    let m = c.args.group.now in
+    let s = c.args.rows.now in
     let f = full_in m.graph m.members c.args.piece c.args.held s c.graph-graph.ensures.is_graph c.requires.full in
     let e = c.graph-graph.ensures in
     (cut_found m.graph m.members c.args.piece c.args.held (picked s.cut 0 m.graph.nodes) (picked s.side 0 m.graph.nodes)
@@ -36,8 +36,8 @@ far_of-requires-clause-cut c =
 
 pub returns : goal.returns
 returns c =
-    let m = c.args.members.now in
-    let s = c.args.stuck.now in
+    let m = c.args.group.now in
+    let s = c.args.rows.now in
     let f = full_in m.graph m.members c.args.piece c.args.held s c.graph-graph.ensures.is_graph c.requires.full in
     let e = c.graph-graph.ensures in
     subst (λ (p : Parting). IsParted m.graph m.members c.args.piece p) (sym c.in_ok-new.ensures.ok)
@@ -51,8 +51,8 @@ returns c =
 
 pub far_of-requires-clause-few : goal.far_of-requires-clause-few
 far_of-requires-clause-few c =
-    let m = c.args.members.now in
-    let s = c.args.stuck.now in
+    let m = c.args.group.now in
+    let s = c.args.rows.now in
     let f = full_in m.graph m.members c.args.piece c.args.held s c.graph-graph.ensures.is_graph c.requires.full in
     let e = c.graph-graph.ensures in
     (cut_found m.graph m.members c.args.piece c.args.held (picked s.cut 0 m.graph.nodes) (picked s.side 0 m.graph.nodes)

@@ -8,7 +8,7 @@ pub insert-requires : goal.insert-requires
 insert-requires c =
     let items = c.args.tried.now.items in
     let within : count_below c.args.id items ≤ length items = count_below-le-length c.args.id items in
-    let at : c.place_for-at.result ≡ count_below c.args.id items = c.place_for-at.ensures
+    let at : c.place_for-at.result ≡ count_below c.args.id items = c.place_for-at.ensures.value
     ∙ ap (count_below c.args.id) c.as_slice.ensures.value in
     search rules
 
@@ -16,5 +16,5 @@ pub returns : goal.returns
 returns c =
     let items = c.args.tried.now.items in
     let inserted = rw (c.insert.ensures.succeeds c.requires.room) at c.insert.ensures.items in
-    inserted ∙ rw (c.place_for-at.ensures, c.as_slice.ensures.value)
+    inserted ∙ rw (c.place_for-at.ensures.value, c.as_slice.ensures.value)
     (sym (adding_absent c.args.id items (false_from_ne_true _ c.requires.untried)))

@@ -11,17 +11,17 @@ returns-then-is_help_option c =
     (ap (map string_bytes) c.in-Some.ensures.cases.0) c.loop-first.invariant c.if-is_help_option.true in
     ((λ h. found), (λ h. refl))
 
-pub returns-then-is_word : goal.returns-then-is_word
-returns-then-is_word c =
-    let none = ended c.is_help_option.result c.is_word.result c.as_str.result.now c.as_str-in-Some.result.now _ _ _ _
-    c.is_help_option.ensures c.is_word.ensures c.as_str.ensures.value c.as_str-in-Some.ensures.value
+pub returns-then-is_same : goal.returns-then-is_same
+returns-then-is_same c =
+    let none = ended c.is_help_option.result c.is_same.result c.as_str.result.now c.as_str-in-Some.result.now _ _ _ _
+    c.is_help_option.ensures c.is_same.ensures c.as_str.ensures.value c.as_str-in-Some.ensures.value
     (ap (map string_bytes) c.in-Some.ensures.cases.0) c.loop-first.invariant c.if-is_help_option.false
-    c.if-is_word.true in
+    c.if-is_same.true in
     ((λ e. absurd (both_ways false refl e)), (λ h. absurd (none h)))
 
 pub loop-first-preserved : goal.loop-first-preserved
 loop-first-preserved c =
-    goes_on c.is_help_option.result c.is_word.result c.as_str.result.now c.as_str-in-Some.result.now _ _ _ _
-    c.is_help_option.ensures c.is_word.ensures c.as_str.ensures.value c.as_str-in-Some.ensures.value
+    goes_on c.is_help_option.result c.is_same.result c.as_str.result.now c.as_str-in-Some.result.now _ _ _ _
+    c.is_help_option.ensures c.is_same.ensures c.as_str.ensures.value c.as_str-in-Some.ensures.value
     (ap (map string_bytes) c.in-Some.ensures.cases.0) c.loop-first.invariant c.if-is_help_option.false
-    c.if-is_word.false
+    c.if-is_same.false

@@ -1,30 +1,48 @@
 -- What was read has an answer, and its text was written, or a prefix of it.
-use Rattle.std.proofs.Common.{inr, option_map, string_bytes}
+use Rattle.std.proofs.Common.{rules, inr, option_map, string_bytes}
 use Rattle.ov_run.proofs.GraphFiles.Answered.{all_written, begun_written}
 use Rattle.ov_run.proofs.graph_analysis.analyse_file.Goals as goal
 
-pub returns-clause-prints : goal.returns-clause-prints
-returns-clause-prints g c =
-    all_written (g.R.Read.remaining c.args.source.now.reader) (g.W.Write.contents c.args.sink.now.writer)
-    (g.W.Write.contents c.write_all.new.self.writer) c.in_ok-bytes.bytes.items c.deref.result.now
-    (string_bytes c.in_ok-text.text) c.as_bytes.result.now (option_map (λ ids. ids.now) c.args.group) c.args.certificate
-    c.in_ok-bytes.ensures.bytes c.deref.ensures.value c.as_bytes.ensures.value c.in_ok-text.ensures.text
-    c.in_ok-write_all.ensures.bytes
+pub returns : goal.returns
+returns g c = record {
+  analysis = record {
+    status = search rules;
+    prints = all_written (g.R.Read.remaining c.args.source.now.reader) (g.W.Write.contents c.args.sink.now.writer)
+        (g.W.Write.contents c.write_all.new.self.writer) c.in_ok-bytes.bytes.items c.deref.result.now
+        (string_bytes c.in_ok-text.text) c.as_bytes.result.now (option_map (λ ids. ids.now) c.args.group)
+        c.args.certificate c.in_ok-bytes.ensures.bytes c.deref.ensures.value c.as_bytes.ensures.value
+        c.in_ok-text.ensures.text c.in_ok-write_all.ensures.bytes;
+    begun = inr
+        (begun_written (g.R.Read.remaining c.args.source.now.reader) (g.W.Write.contents c.args.sink.now.writer)
+        (g.W.Write.contents c.write_all.new.self.writer) c.in_ok-bytes.bytes.items c.deref.result.now
+        (string_bytes c.in_ok-text.text) c.as_bytes.result.now (option_map (λ ids. ids.now) c.args.group)
+        c.args.certificate c.in_ok-bytes.ensures.bytes c.deref.ensures.value c.as_bytes.ensures.value
+        c.in_ok-text.ensures.text c.in_ok-write_all.ensures.prefix);
+    source = search rules;
+    failed = search rules;
+    not_failed = search rules;
+    sink = search rules;
+    unwritten = search rules;
+    fault = search rules;
+  };
+}
 
-pub returns-clause-begun : goal.returns-clause-begun
-returns-clause-begun g c =
-    inr
-    (begun_written (g.R.Read.remaining c.args.source.now.reader) (g.W.Write.contents c.args.sink.now.writer)
-    (g.W.Write.contents c.write_all.new.self.writer) c.in_ok-bytes.bytes.items c.deref.result.now
-    (string_bytes c.in_ok-text.text) c.as_bytes.result.now (option_map (λ ids. ids.now) c.args.group) c.args.certificate
-    c.in_ok-bytes.ensures.bytes c.deref.ensures.value c.as_bytes.ensures.value c.in_ok-text.ensures.text
-    c.in_ok-write_all.ensures.prefix)
-
-pub returns-in_err-write_all-clause-begun : goal.returns-in_err-write_all-clause-begun
-returns-in_err-write_all-clause-begun g c =
-    inr
-    (begun_written (g.R.Read.remaining c.args.source.now.reader) (g.W.Write.contents c.args.sink.now.writer)
-    (g.W.Write.contents c.write_all.new.self.writer) c.in_ok-bytes.bytes.items c.deref.result.now
-    (string_bytes c.in_ok-text.text) c.as_bytes.result.now (option_map (λ ids. ids.now) c.args.group) c.args.certificate
-    c.in_ok-bytes.ensures.bytes c.deref.ensures.value c.as_bytes.ensures.value c.in_ok-text.ensures.text
-    c.in_err-write_all.ensures.prefix)
+pub returns-in_err-write_all : goal.returns-in_err-write_all
+returns-in_err-write_all g c = record {
+  analysis = record {
+    status = search rules;
+    prints = search rules;
+    begun = inr
+        (begun_written (g.R.Read.remaining c.args.source.now.reader) (g.W.Write.contents c.args.sink.now.writer)
+        (g.W.Write.contents c.write_all.new.self.writer) c.in_ok-bytes.bytes.items c.deref.result.now
+        (string_bytes c.in_ok-text.text) c.as_bytes.result.now (option_map (λ ids. ids.now) c.args.group)
+        c.args.certificate c.in_ok-bytes.ensures.bytes c.deref.ensures.value c.as_bytes.ensures.value
+        c.in_ok-text.ensures.text c.in_err-write_all.ensures.prefix);
+    source = search rules;
+    failed = search rules;
+    not_failed = search rules;
+    sink = search rules;
+    unwritten = search rules;
+    fault = search rules;
+  };
+}

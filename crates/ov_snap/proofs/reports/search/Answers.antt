@@ -1,5 +1,5 @@
 -- The report at the middle place is before, at, or behind what is looked for.
-use Rattle.std.proofs.Common.{◌<◌, ◌+◌, ◌-◌, ◌/◌, ℕ, slice_index, arith}
+use Rattle.std.proofs.Common.{◌+◌, ◌-◌, ◌/◌, ℕ, slice_index, arith}
 use Rattle.std.specs.declared.cmp.Ordering.TheVariants.{Less, Equal, Greater}
 use Rattle.ov_ids.proofs.Members.{has_place}
 use Rattle.ov_snap.specs.Code.Index.{key_at}

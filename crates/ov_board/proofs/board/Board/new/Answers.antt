@@ -2,7 +2,7 @@ use Rattle.std.proofs.Common.{◌≡◌, length, List, [], ◌∷◌, take, drop
 use Rattle.std.proofs.Common.{ap, sym, ◌∙◌, arith, length-append}
 use Rattle.ov_claims.specs.Claims.{fresh}
 use Rattle.ov_board.specs.Rule.{Numbered}
-use Rattle.ov_board.specs.declared.view.View.{View}
+use Rattle.ov_board.specs.declared.view.SeatView.{SeatView}
 use Rattle.ov_board.specs.Board.{BoardState, SeatState, new_seat}
 use Rattle.ov_board.specs.Code.Rule.{Holder, head_of, others_of, first_of, seat_state}
 use Rattle.ov_board.proofs.Sharing.{splits}
@@ -10,7 +10,7 @@ use Rattle.ov_board.proofs.Closing.{opens, fresh_next, pushed}
 use Rattle.ov_board.proofs.board.Board.new.Goals as goal
 
 pub of_words-requires : goal.of_words-requires
-of_words-requires c = opens _ c.requires.total c.requires.some c.requires.few
+of_words-requires c = opens _ c.requires c.count-count.ensures.may_work
 
 pub split_seat-seat-requires : goal.split_seat-seat-requires
 split_seat-seat-requires c =
@@ -20,7 +20,7 @@ pub invariant_of-push_reserved : goal.invariant_of-push_reserved
 invariant_of-push_reserved c =
     let i = c.loop-number.invariant in
     let e = c.split_seat-seat.ensures in
-    let next = fresh_next c.loop-number.number c.args.workers c.loop-number-test.true in
+    let next = fresh_next c.loop-number.number c.count-count.result c.loop-number-test.true in
     let is : c.split_seat-seat.result.me.0.seated ≡ (c.loop-number.number, fresh) ∷ [] =
     ap (λ (m : Holder). m.0.seated) e.4 ∙ (ap (λ (m : Holder). take 1 m.0.seated) i.3 ∙ ap (take 1) next) in (
       is ∙ sym (ap (λ (qs : List Numbered). head_of qs ∷ []) is),
@@ -34,15 +34,19 @@ loop-number-preserved c =
     let e = c.split_seat-seat.ensures in
     let p = c.push_reserved.ensures in
     let n = c.loop-number.number in
-    let next = fresh_next n c.args.workers c.loop-number-test.true in
-    let plan : List Numbered → View = λ qs. record { total = c.args.total; workers = c.args.workers; seated = qs } in
+    let next = fresh_next n c.count-count.result c.loop-number-test.true in
+    let plan : List Numbered → SeatView = λ qs. record {
+      total = c.args.total;
+      workers = c.count-count.result;
+      seated = qs;
+    } in
     let first : c.split_seat-seat.result.me.0 ≡ plan ((n, fresh) ∷ []) =
     ap (λ (m : Holder). m.0) e.4 ∙ (ap (λ (m : Holder). first_of m.0) i.3 ∙ ap (λ qs. plan (take 1 qs)) next) in
     let table = e.3 ∙ i.2 in
     let board : BoardState = record {
       table = c.in_ok-table.table.shared.table_id;
       total = c.args.total;
-      workers = c.args.workers;
+      workers = c.count-count.result;
     } in
     let seat : SeatState = seat_state c.split_seat-seat.result.table_id c.split_seat-seat.result.me.0 in
     let made : seat ≡ new_seat board n = λ k. seat_state (table k) (first k) in (

@@ -6,15 +6,15 @@ use Rattle.ov_board.proofs.board.Board.new.Given as goal
 abbrev pub invariant-loop-number : goal.invariant-loop-number
 invariant-loop-number l =
     (length l.seats.items ≡ l.number)
-    × (l.fn.workers ≤ vec_capacity l.seats)
+    × (l.count ≤ vec_capacity l.seats)
     × (l.pool.table_id ≡ l.table.shared.table_id)
     × (l.pool.me ≡ (
       record {
         total = l.fn.total;
-        workers = l.fn.workers;
-        seated = fresh_from l.number (l.fn.workers - l.number);
+        workers = l.count;
+        seated = fresh_from l.number (l.count - l.number);
       },
       [],
     ))
     × ((i : ℕ) → i < l.number → slice_get l.seats.items i
-    ≡ Some (new_seat record { table = l.table.shared.table_id; total = l.fn.total; workers = l.fn.workers } i))
+    ≡ Some (new_seat record { table = l.table.shared.table_id; total = l.fn.total; workers = l.count } i))

@@ -2,7 +2,7 @@
 use Rattle.std.proofs.Common.{◌≡◌, ◌∙◌, ℕ, List, sym, ap, subst}
 use Rattle.ov_even.specs.Harvest.{Suffice}
 use Rattle.ov_desk.specs.Desk.{GroupDeskState}
-use Rattle.ov_desk.specs.Code.Held.{pieces_in}
+use Rattle.ov_desk.specs.Code.Kept.{pieces_in}
 use Rattle.ov_desk.proofs.Deciding.{ended_suffices}
 use Rattle.ov_desk.proofs.desk.GroupDesk.certificate.Goals as goal
 

@@ -5,7 +5,7 @@ use Rattle.std.proofs.lemmas.List.{length-set}
 use Rattle.std.proofs.lemmas.Option.{slice_get_within}
 use Rattle.ov_fans.specs.declared.settled.Settled.{Settled}
 use Rattle.ov_desk.specs.Desk.{GroupDeskState, HasHand}
-use Rattle.ov_desk.specs.Code.Held.{IsHeld, pieces_in}
+use Rattle.ov_desk.specs.Code.Kept.{IsKept, pieces_in}
 use Rattle.ov_desk.proofs.Keeping.{in_hand, may_fail}
 use Rattle.ov_desk.proofs.Settling.{number_shared, haul_within, haul_read, hauls_rest, hauls_more, same_desk}
 use Rattle.ov_desk.proofs.Settling.{on_any_err, claims_failed, claims_stay, settle_held, settle_made, ClaimsSettled}
@@ -43,7 +43,7 @@ fail-requires c =
 pub invariant_of-self-in_err-fail : goal.invariant_of-self-in_err-fail
 invariant_of-self-in_err-fail c =
     let hauls = c.self.inside.hauls.items in
-    subst IsHeld (sym (same_desk _ _ _ c.in_err-fail.ensures.err (hauls_rest hauls c.args.worker
+    subst IsKept (sym (same_desk _ _ _ c.in_err-fail.ensures.err (hauls_rest hauls c.args.worker
     c.index_mut-own.result.now _ c.index_mut-own.ensures.value c.reserve.ensures.items))) c.self.invariant
 
 pub returns-in_err-fail-clause-err : goal.returns-in_err-fail-clause-err

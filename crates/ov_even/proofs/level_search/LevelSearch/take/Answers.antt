@@ -3,7 +3,7 @@ use Rattle.std.proofs.Common.{ℕ, List, sym, subst, arith}
 use Rattle.ov_even.specs.Harvest.{AreRight, Suffice}
 use Rattle.ov_even.specs.Levels.{IsTried, SearchState}
 use Rattle.ov_even.specs.Code.Narrowing.{HasCutWithin}
-use Rattle.ov_even.specs.declared.haul.Haul.{Haul}
+use Rattle.ov_even.specs.declared.worker_haul.Haul.{Haul}
 use Rattle.ov_even.proofs.AnalysisSteps.Narrowing.{cleared_bounds, tried_suffices}
 use Rattle.ov_even.proofs.level_search.LevelSearch.take.Goals as goal
 

@@ -17,7 +17,7 @@ use Rattle.ov_fans.proofs.settler.Settler.sought.Goals.{in-None+in_ok-paths-in-N
 
 pub returns-clause-found : goal.returns-clause-found
 returns-clause-found c =
-    let m = c.self.inside.members in
+    let m = c.self.inside.group in
     let p = c.args.piece in
     let aim = c.aim_for-aim.result in
     let e = c.graph.ensures in

@@ -8,12 +8,12 @@ insert-requires c =
     let within : count_below c.args.id c.self.inside.ids.items ≤ length c.self.inside.ids.items =
     count_below-le-length c.args.id c.self.inside.ids.items in
     let at : c.place_for-i.result ≡ count_below c.args.id c.self.inside.ids.items =
-    c.place_for-i.ensures ∙ ap (count_below c.args.id) c.as_slice.ensures.value in
+    c.place_for-i.ensures.value ∙ ap (count_below c.args.id) c.as_slice.ensures.value in
     search rules
 
 pub returns-then-not-contains-clause-value : goal.returns-then-not-contains-clause-value
 returns-then-not-contains-clause-value c =
-    c.insert.ensures.items ∙ rw (c.place_for-i.ensures, c.as_slice.ensures.value, c.self.view_is)
+    c.insert.ensures.items ∙ rw (c.place_for-i.ensures.value, c.as_slice.ensures.value, c.self.view_is)
     (sym (adding_absent c.args.id c.args.self.now (sym c.contains.ensures.value ∙ c.if-not-contains.true)))
 
 pub returns-then-not-contains-clause-members : goal.returns-then-not-contains-clause-members

@@ -6,13 +6,13 @@ use Rattle.ov_ids.proofs.id_set.IdSet.remove.Goals as goal
 pub remove-requires : goal.remove-requires
 remove-requires c =
     let within : c.place_for-i.result < length c.self.inside.ids.items =
-    rw (c.place_for-i.ensures, c.as_slice.ensures.value, c.self.view_is)
+    rw (c.place_for-i.ensures.value, c.as_slice.ensures.value, c.self.view_is)
     (count_below-lt-length c.args.id c.args.self.now (sym c.contains.ensures.value ∙ c.if-contains.true))
     in search rules
 
 pub returns-then-contains-clause-value : goal.returns-then-contains-clause-value
 returns-then-contains-clause-value c =
-    c.remove.ensures.items ∙ rw (c.place_for-i.ensures, c.as_slice.ensures.value, c.self.view_is)
+    c.remove.ensures.items ∙ rw (c.place_for-i.ensures.value, c.as_slice.ensures.value, c.self.view_is)
     (sym (without_present c.args.id c.args.self.now c.contains.ensures.set
     (sym c.contains.ensures.value ∙ c.if-contains.true)))
 

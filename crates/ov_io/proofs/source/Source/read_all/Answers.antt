@@ -7,7 +7,8 @@ pub loop-init : goal.loop-init
 loop-init g c =
     rw (← c.self.view_is, c.new-bytes.ensures.items) (record {
       consumed = Consumes-nil _;
-      reads = omega (arith, c.self.invariant.0);
+      reads = omega (arith, c.self.invariant.reads);
       failures = refl;
+      ends = refl;
       faults = refl;
     })

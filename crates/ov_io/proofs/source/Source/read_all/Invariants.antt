@@ -1,4 +1,4 @@
--- what was read is what the reader lost; each turn was one read, and none failed
+-- what was read is what the reader lost; each turn was one read, none failed, and none was the end
 use Rattle.std.proofs.Common.{◌≡◌, ◌+◌, min}
 use Rattle.std.specs.Io.KnownBytes.{Consumes}
 use Rattle.ov_io.specs.Device.{most_counted}
@@ -10,5 +10,6 @@ invariant-loop g l = record {
       l.bytes.items;
   reads : l.self-inside.reader.reads ≡ min (l.fn.self.reads + l.counter) most_counted;
   failures : l.self-inside.reader.failures ≡ l.fn.self.failures;
+  ends : l.self-inside.reader.ends ≡ l.fn.self.ends;
   faults : l.self-inside.reader.failures + l.self-inside.endless ≡ l.fn.self.faults;
 }

@@ -31,10 +31,10 @@ returns-in-Crash-clause-effects c =
     at_any c.args.self.now.net c.args.event.now _ c.args.words.now c.effects_of_crash.result c.in-Crash.is
     c.effects_of_crash.ensures.effects
 
-pub returns-in-Report-clause-effects : goal.returns-in-Report-clause-effects
-returns-in-Report-clause-effects c =
-    at_event c.args.self.now.net c.args.event.now _ c.args.words.now c.effects_of_report.result c.in-Report.is
-    c.effects_of_report.ensures.effects
+pub returns-in-CrashReport-clause-effects : goal.returns-in-CrashReport-clause-effects
+returns-in-CrashReport-clause-effects c =
+    at_event c.args.self.now.net c.args.event.now _ c.args.words.now c.effects_of_crash_report.result
+    c.in-CrashReport.is c.effects_of_crash_report.ensures.effects
 
 pub returns-in-Shuffle-clause-effects : goal.returns-in-Shuffle-clause-effects
 returns-in-Shuffle-clause-effects c =
@@ -73,11 +73,11 @@ returns-in-Repeat-clause-few c =
     (λ b h. few_sent c.args.self.now.net _ c.args.event.now _ b c.in-Repeat.is tt c.requires h)
     c.effects_of_repeat.ensures.few
 
-pub returns-in-Report-clause-few : goal.returns-in-Report-clause-few
-returns-in-Report-clause-few c =
-    IfOk-weaker c.effects_of_report.result _ _
-    (λ b h. few_sent c.args.self.now.net _ c.args.event.now _ b c.in-Report.is tt c.requires h)
-    c.effects_of_report.ensures.few
+pub returns-in-CrashReport-clause-few : goal.returns-in-CrashReport-clause-few
+returns-in-CrashReport-clause-few c =
+    IfOk-weaker c.effects_of_crash_report.result _ _
+    (λ b h. few_sent c.args.self.now.net _ c.args.event.now _ b c.in-CrashReport.is tt c.requires h)
+    c.effects_of_crash_report.ensures.few
 
 pub returns-in-Shuffle-clause-few : goal.returns-in-Shuffle-clause-few
 returns-in-Shuffle-clause-few c =

@@ -1,5 +1,5 @@
 use Rattle.std.proofs.Common.{length, sym, ap, subst, arith}
-use Rattle.ov_views.specs.Allowed.{Node}
+use Rattle.ov_views.specs.Allowed.{HyParViewState}
 use Rattle.ov_peer.specs.PeerState.{PeerState}
 use Rattle.ov_peer.specs.Planning.{IsPlanFor, Follows}
 use Rattle.ov_peer.specs.Step.{Told, IsPeerStep}
@@ -17,7 +17,7 @@ apply-requires c =
 pub prove-unreachable-requires : goal.prove-unreachable-requires
 prove-unreachable-requires c =
     let p = peer_of c.self.inside.views c.self.inside.attempt c.self.inside.sent c.self.inside.plum in
-    let middle : PeerState = record { node = p.node; tree = c.apply.new.self } in
+    let middle : PeerState = record { hyparview = p.hyparview; tree = c.apply.new.self } in
     let turned = peer_changed p c.args.plan.plum_change c.apply.new.self c.self.invariant c.in_ok-apply.ensures.ok in
     let few = neighbours_fit middle turned c.eager.ensures.kept.branches in
     let eager = ap length c.eager.ensures.value in
@@ -27,7 +27,7 @@ prove-unreachable-requires c =
 pub tell-requires : goal.tell-requires
 tell-requires c =
     let p = peer_of c.self.inside.views c.self.inside.attempt c.self.inside.sent c.self.inside.plum in
-    let middle : PeerState = record { node = p.node; tree = c.apply.new.self } in
+    let middle : PeerState = record { hyparview = p.hyparview; tree = c.apply.new.self } in
     let turned = peer_changed p c.args.plan.plum_change c.apply.new.self c.self.invariant c.in_ok-apply.ensures.ok in
     let few = neighbours_fit middle turned c.eager.ensures.kept.branches in
     let v = c.active.ensures.views in
@@ -37,7 +37,8 @@ tell-requires c =
 pub invariant_of-self-2 : goal.invariant_of-self-2
 invariant_of-self-2 c =
     let p = peer_of c.self.inside.views c.self.inside.attempt c.self.inside.sent c.self.inside.plum in
-    let m : Node = record { views = c.follow.new.views; attempt = c.follow.new.attempt; sent = c.follow.new.sent } in
+    let m : HyParViewState =
+    record { views = c.follow.new.views; attempt = c.follow.new.attempt; sent = c.follow.new.sent } in
     let fits = subst (λ (w : PeerState). IsPlanFor w c.args.plan) (sym c.self.view_is) c.requires in
     peer_followed p c.args.plan c.apply.new.self c.tell.new.plum m c.self.invariant fits c.in_ok-apply.ensures.ok
     (rw (← c.deref.ensures.value) c.tell.ensures) c.follow.ensures
@@ -50,7 +51,7 @@ returns-clause-step c =
     let fits = subst (λ (w : PeerState). IsPlanFor w plan) (sym c.self.view_is) c.requires in
     let told : Told c.apply.new.self plan.changes.items q.tree = rw (← c.deref.ensures.value) c.tell.ensures in
     let follows : Follows p plan q = record {
-      node = c.follow.ensures;
+      hyparview = c.follow.ensures;
       told = subst (λ (t : PlumState). Told t plan.changes.items q.tree) c.in_ok-apply.ensures.ok told;
     } in
     let step = fits_step p q plan fits follows in

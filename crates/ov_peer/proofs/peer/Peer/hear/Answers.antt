@@ -23,5 +23,5 @@ returns c =
     record {
       planned = (a.0, a.1, plan);
       words = ok.words;
-      sendable = subst AreSendable (sym (ap (λ v. v.items) (of p.node).sends)) ok.sendable;
+      sendable = subst AreSendable (sym (ap (λ v. v.items) (of p.hyparview).sends)) ok.sendable;
     }

@@ -1,8 +1,8 @@
 use Rattle.std.proofs.Common.{List, ℕ, refl, sym, ap, subst, arith}
-use Rattle.ov_views.specs.Allowed.{Node}
+use Rattle.ov_views.specs.Allowed.{HyParViewState}
 use Rattle.ov_peer.specs.Code.Messages.{AreSendable}
 use Rattle.ov_peer.specs.PeerState.{PeerState}
-use Rattle.ov_peer.specs.Step.{NodePart}
+use Rattle.ov_peer.specs.Step.{HyParViewPart}
 use Rattle.ov_peer.specs.Planning.{Plans}
 use Rattle.ov_peer.specs.declared.input.Input.TheVariants.{Shuffle}
 use Rattle.ov_peer.proofs.Steps.{peer_of}
@@ -17,14 +17,14 @@ returns c =
     let g = c.of_moves.result in
     let ok = c.in_ok-moves.ensures in
     let a = ok.allowed in
-    let after : Node = record p.node { sent = c.start.new.sent } in
-    let from : List ℕ → Node = λ list. record p.node { sent = list } in
-    let step = λ (list : List ℕ). NodePart (from list) Shuffle a.0 after moves.changes.items moves.sends.items in
-    let started = subst step c.in_ok-sent.ensures (a.2 p.node) in
-    let plan = moves_plan p Shuffle a.0 moves after g (c.of_moves.ensures p.node) started (refl, (refl, refl)) in
+    let after : HyParViewState = record p.hyparview { sent = c.start.new.sent } in
+    let from : List ℕ → HyParViewState = λ list. record p.hyparview { sent = list } in
+    let step = λ (list : List ℕ). HyParViewPart (from list) Shuffle a.0 after moves.changes.items moves.sends.items in
+    let started = subst step c.in_ok-sent.ensures (a.2 p.hyparview) in
+    let plan = moves_plan p Shuffle a.0 moves after g (c.of_moves.ensures p.hyparview) started (refl, (refl, refl)) in
     let sent : AreSendable moves.sends.items = (omega (arith, ok.few, moves.sends.ok.0), ok.ranges) in
     record {
       planned = (a.0, a.1, subst (λ (w : PeerState). Plans w Shuffle a.0 g) c.self.view_is plan);
       words = omega (arith, ok.words);
-      sendable = subst AreSendable (sym (ap (λ v. v.items) (c.of_moves.ensures p.node).sends)) sent;
+      sendable = subst AreSendable (sym (ap (λ v. v.items) (c.of_moves.ensures p.hyparview).sends)) sent;
     }

@@ -23,4 +23,5 @@ returns-clause-told c =
     let q = c.apply.new.self in
     let ok = c.in_ok-apply.ensures in
     let told = (followed_tracks p q c.in_ok-plan.plan c.in_ok-plan.ensures.fits ok.follows).active in
-    subst (λ (o : Output). q.node.views.active ≡ after_changes o.changes.items p.node.views.active) (sym ok.output) told
+    subst (λ (o : Output). q.hyparview.views.active ≡ after_changes o.changes.items p.hyparview.views.active)
+    (sym ok.output) told

@@ -1,4 +1,4 @@
-use Rattle.ov_snap.specs.Code.View.{core_of}
+use Rattle.ov_snap.specs.Code.Kept.{core_of}
 use Rattle.ov_snap.proofs.Keeping.{filed_sound}
 use Rattle.ov_snap.proofs.world_and_reports.Core.file.Goals as goal
 

@@ -1,5 +1,5 @@
 use Rattle.std.proofs.Common.{refl}
-use Rattle.ov_snap.specs.Code.View.{core_of}
+use Rattle.ov_snap.specs.Code.Kept.{core_of}
 use Rattle.ov_snap.proofs.Keeping.{filed_so, if_some}
 use Rattle.ov_snap.proofs.world_and_reports.Core.group_report.Goals as goal
 

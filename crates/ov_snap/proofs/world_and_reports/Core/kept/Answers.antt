@@ -1,5 +1,5 @@
 use Rattle.std.proofs.Common.{refl}
-use Rattle.ov_snap.specs.Code.View.{core_of}
+use Rattle.ov_snap.specs.Code.Kept.{core_of}
 use Rattle.ov_snap.proofs.Finding.{kept_at, not_kept}
 use Rattle.ov_snap.proofs.world_and_reports.Core.kept.Goals as goal
 

@@ -1,5 +1,5 @@
 use Rattle.std.proofs.Common.{◌∙◌, ◌++◌, ◌∷◌, [], List, ap}
-use Rattle.ov_snap.specs.Code.View.{core_of}
+use Rattle.ov_snap.specs.Code.Kept.{core_of}
 use Rattle.ov_snap.specs.declared.snapshot.Snapshot.{Snapshot}
 use Rattle.ov_snap.proofs.Keeping.{snapshot_taken}
 use Rattle.ov_snap.proofs.world_and_reports.Core.take_snapshot.Goals as goal

@@ -1,9 +1,0 @@
--- The number ends the text.
-use Rattle.std.proofs.Common.{◌∙◌, ◌++◌, string_bytes, ap}
-use Rattle.ov_check_reasons.specs.Opening.{from_words}
-use Rattle.ov_check_reasons.proofs.opening.say_from.Goals as goal
-
-pub returns : goal.returns
-unfolding from_words
-returns c =
-    c.in_ok-write.ensures.bytes ∙ ap (λ n. string_bytes c.args.text.now ++ from_words n) c.number-i.ensures

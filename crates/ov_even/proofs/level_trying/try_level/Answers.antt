@@ -1,0 +1,107 @@
+-- One more piece of the level is settled.
+use Rattle.std.proofs.Common.{◌∙◌, ℕ, inl, inr, length, sym, subst}
+use Rattle.std.proofs.lemmas.Bool.{both_ways}
+use Rattle.ov_fans.specs.Pieces.{IsPiece}
+use Rattle.ov_fans.specs.Cuts.{IsRight}
+use Rattle.ov_fans.specs.Group.{SettlerState}
+use Rattle.ov_fans.specs.Pieces.{IsPieceOf}
+use Rattle.ov_even.proofs.AnalysisSteps.Trials.{next_is, more_linked, more_kept, more_right, stopped, ended}
+use Rattle.ov_even.proofs.AnalysisSteps.Trials.{linked_right, alone_right}
+use Rattle.ov_even.proofs.AnalysisSteps.FirstCut.{not_cut}
+use Rattle.ov_even.specs.declared.worker_haul.Haul.{Haul}
+use Rattle.ov_even.proofs.level_trying.try_level.Goals as goal
+
+pub place_in_level-requires : goal.place_in_level-requires
+place_in_level-requires g c =
+    let s = c.args.settler.now in
+    let is = next_is s.graph s.members c.args.level c.loop-piece.pieces.items c.loop-piece.yielded
+    c.loop-piece.piece-iterator c.next.new.self c.in-Some.piece c.requires.low c.requires.below
+    c.loop-piece.invariant.way c.in-Some.ensures.steps in (
+      length s.graph.nodes,
+      subst (λ (m : ℕ). IsPieceOf (length s.graph.nodes) m c.in-Some.piece) (sym c.requires.members)
+          (is.0),
+    )
+
+pub settle-requires : goal.settle-requires
+settle-requires g c =
+    let s = c.args.settler.now in
+    let is = next_is s.graph s.members c.args.level c.loop-piece.pieces.items c.loop-piece.yielded
+    c.loop-piece.piece-iterator c.next.new.self c.in-Some.piece c.requires.low c.requires.below
+    c.loop-piece.invariant.way c.in-Some.ensures.steps in
+    subst (λ (x : SettlerState). IsPiece x.graph x.members c.in-Some.piece) (sym c.loop-piece.invariant.stays) is.0
+
+pub loop-piece-preserved-then-is_linked : goal.loop-piece-preserved-then-is_linked
+loop-piece-preserved-then-is_linked g c =
+    let s = c.args.settler.now in
+    let t = c.in_ok-settled.settled in
+    let right : IsRight s.graph s.members t = subst (λ (x : SettlerState). IsRight x.graph x.members t)
+    c.loop-piece.invariant.stays c.in_ok-settled.ensures.right in
+    record {
+      stays = c.in_ok-settled.ensures.stays ∙ c.loop-piece.invariant.stays;
+      way = more_linked s.graph s.members c.args.level c.loop-piece.pieces.items c.loop-piece.yielded
+          c.loop-piece.piece-iterator c.next.new.self c.in-Some.piece c.loop-piece.invariant.way c.in-Some.ensures.steps
+          (linked_right s.graph s.members t c.in-Some.piece right (c.is_linked.ensures.0 c.if-is_linked.true)
+          c.in_ok-settled.ensures.piece);
+    }
+
+pub loop-piece-preserved : goal.loop-piece-preserved
+loop-piece-preserved g c =
+    let s = c.args.settler.now in
+    let t = c.in_ok-settled.settled in
+    let right : IsRight s.graph s.members t = subst (λ (x : SettlerState). IsRight x.graph x.members t)
+    c.loop-piece.invariant.stays c.in_ok-settled.ensures.right in
+    let is = next_is s.graph s.members c.args.level c.loop-piece.pieces.items c.loop-piece.yielded
+    c.loop-piece.piece-iterator c.next.new.self c.in-Some.piece c.requires.low c.requires.below
+    c.loop-piece.invariant.way c.in-Some.ensures.steps in
+    record {
+      stays = c.in_ok-settled.ensures.stays ∙ c.loop-piece.invariant.stays;
+      way = more_kept s.graph s.members c.args.level c.loop-piece.pieces.items c.push.new.self.items
+          c.loop-piece.yielded c.loop-piece.piece-iterator c.next.new.self c.in-Some.piece t c.loop-piece.invariant.way
+          c.in-Some.ensures.steps c.in_ok-settled.ensures.piece is.0 right
+          (not_cut t.found (λ cut. both_ways c.is_cut-stops.result c.if-stops.false (c.is_cut-stops.ensures.1 cut)))
+          c.in_ok-push.ensures.items;
+    }
+
+pub returns-then-stops-clause-right : goal.returns-then-stops-clause-right
+returns-then-stops-clause-right g c =
+    let s = c.args.settler.now in
+    let t = c.in_ok-settled.settled in
+    let right : IsRight s.graph s.members t = subst (λ (x : SettlerState). IsRight x.graph x.members t)
+    c.loop-piece.invariant.stays c.in_ok-settled.ensures.right in
+    let is = next_is s.graph s.members c.args.level c.loop-piece.pieces.items c.loop-piece.yielded
+    c.loop-piece.piece-iterator c.next.new.self c.in-Some.piece c.requires.low c.requires.below
+    c.loop-piece.invariant.way c.in-Some.ensures.steps in
+    let haul : Haul = record { pieces = c.push.new.self } in
+    alone_right s.graph s.members haul
+    (more_right s.graph s.members c.args.level c.loop-piece.pieces.items c.push.new.self.items c.loop-piece.yielded
+    c.loop-piece.piece-iterator c.in-Some.piece t c.loop-piece.invariant.way c.in_ok-settled.ensures.piece is.0 right
+    c.in_ok-push.ensures.items)
+
+pub returns-then-stops-clause-tried : goal.returns-then-stops-clause-tried
+returns-then-stops-clause-tried g c =
+    let s = c.args.settler.now in
+    let t = c.in_ok-settled.settled in
+    let is = next_is s.graph s.members c.args.level c.loop-piece.pieces.items c.loop-piece.yielded
+    c.loop-piece.piece-iterator c.next.new.self c.in-Some.piece c.requires.low c.requires.below
+    c.loop-piece.invariant.way c.in-Some.ensures.steps in
+    let haul : Haul = record { pieces = c.push.new.self } in
+    inr (
+      t,
+      stopped s.graph s.members c.args.level c.loop-piece.pieces.items haul c.loop-piece.yielded
+          c.loop-piece.piece-iterator c.next.new.self c.in-Some.piece t c.loop-piece.invariant.way
+          c.in-Some.ensures.steps c.in_ok-settled.ensures.piece is.1 (c.is_cut-stops.ensures.0 c.if-stops.true)
+          c.in_ok-push.ensures.items,
+    )
+
+pub returns-clause-right : goal.returns-clause-right
+returns-clause-right g c =
+    let s = c.args.settler.now in
+    let haul : Haul = record { pieces = c.loop-piece.pieces } in
+    alone_right s.graph s.members haul c.loop-piece.invariant.way.right
+
+pub returns-clause-tried : goal.returns-clause-tried
+returns-clause-tried g c =
+    let s = c.args.settler.now in
+    let haul : Haul = record { pieces = c.loop-piece.pieces } in
+    inl (ended s.graph s.members c.args.level haul c.loop-piece.yielded c.loop-piece.piece-iterator
+    c.loop-piece.invariant.way c.in-None.ensures.steps.0)

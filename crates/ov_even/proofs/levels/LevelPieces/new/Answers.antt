@@ -1,6 +1,0 @@
-use Rattle.std.proofs.Common.{sym}
-use Rattle.ov_even.proofs.PieceNumbers.LevelSteps.{all_from_second}
-use Rattle.ov_even.proofs.levels.LevelPieces.new.Goals as goal
-
-pub returns : goal.returns
-returns c = sym (all_from_second c.args.m c.args.level c.requires.low)

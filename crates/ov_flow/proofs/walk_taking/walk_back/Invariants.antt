@@ -1,0 +1,12 @@
+use Rattle.std.proofs.Common.{reverse, length, ◌-◌, ◌<◌}
+use Rattle.ov_flow.proofs.Walking.{IsBranchOf}
+use Rattle.ov_flow.proofs.walk_taking.walk_back.Given as goal
+
+abbrev pub invariant-loop-at : goal.invariant-loop-at
+invariant-loop-at l = record {
+  within : l.at < length l.tree.order.items;
+  branch : IsBranchOf l.tree l.at (length l.tree.order.items - 1) (reverse l.hops.items);
+}
+
+abbrev pub decreases-loop-at : goal.decreases-loop-at
+decreases-loop-at l = l.at
