@@ -6,7 +6,8 @@ ghost use Rattle.ov_certfile.specs.Keys.{is_among, has_all, has_no_other, has_ju
 
 use serde_json::{Map, Value};
 
-fn is_among(texts: &[&str], text: &str) -> bool
+/// Whether a text is one of these.
+pub fn is_among(texts: &[&str], text: &str) -> bool
     ensures { result ≡ is_among (map (λ t. t.now) texts.now) text.now }
 {
     for other in texts {
@@ -45,8 +46,8 @@ fn are_among(wanted: &[&str], members: &Map<String, Value>) -> bool
     members.keys().all(|key| is_among(wanted, key.as_str()))
 }
 
-/// Whether a value has exactly these keys.
-pub(crate) fn has_just(keys: &[&str], value: &Value) -> bool
+/// Whether a value is an object with exactly these keys.
+pub fn has_just(keys: &[&str], value: &Value) -> bool
     ensures { result ≡ has_just (map (λ k. k.now) keys.now) (view value.now) }
 {
     has_all(keys, value) && has_no_other(keys, value)

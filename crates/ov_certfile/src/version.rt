@@ -27,7 +27,7 @@ impl Version {
     }
 
     /// The highest number of nodes in a file of this version.
-    pub(crate) fn most_nodes(self) -> usize
+    pub fn most_nodes(self) -> usize
         ensures { result ≡ most_nodes_of self }
     {
         match self {

@@ -1,7 +1,7 @@
 -- A run of a judge that came to the line of its outcome.
 use Rattle.std.proofs.Common.{◌≡◌, ◌≢◌, ◌+◌, ◌∙◌, ℕ, List, Option, IfSome, IfOk, Result, Ok, Err, refl, sym}
 use Rattle.std.specs.Io.KnownBytes.{Appends, IsAtEnd}
-use Rattle.ov_io.specs.Device.{SourceState, SinkState, write_failures, AppendsPrefixOf}
+use Rattle.ov_io.specs.Device.{SourceState, SinkState, write_faults, AppendsPrefixOf}
 use Rattle.ov_check.specs.declared.outcome.Outcome.{Outcome}
 use Rattle.ov_check.specs.declared.fault.JudgeFault.{JudgeFault}
 use Rattle.ov_check.specs.declared.fault.JudgeFault.TheVariants.{Read, Write, OutOfMemory}
@@ -22,7 +22,7 @@ pub record IsWritten {W : Type 0} (contents : W → Option (List ℕ)) (o : Outc
   pub line : IfOk result (λ status. Appends (contents sink.writer) (contents sink'.writer) (printed_of o))
   pub status : IfOk result (λ status. status ≡ status_of o)
   pub prefix : result ≡ Err Write → AppendsPrefixOf (printed_of o) (contents sink.writer) (contents sink'.writer)
-  pub faults : sink'.faults ≡ sink.faults + write_failures number_of result
+  pub faults : sink'.faults ≡ sink.faults + write_faults number_of result
   pub unread : result ≢ Err Read
   pub no_memory : result ≡ Err OutOfMemory → sink' ≡ sink
 

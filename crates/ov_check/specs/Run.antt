@@ -1,7 +1,7 @@
 -- What a run of a judge does: it reads a certificate file, and prints the line of its outcome.
 use Rattle.std.specs.Prelude.{◌≡◌, ◌≢◌, ◌+◌, ℕ, List, Option, IfSome, Result, Ok, Err, IfOk}
 use Rattle.std.specs.Io.KnownBytes.{Appends, IsAtEnd}
-use Rattle.ov_io.specs.Device.{SourceState, SinkState, read_failures, write_failures, ReaderFailed}
+use Rattle.ov_io.specs.Device.{SourceState, SinkState, read_faults, write_faults, ReaderFailed}
 use Rattle.ov_io.specs.Device.{AppendsPrefixOf}
 use Rattle.ov_check.specs.declared.outcome.Outcome.{Outcome}
 use Rattle.ov_check.specs.declared.engine.Judged.{Judged}
@@ -42,8 +42,8 @@ pub record IsRun {R W : Type 0} (remaining : R → Option (List ℕ)) (contents 
   pub prefix : result ≡ Err Write
       → PrintsPrefix (remaining source.reader) (contents sink.writer) (contents sink_after.writer)
   pub read_to_end : result ≢ Err Read → result ≢ Err OutOfMemory → IsAtEnd (remaining source_after.reader)
-  pub reads : source_after.faults ≡ source.faults + read_failures number_of result
-  pub writes : sink_after.faults ≡ sink.faults + write_failures number_of result
+  pub reads : source_after.faults ≡ source.faults + read_faults number_of result
+  pub writes : sink_after.faults ≡ sink.faults + write_faults number_of result
   pub failed : result ≡ Err Read → ReaderFailed source source_after
   pub not_failed : result ≢ Err Read → source_after.failures ≡ source.failures
   pub unread : result ≡ Err Read → sink_after ≡ sink

@@ -1,6 +1,6 @@
 ghost use Rattle.std.specs.Prelude.{◌≡◌, ◌≢◌, ◌+◌, ◌<◌, Err, IfOk, IfSome, OnOk, IsErrOf};
 ghost use Rattle.std.specs.Io.KnownBytes.{Appends};
-ghost use Rattle.ov_io.specs.Device.{most_faults, write_failures, AppendsPrefixOf};
+ghost use Rattle.ov_io.specs.Device.{most_faults, write_faults, AppendsPrefixOf};
 ghost use Rattle.ov_check.specs.Faults.{number_of};
 ghost use Rattle.ov_check.specs.Line.{printed_of};
 ghost use Rattle.ov_check.specs.Outcome.{IsOutcome, status_of};
@@ -86,7 +86,7 @@ fn write_line<W: Write>(
     ensures status { IfOk result (λ status. status ≡ status_of outcome.now) }
     ensures prefix { IsErrOf result JudgeFault.Write → AppendsPrefixOf (printed_of outcome.now)
         (W.contents sink.old.writer) (W.contents sink.new.writer) }
-    ensures faults { sink.new.faults ≡ sink.old.faults + write_failures number_of result }
+    ensures faults { sink.new.faults ≡ sink.old.faults + write_faults number_of result }
     ensures unread { result ≢ Err JudgeFault.Read }
     ensures no_memory { IsErrOf result JudgeFault.OutOfMemory → sink.new ≡ sink.old }
 {

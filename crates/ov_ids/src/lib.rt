@@ -17,6 +17,6 @@ pub use id_set::{IdSet, place_for};
 pub use limits::NUMBER_LIMIT;
 pub use memory::OutOfMemory;
 pub use order::is_ascending;
-pub use params::{BadParams, LONGEST_WALK, MAX_ACTIVE, MAX_PASSIVE, MAX_SAMPLED, Params};
+pub use params::{BadParams, LONGEST_WALK, MOST_ACTIVE, MOST_PASSIVE, MOST_SAMPLED, Params};
 pub use seq::Seq;
 pub use text::IdsText;

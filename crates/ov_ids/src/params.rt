@@ -5,16 +5,16 @@ use std::marker::Model;
 use thiserror::Error;
 
 /// The most active members of a node. (Chosen here.)
-pub const MAX_ACTIVE: u32 = 16;
+pub const MOST_ACTIVE: u32 = 16;
 
 /// The most passive members of a node. (Chosen here.)
-pub const MAX_PASSIVE: u32 = 64;
+pub const MOST_PASSIVE: u32 = 64;
 
 /// The longest walk, and the longest time to live of a shuffle. (Chosen here.)
 pub const LONGEST_WALK: u32 = 15;
 
 /// How many members of a view a shuffle samples at most. (Chosen here.)
-pub const MAX_SAMPLED: u32 = 8;
+pub const MOST_SAMPLED: u32 = 8;
 
 /// A parameter is out of its limits.
 #[derive(Clone, Copy, Debug, PartialEq, Eq, Error)]
@@ -78,13 +78,13 @@ impl Params {
         ensures value { IfOk result (λ params. params ≡ params_of active passive arwl prwl ka kp shuffle_ttl) }
     {
         if active < 1
-            || active > MAX_ACTIVE
+            || active > MOST_ACTIVE
             || passive < 1
-            || passive > MAX_PASSIVE
+            || passive > MOST_PASSIVE
             || arwl > LONGEST_WALK
             || prwl > arwl
-            || ka > MAX_SAMPLED
-            || kp > MAX_SAMPLED
+            || ka > MOST_SAMPLED
+            || kp > MOST_SAMPLED
             || shuffle_ttl < 1
             || shuffle_ttl > LONGEST_WALK
         {

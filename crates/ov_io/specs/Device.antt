@@ -48,23 +48,18 @@ read_number OutOfMemory = 99
 abbrev pub write_number : WriteFault → ℕ
 write_number fault = write_failed
 
--- how many failures a call counts that ends with the first: one where its fault has this number
-abbrev pub failures_numbered : {A E : Type 0} → ℕ → (E → ℕ) → Result A E → ℕ
-failures_numbered failure number (Ok a) = 0
-failures_numbered failure number (Err e) = if number e == failure then 1 else 0
+-- how many faults of one number a call counts: it ends with the first
+abbrev pub faults_numbered : {A E : Type 0} → ℕ → (E → ℕ) → Result A E → ℕ
+faults_numbered counted number (Ok a) = 0
+faults_numbered counted number (Err e) = if number e == counted then 1 else 0
 
 -- how many faults a call adds to those of its reader
-abbrev pub read_failures : {A E : Type 0} → (E → ℕ) → Result A E → ℕ
-read_failures number result = failures_numbered read_failed number result
+abbrev pub read_faults : {A E : Type 0} → (E → ℕ) → Result A E → ℕ
+read_faults number result = faults_numbered read_failed number result
 
 -- how many faults a call adds to those of its writer
-abbrev pub write_failures : {A E : Type 0} → (E → ℕ) → Result A E → ℕ
-write_failures number result = failures_numbered write_failed number result
-
--- how many ends one read adds: one where it had room for a byte and was answered by none
-abbrev pub end_answers : {E : Type 0} → Result ℕ E → ℕ
-end_answers (Ok count) = if count == 0 then 1 else 0
-end_answers (Err e) = 0
+abbrev pub write_faults : {A E : Type 0} → (E → ℕ) → Result A E → ℕ
+write_faults number result = faults_numbered write_failed number result
 
 -- one read of a call failed
 abbrev pub OneReadFailed : {R : Type 0} → SourceState R → SourceState R → Type 0

@@ -1,3 +1,4 @@
 pub mod Device
 pub mod Name
 pub mod Refusal
+pub mod Code

@@ -2,8 +2,9 @@
 ghost use Rattle.std.specs.Prelude.{◌≡◌, ◌+◌, ◌<◌, min, length, IfOk};
 ghost use Rattle.std.specs.Io.{ReadsAtMost, WritesAtMost};
 ghost use Rattle.std.specs.Io.KnownBytes.{ReadConsumes, WriteAppends};
-ghost use Rattle.ov_io.specs.Device.{most_faults, most_counted, end_answers, read_failures, read_number};
-ghost use Rattle.ov_io.specs.Device.{write_failures, write_number};
+ghost use Rattle.ov_io.specs.Device.{most_faults, most_counted, read_faults, read_number};
+ghost use Rattle.ov_io.specs.Device.{write_faults, write_number};
+ghost use Rattle.ov_io.specs.Code.Reads.{end_answers};
 
 use crate::fault::{ReadFault, WriteFault};
 use std::io::{Read, Write};
@@ -47,7 +48,7 @@ impl<R: Read> CountedReader<R> {
         ensures bound { ReadsAtMost result buffer.new }
         ensures bytes { ReadConsumes (R.remaining self.old.reader) (R.remaining self.new.reader) result buffer.new }
         ensures reads { self.new.reads ≡ min (self.old.reads + 1) most_counted }
-        ensures failures { self.new.failures ≡ self.old.failures + read_failures read_number result }
+        ensures failures { self.new.failures ≡ self.old.failures + read_faults read_number result }
         ensures ends { self.new.ends ≡ min (self.old.ends + end_answers result) most_counted }
     {
         self.reads = self.reads.saturating_add(1);
@@ -105,7 +106,7 @@ impl<W: Write> CountedWriter<W> {
         ensures bound { WritesAtMost result bytes.now }
         ensures some { IfOk result (λ count. 0 < count) }
         ensures bytes { WriteAppends (W.contents self.old.writer) (W.contents self.new.writer) result bytes.now }
-        ensures failures { self.new.failures ≡ self.old.failures + write_failures write_number result }
+        ensures failures { self.new.failures ≡ self.old.failures + write_faults write_number result }
     {
         match self.writer.write(bytes) {
             Ok(0) | Err(_) => {

@@ -1,6 +1,6 @@
 ghost use Rattle.std.specs.Prelude.{◌≡◌, ◌+◌, ◌<◌, OnOk};
 ghost use Rattle.std.specs.Io.KnownBytes.{Appends};
-ghost use Rattle.ov_io.specs.Device.{most_faults, write_failures, write_number, AppendsPrefixOf};
+ghost use Rattle.ov_io.specs.Device.{most_faults, write_faults, write_number, AppendsPrefixOf};
 
 use crate::counted::CountedWriter;
 use crate::fault::WriteFault;
@@ -55,7 +55,7 @@ impl<W: Write> Sink<W> {
         requires { self.old.faults < most_faults }
         ensures bytes { OnOk result (Appends (W.contents self.old.writer) (W.contents self.new.writer) bytes.now) }
         ensures prefix { AppendsPrefixOf bytes.now (W.contents self.old.writer) (W.contents self.new.writer) }
-        ensures faults { self.new.faults ≡ self.old.faults + write_failures write_number result }
+        ensures faults { self.new.faults ≡ self.old.faults + write_faults write_number result }
     {
         let mut rest = bytes;
         while !rest.is_empty() {

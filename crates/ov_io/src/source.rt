@@ -1,6 +1,6 @@
 ghost use Rattle.std.specs.Prelude.{◌≡◌, ◌≢◌, ◌+◌, ◌<◌, Err, IfOk, OnOk, IfSome, IsErrOf};
 ghost use Rattle.std.specs.Io.KnownBytes.{IsAtEnd};
-ghost use Rattle.ov_io.specs.Device.{most_faults, read_failures, read_number, ReaderFailed};
+ghost use Rattle.ov_io.specs.Device.{most_faults, read_faults, read_number, ReaderFailed};
 
 use crate::counted::CountedReader;
 use crate::fault::ReadFault;
@@ -71,7 +71,7 @@ impl<R: Read> Source<R> {
         requires { self.old.faults < most_faults }
         ensures bytes { IfOk result (λ v. IfSome (R.remaining self.old.reader) (λ xs. v.items ≡ xs)) }
         ensures end { OnOk result (IsAtEnd (R.remaining self.new.reader)) }
-        ensures faults { self.new.faults ≡ self.old.faults + read_failures read_number result }
+        ensures faults { self.new.faults ≡ self.old.faults + read_faults read_number result }
         ensures failed { IsErrOf result ReadFault.Read → ReaderFailed self.old self.new }
         ensures not_failed { result ≢ Err ReadFault.Read → self.new.failures ≡ self.old.failures }
     {

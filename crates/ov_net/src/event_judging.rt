@@ -8,17 +8,17 @@ ghost use Rattle.ov_net.specs.declared.event.Event.TheVariants.{CrashReport, Shu
 use crate::event::Event;
 use crate::fault::NetFault;
 use crate::member::Member;
-use crate::world::{MAX_ENTRIES, MAX_NODES, MAX_PACKETS, STEP_PACKETS, World};
+use crate::world::{MOST_ENTRIES, MOST_PACKETS, MOST_WORLD_NODES, STEP_PACKETS, World};
 use ov_ids::{MsgId, NodeId};
-use ov_peer::{MAX_BROADCASTS, Peer};
-use ov_wire::MAX_PAYLOAD;
+use ov_peer::{MOST_BROADCASTS, Peer};
+use ov_wire::MOST_PAYLOAD;
 
 impl World {
     /// The first applicable refusal of an event, but out of memory.
     pub(crate) fn judge(&self, event: &Event) -> Result<(), NetFault>
         ensures { StepJudged self.now.net (length self.now.journal) event.now (fault_in result) }
     {
-        if self.journal.len() >= MAX_ENTRIES {
+        if self.journal.len() >= MOST_ENTRIES {
             return Err(NetFault::TooManyEntries);
         }
         self.judge_event(event)
@@ -60,7 +60,7 @@ impl World {
     fn judge_places(&self) -> Result<(), NetFault>
         ensures { PlacesLast self.now.net (fault_in result) }
     {
-        if self.packets.len() + STEP_PACKETS > MAX_PACKETS {
+        if self.packets.len() + STEP_PACKETS > MOST_PACKETS {
             return Err(NetFault::TooManyPackets);
         }
         Ok(())
@@ -84,7 +84,7 @@ impl World {
     fn judge_birth(&self) -> Result<(), NetFault>
         ensures { BirthLast self.now.net (fault_in result) }
     {
-        if self.nodes.len() >= MAX_NODES {
+        if self.nodes.len() >= MOST_WORLD_NODES {
             return Err(NetFault::TooManyNodes);
         }
         self.judge_places()
@@ -149,10 +149,10 @@ impl World {
         ensures { EventJudged self.now.net (Broadcast node payload.now) (fault_in result) }
     {
         let peer = self.live_or_fault(node)?;
-        if payload.len() > MAX_PAYLOAD as usize {
+        if payload.len() > MOST_PAYLOAD as usize {
             return Err(NetFault::PayloadTooLong);
         }
-        if peer.made() >= MAX_BROADCASTS {
+        if peer.made() >= MOST_BROADCASTS {
             return Err(NetFault::TooManyMessages);
         }
         self.judge_places()

@@ -22,4 +22,4 @@ pub use journal_entry::{Change, Entry};
 pub use member::Member;
 pub use packet::Packet;
 pub use theorems::{links_stay, one_graph};
-pub use world::{MAX_ENTRIES, World};
+pub use world::{MOST_ENTRIES, MOST_PACKETS, MOST_WORLD_NODES, STEP_PACKETS, World};

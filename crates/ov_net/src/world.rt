@@ -24,16 +24,16 @@ use std::alloc::Global;
 use std::marker::Model;
 
 /// The most nodes that may ever be born in a world. Chosen here.
-pub(crate) const MAX_NODES: usize = 256;
+pub const MOST_WORLD_NODES: usize = 256;
 
 /// The most packets that may be on their way. Chosen here.
-pub(crate) const MAX_PACKETS: usize = 65_536;
+pub const MOST_PACKETS: usize = 65_536;
 
 /// The most packets that one step may send. So many places must be free before it.
-pub(crate) const STEP_PACKETS: usize = 64;
+pub const STEP_PACKETS: usize = 64;
 
 /// The most entries that the journal may have. Chosen here.
-pub const MAX_ENTRIES: usize = 65_536;
+pub const MOST_ENTRIES: usize = 65_536;
 
 /// A world of nodes, and its journal. Contracts see it as a `WorldState`.
 #[derive(Drop)]

@@ -10,5 +10,5 @@ mod tree_updates;
 
 pub use fault::PeerFault;
 pub use input::{Delivery, Input, Output};
-pub use peer::{MAX_BROADCASTS, Peer};
+pub use peer::{MOST_BROADCASTS, Peer};
 pub use plan::{HyParViewChange, NextViews, Plan};

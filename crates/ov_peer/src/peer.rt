@@ -28,13 +28,13 @@ use ov_neighbor::Attempt;
 use ov_plum::{Plum, PlumChange};
 use ov_shuffle::Sent;
 use ov_views::Views;
-use ov_wire::{Body, MAX_PAYLOAD, Message};
+use ov_wire::{Body, MOST_PAYLOAD, Message};
 use ov_words::{Draws, Words};
 use std::alloc::Global;
 use std::marker::Model;
 
 /// How many broadcasts a node may make, as `most_broadcasts` of `ov_plum` says. (Chosen here.)
-pub const MAX_BROADCASTS: u32 = 4096;
+pub const MOST_BROADCASTS: u32 = 4096;
 
 /// A node: its views, its attempt, the list of its last shuffle, and its part of Plumtree's tree. The neighbours in the
 /// tree are always the active members. Contracts see a `PeerState`.
@@ -335,10 +335,10 @@ impl Peer {
         ensures judged { IfOk result (λ _. IsFaultOf self.now (Broadcast payload) None) }
         ensures refused { IfErr result (IsRefusedBy out_of_memory (IsFaultOf self.now (Broadcast payload))) }
     {
-        if payload.as_slice().len() > MAX_PAYLOAD as usize {
+        if payload.as_slice().len() > MOST_PAYLOAD as usize {
             return Err(PeerFault::PayloadTooLong);
         }
-        if self.plum.made() >= MAX_BROADCASTS {
+        if self.plum.made() >= MOST_BROADCASTS {
             return Err(PeerFault::TooManyMessages);
         }
         let planned = self.plum.plan_broadcast(payload)?;

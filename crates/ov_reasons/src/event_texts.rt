@@ -5,7 +5,7 @@ ghost use Rattle.ov_wire.specs.Limits.{most_payload};
 ghost use Rattle.ov_net.specs.declared.event.Event.TheVariants.{Timer};
 
 use ov_ids::{MsgId, NodeId, OutOfMemory};
-use ov_net::{Event, MAX_ENTRIES, World};
+use ov_net::{Event, MOST_ENTRIES, World};
 use std::alloc::Global;
 
 /// How many nodes may be born in a world.
@@ -44,7 +44,7 @@ pub fn event_reason(
         16 => count_text(
             alloc,
             "the journal has ",
-            MAX_ENTRIES,
+            MOST_ENTRIES,
             " entries, as many as it may have",
         ),
         17 => node_text(alloc, "node ", reported(event), " did not crash"),

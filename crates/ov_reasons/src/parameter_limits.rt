@@ -2,7 +2,7 @@ use crate::line_words::Word;
 use crate::marked_line::push_marked;
 use crate::numeral::number_of;
 use crate::text_joining::push_all;
-use ov_ids::{LONGEST_WALK, MAX_ACTIVE, MAX_PASSIVE, MAX_SAMPLED, OutOfMemory};
+use ov_ids::{LONGEST_WALK, MOST_ACTIVE, MOST_PASSIVE, MOST_SAMPLED, OutOfMemory};
 use ov_run::KeptLine;
 use std::alloc::Global;
 use std::fmt::Write;
@@ -12,19 +12,19 @@ struct Limits(&'static str, u64, u64);
 
 /// The limits of the seven parameters, in the order of their line. R, the fourth, is at most W, the third.
 static LIMITS: [Limits; 7] = [
-    Limits("A, the size of the active view,", 1, MAX_ACTIVE as u64),
-    Limits("P, the size of the passive view,", 1, MAX_PASSIVE as u64),
+    Limits("A, the size of the active view,", 1, MOST_ACTIVE as u64),
+    Limits("P, the size of the passive view,", 1, MOST_PASSIVE as u64),
     Limits("W, the active random walk length,", 0, LONGEST_WALK as u64),
     Limits("R, the passive random walk length,", 0, LONGEST_WALK as u64),
     Limits(
         "KA, how many active members a shuffle samples,",
         0,
-        MAX_SAMPLED as u64,
+        MOST_SAMPLED as u64,
     ),
     Limits(
         "KP, how many passive members a shuffle samples,",
         0,
-        MAX_SAMPLED as u64,
+        MOST_SAMPLED as u64,
     ),
     Limits("T, the time to live of a shuffle,", 1, LONGEST_WALK as u64),
 ];

@@ -9,7 +9,7 @@ use Rattle.ov_io.specs.Device.{AppendsPrefixOf, SourceState, SinkState, ReaderFa
 use Rattle.ov_even.specs.Answer.{IsAnswer}
 use Rattle.ov_even.specs.Faults as even
 use Rattle.ov_even.specs.declared.fault.AnalyseFault.TheVariants.{NoNodes, BadGroup}
-use Rattle.ov_run.specs.Faults.{read_failures, write_failures, IsAnalysisFault}
+use Rattle.ov_run.specs.Faults.{read_faults, write_faults, IsAnalysisFault}
 use Rattle.ov_run.specs.GraphFiles.{IsGraphFile}
 use Rattle.ov_run.specs.Printed.{report_line, file_text, refused_line}
 use Rattle.ov_run.specs.Subjects.{members_of}
@@ -64,13 +64,13 @@ pub record IsFileAnalysis {R W : Type 0} (remaining : R → Option (List ℕ)) (
       ⊎ BeginsAnalysis (remaining source_before.reader) group certificate (contents sink_before.writer)
       (contents sink_after.writer)
   -- after Read the source counts one fault more, and else as many as before
-  pub source : source_after.faults ≡ source_before.faults + read_failures result
+  pub source : source_after.faults ≡ source_before.faults + read_faults result
   -- Read is returned only where the reader failed in this analysis
   pub failed : IsErrOf result Read → ReaderFailed source_before source_after
   -- after anything but Read no read of this analysis failed
   pub not_failed : result ≢ Err Read → source_after.failures ≡ source_before.failures
   -- after Write the sink counts one fault more, and else as many as before
-  pub sink : sink_after.faults ≡ sink_before.faults + write_failures result
+  pub sink : sink_after.faults ≡ sink_before.faults + write_faults result
   -- after any fault but Write, the sink is as before
   pub unwritten : IfErr result (λ f. ¬ (f ≡ Write) → sink_after ≡ sink_before)
   -- a fault of a line or of the graph is that of the file, and no fault is one of the parameters

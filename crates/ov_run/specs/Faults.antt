@@ -92,12 +92,12 @@ IsOfReading Read = ⊤
 IsOfReading Write = ⊥
 IsOfReading OutOfMemory = ⊥
 
--- ---- counts of failures
+-- ---- counts of faults
 
--- how many failures of its reader a call counts: a reader that fails ends the run, so it fails once
-abbrev pub read_failures : {A : Type 0} → Result A RunFault → ℕ
-read_failures result = device.read_failures number_of result
+-- how many faults of its reader a call counts: a reader that fails ends the run, so it fails once
+abbrev pub read_faults : {A : Type 0} → Result A RunFault → ℕ
+read_faults result = device.read_faults number_of result
 
--- how many failures of its writer a call counts: a writer that fails ends the run, so it fails once
-abbrev pub write_failures : {A : Type 0} → Result A RunFault → ℕ
-write_failures result = device.write_failures number_of result
+-- how many faults of its writer a call counts: a writer that fails ends the run, so it fails once
+abbrev pub write_faults : {A : Type 0} → Result A RunFault → ℕ
+write_faults result = device.write_faults number_of result

@@ -2,7 +2,7 @@
 use Rattle.std.specs.Prelude.{◌≡◌, ◌≢◌, ◌⊎◌, ◌+◌, ℕ, List, Option, Result, Err, IfOk, IfErr, OnOk, IsErrOf}
 use Rattle.ov_io.specs.Device.{SourceState, SinkState, ReaderFailed}
 use Rattle.ov_run.specs.Ending.{Begins, Ends}
-use Rattle.ov_run.specs.Faults.{read_failures, write_failures, IsOfReading, IsRunFault}
+use Rattle.ov_run.specs.Faults.{read_faults, write_faults, IsOfReading, IsRunFault}
 use Rattle.ov_run.specs.Running.{PrintsScenario}
 use Rattle.ov_run.specs.declared.run_fault.RunFault.{RunFault}
 use Rattle.ov_run.specs.declared.run_fault.RunFault.TheVariants.{Read, OutOfMemory}
@@ -21,13 +21,13 @@ pub record IsRun {R W : Type 0} (remaining : R → Option (List ℕ)) (contents 
   pub begun : (sink_after ≡ sink_before)
       ⊎ Begins (remaining source_before.reader) (contents sink_before.writer) (contents sink_after.writer)
   -- after Read the source counts one fault more, and else as many as before
-  pub source : source_after.faults ≡ source_before.faults + read_failures result
+  pub source : source_after.faults ≡ source_before.faults + read_faults result
   -- Read is returned only where the reader failed in this run
   pub failed : IsErrOf result Read → ReaderFailed source_before source_after
   -- after anything but Read no read of this run failed
   pub not_failed : result ≢ Err Read → source_after.failures ≡ source_before.failures
   -- after Write the sink counts one fault more, and else as many as before
-  pub sink : sink_after.faults ≡ sink_before.faults + write_failures result
+  pub sink : sink_after.faults ≡ sink_before.faults + write_faults result
   -- a fault of a line is that of the first line at fault, and no fault is one of a graph
   pub fault : IfErr result (IsRunFault (remaining source_before.reader))
   -- after a fault of reading, Line, Params or Read, the sink is as before

@@ -17,7 +17,7 @@ use ov_crew::{OpenGate, analyse_group_watched};
 use ov_even::Unwatched;
 use ov_graph::Graph;
 use ov_ids::Seq;
-use ov_net::MAX_ENTRIES;
+use ov_net::MOST_ENTRIES;
 use ov_snap::{Core, CoreFault, Job, Report};
 use std::alloc::Global;
 use std::thread::Threads;
@@ -88,7 +88,7 @@ fn begin(core: &Core, subject: &Subject) -> Result<Job, CoreFault>
     ensures sound { IsSound core.now }
     ensures refused { IfErr result (IsRefusedBy out_of_memory (AnalysisJudged core.now subject.now)) }
 {
-    prove!(core.world().journal().len() <= MAX_ENTRIES);
+    prove!(core.world().journal().len() <= MOST_ENTRIES);
     match &subject.group {
         Some(ids) => core.begin_group(subject.moment, ids.as_slice()),
         None => core.begin(subject.moment),

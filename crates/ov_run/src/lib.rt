@@ -39,6 +39,7 @@ pub use graph_fault_lines::graph_fault_line;
 pub use graph_file::read_graph;
 pub use id_list_reading::read_ids;
 pub use line_texts::{entry_line, node_line, packet_line, refused_line, report_line};
+pub use numeral::read_number;
 pub use program_outcome::{ProgramFault, exit_status};
 pub use random_words::draw;
 pub use run_fault::RunFault;

@@ -1,10 +1,10 @@
 ghost use Rattle.std.specs.Prelude.{◌≡◌, ◌⊎◌, ◌<◌, ◌+◌, ◌∷◌, [], IfOk, IfErr, OnOk, IsErrOf};
-ghost use Rattle.ov_io.specs.Device.{most_faults, write_failures as sink_failures, write_number};
+ghost use Rattle.ov_io.specs.Device.{most_faults, write_faults as sink_faults, write_number};
 ghost use Rattle.ov_net.specs.declared.journal_entry.Entry.{Entry};
 ghost use Rattle.ov_snap.specs.CoreState.{CoreState, opening_core};
 ghost use Rattle.ov_snap.specs.Run.{Happened};
 ghost use Rattle.ov_run.specs.Ending.{BeginsLines, BeginsLook, EndsLine, EndsLines, EndsLook};
-ghost use Rattle.ov_run.specs.Faults.{write_failures};
+ghost use Rattle.ov_run.specs.Faults.{write_faults};
 ghost use Rattle.ov_run.specs.Running.{PrintsEvent, PrintsReportLine, PrintsLook, PrintsLine, PrintsLines};
 ghost use Rattle.ov_run.specs.Code.Outcomes.{DoesEvent, DoesLine, FilesReport, ShowsLook, WritesOutcome};
 ghost use Rattle.ov_run.specs.Code.Writing.{Writes, WritesPrefix, IsOfWriting};
@@ -44,7 +44,7 @@ pub(crate) fn run_lines<T: Threads + Sync, W: Write, V: RunWatcher>(
         (W.contents sink.old.writer) (W.contents sink.new.writer) }
     ensures memory { IsErrOf result RunFault.OutOfMemory → Writes (EndsLines (opening_core params) lines.items)
         (W.contents sink.old.writer) (W.contents sink.new.writer) }
-    ensures faults { sink.new.faults ≡ sink.old.faults + write_failures result }
+    ensures faults { sink.new.faults ≡ sink.old.faults + write_faults result }
     ensures kind { IfErr result IsOfWriting }
 {
     let mut core = Core::new(alloc, params);
@@ -81,7 +81,7 @@ fn run_line<T: Threads + Sync, W: Write>(
         (W.contents sink.old.writer) (W.contents sink.new.writer) }
     ensures memory { IsErrOf result RunFault.OutOfMemory → Writes (EndsLine core.old line)
         (W.contents sink.old.writer) (W.contents sink.new.writer) }
-    ensures faults { sink.new.faults ≡ sink.old.faults + write_failures result }
+    ensures faults { sink.new.faults ≡ sink.old.faults + write_faults result }
     ensures kind { IfErr result IsOfWriting }
 {
     match line {
@@ -113,7 +113,7 @@ fn run_event<W: Write>(
     ensures happened { IsErrOf result RunFault.OutOfMemory
         → (entry : Entry) × Happened core.old event words.now entry core.new }
     ensures nothing { IsErrOf result RunFault.OutOfMemory → sink.new ≡ sink.old }
-    ensures faults { sink.new.faults ≡ sink.old.faults + write_failures result }
+    ensures faults { sink.new.faults ≡ sink.old.faults + write_faults result }
     ensures kind { IfErr result IsOfWriting }
 {
     match core.step(event, words) {
@@ -140,7 +140,7 @@ fn run_analysis<T: Threads + Sync, W: Write>(
         (W.contents sink.old.writer) (W.contents sink.new.writer)) }
     ensures begun { WritesPrefix (PrintsReportLine core.old subject.now core.new)
         (W.contents sink.old.writer) (W.contents sink.new.writer) }
-    ensures faults { sink.new.faults ≡ sink.old.faults + sink_failures write_number result }
+    ensures faults { sink.new.faults ≡ sink.old.faults + sink_faults write_number result }
 {
     match file_analysis(rt, alloc, core, subject, workers) {
         Ok(line) => write_done(line.as_bytes(), sink),
@@ -164,7 +164,7 @@ fn write_look<W: Write>(
         (W.contents sink.old.writer) (W.contents sink.new.writer) }
     ensures memory { IsErrOf result RunFault.OutOfMemory → Writes (EndsLook core.now look)
         (W.contents sink.old.writer) (W.contents sink.new.writer) }
-    ensures faults { sink.new.faults ≡ sink.old.faults + write_failures result }
+    ensures faults { sink.new.faults ≡ sink.old.faults + write_faults result }
     ensures kind { IfErr result IsOfWriting }
 {
     match look {

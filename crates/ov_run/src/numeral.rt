@@ -4,7 +4,7 @@ ghost use Rattle.ov_run.specs.Lines.{number_within, long_bits, short_bits};
 
 /// The number that a word of decimal digits spells, where it fits 64 bits. Zeros may lead, and a sign may not.
 #[tactic(auto, using(crate::proofs::Lines::Numerals::numeral_is_text))]
-pub(crate) fn read_number(word: &[u8]) -> Option<u64>
+pub fn read_number(word: &[u8]) -> Option<u64>
     ensures some { IfSome result (λ n. IsNumeral 10 word.now × (n ≡ digits_value 10 word.now)) }
     ensures none { IfNone result (IsNumeral 10 word.now → digits_value 10 word.now < 2 ^ long_bits → ⊥) }
 {

@@ -1,12 +1,12 @@
 ghost use Rattle.std.specs.Prelude.{◌≡◌, ◌≤◌, ◌<◌, ◌+◌, IfOk, IfErr, OnOk, IsErrOf, length, string_bytes};
 ghost use Rattle.std.specs.Io.KnownBytes.{Appends};
-ghost use Rattle.ov_io.specs.Device.{AppendsPrefixOf, most_faults, write_failures as sink_failures, write_number};
+ghost use Rattle.ov_io.specs.Device.{AppendsPrefixOf, most_faults, write_faults as sink_faults, write_number};
 ghost use Rattle.ov_certfile.specs.Forms.{last_moment};
 ghost use Rattle.ov_net.specs.Limits.{most_packets};
 ghost use Rattle.ov_net.specs.Net.{LivesAs};
 ghost use Rattle.ov_peer.specs.PeerState.{PeerState};
 ghost use Rattle.ov_run.specs.Ending.{BeginsPackets};
-ghost use Rattle.ov_run.specs.Faults.{write_failures};
+ghost use Rattle.ov_run.specs.Faults.{write_faults};
 ghost use Rattle.ov_run.specs.Printed.{entry_line, file_text, node_line, refused_line};
 ghost use Rattle.ov_run.specs.Running.{PrintsNode, PrintsPackets, PrintsCertificate};
 ghost use Rattle.ov_run.specs.Code.Outcomes.{ShowsCertificate, ShowsNode, WritesOutcome};
@@ -20,7 +20,7 @@ use crate::scenario::Subject;
 use ov_certfile::to_text_group;
 use ov_ids::{NodeId, OutOfMemory};
 use ov_io::{Sink, WriteFault};
-use ov_net::{Entry, MAX_ENTRIES, NetFault, Packet, World};
+use ov_net::{Entry, MOST_ENTRIES, NetFault, Packet, World};
 use ov_peer::Peer;
 use ov_snap::{Core, CoreFault, Report};
 use std::alloc::Global;
@@ -32,7 +32,7 @@ pub(crate) fn write_done<W: Write>(text: &[u8], sink: &mut Sink<W>) -> Result<Ou
     ensures outcome { IfOk result (λ outcome. outcome ≡ Outcome.Accepted) }
     ensures bytes { OnOk result (Appends (W.contents sink.old.writer) (W.contents sink.new.writer) text.now) }
     ensures prefix { AppendsPrefixOf text.now (W.contents sink.old.writer) (W.contents sink.new.writer) }
-    ensures faults { sink.new.faults ≡ sink.old.faults + sink_failures write_number result }
+    ensures faults { sink.new.faults ≡ sink.old.faults + sink_faults write_number result }
 {
     sink.write_all(text)?;
     Ok(Outcome::Accepted)
@@ -48,7 +48,7 @@ pub(crate) fn write_refusal<W: Write>(
     ensures bytes { OnOk result
         (Appends (W.contents sink.old.writer) (W.contents sink.new.writer) (refused_line number)) }
     ensures prefix { AppendsPrefixOf (refused_line number) (W.contents sink.old.writer) (W.contents sink.new.writer) }
-    ensures faults { sink.new.faults ≡ sink.old.faults + sink_failures write_number result }
+    ensures faults { sink.new.faults ≡ sink.old.faults + sink_faults write_number result }
 {
     let line = refused_line(number);
     sink.write_all(line.as_str().as_bytes())?;
@@ -68,7 +68,7 @@ pub(crate) fn write_entry<W: Write>(
         (Appends (W.contents sink.old.writer) (W.contents sink.new.writer) (entry_line entry.now)) }
     ensures prefix { AppendsPrefixOf (entry_line entry.now) (W.contents sink.old.writer) (W.contents sink.new.writer) }
     ensures nothing { IsErrOf result RunFault.OutOfMemory → sink.new ≡ sink.old }
-    ensures faults { sink.new.faults ≡ sink.old.faults + write_failures result }
+    ensures faults { sink.new.faults ≡ sink.old.faults + write_faults result }
     ensures kind { IfErr result IsOfWriting }
 {
     let line = entry_line(alloc, entry)?;
@@ -91,7 +91,7 @@ pub(crate) fn write_node<W: Write>(
         (W.contents sink.old.writer) (W.contents sink.new.writer) }
     ensures lives { IsErrOf result RunFault.OutOfMemory → (peer : PeerState) × LivesAs world.now.net id peer }
     ensures nothing { IsErrOf result RunFault.OutOfMemory → sink.new ≡ sink.old }
-    ensures faults { sink.new.faults ≡ sink.old.faults + write_failures result }
+    ensures faults { sink.new.faults ≡ sink.old.faults + write_faults result }
     ensures kind { IfErr result IsOfWriting }
 {
     match world.peer(id) {
@@ -115,7 +115,7 @@ fn write_peer<W: Write>(
         (Appends (W.contents sink.old.writer) (W.contents sink.new.writer) (node_line id peer.now)) }
     ensures prefix { AppendsPrefixOf (node_line id peer.now) (W.contents sink.old.writer) (W.contents sink.new.writer) }
     ensures nothing { IsErrOf result RunFault.OutOfMemory → sink.new ≡ sink.old }
-    ensures faults { sink.new.faults ≡ sink.old.faults + write_failures result }
+    ensures faults { sink.new.faults ≡ sink.old.faults + write_faults result }
     ensures kind { IfErr result IsOfWriting }
 {
     let line = node_line(alloc, id, peer)?;
@@ -137,12 +137,12 @@ pub(crate) fn write_certificate<W: Write>(
         (W.contents sink.old.writer) (W.contents sink.new.writer)) }
     ensures begun { WritesPrefix (PrintsCertificate core.now subject.now)
         (W.contents sink.old.writer) (W.contents sink.new.writer) }
-    ensures faults { sink.new.faults ≡ sink.old.faults + sink_failures write_number result }
+    ensures faults { sink.new.faults ≡ sink.old.faults + sink_faults write_number result }
 {
     let Some(report) = filed_report(core, subject) else {
         return write_refusal(CoreFault::NoSuchMoment.number(), sink);
     };
-    prove!(core.world().journal().len() <= MAX_ENTRIES);
+    prove!(core.world().journal().len() <= MOST_ENTRIES);
     match file_text(alloc, report) {
         Ok(text) => write_done(text.as_bytes(), sink),
         Err(fault) => write_refusal(fault.number(), sink),
@@ -176,7 +176,7 @@ pub(crate) fn write_packets<W: Write>(
         (W.contents sink.old.writer) (W.contents sink.new.writer) }
     ensures memory { IsErrOf result RunFault.OutOfMemory → Writes (BeginsPackets packets.now)
         (W.contents sink.old.writer) (W.contents sink.new.writer) }
-    ensures faults { sink.new.faults ≡ sink.old.faults + write_failures result }
+    ensures faults { sink.new.faults ≡ sink.old.faults + write_faults result }
     ensures kind { IfErr result IsOfWriting }
 {
     for (place, packet) in packets.iter().enumerate() {

@@ -20,7 +20,7 @@ mod sent;
 
 use ov_ids::{NodeId, OutOfMemory, Seq};
 use ov_views::{Moves, View, Views};
-use ov_wire::{Body, MAX_IDS, Message};
+use ov_wire::{Body, MOST_IDS, Message};
 use ov_words::Draws;
 pub use sent::Sent;
 use std::alloc::Global;
@@ -44,8 +44,8 @@ pub fn start(
     ensures err { OnErr result ((sent.new ≡ sent.old) × (draws.new ≡ draws.old)) }
 {
     let mut moves = Moves::with_room(alloc, 1)?;
-    let mut kept = Vec::with_capacity(alloc, MAX_IDS as usize)?;
-    let mut list = Vec::with_capacity(alloc, MAX_IDS as usize)?;
+    let mut kept = Vec::with_capacity(alloc, MOST_IDS as usize)?;
+    let mut list = Vec::with_capacity(alloc, MOST_IDS as usize)?;
     let to = match draws.pick(views.active()) {
         Some(to) => to,
         None => return Ok(moves),

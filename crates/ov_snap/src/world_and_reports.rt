@@ -21,7 +21,7 @@ use crate::snapshot::{Snapshot, find, make_room};
 use ov_desk::GroupDesk;
 use ov_graph::Graph;
 use ov_ids::{NodeId, OutOfMemory, Params};
-use ov_net::{Entry, Event, MAX_ENTRIES, NetFault, World};
+use ov_net::{Entry, Event, MOST_ENTRIES, NetFault, World};
 use ov_words::{WORDS_PER_EVENT, Words};
 use std::alloc::Global;
 use std::marker::Model;
@@ -108,7 +108,7 @@ impl Core {
             (λ f. IsRefusal self.old.world.net (length self.old.world.journal) told.Snapshot f) }
         ensures err { OnErr result (self.new ≡ self.old) }
     {
-        if self.world.journal().len() >= MAX_ENTRIES {
+        if self.world.journal().len() >= MOST_ENTRIES {
             return Err(NetFault::TooManyEntries);
         }
         let graph = self.links_now()?;

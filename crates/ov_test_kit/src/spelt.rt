@@ -1,7 +1,7 @@
 ghost use Rattle.std.specs.Prelude.{IsTrue};
 ghost use Rattle.ov_wire.specs.Messages.{IsBodyInRange};
 
-use ov_wire::{Body, MAX_IDS, MAX_PAYLOAD, MAX_TTL, Message, WireFault, encode};
+use ov_wire::{Body, MOST_IDS, MOST_PAYLOAD, MOST_TTL, Message, WireFault, encode};
 use std::alloc::Global;
 
 /// The bytes of a message, unless a field is out of its range.
@@ -22,11 +22,11 @@ fn is_in_range(body: &Body) -> bool
     ensures { IsTrue result → IsBodyInRange body.now }
 {
     match body {
-        Body::ForwardJoin { ttl, .. } => *ttl <= MAX_TTL,
-        Body::Shuffle { ttl, ids, .. } => *ttl <= MAX_TTL
-            && ids.as_slice().len() <= MAX_IDS as usize,
-        Body::ShuffleReply { ids } => ids.as_slice().len() <= MAX_IDS as usize,
-        Body::Gossip { payload, .. } => payload.as_slice().len() <= MAX_PAYLOAD as usize,
+        Body::ForwardJoin { ttl, .. } => *ttl <= MOST_TTL,
+        Body::Shuffle { ttl, ids, .. } => *ttl <= MOST_TTL
+            && ids.as_slice().len() <= MOST_IDS as usize,
+        Body::ShuffleReply { ids } => ids.as_slice().len() <= MOST_IDS as usize,
+        Body::Gossip { payload, .. } => payload.as_slice().len() <= MOST_PAYLOAD as usize,
         _ => true,
     }
 }

@@ -8,7 +8,7 @@ mod theorems;
 mod writing;
 
 pub use fault::WireFault;
-pub use message::{Body, MAX_IDS, MAX_PAYLOAD, MAX_TTL, Message};
+pub use message::{Body, MOST_IDS, MOST_PAYLOAD, MOST_TTL, Message};
 pub use reading::decode;
 pub use theorems::{
     none_begins_another, one_first_fault, one_message, one_spelling, spelled_or_at_fault,

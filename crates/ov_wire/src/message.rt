@@ -5,16 +5,16 @@ use ov_ids::{MsgId, NodeId, OutOfMemory, Seq};
 use std::alloc::Global;
 
 /// The last kind of a message. (Chosen here.)
-pub(crate) const MAX_KIND: u8 = 12;
+pub(crate) const MOST_KIND: u8 = 12;
 
 /// The greatest time to live of a message on a random walk. (Chosen here.)
-pub const MAX_TTL: u8 = 15;
+pub const MOST_TTL: u8 = 15;
 
 /// The most ids that a list may have. (Chosen here.)
-pub const MAX_IDS: u8 = 17;
+pub const MOST_IDS: u8 = 17;
 
 /// The most bytes that a payload may have. (Chosen here.)
-pub const MAX_PAYLOAD: u16 = 1024;
+pub const MOST_PAYLOAD: u16 = 1024;
 
 /// A message, from its sender.
 #[derive(Debug, Drop)]

@@ -11,7 +11,7 @@ ghost use Rattle.ov_wire.specs.Messages.{AreInRange, most_kind};
 ghost use Rattle.ov_wire.specs.Code.Reading.{Reads, Gives, number_at, values_at, ids_in};
 
 use crate::fault::WireFault;
-use crate::message::{Body, MAX_IDS, MAX_KIND, MAX_PAYLOAD, MAX_TTL, Message};
+use crate::message::{Body, MOST_IDS, MOST_KIND, MOST_PAYLOAD, MOST_TTL, Message};
 use ov_ids::{MsgId, NodeId, Seq};
 use std::alloc::{AllocError, Global};
 
@@ -104,7 +104,7 @@ fn ids_of(alloc: Global, count: usize, bytes: &[u8]) -> Result<Seq<NodeId>, Allo
 fn last_ids(alloc: Global, bytes: &[u8]) -> Result<Seq<NodeId>, WireFault>
     ensures { Gives (λ ids. Many ids ∷ []) result (values_at (Ids ∷ []) bytes.now) }
 {
-    let (count, rest) = byte_at(0, MAX_IDS, WireFault::BadField, bytes)?;
+    let (count, rest) = byte_at(0, MOST_IDS, WireFault::BadField, bytes)?;
     let count = count as usize;
     whole(4 * count, rest)?;
     Ok(ids_of(alloc, count, rest)?)
@@ -114,7 +114,7 @@ fn last_ids(alloc: Global, bytes: &[u8]) -> Result<Seq<NodeId>, WireFault>
 fn last_payload(alloc: Global, bytes: &[u8]) -> Result<Seq<u8>, WireFault>
     ensures { Gives (λ payload. Many payload ∷ []) result (values_at (Payload ∷ []) bytes.now) }
 {
-    let (len, rest) = u16_at(MAX_PAYLOAD, bytes)?;
+    let (len, rest) = u16_at(MOST_PAYLOAD, bytes)?;
     whole(len as usize, rest)?;
     Ok(Seq::new(Vec::from_slice(alloc, rest)?))
 }
@@ -137,7 +137,7 @@ fn forward_join(bytes: &[u8]) -> Result<Body, WireFault>
     ensures kind { IfOk result (λ body. kind_of body ≡ 2) }
 {
     let (node, rest) = u32_at(bytes)?;
-    let (ttl, rest) = byte_at(0, MAX_TTL, WireFault::BadField, rest)?;
+    let (ttl, rest) = byte_at(0, MOST_TTL, WireFault::BadField, rest)?;
     end(rest)?;
     Ok(Body::ForwardJoin {
         node: NodeId::new(node),
@@ -159,7 +159,7 @@ fn shuffle(alloc: Global, bytes: &[u8]) -> Result<Body, WireFault>
     ensures kind { IfOk result (λ body. kind_of body ≡ 7) }
 {
     let (origin, rest) = u32_at(bytes)?;
-    let (ttl, rest) = byte_at(0, MAX_TTL, WireFault::BadField, rest)?;
+    let (ttl, rest) = byte_at(0, MOST_TTL, WireFault::BadField, rest)?;
     let ids = last_ids(alloc, rest)?;
     Ok(Body::Shuffle {
         origin: NodeId::new(origin),
@@ -230,7 +230,7 @@ fn message_of(alloc: Global, bytes: &[u8]) -> Result<Message, WireFault>
     ensures memory { IsErrOf result OutOfMemory → HasList (slice_index bytes.now 1) }
 {
     let (_, rest) = byte_at(1, 1, WireFault::BadVersion, bytes)?;
-    let (kind, rest) = byte_at(1, MAX_KIND, WireFault::BadKind, rest)?;
+    let (kind, rest) = byte_at(1, MOST_KIND, WireFault::BadKind, rest)?;
     let (from, rest) = u32_at(rest)?;
     let body = body_of(alloc, kind, rest)?;
     Ok(Message {

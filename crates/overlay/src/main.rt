@@ -8,7 +8,7 @@ ghost use Rattle.ov_io.specs.Device.{most_faults};
 ghost use Rattle.ov_run.specs.Analysing.{PrintsAnalysis, BeginsAnalysis};
 ghost use Rattle.ov_run.specs.Arguments.{AreTaken};
 ghost use Rattle.ov_run.specs.Ending.{Begins};
-ghost use Rattle.ov_run.specs.Faults.{write_failures, IsAnalysisFault, IsOfReading, IsRunFault};
+ghost use Rattle.ov_run.specs.Faults.{write_faults, IsAnalysisFault, IsOfReading, IsRunFault};
 ghost use Rattle.ov_run.specs.Run.{IsRun};
 ghost use Rattle.ov_run.specs.Running.{PrintsScenario};
 ghost use Rattle.ov_run.specs.declared.arguments.ArgumentsFault.TheVariants.{BadArguments};
@@ -210,7 +210,7 @@ fn run_bytes<T: Threads + Sync, W: Write>(
         (PrintsScenario (Some bytes.now) (W.contents sink.old.writer) (W.contents sink.new.writer)) }
     ensures begun { (sink.new ≡ sink.old)
         ⊎ Begins (Some bytes.now) (W.contents sink.old.writer) (W.contents sink.new.writer) }
-    ensures sink { sink.new.faults ≡ sink.old.faults + write_failures result }
+    ensures sink { sink.new.faults ≡ sink.old.faults + write_faults result }
     ensures fault { IfErr result (IsRunFault (Some bytes.now)) }
     ensures unread { IfErr result (λ fault. IsOfReading fault → sink.new ≡ sink.old) }
 {
@@ -282,7 +282,7 @@ fn analyse_bytes<T: Threads + Sync, W: Write>(
     ensures begun { (sink.new ≡ sink.old)
         ⊎ BeginsAnalysis (Some bytes.now) (option_map (λ ids. ids.items) analysis.now.group) analysis.now.certificate
         (W.contents sink.old.writer) (W.contents sink.new.writer) }
-    ensures sink { sink.new.faults ≡ sink.old.faults + write_failures result }
+    ensures sink { sink.new.faults ≡ sink.old.faults + write_faults result }
     ensures unwritten { IfErr result (λ fault. ¬ (fault ≡ RunFault.Write) → sink.new ≡ sink.old) }
     ensures fault { IfErr result (IsAnalysisFault (Some bytes.now)) }
 {

@@ -2,7 +2,7 @@
 use Rattle.std.proofs.Common.{◌≡◌, ◌+◌, inl, inr, List, ℕ, Option, Result, Ok, Err, IsErrAnd, refl, sym, subst}
 use Rattle.ov_io.specs.Device.{SourceState, SinkState}
 use Rattle.ov_run.specs.Ending.{Begins, Ends}
-use Rattle.ov_run.specs.Faults.{write_failures}
+use Rattle.ov_run.specs.Faults.{write_faults}
 use Rattle.ov_run.specs.Run.{IsRun}
 use Rattle.ov_run.specs.Running.{PrintsScenario}
 use Rattle.ov_run.specs.Code.Writing.{IsOfWriting}
@@ -12,7 +12,7 @@ use Rattle.ov_run.proofs.Printing.Ending.{output_begun, all_went, failed_by}
 
 -- how many failures of its writer a run counts that ends by this fault
 abbrev counted_of : RunFault → ℕ
-counted_of f = write_failures {A = ℕ} (Err f)
+counted_of f = write_faults {A = ℕ} (Err f)
 
 module _ {R W : Type 0} (remaining : R → Option (List ℕ)) (contents : W → Option (List ℕ))
     (source source' : SourceState R) (sink sink' : SinkState W)
