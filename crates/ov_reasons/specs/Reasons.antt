@@ -2,9 +2,9 @@
 use Rattle.std.specs.Prelude.{◌≡◌, ◌⊎◌, ℕ, List, [], codes}
 use Rattle.ov_graph.specs.declared.fault.GraphFault.{GraphFault}
 use Rattle.ov_reasons.specs.Paragraphs.{paragraph, ExplainsLines}
-use Rattle.ov_run.specs.FaultLines.{IsFaultLine}
+use Rattle.ov_run.specs.GraphFaultLines.{IsGraphFaultLine}
 use Rattle.ov_run.specs.GraphFiles.{IsGraphFileFault}
-use Rattle.ov_run.specs.LinesAtFault.{AreFaultLines, unread_lines}
+use Rattle.ov_run.specs.FaultLines.{AreFaultLines, unread_lines}
 use Rattle.ov_run.specs.declared.run_fault.RunFault.{RunFault}
 use Rattle.ov_run.specs.declared.run_fault.RunFault.TheVariants.{Line, Params, Graph, Read, Write, OutOfMemory}
 
@@ -30,7 +30,7 @@ TellsOfScenario bytes other text = text ≡ device_reason other
 -- told
 abbrev pub TellsOfFaultLine : List ℕ → GraphFault → List ℕ → Type 0
 TellsOfFaultLine bytes fault text =
-    ((n : ℕ) × (said : List ℕ) × IsGraphFileFault bytes (Graph fault) × IsFaultLine bytes fault n
+    ((n : ℕ) × (said : List ℕ) × IsGraphFileFault bytes (Graph fault) × IsGraphFaultLine bytes fault n
     × (text ≡ paragraph n said))
     ⊎ ((¬ IsGraphFileFault bytes (Graph fault)) × (text ≡ []))
 

@@ -1,6 +1,6 @@
 ghost use Rattle.std.specs.Prelude.{IfOk, string_bytes};
 ghost use Rattle.ov_reasons.specs.Paragraphs.{ExplainsLines};
-ghost use Rattle.ov_run.specs.LinesAtFault.{unread_lines};
+ghost use Rattle.ov_run.specs.FaultLines.{unread_lines};
 
 use crate::first_explanations::{explain, first_told, is_past};
 use crate::form_matching::form_of;

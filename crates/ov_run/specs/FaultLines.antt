@@ -1,34 +1,33 @@
--- Which line of a graph file is at fault, where each line can be read and the nodes and the links are no graph.
-use Rattle.std.specs.Prelude.{◌≡◌, ℕ, List, [], ◌∷◌, ◌++◌, length, Option, Some, None}
-use Rattle.ov_ids.specs.Members.{Ascends}
-use Rattle.ov_graph.specs.Faults.{GraphJudged}
-use Rattle.ov_graph.specs.Links.{most_nodes}
-use Rattle.ov_graph.specs.declared.fault.GraphFault.{GraphFault}
-use Rattle.ov_graph.specs.declared.fault.GraphFault.TheVariants.{TooManyNodes, Unordered, BadLink, OutOfMemory}
-use Rattle.ov_run.specs.GraphFiles.{graph_lines, nodes_said, links_said}
-use Rattle.ov_run.specs.declared.graph_file.GraphLine.{GraphLine}
-use Rattle.ov_run.specs.declared.graph_file.GraphLine.TheVariants.{Node, Link}
+-- Which lines of a file are at fault: all of them, whichever is first.
+use Rattle.std.specs.Prelude.{◌≡◌, ◌⊎◌, ◌↔◌, ℕ, is_none, List, ◌∷◌, map}
+use Rattle.std.specs.List.{filter}
+use Rattle.ov_ids.specs.Members.{Has, Ascends}
+use Rattle.ov_run.specs.GraphFiles.{graph_lines, IsGraphFileFault}
+use Rattle.ov_run.specs.Scenarios.{stated_lines, IsFaultAtPlace, IsScenarioFault}
+use Rattle.ov_run.specs.declared.run_fault.RunFault.TheVariants.{Line, Params}
 
--- a node is at fault behind these: they are as many as a graph may have, or they ascend and with it they do not
-abbrev pub IsNodeAtFault : GraphFault → List ℕ → ℕ → Type 0
-IsNodeAtFault TooManyNodes before x = length before ≡ most_nodes
-IsNodeAtFault Unordered before x = Ascends before × (¬ Ascends (before ++ x ∷ []))
-IsNodeAtFault BadLink before x = ⊥
-IsNodeAtFault OutOfMemory before x = ⊥
+-- the line of this number is at fault in a scenario file
+abbrev pub IsScenarioLineAtFault : List ℕ → ℕ → Type 0
+IsScenarioLineAtFault bytes n =
+    (place : ℕ)
+    × (IsFaultAtPlace (stated_lines bytes) place (Line n) ⊎ IsFaultAtPlace (stated_lines bytes) place (Params n))
 
--- a link between these nodes is at fault behind these links: without it there is no fault, and with it this one
-abbrev pub IsLinkAtFault : GraphFault → List ℕ → List (ℕ × ℕ) → ℕ × ℕ → Type 0
-IsLinkAtFault fault nodes before l = GraphJudged nodes before None × GraphJudged nodes (before ++ l ∷ []) (Some fault)
+-- these are the numbers of the lines of a scenario file that are at fault, in order
+pub record AreFaultLines (bytes numbers : List ℕ) : Type 0 where
+  pub ascends : Ascends numbers
+  pub all : (n : ℕ) → Has numbers n ↔ IsScenarioLineAtFault bytes n
 
--- what a line says is at fault behind the lines before it, in a file of these nodes
-abbrev pub IsGraphLineAtFault : GraphFault → List ℕ → List (ℕ × Option GraphLine) → GraphLine → Type 0
-IsGraphLineAtFault fault nodes before (Node x) = IsNodeAtFault fault (nodes_said before) x
-IsGraphLineAtFault fault nodes before (Link a b) = IsLinkAtFault fault nodes (links_said before) (a, b)
+-- the numbers of the lines of a graph file that can't be read, in order
+unfoldable pub unread_lines : List ℕ → List ℕ
+unread_lines bytes = map (λ line. line.0) (filter (λ line. is_none line.1) (graph_lines bytes))
 
--- the line of this number is the one whose node or link is at fault: the lines before it have no such fault
-pub record IsFaultLine (bytes : List ℕ) (fault : GraphFault) (n : ℕ) : Type 0 where
-  pub before : List (ℕ × Option GraphLine)
-  pub says : GraphLine
-  pub after : List (ℕ × Option GraphLine)
-  pub lines : graph_lines bytes ≡ before ++ (n, Some says) ∷ after
-  pub at_fault : IsGraphLineAtFault fault (nodes_said (graph_lines bytes)) before says
+-- the number is the first of these
+abbrev pub IsFirstOf : ℕ → List ℕ → Type 0
+IsFirstOf n numbers = (later : List ℕ) × (numbers ≡ n ∷ later)
+
+-- The line whose fault a file has is the first of its lines at fault: of a scenario file of all lines that are at
+-- fault, and of a graph file of all that can't be read.
+pub record FirstLineHasTheFault : Type 0 where
+  pub of_scenario : (bytes numbers : List ℕ) (n : ℕ) → AreFaultLines bytes numbers
+      → IsScenarioFault bytes (Line n) ⊎ IsScenarioFault bytes (Params n) → IsFirstOf n numbers
+  pub of_graph : (bytes : List ℕ) (n : ℕ) → IsGraphFileFault bytes (Line n) → IsFirstOf n (unread_lines bytes)

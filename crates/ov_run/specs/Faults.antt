@@ -25,13 +25,13 @@ number_of Write = 72
 number_of OutOfMemory = 99
 
 -- the number of the line that is at fault, where one is
-abbrev pub line_of : RunFault → Option ℕ
-line_of (Line n) = Some n
-line_of (Params n) = Some n
-line_of (Graph fault) = None
-line_of Read = None
-line_of Write = None
-line_of OutOfMemory = None
+abbrev pub line_number_of : RunFault → Option ℕ
+line_number_of (Line n) = Some n
+line_number_of (Params n) = Some n
+line_number_of (Graph fault) = None
+line_number_of Read = None
+line_number_of Write = None
+line_number_of OutOfMemory = None
 
 -- a refusal with this number, of this line where one is named: `line 3: refused 70`, or `refused 71`
 abbrev pub line_refusal_text : Option ℕ → ℕ → List ℕ
@@ -40,7 +40,7 @@ line_refusal_text None number = refusal_text number
 
 -- the line that `overlay` prints of a fault on standard error, without its line feed
 unfoldable pub run_fault_text : RunFault → List ℕ
-run_fault_text fault = line_refusal_text (line_of fault) (number_of fault)
+run_fault_text fault = line_refusal_text (line_number_of fault) (number_of fault)
 
 -- ---- where faults come from
 

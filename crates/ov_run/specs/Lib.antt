@@ -1,12 +1,12 @@
 pub mod Analysing
 pub mod Ending
 pub mod Draws
-pub mod FaultLines
+pub mod GraphFaultLines
 pub mod Faults
 pub mod GraphFiles
 pub mod Theorems
 pub mod Lines
-pub mod LinesAtFault
+pub mod FaultLines
 pub mod Printed
 pub mod RunLines
 pub mod Run

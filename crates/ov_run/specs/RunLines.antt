@@ -19,8 +19,8 @@ asks_for_line (Some (says.Look look)) = true
 asks_for_line (Some (says.Analyse subject workers)) = true
 
 -- the lines of a file that ask for a line to run, in order
-unfoldable pub run_lines : List ℕ → List Stated
-run_lines bytes = filter (λ line. asks_for_line line.says) (stated_lines bytes)
+unfoldable pub lines_that_run : List ℕ → List Stated
+lines_that_run bytes = filter (λ line. asks_for_line line.says) (stated_lines bytes)
 
 -- a line that says this asks for this line: for this event, whatever its random words, this look or this analysis
 abbrev pub AsksFor : Option Statement → Line → Type 0

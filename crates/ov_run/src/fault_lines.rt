@@ -1,7 +1,7 @@
 ghost use Rattle.std.specs.Prelude.{◌≡◌, ◌↔◌, ◌⊎◌, [], IfOk, IsTrue, ◌||◌};
 ghost use Rattle.ov_ids.specs.Members.{Ascends};
 ghost use Rattle.ov_run.specs.Code.Seen.{IsSeen, seen_with, AreWithin, Tells, AreFaulty, numbers_of};
-ghost use Rattle.ov_run.specs.LinesAtFault.{AreFaultLines, unread_lines};
+ghost use Rattle.ov_run.specs.FaultLines.{AreFaultLines, unread_lines};
 
 use crate::graph_file::read_graph_line;
 use crate::scenario_reading::read_statements;

@@ -6,7 +6,7 @@ ghost use Rattle.ov_graph.specs.declared.fault.GraphFault.TheVariants as graph_f
 ghost use Rattle.ov_ids.specs.Ascending.{is_over, ascends_after};
 ghost use Rattle.ov_ids.specs.Members.{Ascends};
 ghost use Rattle.ov_run.specs.Code.GraphFaults.{node_after, link_after, lines_fault, file_fault};
-ghost use Rattle.ov_run.specs.FaultLines.{IsFaultLine};
+ghost use Rattle.ov_run.specs.GraphFaultLines.{IsGraphFaultLine};
 ghost use Rattle.ov_run.specs.GraphFiles.{graph_lines, node_said, link_said, nodes_said, links_said, first_unread};
 ghost use Rattle.ov_run.specs.GraphFiles.{IsGraphFileFault};
 
@@ -27,7 +27,7 @@ pub fn graph_fault_line(
     bytes: &[u8],
     fault: GraphFault,
 ) -> Result<Option<usize>, OutOfMemory>
-    ensures line { IfOk result (λ line. IfSome line (IsFaultLine bytes.now fault)) }
+    ensures line { IfOk result (λ line. IfSome line (IsGraphFaultLine bytes.now fault)) }
     ensures fault { IfOk result (λ line. MatchOption line (¬ IsGraphFileFault bytes.now (RunFault.Graph fault))
         (λ _. IsGraphFileFault bytes.now (RunFault.Graph fault))) }
 {
@@ -48,7 +48,7 @@ fn line_with(found: Option<(usize, GraphFault)>, fault: GraphFault) -> Option<us
 /// The number of the line whose node or link is at fault, and the fault, where each line can be read.
 #[tactic(auto, using(crate::proofs::GraphFiles::FaultLines::all_read, crate::proofs::GraphFiles::FaultLines::not_read))]
 fn first_fault(alloc: Global, bytes: &[u8]) -> Result<Option<(usize, GraphFault)>, OutOfMemory>
-    ensures line { IfOk result (λ found. IfSome found (λ at. IsFaultLine bytes.now at.1 at.0)) }
+    ensures line { IfOk result (λ found. IfSome found (λ at. IsGraphFaultLine bytes.now at.1 at.0)) }
     ensures fault { IfOk result (λ found. option_map (λ at. at.1) found ≡ file_fault bytes.now) }
 {
     match nodes_in(alloc, bytes)? {
@@ -74,7 +74,7 @@ fn nodes_in(alloc: Global, bytes: &[u8]) -> Result<Option<Vec<NodeId>>, OutOfMem
 #[tactic(auto, using(crate::proofs::GraphFiles::FaultLines::too_many, crate::proofs::GraphFiles::FaultLines::unordered, crate::proofs::GraphFiles::FaultLines::of_links))]
 fn fault_in(bytes: &[u8], nodes: &[NodeId]) -> Option<(usize, GraphFault)>
     requires { nodes.now ≡ nodes_said (graph_lines bytes.now) }
-    ensures line { IfSome result (λ at. IsFaultLine bytes.now at.1 at.0) }
+    ensures line { IfSome result (λ at. IsGraphFaultLine bytes.now at.1 at.0) }
     ensures fault { option_map (λ at. at.1) result ≡ lines_fault (graph_lines bytes.now) }
 {
     if let Some(line) = line_past_limit(bytes) {
@@ -88,7 +88,7 @@ fn fault_in(bytes: &[u8], nodes: &[NodeId]) -> Option<(usize, GraphFault)>
 
 /// The number of the line of the first node past the limit, where there is one.
 fn line_past_limit(bytes: &[u8]) -> Option<usize>
-    ensures line { IfSome result (IsFaultLine bytes.now graph_fault.TooManyNodes) }
+    ensures line { IfSome result (IsGraphFaultLine bytes.now graph_fault.TooManyNodes) }
     ensures nodes { MatchOption result (length (nodes_said (graph_lines bytes.now)) ≤ most_nodes)
         (λ _. most_nodes < length (nodes_said (graph_lines bytes.now))) }
 {
@@ -121,7 +121,7 @@ fn nodes_of(says: Option<GraphLine>) -> usize
 
 /// The number of the line of the first node that is not above the node before it, where there is one.
 fn line_out_of_order(bytes: &[u8]) -> Option<usize>
-    ensures line { IfSome result (IsFaultLine bytes.now graph_fault.Unordered) }
+    ensures line { IfSome result (IsGraphFaultLine bytes.now graph_fault.Unordered) }
     ensures nodes { MatchOption result (Ascends (nodes_said (graph_lines bytes.now)))
         (λ _. ¬ Ascends (nodes_said (graph_lines bytes.now))) }
 {
@@ -178,7 +178,7 @@ fn line_of_link(bytes: &[u8], nodes: &[NodeId]) -> Option<(usize, GraphFault)>
     requires nodes { nodes.now ≡ nodes_said (graph_lines bytes.now) }
     requires within { length nodes.now ≤ most_nodes }
     requires ascend { Ascends nodes.now }
-    ensures line { IfSome result (λ at. IsFaultLine bytes.now at.1 at.0) }
+    ensures line { IfSome result (λ at. IsGraphFaultLine bytes.now at.1 at.0) }
     ensures fault { option_map (λ at. at.1) result ≡ links_fault nodes.now None (links_said (graph_lines bytes.now)) }
 {
     let mut last = None;

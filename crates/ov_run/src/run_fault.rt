@@ -1,5 +1,5 @@
 ghost use Rattle.std.specs.Prelude.{◌≡◌};
-ghost use Rattle.ov_run.specs.Faults.{number_of, line_of, fault_of_read, fault_of_graph};
+ghost use Rattle.ov_run.specs.Faults.{number_of, line_number_of, fault_of_read, fault_of_graph};
 ghost use Rattle.ov_run.specs.declared.run_fault.RunFault.TheVariants.{OutOfMemory as out_of_memory};
 ghost use Rattle.ov_run.specs.declared.run_fault.RunFault.TheVariants.{Write as not_written};
 
@@ -45,7 +45,7 @@ impl RunFault {
 
     /// The number of the line of the file that is at fault, counted from 1, where one is.
     pub fn line(&self) -> Option<usize>
-        ensures { result ≡ line_of self.now }
+        ensures { result ≡ line_number_of self.now }
     {
         match self {
             RunFault::Line(line) | RunFault::Params(line) => Some(*line),

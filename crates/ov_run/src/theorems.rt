@@ -1,4 +1,4 @@
-ghost use Rattle.ov_run.specs.LinesAtFault.{FirstLineHasTheFault};
+ghost use Rattle.ov_run.specs.FaultLines.{FirstLineHasTheFault};
 ghost use Rattle.ov_run.specs.Theorems.{EveryPrintedReportIsSo};
 
 /// The main theorem, as who runs a scenario meets it. Whatever lines ran before: what `analyse` prints is a refusal, or

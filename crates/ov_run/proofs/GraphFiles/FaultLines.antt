@@ -10,7 +10,7 @@ use Rattle.ov_graph.specs.declared.fault.GraphFault.{GraphFault}
 use Rattle.ov_graph.specs.declared.fault.GraphFault.TheVariants.{TooManyNodes, Unordered}
 use Rattle.ov_graph.proofs.EvenTest.Tested.{judged, computed}
 use Rattle.ov_run.specs.Code.GraphFaults.{where_read, lines_fault, file_fault}
-use Rattle.ov_run.specs.FaultLines.{IsFaultLine}
+use Rattle.ov_run.specs.GraphFaultLines.{IsGraphFaultLine}
 use Rattle.ov_run.specs.GraphFiles.{graph_lines, nodes_said, links_said, first_unread, IsGraphFileFault}
 use Rattle.ov_run.specs.declared.run_fault.RunFault.TheVariants.{Graph}
 use Rattle.ov_run.proofs.GraphFiles.Walking.{by_links}
@@ -80,9 +80,9 @@ other_fault bytes fault other has =
 
 -- the line that was found
 pub told_line : (bytes : List ℕ) (found : Option (ℕ × GraphFault)) (fault : GraphFault) (n : ℕ)
-    → IfSome found (λ at. IsFaultLine bytes at.1 at.0) → found ≡ Some (n, fault)
-    → IsFaultLine bytes fault n
-told_line bytes found fault n line is = subst (λ f. IfSome f (λ at. IsFaultLine bytes at.1 at.0)) is line
+    → IfSome found (λ at. IsGraphFaultLine bytes at.1 at.0) → found ≡ Some (n, fault)
+    → IsGraphFaultLine bytes fault n
+told_line bytes found fault n line is = subst (λ f. IfSome f (λ at. IsGraphFaultLine bytes at.1 at.0)) is line
 
 -- and its fault, or that the file has not this one
 pub told_fault : (bytes : List ℕ) (found : Option (ℕ × GraphFault)) (fault : GraphFault) (line : Option ℕ)

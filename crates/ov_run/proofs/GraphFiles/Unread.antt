@@ -4,7 +4,7 @@ use Rattle.std.proofs.Common.{append-nil, map, is_none, Option, ap, sym}
 use Rattle.std.specs.List.{filter}
 use Rattle.ov_run.specs.GraphFiles.{graph_line, graph_line_at, graph_lines}
 use Rattle.ov_run.specs.Lines.{kept_lines}
-use Rattle.ov_run.specs.LinesAtFault.{unread_lines}
+use Rattle.ov_run.specs.FaultLines.{unread_lines}
 use Rattle.ov_run.specs.declared.graph_file.GraphLine.{GraphLine}
 
 -- those of these lines that can't be read

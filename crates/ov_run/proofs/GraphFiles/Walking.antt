@@ -13,7 +13,7 @@ use Rattle.ov_graph.specs.declared.fault.GraphFault.{GraphFault}
 use Rattle.ov_graph.specs.declared.fault.GraphFault.TheVariants.{TooManyNodes, Unordered, BadLink}
 use Rattle.ov_graph.proofs.EvenTest.Tested.{judged}
 use Rattle.ov_run.specs.Code.GraphFaults.{node_after, link_after}
-use Rattle.ov_run.specs.FaultLines.{IsGraphLineAtFault, IsFaultLine}
+use Rattle.ov_run.specs.GraphFaultLines.{IsGraphLineAtFault, IsGraphFaultLine}
 use Rattle.ov_run.specs.GraphFiles.{graph_line, graph_line_at, graph_lines, node_said, link_said, nodes_said}
 use Rattle.ov_run.specs.GraphFiles.{links_said}
 use Rattle.ov_run.specs.Lines.{kept_lines}
@@ -70,7 +70,7 @@ found :
     → Walks bytes Now now → now ≡ (n, text) ∷ later → Some line ≡ graph_line text
     → ((before : List (ℕ × Option GraphLine)) → Now before
     → IsGraphLineAtFault fault (nodes_said (graph_lines bytes)) before line)
-    → IsFaultLine bytes fault n
+    → IsGraphFaultLine bytes fault n
 found bytes Now now later n text line fault w first reads wrong =
     record {
       before = w.before;
@@ -170,7 +170,7 @@ pub count_found :
     (says : Option GraphLine)
     → Walks bytes (AreCounted count) now → now ≡ (n, text) ∷ later → says ≡ graph_line text
     → own ≡ length (node_said says) → count_then ≡ count + own → most_nodes < count_then
-    → IsFaultLine bytes TooManyNodes n
+    → IsGraphFaultLine bytes TooManyNodes n
 count_found bytes count own count_then now later n text None w first reads adds sum over =
     let few = w.holds.1 in absurd (omega (arith, adds, sum, over, few))
 count_found bytes count own count_then now later n text (Some (Link a b)) w first reads adds sum over =
@@ -256,7 +256,7 @@ pub order_found :
     (says : Option GraphLine)
     → Walks bytes (Rise last) now → now ≡ (n, text) ∷ later → says ≡ graph_line text
     → ascends_after last (node_said says) ≡ false
-    → IsFaultLine bytes Unordered n
+    → IsGraphFaultLine bytes Unordered n
 order_found bytes last now later n text None w first reads falls = absurd (cc)
 order_found bytes last now later n text (Some (Link a b)) w first reads falls = absurd (cc)
 order_found bytes last now later n text (Some (Node x)) w first reads falls =
@@ -371,7 +371,7 @@ pub join_found :
     → nodes ≡ nodes_said (graph_lines bytes) → length nodes ≤ most_nodes → Ascends nodes
     → Walks bytes (AreJoined nodes last) now → now ≡ (n, text) ∷ later → says ≡ graph_line text
     → links_fault nodes last (link_said says) ≡ Some fault
-    → IsFaultLine bytes fault n
+    → IsGraphFaultLine bytes fault n
 join_found bytes nodes last now later n text None fault own few rises w first reads bad = absurd (cc)
 join_found bytes nodes last now later n text (Some (Node x)) fault own few rises w first reads bad = absurd (cc)
 join_found bytes nodes last now later n text (Some (Link a b)) fault own few rises w first reads bad =

@@ -9,7 +9,7 @@ use Rattle.ov_ids.proofs.Members.{has_append_left, has_append_right, all_member,
 use Rattle.ov_run.specs.Code.Seen.{TellsKind, IsSeen, seen_with, AreWithin, Tells, IsFaulty, IsFaultyNumber, AreFaulty}
 use Rattle.ov_run.specs.Code.Seen.{numbers_of}
 use Rattle.ov_run.specs.Lines.{is_skipped, kept_from, kept_lines}
-use Rattle.ov_run.specs.LinesAtFault.{IsScenarioLineAtFault, AreFaultLines}
+use Rattle.ov_run.specs.FaultLines.{IsScenarioLineAtFault, AreFaultLines}
 use Rattle.ov_run.specs.Scenarios.{HasKind, ComesTooLate, IsLineFault, IsFaultAtPlace, stated_at}
 use Rattle.ov_run.specs.Scenarios.{stated_lines}
 use Rattle.ov_run.specs.declared.fault_lines.Seen.{Seen}

@@ -7,8 +7,8 @@ use Rattle.ov_ids.specs.Members.{Has, Ascends}
 use Rattle.ov_ids.proofs.Members.{has_append_right, all_member}
 use Rattle.ov_run.specs.Code.Seen.{numbers_of}
 use Rattle.ov_run.specs.GraphFiles.{graph_lines, first_unread, IsGraphFileFault}
-use Rattle.ov_run.specs.LinesAtFault.{IsScenarioLineAtFault, AreFaultLines, unread_lines}
-use Rattle.ov_run.specs.LinesAtFault.{IsFirstOf, FirstLineHasTheFault}
+use Rattle.ov_run.specs.FaultLines.{IsScenarioLineAtFault, AreFaultLines, unread_lines}
+use Rattle.ov_run.specs.FaultLines.{IsFirstOf, FirstLineHasTheFault}
 use Rattle.ov_run.specs.Scenarios.{IsFaultAtPlace, IsFirstLineFault, IsScenarioFault, stated_lines}
 use Rattle.ov_run.specs.declared.graph_file.GraphLine.{GraphLine}
 use Rattle.ov_run.specs.declared.run_fault.RunFault.{RunFault}

@@ -4,7 +4,7 @@ use Rattle.std.proofs.Common.{append-nil, length, map, Option, Some, None, refl,
 use Rattle.std.specs.List.{filter}
 use Rattle.std.proofs.lemmas.List.{length-map}
 use Rattle.ov_run.specs.Lines.{kept_lines}
-use Rattle.ov_run.specs.RunLines.{asks_for_line, run_lines, AskOneByOne}
+use Rattle.ov_run.specs.RunLines.{asks_for_line, lines_that_run, AskOneByOne}
 use Rattle.ov_run.specs.Scenarios.{stated_at, stated_lines, AskFor, IsScenario}
 use Rattle.ov_run.specs.Statements.{statement_of}
 use Rattle.ov_run.specs.declared.scenario.Line.{Line}
@@ -27,13 +27,13 @@ numbers lines = map (λ line. line.number) (asking lines)
 -- to run
 abbrev pub AreNumbered : List ℕ → List ℕ → List (ℕ × List ℕ) → Type 0
 AreNumbered bytes so_far left =
-    so_far ++ numbers (map stated_at left) ≡ map (λ (l : Stated). l.number) (run_lines bytes)
+    so_far ++ numbers (map stated_at left) ≡ map (λ (l : Stated). l.number) (lines_that_run bytes)
 
 -- no line was looked at
 pub begun :
     (bytes so_far : List ℕ) (left : List (ℕ × List ℕ)) → so_far ≡ [] → left ≡ kept_lines bytes
     → AreNumbered bytes so_far left
-unfolding run_lines stated_lines
+unfolding lines_that_run stated_lines
 begun bytes so_far left none all =
     ap (λ ns. ns ++ numbers (map stated_at left)) none ∙ ap (λ ls. numbers (map stated_at ls)) all
 
@@ -72,7 +72,7 @@ passed bytes so_far now later n text before first asks =
 -- no line is left
 pub all_numbered :
     (bytes so_far : List ℕ) (left : List (ℕ × List ℕ)) → AreNumbered bytes so_far left → left ≡ []
-    → so_far ≡ map (λ (l : Stated). l.number) (run_lines bytes)
+    → so_far ≡ map (λ (l : Stated). l.number) (lines_that_run bytes)
 all_numbered bytes so_far left before none =
     sym (append-nil so_far) ∙ ap (λ ls. so_far ++ numbers (map stated_at ls)) (sym none) ∙ before
 
@@ -125,8 +125,8 @@ said_by (first ∷ more) = by (asks_for_line first.says) (said_by more) where
 -- the lines of a file that ask for a line ask for those that run, one by one
 pub one_by_one :
     (bytes : List ℕ) (s : Scenario) → IsScenario bytes s
-    → AskOneByOne (map (λ (l : Stated). l.says) (run_lines bytes)) s.lines.items
-unfolding run_lines
+    → AskOneByOne (map (λ (l : Stated). l.says) (lines_that_run bytes)) s.lines.items
+unfolding lines_that_run
 one_by_one bytes s is =
     let (drawn, left, draws, asks) = is.lines in
     subst (λ said. AskOneByOne said s.lines.items) (sym (said_by (stated_lines bytes)))
@@ -141,10 +141,10 @@ long (said ∷ more) (own ∷ lines) asks = ap suc (long more lines asks.1)
 
 -- there are as many of them as lines that run
 pub as_many :
-    (bytes found : List ℕ) → found ≡ map (λ (l : Stated). l.number) (run_lines bytes)
+    (bytes found : List ℕ) → found ≡ map (λ (l : Stated). l.number) (lines_that_run bytes)
     → (s : Scenario) → IsScenario bytes s → length found ≡ length s.lines.items
 as_many bytes found are s is =
     ap length are
-    ∙ length-map (run_lines bytes) (λ (l : Stated). l.number)
-    ∙ sym (length-map (run_lines bytes) (λ (l : Stated). l.says))
-    ∙ long (map (λ (l : Stated). l.says) (run_lines bytes)) s.lines.items (one_by_one bytes s is)
+    ∙ length-map (lines_that_run bytes) (λ (l : Stated). l.number)
+    ∙ sym (length-map (lines_that_run bytes) (λ (l : Stated). l.says))
+    ∙ long (map (λ (l : Stated). l.says) (lines_that_run bytes)) s.lines.items (one_by_one bytes s is)
