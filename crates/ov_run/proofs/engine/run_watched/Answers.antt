@@ -2,7 +2,7 @@
 use Rattle.std.proofs.Common.{Err, ap, subst}
 use Rattle.ov_run.specs.Scenarios.{IsScenario}
 use Rattle.ov_run.proofs.Printing.WholeRuns.{finished, stopped}
-use Rattle.ov_run.proofs.scenario_entry_points.run_watched.Goals as goal
+use Rattle.ov_run.proofs.engine.run_watched.Goals as goal
 
 pub returns : goal.returns
 returns g c =
