@@ -4,7 +4,7 @@ use Rattle.std.proofs.lemmas.List.{length-append}
 use Rattle.ov_ids.specs.Sets.{IsSet, IsIn, without, without_all}
 use Rattle.ov_ids.proofs.Sets.{IsSet-without, length-without_set}
 use Rattle.ov_words.specs.Pick.{Choice, AreDrawn}
-use Rattle.ov_words.proofs.PickLemmas.{AreDrawn-append}
+use Rattle.ov_words.proofs.PickLemmas.{AreDrawn-append, picked_member, picked_word}
 use Rattle.ov_views.specs.Sampling.{AreChosen}
 
 -- so many ids are chosen from the set, by the words from `before` to `now`, and this is the rest of the set
@@ -48,9 +48,11 @@ rest_more (y ∷ ids) set x = rest_more ids (without y set) x
 
 -- one id more, picked by the next word
 pub sampled_more : (set before now later picked rest : List ℕ) (x : ℕ) → Sampling set before now picked rest →
-    IsIn rest x → AreDrawn (record { from = rest; member = x } ∷ []) now later → length later + 1 ≡ length now →
+    AreDrawn (record { from = rest; member = x } ∷ []) now later →
     Sampling set before later (picked ++ x ∷ []) (without x rest)
-sampled_more set before now later picked rest x s h drawn word =
+sampled_more set before now later picked rest x s drawn =
+    let h : IsIn rest x = picked_member rest x now later drawn in
+    let word : length later + 1 ≡ length now = picked_word rest x now later drawn in
     let P : List ℕ → Type 0 = λ r. AreDrawn (record { from = r; member = x } ∷ []) now later in
     let one : List Choice = record { from = without_all picked set; member = x } ∷ [] in
     let more : length (picked ++ x ∷ []) ≡ length picked + length (x ∷ []) = length-append picked (x ∷ []) in record {

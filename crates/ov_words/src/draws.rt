@@ -1,5 +1,5 @@
-ghost use Rattle.std.specs.Prelude.{◌≡◌, ◌<◌, ◌+◌, ◌↔◌, [], ◌∷◌, length, IfNone, IfSome};
-ghost use Rattle.ov_ids.specs.Sets.{IsIn, IsSet};
+ghost use Rattle.std.specs.Prelude.{◌≡◌, ◌<◌, ◌↔◌, [], ◌∷◌, length, IfNone, IfSome};
+ghost use Rattle.ov_ids.specs.Sets.{IsSet};
 ghost use Rattle.ov_words.specs.Pick.{AreDrawn};
 ghost use Rattle.ov_words.specs.Stream.{words_per_event};
 
@@ -62,8 +62,6 @@ impl<'a> Draws<'a> {
         requires words { 0 < length self.old }
         requires set { IsSet set.now }
         ensures drawn { IfSome result (λ d. AreDrawn (record { from = set.now; member = d } ∷ []) self.old self.new) }
-        ensures member { IfSome result (IsIn set.now) }
-        ensures one_word { IfSome result (λ _. length self.new + 1 ≡ length self.old) }
         ensures empty { result ≡ None ↔ set.now ≡ [] }
         ensures no_word { IfNone result (self.new ≡ self.old) }
     {

@@ -1,6 +1,6 @@
 use Rattle.std.proofs.Common.{◌≡◌, ◌++◌, ◌∷◌, [], eqb, false, refl, sym, ◌∙◌, List}
 use Rattle.ov_words.specs.Pick.{Choice}
-use Rattle.ov_words.proofs.PickLemmas.{AreDrawn-append}
+use Rattle.ov_words.proofs.PickLemmas.{AreDrawn-append, picked_member}
 use Rattle.ov_views.specs.JoinRows.{walk_ends, walk_targets}
 use Rattle.ov_join.proofs.JoinLemmas.{goes_on}
 use Rattle.ov_join.proofs.on_forward_join.Goals as goal
@@ -15,8 +15,8 @@ returns-clause-allowed c =
     let on : walk_ends v c.args.from c.args.node c.args.ttl ≡ false =
     sym (c.ends_here.ensures c.args.from c.args.node c.all_but-others.ensures.value) ∙ c.if-ends_here.false in
     let set : c.as_slice.result.now ≡ left = c.as_slice.ensures.value ∙ c.all_but-others.ensures.value in
-    let h = rw set at c.in-Some.ensures.member in
     let last = rw set at c.in-Some.ensures.drawn in
+    let h = picked_member _ _ _ _ last in
     let first = c.remember.ensures.drawn in
     let one : List Choice = record { from = left; member = c.in-Some.to } ∷ [] in (
       first.0 ++ one,

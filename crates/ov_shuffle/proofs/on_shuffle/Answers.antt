@@ -1,6 +1,6 @@
 use Rattle.std.proofs.Common.{◌≡◌, ◌++◌, ◌∷◌, [], length, eqb, false, true, refl, sym, ◌∙◌, ◌≤◌, ◌+◌, arith}
 use Rattle.ov_ids.specs.Sets.{without}
-use Rattle.ov_words.proofs.PickLemmas.{AreDrawn-append}
+use Rattle.ov_words.proofs.PickLemmas.{AreDrawn-append, picked_member}
 use Rattle.ov_views.specs.ShuffleRows.{walks_on}
 use Rattle.ov_shuffle.proofs.Counting.{shuffled_words}
 use Rattle.ov_shuffle.proofs.WalkLemmas.{walks, ends}
@@ -13,8 +13,8 @@ returns-then-walks_on-clause-allowed c =
     let on : walks_on v c.args.ttl ≡ true = sym c.walks_on.ensures.value ∙ c.if-walks_on.true in
     let set : c.as_slice.result.now ≡ without c.args.from v.active = c.as_slice.ensures.value
     ∙ c.all_but.ensures.value in
-    let h = rw set at c.in-Some.ensures.member in
-    let drawn = rw set at c.in-Some.ensures.drawn in (
+    let drawn = rw set at c.in-Some.ensures.drawn in
+    let h = picked_member _ _ _ _ drawn in (
       record { from = without c.args.from v.active; member = c.in-Some.to } ∷ [],
       drawn,
       (λ node. (

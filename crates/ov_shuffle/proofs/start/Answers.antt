@@ -1,7 +1,7 @@
 use Rattle.std.proofs.Common.{◌≡◌, ◌++◌, ◌∷◌, [], ap, List, refl, ◌∙◌}
 use Rattle.ov_ids.specs.ParamsState.{ParamsState}
 use Rattle.ov_words.specs.Pick.{Choice}
-use Rattle.ov_words.proofs.PickLemmas.{AreDrawn-append}
+use Rattle.ov_words.proofs.PickLemmas.{AreDrawn-append, picked_member}
 use Rattle.ov_shuffle.proofs.WalkLemmas.{starts}
 use Rattle.ov_shuffle.proofs.start.Goals as goal
 
@@ -9,8 +9,8 @@ pub returns-clause-allowed : goal.returns-clause-allowed
 returns-clause-allowed c =
     let v = c.args.views.now in
     let set : c.active.result.now ≡ v.active = c.active.ensures.value in
-    let h = rw set at c.in-Some.ensures.member in
     let picked = rw set at c.in-Some.ensures.drawn in
+    let h = picked_member _ _ _ _ picked in
     let ka : c.ka.result ≡ v.params.ka = c.ka.ensures.value
     ∙ ap (λ (p : ParamsState). p.ka) c.params-params.ensures.value in
     let kp : c.kp.result ≡ v.params.kp = c.kp.ensures.value

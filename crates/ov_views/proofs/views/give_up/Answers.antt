@@ -2,6 +2,7 @@ use Rattle.std.proofs.Common.{◌≡◌, [], ◌∷◌, refl, inr, sym, ◌∙�
 use Rattle.ov_ids.specs.Members.{IsApart}
 use Rattle.ov_ids.specs.Sets.{has}
 use Rattle.std.proofs.lemmas.List.{nil_from_length}
+use Rattle.ov_words.proofs.PickLemmas.{picked_member}
 use Rattle.ov_views.proofs.Giving.{passed_more, none_left}
 use Rattle.ov_views.proofs.views.give_up.Goals as goal
 
@@ -13,8 +14,12 @@ loop-next-preserved c =
 
 pub returns-clause-drawn : goal.returns-clause-drawn
 returns-clause-drawn c =
-    let h = rw c.as_slice.ensures.value at c.in-Some-pick.ensures.member in
     let drawn = rw c.as_slice.ensures.value at c.in-Some-pick.ensures.drawn in
+    let h = picked_member _ _ _ _ drawn in
     let none : c.loop-next.left.now ≡ [] = nil_from_length _ c.in_default.ensures.cases in
     let apart : IsApart c.args.passive.now c.args.sent.now = none_left _ _ _ c.loop-next.invariant none in
     (record { from = c.args.passive.now; member = c.in-Some-pick.out } ∷ [], drawn, inr (apart, (h, refl), none))
+
+pub returns-clause-member : goal.returns-clause-member
+returns-clause-member c =
+    picked_member _ _ _ _ (rw c.as_slice.ensures.value at c.in-Some-pick.ensures.drawn)

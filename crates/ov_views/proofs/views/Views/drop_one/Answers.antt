@@ -1,6 +1,6 @@
 use Rattle.std.proofs.Common.{◌∷◌, ◌++◌, []}
 use Rattle.ov_words.specs.Pick.{Choice}
-use Rattle.ov_words.proofs.PickLemmas.{AreDrawn-append}
+use Rattle.ov_words.proofs.PickLemmas.{AreDrawn-append, picked_member}
 use Rattle.std.specs.Prelude.{List}
 use Rattle.ov_views.specs.ViewsState.{ViewsState}
 use Rattle.ov_views.proofs.Keeping.{AreViews-without_active, drops}
@@ -17,8 +17,8 @@ returns-clause-drawn c =
       active = c.self.inside.active;
       passive = c.self.inside.passive;
     } in
-    let h = rw c.as_slice.ensures.value at c.in_ok-dropped.ensures.member in
     let first = rw c.as_slice.ensures.value at c.in_ok-dropped.ensures.drawn in
+    let h = picked_member _ _ _ _ first in
     let more = rw c.remove.ensures.value at c.add_passive.ensures.drawn in
     let one : List Choice = record { from = c.self.inside.active; member = c.in_ok-dropped.dropped } ∷ [] in (
       one ++ more.0,
