@@ -1,7 +1,9 @@
 -- What the program overlay-check decides: its input, what it prints of a fault, and its status.
 use Rattle.std.specs.Prelude.{◌≡◌, ◌≢◌, ℕ, List, codes, IsUtf8, Option, Some, None, Result, Ok, Err}
+use Rattle.ov_io.specs.Name.{unread_text}
 use Rattle.ov_io.specs.Refusal.{refusal_text}
-use Rattle.ov_check.specs.declared.fault.JudgeFault.TheVariants.{Read}
+use Rattle.ov_check.specs.declared.fault.JudgeFault.{JudgeFault}
+use Rattle.ov_check.specs.declared.fault.JudgeFault.TheVariants.{Read, Write, OutOfMemory}
 use Rattle.ov_check.specs.declared.program.ProgramFault.{ProgramFault}
 use Rattle.ov_check.specs.declared.program.ProgramFault.TheVariants.{Usage, Judge}
 use Rattle.ov_check.specs.Faults.{number_of}
@@ -17,6 +19,17 @@ NamesInput bytes argument (Err fault) = (fault ≡ Judge Read) × (¬ IsUtf8 arg
 abbrev pub fault_line : ProgramFault → List ℕ
 fault_line Usage = codes "usage: overlay-check [FILE]"
 fault_line (Judge fault) = refusal_text (number_of fault)
+
+-- what is told below that line where the arguments name no input
+abbrev pub no_input_text : ProgramFault → List ℕ
+no_input_text Usage = codes "more than one file is named"
+no_input_text (Judge fault) = codes "the name of the file is no UTF-8 text, or is longer than 4096 bytes"
+
+-- what is told below that line where the judge failed, whose input has a name of these characters
+abbrev pub failure_text : List ℕ → JudgeFault → List ℕ
+failure_text cs Read = unread_text cs
+failure_text cs Write = codes "writing failed"
+failure_text cs OutOfMemory = codes "out of memory"
 
 -- the program's status: that of the judge, 2 where there are too many arguments, and 1 after a fault
 abbrev pub exit_status : Result ℕ ProgramFault → ℕ

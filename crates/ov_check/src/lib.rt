@@ -14,4 +14,4 @@ pub use fault::JudgeFault;
 pub use outcome::{Outcome, outcome_of};
 pub use parallel::{check_group_parallel, check_parallel};
 pub use parallel_fault::ParallelFault;
-pub use program::{ProgramFault, exit_status, input_named};
+pub use program::{ProgramFault, exit_status, failure_text, input_named, why_no_input};

@@ -1,10 +1,16 @@
 ghost use Rattle.std.specs.Prelude.{◌≡◌, take, Ok, Err, None, IsTrue, IsFalse, IfOk};
+ghost use Rattle.std.specs.Cow.{cow_str_bytes};
 ghost use Rattle.std.specs.Io.{WritesAtMost};
-ghost use Rattle.ov_check.specs.Program.{NamesInput, exit_status};
+ghost use Rattle.std.specs.Str.{chars};
+ghost use Rattle.ov_check.specs.Program.{NamesInput, exit_status, failure_text, no_input_text};
 ghost use Rattle.ov_check.specs.declared.fault.JudgeFault.TheVariants.{Read};
 ghost use Rattle.ov_check.specs.declared.program.ProgramFault.TheVariants.{Judge};
 
 use crate::fault::JudgeFault;
+use ov_ids::OutOfMemory;
+use ov_io::unread_text;
+use std::alloc::Global;
+use std::borrow::CowStr;
 use std::env::FillError;
 use std::error::Error;
 use std::fmt::{Display, Formatter, Result as Printed, Write};
@@ -76,6 +82,35 @@ fn named_by(argument: &[u8]) -> Result<Option<&str>, ProgramFault>
         Ok("-") => Ok(None),
         Ok(name) => Ok(Some(name)),
         Err(_) => Err(ProgramFault::Judge(JudgeFault::Read)),
+    }
+}
+
+/// What a person is told where the arguments name no input.
+pub fn why_no_input(fault: &ProgramFault) -> &'static str
+    ensures { result.now ≡ no_input_text fault.now }
+{
+    match fault {
+        ProgramFault::Usage => "more than one file is named",
+        ProgramFault::Judge(_) =>
+            "the name of the file is no UTF-8 text, or is longer than 4096 bytes",
+    }
+}
+
+/// What a person is told where the judge failed: that its input, of this name, can't be read; that writing failed; or
+/// that memory was short. Only the first takes memory.
+///
+/// `OutOfMemory` (99): an allocation was refused.
+pub fn failure_text(
+    alloc: Global,
+    fault: JudgeFault,
+    name: &str,
+) -> Result<CowStr<'static>, OutOfMemory>
+    ensures { IfOk result (λ text. cow_str_bytes text ≡ failure_text (chars name.now) fault) }
+{
+    match fault {
+        JudgeFault::Read => Ok(CowStr::Owned(unread_text(alloc, name)?)),
+        JudgeFault::Write => Ok(CowStr::Borrowed("writing failed")),
+        JudgeFault::OutOfMemory => Ok(CowStr::Borrowed("out of memory")),
     }
 }
 

@@ -1,14 +1,14 @@
-ghost use Rattle.std.specs.Prelude.{◌≡◌, ◌≤◌, ◌++◌, length, map, is_none, false, option_map, OnOk, string_bytes};
-ghost use Rattle.std.specs.List.{list_all};
+ghost use Rattle.std.specs.Prelude.{◌≡◌, ◌≤◌, ◌++◌, length, map, is_none, option_map, OnOk, string_bytes};
 ghost use Rattle.std.specs.BTreeMap.{keys};
 ghost use Rattle.serde_json.specs.View.{view};
-ghost use Rattle.ov_certfile.specs.Keys.{is_among, keys_in, has_key, has_all, has_no_other, has_just};
+ghost use Rattle.ov_certfile.specs.Keys.{is_among, keys_in, has_key, has_all};
 ghost use Rattle.ov_check_reasons.specs.Opening.{BeginsWith};
 ghost use Rattle.ov_check_reasons.specs.FilePlaces.{key_text};
 ghost use Rattle.ov_check_reasons.specs.Code.Failing.{first_failing};
 
 use crate::found_values::say_key;
 use crate::sentence_parts::{Part, say};
+use ov_certfile::is_among;
 use ov_ids::OutOfMemory;
 use serde_json::{Map, Value};
 use std::alloc::Global;
@@ -47,46 +47,11 @@ fn first_other<'v>(wanted: &[&str], members: &'v Map<String, Value>) -> Option<&
         ≡ first_failing (λ k. is_among (map (λ t. t.now) wanted.now) k) (map string_bytes (keys members.now)) }
 {
     for key in members.keys() {
-        if !is_one_of(wanted, key.as_str()) {
+        if !is_among(wanted, key.as_str()) {
             return Some(key.as_str());
         }
     }
     None
-}
-
-/// Whether a key is one of these.
-pub(crate) fn is_one_of(keys: &[&str], key: &str) -> bool
-    ensures { result ≡ is_among (map (λ k. k.now) keys.now) key.now }
-{
-    for other in keys {
-        if key == *other {
-            return true;
-        }
-    }
-    false
-}
-
-/// Whether a value has no key but these.
-fn has_no_other(keys: &[&str], value: &Value) -> bool
-    ensures { result ≡ has_no_other (map (λ k. k.now) keys.now) (view value.now) }
-{
-    match value.as_object() {
-        Some(members) => are_among(keys, members),
-        None => true,
-    }
-}
-
-fn are_among(wanted: &[&str], members: &Map<String, Value>) -> bool
-    ensures { result ≡ list_all (λ k. is_among (map (λ t. t.now) wanted.now) (string_bytes k)) (keys members.now) }
-{
-    members.keys().all(|key| is_one_of(wanted, key.as_str()))
-}
-
-/// Whether a value has exactly these keys.
-pub(crate) fn has_just(keys: &'static [&'static str], value: &Value) -> bool
-    ensures { result ≡ has_just (map (λ k. k.now) keys.now) (view value.now) }
-{
-    first_missing(keys, value).is_none() && has_no_other(keys, value)
 }
 
 /// How many bytes two keys have in common from the front.
@@ -137,7 +102,7 @@ fn near_key(keys: &'static [&'static str], key: &str) -> Option<&'static str> {
 fn near_unknown<'v>(keys: &[&str], value: &'v Value, key: &str) -> Option<&'v str> {
     let members = value.as_object()?;
     for other in members.keys() {
-        if !is_one_of(keys, other.as_str()) && are_near(key, other.as_str()) {
+        if !is_among(keys, other.as_str()) && are_near(key, other.as_str()) {
             return Some(other.as_str());
         }
     }

@@ -6,24 +6,18 @@ ghost use Rattle.ov_certfile.specs.Kinds.{version_in, most_nodes_of};
 ghost use Rattle.ov_certfile.specs.Says.{IsNoGraph, IsFault};
 ghost use Rattle.ov_check.specs.Outcome.{IsOutcome};
 ghost use Rattle.ov_check.specs.declared.outcome.Outcome.TheVariants.{Refused};
-ghost use Rattle.ov_certfile.specs.declared.fault.FileFault.TheVariants.{MissingKey, UnknownKey, BadValue, BadVersion};
-ghost use Rattle.ov_check_reasons.specs.FilePlaces.{TellsMissing, TellsUnknown, TellsVersion};
-ghost use Rattle.ov_check_reasons.specs.FormPlaces.{TellsBadValue};
 ghost use Rattle.ov_check_reasons.specs.Places.{TellsGraphIn, TellsValue, TellsPlace};
 ghost use Rattle.ov_check_reasons.specs.Code.Sentences.{Adds};
 
 use crate::bad_value::tell_bad_value;
 use crate::graph_faults::tell_graph;
 use crate::sentence_parts::{Part, count, say};
-use crate::wanted_keys::{names_group, tell_missing, tell_unknown, tell_version};
-use ov_certfile::FileFault;
-use ov_graph::{Graph, GraphFault};
+use crate::wanted_keys::{tell_missing, tell_unknown, tell_version, version_of};
+use ov_certfile::{FileFault, Version};
+use ov_graph::GraphFault;
 use ov_ids::OutOfMemory;
 use serde_json::Value;
 use std::alloc::Global;
-
-/// How many nodes a file of version 1 may have.
-const MOST_NODES_OF_ONE: usize = 256;
 
 /// Where in a file the fault shows for which it is refused.
 pub(crate) fn place_in_file(
@@ -104,71 +98,37 @@ fn place_in_value(alloc: Global, value: &Value, fault: FileFault) -> Result<Stri
     ensures { IsFault (view value.now) fault
         → IfOk result (λ text. TellsValue fault (view value.now) (string_bytes text)) }
 {
+    let mut text = String::new(alloc);
+    tell_in_value(alloc, &mut text, value, fault)?;
+    Ok(text)
+}
+
+/// Tells where a JSON value is no certificate file.
+fn tell_in_value(
+    alloc: Global,
+    text: &mut String,
+    value: &Value,
+    fault: FileFault,
+) -> Result<(), OutOfMemory>
+    ensures { IsFault (view value.now) fault → OnOk result (Adds (TellsValue fault (view value.now))
+        (string_bytes text.old) (string_bytes text.new)) }
+{
     match fault {
-        FileFault::Graph(fault) => place_in_graph(alloc, value, fault),
-        FileFault::MissingKey => place_of_missing(alloc, value),
-        FileFault::UnknownKey => place_of_unknown(alloc, value),
-        FileFault::BadVersion => place_of_version(alloc, value),
-        FileFault::BadValue => place_of_bad_value(alloc, value),
-        FileFault::NotJson | FileFault::OutOfMemory => Ok(String::new(alloc)),
+        FileFault::Graph(fault) => tell_bad_graph(alloc, text, value, fault),
+        FileFault::MissingKey => tell_missing(alloc, text, value),
+        FileFault::UnknownKey => tell_unknown(alloc, text, value),
+        FileFault::BadVersion => tell_version(alloc, text, value),
+        FileFault::BadValue => tell_bad_value(alloc, text, value),
+        FileFault::NotJson | FileFault::OutOfMemory => Ok(()),
     }
 }
 
-fn place_in_graph(alloc: Global, value: &Value, fault: GraphFault) -> Result<String, OutOfMemory>
-    ensures { IsNoGraph (view value.now) fault
-        → IfOk result (λ text. TellsGraphIn fault (view value.now) (string_bytes text)) }
-{
-    let mut text = String::new(alloc);
-    tell_bad_graph(alloc, &mut text, value, fault)?;
-    Ok(text)
-}
-
-fn place_of_missing(alloc: Global, value: &Value) -> Result<String, OutOfMemory>
-    ensures { IsFault (view value.now) MissingKey
-        → IfOk result (λ text. TellsMissing (view value.now) (string_bytes text)) }
-{
-    let mut text = String::new(alloc);
-    tell_missing(alloc, &mut text, value)?;
-    Ok(text)
-}
-
-fn place_of_unknown(alloc: Global, value: &Value) -> Result<String, OutOfMemory>
-    ensures { IsFault (view value.now) UnknownKey
-        → IfOk result (λ text. TellsUnknown (view value.now) (string_bytes text)) }
-{
-    let mut text = String::new(alloc);
-    tell_unknown(alloc, &mut text, value)?;
-    Ok(text)
-}
-
-fn place_of_version(alloc: Global, value: &Value) -> Result<String, OutOfMemory>
-    ensures { IsFault (view value.now) BadVersion
-        → IfOk result (λ text. TellsVersion (view value.now) (string_bytes text)) }
-{
-    let mut text = String::new(alloc);
-    tell_version(alloc, &mut text, value)?;
-    Ok(text)
-}
-
-fn place_of_bad_value(alloc: Global, value: &Value) -> Result<String, OutOfMemory>
-    ensures { IsFault (view value.now) BadValue
-        → IfOk result (λ text. TellsBadValue (view value.now) (string_bytes text)) }
-{
-    let mut text = String::new(alloc);
-    tell_bad_value(alloc, &mut text, value)?;
-    Ok(text)
-}
-
-/// How many nodes a file of this version may have.
+/// How many nodes a file may have: what its version allows. Without a version it is what the first one does.
 fn most_of(value: &Value) -> usize
     ensures { (version : Version) → said version_in (codes "version") (view value.now) ≡ Some version
         → result ≡ most_nodes_of version }
 {
-    if names_group(value) {
-        Graph::MOST_NODES
-    } else {
-        MOST_NODES_OF_ONE
-    }
+    version_of(value).unwrap_or(Version::One).most_nodes()
 }
 
 /// Tells where a value says no graph.

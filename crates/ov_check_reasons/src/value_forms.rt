@@ -11,9 +11,10 @@ ghost use Rattle.ov_check_reasons.specs.Code.Fitting.{two_ids_in};
 ghost use Rattle.ov_check_reasons.specs.Code.Sentences.{Adds};
 
 use crate::found_values::say_found;
-use crate::key_faults::{first_missing, first_unknown, has_just, say_missing, say_unknown};
+use crate::key_faults::{first_missing, first_unknown, say_missing, say_unknown};
 use crate::sentence_parts::{Part, count, say};
 use ov_cert::{FanPaths, PairPaths};
+use ov_certfile::has_just;
 use ov_ids::{NUMBER_LIMIT, NodeId, OutOfMemory, Seq};
 use serde_json::Value;
 use std::alloc::Global;

@@ -7,13 +7,12 @@ ghost use Rattle.ov_certfile.specs.Says.{IsFault};
 ghost use Rattle.ov_check_reasons.specs.FilePlaces.{key_text, TellsMissing, TellsUnknown, TellsVersion};
 ghost use Rattle.ov_check_reasons.specs.Opening.{BeginsWith};
 ghost use Rattle.ov_check_reasons.specs.Code.Failing.{first_other, missing_in, names_said};
-ghost use Rattle.ov_check_reasons.specs.Code.GraphFaults.{is_second};
 ghost use Rattle.ov_check_reasons.specs.Code.Sentences.{Adds};
 
 use crate::found_values::say_found;
-use crate::key_faults::{first_missing, first_unknown, is_one_of, say_missing, say_unknown};
+use crate::key_faults::{first_missing, first_unknown, say_missing, say_unknown};
 use crate::sentence_parts::{Part, say};
-use ov_certfile::{Verdict, Version, names_of};
+use ov_certfile::{Verdict, Version, is_among, names_of};
 use ov_ids::OutOfMemory;
 use serde_json::Value;
 use std::alloc::Global;
@@ -60,16 +59,6 @@ fn as_verdict(value: &Value) -> Option<Verdict>
         Some("linked") => Some(Verdict::Linked),
         Some("split") => Some(Verdict::Split),
         _ => None,
-    }
-}
-
-/// Whether a file names its group, as one of version 2.
-pub(crate) fn names_group(value: &Value) -> bool
-    ensures { result ≡ is_second (said version_in (codes "version") (view value.now)) }
-{
-    match version_of(value) {
-        Some(Version::Two) => true,
-        _ => false,
     }
 }
 
@@ -155,7 +144,7 @@ fn who_lacks(key: &str) -> &'static str {
     if key == "group" {
         return ", which version 1 does not have";
     }
-    if is_one_of(SPLIT_KEYS, key) {
+    if is_among(SPLIT_KEYS, key) {
         return ", which a linked file does not have";
     }
     ""

@@ -6,9 +6,12 @@ ghost use Rattle.ov_io.specs.Device.{most_faults};
 ghost use Rattle.ov_check.specs.Program.{exit_status};
 ghost use Rattle.ov_check.specs.Run.{Prints};
 
-use ov_check::{JudgeFault, Judged, ProgramFault, exit_status, input_named, judge_kept};
+use ov_check::{
+    JudgeFault, Judged, ProgramFault, exit_status, failure_text, input_named, judge_kept,
+    why_no_input,
+};
 use ov_check_reasons::reasons;
-use ov_io::{Sink, Source, unopened_text, unread_text};
+use ov_io::{Sink, Source, unopened_text};
 use std::env::FillError;
 use std::fs::File;
 use std::io;
@@ -36,20 +39,11 @@ fn run<R: Runtime + AllocGlobal + Threads + Sync>(rt: &R) -> u8 {
         Ok(Some(path)) => judge_file(rt, path),
         Err(fault) => {
             let status = end(rt, &Err(fault));
-            tell_wrong_arguments(rt, &fault);
+            let why = why_no_input(&fault);
+            let _ = eprintln!(rt; "{why}");
             status
         }
     }
-}
-
-/// Prints why the arguments name no input.
-fn tell_wrong_arguments(rt: &impl Runtime, fault: &ProgramFault) {
-    let why = match fault {
-        ProgramFault::Usage => "more than one file is named",
-        ProgramFault::Judge(_) =>
-            "the name of the file is no UTF-8 text, or is longer than 4096 bytes",
-    };
-    let _ = eprintln!(rt; "{why}");
 }
 
 /// Whether there is an argument at a place, whatever bytes it has.
@@ -103,25 +97,10 @@ fn judge_from<R: Runtime + AllocGlobal + Threads + Sync, I: Read + Drop, W: Writ
         }
         Err(fault) => {
             let status = end(rt, &Err(ProgramFault::Judge(fault)));
-            tell_failure(rt, fault, name);
-            status
-        }
-    }
-}
-
-/// Prints what failed: reading the input of this name, writing, or memory.
-fn tell_failure<R: Runtime + AllocGlobal>(rt: &R, fault: JudgeFault, name: &str) {
-    match fault {
-        JudgeFault::Read => {
-            if let Ok(text) = unread_text(rt.alloc(), name) {
+            if let Ok(text) = failure_text(rt.alloc(), fault, name) {
                 let _ = eprintln!(rt; "{text}");
             }
-        }
-        JudgeFault::Write => {
-            let _ = eprintln!(rt; "writing failed");
-        }
-        JudgeFault::OutOfMemory => {
-            let _ = eprintln!(rt; "out of memory");
+            status
         }
     }
 }
