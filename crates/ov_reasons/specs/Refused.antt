@@ -9,14 +9,20 @@ use Rattle.ov_plum.specs.PlumState.{most_broadcasts}
 use Rattle.ov_net.specs.Journal.{Live}
 use Rattle.ov_net.specs.Limits.{most_world_nodes, most_packets, step_packets, most_entries}
 use Rattle.ov_net.specs.Net.{Net}
-use Rattle.ov_net.specs.Refusals.{IsBorn}
+use Rattle.ov_net.specs.Refusals as net
 use Rattle.ov_net.specs.World.{WorldState}
 use Rattle.ov_net.specs.declared.event.Event.{Event}
 use Rattle.ov_net.specs.declared.event.Event.TheVariants.{Boot, Deliver, Lose, Repeat, Crash, CrashReport, Shuffle}
 use Rattle.ov_net.specs.declared.event.Event.TheVariants.{Broadcast, Timer, Snapshot}
+use Rattle.ov_net.specs.declared.fault.NetFault.TheVariants.{UnknownNode, UsedId, CrashedNode, TooManyNodes}
+use Rattle.ov_net.specs.declared.fault.NetFault.TheVariants.{NoSuchPacket, TooManyPackets, TooManyEntries, NotCrashed}
+use Rattle.ov_net.specs.declared.fault.NetFault.TheVariants.{NoTimer, PayloadTooLong, TooManyMessages}
+use Rattle.ov_net.specs.declared.fault.NetFault.TheVariants as net_fault
 use Rattle.ov_snap.specs.CoreState.{CoreState}
-use Rattle.ov_snap.specs.Refusals.{BeginJudged}
+use Rattle.ov_snap.specs.Refusals as core
 use Rattle.ov_snap.specs.declared.fault.CoreFault.{CoreFault}
+use Rattle.ov_snap.specs.declared.fault.CoreFault.TheVariants.{NoSuchMoment, NoNodes, BadGroup, AlreadyFiled}
+use Rattle.ov_snap.specs.declared.fault.CoreFault.TheVariants as core_fault
 use Rattle.ov_reasons.specs.Groups.{IsFirstFall, IsFirstStranger, empty_text, fall_text}
 use Rattle.ov_run.specs.declared.scenario.Line.{Line}
 use Rattle.ov_run.specs.declared.scenario.Line.TheVariants as line
@@ -24,10 +30,10 @@ use Rattle.ov_run.specs.declared.scenario.Look.{Look}
 use Rattle.ov_run.specs.declared.scenario.Look.TheVariants.{Show, Packets, Certificate}
 use Rattle.ov_run.specs.declared.scenario.Subject.{Subject}
 
--- the text of the row with this number, or `otherwise` where no row has it
-abbrev pub row : ℕ → List (ℕ × List ℕ) → List ℕ → List ℕ
-row n [] otherwise = otherwise
-row n (first ∷ rows) otherwise = if nat_eq n first.0 then first.1 else row n rows otherwise
+-- the text with this number, or `otherwise` where no text has it
+abbrev pub text_at_number : ℕ → List (ℕ × List ℕ) → List ℕ → List ℕ
+text_at_number n [] otherwise = otherwise
+text_at_number n (first ∷ texts) otherwise = if nat_eq n first.0 then first.1 else text_at_number n texts otherwise
 
 -- ---- events
 
@@ -88,27 +94,31 @@ full_bag_text count =
     codes "the bag has " ++ (decimal count ++ (codes " packets, and " ++ (decimal step_packets
     ++ (codes " of its " ++ (decimal most_packets ++ codes " places must be free")))))
 
+-- the journal has as many entries as it may
+abbrev pub full_journal_text : List ℕ
+full_journal_text = codes "the journal has " ++ (decimal most_entries ++ codes " entries, as many as it may have")
+
 -- a node has made as many broadcasts as it may
 abbrev pub broadcasts_text : ℕ → List ℕ
 broadcasts_text a =
     codes "node " ++ (decimal a ++ (codes " has made " ++ (decimal most_broadcasts
     ++ codes " broadcasts, as many as it may")))
 
--- what is told of an event that is refused with this number, but for 10
+-- what is told of an event that is refused with this number, but for that of UnknownNode
 abbrev pub event_text : WorldState → Event → ℕ → List ℕ
 event_text w e n =
-    row n
-    ((11, codes "node " ++ (decimal (acting e) ++ codes " was born before"))
-    ∷ (12, codes "node " ++ (decimal (met e) ++ codes " crashed"))
-    ∷ (13, decimal most_world_nodes ++ codes " nodes were born, as many as may be")
-    ∷ (14, no_packet_text (place_of e) (length w.net.packets))
-    ∷ (15, full_bag_text (length w.net.packets))
-    ∷ (16, codes "the journal has " ++ (decimal most_entries ++ codes " entries, as many as it may have"))
-    ∷ (17, codes "node " ++ (decimal (reported e) ++ codes " did not crash"))
-    ∷ (18, timer_text e)
-    ∷ (19, payload_text e)
-    ∷ (20, broadcasts_text (acting e))
-    ∷ (99, codes "out of memory")
+    text_at_number n
+    ((net.number_of UsedId, codes "node " ++ (decimal (acting e) ++ codes " was born before"))
+    ∷ (net.number_of CrashedNode, codes "node " ++ (decimal (met e) ++ codes " crashed"))
+    ∷ (net.number_of TooManyNodes, decimal most_world_nodes ++ codes " nodes were born, as many as may be")
+    ∷ (net.number_of NoSuchPacket, no_packet_text (place_of e) (length w.net.packets))
+    ∷ (net.number_of TooManyPackets, full_bag_text (length w.net.packets))
+    ∷ (net.number_of TooManyEntries, full_journal_text)
+    ∷ (net.number_of NotCrashed, codes "node " ++ (decimal (reported e) ++ codes " did not crash"))
+    ∷ (net.number_of NoTimer, timer_text e)
+    ∷ (net.number_of PayloadTooLong, payload_text e)
+    ∷ (net.number_of TooManyMessages, broadcasts_text (acting e))
+    ∷ (net.number_of net_fault.OutOfMemory, codes "out of memory")
     ∷ [])
     (codes "the event is refused")
 
@@ -119,12 +129,13 @@ unborn_text a = codes "no node " ++ (decimal a ++ codes " was born")
 -- the text names the node that must live, where it was not born, and else the one that is said to have crashed
 abbrev pub TellsUnborn : Net → Event → List ℕ → Type 0
 TellsUnborn w e text =
-    ((¬ IsBorn w (met e)) × (text ≡ unborn_text (met e))) ⊎ (IsBorn w (met e) × (text ≡ unborn_text (reported e)))
+    ((¬ net.IsBorn w (met e)) × (text ≡ unborn_text (met e)))
+    ⊎ (net.IsBorn w (met e) × (text ≡ unborn_text (reported e)))
 
 -- what is told of an event that is refused with this number
 pub record TellsOfEvent (w : WorldState) (e : Event) (n : ℕ) (text : List ℕ) : Type 0 where
-  pub unborn : n ≡ 10 → TellsUnborn w.net e text
-  pub other : n ≢ 10 → text ≡ event_text w e n
+  pub unborn : n ≡ net.number_of UnknownNode → TellsUnborn w.net e text
+  pub other : n ≢ net.number_of UnknownNode → text ≡ event_text w e n
 
 -- ---- looks and analyses
 
@@ -140,26 +151,29 @@ subject_text s = decimal s.moment ++ (codes " and " ++ of_whom s.group)
 -- what is told of a look that is refused with this number
 abbrev pub look_text : Look → ℕ → List ℕ
 look_text (Show a) n =
-    row n
-    ((10, unborn_text a)
-    ∷ (12, codes "node " ++ (decimal a ++ codes " crashed"))
-    ∷ (99, codes "out of memory")
+    text_at_number n
+    ((net.number_of UnknownNode, unborn_text a)
+    ∷ (net.number_of CrashedNode, codes "node " ++ (decimal a ++ codes " crashed"))
+    ∷ (net.number_of net_fault.OutOfMemory, codes "out of memory")
     ∷ [])
     (codes "the look is refused")
-look_text Packets n = row n ((99, codes "out of memory") ∷ []) (codes "the look is refused")
+look_text Packets n =
+    text_at_number n ((net.number_of net_fault.OutOfMemory, codes "out of memory") ∷ []) (codes "the look is refused")
 look_text (Certificate s) n =
-    row n
-    ((50, codes "no report is filed of moment " ++ subject_text s) ∷ (99, codes "out of memory") ∷ [])
+    text_at_number n
+    ((core.number_of NoSuchMoment, codes "no report is filed of moment " ++ subject_text s)
+    ∷ (core.number_of core_fault.OutOfMemory, codes "out of memory")
+    ∷ [])
     (codes "the look is refused")
 
--- what is told of an analysis that is refused with this number, but for 34
+-- what is told of an analysis that is refused with this number, but for that of BadGroup
 abbrev pub analysis_text : Subject → ℕ → List ℕ
 analysis_text s n =
-    row n
-    ((30, codes "nobody lived at moment " ++ decimal s.moment)
-    ∷ (50, codes "no snapshot was taken at moment " ++ decimal s.moment)
-    ∷ (52, codes "a report is filed of moment " ++ subject_text s)
-    ∷ (99, codes "out of memory")
+    text_at_number n
+    ((core.number_of NoNodes, codes "nobody lived at moment " ++ decimal s.moment)
+    ∷ (core.number_of NoSuchMoment, codes "no snapshot was taken at moment " ++ decimal s.moment)
+    ∷ (core.number_of AlreadyFiled, codes "a report is filed of moment " ++ subject_text s)
+    ∷ (core.number_of core_fault.OutOfMemory, codes "out of memory")
     ∷ [])
     (codes "the analysis is refused")
 
@@ -173,7 +187,7 @@ LivedAll b m ids = (a : ℕ) → Has ids a → Live b.world.journal m a
 
 -- who lived at a moment is not known: no snapshot was taken then, or nobody lived
 abbrev pub IsUnknown : CoreState → ℕ → Type 0
-IsUnknown b m = (fault : CoreFault) × BeginJudged b m (Some fault)
+IsUnknown b m = (fault : CoreFault) × core.BeginJudged b m (Some fault)
 
 -- What is told of ids that are asked for as a group of those who lived at a moment: that there are none; or the first
 -- that is not above the one before it; or where they ascend the first that did not live then; and else nothing more
@@ -192,8 +206,8 @@ TellsOfGroup b m None text = text ≡ codes "the analysis is refused"
 
 -- what is told of an analysis that is refused with this number
 pub record TellsOfAnalysis (b : CoreState) (s : Subject) (n : ℕ) (text : List ℕ) : Type 0 where
-  pub group : n ≡ 34 → TellsOfGroup b s.moment s.group text
-  pub other : n ≢ 34 → text ≡ analysis_text s n
+  pub group : n ≡ core.number_of BadGroup → TellsOfGroup b s.moment s.group text
+  pub other : n ≢ core.number_of BadGroup → text ≡ analysis_text s n
 
 -- what is told of a line that is refused with this number
 abbrev pub TellsOfLine : CoreState → Line → ℕ → List ℕ → Type 0

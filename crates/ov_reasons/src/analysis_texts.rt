@@ -5,6 +5,9 @@ ghost use Rattle.ov_reasons.specs.Code.Absent.{FindsAbsent};
 ghost use Rattle.ov_run.specs.declared.scenario.Look.TheVariants.{Show, Certificate};
 
 use crate::event_texts::{fixed, node_text};
+use crate::fault_numbers::{
+    ALREADY_FILED, BAD_GROUP, CRASHED_NODE, NO_NODES, NO_SUCH_MOMENT, OUT_OF_MEMORY, UNKNOWN_NODE,
+};
 use crate::group_misfits::{first_fall, first_stranger};
 use crate::group_refusals::fall_text;
 use ov_ids::{NodeId, OutOfMemory};
@@ -23,11 +26,11 @@ pub fn analysis_reason(
     ensures { IfOk result (λ text. TellsOfAnalysis core.now subject.now number (string_bytes text)) }
 {
     match number {
-        30 => moment_text(alloc, "nobody lived at moment ", subject.moment),
-        34 => bad_group(alloc, core, subject),
-        50 => moment_text(alloc, "no snapshot was taken at moment ", subject.moment),
-        52 => filed_text(alloc, "a report is filed of moment ", subject),
-        99 => fixed(alloc, "out of memory"),
+        NO_NODES => moment_text(alloc, "nobody lived at moment ", subject.moment),
+        BAD_GROUP => bad_group(alloc, core, subject),
+        NO_SUCH_MOMENT => moment_text(alloc, "no snapshot was taken at moment ", subject.moment),
+        ALREADY_FILED => filed_text(alloc, "a report is filed of moment ", subject),
+        OUT_OF_MEMORY => fixed(alloc, "out of memory"),
         _ => fixed(alloc, "the analysis is refused"),
     }
 }
@@ -51,7 +54,7 @@ pub fn look_reason(alloc: Global, look: &Look, number: u32) -> Result<String, Ou
     match look {
         Look::Show(node) => show_reason(alloc, *node, number),
         Look::Certificate(subject) => certificate_reason(alloc, subject, number),
-        Look::Packets if number == 99 => fixed(alloc, "out of memory"),
+        Look::Packets if number == OUT_OF_MEMORY => fixed(alloc, "out of memory"),
         Look::Packets => fixed(alloc, "the look is refused"),
     }
 }
@@ -60,9 +63,9 @@ fn show_reason(alloc: Global, node: NodeId, number: u32) -> Result<String, OutOf
     ensures { IfOk result (λ text. string_bytes text ≡ look_text (Show node) number) }
 {
     match number {
-        10 => node_text(alloc, "no node ", node, " was born"),
-        12 => node_text(alloc, "node ", node, " crashed"),
-        99 => fixed(alloc, "out of memory"),
+        UNKNOWN_NODE => node_text(alloc, "no node ", node, " was born"),
+        CRASHED_NODE => node_text(alloc, "node ", node, " crashed"),
+        OUT_OF_MEMORY => fixed(alloc, "out of memory"),
         _ => fixed(alloc, "the look is refused"),
     }
 }
@@ -71,8 +74,8 @@ fn certificate_reason(alloc: Global, subject: &Subject, number: u32) -> Result<S
     ensures { IfOk result (λ text. string_bytes text ≡ look_text (Certificate subject.now) number) }
 {
     match number {
-        50 => filed_text(alloc, "no report is filed of moment ", subject),
-        99 => fixed(alloc, "out of memory"),
+        NO_SUCH_MOMENT => filed_text(alloc, "no report is filed of moment ", subject),
+        OUT_OF_MEMORY => fixed(alloc, "out of memory"),
         _ => fixed(alloc, "the look is refused"),
     }
 }

@@ -1,6 +1,6 @@
 ghost use Rattle.std.specs.Prelude.{◌<◌, IfSome};
 
-use crate::line_form::{CREW, Kind};
+use crate::line_form::{Kind, WORKER_COUNT};
 
 /// An option of a command: the command, the option as it is written, and the value that it takes, if it takes one.
 #[derive(Clone, Copy)]
@@ -30,7 +30,7 @@ const OPTIONS: usize = 5;
 pub(crate) static COMMAND_OPTIONS: [CommandOption; OPTIONS] = [
     CommandOption("run", "--explain", None),
     CommandOption("analyse", "--group", Some(Kind::Ids)),
-    CommandOption("analyse", "--workers", Some(CREW)),
+    CommandOption("analyse", "--workers", Some(WORKER_COUNT)),
     CommandOption("analyse", "--certificate", None),
     CommandOption("analyse", "--progress", None),
 ];

@@ -4,24 +4,15 @@ ghost use Rattle.ov_reasons.specs.Refused.{no_packet_text, full_bag_text, broadc
 ghost use Rattle.ov_wire.specs.Limits.{most_payload};
 ghost use Rattle.ov_net.specs.declared.event.Event.TheVariants.{Timer};
 
+use crate::fault_numbers::{
+    CRASHED_NODE, NO_SUCH_PACKET, NO_TIMER, NOT_CRASHED, OUT_OF_MEMORY, PAYLOAD_TOO_LONG,
+    TOO_MANY_ENTRIES, TOO_MANY_MESSAGES, TOO_MANY_NODES, TOO_MANY_PACKETS, UNKNOWN_NODE, USED_ID,
+};
 use ov_ids::{MsgId, NodeId, OutOfMemory};
-use ov_net::{Event, MOST_ENTRIES, World};
+use ov_net::{Event, MOST_ENTRIES, MOST_PACKETS, MOST_WORLD_NODES, STEP_PACKETS, World};
+use ov_peer::MOST_BROADCASTS;
+use ov_wire::MOST_PAYLOAD;
 use std::alloc::Global;
-
-/// How many nodes may be born in a world.
-const MOST_NODES: usize = 256;
-
-/// How many packets the bag of a world may have.
-const MOST_PACKETS: usize = 65_536;
-
-/// How many packets one step may send.
-const STEP_PACKETS: usize = 64;
-
-/// How many broadcasts a node may make.
-const MOST_BROADCASTS: u32 = 4096;
-
-/// How many bytes a payload may have.
-const MOST_PAYLOAD: usize = 1024;
 
 /// Why a world refuses an event with this number, as a sentence without a full stop. The world is as the event found
 /// it. The numbers are those of `NetFault`; of any other, that the event was refused. OutOfMemory (99) where an
@@ -35,23 +26,28 @@ pub fn event_reason(
     ensures { IfOk result (λ text. TellsOfEvent world.now event.now number (string_bytes text)) }
 {
     match number {
-        10 => unknown_node(alloc, world, event),
-        11 => node_text(alloc, "node ", acting(event), " was born before"),
-        12 => node_text(alloc, "node ", met(event), " crashed"),
-        13 => count_text(alloc, "", MOST_NODES, " nodes were born, as many as may be"),
-        14 => no_packet(alloc, world, place_of(event)),
-        15 => bag_full(alloc, world),
-        16 => count_text(
+        UNKNOWN_NODE => unknown_node(alloc, world, event),
+        USED_ID => node_text(alloc, "node ", acting(event), " was born before"),
+        CRASHED_NODE => node_text(alloc, "node ", met(event), " crashed"),
+        TOO_MANY_NODES => count_text(
+            alloc,
+            "",
+            MOST_WORLD_NODES,
+            " nodes were born, as many as may be",
+        ),
+        NO_SUCH_PACKET => no_packet(alloc, world, place_of(event)),
+        TOO_MANY_PACKETS => bag_full(alloc, world),
+        TOO_MANY_ENTRIES => count_text(
             alloc,
             "the journal has ",
             MOST_ENTRIES,
             " entries, as many as it may have",
         ),
-        17 => node_text(alloc, "node ", reported(event), " did not crash"),
-        18 => no_timer(alloc, event),
-        19 => too_long(alloc, event),
-        20 => broadcasts_text(alloc, acting(event)),
-        99 => fixed(alloc, "out of memory"),
+        NOT_CRASHED => node_text(alloc, "node ", reported(event), " did not crash"),
+        NO_TIMER => no_timer(alloc, event),
+        PAYLOAD_TOO_LONG => too_long(alloc, event),
+        TOO_MANY_MESSAGES => broadcasts_text(alloc, acting(event)),
+        OUT_OF_MEMORY => fixed(alloc, "out of memory"),
         _ => fixed(alloc, "the event is refused"),
     }
 }

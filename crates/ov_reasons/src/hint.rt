@@ -1,9 +1,8 @@
 use crate::line_form::{Kind, SHORT};
 use crate::line_words::Word;
-use crate::numeral::{is_numeral, number_of};
 use crate::text_joining::push_all;
 use ov_ids::OutOfMemory;
-use ov_run::KeptLine;
+use ov_run::{KeptLine, read_number};
 use std::fmt::Write;
 
 /// Appends what may help at a word that stands where another kind of word is expected.
@@ -31,6 +30,11 @@ fn push_id_limits(text: &mut String, word: &[u8]) -> Result<(), OutOfMemory> {
         write!(text, "; each is a number from 0 to {SHORT}")?;
     }
     Ok(())
+}
+
+/// Whether a word is one decimal digit or more.
+fn is_numeral(word: &[u8]) -> bool {
+    !word.is_empty() && word.iter().all(|byte| byte.is_ascii_digit())
 }
 
 /// What may help at the first word of a file.
@@ -63,7 +67,7 @@ pub(crate) fn bytes_hint(word: &[u8]) -> Option<&'static str> {
 /// Whether a word is a number behind a sign.
 fn has_sign(word: &[u8]) -> bool {
     match word.split_first() {
-        Some((sign, digits)) => (*sign == b'-' || *sign == b'+') && number_of(digits).is_some(),
+        Some((sign, digits)) => (*sign == b'-' || *sign == b'+') && read_number(digits).is_some(),
         None => false,
     }
 }

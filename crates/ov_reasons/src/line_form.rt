@@ -1,4 +1,4 @@
-use crate::numeral::number_of;
+use ov_run::read_number;
 use ov_words::WORDS_PER_EVENT;
 
 /// What may stand at a place of a line.
@@ -83,7 +83,7 @@ impl Kind {
 
 /// Whether a word spells a number within these limits.
 fn is_within(word: &[u8], low: u64, high: u64) -> bool {
-    match number_of(word) {
+    match read_number(word) {
         Some(number) => low <= number && number <= high,
         None => false,
     }
@@ -159,7 +159,7 @@ const GROUP: Kind = Kind::Name("group");
 const WORKERS: Kind = Kind::Name("workers");
 
 /// How many workers there are.
-pub(crate) const CREW: Kind = Kind::Within("a number from 1 to 64", 1, 64);
+pub(crate) const WORKER_COUNT: Kind = Kind::Within("a number from 1 to 64", 1, 64);
 
 /// The seven parameters, in the order of their line.
 const PARAMETERS: &[Kind] = &[
@@ -192,10 +192,10 @@ pub(crate) static SCENARIO_FORMS: [Form; 23] = [
     Form("snapshot", &[], Says::Event),
     Form(
         "analyse",
-        &[MOMENT, WORKERS, CREW, GROUP, Kind::Ids],
+        &[MOMENT, WORKERS, WORKER_COUNT, GROUP, Kind::Ids],
         Says::Look,
     ),
-    Form("analyse", &[MOMENT, WORKERS, CREW], Says::Look),
+    Form("analyse", &[MOMENT, WORKERS, WORKER_COUNT], Says::Look),
     Form("analyse", &[MOMENT, GROUP, Kind::Ids], Says::Look),
     Form("analyse", &[MOMENT], Says::Look),
     Form("certificate", &[MOMENT, GROUP, Kind::Ids], Says::Look),

@@ -1,9 +1,8 @@
 use crate::form_matching::form_of;
 use crate::line_form::{GRAPH_FORMS, Says};
 use crate::line_words::{Word, words_of};
-use crate::numeral::number_of;
 use ov_ids::OutOfMemory;
-use ov_run::{KeptLine, kept_lines};
+use ov_run::{KeptLine, kept_lines, read_number};
 use std::alloc::Global;
 
 /// A line that says a node.
@@ -63,7 +62,7 @@ impl<'a> GraphLines<'a> {
 fn number_at(words: &[Word<'_>], place: usize) -> u64 {
     words
         .get(place)
-        .and_then(|word| number_of(word.bytes))
+        .and_then(|word| read_number(word.bytes))
         .unwrap_or(0)
 }
 

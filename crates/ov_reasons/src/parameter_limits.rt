@@ -1,9 +1,8 @@
 use crate::line_words::Word;
 use crate::marked_line::push_marked;
-use crate::numeral::number_of;
 use crate::text_joining::push_all;
 use ov_ids::{LONGEST_WALK, MOST_ACTIVE, MOST_PASSIVE, MOST_SAMPLED, OutOfMemory};
-use ov_run::KeptLine;
+use ov_run::{KeptLine, read_number};
 use std::alloc::Global;
 use std::fmt::Write;
 
@@ -51,7 +50,7 @@ fn push_parameters(text: &mut String, words: &[Word<'_>]) -> Result<Option<usize
     for (place, limits) in LIMITS.iter().enumerate() {
         let high = highest(place, limits, words);
         if let Some(word) = words.get(place + 1) {
-            let number = number_of(word.bytes).unwrap_or(0);
+            let number = read_number(word.bytes).unwrap_or(0);
             if number < limits.1 || number > high {
                 push_parameter(text, limits, number, high)?;
                 first = first.or(Some(word.start));
@@ -68,7 +67,7 @@ fn highest(place: usize, limits: &Limits, words: &[Word<'_>]) -> u64 {
     }
     words
         .get(3)
-        .and_then(|word| number_of(word.bytes))
+        .and_then(|word| read_number(word.bytes))
         .map_or(limits.2, |number| number.min(limits.2))
 }
 

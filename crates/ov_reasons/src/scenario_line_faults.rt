@@ -1,16 +1,15 @@
 ghost use Rattle.std.specs.Prelude.{IfOk, string_bytes};
 ghost use Rattle.ov_reasons.specs.Reasons.{TellsOfFaultLines};
 
-use crate::first_explanations::{explain, first_told, is_past};
+use crate::fault_line_explaining::{LineJudge, explain_lines};
 use crate::form_matching::form_of;
 use crate::line_complaint::unread_line;
-use crate::line_explanation::Explanation;
 use crate::line_form::{SCENARIO_FORMS, Says};
 use crate::line_words::{Word, words_of};
 use crate::marked_line::push_marked;
 use crate::parameter_limits::out_of_limits;
 use ov_ids::OutOfMemory;
-use ov_run::{KeptLine, kept_lines, scenario_fault_lines};
+use ov_run::{KeptLine, scenario_fault_lines};
 use std::alloc::Global;
 use std::fmt::Write;
 
@@ -19,32 +18,7 @@ pub(crate) fn explain_scenario(alloc: Global, bytes: &[u8]) -> Result<String, Ou
     ensures { IfOk result (λ text. TellsOfFaultLines bytes.now (string_bytes text)) }
 {
     let numbers = scenario_fault_lines(alloc, bytes)?;
-    let lines = kept_lines(alloc, bytes)?;
-    let explanations = explanations_of(alloc, first_told(&numbers), &lines)?;
-    explain(alloc, &numbers, &explanations)
-}
-
-/// The explanations of the lines that have one of these numbers. Numbers and lines ascend.
-fn explanations_of(
-    alloc: Global,
-    numbers: &[usize],
-    lines: &[KeptLine<'_>],
-) -> Result<Vec<Explanation>, OutOfMemory> {
-    let mut explanations = Vec::new(alloc);
-    let mut head = Head::new();
-    for (place, line) in lines.iter().enumerate() {
-        if is_past(numbers, line.number) {
-            return Ok(explanations);
-        }
-        let text = head.judge(alloc, line, lines.get(place + 1))?;
-        if numbers.contains(&line.number)
-            && let Some(text) = text
-        {
-            let number = line.number;
-            explanations.push(Explanation { number, text })?;
-        }
-    }
-    Ok(explanations)
+    explain_lines(alloc, bytes, &numbers, &mut Head::new())
 }
 
 /// What the lines so far say, as far as it matters to the lines behind them: the numbers of the first lines that are an
@@ -56,17 +30,7 @@ struct Head {
     seed: Option<usize>,
 }
 
-impl Head {
-    /// The state before any line was judged.
-    fn new() -> Head {
-        Head {
-            event: None,
-            params: None,
-            seed: None,
-        }
-    }
-
-    /// Judges a line, which this one follows, if there is one. Returns what is wrong with it, if anything is.
+impl LineJudge for Head {
     fn judge(
         &mut self,
         alloc: Global,
@@ -75,6 +39,17 @@ impl Head {
     ) -> Result<Option<String>, OutOfMemory> {
         let words = words_of(alloc, line.text)?;
         self.judge_words(alloc, line, &words, next)
+    }
+}
+
+impl Head {
+    /// The state before any line was judged.
+    fn new() -> Head {
+        Head {
+            event: None,
+            params: None,
+            seed: None,
+        }
     }
 
     /// Judges a line of these words.

@@ -2,8 +2,8 @@
 //! nodes part it.
 #![tactic(auto)]
 
-ghost use Rattle.std.specs.Prelude.{◌≡◌, ◌≢◌, ◌⊎◌, ◌+◌, ◌<◌, ℕ, List, drop, map, option_map, string_bytes};
-ghost use Rattle.std.specs.Prelude.{Some, Err, IfOk, IfErr, OnOk};
+ghost use Rattle.std.specs.Prelude.{◌≡◌, ◌≢◌, ◌⊎◌, ◌+◌, ◌<◌, drop, map, option_map, string_bytes};
+ghost use Rattle.std.specs.Prelude.{Some, Err, IfOk, IfErr, IfSome, OnOk};
 ghost use Rattle.ov_io.specs.Device.{most_faults};
 ghost use Rattle.ov_run.specs.Analysing.{PrintsAnalysis, BeginsAnalysis};
 ghost use Rattle.ov_run.specs.Arguments.{AreTaken};
@@ -13,7 +13,6 @@ ghost use Rattle.ov_run.specs.Run.{IsRun};
 ghost use Rattle.ov_run.specs.Running.{PrintsScenario};
 ghost use Rattle.ov_run.specs.declared.arguments.ArgumentsFault.TheVariants.{BadArguments};
 ghost use Rattle.ov_run.specs.declared.program_outcome.ProgramFault.TheVariants.{Arguments, Run};
-ghost use Rattle.overlay.specs.Done.{AnalysedGraph, AreAnswered, IsDone, RanScenario};
 
 mod explaining;
 mod progress;
@@ -59,7 +58,6 @@ fn print_reason(rt: &HostRuntime, reason: Result<String, OutOfMemory>) {
 /// Does what the command line asks for.
 fn overlay<T: Threads + Sync>(rt: &HostRuntime, threads: &T) -> Result<u8, ProgramFault>
     ensures status { IfOk result (λ status. status ≡ 0) }
-    ensures done { OnOk result ((arguments : List (List ℕ)) × AreAnswered arguments) }
 {
     match command_line(rt) {
         Ok(texts) => answer(rt, threads, behind_name(&texts)),
@@ -74,9 +72,9 @@ fn answer<T: Threads + Sync>(
     arguments: &[String],
 ) -> Result<u8, ProgramFault>
     ensures status { IfOk result (λ status. status ≡ 0) }
-    ensures done { OnOk result (AreAnswered (map (λ argument. string_bytes argument) arguments.now)) }
     ensures taken { AreTaken (map (λ argument. string_bytes argument) arguments.now)
         → (result ≢ Err (Arguments BadArguments)) }
+    ensures only { OnOk result (AreTaken (map (λ argument. string_bytes argument) arguments.now)) }
 {
     match read_arguments(rt.alloc(), arguments) {
         Ok(request) => do_asked(rt, threads, request),
@@ -124,7 +122,6 @@ fn do_asked<T: Threads + Sync>(
     request: Request,
 ) -> Result<u8, ProgramFault>
     ensures status { IfOk result (λ status. status ≡ 0) }
-    ensures done { OnOk result (IsDone request) }
     ensures fault { IfErr result (λ e. (fault : RunFault) × (e ≡ Run fault)) }
 {
     match request {
@@ -157,20 +154,25 @@ fn not_read(rt: &HostRuntime, name: &str, fault: RunFault) -> RunFault
     ended
 }
 
-/// All bytes of a file, or of standard input. Where there are none, it is told why.
-///
-/// `Read` (71): the file can't be opened, or can't be read. `OutOfMemory` (99): an allocation was refused.
-fn input_bytes(rt: &HostRuntime, file: Option<&str>) -> Result<Vec<u8>, RunFault>
-    ensures { IfErr result (λ fault. (fault ≡ RunFault.Read) ⊎ (fault ≡ RunFault.OutOfMemory)) }
+/// Opens a file. Where that fails, it is told why.
+fn opened(rt: &HostRuntime, path: &str) -> Result<File, RunFault>
+    ensures { IfErr result (λ fault. fault ≡ RunFault.Read) }
 {
-    let (answer, name) = match file {
-        None => (Source::new(rt.stdin()).read_all(rt.alloc()), STANDARD_INPUT),
-        Some(path) => match File::open(rt, path) {
-            Ok(file) => (Source::new(file).read_all(rt.alloc()), path),
-            Err(error) => return Err(not_opened(rt, path, error)),
-        },
-    };
-    match answer {
+    match File::open(rt, path) {
+        Ok(file) => Ok(file),
+        Err(error) => Err(not_opened(rt, path, error)),
+    }
+}
+
+/// All bytes of a reader. Where it can't be read, that is told by its name.
+///
+/// `Read` (71): the reader failed. `OutOfMemory` (99): an allocation was refused.
+fn bytes_of<R: Read + Drop>(rt: &HostRuntime, reader: R, name: &str) -> Result<Vec<u8>, RunFault>
+    ensures bytes { IfOk result (λ v. IfSome (R.remaining reader) (λ xs. v.items ≡ xs)) }
+    ensures fault { IfErr result (λ fault. (fault ≡ RunFault.Read) ⊎ (fault ≡ RunFault.OutOfMemory)) }
+{
+    let mut source = Source::new(reader);
+    match source.read_all(rt.alloc()) {
         Ok(bytes) => Ok(bytes),
         Err(fault) => Err(not_read(rt, name, RunFault::from(fault))),
     }
@@ -184,15 +186,40 @@ fn run_asked<T: Threads + Sync>(
     explain: bool,
 ) -> Result<u8, ProgramFault>
     ensures status { IfOk result (λ status. status ≡ 0) }
-    ensures done { OnOk result RanScenario }
     ensures fault { IfErr result (λ e. (fault : RunFault) × (e ≡ Run fault)) }
 {
     if file.is_none() && rt.stdin().is_terminal() {
         let _ = eprintln!(rt; "reading a scenario from standard input");
     }
-    let bytes = input_bytes(rt, file.as_deref())?;
     let mut sink = Sink::new(rt.stdout());
-    Ok(run_bytes(rt, threads, &bytes, &mut sink, explain)?)
+    match file.as_deref() {
+        None => Ok(run_from(rt, threads, rt.stdin(), &mut sink, STANDARD_INPUT, explain)?),
+        Some(path) => Ok(run_from(rt, threads, opened(rt, path)?, &mut sink, path, explain)?),
+    }
+}
+
+/// Runs the scenario of a reader that has this name. Where it is to be explained, it is told why lines are refused.
+#[tactic(auto, using(crate::proofs::OfReader::scenario_prints, crate::proofs::OfReader::run_fault))]
+fn run_from<T: Threads + Sync, R: Read + Drop, W: Write>(
+    rt: &HostRuntime,
+    threads: &T,
+    reader: R,
+    sink: &mut Sink<W>,
+    name: &str,
+    explain: bool,
+) -> Result<u8, RunFault>
+    requires { sink.old.faults < most_faults }
+    ensures status { IfOk result (λ status. status ≡ 0) }
+    ensures prints { OnOk result
+        (PrintsScenario (R.remaining reader) (W.contents sink.old.writer) (W.contents sink.new.writer)) }
+    ensures begun { (sink.new ≡ sink.old)
+        ⊎ Begins (R.remaining reader) (W.contents sink.old.writer) (W.contents sink.new.writer) }
+    ensures sink { sink.new.faults ≡ sink.old.faults + write_faults result }
+    ensures fault { IfErr result (IsRunFault (R.remaining reader)) }
+    ensures unread { IfErr result (λ fault. IsOfReading fault → sink.new ≡ sink.old) }
+{
+    let bytes = bytes_of(rt, reader, name)?;
+    Ok(run_bytes(rt, threads, &bytes, sink, explain)?)
 }
 
 /// Runs the scenario of these bytes. A fault of it is told of. Where the run is to be explained, it is told why lines
@@ -257,13 +284,39 @@ fn analyse_asked<T: Threads + Sync>(
     analysis: &AnalysisRequest,
 ) -> Result<u8, ProgramFault>
     ensures status { IfOk result (λ status. status ≡ 0) }
-    ensures done { OnOk result
-        (AnalysedGraph (option_map (λ ids. ids.items) analysis.now.group) analysis.now.certificate) }
     ensures fault { IfErr result (λ e. (fault : RunFault) × (e ≡ Run fault)) }
 {
-    let bytes = input_bytes(rt, file.as_deref())?;
     let mut sink = Sink::new(rt.stdout());
-    Ok(analyse_bytes(rt, threads, &bytes, &mut sink, analysis)?)
+    match file.as_deref() {
+        None => Ok(analyse_from(rt, threads, rt.stdin(), &mut sink, STANDARD_INPUT, analysis)?),
+        Some(path) => Ok(analyse_from(rt, threads, opened(rt, path)?, &mut sink, path, analysis)?),
+    }
+}
+
+/// Analyses the graph of a reader that has this name.
+#[tactic(auto, using(crate::proofs::OfReader::analysis_prints, crate::proofs::OfReader::analysis_fault))]
+fn analyse_from<T: Threads + Sync, R: Read + Drop, W: Write>(
+    rt: &HostRuntime,
+    threads: &T,
+    reader: R,
+    sink: &mut Sink<W>,
+    name: &str,
+    analysis: &AnalysisRequest,
+) -> Result<u8, RunFault>
+    requires { sink.old.faults < most_faults }
+    ensures status { IfOk result (λ status. status ≡ 0) }
+    ensures prints { OnOk result
+        (PrintsAnalysis (R.remaining reader) (option_map (λ ids. ids.items) analysis.now.group)
+        analysis.now.certificate (W.contents sink.old.writer) (W.contents sink.new.writer)) }
+    ensures begun { (sink.new ≡ sink.old)
+        ⊎ BeginsAnalysis (R.remaining reader) (option_map (λ ids. ids.items) analysis.now.group)
+        analysis.now.certificate (W.contents sink.old.writer) (W.contents sink.new.writer) }
+    ensures sink { sink.new.faults ≡ sink.old.faults + write_faults result }
+    ensures unwritten { IfErr result (λ fault. ¬ (fault ≡ RunFault.Write) → sink.new ≡ sink.old) }
+    ensures fault { IfErr result (IsAnalysisFault (R.remaining reader)) }
+{
+    let bytes = bytes_of(rt, reader, name)?;
+    Ok(analyse_bytes(rt, threads, &bytes, sink, analysis)?)
 }
 
 /// Analyses the graph file of these bytes. A fault of it is told of, and so is a refusal.

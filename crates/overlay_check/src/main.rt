@@ -87,7 +87,8 @@ fn judge_from<R: Runtime + AllocGlobal + Threads + Sync, I: Read + Drop, W: Writ
     name: &str,
 ) -> u8
     requires { sink.old.faults < most_faults }
-    ensures { result ≡ 0 → Prints (I.remaining reader) (W.contents sink.old.writer) (W.contents sink.new.writer) result }
+    ensures { result ≡ 0
+        → Prints (I.remaining reader) (W.contents sink.old.writer) (W.contents sink.new.writer) result }
 {
     let mut source = Source::new(reader);
     match judge_kept(rt, &mut source, sink) {
