@@ -18,7 +18,7 @@ pub fn is_among(texts: &[&str], text: &str) -> bool
     false
 }
 
-/// Whether a value is an object with all of these keys.
+/// Whether a value has all of these keys. One that is no object has none.
 pub(crate) fn has_all(keys: &[&str], value: &Value) -> bool
     ensures { result ≡ has_all (map (λ k. k.now) keys.now) (view value.now) }
 {
@@ -46,7 +46,7 @@ fn are_among(wanted: &[&str], members: &Map<String, Value>) -> bool
     members.keys().all(|key| is_among(wanted, key.as_str()))
 }
 
-/// Whether a value is an object with exactly these keys.
+/// Whether a value has exactly these keys. One that is no object has none.
 pub fn has_just(keys: &[&str], value: &Value) -> bool
     ensures { result ≡ has_just (map (λ k. k.now) keys.now) (view value.now) }
 {
