@@ -21,13 +21,13 @@ pub(crate) fn heading_of(value: &Value) -> Result<(Version, Verdict), FileFault>
     let Some(version) = value.get("version") else {
         return Err(FileFault::MissingKey);
     };
-    let Some(version) = version_of(version) else {
+    let Some(version) = version_in(version) else {
         return Err(FileFault::BadVersion);
     };
     let Some(verdict) = value.get("verdict") else {
         return Err(FileFault::MissingKey);
     };
-    let Some(verdict) = verdict_of(verdict) else {
+    let Some(verdict) = verdict_in(verdict) else {
         return Err(FileFault::BadValue);
     };
     let keys = names_of(version, verdict);
@@ -40,7 +40,8 @@ pub(crate) fn heading_of(value: &Value) -> Result<(Version, Verdict), FileFault>
     Ok((version, verdict))
 }
 
-fn version_of(value: &Value) -> Option<Version>
+/// The version that a value says, if it says one.
+pub fn version_in(value: &Value) -> Option<Version>
     ensures { result ≡ version_in (view value.now) }
 {
     match value.as_u64() {
@@ -50,7 +51,8 @@ fn version_of(value: &Value) -> Option<Version>
     }
 }
 
-fn verdict_of(value: &Value) -> Option<Verdict>
+/// The verdict that a value says, if it says one.
+pub fn verdict_in(value: &Value) -> Option<Verdict>
     ensures { result ≡ verdict_in (view value.now) }
 {
     match value.as_str() {

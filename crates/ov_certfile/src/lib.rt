@@ -17,7 +17,7 @@ mod writing;
 
 pub use cert_line::CertText;
 pub use fault::FileFault;
-pub use heading::names_of;
+pub use heading::{names_of, verdict_in, version_in};
 pub use keys::{has_just, is_among};
 pub use reading::{Filed, LAST_MOMENT, from_text};
 pub use verdict::Verdict;

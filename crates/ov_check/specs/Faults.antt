@@ -1,5 +1,6 @@
 -- The faults of a judge.
 use Rattle.std.specs.Prelude.{ℕ}
+use Rattle.ov_io.specs.Device.{read_failed, write_failed}
 use Rattle.ov_io.specs.declared.fault.ReadFault.{ReadFault}
 use Rattle.ov_io.specs.declared.fault.ReadFault.TheVariants as read
 use Rattle.ov_check.specs.declared.fault.JudgeFault.{JudgeFault}
@@ -7,8 +8,8 @@ use Rattle.ov_check.specs.declared.fault.JudgeFault.TheVariants.{Read, Write, Ou
 
 -- the number of each fault of a judge
 abbrev pub number_of : JudgeFault → ℕ
-number_of Read = 71
-number_of Write = 72
+number_of Read = read_failed
+number_of Write = write_failed
 number_of OutOfMemory = 99
 
 -- the fault of a judge whose source has this fault

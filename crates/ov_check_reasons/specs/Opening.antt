@@ -12,19 +12,19 @@ use Rattle.ov_check.specs.declared.outcome.Outcome.TheVariants.{Holds, Fails, Re
 
 -- the text begins with these bytes
 abbrev pub BeginsWith : List ℕ → List ℕ → Type 0
-BeginsWith front text = (rest : List ℕ) × (text ≡ front ++ rest)
+BeginsWith prefix text = (rest : List ℕ) × (text ≡ prefix ++ rest)
 
 -- the node that the paths of a pair lead from
-unfoldable pub from_words : ℕ → List ℕ
-from_words i = codes "the paths from " ++ decimal i
+unfoldable pub from_node_text : ℕ → List ℕ
+from_node_text i = codes "the paths from " ++ decimal i
 
 -- the node that they lead to
-unfoldable pub to_words : ℕ → List ℕ
-to_words j = codes " to " ++ (decimal j ++ codes " do not hold")
+unfoldable pub to_node_text : ℕ → List ℕ
+to_node_text j = codes " to " ++ (decimal j ++ codes " do not hold")
 
 -- a pair that does not hold, by its nodes
 abbrev pub pair_opening : ℕ → ℕ → List ℕ
-pair_opening i j = from_words i ++ to_words j
+pair_opening i j = from_node_text i ++ to_node_text j
 
 -- a fan that does not hold, by its node
 abbrev pub fan_opening : ℕ → List ℕ

@@ -286,9 +286,9 @@ TellsValue BadVersion value text = TellsVersion value text
 TellsValue (Graph fault) value text = TellsGraphIn fault value text
 TellsValue fault value text = Unit {0}
 
--- What is told behind the opening. Of a certificate that holds nothing is told. Of one that does not it is told where
--- it breaks. Of bytes that are a JSON value and are refused it is told what TellsValue says of that value. Of bytes
--- that are no JSON nothing is said here.
+-- What is told behind the opening. The text is empty where the certificate holds, and names the place where it does
+-- not. Where a JSON value is refused, the text is one that TellsValue allows of that value. Nothing is said here of
+-- the text about bytes that are no JSON.
 abbrev pub TellsPlace : List ℕ → Outcome → List ℕ → Type 0
 TellsPlace bytes (Holds f) text = text ≡ []
 TellsPlace bytes (Fails fault) text = (f : Filed) × BytesSay bytes (Ok f) × TellsFault f.graph f.group f.cert fault text

@@ -1,5 +1,5 @@
 ghost use Rattle.std.specs.Prelude.{◌≡◌, ◌++◌, OnOk, string_bytes};
-ghost use Rattle.ov_check_reasons.specs.Opening.{from_words, to_words, pair_opening, fan_opening};
+ghost use Rattle.ov_check_reasons.specs.Opening.{from_node_text, to_node_text, pair_opening, fan_opening};
 ghost use Rattle.ov_check_reasons.specs.Opening.{statement_opening, file_opening, opening_text};
 
 use ov_cert::CheckFault;
@@ -48,17 +48,17 @@ fn say_pair(text: &mut String, i: NodeId, j: NodeId) -> Result<(), OutOfMemory>
     say_to(text, j)
 }
 
-#[tactic(auto, unfolding(crate::specs::Opening::from_words))]
+#[tactic(auto, unfolding(crate::specs::Opening::from_node_text))]
 fn say_from(text: &mut String, i: NodeId) -> Result<(), OutOfMemory>
-    ensures { OnOk result (string_bytes text.new ≡ string_bytes text.old ++ from_words i) }
+    ensures { OnOk result (string_bytes text.new ≡ string_bytes text.old ++ from_node_text i) }
 {
     let i = i.number();
     Ok(write!(text, "the paths from {i}")?)
 }
 
-#[tactic(auto, unfolding(crate::specs::Opening::to_words))]
+#[tactic(auto, unfolding(crate::specs::Opening::to_node_text))]
 fn say_to(text: &mut String, j: NodeId) -> Result<(), OutOfMemory>
-    ensures { OnOk result (string_bytes text.new ≡ string_bytes text.old ++ to_words j) }
+    ensures { OnOk result (string_bytes text.new ≡ string_bytes text.old ++ to_node_text j) }
 {
     let j = j.number();
     Ok(write!(text, " to {j} do not hold")?)

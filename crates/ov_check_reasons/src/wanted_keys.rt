@@ -12,7 +12,7 @@ ghost use Rattle.ov_check_reasons.specs.Code.Sentences.{Adds};
 use crate::found_values::say_found;
 use crate::key_faults::{first_missing, first_unknown, say_missing, say_unknown};
 use crate::sentence_parts::{Part, say};
-use ov_certfile::{Verdict, Version, is_among, names_of};
+use ov_certfile::{Verdict, Version, is_among, names_of, verdict_in, version_in};
 use ov_ids::OutOfMemory;
 use serde_json::Value;
 use std::alloc::Global;
@@ -31,17 +31,7 @@ pub(crate) fn version_of(value: &Value) -> Option<Version>
     ensures { result ≡ said version_in (codes "version") (view value.now) }
 {
     let version = value.get("version")?;
-    as_version(version)
-}
-
-fn as_version(value: &Value) -> Option<Version>
-    ensures { result ≡ version_in (view value.now) }
-{
-    match value.as_u64() {
-        Some(1) => Some(Version::One),
-        Some(2) => Some(Version::Two),
-        _ => None,
-    }
+    version_in(version)
 }
 
 /// The verdict of a file, if it has one.
@@ -49,17 +39,7 @@ pub(crate) fn verdict_of(value: &Value) -> Option<Verdict>
     ensures { result ≡ said verdict_in (codes "verdict") (view value.now) }
 {
     let verdict = value.get("verdict")?;
-    as_verdict(verdict)
-}
-
-fn as_verdict(value: &Value) -> Option<Verdict>
-    ensures { result ≡ verdict_in (view value.now) }
-{
-    match value.as_str() {
-        Some("linked") => Some(Verdict::Linked),
-        Some("split") => Some(Verdict::Split),
-        _ => None,
-    }
+    verdict_in(verdict)
 }
 
 /// The keys that a file with a version and a verdict must have.

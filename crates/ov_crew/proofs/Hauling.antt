@@ -2,7 +2,7 @@
 use Rattle.std.proofs.Common.{◌≡◌, ◌⊎◌, ◌↔◌, ℕ, ◌+◌, List, [], ◌∷◌, ◌++◌, length, Some, None}
 use Rattle.std.proofs.Common.{refl, sym, ap, ◌∙◌, subst, inl, inr, arith}
 use Rattle.std.proofs.lemmas.Option.{none-some}
-use Rattle.ov_even.specs.Harvest.{SettlesNumber}
+use Rattle.ov_even.specs.Hauls.{SettlesNumber}
 use Rattle.ov_ids.specs.Members.{Has}
 use Rattle.ov_ids.specs.Sets.{has, adding}
 use Rattle.ov_ids.proofs.Members.{has_append_left, has_append_right, has_append_cases, has_tested}

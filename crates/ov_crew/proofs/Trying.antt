@@ -6,7 +6,7 @@ use Rattle.ov_graph.specs.Links.{LinkGraph}
 use Rattle.ov_fans.specs.declared.piece.Piece.{Piece}
 use Rattle.ov_claims.specs.Claims.{WorkerState, DeskState, HasWorker, HasFailed, IsLegal}
 use Rattle.ov_board.specs.Board.{BoardState, SeatState, IsClosed}
-use Rattle.ov_even.specs.Harvest.{AreRight, IsCleared}
+use Rattle.ov_even.specs.Hauls.{AreRight, IsCleared}
 use Rattle.ov_even.specs.Levels.{AreNumbersOf, IsTried}
 use Rattle.ov_even.specs.Order.{IsNumbered}
 use Rattle.ov_even.specs.declared.worker_haul.Haul.{Haul}

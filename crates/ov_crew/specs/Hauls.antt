@@ -7,7 +7,7 @@ use Rattle.ov_fans.specs.Cuts.{IsRight}
 use Rattle.ov_fans.specs.Theorems.{IsNoCut}
 use Rattle.ov_fans.specs.declared.settled.Settled.{Settled}
 use Rattle.ov_claims.specs.Claims.{WorkerState}
-use Rattle.ov_even.specs.Harvest.{SettlesNumber}
+use Rattle.ov_even.specs.Hauls.{SettlesNumber}
 
 -- what a worker has settled of the pieces with the numbers from `first` on: its number x on the board stands for the
 -- piece of number first + x. All results are right. It has exactly the pieces of the numbers that it claimed and did

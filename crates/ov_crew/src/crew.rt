@@ -2,7 +2,7 @@
 ghost use Rattle.std.specs.Prelude.{◌≡◌, ℕ, ◌<◌, ◌+◌, length, All, IfOk, IfErr, OnOk, true};
 ghost use Rattle.ov_graph.specs.Links.{IsGroup, IsWithinLimit, AreAllLinked};
 ghost use Rattle.ov_even.specs.Answer.{IsAnalysed, IsCheckedAnswer};
-ghost use Rattle.ov_even.specs.Harvest.{AreRight, Suffice};
+ghost use Rattle.ov_even.specs.Hauls.{AreRight, Suffice};
 ghost use Rattle.ov_even.specs.Levels.{AreNumbersOf, IsTried};
 ghost use Rattle.ov_even.specs.declared.fault.AnalyseFault.TheVariants.{OutOfMemory as out_of_memory};
 ghost use Rattle.ov_crew.specs.Hauls.{IsHaulOf};

@@ -19,7 +19,7 @@ use Rattle.ov_claims.specs.Claims.{WorkerState, HasWorker, HasFailed}
 use Rattle.ov_claims.specs.Theorems.{AllEnded, IsDone}
 use Rattle.ov_claims.proofs.Ending.{ends_done}
 use Rattle.ov_even.specs.Code.Levels.{all_pieces}
-use Rattle.ov_even.specs.Harvest.{IsBroughtIn, Decides, Suffice}
+use Rattle.ov_even.specs.Hauls.{IsInHauls, Decides, Suffice}
 use Rattle.ov_even.specs.Order.{IsNumbered}
 use Rattle.ov_even.specs.declared.worker_haul.Haul.{Haul}
 use Rattle.ov_even.proofs.PieceNumbers.AllLevels.{all_listed}
@@ -179,14 +179,14 @@ settled_there d hauls w haul e at =
 
 -- a piece in the hauls was settled at the desk
 from_hauls : (d : GroupDeskState) (hauls : List Haul) (s : Settled) → map pieces_of_haul hauls ≡ d.settled
-    → IsBroughtIn hauls s → IsSettledAt d s
+    → IsInHauls hauls s → IsSettledAt d s
 from_hauls d hauls s e h =
     let place = at_has hauls h.0 h.1 in
     (place.0, pieces_of_haul h.0, settled_there d hauls place.0 h.0 e place.1, h.2)
 
 -- a piece settled at the desk is in the hauls
 to_hauls : (d : GroupDeskState) (hauls : List Haul) (s : Settled) → map pieces_of_haul hauls ≡ d.settled
-    → IsSettledAt d s → IsBroughtIn hauls s
+    → IsSettledAt d s → IsInHauls hauls s
 to_hauls d hauls s e there =
     let w = there.0 in
     let within = slice_get_within d.settled w there.1 there.2 in

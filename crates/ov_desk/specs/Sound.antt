@@ -8,7 +8,7 @@ use Rattle.ov_fans.specs.Theorems.{IsNoCut}
 use Rattle.ov_fans.specs.declared.settled.Settled.{Settled}
 use Rattle.ov_claims.specs.Claims.{WorkerState, HasWorker, IsLegal, MayWork}
 use Rattle.ov_claims.specs.Steps.{IsLast}
-use Rattle.ov_even.specs.Harvest.{SettlesNumber}
+use Rattle.ov_even.specs.Hauls.{SettlesNumber}
 use Rattle.ov_desk.specs.Desk.{GroupDeskState, HasHand, HaveBeenSettled, IsNumberIn, AreToShare}
 use Rattle.ov_desk.specs.declared.hand.Hand.{Hand}
 

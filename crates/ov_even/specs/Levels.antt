@@ -7,7 +7,7 @@ use Rattle.ov_fans.specs.Theorems.{IsNoCut}
 use Rattle.ov_fans.specs.declared.piece.Piece.{Piece}
 use Rattle.ov_fans.specs.declared.settled.Settled.{Settled}
 use Rattle.ov_even.specs.Order.{ComesBefore, IsNumbered, AreSoMany}
-use Rattle.ov_even.specs.Harvest.{IsBroughtIn, IsCleared}
+use Rattle.ov_even.specs.Hauls.{IsInHauls, IsCleared}
 use Rattle.ov_even.specs.declared.worker_haul.Haul.{Haul}
 
 -- the hauls clear a level: each of its pieces is cleared
@@ -16,7 +16,7 @@ IsLevelCleared g q hauls level = (r : Piece) → IsPiece g q r → level_of r �
 
 -- s is a piece of the level with a cut, and each piece of the level before it is cleared
 pub record StopsAt (g : LinkGraph) (q : List ℕ) (hauls : List Haul) (level : ℕ) (s : Settled) : Type 0 where
-  pub there : IsBroughtIn hauls s
+  pub there : IsInHauls hauls s
   pub of_level : level_of s.piece ≡ level
   pub cut : ¬ IsNoCut s.found
   pub before : (r : Piece) → IsPiece g q r → level_of r ≡ level → ComesBefore r s.piece → IsCleared g q hauls r

@@ -1,7 +1,7 @@
 pub mod Order
 pub mod First
 pub mod Answer
-pub mod Harvest
+pub mod Hauls
 pub mod Levels
 pub mod Searching
 pub mod Naming

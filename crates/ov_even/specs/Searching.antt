@@ -1,6 +1,6 @@
 -- The search for the level of the deciding piece, after a level was tried.
 use Rattle.std.specs.Prelude.{◌≡◌, ◌<◌}
-use Rattle.ov_even.specs.Harvest.{Suffice}
+use Rattle.ov_even.specs.Hauls.{Suffice}
 use Rattle.ov_even.specs.Levels.{SearchState}
 use Rattle.ov_even.specs.declared.level_search.Searched.{Searched}
 use Rattle.ov_even.specs.declared.level_search.Searched.TheVariants.{Enough, Again}

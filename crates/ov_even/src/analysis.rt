@@ -2,7 +2,7 @@
 ghost use Rattle.std.specs.Prelude.{IfOk};
 ghost use Rattle.ov_graph.specs.Links.{IsGroup, AreAllLinked};
 ghost use Rattle.ov_even.specs.Answer.{IsAnalysed};
-ghost use Rattle.ov_even.specs.Harvest.{Suffice};
+ghost use Rattle.ov_even.specs.Hauls.{Suffice};
 
 use crate::assembly::assemble_group;
 use crate::fault::AnalyseFault;

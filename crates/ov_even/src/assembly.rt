@@ -3,7 +3,7 @@ ghost use Rattle.std.specs.Prelude.{◌≡◌, ◌+◌, ◌<◌, length, map, If
 ghost use Rattle.ov_graph.specs.Links.{HasNode, IsGraph, IsGroup, AreAllLinked};
 ghost use Rattle.ov_cert.specs.Valid.{IsValidForGroup};
 ghost use Rattle.ov_even.specs.Answer.{IsAnswer, IsCheckedAnswer, IsAnalysed, NamesParting};
-ghost use Rattle.ov_even.specs.Harvest.{Suffice};
+ghost use Rattle.ov_even.specs.Hauls.{Suffice};
 ghost use Rattle.ov_even.specs.Naming.{AreWanted, HaveAskedPaths};
 ghost use Rattle.ov_even.specs.Code.Cuts.{IsDeciding};
 ghost use Rattle.ov_even.specs.declared.fault.AnalyseFault.TheVariants.{OutOfMemory as out_of_memory};

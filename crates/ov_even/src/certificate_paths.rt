@@ -4,7 +4,7 @@ ghost use Rattle.std.specs.Option.{option_copied};
 ghost use Rattle.ov_graph.specs.Links.{IsGroup, AreAllLinked};
 ghost use Rattle.ov_fans.specs.Cuts.{AreRightPaths};
 ghost use Rattle.ov_fans.specs.Pieces.{IsPiece, IsLinkedPair, level_of};
-ghost use Rattle.ov_even.specs.Harvest.{AreRight, Suffice};
+ghost use Rattle.ov_even.specs.Hauls.{AreRight, Suffice};
 ghost use Rattle.ov_even.specs.Levels.{IsLevelCleared};
 ghost use Rattle.ov_even.specs.Naming.{AreFound, AreUnlinkedPieces, AreWanted};
 ghost use Rattle.ov_even.specs.Code.Slots.{HaveSlots};
@@ -22,8 +22,8 @@ use ov_graph::Graph;
 use ov_ids::{NodeId, OutOfMemory};
 use std::alloc::Global;
 
-/// The pieces whose paths the certificate of these hauls has, in order, with the paths that were found for them. None
-/// if every two members are linked. Faults: out of memory.
+/// The pieces whose paths the certificate of these hauls has, in order, with the paths that were found for them: no
+/// piece, if every two members are linked. Faults: out of memory.
 pub fn wanted_paths<'a>(
     alloc: Global,
     graph: &Graph,
@@ -47,8 +47,8 @@ pub fn wanted_paths<'a>(
     Ok(paths_at(alloc, graph, group, level, hauls)?)
 }
 
-/// The pieces of a cleared level that are no linked pairs, in order, with the paths that were found for them. None if
-/// the level is 0.
+/// The pieces of a cleared level that are no linked pairs, in order, with the paths that were found for them: no
+/// piece, if the level is 0.
 fn paths_at<'a>(
     alloc: Global,
     graph: &Graph,

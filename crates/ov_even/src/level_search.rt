@@ -3,7 +3,7 @@
 //! search.
 ghost use Rattle.std.specs.Prelude.{◌≡◌, ◌<◌, ◌≤◌, ◌+◌, ◌++◌, length, IfOk, IfSome, IfNone};
 ghost use Rattle.ov_graph.specs.Links.{IsGraph, IsWithinLimit, IsGroup, AreAllLinked, most_nodes};
-ghost use Rattle.ov_even.specs.Harvest.{AreRight, Suffice};
+ghost use Rattle.ov_even.specs.Hauls.{AreRight, Suffice};
 ghost use Rattle.ov_even.specs.Levels.{IsTried};
 ghost use Rattle.ov_even.specs.Searching.{IsSearched};
 ghost use Rattle.ov_even.specs.Code.Narrowing.{HasDeciding, AreBounds, IsBetween, HasCutWithin, tries_left};

@@ -2,7 +2,7 @@
 ghost use Rattle.std.specs.Prelude.{◌≡◌, ◌↔◌, ◌<◌, ◌≤◌, [], ◌∷◌, length, IsTrue, IfOk};
 ghost use Rattle.ov_graph.specs.Links.{most_nodes};
 ghost use Rattle.ov_fans.specs.declared.settled.Found.TheVariants.{Linked as linked_found};
-ghost use Rattle.ov_even.specs.Harvest.{AreRight};
+ghost use Rattle.ov_even.specs.Hauls.{AreRight};
 ghost use Rattle.ov_even.specs.Levels.{IsTried};
 
 use crate::level_pieces::{LevelPieces, level_size, place_in_level};

@@ -2,7 +2,7 @@
 ghost use Rattle.std.specs.Prelude.{◌≡◌, ℕ, ◌*◌, ◌<◌, ◌≤◌, length, slice_index, OnOk, IfOk, MatchBool};
 ghost use Rattle.ov_graph.specs.Row.{word_bits};
 ghost use Rattle.ov_split.specs.Places.{net_by_place};
-ghost use Rattle.ov_flow.specs.Code.Reached.{tip_of, IsGrown, IsMore, IsClean, IsEnded, IsSweptAt, IsVisited, IsSwept};
+ghost use Rattle.ov_flow.specs.Code.Reached.{tip_of, IsGrown, IsMore, IsClean, IsSearchEnded, IsSweptAt, IsVisited, IsSwept};
 ghost use Rattle.ov_flow.specs.Code.Walked.{table_of, IsTable};
 ghost use Rattle.ov_flow.specs.Code.Held.{IsReady};
 
@@ -39,7 +39,7 @@ fn visit_links(
     requires at { at < length tree.old.order.items }
     ensures grown { OnOk result (IsGrown (net_by_place net.now) (table_of from.now) tree.new) }
     ensures more { OnOk result (IsMore tree.old tree.new) }
-    ensures found { IfOk result (λ found. MatchBool found (IsEnded (net_by_place net.now) tree.new)
+    ensures found { IfOk result (λ found. MatchBool found (IsSearchEnded (net_by_place net.now) tree.new)
         (IsSweptAt (net_by_place net.now) (slice_index tree.old.order.items at) tree.new)) }
 {
     let x = tree.order[at as usize] as usize;
@@ -72,7 +72,7 @@ fn step_back(
     requires swept { IsSweptAt (net_by_place net.now) (slice_index tree.old.order.items at) tree.old }
     ensures grown { OnOk result (IsGrown (net_by_place net.now) (table_of from.now) tree.new) }
     ensures more { OnOk result (IsMore tree.old tree.new) }
-    ensures found { IfOk result (λ found. MatchBool found (IsEnded (net_by_place net.now) tree.new)
+    ensures found { IfOk result (λ found. MatchBool found (IsSearchEnded (net_by_place net.now) tree.new)
         (IsVisited (net_by_place net.now) (table_of from.now) (slice_index tree.old.order.items at) tree.new)) }
 {
     if let Some(before) = from[tree.order[at as usize] as usize] {
@@ -101,7 +101,7 @@ fn visit(
     requires at { at < length tree.old.order.items }
     ensures grown { OnOk result (IsGrown (net_by_place net.now) (table_of from.now) tree.new) }
     ensures more { OnOk result (IsMore tree.old tree.new) }
-    ensures found { IfOk result (λ found. MatchBool found (IsEnded (net_by_place net.now) tree.new)
+    ensures found { IfOk result (λ found. MatchBool found (IsSearchEnded (net_by_place net.now) tree.new)
         (IsVisited (net_by_place net.now) (table_of from.now) (slice_index tree.old.order.items at) tree.new)) }
 {
     if visit_links(net, from, tree, at, words)? {
@@ -119,7 +119,7 @@ pub(crate) fn search(
     requires ready { IsReady net.now }
     requires table { IsTable (length net.now.graph.nodes) from.now }
     ensures grown { OnOk result (IsGrown (net_by_place net.now) (table_of from.now) tree.new) }
-    ensures found { IfOk result (λ found. MatchBool found (IsEnded (net_by_place net.now) tree.new)
+    ensures found { IfOk result (λ found. MatchBool found (IsSearchEnded (net_by_place net.now) tree.new)
         (IsSwept (net_by_place net.now) (table_of from.now) tree.new)) }
 {
     begin(net, tree)?;

@@ -1,7 +1,7 @@
 //! The buffers of a search, and the paths that are held.
 ghost use Rattle.std.specs.Prelude.{◌≡◌, ℕ, ◌<◌, ◌≤◌, [], length, false, IfOk, OnErr, MatchBool};
 ghost use Rattle.ov_split.specs.SplitNetState.{SplitNetState};
-ghost use Rattle.ov_flow.specs.Code.Held.{IsReady, HasRoom, IsWorkOf, IsSame, IsLonger, IsAtEnd};
+ghost use Rattle.ov_flow.specs.Code.Held.{IsReady, HasWorkRoom, IsWorkOf, IsSame, IsLonger, IsAtEnd};
 
 use crate::one_link_paths::take_direct;
 use crate::path_copying::{clear, empty_table, replace_paths};
@@ -38,7 +38,7 @@ pub(crate) fn new_work(alloc: Global, places: usize) -> Result<Work, AllocError>
 
 /// Drops all paths that are held.
 fn start(net: &SplitNet<'_>, work: &mut Work)
-    requires { HasRoom (length net.now.graph.nodes) work.old }
+    requires { HasWorkRoom (length net.now.graph.nodes) work.old }
     ensures work { IsWorkOf net.now work.new }
     ensures empty { work.new.ends.items ≡ [] }
 {
@@ -75,7 +75,7 @@ pub(crate) fn augment(net: &SplitNet<'_>, work: &mut Work) -> Result<bool, Alloc
 /// Starts again, and searches for `level` paths. True: so many are held.
 pub(crate) fn settle(net: &SplitNet<'_>, level: usize, work: &mut Work) -> Result<bool, AllocError>
     requires ready { IsReady net.now }
-    requires room { HasRoom (length net.now.graph.nodes) work.old }
+    requires room { HasWorkRoom (length net.now.graph.nodes) work.old }
     ensures work { IsWorkOf net.now work.new }
     ensures held { IfOk result (λ found. MatchBool found (length work.new.ends.items ≡ level)
         (length work.new.ends.items < level)) }

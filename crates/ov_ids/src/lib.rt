@@ -13,7 +13,7 @@ mod seq;
 mod text;
 
 pub use id::{MsgId, NodeId};
-pub use id_set::{IdSet, place_for};
+pub use id_set::{IdSet, MOST_MEMBERS, place_for};
 pub use limits::NUMBER_LIMIT;
 pub use memory::OutOfMemory;
 pub use order::is_ascending;

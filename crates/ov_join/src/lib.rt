@@ -17,11 +17,14 @@ ghost use Rattle.ov_views.specs.Handling.{ViewsStep, step_words, step_sends};
 ghost use Rattle.ov_views.specs.JoinRows.{Remembers, forwards, walk_ends, walk_targets};
 ghost use Rattle.ov_wire.specs.declared.message.Body.TheVariants.{Join, ForwardJoin, Joined};
 
-use ov_ids::{IdSet, NodeId, OutOfMemory};
+use ov_ids::{IdSet, MOST_ACTIVE, NodeId, OutOfMemory};
 use ov_views::{Moves, View, Views};
 use ov_wire::{Body, Message};
 use ov_words::Draws;
 use std::alloc::Global;
+
+/// The most packets that one step sends: one to who joins, and one to each other active member.
+const STEP_SENDS: usize = MOST_ACTIVE as usize + 1;
 
 /// The effects of JOIN from a node. The node becomes active and is told JOINED, and every other active member is sent
 /// FORWARDJOIN with ARWL steps, in ascending order. At most two random words are used, and at most 17 messages are
@@ -40,7 +43,7 @@ pub fn on_join(
     ensures ranges { IfOk result (λ m. AreSendsInRange m.sends.items) }
     ensures err { OnErr result ((views.new ≡ views.old) × (draws.new ≡ draws.old)) }
 {
-    let mut moves = Moves::with_room(alloc, 17)?;
+    let mut moves = Moves::with_room(alloc, STEP_SENDS)?;
     let me = views.me();
     if from == me {
         return Ok(moves);

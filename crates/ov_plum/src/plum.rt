@@ -233,7 +233,7 @@ impl Plum {
         requires { IsPlumChange self.old plum_change }
         ensures ok { OnOk result (self.new ≡ plum_after self.old plum_change) }
         ensures err { OnErr result (self.new ≡ self.old) }
-        ensures room { may_allocate plum_change ≡ false → result ≡ Ok tt }
+        ensures room { may_allocate plum_change ≡ false → IsOk result }
     {
         match plum_change {
             PlumChange::Nothing => {}

@@ -2,7 +2,7 @@ use crate::held::Held;
 use crate::spread::Spread;
 use ov_ids::{MsgId, NodeId};
 
-/// What is to change in a node's part of Plumtree.
+/// The planned change of a node's part of Plumtree.
 #[derive(Drop)]
 pub enum PlumChange {
     /// Nothing.
@@ -23,7 +23,7 @@ pub enum PlumChange {
     Clears(MsgId),
 }
 
-/// A planned step of a node's part of Plumtree: its effects, and what is to change.
+/// A planned step of a node's part of Plumtree: its effects, and the planned change.
 #[derive(Drop)]
 pub struct PlumPlan {
     pub spread: Spread,

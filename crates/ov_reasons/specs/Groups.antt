@@ -52,7 +52,7 @@ TellsOfMembers g ids said =
     ⊎ (HasNode g × Ascends ids × ((a : ℕ) × IsFirstStranger (Has g.nodes) ids a × (said ≡ Some (stranger_text a))))
     ⊎ (HasNode g × IsGroup g ids × (said ≡ None))
 
--- what is told of the bytes of a graph file and the group that is asked for; of bytes that say no graph nothing is told
+-- what is told of the bytes of a graph file and the group that is asked for: nothing where the bytes say no graph
 abbrev pub TellsOfGraphGroup : List ℕ → Option (List ℕ) → Option (List ℕ) → Type 0
 TellsOfGraphGroup bytes group said =
     ((g : LinkGraph) × IsGraphFile bytes g × TellsOfMembers g (members_of group g) said)

@@ -25,9 +25,9 @@ pub fn scenario_reasons(
     }
 }
 
-/// Why a graph file of these bytes was refused, or its analysis ended early, with this fault. Of a fault of a line all
-/// lines that can't be read are told of, as by `scenario_reasons`. Of a fault of the graph the line is told whose node
-/// or link is at fault, and nothing where the file has not this fault. OutOfMemory (99) where an allocation is refused.
+/// Why a graph file of these bytes was refused, or its analysis ended early, with this fault. Where a line is
+/// at fault, all lines that can't be read are told of, as by `scenario_reasons`. Where the graph is at fault, the text
+/// names the line of the node or link, and it is empty where the file has not this fault. OutOfMemory (99) where an allocation is refused.
 pub fn graph_reasons(alloc: Global, bytes: &[u8], fault: &RunFault) -> Result<String, OutOfMemory>
     ensures { IfOk result (λ text. TellsOfGraphFile bytes.now fault.now (string_bytes text)) }
 {

@@ -11,11 +11,11 @@ use Rattle.ov_words.specs.Stream.{AreOutputs, words_per_event}
 abbrev pub seed_bytes : ℕ
 seed_bytes = 32
 
--- what the generator `Pcg64` answers, from its first call on, where `seed_from_u64` made it of this number
+-- what the generator `Pcg64` returns, from its first call on, where `seed_from_u64` made it of this number
 unfoldable pub seeded : ℕ → Stream
 seeded seed = stream_of (steps_u64_low pcg64) (pcg64_of_seed (pcg32_seed seed_bytes seed))
 
--- these are the random words of events, event after event: the next answers of a generator with this stream to
+-- these are the random words of events, event after event: the next outputs of a generator with this stream to
 -- `next_u64`. `left` is its stream after these calls
 abbrev pub AreDraws : Stream → List (List ℕ) → Stream → Type 0
 AreDraws stream [] left = left ≡ stream

@@ -1,5 +1,5 @@
 -- The faults of a run and of an analysis: their numbers, the lines that they name, how they are shown, and what a run
--- adds to the counts of failures of its reader and its writer. The numbers are chosen here.
+-- adds to the counts of faults of its reader and its writer. The numbers are chosen here.
 use Rattle.std.specs.Prelude.{ℕ, ⊤, List, ◌++◌, Option, Some, None, IfSome, Result, codes, decimal}
 use Rattle.ov_io.specs.Device as device
 use Rattle.ov_io.specs.Refusal.{refusal_text}
@@ -20,8 +20,8 @@ abbrev pub number_of : RunFault → ℕ
 number_of (Line n) = 70
 number_of (Params n) = 21
 number_of (Graph fault) = graph.number_of fault
-number_of Read = 71
-number_of Write = 72
+number_of Read = device.read_failed
+number_of Write = device.write_failed
 number_of OutOfMemory = 99
 
 -- the number of the line that is at fault, where one is
@@ -54,8 +54,7 @@ abbrev pub fault_of_graph : GraphFault → RunFault
 fault_of_graph graph_fault.OutOfMemory = OutOfMemory
 fault_of_graph other = Graph other
 
--- what the fault of reading a scenario file says of its bytes: it is that of their first line at fault, or out of
--- memory
+-- a scenario file of these bytes can be refused with this fault: that of their first line at fault, or out of memory
 abbrev pub IsReadingFault : List ℕ → RunFault → Type 0
 IsReadingFault bytes (Line n) = IsScenarioFault bytes (Line n)
 IsReadingFault bytes (Params n) = IsScenarioFault bytes (Params n)
@@ -65,7 +64,7 @@ IsReadingFault bytes Write = ⊥
 IsReadingFault bytes OutOfMemory = ⊤
 
 -- what the fault of a run says of the bytes that the reader had: one of a line is that of their first line at fault. No
--- run answers a fault of a graph
+-- run returns a fault of a graph
 abbrev pub IsRunFault : Option (List ℕ) → RunFault → Type 0
 IsRunFault reader (Line n) = IfSome reader (λ bytes. IsScenarioFault bytes (Line n))
 IsRunFault reader (Params n) = IfSome reader (λ bytes. IsScenarioFault bytes (Params n))

@@ -9,7 +9,8 @@ use Rattle.ov_run.specs.GraphFiles.{graph_lines, nodes_said, links_said}
 use Rattle.ov_run.specs.declared.graph_file.GraphLine.{GraphLine}
 use Rattle.ov_run.specs.declared.graph_file.GraphLine.TheVariants.{Node, Link}
 
--- a node is at fault behind these: they are as many as a graph may have, or they ascend and with it they do not
+-- a node is at fault behind these nodes: they are as many as a graph may have; or they ascend, and the node is not
+-- above the last of them
 abbrev pub IsNodeAtFault : GraphFault → List ℕ → ℕ → Type 0
 IsNodeAtFault TooManyNodes before x = length before ≡ most_nodes
 IsNodeAtFault Unordered before x = Ascends before × (¬ Ascends (before ++ x ∷ []))

@@ -1,4 +1,4 @@
-ghost use Rattle.std.specs.Prelude.{◌≡◌, length, map, IfOk};
+ghost use Rattle.std.specs.Prelude.{◌≡◌, map, IfOk};
 ghost use Rattle.ov_run.specs.RunLines.{asks_for_line, lines_that_run, AskOneByOne};
 ghost use Rattle.ov_run.specs.Scenarios.{IsScenario};
 ghost use Rattle.ov_run.specs.Statements.{statement_of};
@@ -16,8 +16,6 @@ use std::alloc::Global;
 #[tactic(auto, using(crate::proofs::Scenarios::Numbered::as_many, crate::proofs::Scenarios::Numbered::one_by_one))]
 pub fn numbers_of_run_lines(alloc: Global, bytes: &[u8]) -> Result<Vec<usize>, OutOfMemory>
     ensures numbers { IfOk result (λ numbers. numbers.items ≡ map (λ line. line.number) (lines_that_run bytes.now)) }
-    ensures count { IfOk result (λ numbers. (s : Scenario) → IsScenario bytes.now s
-        → length numbers.items ≡ length s.lines.items) }
     ensures each { (s : Scenario) → IsScenario bytes.now s
         → AskOneByOne (map (λ line. line.says) (lines_that_run bytes.now)) s.lines.items }
 {

@@ -12,13 +12,13 @@ use Rattle.std.specs.declared.cmp.Ordering.TheVariants.{Less, Equal, Greater}
 use Rattle.ov_ids.specs.Members.{Has, Ordered}
 use Rattle.ov_ids.proofs.Members.{all_member, all_from_members, has_append_cases, has_append_left, has_append_right}
 use Rattle.ov_ids.proofs.Members.{has_place, place_of, place_in_take, has_from_take, ordered_at}
-use Rattle.ov_snap.specs.Code.Index.{AreGreater, AreInOrder, AreLess, IsGap, Key, Precedes, key_at, key_cmp, key_of}
+use Rattle.ov_snap.specs.Code.Index.{AreGreater, AreInOrder, AreLess, IsGap, ReportKey, ReportPrecedes, key_at, key_cmp, key_of}
 use Rattle.ov_snap.specs.ReportState.{ReportState}
 
 -- THE ORDER OF KEYS
 
 key_total : IsTotalOrder key_cmp
-key_total = then_total (on_total (λ (k : Key). k.0) nat_cmp_total) (on_total (λ (k : Key). k.1) nat_list_cmp_total)
+key_total = then_total (on_total (λ (k : ReportKey). k.0) nat_cmp_total) (on_total (λ (k : ReportKey). k.1) nat_list_cmp_total)
 
 -- the two parts of keys that tie are the same
 tied : (r s : Ordering) → ordering_then r s ≡ Equal → (r ≡ Equal) × (s ≡ Equal)
@@ -26,25 +26,25 @@ tied Less s e = absurd cc
 tied Equal s e = (refl, e)
 tied Greater s e = absurd cc
 
-pub key_same : (k l : Key) → key_cmp k l ≡ Equal → k ≡ l
+pub key_same : (k l : ReportKey) → key_cmp k l ≡ Equal → k ≡ l
 key_same k l e =
     let both = tied _ _ e in
     ap₂ (λ (n : ℕ) (q : List ℕ). (n, q)) (nat_cmp-IsAntisymmetric k.0 l.0 both.0)
     (slice_cmp-IsAntisymmetric nat_cmp-IsAntisymmetric k.1 l.1 both.1)
 
-turned : (k l : Key) → key_cmp k l ≡ Less → key_cmp l k ≡ Greater
+turned : (k l : ReportKey) → key_cmp k l ≡ Less → key_cmp l k ≡ Greater
 turned k l e = key_total.antisymm l k ∙ ap ordering_reverse e
 
-turned_back : (k l : Key) → key_cmp k l ≡ Greater → key_cmp l k ≡ Less
+turned_back : (k l : ReportKey) → key_cmp k l ≡ Greater → key_cmp l k ≡ Less
 turned_back k l e = key_total.antisymm l k ∙ ap ordering_reverse e
 
 less_is_not_greater : (o : Ordering) → o ≡ Less → o ≡ Greater → ⊥
 less_is_not_greater o l g = let e : Less ≡ Greater = sym l ∙ g in absurd cc
 
-not_below_itself : (k : Key) → ¬ (key_cmp k k ≡ Less)
+not_below_itself : (k : ReportKey) → ¬ (key_cmp k k ≡ Less)
 not_below_itself k l = less_is_not_greater (key_cmp k k) l (turned k k l)
 
-not_above_itself : (k : Key) → ¬ (key_cmp k k ≡ Greater)
+not_above_itself : (k : ReportKey) → ¬ (key_cmp k k ≡ Greater)
 not_above_itself k g = less_is_not_greater (key_cmp k k) (turned_back k k g) g
 
 -- KEYS AT PLACES
@@ -75,13 +75,13 @@ stands (x ∷ rs) r h = elim h [
 
 -- HALVING
 
-module _ (reports : List ReportState) (places : List ℕ) (key : Key) where
+module _ (reports : List ReportState) (places : List ℕ) (key : ReportKey) where
   pub less_more : (middle : ℕ) → AreInOrder reports places → middle < length places
       → key_cmp (key_at reports (slice_index places middle)) key ≡ Less → AreLess reports places key (middle + 1)
   less_more middle h inside less i l = elim (cases_eq i middle) [
     | inl e ↦ subst (λ (n : ℕ). key_cmp (key_at reports (slice_index places n)) key ≡ Less) (sym e) less
     | inr ne ↦ key_total.trans (key_at reports (slice_index places i)) (key_at reports (slice_index places middle)) key
-        (ordered_at (Precedes reports) places i middle 0 h.order (omega arith) inside) less
+        (ordered_at (ReportPrecedes reports) places i middle 0 h.order (omega arith) inside) less
   ]
 
   pub greater_more : (middle : ℕ) → AreInOrder reports places
@@ -91,7 +91,7 @@ module _ (reports : List ReportState) (places : List ℕ) (key : Key) where
     | inr ne ↦ turned key (key_at reports (slice_index places i))
         (key_total.trans key (key_at reports (slice_index places middle)) (key_at reports (slice_index places i))
         (turned_back (key_at reports (slice_index places middle)) key greater)
-        (ordered_at (Precedes reports) places middle i 0 h.order (omega arith) inside))
+        (ordered_at (ReportPrecedes reports) places middle i 0 h.order (omega arith) inside))
   ]
 
   -- what is left to search, from low up to high: the reports before it are of lesser keys, those behind it of greater
@@ -135,18 +135,18 @@ module _ (reports : List ReportState) (places : List ℕ) (key : Key) where
       let i = place_of places s.0 (h.every s.0 s.1) in
       let here : key_at reports (slice_index places i.0) ≡ key = ap (key_at reports) i.2 ∙ s.2 ∙ same in
       elim (cases_lt i.0 at) [
-        | inl l ↦ not_below_itself key (ap (λ (x : Key). key_cmp x key) (sym here) ∙ gap.less i.0 l)
-        | inr ge ↦ not_above_itself key (ap (λ (x : Key). key_cmp x key) (sym here) ∙ gap.greater i.0 ge i.1)
+        | inl l ↦ not_below_itself key (ap (λ (x : ReportKey). key_cmp x key) (sym here) ∙ gap.less i.0 l)
+        | inr ge ↦ not_above_itself key (ap (λ (x : ReportKey). key_cmp x key) (sym here) ∙ gap.greater i.0 ge i.1)
       ]
 
 -- what the comparison with the report at a place says
-pub compared : (reports : List ReportState) (p : ℕ) (r : ReportState) (k : Key) (o is : Ordering) → p < length reports
+pub compared : (reports : List ReportState) (p : ℕ) (r : ReportState) (k : ReportKey) (o is : Ordering) → p < length reports
     → r ≡ get_or reports p r → o ≡ key_cmp (key_of r) k → o ≡ is → key_cmp (key_at reports p) k ≡ is
 compared reports p r k o is inside read e same =
-    ap (λ (x : Key). key_cmp x k) (key_read reports p r inside ∙ ap key_of (sym read)) ∙ sym e ∙ same
+    ap (λ (x : ReportKey). key_cmp x k) (key_read reports p r inside ∙ ap key_of (sym read)) ∙ sym e ∙ same
 
 -- a report with the key of a place stands there
-pub found_there : (l m n : List ReportState) (p : ℕ) (r : ReportState) (k : Key) → l ≡ m → m ≡ n
+pub found_there : (l m n : List ReportState) (p : ℕ) (r : ReportState) (k : ReportKey) → l ≡ m → m ≡ n
     → (p < length l) × (key_at l p ≡ k) → r ≡ get_or m p r → Has n r × (key_of r ≡ k)
 found_there l m n p r k e f h read =
     let g = subst (λ (x : List ReportState). (p < length x) × (key_at x p ≡ k)) e h in (
@@ -154,7 +154,7 @@ found_there l m n p r k e f h read =
       ap key_of read ∙ sym (key_read m p r g.0) ∙ g.1,
     )
 
-pub not_there : (l m n : List ReportState) (ps qs : List ℕ) (k : Key) (at : ℕ) → l ≡ m → m ≡ n → ps ≡ qs
+pub not_there : (l m n : List ReportState) (ps qs : List ℕ) (k : ReportKey) (at : ℕ) → l ≡ m → m ≡ n → ps ≡ qs
     → AreInOrder m qs → IsGap l ps k at → (r : ReportState) → Has n r → ¬ (key_of r ≡ k)
 not_there l m n ps qs k at e f g h gap r has =
     none_in_gap m qs k at h (subst (λ (x : List ReportState). IsGap x qs k at) e
@@ -162,7 +162,7 @@ not_there l m n ps qs k at e f g h gap r has =
     r (subst (λ (x : List ReportState). Has x r) (sym f) has)
 
 -- where no report has a key, no place has it
-pub not_taken : (l m n : List ReportState) (p : ℕ) (r : ReportState) (k : Key) → l ≡ m → m ≡ n
+pub not_taken : (l m n : List ReportState) (p : ℕ) (r : ReportState) (k : ReportKey) → l ≡ m → m ≡ n
     → (p < length l) × (key_at l p ≡ k) → k ≡ key_of r → ((x : ReportState) → Has n x → ¬ (key_of x ≡ key_of r)) → ⊥
 not_taken l m n p r k e f h own free =
     let there = found_there l m n p (get_or m p r) k e f h (sym (same_item m p r (get_or m p r)
@@ -250,29 +250,29 @@ one_more reports places r at h gap = record { inside = inside; every = every; or
       ]
     ]
 
-    before : (p : ℕ) → Has (take at places) p → Precedes longer p (length reports)
+    before : (p : ℕ) → Has (take at places) p → ReportPrecedes longer p (length reports)
     before p k =
         let i = place_in_take places at p k in
         ap₂ key_cmp (old p (has_from_take places at p k) ∙ ap (key_at reports) (sym i.3)) (key_last reports r)
         ∙ gap.less i.0 i.1
 
-    after : (p : ℕ) → Has (drop at places) p → Precedes longer (length reports) p
+    after : (p : ℕ) → Has (drop at places) p → ReportPrecedes longer (length reports) p
     after p k =
         let i = place_in_drop places at p k in
         ap₂ key_cmp (key_last reports r) (old p (has_from_drop places at p k) ∙ ap (key_at reports) (sym i.3))
         ∙ turned_back (key_at reports (slice_index places i.0)) (key_of r) (gap.greater i.0 i.1 i.2)
 
-    order : Ordered (Precedes longer) (insert places at (length reports))
-    order = ordered_between (Precedes longer) places at (length reports)
-        (ordered_alike (Precedes reports) (Precedes longer) places
+    order : Ordered (ReportPrecedes longer) (insert places at (length reports))
+    order = ordered_between (ReportPrecedes longer) places at (length reports)
+        (ordered_alike (ReportPrecedes reports) (ReportPrecedes longer) places
         (λ x y k l up. ap₂ key_cmp (old x k) (old y l) ∙ up) h.order) before after
 
 -- the parts of the reports when one more is filed
-pub pushed : (reports l filed : List ReportState) (places ps qs : List ℕ) (r : ReportState) (k : Key) (at count : ℕ)
+pub pushed : (reports l filed : List ReportState) (places ps qs : List ℕ) (r : ReportState) (k : ReportKey) (at count : ℕ)
     → AreInOrder reports places → l ≡ reports → ps ≡ places → IsGap l ps k at → k ≡ key_of r
     → filed ≡ reports ++ r ∷ [] → count ≡ length reports → qs ≡ insert places at count → AreInOrder filed qs
 pushed reports l filed places ps qs r k at count h e f gap own is counted put =
     subst (λ (x : List ReportState). AreInOrder x qs) (sym is) (subst (AreInOrder (reports ++ r ∷ []))
     (sym (put ∙ ap (insert places at) counted)) (one_more reports places r at h
-    (subst (λ (x : Key). IsGap reports places x at)
+    (subst (λ (x : ReportKey). IsGap reports places x at)
     own (subst (λ (x : List ReportState). IsGap x places k at) e (subst (λ (x : List ℕ). IsGap l x k at) f gap)))))

@@ -24,7 +24,7 @@ use Rattle.ov_net.proofs.Journal.Telling.{links_stay}
 use Rattle.ov_desk.specs.Desk.{GroupDeskState}
 use Rattle.ov_snap.specs.CoreState.{CoreState, HasReport, HasReportOfAll, IsDeskOf, IsSound}
 use Rattle.ov_snap.specs.CoreState.{most_desks, opening_core}
-use Rattle.ov_snap.specs.Code.Index.{Key, key_of}
+use Rattle.ov_snap.specs.Code.Index.{ReportKey, key_of}
 use Rattle.ov_snap.specs.ReportState.{IsSo, ReportState}
 use Rattle.ov_snap.specs.Refusals.{FilingJudged, IsFiled}
 use Rattle.ov_snap.specs.Filing.{WasFiled}
@@ -169,7 +169,7 @@ filing_passed b r h =
 pub none_found : (b : CoreState) (r : ReportState) → FilingJudged b r None → (x : ReportState) → Has b.reports x
     → ¬ (key_of x ≡ key_of r)
 none_found b r judged x h same = (filing_passed b r judged).2
-    (x, record { filed = h; moment = ap (λ (k : Key). k.0) same; members = ap (λ (k : Key). k.1) same })
+    (x, record { filed = h; moment = ap (λ (k : ReportKey). k.0) same; members = ap (λ (k : ReportKey). k.1) same })
 
 pub sound_filed : (b : CoreState) (r : ReportState) (u : CoreState) → IsSound b → WasFiled b r u → IsSound u
 sound_filed b r u sound h = subst IsSound (sym h.reports) (record {

@@ -11,7 +11,7 @@ use Rattle.ov_net.specs.Journal.{AreLinks}
 use Rattle.ov_net.specs.declared.journal_entry.Entry.{Entry}
 use Rattle.ov_snap.specs.Snapshots.{IsMoment}
 
--- a report: the moment that it is of, a graph, the members of a group of its nodes, and a certificate
+-- a report: its moment, the graph of that moment, the members of a group of its nodes, and a certificate
 pub record ReportState : Type 0 where
   pub moment : ℕ
   pub graph : LinkGraph

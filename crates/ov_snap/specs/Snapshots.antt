@@ -33,7 +33,7 @@ abbrev pub HasOneSnapshotMore : List Entry → List Snapshot → List Snapshot �
 HasOneSnapshotMore journal old new =
     (s : Snapshot) × (s.moment ≡ length journal) × AreLinks journal s.moment s.graph × (new ≡ old ++ s ∷ [])
 
--- the snapshots after an event, with whose entry the journal ends: a snapshot adds one, and any other event none
+-- the snapshots after an event, whose entry is the last of the journal: a snapshot adds one, any other event none
 abbrev pub SnapshotsAfter : List Entry → Event → List Snapshot → List Snapshot → Type 0
 SnapshotsAfter journal what old new =
     ((what ≡ event.Snapshot) × HasOneSnapshotMore journal old new)

@@ -30,7 +30,7 @@ impl Report {
         Report { moment, checked }
     }
 
-    /// The moment that it is of.
+    /// The moment whose overlay it is about.
     pub fn moment(&self) -> u32
         ensures { result ≡ self.now.moment }
     {

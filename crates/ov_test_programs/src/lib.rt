@@ -10,10 +10,10 @@ mod endings;
 #[cfg(test)]
 mod graphs;
 #[cfg(test)]
+mod id_lists;
+#[cfg(test)]
 mod pieces;
 #[cfg(test)]
 mod refusals;
 #[cfg(test)]
 mod watched;
-#[cfg(test)]
-mod words;

@@ -4,7 +4,7 @@
 #[cfg(test)]
 mod agreement;
 #[cfg(test)]
-mod command_words;
+mod argument_texts;
 #[cfg(test)]
 mod group_refusals;
 #[cfg(test)]

@@ -1,13 +1,13 @@
 ghost use Rattle.std.specs.Prelude.{◌≡◌, ◌<◌, ◌≤◌, [], ◌∷◌, ◌++◌, length};
 ghost use Rattle.ov_ids.specs.Sets.{most_members};
 
-use ov_ids::NodeId;
+use ov_ids::{MOST_MEMBERS, NodeId};
 use std::marker::Model;
 
 /// The ids of a sample, in the order of picking. Nothing is allocated for them. Contracts see them as a list.
 #[derive(Drop)]
 pub struct Sample {
-    ids: [NodeId; 64],
+    ids: [NodeId; MOST_MEMBERS],
     count: usize,
 }
 
@@ -27,7 +27,7 @@ impl Sample {
         ensures { result ≡ [] }
     {
         Sample {
-            ids: [NodeId(0); 64],
+            ids: [NodeId(0); MOST_MEMBERS],
             count: 0,
         }
     }

@@ -10,7 +10,7 @@ use Rattle.ov_wire.specs.declared.fault.WireFault.TheVariants.{Short, BadVersion
 use Rattle.ov_wire.specs.declared.fault.WireFault.TheVariants.{OutOfMemory}
 use Rattle.ov_wire.specs.Fields.{Value, One}
 use Rattle.ov_wire.specs.Messages.{kinds, fields_of, most_kind}
-use Rattle.ov_wire.specs.Code.Reading.{◌>>=◌, number_at, bytes_at, values_at, Fails}
+use Rattle.ov_wire.specs.Code.Reading.{◌>>=◌, number_at, bytes_at, values_at, FailsReading}
 
 -- a step that did not fail has a value
 pub bind_ok : {A B : Type 0} (r : Result A WireFault) (f : A → Result B WireFault) (y : B)
@@ -47,7 +47,7 @@ guard_ok false d r y e = (refl, e)
 
 -- what fails, fails with the same fault where its value would be used further
 pub Fails-then : {A B : Type 0} (e : WireFault) (r : Result A WireFault) (f : A → B)
-    → Fails e r → Fails e (r >>= λ x. Ok (f x))
+    → FailsReading e r → FailsReading e (r >>= λ x. Ok (f x))
 Fails-then OutOfMemory (Ok x) f h = h
 Fails-then OutOfMemory (Err d) f h = h
 Fails-then Short r f h = rw h refl
@@ -70,7 +70,7 @@ last_at view count bytes =
 -- a last field with too few or too many bytes behind its count fails, with this fault
 pub fails_whole : (view : List ℕ → Value) (count : ℕ) (bytes : List ℕ) (e : WireFault)
     → (length bytes < count → e ≡ Short) → (count ≤ length bytes → (count < length bytes) × (e ≡ Trailing))
-    → Fails e (last_at view count bytes)
+    → FailsReading e (last_at view count bytes)
 fails_whole view count bytes e short trailing =
     elim (cases_lt (length bytes) count) [
       | inl lt ↦ rw (short lt, lt-ltb (length bytes) count lt) refl

@@ -7,6 +7,10 @@ use Rattle.ov_wire.specs.declared.fault.WireFault.{WireFault}
 use Rattle.ov_wire.specs.declared.fault.WireFault.TheVariants.{BadField}
 use Rattle.ov_wire.specs.Limits.{most_ids, most_payload}
 
+-- how many values a byte has
+abbrev pub byte_values : ℕ
+byte_values = 256
+
 -- A field of a message.
 pub data Field : Type 0 where
   -- a number from least to most, in the bytes of its width, the highest byte first; any other number is this fault
@@ -22,7 +26,7 @@ up_to width most = Number width 0 most BadField
 
 -- any number of this width
 abbrev pub any : Width → Field
-any width = up_to width (256 ^ byte_len width - 1)
+any width = up_to width (byte_values ^ byte_len width - 1)
 
 -- What stands in a field: a number, or the ids or bytes of a list.
 pub data Value : Type 0 where
@@ -31,9 +35,9 @@ pub data Value : Type 0 where
 
 -- the value can stand in the field
 abbrev pub Fits : Field → Value → Type 0
-Fits (Number width least most otherwise) (One n) = (n < 256 ^ byte_len width) × (least ≤ n) × (n ≤ most)
+Fits (Number width least most otherwise) (One n) = (n < byte_values ^ byte_len width) × (least ≤ n) × (n ≤ most)
 Fits Ids (Many ids) = (length ids ≤ most_ids) × AllByRecursion (λ id. id < number_limit) ids
-Fits Payload (Many bytes) = (length bytes ≤ most_payload) × AllByRecursion (λ b. b < 256) bytes
+Fits Payload (Many bytes) = (length bytes ≤ most_payload) × AllByRecursion (λ b. b < byte_values) bytes
 Fits (Number width least most otherwise) (Many ns) = ⊥
 Fits Ids (One n) = ⊥
 Fits Payload (One n) = ⊥

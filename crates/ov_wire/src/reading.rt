@@ -8,7 +8,7 @@ ghost use Rattle.ov_wire.specs.Faults.{FirstFault};
 ghost use Rattle.ov_wire.specs.Fields.{up_to, any, Number, Ids, Payload, One, Many};
 ghost use Rattle.ov_wire.specs.Messages.{own_fields, fields_of, kind_of, own_values, flag, HasList, Spelling};
 ghost use Rattle.ov_wire.specs.Messages.{AreInRange, most_kind};
-ghost use Rattle.ov_wire.specs.Code.Reading.{Reads, Gives, number_at, values_at, ids_in};
+ghost use Rattle.ov_wire.specs.Code.Reading.{ReadsAs, MapsResult, number_at, values_at, ids_in};
 
 use crate::fault::WireFault;
 use crate::message::{Body, MOST_IDS, MOST_KIND, MOST_PAYLOAD, MOST_TTL, Message};
@@ -16,7 +16,7 @@ use ov_ids::{MsgId, NodeId, Seq};
 use std::alloc::{AllocError, Global};
 
 fn u32_at(bytes: &[u8]) -> Result<(u32, &[u8]), WireFault>
-    ensures { Reads (λ x. (x.0, x.1.now)) result (number_at w32 0 (256 ^ 4 - 1) BadField bytes.now) }
+    ensures { ReadsAs (λ x. (x.0, x.1.now)) result (number_at w32 0 (256 ^ 4 - 1) BadField bytes.now) }
 {
     match bytes.split_first_chunk::<4>() {
         Some((number, rest)) => Ok((u32::from_be_bytes(*number), rest)),
@@ -25,7 +25,7 @@ fn u32_at(bytes: &[u8]) -> Result<(u32, &[u8]), WireFault>
 }
 
 fn u16_at(most: u16, bytes: &[u8]) -> Result<(u16, &[u8]), WireFault>
-    ensures { Reads (λ x. (x.0, x.1.now)) result (number_at w16 0 most BadField bytes.now) }
+    ensures { ReadsAs (λ x. (x.0, x.1.now)) result (number_at w16 0 most BadField bytes.now) }
 {
     match bytes.split_first_chunk::<2>() {
         Some((number, rest)) => {
@@ -46,7 +46,7 @@ fn byte_at(
     otherwise: WireFault,
     bytes: &[u8],
 ) -> Result<(u8, &[u8]), WireFault>
-    ensures value { Reads (λ x. (x.0, x.1.now)) result (number_at w8 least most otherwise bytes.now) }
+    ensures value { ReadsAs (λ x. (x.0, x.1.now)) result (number_at w8 least most otherwise bytes.now) }
     ensures front { IfOk result (λ x. bytes.now ≡ x.0 ∷ x.1.now) }
     ensures range { IfOk result (λ x. (least ≤ x.0) × (x.0 ≤ most)) }
 {
@@ -63,7 +63,7 @@ fn byte_at(
 
 /// Ok where nothing follows the last field.
 fn end(bytes: &[u8]) -> Result<(), WireFault>
-    ensures { Reads (λ _. []) result (values_at [] bytes.now) }
+    ensures { ReadsAs (λ _. []) result (values_at [] bytes.now) }
 {
     if bytes.is_empty() {
         Ok(())
@@ -102,7 +102,7 @@ fn ids_of(alloc: Global, count: usize, bytes: &[u8]) -> Result<Seq<NodeId>, Allo
 
 /// Reads a list of ids, as the last field.
 fn last_ids(alloc: Global, bytes: &[u8]) -> Result<Seq<NodeId>, WireFault>
-    ensures { Gives (λ ids. Many ids ∷ []) result (values_at (Ids ∷ []) bytes.now) }
+    ensures { MapsResult (λ ids. Many ids ∷ []) result (values_at (Ids ∷ []) bytes.now) }
 {
     let (count, rest) = byte_at(0, MOST_IDS, WireFault::BadField, bytes)?;
     let count = count as usize;
@@ -112,7 +112,7 @@ fn last_ids(alloc: Global, bytes: &[u8]) -> Result<Seq<NodeId>, WireFault>
 
 /// Reads a payload, as the last field.
 fn last_payload(alloc: Global, bytes: &[u8]) -> Result<Seq<u8>, WireFault>
-    ensures { Gives (λ payload. Many payload ∷ []) result (values_at (Payload ∷ []) bytes.now) }
+    ensures { MapsResult (λ payload. Many payload ∷ []) result (values_at (Payload ∷ []) bytes.now) }
 {
     let (len, rest) = u16_at(MOST_PAYLOAD, bytes)?;
     whole(len as usize, rest)?;
@@ -121,7 +121,7 @@ fn last_payload(alloc: Global, bytes: &[u8]) -> Result<Seq<u8>, WireFault>
 
 /// Reads the id of a broadcast, as the last field.
 fn last_id(bytes: &[u8]) -> Result<MsgId, WireFault>
-    ensures { Reads (λ id. One id.origin ∷ One id.seq ∷ []) result (values_at (any w32 ∷ any w32 ∷ []) bytes.now) }
+    ensures { ReadsAs (λ id. One id.origin ∷ One id.seq ∷ []) result (values_at (any w32 ∷ any w32 ∷ []) bytes.now) }
 {
     let (origin, rest) = u32_at(bytes)?;
     let (seq, rest) = u32_at(rest)?;
@@ -133,7 +133,7 @@ fn last_id(bytes: &[u8]) -> Result<MsgId, WireFault>
 }
 
 fn forward_join(bytes: &[u8]) -> Result<Body, WireFault>
-    ensures read { Reads own_values result (values_at (own_fields 2) bytes.now) }
+    ensures read { ReadsAs own_values result (values_at (own_fields 2) bytes.now) }
     ensures kind { IfOk result (λ body. kind_of body ≡ 2) }
 {
     let (node, rest) = u32_at(bytes)?;
@@ -147,7 +147,7 @@ fn forward_join(bytes: &[u8]) -> Result<Body, WireFault>
 
 /// Reads a flag, as the last field.
 fn last_flag(bytes: &[u8]) -> Result<bool, WireFault>
-    ensures { Reads (λ x. One (flag x) ∷ []) result (values_at (up_to w8 1 ∷ []) bytes.now) }
+    ensures { ReadsAs (λ x. One (flag x) ∷ []) result (values_at (up_to w8 1 ∷ []) bytes.now) }
 {
     let (number, rest) = byte_at(0, 1, WireFault::BadField, bytes)?;
     end(rest)?;
@@ -155,7 +155,7 @@ fn last_flag(bytes: &[u8]) -> Result<bool, WireFault>
 }
 
 fn shuffle(alloc: Global, bytes: &[u8]) -> Result<Body, WireFault>
-    ensures read { Gives own_values result (values_at (own_fields 7) bytes.now) }
+    ensures read { MapsResult own_values result (values_at (own_fields 7) bytes.now) }
     ensures kind { IfOk result (λ body. kind_of body ≡ 7) }
 {
     let (origin, rest) = u32_at(bytes)?;
@@ -169,7 +169,7 @@ fn shuffle(alloc: Global, bytes: &[u8]) -> Result<Body, WireFault>
 }
 
 fn gossip(alloc: Global, bytes: &[u8]) -> Result<Body, WireFault>
-    ensures read { Gives own_values result (values_at (own_fields 9) bytes.now) }
+    ensures read { MapsResult own_values result (values_at (own_fields 9) bytes.now) }
     ensures kind { IfOk result (λ body. kind_of body ≡ 9) }
 {
     let (origin, rest) = u32_at(bytes)?;
@@ -187,7 +187,7 @@ fn gossip(alloc: Global, bytes: &[u8]) -> Result<Body, WireFault>
 fn body_of(alloc: Global, kind: u8, bytes: &[u8]) -> Result<Body, WireFault>
     requires low { 1 ≤ kind }
     requires high { kind ≤ most_kind }
-    ensures read { Gives own_values result (values_at (own_fields kind) bytes.now) }
+    ensures read { MapsResult own_values result (values_at (own_fields kind) bytes.now) }
     ensures kind { IfOk result (λ body. kind_of body ≡ kind) }
     ensures memory { IsErrOf result OutOfMemory → HasList kind }
 {
@@ -224,7 +224,7 @@ fn body_of(alloc: Global, kind: u8, bytes: &[u8]) -> Result<Body, WireFault>
 
 /// Reads a message, by all fields of its kind.
 fn message_of(alloc: Global, bytes: &[u8]) -> Result<Message, WireFault>
-    ensures read { Gives (λ m. One 1 ∷ One (kind_of m.body) ∷ One m.from ∷ own_values m.body) result
+    ensures read { MapsResult (λ m. One 1 ∷ One (kind_of m.body) ∷ One m.from ∷ own_values m.body) result
         (values_at (fields_of (slice_index bytes.now 1)) bytes.now) }
     ensures kind { IfOk result (λ m. kind_of m.body ≡ slice_index bytes.now 1) }
     ensures memory { IsErrOf result OutOfMemory → HasList (slice_index bytes.now 1) }

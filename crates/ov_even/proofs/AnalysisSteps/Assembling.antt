@@ -15,7 +15,7 @@ use Rattle.std.proofs.Common.{zero, suc, eqb, false}
 use Rattle.ov_cert.specs.declared.cert.Split.{Split}
 use Rattle.ov_even.specs.Answer.{NamesParting, NamesFirstCut}
 use Rattle.ov_even.specs.First.{IsFirst}
-use Rattle.ov_even.specs.Harvest.{AreRight, Decides, Suffice}
+use Rattle.ov_even.specs.Hauls.{AreRight, Decides, Suffice}
 use Rattle.ov_even.specs.declared.worker_haul.Haul.{Haul}
 use Rattle.ov_even.specs.Code.Levels.{pieces_of_level}
 use Rattle.ov_even.specs.Code.Slots.{StandsAt, AreSlotsOf, HaveSlots, ArePiecesOf}

@@ -6,7 +6,7 @@ use Rattle.ov_fans.specs.Theorems.{IsNoCut}
 use Rattle.ov_fans.specs.declared.piece.Piece.{Piece}
 use Rattle.ov_fans.specs.declared.settled.Settled.{Settled}
 use Rattle.ov_even.specs.Order.{IsNumbered}
-use Rattle.ov_even.specs.Harvest.{IsBroughtIn, IsCleared}
+use Rattle.ov_even.specs.Hauls.{IsInHauls, IsCleared}
 use Rattle.ov_even.specs.Levels.{IsTried, AreNumbersOf}
 use Rattle.ov_even.specs.declared.worker_haul.Haul.{Haul}
 use Rattle.ov_even.proofs.PieceNumbers.Numbering.{every_number, numbers_order}
@@ -18,7 +18,7 @@ AreClearedUpTo g q hauls first least = (x : ℕ) → x < least → (r : Piece)
 
 -- the hauls have a cut for the piece of this number
 abbrev pub IsCutAt : LinkGraph → List ℕ → List Haul → ℕ → Type 0
-IsCutAt g q hauls number = (s : Settled) × IsBroughtIn hauls s
+IsCutAt g q hauls number = (s : Settled) × IsInHauls hauls s
     × IsNumbered (length g.nodes) (length q) number s.piece × (¬ IsNoCut s.found)
 
 -- a piece whose number is within the first is cleared

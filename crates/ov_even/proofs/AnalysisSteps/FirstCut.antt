@@ -10,7 +10,7 @@ use Rattle.ov_fans.specs.declared.settled.Found.{Found}
 use Rattle.ov_fans.specs.declared.settled.Found.TheVariants.{Linked, Paths, Cut}
 use Rattle.ov_fans.specs.declared.settled.Settled.{Settled}
 use Rattle.ov_even.specs.Order.{ComesBefore}
-use Rattle.ov_even.specs.Harvest.{IsBroughtIn}
+use Rattle.ov_even.specs.Hauls.{IsInHauls}
 use Rattle.ov_even.specs.declared.worker_haul.Haul.{Haul}
 use Rattle.ov_even.specs.Code.Cuts.{IsFirstCut, IsEarlierCut, all_settled}
 use Rattle.ov_even.proofs.PieceOrder.Comparing.{before_trans, before_once}
@@ -78,7 +78,7 @@ pub all_more : (hauls : List Haul) (i : ℕ) (d : Haul) → i < length hauls
 all_more hauls i d l = ap all_settled (take_more hauls i d l) ∙ all_push (take i hauls) (get_or hauls i d)
 
 -- a piece in the hauls is in the list of all settled pieces
-pub among_all : (hauls : List Haul) (s : Settled) → IsBroughtIn hauls s → Has (all_settled hauls) s
+pub among_all : (hauls : List Haul) (s : Settled) → IsInHauls hauls s → Has (all_settled hauls) s
 among_all [] s h = absurd h.1
 among_all (haul ∷ hauls) s h = elim h.1 [
   | inl e ↦ has_append_left haul.pieces.items (all_settled hauls) s
@@ -86,7 +86,7 @@ among_all (haul ∷ hauls) s h = elim h.1 [
   | inr k ↦ has_append_right haul.pieces.items (all_settled hauls) s (among_all hauls s (h.0, k, h.2))
 ]
 
-pub in_hauls : (hauls : List Haul) (s : Settled) → Has (all_settled hauls) s → IsBroughtIn hauls s
+pub in_hauls : (hauls : List Haul) (s : Settled) → Has (all_settled hauls) s → IsInHauls hauls s
 in_hauls [] s h = absurd h
 in_hauls (haul ∷ hauls) s h = elim (has_append_cases haul.pieces.items (all_settled hauls) s h) [
   | inl k ↦ (haul, inl refl, k)

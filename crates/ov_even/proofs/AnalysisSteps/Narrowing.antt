@@ -11,7 +11,7 @@ use Rattle.ov_fans.specs.declared.piece.Piece.{Piece}
 use Rattle.ov_fans.specs.declared.settled.Settled.{Settled}
 use Rattle.ov_fans.proofs.PieceCuts.Decided.{decides}
 use Rattle.ov_fans.proofs.PieceNets.Ranks.{fits}
-use Rattle.ov_even.specs.Harvest.{IsBroughtIn, IsCleared, AreRight, Suffice}
+use Rattle.ov_even.specs.Hauls.{IsInHauls, IsCleared, AreRight, Suffice}
 use Rattle.ov_even.specs.declared.worker_haul.Haul.{Haul}
 use Rattle.ov_fans.specs.Group.{SettlerState}
 use Rattle.ov_even.specs.Levels.{IsLevelCleared, StopsAt, IsTried, SearchState}
@@ -104,8 +104,8 @@ cleared_bounds g q kept hauls low level high top has bounds between right tried 
     }
 
 -- what is in the hauls of two lists is in those of one
-pub in_either : (kept hauls : List Haul) (s : Settled) → IsBroughtIn (kept ++ hauls) s
-    → IsBroughtIn kept s ⊎ IsBroughtIn hauls s
+pub in_either : (kept hauls : List Haul) (s : Settled) → IsInHauls (kept ++ hauls) s
+    → IsInHauls kept s ⊎ IsInHauls hauls s
 in_either kept hauls s h = elim (has_append_cases kept hauls h.0 h.1) [
   | inl k ↦ inl (h.0, k, h.2)
   | inr k ↦ inr (h.0, k, h.2)

@@ -16,7 +16,7 @@ use Rattle.ov_fans.specs.declared.settled.Settled.{Settled}
 use Rattle.ov_even.specs.Order.{ComesBefore}
 use Rattle.ov_even.specs.Code.Levels.{pieces_of_level}
 use Rattle.ov_even.specs.Code.Trying.{AreSettledRight, IsClearedBy}
-use Rattle.ov_even.specs.Harvest.{AreRight, IsCleared}
+use Rattle.ov_even.specs.Hauls.{AreRight, IsCleared}
 use Rattle.ov_even.specs.Levels.{IsLevelCleared, StopsAt}
 use Rattle.ov_even.specs.declared.worker_haul.Haul.{Haul}
 use Rattle.ov_even.proofs.PieceOrder.Comparing.{before_once}

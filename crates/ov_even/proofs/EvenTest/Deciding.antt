@@ -8,7 +8,7 @@ use Rattle.ov_fans.specs.declared.settled.Settled.{Settled}
 use Rattle.ov_fans.proofs.PieceCuts.Decided.{decides}
 use Rattle.ov_even.specs.Order.{ComesBefore}
 use Rattle.ov_even.specs.First.{IsFirst}
-use Rattle.ov_even.specs.Harvest.{AreRight, IsCleared, Decides}
+use Rattle.ov_even.specs.Hauls.{AreRight, IsCleared, Decides}
 use Rattle.ov_even.specs.declared.worker_haul.Haul.{Haul}
 use Rattle.ov_even.proofs.PieceOrder.PieceLevels.{level_low, level_high}
 use Rattle.ov_even.proofs.EvenTest.Passing.{IsLevelGood, passes_level, lower_good}

@@ -5,7 +5,7 @@ use Rattle.ov_graph.specs.Links.{LinkGraph, IsGraph, IsWithinLimit, IsGroup, Are
 use Rattle.ov_fans.specs.Pieces.{level_of}
 use Rattle.ov_fans.specs.Theorems.{IsNoCut}
 use Rattle.ov_fans.specs.declared.settled.Settled.{Settled}
-use Rattle.ov_even.specs.Harvest.{IsBroughtIn, AreRight}
+use Rattle.ov_even.specs.Hauls.{IsInHauls, AreRight}
 use Rattle.ov_even.specs.Levels.{IsLevelCleared}
 use Rattle.ov_even.specs.declared.worker_haul.Haul.{Haul}
 
@@ -35,4 +35,4 @@ tries_left n low high = 2 * (n - low) + (high - low)
 
 -- one of the hauls has a cut, for a piece of the level or of a lower one
 abbrev pub HasCutWithin : List Haul → ℕ → Type 0
-HasCutWithin hauls level = (s : Settled) × IsBroughtIn hauls s × (¬ IsNoCut s.found) × (level_of s.piece ≤ level)
+HasCutWithin hauls level = (s : Settled) × IsInHauls hauls s × (¬ IsNoCut s.found) × (level_of s.piece ≤ level)

@@ -13,7 +13,7 @@ abbrev pub IsReady : SplitNetState → Type 0
 IsReady n = IsPlaced (net_by_place n) (length n.graph.nodes)
 
 -- each table has `wide` places
-pub record HasRoom (wide : ℕ) (w : Work) : Type 0 where
+pub record HasWorkRoom (wide : ℕ) (w : Work) : Type 0 where
   pub from : length w.from.items ≡ wide
   pub next : length w.next.items ≡ wide
 
@@ -23,7 +23,7 @@ Holds n w = IsFlow (net_by_place n) (table_of w.from.items) w.ends.items
 
 -- each table has a place for each node of the net, and paths of the net are held
 pub record IsWorkOf (n : SplitNetState) (w : Work) : Type 0 where
-  pub room : HasRoom (length n.graph.nodes) w
+  pub room : HasWorkRoom (length n.graph.nodes) w
   pub flow : Holds n w
 
 -- the same paths are held

@@ -77,8 +77,8 @@ abbrev pub IsClean : SplitNetState → Tree → Type 0
 IsClean n t = (x : ℕ) → Has t.order.items x → ¬ Has n.targets x
 
 -- the last node reached is a target
-abbrev pub IsEnded : SplitNetState → Tree → Type 0
-IsEnded n t = Has n.targets (get_or t.order.items (length t.order.items - 1) 0)
+abbrev pub IsSearchEnded : SplitNetState → Tree → Type 0
+IsSearchEnded n t = Has n.targets (get_or t.order.items (length t.order.items - 1) 0)
 
 -- no target is reached, and each node that x is linked to is seen
 pub record IsSweptAt (n : SplitNetState) (x : ℕ) (t : Tree) : Type 0 where

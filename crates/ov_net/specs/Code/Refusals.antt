@@ -1,4 +1,4 @@
--- What the functions that judge an event answer.
+-- What the functions that judge an event return.
 use Rattle.std.specs.Prelude.{◌≡◌, ◌⊎◌, ℕ, Option, Some, None, Result, Ok, Err}
 use Rattle.std.specs.FinMap as map
 use Rattle.ov_net.specs.Net.{Net, IsGone}

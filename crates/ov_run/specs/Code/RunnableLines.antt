@@ -11,7 +11,7 @@ use Rattle.ov_run.specs.declared.statement.Statement.{Statement}
 use Rattle.ov_run.specs.declared.statement.Statement.TheVariants as says
 use Rattle.ov_run.specs.declared.lines_to_run.Collector.{Collector}
 
--- what a generator of random words answers from now on
+-- what a generator of random words returns from now on
 unfoldable pub stream_now : SeedWords → Stream
 stream_now draws = stream_of (steps_u64_low pcg64) draws.generator
 

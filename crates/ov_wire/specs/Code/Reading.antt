@@ -60,20 +60,20 @@ values_at (field ∷ fields) bytes = do
   Ok (first.0 ∷ others)
 
 -- The result of a function that allocates nothing is what is read; `view` gives the values of what it returned.
-abbrev pub Reads : {X Y : Type 0} → (X → Y) → Result X WireFault → Result Y WireFault → Type 0
-Reads view (Ok x) read = read ≡ Ok (view x)
-Reads view (Err fault) read = read ≡ Err fault
+abbrev pub ReadsAs : {X Y : Type 0} → (X → Y) → Result X WireFault → Result Y WireFault → Type 0
+ReadsAs view (Ok x) read = read ≡ Ok (view x)
+ReadsAs view (Err fault) read = read ≡ Err fault
 
 -- The fault is the one that is read; or it is out of memory, and something is read.
-abbrev pub Fails : {Y : Type 0} → WireFault → Result Y WireFault → Type 0
-Fails OutOfMemory read = IsOk read
-Fails Short read = read ≡ Err Short
-Fails BadVersion read = read ≡ Err BadVersion
-Fails BadKind read = read ≡ Err BadKind
-Fails BadField read = read ≡ Err BadField
-Fails Trailing read = read ≡ Err Trailing
+abbrev pub FailsReading : {Y : Type 0} → WireFault → Result Y WireFault → Type 0
+FailsReading OutOfMemory read = IsOk read
+FailsReading Short read = read ≡ Err Short
+FailsReading BadVersion read = read ≡ Err BadVersion
+FailsReading BadKind read = read ≡ Err BadKind
+FailsReading BadField read = read ≡ Err BadField
+FailsReading Trailing read = read ≡ Err Trailing
 
--- The same as `Reads` of a function that may be out of memory, but only where something is read.
-abbrev pub Gives : {X Y : Type 0} → (X → Y) → Result X WireFault → Result Y WireFault → Type 0
-Gives view (Ok x) read = read ≡ Ok (view x)
-Gives view (Err fault) read = Fails fault read
+-- The same as `ReadsAs` of a function that may be out of memory, but only where something is read.
+abbrev pub MapsResult : {X Y : Type 0} → (X → Y) → Result X WireFault → Result Y WireFault → Type 0
+MapsResult view (Ok x) read = read ≡ Ok (view x)
+MapsResult view (Err fault) read = FailsReading fault read

@@ -1,6 +1,6 @@
 -- The settled pieces suffice for a certificate.
 use Rattle.std.proofs.Common.{List, sym, subst}
-use Rattle.ov_even.specs.Harvest.{Suffice}
+use Rattle.ov_even.specs.Hauls.{Suffice}
 use Rattle.ov_even.specs.declared.worker_haul.Haul.{Haul}
 use Rattle.ov_crew.proofs.crew.analyse_by.Goals as goal
 

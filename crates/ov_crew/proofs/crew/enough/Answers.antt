@@ -1,7 +1,7 @@
 -- The search takes the hauls of a level's workers. It is a search of the same graph and group.
 use Rattle.std.proofs.Common.{ℕ, List, length, sym, ap, subst, arith}
 use Rattle.ov_graph.specs.Links.{LinkGraph}
-use Rattle.ov_even.specs.Harvest.{AreRight, Suffice}
+use Rattle.ov_even.specs.Hauls.{AreRight, Suffice}
 use Rattle.ov_even.specs.Levels.{AreNumbersOf, IsTried}
 use Rattle.ov_even.specs.Searching.{IsSearched}
 use Rattle.ov_even.proofs.AnalysisSteps.Narrowing.{members_few}

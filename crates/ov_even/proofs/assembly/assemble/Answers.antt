@@ -1,6 +1,6 @@
 -- If there is a node, all nodes are a group.
 use Rattle.std.proofs.Common.{◌∙◌, ◌<◌, List, ℕ, length, sym, subst}
-use Rattle.ov_even.specs.Harvest.{Suffice}
+use Rattle.ov_even.specs.Hauls.{Suffice}
 use Rattle.ov_even.proofs.AnalysisSteps.Assembling.{some_node}
 use Rattle.ov_even.proofs.assembly.assemble.Goals as goal
 

@@ -1,6 +1,6 @@
 -- The haul of a level is handed to the search, which is one of the same graph and group.
 use Rattle.std.proofs.Common.{ap, sym, subst, length, arith}
-use Rattle.ov_even.specs.Harvest.{AreRight, Suffice}
+use Rattle.ov_even.specs.Hauls.{AreRight, Suffice}
 use Rattle.ov_even.specs.Levels.{SearchState, IsTried}
 use Rattle.ov_even.specs.Searching.{IsSearched}
 use Rattle.ov_even.specs.Code.Narrowing.{tries_left}

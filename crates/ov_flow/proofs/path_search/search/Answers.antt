@@ -3,7 +3,7 @@ use Rattle.std.proofs.Common.{ℕ, ◌<◌, Bool, MatchBool, get_or, sym, subst,
 use Rattle.ov_ids.proofs.Members.{place_of}
 use Rattle.ov_graph.specs.Links.{Linked}
 use Rattle.ov_split.specs.Places.{net_by_place}
-use Rattle.ov_flow.specs.Code.Reached.{IsEnded, IsVisited}
+use Rattle.ov_flow.specs.Code.Reached.{IsSearchEnded, IsVisited}
 use Rattle.ov_flow.specs.Code.Walked.{table_of}
 use Rattle.ov_flow.proofs.Reaching.{tree_bound, all_visited, links_more, backs_more}
 use Rattle.ov_flow.proofs.path_search.search.Goals as goal
@@ -43,7 +43,7 @@ loop-at-preserved c =
     let old = c.loop-at.tree in
     let new = c.visit.new.tree in
     let v = c.in_ok-visit.ensures in
-    let f = subst (λ (b : Bool). MatchBool b (IsEnded n new) (IsVisited n from (get_or old.order.items
+    let f = subst (λ (b : Bool). MatchBool b (IsSearchEnded n new) (IsVisited n from (get_or old.order.items
     c.loop-at.at 0) new))
     c.if-branch.false v.found in
     let lt : c.loop-at.at < length old.order.items = omega arith in

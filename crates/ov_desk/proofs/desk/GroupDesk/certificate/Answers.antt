@@ -1,6 +1,6 @@
 -- If all workers of a sound desk have ended, their hauls suffice for a certificate.
 use Rattle.std.proofs.Common.{◌≡◌, ◌∙◌, ℕ, List, sym, ap, subst}
-use Rattle.ov_even.specs.Harvest.{Suffice}
+use Rattle.ov_even.specs.Hauls.{Suffice}
 use Rattle.ov_desk.specs.Desk.{GroupDeskState}
 use Rattle.ov_desk.specs.Code.Kept.{pieces_in}
 use Rattle.ov_desk.proofs.Deciding.{ended_suffices}

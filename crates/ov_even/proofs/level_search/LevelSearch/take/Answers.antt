@@ -1,6 +1,6 @@
 -- A level without a cut becomes the cleared one. A cut in the level just above the cleared one suffices.
 use Rattle.std.proofs.Common.{ℕ, List, sym, subst, arith}
-use Rattle.ov_even.specs.Harvest.{AreRight, Suffice}
+use Rattle.ov_even.specs.Hauls.{AreRight, Suffice}
 use Rattle.ov_even.specs.Levels.{IsTried, SearchState}
 use Rattle.ov_even.specs.Code.Narrowing.{HasCutWithin}
 use Rattle.ov_even.specs.declared.worker_haul.Haul.{Haul}

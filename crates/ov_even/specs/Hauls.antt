@@ -16,21 +16,21 @@ abbrev pub SettlesNumber : LinkGraph → List ℕ → List Settled → ℕ → S
 SettlesNumber g q pieces number s = Has pieces s × IsNumbered (length g.nodes) (length q) number s.piece
 
 -- a settled piece is in one of the hauls
-abbrev pub IsBroughtIn : List Haul → Settled → Type 0
-IsBroughtIn hauls s = (haul : Haul) × Has hauls haul × Has haul.pieces.items s
+abbrev pub IsInHauls : List Haul → Settled → Type 0
+IsInHauls hauls s = (haul : Haul) × Has hauls haul × Has haul.pieces.items s
 
 -- every settled piece in the hauls has a right result for the graph and the group
 abbrev pub AreRight : LinkGraph → List ℕ → List Haul → Type 0
-AreRight g q hauls = (s : Settled) → IsBroughtIn hauls s → IsPiece g q s.piece × IsRight g q s
+AreRight g q hauls = (s : Settled) → IsInHauls hauls s → IsPiece g q s.piece × IsRight g q s
 
 -- the piece is cleared: it is a linked pair, or the hauls have it without a cut
 abbrev pub IsCleared : LinkGraph → List ℕ → List Haul → Piece → Type 0
-IsCleared g q hauls r = IsLinkedPair g q r ⊎ ((t : Settled) × IsBroughtIn hauls t × (t.piece ≡ r) × IsNoCut t.found)
+IsCleared g q hauls r = IsLinkedPair g q r ⊎ ((t : Settled) × IsInHauls hauls t × (t.piece ≡ r) × IsNoCut t.found)
 
 -- a piece with a cut decides: every piece before it is cleared, of its own level and of the level below. Lower levels
 -- need not be cleared, since their pieces are then good as well
 pub record Decides (g : LinkGraph) (q : List ℕ) (hauls : List Haul) (s : Settled) : Type 0 where
-  pub there : IsBroughtIn hauls s
+  pub there : IsInHauls hauls s
   pub cut : ¬ IsNoCut s.found
   pub before : (r : Piece) → IsPiece g q r → ComesBefore r s.piece → level_of s.piece ≤ level_of r + 1
       → IsCleared g q hauls r
