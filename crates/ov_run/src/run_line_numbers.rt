@@ -13,7 +13,7 @@ use std::alloc::Global;
 /// order. All lines are counted, from 1. Where the file says a scenario, there are as many numbers as lines to run, and
 /// the n-th number is that of the line that asks for the n-th of these. OutOfMemory (99) is returned where an
 /// allocation was refused.
-#[tactic(auto, using(crate::proofs::Scenarios::Numbered::as_many, crate::proofs::Scenarios::Numbered::one_by_one))]
+#[tactic(auto, using(crate::proofs::Scenarios::Numbered::one_by_one))]
 pub fn numbers_of_run_lines(alloc: Global, bytes: &[u8]) -> Result<Vec<usize>, OutOfMemory>
     ensures numbers { IfOk result (λ numbers. numbers.items ≡ map (λ line. line.number) (lines_that_run bytes.now)) }
     ensures each { (s : Scenario) → IsScenario bytes.now s

@@ -131,20 +131,3 @@ one_by_one bytes s is =
     let (drawn, left, draws, asks) = is.lines in
     subst (λ said. AskOneByOne said s.lines.items) (sym (said_by (stated_lines bytes)))
     (asks_in_turn (map (λ (l : Stated). l.says) (stated_lines bytes)) drawn s.lines.items asks)
-
-long : (said : List (Option Statement)) (lines : List Line) → AskOneByOne said lines → length said ≡ length lines
-unfolding AskOneByOne
-long [] [] asks = refl
-long [] (own ∷ lines) asks = absurd asks
-long (said ∷ more) [] asks = absurd asks
-long (said ∷ more) (own ∷ lines) asks = ap suc (long more lines asks.1)
-
--- there are as many of them as lines that run
-pub as_many :
-    (bytes found : List ℕ) → found ≡ map (λ (l : Stated). l.number) (lines_that_run bytes)
-    → (s : Scenario) → IsScenario bytes s → length found ≡ length s.lines.items
-as_many bytes found are s is =
-    ap length are
-    ∙ length-map (lines_that_run bytes) (λ (l : Stated). l.number)
-    ∙ sym (length-map (lines_that_run bytes) (λ (l : Stated). l.says))
-    ∙ long (map (λ (l : Stated). l.says) (lines_that_run bytes)) s.lines.items (one_by_one bytes s is)

@@ -1,7 +1,7 @@
--- How the numbering begins, and that there are as many numbers as lines that run.
-use Rattle.std.proofs.Common.{rules, ◌≡◌, [], length, ap, arith}
+-- How the numbering begins.
+use Rattle.std.proofs.Common.{length, ap, arith}
 use Rattle.ov_run.specs.Code.Kept.{lines_left}
-use Rattle.ov_run.proofs.Scenarios.Numbered.{begun, all_numbered, as_many}
+use Rattle.ov_run.proofs.Scenarios.Numbered.{begun}
 use Rattle.ov_run.proofs.run_line_numbers.numbers_of_run_lines.Goals as goal
 
 pub loop-line-init : goal.loop-line-init
@@ -13,10 +13,3 @@ loop-line-init c =
           c.new-lines.ensures.all;
       room = omega (arith, same, c.new-lines.ensures.count);
     }
-
-pub returns-clause-count : goal.returns-clause-count
-returns-clause-count c =
-    let none : lines_left c.loop-line.lines ≡ [] = search rules in
-    as_many c.args.bytes.now c.loop-line.numbers.items
-    (all_numbered c.args.bytes.now c.loop-line.numbers.items (lines_left c.loop-line.lines)
-    c.loop-line.invariant.numbered none)
