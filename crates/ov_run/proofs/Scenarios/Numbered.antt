@@ -1,8 +1,7 @@
 -- The lines that ask for a line to run, and those that run.
-use Rattle.std.proofs.Common.{◌≡◌, ◌∙◌, ℕ, suc, Bool, true, false, if◌then◌else◌, List, [], ◌∷◌, ◌++◌, append_assoc}
-use Rattle.std.proofs.Common.{append-nil, length, map, Option, Some, None, refl, ap, sym, subst}
+use Rattle.std.proofs.Common.{◌≡◌, ◌∙◌, ℕ, Bool, true, false, if◌then◌else◌, List, [], ◌∷◌, ◌++◌, append_assoc}
+use Rattle.std.proofs.Common.{append-nil, map, Option, Some, None, refl, ap, sym, subst}
 use Rattle.std.specs.List.{filter}
-use Rattle.std.proofs.lemmas.List.{length-map}
 use Rattle.ov_run.specs.Lines.{kept_lines}
 use Rattle.ov_run.specs.RunLines.{asks_for_line, lines_that_run, AskOneByOne}
 use Rattle.ov_run.specs.Scenarios.{stated_at, stated_lines, AskFor, IsScenario}
