@@ -1,4 +1,4 @@
-ghost use Rattle.std.specs.Prelude.{◌≡◌, take, Ok, Err, None, IsTrue, IsFalse, IfOk};
+ghost use Rattle.std.specs.Prelude.{◌≡◌, ◌≢◌, take, Ok, Err, None, IsTrue, IsFalse, IfOk, IsOk};
 ghost use Rattle.std.specs.Cow.{cow_str_bytes};
 ghost use Rattle.std.specs.Io.{WritesAtMost};
 ghost use Rattle.std.specs.Str.{chars};
@@ -105,7 +105,8 @@ pub fn failure_text(
     fault: JudgeFault,
     name: &str,
 ) -> Result<CowStr<'static>, OutOfMemory>
-    ensures { IfOk result (λ text. cow_str_bytes text ≡ failure_text (chars name.now) fault) }
+    ensures text { IfOk result (λ text. cow_str_bytes text ≡ failure_text (chars name.now) fault) }
+    ensures told { fault ≢ JudgeFault.Read → IsOk result }
 {
     match fault {
         JudgeFault::Read => Ok(CowStr::Owned(unread_text(alloc, name)?)),
