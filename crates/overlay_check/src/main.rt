@@ -1,9 +1,9 @@
 //! Reads a certificate file, and says in one line whether it holds.
 #![tactic(auto)]
 
-ghost use Rattle.std.specs.Prelude.{◌≡◌, ◌<◌};
-ghost use Rattle.ov_io.specs.Device.{most_faults};
-ghost use Rattle.ov_check.specs.Program.{exit_status};
+ghost use Rattle.std.specs.Prelude.{◌≡◌, ◌+◌, ◌<◌, Err, IfOk};
+ghost use Rattle.ov_io.specs.Device.{most_faults, write_faults};
+ghost use Rattle.ov_check.specs.Faults.{number_of};
 ghost use Rattle.ov_check.specs.Run.{Prints};
 
 use ov_check::{
@@ -24,24 +24,24 @@ use std::thread::Threads;
 const LONGEST_PATH: usize = 4096;
 
 fn main(rt: HostRuntime) -> ExitCode {
-    ExitCode::from(run(&rt))
+    ExitCode::from(exit_status(&run(&rt)))
 }
 
-/// Judges the input that the arguments name. Argument 0, the program's own path, is not looked at. Returns the status.
-fn run<R: Runtime + AllocGlobal + Threads + Sync>(rt: &R) -> u8 {
+/// Judges the input that the arguments name. Argument 0, the program's own path, is not looked at. Ok: the status of
+/// the outcome.
+fn run<R: Runtime + AllocGlobal + Threads + Sync>(rt: &R) -> Result<u8, ProgramFault> {
     let mut room = [0u8; LONGEST_PATH];
     let length = rt.arg(1, &mut room);
     match input_named(length, &room, has_argument(rt, 2)) {
         Ok(None) => {
             let mut sink = Sink::new(io::writer(rt));
-            judge_from(rt, rt.reader(), &mut sink, "standard input")
+            Ok(judge_from(rt, rt.reader(), &mut sink, "standard input")?)
         }
-        Ok(Some(path)) => judge_file(rt, path),
+        Ok(Some(path)) => Ok(judge_file(rt, path)?),
         Err(fault) => {
-            let status = end(rt, &Err(fault));
             let why = why_no_input(&fault);
-            let _ = eprintln!(rt; "{why}");
-            status
+            let _ = eprintln!(rt; "{fault}\n{why}");
+            Err(fault)
         }
     }
 }
@@ -51,57 +51,62 @@ fn has_argument(rt: &impl Env, place: usize) -> bool {
     !matches!(rt.arg(place, &mut []), Err(FillError::NotPresent))
 }
 
-/// Prints why no line of an outcome was printed, if none was, and returns the status.
-fn end(rt: &impl Runtime, answer: &Result<u8, ProgramFault>) -> u8
-    ensures { result ≡ exit_status answer.now }
+/// Prints the line of a fault of the judge.
+fn print_fault(rt: &impl Runtime, fault: JudgeFault) -> JudgeFault
+    ensures { result ≡ fault }
 {
-    if let Err(fault) = answer {
-        let _ = eprintln!(rt; "{fault}");
-    }
-    exit_status(answer)
+    let line = ProgramFault::Judge(fault);
+    let _ = eprintln!(rt; "{line}");
+    fault
 }
 
 /// Judges what the file of this name has.
-fn judge_file<R: Runtime + AllocGlobal + Threads + Sync>(rt: &R, path: &str) -> u8 {
+fn judge_file<R: Runtime + AllocGlobal + Threads + Sync>(
+    rt: &R,
+    path: &str,
+) -> Result<u8, JudgeFault> {
     match File::open(rt, path) {
         Ok(file) => {
             let mut sink = Sink::new(io::writer(rt));
             judge_from(rt, file, &mut sink, path)
         }
         Err(error) => {
-            let status = end(rt, &Err(ProgramFault::Judge(JudgeFault::Read)));
+            let ended = print_fault(rt, JudgeFault::Read);
             if let Ok(text) = unopened_text(rt.alloc(), path, &error) {
                 let _ = eprintln!(rt; "{text}");
             }
-            status
+            Err(ended)
         }
     }
 }
 
-/// Judges what a reader gives. Where that can't be read, it is named. The status that is returned is 0 only where the
-/// bytes that were read say an exact number, and the line of their outcome was written.
+/// Judges what a reader gives, and writes the line of the outcome. Ok: the status of the outcome, which is 0 only where
+/// the bytes that were read say an exact number. Not Ok: the fault is told, and the name of what can't be read.
 fn judge_from<R: Runtime + AllocGlobal + Threads + Sync, I: Read + Drop, W: Write>(
     rt: &R,
     reader: I,
     sink: &mut Sink<W>,
     name: &str,
-) -> u8
+) -> Result<u8, JudgeFault>
     requires { sink.old.faults < most_faults }
-    ensures { result ≡ 0
-        → Prints (I.remaining reader) (W.contents sink.old.writer) (W.contents sink.new.writer) result }
+    ensures prints { IfOk result
+        (Prints (I.remaining reader) (W.contents sink.old.writer) (W.contents sink.new.writer)) }
+    ensures unread { result ≡ Err JudgeFault.Read → sink.new ≡ sink.old }
+    ensures no_memory { result ≡ Err JudgeFault.OutOfMemory → sink.new ≡ sink.old }
+    ensures sink { sink.new.faults ≡ sink.old.faults + write_faults number_of result }
 {
     let mut source = Source::new(reader);
     match judge_kept(rt, &mut source, sink) {
         Ok(judged) => {
             explain(rt, &judged);
-            end(rt, &Ok(judged.outcome.status()))
+            Ok(judged.outcome.status())
         }
         Err(fault) => {
-            let status = end(rt, &Err(ProgramFault::Judge(fault)));
+            let ended = print_fault(rt, fault);
             if let Ok(text) = failure_text(rt.alloc(), fault, name) {
                 let _ = eprintln!(rt; "{text}");
             }
-            status
+            Err(ended)
         }
     }
 }
