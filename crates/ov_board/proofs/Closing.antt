@@ -16,8 +16,8 @@ use Rattle.ov_claims.proofs.Changing.{one_worker}
 use Rattle.ov_claims.proofs.Staying.{stays_legal}
 use Rattle.ov_claims.proofs.Ending.{ends_done}
 use Rattle.ov_board.specs.Rule.{Numbered, times, ShowsClaims}
-use Rattle.ov_board.specs.declared.view.BoardSize.{BoardSize}
-use Rattle.ov_board.specs.declared.view.SeatView.{SeatView}
+use Rattle.ov_board.specs.declared.ghost_views.BoardSize.{BoardSize}
+use Rattle.ov_board.specs.declared.ghost_views.SeatView.{SeatView}
 use Rattle.ov_board.specs.Board.{BoardState, SeatState, IsClosed}
 use Rattle.ov_board.specs.Code.Rule.{fresh_from, opening_view, spent_view}
 use Rattle.ov_board.proofs.Views.{IsAt, hit, sum_written, times_has}

@@ -13,8 +13,8 @@ use Rattle.ov_claims.proofs.Changing.{after, here, elsewhere}
 use Rattle.ov_claims.proofs.Staying.{stays_legal}
 use Rattle.ov_claims.proofs.Turns.{next_small}
 use Rattle.ov_board.specs.Rule.{Numbered, times, ShowsClaims}
-use Rattle.ov_board.specs.declared.view.BoardSize.{BoardSize}
-use Rattle.ov_board.specs.declared.view.SeatView.{SeatView}
+use Rattle.ov_board.specs.declared.ghost_views.BoardSize.{BoardSize}
+use Rattle.ov_board.specs.declared.ghost_views.SeatView.{SeatView}
 use Rattle.ov_board.specs.Code.Rule.{Holder, with_seated, head_of, number_of, worker_of}
 use Rattle.ov_board.specs.Board.{BoardState, SeatState, IsExchange}
 use Rattle.ov_board.specs.Code.Rule.{seat_state, Exchanged, Claimed, Looked, Failed}

@@ -10,8 +10,8 @@ use Rattle.atomic_table.proofs.Lists.{at_set, at_snoc}
 use Rattle.ov_ids.specs.Members.{Has}
 use Rattle.ov_ids.proofs.Members.{has_append_cases}
 use Rattle.ov_board.specs.Rule.{Numbered, times, ShowsClaims}
-use Rattle.ov_board.specs.declared.view.BoardSize.{BoardSize}
-use Rattle.ov_board.specs.declared.view.SeatView.{SeatView}
+use Rattle.ov_board.specs.declared.ghost_views.BoardSize.{BoardSize}
+use Rattle.ov_board.specs.declared.ghost_views.SeatView.{SeatView}
 use Rattle.ov_board.specs.Code.Rule.{others_of, first_of, both_of, spent_view, Entered}
 use Rattle.ov_board.proofs.Views.{IsAt, hit, sum_written}
 

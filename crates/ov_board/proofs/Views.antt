@@ -11,8 +11,8 @@ use Rattle.atomic_table.specs.Table.{State}
 use Rattle.ov_ids.specs.Members.{Has}
 use Rattle.ov_claims.specs.Claims.{WorkerState}
 use Rattle.ov_board.specs.Rule.{Numbered, times, ShowsClaims}
-use Rattle.ov_board.specs.declared.view.BoardSize.{BoardSize}
-use Rattle.ov_board.specs.declared.view.SeatView.{SeatView}
+use Rattle.ov_board.specs.declared.ghost_views.BoardSize.{BoardSize}
+use Rattle.ov_board.specs.declared.ghost_views.SeatView.{SeatView}
 
 -- this view stands at this place
 abbrev pub IsAt : List SeatView → ℕ → SeatView → Type 0

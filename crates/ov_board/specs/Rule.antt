@@ -8,8 +8,8 @@ use lib.ListN.{get_elem?}
 use Rattle.atomic_table.specs.Table.{State}
 use Rattle.ov_ids.specs.Members.{Has}
 use Rattle.ov_claims.specs.Claims.{WorkerState, DeskState, HasWorker, AreSoundClaims}
-use Rattle.ov_board.specs.declared.view.BoardSize.{BoardSize}
-use Rattle.ov_board.specs.declared.view.SeatView.{SeatView}
+use Rattle.ov_board.specs.declared.ghost_views.BoardSize.{BoardSize}
+use Rattle.ov_board.specs.declared.ghost_views.SeatView.{SeatView}
 
 -- a worker with its number
 abbrev pub Numbered : Type 0

@@ -1,10 +1,10 @@
 //! The claim board: two words at which workers in threads claim numbers, look, and fail, without waiting.
 #![tactic(auto)]
 
-mod board;
-mod rule;
+mod claim_board;
+mod exchange_rule;
+mod ghost_views;
 mod seat;
-mod view;
 
-pub use board::Board;
+pub use claim_board::Board;
 pub use seat::Seat;

@@ -1,6 +1,6 @@
 ghost use Rattle.std.specs.Prelude.{◌≡◌};
 
-use crate::view::SeatView;
+use crate::ghost_views::SeatView;
 use atomic_table::Seat as TableSeat;
 use std::marker::Model;
 

@@ -16,7 +16,7 @@ use Rattle.ov_cert.specs.declared.cert.Cert.TheVariants as cert
 use Rattle.ov_cert.specs.declared.cert.Split.{Split}
 use Rattle.ov_cert.specs.declared.cert.PairPaths.{PairPaths}
 use Rattle.ov_cert.specs.declared.cert.FanPaths.{FanPaths}
-use Rattle.ov_cert.specs.declared.entry.Expected.TheVariants as entry
+use Rattle.ov_cert.specs.declared.expected_entry.Expected.TheVariants as entry
 use Rattle.ov_cert.specs.declared.fault.CheckFault.{CheckFault}
 use Rattle.ov_cert.specs.declared.fault.CheckFault.TheVariants.{Count, Cut, Side, Pair, Fan, Extra, NotLinked}
 use Rattle.ov_cert.specs.declared.fault.CheckFault.TheVariants.{NoNodes, BadGroup}

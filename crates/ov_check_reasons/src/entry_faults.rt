@@ -4,7 +4,7 @@ ghost use Rattle.ov_graph.specs.Even.{later_members};
 ghost use Rattle.ov_ids.specs.Members.{Has};
 ghost use Rattle.ov_graph.specs.Links.{IsGroup};
 ghost use Rattle.ov_cert.specs.declared.cert.Cert.TheVariants as cert;
-ghost use Rattle.ov_cert.specs.declared.entry.Expected.TheVariants.{Pair, Fan};
+ghost use Rattle.ov_cert.specs.declared.expected_entry.Expected.TheVariants.{Pair, Fan};
 ghost use Rattle.ov_cert.specs.declared.fault.CheckFault.TheVariants as fault;
 ghost use Rattle.ov_cert.specs.Entries.{IsExpected};
 ghost use Rattle.ov_cert.specs.Valid.{AreUnlinkedPairs};

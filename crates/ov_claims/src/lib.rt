@@ -1,11 +1,11 @@
 //! Workers that share out numbers, until one of them fails.
 #![tactic(auto)]
 
-mod desk;
+mod claim_desk;
 mod theorems;
-mod worker;
-mod workers;
+mod worker_claims;
+mod worker_count;
 
-pub use desk::Desk;
+pub use claim_desk::Desk;
 pub use theorems::{ends_done, stays_legal};
-pub use workers::Workers;
+pub use worker_count::Workers;

@@ -8,9 +8,9 @@ ghost use Rattle.ov_even.specs.declared.fault.AnalyseFault.TheVariants.{OutOfMem
 ghost use Rattle.ov_crew.specs.Hauls.{IsHaulOf};
 ghost use Rattle.ov_crew.specs.Code.Crews.{IsNewAt, IsRange, HasWorked, outcomes};
 
-use crate::gate::Gate;
-use crate::hiring::Hiring;
+use crate::claim_gate::Gate;
 use crate::naming_crew::name_by_crew;
+use crate::thread_count::Hiring;
 use crate::worker::work_range;
 use ov_board::{Board, Seat};
 use ov_cert::{Checked, are_all_linked};

@@ -1,10 +1,10 @@
 //! A desk at which workers share out the pieces of Even's test, until one piece decides.
 #![tactic(auto)]
 
-mod desk;
-mod hand;
+mod group_desk;
+mod next_turn;
 mod theorems;
 
-pub use desk::GroupDesk;
-pub use hand::Hand;
+pub use group_desk::GroupDesk;
+pub use next_turn::Hand;
 pub use theorems::{ended_decides, stays_sound};

@@ -13,7 +13,7 @@ use crate::certificate_entries::member;
 use crate::first_piece_with_cut::first_cut;
 use crate::level_pieces::{LevelPieces, place_in_level};
 use crate::path_naming::FoundPaths;
-use crate::settled_paths::slots_of;
+use crate::paths_by_piece::slots_of;
 use crate::worker_haul::Haul;
 use ov_cert::are_all_linked;
 use ov_fans::Piece;

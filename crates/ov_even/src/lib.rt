@@ -12,10 +12,10 @@ mod level_pieces;
 mod level_search;
 mod level_trying;
 mod path_naming;
+mod paths_by_piece;
 mod piece_numbers;
 mod piece_order;
 mod progress_watcher;
-mod settled_paths;
 mod theorems;
 mod worker_haul;
 

@@ -1,7 +1,6 @@
 //! The pieces of Even's test. For each its paths are found, or its nearest least cut.
 #![tactic(auto)]
 
-mod far_member;
 mod piece;
 mod piece_net;
 mod piece_paths;
@@ -9,6 +8,7 @@ mod row_nodes;
 mod settled;
 mod settler;
 mod settler_group;
+mod target_past_cut;
 mod theorems;
 
 pub use piece::Piece;

@@ -6,12 +6,12 @@ ghost use Rattle.ov_fans.specs.Cuts.{IsRight, IsFoundFor, IsParted};
 ghost use Rattle.ov_fans.specs.Theorems.{IsNoCut};
 ghost use Rattle.ov_fans.specs.Code.Nets.{net_of};
 
-use crate::far_member::far_of;
 use crate::piece::Piece;
 use crate::piece_net::{aim_for, is_linked_pair};
 use crate::row_nodes::nodes_of_row;
 use crate::settled::{Found, Parting, Settled};
 use crate::settler_group::SettlerGroup;
+use crate::target_past_cut::far_of;
 use ov_flow::{CutRows, Flow};
 use ov_graph::Graph;
 use ov_graph::row::EMPTY;

@@ -3,8 +3,8 @@ ghost use Rattle.ov_graph.specs.Paths.{node_at};
 ghost use Rattle.ov_split.specs.SplitNetState.{IsFanOf};
 ghost use Rattle.ov_flow.specs.Flow.{FlowState, IsFullBy, IsAugmentation, ArePlaces};
 
+use crate::augmenting_paths::{Work, augment, new_work, settle};
 use crate::flat_paths::{PlacePaths, write_paths};
-use crate::search_buffers::{Work, augment, new_work, settle};
 use crate::search_result::{Augmentation, CutRows, stuck_at};
 use ov_ids::OutOfMemory;
 use ov_split::SplitNet;

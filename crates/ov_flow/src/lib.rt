@@ -1,13 +1,13 @@
 //! Paths from one node that share only this node, found one after another.
 #![tactic(auto)]
 
+mod augmenting_paths;
 mod flat_path_reading;
 mod flat_paths;
 mod flow;
 mod one_link_paths;
-mod path_copying;
 mod path_search;
-mod search_buffers;
+mod path_table;
 mod search_result;
 mod search_tree;
 mod walk_taking;

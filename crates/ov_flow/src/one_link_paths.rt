@@ -2,7 +2,7 @@
 ghost use Rattle.std.specs.Prelude.{◌≡◌, ℕ, ◌≤◌, [], length, OnOk};
 ghost use Rattle.ov_flow.specs.Code.Held.{IsReady, IsWorkOf};
 
-use crate::search_buffers::Work;
+use crate::augmenting_paths::Work;
 use ov_graph::row::{both, first_from, without};
 use ov_split::SplitNet;
 use std::alloc::AllocError;

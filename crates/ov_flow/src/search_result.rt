@@ -3,7 +3,7 @@ ghost use Rattle.std.specs.Prelude.{◌≡◌, ℕ, length};
 ghost use Rattle.ov_flow.specs.Code.Held.{IsReady, IsWorkOf, IsAtEnd};
 ghost use Rattle.ov_flow.specs.Flow.{IsFullBy};
 
-use crate::search_buffers::Work;
+use crate::augmenting_paths::Work;
 use ov_graph::row::{Row, without};
 use ov_split::SplitNet;
 

@@ -9,7 +9,7 @@ ghost use Rattle.ov_graph.specs.Code.Shifts.{HasOpened, HasClosed};
 ghost use Rattle.ov_graph.specs.Code.Kept.{row_at, graph_kept, IsKept};
 ghost use Rattle.ov_graph.specs.declared.row.TheConstants.{EMPTY};
 
-use crate::adjacency::{mark, unmark};
+use crate::adjacency_rows::{mark, unmark};
 use crate::places::{place_for, place_in};
 use crate::row::{EMPTY, Row, WORDS, words_for};
 use crate::row_shift::{closed, opened};

@@ -10,7 +10,7 @@ ghost use Rattle.ov_graph.specs.declared.fault.GraphFault.TheVariants.{OutOfMemo
 ghost use Rattle.ov_ids.specs.FaultOrder.{IsRefusedBy};
 ghost use Rattle.ov_ids.specs.Members.{Has};
 
-use crate::adjacency::rows_of;
+use crate::adjacency_rows::rows_of;
 use crate::changing::{join, part, put_in, take_out};
 use crate::fault::GraphFault;
 use crate::neighbours::{Links, Neighbours};

@@ -1,7 +1,7 @@
 //! Graphs: nodes, which are ids, and the links between them.
 #![tactic(auto)]
 
-mod adjacency;
+mod adjacency_rows;
 mod changing;
 mod fault;
 mod graph;

@@ -3,20 +3,20 @@
 //! faults.
 #![tactic(auto)]
 
+mod ascending_order;
 mod id;
+mod id_limit;
 mod id_set;
-mod limits;
+mod list_value;
 mod memory;
-mod order;
 mod params;
-mod seq;
 mod text;
 
+pub use ascending_order::is_ascending;
 pub use id::{MsgId, NodeId};
+pub use id_limit::NUMBER_LIMIT;
 pub use id_set::{IdSet, MOST_MEMBERS, place_for};
-pub use limits::NUMBER_LIMIT;
+pub use list_value::Seq;
 pub use memory::OutOfMemory;
-pub use order::is_ascending;
 pub use params::{BadParams, LONGEST_WALK, MOST_ACTIVE, MOST_PASSIVE, MOST_SAMPLED, Params};
-pub use seq::Seq;
 pub use text::IdsText;

@@ -2,8 +2,8 @@
 //! by the other.
 #![tactic(auto)]
 
-mod counted;
 mod fault;
+mod fault_counting;
 mod name;
 mod sink;
 mod source;

@@ -6,9 +6,9 @@ use Rattle.ov_ids.specs.Members.{Has}
 use Rattle.ov_ids.specs.declared.id.MsgId.{MsgId}
 use Rattle.ov_graph.specs.Links.{LinkGraph, IsGraph, Linked}
 use Rattle.ov_net.specs.declared.event.Event.TheVariants.{Broadcast}
-use Rattle.ov_net.specs.declared.journal_entry.Change.{Change}
-use Rattle.ov_net.specs.declared.journal_entry.Change.TheVariants.{Born, Up, Down, Gone}
-use Rattle.ov_net.specs.declared.journal_entry.Entry.{Entry}
+use Rattle.ov_net.specs.declared.entry_and_changes.Change.{Change}
+use Rattle.ov_net.specs.declared.entry_and_changes.Change.TheVariants.{Born, Up, Down, Gone}
+use Rattle.ov_net.specs.declared.entry_and_changes.Entry.{Entry}
 
 -- all changes of these entries, in order
 abbrev pub changes_of : List Entry → List Change

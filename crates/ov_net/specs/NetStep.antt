@@ -12,9 +12,9 @@ use Rattle.ov_peer.specs.declared.input.Delivery.{Delivery}
 use Rattle.ov_peer.specs.declared.input.Input.{Input}
 use Rattle.ov_peer.specs.declared.input.Input.TheVariants as input
 use Rattle.ov_net.specs.Net.{Net, LivesAs, IsGone}
-use Rattle.ov_net.specs.declared.journal_entry.Change.{Change}
-use Rattle.ov_net.specs.declared.journal_entry.Change.TheVariants.{Born, Up, Down, Gone}
-use Rattle.ov_net.specs.declared.journal_entry.Entry.{Entry}
+use Rattle.ov_net.specs.declared.entry_and_changes.Change.{Change}
+use Rattle.ov_net.specs.declared.entry_and_changes.Change.TheVariants.{Born, Up, Down, Gone}
+use Rattle.ov_net.specs.declared.entry_and_changes.Entry.{Entry}
 use Rattle.ov_net.specs.declared.event.Event.{Event}
 use Rattle.ov_net.specs.declared.event.Event.TheVariants.{Boot, Deliver, Lose, Repeat, Crash, CrashReport, Shuffle}
 use Rattle.ov_net.specs.declared.event.Event.TheVariants.{Broadcast, Timer, Snapshot}

@@ -10,8 +10,8 @@ use Rattle.ov_plum.specs.PlumState.{HeldState}
 use Rattle.ov_net.specs.Journal.{changes_of, node_of, HasActive, Live, Delivers, DeliversOnce}
 use Rattle.ov_net.specs.Limits.{most_world_nodes, most_packets, most_entries}
 use Rattle.ov_net.specs.Net.{Net, LivesAs, HaveOwnIds}
-use Rattle.ov_net.specs.declared.journal_entry.Change.{Change}
-use Rattle.ov_net.specs.declared.journal_entry.Entry.{Entry}
+use Rattle.ov_net.specs.declared.entry_and_changes.Change.{Change}
+use Rattle.ov_net.specs.declared.entry_and_changes.Entry.{Entry}
 use Rattle.ov_net.specs.declared.event.Event.TheVariants.{Broadcast}
 
 -- the nodes and packets as they are now, and the journal of all events so far

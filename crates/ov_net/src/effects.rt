@@ -1,4 +1,4 @@
-use crate::journal_entry::Change;
+use crate::entry_and_changes::Change;
 use crate::packet::Packet;
 use ov_ids::{NodeId, Seq};
 use ov_peer::{Delivery, Peer, Plan};

@@ -9,8 +9,8 @@ ghost use Rattle.ov_net.specs.declared.event.Event.TheVariants.{Boot, Deliver, L
 ghost use Rattle.ov_net.specs.declared.event.Event.TheVariants.{CrashReport, Shuffle, Broadcast, Timer};
 
 use crate::effects::{Effects, NodeChange};
+use crate::entry_and_changes::Change;
 use crate::event::Event;
-use crate::journal_entry::Change;
 use crate::member::Member;
 use crate::node_planning::{effects_of_birth, effects_of_input};
 use crate::packet::Packet;

@@ -3,11 +3,11 @@
 #![tactic(auto)]
 
 mod effects;
+mod entry_and_changes;
 mod event;
 mod event_judging;
 mod event_planning;
 mod fault;
-mod journal_entry;
 mod member;
 mod mutual_links;
 mod node_planning;
@@ -16,9 +16,9 @@ mod packet;
 mod theorems;
 mod world;
 
+pub use entry_and_changes::{Change, Entry};
 pub use event::Event;
 pub use fault::NetFault;
-pub use journal_entry::{Change, Entry};
 pub use member::Member;
 pub use packet::Packet;
 pub use theorems::{links_stay, one_graph};

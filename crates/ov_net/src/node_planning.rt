@@ -6,10 +6,10 @@ ghost use Rattle.ov_peer.specs.declared.input.Input.TheVariants.{Boot};
 ghost use Rattle.ov_net.specs.Code.Effects.{AreEffectsOfPlan, AreEffectsOfBirth, PlansInput, SendFew, AreFew};
 ghost use Rattle.ov_net.specs.NetStep.{change_at, DrawnStep};
 ghost use Rattle.ov_net.specs.declared.effects.NodeChange.TheVariants as change;
-ghost use Rattle.ov_net.specs.declared.journal_entry.Change.TheVariants.{Born};
+ghost use Rattle.ov_net.specs.declared.entry_and_changes.Change.TheVariants.{Born};
 
 use crate::effects::{Effects, NodeChange};
-use crate::journal_entry::{Change, copy_delivery};
+use crate::entry_and_changes::{Change, copy_delivery};
 use crate::packet::Packet;
 use ov_ids::{NodeId, OutOfMemory, Params, Seq};
 use ov_peer::{Input, Output, Peer, PeerFault, Plan};

@@ -11,9 +11,9 @@ ghost use Rattle.ov_net.specs.Refusals.{MayHappen, IsBorn, IsRefusal};
 ghost use Rattle.ov_net.specs.World.{Stands, opening_world};
 
 use crate::effects::{Effects, NodeChange};
+use crate::entry_and_changes::Entry;
 use crate::event::Event;
 use crate::fault::NetFault;
-use crate::journal_entry::Entry;
 use crate::member::Member;
 use crate::nodes::Nodes;
 use crate::packet::Packet;

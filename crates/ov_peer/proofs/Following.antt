@@ -8,7 +8,7 @@ use Rattle.ov_wire.specs.declared.message.Body.TheVariants as body
 use Rattle.ov_words.specs.Pick.{Choice}
 use Rattle.ov_views.specs.Allowed.{HyParViewState, boots, hears, hears_of_crash, shuffles}
 use Rattle.ov_views.specs.declared.change.ViewChange.{ViewChange}
-use Rattle.ov_views.specs.declared.moves.Moves.{Moves}
+use Rattle.ov_views.specs.declared.step_effects.Moves.{Moves}
 use Rattle.ov_views.proofs.Tracking.{Tracks, tracked}
 use Rattle.ov_plum.specs.PlumState.{PlumState, is_linked}
 use Rattle.ov_plum.specs.PlumRows.{Delivered, HasPlumStep, PlumInput, receives, broadcasts, fires, goes_up, goes_down}

@@ -5,7 +5,7 @@ use Rattle.ov_words.specs.Pick.{Drawn}
 use Rattle.ov_views.specs.ViewsState.{ViewsState}
 use Rattle.ov_views.specs.NeighborRows.{AttemptState}
 use Rattle.ov_views.specs.Allowed.{HyParViewState, Allowed, hears}
-use Rattle.ov_views.specs.declared.moves.Moves.{Moves}
+use Rattle.ov_views.specs.declared.step_effects.Moves.{Moves}
 
 heard : {E : Type 0} (n : HyParViewState) (from : ℕ) (body said : Body) (words left : List ℕ)
     (before after : HyParViewState → HyParViewState) (r : Result Moves E) → body ≡ said

@@ -10,7 +10,7 @@ use Rattle.ov_plum.specs.declared.plum_change.PlumChange.{PlumChange}
 use Rattle.ov_plum.specs.declared.plum_change.PlumChange.TheVariants.{Nothing, Makes, Holds, Eager, Lazy, Awaits, Asks}
 use Rattle.ov_plum.specs.declared.plum_change.PlumChange.TheVariants.{Clears}
 use Rattle.ov_plum.specs.declared.plum_change.PlumPlan.{PlumPlan}
-use Rattle.ov_plum.specs.declared.spread.Spread.{Spread}
+use Rattle.ov_plum.specs.declared.step_effects.Spread.{Spread}
 
 -- what is kept after the planned change of t
 abbrev pub plum_after : PlumState → PlumChange → PlumState

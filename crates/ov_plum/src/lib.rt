@@ -12,11 +12,11 @@ mod map_by_id;
 mod plum;
 mod plum_change;
 mod senders;
-mod spread;
+mod step_effects;
 mod waiting;
 
 pub use fault::TimerFault;
 pub use held::Held;
 pub use plum::Plum;
 pub use plum_change::{PlumChange, PlumPlan};
-pub use spread::Spread;
+pub use step_effects::Spread;

@@ -14,7 +14,7 @@ use crate::fault::TimerFault;
 use crate::held::Held;
 use crate::map_by_id::ById;
 use crate::plum_change::{PlumChange, PlumPlan};
-use crate::spread::{Spread, whole_message};
+use crate::step_effects::{Spread, whole_message};
 use crate::waiting::Waiting;
 use ov_ids::{MsgId, NodeId, OutOfMemory, Seq};
 use ov_wire::{Body, Message};

@@ -1,5 +1,5 @@
 use crate::held::Held;
-use crate::spread::Spread;
+use crate::step_effects::Spread;
 use ov_ids::{MsgId, NodeId};
 
 /// The planned change of a node's part of Plumtree.

@@ -4,7 +4,7 @@ use Rattle.std.specs.Prelude.{◌≡◌, ◌⊎◌, ℕ, List, [], ◌∷◌, �
 use Rattle.std.specs.Io.KnownBytes.{Appends}
 use Rattle.ov_io.specs.Device.{AppendsPrefixOf}
 use Rattle.ov_net.specs.Net.{LivesAs}
-use Rattle.ov_net.specs.declared.journal_entry.Entry.{Entry}
+use Rattle.ov_net.specs.declared.entry_and_changes.Entry.{Entry}
 use Rattle.ov_peer.specs.PeerState.{PeerState}
 use Rattle.ov_wire.specs.declared.message.Message.{Message}
 use Rattle.ov_snap.specs.CoreState.{CoreState, opening_core}

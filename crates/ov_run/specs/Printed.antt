@@ -7,9 +7,9 @@ use Rattle.ov_certfile.specs.CertLine.{cert_text}
 use Rattle.ov_certfile.specs.DataOf.{data_of}
 use Rattle.ov_graph.specs.Links.{LinkGraph}
 use Rattle.ov_ids.specs.Text.{ids_text}
-use Rattle.ov_net.specs.declared.journal_entry.Change.{Change}
-use Rattle.ov_net.specs.declared.journal_entry.Change.TheVariants.{Born, Up, Down, Gone}
-use Rattle.ov_net.specs.declared.journal_entry.Entry.{Entry}
+use Rattle.ov_net.specs.declared.entry_and_changes.Change.{Change}
+use Rattle.ov_net.specs.declared.entry_and_changes.Change.TheVariants.{Born, Up, Down, Gone}
+use Rattle.ov_net.specs.declared.entry_and_changes.Entry.{Entry}
 use Rattle.ov_peer.specs.declared.input.Delivery.{Delivery}
 use Rattle.ov_peer.specs.PeerState.{PeerState}
 

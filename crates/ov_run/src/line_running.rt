@@ -1,6 +1,6 @@
 ghost use Rattle.std.specs.Prelude.{◌≡◌, ◌⊎◌, ◌<◌, ◌+◌, ◌∷◌, [], IfOk, IfErr, OnOk, IsErrOf};
 ghost use Rattle.ov_io.specs.Device.{most_faults, write_faults as sink_faults, write_number};
-ghost use Rattle.ov_net.specs.declared.journal_entry.Entry.{Entry};
+ghost use Rattle.ov_net.specs.declared.entry_and_changes.Entry.{Entry};
 ghost use Rattle.ov_snap.specs.CoreState.{CoreState, opening_core};
 ghost use Rattle.ov_snap.specs.Run.{Happened};
 ghost use Rattle.ov_run.specs.Ending.{BeginsLines, BeginsLook, EndsLine, EndsLines, EndsLook};

@@ -18,7 +18,7 @@ use Rattle.ov_snap.specs.Refusals.{DeskFilingJudged, FilingJudged, HoldsAt, IsFi
 use Rattle.ov_snap.specs.Snapshots.{IsMoment}
 use Rattle.ov_snap.specs.declared.fault.CoreFault.{CoreFault}
 use Rattle.ov_snap.specs.declared.fault.CoreFault.TheVariants.{AlreadyFiled, NoSuchDesk, NotEnded}
-use Rattle.ov_snap.specs.declared.snapshot.Snapshot.{Snapshot}
+use Rattle.ov_snap.specs.declared.kept_snapshots.Snapshot.{Snapshot}
 use Rattle.ov_snap.proofs.DeskKeeping.{desk_sound, sound_claimed_at, sound_looked_at, sound_more, sound_settled_at}
 
 -- OPENING

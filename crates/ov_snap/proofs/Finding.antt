@@ -12,7 +12,7 @@ use Rattle.ov_ids.proofs.Members.{has_place, ordered_at}
 use Rattle.ov_snap.specs.CoreState.{CoreState, IsSound}
 use Rattle.ov_net.specs.Journal.{AreLinks}
 use Rattle.ov_snap.specs.Snapshots.{IsMoment, WasBefore}
-use Rattle.ov_snap.specs.declared.snapshot.Snapshot.{Snapshot}
+use Rattle.ov_snap.specs.declared.kept_snapshots.Snapshot.{Snapshot}
 
 -- what stands at the place that halving found
 pub found_at : (l : List Snapshot) (k at : ℕ) (r : Result ℕ ℕ) (s : Snapshot) → r ≡ Ok at

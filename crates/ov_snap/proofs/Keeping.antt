@@ -12,7 +12,7 @@ use Rattle.ov_graph.specs.Links.{LinkGraph}
 use Rattle.ov_cert.specs.Valid.{IsValidForGroup}
 use Rattle.ov_cert.proofs.Validity.Exact.{valid_means}
 use Rattle.ov_net.specs.Journal.{AreLinks}
-use Rattle.ov_net.specs.declared.journal_entry.Entry.{Entry}
+use Rattle.ov_net.specs.declared.entry_and_changes.Entry.{Entry}
 use Rattle.ov_net.specs.declared.event.Event.{Event}
 use Rattle.ov_net.specs.declared.event.Event.TheVariants as event
 use Rattle.ov_net.specs.NetStep.{NetStep}
@@ -32,7 +32,7 @@ use Rattle.ov_snap.specs.Run.{Happened}
 use Rattle.ov_snap.specs.Snapshots.{AreSnapshots, IsMoment, IsSnapshot, SnapshotsAfter, WasBefore}
 use Rattle.ov_snap.specs.declared.fault.CoreFault.{CoreFault}
 use Rattle.ov_snap.specs.declared.fault.CoreFault.TheVariants.{NoSuchMoment, OtherGraph, AlreadyFiled}
-use Rattle.ov_snap.specs.declared.snapshot.Snapshot.{Snapshot}
+use Rattle.ov_snap.specs.declared.kept_snapshots.Snapshot.{Snapshot}
 use Rattle.ov_snap.proofs.Resting.{links_rest}
 use Rattle.ov_snap.proofs.Moments.{moment_cases, moment_new, moment_stays, moment_within, ordered_more}
 

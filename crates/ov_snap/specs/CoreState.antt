@@ -6,12 +6,12 @@ use Rattle.ov_ids.specs.Members.{Has, Ordered}
 use Rattle.ov_graph.specs.Links.{LinkGraph}
 use Rattle.ov_net.specs.Journal.{AreLinks}
 use Rattle.ov_net.specs.World.{WorldState, opening_world}
-use Rattle.ov_net.specs.declared.journal_entry.Entry.{Entry}
+use Rattle.ov_net.specs.declared.entry_and_changes.Entry.{Entry}
 use Rattle.ov_desk.specs.Desk.{GroupDeskState}
 use Rattle.ov_desk.specs.Sound.{IsSoundDesk}
 use Rattle.ov_snap.specs.ReportState.{ReportState, IsSo}
 use Rattle.ov_snap.specs.Snapshots.{IsMoment, AreSnapshots}
-use Rattle.ov_snap.specs.declared.snapshot.Snapshot.{Snapshot}
+use Rattle.ov_snap.specs.declared.kept_snapshots.Snapshot.{Snapshot}
 
 -- the world, the snapshots in the order of their moments, the desks in the order of opening, and the reports in the
 -- order of filing

@@ -8,7 +8,7 @@ use Rattle.ov_cert.specs.Valid.{k_of}
 use Rattle.ov_cert.specs.Verdict.{JudgedForGroup}
 use Rattle.ov_cert.specs.declared.cert.Cert.{Cert}
 use Rattle.ov_net.specs.Journal.{AreLinks}
-use Rattle.ov_net.specs.declared.journal_entry.Entry.{Entry}
+use Rattle.ov_net.specs.declared.entry_and_changes.Entry.{Entry}
 use Rattle.ov_snap.specs.Snapshots.{IsMoment}
 
 -- a report: its moment, the graph of that moment, the members of a group of its nodes, and a certificate

@@ -5,7 +5,7 @@ use Rattle.ov_ids.specs.ParamsState.{ParamsState}
 use Rattle.ov_words.specs.Stream.{words_per_event}
 use Rattle.ov_net.specs.NetStep.{NetStep}
 use Rattle.ov_net.specs.Refusals.{StepJudged}
-use Rattle.ov_net.specs.declared.journal_entry.Entry.{Entry}
+use Rattle.ov_net.specs.declared.entry_and_changes.Entry.{Entry}
 use Rattle.ov_net.specs.declared.event.Event.{Event}
 use Rattle.ov_net.specs.declared.event.Event.TheVariants as event
 use Rattle.ov_desk.specs.Turns.{ClaimsNext, LooksNext, SettlesNext}
@@ -14,9 +14,9 @@ use Rattle.ov_snap.specs.DeskSteps.{WasOpened, WasOpenedForGroup, ClaimedAt, Loo
 use Rattle.ov_snap.specs.Filing.{WasFiled}
 use Rattle.ov_snap.specs.Refusals.{FilingJudged, OpeningJudged, GroupOpeningJudged, TurnJudged, DeskFilingJudged}
 use Rattle.ov_snap.specs.Snapshots.{SnapshotsAfter}
-use Rattle.ov_snap.specs.declared.core_steps.CoreStep.{CoreStep}
-use Rattle.ov_snap.specs.declared.core_steps.CoreStep.TheVariants.{Net, File, OpenDesk, OpenGroupDesk, Claim}
-use Rattle.ov_snap.specs.declared.core_steps.CoreStep.TheVariants.{Look, Settle, FileDesk}
+use Rattle.ov_snap.specs.declared.running_steps.CoreStep.{CoreStep}
+use Rattle.ov_snap.specs.declared.running_steps.CoreStep.TheVariants.{Net, File, OpenDesk, OpenGroupDesk, Claim}
+use Rattle.ov_snap.specs.declared.running_steps.CoreStep.TheVariants.{Look, Settle, FileDesk}
 
 -- an event happened: no refusal applied, the world took one step of it, and the entry that tells it stands last in the
 -- journal and is numbered by its place there. A snapshot's links are kept. Desks and reports are the same

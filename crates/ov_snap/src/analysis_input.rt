@@ -1,6 +1,6 @@
 ghost use Rattle.std.specs.Prelude.{◌≡◌, IfOk};
 
-use crate::snapshot::Snapshot;
+use crate::kept_snapshots::Snapshot;
 use ov_graph::Graph;
 use ov_ids::OutOfMemory;
 

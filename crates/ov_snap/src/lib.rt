@@ -3,19 +3,19 @@
 #![tactic(auto)]
 
 mod analysis_input;
-mod core_steps;
+mod analysis_report;
+mod desk_calls;
+mod event_and_report_calls;
 mod fault;
-mod report;
-mod reports;
-mod snapshot;
+mod filed_reports;
+mod kept_snapshots;
+mod running_steps;
 mod theorems;
-mod worker_desks;
-mod world_and_reports;
 
 pub use analysis_input::Job;
-pub use core_steps::{CoreStep, run_core};
+pub use analysis_report::Report;
+pub use event_and_report_calls::Core;
 pub use fault::CoreFault;
-pub use report::Report;
-pub use snapshot::Snapshot;
+pub use kept_snapshots::Snapshot;
+pub use running_steps::{CoreStep, run_core};
 pub use theorems::{every_report_is_so, every_report_stays};
-pub use world_and_reports::Core;

@@ -6,7 +6,7 @@ use Rattle.ov_words.specs.Pick.{Drawn}
 use Rattle.ov_views.specs.ViewsState.{ViewsState}
 use Rattle.ov_views.specs.NeighborRows.{AttemptState}
 use Rattle.ov_views.specs.Allowed.{HyParViewState, HyParViewInput, Allowed}
-use Rattle.ov_views.specs.declared.moves.Moves.{Moves}
+use Rattle.ov_views.specs.declared.step_effects.Moves.{Moves}
 
 -- how many random words a handler must find, of which none draws more than 17: chosen here
 abbrev pub step_words : ℕ

@@ -12,11 +12,11 @@
 #![tactic(auto)]
 
 mod change;
-mod moves;
 mod sample;
+mod step_effects;
 mod views;
 
 pub use change::{Changes, ViewChange};
-pub use moves::Moves;
 pub use sample::Sample;
+pub use step_effects::Moves;
 pub use views::{View, Views};

@@ -9,7 +9,7 @@ use Rattle.ov_cert.specs.declared.cert.PairPaths.{PairPaths}
 use Rattle.ov_cert.specs.declared.cert.FanPaths.{FanPaths}
 use Rattle.ov_cert.specs.declared.cert.Cert.TheVariants as cert
 use Rattle.ov_cert.specs.declared.cert.Split.{Split}
-use Rattle.ov_cert.specs.declared.entry.Expected.TheVariants.{Pair, Fan}
+use Rattle.ov_cert.specs.declared.expected_entry.Expected.TheVariants.{Pair, Fan}
 use Rattle.ov_cert.specs.declared.fault.CheckFault.TheVariants as fault
 use Rattle.ov_cert.specs.Valid.{AreUnlinkedPairs}
 use Rattle.ov_cert.specs.Verdict.{IsPairEntry, IsFanEntry, IsFirstFault}

@@ -6,7 +6,7 @@ use Rattle.ov_split.specs.Places.{net_by_place}
 use Rattle.ov_split.specs.Placed.{IsPlaced}
 use Rattle.ov_flow.specs.Code.Reached.{IsGrown, IsSwept}
 use Rattle.ov_flow.specs.Code.Walked.{table_of}
-use Rattle.ov_flow.specs.declared.search_buffers.Work.{Work}
+use Rattle.ov_flow.specs.declared.augmenting_paths.Work.{Work}
 
 -- the net can be searched by place
 abbrev pub IsReady : SplitNetState → Type 0

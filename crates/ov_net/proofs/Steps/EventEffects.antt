@@ -24,7 +24,7 @@ use Rattle.ov_net.specs.Refusals.{PlacesLast, EventJudged, MayHappen}
 use Rattle.ov_net.specs.declared.effects.Effects.{Effects}
 use Rattle.ov_net.specs.declared.effects.NodeChange.{NodeChange}
 use Rattle.ov_net.specs.declared.effects.NodeChange.TheVariants as change
-use Rattle.ov_net.specs.declared.journal_entry.Change.TheVariants as entry
+use Rattle.ov_net.specs.declared.entry_and_changes.Change.TheVariants as entry
 use Rattle.ov_net.specs.declared.event.Event.{Event}
 use Rattle.ov_net.specs.declared.event.Event.TheVariants.{Boot, Deliver, Lose, Repeat, Crash, CrashReport, Shuffle}
 use Rattle.ov_net.specs.declared.event.Event.TheVariants.{Broadcast, Timer, Snapshot}

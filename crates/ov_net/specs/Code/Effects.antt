@@ -15,7 +15,7 @@ use Rattle.ov_net.specs.NetStep.{change_at, DrawnStep, Happens}
 use Rattle.ov_net.specs.declared.effects.Effects.{Effects}
 use Rattle.ov_net.specs.declared.effects.NodeChange.{NodeChange}
 use Rattle.ov_net.specs.declared.effects.NodeChange.TheVariants as change
-use Rattle.ov_net.specs.declared.journal_entry.Change.TheVariants.{Born}
+use Rattle.ov_net.specs.declared.entry_and_changes.Change.TheVariants.{Born}
 use Rattle.ov_net.specs.declared.event.Event.{Event}
 use Rattle.ov_net.specs.declared.member.Member.{Member}
 use Rattle.ov_net.specs.declared.member.Member.TheVariants.{Live, Gone}

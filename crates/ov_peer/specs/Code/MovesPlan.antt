@@ -1,7 +1,7 @@
 -- Plans of HyParView's part alone.
 use Rattle.std.specs.Prelude.{◌≡◌, None}
 use Rattle.ov_views.specs.Allowed.{HyParViewState}
-use Rattle.ov_views.specs.declared.moves.Moves.{Moves}
+use Rattle.ov_views.specs.declared.step_effects.Moves.{Moves}
 use Rattle.ov_plum.specs.declared.plum_change.PlumChange.TheVariants.{Nothing}
 use Rattle.ov_peer.specs.Planning.{hyparview_after}
 use Rattle.ov_peer.specs.declared.plan.Plan.{Plan}

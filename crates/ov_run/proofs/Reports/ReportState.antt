@@ -7,8 +7,8 @@ use Rattle.ov_snap.specs.ReportState.{ReportState, IsSo}
 use Rattle.ov_snap.specs.Filing.{WasFiled}
 use Rattle.ov_snap.specs.Refusals.{number_of}
 use Rattle.ov_snap.specs.Run.{TakesAll}
-use Rattle.ov_snap.specs.declared.core_steps.CoreStep.{CoreStep}
-use Rattle.ov_snap.specs.declared.core_steps.CoreStep.TheVariants.{Net, File}
+use Rattle.ov_snap.specs.declared.running_steps.CoreStep.{CoreStep}
+use Rattle.ov_snap.specs.declared.running_steps.CoreStep.TheVariants.{Net, File}
 use Rattle.ov_snap.proofs.Running.{every_report_is_so, run_more}
 use Rattle.ov_run.specs.Theorems.{EveryPrintedReportIsSo, IsMade, IsSoOf, Refuses}
 use Rattle.ov_run.specs.Printed.{report_line, file_text}

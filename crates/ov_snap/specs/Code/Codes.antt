@@ -9,7 +9,7 @@ use Rattle.ov_snap.specs.CoreState.{CoreState}
 use Rattle.ov_snap.specs.ReportState.{ReportState}
 use Rattle.ov_snap.specs.contracts.report.Report as report
 use Rattle.ov_snap.specs.contracts.snapshot.Snapshot as snapshot
-use Rattle.ov_snap.specs.declared.snapshot.Snapshot.{Snapshot}
+use Rattle.ov_snap.specs.declared.kept_snapshots.Snapshot.{Snapshot}
 
 -- a core is the list of its parts
 abbrev pub core_code : Coded CoreState

@@ -2,8 +2,8 @@
 use Rattle.std.proofs.Common.{ℕ, List, subst}
 use Rattle.std.specs.Prelude.{MatchOption}
 use Rattle.ov_ids.specs.Members.{Has}
-use Rattle.ov_cert.specs.declared.entry.Expected.{Expected}
-use Rattle.ov_cert.specs.declared.entry.Expected.TheVariants.{Fan}
+use Rattle.ov_cert.specs.declared.expected_entry.Expected.{Expected}
+use Rattle.ov_cert.specs.declared.expected_entry.Expected.TheVariants.{Fan}
 use Rattle.ov_check_reasons.proofs.Telling.Placing.{fan_found}
 use Rattle.ov_check_reasons.proofs.entry_faults.fan_place.Goals as goal
 

@@ -1,7 +1,7 @@
 -- The entry is found, or none of the entries is of the pair.
 use Rattle.std.proofs.Common.{subst}
 use Rattle.ov_ids.specs.Members.{Has}
-use Rattle.ov_cert.specs.declared.entry.Expected.TheVariants.{Pair}
+use Rattle.ov_cert.specs.declared.expected_entry.Expected.TheVariants.{Pair}
 use Rattle.ov_check_reasons.proofs.Rules.Breaking.{item_has, none_next}
 use Rattle.ov_check_reasons.proofs.entry_faults.place_of_pair.Goals as goal
 

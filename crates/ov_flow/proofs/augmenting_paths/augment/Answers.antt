@@ -1,0 +1,31 @@
+-- What is held is a table, and the walk leads to the last node that is reached.
+use Rattle.std.proofs.Common.{◌≡◌, ◌∙◌, ◌-◌, ℕ, List, Option, length, get_or, subst, arith}
+use Rattle.std.proofs.lemmas.List.{get_or_read}
+use Rattle.ov_split.specs.Places.{net_by_place}
+use Rattle.ov_flow.specs.Code.Reached.{IsGrown}
+use Rattle.ov_flow.specs.Code.Walked.{table_of}
+use Rattle.ov_flow.proofs.Beginning.{flow_table}
+use Rattle.ov_flow.proofs.augmenting_paths.augment.Goals as goal
+
+pub search-requires-clause-table : goal.search-requires-clause-table
+search-requires-clause-table c =
+    let w = c.args.work.now in
+    rw c.deref.ensures.value
+    (flow_table (net_by_place c.args.net.now) (length c.args.net.now.graph.nodes) w.from.items w.ends.items
+    c.requires.ready c.requires.work.room.from c.requires.work.flow)
+
+pub replace_paths-requires-clause-walk : goal.replace_paths-requires-clause-walk
+replace_paths-requires-clause-walk c =
+    let n = net_by_place c.args.net.now in
+    let w = c.args.work.now in
+    let t = c.search.new.tree in
+    let order = t.order.items in
+    let x = c.index-target.result.now in
+    let g = subst (λ (l : List (Option ℕ)). IsGrown n (table_of l) t) c.deref.ensures.value
+    c.in_ok-search.ensures.grown in
+    let some = g.is_tree.some in
+    let read : x ≡ get_or order (length order - 1) x =
+    subst (λ (k : ℕ). x ≡ get_or order (k - 1) x) (c.len.ensures ∙ t.order.ok.0)
+    c.index-target.ensures in
+    let e = get_or_read order (length order - 1) x (omega (arith, some)) read 0 in
+    rw (c.deref-3.ensures.value, e) (c.in_ok-walk_back.ensures n (table_of w.from.items) g)

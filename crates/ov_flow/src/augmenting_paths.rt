@@ -1,0 +1,92 @@
+//! The buffers of a search, and the paths that are held.
+ghost use Rattle.std.specs.Prelude.{◌≡◌, ℕ, ◌<◌, ◌≤◌, [], length, false, IfOk, OnErr, MatchBool};
+ghost use Rattle.ov_split.specs.SplitNetState.{SplitNetState};
+ghost use Rattle.ov_flow.specs.Code.Held.{IsReady, HasWorkRoom, IsWorkOf, IsSame, IsLonger, IsAtEnd};
+
+use crate::one_link_paths::take_direct;
+use crate::path_search::search;
+use crate::path_table::{clear, empty_table, replace_paths};
+use crate::search_tree::{Tree, new_tree};
+use crate::walk_taking::{Hop, walk_back};
+use ov_split::SplitNet;
+use std::alloc::{AllocError, Global};
+
+/// The tree and the walk of the last search, and the paths that are held: in `from` the place before each place on its
+/// path, and their ends. `next` is a buffer for `from`.
+#[derive(Drop)]
+pub(crate) struct Work {
+    pub tree: Tree,
+    pub hops: Vec<Hop>,
+    pub from: Vec<Option<u16>>,
+    pub next: Vec<Option<u16>>,
+    pub ends: Vec<u16>,
+}
+
+/// Allocates the buffers for nets with so many places. No path is held.
+pub(crate) fn new_work(alloc: Global, places: usize) -> Result<Work, AllocError>
+    ensures work { IfOk result (λ w. (n : SplitNetState) → length n.graph.nodes ≡ places → IsWorkOf n w) }
+    ensures empty { IfOk result (λ w. w.ends.items ≡ []) }
+{
+    Ok(Work {
+        tree: new_tree(alloc, places)?,
+        hops: Vec::with_capacity(alloc, places)?,
+        from: empty_table(alloc, places)?,
+        next: empty_table(alloc, places)?,
+        ends: Vec::with_capacity(alloc, places)?,
+    })
+}
+
+/// Drops all paths that are held.
+fn start(net: &SplitNet<'_>, work: &mut Work)
+    requires { HasWorkRoom (length net.now.graph.nodes) work.old }
+    ensures work { IsWorkOf net.now work.new }
+    ensures empty { work.new.ends.items ≡ [] }
+{
+    clear(&mut work.from);
+    work.ends.clear();
+}
+
+/// Searches for one more path. True: it was found, and is held.
+pub(crate) fn augment(net: &SplitNet<'_>, work: &mut Work) -> Result<bool, AllocError>
+    requires ready { IsReady net.now }
+    requires work { IsWorkOf net.now work.old }
+    ensures work { IsWorkOf net.now work.new }
+    ensures longer { IfOk result (λ grew. MatchBool grew (IsLonger work.old work.new) (IsSame work.old work.new)) }
+    ensures end { IfOk result (λ grew. grew ≡ false → IsAtEnd net.now work.new) }
+    ensures err { OnErr result (IsSame work.old work.new) }
+{
+    if !search(net, &work.from, &mut work.tree)? {
+        return Ok(false);
+    }
+    walk_back(&work.tree, &mut work.hops)?;
+    let target = work.tree.order[work.tree.order.len() - 1];
+    work.ends.push(target)?;
+    replace_paths(
+        net,
+        &mut work.from,
+        &mut work.next,
+        &work.ends,
+        &work.hops,
+        target,
+    );
+    Ok(true)
+}
+
+/// Starts again, and searches for `level` paths. True: so many are held.
+pub(crate) fn settle(net: &SplitNet<'_>, level: usize, work: &mut Work) -> Result<bool, AllocError>
+    requires ready { IsReady net.now }
+    requires room { HasWorkRoom (length net.now.graph.nodes) work.old }
+    ensures work { IsWorkOf net.now work.new }
+    ensures held { IfOk result (λ found. MatchBool found (length work.new.ends.items ≡ level)
+        (length work.new.ends.items < level)) }
+    ensures end { IfOk result (λ found. found ≡ false → IsAtEnd net.now work.new) }
+{
+    start(net, work);
+    take_direct(net, level, work)?;
+    while work.ends.len() < level {
+        if !augment(net, work)? {
+            return Ok(false);
+        }
+    }
+    Ok(true)
+}

@@ -1,0 +1,247 @@
+ghost use Rattle.std.specs.Prelude.{◌≡◌, ◌↔◌, length, None, Some, IfOk, IfErr, IfSome, IfNone, OnOk, OnErr, IsTrue};
+ghost use Rattle.ov_ids.specs.FaultOrder.{IsRefusedBy};
+ghost use Rattle.ov_graph.specs.Links.{IsGroup};
+ghost use Rattle.ov_cert.specs.Valid.{IsValidForGroup};
+ghost use Rattle.ov_net.specs.Journal.{AreLinks};
+ghost use Rattle.ov_net.specs.Refusals.{IsRefusal};
+ghost use Rattle.ov_net.specs.declared.event.Event.TheVariants as told;
+ghost use Rattle.ov_snap.specs.CoreState.{HasReport, HasReportOfAll, IsSound, opening_core};
+ghost use Rattle.ov_snap.specs.ReportState.{IsSo, ReportState};
+ghost use Rattle.ov_snap.specs.Filing.{WasFiled};
+ghost use Rattle.ov_snap.specs.Refusals.{BeginJudged, FilingJudged, GroupBeginJudged};
+ghost use Rattle.ov_snap.specs.Run.{Happened, TookSnapshot};
+ghost use Rattle.ov_snap.specs.Snapshots.{IsMoment};
+ghost use Rattle.ov_snap.specs.declared.fault.CoreFault.TheVariants.{NoSuchMoment, OutOfMemory as out_of_memory};
+
+use crate::analysis_input::Job;
+use crate::analysis_report::Report;
+use crate::fault::CoreFault;
+use crate::filed_reports::Reports;
+use crate::kept_snapshots::{Snapshot, find, make_room};
+use ov_desk::GroupDesk;
+use ov_graph::Graph;
+use ov_ids::{NodeId, OutOfMemory, Params};
+use ov_net::{Entry, Event, MOST_ENTRIES, NetFault, World};
+use ov_words::{WORDS_PER_EVENT, Words};
+use std::alloc::Global;
+use std::marker::Model;
+
+/// A world, the snapshots of its links, the desks at which they are analysed, and the reports that are filed of them.
+/// Of every core it holds that each desk is sound for the links of its moment, and that what each report says is so.
+#[derive(Drop)]
+pub struct Core {
+    pub(crate) world: World,
+    pub(crate) snapshots: Vec<Snapshot>,
+    pub(crate) desks: Vec<GroupDesk>,
+    pub(crate) reports: Reports,
+}
+
+impl Model for Core {
+    ghost use Rattle.ov_snap.specs.CoreState.{CoreState, IsSound};
+    ghost use Rattle.ov_snap.specs.Code.Codes.{core_code};
+
+    ghost Value = { CoreState };
+
+    ghost coded = { core_code };
+
+    ghost use Rattle.ov_snap.specs.Code.Kept.{core_of};
+
+    ghost view = { core_of };
+
+    ghost invariant = { λ a. IsSound (core_of a) };
+}
+
+impl Core {
+    /// A core in which nothing happened. Nothing is allocated.
+    pub fn new(alloc: Global, params: Params) -> Core
+        ensures { result ≡ opening_core params }
+    {
+        Core {
+            world: World::new(alloc, params),
+            snapshots: Vec::new(alloc),
+            desks: Vec::new(alloc),
+            reports: Reports::new(alloc),
+        }
+    }
+
+    /// The world. The snapshots of the core are those of its journal, each desk is sound for the links of its moment,
+    /// and what each report says is so.
+    pub fn world(&self) -> &World
+        ensures value { result.now ≡ self.now.world }
+        ensures sound { IsSound self.now }
+    {
+        &self.world
+    }
+
+    /// Takes one event, as the world does, with the random words that its choices are made by. The links of a snapshot
+    /// are kept. Returns the event's entry, or why it is refused: the first applicable refusal of the world (10 to 20,
+    /// see `NetFault`), or out of memory (99) where none applies. What is refused changes nothing.
+    pub fn step(&mut self, event: Event, words: &Words) -> Result<Entry, NetFault>
+        ensures happened { IfOk result (λ e. Happened self.old event words.now e self.new) }
+        ensures refused { IfErr result (λ f. IsRefusal self.old.world.net (length self.old.world.journal) event f) }
+        ensures err { OnErr result (self.new ≡ self.old) }
+    {
+        if is_snapshot(&event) {
+            return self.take_snapshot(words);
+        }
+        self.world.step(event, words)
+    }
+
+    /// Takes a snapshot: the event of that name, with random words that are all zero. Returns the snapshot's moment,
+    /// which is the number of its entry, or why it is refused: the journal is full (16), or out of memory (99). What is
+    /// refused changes nothing.
+    pub fn snapshot(&mut self) -> Result<u32, NetFault>
+        ensures happened { IfOk result (λ m. TookSnapshot self.old m self.new) }
+        ensures refused { IfErr result
+            (λ f. IsRefusal self.old.world.net (length self.old.world.journal) told.Snapshot f) }
+        ensures err { OnErr result (self.new ≡ self.old) }
+    {
+        let entry = self.take_snapshot(&Words::new([0; WORDS_PER_EVENT]))?;
+        Ok(entry.number)
+    }
+
+    /// Takes a snapshot event. It changes no view, so its links are those of the moment before. They are made, and room
+    /// for them, before anything changes.
+    fn take_snapshot(&mut self, words: &Words) -> Result<Entry, NetFault>
+        ensures happened { IfOk result (λ e. Happened self.old told.Snapshot words.now e self.new) }
+        ensures refused { IfErr result
+            (λ f. IsRefusal self.old.world.net (length self.old.world.journal) told.Snapshot f) }
+        ensures err { OnErr result (self.new ≡ self.old) }
+    {
+        if self.world.journal().len() >= MOST_ENTRIES {
+            return Err(NetFault::TooManyEntries);
+        }
+        let graph = self.links_now()?;
+        make_room(&mut self.snapshots)?;
+        let entry = self.world.step(Event::Snapshot, words)?;
+        let moment = entry.number;
+        self.snapshots.push_reserved(Snapshot { moment, graph });
+        Ok(entry)
+    }
+
+    /// The links that both ends hold now.
+    fn links_now(&self) -> Result<Graph, OutOfMemory>
+        ensures { IfOk result (λ g. AreLinks self.now.world.journal (length self.now.world.journal) g) }
+    {
+        self.world.links()
+    }
+
+    /// What an analysis of all nodes of this moment is given. It is refused where no snapshot was taken at this moment
+    /// (50), and then where nobody lived (30); where neither applies, it may be out of memory (99).
+    pub fn begin(&self, moment: u32) -> Result<Job, CoreFault>
+        ensures judged { IfOk result (λ job. BeginJudged self.now moment None) }
+        ensures moment { IfOk result (λ job. job.moment ≡ moment) }
+        ensures links { IfOk result (λ job. AreLinks self.now.world.journal moment job.graph) }
+        ensures refused { IfErr result (IsRefusedBy out_of_memory (BeginJudged self.now moment)) }
+    {
+        let snapshot = self.lived(moment)?;
+        Ok(Job::of(snapshot)?)
+    }
+
+    /// What an analysis of a group of the nodes of this moment is given. It is refused where no snapshot was taken at
+    /// this moment (50), then where nobody lived (30), and then where these ids are no group of the moment's graph
+    /// (34); where none of these applies, it may be out of memory (99).
+    pub fn begin_group(&self, moment: u32, group: &[NodeId]) -> Result<Job, CoreFault>
+        ensures judged { IfOk result (λ job. GroupBeginJudged self.now moment group.now None) }
+        ensures moment { IfOk result (λ job. job.moment ≡ moment) }
+        ensures links { IfOk result (λ job. AreLinks self.now.world.journal moment job.graph) }
+        ensures group { IfOk result (λ job. IsGroup job.graph group.now) }
+        ensures refused { IfErr result (IsRefusedBy out_of_memory (GroupBeginJudged self.now moment group.now)) }
+    {
+        let snapshot = self.lived(moment)?;
+        if !snapshot.graph.is_group(group) {
+            return Err(CoreFault::BadGroup);
+        }
+        Ok(Job::of(snapshot)?)
+    }
+
+    /// Files a report for its moment and group, for good: no call takes it away. It is refused where no snapshot was
+    /// taken at this moment (50), then where the graph is another one than that of the moment (51), and then where a
+    /// report is filed for this moment and group (52); where none of these applies, it may be out of memory (99). What
+    /// is refused changes nothing.
+    pub fn file(&mut self, report: Report) -> Result<(), CoreFault>
+        ensures filed { OnOk result (WasFiled self.old report self.new) }
+        ensures refused { IfErr result (IsRefusedBy out_of_memory (FilingJudged self.old report)) }
+        ensures err { OnErr result (self.new ≡ self.old) }
+    {
+        self.judge(&report)?;
+        self.reports.push(report)?;
+        Ok(())
+    }
+
+    /// The snapshot of this moment, or that there is none.
+    pub(crate) fn kept(&self, moment: u32) -> Result<&Snapshot, CoreFault>
+        ensures ok { IfOk result (λ s. IsMoment self.now.world.journal moment
+            × AreLinks self.now.world.journal moment s.now.graph) }
+        ensures moment { IfOk result (λ s. s.now.moment ≡ moment) }
+        ensures err { IfErr result (λ f. (f ≡ NoSuchMoment) × ¬ IsMoment self.now.world.journal moment) }
+        ensures sound { IsSound self.now }
+    {
+        match find(&self.snapshots, moment) {
+            Some(snapshot) => Ok(snapshot),
+            None => Err(CoreFault::NoSuchMoment),
+        }
+    }
+
+    /// The snapshot of this moment, at which somebody lived, or the first applicable refusal.
+    pub(crate) fn lived(&self, moment: u32) -> Result<&Snapshot, CoreFault>
+        ensures ok { IfOk result (λ s. BeginJudged self.now moment None) }
+        ensures links { IfOk result (λ s. AreLinks self.now.world.journal moment s.now.graph) }
+        ensures moment { IfOk result (λ s. s.now.moment ≡ moment) }
+        ensures err { IfErr result (λ f. BeginJudged self.now moment (Some f)) }
+    {
+        let snapshot = self.kept(moment)?;
+        if snapshot.graph.nodes().is_empty() {
+            return Err(CoreFault::NoNodes);
+        }
+        Ok(snapshot)
+    }
+
+    /// The first applicable refusal of filing a report, beside out of memory.
+    fn judge(&self, report: &Report) -> Result<(), CoreFault>
+        ensures ok { OnOk result (FilingJudged self.now report.now None) }
+        ensures valid { OnOk result (IsValidForGroup report.now.graph report.now.members report.now.cert) }
+        ensures err { IfErr result (λ f. FilingJudged self.now report.now (Some f)) }
+    {
+        let snapshot = self.kept(report.moment())?;
+        let checked = report.checked();
+        if !checked.graph().is_same(&snapshot.graph) {
+            return Err(CoreFault::OtherGraph);
+        }
+        if self
+            .group_report(report.moment(), checked.members())
+            .is_some()
+        {
+            return Err(CoreFault::AlreadyFiled);
+        }
+        Ok(())
+    }
+
+    /// The report that is filed for this moment and group, if there is one. What it says is so.
+    pub fn group_report(&self, moment: u32, group: &[NodeId]) -> Option<&Report>
+        ensures some { IfSome result (λ r. HasReport self.now moment group.now r.now) }
+        ensures none { IfNone result ((r : ReportState) → ¬ HasReport self.now moment group.now r) }
+        ensures so { IfSome result (λ r. IsSo self.now.world.journal r.now) }
+    {
+        self.reports.find(moment, group)
+    }
+
+    /// The report that is filed for this moment and the group of all its nodes, if there is one. What it says is so.
+    pub fn report(&self, moment: u32) -> Option<&Report>
+        ensures some { IfSome result (λ r. HasReportOfAll self.now moment r.now) }
+        ensures none { IfNone result ((r : ReportState) → ¬ HasReportOfAll self.now moment r) }
+        ensures so { IfSome result (λ r. IsSo self.now.world.journal r.now) }
+    {
+        match self.kept(moment) {
+            Ok(snapshot) => self.group_report(moment, snapshot.graph.nodes()),
+            Err(_) => None,
+        }
+    }
+}
+
+/// Whether an event is a snapshot.
+fn is_snapshot(what: &Event) -> bool
+    ensures { IsTrue result ↔ what.now ≡ told.Snapshot }
+{
+    matches!(what, Event::Snapshot)
+}
