@@ -22,7 +22,7 @@ impl Model for Reports {
     ghost use Rattle.std.specs.Coded.{coded_list};
     ghost use Rattle.ov_snap.specs.Code.Index.{AreInOrder};
     ghost use Rattle.ov_snap.specs.ReportState.{ReportState};
-    ghost use Rattle.ov_snap.specs.contracts.report.Report as report;
+    ghost use Rattle.ov_snap.specs.contracts.analysis_report.Report as report;
 
     ghost Value = { List ReportState };
 

@@ -2,13 +2,13 @@
 use Rattle.std.specs.Prelude.{List, refl}
 use Rattle.std.specs.Coded.{Coded, code_by, coded×, coded_list}
 use Rattle.ov_desk.specs.Desk.{GroupDeskState}
-use Rattle.ov_desk.specs.contracts.desk.GroupDesk as desk
+use Rattle.ov_desk.specs.contracts.group_desk.GroupDesk as desk
 use Rattle.ov_net.specs.Code.Codes.{world_code}
 use Rattle.ov_net.specs.World.{WorldState}
 use Rattle.ov_snap.specs.CoreState.{CoreState}
 use Rattle.ov_snap.specs.ReportState.{ReportState}
-use Rattle.ov_snap.specs.contracts.report.Report as report
-use Rattle.ov_snap.specs.contracts.snapshot.Snapshot as snapshot
+use Rattle.ov_snap.specs.contracts.analysis_report.Report as report
+use Rattle.ov_snap.specs.contracts.kept_snapshots.Snapshot as snapshot
 use Rattle.ov_snap.specs.declared.kept_snapshots.Snapshot.{Snapshot}
 
 -- a core is the list of its parts
