@@ -1,12 +1,52 @@
-"""What the scripts of this folder share: where the repository is, which of its crates uses which, what is built."""
+"""What the scripts of this folder share: where the repository is, which of its crates uses which, what is built, and
+how many checks the machine has room for."""
 
 import os
 import pathlib
+import re
 import signal
 import subprocess
 import time
 
 ROOT = pathlib.Path(__file__).resolve().parent.parent
+# What each check of the gate is given room for, in bytes: one has taken 3 GB at most.
+CHECK_MEMORY = 4_000_000_000
+# Of a control group, in its two versions: the file with its limit of memory, and what memory.stat has of it in use.
+LIMITS = {"memory.max": r"(?m)^anon (\d+)", "memory.limit_in_bytes": r"(?m)^total_rss (\d+)"}
+
+
+def number_in(file, pattern):
+    """The number that a file of the system tells, or None."""
+    try:
+        return int(re.search(pattern, file.read_text())[1])
+    except (OSError, TypeError):
+        return None
+
+
+def free_memory():
+    """The free memory in bytes, under the limits of the control groups that this process is in."""
+    free = [1024 * (number_in(pathlib.Path("/proc/meminfo"), r"MemAvailable:\s+(\d+)") or 0)]
+    groups = pathlib.Path("/proc/self/cgroup")
+    for line in groups.read_text().splitlines() if groups.is_file() else []:
+        _, kinds, path = line.split(":", 2)
+        group = pathlib.Path("/sys/fs/cgroup", kinds, path.lstrip("/"))
+        for folder in [group, *group.parents]:
+            for file, in_use in LIMITS.items():
+                limit, used = number_in(folder / file, r"(\d+)"), number_in(folder / "memory.stat", in_use)
+                if limit is not None and used is not None:
+                    free.append(limit - used)
+    return min(free)
+
+
+def checks_at_once():
+    """How many checks `rt ci` is to run side by side: one a processor, as far as there is memory for each. By itself it
+    reckons with up to 9 GB a check, and then lets processors wait."""
+    return max(1, min(len(os.sched_getaffinity(0)), free_memory() // CHECK_MEMORY))
+
+
+def gate_environment():
+    """The environment in which `rt ci` runs as many checks side by side, unless RT_JOBS says how many."""
+    return {"RT_JOBS": str(checks_at_once()), **os.environ}
 
 
 def lines():
