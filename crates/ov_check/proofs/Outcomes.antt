@@ -58,19 +58,22 @@ said_or_refused : (bytes : List ℕ) (f : Filed) (fault : FileFault) → BytesSa
     → BytesSay bytes (Err fault) → ⊥
 said_or_refused bytes f fault p q = let e : Ok f ≡ Err fault = says_one bytes (Ok f) (Err fault) p q in cc
 
-holds_or_fails : (bytes : List ℕ) (f : Filed) (fault : CheckFault) → IsOutcome bytes (Holds f)
-    → IsOutcome bytes (Fails fault) → ⊥
-holds_or_fails bytes f fault p q =
-    let e : None ≡ Some fault = verdict_one bytes f q.0 None (Some fault) p.0 q.1 p.1 q.2 in cc
+holds_or_fails : (bytes : List ℕ) (f h : Filed) (fault : CheckFault) → IsOutcome bytes (Holds f)
+    → IsOutcome bytes (Fails h fault) → ⊥
+holds_or_fails bytes f h fault p q =
+    let e : None ≡ Some fault = verdict_one bytes f h None (Some fault) p.0 q.0 p.1 q.1 in cc
 
 pub one_outcome : (bytes : List ℕ) (o u : Outcome) → IsOutcome bytes o → IsOutcome bytes u → o ≡ u
 one_outcome bytes (Holds f) (Holds h) p q = ap (λ f. Holds f) (same_file bytes f h p.0 q.0)
-one_outcome bytes (Holds f) (Fails fault) p q = absurd (holds_or_fails bytes f fault p q)
+one_outcome bytes (Holds f) (Fails h fault) p q = absurd (holds_or_fails bytes f h fault p q)
 one_outcome bytes (Holds f) (Refused fault) p q = absurd (said_or_refused bytes f fault p.0 q)
-one_outcome bytes (Fails fault) (Holds f) p q = absurd (holds_or_fails bytes f fault q p)
-one_outcome bytes (Fails e) (Fails d) p q =
-    let same : Some e ≡ Some d = verdict_one bytes p.0 q.0 (Some e) (Some d) p.1 q.1 p.2 q.2 in cc
-one_outcome bytes (Fails fault) (Refused other) p q = absurd (said_or_refused bytes p.0 other p.1 q)
+one_outcome bytes (Fails h fault) (Holds f) p q = absurd (holds_or_fails bytes f h fault q p)
+one_outcome bytes (Fails f e) (Fails h d) p q =
+    let same : Some e ≡ Some d = verdict_one bytes f h (Some e) (Some d) p.0 q.0 p.1 q.1 in
+    let file : f ≡ h = same_file bytes f h p.0 q.0 in
+    let fault : e ≡ d = cc in
+    ap (λ x. Fails x e) file ∙ ap (Fails h) fault
+one_outcome bytes (Fails f fault) (Refused other) p q = absurd (said_or_refused bytes f other p.0 q)
 one_outcome bytes (Refused fault) (Holds f) p q = absurd (said_or_refused bytes f fault q.0 p)
-one_outcome bytes (Refused fault) (Fails other) p q = absurd (said_or_refused bytes q.0 fault q.1 p)
+one_outcome bytes (Refused fault) (Fails f other) p q = absurd (said_or_refused bytes f fault q.0 p)
 one_outcome bytes (Refused e) (Refused d) p q = let same : Err e ≡ Err d = says_one bytes (Err e) (Err d) p q in cc

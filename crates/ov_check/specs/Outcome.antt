@@ -14,11 +14,11 @@ use Rattle.ov_check.specs.declared.outcome.Outcome.TheVariants.{Holds, Fails, Re
 abbrev pub BytesSay : List ℕ → Result Filed FileFault → Type 0
 BytesSay bytes answer = (IsUtf8 bytes × SaysText bytes answer) ⊎ ((¬ IsUtf8 bytes) × (answer ≡ Err NotJson))
 
--- The file holds where its certificate is valid for its group, and else fails with the first fault of the certificate.
--- Bytes that are not a certificate file are refused with their first fault.
+-- The bytes are a certificate file, and its certificate is valid for its group; or the certificate has this first
+-- fault. Bytes that are not a certificate file are refused with their first fault.
 abbrev pub IsOutcome : List ℕ → Outcome → Type 0
 IsOutcome bytes (Holds f) = BytesSay bytes (Ok f) × IsValidForGroup f.graph f.group f.cert
-IsOutcome bytes (Fails fault) = (f : Filed) × BytesSay bytes (Ok f) × JudgedForGroup f.graph f.group f.cert (Some fault)
+IsOutcome bytes (Fails f fault) = BytesSay bytes (Ok f) × JudgedForGroup f.graph f.group f.cert (Some fault)
 IsOutcome bytes (Refused fault) = BytesSay bytes (Err fault)
 
 -- The number of the file is exact: the size of the smallest set of nodes that splits the group, or one less than the
@@ -29,5 +29,5 @@ SaysExactNumber bytes = (f : Filed) × BytesSay bytes (Ok f) × FewestForGroup f
 -- the program's status
 abbrev pub status_of : Outcome → ℕ
 status_of (Holds f) = 0
-status_of (Fails fault) = 1
+status_of (Fails f fault) = 1
 status_of (Refused fault) = 1

@@ -22,7 +22,7 @@ impl Display for Outcome {
                 };
                 write!(f, "holds {moment} {cert}")
             }
-            Outcome::Fails(fault) => {
+            Outcome::Fails { fault, .. } => {
                 let fault = FaultText(*fault);
                 write!(f, "fails {fault}")
             }
@@ -48,12 +48,12 @@ impl Display for FaultText {
     fn fmt<W: Write>(&self, f: &mut Formatter<W>) -> Result {
         let number = self.0.number();
         match self.0 {
-            CheckFault::Pair { i, j } => {
+            CheckFault::Pair { i, j, .. } => {
                 let i = i.number();
                 let j = j.number();
                 write!(f, "{number} {i} {j}")
             }
-            CheckFault::Fan { j } => {
+            CheckFault::Fan { j, .. } => {
                 let j = j.number();
                 write!(f, "{number} {j}")
             }

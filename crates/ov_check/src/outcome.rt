@@ -1,4 +1,4 @@
-ghost use Rattle.std.specs.Prelude.{◌≡◌, List, ℕ, Ok, IfOk};
+ghost use Rattle.std.specs.Prelude.{◌≡◌, ◌≢◌, List, ℕ, Ok, Err, IfOk};
 ghost use Rattle.ov_check.specs.Outcome.{BytesSay, IsOutcome, SaysExactNumber, status_of};
 
 use crate::parallel::check_group_parallel;
@@ -12,10 +12,10 @@ use std::thread::Threads;
 /// The outcome of a certificate file.
 #[derive(Drop)]
 pub enum Outcome {
-    /// The certificate is valid for its group.
+    /// The file. Its certificate is valid for its group.
     Holds(Filed),
-    /// The first fault of the certificate.
-    Fails(CheckFault),
+    /// The file, and the first fault of its certificate.
+    Fails { filed: Filed, fault: CheckFault },
     /// The first fault of bytes that are not a certificate file.
     Refused(FileFault),
 }
@@ -30,8 +30,9 @@ pub fn outcome_of(alloc: Global, bytes: &[u8]) -> Result<Outcome, OutOfMemory>
     ensures only { IfOk result (λ o. (u : Outcome) → IsOutcome bytes.now u → u ≡ o) }
     ensures exact { IfOk result (λ o. status_of o ≡ 0 → SaysExactNumber bytes.now) }
 {
-    match said_by(alloc, bytes)? {
-        Ok(filed) => Ok(verdict_on(filed)),
+    match filed_in(alloc, bytes) {
+        Ok(filed) => Ok(judge_file(filed)),
+        Err(FileFault::OutOfMemory) => Err(OutOfMemory),
         Err(fault) => Ok(Outcome::Refused(fault)),
     }
 }
@@ -44,39 +45,36 @@ pub(crate) fn outcome_parallel(
     ensures outcome { IfOk result (λ o. IsOutcome bytes.now o) }
     ensures exact { IfOk result (λ o. status_of o ≡ 0 → SaysExactNumber bytes.now) }
 {
-    match said_by(rt.alloc(), bytes)? {
-        Ok(filed) => verdict_parallel(rt, filed),
+    match filed_in(rt.alloc(), bytes) {
+        Ok(filed) => judge_file_parallel(rt, filed),
+        Err(FileFault::OutOfMemory) => Err(OutOfMemory),
         Err(fault) => Ok(Outcome::Refused(fault)),
     }
 }
 
-/// What the bytes say as a certificate file, or their first fault.
-fn said_by(alloc: Global, bytes: &[u8]) -> Result<Result<Filed, FileFault>, OutOfMemory>
-    ensures { IfOk result (λ answer. BytesSay bytes.now answer) }
+/// The certificate file in these bytes.
+fn filed_in(alloc: Global, bytes: &[u8]) -> Result<Filed, FileFault>
+    ensures { result ≢ Err FileFault.OutOfMemory → BytesSay bytes.now result }
 {
-    let Ok(text) = str::from_utf8(bytes) else {
-        return Ok(Err(FileFault::NotJson));
-    };
-    match from_text(alloc, text) {
-        Ok(filed) => Ok(Ok(filed)),
-        Err(fault) => match fault {
-            FileFault::OutOfMemory => Err(OutOfMemory),
-            _ => Ok(Err(fault)),
-        },
+    match str::from_utf8(bytes) {
+        Ok(text) => from_text(alloc, text),
+        Err(_) => Err(FileFault::NotJson),
     }
 }
 
-fn verdict_on(filed: Filed) -> Outcome
+/// The outcome of a certificate file.
+fn judge_file(filed: Filed) -> Outcome
     ensures outcome { (bytes : List ℕ) → BytesSay bytes (Ok filed) → IsOutcome bytes result }
     ensures exact { (bytes : List ℕ) → BytesSay bytes (Ok filed) → status_of result ≡ 0 → SaysExactNumber bytes }
 {
     match check_group(&filed.graph, filed.group.as_slice(), &filed.cert) {
         Ok(()) => Outcome::Holds(filed),
-        Err(fault) => Outcome::Fails(fault),
+        Err(fault) => Outcome::Fails { filed, fault },
     }
 }
 
-fn verdict_parallel(
+/// As `judge_file`, by many threads.
+fn judge_file_parallel(
     rt: &(impl AllocGlobal + Threads + Sync),
     filed: Filed,
 ) -> Result<Outcome, OutOfMemory>
@@ -86,10 +84,8 @@ fn verdict_parallel(
 {
     match check_group_parallel(rt, &filed.graph, filed.group.as_slice(), &filed.cert) {
         Ok(()) => Ok(Outcome::Holds(filed)),
-        Err(fault) => match fault {
-            ParallelFault::Check(fault) => Ok(Outcome::Fails(fault)),
-            ParallelFault::OutOfMemory => Err(OutOfMemory),
-        },
+        Err(ParallelFault::Check(fault)) => Ok(Outcome::Fails { filed, fault }),
+        Err(ParallelFault::OutOfMemory) => Err(OutOfMemory),
     }
 }
 
@@ -100,7 +96,7 @@ impl Outcome {
     {
         match self {
             Outcome::Holds(_) => 0,
-            Outcome::Fails(_) | Outcome::Refused(_) => 1,
+            Outcome::Fails { .. } | Outcome::Refused(_) => 1,
         }
     }
 }

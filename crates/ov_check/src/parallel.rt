@@ -55,52 +55,48 @@ pub fn check_group_parallel(
     ensures fewest { OnOk result (FewestForGroup graph.now group.now (k_of cert.now)) }
 {
     prove!(graph.nodes().len() <= Graph::MOST_NODES);
-    match verdict(rt, graph, group, cert)? {
-        Some(fault) => Err(ParallelFault::Check(fault)),
-        None => Ok(()),
-    }
+    judge_parts(rt, graph, group, cert)
 }
 
-/// The first fault of a certificate, or none where it is valid.
-fn verdict(
+/// Judges the frame of a certificate, and then its entries.
+fn judge_parts(
     rt: &(impl AllocGlobal + Threads + Sync),
     graph: &Graph,
     group: &[NodeId],
     cert: &Cert,
-) -> Result<Option<CheckFault>, OutOfMemory>
-    ensures { MatchResult result (λ fault. JudgedForGroup graph.now group.now cert.now fault)
-        (λ _. NeedsEntries graph.now group.now cert.now) }
+) -> Result<(), ParallelFault>
+    ensures verdict { SaysVerdict (JudgedForGroup graph.now group.now cert.now) result }
+    ensures memory { result ≡ Err ParallelFault.OutOfMemory → NeedsEntries graph.now group.now cert.now }
 {
-    if let Err(fault) = check_group_frame(graph, group, cert) {
-        return Ok(Some(fault));
-    }
+    check_group_frame(graph, group, cert)?;
     match cert {
-        Cert::Linked { .. } => Ok(None),
-        Cert::Split(split) => verdict_on_entries(rt, graph, group, split),
+        Cert::Linked { .. } => Ok(()),
+        Cert::Split(split) => judge_entries(rt, graph, group, split),
     }
 }
 
-/// The first fault of a certificate whose frame passes, or none where it is valid.
-fn verdict_on_entries(
+/// Judges the entries of a certificate whose frame passes.
+fn judge_entries(
     rt: &(impl AllocGlobal + Threads + Sync),
     graph: &Graph,
     group: &[NodeId],
     split: &Split,
-) -> Result<Option<CheckFault>, OutOfMemory>
+) -> Result<(), ParallelFault>
     requires { PassesFrame graph.now group.now (cert.Split split.now) }
-    ensures { MatchResult result (λ fault. JudgedForGroup graph.now group.now (cert.Split split.now) fault)
-        (λ _. NeedsEntries graph.now group.now (cert.Split split.now)) }
+    ensures verdict { SaysVerdict (JudgedForGroup graph.now group.now (cert.Split split.now)) result }
+    ensures memory { result ≡ Err ParallelFault.OutOfMemory
+        → NeedsEntries graph.now group.now (cert.Split split.now) }
 {
     let entries = entries_of(rt.alloc(), graph, group, split)?;
     let count = entries.len();
     if let Some(entry) = first_missing(rt, graph, group, split, &entries) {
-        return Ok(Some(entry.fault()));
+        return Err(ParallelFault::Check(entry.fault()));
     }
     let fans = count_fans(group, split.k as usize);
     if !has_no_more(split, count - fans, fans) {
-        return Ok(Some(CheckFault::Extra));
+        return Err(ParallelFault::Check(CheckFault::Extra));
     }
-    Ok(None)
+    Ok(())
 }
 
 /// The expected entries. Where k is 0 there are none, and nothing is allocated.

@@ -1,6 +1,7 @@
 ghost use Rattle.std.specs.Prelude.{◌≡◌};
 ghost use Rattle.ov_check.specs.Parallel.{number_of};
 ghost use Rattle.ov_check.specs.declared.parallel_fault.ParallelFault.TheVariants.{OutOfMemory as out_of_memory};
+ghost use Rattle.ov_check.specs.declared.parallel_fault.ParallelFault.TheVariants.{Check};
 
 use ov_cert::CheckFault;
 use ov_ids::OutOfMemory;
@@ -26,6 +27,14 @@ impl ParallelFault {
             ParallelFault::Check(fault) => fault.number(),
             ParallelFault::OutOfMemory => 99,
         }
+    }
+}
+
+impl From<CheckFault> for ParallelFault {
+    ghost from_gives = { λ fault e. e ≡ Check fault };
+
+    fn from(fault: CheckFault) -> ParallelFault {
+        ParallelFault::Check(fault)
     }
 }
 

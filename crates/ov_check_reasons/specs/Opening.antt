@@ -58,5 +58,5 @@ file_opening OutOfMemory = codes "out of memory"
 -- of a file that holds there is nothing to say
 abbrev pub opening_text : Outcome → List ℕ
 opening_text (Holds f) = []
-opening_text (Fails fault) = statement_opening fault
+opening_text (Fails f fault) = statement_opening fault
 opening_text (Refused fault) = file_opening fault

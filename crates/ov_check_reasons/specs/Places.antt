@@ -1,6 +1,6 @@
 -- The place that an explanation names: where in a certificate file its fault shows.
 use Rattle.std.specs.Prelude.{◌≡◌, ◌≢◌, ◌⊎◌, ℕ, ◌+◌, ◌<◌, List, [], ◌∷◌, ◌++◌, length, take, slice_get, Option, Some}
-use Rattle.std.specs.Prelude.{None, Ok, codes, decimal}
+use Rattle.std.specs.Prelude.{None, codes, decimal}
 use Rattle.serde_json.specs.Data.{Data}
 use Rattle.serde_json.specs.Read.{read}
 use Rattle.ov_ids.specs.Members.{Has, IsApart, Ascends}
@@ -25,12 +25,11 @@ use Rattle.ov_cert.specs.Entries.{IsExpected}
 use Rattle.ov_certfile.specs.declared.fault.FileFault.{FileFault}
 use Rattle.ov_certfile.specs.declared.fault.FileFault.TheVariants.{NotJson, MissingKey, UnknownKey, BadValue}
 use Rattle.ov_certfile.specs.declared.fault.FileFault.TheVariants.{BadVersion, Graph}
-use Rattle.ov_certfile.specs.declared.reading.Filed.{Filed}
 use Rattle.ov_certfile.specs.declared.version.Version.{Version}
 use Rattle.ov_certfile.specs.Keys.{said}
 use Rattle.ov_certfile.specs.Kinds.{version_in, most_nodes_of}
 use Rattle.ov_certfile.specs.Says.{SaysGraph}
-use Rattle.ov_check.specs.Outcome.{BytesSay, IsOutcome}
+use Rattle.ov_check.specs.Outcome.{IsOutcome}
 use Rattle.ov_check.specs.declared.outcome.Outcome.{Outcome}
 use Rattle.ov_check.specs.declared.outcome.Outcome.TheVariants.{Holds, Fails, Refused}
 use Rattle.ov_check_reasons.specs.Opening.{opening_text, BeginsWith}
@@ -291,7 +290,7 @@ TellsValue fault value text = Unit {0}
 -- the text about bytes that are no JSON.
 abbrev pub TellsPlace : List ℕ → Outcome → List ℕ → Type 0
 TellsPlace bytes (Holds f) text = text ≡ []
-TellsPlace bytes (Fails fault) text = (f : Filed) × BytesSay bytes (Ok f) × TellsFault f.graph f.group f.cert fault text
+TellsPlace bytes (Fails f fault) text = TellsFault f.graph f.group f.cert fault text
 TellsPlace bytes (Refused NotJson) text = Unit {0}
 TellsPlace bytes (Refused fault) text = (d : Data) × (read bytes ≡ Some d) × TellsValue fault d text
 

@@ -2,7 +2,6 @@ ghost use Rattle.std.specs.Prelude.{Ok, IfOk, OnOk, string_bytes};
 ghost use Rattle.ov_cert.specs.declared.cert.Cert.TheVariants as cert;
 ghost use Rattle.ov_cert.specs.Verdict.{IsFirstFault};
 ghost use Rattle.ov_check.specs.Outcome.{IsOutcome};
-ghost use Rattle.ov_check.specs.declared.outcome.Outcome.TheVariants.{Fails};
 ghost use Rattle.ov_check_reasons.specs.Opening.{opening_text, BeginsWith};
 ghost use Rattle.ov_check_reasons.specs.Places.{TellsFault, TellsPlace, ExplainsOutcome};
 ghost use Rattle.ov_check_reasons.specs.Code.Sentences.{Adds};
@@ -12,7 +11,7 @@ use crate::fault_in_words::say_opening;
 use crate::frame_faults::{tell_count, tell_cut, tell_group, tell_side, tell_unlinked};
 use crate::refused_file::place_in_file;
 use ov_cert::{Cert, CheckFault, Split};
-use ov_certfile::{FileFault, Filed, from_text};
+use ov_certfile::Filed;
 use ov_check::Outcome;
 use ov_graph::Graph;
 use ov_ids::{NodeId, OutOfMemory};
@@ -42,39 +41,22 @@ fn place_of(alloc: Global, bytes: &[u8], outcome: &Outcome) -> Result<String, Ou
 {
     match outcome {
         Outcome::Holds(_) => Ok(String::new(alloc)),
-        Outcome::Fails(fault) => place_in_statement(alloc, bytes, *fault),
+        Outcome::Fails { filed, fault } => place_in_statement(alloc, filed, *fault),
         Outcome::Refused(fault) => place_in_file(alloc, bytes, *fault),
     }
 }
 
-fn place_in_statement(alloc: Global, bytes: &[u8], fault: CheckFault) -> Result<String, OutOfMemory>
-    ensures { IsOutcome bytes.now (Fails fault)
-        → IfOk result (λ text. TellsPlace bytes.now (Fails fault) (string_bytes text)) }
+fn place_in_statement(
+    alloc: Global,
+    filed: &Filed,
+    fault: CheckFault,
+) -> Result<String, OutOfMemory>
+    ensures { IsFirstFault filed.now.graph filed.now.group filed.now.cert fault
+        → IfOk result (λ text. TellsFault filed.now.graph filed.now.group filed.now.cert fault (string_bytes text)) }
 {
     let mut text = String::new(alloc);
-    tell_statement(alloc, &mut text, bytes, fault)?;
+    tell_fault(alloc, &mut text, filed, fault)?;
     Ok(text)
-}
-
-fn tell_statement(
-    alloc: Global,
-    text: &mut String,
-    bytes: &[u8],
-    fault: CheckFault,
-) -> Result<(), OutOfMemory>
-    ensures { IsOutcome bytes.now (Fails fault) → OnOk result (Adds (TellsPlace bytes.now (Fails fault))
-        (string_bytes text.old) (string_bytes text.new)) }
-{
-    let Ok(source) = str::from_utf8(bytes) else {
-        return Ok(());
-    };
-    match from_text(alloc, source) {
-        Ok(filed) => tell_fault(alloc, text, &filed, fault),
-        Err(fault) => match fault {
-            FileFault::OutOfMemory => Err(OutOfMemory),
-            _ => Ok(()),
-        },
-    }
 }
 
 fn tell_fault(

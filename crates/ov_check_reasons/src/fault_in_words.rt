@@ -14,7 +14,7 @@ pub(crate) fn say_opening(text: &mut String, outcome: &Outcome) -> Result<(), Ou
 {
     match outcome {
         Outcome::Holds(_) => Ok(()),
-        Outcome::Fails(fault) => say_statement(text, *fault),
+        Outcome::Fails { fault, .. } => say_statement(text, *fault),
         Outcome::Refused(fault) => say_text(text, words_of_file(*fault)),
     }
 }

@@ -52,11 +52,11 @@ pub(crate) fn put_verdict(told: &mut String, verdict: Verdict) -> Result<(), All
     let number = fault.number();
     write!(told, "fails {number}")?;
     match fault {
-        CheckFault::Pair { i, j } => {
+        CheckFault::Pair { i, j, .. } => {
             let (i, j) = (i.number(), j.number());
             write!(told, " {i} {j}")
         }
-        CheckFault::Fan { j } => {
+        CheckFault::Fan { j, .. } => {
             let j = j.number();
             write!(told, " {j}")
         }

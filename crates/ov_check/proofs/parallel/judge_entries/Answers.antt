@@ -6,10 +6,10 @@ use Rattle.ov_cert.specs.declared.expected_entry.Expected.{Expected}
 use Rattle.ov_cert.specs.Verdict.{AllHold, IsFirstAtFault, JudgedForGroup}
 use Rattle.ov_cert.specs.Entries.{HoldsEntry}
 use Rattle.ov_check.proofs.Placed.{pairs_left, judged_missing, judged_extra, judged_valid}
-use Rattle.ov_check.proofs.parallel.verdict_on_entries.Goals as goal
+use Rattle.ov_check.proofs.parallel.judge_entries.Goals as goal
 
-pub returns-in-Some : goal.returns-in-Some
-returns-in-Some g c =
+pub returns-in-Some-clause-verdict : goal.returns-in-Some-clause-verdict
+returns-in-Some-clause-verdict g c =
     let graph = c.args.graph.now in
     let group = c.args.group.now in
     let split = c.args.split.now in
@@ -25,8 +25,8 @@ overflow_sub-count g c =
     (pairs_left c.args.graph.now c.args.group.now c.args.split.now c.requires c.in_ok-entries.entries.items
     c.in_ok-entries.ensures c.len-count.result c.count_fans-fans.result count c.count_fans-fans.ensures).0
 
-pub returns-then-not-has_no_more : goal.returns-then-not-has_no_more
-returns-then-not-has_no_more g c =
+pub returns-then-not-has_no_more-clause-verdict : goal.returns-then-not-has_no_more-clause-verdict
+returns-then-not-has_no_more-clause-verdict g c =
     let graph = c.args.graph.now in
     let group = c.args.group.now in
     let split = c.args.split.now in
@@ -36,8 +36,8 @@ returns-then-not-has_no_more g c =
     c.len-count.result c.count_fans-fans.result count c.count_fans-fans.ensures each
     (λ fits. both_ways c.has_no_more.result c.if-not-has_no_more.true (c.has_no_more.ensures.1 fits))
 
-pub returns : goal.returns
-returns g c =
+pub returns-clause-verdict : goal.returns-clause-verdict
+returns-clause-verdict g c =
     let graph = c.args.graph.now in
     let group = c.args.group.now in
     let split = c.args.split.now in
