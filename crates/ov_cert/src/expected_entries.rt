@@ -8,10 +8,10 @@ ghost use Rattle.ov_cert.specs.Entries.{of_pairs, of_fans, AreExpected, IsExpect
 ghost use Rattle.ov_cert.specs.Code.Tests.{unlinked_before, pairs_after, expected_pairs};
 
 use crate::cert::Split;
-use crate::entries::{has_fan, has_pair};
-use crate::expected_entry::Expected;
+use crate::entry_judging::{has_fan, has_pair};
+use crate::expected_pair_or_fan::Expected;
 use crate::fault::CheckFault;
-use crate::first_members::{first_members, later_members};
+use crate::group_members::{first_members, later_members};
 use crate::paths::are_linked;
 use ov_graph::Graph;
 use ov_ids::{NodeId, OutOfMemory};

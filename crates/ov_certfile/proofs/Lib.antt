@@ -3,7 +3,6 @@ pub mod Listed
 pub mod Written
 pub mod Back
 pub mod Headed
-pub mod Parts
 pub mod Told
 pub mod OneAnswer
 pub mod Rewritten

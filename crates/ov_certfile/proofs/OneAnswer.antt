@@ -1,14 +1,16 @@
 -- A value has one meaning only, and so has a text.
-use Rattle.std.proofs.Common.{◌≡◌, ◌∙◌, ◌⊎◌, inl, inr, ℕ, ◌≤◌, List, [], ◌∷◌, length, Option, Some, None, Result, Ok}
-use Rattle.std.proofs.Common.{Err, refl, sym, subst, ap, codes, IfSome, IfNone}
+use Rattle.std.proofs.Common.{◌≡◌, ◌∙◌, ◌⊎◌, inl, inr, ℕ, suc, ◌<◌, ◌≤◌, List, [], ◌∷◌, length, Option, Some, None}
+use Rattle.std.proofs.Common.{Result, Ok, Err, refl, sym, subst, ap, codes, IfSome, IfNone}
 use Rattle.serde_json.specs.Data.{Data}
 use Rattle.serde_json.specs.Read.{read}
-use Rattle.ov_ids.specs.Members.{Ascends}
+use Rattle.ov_ids.specs.Members.{Has}
 use Rattle.ov_ids.specs.FaultOrder.{HoldsThen, Passed}
-use Rattle.ov_graph.specs.Links.{LinkGraph, IsLink, most_nodes}
-use Rattle.ov_graph.specs.Faults.{GraphJudged, LinksJudged, ComesAfter}
+use Rattle.ov_graph.specs.Links.{LinkGraph, Precedes, most_nodes}
+use Rattle.ov_graph.specs.Faults.{GraphJudged, NodesJudged, LinksJudged, LinkJoins, LinkComesAfter}
 use Rattle.ov_graph.specs.declared.fault.GraphFault.{GraphFault}
-use Rattle.ov_graph.specs.declared.fault.GraphFault.TheVariants.{TooManyNodes, Unordered, BadLink}
+use Rattle.ov_graph.specs.declared.fault.GraphFault.TheVariants.{TooManyNodes, UnorderedNode, BadLink}
+use Rattle.ov_graph.specs.declared.fault.GraphFault.TheVariants.{UnorderedLink}
+use Rattle.ov_graph.specs.declared.fault.LinkFlaw.TheVariants.{NotUpward, NoNode}
 use Rattle.ov_cert.specs.declared.cert.Cert.{Cert}
 use Rattle.ov_cert.specs.declared.cert.Cert.TheVariants as cert
 use Rattle.ov_cert.specs.declared.cert.Split.{Split}
@@ -16,6 +18,8 @@ use Rattle.ov_certfile.specs.Keys.{said}
 use Rattle.ov_certfile.specs.Kinds.{version_in, most_nodes_of}
 use Rattle.ov_certfile.specs.Demands.{demands, first_unmet, FileGraphJudged}
 use Rattle.ov_certfile.specs.Says.{SaysGraph, SaysGroup, SaysCert, Says, IsNoGraph, IsFault, SaysFile, SaysText}
+use Rattle.ov_certfile.specs.FaultKinds as kind
+use Rattle.ov_certfile.specs.FaultKinds.{kind_of, kind_in}
 use Rattle.ov_certfile.specs.declared.fault.FileFault.{FileFault}
 use Rattle.ov_certfile.specs.declared.fault.FileFault.TheVariants.{NotJson, MissingKey, UnknownKey, BadValue}
 use Rattle.ov_certfile.specs.declared.fault.FileFault.TheVariants.{BadVersion, Graph, OutOfMemory}
@@ -38,21 +42,45 @@ step_one P fault After one x y (inl p) (inr q) = absurd (q.0 p.0)
 step_one P fault After one x y (inr p) (inl q) = absurd (p.0 q.0)
 step_one P fault After one x y (inr p) (inr q) = p.1 ∙ sym q.1
 
-links_one : (nodes : List ℕ) (before : Option (ℕ × ℕ)) (links : List (ℕ × ℕ)) → IsOne (LinksJudged nodes before links)
-links_one nodes before [] = passed_one
-links_one nodes before (l ∷ links) =
-    step_one (IsLink nodes l) BadLink (HoldsThen (ComesAfter before l) Unordered (LinksJudged nodes (Some l) links))
-    (step_one (ComesAfter before l) Unordered (LinksJudged nodes (Some l) links) (links_one nodes (Some l) links))
+nodes_one : (at : ℕ) (before : Option ℕ) (nodes : List ℕ) (After : Option GraphFault → Type 0) → IsOne After
+    → IsOne (NodesJudged at before nodes After)
+nodes_one at before [] After one = one
+nodes_one at None (node ∷ nodes) After one = nodes_one (suc at) (Some node) nodes After one
+nodes_one at (Some before) (node ∷ nodes) After one =
+    step_one (before < node) (UnorderedNode at node before) (NodesJudged (suc at) (Some node) nodes After)
+    (nodes_one (suc at) (Some node) nodes After one)
+
+comes_one : (at : ℕ) (before : Option (ℕ × ℕ)) (l : ℕ × ℕ) (After : Option GraphFault → Type 0) → IsOne After
+    → IsOne (LinkComesAfter at before l After)
+comes_one at None l After one = one
+comes_one at (Some before) l After one = step_one (Precedes before l) (UnorderedLink at l before) After one
+
+joins_one : (nodes : List ℕ) (at : ℕ) (l : ℕ × ℕ) (After : Option GraphFault → Type 0) → IsOne After
+    → IsOne (LinkJoins nodes at l After)
+joins_one nodes at l After one =
+    step_one (l.0 < l.1) (BadLink at l NotUpward)
+    (HoldsThen (Has nodes l.0) (BadLink at l (NoNode l.0))
+    (HoldsThen (Has nodes l.1) (BadLink at l (NoNode l.1)) After))
+    (step_one (Has nodes l.0) (BadLink at l (NoNode l.0)) (HoldsThen (Has nodes l.1) (BadLink at l (NoNode l.1)) After)
+    (step_one (Has nodes l.1) (BadLink at l (NoNode l.1)) After one))
+
+links_one : (nodes : List ℕ) (at : ℕ) (before : Option (ℕ × ℕ)) (links : List (ℕ × ℕ))
+    → IsOne (LinksJudged nodes at before links)
+links_one nodes at before [] = passed_one
+links_one nodes at before (l ∷ links) =
+    joins_one nodes at l (LinkComesAfter at before l (LinksJudged nodes (suc at) (Some l) links))
+    (comes_one at before l (LinksJudged nodes (suc at) (Some l) links) (links_one nodes (suc at) (Some l) links))
 
 graph_one : (nodes : List ℕ) (links : List (ℕ × ℕ)) → IsOne (GraphJudged nodes links)
 graph_one nodes links =
-    step_one (length nodes ≤ most_nodes) TooManyNodes
-    (HoldsThen (Ascends nodes) Unordered (LinksJudged nodes None links))
-    (step_one (Ascends nodes) Unordered (LinksJudged nodes None links) (links_one nodes None links))
+    step_one (length nodes ≤ most_nodes) (TooManyNodes (length nodes) most_nodes)
+    (NodesJudged 0 None nodes (LinksJudged nodes 0 None links))
+    (nodes_one 0 None nodes (LinksJudged nodes 0 None links) (links_one nodes 0 None links))
 
 judged_one : (version : Version) (g : LinkGraph) → IsOne (FileGraphJudged version g)
 judged_one version g =
-    step_one (length g.nodes ≤ most_nodes_of version) TooManyNodes (GraphJudged g.nodes g.links)
+    step_one (length g.nodes ≤ most_nodes_of version)
+    (TooManyNodes (length g.nodes) (most_nodes_of version)) (GraphJudged g.nodes g.links)
     (graph_one g.nodes g.links)
 
 -- a key has one value
@@ -114,13 +142,13 @@ comes_same d x y p q =
     judged_one q.0 q.1 x y
     (subst (λ v. FileGraphJudged v q.1 x) version (subst (λ g. FileGraphJudged p.0 g x) graph p.4)) q.4
 
--- a fault is the fault of a demand or of the graph
+-- a fault is of a demand's kind, or of the graph
 cases : (d : Data) (e : FileFault) → IsFault d e
-    → (first_unmet (demands d) ≡ Some e) ⊎ ((f : GraphFault) × (e ≡ Graph f) × IsNoGraph d f)
-cases d NotJson h = inl h
-cases d MissingKey h = inl h
-cases d UnknownKey h = inl h
-cases d BadValue h = inl h
+    → (first_unmet (demands d) ≡ Some (kind_of e)) ⊎ ((f : GraphFault) × (e ≡ Graph f) × IsNoGraph d f)
+cases d (NotJson p) h = inl h
+cases d (MissingKey k) h = inl h
+cases d (UnknownKey at v w) h = inl h
+cases d (BadValue b) h = inl h
 cases d BadVersion h = inl h
 cases d (Graph f) h = inr (f, refl, h)
 cases d OutOfMemory h = inl h
@@ -131,43 +159,45 @@ no_graph_comes d f h = (h.version, h.given, h.version_said, h.graph, h.judged)
 graph_comes : (d : Data) (f : Filed) → Says d f → GraphComesTo d None
 graph_comes d f h = (h.version, f.graph, h.version_said, h.graph, h.judged)
 
-fault_same : (d : Data) (e u : FileFault) → IsFault d e → IsFault d u → e ≡ u
+fault_same : (d : Data) (e u : FileFault) → IsFault d e → IsFault d u → kind_of e ≡ kind_of u
 fault_same d e u p q = elim (cases d e p) [
   | inl a ↦ elim (cases d u q) [
     | inl b ↦ same _ _ _ a b
-    | inr b ↦ let x : Some e ≡ None = sym a ∙ b.2.met in absurd (cc)
+    | inr b ↦ let x : Some (kind_of e) ≡ None = sym a ∙ b.2.met in absurd (cc)
   ]
   | inr a ↦ elim (cases d u q) [
-    | inl b ↦ let x : Some u ≡ None = sym b ∙ a.2.met in absurd (cc)
+    | inl b ↦ let x : Some (kind_of u) ≡ None = sym b ∙ a.2.met in absurd (cc)
     | inr b ↦
         let x : Some a.0 ≡ Some b.0 =
         comes_same d (Some a.0) (Some b.0) (no_graph_comes d a.0 a.2) (no_graph_comes d b.0 b.2) in
         let y : a.0 ≡ b.0 = cc in
-        a.1 ∙ ap (λ f. Graph f) y ∙ sym b.1
+        ap kind_of (a.1 ∙ ap (λ f. Graph f) y ∙ sym b.1)
   ]
 ]
 
 says_no_fault : (d : Data) (f : Filed) (e : FileFault) → Says d f → IsFault d e → ⊥
 says_no_fault d f e p q = elim (cases d e q) [
-  | inl a ↦ let x : Some e ≡ None = sym a ∙ p.met in cc
+  | inl a ↦ let x : Some (kind_of e) ≡ None = sym a ∙ p.met in cc
   | inr a ↦ let x : None ≡ Some a.0 = comes_same d None (Some a.0) (graph_comes d f p) (no_graph_comes d a.0 a.2) in cc
 ]
 
-pub file_one : (d : Data) (a b : Result Filed FileFault) → SaysFile d a → SaysFile d b → a ≡ b
+pub file_one : (d : Data) (a b : Result Filed FileFault) → SaysFile d a → SaysFile d b → kind_in a ≡ kind_in b
 file_one d (Ok f) (Ok h) p q = ap (λ f. Ok f) (file_same d f h p q)
 file_one d (Ok f) (Err e) p q = absurd (says_no_fault d f e p q)
 file_one d (Err e) (Ok f) p q = absurd (says_no_fault d f e q p)
-file_one d (Err e) (Err u) p q = ap (λ e. Err e) (fault_same d e u p q)
+file_one d (Err e) (Err u) p q = ap (λ k. Err k) (fault_same d e u p q)
 
-read_one : (o : Option Data) (a b : Result Filed FileFault) → IfSome o (λ d. SaysFile d a) → IfNone o (a ≡ Err NotJson)
-    → IfSome o (λ d. SaysFile d b) → IfNone o (b ≡ Err NotJson) → a ≡ b
+read_one : (o : Option Data) (a b : Result Filed FileFault) → IfSome o (λ d. SaysFile d a)
+    → IfNone o (kind_in a ≡ Err kind.NotJson) → IfSome o (λ d. SaysFile d b) → IfNone o (kind_in b ≡ Err kind.NotJson)
+    → kind_in a ≡ kind_in b
 read_one None a b p n q m = n ∙ sym m
 read_one (Some d) a b p n q m = file_one d a b p q
 
-pub text_one : (text : List ℕ) (a b : Result Filed FileFault) → SaysText text a → SaysText text b → a ≡ b
+pub text_one : (text : List ℕ) (a b : Result Filed FileFault) → SaysText text a → SaysText text b
+    → kind_in a ≡ kind_in b
 text_one text a b p q = read_one (read text) a b p.json p.no_json q.json q.no_json
 
 -- the meaning of the JSON value in a text is the only meaning of the text
 pub read_text_one : (text : List ℕ) (d : Data) (a b : Result Filed FileFault) → read text ≡ Some d → SaysFile d b
-    → SaysText text a → a ≡ b
+    → SaysText text a → kind_in a ≡ kind_in b
 read_text_one text d a b e f h = text_one text a b h (record { json = rw e f; no_json = rw e tt })

@@ -1,7 +1,6 @@
 -- The demands on a JSON value that is read as a certificate file, in the order in which they are checked.
-use Rattle.std.specs.Prelude.{◌≤◌, Bool, List, [], ◌∷◌, length, codes, is_some, if◌then◌else◌, Option, Some, None}
-use Rattle.std.specs.Prelude.{unwrap_or}
-use Rattle.std.specs.List.{list_all}
+use Rattle.std.specs.Prelude.{◌≤◌, Bool, true, false, List, [], ◌∷◌, length, codes, is_some, Option, Some, None}
+use Rattle.std.specs.Prelude.{option_map, unwrap_or}
 use Rattle.serde_json.specs.Data.{Data}
 use Rattle.serde_json.specs.Find.{as_object}
 use Rattle.ov_ids.specs.FaultOrder.{HoldsThen}
@@ -10,11 +9,11 @@ use Rattle.ov_graph.specs.Faults.{GraphJudged}
 use Rattle.ov_graph.specs.declared.fault.GraphFault.{GraphFault}
 use Rattle.ov_graph.specs.declared.fault.GraphFault.TheVariants.{TooManyNodes}
 use Rattle.ov_ids.specs.Options.{◌>>=◌}
-use Rattle.ov_certfile.specs.Keys.{has_key, has_all, has_no_other, said}
-use Rattle.ov_certfile.specs.Kinds.{version_in, verdict_in, most_nodes_of, Key, keys_of, names_of}
-use Rattle.ov_certfile.specs.declared.fault.FileFault.{FileFault}
-use Rattle.ov_certfile.specs.declared.fault.FileFault.TheVariants.{MissingKey, UnknownKey, BadValue}
-use Rattle.ov_certfile.specs.declared.fault.FileFault.TheVariants.{BadVersion}
+use Rattle.ov_certfile.specs.Keys.{has_key, has_no_other, said, first_failing}
+use Rattle.ov_certfile.specs.Kinds.{version_in, verdict_in, most_nodes_of, name_of, names_of, has_form, keys_of}
+use Rattle.ov_certfile.specs.FaultKinds.{Kind, MissingKey, UnknownKey, BadValue, BadVersion}
+use Rattle.ov_certfile.specs.declared.file_keys.Key.{Key}
+use Rattle.ov_certfile.specs.declared.file_keys.Key.TheVariants as key
 use Rattle.ov_certfile.specs.declared.version.Version.{Version}
 
 -- the keys of a file with the version and the verdict of the value; None if the value lacks either
@@ -28,30 +27,41 @@ keys_said d =
 abbrev pub wanted_keys : Data → List Key
 wanted_keys d = unwrap_or (keys_said d) []
 
--- each of these keys has a value of its form
-abbrev pub has_forms : List Key → Data → Bool
-has_forms keys d = list_all (λ k. k.1 d) keys
+-- a fault of this kind, unless the test passes
+abbrev pub unless : Bool → Kind → Option Kind
+unless true kind = None
+unless false kind = Some kind
 
--- the demands, each with its fault; the fault of the first unmet demand is returned
-unfoldable pub demands : Data → List (Bool × FileFault)
+-- the first of these keys that the value lacks, as a fault
+abbrev pub missing : List Key → Data → Option Kind
+missing keys d = option_map MissingKey (first_failing (λ key. has_key (name_of key) d) keys)
+
+-- the first of these keys whose value lacks its form, as a fault
+abbrev pub misformed : List Key → Data → Option Kind
+misformed keys d = option_map (λ key. BadValue (Some key)) (first_failing (has_form d) keys)
+
+-- the demands: for each the kind of the fault if it is unmet, and None if it is met
+unfoldable pub demands : Data → List (Option Kind)
 demands d =
-    (is_some (as_object d), BadValue)
-    ∷ (has_key (codes "version") d, MissingKey)
-    ∷ (is_some (said version_in (codes "version") d), BadVersion)
-    ∷ (has_key (codes "verdict") d, MissingKey)
-    ∷ (is_some (said verdict_in (codes "verdict") d), BadValue)
-    ∷ (has_all (names_of (wanted_keys d)) d, MissingKey)
-    ∷ (has_no_other (names_of (wanted_keys d)) d, UnknownKey)
-    ∷ (has_forms (wanted_keys d) d, BadValue)
+    unless (is_some (as_object d)) (BadValue None)
+    ∷ missing (key.Version ∷ []) d
+    ∷ unless (is_some (said version_in (codes "version") d)) BadVersion
+    ∷ missing (key.Verdict ∷ []) d
+    ∷ misformed (key.Verdict ∷ []) d
+    ∷ missing (wanted_keys d) d
+    ∷ unless (has_no_other (names_of (wanted_keys d)) d) UnknownKey
+    ∷ misformed (wanted_keys d) d
     ∷ []
 
--- the fault of the first unmet demand, if there is one
-abbrev pub first_unmet : List (Bool × FileFault) → Option FileFault
+-- the kind of fault of the first unmet demand, if there is one
+abbrev pub first_unmet : List (Option Kind) → Option Kind
 first_unmet [] = None
-first_unmet (demand ∷ rest) = if demand.0 then first_unmet rest else Some demand.1
+first_unmet (None ∷ rest) = first_unmet rest
+first_unmet (Some kind ∷ rest) = Some kind
 
 -- after the demands, the nodes and links must be a graph: no more nodes than the version allows, and no fault of a
 -- graph
 abbrev pub FileGraphJudged : Version → LinkGraph → Option GraphFault → Type 0
 FileGraphJudged version g answer =
-    HoldsThen (length g.nodes ≤ most_nodes_of version) TooManyNodes (GraphJudged g.nodes g.links) answer
+    HoldsThen (length g.nodes ≤ most_nodes_of version) (TooManyNodes (length g.nodes) (most_nodes_of version))
+    (GraphJudged g.nodes g.links) answer

@@ -1,5 +1,6 @@
 -- The keys of a JSON object, and the values at them.
-use Rattle.std.specs.Prelude.{ℕ, ◌&&◌, Bool, List, [], ◌∷◌, is_some, Option, option_map, unwrap_or}
+use Rattle.std.specs.Prelude.{ℕ, ◌&&◌, Bool, List, [], ◌∷◌, is_some, if◌then◌else◌, Option, Some, None, option_map}
+use Rattle.std.specs.Prelude.{unwrap_or}
 use Rattle.std.specs.List.{list_all, list_any}
 use Rattle.serde_json.specs.Data.{Data, Members, no_members, member}
 use Rattle.serde_json.specs.Find.{get, as_object}
@@ -38,3 +39,8 @@ has_just keys d = has_all keys d && has_no_other keys d
 -- the value at a key, read in this form; None if the key is missing or its value does not have the form
 abbrev pub said : {X : Type 0} → (Data → Option X) → List ℕ → Data → Option X
 said form key d = get key d >>= form
+
+-- the first of these items that fails a test
+abbrev pub first_failing : {X : Type 0} → (X → Bool) → List X → Option X
+first_failing passes [] = None
+first_failing passes (x ∷ xs) = if passes x then first_failing passes xs else Some x

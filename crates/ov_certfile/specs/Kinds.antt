@@ -7,7 +7,9 @@ use Rattle.ov_graph.specs.Links.{most_nodes}
 use Rattle.ov_ids.specs.Options.{◌>>=◌}
 use Rattle.ov_certfile.specs.Common.{are_same}
 use Rattle.ov_certfile.specs.Keys.{said}
-use Rattle.ov_certfile.specs.Forms.{whole_in, count_in, moment_in, id_in, ids_in, links_in, pairs_in, fans_in}
+use Rattle.ov_certfile.specs.Forms.{whole_in, count_in, moment_in, id_in, ids_in, links_in, paths_in, pairs_in, fans_in}
+use Rattle.ov_certfile.specs.declared.file_keys.Key.{Key}
+use Rattle.ov_certfile.specs.declared.file_keys.Key.TheVariants as key
 use Rattle.ov_certfile.specs.declared.version.Version.{Version}
 use Rattle.ov_certfile.specs.declared.version.Version.TheVariants.{One, Two}
 use Rattle.ov_certfile.specs.declared.verdict.Verdict.{Verdict}
@@ -49,46 +51,62 @@ verdict_named s =
 abbrev pub verdict_in : Data → Option Verdict
 verdict_in d = as_str d >>= verdict_named
 
--- a key: its name, and a test whether an object has a value of the key's form there
-abbrev pub Key : Type 0
-Key = List ℕ × (Data → Bool)
+-- the name of a key in a file
+abbrev pub name_of : Key → List ℕ
+name_of key.K = codes "k"
+name_of key.Links = codes "links"
+name_of key.Moment = codes "moment"
+name_of key.Nodes = codes "nodes"
+name_of key.Verdict = codes "verdict"
+name_of key.Version = codes "version"
+name_of key.Group = codes "group"
+name_of key.Cut = codes "cut"
+name_of key.Near = codes "near"
+name_of key.Far = codes "far"
+name_of key.Side = codes "side"
+name_of key.Pairs = codes "pairs"
+name_of key.Fans = codes "fans"
+name_of key.I = codes "i"
+name_of key.J = codes "j"
+name_of key.Paths = codes "paths"
 
--- the key with this name and this form
-abbrev pub key : {X : Type 0} → List ℕ → (Data → Option X) → Key
-key name form = (name, λ d. is_some (said form name d))
+-- the names of these keys
+abbrev pub names_of : List Key → List (List ℕ)
+names_of keys = map name_of keys
+
+-- whether the value has a key, and there a value of the key's form
+abbrev pub has_form : Data → Key → Bool
+has_form d key.K = is_some (said count_in (codes "k") d)
+has_form d key.Links = is_some (said links_in (codes "links") d)
+has_form d key.Moment = is_some (said moment_in (codes "moment") d)
+has_form d key.Nodes = is_some (said ids_in (codes "nodes") d)
+has_form d key.Verdict = is_some (said verdict_in (codes "verdict") d)
+has_form d key.Version = is_some (said version_in (codes "version") d)
+has_form d key.Group = is_some (said ids_in (codes "group") d)
+has_form d key.Cut = is_some (said ids_in (codes "cut") d)
+has_form d key.Near = is_some (said id_in (codes "near") d)
+has_form d key.Far = is_some (said id_in (codes "far") d)
+has_form d key.Side = is_some (said ids_in (codes "side") d)
+has_form d key.Pairs = is_some (said pairs_in (codes "pairs") d)
+has_form d key.Fans = is_some (said fans_in (codes "fans") d)
+has_form d key.I = is_some (said id_in (codes "i") d)
+has_form d key.J = is_some (said id_in (codes "j") d)
+has_form d key.Paths = is_some (said paths_in (codes "paths") d)
 
 -- the keys that every file has
 abbrev pub common_keys : List Key
-common_keys =
-    key (codes "k") count_in
-    ∷ key (codes "links") links_in
-    ∷ key (codes "moment") moment_in
-    ∷ key (codes "nodes") ids_in
-    ∷ key (codes "verdict") verdict_in
-    ∷ key (codes "version") version_in
-    ∷ []
+common_keys = key.K ∷ key.Links ∷ key.Moment ∷ key.Nodes ∷ key.Verdict ∷ key.Version ∷ []
 
 -- the keys that only this version has: in version 2 the group
 abbrev pub version_keys : Version → List Key
 version_keys One = []
-version_keys Two = key (codes "group") ids_in ∷ []
+version_keys Two = key.Group ∷ []
 
 -- the keys that only this verdict has: for split the cut, its side and the entries
 abbrev pub verdict_keys : Verdict → List Key
 verdict_keys Linked = []
-verdict_keys Split =
-    key (codes "cut") ids_in
-    ∷ key (codes "near") id_in
-    ∷ key (codes "far") id_in
-    ∷ key (codes "side") ids_in
-    ∷ key (codes "pairs") pairs_in
-    ∷ key (codes "fans") fans_in
-    ∷ []
+verdict_keys Split = key.Cut ∷ key.Near ∷ key.Far ∷ key.Side ∷ key.Pairs ∷ key.Fans ∷ []
 
 -- the keys of a file of this version and verdict
 abbrev pub keys_of : Version → Verdict → List Key
 keys_of version verdict = common_keys ++ (version_keys version ++ verdict_keys verdict)
-
--- the names of these keys
-abbrev pub names_of : List Key → List (List ℕ)
-names_of keys = map (λ k. k.0) keys

@@ -3,6 +3,7 @@ pub mod Number
 pub mod Keys
 pub mod Forms
 pub mod Kinds
+pub mod FaultKinds
 pub mod Demands
 pub mod Says
 pub mod DataOf

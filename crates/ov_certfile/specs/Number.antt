@@ -7,10 +7,10 @@ use Rattle.ov_certfile.specs.declared.fault.FileFault.TheVariants.{BadVersion, G
 
 -- the number of each fault; a fault of the graph keeps its own number
 abbrev pub number_of : FileFault → ℕ
-number_of NotJson = 60
-number_of MissingKey = 61
-number_of UnknownKey = 62
-number_of BadValue = 63
+number_of (NotJson place) = 60
+number_of (MissingKey key) = 61
+number_of (UnknownKey at version verdict) = 62
+number_of (BadValue bad) = 63
 number_of BadVersion = 64
 number_of (Graph f) = graph.number_of f
 number_of OutOfMemory = 99

@@ -11,8 +11,9 @@ use Rattle.ov_certfile.specs.Keys.{said}
 use Rattle.ov_certfile.specs.Forms.{count_in, moment_in, id_in, ids_in, links_in, pairs_in, fans_in}
 use Rattle.ov_certfile.specs.Kinds.{version_in, verdict_in}
 use Rattle.ov_certfile.specs.Demands.{demands, first_unmet, FileGraphJudged}
+use Rattle.ov_certfile.specs.FaultKinds.{NotJson, kind_of, kind_in}
 use Rattle.ov_certfile.specs.declared.fault.FileFault.{FileFault}
-use Rattle.ov_certfile.specs.declared.fault.FileFault.TheVariants.{NotJson, Graph}
+use Rattle.ov_certfile.specs.declared.fault.FileFault.TheVariants.{Graph}
 use Rattle.ov_certfile.specs.declared.version.Version.{Version}
 use Rattle.ov_certfile.specs.declared.version.Version.TheVariants.{One, Two}
 use Rattle.ov_certfile.specs.declared.verdict.Verdict.TheVariants.{Linked, Split as VerdictSplit}
@@ -69,17 +70,17 @@ pub record IsNoGraph (d : Data) (fault : GraphFault) : Type 0 where
   pub graph : SaysGraph d given
   pub judged : FileGraphJudged version given (Some fault)
 
--- the first fault of the value
+-- the first fault of the value: the nodes and links are no graph, or a demand is unmet, and the fault is of its kind
 abbrev pub IsFault : Data → FileFault → Type 0
 IsFault d (Graph fault) = IsNoGraph d fault
-IsFault d fault = first_unmet (demands d) ≡ Some fault
+IsFault d fault = first_unmet (demands d) ≡ Some (kind_of fault)
 
 -- the meaning of a value, or its first fault
 abbrev pub SaysFile : Data → Result Filed FileFault → Type 0
 SaysFile d (Ok f) = Says d f
 SaysFile d (Err fault) = IsFault d fault
 
--- the meaning of a text: that of the JSON value in it, or the fault NotJson if it is no JSON
+-- the meaning of a text: that of the JSON value in it, or a fault of the kind NotJson if it is no JSON
 pub record SaysText (text : List ℕ) (answer : Result Filed FileFault) : Type 0 where
   pub json : IfSome (read text) (λ d. SaysFile d answer)
-  pub no_json : IfNone (read text) (answer ≡ Err NotJson)
+  pub no_json : IfNone (read text) (kind_in answer ≡ Err NotJson)

@@ -1,15 +1,40 @@
-ghost use Rattle.std.specs.Prelude.{◌≡◌, OnOk, Some};
+ghost use Rattle.std.specs.Prelude.{◌≡◌, is_none, OnOk, Some};
 ghost use Rattle.serde_json.specs.Data.{object, no_members};
-ghost use Rattle.serde_json.specs.View.{members_view};
+ghost use Rattle.serde_json.specs.View.{view, members_view};
+ghost use Rattle.ov_certfile.specs.Keys.{has_just};
+ghost use Rattle.ov_certfile.specs.Kinds.{names_of};
 ghost use Rattle.ov_certfile.specs.Forms.{pair_in, fan_in};
 ghost use Rattle.ov_certfile.specs.DataOf.{pair_data, fan_data};
 
-use crate::fault::FileFault;
-use crate::fields::{Field, put_field, read_at};
-use crate::keys::has_just;
+use crate::fields::{Field, put_field, read_in};
+use crate::file_keys::Key;
+use crate::object_keys::{first_missing, first_other};
+use crate::value_fault::{Misfit, ValueFault, Wanted};
 use ov_cert::{FanPaths, PairPaths};
 use serde_json::{Map, Value};
 use std::alloc::{AllocError, Global};
+
+/// The keys of a pair.
+pub const PAIR_KEYS: &[Key] = &[Key::I, Key::J, Key::Paths];
+
+/// The keys of a fan.
+pub const FAN_KEYS: &[Key] = &[Key::J, Key::Paths];
+
+/// What is wanted of a value that is no object with exactly these keys.
+#[tactic(auto, using(crate::proofs::OtherKeys::all_there))]
+fn wanted_keys(keys: &[Key], value: &Value) -> Option<Wanted>
+    ensures { is_none result ≡ has_just (names_of keys.now) (view value.now) }
+{
+    if let Some(key) = first_missing(keys, value) {
+        return Some(if value.is_object() {
+            Wanted::Key(key)
+        } else {
+            Wanted::Object
+        });
+    }
+    let at = first_other(keys, value)?;
+    Some(Wanted::NoOther(at))
+}
 
 impl Field for PairPaths {
     ghost use Rattle.ov_certfile.specs.Forms.{pair_in};
@@ -20,13 +45,13 @@ impl Field for PairPaths {
     ghost as_data = { pair_data };
 
     #[tactic(auto, unfolding(crate::specs::Forms::pair_in))]
-    fn from_value(alloc: Global, value: &Value) -> Result<PairPaths, FileFault> {
-        if !has_just(&["i", "j", "paths"], value) {
-            return Err(FileFault::BadValue);
+    fn from_value(alloc: Global, value: &Value) -> Result<PairPaths, ValueFault> {
+        if let Some(wanted) = wanted_keys(PAIR_KEYS, value) {
+            return Err(ValueFault::Misfit(Misfit::new(wanted)));
         }
-        let i = read_at(alloc, value, "i")?;
-        let j = read_at(alloc, value, "j")?;
-        let paths = read_at(alloc, value, "paths")?;
+        let i = read_in(alloc, value, Key::I)?;
+        let j = read_in(alloc, value, Key::J)?;
+        let paths = read_in(alloc, value, Key::Paths)?;
         Ok(PairPaths { i, j, paths })
     }
 
@@ -46,12 +71,12 @@ impl Field for FanPaths {
     ghost as_data = { fan_data };
 
     #[tactic(auto, unfolding(crate::specs::Forms::fan_in))]
-    fn from_value(alloc: Global, value: &Value) -> Result<FanPaths, FileFault> {
-        if !has_just(&["j", "paths"], value) {
-            return Err(FileFault::BadValue);
+    fn from_value(alloc: Global, value: &Value) -> Result<FanPaths, ValueFault> {
+        if let Some(wanted) = wanted_keys(FAN_KEYS, value) {
+            return Err(ValueFault::Misfit(Misfit::new(wanted)));
         }
-        let j = read_at(alloc, value, "j")?;
-        let paths = read_at(alloc, value, "paths")?;
+        let j = read_in(alloc, value, Key::J)?;
+        let paths = read_in(alloc, value, Key::Paths)?;
         Ok(FanPaths { j, paths })
     }
 

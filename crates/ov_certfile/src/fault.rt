@@ -1,35 +1,58 @@
-ghost use Rattle.std.specs.Prelude.{◌≡◌};
+ghost use Rattle.std.specs.Prelude.{◌≡◌, None};
 ghost use Rattle.ov_certfile.specs.Number.{number_of};
 ghost use Rattle.ov_certfile.specs.declared.fault.FileFault.TheVariants.{OutOfMemory};
 
+use crate::file_keys::Key;
+use crate::no_json::NoJson;
+use crate::value_fault::{Misfit, Wanted};
+use crate::verdict::Verdict;
+use crate::version::Version;
 use ov_graph::GraphFault;
 use std::alloc::{AllocError, AllocFailed};
-use thiserror::Error;
+use std::error::Error;
+use std::fmt::{Debug, Display, Formatter, Result, Write};
 
 /// Why a text is not a certificate file.
-#[derive(Clone, Copy, Debug, PartialEq, Eq, Error)]
+#[derive(Clone, Copy)]
 pub enum FileFault {
     /// 60: the text is not JSON.
-    #[error("no JSON")]
-    NotJson,
-    /// 61: a key is missing.
-    #[error("a key is missing")]
-    MissingKey,
-    /// 62: there is a key that the file must not have.
-    #[error("a key is unknown")]
-    UnknownKey,
+    NotJson(NoJson),
+    /// 61: this key is missing.
+    MissingKey(Key),
+    /// 62: there is a key that a file of this version and verdict must not have. It stands at this place among the keys
+    /// of the file, in the order of their bytes, counted from 0.
+    UnknownKey {
+        at: usize,
+        version: Version,
+        verdict: Verdict,
+    },
     /// 63: a value does not have the form of its key.
-    #[error("a value has another form")]
-    BadValue,
+    BadValue(BadValue),
     /// 64: the version is neither 1 nor 2.
-    #[error("another version")]
     BadVersion,
     /// 31 to 33: the nodes and links are not a graph.
-    #[error("the graph: {0}")]
     Graph(GraphFault),
     /// 99: out of memory.
-    #[error("out of memory")]
     OutOfMemory,
+}
+
+/// The value that does not have its form.
+#[derive(Clone, Copy)]
+pub struct BadValue {
+    /// The key at which it stands. None: it is the file, which is no object.
+    pub key: Option<Key>,
+    /// Where in the value the form is broken.
+    pub misfit: Misfit,
+}
+
+impl BadValue {
+    /// The file is no object.
+    pub(crate) fn of_file() -> BadValue
+        ensures { result.key ≡ None }
+    {
+        let misfit = Misfit::new(Wanted::Object);
+        BadValue { key: None, misfit }
+    }
 }
 
 impl FileFault {
@@ -38,16 +61,44 @@ impl FileFault {
         ensures { result ≡ number_of self.now }
     {
         match self {
-            FileFault::NotJson => 60,
-            FileFault::MissingKey => 61,
-            FileFault::UnknownKey => 62,
-            FileFault::BadValue => 63,
+            FileFault::NotJson(_) => 60,
+            FileFault::MissingKey(_) => 61,
+            FileFault::UnknownKey { .. } => 62,
+            FileFault::BadValue(_) => 63,
             FileFault::BadVersion => 64,
             FileFault::Graph(fault) => fault.number(),
             FileFault::OutOfMemory => 99,
         }
     }
 }
+
+impl FileFault {
+    fn words(&self) -> &'static str {
+        match self {
+            FileFault::NotJson(_) => "no JSON",
+            FileFault::MissingKey(_) => "a key is missing",
+            FileFault::UnknownKey { .. } => "a key is unknown",
+            FileFault::BadValue(_) => "a value has another form",
+            FileFault::BadVersion => "another version",
+            FileFault::Graph(_) => "the nodes and links are no graph",
+            FileFault::OutOfMemory => "out of memory",
+        }
+    }
+}
+
+impl Display for FileFault {
+    fn fmt<W: Write>(&self, f: &mut Formatter<W>) -> Result {
+        f.write_str(self.words())
+    }
+}
+
+impl Debug for FileFault {
+    fn fmt<W: Write>(&self, f: &mut Formatter<W>) -> Result {
+        f.write_str(self.words())
+    }
+}
+
+impl Error for FileFault {}
 
 impl From<AllocError> for FileFault {
     ghost from_gives = { λ _ e. e ≡ OutOfMemory };

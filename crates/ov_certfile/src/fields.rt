@@ -1,13 +1,17 @@
-ghost use Rattle.std.specs.Prelude.{◌≡◌, ◌≤◌, map, IfOk, OnOk, Some};
+ghost use Rattle.std.specs.Prelude.{◌≡◌, ◌≤◌, ◌<◌, ◌+◌, map, IfOk, OnOk, Some};
 ghost use Rattle.ov_ids.specs.Limits.{number_limit};
 ghost use Rattle.serde_json.specs.View.{view, items_view, members_view};
 ghost use Rattle.serde_json.specs.Data.{put as with_member};
 ghost use Rattle.ov_certfile.specs.Keys.{said};
+ghost use Rattle.ov_certfile.specs.Kinds.{name_of};
 ghost use Rattle.ov_certfile.specs.Forms.{whole_below, each_in, list_in};
 ghost use Rattle.ov_certfile.specs.DataOf.{list_data};
-ghost use Rattle.ov_certfile.specs.Code.Reading.{Reads};
+ghost use Rattle.ov_certfile.specs.Code.Reading.{Reads, ReadsAt};
+ghost use Rattle.ov_certfile.specs.declared.fault.FileFault.{FileFault};
 
-use crate::fault::FileFault;
+use crate::fault::{BadValue, FileFault};
+use crate::file_keys::Key;
+use crate::value_fault::{Misfit, Step, ValueFault, Wanted};
 use ov_ids::{NUMBER_LIMIT, NodeId, Seq};
 use serde_json::{Map, Value, json, put};
 use std::alloc::{AllocError, Global};
@@ -24,8 +28,8 @@ pub(crate) trait Field: Drop {
 
     ghost as_data: { Self → Data };
 
-    /// The field that the value stands for. BadValue if the value does not have the form.
-    fn from_value(alloc: Global, value: &Value) -> Result<Self, FileFault>
+    /// The field that the value stands for. A misfit if the value does not have the form.
+    fn from_value(alloc: Global, value: &Value) -> Result<Self, ValueFault>
     where
         Self: Sized,
         ensures { Reads (λ x. x) result (form (view value.now)) };
@@ -37,13 +41,13 @@ pub(crate) trait Field: Drop {
 }
 
 /// A whole number below a limit.
-fn whole_of(value: &Value, limit: u64) -> Result<u32, FileFault>
+fn whole_of(value: &Value, limit: u64, wanted: Wanted) -> Result<u32, ValueFault>
     requires { limit ≤ number_limit }
     ensures { Reads (λ n. n) result (whole_below limit (view value.now)) }
 {
     match value.as_u64() {
         Some(number) if number < limit => Ok(number as u32),
-        _ => Err(FileFault::BadValue),
+        _ => Err(ValueFault::Misfit(Misfit::new(wanted))),
     }
 }
 
@@ -55,8 +59,8 @@ impl Field for NodeId {
 
     ghost as_data = { whole_data };
 
-    fn from_value(_alloc: Global, value: &Value) -> Result<NodeId, FileFault> {
-        let number = whole_of(value, NUMBER_LIMIT)?;
+    fn from_value(_alloc: Global, value: &Value) -> Result<NodeId, ValueFault> {
+        let number = whole_of(value, NUMBER_LIMIT, Wanted::Id)?;
         Ok(NodeId(number))
     }
 
@@ -73,10 +77,10 @@ impl Field for (NodeId, NodeId) {
 
     ghost as_data = { link_data };
 
-    fn from_value(alloc: Global, value: &Value) -> Result<(NodeId, NodeId), FileFault> {
+    fn from_value(alloc: Global, value: &Value) -> Result<(NodeId, NodeId), ValueFault> {
         let ids: Vec<NodeId> = list_from(alloc, value)?;
         if ids.len() != 2 {
-            return Err(FileFault::BadValue);
+            return Err(ValueFault::Misfit(Misfit::new(Wanted::TwoIds)));
         }
         Ok((ids[0], ids[1]))
     }
@@ -97,7 +101,7 @@ impl<T: Field> Field for Seq<T> {
 
     ghost as_data = { list_data T.as_data };
 
-    fn from_value(alloc: Global, value: &Value) -> Result<Seq<T>, FileFault> {
+    fn from_value(alloc: Global, value: &Value) -> Result<Seq<T>, ValueFault> {
         let items = list_from(alloc, value)?;
         Ok(Seq::new(items))
     }
@@ -107,22 +111,27 @@ impl<T: Field> Field for Seq<T> {
     }
 }
 
-fn list_from<T: Field>(alloc: Global, value: &Value) -> Result<Vec<T>, FileFault>
+fn list_from<T: Field>(alloc: Global, value: &Value) -> Result<Vec<T>, ValueFault>
     ensures { Reads (λ v. v.items) result (list_in T.form (view value.now)) }
 {
     match value.as_array() {
         Some(values) => each_from(alloc, values.as_slice()),
-        None => Err(FileFault::BadValue),
+        None => Err(ValueFault::Misfit(Misfit::new(Wanted::List))),
     }
 }
 
-fn each_from<T: Field>(alloc: Global, values: &[Value]) -> Result<Vec<T>, FileFault>
+fn each_from<T: Field>(alloc: Global, values: &[Value]) -> Result<Vec<T>, ValueFault>
     ensures { Reads (λ v. v.items) result (each_in T.form (items_view values.now)) }
 {
     let mut fields = Vec::new(alloc);
-    for value in values {
-        let field = T::from_value(alloc, value)?;
-        fields.push(field)?;
+    for (at, value) in values.iter().enumerate() {
+        match T::from_value(alloc, value) {
+            Ok(field) => fields.push(field)?,
+            Err(ValueFault::Misfit(misfit)) => {
+                return Err(ValueFault::Misfit(misfit.behind(Step::Item(at))));
+            }
+            Err(ValueFault::OutOfMemory) => return Err(ValueFault::OutOfMemory),
+        }
     }
     Ok(fields)
 }
@@ -148,25 +157,57 @@ fn each_value<T: Field>(alloc: Global, fields: &[T]) -> Result<Vec<Value>, Alloc
     Ok(values)
 }
 
-/// Reads the value at a key as a field.
-pub(crate) fn read_at<T: Field>(alloc: Global, value: &Value, key: &str) -> Result<T, FileFault>
-    ensures { Reads (λ x. x) result (said T.form key.now (view value.now)) }
+/// Reads the value at a key of an object as a field.
+pub(crate) fn read_in<T: Field>(alloc: Global, value: &Value, key: Key) -> Result<T, ValueFault>
+    ensures { Reads (λ x. x) result (said T.form (name_of key) (view value.now)) }
 {
-    match value.get(key) {
-        Some(value) => T::from_value(alloc, value),
-        None => Err(FileFault::BadValue),
+    let Some(value) = value.get(key.name()) else {
+        return Err(ValueFault::Misfit(Misfit::new(Wanted::Key(key))));
+    };
+    match T::from_value(alloc, value) {
+        Ok(field) => Ok(field),
+        Err(ValueFault::Misfit(misfit)) => {
+            Err(ValueFault::Misfit(misfit.behind(Step::Key(key))))
+        }
+        Err(ValueFault::OutOfMemory) => Err(ValueFault::OutOfMemory),
     }
 }
 
-/// Reads the value at a key as a whole number below a limit.
-pub(crate) fn whole_at(value: &Value, key: &str, limit: u64) -> Result<u32, FileFault>
-    requires { limit ≤ number_limit }
-    ensures { Reads (λ n. n) result (said (whole_below limit) key.now (view value.now)) }
+/// Reads the value at a key of a file as a field.
+pub(crate) fn read_at<T: Field>(alloc: Global, value: &Value, key: Key) -> Result<T, FileFault>
+    ensures { ReadsAt key (λ x. x) result (said T.form (name_of key) (view value.now)) }
 {
-    match value.get(key) {
-        Some(value) => whole_of(value, limit),
-        None => Err(FileFault::BadValue),
+    let Some(value) = value.get(key.name()) else {
+        return Err(bad_at(key, Misfit::new(Wanted::Key(key))));
+    };
+    match T::from_value(alloc, value) {
+        Ok(field) => Ok(field),
+        Err(ValueFault::Misfit(misfit)) => Err(bad_at(key, misfit)),
+        Err(ValueFault::OutOfMemory) => Err(FileFault::OutOfMemory),
     }
+}
+
+/// Reads the value at a key of a file as a whole number up to this one.
+pub(crate) fn whole_at(value: &Value, key: Key, last: u64) -> Result<u32, FileFault>
+    requires { last < number_limit }
+    ensures { ReadsAt key (λ n. n) result (said (whole_below (last + 1)) (name_of key) (view value.now)) }
+{
+    let Some(value) = value.get(key.name()) else {
+        return Err(bad_at(key, Misfit::new(Wanted::Key(key))));
+    };
+    match whole_of(value, last + 1, Wanted::UpTo(last)) {
+        Ok(number) => Ok(number),
+        Err(ValueFault::Misfit(misfit)) => Err(bad_at(key, misfit)),
+        Err(ValueFault::OutOfMemory) => Err(FileFault::OutOfMemory),
+    }
+}
+
+/// The fault of a file that breaks the form of a key.
+fn bad_at(key: Key, misfit: Misfit) -> FileFault
+    ensures { result ≡ FileFault.BadValue (record { key = Some key; misfit = misfit }) }
+{
+    let key = Some(key);
+    FileFault::BadValue(BadValue { key, misfit })
 }
 
 /// Adds a field at its key.

@@ -2,24 +2,30 @@
 //! printed of a certificate.
 #![tactic(auto)]
 
-mod cert_line;
-mod cert_object;
+mod cert_summary;
+mod cert_writing;
 mod entry_fields;
 mod fault;
 mod fields;
-mod graph_object;
-mod heading;
-mod keys;
+mod file_keys;
+mod graph_writing;
+mod no_json;
+mod object_keys;
 mod reading;
+mod value_fault;
 mod verdict;
 mod version;
+mod version_and_verdict_reading;
 mod writing;
 
-pub use cert_line::CertText;
-pub use fault::FileFault;
-pub use heading::{names_of, verdict_in, version_in};
-pub use keys::{has_just, is_among};
-pub use reading::{Filed, LAST_MOMENT, from_text};
+pub use cert_summary::CertText;
+pub use entry_fields::{FAN_KEYS, PAIR_KEYS};
+pub use fault::{BadValue, FileFault};
+pub use file_keys::{Key, keys_of};
+pub use no_json::NoJson;
+pub use object_keys::is_among;
+pub use reading::{Filed, LAST_MOMENT, from_text, from_value, json_in};
+pub use value_fault::{Misfit, Step, Steps, Wanted};
 pub use verdict::Verdict;
 pub use version::Version;
 pub use writing::{to_text, to_text_group};

@@ -1,19 +1,24 @@
-ghost use Rattle.std.specs.Prelude.{◌≡◌, ◌≢◌, codes, None, Result, Err, IfOk, MatchResult};
+ghost use Rattle.std.specs.Prelude.{◌≡◌, ◌≢◌, ℕ, [], ◌∷◌, codes, None, Some, Result, Err, IfOk, MatchResult};
 ghost use Rattle.serde_json.specs.View.{view};
+ghost use Rattle.serde_json.specs.Read.{read};
 ghost use Rattle.ov_graph.specs.Links.{LinkGraph};
+ghost use Rattle.ov_certfile.specs.declared.file_keys.Key.TheVariants as key;
+ghost use Rattle.ov_certfile.specs.declared.fault.FileFault.{FileFault};
 ghost use Rattle.ov_certfile.specs.Keys.{said};
 ghost use Rattle.ov_certfile.specs.Forms.{count_in};
-ghost use Rattle.ov_certfile.specs.Kinds.{version_keys};
+ghost use Rattle.ov_certfile.specs.FaultKinds.{kind_of, kind_in, NotJson};
+ghost use Rattle.ov_certfile.specs.Kinds.{version_keys, verdict_keys};
 ghost use Rattle.ov_certfile.specs.Demands.{FileGraphJudged};
 ghost use Rattle.ov_certfile.specs.Says.{SaysFile, SaysText};
-ghost use Rattle.ov_certfile.specs.Code.Reading.{Reads, IsHeaded, IsCert, IsGraphed, IsDated, IsNamed, LacksForm};
-ghost use Rattle.ov_certfile.specs.Code.Reading.{IsUndated, IsGraphFault, cert_keys, graph_keys, dated_keys};
+ghost use Rattle.ov_certfile.specs.Code.Reading.{ReadsAt, IsHeaded, IsListed, IsNamed, IsCert, LacksForm, IsGraphFault};
 
 use crate::fault::FileFault;
 use crate::fields::{read_at, whole_at};
-use crate::heading::heading_of;
+use crate::file_keys::Key;
+use crate::no_json::NoJson;
 use crate::verdict::Verdict;
 use crate::version::Version;
+use crate::version_and_verdict_reading::heading_of;
 use ov_cert::{Cert, Split};
 use ov_graph::{Graph, GraphFault};
 use ov_ids::{NUMBER_LIMIT, NodeId, Seq};
@@ -41,7 +46,7 @@ pub struct Filed {
 ///
 /// 1. `NotJson` (60): the text is not JSON;
 /// 2. `BadValue` (63): it is not an object;
-/// 3. `MissingKey` (61): it has no `version`; `Version` (64): its version is not the whole number 1 or 2;
+/// 3. `MissingKey` (61): it has no `version`; `BadVersion` (64): its version is not the whole number 1 or 2;
 /// 4. `MissingKey` (61): it has no `verdict`; `BadValue` (63): its verdict is neither `"linked"` nor `"split"`;
 /// 5. `MissingKey` (61): it lacks a key of its version and verdict;
 /// 6. `UnknownKey` (62): it has any other key;
@@ -54,16 +59,28 @@ pub struct Filed {
 pub fn from_text(alloc: Global, text: &str) -> Result<Filed, FileFault>
     ensures says { result ≢ Err FileFault.OutOfMemory → SaysText text.now result }
     ensures only { (answer : Result Filed FileFault) → result ≢ Err FileFault.OutOfMemory
-        → SaysText text.now answer → answer ≡ result }
+        → SaysText text.now answer → kind_in answer ≡ kind_in result }
 {
-    match Value::from_str(alloc, text) {
-        Ok(value) => file(alloc, &value),
-        Err(error) if error.is_memory() => Err(FileFault::OutOfMemory),
-        Err(_) => Err(FileFault::NotJson),
+    match json_in(alloc, text) {
+        Ok(value) => from_value(alloc, &value),
+        Err(fault) => Err(fault),
     }
 }
 
-fn file(alloc: Global, value: &Value) -> Result<Filed, FileFault>
+/// The JSON value in a text. NotJson (60): there is none. OutOfMemory (99): an allocation was refused.
+pub fn json_in(alloc: Global, text: &str) -> Result<Value, FileFault>
+    ensures { MatchResult result (λ value. read text.now ≡ Some (view value))
+        (λ fault. fault ≢ FileFault.OutOfMemory → (read text.now ≡ None) × (kind_of fault ≡ NotJson)) }
+{
+    match Value::from_str(alloc, text) {
+        Ok(value) => Ok(value),
+        Err(error) if error.is_memory() => Err(FileFault::OutOfMemory),
+        Err(error) => Err(FileFault::NotJson(NoJson::of(text, &error))),
+    }
+}
+
+/// Reads a certificate file, of which the JSON value was read. The faults are those of `from_text` but for NotJson.
+pub fn from_value(alloc: Global, value: &Value) -> Result<Filed, FileFault>
     ensures { result ≢ Err FileFault.OutOfMemory → SaysFile (view value.now) result }
 {
     let (version, verdict) = heading_of(value)?;
@@ -80,33 +97,44 @@ fn values(
     ensures { IsHeaded version verdict (view value.now) → result ≢ Err FileFault.OutOfMemory
         → SaysFile (view value.now) result }
 {
-    let cert = cert(alloc, verdict, value)?;
-    let (moment, graph, group) = dated(alloc, version, value)?;
+    let k = whole_at(value, Key::K, NUMBER_LIMIT - 1)?;
+    let listed = lists_of(alloc, value)?;
+    let group = named_group(alloc, version, value)?;
+    let cert = cert(alloc, verdict, k, value)?;
+    let graph = graph(
+        alloc,
+        version,
+        listed.nodes.as_slice(),
+        listed.links.as_slice(),
+    )?;
     Ok(Filed {
-        moment,
+        moment: listed.moment,
         graph,
-        group,
+        group: group.unwrap_or(listed.nodes),
         cert,
     })
 }
 
-/// The moment, the graph and the group of a file.
-fn dated(
-    alloc: Global,
-    version: Version,
-    value: &Value,
-) -> Result<(u32, Graph, Seq<NodeId>), FileFault>
-    ensures { MatchResult result (λ r. IsDated version (view value.now) r.0 r.1 r.2)
-        (IsUndated version (dated_keys version) (view value.now)) }
+/// The moment, the nodes and the links of a file.
+#[derive(Drop)]
+struct Listed {
+    moment: u32,
+    nodes: Seq<NodeId>,
+    links: Seq<(NodeId, NodeId)>,
+}
+
+fn lists_of(alloc: Global, value: &Value) -> Result<Listed, FileFault>
+    ensures { MatchResult result (IsListed (view value.now))
+        (LacksForm (key.Links ∷ key.Moment ∷ key.Nodes ∷ []) (view value.now)) }
 {
-    let moment = whole_at(value, "moment", LAST_MOMENT + 1)?;
-    let named = named_group(alloc, version, value)?;
-    let (nodes, graph) = graph_of(alloc, version, value)?;
-    let group = match named {
-        Some(group) => group,
-        None => nodes,
-    };
-    Ok((moment, graph, group))
+    let links = read_at(alloc, value, Key::Links)?;
+    let moment = whole_at(value, Key::Moment, LAST_MOMENT)?;
+    let nodes = read_at(alloc, value, Key::Nodes)?;
+    Ok(Listed {
+        moment,
+        nodes,
+        links,
+    })
 }
 
 /// The group that a file names, in version 2.
@@ -121,27 +149,13 @@ fn named_group(
     match version {
         Version::One => Ok(None),
         Version::Two => {
-            let group = read_at(alloc, value, "group")?;
+            let group = read_at(alloc, value, Key::Group)?;
             Ok(Some(group))
         }
     }
 }
 
-/// The nodes of a file, and its graph.
-fn graph_of(
-    alloc: Global,
-    version: Version,
-    value: &Value,
-) -> Result<(Seq<NodeId>, Graph), FileFault>
-    ensures { MatchResult result (λ r. IsGraphed version (view value.now) r.0 r.1)
-        (IsUndated version graph_keys (view value.now)) }
-{
-    let nodes: Seq<NodeId> = read_at(alloc, value, "nodes")?;
-    let links: Seq<(NodeId, NodeId)> = read_at(alloc, value, "links")?;
-    let graph = graph(alloc, version, nodes.as_slice(), links.as_slice())?;
-    Ok((nodes, graph))
-}
-
+/// The graph of these nodes and links, of which the version allows so many.
 fn graph(
     alloc: Global,
     version: Version,
@@ -152,8 +166,10 @@ fn graph(
     ensures judged { let given : LinkGraph = record { nodes = nodes.now; links = links.now }
         in MatchResult result (λ _. FileGraphJudged version given None) (IsGraphFault version given) }
 {
-    if nodes.len() > version.most_nodes() {
-        return Err(FileFault::Graph(GraphFault::TooManyNodes));
+    let count = nodes.len();
+    let most = version.most_nodes();
+    if count > most {
+        return Err(FileFault::Graph(GraphFault::TooManyNodes { count, most }));
     }
     match Graph::new(alloc, nodes, links) {
         Ok(graph) => Ok(graph),
@@ -162,40 +178,27 @@ fn graph(
     }
 }
 
-fn cert(alloc: Global, verdict: Verdict, value: &Value) -> Result<Cert, FileFault>
-    ensures { MatchResult result (IsCert verdict (view value.now)) (LacksForm (cert_keys verdict) (view value.now)) }
+/// The certificate of a file with this k.
+fn cert(alloc: Global, verdict: Verdict, k: u32, value: &Value) -> Result<Cert, FileFault>
+    ensures { MatchResult result (IsCert verdict k (view value.now))
+        (LacksForm (verdict_keys verdict) (view value.now)) }
 {
     match verdict {
-        Verdict::Linked => linked(value),
-        Verdict::Split => split(alloc, value),
+        Verdict::Linked => Ok(Cert::Linked { k }),
+        Verdict::Split => split(alloc, k, value),
     }
 }
 
-fn linked(value: &Value) -> Result<Cert, FileFault>
-    ensures { MatchResult result (IsCert Verdict.Linked (view value.now))
-        (LacksForm (cert_keys Verdict.Linked) (view value.now)) }
+fn split(alloc: Global, k: u32, value: &Value) -> Result<Cert, FileFault>
+    ensures { MatchResult result (IsCert Verdict.Split k (view value.now))
+        (LacksForm (verdict_keys Verdict.Split) (view value.now)) }
 {
-    let k = count(value)?;
-    Ok(Cert::Linked { k })
-}
-
-fn count(value: &Value) -> Result<u32, FileFault>
-    ensures { Reads (λ k. k) result (said count_in (codes "k") (view value.now)) }
-{
-    whole_at(value, "k", NUMBER_LIMIT)
-}
-
-fn split(alloc: Global, value: &Value) -> Result<Cert, FileFault>
-    ensures { MatchResult result (IsCert Verdict.Split (view value.now))
-        (LacksForm (cert_keys Verdict.Split) (view value.now)) }
-{
-    let k = count(value)?;
-    let cut = read_at(alloc, value, "cut")?;
-    let near = read_at(alloc, value, "near")?;
-    let far = read_at(alloc, value, "far")?;
-    let side = read_at(alloc, value, "side")?;
-    let pairs = read_at(alloc, value, "pairs")?;
-    let fans = read_at(alloc, value, "fans")?;
+    let cut = read_at(alloc, value, Key::Cut)?;
+    let near = read_at(alloc, value, Key::Near)?;
+    let far = read_at(alloc, value, Key::Far)?;
+    let side = read_at(alloc, value, Key::Side)?;
+    let pairs = read_at(alloc, value, Key::Pairs)?;
+    let fans = read_at(alloc, value, Key::Fans)?;
     Ok(Cert::Split(Split {
         k,
         cut,

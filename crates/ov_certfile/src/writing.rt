@@ -7,8 +7,8 @@ ghost use Rattle.ov_certfile.specs.DataOf.{data_of, version_for};
 ghost use Rattle.ov_certfile.specs.ReadsBack.{ReadsBack, TextReadsBack};
 ghost use Rattle.ov_certfile.specs.Code.Writing.{with_group, GroupReadsBack};
 
-use crate::cert_object::put_cert;
-use crate::graph_object::{put_graph, put_ids};
+use crate::cert_writing::put_cert;
+use crate::graph_writing::{put_graph, put_ids};
 use crate::version::Version;
 use ov_cert::Cert;
 use ov_graph::Graph;

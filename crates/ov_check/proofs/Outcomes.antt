@@ -1,6 +1,6 @@
 -- The bytes of a file have one outcome.
-use Rattle.std.proofs.Common.{◌≡◌, ◌∙◌, ◌≤◌, List, ℕ, length, Option, Some, None, Result, Ok, Err, IfSome, IfNone, sym}
-use Rattle.std.proofs.Common.{subst, ap, inl, inr}
+use Rattle.std.proofs.Common.{◌≡◌, ◌≢◌, ◌∙◌, ◌≤◌, List, ℕ, length, Option, Some, None, Result, Ok, Err}
+use Rattle.std.proofs.Common.{IfOk, IfSome, IfNone, sym, subst, inl, inr}
 use Rattle.ov_ids.proofs.Stepping.{step_none}
 use Rattle.ov_graph.specs.Links.{IsGraph}
 use Rattle.ov_graph.specs.Faults.{GraphJudged}
@@ -11,41 +11,45 @@ use Rattle.ov_cert.specs.Verdict.{JudgedForGroup}
 use Rattle.ov_cert.proofs.Validity.Exact.{one_verdict}
 use Rattle.ov_certfile.specs.declared.reading.Filed.{Filed}
 use Rattle.ov_certfile.specs.declared.fault.FileFault.{FileFault}
-use Rattle.ov_certfile.specs.declared.fault.FileFault.TheVariants.{NotJson}
+use Rattle.ov_certfile.specs.declared.fault.FileFault.TheVariants.{OutOfMemory}
+use Rattle.ov_certfile.specs.FaultKinds.{Kind, NotJson, kind_of, kind_in}
 use Rattle.ov_certfile.specs.Kinds.{most_nodes_of}
 use Rattle.ov_certfile.specs.Says as file
 use Rattle.ov_certfile.specs.Says.{SaysFile, SaysText}
 use Rattle.ov_certfile.proofs.OneAnswer.{text_one}
-use Rattle.ov_check.specs.Outcome.{BytesSay, IsOutcome}
+use Rattle.ov_check.specs.Outcome.{BytesSay, IsRefused, IsOutcome, AreAlike}
+use Rattle.ov_check.specs.declared.outcome.Refusal.{Refusal}
 use Rattle.ov_check.specs.declared.outcome.Outcome.{Outcome}
 use Rattle.ov_check.specs.declared.outcome.Outcome.TheVariants.{Holds, Fails, Refused}
 
 -- bytes say one thing alone
-says_one : (bytes : List ℕ) (a b : Result Filed FileFault) → BytesSay bytes a → BytesSay bytes b → a ≡ b
+says_one : (bytes : List ℕ) (a b : Result Filed FileFault) → BytesSay bytes a → BytesSay bytes b
+    → kind_in a ≡ kind_in b
 says_one bytes a b (inl p) (inl q) = text_one bytes a b p.1 q.1
 says_one bytes a b (inl p) (inr q) = absurd (q.0 p.0)
 says_one bytes a b (inr p) (inl q) = absurd (p.0 q.0)
 says_one bytes a b (inr p) (inr q) = p.1 ∙ sym q.1
 
 same_file : (bytes : List ℕ) (f h : Filed) → BytesSay bytes (Ok f) → BytesSay bytes (Ok h) → f ≡ h
-same_file bytes f h p q = let e : Ok f ≡ Ok h = says_one bytes (Ok f) (Ok h) p q in cc
+same_file bytes f h p q = let e : ◌≡◌ {A = Result Filed Kind} (Ok f) (Ok h) = says_one bytes (Ok f) (Ok h) p q in cc
 
 -- what is said of a graph is said of one
 value_graph : (d : _) (f : Filed) → file.Says d f → IsGraph f.graph
 value_graph d f s =
     let nodes = f.graph.nodes in
     let links = f.graph.links in
-    let p = step_none (length nodes ≤ most_nodes_of s.version) TooManyNodes (GraphJudged nodes links) s.judged in
+    let p = step_none (length nodes ≤ most_nodes_of s.version)
+    (TooManyNodes (length nodes) (most_nodes_of s.version)) (GraphJudged nodes links) s.judged in
     (sound nodes links p.1).0
 
-read_graph : (o : Option _) (f : Filed) → IfSome o (λ d. SaysFile d (Ok f)) → IfNone o (Ok f ≡ Err NotJson)
-    → IsGraph f.graph
+read_graph : (o : Option _) (f : Filed) → IfSome o (λ d. SaysFile d (Ok f))
+    → IfNone o (◌≡◌ {A = Result Filed Kind} (Ok f) (Err NotJson)) → IsGraph f.graph
 read_graph (Some d) f s n = value_graph d f s
 read_graph None f s n = absurd cc
 
 said_graph : (bytes : List ℕ) (f : Filed) → BytesSay bytes (Ok f) → IsGraph f.graph
 said_graph bytes f (inl p) = read_graph _ f p.1.json p.1.no_json
-said_graph bytes f (inr p) = let e : Ok f ≡ Err NotJson = p.1 in absurd cc
+said_graph bytes f (inr p) = let e : ◌≡◌ {A = Result Filed Kind} (Ok f) (Err NotJson) = p.1 in absurd cc
 
 -- a file has one verdict
 verdict_one : (bytes : List ℕ) (f h : Filed) (x y : Option CheckFault) → BytesSay bytes (Ok f) → BytesSay bytes (Ok h)
@@ -56,24 +60,42 @@ verdict_one bytes f h x y p q a b =
 
 said_or_refused : (bytes : List ℕ) (f : Filed) (fault : FileFault) → BytesSay bytes (Ok f)
     → BytesSay bytes (Err fault) → ⊥
-said_or_refused bytes f fault p q = let e : Ok f ≡ Err fault = says_one bytes (Ok f) (Err fault) p q in cc
+said_or_refused bytes f fault p q =
+    let e : ◌≡◌ {A = Result Filed Kind} (Ok f) (Err (kind_of fault)) = says_one bytes (Ok f) (Err fault) p q in cc
 
 holds_or_fails : (bytes : List ℕ) (f h : Filed) (fault : CheckFault) → IsOutcome bytes (Holds f)
     → IsOutcome bytes (Fails h fault) → ⊥
 holds_or_fails bytes f h fault p q =
     let e : None ≡ Some fault = verdict_one bytes f h None (Some fault) p.0 q.0 p.1 q.1 in cc
 
-pub one_outcome : (bytes : List ℕ) (o u : Outcome) → IsOutcome bytes o → IsOutcome bytes u → o ≡ u
-one_outcome bytes (Holds f) (Holds h) p q = ap (λ f. Holds f) (same_file bytes f h p.0 q.0)
+pub one_outcome : (bytes : List ℕ) (o u : Outcome) → IsOutcome bytes o → IsOutcome bytes u → AreAlike o u
+one_outcome bytes (Holds f) (Holds h) p q = same_file bytes f h p.0 q.0
 one_outcome bytes (Holds f) (Fails h fault) p q = absurd (holds_or_fails bytes f h fault p q)
-one_outcome bytes (Holds f) (Refused fault) p q = absurd (said_or_refused bytes f fault p.0 q)
+one_outcome bytes (Holds f) (Refused r) p q = absurd (said_or_refused bytes f r.fault p.0 q.says)
 one_outcome bytes (Fails h fault) (Holds f) p q = absurd (holds_or_fails bytes f h fault q p)
 one_outcome bytes (Fails f e) (Fails h d) p q =
     let same : Some e ≡ Some d = verdict_one bytes f h (Some e) (Some d) p.0 q.0 p.1 q.1 in
-    let file : f ≡ h = same_file bytes f h p.0 q.0 in
     let fault : e ≡ d = cc in
-    ap (λ x. Fails x e) file ∙ ap (Fails h) fault
-one_outcome bytes (Fails f fault) (Refused other) p q = absurd (said_or_refused bytes f other p.0 q)
-one_outcome bytes (Refused fault) (Holds f) p q = absurd (said_or_refused bytes f fault q.0 p)
-one_outcome bytes (Refused fault) (Fails f other) p q = absurd (said_or_refused bytes f fault q.0 p)
-one_outcome bytes (Refused e) (Refused d) p q = let same : Err e ≡ Err d = says_one bytes (Err e) (Err d) p q in cc
+    (same_file bytes f h p.0 q.0, fault)
+one_outcome bytes (Fails f fault) (Refused r) p q = absurd (said_or_refused bytes f r.fault p.0 q.says)
+one_outcome bytes (Refused r) (Holds f) p q = absurd (said_or_refused bytes f r.fault q.0 p.says)
+one_outcome bytes (Refused r) (Fails f other) p q = absurd (said_or_refused bytes f r.fault q.0 p.says)
+one_outcome bytes (Refused r) (Refused s) p q =
+    let same : ◌≡◌ {A = Result Filed Kind} (Err (kind_of r.fault)) (Err (kind_of s.fault)) =
+    says_one bytes (Err r.fault) (Err s.fault) p.says q.says in cc
+
+-- bytes that are refused have outcomes alike
+pub refused_alike : {E : Type 0} (bytes : List ℕ) (r : Refusal) (result : Result Outcome E)
+    → (r.fault ≢ OutOfMemory → IsRefused bytes r)
+    → IfOk result (λ o. (o ≡ Refused r) × (r.fault ≢ OutOfMemory))
+    → IfOk result (λ o. (u : Outcome) → IsOutcome bytes u → AreAlike u o)
+refused_alike bytes r (Err e) said made = tt
+refused_alike bytes r (Ok o) said made = λ u is.
+    subst (AreAlike u) (sym made.0) (one_outcome bytes u (Refused r) is (said made.1))
+
+pub refused_outcome : {E : Type 0} (bytes : List ℕ) (r : Refusal) (result : Result Outcome E)
+    → (r.fault ≢ OutOfMemory → IsRefused bytes r)
+    → IfOk result (λ o. (o ≡ Refused r) × (r.fault ≢ OutOfMemory))
+    → IfOk result (λ o. IsOutcome bytes o)
+refused_outcome bytes r (Err e) said made = tt
+refused_outcome bytes r (Ok o) said made = subst (IsOutcome bytes) (sym made.0) (said made.1)

@@ -3,8 +3,8 @@ use Rattle.std.proofs.Common.{◌≡◌, ◌≢◌, ◌+◌, ◌∙◌, ℕ, Lis
 use Rattle.std.specs.Io.KnownBytes.{Appends, IsAtEnd}
 use Rattle.ov_io.specs.Device.{SourceState, SinkState, write_faults, AppendsPrefixOf}
 use Rattle.ov_check.specs.declared.outcome.Outcome.{Outcome}
-use Rattle.ov_check.specs.declared.fault.JudgeFault.{JudgeFault}
-use Rattle.ov_check.specs.declared.fault.JudgeFault.TheVariants.{Read, Write, OutOfMemory}
+use Rattle.ov_check.specs.declared.device_fault.JudgeFault.{JudgeFault}
+use Rattle.ov_check.specs.declared.device_fault.JudgeFault.TheVariants.{Read, Write, OutOfMemory}
 use Rattle.ov_check.specs.Faults.{number_of}
 use Rattle.ov_check.specs.Line.{printed_of}
 use Rattle.ov_check.specs.Outcome.{IsOutcome, SaysExactNumber, status_of}
@@ -30,14 +30,15 @@ module _ {R W : Type 0} (remaining : R → Option (List ℕ)) (contents : W → 
     (source source' : SourceState R) (sink sink' : SinkState W) (bytes : List ℕ) (o : Outcome)
     (is : IsRead (remaining source.reader) bytes o) (end : IsAtEnd (remaining source'.reader))
     (faults : source'.faults ≡ source.faults + 0) (none : source'.failures ≡ source.failures) where
-  abbrev the_judgement : Judgement (remaining source.reader)
-  the_judgement = record { bytes = bytes; read = is.all; outcome = o; comes_to = is.comes_to }
+  abbrev the_judgement : Judgement (remaining source.reader) o
+  the_judgement = record { bytes = bytes; read = is.all; comes_to = is.comes_to }
 
   -- the line was written, or as much as the writer took
   pub written : (result : Result ℕ JudgeFault) → IsWritten contents o sink sink' result
       → IsRun remaining contents source sink source' sink' result
   written (Ok status) w = record {
     prints = record {
+      outcome = o;
       judgement = the_judgement;
       line = w.line;
       answer = w.status;
@@ -54,7 +55,7 @@ module _ {R W : Type 0} (remaining : R → Option (List ℕ)) (contents : W → 
   }
   written (Err Write) w = record {
     prints = tt;
-    prefix = λ e. record { judgement = the_judgement; prefix = w.prefix refl };
+    prefix = λ e. record { outcome = o; judgement = the_judgement; prefix = w.prefix refl };
     read_to_end = λ r m. end;
     reads = faults;
     writes = w.faults;

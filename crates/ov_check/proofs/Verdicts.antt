@@ -1,5 +1,5 @@
 -- What follows from a verdict by many threads.
-use Rattle.std.proofs.Common.{◌≡◌, ◌≢◌, ◌↔◌, ℕ, List, Option, Some, None, Result, Ok, Err, IsOk, OnOk, refl}
+use Rattle.std.proofs.Common.{◌≡◌, ◌≢◌, ◌↔◌, ℕ, List, Some, None, Result, Ok, Err, IsOk, OnOk, refl}
 use Rattle.ov_graph.specs.Links.{LinkGraph, IsGraph}
 use Rattle.ov_graph.specs.Joined.{FewestForGroup}
 use Rattle.ov_cert.specs.declared.cert.Cert.{Cert}

@@ -23,7 +23,7 @@ check_fault_text fault = decimal (check_fault.number_of fault) ++ named_text fau
 unfoldable pub line_of : Outcome → List ℕ
 line_of (Holds f) = codes "holds " ++ (decimal f.moment ++ (codes " " ++ cert_text f.cert f.graph f.group))
 line_of (Fails f fault) = codes "fails " ++ check_fault_text fault
-line_of (Refused fault) = refusal_text (file_fault.number_of fault)
+line_of (Refused r) = refusal_text (file_fault.number_of r.fault)
 
 -- what is written: the line, ended by a line feed
 abbrev pub printed_of : Outcome → List ℕ

@@ -1,25 +1,41 @@
 -- The outcome of the bytes of a certificate file.
-use Rattle.std.specs.Prelude.{◌≡◌, ◌⊎◌, ℕ, List, Some, Result, Ok, Err, IsUtf8}
+use Rattle.std.specs.Prelude.{◌≡◌, ◌⊎◌, ℕ, List, Some, IfSome, Result, Ok, Err, IsUtf8}
+use Rattle.serde_json.specs.Read.{read}
+use Rattle.serde_json.specs.View.{view}
 use Rattle.ov_graph.specs.Joined.{FewestForGroup}
 use Rattle.ov_cert.specs.Valid.{IsValidForGroup, k_of}
 use Rattle.ov_cert.specs.Verdict.{JudgedForGroup}
 use Rattle.ov_certfile.specs.declared.reading.Filed.{Filed}
 use Rattle.ov_certfile.specs.declared.fault.FileFault.{FileFault}
-use Rattle.ov_certfile.specs.declared.fault.FileFault.TheVariants.{NotJson}
+use Rattle.ov_certfile.specs.FaultKinds.{NotJson, kind_of, kind_in}
 use Rattle.ov_certfile.specs.Says.{SaysText}
 use Rattle.ov_check.specs.declared.outcome.Outcome.{Outcome}
+use Rattle.ov_check.specs.declared.outcome.Refusal.{Refusal}
 use Rattle.ov_check.specs.declared.outcome.Outcome.TheVariants.{Holds, Fails, Refused}
 
 -- what the bytes say as a certificate file, or their first fault; bytes that are not text are not JSON
 abbrev pub BytesSay : List ℕ → Result Filed FileFault → Type 0
-BytesSay bytes answer = (IsUtf8 bytes × SaysText bytes answer) ⊎ ((¬ IsUtf8 bytes) × (answer ≡ Err NotJson))
+BytesSay bytes answer =
+    (IsUtf8 bytes × SaysText bytes answer) ⊎ ((¬ IsUtf8 bytes) × (kind_in answer ≡ Err NotJson))
+
+-- the bytes are refused with their first fault, and the JSON value that is kept is the one in them
+pub record IsRefused (bytes : List ℕ) (r : Refusal) : Type 0 where
+  pub says : BytesSay bytes (Err r.fault)
+  pub value : IfSome r.value (λ value. read bytes ≡ Some (view value))
 
 -- The bytes are a certificate file, and its certificate is valid for its group; or the certificate has this first
 -- fault. Bytes that are not a certificate file are refused with their first fault.
 abbrev pub IsOutcome : List ℕ → Outcome → Type 0
 IsOutcome bytes (Holds f) = BytesSay bytes (Ok f) × IsValidForGroup f.graph f.group f.cert
 IsOutcome bytes (Fails f fault) = BytesSay bytes (Ok f) × JudgedForGroup f.graph f.group f.cert (Some fault)
-IsOutcome bytes (Refused fault) = BytesSay bytes (Err fault)
+IsOutcome bytes (Refused r) = IsRefused bytes r
+
+-- two outcomes are alike: the same file and the same fault of its certificate, or faults of a file of one kind
+abbrev pub AreAlike : Outcome → Outcome → Type 0
+AreAlike (Holds f) (Holds h) = f ≡ h
+AreAlike (Fails f e) (Fails h u) = (f ≡ h) × (e ≡ u)
+AreAlike (Refused r) (Refused s) = kind_of r.fault ≡ kind_of s.fault
+AreAlike o u = ⊥
 
 -- The number of the file is exact: the size of the smallest set of nodes that splits the group, or one less than the
 -- number of its members where every two are linked.
@@ -30,4 +46,4 @@ SaysExactNumber bytes = (f : Filed) × BytesSay bytes (Ok f) × FewestForGroup f
 abbrev pub status_of : Outcome → ℕ
 status_of (Holds f) = 0
 status_of (Fails f fault) = 1
-status_of (Refused fault) = 1
+status_of (Refused r) = 1

@@ -4,32 +4,32 @@ use Rattle.std.specs.Io.KnownBytes.{Appends, IsAtEnd}
 use Rattle.ov_io.specs.Device.{SourceState, SinkState, read_faults, write_faults, ReaderFailed}
 use Rattle.ov_io.specs.Device.{AppendsPrefixOf}
 use Rattle.ov_check.specs.declared.outcome.Outcome.{Outcome}
-use Rattle.ov_check.specs.declared.engine.Judged.{Judged}
-use Rattle.ov_check.specs.declared.fault.JudgeFault.{JudgeFault}
-use Rattle.ov_check.specs.declared.fault.JudgeFault.TheVariants.{Read, Write, OutOfMemory}
+use Rattle.ov_check.specs.declared.device_fault.JudgeFault.{JudgeFault}
+use Rattle.ov_check.specs.declared.device_fault.JudgeFault.TheVariants.{Read, Write, OutOfMemory}
 use Rattle.ov_check.specs.Faults.{number_of}
 use Rattle.ov_check.specs.Line.{printed_of}
 use Rattle.ov_check.specs.Outcome.{IsOutcome, SaysExactNumber, status_of}
 
--- the bytes that were read, and their outcome; `reader` are the bytes that the reader had, where they are known
-pub record Judgement (reader : Option (List ℕ)) : Type 0 where
+-- the bytes that were read have this outcome; `reader` are the bytes that the reader had, where they are known
+pub record Judgement (reader : Option (List ℕ)) (outcome : Outcome) : Type 0 where
   pub bytes : List ℕ
   pub read : IfSome reader (λ xs. bytes ≡ xs)
-  pub outcome : Outcome
   pub comes_to : IsOutcome bytes outcome
 
 -- The line of the outcome was appended to what the writer holds. The status is that of the outcome, and where it is 0
 -- the number of the file is exact.
 pub record Prints (reader before after : Option (List ℕ)) (status : ℕ) : Type 0 where
-  pub judgement : Judgement reader
-  pub line : Appends before after (printed_of judgement.outcome)
-  pub answer : status ≡ status_of judgement.outcome
+  pub outcome : Outcome
+  pub judgement : Judgement reader outcome
+  pub line : Appends before after (printed_of outcome)
+  pub answer : status ≡ status_of outcome
   pub exact : status ≡ 0 → SaysExactNumber judgement.bytes
 
 -- a prefix of the line of the outcome was appended to what the writer holds
 pub record PrintsPrefix (reader before after : Option (List ℕ)) : Type 0 where
-  pub judgement : Judgement reader
-  pub prefix : AppendsPrefixOf (printed_of judgement.outcome) before after
+  pub outcome : Outcome
+  pub judgement : Judgement reader outcome
+  pub prefix : AppendsPrefixOf (printed_of outcome) before after
 
 -- A run, from a source and a sink to what they are after it. `remaining` are the bytes that a reader still has, and
 -- `contents` those that a writer holds, where they are known. Read is returned where the reader failed in this run, and
@@ -49,7 +49,7 @@ pub record IsRun {R W : Type 0} (remaining : R → Option (List ℕ)) (contents 
   pub unread : result ≡ Err Read → sink_after ≡ sink
   pub no_memory : result ≡ Err OutOfMemory → sink_after ≡ sink
 
--- the status of the outcome that was kept, or why there is none
-abbrev pub status_in : Result Judged JudgeFault → Result ℕ JudgeFault
-status_in (Ok j) = Ok (status_of j.outcome)
+-- the status of the outcome that is returned, or why there is none
+abbrev pub status_in : Result Outcome JudgeFault → Result ℕ JudgeFault
+status_in (Ok outcome) = Ok (status_of outcome)
 status_in (Err fault) = Err fault

@@ -1,12 +1,12 @@
-ghost use Rattle.std.specs.Prelude.{◌≡◌, ◌≢◌, ◌+◌, ◌<◌, Err, IfOk, IfSome, OnOk, IsErrOf};
+ghost use Rattle.std.specs.Prelude.{◌≡◌, ◌≢◌, ◌+◌, ◌<◌, Err, IfOk, OnOk, IsErrOf};
 ghost use Rattle.std.specs.Io.KnownBytes.{Appends};
 ghost use Rattle.ov_io.specs.Device.{most_faults, write_faults, AppendsPrefixOf};
 ghost use Rattle.ov_check.specs.Faults.{number_of};
 ghost use Rattle.ov_check.specs.Line.{printed_of};
-ghost use Rattle.ov_check.specs.Outcome.{IsOutcome, status_of};
-ghost use Rattle.ov_check.specs.Run.{IsRun, status_in};
+ghost use Rattle.ov_check.specs.Outcome.{status_of};
+ghost use Rattle.ov_check.specs.Run.{IsRun, Judgement, status_in};
 
-use crate::fault::JudgeFault;
+use crate::device_fault::JudgeFault;
 use crate::outcome::{Outcome, outcome_of, outcome_parallel};
 use ov_io::{Sink, Source};
 use std::alloc::Global;
@@ -44,34 +44,26 @@ pub fn judge_parallel<R: Read, W: Write>(
     ensures { IsRun R.remaining W.contents source.old sink.old source.new sink.new result }
 {
     let judged = judge_kept(rt, source, sink)?;
-    Ok(judged.outcome.status())
+    Ok(judged.status())
 }
 
-/// The bytes of a file and their outcome.
-#[derive(Drop)]
-pub struct Judged {
-    pub bytes: Vec<u8>,
-    pub outcome: Outcome,
-}
-
-/// As `judge_parallel`. What was read is kept with its outcome, whose status is the program's.
+/// As `judge_parallel`. The outcome is returned, whose status is the program's.
 pub fn judge_kept<R: Read, W: Write>(
     rt: &(impl AllocGlobal + Threads + Sync),
     source: &mut Source<R>,
     sink: &mut Sink<W>,
-) -> Result<Judged, JudgeFault>
+) -> Result<Outcome, JudgeFault>
     requires reads { source.old.faults < most_faults }
     requires writes { sink.old.faults < most_faults }
     ensures run { IsRun R.remaining W.contents source.old sink.old source.new sink.new (status_in result) }
-    ensures outcome { IfOk result (λ j. IsOutcome j.bytes.items j.outcome) }
-    ensures bytes { IfOk result (λ j. IfSome (R.remaining source.old.reader) (λ xs. j.bytes.items ≡ xs)) }
-    ensures line { IfOk result (λ j. Appends (W.contents sink.old.writer) (W.contents sink.new.writer)
-        (printed_of j.outcome)) }
+    ensures outcome { IfOk result (Judgement (R.remaining source.old.reader)) }
+    ensures line { IfOk result (λ outcome. Appends (W.contents sink.old.writer) (W.contents sink.new.writer)
+        (printed_of outcome)) }
 {
     let bytes = source.read_all(rt.alloc())?;
     let outcome = outcome_parallel(rt, &bytes)?;
     write_line(rt.alloc(), &outcome, sink)?;
-    Ok(Judged { bytes, outcome })
+    Ok(outcome)
 }
 
 /// Writes the line of an outcome, ended by a line feed, and returns its status.

@@ -1,11 +1,16 @@
-ghost use Rattle.std.specs.Prelude.{◌≡◌, ◌≢◌, List, ℕ, Ok, Err, IfOk};
-ghost use Rattle.ov_check.specs.Outcome.{BytesSay, IsOutcome, SaysExactNumber, status_of};
+ghost use Rattle.std.specs.Prelude.{◌≡◌, ◌≢◌, List, ℕ, Some, IfSome, Ok, Err, IfOk, MatchResult};
+ghost use Rattle.serde_json.specs.Read.{read};
+ghost use Rattle.serde_json.specs.View.{view};
+ghost use Rattle.ov_certfile.specs.Says.{SaysFile, SaysText};
+ghost use Rattle.ov_check.specs.declared.outcome.Outcome.TheVariants.{Refused};
+ghost use Rattle.ov_check.specs.Outcome.{BytesSay, IsRefused, IsOutcome, AreAlike, SaysExactNumber, status_of};
 
 use crate::parallel::check_group_parallel;
 use crate::parallel_fault::ParallelFault;
 use ov_cert::{CheckFault, check_group};
-use ov_certfile::{FileFault, Filed, from_text};
+use ov_certfile::{FileFault, Filed, NoJson, from_value, json_in};
 use ov_ids::OutOfMemory;
+use serde_json::Value;
 use std::alloc::Global;
 use std::thread::Threads;
 
@@ -16,8 +21,28 @@ pub enum Outcome {
     Holds(Filed),
     /// The file, and the first fault of its certificate.
     Fails { filed: Filed, fault: CheckFault },
-    /// The first fault of bytes that are not a certificate file.
-    Refused(FileFault),
+    /// Bytes that are not a certificate file.
+    Refused(Refusal),
+}
+
+/// The first fault of bytes that are not a certificate file.
+#[derive(Drop)]
+pub struct Refusal {
+    pub fault: FileFault,
+    /// The JSON value in the bytes, if there is one.
+    pub value: Option<Value>,
+}
+
+impl Refusal {
+    /// The outcome of the bytes. OutOfMemory (99): that is the fault, and nothing is said of the bytes.
+    fn into_outcome(self) -> Result<Outcome, OutOfMemory>
+        ensures { IfOk result (λ o. (o ≡ Refused self) × (self.fault ≢ FileFault.OutOfMemory)) }
+    {
+        match self.fault {
+            FileFault::OutOfMemory => Err(OutOfMemory),
+            _ => Ok(Outcome::Refused(self)),
+        }
+    }
 }
 
 /// The outcome of the bytes of a file. Where the certificate holds, its number is exact for its group. Bytes that are
@@ -27,13 +52,12 @@ pub enum Outcome {
 #[tactic(auto, using(crate::proofs::Outcomes::one_outcome))]
 pub fn outcome_of(alloc: Global, bytes: &[u8]) -> Result<Outcome, OutOfMemory>
     ensures outcome { IfOk result (λ o. IsOutcome bytes.now o) }
-    ensures only { IfOk result (λ o. (u : Outcome) → IsOutcome bytes.now u → u ≡ o) }
+    ensures only { IfOk result (λ o. (u : Outcome) → IsOutcome bytes.now u → AreAlike u o) }
     ensures exact { IfOk result (λ o. status_of o ≡ 0 → SaysExactNumber bytes.now) }
 {
     match filed_in(alloc, bytes) {
         Ok(filed) => Ok(judge_file(filed)),
-        Err(FileFault::OutOfMemory) => Err(OutOfMemory),
-        Err(fault) => Ok(Outcome::Refused(fault)),
+        Err(refusal) => refusal.into_outcome(),
     }
 }
 
@@ -47,18 +71,49 @@ pub(crate) fn outcome_parallel(
 {
     match filed_in(rt.alloc(), bytes) {
         Ok(filed) => judge_file_parallel(rt, filed),
-        Err(FileFault::OutOfMemory) => Err(OutOfMemory),
-        Err(fault) => Ok(Outcome::Refused(fault)),
+        Err(refusal) => refusal.into_outcome(),
     }
 }
 
 /// The certificate file in these bytes.
-fn filed_in(alloc: Global, bytes: &[u8]) -> Result<Filed, FileFault>
-    ensures { result ≢ Err FileFault.OutOfMemory → BytesSay bytes.now result }
+fn filed_in(alloc: Global, bytes: &[u8]) -> Result<Filed, Refusal>
+    ensures { MatchResult result (λ filed. BytesSay bytes.now (Ok filed))
+        (λ refusal. refusal.fault ≢ FileFault.OutOfMemory → IsRefused bytes.now refusal) }
 {
     match str::from_utf8(bytes) {
-        Ok(text) => from_text(alloc, text),
-        Err(_) => Err(FileFault::NotJson),
+        Ok(text) => filed_in_text(alloc, text),
+        Err(error) => {
+            let no_json = NoJson::no_text(error.valid_up_to());
+            let fault = FileFault::NotJson(no_json);
+            Err(Refusal { fault, value: None })
+        }
+    }
+}
+
+/// The certificate file in this text.
+fn filed_in_text(alloc: Global, text: &str) -> Result<Filed, Refusal>
+    ensures { MatchResult result (λ filed. SaysText text.now (Ok filed))
+        (λ refusal. refusal.fault ≢ FileFault.OutOfMemory → SaysText text.now (Err refusal.fault)
+        × IfSome refusal.value (λ value. read text.now ≡ Some (view value))) }
+{
+    match json_in(alloc, text) {
+        Ok(value) => filed_in_value(alloc, value),
+        Err(fault) => Err(Refusal { fault, value: None }),
+    }
+}
+
+/// The certificate file in this JSON value.
+fn filed_in_value(alloc: Global, value: Value) -> Result<Filed, Refusal>
+    ensures { MatchResult result (λ filed. SaysFile (view value) (Ok filed))
+        (λ refusal. refusal.fault ≢ FileFault.OutOfMemory → SaysFile (view value) (Err refusal.fault)
+        × IfSome refusal.value (λ kept. kept ≡ value)) }
+{
+    match from_value(alloc, &value) {
+        Ok(filed) => Ok(filed),
+        Err(fault) => Err(Refusal {
+            fault,
+            value: Some(value),
+        }),
     }
 }
 

@@ -1,10 +1,3 @@
-ghost use Rattle.std.specs.Prelude.{◌≡◌, ◌++◌, IfOk, OnOk, string_bytes};
-ghost use Rattle.serde_json.specs.Data.{string};
-ghost use Rattle.serde_json.specs.Written.{compact_text};
-ghost use Rattle.ov_check_reasons.specs.Opening.{BeginsWith};
-ghost use Rattle.ov_check_reasons.specs.FilePlaces.{key_text, TellsExpected};
-ghost use Rattle.ov_check_reasons.specs.Code.Sentences.{Adds};
-
 use crate::sentence_parts::{Part, say};
 use ov_ids::OutOfMemory;
 use serde_json::Value;
@@ -13,15 +6,13 @@ use std::alloc::Global;
 /// The longest text that is shown, in bytes.
 const LONGEST_SHOWN: usize = 40;
 
-/// Appends what stands in the place of what was expected.
+/// Appends what is expected, and what stands in its place.
 pub(crate) fn say_found(
     alloc: Global,
     text: &mut String,
     expected: &str,
     value: &Value,
-) -> Result<(), OutOfMemory>
-    ensures { OnOk result (Adds (TellsExpected expected.now) (string_bytes text.old) (string_bytes text.new)) }
-{
+) -> Result<(), OutOfMemory> {
     say(
         text,
         &[
@@ -30,18 +21,10 @@ pub(crate) fn say_found(
             Part::Text(", found "),
         ],
     )?;
-    say_value(alloc, text, value)?;
-    Ok(())
-}
-
-fn say_value(alloc: Global, text: &mut String, value: &Value) -> Result<(), OutOfMemory>
-    ensures { OnOk result (BeginsWith (string_bytes text.old) (string_bytes text.new)) }
-{
     match kind_of(value) {
-        Some(kind) => say(text, &[Part::Text(kind)])?,
-        None => say_json(alloc, text, value)?,
+        Some(kind) => say(text, &[Part::Text(kind)]),
+        None => say_json(alloc, text, value),
     }
-    Ok(())
 }
 
 /// What is said in place of a value that may be long.
@@ -55,29 +38,16 @@ fn kind_of(value: &Value) -> Option<&'static str> {
 }
 
 /// Appends a value as JSON writes it.
-fn say_json(alloc: Global, text: &mut String, value: &Value) -> Result<(), OutOfMemory>
-    ensures { OnOk result (BeginsWith (string_bytes text.old) (string_bytes text.new)) }
-{
+fn say_json(alloc: Global, text: &mut String, value: &Value) -> Result<(), OutOfMemory> {
     let shown = value.to_string(alloc)?;
-    say(text, &[Part::Text(shown.as_str())])?;
-    Ok(())
+    Ok(text.push_str(shown.as_str())?)
 }
 
-/// Appends a key as JSON writes it, if it is not too long.
-pub(crate) fn say_key(alloc: Global, text: &mut String, key: &str) -> Result<(), OutOfMemory>
-    ensures { OnOk result (string_bytes text.new ≡ string_bytes text.old ++ key_text key.now) }
-{
+/// Appends a text as JSON writes it, if it is not too long.
+pub(crate) fn say_key(alloc: Global, text: &mut String, key: &str) -> Result<(), OutOfMemory> {
     if key.len() > LONGEST_SHOWN {
-        return say(text, &[Part::Text("a long text")]);
+        return Ok(text.push_str("a long text")?);
     }
-    let shown = quoted(alloc, key)?;
-    say(text, &[Part::Text(shown.as_str())])
-}
-
-/// A key as JSON writes it.
-fn quoted(alloc: Global, key: &str) -> Result<String, OutOfMemory>
-    ensures { IfOk result (λ shown. string_bytes shown ≡ compact_text (string key.now)) }
-{
     let key = Value::String(String::from_str(alloc, key)?);
-    Ok(key.to_string(alloc)?)
+    say_json(alloc, text, &key)
 }

@@ -1,20 +1,17 @@
-//! Why a certificate file does not hold, in plain words for a person.
+//! Why a certificate file does not hold, in plain words for a person. The readers and the judges below tell what is
+//! wrong and where; here it is put into words.
 #![tactic(auto)]
 
-mod bad_value;
-mod entry_faults;
+mod bad_values;
+mod entry_words;
 mod explain;
-mod fault_in_words;
-mod file_keys;
+mod fault_phrases;
+mod file_words;
 mod found_values;
-mod frame_faults;
-mod graph_faults;
-mod id_tests;
-mod key_faults;
-mod path_faults;
-mod refused_file;
+mod frame_words;
+mod graph_words;
+mod near_keys;
+mod path_words;
 mod sentence_parts;
-mod value_forms;
-mod wanted_keys;
 
 pub use explain::reasons;

@@ -1,7 +1,3 @@
-ghost use Rattle.std.specs.Prelude.{◌≡◌, ◌++◌, OnOk, string_bytes};
-ghost use Rattle.ov_check_reasons.specs.declared.sentence_parts.Part.TheVariants.{Number};
-ghost use Rattle.ov_check_reasons.specs.Code.Sentences.{part_text, sentence_text};
-
 use ov_ids::{NodeId, OutOfMemory};
 
 /// A part of a sentence.
@@ -12,34 +8,22 @@ pub(crate) enum Part<'a> {
 }
 
 /// The number of a node.
-pub(crate) fn node(id: NodeId) -> Part<'static>
-    ensures { result ≡ Number id }
-{
+pub(crate) fn node(id: NodeId) -> Part<'static> {
     Part::Number(u64::from(id.number()))
 }
 
 /// A place in a list, or how many there are.
-pub(crate) fn count(number: usize) -> Part<'static>
-    ensures { result ≡ Number number }
-{
+pub(crate) fn count(number: usize) -> Part<'static> {
     Part::Number(number as u64)
 }
 
 /// Appends the sentence of these parts.
-pub(crate) fn say(text: &mut String, parts: &[Part<'_>]) -> Result<(), OutOfMemory>
-    ensures { OnOk result (string_bytes text.new ≡ string_bytes text.old ++ sentence_text parts.now) }
-{
+pub(crate) fn say(text: &mut String, parts: &[Part<'_>]) -> Result<(), OutOfMemory> {
     for part in parts {
-        say_part(text, *part)?;
+        match part {
+            Part::Text(said) => text.push_str(said)?,
+            Part::Number(number) => write!(text, "{number}")?,
+        }
     }
     Ok(())
-}
-
-fn say_part(text: &mut String, part: Part<'_>) -> Result<(), OutOfMemory>
-    ensures { OnOk result (string_bytes text.new ≡ string_bytes text.old ++ part_text part.entry) }
-{
-    match part {
-        Part::Text(said) => Ok(text.push_str(said)?),
-        Part::Number(number) => Ok(write!(text, "{number}")?),
-    }
 }

@@ -90,7 +90,7 @@ own_below : (s : DeskState) (w : ℕ) (v : WorkerState) → IsLegal s → HasWor
 own_below s w v l at x h = (l.claimed x).0 (w, (v, at, h))
 
 -- a number above all numbers of an ascending list can be appended
-ascends_push : (xs : List ℕ) (x : ℕ) → Ascends xs → ((y : ℕ) → Has xs y → y < x) → Ascends (xs ++ x ∷ [])
+pub ascends_push : (xs : List ℕ) (x : ℕ) → Ascends xs → ((y : ℕ) → Has xs y → y < x) → Ascends (xs ++ x ∷ [])
 ascends_push [] x a h = (tt, tt)
 ascends_push (y ∷ ys) x a h = (all_push y ys x a.0 (h y (inl refl)), ascends_push ys x a.1 (λ z m. h z (inr m)))
   where

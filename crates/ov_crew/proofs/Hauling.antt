@@ -1,5 +1,5 @@
 -- The haul of a worker, piece by piece.
-use Rattle.std.proofs.Common.{◌≡◌, ◌⊎◌, ◌↔◌, ℕ, ◌+◌, List, [], ◌∷◌, ◌++◌, length, Some, None}
+use Rattle.std.proofs.Common.{◌≡◌, ◌⊎◌, ◌↔◌, ℕ, ◌+◌, ◌<◌, List, [], ◌∷◌, ◌++◌, length, Some, None}
 use Rattle.std.proofs.Common.{refl, sym, ap, ◌∙◌, subst, inl, inr, arith}
 use Rattle.std.proofs.lemmas.Option.{none-some}
 use Rattle.ov_even.specs.Hauls.{SettlesNumber}
@@ -16,17 +16,19 @@ use Rattle.ov_fans.specs.declared.settled.Found.{Found}
 use Rattle.ov_fans.specs.declared.settled.Settled.{Settled}
 use Rattle.ov_claims.specs.Claims.{WorkerState, fresh}
 use Rattle.ov_claims.specs.Steps.{failing}
-use Rattle.ov_claims.proofs.Staying.{gaining}
+use Rattle.ov_claims.proofs.Staying.{gaining, ascends_push}
 use Rattle.ov_even.specs.Order.{IsNumbered}
 use Rattle.ov_even.proofs.PieceNumbers.Numbering.{numbered_piece, one_number}
-use Rattle.ov_crew.specs.Hauls.{IsHaulOf}
+use Rattle.ov_crew.specs.Hauls.{IsHaulOf, ArePiecesOf}
 use Rattle.ov_crew.specs.Code.Turns.{HasTaken, HasStopped, HasSettled}
 
 -- the haul of a worker that has done nothing yet is empty
 pub fresh_haul : (g : LinkGraph) (q : List ℕ) (first : ℕ) → IsHaulOf g q first fresh []
 fresh_haul g q first = record {
   right = λ s h. absurd h;
-  settled = λ x. ((λ k. absurd k.0), (λ a. absurd a.1.0));
+  numbers = [];
+  worked_on = record { order = tt; each = λ x. ((λ h. absurd h), (λ k. absurd k.0)) };
+  settled = tt;
   failed = λ x. ((λ h. absurd h), (λ a. absurd a.1.0));
 }
 
@@ -35,10 +37,15 @@ pub stopped_haul : (g : LinkGraph) (q : List ℕ) (first : ℕ) (w v : WorkerSta
     → w.skipped ≡ None → HasStopped w v → IsHaulOf g q first w pieces → IsHaulOf g q first v pieces
 stopped_haul g q first w v pieces none s h = record {
   right = h.right;
-  settled = λ x. (
-    (λ k. (h.settled x).0 ((s.worked_on x).0 k, λ e. none-some x (sym none ∙ e))),
-    (λ a. (s.worked_on x).1 ((h.settled x).1 a).0),
-  );
+  numbers = h.numbers;
+  worked_on = record {
+    order = h.worked_on.order;
+    each = λ x. (
+      (λ k. (s.worked_on x).1 ((h.worked_on.each x).0 k).0),
+      (λ k. (h.worked_on.each x).1 ((s.worked_on x).0 k, λ e. none-some x (sym none ∙ e))),
+    );
+  };
+  settled = h.settled;
   failed = λ x. (
     (λ k. (h.failed x).0 (subst (λ (xs : List ℕ). Has xs x) s.failed k)),
     (λ a. subst (λ (xs : List ℕ). Has xs x) (sym s.failed) ((h.failed x).1 a)),
@@ -92,11 +99,56 @@ gains g q total x piece w u v before after t s = gained w v x s.settled.found (e
   | inr k ↦ inr (k.0, k.1 ∙ ap (failing x) t.became)
 ])
 
+-- one piece more
+pieces_push : (g : LinkGraph) (q : List ℕ) (first x : ℕ) (numbers : List ℕ) (pieces : List Settled) (s : Settled)
+    → ArePiecesOf g q first numbers pieces → IsNumbered (length g.nodes) (length q) (first + x) s.piece
+    → ArePiecesOf g q first (numbers ++ x ∷ []) (pieces ++ s ∷ [])
+pieces_push g q first x [] [] s are is = (is, tt)
+pieces_push g q first x [] (t ∷ pieces) s are is = absurd are
+pieces_push g q first x (y ∷ numbers) [] s are is = absurd are
+pieces_push g q first x (y ∷ numbers) (t ∷ pieces) s are is =
+    (are.0, pieces_push g q first x numbers pieces s are.1 is)
+
+-- the piece of one of the numbers
+piece_of : (g : LinkGraph) (q : List ℕ) (first x : ℕ) (numbers : List ℕ) (pieces : List Settled)
+    → ArePiecesOf g q first numbers pieces → Has numbers x → (s : Settled) × SettlesNumber g q pieces (first + x) s
+piece_of g q first x [] pieces are h = absurd h
+piece_of g q first x (y ∷ numbers) [] are h = absurd are
+piece_of g q first x (y ∷ numbers) (s ∷ pieces) are h = elim h [
+  | inl e ↦
+      (s, (inl refl, subst (λ (z : ℕ). IsNumbered (length g.nodes) (length q) (first + z) s.piece) e are.0))
+  | inr k ↦ let a = piece_of g q first x numbers pieces are.1 k in (a.0, (inr a.1.0, a.1.1))
+]
+
+-- the number of one of the pieces
+number_of : (g : LinkGraph) (q : List ℕ) (first x : ℕ) (numbers : List ℕ) (pieces : List Settled) (s : Settled)
+    → ArePiecesOf g q first numbers pieces → SettlesNumber g q pieces (first + x) s → Has numbers x
+number_of g q first x [] [] s are a = absurd a.0
+number_of g q first x [] (t ∷ pieces) s are a = absurd are
+number_of g q first x (y ∷ numbers) [] s are a = absurd are
+number_of g q first x (y ∷ numbers) (t ∷ pieces) s are a = elim a.0 [
+  | inl e ↦
+      let there = subst (λ (u : Settled). IsNumbered (length g.nodes) (length q) (first + y) u.piece) e are.0 in
+      let same = one_number (length g.nodes) (length q) (first + y) (first + x) s.piece there a.1 in
+      inl (omega (arith, same))
+  | inr k ↦ inr (number_of g q first x numbers pieces s are.1 (k, a.1))
+]
+
+-- a haul has exactly the pieces of the numbers that its worker claimed and did not skip
+pub has_settled : (g : LinkGraph) (q : List ℕ) (first : ℕ) (v : WorkerState) (pieces : List Settled)
+    → IsHaulOf g q first v pieces → (x : ℕ)
+    → (Has v.claimed x × ¬ (v.skipped ≡ Some x)) ↔ ((s : Settled) × SettlesNumber g q pieces (first + x) s)
+has_settled g q first v pieces h x = (
+  (λ k. piece_of g q first x h.numbers pieces h.settled ((h.worked_on.each x).1 k)),
+  (λ a. (h.worked_on.each x).0 (number_of g q first x h.numbers pieces a.0 h.settled a.1)),
+)
+
 -- a worker w with this haul settles one piece more, and becomes v
 record AddsPiece (g : LinkGraph) (q : List ℕ) (first x : ℕ) (w v : WorkerState) (pieces : List Settled)
     (piece : Settled) : Type 0 where
   was : IsHaulOf g q first w pieces
   none : w.skipped ≡ None
+  later : (y : ℕ) → Has w.claimed y → y < x
   gained : HasGained w v x piece.found
   numbered : IsNumbered (length g.nodes) (length q) (first + x) piece.piece
   right : IsRight g q piece
@@ -110,19 +162,26 @@ with_piece g q first x w v pieces piece k = record {
         let is = numbered_piece (length g.nodes) (length q) (first + x) piece.piece k.numbered in
         subst (λ (t : Settled). IsPiece g q t.piece × IsRight g q t) e (is, k.right)
   ];
-  settled = λ y. (
-    (λ h. elim (has_append_cases w.claimed (x ∷ []) y (subst (λ (xs : List ℕ). Has xs y) k.gained.claimed h.0)) [
-      | inl m ↦ let a = (k.was.settled y).0 (m, none_before y) in (a.0, (old a.0 a.1.0, a.1.1))
-      | inr m ↦ elim m [ inl e ↦ (piece, new y (sym e)) | inr n ↦ absurd n ]
-    ]),
-    (λ a. (
-      subst (λ (xs : List ℕ). Has xs y) (sym k.gained.claimed) (elim (old_or_new a.0 a.1.0) [
-        | inl m ↦ has_append_left w.claimed (x ∷ []) y ((k.was.settled y).1 (a.0, (m, a.1.1))).0
-        | inr e ↦ has_append_right w.claimed (x ∷ []) y (inl (sym (its_number y a.0 e a.1.1)))
+  numbers = k.was.numbers ++ x ∷ [];
+  worked_on = record {
+    order = ascends_push k.was.numbers x k.was.worked_on.order
+        (λ y h. k.later y ((k.was.worked_on.each y).0 h).0);
+    each = λ y. (
+      (λ h. (
+        subst (λ (xs : List ℕ). Has xs y) (sym k.gained.claimed)
+            (elim (has_append_cases k.was.numbers (x ∷ []) y h) [
+              | inl m ↦ has_append_left w.claimed (x ∷ []) y ((k.was.worked_on.each y).0 m).0
+              | inr m ↦ has_append_right w.claimed (x ∷ []) y m
+            ]),
+        λ e. none_before y (sym k.gained.skipped ∙ e),
+      )),
+      (λ h. elim (has_append_cases w.claimed (x ∷ []) y (subst (λ (xs : List ℕ). Has xs y) k.gained.claimed h.0)) [
+        | inl m ↦ has_append_left k.was.numbers (x ∷ []) y ((k.was.worked_on.each y).1 (m, none_before y))
+        | inr m ↦ has_append_right k.was.numbers (x ∷ []) y m
       ]),
-      λ e. none_before y (sym k.gained.skipped ∙ e),
-    )),
-  );
+    );
+  };
+  settled = pieces_push g q first x k.was.numbers pieces piece k.was.settled k.numbered;
   failed = λ y. (
     (λ h. elim ((k.gained.failed y).0 h) [
       | inl m ↦ let a = (k.was.failed y).0 m in (a.0, (old a.0 a.1.0, a.1.1), a.2)
@@ -169,6 +228,7 @@ more_haul g q first total x piece w u v before after was none t numbered s =
     subst (IsHaulOf g q first v) (sym s.pieces) (with_piece g q first x w v before s.settled record {
       was = was;
       none = none;
+      later = t.later;
       gained = gains g q total x piece w u v before after t s;
       numbered = subst (IsNumbered (length g.nodes) (length q) (first + x)) (sym s.of_piece) numbered;
       right = s.right;

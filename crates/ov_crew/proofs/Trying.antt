@@ -15,6 +15,7 @@ use Rattle.ov_even.proofs.AnalysisSteps.FirstCut.{cut_or_not}
 use Rattle.ov_even.proofs.PieceNumbers.Numbering.{one_piece}
 use Rattle.ov_crew.specs.Hauls.{IsHaulOf}
 use Rattle.ov_crew.specs.Code.Crews.{AreHaulsOf}
+use Rattle.ov_crew.proofs.Hauling.{has_settled}
 
 -- the haul of this worker is one of the hauls
 record HasBrought (g : LinkGraph) (q : List ℕ) (first : ℕ) (hauls : List Haul) (v : WorkerState) : Type 0 where
@@ -74,7 +75,7 @@ cleared_below g q first b seats hauls least x r k are low numbered =
     let v = c.1.0 in
     let at = c.1.1 in
     let m = brings g q first b seats hauls least w v k are at in
-    let a = (m.is.settled x).0 (c.1.2, k.done.worked_on x below w v at) in
+    let a = (has_settled g q first v m.haul.pieces.items m.is x).0 (c.1.2, k.done.worked_on x below w v at) in
     elim (cut_or_not a.0.found) [
       | inl none ↦ inr (
         a.0,

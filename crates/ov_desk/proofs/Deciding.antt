@@ -27,7 +27,7 @@ use Rattle.ov_even.proofs.AnalysisSteps.FirstCut.{cut_or_not}
 use Rattle.ov_even.proofs.PieceOrder.InOrder.{has_at, at_has, at_within}
 use Rattle.ov_even.proofs.PieceNumbers.Numbering.{every_number, number_below, numbers_order, one_piece}
 use Rattle.ov_even.proofs.EvenTest.Searching.{first_among}
-use Rattle.ov_desk.specs.declared.next_turn.Hand.{Hand}
+use Rattle.ov_desk.specs.declared.piece_in_hand.Hand.{Hand}
 use Rattle.ov_desk.specs.Desk.{GroupDeskState, HaveBeenSettled, IsSettledAt}
 use Rattle.ov_desk.specs.Sound.{IsSoundWorker, IsSoundDesk}
 use Rattle.ov_desk.specs.Theorems.{HasDecided, EndedDecides}

@@ -12,8 +12,8 @@ use Rattle.ov_claims.proofs.Changing.{at_changed}
 use Rattle.ov_desk.specs.Desk.{GroupDeskState, HasHand}
 use Rattle.ov_desk.specs.Turns.{ClaimsNext, WasClaimed, WasLookedAt}
 use Rattle.ov_desk.specs.Code.Kept.{IsKept, IsClaimedLast}
-use Rattle.ov_desk.specs.declared.next_turn.Hand.{Hand}
-use Rattle.ov_desk.specs.declared.next_turn.Hand.TheVariants.{Nothing, Claimed, Looked}
+use Rattle.ov_desk.specs.declared.piece_in_hand.Hand.{Hand}
+use Rattle.ov_desk.specs.declared.piece_in_hand.Hand.TheVariants.{Nothing, Claimed, Looked}
 
 -- writing the item that already stands at a place changes nothing
 pub written_again : {X : Type 0} (xs : List X) (w : ℕ) (x : X) → slice_get xs w ≡ Some x → set xs w x ≡ xs

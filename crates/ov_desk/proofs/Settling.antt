@@ -20,8 +20,8 @@ use Rattle.ov_even.specs.declared.worker_haul.Haul.{Haul}
 use Rattle.ov_even.proofs.AnalysisSteps.FirstCut.{cut_or_not}
 use Rattle.ov_even.proofs.PieceOrder.InOrder.{at_within}
 use Rattle.ov_even.proofs.PieceNumbers.Numbering.{more_from_total}
-use Rattle.ov_desk.specs.declared.next_turn.Hand.{Hand}
-use Rattle.ov_desk.specs.declared.next_turn.Hand.TheVariants.{Nothing, Claimed, Looked}
+use Rattle.ov_desk.specs.declared.piece_in_hand.Hand.{Hand}
+use Rattle.ov_desk.specs.declared.piece_in_hand.Hand.TheVariants.{Nothing, Claimed, Looked}
 use Rattle.ov_desk.specs.Desk.{GroupDeskState, HasHand, HaveBeenSettled}
 use Rattle.ov_desk.specs.Sound.{IsSoundDesk}
 use Rattle.ov_desk.specs.Turns.{IsWorkerOf, ClaimsNext, WasSettled}

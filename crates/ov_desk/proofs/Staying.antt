@@ -15,8 +15,8 @@ use Rattle.ov_claims.specs.Steps.{claiming, looking, failing}
 use Rattle.ov_claims.proofs.Changing.{all_same}
 use Rattle.ov_claims.proofs.Staying.{stays_legal, has_added, has_self, has_still}
 use Rattle.ov_even.proofs.PieceOrder.InOrder.{at_within}
-use Rattle.ov_desk.specs.declared.next_turn.Hand.{Hand}
-use Rattle.ov_desk.specs.declared.next_turn.Hand.TheVariants.{Nothing, Claimed, Looked}
+use Rattle.ov_desk.specs.declared.piece_in_hand.Hand.{Hand}
+use Rattle.ov_desk.specs.declared.piece_in_hand.Hand.TheVariants.{Nothing, Claimed, Looked}
 use Rattle.ov_desk.specs.Desk.{GroupDeskState, HaveBeenSettled, IsOpened}
 use Rattle.ov_desk.specs.Sound.{IsSoundWorker, IsSoundDesk}
 use Rattle.ov_desk.specs.Turns.{WasClaimed, WasLookedAt, WasSettled}

@@ -17,8 +17,8 @@ use Rattle.ov_claims.proofs.Staying.{gaining, ending, skipping}
 use Rattle.ov_claims.proofs.Turns.{own_last}
 use Rattle.ov_even.specs.Order.{IsNumbered}
 use Rattle.ov_even.proofs.PieceNumbers.Numbering.{numbered_piece, one_number}
-use Rattle.ov_desk.specs.declared.next_turn.Hand.{Hand}
-use Rattle.ov_desk.specs.declared.next_turn.Hand.TheVariants.{Nothing, Claimed, Looked}
+use Rattle.ov_desk.specs.declared.piece_in_hand.Hand.{Hand}
+use Rattle.ov_desk.specs.declared.piece_in_hand.Hand.TheVariants.{Nothing, Claimed, Looked}
 use Rattle.ov_desk.specs.Desk.{IsNumberIn}
 use Rattle.ov_desk.specs.Sound.{IsThroughWith, IsSoundWorker}
 

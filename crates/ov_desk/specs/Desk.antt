@@ -7,8 +7,8 @@ use Rattle.ov_graph.specs.Links.{LinkGraph, AreAllLinked}
 use Rattle.ov_fans.specs.declared.settled.Settled.{Settled}
 use Rattle.ov_claims.specs.Claims.{DeskState, opening_claims}
 use Rattle.ov_even.specs.Order.{AreSoMany}
-use Rattle.ov_desk.specs.declared.next_turn.Hand.{Hand}
-use Rattle.ov_desk.specs.declared.next_turn.Hand.TheVariants.{Nothing, Claimed, Looked}
+use Rattle.ov_desk.specs.declared.piece_in_hand.Hand.{Hand}
+use Rattle.ov_desk.specs.declared.piece_in_hand.Hand.TheVariants.{Nothing, Claimed, Looked}
 
 -- a desk: the moment whose links are analysed, the members of the group, and the claims of the workers. For each
 -- worker, counted from 0: what it has in hand, and the pieces that it has settled, in order

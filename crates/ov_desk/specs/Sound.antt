@@ -10,7 +10,7 @@ use Rattle.ov_claims.specs.Claims.{WorkerState, HasWorker, IsLegal, MayWork}
 use Rattle.ov_claims.specs.Steps.{IsLast}
 use Rattle.ov_even.specs.Hauls.{SettlesNumber}
 use Rattle.ov_desk.specs.Desk.{GroupDeskState, HasHand, HaveBeenSettled, IsNumberIn, AreToShare}
-use Rattle.ov_desk.specs.declared.next_turn.Hand.{Hand}
+use Rattle.ov_desk.specs.declared.piece_in_hand.Hand.{Hand}
 
 -- the worker has finished number x: it claimed x, did not skip it, and no longer has it in hand
 pub record IsThroughWith (v : WorkerState) (hand : Hand) (x : ℕ) : Type 0 where

@@ -9,7 +9,7 @@ use Rattle.ov_claims.specs.Claims.{WorkerState, HasWorker}
 use Rattle.ov_claims.specs.Steps.{Claims, Looks, Fails}
 use Rattle.ov_even.specs.Order.{IsNumbered}
 use Rattle.ov_desk.specs.Desk.{GroupDeskState, HasHand, HaveBeenSettled}
-use Rattle.ov_desk.specs.declared.next_turn.Hand.TheVariants.{Nothing, Claimed, Looked}
+use Rattle.ov_desk.specs.declared.piece_in_hand.Hand.TheVariants.{Nothing, Claimed, Looked}
 
 -- w is a worker of the desk
 abbrev pub IsWorkerOf : GroupDeskState → ℕ → Type 0

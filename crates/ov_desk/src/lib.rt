@@ -1,10 +1,10 @@
 //! A desk at which workers share out the pieces of Even's test, until one piece decides.
 #![tactic(auto)]
 
-mod group_desk;
-mod next_turn;
+mod analysis_desk;
+mod piece_in_hand;
 mod theorems;
 
-pub use group_desk::GroupDesk;
-pub use next_turn::Hand;
+pub use analysis_desk::GroupDesk;
+pub use piece_in_hand::Hand;
 pub use theorems::{ended_decides, stays_sound};

@@ -4,9 +4,9 @@ ghost use Rattle.ov_fans.specs.Pieces.{member_at, IsPiece, IsLinkedPair};
 ghost use Rattle.ov_fans.specs.Code.Kept.{IsAimFor};
 ghost use Rattle.ov_fans.specs.Code.Nets.{net_of, pair_net, fan_net};
 
+use crate::bit_row_nodes::bits_below;
+use crate::group_member_places::SettlerGroup;
 use crate::piece::Piece;
-use crate::row_nodes::bits_below;
-use crate::settler_group::SettlerGroup;
 use ov_graph::row::Row;
 
 /// The net of a piece, by places: its paths lead from the source to the targets, without the avoided node if there is

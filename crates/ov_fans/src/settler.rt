@@ -6,11 +6,11 @@ ghost use Rattle.ov_fans.specs.Cuts.{IsRight, IsFoundFor, IsParted};
 ghost use Rattle.ov_fans.specs.Theorems.{IsNoCut};
 ghost use Rattle.ov_fans.specs.Code.Nets.{net_of};
 
+use crate::bit_row_nodes::nodes_of_row;
+use crate::group_member_places::SettlerGroup;
 use crate::piece::Piece;
 use crate::piece_net::{aim_for, is_linked_pair};
-use crate::row_nodes::nodes_of_row;
 use crate::settled::{Found, Parting, Settled};
-use crate::settler_group::SettlerGroup;
 use crate::target_past_cut::far_of;
 use ov_flow::{CutRows, Flow};
 use ov_graph::Graph;
@@ -86,7 +86,7 @@ impl<'g> Settler<'g> {
     {
         let aim = aim_for(&self.group, piece);
         let net = SplitNet::new(self.group.graph(), aim.avoided, aim.source, aim.targets);
-        match self.flow.seek(net, piece.level() as usize)? {
+        match self.flow.seek(net, piece.level() as usize) {
             None => Ok(Found::Paths(self.flow.paths()?)),
             Some(rows) => {
                 let held = self.flow.held();

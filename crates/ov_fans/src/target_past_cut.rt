@@ -6,9 +6,9 @@ ghost use Rattle.ov_fans.specs.Pieces.{level_of, IsPiece};
 ghost use Rattle.ov_fans.specs.Cuts.{IsCut, IsFar};
 ghost use Rattle.ov_fans.specs.Code.Kept.{IsLowestOutside};
 
+use crate::bit_row_nodes::bits_below;
+use crate::group_member_places::SettlerGroup;
 use crate::piece::Piece;
-use crate::row_nodes::bits_below;
-use crate::settler_group::SettlerGroup;
 use ov_graph::Graph;
 use ov_graph::row::{WORDS, first_from, without};
 use ov_ids::NodeId;

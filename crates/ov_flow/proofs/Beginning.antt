@@ -1,6 +1,6 @@
 -- Paths of one link, and the table of what is held.
-use Rattle.std.proofs.Common.{◌≡◌, ◌≢◌, ◌∙◌, ℕ, inl, inr, List, [], ◌∷◌, ◌++◌, length, Option}
-use Rattle.std.proofs.Common.{Some, None, refl, sym, ap, subst, unwrap_or}
+use Rattle.std.proofs.Common.{◌≡◌, ◌≢◌, ◌∙◌, ℕ, ◌<◌, inl, inr, List, [], ◌∷◌, ◌++◌, length, Option}
+use Rattle.std.proofs.Common.{Some, None, refl, sym, ap, subst, arith, unwrap_or}
 use Rattle.std.proofs.lemmas.Bool.{cases_eq}
 use Rattle.ov_ids.specs.Members.{Has}
 use Rattle.ov_ids.proofs.Members.{has_append_left, has_append_right, has_append_cases}
@@ -9,6 +9,7 @@ use Rattle.ov_graph.proofs.EvenTest.Walks.{linked_sym}
 use Rattle.ov_split.specs.SplitNetState.{SplitNetState, IsSplitNet}
 use Rattle.ov_split.specs.Code.Residual.{Table, IsFree, IsFlow}
 use Rattle.ov_split.specs.Placed.{IsPlaced}
+use Rattle.ov_split.proofs.Augmenting.Lists.{distinct_length}
 use Rattle.ov_split.proofs.Augmenting.Move.{push_held, start_held, leads_map}
 use Rattle.ov_flow.specs.Code.Walked.{table_of, IsTable}
 use Rattle.ov_flow.proofs.Copying.{held_turned}
@@ -23,6 +24,20 @@ flow_table n wide from ends placed long flow = record {
       let l = linked_sym n.graph u v (flow.held.free v u f).0 in
       (placed.nodes u).0 (linked_node n.graph v u placed.net.graph l);
 }
+
+-- as the source is no target, there are fewer ends than places
+pub ends_below : (n : SplitNetState) (wide : ℕ) (from : Table) (ends : List ℕ) → IsPlaced n wide → IsFlow n from ends
+    → length ends < wide
+ends_below n wide from ends placed flow =
+    let net = placed.net in
+    let count = placed.count in
+    let b = distinct_length (n.source ∷ ends) n.graph.nodes
+    ((λ h. net.no_target (flow.targets n.source h)), flow.held.distinct)
+    (λ x h. elim h [
+      | inl e ↦ subst (Has n.graph.nodes) e net.source
+      | inr k ↦ net.targets.nodes x (flow.targets x k)
+    ]) in
+    omega (arith, b, count)
 
 -- nothing is held
 pub flow_none : (n : SplitNetState) (from : Table) → ((v : ℕ) → from v ≡ None) → IsFlow n from []

@@ -11,9 +11,11 @@ use Rattle.ov_graph.specs.Row.{HasBit}
 use Rattle.ov_graph.proofs.EvenTest.Walks.{leads_push}
 use Rattle.ov_split.specs.SplitNetState.{SplitNetState}
 use Rattle.ov_split.specs.Code.Residual.{Table, IsFree, IsResidual, IsStuck}
+use Rattle.ov_split.specs.Placed.{IsPlaced}
 use Rattle.ov_split.proofs.Augmenting.Lists.{distinct_length, distinct_push}
 use Rattle.ov_flow.specs.declared.search_tree.Tree.{Tree}
 use Rattle.ov_flow.specs.Code.Reached.{tip_of, IsStepBy, IsTree, IsTaken, IsGrownBy, IsGrown, Extends, IsMore}
+use Rattle.ov_flow.specs.Code.Held.{HasTreeRoom, HasNodeRoom}
 
 pub extends_refl : (xs : List ℕ) → Extends xs xs
 extends_refl xs = (omega arith, λ k l. refl)
@@ -113,6 +115,26 @@ grow_tree n from order parents ways at y way t lt step node out =
 pub tree_bound : (n : SplitNetState) (from : Table) (order parents : List ℕ) (ways : List (Option ℕ))
     → IsTree n from order parents ways → length order ≤ length n.graph.nodes
 tree_bound n from order parents ways t = distinct_length order n.graph.nodes t.distinct t.nodes
+
+-- a tree with room for all nodes has room for one that is not reached
+pub node_room : (n : SplitNetState) (wide : ℕ) (from : Table) (t : Tree) (node : ℕ) → IsPlaced n wide
+    → IsGrown n from t → HasTreeRoom wide t → Has n.graph.nodes node → ¬ HasBit t.reached node → HasNodeRoom t
+node_room n wide from t node placed g room there off =
+    let order = t.order.items in
+    let tree = g.is_tree in
+    let all : (x : ℕ) → Has (order ++ node ∷ []) x → Has n.graph.nodes x =
+    λ x h. elim (has_append_cases order (node ∷ []) x h) [
+      | inl k ↦ tree.nodes x k
+      | inr k ↦ elim k [ inl s ↦ subst (Has n.graph.nodes) s there | inr w ↦ absurd w ]
+    ] in
+    let b = distinct_length (order ++ node ∷ []) n.graph.nodes
+    (distinct_push order node tree.distinct (λ h. off ((g.marked node).1 h))) all in
+    let l = length_push order node in
+    let count = placed.count in (
+      let e = t.order.ok.0 in let r = room.0 in omega (arith, b, l, count, e, r),
+      let e = t.parents.ok.0 in let f = tree.count in let r = room.1 in omega (arith, b, l, count, e, f, r),
+      let e = t.ways.ok.0 in let f = tree.long in let r = room.2 in omega (arith, b, l, count, e, f, r),
+    )
 
 pub grown_push : (n : SplitNetState) (from : Table) (order parents : List ℕ) (ways : List (Option ℕ))
     (reached seen : List ℕ)

@@ -15,7 +15,8 @@ use Rattle.ov_split.specs.Placed.{IsPlaced}
 use Rattle.ov_flow.specs.declared.search_tree.Tree.{Tree}
 use Rattle.ov_flow.specs.Code.Reached.{tip_of, IsStepBy, IsTree, IsGrownBy, IsGrown, IsMore, IsClean, IsSweptAt}
 use Rattle.ov_flow.specs.Code.Walked.{table_of, IsTable}
-use Rattle.ov_flow.proofs.Reaching.{more_refl, more_trans, extends_has, grown_seen, clean_more, IsReachedBy}
+use Rattle.ov_flow.specs.Code.Held.{HasTreeRoom, HasNodeRoom}
+use Rattle.ov_flow.proofs.Reaching.{more_refl, more_trans, extends_has, grown_seen, clean_more, node_room, IsReachedBy}
 
 -- the place to which a step leads
 pub tip_below : (wide : ℕ) (from : List (Option ℕ)) (w : ℕ) → IsTable wide from → w < wide
@@ -95,6 +96,9 @@ module _ (n : SplitNetState) (wide : ℕ) (placed : IsPlaced n wide) (from : Lis
       (λ s. v.rest w first.reached first.set (subst (HasBit t.seen) (sym s) v.grown.source)),
       sym tip,
     )
+
+    pub link_room : HasTreeRoom wide t → ¬ HasBit t.reached node → HasNodeRoom t
+    link_room room off = node_room n wide (table_of from) t node placed v.grown room node_there off
 
     -- the node is reached, and the bit of the link is set
     module _ (u : Tree) (new : List ℕ) (reach : (m : SplitNetState) (f : Table) → IsGrown m f t → Has m.graph.nodes node

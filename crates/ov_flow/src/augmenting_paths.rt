@@ -1,5 +1,5 @@
 //! The buffers of a search, and the paths that are held.
-ghost use Rattle.std.specs.Prelude.{◌≡◌, ℕ, ◌<◌, ◌≤◌, [], length, false, IfOk, OnErr, MatchBool};
+ghost use Rattle.std.specs.Prelude.{◌≡◌, ℕ, ◌<◌, ◌≤◌, [], length, false, IfOk, MatchBool};
 ghost use Rattle.ov_split.specs.SplitNetState.{SplitNetState};
 ghost use Rattle.ov_flow.specs.Code.Held.{IsReady, HasWorkRoom, IsWorkOf, IsSame, IsLonger, IsAtEnd};
 
@@ -47,20 +47,19 @@ fn start(net: &SplitNet<'_>, work: &mut Work)
 }
 
 /// Searches for one more path. True: it was found, and is held.
-pub(crate) fn augment(net: &SplitNet<'_>, work: &mut Work) -> Result<bool, AllocError>
+pub(crate) fn augment(net: &SplitNet<'_>, work: &mut Work) -> bool
     requires ready { IsReady net.now }
     requires work { IsWorkOf net.now work.old }
     ensures work { IsWorkOf net.now work.new }
-    ensures longer { IfOk result (λ grew. MatchBool grew (IsLonger work.old work.new) (IsSame work.old work.new)) }
-    ensures end { IfOk result (λ grew. grew ≡ false → IsAtEnd net.now work.new) }
-    ensures err { OnErr result (IsSame work.old work.new) }
+    ensures longer { MatchBool result (IsLonger work.old work.new) (IsSame work.old work.new) }
+    ensures end { result ≡ false → IsAtEnd net.now work.new }
 {
-    if !search(net, &work.from, &mut work.tree)? {
-        return Ok(false);
+    if !search(net, &work.from, &mut work.tree) {
+        return false;
     }
-    walk_back(&work.tree, &mut work.hops)?;
+    walk_back(&work.tree, &mut work.hops);
     let target = work.tree.order[work.tree.order.len() - 1];
-    work.ends.push(target)?;
+    work.ends.push_reserved(target);
     replace_paths(
         net,
         &mut work.from,
@@ -69,24 +68,23 @@ pub(crate) fn augment(net: &SplitNet<'_>, work: &mut Work) -> Result<bool, Alloc
         &work.hops,
         target,
     );
-    Ok(true)
+    true
 }
 
 /// Starts again, and searches for `level` paths. True: so many are held.
-pub(crate) fn settle(net: &SplitNet<'_>, level: usize, work: &mut Work) -> Result<bool, AllocError>
+pub(crate) fn settle(net: &SplitNet<'_>, level: usize, work: &mut Work) -> bool
     requires ready { IsReady net.now }
     requires room { HasWorkRoom (length net.now.graph.nodes) work.old }
     ensures work { IsWorkOf net.now work.new }
-    ensures held { IfOk result (λ found. MatchBool found (length work.new.ends.items ≡ level)
-        (length work.new.ends.items < level)) }
-    ensures end { IfOk result (λ found. found ≡ false → IsAtEnd net.now work.new) }
+    ensures held { MatchBool result (length work.new.ends.items ≡ level) (length work.new.ends.items < level) }
+    ensures end { result ≡ false → IsAtEnd net.now work.new }
 {
     start(net, work);
-    take_direct(net, level, work)?;
+    take_direct(net, level, work);
     while work.ends.len() < level {
-        if !augment(net, work)? {
-            return Ok(false);
+        if !augment(net, work) {
+            return false;
         }
     }
-    Ok(true)
+    true
 }

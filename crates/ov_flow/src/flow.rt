@@ -1,4 +1,4 @@
-ghost use Rattle.std.specs.Prelude.{◌≡◌, ℕ, ◌+◌, ◌<◌, List, map, length, IfOk, OnErr, IfSome, MatchOption};
+ghost use Rattle.std.specs.Prelude.{◌≡◌, ℕ, ◌+◌, ◌<◌, List, map, length, IfOk, MatchOption};
 ghost use Rattle.ov_graph.specs.Paths.{node_at};
 ghost use Rattle.ov_split.specs.SplitNetState.{IsFanOf};
 ghost use Rattle.ov_flow.specs.Flow.{FlowState, IsFullBy, IsAugmentation, ArePlaces};
@@ -50,36 +50,34 @@ impl<'g> Flow<'g> {
         self.work.ends.len()
     }
 
-    /// Searches for one more path. Where there is none, the result is the nearest least cut, which has as many nodes as
-    /// paths are held (Menger, Fund. Math. 10, 1927). Out of memory (99) leaves the net and the number of paths as they
-    /// were.
-    pub fn augment(&mut self) -> Result<Augmentation, OutOfMemory>
-        ensures augmentation { IfOk result (λ a. IsAugmentation self.old self.new a) }
-        ensures err { OnErr result (self.new ≡ self.old) }
+    /// Searches for one more path. If there is none, the result is the nearest least cut, which has as many nodes as
+    /// paths are held (Menger, Fund. Math. 10, 1927). Nothing is allocated.
+    pub fn augment(&mut self) -> Augmentation
+        ensures augmentation { IsAugmentation self.old self.new result }
         ensures fans { (paths : List (List ℕ)) × IsFanOf self.new.net self.new.held paths }
     {
-        if augment(&self.net, &mut self.work)? {
-            return Ok(Augmentation::Grew);
+        if augment(&self.net, &mut self.work) {
+            return Augmentation::Grew;
         }
-        Ok(Augmentation::Stuck(stuck_at(&self.net, &self.work)))
+        Augmentation::Stuck(stuck_at(&self.net, &self.work))
     }
 
     /// Starts again with another net of the same graph, and searches for `level` paths, those of one link first. The
-    /// result is `None` where they are found. Else fewer paths are held, no fan has more, and the result is the nearest
-    /// least cut (Menger, Fund. Math. 10, 1927). Out of memory (99) leaves some paths of the new net held.
-    pub fn seek(&mut self, net: SplitNet<'g>, level: usize) -> Result<Option<CutRows>, OutOfMemory>
+    /// result is `None` if they are found. Otherwise fewer paths are held, no fan has more, and the result is the
+    /// nearest least cut (Menger, Fund. Math. 10, 1927). Nothing is allocated.
+    pub fn seek(&mut self, net: SplitNet<'g>, level: usize) -> Option<CutRows>
         requires { net.graph ≡ self.old.net.graph }
         ensures net { self.new.net ≡ net.entry }
-        ensures held { IfOk result (λ stuck. MatchOption stuck (self.new.held ≡ level)
-            (λ s. (self.new.held < level) × IsFullBy self.new.net self.new.held s)) }
+        ensures held { MatchOption result (self.new.held ≡ level)
+            (λ s. (self.new.held < level) × IsFullBy self.new.net self.new.held s) }
         ensures fans { (paths : List (List ℕ)) × IsFanOf self.new.net self.new.held paths }
     {
         prove!(net.places() == self.work.from.len());
         self.net = net;
-        if settle(&self.net, level, &mut self.work)? {
-            return Ok(None);
+        if settle(&self.net, level, &mut self.work) {
+            return None;
         }
-        Ok(Some(stuck_at(&self.net, &self.work)))
+        Some(stuck_at(&self.net, &self.work))
     }
 
     /// The paths that are held, which are a fan of the net. Each path is a list of places of nodes, counted from 0.

@@ -1,23 +1,18 @@
 //! Paths of one link.
-ghost use Rattle.std.specs.Prelude.{◌≡◌, ℕ, ◌≤◌, [], length, OnOk};
+ghost use Rattle.std.specs.Prelude.{◌≡◌, ℕ, ◌≤◌, [], length};
 ghost use Rattle.ov_flow.specs.Code.Held.{IsReady, IsWorkOf};
 
 use crate::augmenting_paths::Work;
 use ov_graph::row::{both, first_from, without};
 use ov_split::SplitNet;
-use std::alloc::AllocError;
 
 /// Takes paths of one link from the source to targets, at most `level` of them. No path is held before.
-pub(crate) fn take_direct(
-    net: &SplitNet<'_>,
-    level: usize,
-    work: &mut Work,
-) -> Result<(), AllocError>
+pub(crate) fn take_direct(net: &SplitNet<'_>, level: usize, work: &mut Work)
     requires ready { IsReady net.now }
     requires work { IsWorkOf net.now work.old }
     requires empty { work.old.ends.items ≡ [] }
     ensures work { IsWorkOf net.now work.new }
-    ensures few { OnOk result (length work.new.ends.items ≤ level) }
+    ensures few { length work.new.ends.items ≤ level }
 {
     let source = net.source();
     let words = net.words();
@@ -26,11 +21,10 @@ pub(crate) fn take_direct(
     let mut after = 0;
     while let Some(w) = first_from(&direct, after, words) {
         if work.ends.len() >= level {
-            return Ok(());
+            return;
         }
-        work.ends.push(w as u16)?;
+        work.ends.push_reserved(w as u16);
         work.from[w] = Some(source as u16);
         after = w + 1;
     }
-    Ok(())
 }

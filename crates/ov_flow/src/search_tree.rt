@@ -1,11 +1,11 @@
-ghost use Rattle.std.specs.Prelude.{◌≡◌, ℕ, ◌-◌, ◌*◌, ◌<◌, length, slice_index, OnOk};
+ghost use Rattle.std.specs.Prelude.{◌≡◌, ℕ, ◌-◌, ◌*◌, ◌<◌, length, slice_index, IfOk};
 ghost use Rattle.ov_ids.specs.Members.{Has};
-ghost use Rattle.ov_graph.specs.Row.{word_bits};
+ghost use Rattle.ov_graph.specs.Row.{HasBit, word_bits};
 ghost use Rattle.ov_split.specs.SplitNetState.{SplitNetState};
 ghost use Rattle.ov_split.specs.Code.Residual.{Table};
 ghost use Rattle.ov_split.specs.Places.{net_by_place};
 ghost use Rattle.ov_flow.specs.Code.Reached.{IsStepBy, IsGrown, IsMore, IsClean};
-ghost use Rattle.ov_flow.specs.Code.Held.{IsReady};
+ghost use Rattle.ov_flow.specs.Code.Held.{IsReady, HasTreeRoom, HasNodeRoom};
 
 use ov_graph::row::{EMPTY, Row, WORDS, has, put};
 use ov_split::SplitNet;
@@ -23,7 +23,9 @@ pub(crate) struct Tree {
 }
 
 /// An empty tree with room for so many nodes.
-pub(crate) fn new_tree(alloc: Global, room: usize) -> Result<Tree, AllocError> {
+pub(crate) fn new_tree(alloc: Global, room: usize) -> Result<Tree, AllocError>
+    ensures { IfOk result (HasTreeRoom room) }
+{
     Ok(Tree {
         order: Vec::with_capacity(alloc, room)?,
         parents: Vec::with_capacity(alloc, room)?,
@@ -34,10 +36,12 @@ pub(crate) fn new_tree(alloc: Global, room: usize) -> Result<Tree, AllocError> {
 }
 
 /// Starts a search at the source.
-pub(crate) fn begin(net: &SplitNet<'_>, tree: &mut Tree) -> Result<(), AllocError>
+pub(crate) fn begin(net: &SplitNet<'_>, tree: &mut Tree)
     requires ready { IsReady net.now }
-    ensures grown { OnOk result ((from : Table) → IsGrown (net_by_place net.now) from tree.new) }
-    ensures clean { OnOk result (IsClean (net_by_place net.now) tree.new) }
+    requires room { HasTreeRoom (length net.now.graph.nodes) tree.old }
+    ensures grown { (from : Table) → IsGrown (net_by_place net.now) from tree.new }
+    ensures clean { IsClean (net_by_place net.now) tree.new }
+    ensures room { HasTreeRoom (length net.now.graph.nodes) tree.new }
 {
     let source = net.source();
     tree.order.clear();
@@ -47,31 +51,31 @@ pub(crate) fn begin(net: &SplitNet<'_>, tree: &mut Tree) -> Result<(), AllocErro
     tree.seen = *net.avoided();
     put(&mut tree.seen, source);
     put(&mut tree.reached, source);
-    tree.order.push(source as u16)?;
-    tree.parents.push(0)?;
-    tree.ways.push(None)?;
-    Ok(())
+    tree.order.push_reserved(source as u16);
+    tree.parents.push_reserved(0);
+    tree.ways.push_reserved(None);
 }
 
 /// Adds a node, unless it is reached already. A step leads to it from the node at place `at` of the order.
-pub(crate) fn reach(tree: &mut Tree, at: u16, way: Option<u16>, node: u16) -> Result<(), AllocError>
+pub(crate) fn reach(tree: &mut Tree, at: u16, way: Option<u16>, node: u16)
     requires at { at < length tree.old.order.items }
     requires node { node < word_bits * WORDS }
-    ensures grown { OnOk result ((n : SplitNetState) (from : Table) → IsGrown n from tree.old → Has n.graph.nodes node
+    requires room { ¬ HasBit tree.old.reached node → HasNodeRoom tree.old }
+    ensures grown { (n : SplitNetState) (from : Table) → IsGrown n from tree.old → Has n.graph.nodes node
         → IsStepBy n from (slice_index tree.old.order.items at) node way
         → IsGrown n from tree.new × Has tree.new.order.items node
         × (¬ Has tree.old.order.items node
-        → slice_index tree.new.order.items (length tree.new.order.items - 1) ≡ node)) }
-    ensures more { OnOk result (IsMore tree.old tree.new) }
-    ensures only { OnOk result ((x : ℕ) → Has tree.new.order.items x → ¬ Has tree.old.order.items x → x ≡ node) }
-    ensures seen { OnOk result (tree.new.seen ≡ tree.old.seen) }
+        → slice_index tree.new.order.items (length tree.new.order.items - 1) ≡ node) }
+    ensures more { IsMore tree.old tree.new }
+    ensures only { (x : ℕ) → Has tree.new.order.items x → ¬ Has tree.old.order.items x → x ≡ node }
+    ensures seen { tree.new.seen ≡ tree.old.seen }
+    ensures room { (wide : ℕ) → HasTreeRoom wide tree.old → HasTreeRoom wide tree.new }
 {
     if has(&tree.reached, node as usize) {
-        return Ok(());
+        return;
     }
     put(&mut tree.reached, node as usize);
-    tree.order.push(node)?;
-    tree.parents.push(at)?;
-    tree.ways.push(way)?;
-    Ok(())
+    tree.order.push_reserved(node);
+    tree.parents.push_reserved(at);
+    tree.ways.push_reserved(way);
 }

@@ -1,6 +1,6 @@
 //! The walk to a target that a search found, and the change of the table by its steps.
 ghost use Rattle.std.specs.Prelude.{◌≡◌, ◌≢◌, ℕ, ◌-◌, ◌<◌, List, ◌∷◌, length, slice_index, Some};
-ghost use Rattle.std.specs.Prelude.{None, true, OnOk, IfSome};
+ghost use Rattle.std.specs.Prelude.{None, true, ◌≤◌, vec_capacity, IfSome};
 ghost use Rattle.ov_split.specs.SplitNetState.{SplitNetState};
 ghost use Rattle.ov_split.specs.Code.Residual.{Table, AreHeld, IsTidy};
 ghost use Rattle.ov_split.specs.Places.{net_by_place};
@@ -10,7 +10,6 @@ ghost use Rattle.ov_flow.specs.Code.Held.{IsReady};
 
 use crate::search_tree::Tree;
 use ov_split::SplitNet;
-use std::alloc::AllocError;
 
 /// A step of a walk to `node`: by a link to `way`, or back along a path where there is no `way`.
 #[derive(Clone, Copy)]
@@ -20,21 +19,22 @@ pub(crate) struct Hop {
 }
 
 /// Writes the walk from the source to the last node that is reached.
-pub(crate) fn walk_back(tree: &Tree, hops: &mut Vec<Hop>) -> Result<(), AllocError>
-    requires { IsShaped tree.now.order.items tree.now.parents.items tree.now.ways.items }
-    ensures { OnOk result ((n : SplitNetState) (from : Table) → IsGrown n from tree.now
-        → IsWalkBy n from hops.new.items (slice_index tree.now.order.items (length tree.now.order.items - 1))) }
+pub(crate) fn walk_back(tree: &Tree, hops: &mut Vec<Hop>)
+    requires shaped { IsShaped tree.now.order.items tree.now.parents.items tree.now.ways.items }
+    requires room { length tree.now.order.items ≤ vec_capacity hops.old }
+    ensures walk { (n : SplitNetState) (from : Table) → IsGrown n from tree.now
+        → IsWalkBy n from hops.new.items (slice_index tree.now.order.items (length tree.now.order.items - 1)) }
+    ensures room { vec_capacity hops.new ≡ vec_capacity hops.old }
 {
     hops.clear();
     let mut at = tree.order.len() - 1;
     while at > 0 {
         let node = tree.order[at];
         let way = tree.ways[at];
-        hops.push(Hop { node, way })?;
+        hops.push_reserved(Hop { node, way });
         at = tree.parents[at] as usize;
     }
     hops.reverse();
-    Ok(())
 }
 
 /// Whether a step is by a link to a place on no path.

@@ -9,7 +9,7 @@ pub record GainsNode (g : LinkGraph) (id : ℕ) (h : LinkGraph) : Type 0 where
   pub nodes : h.nodes ≡ adding id g.nodes
   pub links : h.links ≡ g.links
 
--- h is g without the node id and its links
+-- h is g without the node id and its links. If id is no node, h is g
 pub record LosesNode (g : LinkGraph) (id : ℕ) (h : LinkGraph) : Type 0 where
   pub nodes : h.nodes ≡ without id g.nodes
   pub links : (l : ℕ × ℕ) → Has h.links l ↔ (Has g.links l × (l.0 ≢ id) × (l.1 ≢ id))

@@ -1,5 +1,6 @@
 //! Changes of a graph in its nodes and rows.
-ghost use Rattle.std.specs.Prelude.{◌≡◌, ◌≢◌, ◌↔◌, ℕ, ◌+◌, ◌*◌, ◌<◌, ◌≤◌, length, vec_len, vec_capacity, OnOk, OnErr};
+ghost use Rattle.std.specs.Prelude.{◌≡◌, ◌≢◌, ◌↔◌, ℕ, ◌+◌, ◌*◌, ◌<◌, ◌≤◌, length, slice_index, vec_len, vec_capacity};
+ghost use Rattle.std.specs.Prelude.{OnOk, OnErr};
 ghost use Rattle.std.specs.List.{insert};
 ghost use Rattle.ov_ids.specs.Members.{Has};
 ghost use Rattle.ov_graph.specs.Links.{LinkGraph, most_nodes};
@@ -37,16 +38,15 @@ pub(crate) fn put_in(
     Ok(())
 }
 
-/// Removes a node and its links.
-pub(crate) fn take_out(nodes: &mut Vec<NodeId>, rows: &mut Vec<Row>, id: NodeId)
+/// Removes the node at a place, and its links.
+pub(crate) fn take_out(nodes: &mut Vec<NodeId>, rows: &mut Vec<Row>, p: usize)
     requires kept { IsKept nodes.old.items rows.old.items }
-    requires node { Has nodes.old.items id }
+    requires place { p < length nodes.old.items }
     ensures kept { IsKept nodes.new.items rows.new.items }
-    ensures loses { LosesNode (graph_kept nodes.old.items rows.old.items) id
+    ensures loses { LosesNode (graph_kept nodes.old.items rows.old.items) (slice_index nodes.old.items p)
         (graph_kept nodes.new.items rows.new.items) }
 {
     let words = words_for(nodes.len());
-    let p = place_in(nodes, id);
     nodes.remove(p);
     rows.remove(p);
     close_all(rows, p, words);

@@ -44,9 +44,10 @@ impl Graph {
     /// The most nodes that a graph may have: 1,024.
     pub const MOST_NODES: usize = 64 * WORDS;
 
-    /// The graph of these nodes and links, or the first fault. The faults in order: more than 1,024 nodes, nodes that
-    /// do not ascend, then for each link that it does not join a node to a higher one, or does not come after the link
-    /// before it. Out of memory is returned only where there is no other fault.
+    /// The graph of these nodes and links, or the first fault. The faults in order: more than 1,024 nodes; a node that
+    /// is not above the node before it; then for each link that its second id is not above its first, that its first
+    /// or its second id is no node, or that it does not come after the link before it. Out of memory is returned only
+    /// if there is no other fault.
     pub fn new(
         alloc: Global,
         nodes: &[NodeId],
@@ -186,13 +187,14 @@ impl Graph {
         put_in(&mut self.nodes, &mut self.rows, id)
     }
 
-    /// Removes a node and its links. Nothing is allocated.
+    /// Removes a node and its links. Nothing changes if the id is no node. Nothing is allocated.
     pub fn remove_node(&mut self, id: NodeId)
-        requires { Has self.old.nodes id }
         ensures node { LosesNode self.old id self.new }
         ensures graph { IsGraph self.new }
     {
-        take_out(&mut self.nodes, &mut self.rows, id);
+        if let Some(p) = self.place(id) {
+            take_out(&mut self.nodes, &mut self.rows, p);
+        }
     }
 
     /// Links two different nodes. Nothing changes where they are linked already. Nothing is allocated.

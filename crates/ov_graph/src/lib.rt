@@ -13,7 +13,7 @@ mod row_shift;
 mod same;
 mod theorems;
 
-pub use fault::GraphFault;
+pub use fault::{GraphFault, LinkFlaw};
 pub use graph::Graph;
 pub use neighbours::{Links, Neighbours};
 pub use places::is_member;

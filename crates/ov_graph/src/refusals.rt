@@ -1,55 +1,92 @@
-ghost use Rattle.std.specs.Prelude.{◌≡◌, ◌↔◌, IsTrue, None};
+ghost use Rattle.std.specs.Prelude.{◌≡◌, None};
 ghost use Rattle.ov_ids.specs.Members.{Ascends};
-ghost use Rattle.ov_graph.specs.Code.Tests.{fault_of, links_fault, is_link, comes_after};
+ghost use Rattle.ov_graph.specs.Code.Tests.{fault_of, nodes_fault, links_fault, link_flaw, order_fault};
 
-use crate::fault::GraphFault;
+use crate::fault::{GraphFault, LinkFlaw};
 use crate::graph::Graph;
 use crate::places::is_member;
-use ov_ids::{NodeId, is_ascending};
+use ov_ids::NodeId;
 
 /// The first fault of nodes and links.
 pub(crate) fn first_fault(nodes: &[NodeId], links: &[(NodeId, NodeId)]) -> Option<GraphFault>
     ensures { result ≡ fault_of nodes.now links.now }
 {
-    if nodes.len() > Graph::MOST_NODES {
-        return Some(GraphFault::TooManyNodes);
+    let count = nodes.len();
+    if count > Graph::MOST_NODES {
+        let most = Graph::MOST_NODES;
+        return Some(GraphFault::TooManyNodes { count, most });
     }
-    if !is_ascending(nodes) {
-        return Some(GraphFault::Unordered);
+    if let Some(fault) = first_node_fault(nodes) {
+        return Some(fault);
     }
     first_link_fault(nodes, links)
 }
 
-fn first_link_fault(nodes: &[NodeId], links: &[(NodeId, NodeId)]) -> Option<GraphFault>
-    requires { Ascends nodes.now }
-    ensures { result ≡ links_fault nodes.now None links.now }
+/// The first node that is not above the node before it.
+fn first_node_fault(nodes: &[NodeId]) -> Option<GraphFault>
+    ensures { result ≡ nodes_fault 0 None nodes.now }
 {
-    let mut before = None;
-    for link in links {
-        if !joins(nodes, *link) {
-            return Some(GraphFault::BadLink);
+    let mut last = None;
+    for (at, node) in nodes.iter().enumerate() {
+        let node = *node;
+        if let Some(before) = last
+            && node <= before
+        {
+            return Some(GraphFault::UnorderedNode { at, node, before });
         }
-        if !is_above(before, *link) {
-            return Some(GraphFault::Unordered);
-        }
-        before = Some(*link);
+        last = Some(node);
     }
     None
 }
 
-fn joins(nodes: &[NodeId], link: (NodeId, NodeId)) -> bool
+/// The first link that does not join a node to a higher one, or does not come after the link before it.
+fn first_link_fault(nodes: &[NodeId], links: &[(NodeId, NodeId)]) -> Option<GraphFault>
     requires { Ascends nodes.now }
-    ensures { result ≡ is_link nodes.now link }
+    ensures { result ≡ links_fault nodes.now 0 None links.now }
 {
-    let (a, b) = link;
-    a < b && is_member(nodes, a) && is_member(nodes, b)
+    let mut last = None;
+    for (at, link) in links.iter().enumerate() {
+        if let Some(flaw) = flaw_of(nodes, *link) {
+            let link = *link;
+            return Some(GraphFault::BadLink { at, link, flaw });
+        }
+        if let Some(fault) = order_fault(at, last, *link) {
+            return Some(fault);
+        }
+        last = Some(*link);
+    }
+    None
 }
 
-fn is_above(before: Option<(NodeId, NodeId)>, link: (NodeId, NodeId)) -> bool
-    ensures { result ≡ comes_after before link }
+/// Why a link does not join a node to a higher one.
+fn flaw_of(nodes: &[NodeId], link: (NodeId, NodeId)) -> Option<LinkFlaw>
+    requires { Ascends nodes.now }
+    ensures { result ≡ link_flaw nodes.now link }
 {
-    match before {
-        Some((a, b)) => a < link.0 || a == link.0 && b < link.1,
-        None => true,
+    let (a, b) = link;
+    if b <= a {
+        return Some(LinkFlaw::NotUpward);
     }
+    if !is_member(nodes, a) {
+        return Some(LinkFlaw::NoNode(a));
+    }
+    if !is_member(nodes, b) {
+        return Some(LinkFlaw::NoNode(b));
+    }
+    None
+}
+
+/// The fault of a link that does not come after the link before it, by the first node, and then by the second.
+fn order_fault(
+    at: usize,
+    before: Option<(NodeId, NodeId)>,
+    link: (NodeId, NodeId),
+) -> Option<GraphFault>
+    ensures { result ≡ order_fault at before link }
+{
+    let before = before?;
+    if before.0 < link.0 || before.0 == link.0 && before.1 < link.1 {
+        return None;
+    }
+    Some(GraphFault::UnorderedLink { at, link, before })
 }

@@ -2,4 +2,5 @@ pub mod Steps
 pub mod Journal
 pub mod Messages
 pub mod Links
+pub mod OneStep
 mod Standing

@@ -19,9 +19,9 @@ use Rattle.ov_net.specs.Net.{Net, LivesAs}
 use Rattle.ov_net.specs.NetStep.{NetStep, Happens, TakesInput, LiveTakesInput, Received}
 use Rattle.ov_net.specs.Refusals.{MayHappen, EventJudged, ContactThen, BirthLast, PlacesLast}
 use Rattle.ov_net.specs.World.{WorldState, Stands, opening_world}
-use Rattle.ov_net.specs.declared.effects.Effects.{Effects}
-use Rattle.ov_net.specs.declared.entry_and_changes.Change.{Change}
-use Rattle.ov_net.specs.declared.entry_and_changes.Entry.{Entry}
+use Rattle.ov_net.specs.declared.planned_effects.Effects.{Effects}
+use Rattle.ov_net.specs.declared.journal_entry_and_changes.Change.{Change}
+use Rattle.ov_net.specs.declared.journal_entry_and_changes.Entry.{Entry}
 use Rattle.ov_net.specs.declared.event.Event.{Event}
 use Rattle.ov_net.specs.declared.event.Event.TheVariants.{Boot, Deliver, Lose, Repeat, Crash, CrashReport, Shuffle}
 use Rattle.ov_net.specs.declared.event.Event.TheVariants.{Broadcast, Timer, Snapshot}

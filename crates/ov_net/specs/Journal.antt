@@ -6,9 +6,9 @@ use Rattle.ov_ids.specs.Members.{Has}
 use Rattle.ov_ids.specs.declared.id.MsgId.{MsgId}
 use Rattle.ov_graph.specs.Links.{LinkGraph, IsGraph, Linked}
 use Rattle.ov_net.specs.declared.event.Event.TheVariants.{Broadcast}
-use Rattle.ov_net.specs.declared.entry_and_changes.Change.{Change}
-use Rattle.ov_net.specs.declared.entry_and_changes.Change.TheVariants.{Born, Up, Down, Gone}
-use Rattle.ov_net.specs.declared.entry_and_changes.Entry.{Entry}
+use Rattle.ov_net.specs.declared.journal_entry_and_changes.Change.{Change}
+use Rattle.ov_net.specs.declared.journal_entry_and_changes.Change.TheVariants.{Born, Up, Down, Gone}
+use Rattle.ov_net.specs.declared.journal_entry_and_changes.Entry.{Entry}
 
 -- all changes of these entries, in order
 abbrev pub changes_of : List Entry → List Change
@@ -49,7 +49,7 @@ abbrev pub HoldMutually : List Entry → ℕ → ℕ → ℕ → Type 0
 HoldMutually journal m a b =
     Live journal m a × Live journal m b × (a ≢ b) × HasActive journal m a b × HasActive journal m b a
 
--- g is the graph after the first m entries: its nodes are the live ones, and two of them are linked where each holds
+-- g is the graph after the first m entries: its nodes are the live ones, and two of them are linked if each holds
 -- the other
 pub record AreLinks (journal : List Entry) (m : ℕ) (g : LinkGraph) : Type 0 where
   pub graph : IsGraph g

@@ -12,9 +12,9 @@ use Rattle.ov_peer.specs.declared.input.Delivery.{Delivery}
 use Rattle.ov_peer.specs.declared.input.Input.{Input}
 use Rattle.ov_peer.specs.declared.input.Input.TheVariants as input
 use Rattle.ov_net.specs.Net.{Net, LivesAs, IsGone}
-use Rattle.ov_net.specs.declared.entry_and_changes.Change.{Change}
-use Rattle.ov_net.specs.declared.entry_and_changes.Change.TheVariants.{Born, Up, Down, Gone}
-use Rattle.ov_net.specs.declared.entry_and_changes.Entry.{Entry}
+use Rattle.ov_net.specs.declared.journal_entry_and_changes.Change.{Change}
+use Rattle.ov_net.specs.declared.journal_entry_and_changes.Change.TheVariants.{Born, Up, Down, Gone}
+use Rattle.ov_net.specs.declared.journal_entry_and_changes.Entry.{Entry}
 use Rattle.ov_net.specs.declared.event.Event.{Event}
 use Rattle.ov_net.specs.declared.event.Event.TheVariants.{Boot, Deliver, Lose, Repeat, Crash, CrashReport, Shuffle}
 use Rattle.ov_net.specs.declared.event.Event.TheVariants.{Broadcast, Timer, Snapshot}
@@ -62,8 +62,8 @@ Received w a message None words u changes delivery = OnlyPackets w w.packets u c
 
 -- what each event does. Boot: node a, which was never born, is born, and boots by its contact if there is one.
 -- Deliver: packet i is taken out, and its receiver handles it if it is alive. Lose: packet i is taken out. Repeat: a
--- packet equal to packet i goes last. Crash: a live node is gone for good. CrashReport: a live node is told that
--- another one crashed. Shuffle, Broadcast, Timer: a live node takes that input. Snapshot: nothing changes
+-- packet equal to packet i goes last. Crash: a live node is gone for good. CrashReport: a live node takes the
+-- report that another one crashed. Shuffle, Broadcast, Timer: a live node takes that input. Snapshot: nothing changes
 abbrev pub Happens : Net → Event → List ℕ → Net → List Change → Option Delivery → Type 0
 Happens w (Boot a contact) words u changes delivery =
     (map.get w.nodes a ≡ None) × (rest : List Change)

@@ -1,4 +1,4 @@
--- Why a world refuses an event. The refusals of each event stand in an order, and the first applicable one is returned.
+-- Why a world refuses an event. The refusals of each event have an order, and the first applicable one is returned.
 -- Chosen here.
 use Rattle.std.specs.Prelude.{◌≡◌, ◌≢◌, ℕ, ◌+◌, ◌<◌, ◌≤◌, IsTrue, length, Option, Some, None}
 use Rattle.std.specs.FinMap as map
@@ -68,7 +68,7 @@ PlacesLast w answer = HoldsThen (HasPlaces w) TooManyPackets Passed answer
 abbrev pub BirthLast : Net → Option NetFault → Type 0
 BirthLast w answer = HoldsThen (map.len w.nodes < most_world_nodes) TooManyNodes (PlacesLast w) answer
 
--- the first applicable refusal of each event but those of `StepJudged`, or None where there is none
+-- the first applicable refusal of each event but those of `StepJudged`, or None if there is none
 abbrev pub EventJudged : Net → Event → Option NetFault → Type 0
 EventJudged w (Boot a contact) answer =
     HoldsThen (map.get w.nodes a ≡ None) UsedId (ContactThen w contact (BirthLast w)) answer
@@ -87,7 +87,7 @@ EventJudged w (Broadcast a payload) answer =
 EventJudged w (Timer a id) answer = LiveThen w a (HoldsThen (HasTimer w a id) NoTimer (PlacesLast w)) answer
 EventJudged w Snapshot answer = Passed answer
 
--- the first applicable refusal of an event where the journal has so many entries, or None where there is none. That the
+-- the first applicable refusal of an event when the journal has this many entries, or None if there is none. That the
 -- journal is full is the first refusal of every event
 abbrev pub StepJudged : Net → ℕ → Event → Option NetFault → Type 0
 StepJudged w entries event answer = HoldsThen (entries < most_entries) TooManyEntries (EventJudged w event) answer
@@ -96,6 +96,6 @@ StepJudged w entries event answer = HoldsThen (entries < most_entries) TooManyEn
 abbrev pub MayHappen : Net → ℕ → Event → Type 0
 MayHappen w entries event = StepJudged w entries event None
 
--- the fault is the first applicable refusal, or out of memory where no refusal applies
+-- the fault is the first applicable refusal, or out of memory if no refusal applies
 abbrev pub IsRefusal : Net → ℕ → Event → NetFault → Type 0
 IsRefusal w entries event fault = IsRefusedBy OutOfMemory (StepJudged w entries event) fault

@@ -10,8 +10,8 @@ use Rattle.ov_plum.specs.PlumState.{HeldState}
 use Rattle.ov_net.specs.Journal.{changes_of, node_of, HasActive, Live, Delivers, DeliversOnce}
 use Rattle.ov_net.specs.Limits.{most_world_nodes, most_packets, most_entries}
 use Rattle.ov_net.specs.Net.{Net, LivesAs, HaveOwnIds}
-use Rattle.ov_net.specs.declared.entry_and_changes.Change.{Change}
-use Rattle.ov_net.specs.declared.entry_and_changes.Entry.{Entry}
+use Rattle.ov_net.specs.declared.journal_entry_and_changes.Change.{Change}
+use Rattle.ov_net.specs.declared.journal_entry_and_changes.Entry.{Entry}
 use Rattle.ov_net.specs.declared.event.Event.TheVariants.{Broadcast}
 
 -- the nodes and packets as they are now, and the journal of all events so far
@@ -56,7 +56,7 @@ pub record Traced (c : WorldState) : Type 0 where
       → WasBroadcast c.journal id payload → LivesAs c.net id.origin p → id.seq < p.tree.made
 
 -- the invariant of every world: it keeps the limits, its entries are numbered from 1, each node is stored under its
--- own id, the journal tells the views, and messages can be traced
+-- own id, the journal says who is alive and whom each node holds, and messages can be traced
 pub record Stands (c : WorldState) : Type 0 where
   pub nodes : map.len c.net.nodes ≤ most_world_nodes
   pub packets : length c.net.packets ≤ most_packets

@@ -16,7 +16,7 @@ pub enum Event {
     Repeat(u32),
     /// A node crashes, for good.
     Crash(NodeId),
-    /// The first node is told that the second one crashed.
+    /// The crash of the second node is reported to the first.
     CrashReport(NodeId, NodeId),
     /// A node starts a shuffle.
     Shuffle(NodeId),

@@ -55,7 +55,7 @@ impl World {
         }
     }
 
-    /// Refuses where there is no room for the packets of one step (15).
+    /// Refuses if there is no room for the packets of one step (15).
     #[tactic(auto, using(crate::proofs::Steps::Refusing::live_then, crate::proofs::Steps::Refusing::absent_then))]
     fn judge_places(&self) -> Result<(), NetFault>
         ensures { PlacesLast self.now.net (fault_in result) }
@@ -80,7 +80,7 @@ impl World {
         self.judge_birth()
     }
 
-    /// Refuses where 256 nodes were born (13), or there is no room for packets.
+    /// Refuses if 256 nodes were born (13), or there is no room for packets.
     fn judge_birth(&self) -> Result<(), NetFault>
         ensures { BirthLast self.now.net (fault_in result) }
     {
@@ -90,7 +90,7 @@ impl World {
         self.judge_places()
     }
 
-    /// Refuses where there is no packet at a place (14).
+    /// Refuses if there is no packet at a place (14).
     #[tactic(auto, using(crate::proofs::Steps::Refusing::live_then, crate::proofs::Steps::Refusing::absent_then))]
     fn judge_place(&self, place: u32) -> Result<(), NetFault>
         ensures { EventJudged self.now.net (Lose place) (fault_in result) }

@@ -8,12 +8,12 @@ ghost use Rattle.ov_net.specs.Refusals.{MayHappen, IsBorn, MayBroadcast, HasTime
 ghost use Rattle.ov_net.specs.declared.event.Event.TheVariants.{Boot, Deliver, Lose, Repeat, Crash};
 ghost use Rattle.ov_net.specs.declared.event.Event.TheVariants.{CrashReport, Shuffle, Broadcast, Timer};
 
-use crate::effects::{Effects, NodeChange};
-use crate::entry_and_changes::Change;
 use crate::event::Event;
+use crate::journal_entry_and_changes::Change;
 use crate::member::Member;
 use crate::node_planning::{effects_of_birth, effects_of_input};
 use crate::packet::Packet;
+use crate::planned_effects::{Effects, NodeChange};
 use crate::world::World;
 use ov_ids::{MsgId, NodeId, OutOfMemory, Seq};
 use ov_peer::{Input, Peer};
@@ -154,7 +154,7 @@ impl World {
         })
     }
 
-    /// The effects of a crash report: a live node is told that another node crashed.
+    /// The effects of a crash report: a node's crash is reported to a live node.
     fn effects_of_crash_report(
         &self,
         node: NodeId,

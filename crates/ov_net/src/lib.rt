@@ -2,24 +2,24 @@
 //! crash. A journal has an entry for each event.
 #![tactic(auto)]
 
-mod effects;
-mod entry_and_changes;
 mod event;
 mod event_judging;
 mod event_planning;
 mod fault;
+mod journal_entry_and_changes;
 mod member;
 mod mutual_links;
 mod node_planning;
 mod nodes;
 mod packet;
+mod planned_effects;
 mod theorems;
 mod world;
 
-pub use entry_and_changes::{Change, Entry};
 pub use event::Event;
 pub use fault::NetFault;
+pub use journal_entry_and_changes::{Change, Entry};
 pub use member::Member;
 pub use packet::Packet;
-pub use theorems::{links_stay, one_graph};
+pub use theorems::{links_stay, one_graph, one_step};
 pub use world::{MOST_ENTRIES, MOST_PACKETS, MOST_WORLD_NODES, STEP_PACKETS, World};

@@ -13,7 +13,7 @@ use std::alloc::Global;
 
 impl World {
     /// The graph of the links that both ends hold now, or out of memory (99). Its nodes are the live ones. Two of
-    /// them are linked where each holds the other in its active view. Chosen here.
+    /// them are linked if each holds the other in its active view. Chosen here.
     pub fn links(&self) -> Result<Graph, OutOfMemory>
         ensures { IfOk result (λ g. AreLinks self.now.journal (length self.now.journal) g) }
     {

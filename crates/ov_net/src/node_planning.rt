@@ -5,18 +5,26 @@ ghost use Rattle.ov_peer.specs.PeerState.{newborn};
 ghost use Rattle.ov_peer.specs.declared.input.Input.TheVariants.{Boot};
 ghost use Rattle.ov_net.specs.Code.Effects.{AreEffectsOfPlan, AreEffectsOfBirth, PlansInput, SendFew, AreFew};
 ghost use Rattle.ov_net.specs.NetStep.{change_at, DrawnStep};
-ghost use Rattle.ov_net.specs.declared.effects.NodeChange.TheVariants as change;
-ghost use Rattle.ov_net.specs.declared.entry_and_changes.Change.TheVariants.{Born};
+ghost use Rattle.ov_net.specs.declared.planned_effects.NodeChange.TheVariants as change;
+ghost use Rattle.ov_net.specs.declared.journal_entry_and_changes.Change.TheVariants.{Born};
 
-use crate::effects::{Effects, NodeChange};
-use crate::entry_and_changes::{Change, copy_delivery};
+use crate::journal_entry_and_changes::{Change, copy_delivery};
 use crate::packet::Packet;
+use crate::planned_effects::{Effects, NodeChange};
 use ov_ids::{NodeId, OutOfMemory, Params, Seq};
-use ov_peer::{Input, Output, Peer, PeerFault, Plan};
+use ov_peer::{Delivery, Input, Output, Peer, PeerFault, Plan};
 use ov_views::ViewChange;
 use ov_wire::Message;
 use ov_words::Words;
 use std::alloc::Global;
+
+/// What a step of a node adds to its world: packets, changes for the journal, and what the node delivers.
+#[derive(Drop)]
+struct Additions {
+    packets: Vec<Packet>,
+    changes: Seq<Change>,
+    delivery: Option<Delivery>,
+}
 
 /// The effects of a live node taking an input. The node is not changed; its change is returned as a plan. The packet
 /// at the named place, if there is one, is taken out.
@@ -34,10 +42,14 @@ pub(crate) fn effects_of_input(
     ensures few { IfOk result SendFew }
 {
     let plan = plan_of(peer, input, words)?;
-    let mut effects = effects_of_plan(alloc, node, &plan)?;
-    effects.taken = taken;
-    effects.node = Some((node, NodeChange::Follows(plan)));
-    Ok(effects)
+    let added = additions_of_plan(alloc, node, &plan)?;
+    Ok(Effects {
+        taken,
+        node: Some((node, NodeChange::Follows(plan))),
+        packets: added.packets,
+        changes: added.changes,
+        delivery: added.delivery,
+    })
 }
 
 /// The plan by which a live node takes an input that it may take.
@@ -55,9 +67,8 @@ fn plan_of(peer: &Peer, input: Input, words: &Words) -> Result<Plan, OutOfMemory
     }
 }
 
-/// What a plan of a node sends and delivers, and how it changes the active view, as effects in which no node changes
-/// yet.
-fn effects_of_plan(alloc: Global, node: NodeId, plan: &Plan) -> Result<Effects, OutOfMemory>
+/// What a plan of a node sends and delivers, and how it changes the active view.
+fn additions_of_plan(alloc: Global, node: NodeId, plan: &Plan) -> Result<Additions, OutOfMemory>
     requires { AreSendsInRange plan.now.sends.items }
     ensures packets { IfOk result (λ b. b.packets.items ≡ plan.now.sends.items) }
     ensures changes { IfOk result (λ b. b.changes ≡ map (change_at node) plan.now.changes.items) }
@@ -66,9 +77,7 @@ fn effects_of_plan(alloc: Global, node: NodeId, plan: &Plan) -> Result<Effects, 
     let packets = packets_of(alloc, &plan.sends)?;
     let changes = journal_changes(alloc, node, &plan.changes)?;
     let delivery = copy_delivery(alloc, &plan.delivered)?;
-    Ok(Effects {
-        taken: None,
-        node: None,
+    Ok(Additions {
         packets,
         changes,
         delivery,
@@ -87,29 +96,37 @@ pub(crate) fn effects_of_birth(
     ensures few { IfOk result SendFew }
 {
     let mut peer = Peer::new(alloc, node, params);
-    let mut effects = boot_newborn(alloc, node, &mut peer, contact, words)?;
-    effects.node = Some((node, NodeChange::Born(peer)));
-    Ok(effects)
+    let added = boot_newborn(alloc, node, &mut peer, contact, words)?;
+    Ok(Effects {
+        taken: None,
+        node: Some((node, NodeChange::Born(peer))),
+        packets: added.packets,
+        changes: added.changes,
+        delivery: added.delivery,
+    })
 }
 
-/// Boots a node that is being born. Returns the effects, in which no node changes yet.
+/// Boots a node that is being born. Returns what its first step and its birth add to the world.
 fn boot_newborn(
     alloc: Global,
     node: NodeId,
     peer: &mut Peer,
     contact: Option<NodeId>,
     words: &Words,
-) -> Result<Effects, OutOfMemory>
-    ensures effects { IfOk result (λ b. AreEffectsOfBirth node peer.old (Boot contact) words.now
-        (record b { node = Some (node, change.Born peer.new) })) }
-    ensures few { IfOk result SendFew }
+) -> Result<Additions, OutOfMemory>
+    ensures effects { IfOk result (λ b. AreEffectsOfBirth node peer.old (Boot contact) words.now (record {
+      taken = None;
+      node = Some (node, change.Born peer.new);
+      packets = b.packets;
+      changes = b.changes;
+      delivery = b.delivery;
+    })) }
+    ensures few { IfOk result (λ b. AreFew b.packets.items) }
 {
     let output = boot(peer, contact, words)?;
     let packets = packets_of(alloc, &output.sends)?;
     let changes = birth_changes(alloc, node, &output.changes)?;
-    Ok(Effects {
-        taken: None,
-        node: None,
+    Ok(Additions {
         packets,
         changes,
         delivery: output.delivered,

@@ -3,7 +3,7 @@ ghost use Rattle.std.specs.Option.{option_copied};
 ghost use Rattle.std.specs.FinMap as map;
 ghost use Rattle.ov_peer.specs.PeerState.{PeerState};
 ghost use Rattle.ov_net.specs.Code.Effects.{CanChange, NodeChanges};
-ghost use Rattle.ov_net.specs.declared.effects.NodeChange.TheVariants.{Follows};
+ghost use Rattle.ov_net.specs.declared.planned_effects.NodeChange.TheVariants.{Follows};
 ghost use Rattle.ov_net.specs.declared.member.Member.TheVariants.{Live, Gone};
 ghost use Rattle.ov_net.specs.Code.Scan.{AreLive};
 

@@ -2,7 +2,7 @@ ghost use Rattle.std.specs.Prelude.{◌≡◌, ◌≤◌, ◌<◌, ◌+◌, ◌+
 ghost use Rattle.std.specs.Prelude.{IfOk, IfErr, IfSome, IfNone, OnOk, OnErr, IsTrue};
 ghost use Rattle.ov_peer.specs.PeerState.{PeerState};
 ghost use Rattle.ov_net.specs.Code.Effects.{AreEffects, HaveRoom, IsWithin, taking};
-ghost use Rattle.ov_net.specs.Code.Effects.{CanChange, NodeChanges, NamedCanChange, NamedNodeChanges};
+ghost use Rattle.ov_net.specs.Code.Effects.{NamedCanChange, NamedNodeChanges};
 ghost use Rattle.ov_net.specs.Journal.{DeliversOnce};
 ghost use Rattle.ov_net.specs.Limits.{most_packets, most_entries};
 ghost use Rattle.ov_net.specs.Net.{LivesAs};
@@ -10,13 +10,13 @@ ghost use Rattle.ov_net.specs.NetStep.{NetStep};
 ghost use Rattle.ov_net.specs.Refusals.{MayHappen, IsBorn, IsRefusal};
 ghost use Rattle.ov_net.specs.World.{Stands, opening_world};
 
-use crate::effects::{Effects, NodeChange};
-use crate::entry_and_changes::Entry;
 use crate::event::Event;
 use crate::fault::NetFault;
+use crate::journal_entry_and_changes::Entry;
 use crate::member::Member;
 use crate::nodes::Nodes;
 use crate::packet::Packet;
+use crate::planned_effects::{Effects, NodeChange};
 use ov_ids::{NodeId, OutOfMemory, Params};
 use ov_peer::Peer;
 use ov_words::Words;
@@ -29,20 +29,32 @@ pub const MOST_WORLD_NODES: usize = 256;
 /// The most packets that may be on their way. Chosen here.
 pub const MOST_PACKETS: usize = 65_536;
 
-/// The most packets that one step may send. So many places must be free before it.
+/// The most packets that one step may send. As many places must be free before it.
 pub const STEP_PACKETS: usize = 64;
 
 /// The most entries that the journal may have. Chosen here.
 pub const MOST_ENTRIES: usize = 65_536;
 
 /// A world of nodes, and its journal. Contracts see it as a `WorldState`.
-#[derive(Drop)]
 pub struct World {
     pub(crate) alloc: Global,
     pub(crate) params: Params,
     pub(crate) nodes: Nodes,
     pub(crate) packets: Vec<Packet>,
     pub(crate) journal: Vec<Entry>,
+}
+
+impl Drop for World {
+    /// Drops the parts. It is written by hand since a call is proved faster than the same drops at each exit.
+    fn drop(self) {
+        let World {
+            alloc: _,
+            params: _,
+            nodes: _,
+            packets: _,
+            journal: _,
+        } = self;
+    }
 }
 
 impl Model for World {
@@ -111,7 +123,7 @@ impl World {
     }
 
     /// One event; its random choices are drawn from the words. Returns the event's entry, which goes last in the
-    /// journal, or the first applicable refusal (10 to 20), or out of memory (99) where no refusal applies. After a
+    /// journal, or the first applicable refusal (10 to 20), or out of memory (99) if no refusal applies. After a
     /// fault the world is unchanged. Events and refusals are chosen here; a node takes its input by HyParView and
     /// Plumtree.
     pub fn step(&mut self, event: Event, words: &Words) -> Result<Entry, NetFault>
@@ -167,7 +179,7 @@ impl World {
     }
 }
 
-/// Reserves room for an entry and so many packets, copies the entry, and changes the named node, if there is one.
+/// Reserves room for an entry and `count` packets, copies the entry, and changes the named node, if there is one.
 /// Returns the copy. Out of memory, nothing changes.
 fn reserve_and_change(
     alloc: Global,
@@ -192,7 +204,7 @@ fn reserve_and_change(
     Ok(answer)
 }
 
-/// Reserves room for an entry and so many packets, and returns a copy of the entry. Packets and journal stay the same.
+/// Reserves room for an entry and `count` packets, and returns a copy of the entry. Packets and journal stay the same.
 fn reserve_and_copy(
     alloc: Global,
     packets: &mut Vec<Packet>,
@@ -229,21 +241,8 @@ fn change_named_node(
     ensures err { OnErr result (nodes.new ≡ nodes.old) }
 {
     match node {
-        Some((id, change)) => change_node(nodes, id, change),
+        Some((id, change)) => change.make(nodes, id),
         None => Ok(()),
-    }
-}
-
-/// Changes a node: it is born, follows its plan, or crashes. Out of memory, nothing changes.
-fn change_node(nodes: &mut Nodes, id: NodeId, change: NodeChange) -> Result<(), OutOfMemory>
-    requires { CanChange id change nodes.old }
-    ensures ok { OnOk result (NodeChanges id change nodes.old nodes.new) }
-    ensures err { OnErr result (nodes.new ≡ nodes.old) }
-{
-    match change {
-        NodeChange::Born(peer) => nodes.put(id, Member::Live(peer)),
-        NodeChange::Follows(plan) => nodes.follow(id, plan),
-        NodeChange::Crashes => nodes.put(id, Member::Gone),
     }
 }
 

@@ -1,13 +1,7 @@
-ghost use Rattle.std.specs.Prelude.{◌≡◌, ◌++◌, IfOk, codes, string_bytes};
-ghost use Rattle.ov_reasons.specs.Paragraphs.{paragraph};
-ghost use Rattle.ov_reasons.specs.Counts.{events_word, count_line};
-ghost use Rattle.ov_reasons.specs.Refused.{TellsOfLine};
-
-use crate::analysis_texts::{analysis_reason, look_reason};
-use crate::event_texts::event_reason;
-use crate::line_explanation::push_line;
+use crate::event_texts::push_event_reason;
+use crate::look_and_analysis_texts::{push_analysis_reason, push_look_reason};
 use ov_ids::OutOfMemory;
-use ov_run::Line;
+use ov_scenario::Line;
 use ov_snap::Core;
 use std::alloc::Global;
 
@@ -18,39 +12,25 @@ pub fn refusal_reason(
     core: &Core,
     line: &Line,
     number: u32,
-) -> Result<String, OutOfMemory>
-    ensures { IfOk result (λ text. TellsOfLine core.now line.now number (string_bytes text)) }
-{
+) -> Result<String, OutOfMemory> {
+    let mut text = String::new(alloc);
     match line {
-        Line::Event { event, .. } => event_reason(alloc, core.world(), event, number),
-        Line::Look(look) => look_reason(alloc, look, number),
-        Line::Analyse { subject, .. } => analysis_reason(alloc, core, subject, number),
+        Line::Event { event, .. } => push_event_reason(&mut text, core.world(), event, number)?,
+        Line::Look(look) => push_look_reason(&mut text, look, number)?,
+        Line::Analyse { subject, .. } => push_analysis_reason(&mut text, core, subject, number)?,
     }
+    Ok(text)
 }
 
 /// The line that tells of a refused line of a file, by its number, and why it was refused. It ends with a line feed.
 /// OutOfMemory (99) where an allocation is refused.
-pub fn refusal_line(alloc: Global, number: usize, reason: &str) -> Result<String, OutOfMemory>
-    ensures { IfOk result (λ text. string_bytes text ≡ paragraph number (reason.now ++ codes "\n")) }
-{
-    let mut text = String::new(alloc);
-    push_line(&mut text, number, reason)?;
-    text.push_str("\n")?;
-    Ok(text)
+pub fn refusal_line(alloc: Global, number: usize, reason: &str) -> Result<String, OutOfMemory> {
+    Ok(format!(in alloc; "line {number}: {reason}\n")?)
 }
 
 /// The line that tells how many events were accepted and refused. It ends with a line feed. OutOfMemory (99) where an
 /// allocation is refused.
-pub fn count_line(alloc: Global, accepted: u64, refused: u64) -> Result<String, OutOfMemory>
-    ensures { IfOk result (λ text. string_bytes text ≡ count_line accepted refused) }
-{
-    let events = events_word(accepted);
+pub fn count_line(alloc: Global, accepted: u64, refused: u64) -> Result<String, OutOfMemory> {
+    let events = if accepted == 1 { "event" } else { "events" };
     Ok(format!(in alloc; "{accepted} {events} accepted, {refused} refused\n")?)
-}
-
-/// The word for so many events.
-fn events_word(count: u64) -> &'static str
-    ensures { result.now ≡ events_word count }
-{
-    if count == 1 { "event" } else { "events" }
 }

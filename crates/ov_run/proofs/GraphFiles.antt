@@ -1,6 +1,2 @@
--- Graph files, and what their analysis prints.
+-- What the analysis of a graph file prints.
 pub mod Answered
-pub mod FaultLines
-pub mod Gathering
-pub mod Unread
-pub mod Walking

@@ -1,6 +1,5 @@
-pub mod Asked
 pub mod GraphFiles
-pub mod Lines
+pub mod OfReader
 pub mod Printing
+pub mod Refused
 pub mod Reports
-pub mod Scenarios

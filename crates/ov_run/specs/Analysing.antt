@@ -10,13 +10,13 @@ use Rattle.ov_even.specs.Answer.{IsAnswer}
 use Rattle.ov_even.specs.Faults as even
 use Rattle.ov_even.specs.declared.fault.AnalyseFault.TheVariants.{NoNodes, BadGroup}
 use Rattle.ov_run.specs.Faults.{read_faults, write_faults, IsAnalysisFault}
-use Rattle.ov_run.specs.GraphFiles.{IsGraphFile}
+use Rattle.ov_graphfile.specs.GraphFiles.{IsGraphFile}
 use Rattle.ov_run.specs.Printed.{report_line, file_text, refused_line}
 use Rattle.ov_run.specs.Subjects.{members_of}
 use Rattle.ov_run.specs.declared.run_fault.RunFault.{RunFault}
 use Rattle.ov_run.specs.declared.run_fault.RunFault.TheVariants.{Read, Write}
 
--- the line of an answer, for moment 0; the certificate file follows it where that is asked for
+-- the line of an answer, for moment 0; the certificate file follows it if that is asked for
 unfoldable pub answer_text : Cert → LinkGraph → List ℕ → Bool → List ℕ
 answer_text c g q false = report_line 0 c g q
 answer_text c g q true = report_line 0 c g q ++ file_text c g q 0
@@ -35,7 +35,7 @@ pub record IsAnalysis (bytes : List ℕ) (group : Option (List ℕ)) (certificat
   pub says : IsGraphFile bytes graph
   pub prints : PrintsAnswer graph (members_of group graph) certificate text
 
--- all that the reader had was read, and the writer took the text of the analysis behind what it held
+-- all that the reader had was read, and the writer took the text of the analysis after what it held
 abbrev pub PrintsAnalysis : Option (List ℕ) → Option (List ℕ) → Bool → Option (List ℕ) → Option (List ℕ) → Type 0
 PrintsAnalysis reader group certificate before after =
     (bytes : List ℕ) × (text : List ℕ) × IfSome reader (λ xs. bytes ≡ xs) × IsAnalysis bytes group certificate text
@@ -47,31 +47,37 @@ BeginsAnalysis reader group certificate before after =
     (bytes : List ℕ) × (text : List ℕ) × IfSome reader (λ xs. bytes ≡ xs) × IsAnalysis bytes group certificate text
     × AppendsPrefixOf text before after
 
--- An analysis of a graph file, from a source and a sink before it to what they are after it. `remaining` are the bytes
--- that a reader still has, and `contents` those that a writer holds, where they are known. The analysis is of this
--- group, or of all nodes without it, and `certificate` asks for the certificate file too.
-pub record IsFileAnalysis {R W : Type 0} (remaining : R → Option (List ℕ)) (contents : W → Option (List ℕ))
-    (source_before : SourceState R) (sink_before : SinkState W) (group : Option (List ℕ)) (certificate : Bool)
-    (source_after : SourceState R) (sink_after : SinkState W) (result : Result ℕ RunFault) : Type 0 where
+-- An analysis of the graph file of a reader that had these bytes, if they are known, from a sink before it to what it
+-- is after it. `contents` are the bytes that a writer holds, if they are known. The analysis is of this group, or of
+-- all nodes without it, and `certificate` asks for the certificate file too.
+pub record IsAnalysisOf {W : Type 0} (reader : Option (List ℕ)) (contents : W → Option (List ℕ))
+    (sink_before : SinkState W) (group : Option (List ℕ)) (certificate : Bool) (sink_after : SinkState W)
+    (result : Result ℕ RunFault) : Type 0 where
   -- without fault, status 0 is returned
   pub status : IfOk result (λ status. status ≡ 0)
-  -- without fault, the writer took the text of the analysis behind what it held, and nothing else
+  -- without fault, the writer took the text of the analysis after what it held, and nothing else
   pub prints : OnOk result
-      (PrintsAnalysis (remaining source_before.reader) group certificate (contents sink_before.writer)
-      (contents sink_after.writer))
+      (PrintsAnalysis reader group certificate (contents sink_before.writer) (contents sink_after.writer))
   -- however it ends, the sink is as before, or the writer took a prefix of the text of the analysis
   pub begun : (sink_after ≡ sink_before)
-      ⊎ BeginsAnalysis (remaining source_before.reader) group certificate (contents sink_before.writer)
-      (contents sink_after.writer)
-  -- after Read the source counts one fault more, and else as many as before
-  pub source : source_after.faults ≡ source_before.faults + read_faults result
-  -- Read is returned only where the reader failed in this analysis
-  pub failed : IsErrOf result Read → ReaderFailed source_before source_after
-  -- after anything but Read no read of this analysis failed
-  pub not_failed : result ≢ Err Read → source_after.failures ≡ source_before.failures
+      ⊎ BeginsAnalysis reader group certificate (contents sink_before.writer) (contents sink_after.writer)
   -- after Write the sink counts one fault more, and else as many as before
   pub sink : sink_after.faults ≡ sink_before.faults + write_faults result
   -- after any fault but Write, the sink is as before
   pub unwritten : IfErr result (λ f. ¬ (f ≡ Write) → sink_after ≡ sink_before)
-  -- a fault of a line or of the graph is that of the file, and no fault is one of the parameters
-  pub fault : IfErr result (IsAnalysisFault (remaining source_before.reader))
+  -- a fault of a line or of the graph is that of the file, and no fault is one of parameters
+  pub fault : IfErr result (IsAnalysisFault reader)
+
+-- An analysis of a graph file, from a source and a sink before it to what they are after it. `remaining` are the bytes
+-- that a reader still has, if they are known.
+pub record IsFileAnalysis {R W : Type 0} (remaining : R → Option (List ℕ)) (contents : W → Option (List ℕ))
+    (source_before : SourceState R) (sink_before : SinkState W) (group : Option (List ℕ)) (certificate : Bool)
+    (source_after : SourceState R) (sink_after : SinkState W) (result : Result ℕ RunFault) : Type 0 where
+  -- it is an analysis of the graph file of the source's reader
+  pub analysis : IsAnalysisOf (remaining source_before.reader) contents sink_before group certificate sink_after result
+  -- after Read the source counts one fault more, and else as many as before
+  pub source : source_after.faults ≡ source_before.faults + read_faults result
+  -- Read is returned only if the reader failed in this analysis
+  pub failed : IsErrOf result Read → ReaderFailed source_before source_after
+  -- after anything but Read no read of this analysis failed
+  pub not_failed : result ≢ Err Read → source_after.failures ≡ source_before.failures

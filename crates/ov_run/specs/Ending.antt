@@ -1,21 +1,21 @@
--- What a run has printed where it ended early. Each line is then printed whole or not at all, but `packets`, whose
+-- What a run has printed if it ended early. Each line is then printed whole or not at all, but `packets`, whose
 -- packets are printed one by one. Chosen here.
 use Rattle.std.specs.Prelude.{◌≡◌, ◌⊎◌, ℕ, List, [], ◌∷◌, ◌++◌, Option, IfSome, take}
 use Rattle.std.specs.Io.KnownBytes.{Appends}
 use Rattle.ov_io.specs.Device.{AppendsPrefixOf}
 use Rattle.ov_net.specs.Net.{LivesAs}
-use Rattle.ov_net.specs.declared.entry_and_changes.Entry.{Entry}
+use Rattle.ov_net.specs.declared.journal_entry_and_changes.Entry.{Entry}
 use Rattle.ov_peer.specs.PeerState.{PeerState}
 use Rattle.ov_wire.specs.declared.message.Message.{Message}
 use Rattle.ov_snap.specs.CoreState.{CoreState, opening_core}
 use Rattle.ov_snap.specs.Run.{Happened}
 use Rattle.ov_run.specs.Running.{PrintsLine, PrintsPackets}
-use Rattle.ov_run.specs.Scenarios.{IsScenario}
-use Rattle.ov_run.specs.declared.scenario.Line.{Line}
-use Rattle.ov_run.specs.declared.scenario.Line.TheVariants as line
-use Rattle.ov_run.specs.declared.scenario.Look.{Look}
-use Rattle.ov_run.specs.declared.scenario.Look.TheVariants.{Show, Packets, Certificate}
-use Rattle.ov_run.specs.declared.scenario.Scenario.{Scenario}
+use Rattle.ov_scenario.specs.Scenarios.{IsScenario}
+use Rattle.ov_scenario.specs.declared.scenario.Line.{Line}
+use Rattle.ov_scenario.specs.declared.scenario.Line.TheVariants as line
+use Rattle.ov_scenario.specs.declared.scenario.Look.{Look}
+use Rattle.ov_scenario.specs.declared.scenario.Look.TheVariants.{Show, Packets, Certificate}
+use Rattle.ov_scenario.specs.declared.scenario.Scenario.{Scenario}
 
 -- ---- however it ended
 
@@ -56,7 +56,7 @@ Begins reader before after =
     (bytes : List ℕ) × (text : List ℕ) × IfSome reader (λ xs. bytes ≡ xs) × IsBegun bytes text
     × AppendsPrefixOf text before after
 
--- ---- where it ended out of memory
+-- ---- if it ended out of memory
 
 -- a look that ends a run out of memory, and what it printed: a node that lives, of which nothing was printed, or
 -- packets, of which the first were. A certificate ends no run: it prints `refused 99`

@@ -7,9 +7,9 @@ use Rattle.ov_certfile.specs.CertLine.{cert_text}
 use Rattle.ov_certfile.specs.DataOf.{data_of}
 use Rattle.ov_graph.specs.Links.{LinkGraph}
 use Rattle.ov_ids.specs.Text.{ids_text}
-use Rattle.ov_net.specs.declared.entry_and_changes.Change.{Change}
-use Rattle.ov_net.specs.declared.entry_and_changes.Change.TheVariants.{Born, Up, Down, Gone}
-use Rattle.ov_net.specs.declared.entry_and_changes.Entry.{Entry}
+use Rattle.ov_net.specs.declared.journal_entry_and_changes.Change.{Change}
+use Rattle.ov_net.specs.declared.journal_entry_and_changes.Change.TheVariants.{Born, Up, Down, Gone}
+use Rattle.ov_net.specs.declared.journal_entry_and_changes.Entry.{Entry}
 use Rattle.ov_peer.specs.declared.input.Delivery.{Delivery}
 use Rattle.ov_peer.specs.PeerState.{PeerState}
 
@@ -40,7 +40,7 @@ refused_line number = codes "refused " ++ (decimal number ++ codes "\n")
 unfoldable pub report_line : ℕ → Cert → LinkGraph → List ℕ → List ℕ
 report_line m c g q = codes "report " ++ (decimal m ++ (codes " " ++ (cert_text c g q ++ codes "\n")))
 
--- the certificate file of this certificate, graph, group and moment, with a line feed behind it
+-- the certificate file of this certificate, graph, group and moment, and a line feed
 abbrev pub file_text : Cert → LinkGraph → List ℕ → ℕ → List ℕ
 file_text c g q m = compact_text (data_of c g q m) ++ codes "\n"
 

@@ -7,32 +7,37 @@ use Rattle.ov_run.specs.Running.{PrintsScenario}
 use Rattle.ov_run.specs.declared.run_fault.RunFault.{RunFault}
 use Rattle.ov_run.specs.declared.run_fault.RunFault.TheVariants.{Read, OutOfMemory}
 
--- A run, from a source and a sink before it to what they are after it. `remaining` are the bytes that a reader still
--- has, and `contents` those that a writer holds, where they are known.
-pub record IsRun {R W : Type 0} (remaining : R → Option (List ℕ)) (contents : W → Option (List ℕ))
-    (source_before : SourceState R) (sink_before : SinkState W) (source_after : SourceState R)
-    (sink_after : SinkState W) (result : Result ℕ RunFault) : Type 0 where
+-- A run of the scenario of a reader that had these bytes, if they are known, from a sink before it to what it is after
+-- it. `contents` are the bytes that a writer holds, if they are known.
+pub record IsRunOf {W : Type 0} (reader : Option (List ℕ)) (contents : W → Option (List ℕ))
+    (sink_before sink_after : SinkState W) (result : Result ℕ RunFault) : Type 0 where
   -- without fault, status 0 is returned
   pub status : IfOk result (λ status. status ≡ 0)
-  -- without fault, the writer took what the scenario prints behind what it held, and nothing else
-  pub prints : OnOk result
-      (PrintsScenario (remaining source_before.reader) (contents sink_before.writer) (contents sink_after.writer))
+  -- without fault, the writer took what the scenario prints after what it held, and nothing else
+  pub prints : OnOk result (PrintsScenario reader (contents sink_before.writer) (contents sink_after.writer))
   -- however it ends, the sink is as before, or the writer took a prefix of what the scenario prints up to some point
-  pub begun : (sink_after ≡ sink_before)
-      ⊎ Begins (remaining source_before.reader) (contents sink_before.writer) (contents sink_after.writer)
-  -- after Read the source counts one fault more, and else as many as before
-  pub source : source_after.faults ≡ source_before.faults + read_faults result
-  -- Read is returned only where the reader failed in this run
-  pub failed : IsErrOf result Read → ReaderFailed source_before source_after
-  -- after anything but Read no read of this run failed
-  pub not_failed : result ≢ Err Read → source_after.failures ≡ source_before.failures
+  pub begun : (sink_after ≡ sink_before) ⊎ Begins reader (contents sink_before.writer) (contents sink_after.writer)
   -- after Write the sink counts one fault more, and else as many as before
   pub sink : sink_after.faults ≡ sink_before.faults + write_faults result
   -- a fault of a line is that of the first line at fault, and no fault is one of a graph
-  pub fault : IfErr result (IsRunFault (remaining source_before.reader))
+  pub fault : IfErr result (IsRunFault reader)
   -- after a fault of reading, Line, Params or Read, the sink is as before
   pub unread : IfErr result (λ fault. IsOfReading fault → sink_after ≡ sink_before)
   -- after OutOfMemory the sink is as before, or the writer took all that the scenario prints up to the line that ends
   -- the run so
-  pub memory : IsErrOf result OutOfMemory → (sink_after ≡ sink_before)
-      ⊎ Ends (remaining source_before.reader) (contents sink_before.writer) (contents sink_after.writer)
+  pub memory : IsErrOf result OutOfMemory
+      → (sink_after ≡ sink_before) ⊎ Ends reader (contents sink_before.writer) (contents sink_after.writer)
+
+-- A run, from a source and a sink before it to what they are after it. `remaining` are the bytes that a reader still
+-- has, if they are known.
+pub record IsRun {R W : Type 0} (remaining : R → Option (List ℕ)) (contents : W → Option (List ℕ))
+    (source_before : SourceState R) (sink_before : SinkState W) (source_after : SourceState R)
+    (sink_after : SinkState W) (result : Result ℕ RunFault) : Type 0 where
+  -- it is a run of the scenario of the source's reader
+  pub run : IsRunOf (remaining source_before.reader) contents sink_before sink_after result
+  -- after Read the source counts one fault more, and else as many as before
+  pub source : source_after.faults ≡ source_before.faults + read_faults result
+  -- Read is returned only if the reader failed in this run
+  pub failed : IsErrOf result Read → ReaderFailed source_before source_after
+  -- after anything but Read no read of this run failed
+  pub not_failed : result ≢ Err Read → source_after.failures ≡ source_before.failures

@@ -8,7 +8,7 @@ use Rattle.ov_wire.specs.declared.message.Message.{Message}
 use Rattle.ov_peer.specs.PeerState.{PeerState}
 use Rattle.ov_net.specs.Net.{Net, LivesAs, IsGone}
 use Rattle.ov_net.specs.Refusals as net
-use Rattle.ov_net.specs.declared.entry_and_changes.Entry.{Entry}
+use Rattle.ov_net.specs.declared.journal_entry_and_changes.Entry.{Entry}
 use Rattle.ov_net.specs.declared.event.Event.{Event}
 use Rattle.ov_net.specs.declared.fault.NetFault.{NetFault}
 use Rattle.ov_net.specs.declared.fault.NetFault.TheVariants.{UnknownNode, CrashedNode}
@@ -20,14 +20,14 @@ use Rattle.ov_ids.specs.FaultOrder.{IsRefusedBy}
 use Rattle.ov_snap.specs.Run.{Happened}
 use Rattle.ov_snap.specs.declared.fault.CoreFault.{CoreFault}
 use Rattle.ov_run.specs.Printed.{entry_line, refused_line, report_line, file_text, node_line, packet_line}
-use Rattle.ov_run.specs.Scenarios.{IsScenario}
+use Rattle.ov_scenario.specs.Scenarios.{IsScenario}
 use Rattle.ov_run.specs.Subjects.{IsReportOf, AnalysisJudged, WasAnalysed}
-use Rattle.ov_run.specs.declared.scenario.Line.{Line}
-use Rattle.ov_run.specs.declared.scenario.Line.TheVariants as line
-use Rattle.ov_run.specs.declared.scenario.Look.{Look}
-use Rattle.ov_run.specs.declared.scenario.Look.TheVariants.{Show, Packets, Certificate}
-use Rattle.ov_run.specs.declared.scenario.Scenario.{Scenario}
-use Rattle.ov_run.specs.declared.scenario.Subject.{Subject}
+use Rattle.ov_scenario.specs.declared.scenario.Line.{Line}
+use Rattle.ov_scenario.specs.declared.scenario.Line.TheVariants as line
+use Rattle.ov_scenario.specs.declared.scenario.Look.{Look}
+use Rattle.ov_scenario.specs.declared.scenario.Look.TheVariants.{Show, Packets, Certificate}
+use Rattle.ov_scenario.specs.declared.scenario.Scenario.{Scenario}
+use Rattle.ov_scenario.specs.declared.scenario.Subject.{Subject}
 
 -- an event happens and its entry is printed, or it is refused, nothing changes, and the number of the refusal is
 -- printed
@@ -52,14 +52,14 @@ PrintsNode w id text =
     ⊎ ((¬ net.IsBorn w id) × (text ≡ refused_line (net.number_of UnknownNode)))
     ⊎ (IsGone w id × (text ≡ refused_line (net.number_of CrashedNode)))
 
--- packets in order, each by the bytes that spell its message; the first of them stands at this place
+-- packets in order, each by the bytes that spell its message; the first of them has this place
 abbrev pub PrintsPackets : ℕ → List (ℕ × Message) → List ℕ → Type 0
 PrintsPackets place [] text = text ≡ []
 PrintsPackets place (packet ∷ packets) text =
     (bytes : List ℕ) × (others : List ℕ) × Spelling packet.1 bytes × PrintsPackets (place + 1) packets others
     × (text ≡ packet_line place packet.0 bytes ++ others)
 
--- the certificate file of the report that is filed for this subject, or the refusal of out of memory (99) where the
+-- the certificate file of the report that is filed for this subject, or the refusal of out of memory (99) if the
 -- file can't be made; without a report the refusal is that of a moment without a snapshot (50)
 abbrev pub PrintsCertificate : CoreState → Subject → List ℕ → Type 0
 PrintsCertificate b subject text =
@@ -94,7 +94,7 @@ pub record IsOutput (bytes text : List ℕ) : Type 0 where
   pub core : CoreState
   pub lines : PrintsLines (opening_core scenario.params) scenario.lines.items core text
 
--- all that the reader had was read, and the writer took what the scenario prints behind what it held
+-- all that the reader had was read, and the writer took what the scenario prints after what it held
 abbrev pub PrintsScenario : Option (List ℕ) → Option (List ℕ) → Option (List ℕ) → Type 0
 PrintsScenario reader before after =
     (bytes : List ℕ) × (text : List ℕ) × IfSome reader (λ xs. bytes ≡ xs) × IsOutput bytes text

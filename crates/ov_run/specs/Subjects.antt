@@ -10,9 +10,9 @@ use Rattle.ov_snap.specs.Filing.{WasFiled}
 use Rattle.ov_snap.specs.Refusals.{SomebodyLivedThen, GroupThen}
 use Rattle.ov_snap.specs.declared.fault.CoreFault.{CoreFault}
 use Rattle.ov_snap.specs.declared.fault.CoreFault.TheVariants.{AlreadyFiled}
-use Rattle.ov_run.specs.declared.scenario.Subject.{Subject}
+use Rattle.ov_scenario.specs.declared.scenario.Subject.{Subject}
 
--- the group that is asked for, or all nodes where none is
+-- the group that is asked for, or all nodes if none is
 abbrev pub members_of : Option (List ℕ) → LinkGraph → List ℕ
 members_of None g = g.nodes
 members_of (Some ids) g = ids
@@ -25,7 +25,7 @@ IsReportOf b s r = HasReport b s.moment (members_of s.group r.graph) r
 abbrev pub IsReported : CoreState → Subject → Type 0
 IsReported b s = (r : ReportState) × IsReportOf b s r
 
--- somebody must have lived at the moment m, and where ids are asked for they must be a group of its nodes; then `After`
+-- somebody must have lived at the moment m, and if ids are asked for, they must be a group of its nodes; then `After`
 -- decides
 abbrev pub SubjectThen : CoreState → ℕ → Option (List ℕ) → (Option CoreFault → Type 0) → Option CoreFault → Type 0
 SubjectThen b m None After answer = SomebodyLivedThen b m After answer

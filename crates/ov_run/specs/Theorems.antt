@@ -6,12 +6,12 @@ use Rattle.ov_snap.specs.ReportState.{ReportState, IsSo}
 use Rattle.ov_run.specs.Printed.{report_line, file_text, refused_line}
 use Rattle.ov_run.specs.Running.{PrintsLine, PrintsLines}
 use Rattle.ov_run.specs.Subjects.{members_of}
-use Rattle.ov_run.specs.declared.scenario.Line.{Line}
-use Rattle.ov_run.specs.declared.scenario.Line.TheVariants as line
-use Rattle.ov_run.specs.declared.scenario.Look.TheVariants.{Certificate}
-use Rattle.ov_run.specs.declared.scenario.Subject.{Subject}
+use Rattle.ov_scenario.specs.declared.scenario.Line.{Line}
+use Rattle.ov_scenario.specs.declared.scenario.Line.TheVariants as line
+use Rattle.ov_scenario.specs.declared.scenario.Look.TheVariants.{Certificate}
+use Rattle.ov_scenario.specs.declared.scenario.Subject.{Subject}
 
--- the report is for the moment and the group of the subject, and what it says is so
+-- the report is for the moment and the group of the subject, and what it says is true
 pub record IsSoOf (u : CoreState) (subject : Subject) (r : ReportState) : Type 0 where
   pub so : IsSo u.world.journal r
   pub moment : r.moment ≡ subject.moment
@@ -28,9 +28,9 @@ IsMade b =
     × PrintsLines (opening_core params) lines b text
 
 -- whatever lines ran before: what `analyse` prints is a refusal, or the line of a report of what it asks for; what
--- `certificate` prints is a refusal, or the certificate file of such a report; and what the report says is so. A
+-- `certificate` prints is a refusal, or the certificate file of such a report; and what the report says is true. A
 -- snapshot was taken at its moment, and its graph has exactly the links that both ends held then; crashing the nodes
--- that it names parts its group, or every two members are linked; and no fewer crashes part it
+-- that it names splits its group, or every two members are linked; and no fewer crashes split it
 pub record EveryPrintedReportIsSo : Type 0 where
   pub analysed : (b : CoreState) (subject : Subject) (workers : ℕ) (u : CoreState) (text : List ℕ) → IsMade b
       → PrintsLine b (line.Analyse subject workers) u text

@@ -1,12 +1,14 @@
-ghost use Rattle.std.specs.Prelude.{◌<◌};
+ghost use Rattle.std.specs.Prelude.{◌<◌, ◌≢◌, Some, Err, IfOk, IfErr};
 ghost use Rattle.ov_io.specs.Device.{most_faults};
-ghost use Rattle.ov_run.specs.Run.{IsRun};
+ghost use Rattle.ov_run.specs.Code.Writing.{IsBeforeLines};
+ghost use Rattle.ov_run.specs.Run.{IsRun, IsRunOf};
+ghost use Rattle.ov_scenario.specs.Scenarios.{IsScenario};
 
 use crate::line_running::run_lines;
 use crate::run_fault::RunFault;
 use crate::run_watcher::{RunWatcher, Unwatched};
-use crate::scenario_reading::read_scenario;
 use ov_io::{Sink, Source};
+use ov_scenario::{Scenario, read_scenario};
 use std::alloc::Global;
 use std::io::{Read, Write};
 use std::thread::Threads;
@@ -15,12 +17,12 @@ use std::thread::Threads;
 /// prints. Returns the program's status, 0. A refused event or analysis is a line of what is printed, and no fault. The
 /// workers of an analysis are threads. The line of its report is the same for any number of them.
 ///
-/// Line (70) and Params (21) are returned where the file says no scenario, and Read (71) where the reader failed in
-/// this call: then nothing ran and nothing was written. Write (72) is returned where the writer failed in this call. In
-/// each case nothing was written, or a prefix of what the scenario prints.
+/// Line (70) or Params (21) is returned if the file says no scenario, and Read (71) if the reader failed in this call:
+/// then nothing ran and nothing was written. Write (72) is returned if the writer failed in this call. In each case
+/// nothing was written, or a prefix of what the scenario prints.
 ///
 /// An event or an analysis that is out of memory is refused with 99, and the run goes on. OutOfMemory (99) is returned
-/// only where reading the scenario was out of memory, or making the line of an event that happened, of a node or of a
+/// only if reading the scenario was out of memory, or making the line of an event that happened, of a node or of a
 /// packet. The numbers and the form of what is printed are chosen here.
 pub fn run<T: Threads + Sync, R: Read, W: Write>(
     rt: &T,
@@ -35,9 +37,8 @@ pub fn run<T: Threads + Sync, R: Read, W: Write>(
     run_watched(rt, alloc, source, sink, &mut Unwatched)
 }
 
-/// Does what `run` does. The watcher is told what became of each line that ran, in order, each after what the line
-/// prints was written.
-#[tactic(auto, using(crate::proofs::Lines::Counted::run_fault))]
+/// Does what `run` does. The watcher sees what became of each line that ran, in order, after what the line prints was
+/// written.
 pub fn run_watched<T: Threads + Sync, R: Read, W: Write, V: RunWatcher>(
     rt: &T,
     alloc: Global,
@@ -50,7 +51,35 @@ pub fn run_watched<T: Threads + Sync, R: Read, W: Write, V: RunWatcher>(
     ensures run { IsRun R.remaining W.contents source.old sink.old source.new sink.new result }
 {
     let bytes = source.read_all(alloc)?;
-    let scenario = read_scenario(alloc, &bytes)?;
+    run_bytes(rt, alloc, &bytes, sink, watcher)
+}
+
+/// Does what `run_watched` does with the scenario that these bytes say, which were read before.
+#[tactic(auto, using(crate::proofs::Printing::WholeRuns::refused))]
+pub fn run_bytes<T: Threads + Sync, W: Write, V: RunWatcher>(
+    rt: &T,
+    alloc: Global,
+    bytes: &[u8],
+    sink: &mut Sink<W>,
+    watcher: &mut V,
+) -> Result<u8, RunFault>
+    requires writes { sink.old.faults < most_faults }
+    ensures run { IsRunOf (Some bytes.now) W.contents sink.old sink.new result }
+    ensures read { result ≢ Err RunFault.Read }
+{
+    let scenario = scenario_of(alloc, bytes)?;
     run_lines(rt, alloc, scenario.params, scenario.lines, sink, watcher)?;
     Ok(0)
+}
+
+/// The scenario that these bytes say.
+#[tactic(auto, using(crate::proofs::Refused::of_scenario))]
+fn scenario_of(alloc: Global, bytes: &[u8]) -> Result<Scenario, RunFault>
+    ensures scenario { IfOk result (λ s. IsScenario bytes.now s) }
+    ensures fault { IfErr result (IsBeforeLines bytes.now) }
+{
+    match read_scenario(alloc, bytes) {
+        Ok(scenario) => Ok(scenario),
+        Err(fault) => Err(RunFault::of_scenario(&fault)),
+    }
 }

@@ -1,13 +1,14 @@
-ghost use Rattle.std.specs.Prelude.{◌≡◌, ◌⊎◌, ◌<◌, option_map, string_bytes, IfOk, IfErr};
+ghost use Rattle.std.specs.Prelude.{◌≡◌, ◌≢◌, ◌<◌, option_map, string_bytes, Some, Err, IfOk, IfErr};
 ghost use Rattle.ov_cert.specs.Valid.{IsValidForGroup};
 ghost use Rattle.ov_io.specs.Device.{most_faults};
 ghost use Rattle.ov_even.specs.Answer.{IsAnalysed};
-ghost use Rattle.ov_run.specs.Analysing.{answer_text, PrintsAnswer, IsAnalysis, IsFileAnalysis};
-ghost use Rattle.ov_run.specs.GraphFiles.{IsGraphFileFault};
+ghost use Rattle.ov_run.specs.Analysing.{answer_text, PrintsAnswer, IsAnalysis, IsAnalysisOf};
+ghost use Rattle.ov_run.specs.Analysing.{IsFileAnalysis};
+ghost use Rattle.ov_run.specs.Code.Writing.{IsTextFault};
+ghost use Rattle.ov_graphfile.specs.GraphFiles.{IsGraphFile};
 ghost use Rattle.ov_run.specs.Printed.{refused_line};
 ghost use Rattle.ov_run.specs.Subjects.{members_of};
 
-use crate::graph_file::read_graph;
 use crate::line_texts::{refused_line, report_line};
 use crate::run_fault::RunFault;
 use ov_cert::Checked;
@@ -16,21 +17,22 @@ use ov_claims::Workers;
 use ov_crew::{OpenGate, analyse_group_watched};
 use ov_even::{AnalyseFault, Watcher};
 use ov_graph::Graph;
+use ov_graphfile::read_graph;
 use ov_ids::{NodeId, OutOfMemory};
 use ov_io::{Sink, Source};
 use std::alloc::Global;
 use std::io::{Read, Write};
 use std::thread::Threads;
 
-/// Reads a graph file to its end, finds how few crashes of nodes part a group of its nodes, by so many workers, and
-/// writes the line of the answer; the certificate file follows it where that is asked for. Without a group, all nodes
+/// Reads a graph file to its end, finds how few crashes of nodes split a group of its nodes, by this number of workers,
+/// and writes the line of the answer; the certificate file follows it if that is asked for. Without a group, all nodes
 /// are the group. Returns the program's status, 0. A graph without nodes (30) and ids that are no group (34) are
-/// refusals that are printed, and no faults. The watcher is told how far the analysis has come.
+/// refusals that are printed, and no faults. The watcher sees how far the analysis has come.
 ///
-/// Line (70) is returned for the first line that can't be read, Graph with the number of its fault where the lines say
-/// no graph, and Read (71) where the reader failed in this call. Write (72) is returned where the writer failed in this
-/// call, and then a prefix of the text was written. With any other fault nothing was written. OutOfMemory (99) is
-/// returned where an allocation was refused. The numbers and the form of what is printed are chosen here.
+/// Line (70) is returned for the first line that can't be read, Graph with the number of its fault if the lines say
+/// no graph, and Read (71) if the reader failed in this call. Write (72) is returned if the writer failed in this call,
+/// and then a prefix of the text was written. With any other fault nothing was written. OutOfMemory (99) is returned if
+/// an allocation was refused. The numbers and the form of what is printed are chosen here.
 pub fn analyse_file<T: Threads + Sync, R: Read, W: Write, P: Watcher>(
     rt: &T,
     alloc: Global,
@@ -47,7 +49,36 @@ pub fn analyse_file<T: Threads + Sync, R: Read, W: Write, P: Watcher>(
         (option_map (λ ids. ids.now) group.entry) certificate source.new sink.new result }
 {
     let bytes = source.read_all(alloc)?;
-    let text = text_for(rt, alloc, &bytes, group, workers, certificate, watcher)?;
+    analyse_bytes(
+        rt,
+        alloc,
+        &bytes,
+        sink,
+        group,
+        workers,
+        certificate,
+        watcher,
+    )
+}
+
+/// Does what `analyse_file` does with the graph file of these bytes, which were read before.
+#[tactic(auto, using(crate::proofs::GraphFiles::Answered::refused))]
+pub fn analyse_bytes<T: Threads + Sync, W: Write, P: Watcher>(
+    rt: &T,
+    alloc: Global,
+    bytes: &[u8],
+    sink: &mut Sink<W>,
+    group: Option<&[NodeId]>,
+    workers: Workers,
+    certificate: bool,
+    watcher: &mut P,
+) -> Result<u8, RunFault>
+    requires writes { sink.old.faults < most_faults }
+    ensures analysis { IsAnalysisOf (Some bytes.now) W.contents sink.old (option_map (λ ids. ids.now) group.entry)
+        certificate sink.new result }
+    ensures read { result ≢ Err RunFault.Read }
+{
+    let text = text_for(rt, alloc, bytes, group, workers, certificate, watcher)?;
     sink.write_all(text.as_bytes())?;
     Ok(0)
 }
@@ -64,11 +95,23 @@ fn text_for<T: Threads + Sync, P: Watcher>(
 ) -> Result<String, RunFault>
     ensures text { IfOk result
         (λ text. IsAnalysis bytes.now (option_map (λ ids. ids.now) group.entry) certificate (string_bytes text)) }
-    ensures fault { IfErr result (λ f. IsGraphFileFault bytes.now f ⊎ (f ≡ RunFault.OutOfMemory)) }
+    ensures fault { IfErr result (IsTextFault bytes.now) }
 {
-    let graph = read_graph(alloc, bytes)?;
+    let graph = graph_of(alloc, bytes)?;
     let members = members_of(group, &graph);
     Ok(answer_for(rt, alloc, &graph, members, workers, certificate, watcher)?)
+}
+
+/// The graph that these bytes say.
+#[tactic(auto, using(crate::proofs::Refused::of_graph_file))]
+fn graph_of(alloc: Global, bytes: &[u8]) -> Result<Graph, RunFault>
+    ensures graph { IfOk result (IsGraphFile bytes.now) }
+    ensures fault { IfErr result (IsTextFault bytes.now) }
+{
+    match read_graph(alloc, bytes) {
+        Ok(graph) => Ok(graph),
+        Err(fault) => Err(RunFault::of_graph_file(&fault)),
+    }
 }
 
 /// The group that is asked for, or all nodes of the graph.
@@ -125,7 +168,7 @@ fn refused_text(alloc: Global, number: u32) -> Result<String, OutOfMemory>
     Ok(String::from_str(alloc, refused_line(number).as_str())?)
 }
 
-/// The line of a certificate. The certificate file follows it where that is asked for.
+/// The line of a certificate. The certificate file follows it if that is asked for.
 #[tactic(auto, unfolding(crate::specs::Analysing::answer_text))]
 fn report_text(alloc: Global, checked: &Checked, certificate: bool) -> Result<String, OutOfMemory>
     ensures text { IfOk result (λ text. string_bytes text

@@ -1,6 +1,6 @@
 ghost use Rattle.std.specs.Prelude.{◌≡◌, ◌⊎◌, ◌<◌, ◌+◌, ◌∷◌, [], IfOk, IfErr, OnOk, IsErrOf};
 ghost use Rattle.ov_io.specs.Device.{most_faults, write_faults as sink_faults, write_number};
-ghost use Rattle.ov_net.specs.declared.entry_and_changes.Entry.{Entry};
+ghost use Rattle.ov_net.specs.declared.journal_entry_and_changes.Entry.{Entry};
 ghost use Rattle.ov_snap.specs.CoreState.{CoreState, opening_core};
 ghost use Rattle.ov_snap.specs.Run.{Happened};
 ghost use Rattle.ov_run.specs.Ending.{BeginsLines, BeginsLook, EndsLine, EndsLines, EndsLook};
@@ -9,11 +9,10 @@ ghost use Rattle.ov_run.specs.Running.{PrintsEvent, PrintsReportLine, PrintsLook
 ghost use Rattle.ov_run.specs.Code.Outcomes.{DoesEvent, DoesLine, FilesReport, ShowsLook, WritesOutcome};
 ghost use Rattle.ov_run.specs.Code.Writing.{Writes, WritesPrefix, IsOfWriting};
 
-use crate::analysis_filing::file_analysis;
-use crate::outcome::Outcome;
+use crate::line_outcome::Outcome;
+use crate::report_filing::file_analysis;
 use crate::run_fault::RunFault;
 use crate::run_watcher::RunWatcher;
-use crate::scenario::{Line, Look, Subject};
 use crate::sink_writing::{
     write_certificate, write_done, write_entry, write_node, write_packets, write_refusal,
 };
@@ -21,14 +20,15 @@ use ov_claims::Workers;
 use ov_ids::Params;
 use ov_io::{Sink, WriteFault};
 use ov_net::Event;
+use ov_scenario::{Line, Look, Subject};
 use ov_snap::Core;
 use ov_words::Words;
 use std::alloc::Global;
 use std::io::Write;
 use std::thread::Threads;
 
-/// Runs these lines in a world in which nothing happened, and writes what they print. The watcher is told what became
-/// of each, after that.
+/// Runs these lines in a world in which nothing happened, and writes what they print. The watcher sees what became of
+/// each, after that.
 pub(crate) fn run_lines<T: Threads + Sync, W: Write, V: RunWatcher>(
     rt: &T,
     alloc: Global,
@@ -55,7 +55,7 @@ pub(crate) fn run_lines<T: Threads + Sync, W: Write, V: RunWatcher>(
     Ok(())
 }
 
-/// Tells a watcher what became of a line that ran.
+/// Shows a watcher what became of a line that ran.
 fn tell<V: RunWatcher>(watcher: &mut V, core: &Core, outcome: Outcome) {
     match outcome {
         Outcome::Accepted => watcher.accepted(),
@@ -93,8 +93,8 @@ fn run_line<T: Threads + Sync, W: Write>(
     }
 }
 
-/// Does an event, or refuses it, and writes its line. An event that is out of memory is refused as any other: only
-/// where an event happened and its line can't be made is OutOfMemory returned.
+/// Does an event, or refuses it, and writes its line. An event that is out of memory is refused as any other:
+/// OutOfMemory is returned only if an event happened and its line can't be made.
 fn run_event<W: Write>(
     alloc: Global,
     core: &mut Core,
@@ -122,8 +122,8 @@ fn run_event<W: Write>(
     }
 }
 
-/// Analyses a subject by so many workers and files the report, or refuses, and writes the line of that. Out of memory
-/// is a refusal, so that only the writer can fail.
+/// Analyses a subject by this number of workers and files the report, or refuses, and writes the line of that. Out of
+/// memory is a refusal, so that only the writer can fail.
 fn run_analysis<T: Threads + Sync, W: Write>(
     rt: &T,
     alloc: Global,

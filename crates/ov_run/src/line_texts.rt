@@ -12,7 +12,7 @@ use ov_peer::Peer;
 use std::alloc::Global;
 
 /// The line of an accepted event: `entry N`, the changes in order, and what was delivered. Like every line here it ends
-/// with a line feed, and its form is chosen here. OutOfMemory (99) is returned where an allocation was refused.
+/// with a line feed, and its form is chosen here. OutOfMemory (99) is returned if an allocation was refused.
 #[tactic(auto, unfolding(crate::specs::Printed::entry_line))]
 pub fn entry_line(alloc: Global, entry: &Entry) -> Result<String, OutOfMemory>
     ensures { IfOk result (λ line. string_bytes line ≡ entry_line entry.now) }
@@ -36,8 +36,8 @@ pub fn refused_line(number: u32) -> ArrayString<64>
     line
 }
 
-/// The line of a report: `report M`, and what the certificate says of the graph and the group. OutOfMemory (99) where
-/// an allocation is refused.
+/// The line of a report: `report M`, and what the certificate says of the graph and the group. OutOfMemory (99) if an
+/// allocation is refused.
 #[tactic(auto, unfolding(crate::specs::Printed::report_line))]
 pub fn report_line(alloc: Global, moment: u32, checked: &Checked) -> Result<String, OutOfMemory>
     ensures { IfOk result (λ line. string_bytes line
@@ -48,8 +48,8 @@ pub fn report_line(alloc: Global, moment: u32, checked: &Checked) -> Result<Stri
     Ok(format!(in alloc; "report {moment} {claim}\n")?)
 }
 
-/// The line of a node and its views: `node N active L passive L eager L lazy L`, where each list has commas between its
-/// ids, and is `-` without any. OutOfMemory (99) where an allocation is refused.
+/// The line of a node and its views: `node N active L passive L eager L lazy L`. Each list has commas between its
+/// ids, and is `-` without any. OutOfMemory (99) if an allocation is refused.
 #[tactic(auto, unfolding(crate::specs::Printed::node_line))]
 pub fn node_line(alloc: Global, id: NodeId, peer: &Peer) -> Result<String, OutOfMemory>
     ensures { IfOk result (λ line. string_bytes line ≡ node_line id peer.now) }
@@ -65,7 +65,7 @@ pub fn node_line(alloc: Global, id: NodeId, peer: &Peer) -> Result<String, OutOf
 }
 
 /// The line of a packet by its place among all: `packet I to N HEX`, with two digits for each byte, in lower case.
-/// OutOfMemory (99) where an allocation is refused.
+/// OutOfMemory (99) if an allocation is refused.
 #[tactic(auto, unfolding(crate::specs::Printed::packet_line))]
 pub fn packet_line(
     alloc: Global,

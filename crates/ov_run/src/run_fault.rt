@@ -1,11 +1,14 @@
 ghost use Rattle.std.specs.Prelude.{◌≡◌};
-ghost use Rattle.ov_run.specs.Faults.{number_of, line_number_of, fault_of_read, fault_of_graph};
+ghost use Rattle.ov_run.specs.Faults.{number_of, line_number_of, fault_of_read, fault_of_graph_file};
+ghost use Rattle.ov_run.specs.Faults.{fault_of_scenario};
 ghost use Rattle.ov_run.specs.declared.run_fault.RunFault.TheVariants.{OutOfMemory as out_of_memory};
 ghost use Rattle.ov_run.specs.declared.run_fault.RunFault.TheVariants.{Write as not_written};
 
 use ov_graph::GraphFault;
+use ov_graphfile::{GraphFileFault, UnreadLine};
 use ov_ids::OutOfMemory;
 use ov_io::{ReadFault, WriteFault};
+use ov_scenario::{FaultyLine, LineFault, ScenarioFault};
 use std::alloc::{AllocError, AllocFailed};
 use std::error::Error;
 use std::fmt::{Display, Formatter, Result, Write};
@@ -14,12 +17,14 @@ use std::fmt::{Display, Formatter, Result, Write};
 /// it on standard error. The numbers are chosen here.
 #[derive(Clone, Copy, Debug, PartialEq, Eq)]
 pub enum RunFault {
-    /// This line of the file, counted from 1, can't be read (70).
+    /// This line of the file, counted from 1, is the first at fault: it can't be read, or comes too late or too early
+    /// (70). `faulty_lines` and `unread_lines` say what is wrong with it.
     Line(usize),
-    /// The parameters on this line of the file, counted from 1, are out of their limits (21).
+    /// This line of the scenario file, counted from 1, is the first at fault: its parameters are out of their limits
+    /// (21).
     Params(usize),
-    /// The nodes and links of the file are no graph, with the number of this fault.
-    Graph(GraphFault),
+    /// The nodes and links of the graph file are no graph (31 to 33). The line has the node or the link at fault.
+    Graph { fault: GraphFault, line: usize },
     /// The reader failed, or there is none (71).
     Read,
     /// The writer failed (72).
@@ -36,20 +41,51 @@ impl RunFault {
         match self {
             RunFault::Line(_) => 70,
             RunFault::Params(_) => 21,
-            RunFault::Graph(fault) => fault.number(),
+            RunFault::Graph { fault, .. } => fault.number(),
             RunFault::Read => 71,
             RunFault::Write => 72,
             RunFault::OutOfMemory => 99,
         }
     }
 
-    /// The number of the line of the file that is at fault, counted from 1, where one is.
+    /// The number of the line that the fault is printed with, counted from 1, if it is printed with one.
     pub fn line(&self) -> Option<usize>
         ensures { result ≡ line_number_of self.now }
     {
         match self {
             RunFault::Line(line) | RunFault::Params(line) => Some(*line),
-            RunFault::Graph(_) | RunFault::Read | RunFault::Write | RunFault::OutOfMemory => None,
+            RunFault::Graph { .. } | RunFault::Read | RunFault::Write | RunFault::OutOfMemory =>
+                None,
+        }
+    }
+
+    /// The fault of a run by the fault of its scenario file.
+    pub(crate) fn of_scenario(fault: &ScenarioFault) -> RunFault
+        ensures { result ≡ fault_of_scenario fault.now }
+    {
+        match fault {
+            ScenarioFault::Line(FaultyLine { line, fault }) => match fault {
+                LineFault::OutOfLimits(_) => RunFault::Params(*line),
+                LineFault::Unread(_)
+                | LineFault::BehindEvent { .. }
+                | LineFault::SetBefore { .. }
+                | LineFault::NoEventNext { .. } => RunFault::Line(*line),
+            },
+            ScenarioFault::OutOfMemory => RunFault::OutOfMemory,
+        }
+    }
+
+    /// The fault of an analysis by the fault of its graph file.
+    pub(crate) fn of_graph_file(fault: &GraphFileFault) -> RunFault
+        ensures { result ≡ fault_of_graph_file fault.now }
+    {
+        match fault {
+            GraphFileFault::Line(UnreadLine { line, .. }) => RunFault::Line(*line),
+            GraphFileFault::Graph { fault, line } => RunFault::Graph {
+                fault: *fault,
+                line: *line,
+            },
+            GraphFileFault::OutOfMemory => RunFault::OutOfMemory,
         }
     }
 }
@@ -93,17 +129,6 @@ impl From<OutOfMemory> for RunFault {
 
     fn from(_fault: OutOfMemory) -> RunFault {
         RunFault::OutOfMemory
-    }
-}
-
-impl From<GraphFault> for RunFault {
-    ghost from_gives = { λ fault e. e ≡ fault_of_graph fault };
-
-    fn from(fault: GraphFault) -> RunFault {
-        match fault {
-            GraphFault::OutOfMemory => RunFault::OutOfMemory,
-            _ => RunFault::Graph(fault),
-        }
     }
 }
 

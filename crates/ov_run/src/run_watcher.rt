@@ -1,6 +1,6 @@
 use ov_snap::Core;
 
-/// Is told what became of each line that a run ran. It is not asked: it changes neither the run nor what is printed.
+/// Sees what became of each line that ran. It changes neither the run nor what is printed.
 pub trait RunWatcher {
     /// The next line was done: its event happened, its report was filed, or what it looks at was written.
     fn accepted(&mut self);

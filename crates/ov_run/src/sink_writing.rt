@@ -12,16 +12,16 @@ ghost use Rattle.ov_run.specs.Running.{PrintsNode, PrintsPackets, PrintsCertific
 ghost use Rattle.ov_run.specs.Code.Outcomes.{ShowsCertificate, ShowsNode, WritesOutcome};
 ghost use Rattle.ov_run.specs.Code.Writing.{Writes, WritesPrefix, IsOfWriting};
 
-use crate::analysis_filing::filed_report;
+use crate::line_outcome::Outcome;
 use crate::line_texts::{entry_line, node_line, packet_line, refused_line};
-use crate::outcome::Outcome;
+use crate::report_filing::filed_report;
 use crate::run_fault::RunFault;
-use crate::scenario::Subject;
 use ov_certfile::to_text_group;
 use ov_ids::{NodeId, OutOfMemory};
 use ov_io::{Sink, WriteFault};
 use ov_net::{Entry, MOST_ENTRIES, NetFault, Packet, World};
 use ov_peer::Peer;
+use ov_scenario::Subject;
 use ov_snap::{Core, CoreFault, Report};
 use std::alloc::Global;
 use std::io::Write;
@@ -75,7 +75,7 @@ pub(crate) fn write_entry<W: Write>(
     Ok(write_done(line.as_bytes(), sink)?)
 }
 
-/// Writes what is printed of a node. OutOfMemory is returned only where the node lives and its line can't be made.
+/// Writes what is printed of a node. OutOfMemory is returned only if the node lives and its line can't be made.
 pub(crate) fn write_node<W: Write>(
     alloc: Global,
     world: &World,
@@ -122,7 +122,7 @@ fn write_peer<W: Write>(
     Ok(write_done(line.as_bytes(), sink)?)
 }
 
-/// Writes the certificate file of the report that is filed for a subject, or the refusal where there is none. Out of
+/// Writes the certificate file of the report that is filed for a subject, or the refusal if there is none. Out of
 /// memory is a refusal, so that only the writer can fail.
 pub(crate) fn write_certificate<W: Write>(
     alloc: Global,
@@ -149,7 +149,7 @@ pub(crate) fn write_certificate<W: Write>(
     }
 }
 
-/// The certificate file of a report, with a line feed behind it.
+/// The certificate file of a report, and a line feed.
 fn file_text(alloc: Global, report: &Report) -> Result<String, OutOfMemory>
     requires { report.now.moment ≤ last_moment }
     ensures { IfOk result (λ text. string_bytes text
@@ -161,7 +161,7 @@ fn file_text(alloc: Global, report: &Report) -> Result<String, OutOfMemory>
     Ok(format!(in alloc; "{text}\n")?)
 }
 
-/// Writes the lines of packets. Where OutOfMemory is returned the lines of the first packets were written whole.
+/// Writes the lines of packets. If OutOfMemory is returned, the lines of the first packets were written whole.
 pub(crate) fn write_packets<W: Write>(
     alloc: Global,
     packets: &[Packet],

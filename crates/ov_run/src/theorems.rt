@@ -1,19 +1,12 @@
-ghost use Rattle.ov_run.specs.FaultLines.{FirstLineHasTheFault};
 ghost use Rattle.ov_run.specs.Theorems.{EveryPrintedReportIsSo};
 
 /// The main theorem, as who runs a scenario meets it. Whatever lines ran before: what `analyse` prints is a refusal, or
-/// the line of a report of what it asks for, and what `certificate` prints is a refusal, or the certificate file of a
-/// report of what it asks for; and what the report says is so. A snapshot was taken at its moment, and its graph has
+/// the line of a report of what it asks for; and what `certificate` prints is a refusal, or the certificate file of a
+/// report of what it asks for. What the report says is true. A snapshot was taken at its moment, and its graph has
 /// exactly the links that both ends held then. Crashing the k nodes that it names leaves two surviving members of its
-/// group that are not joined, or every two members are linked and k is one less than their number; without any fewer
-/// nodes every two surviving members are joined. The checker, given the graph, the group and the certificate alone,
-/// says yes.
+/// group that are not joined, or every two members are linked and k is one less than their number; after the crash of
+/// any fewer nodes every two surviving members are joined. The checker, given the graph, the group and the certificate
+/// alone, says yes.
 pub fn every_printed_report_is_so()
     ensures { EveryPrintedReportIsSo }
-{}
-
-/// Of the lines at fault that `scenario_fault_lines` returns, and of those that `unread_graph_lines` returns, the first
-/// is the one whose fault the file has, as `read_scenario` and `read_graph` return it.
-pub fn first_line_has_the_fault()
-    ensures { FirstLineHasTheFault }
 {}

@@ -12,7 +12,7 @@ use Rattle.ov_graph.specs.Links.{LinkGraph}
 use Rattle.ov_cert.specs.Valid.{IsValidForGroup}
 use Rattle.ov_cert.proofs.Validity.Exact.{valid_means}
 use Rattle.ov_net.specs.Journal.{AreLinks}
-use Rattle.ov_net.specs.declared.entry_and_changes.Entry.{Entry}
+use Rattle.ov_net.specs.declared.journal_entry_and_changes.Entry.{Entry}
 use Rattle.ov_net.specs.declared.event.Event.{Event}
 use Rattle.ov_net.specs.declared.event.Event.TheVariants as event
 use Rattle.ov_net.specs.NetStep.{NetStep}
@@ -110,14 +110,12 @@ snapshots_kept journal e what old new is (inl k) h =
 snapshots_kept journal e what old new is (inr k) h =
     subst (AreSnapshots (journal ++ e ∷ [])) (sym k.1) (snapshots_rest journal e old (λ s. k.0 (sym is ∙ s)) h)
 
--- what a report says stays so
+-- what a report says stays true
 so_stays : (journal more : List Entry) (r : ReportState) → IsSo journal r → IsSo (journal ++ more) r
 so_stays journal more r h = record {
   moment = moment_stays journal more r.moment h.moment;
   links = links_stay journal more r.moment r.graph (moment_within journal r.moment h.moment) h.links;
-  reached = h.reached;
-  no_fewer = h.no_fewer;
-  fewest = h.fewest;
+  certificate = h.certificate;
   verdict = h.verdict;
 }
 
@@ -212,16 +210,14 @@ sound_filed b r u sound h = subst IsSound (sym h.reports) (record {
     passed = filing_passed b r h.judged
 
     own : IsSo b.world.journal r
-    own = let means = valid_means r.graph r.members r.cert h.valid in record {
+    own = record {
       moment = passed.0;
       links = passed.1;
-      reached = means.reached;
-      no_fewer = means.no_fewer;
-      fewest = means.fewest;
+      certificate = valid_means r.graph r.members r.cert h.valid;
       verdict = h.valid;
     }
 
--- what each report of a sound core says is so
+-- what each report of a sound core says is true
 pub filed_so : (b u : CoreState) (l : List ReportState) → l ≡ b.reports → b ≡ u → IsSound b → (r : ReportState)
     → Has l r → IsSo u.world.journal r
 filed_so b u l at same sound r h =
@@ -251,7 +247,7 @@ none_of_all b m g ns sound links nodes none r h = none r (record {
       ∙ sym nodes;
 })
 
--- where no snapshot was taken, none is filed
+-- if no snapshot was taken, none is filed
 pub none_without : (b : CoreState) (m : ℕ) → IsSound b → ¬ IsMoment b.world.journal m → (r : ReportState)
     → ¬ HasReportOfAll b m r
 none_without b m sound none r h = none (subst (IsMoment b.world.journal) h.moment (sound.so r h.filed).moment)

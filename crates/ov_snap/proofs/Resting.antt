@@ -4,8 +4,8 @@ use Rattle.std.proofs.Math.Seq.{take-length}
 use Rattle.ov_ids.specs.Members.{Has}
 use Rattle.ov_graph.specs.Links.{LinkGraph, Linked}
 use Rattle.ov_net.specs.Journal.{AreLinks, HoldsAfter, LivesAfter, changes_of}
-use Rattle.ov_net.specs.declared.entry_and_changes.Change.{Change}
-use Rattle.ov_net.specs.declared.entry_and_changes.Entry.{Entry}
+use Rattle.ov_net.specs.declared.journal_entry_and_changes.Change.{Change}
+use Rattle.ov_net.specs.declared.journal_entry_and_changes.Entry.{Entry}
 
 changes_same : (journal : List Entry) (e : Entry) → e.changes ≡ [] → changes_of (journal ++ e ∷ []) ≡ changes_of journal
 changes_same [] e none = append-nil e.changes ∙ none

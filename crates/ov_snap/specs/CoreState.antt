@@ -6,7 +6,7 @@ use Rattle.ov_ids.specs.Members.{Has, Ordered}
 use Rattle.ov_graph.specs.Links.{LinkGraph}
 use Rattle.ov_net.specs.Journal.{AreLinks}
 use Rattle.ov_net.specs.World.{WorldState, opening_world}
-use Rattle.ov_net.specs.declared.entry_and_changes.Entry.{Entry}
+use Rattle.ov_net.specs.declared.journal_entry_and_changes.Entry.{Entry}
 use Rattle.ov_desk.specs.Desk.{GroupDeskState}
 use Rattle.ov_desk.specs.Sound.{IsSoundDesk}
 use Rattle.ov_snap.specs.ReportState.{ReportState, IsSo}
@@ -39,7 +39,7 @@ HasReportOfAll b m r = HasReport b m r.graph.nodes r
 abbrev pub HasDesk : CoreState → ℕ → GroupDeskState → Type 0
 HasDesk b i d = slice_get b.desks i ≡ Some d
 
--- a core has so many desks at most (chosen here)
+-- the most desks that a core may have (chosen here)
 abbrev pub most_desks : ℕ
 most_desks = 65536
 
@@ -50,13 +50,13 @@ pub record IsDeskOf (journal : List Entry) (d : GroupDeskState) : Type 0 where
   pub links : AreLinks journal d.moment graph
   pub sound : IsSoundDesk graph d
 
--- every report of the first core is in the second, at its place, and later ones stand behind them
+-- every report of the first core is in the second, at its place, and later ones follow them
 abbrev pub KeepsReports : CoreState → CoreState → Type 0
 KeepsReports b u = (later : List ReportState) × (u.reports ≡ b.reports ++ later)
 
 -- what holds of every core: the snapshots are those of its journal; there are no more desks than there may be, and each
--- is one of the journal; no report stands twice, one at most is filed for a moment and a group, and what each report
--- says is so
+-- is one of the journal; no report is filed twice, at most one is filed for a moment and a group, and what each report
+-- says is true
 pub record IsSound (b : CoreState) : Type 0 where
   pub snapshots : AreSnapshots b.world.journal b.snapshots
   pub few_desks : length b.desks ≤ most_desks

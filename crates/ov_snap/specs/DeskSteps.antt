@@ -10,7 +10,7 @@ use Rattle.ov_snap.specs.ReportState.{ReportState}
 use Rattle.ov_snap.specs.Filing.{WasFiled}
 use Rattle.ov_snap.specs.Refusals.{OpeningJudged, GroupOpeningJudged, TurnJudged, DeskFilingJudged}
 
--- one desk more stands behind the others, at this place, counted from 0: it is for a group of this moment, has these
+-- one desk more follows the others, at this place, counted from 0: it is for a group of this moment, has these
 -- links, and no turn was taken at it. Nothing else changed
 pub record HasOneDeskMore (b : CoreState) (g : LinkGraph) (m : ℕ) (q : List ℕ) (workers place : ℕ) (u : CoreState)
     : Type 0 where
@@ -47,7 +47,7 @@ pub record ClaimedAt (b : CoreState) (i w x : ℕ) (u : CoreState) : Type 0 wher
   pub judged : TurnJudged ClaimsNext b i w None
   pub turned : HasTurned b i (λ d e. WasClaimed d w x e) u
 
--- worker w of desk i looked, and was told the least number that failed: no refusal applied
+-- worker w of desk i looked, and saw the lowest number that failed: no refusal applied
 pub record LookedAt (b : CoreState) (i w least : ℕ) (u : CoreState) : Type 0 where
   pub judged : TurnJudged LooksNext b i w None
   pub turned : HasTurned b i (λ d e. WasLookedAt d w least e) u

@@ -5,7 +5,7 @@ use Rattle.ov_snap.specs.CoreState.{CoreState}
 use Rattle.ov_snap.specs.ReportState.{ReportState}
 use Rattle.ov_snap.specs.Refusals.{FilingJudged}
 
--- a report was filed: no refusal applied, its certificate is valid for its graph and group, it stands last among the
+-- a report was filed: no refusal applied, its certificate is valid for its graph and group, it is the last of the
 -- reports, and nothing else changed
 pub record WasFiled (b : CoreState) (r : ReportState) (u : CoreState) : Type 0 where
   pub judged : FilingJudged b r None

@@ -1,6 +1,6 @@
 -- Why a core refuses: the refusals of each call in their order. The first applicable one is returned. A word `..Judged`
--- holds of the first applicable refusal of a call, or of None where no refusal applies. A word `..Then` begins such a
--- chain: its own conditions come first, and where they all hold `After` decides.
+-- holds of the first applicable refusal of a call, or of None if no refusal applies. A word `..Then` begins such a
+-- chain: its own conditions come first, and if they all hold `After` decides.
 use Rattle.std.specs.Prelude.{ℕ, ◌<◌, List, length, Option}
 use Rattle.ov_ids.specs.FaultOrder.{HoldsThen, Passed}
 use Rattle.ov_graph.specs.Links.{LinkGraph, IsGroup}
@@ -68,7 +68,7 @@ FilingJudged b r answer =
     (HoldsThen (AreLinks b.world.journal r.moment r.graph) OtherGraph
     (HoldsThen (¬ IsFiled b r.moment r.members) AlreadyFiled Passed)) answer
 
--- the last two refusals of opening a desk: no more desks may be opened; so many workers may not work at one
+-- the last two refusals of opening a desk: no more desks may be opened; this many workers may not work at one
 abbrev pub WorkersJudged : CoreState → ℕ → Option CoreFault → Type 0
 WorkersJudged b workers answer =
     HoldsThen (length b.desks < most_desks) TooManyDesks (HoldsThen (MayWork workers) NoSuchWorker Passed) answer

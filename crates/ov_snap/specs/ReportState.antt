@@ -1,14 +1,12 @@
--- Reports, and when what a report says is so (Menger, Fund. Math. 10, 1927; Even, SIAM J. Comput. 4, 1975).
+-- Reports, and when what a report says is true (Menger, Fund. Math. 10, 1927; Even, SIAM J. Comput. 4, 1975).
 use Rattle.std.specs.Prelude.{ℕ, List, None}
 use Rattle.ov_graph.specs.Links.{LinkGraph}
-use Rattle.ov_graph.specs.Joined.{NoFewerSplit, FewestForGroup}
 use Rattle.ov_cert.specs.State.{CheckedState}
-use Rattle.ov_cert.specs.Theorems.{ReachesNumber}
-use Rattle.ov_cert.specs.Valid.{k_of}
+use Rattle.ov_cert.specs.Theorems.{IsTrueForGroup}
 use Rattle.ov_cert.specs.Verdict.{JudgedForGroup}
 use Rattle.ov_cert.specs.declared.cert.Cert.{Cert}
 use Rattle.ov_net.specs.Journal.{AreLinks}
-use Rattle.ov_net.specs.declared.entry_and_changes.Entry.{Entry}
+use Rattle.ov_net.specs.declared.journal_entry_and_changes.Entry.{Entry}
 use Rattle.ov_snap.specs.Snapshots.{IsMoment}
 
 -- a report: its moment, the graph of that moment, the members of a group of its nodes, and a certificate
@@ -27,15 +25,13 @@ report_of moment checked = record {
   cert = checked.cert;
 }
 
--- What the report says is so. A snapshot was taken at its moment. Its graph has exactly the links that both ends held
--- then. Its number k is reached: crashing the k nodes of its cut leaves two surviving members that are not joined, or
--- every two members are linked and k is one less than their number. Without any fewer nodes every two surviving members
--- are joined. So k is the fewest crashes that split the group. And the checker, given graph, group and certificate
--- alone, finds no fault.
+-- What the report says is true. A snapshot was taken at its moment. Its graph has exactly the links that both ends held
+-- then. Its certificate is true of its group: crashing the k nodes of its cut leaves two surviving members that are not
+-- joined, or every two members are linked and k is one less than their number; without any fewer nodes every two
+-- surviving members are joined; so k is the fewest crashes that split the group. And the checker, given graph, group
+-- and certificate alone, finds no fault.
 pub record IsSo (journal : List Entry) (r : ReportState) : Type 0 where
   pub moment : IsMoment journal r.moment
   pub links : AreLinks journal r.moment r.graph
-  pub reached : ReachesNumber r.graph r.members r.cert
-  pub no_fewer : NoFewerSplit r.graph r.members (k_of r.cert)
-  pub fewest : FewestForGroup r.graph r.members (k_of r.cert)
+  pub certificate : IsTrueForGroup r.graph r.members r.cert
   pub verdict : JudgedForGroup r.graph r.members r.cert None

@@ -5,7 +5,7 @@ use Rattle.ov_ids.specs.ParamsState.{ParamsState}
 use Rattle.ov_words.specs.Stream.{words_per_event}
 use Rattle.ov_net.specs.NetStep.{NetStep}
 use Rattle.ov_net.specs.Refusals.{StepJudged}
-use Rattle.ov_net.specs.declared.entry_and_changes.Entry.{Entry}
+use Rattle.ov_net.specs.declared.journal_entry_and_changes.Entry.{Entry}
 use Rattle.ov_net.specs.declared.event.Event.{Event}
 use Rattle.ov_net.specs.declared.event.Event.TheVariants as event
 use Rattle.ov_desk.specs.Turns.{ClaimsNext, LooksNext, SettlesNext}
@@ -18,7 +18,7 @@ use Rattle.ov_snap.specs.declared.running_steps.CoreStep.{CoreStep}
 use Rattle.ov_snap.specs.declared.running_steps.CoreStep.TheVariants.{Net, File, OpenDesk, OpenGroupDesk, Claim}
 use Rattle.ov_snap.specs.declared.running_steps.CoreStep.TheVariants.{Look, Settle, FileDesk}
 
--- an event happened: no refusal applied, the world took one step of it, and the entry that tells it stands last in the
+-- an event happened: no refusal applied, the world took one step by it, and the entry of it is the last of the
 -- journal and is numbered by its place there. A snapshot's links are kept. Desks and reports are the same
 pub record Happened (b : CoreState) (what : Event) (words : List ℕ) (e : Entry) (u : CoreState) : Type 0 where
   pub judged : StepJudged b.world.net (length b.world.journal) what None

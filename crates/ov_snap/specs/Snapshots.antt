@@ -2,7 +2,7 @@
 use Rattle.std.specs.Prelude.{◌≡◌, ◌≢◌, ◌⊎◌, ℕ, ◌+◌, ◌<◌, List, [], ◌∷◌, ◌++◌, length, slice_get, Some}
 use Rattle.ov_ids.specs.Members.{Has, Ordered}
 use Rattle.ov_net.specs.Journal.{AreLinks}
-use Rattle.ov_net.specs.declared.entry_and_changes.Entry.{Entry}
+use Rattle.ov_net.specs.declared.journal_entry_and_changes.Entry.{Entry}
 use Rattle.ov_net.specs.declared.event.Event.{Event}
 use Rattle.ov_net.specs.declared.event.Event.TheVariants as event
 use Rattle.ov_snap.specs.declared.kept_snapshots.Snapshot.{Snapshot}
@@ -19,7 +19,7 @@ IsMoment journal m = (i : ℕ) × (e : Entry) × (slice_get journal i ≡ Some e
 abbrev pub WasBefore : Snapshot → Snapshot → Type 0
 WasBefore s t = s.moment < t.moment
 
--- the snapshots of a journal: they stand in the order of their moments, each is of a moment and has the links that both
+-- the snapshots of a journal: they have the order of their moments, each is of a moment and has the links that both
 -- ends held then, and every moment has one
 pub record AreSnapshots (journal : List Entry) (snapshots : List Snapshot) : Type 0 where
   pub order : Ordered WasBefore snapshots
@@ -27,7 +27,7 @@ pub record AreSnapshots (journal : List Entry) (snapshots : List Snapshot) : Typ
   pub links : (s : Snapshot) → Has snapshots s → AreLinks journal s.moment s.graph
   pub every : (m : ℕ) → IsMoment journal m → (s : Snapshot) × Has snapshots s × (s.moment ≡ m)
 
--- one snapshot more stands behind the old ones: it is of the journal's last entry, and has the links that both ends
+-- one snapshot more follows the old ones: it is of the journal's last entry, and has the links that both ends
 -- hold there
 abbrev pub HasOneSnapshotMore : List Entry → List Snapshot → List Snapshot → Type 0
 HasOneSnapshotMore journal old new =

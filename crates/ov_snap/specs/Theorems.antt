@@ -7,7 +7,7 @@ use Rattle.ov_snap.specs.ReportState.{ReportState, IsSo}
 use Rattle.ov_snap.specs.Run.{CoreRun, TakesAll}
 use Rattle.ov_snap.specs.declared.running_steps.CoreStep.{CoreStep}
 
--- for every list of steps, and every report that is filed in the core that they make: what the report says is so
+-- for every list of steps, and every report that is filed in the core that they make: what the report says is true
 abbrev pub EveryReportIsSo : Type 0
 EveryReportIsSo = (params : ParamsState) (steps : List CoreStep) (c : CoreState) → CoreRun params steps c
     → (r : ReportState) → Has c.reports r → IsSo c.world.journal r

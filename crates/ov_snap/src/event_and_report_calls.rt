@@ -13,11 +13,10 @@ ghost use Rattle.ov_snap.specs.Run.{Happened, TookSnapshot};
 ghost use Rattle.ov_snap.specs.Snapshots.{IsMoment};
 ghost use Rattle.ov_snap.specs.declared.fault.CoreFault.TheVariants.{NoSuchMoment, OutOfMemory as out_of_memory};
 
-use crate::analysis_input::Job;
 use crate::analysis_report::Report;
 use crate::fault::CoreFault;
 use crate::filed_reports::Reports;
-use crate::kept_snapshots::{Snapshot, find, make_room};
+use crate::kept_snapshots::{Job, Snapshot, find, make_room};
 use ov_desk::GroupDesk;
 use ov_graph::Graph;
 use ov_ids::{NodeId, OutOfMemory, Params};
@@ -27,13 +26,24 @@ use std::alloc::Global;
 use std::marker::Model;
 
 /// A world, the snapshots of its links, the desks at which they are analysed, and the reports that are filed of them.
-/// Of every core it holds that each desk is sound for the links of its moment, and that what each report says is so.
-#[derive(Drop)]
+/// In every core each desk is sound for the links of its moment, and what each report says is true.
 pub struct Core {
     pub(crate) world: World,
     pub(crate) snapshots: Vec<Snapshot>,
     pub(crate) desks: Vec<GroupDesk>,
     pub(crate) reports: Reports,
+}
+
+impl Drop for Core {
+    /// Drops the parts. It is written by hand since a call is proved faster than the same drops at each exit.
+    fn drop(self) {
+        let Core {
+            world: _,
+            snapshots: _,
+            desks: _,
+            reports: _,
+        } = self;
+    }
 }
 
 impl Model for Core {
@@ -65,7 +75,7 @@ impl Core {
     }
 
     /// The world. The snapshots of the core are those of its journal, each desk is sound for the links of its moment,
-    /// and what each report says is so.
+    /// and what each report says is true.
     pub fn world(&self) -> &World
         ensures value { result.now ≡ self.now.world }
         ensures sound { IsSound self.now }
@@ -73,9 +83,9 @@ impl Core {
         &self.world
     }
 
-    /// Takes one event, as the world does, with the random words that its choices are made by. The links of a snapshot
+    /// Takes one event, as the world does, with the random words by which it makes its choices. The links of a snapshot
     /// are kept. Returns the event's entry, or why it is refused: the first applicable refusal of the world (10 to 20,
-    /// see `NetFault`), or out of memory (99) where none applies. What is refused changes nothing.
+    /// see `NetFault`), or out of memory (99) if none applies. What is refused changes nothing.
     pub fn step(&mut self, event: Event, words: &Words) -> Result<Entry, NetFault>
         ensures happened { IfOk result (λ e. Happened self.old event words.now e self.new) }
         ensures refused { IfErr result (λ f. IsRefusal self.old.world.net (length self.old.world.journal) event f) }
@@ -126,8 +136,8 @@ impl Core {
         self.world.links()
     }
 
-    /// What an analysis of all nodes of this moment is given. It is refused where no snapshot was taken at this moment
-    /// (50), and then where nobody lived (30); where neither applies, it may be out of memory (99).
+    /// What an analysis of all nodes of this moment is given. It is refused if no snapshot was taken at this moment
+    /// (50), and then if nobody lived (30); if neither applies, it may be out of memory (99).
     pub fn begin(&self, moment: u32) -> Result<Job, CoreFault>
         ensures judged { IfOk result (λ job. BeginJudged self.now moment None) }
         ensures moment { IfOk result (λ job. job.moment ≡ moment) }
@@ -135,12 +145,12 @@ impl Core {
         ensures refused { IfErr result (IsRefusedBy out_of_memory (BeginJudged self.now moment)) }
     {
         let snapshot = self.lived(moment)?;
-        Ok(Job::of(snapshot)?)
+        Ok(snapshot.copy()?)
     }
 
-    /// What an analysis of a group of the nodes of this moment is given. It is refused where no snapshot was taken at
-    /// this moment (50), then where nobody lived (30), and then where these ids are no group of the moment's graph
-    /// (34); where none of these applies, it may be out of memory (99).
+    /// What an analysis of a group of the nodes of this moment is given. It is refused if no snapshot was taken at
+    /// this moment (50), then if nobody lived (30), and then if these ids are no group of the moment's graph (34); if
+    /// none of these applies, it may be out of memory (99).
     pub fn begin_group(&self, moment: u32, group: &[NodeId]) -> Result<Job, CoreFault>
         ensures judged { IfOk result (λ job. GroupBeginJudged self.now moment group.now None) }
         ensures moment { IfOk result (λ job. job.moment ≡ moment) }
@@ -152,13 +162,13 @@ impl Core {
         if !snapshot.graph.is_group(group) {
             return Err(CoreFault::BadGroup);
         }
-        Ok(Job::of(snapshot)?)
+        Ok(snapshot.copy()?)
     }
 
-    /// Files a report for its moment and group, for good: no call takes it away. It is refused where no snapshot was
-    /// taken at this moment (50), then where the graph is another one than that of the moment (51), and then where a
-    /// report is filed for this moment and group (52); where none of these applies, it may be out of memory (99). What
-    /// is refused changes nothing.
+    /// Files a report for its moment and group, for good: no call takes it away. It is refused if no snapshot was taken
+    /// at this moment (50), then if the graph is another one than that of the moment (51), and then if a report is
+    /// filed for this moment and group (52); if none of these applies, it may be out of memory (99). What is refused
+    /// changes nothing.
     pub fn file(&mut self, report: Report) -> Result<(), CoreFault>
         ensures filed { OnOk result (WasFiled self.old report self.new) }
         ensures refused { IfErr result (IsRefusedBy out_of_memory (FilingJudged self.old report)) }
@@ -197,7 +207,7 @@ impl Core {
         Ok(snapshot)
     }
 
-    /// The first applicable refusal of filing a report, beside out of memory.
+    /// The first applicable refusal of filing a report, except out of memory.
     fn judge(&self, report: &Report) -> Result<(), CoreFault>
         ensures ok { OnOk result (FilingJudged self.now report.now None) }
         ensures valid { OnOk result (IsValidForGroup report.now.graph report.now.members report.now.cert) }
@@ -217,7 +227,7 @@ impl Core {
         Ok(())
     }
 
-    /// The report that is filed for this moment and group, if there is one. What it says is so.
+    /// The report that is filed for this moment and group, if there is one. What it says is true.
     pub fn group_report(&self, moment: u32, group: &[NodeId]) -> Option<&Report>
         ensures some { IfSome result (λ r. HasReport self.now moment group.now r.now) }
         ensures none { IfNone result ((r : ReportState) → ¬ HasReport self.now moment group.now r) }
@@ -226,7 +236,7 @@ impl Core {
         self.reports.find(moment, group)
     }
 
-    /// The report that is filed for this moment and the group of all its nodes, if there is one. What it says is so.
+    /// The report that is filed for this moment and the group of all its nodes, if there is one. What it says is true.
     pub fn report(&self, moment: u32) -> Option<&Report>
         ensures some { IfSome result (λ r. HasReportOfAll self.now moment r.now) }
         ensures none { IfNone result ((r : ReportState) → ¬ HasReportOfAll self.now moment r) }

@@ -73,8 +73,8 @@ impl Reports {
     }
 }
 
-/// The place of the report of this moment and group; or, as an error, where its own place would stand among the places.
-/// It is found by halving.
+/// The place of the report of this moment and group; or, as an error, where its place would go among the places. It is
+/// found by halving.
 fn search(filed: &[Report], places: &[usize], moment: u32, group: &[NodeId]) -> Result<usize, usize>
     requires { AreInOrder filed.now places.now }
     ensures found { IfOk result (λ p. (p < length filed.now) × (key_at filed.now p ≡ (moment, group.now))) }

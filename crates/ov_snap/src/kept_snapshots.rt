@@ -1,4 +1,4 @@
-ghost use Rattle.std.specs.Prelude.{◌≡◌, ◌<◌, IfSome, IfNone, OnOk, vec_len, vec_capacity};
+ghost use Rattle.std.specs.Prelude.{◌≡◌, ◌<◌, IfOk, IfSome, IfNone, OnOk, vec_len, vec_capacity};
 ghost use Rattle.ov_ids.specs.Members.{Has, Ordered};
 ghost use Rattle.ov_snap.specs.Snapshots.{WasBefore};
 ghost use Rattle.ov_snap.specs.declared.kept_snapshots.Snapshot.{Snapshot as Kept};
@@ -13,6 +13,21 @@ pub struct Snapshot {
     pub moment: u32,
     /// The links that both ends held then.
     pub graph: Graph,
+}
+
+/// What an analysis is given: the moment of a snapshot, and the links that both ends held then.
+pub type Job = Snapshot;
+
+impl Snapshot {
+    /// An equal snapshot, or out of memory (99).
+    pub(crate) fn copy(&self) -> Result<Snapshot, OutOfMemory>
+        ensures { IfOk result (λ s. s ≡ self.now) }
+    {
+        Ok(Snapshot {
+            moment: self.moment,
+            graph: self.graph.copy()?,
+        })
+    }
 }
 
 /// The snapshot of a moment, if there is one. It is found by halving.

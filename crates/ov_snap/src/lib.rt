@@ -1,21 +1,19 @@
 //! A core: a world with the snapshots of its links, the desks at which workers analyse them, and the reports that are
-//! filed of them. What each report says is so.
+//! filed of them. What each report says is true.
 #![tactic(auto)]
 
-mod analysis_input;
 mod analysis_report;
-mod desk_calls;
 mod event_and_report_calls;
 mod fault;
 mod filed_reports;
 mod kept_snapshots;
 mod running_steps;
 mod theorems;
+mod worker_desk_calls;
 
-pub use analysis_input::Job;
 pub use analysis_report::Report;
 pub use event_and_report_calls::Core;
 pub use fault::CoreFault;
-pub use kept_snapshots::Snapshot;
+pub use kept_snapshots::{Job, Snapshot};
 pub use running_steps::{CoreStep, run_core};
 pub use theorems::{every_report_is_so, every_report_stays};

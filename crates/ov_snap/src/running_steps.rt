@@ -52,8 +52,8 @@ pub enum CoreStep {
 }
 
 /// The core that these steps make, in order, of one in which nothing happened. A step that is refused changes nothing,
-/// and the next one follows. What every filed report says is so. OutOfMemory (99) is returned in place of a
-/// core where a step ran out of memory; that is so only of a step to which no refusal applies.
+/// and the next one follows. What every filed report says is true. OutOfMemory (99) is returned in place of a core
+/// if a step ran out of memory; only a step to which no refusal applies can do so.
 pub fn run_core(alloc: Global, params: Params, steps: Vec<CoreStep>) -> Result<Core, OutOfMemory>
     ensures run { IfOk result (λ c. CoreRun params steps.items c) }
     ensures so { IfOk result (λ c. (r : ReportState) → Has c.reports r → IsSo c.world.journal r) }

@@ -1,10 +1,11 @@
 ghost use Rattle.ov_snap.specs.Theorems.{EveryReportIsSo, EveryReportStays};
 
-/// The main theorem. Whatever happens to a world, and whatever is filed, what each filed report says is so: a snapshot
-/// was taken at its moment, and its graph has exactly the links that both ends held then. Crashing the k nodes that it
-/// names leaves two surviving members of its group that are not joined, or every two members are linked and k is one
-/// less than their number; without any fewer nodes every two surviving members are joined (Menger, Fund. Math. 10,
-/// 1927; Even, SIAM J. Comput. 4, 1975). The checker, given the graph, the group and the certificate alone, says yes.
+/// The main theorem. Whatever happens to a world, and whatever is filed, what each filed report says is true: a
+/// snapshot was taken at its moment, and its graph has exactly the links that both ends held then. Crashing the k nodes
+/// that it names leaves two surviving members of its group that are not joined, or every two members are linked and k
+/// is one less than their number; without any fewer nodes every two surviving members are joined (Menger, Fund. Math.
+/// 10, 1927; Even, SIAM J. Comput. 4, 1975). The checker, given the graph, the group and the certificate alone, says
+/// yes.
 pub fn every_report_is_so()
     ensures { EveryReportIsSo }
 {}

@@ -43,13 +43,13 @@ fn seeks_two(alloc: Global, graph: &Graph) -> Result<bool, OutOfMemory> {
         return Ok(false);
     };
     let mut flow = Flow::new(alloc, begun)?;
-    if flow.seek(net, 2)?.is_some() || flow.held() != 2 {
+    if flow.seek(net, 2).is_some() || flow.held() != 2 {
         return Ok(false);
     }
     let Some(net) = from_third(graph) else {
         return Ok(false);
     };
-    Ok(match flow.seek(net, 3)? {
+    Ok(match flow.seek(net, 3) {
         Some(rows) => flow.held() == 2 && is_cut_of_square(&rows),
         None => false,
     })
@@ -70,7 +70,7 @@ fn tells_two(alloc: Global, graph: &Graph) -> Result<bool, OutOfMemory> {
         return Ok(false);
     };
     let mut flow = Flow::new(alloc, begun)?;
-    if flow.seek(net, 2)?.is_some() {
+    if flow.seek(net, 2).is_some() {
         return Ok(false);
     }
     let paths = flow.paths()?;
@@ -83,45 +83,29 @@ fn tells_two(alloc: Global, graph: &Graph) -> Result<bool, OutOfMemory> {
     )
 }
 
-/// What the search for one path more answers. Out of memory leaves as many paths as before, and the search is made
-/// once more.
-fn grown(flow: &mut Flow<'_>) -> Result<Augmentation, Fail> {
-    let held = flow.held();
-    if let Ok(step) = flow.augment() {
-        return Ok(step);
-    }
-    if flow.held() != held {
-        return Err("out of memory changed the flow".into());
-    }
-    match flow.augment() {
-        Ok(step) => Ok(step),
-        Err(_) => Err("out of memory twice".into()),
-    }
-}
-
 /// The flow grows twice, and then no more.
-fn grows_twice(flow: &mut Flow<'_>) -> Result<bool, Fail> {
+fn grows_twice(flow: &mut Flow<'_>) -> bool {
     for held in 0..2 {
         if flow.held() != held {
-            return Ok(false);
+            return false;
         }
-        if let Augmentation::Stuck(_) = grown(flow)? {
-            return Ok(false);
+        if let Augmentation::Stuck(_) = flow.augment() {
+            return false;
         }
     }
-    Ok(match grown(flow)? {
+    match flow.augment() {
         Augmentation::Stuck(rows) => flow.held() == 2 && is_cut_of_square(&rows),
         Augmentation::Grew => false,
-    })
+    }
 }
 
 /// The flow of the square grows twice, one path after another.
-fn grows(alloc: Global, graph: &Graph) -> Result<bool, Fail> {
+fn grows(alloc: Global, graph: &Graph) -> Result<bool, OutOfMemory> {
     let Some(net) = from_third(graph) else {
         return Ok(false);
     };
     let mut flow = Flow::new(alloc, net)?;
-    grows_twice(&mut flow)
+    Ok(grows_twice(&mut flow))
 }
 
 #[test]

@@ -14,7 +14,7 @@ const LINKS: [(NodeId, NodeId); 3] = [
 ];
 
 /// The number of the fault; 0 where there is none.
-fn number_of(graph: Result<Graph, GraphFault>) -> u32 {
+fn number_of(graph: &Result<Graph, GraphFault>) -> u32 {
     match graph {
         Ok(_) => 0,
         Err(fault) => fault.number(),
@@ -28,7 +28,7 @@ fn fault_of_many(alloc: Global, count: u32, ascend: bool) -> Result<u32, AllocEr
         let node = if ascend { number } else { count - number };
         nodes.push(NodeId(node))?;
     }
-    Ok(number_of(Graph::new(alloc, &nodes, &[])))
+    Ok(number_of(&Graph::new(alloc, &nodes, &[])))
 }
 
 /// How many nodes, whether they ascend, and the number of their fault.
@@ -69,7 +69,7 @@ static FAULTS: [FaultRow; 11] = [
 #[test]
 fn the_first_fault_is_told(rt: HostRuntime) {
     for (i, (nodes, links, number)) in FAULTS.iter().enumerate() {
-        let fault = number_of(graph(rt.alloc(), Drawn { nodes, links }));
+        let fault = number_of(&graph(rt.alloc(), Drawn { nodes, links }));
         assert_eq!(rt; fault, *number, "in row {i}");
     }
 }

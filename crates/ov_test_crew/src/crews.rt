@@ -110,15 +110,27 @@ fn find<R: Threads + Sync, G: Gate>(
     Ok(gives(checked.cert(), row))
 }
 
-/// Counts how often it is told of the beginning of a level, and of other places.
+/// Counts how often it is told of the beginning of a level, and of other places, for a group of so many members.
 #[derive(Drop)]
 struct Levels {
+    members: usize,
     begun: u64,
     others: u64,
+    /// Each level has been told with its size, and each place is one of its level.
+    is_right: bool,
+}
+
+/// The number of pieces of a level: a pair for every two of the first `level` members, and a fan for each later one.
+fn level_size(members: usize, level: usize) -> usize {
+    let pairs = level.saturating_mul(level.saturating_sub(1)) / 2;
+    pairs.saturating_add(members.saturating_sub(level))
 }
 
 impl Watcher for Levels {
-    fn sees(&mut self, _level: usize, place: usize, _size: usize) {
+    fn sees(&mut self, level: usize, place: usize, size: usize) {
+        if place >= size || size != level_size(self.members, level) {
+            self.is_right = false;
+        }
         if place == 0 {
             self.begun = self.begun.saturating_add(1);
         } else {
@@ -127,7 +139,8 @@ impl Watcher for Levels {
     }
 }
 
-/// So many workers find the answer. A watcher is told of a level, and by one worker of further pieces too.
+/// So many workers find the answer. A watcher is told of each level with its size, and by one worker of further pieces
+/// too.
 fn find_watched<R: Threads + Sync>(
     rt: &R,
     alloc: Global,
@@ -136,13 +149,15 @@ fn find_watched<R: Threads + Sync>(
 ) -> Result<bool, Fail> {
     let workers = crew_of(count)?;
     let graph = of_size(alloc, row.family, row.nodes)?;
+    let group = graph.nodes();
     let mut levels = Levels {
+        members: group.len(),
         begun: 0,
         others: 0,
+        is_right: true,
     };
-    let group = graph.nodes();
     let checked = analyse_group_watched(rt, alloc, &graph, group, workers, &OpenGate, &mut levels)?;
-    let is_told = levels.begun > 0 && (levels.others > 0) == (count == 1);
+    let is_told = levels.is_right && levels.begun > 0 && (levels.others > 0) == (count == 1);
     Ok(gives(checked.cert(), row) && is_told)
 }
 

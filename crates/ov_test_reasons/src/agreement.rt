@@ -1,4 +1,4 @@
-//! Of each line that the programs do not read something is found to say.
+//! Of each line that can't be read something is said.
 use crate::told_files::{graph_told, scenario_told};
 use ov_ids::OutOfMemory;
 use std::alloc::Global;
@@ -90,15 +90,15 @@ fn second(alloc: Global, name: &str, tail: &str) -> Result<String, OutOfMemory> 
     Ok(file)
 }
 
-/// What is said of a line at fault where nothing was found to say of it.
-const NOTHING_FOUND: &str = "this line can't be read";
+/// What is said of the second line if nothing is.
+const NOTHING: &str = "line 2: \n";
 
-/// Whether something is found to say of this line in a scenario file and in a graph file, if it is at fault there.
+/// Whether something is said of this line in a scenario file and in a graph file, if it is at fault there.
 fn has_words(alloc: Global, name: &str, tail: &str) -> Result<bool, OutOfMemory> {
     let file = second(alloc, name, tail)?;
     let scenario = scenario_told(alloc, file.as_bytes())?;
     let graph = graph_told(alloc, file.as_bytes())?;
-    Ok(!scenario.as_str().contains(NOTHING_FOUND) && !graph.as_str().contains(NOTHING_FOUND))
+    Ok(!scenario.as_str().contains(NOTHING) && !graph.as_str().contains(NOTHING))
 }
 
 #[test]

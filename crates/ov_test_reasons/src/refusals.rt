@@ -1,7 +1,7 @@
 //! Why lines of scenarios are refused when they are run.
 use ov_ids::OutOfMemory;
 use ov_reasons::{count_line, refusal_line, refusal_reason};
-use ov_run::{Line, read_scenario};
+use ov_scenario::{Line, read_scenario};
 use ov_snap::Core;
 use std::alloc::Global;
 use std::fmt::Write;

@@ -1,5 +1,5 @@
 //! The numbers of the lines of a scenario file that run.
-use ov_run::numbers_of_run_lines;
+use ov_scenario::numbers_of_run_lines;
 use std::test::Fail;
 
 /// Scenario files, and the numbers of their lines that run.

@@ -1,7 +1,9 @@
 //! What is told of files: the lines, what is said of each, each as it is shown, and where its mark stands.
+use ov_graphfile::{GraphFileFault, UnreadLine, read_graph};
 use ov_ids::OutOfMemory;
-use ov_reasons::{graph_reasons, scenario_reasons};
-use ov_run::{RunFault, read_graph, read_scenario};
+use ov_lines::{END, Unread};
+use ov_reasons::{OUT_OF_MEMORY, READING_FAILED, WRITING_FAILED, graph_reasons, scenario_reasons};
+use ov_scenario::{ScenarioFault, read_scenario};
 use std::alloc::Global;
 use std::fmt::Write;
 use std::test::Fail;
@@ -35,15 +37,17 @@ fn all_told(alloc: Global, lines: &[Told]) -> Result<String, OutOfMemory> {
 pub(crate) fn scenario_told(alloc: Global, file: &[u8]) -> Result<String, OutOfMemory> {
     match read_scenario(alloc, file) {
         Ok(_) => Ok(String::new(alloc)),
-        Err(fault) => scenario_reasons(alloc, file, &fault),
+        Err(ScenarioFault::Line(_)) => scenario_reasons(alloc, file),
+        Err(ScenarioFault::OutOfMemory) => Err(OutOfMemory),
     }
 }
 
 /// What is told of a graph file that is refused.
 pub(crate) fn graph_told(alloc: Global, file: &[u8]) -> Result<String, OutOfMemory> {
-    match read_graph(alloc, file) {
+    let read = read_graph(alloc, file);
+    match &read {
         Ok(_) => Ok(String::new(alloc)),
-        Err(fault) => graph_reasons(alloc, file, &fault),
+        Err(fault) => graph_reasons(alloc, file, fault),
     }
 }
 
@@ -623,25 +627,26 @@ fn told_of_nodes(alloc: Global, count: usize) -> Result<String, OutOfMemory> {
     graph_told(alloc, file.as_bytes())
 }
 
-/// Faults that no line of these files has, and what is told of them.
-static OTHERS: [(RunFault, &str); 4] = [
-    (
-        RunFault::Read,
-        "reading failed, or the file can't be opened\n",
-    ),
-    (RunFault::Write, "writing failed\n"),
-    (RunFault::OutOfMemory, "out of memory\n"),
-    (RunFault::Line(7), ""),
-];
+/// A fault that no line of a file without faults has.
+const NO_FAULT: UnreadLine = UnreadLine {
+    line: 7,
+    unread: Unread { at: 0, wanted: END },
+};
 
 #[test]
 fn other_faults_are_told(rt: HostRuntime) -> Result<(), Fail> {
-    for (fault, text) in &OTHERS {
-        let told = scenario_reasons(rt.alloc(), b"boot 1\n", fault)?;
-        assert_eq!(rt; told.as_str(), *text);
-        let told = graph_reasons(rt.alloc(), b"node 1\n", fault)?;
-        assert_eq!(rt; told.as_str(), *text);
-    }
+    assert_eq!(rt;
+        READING_FAILED,
+        "reading failed, or the file can't be opened\n"
+    );
+    assert_eq!(rt; WRITING_FAILED, "writing failed\n");
+    assert_eq!(rt; OUT_OF_MEMORY, "out of memory\n");
+    let told = scenario_reasons(rt.alloc(), b"boot 1\n")?;
+    assert_eq!(rt; told.as_str(), "");
+    let told = graph_reasons(rt.alloc(), b"node 1\n", &GraphFileFault::Line(NO_FAULT))?;
+    assert_eq!(rt; told.as_str(), "");
+    let told = graph_reasons(rt.alloc(), b"node 1\n", &GraphFileFault::OutOfMemory)?;
+    assert_eq!(rt; told.as_str(), OUT_OF_MEMORY);
     let text =
         "line 1025: a graph has at most 1024 nodes, and this file has 1030\n  node 1024\n       ^\n";
     assert_eq!(rt; told_of_nodes(rt.alloc(), 1030)?.as_str(), text);

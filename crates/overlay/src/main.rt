@@ -2,30 +2,29 @@
 //! nodes part it.
 #![tactic(auto)]
 
-ghost use Rattle.std.specs.Prelude.{◌≡◌, ◌≢◌, ◌⊎◌, ◌+◌, ◌<◌, drop, map, option_map, string_bytes};
+ghost use Rattle.std.specs.Prelude.{◌≡◌, ◌≢◌, ◌⊎◌, ◌<◌, drop, map, option_map, string_bytes};
 ghost use Rattle.std.specs.Prelude.{Some, Err, IfOk, IfErr, IfSome, OnOk};
+ghost use Rattle.ov_arguments.specs.Arguments.{AreTaken};
+ghost use Rattle.ov_arguments.specs.declared.arguments.ArgumentsFault.TheVariants.{BadArguments};
 ghost use Rattle.ov_io.specs.Device.{most_faults};
-ghost use Rattle.ov_run.specs.Analysing.{PrintsAnalysis, BeginsAnalysis};
-ghost use Rattle.ov_run.specs.Arguments.{AreTaken};
-ghost use Rattle.ov_run.specs.Ending.{Begins};
-ghost use Rattle.ov_run.specs.Faults.{write_faults, IsAnalysisFault, IsOfReading, IsRunFault};
-ghost use Rattle.ov_run.specs.Run.{IsRun};
-ghost use Rattle.ov_run.specs.Running.{PrintsScenario};
-ghost use Rattle.ov_run.specs.declared.arguments.ArgumentsFault.TheVariants.{BadArguments};
-ghost use Rattle.ov_run.specs.declared.program_outcome.ProgramFault.TheVariants.{Arguments, Run};
+ghost use Rattle.ov_run.specs.Analysing.{IsAnalysisOf};
+ghost use Rattle.ov_run.specs.Run.{IsRunOf};
+ghost use Rattle.overlay.specs.declared.program_outcome.ProgramFault.TheVariants.{Arguments, Run};
 
-mod explaining;
+mod fault_reasons;
+mod program_outcome;
 mod progress;
+mod refusal_watcher;
 
-use crate::explaining::Explaining;
+use crate::fault_reasons::{analysis_reason, run_reason};
+use crate::program_outcome::{ProgramFault, exit_status};
 use crate::progress::Progress;
+use crate::refusal_watcher::Explaining;
+use ov_arguments::{AnalysisRequest, ArgumentsFault, Request, read_arguments};
 use ov_ids::{NodeId, OutOfMemory};
 use ov_io::{Sink, Source, unopened_text, unread_text};
-use ov_reasons::{argument_reasons, graph_reasons, group_reason, scenario_reasons};
-use ov_run::{
-    AnalysisRequest, ArgumentsFault, ProgramFault, Request, RunFault, analyse_file, exit_status,
-    read_arguments, run, run_watched,
-};
+use ov_reasons::{argument_reasons, group_reason};
+use ov_run::{RunFault, analyse_bytes, run_bytes};
 use std::env;
 use std::fs::File;
 use std::io::{self, IsTerminal, Read, Write};
@@ -145,8 +144,9 @@ fn not_opened(rt: &HostRuntime, path: &str, error: io::Error) -> RunFault
 fn not_read(rt: &HostRuntime, name: &str, fault: RunFault) -> RunFault
     ensures { result ≡ fault }
 {
+    let is_memory = matches!(&fault, RunFault::OutOfMemory);
     let ended = print_fault(rt, fault);
-    if let RunFault::OutOfMemory = fault {
+    if is_memory {
         let _ = eprintln!(rt; "out of memory");
     } else if let Ok(text) = unread_text(rt.alloc(), name) {
         let _ = eprintln!(rt; "{text}");
@@ -199,7 +199,6 @@ fn run_asked<T: Threads + Sync>(
 }
 
 /// Runs the scenario of a reader that has this name. Where it is to be explained, it is told why lines are refused.
-#[tactic(auto, using(crate::proofs::OfReader::scenario_prints, crate::proofs::OfReader::run_fault))]
 fn run_from<T: Threads + Sync, R: Read + Drop, W: Write>(
     rt: &HostRuntime,
     threads: &T,
@@ -209,22 +208,15 @@ fn run_from<T: Threads + Sync, R: Read + Drop, W: Write>(
     explain: bool,
 ) -> Result<u8, RunFault>
     requires { sink.old.faults < most_faults }
-    ensures status { IfOk result (λ status. status ≡ 0) }
-    ensures prints { OnOk result
-        (PrintsScenario (R.remaining reader) (W.contents sink.old.writer) (W.contents sink.new.writer)) }
-    ensures begun { (sink.new ≡ sink.old)
-        ⊎ Begins (R.remaining reader) (W.contents sink.old.writer) (W.contents sink.new.writer) }
-    ensures sink { sink.new.faults ≡ sink.old.faults + write_faults result }
-    ensures fault { IfErr result (IsRunFault (R.remaining reader)) }
-    ensures unread { IfErr result (λ fault. IsOfReading fault → sink.new ≡ sink.old) }
+    ensures run { IsRunOf (R.remaining reader) W.contents sink.old sink.new result }
 {
     let bytes = bytes_of(rt, reader, name)?;
-    Ok(run_bytes(rt, threads, &bytes, sink, explain)?)
+    run_told(rt, threads, &bytes, sink, explain)
 }
 
 /// Runs the scenario of these bytes. A fault of it is told of. Where the run is to be explained, it is told why lines
 /// are refused, and at the end how many events are.
-fn run_bytes<T: Threads + Sync, W: Write>(
+fn run_told<T: Threads + Sync, W: Write>(
     rt: &HostRuntime,
     threads: &T,
     bytes: &[u8],
@@ -232,47 +224,20 @@ fn run_bytes<T: Threads + Sync, W: Write>(
     explain: bool,
 ) -> Result<u8, RunFault>
     requires { sink.old.faults < most_faults }
-    ensures status { IfOk result (λ status. status ≡ 0) }
-    ensures prints { OnOk result
-        (PrintsScenario (Some bytes.now) (W.contents sink.old.writer) (W.contents sink.new.writer)) }
-    ensures begun { (sink.new ≡ sink.old)
-        ⊎ Begins (Some bytes.now) (W.contents sink.old.writer) (W.contents sink.new.writer) }
-    ensures sink { sink.new.faults ≡ sink.old.faults + write_faults result }
-    ensures fault { IfErr result (IsRunFault (Some bytes.now)) }
-    ensures unread { IfErr result (λ fault. IsOfReading fault → sink.new ≡ sink.old) }
+    ensures run { IsRunOf (Some bytes.now) W.contents sink.old sink.new result }
 {
-    let mut explaining = if explain {
-        Explaining::new(rt, bytes)
-    } else {
-        None
-    };
-    let mut source = Source::new(bytes);
-    let answer = run_told(rt, threads, &mut source, sink, &mut explaining);
-    if let Err(fault) = answer {
-        print_fault(rt, fault);
-        print_reason(rt, scenario_reasons(rt.alloc(), bytes, &fault));
-    }
-    if let Some(explaining) = &explaining {
-        explaining.tell_count();
-    }
+    let mut explaining = Explaining::new(rt, bytes, explain);
+    let answer = run_bytes(threads, rt.alloc(), bytes, sink, &mut explaining);
+    tell_fault(rt, bytes, &answer);
+    explaining.tell_count();
     answer
 }
 
-/// Runs a scenario. Where the run is to be explained, `explaining` is told what becomes of each line.
-fn run_told<T: Threads + Sync, R: Read, W: Write>(
-    rt: &HostRuntime,
-    threads: &T,
-    source: &mut Source<R>,
-    sink: &mut Sink<W>,
-    explaining: &mut Option<Explaining<'_>>,
-) -> Result<u8, RunFault>
-    requires reads { source.old.faults < most_faults }
-    requires writes { sink.old.faults < most_faults }
-    ensures run { IsRun R.remaining W.contents source.old sink.old source.new sink.new result }
-{
-    match explaining {
-        Some(explaining) => run_watched(threads, rt.alloc(), source, sink, explaining),
-        None => run(threads, rt.alloc(), source, sink),
+/// Prints the line of the fault of a run of these bytes, if it has one, and why there is one.
+fn tell_fault(rt: &HostRuntime, bytes: &[u8], answer: &Result<u8, RunFault>) {
+    if let Err(fault) = answer {
+        print_fault(rt, *fault);
+        print_reason(rt, run_reason(rt.alloc(), bytes, fault));
     }
 }
 
@@ -294,7 +259,6 @@ fn analyse_asked<T: Threads + Sync>(
 }
 
 /// Analyses the graph of a reader that has this name.
-#[tactic(auto, using(crate::proofs::OfReader::analysis_prints, crate::proofs::OfReader::analysis_fault))]
 fn analyse_from<T: Threads + Sync, R: Read + Drop, W: Write>(
     rt: &HostRuntime,
     threads: &T,
@@ -304,58 +268,41 @@ fn analyse_from<T: Threads + Sync, R: Read + Drop, W: Write>(
     analysis: &AnalysisRequest,
 ) -> Result<u8, RunFault>
     requires { sink.old.faults < most_faults }
-    ensures status { IfOk result (λ status. status ≡ 0) }
-    ensures prints { OnOk result
-        (PrintsAnalysis (R.remaining reader) (option_map (λ ids. ids.items) analysis.now.group)
-        analysis.now.certificate (W.contents sink.old.writer) (W.contents sink.new.writer)) }
-    ensures begun { (sink.new ≡ sink.old)
-        ⊎ BeginsAnalysis (R.remaining reader) (option_map (λ ids. ids.items) analysis.now.group)
-        analysis.now.certificate (W.contents sink.old.writer) (W.contents sink.new.writer) }
-    ensures sink { sink.new.faults ≡ sink.old.faults + write_faults result }
-    ensures unwritten { IfErr result (λ fault. ¬ (fault ≡ RunFault.Write) → sink.new ≡ sink.old) }
-    ensures fault { IfErr result (IsAnalysisFault (R.remaining reader)) }
+    ensures analysis { IsAnalysisOf (R.remaining reader) W.contents sink.old
+        (option_map (λ ids. ids.items) analysis.now.group) analysis.now.certificate sink.new result }
 {
     let bytes = bytes_of(rt, reader, name)?;
-    Ok(analyse_bytes(rt, threads, &bytes, sink, analysis)?)
+    analyse_told(rt, threads, &bytes, sink, analysis)
 }
 
 /// Analyses the graph file of these bytes. A fault of it is told of, and so is a refusal.
-fn analyse_bytes<T: Threads + Sync, W: Write>(
+fn analyse_told<T: Threads + Sync, W: Write>(
     rt: &HostRuntime,
     threads: &T,
     bytes: &[u8],
     sink: &mut Sink<W>,
     analysis: &AnalysisRequest,
 ) -> Result<u8, RunFault>
-    requires writes { sink.old.faults < most_faults }
-    ensures status { IfOk result (λ status. status ≡ 0) }
-    ensures prints { OnOk result
-        (PrintsAnalysis (Some bytes.now) (option_map (λ ids. ids.items) analysis.now.group) analysis.now.certificate
-        (W.contents sink.old.writer) (W.contents sink.new.writer)) }
-    ensures begun { (sink.new ≡ sink.old)
-        ⊎ BeginsAnalysis (Some bytes.now) (option_map (λ ids. ids.items) analysis.now.group) analysis.now.certificate
-        (W.contents sink.old.writer) (W.contents sink.new.writer) }
-    ensures sink { sink.new.faults ≡ sink.old.faults + write_faults result }
-    ensures unwritten { IfErr result (λ fault. ¬ (fault ≡ RunFault.Write) → sink.new ≡ sink.old) }
-    ensures fault { IfErr result (IsAnalysisFault (Some bytes.now)) }
+    requires { sink.old.faults < most_faults }
+    ensures analysis { IsAnalysisOf (Some bytes.now) W.contents sink.old
+        (option_map (λ ids. ids.items) analysis.now.group) analysis.now.certificate sink.new result }
 {
-    let mut source = Source::new(bytes);
     let mut progress = Progress::new(rt, analysis.progress || rt.stderr().is_terminal());
-    let answer = analyse_file(
+    let answer = analyse_bytes(
         threads,
         rt.alloc(),
-        &mut source,
+        bytes,
         sink,
         analysis.group.as_deref(),
         analysis.workers,
         analysis.certificate,
         &mut progress,
     );
-    match answer {
+    match &answer {
         Ok(_) => print_refusal(rt, bytes, analysis.group.as_deref()),
         Err(fault) => {
-            print_fault(rt, fault);
-            print_reason(rt, graph_reasons(rt.alloc(), bytes, &fault));
+            print_fault(rt, *fault);
+            print_reason(rt, analysis_reason(rt.alloc(), bytes, fault));
         }
     }
     answer

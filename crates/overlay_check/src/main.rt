@@ -4,10 +4,11 @@
 ghost use Rattle.std.specs.Prelude.{◌≡◌, ◌+◌, ◌<◌, Err, IfOk};
 ghost use Rattle.ov_io.specs.Device.{most_faults, write_faults};
 ghost use Rattle.ov_check.specs.Faults.{number_of};
+ghost use Rattle.ov_check.specs.Outcome.{status_of};
 ghost use Rattle.ov_check.specs.Run.{Prints};
 
 use ov_check::{
-    JudgeFault, Judged, ProgramFault, exit_status, failure_text, input_named, judge_kept,
+    JudgeFault, Outcome, ProgramFault, exit_status, failure_text, input_named, judge_kept,
     why_no_input,
 };
 use ov_check_reasons::reasons;
@@ -97,10 +98,7 @@ fn judge_from<R: Runtime + AllocGlobal + Threads + Sync, I: Read + Drop, W: Writ
 {
     let mut source = Source::new(reader);
     match judge_kept(rt, &mut source, sink) {
-        Ok(judged) => {
-            explain(rt, &judged);
-            Ok(judged.outcome.status())
-        }
+        Ok(outcome) => Ok(explained(rt, outcome)),
         Err(fault) => {
             let ended = print_fault(rt, fault);
             if let Ok(text) = failure_text(rt.alloc(), fault, name) {
@@ -111,12 +109,20 @@ fn judge_from<R: Runtime + AllocGlobal + Threads + Sync, I: Read + Drop, W: Writ
     }
 }
 
-/// Prints on standard error why a certificate does not hold, or why a file is refused.
-fn explain<R: Runtime + AllocGlobal>(rt: &R, judged: &Judged) {
-    if judged.outcome.status() == 0 {
-        return;
+/// The status of an outcome. If it is not 0 it is printed on standard error why the certificate does not hold, or why
+/// the file is refused.
+fn explained<R: Runtime + AllocGlobal>(rt: &R, outcome: Outcome) -> u8
+    ensures { result ≡ status_of outcome }
+{
+    let status = outcome.status();
+    if status != 0 {
+        explain(rt, &outcome);
     }
-    if let Ok(text) = reasons(rt.alloc(), &judged.bytes, &judged.outcome) {
+    status
+}
+
+fn explain<R: Runtime + AllocGlobal>(rt: &R, outcome: &Outcome) {
+    if let Ok(text) = reasons(rt.alloc(), outcome) {
         let _ = eprintln!(rt; "{text}");
     }
 }

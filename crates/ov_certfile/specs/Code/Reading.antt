@@ -1,111 +1,91 @@
 -- The results of the functions that read a file.
-use Rattle.std.specs.Prelude.{◌≡◌, ℕ, true, false, List, [], ◌∷◌, codes, is_some, Option, Some, None, Result, Ok, Err}
+use Rattle.std.specs.Prelude.{◌≡◌, ℕ, true, List, codes, is_some, Option, Some, None, Result, Ok, Err}
 use Rattle.serde_json.specs.Data.{Data}
 use Rattle.serde_json.specs.Find.{as_object}
 use Rattle.ov_graph.specs.Links.{LinkGraph}
-use Rattle.ov_graph.specs.declared.fault.GraphFault.{GraphFault}
 use Rattle.ov_cert.specs.declared.cert.Cert.{Cert}
-use Rattle.ov_certfile.specs.Keys.{has_all, has_no_other, said}
+use Rattle.ov_certfile.specs.Keys.{has_no_other, said}
 use Rattle.ov_certfile.specs.Forms.{count_in, moment_in, ids_in, links_in}
-use Rattle.ov_certfile.specs.Kinds.{Key, key, version_in, verdict_in, version_keys, verdict_keys, keys_of, names_of}
-use Rattle.ov_certfile.specs.Demands.{has_forms, FileGraphJudged}
-use Rattle.ov_certfile.specs.Says.{SaysGraph, SaysGroup, SaysCert}
+use Rattle.ov_certfile.specs.Kinds.{version_in, verdict_in, verdict_keys, keys_of, names_of}
+use Rattle.ov_certfile.specs.FaultKinds as kind
+use Rattle.ov_certfile.specs.Demands.{missing, misformed, FileGraphJudged}
+use Rattle.ov_certfile.specs.Says.{SaysCert}
+use Rattle.ov_certfile.specs.declared.file_keys.Key.{Key}
+use Rattle.ov_certfile.specs.declared.value_fault.ValueFault.{ValueFault}
+use Rattle.ov_certfile.specs.declared.value_fault.ValueFault.TheVariants as value
 use Rattle.ov_certfile.specs.declared.fault.FileFault.{FileFault}
 use Rattle.ov_certfile.specs.declared.fault.FileFault.TheVariants.{NotJson, MissingKey, UnknownKey, BadValue}
 use Rattle.ov_certfile.specs.declared.fault.FileFault.TheVariants.{BadVersion, Graph, OutOfMemory}
 use Rattle.ov_certfile.specs.declared.version.Version.{Version}
 use Rattle.ov_certfile.specs.declared.version.Version.TheVariants.{One, Two}
 use Rattle.ov_certfile.specs.declared.verdict.Verdict.{Verdict}
+use Rattle.ov_certfile.specs.declared.reading.Listed.{Listed}
 
--- the fault is BadValue, and P holds; or it is out of memory
-abbrev pub IsBadValue : Type 0 → FileFault → Type 0
-IsBadValue P OutOfMemory = Unit {0}
-IsBadValue P BadValue = P
-IsBadValue P NotJson = ⊥
-IsBadValue P MissingKey = ⊥
-IsBadValue P UnknownKey = ⊥
-IsBadValue P BadVersion = ⊥
-IsBadValue P (Graph f) = ⊥
+-- the fault is that the value lacks the form, and P holds; or it is out of memory
+abbrev pub IsMisfit : Type 0 → ValueFault → Type 0
+IsMisfit P (value.Misfit m) = P
+IsMisfit P value.OutOfMemory = Unit {0}
 
--- the value read, seen by `view`, is the one that was found; BadValue only if none was found
-abbrev pub Reads : {X Y : Type 0} → (X → Y) → Result X FileFault → Option Y → Type 0
+-- the value read, seen by `view`, is the one that was found; a misfit only if none was found
+abbrev pub Reads : {X Y : Type 0} → (X → Y) → Result X ValueFault → Option Y → Type 0
 Reads view (Ok x) found = found ≡ Some (view x)
-Reads view (Err e) found = IsBadValue (found ≡ None) e
+Reads view (Err e) found = IsMisfit (found ≡ None) e
+
+-- the fault is a bad value at this key, and P holds; or it is out of memory
+abbrev pub IsBadAt : Key → Type 0 → FileFault → Type 0
+IsBadAt key P (BadValue bad) = (bad.key ≡ Some key) × P
+IsBadAt key P OutOfMemory = Unit {0}
+IsBadAt key P (NotJson place) = ⊥
+IsBadAt key P (MissingKey other) = ⊥
+IsBadAt key P (UnknownKey at v w) = ⊥
+IsBadAt key P BadVersion = ⊥
+IsBadAt key P (Graph f) = ⊥
+
+-- the value read at a key, seen by `view`, is the one that was found; a bad value at that key only if none was found
+abbrev pub ReadsAt : {X Y : Type 0} → Key → (X → Y) → Result X FileFault → Option Y → Type 0
+ReadsAt key view (Ok x) found = found ≡ Some (view x)
+ReadsAt key view (Err e) found = IsBadAt key (found ≡ None) e
 
 -- the heading of a file: the value is an object of this version and verdict, with exactly their keys
 pub record IsHeaded (version : Version) (verdict : Verdict) (d : Data) : Type 0 where
   pub an_object : is_some (as_object d) ≡ true
   pub version_said : said version_in (codes "version") d ≡ Some version
   pub verdict_said : said verdict_in (codes "verdict") d ≡ Some verdict
-  pub all : has_all (names_of (keys_of version verdict)) d ≡ true
+  pub all : missing (keys_of version verdict) d ≡ None
   pub no_other : has_no_other (names_of (keys_of version verdict)) d ≡ true
 
--- the keys of the certificate
-abbrev pub cert_keys : Verdict → List Key
-cert_keys verdict = key (codes "k") count_in ∷ verdict_keys verdict
-
--- the certificate, if the file has this verdict
-pub record IsCert (verdict : Verdict) (d : Data) (c : Cert) : Type 0 where
-  pub forms : has_forms (cert_keys verdict) d ≡ true
-  pub says : said verdict_in (codes "verdict") d ≡ Some verdict → SaysCert d c
-
--- the keys of the graph
-abbrev pub graph_keys : List Key
-graph_keys = key (codes "nodes") ids_in ∷ key (codes "links") links_in ∷ []
-
--- the keys of the moment, the graph and the group
-abbrev pub dated_keys : Version → List Key
-dated_keys version =
-    key (codes "moment") moment_in ∷ key (codes "nodes") ids_in ∷ key (codes "links") links_in ∷ version_keys version
-
--- each of these keys has a value of its form, and the nodes and links have this first fault as a graph
-pub record HasGraphFault (version : Version) (keys : List Key) (d : Data) (fault : GraphFault) : Type 0 where
-  pub forms : has_forms keys d ≡ true
-  pub given : LinkGraph
-  pub graph : SaysGraph d given
-  pub judged : FileGraphJudged version given (Some fault)
-
--- some key has no value of its form, and the fault is BadValue; or the fault is out of memory
+-- the value at the first of these keys that lacks its form is the bad one; or the fault is out of memory
 abbrev pub LacksForm : List Key → Data → FileFault → Type 0
-LacksForm keys d e = IsBadValue (has_forms keys d ≡ false) e
+LacksForm keys d (BadValue bad) = misformed keys d ≡ Some (kind.BadValue bad.key)
+LacksForm keys d OutOfMemory = Unit {0}
+LacksForm keys d (NotJson place) = ⊥
+LacksForm keys d (MissingKey key) = ⊥
+LacksForm keys d (UnknownKey at v w) = ⊥
+LacksForm keys d BadVersion = ⊥
+LacksForm keys d (Graph f) = ⊥
 
--- some key has no value of its form, and the fault is BadValue; or the nodes and links are no graph, and the fault is
--- theirs; or the fault is out of memory
-abbrev pub IsUndated : Version → List Key → Data → FileFault → Type 0
-IsUndated version keys d OutOfMemory = Unit {0}
-IsUndated version keys d BadValue = has_forms keys d ≡ false
-IsUndated version keys d NotJson = ⊥
-IsUndated version keys d MissingKey = ⊥
-IsUndated version keys d UnknownKey = ⊥
-IsUndated version keys d BadVersion = ⊥
-IsUndated version keys d (Graph f) = HasGraphFault version keys d f
-
--- the graph of the file, whose nodes were read before
-pub record IsGraphed (version : Version) (d : Data) (nodes : List ℕ) (g : LinkGraph) : Type 0 where
-  pub forms : has_forms graph_keys d ≡ true
-  pub graph : SaysGraph d g
-  pub same : nodes ≡ g.nodes
-  pub judged : FileGraphJudged version g None
-
--- the moment, the graph and the group of the file
-pub record IsDated (version : Version) (d : Data) (moment : ℕ) (g : LinkGraph) (group : List ℕ) : Type 0 where
-  pub forms : has_forms (dated_keys version) d ≡ true
-  pub moment_said : said moment_in (codes "moment") d ≡ Some moment
-  pub graph : SaysGraph d g
-  pub judged : FileGraphJudged version g None
-  pub group_said : SaysGroup d version g group
+-- the moment, the nodes and the links in the value
+pub record IsListed (d : Data) (listed : Listed) : Type 0 where
+  pub links : said links_in (codes "links") d ≡ Some listed.links
+  pub moment : said moment_in (codes "moment") d ≡ Some listed.moment
+  pub nodes : said ids_in (codes "nodes") d ≡ Some listed.nodes
 
 -- the group that version 2 names; version 1 names none
 abbrev pub IsNamed : Version → Data → Option (List ℕ) → Type 0
 IsNamed One d named = named ≡ None
 IsNamed Two d named = (said ids_in (codes "group") d ≡ named) × (is_some named ≡ true)
 
+-- the certificate, if the file has this verdict and this k
+pub record IsCert (verdict : Verdict) (k : ℕ) (d : Data) (c : Cert) : Type 0 where
+  pub forms : misformed (verdict_keys verdict) d ≡ None
+  pub says : said verdict_in (codes "verdict") d ≡ Some verdict → said count_in (codes "k") d ≡ Some k → SaysCert d c
+
 -- the fault is the first fault of the nodes and links as a graph; or it is out of memory
 abbrev pub IsGraphFault : Version → LinkGraph → FileFault → Type 0
-IsGraphFault version g OutOfMemory = Unit {0}
 IsGraphFault version g (Graph f) = FileGraphJudged version g (Some f)
-IsGraphFault version g NotJson = ⊥
-IsGraphFault version g MissingKey = ⊥
-IsGraphFault version g UnknownKey = ⊥
-IsGraphFault version g BadValue = ⊥
+IsGraphFault version g OutOfMemory = Unit {0}
+IsGraphFault version g (NotJson place) = ⊥
+IsGraphFault version g (MissingKey key) = ⊥
+IsGraphFault version g (UnknownKey at v w) = ⊥
+IsGraphFault version g (BadValue bad) = ⊥
 IsGraphFault version g BadVersion = ⊥

@@ -5,7 +5,7 @@ use Rattle.ov_claims.specs.Claims.{WorkerState, DeskState, HasWorker, MayWork}
 use Rattle.ov_claims.specs.Steps.{IsLast}
 use Rattle.ov_even.specs.declared.worker_haul.Haul.{Haul}
 use Rattle.ov_desk.specs.Desk.{GroupDeskState, HasHand, IsNumberIn}
-use Rattle.ov_desk.specs.declared.next_turn.Hand.{Hand}
+use Rattle.ov_desk.specs.declared.piece_in_hand.Hand.{Hand}
 
 -- the pieces of each haul
 abbrev pub pieces_in : List Haul → List (List Settled)

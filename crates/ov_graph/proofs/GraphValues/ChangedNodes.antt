@@ -8,8 +8,9 @@ use Rattle.std.proofs.lemmas.List.Edits.{length-remove, get_or-remove_below, get
 use Rattle.ov_ids.specs.Members.{Has, Ascends}
 use Rattle.ov_ids.specs.Sets.{has, adding, without, count_below}
 use Rattle.ov_ids.proofs.Members.{has_tested, has_place, same_ordered}
-use Rattle.ov_ids.proofs.Sets.{IsSet-adding, IsSet-without, adding_absent, without_present, count_below-le-length}
-use Rattle.ov_graph.specs.Links.{Precedes, most_nodes}
+use Rattle.ov_ids.proofs.Sets.{IsSet-adding, IsSet-without, adding_absent, without_absent, without_present}
+use Rattle.ov_ids.proofs.Sets.{count_below-le-length}
+use Rattle.ov_graph.specs.Links.{LinkGraph, IsGraph, Precedes, most_nodes}
 use Rattle.ov_graph.specs.Changes.{GainsNode, LosesNode}
 use Rattle.ov_graph.specs.Row.{HasBit}
 use Rattle.ov_graph.specs.Code.Shifts.{HasOpened, HasClosed}
@@ -391,3 +392,18 @@ loses_node nodes rows rows' id p words kept l at enough taken =
         );
       },
     )
+
+-- without an id that is no node the graph is the same
+pub loses_none : (g : LinkGraph) (id : ℕ) → IsGraph g → ¬ Has g.nodes id → LosesNode g id g
+loses_none g id graph out =
+    let unknown = false_from_ne_true (has g.nodes id)
+    (λ t. out ((has_tested g.nodes id (has g.nodes id) refl).0 t)) in
+    record {
+      nodes = sym (without_absent id g.nodes unknown);
+      links = λ l. (
+        (λ h.
+            let joins = graph.joins l h in
+            (h, (λ e. out (subst (Has g.nodes) e joins.1)), (λ e. out (subst (Has g.nodes) e joins.2)))),
+        (λ h. h.0),
+      );
+    }

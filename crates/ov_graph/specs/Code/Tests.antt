@@ -1,12 +1,14 @@
 -- Computable tests of the definitions for graphs.
-use Rattle.std.specs.Prelude.{ℕ, ◌&&◌, ◌||◌, ◌==◌, Bool, true, List, [], ◌∷◌, length, filter, nat_lt, if◌then◌else◌}
+use Rattle.std.specs.Prelude.{ℕ, suc, ◌&&◌, ◌||◌, ◌==◌, Bool, List, [], ◌∷◌, length, filter, nat_lt, if◌then◌else◌}
 use Rattle.std.specs.Prelude.{Option, Some, None}
 use Rattle.std.specs.List.{list_any}
+use Rattle.std.specs.Option.{option_map, option_or}
 use Rattle.ov_ids.specs.Sets.{has}
-use Rattle.ov_ids.specs.Ascending.{ascends_after}
 use Rattle.ov_graph.specs.Links.{most_nodes}
 use Rattle.ov_graph.specs.declared.fault.GraphFault.{GraphFault}
-use Rattle.ov_graph.specs.declared.fault.GraphFault.TheVariants.{TooManyNodes, Unordered, BadLink}
+use Rattle.ov_graph.specs.declared.fault.GraphFault.TheVariants.{TooManyNodes, UnorderedNode, BadLink, UnorderedLink}
+use Rattle.ov_graph.specs.declared.fault.LinkFlaw.{LinkFlaw}
+use Rattle.ov_graph.specs.declared.fault.LinkFlaw.TheVariants.{NotUpward, NoNode}
 
 -- one of the links joins a and b, in either order
 abbrev pub are_joined : List (ℕ × ℕ) → ℕ → ℕ → Bool
@@ -16,24 +18,37 @@ are_joined links a b = list_any (λ l. (l.0 == a) && (l.1 == b)) links || list_a
 abbrev pub neighbours_in : List (ℕ × ℕ) → ℕ → List ℕ → List ℕ
 neighbours_in links a nodes = filter (λ b. are_joined links a b) nodes
 
--- l joins two nodes, the lower id first
-abbrev pub is_link : List ℕ → ℕ × ℕ → Bool
-is_link nodes l = nat_lt l.0 l.1 && (has nodes l.0 && has nodes l.1)
+-- l comes before m in the order of links: by the first node, and then by the second
+abbrev pub precedes : ℕ × ℕ → ℕ × ℕ → Bool
+precedes l m = nat_lt l.0 m.0 || ((l.0 == m.0) && nat_lt l.1 m.1)
 
--- l comes after the link before it, if there is one: by the first node, and then by the second
-abbrev pub comes_after : Option (ℕ × ℕ) → ℕ × ℕ → Bool
-comes_after None l = true
-comes_after (Some before) l = nat_lt before.0 l.0 || ((before.0 == l.0) && nat_lt before.1 l.1)
+-- why l does not join two nodes, the lower id first
+abbrev pub link_flaw : List ℕ → ℕ × ℕ → Option LinkFlaw
+link_flaw nodes l =
+    if nat_lt l.0 l.1 then (if has nodes l.0 then (if has nodes l.1 then None else Some (NoNode l.1))
+    else Some (NoNode l.0)) else Some NotUpward
 
--- the first fault of the links that come after the link `before`
-abbrev pub links_fault : List ℕ → Option (ℕ × ℕ) → List (ℕ × ℕ) → Option GraphFault
-links_fault nodes before [] = None
-links_fault nodes before (l ∷ rest) =
-    if is_link nodes l then (if comes_after before l then links_fault nodes (Some l) rest else Some Unordered)
-    else Some BadLink
+-- the first fault of the nodes from place `at` on, which stand behind the node `before`
+abbrev pub nodes_fault : ℕ → Option ℕ → List ℕ → Option GraphFault
+nodes_fault at before [] = None
+nodes_fault at None (node ∷ rest) = nodes_fault (suc at) (Some node) rest
+nodes_fault at (Some before) (node ∷ rest) =
+    if nat_lt before node then nodes_fault (suc at) (Some node) rest else Some (UnorderedNode at node before)
+
+-- the fault of the order of the link l at place `at`, which stands behind the link `before`
+abbrev pub order_fault : ℕ → Option (ℕ × ℕ) → ℕ × ℕ → Option GraphFault
+order_fault at None l = None
+order_fault at (Some before) l = if precedes before l then None else Some (UnorderedLink at l before)
+
+-- the first fault of the links from place `at` on, which stand behind the link `before`
+abbrev pub links_fault : List ℕ → ℕ → Option (ℕ × ℕ) → List (ℕ × ℕ) → Option GraphFault
+links_fault nodes at before [] = None
+links_fault nodes at before (l ∷ rest) =
+    option_or (option_map (λ flaw. BadLink at l flaw) (link_flaw nodes l))
+    (option_or (order_fault at before l) (links_fault nodes (suc at) (Some l) rest))
 
 -- the first fault of nodes and links: the one that `GraphJudged` names
 abbrev pub fault_of : List ℕ → List (ℕ × ℕ) → Option GraphFault
 fault_of nodes links =
-    if nat_lt most_nodes (length nodes) then Some TooManyNodes
-    else (if ascends_after None nodes then links_fault nodes None links else Some Unordered)
+    if nat_lt most_nodes (length nodes) then Some (TooManyNodes (length nodes) most_nodes)
+    else option_or (nodes_fault 0 None nodes) (links_fault nodes 0 None links)

@@ -12,8 +12,8 @@ use Rattle.ov_views.specs.declared.change.ViewChange.{ViewChange}
 use Rattle.ov_views.specs.declared.change.ViewChange.TheVariants as view
 use Rattle.ov_net.specs.Journal.{node_of, Concerns, HoldsAfter, LivesAfter}
 use Rattle.ov_net.specs.NetStep.{change_at}
-use Rattle.ov_net.specs.declared.entry_and_changes.Change.{Change}
-use Rattle.ov_net.specs.declared.entry_and_changes.Change.TheVariants.{Born, Up, Down, Gone}
+use Rattle.ov_net.specs.declared.journal_entry_and_changes.Change.{Change}
+use Rattle.ov_net.specs.declared.journal_entry_and_changes.Change.TheVariants.{Born, Up, Down, Gone}
 
 -- none of these changes concerns a and b
 abbrev pub Silent : List Change → ℕ → ℕ → Type 0

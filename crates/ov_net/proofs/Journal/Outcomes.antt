@@ -13,8 +13,8 @@ use Rattle.ov_peer.specs.declared.input.Input.{Input}
 use Rattle.ov_peer.specs.declared.input.Input.TheVariants as input
 use Rattle.ov_net.specs.Net.{Net, LivesAs}
 use Rattle.ov_net.specs.NetStep.{Happens, TakesInput, OnlyPackets, Received, change_at}
-use Rattle.ov_net.specs.declared.entry_and_changes.Change.{Change}
-use Rattle.ov_net.specs.declared.entry_and_changes.Change.TheVariants.{Born, Gone}
+use Rattle.ov_net.specs.declared.journal_entry_and_changes.Change.{Change}
+use Rattle.ov_net.specs.declared.journal_entry_and_changes.Change.TheVariants.{Born, Gone}
 use Rattle.ov_net.specs.declared.event.Event.{Event}
 use Rattle.ov_net.specs.declared.event.Event.TheVariants.{Boot, Deliver, Lose, Repeat, Crash, CrashReport, Shuffle}
 use Rattle.ov_net.specs.declared.event.Event.TheVariants.{Broadcast, Timer, Snapshot}

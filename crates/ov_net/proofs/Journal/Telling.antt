@@ -17,9 +17,9 @@ use Rattle.ov_net.specs.Journal.{changes_of, node_of, HoldsAfter, LivesAfter, Ho
 use Rattle.ov_net.specs.Net.{HaveOwnIds, Net, LivesAs}
 use Rattle.ov_net.specs.NetStep.{NetStep, change_at}
 use Rattle.ov_net.specs.World.{WorldState, TellsViews, opening_world}
-use Rattle.ov_net.specs.declared.entry_and_changes.Change.{Change}
-use Rattle.ov_net.specs.declared.entry_and_changes.Change.TheVariants.{Born, Up, Gone}
-use Rattle.ov_net.specs.declared.entry_and_changes.Entry.{Entry}
+use Rattle.ov_net.specs.declared.journal_entry_and_changes.Change.{Change}
+use Rattle.ov_net.specs.declared.journal_entry_and_changes.Change.TheVariants.{Born, Up, Gone}
+use Rattle.ov_net.specs.declared.journal_entry_and_changes.Entry.{Entry}
 use Rattle.ov_net.specs.declared.event.Event.{Event}
 use Rattle.ov_net.specs.declared.member.Member.{Member}
 use Rattle.ov_net.specs.declared.member.Member.TheVariants as member

@@ -4,7 +4,7 @@ use Rattle.ov_ids.specs.Members.{Has}
 use Rattle.ov_ids.proofs.Members.{same_ascending, same_ordered}
 use Rattle.ov_graph.specs.Links.{IsGraph, LinkGraph, Linked, Precedes}
 use Rattle.ov_net.specs.Journal.{AreLinks}
-use Rattle.ov_net.specs.declared.entry_and_changes.Entry.{Entry}
+use Rattle.ov_net.specs.declared.journal_entry_and_changes.Entry.{Entry}
 
 one_way : (l m : ℕ × ℕ) → Precedes l m → Precedes m l → ⊥
 one_way l m (inl p) (inl q) = omega (arith, p, q)

@@ -5,6 +5,7 @@ use Rattle.std.proofs.lemmas.Result.{IfOk-weaker}
 use Rattle.std.specs.Prelude.{remove, slice_get}
 use Rattle.std.specs.FinMap as map
 use Rattle.ov_ids.specs.FaultOrder.{HoldsThen, Passed}
+use Rattle.ov_ids.specs.declared.id.MsgId.{MsgId}
 use Rattle.ov_ids.proofs.Stepping.{step_none}
 use Rattle.ov_wire.specs.Messages.{most_payload}
 use Rattle.ov_wire.specs.declared.message.Message.{Message}
@@ -21,10 +22,10 @@ use Rattle.ov_net.specs.Net.{Net, LivesAs, IsGone}
 use Rattle.ov_net.specs.NetStep.{change_at, DrawnStep, TakesInput, LiveTakesInput, Received, Happens}
 use Rattle.ov_net.specs.Refusals.{IsBorn, HasPlaces, MayBroadcast, HasTimer, LiveThen, ContactThen, BirthLast}
 use Rattle.ov_net.specs.Refusals.{PlacesLast, EventJudged, MayHappen}
-use Rattle.ov_net.specs.declared.effects.Effects.{Effects}
-use Rattle.ov_net.specs.declared.effects.NodeChange.{NodeChange}
-use Rattle.ov_net.specs.declared.effects.NodeChange.TheVariants as change
-use Rattle.ov_net.specs.declared.entry_and_changes.Change.TheVariants as entry
+use Rattle.ov_net.specs.declared.planned_effects.Effects.{Effects}
+use Rattle.ov_net.specs.declared.planned_effects.NodeChange.{NodeChange}
+use Rattle.ov_net.specs.declared.planned_effects.NodeChange.TheVariants as change
+use Rattle.ov_net.specs.declared.journal_entry_and_changes.Change.TheVariants as entry
 use Rattle.ov_net.specs.declared.event.Event.{Event}
 use Rattle.ov_net.specs.declared.event.Event.TheVariants.{Boot, Deliver, Lose, Repeat, Crash, CrashReport, Shuffle}
 use Rattle.ov_net.specs.declared.event.Event.TheVariants.{Broadcast, Timer, Snapshot}
@@ -268,23 +269,6 @@ module _ {E : Type 0} where
       → IfOk r (λ b. (any : List ℕ) → AreEffects w this any b) → IfOk r (AreEffects w event words)
   at_any w event this words r same h = at_event w event this words r same (IfOk-weaker r _ _ (λ b k. k words) h)
 
--- of three steps that pass the third one passed
-passed_short : {F : Type 0} (P Q R : Type 0) (f g h : F) (After : Option F → Type 0)
-    → HoldsThen P f (HoldsThen Q g (HoldsThen R h After)) None → R
-passed_short P Q R f g h After all =
-    let q = (step_none P f (HoldsThen Q g (HoldsThen R h After)) all).1 in
-    let r = (step_none Q g (HoldsThen R h After) q).1 in
-    (step_none R h After r).0
-
-pub broadcast_short : (w : Net) (entries : ℕ) (event : Event) (a : ℕ) (payload : List ℕ) → event ≡ Broadcast a payload
-    → MayHappen w entries event → length payload ≤ most_payload
-broadcast_short w entries event a payload same judged =
-    let all : MayHappen w entries (Broadcast a payload) = subst (λ e. MayHappen w entries e) same judged in
-    let event_passes : EventJudged w (Broadcast a payload) None =
-    (step_none (entries < most_entries) TooManyEntries (EventJudged w (Broadcast a payload)) all).1 in
-    passed_short (IsBorn w a) (¬ IsGone w a) (length payload ≤ most_payload) UnknownNode CrashedNode PayloadTooLong
-    (HoldsThen (MayBroadcast w a) TooManyMessages (PlacesLast w)) event_passes
-
 remove_few : {X : Type 0} (xs : List X) (i : ℕ) → length (remove xs i) ≤ length xs
 remove_few [] zero = omega arith
 remove_few [] (suc i) = omega arith
@@ -324,6 +308,81 @@ pub contact_next : (w : Net) (contact : Option ℕ) (After : Option NetFault →
     → After None
 contact_next w None After h = h
 contact_next w (Some c) After h = live_next w c After h
+
+-- what the judgement of an event that may happen says of it
+passes : (w : Net) (entries : ℕ) (event this : Event) → event ≡ this → MayHappen w entries event
+    → EventJudged w this None
+passes w entries event this same judged =
+    (step_none (entries < most_entries) TooManyEntries (EventJudged w this)
+    (subst (λ e. MayHappen w entries e) same judged)).1
+
+live_first : (w : Net) (a : ℕ) (After : Option NetFault → Type 0) → LiveThen w a After None
+    → IsBorn w a × (¬ IsGone w a)
+live_first w a After h =
+    let born = step_none (IsBorn w a) UnknownNode (HoldsThen (¬ IsGone w a) CrashedNode After) h in
+    (born.0, (step_none (¬ IsGone w a) CrashedNode After born.1).0)
+
+pub may_boot : (w : Net) (entries : ℕ) (event : Event) (a : ℕ) (contact : Option ℕ) → event ≡ Boot a contact
+    → MayHappen w entries event → map.get w.nodes a ≡ None
+may_boot w entries event a contact same judged =
+    (step_none (map.get w.nodes a ≡ None) UsedId (ContactThen w contact (BirthLast w))
+    (passes w entries event (Boot a contact) same judged)).0
+
+pub may_deliver : (w : Net) (entries : ℕ) (event : Event) (i : ℕ) → event ≡ Deliver i → MayHappen w entries event
+    → i < length w.packets
+may_deliver w entries event i same judged =
+    (step_none (i < length w.packets) NoSuchPacket (PlacesLast w) (passes w entries event (Deliver i) same judged)).0
+
+pub may_lose : (w : Net) (entries : ℕ) (event : Event) (i : ℕ) → event ≡ Lose i → MayHappen w entries event
+    → i < length w.packets
+may_lose w entries event i same judged =
+    (step_none (i < length w.packets) NoSuchPacket Passed (passes w entries event (Lose i) same judged)).0
+
+pub may_repeat : (w : Net) (entries : ℕ) (event : Event) (i : ℕ) → event ≡ Repeat i → MayHappen w entries event
+    → i < length w.packets
+may_repeat w entries event i same judged =
+    (step_none (i < length w.packets) NoSuchPacket (PlacesLast w) (passes w entries event (Repeat i) same judged)).0
+
+pub may_crash : (w : Net) (entries : ℕ) (event : Event) (a : ℕ) → event ≡ Crash a → MayHappen w entries event
+    → IsBorn w a × (¬ IsGone w a)
+may_crash w entries event a same judged = live_first w a Passed (passes w entries event (Crash a) same judged)
+
+pub may_report : (w : Net) (entries : ℕ) (event : Event) (a crashed : ℕ) → event ≡ CrashReport a crashed
+    → MayHappen w entries event → IsBorn w a × (¬ IsGone w a) × IsGone w crashed
+may_report w entries event a crashed same judged =
+    let Gone : Option NetFault → Type 0 = HoldsThen (IsGone w crashed) NotCrashed (PlacesLast w) in
+    let Known : Option NetFault → Type 0 = HoldsThen (IsBorn w crashed) UnknownNode Gone in
+    let all = passes w entries event (CrashReport a crashed) same judged in
+    let live = live_first w a Known all in (
+      live.0,
+      live.1,
+      (step_none (IsGone w crashed) NotCrashed (PlacesLast w)
+          (step_none (IsBorn w crashed) UnknownNode Gone (live_next w a Known all)).1).0,
+    )
+
+pub may_shuffle : (w : Net) (entries : ℕ) (event : Event) (a : ℕ) → event ≡ Shuffle a → MayHappen w entries event
+    → IsBorn w a × (¬ IsGone w a)
+may_shuffle w entries event a same judged =
+    live_first w a (PlacesLast w) (passes w entries event (Shuffle a) same judged)
+
+pub may_broadcast : (w : Net) (entries : ℕ) (event : Event) (a : ℕ) (payload : List ℕ) → event ≡ Broadcast a payload
+    → MayHappen w entries event
+    → IsBorn w a × (¬ IsGone w a) × (length payload ≤ most_payload) × MayBroadcast w a
+may_broadcast w entries event a payload same judged =
+    let Made : Option NetFault → Type 0 = HoldsThen (MayBroadcast w a) TooManyMessages (PlacesLast w) in
+    let Short : Option NetFault → Type 0 = HoldsThen (length payload ≤ most_payload) PayloadTooLong Made in
+    let all = passes w entries event (Broadcast a payload) same judged in
+    let live = live_first w a Short all in
+    let short = step_none (length payload ≤ most_payload) PayloadTooLong Made (live_next w a Short all) in
+    (live.0, live.1, short.0, (step_none (MayBroadcast w a) TooManyMessages (PlacesLast w) short.1).0)
+
+pub may_fire : (w : Net) (entries : ℕ) (event : Event) (a : ℕ) (id : MsgId) → event ≡ Timer a id
+    → MayHappen w entries event → IsBorn w a × (¬ IsGone w a) × HasTimer w a id
+may_fire w entries event a id same judged =
+    let Runs : Option NetFault → Type 0 = HoldsThen (HasTimer w a id) NoTimer (PlacesLast w) in
+    let all = passes w entries event (Timer a id) same judged in
+    let live = live_first w a Runs all in
+    (live.0, live.1, (step_none (HasTimer w a id) NoTimer (PlacesLast w) (live_next w a Runs all)).0)
 
 places_of : (w : Net) (event : Event) → Sends event → EventJudged w event None → HasPlaces w
 places_of w (Boot a contact) sends h =

@@ -7,7 +7,7 @@ use Rattle.ov_peer.specs.Planning.{Follows}
 use Rattle.ov_peer.specs.PeerState.{PeerState}
 use Rattle.ov_peer.specs.declared.plan.Plan.{Plan}
 use Rattle.ov_net.specs.Code.Effects.{NodeChanges}
-use Rattle.ov_net.specs.declared.effects.NodeChange.TheVariants as change
+use Rattle.ov_net.specs.declared.planned_effects.NodeChange.TheVariants as change
 use Rattle.ov_net.specs.declared.member.Member.{Member}
 use Rattle.ov_net.specs.declared.member.Member.TheVariants.{Live, Gone}
 use Rattle.ov_net.proofs.Steps.Members.{put_over, put_back}

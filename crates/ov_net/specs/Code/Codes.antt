@@ -8,9 +8,9 @@ use Rattle.ov_ids.specs.contracts.params.Params as params
 use Rattle.ov_wire.specs.declared.message.Message.{Message}
 use Rattle.ov_wire.specs.contracts.message.Message as message
 use Rattle.ov_net.specs.World.{WorldState}
-use Rattle.ov_net.specs.contracts.entry_and_changes.Entry as entry
+use Rattle.ov_net.specs.contracts.journal_entry_and_changes.Entry as entry
 use Rattle.ov_net.specs.contracts.member.Member as member
-use Rattle.ov_net.specs.declared.entry_and_changes.Entry.{Entry}
+use Rattle.ov_net.specs.declared.journal_entry_and_changes.Entry.{Entry}
 use Rattle.ov_net.specs.declared.member.Member.{Member}
 
 -- the encoding of a world

@@ -12,10 +12,10 @@ use Rattle.ov_peer.specs.declared.plan.Plan.{Plan}
 use Rattle.ov_net.specs.Limits.{most_packets, step_packets}
 use Rattle.ov_net.specs.Net.{Net}
 use Rattle.ov_net.specs.NetStep.{change_at, DrawnStep, Happens}
-use Rattle.ov_net.specs.declared.effects.Effects.{Effects}
-use Rattle.ov_net.specs.declared.effects.NodeChange.{NodeChange}
-use Rattle.ov_net.specs.declared.effects.NodeChange.TheVariants as change
-use Rattle.ov_net.specs.declared.entry_and_changes.Change.TheVariants.{Born}
+use Rattle.ov_net.specs.declared.planned_effects.Effects.{Effects}
+use Rattle.ov_net.specs.declared.planned_effects.NodeChange.{NodeChange}
+use Rattle.ov_net.specs.declared.planned_effects.NodeChange.TheVariants as change
+use Rattle.ov_net.specs.declared.journal_entry_and_changes.Change.TheVariants.{Born}
 use Rattle.ov_net.specs.declared.event.Event.{Event}
 use Rattle.ov_net.specs.declared.member.Member.{Member}
 use Rattle.ov_net.specs.declared.member.Member.TheVariants.{Live, Gone}

@@ -1,13 +1,17 @@
 -- What is printed of an answer, and of the file that it is for.
-use Rattle.std.proofs.Common.{◌≡◌, inr, ℕ, Bool, List, Option, IfSome, sym, subst}
+use Rattle.std.proofs.Common.{◌≡◌, ◌+◌, inl, inr, ℕ, Bool, List, Option, Some, Err, refl, sym, subst, arith}
 use Rattle.std.specs.Io.KnownBytes.{Appends}
 use Rattle.ov_graph.specs.Links.{LinkGraph}
 use Rattle.ov_cert.specs.State.{CheckedState}
 use Rattle.ov_cert.specs.Valid.{IsValidForGroup}
-use Rattle.ov_io.specs.Device.{AppendsPrefixOf}
+use Rattle.ov_io.specs.Device.{AppendsPrefixOf, SinkState}
 use Rattle.ov_even.specs.Answer.{IsCheckedAnswer}
 use Rattle.ov_run.specs.Analysing.{answer_text, PrintsAnswer, IsAnalysis, PrintsAnalysis, BeginsAnalysis}
-use Rattle.ov_run.specs.GraphFiles.{IsGraphFile}
+use Rattle.ov_run.specs.Analysing.{IsAnalysisOf}
+use Rattle.ov_run.specs.Code.Writing.{IsTextFault}
+use Rattle.ov_run.specs.declared.run_fault.RunFault.{RunFault}
+use Rattle.ov_run.specs.declared.run_fault.RunFault.TheVariants as fault
+use Rattle.ov_graphfile.specs.GraphFiles.{IsGraphFile}
 use Rattle.ov_run.specs.Subjects.{members_of}
 
 -- a valid answer for this graph and this group is printed
@@ -36,31 +40,54 @@ analysed bytes text group certificate g q says members prints =
       prints = subst (λ r. PrintsAnswer g r certificate text) members prints;
     }
 
--- the answer for the bytes that were lent, as the text that was lent, is that for the bytes that were read
-lent :
-    (bytes read text sent : List ℕ) (group : Option (List ℕ)) (certificate : Bool) → read ≡ bytes → sent ≡ text
-    → IsAnalysis read group certificate text
-    → IsAnalysis bytes group certificate sent
-lent bytes read text sent group certificate same same_text analysis =
-    subst (λ bs. IsAnalysis bs group certificate sent) same
-    (subst (λ t. IsAnalysis read group certificate t) (sym same_text) analysis)
-
--- all of the text was written
+-- all of the text was written, as it was lent
 pub all_written :
-    (reader before after : Option (List ℕ)) (bytes read text sent : List ℕ) (group : Option (List ℕ))
-    (certificate : Bool)
-    → IfSome reader (λ xs. bytes ≡ xs) → read ≡ bytes → sent ≡ text → IsAnalysis read group certificate text
-    → Appends before after sent
-    → PrintsAnalysis reader group certificate before after
-all_written reader before after bytes read text sent group certificate had same same_text analysis went =
-    (bytes, sent, had, lent bytes read text sent group certificate same same_text analysis, went)
+    (before after : Option (List ℕ)) (bytes text sent : List ℕ) (group : Option (List ℕ)) (certificate : Bool)
+    → sent ≡ text → IsAnalysis bytes group certificate text → Appends before after sent
+    → PrintsAnalysis (Some bytes) group certificate before after
+all_written before after bytes text sent group certificate same analysis went =
+    (bytes, sent, refl, subst (λ t. IsAnalysis bytes group certificate t) (sym same) analysis, went)
 
 -- a prefix of it was
 pub begun_written :
-    (reader before after : Option (List ℕ)) (bytes read text sent : List ℕ) (group : Option (List ℕ))
-    (certificate : Bool)
-    → IfSome reader (λ xs. bytes ≡ xs) → read ≡ bytes → sent ≡ text → IsAnalysis read group certificate text
-    → AppendsPrefixOf sent before after
-    → BeginsAnalysis reader group certificate before after
-begun_written reader before after bytes read text sent group certificate had same same_text analysis went =
-    (bytes, sent, had, lent bytes read text sent group certificate same same_text analysis, went)
+    (before after : Option (List ℕ)) (bytes text sent : List ℕ) (group : Option (List ℕ)) (certificate : Bool)
+    → sent ≡ text → IsAnalysis bytes group certificate text → AppendsPrefixOf sent before after
+    → BeginsAnalysis (Some bytes) group certificate before after
+begun_written before after bytes text sent group certificate same analysis went =
+    (bytes, sent, refl, subst (λ t. IsAnalysis bytes group certificate t) (sym same) analysis, went)
+
+same : (m : ℕ) → m ≡ m + 0
+same m = omega arith
+
+-- nothing was written of a file that was refused
+pub refused :
+    {W : Type 0} (bytes : List ℕ) (contents : W → Option (List ℕ)) (sink : SinkState W) (group : Option (List ℕ))
+    (certificate : Bool) (f : RunFault)
+    → IsTextFault bytes f → IsAnalysisOf (Some bytes) contents sink group certificate sink (Err f)
+refused bytes contents sink group certificate (fault.Line n) is = record {
+  status = tt;
+  prints = tt;
+  begun = inl refl;
+  sink = same sink.faults;
+  unwritten = λ other. refl;
+  fault = is;
+}
+refused bytes contents sink group certificate (fault.Params n) is = absurd is
+refused bytes contents sink group certificate (fault.Graph g line) is = record {
+  status = tt;
+  prints = tt;
+  begun = inl refl;
+  sink = same sink.faults;
+  unwritten = λ other. refl;
+  fault = is;
+}
+refused bytes contents sink group certificate fault.Read is = absurd is
+refused bytes contents sink group certificate fault.Write is = absurd is
+refused bytes contents sink group certificate fault.OutOfMemory is = record {
+  status = tt;
+  prints = tt;
+  begun = inl refl;
+  sink = same sink.faults;
+  unwritten = λ other. refl;
+  fault = tt;
+}

@@ -9,10 +9,10 @@ use Rattle.ov_snap.specs.CoreState.{CoreState, opening_core}
 use Rattle.ov_run.specs.Ending.{BeginsLook, BeginsLine, BeginsLines, IsBegun}
 use Rattle.ov_run.specs.Running.{PrintsLook, PrintsLine, PrintsLines, IsOutput}
 use Rattle.ov_run.specs.Code.Writing.{Writes}
-use Rattle.ov_run.specs.declared.scenario.Line.{Line}
-use Rattle.ov_run.specs.declared.scenario.Line.TheVariants as line
-use Rattle.ov_run.specs.declared.scenario.Look.{Look}
-use Rattle.ov_run.specs.declared.scenario.Look.TheVariants.{Show, Packets, Certificate}
+use Rattle.ov_scenario.specs.declared.scenario.Line.{Line}
+use Rattle.ov_scenario.specs.declared.scenario.Line.TheVariants as line
+use Rattle.ov_scenario.specs.declared.scenario.Look.{Look}
+use Rattle.ov_scenario.specs.declared.scenario.Look.TheVariants.{Show, Packets, Certificate}
 
 look_nothing : (b : CoreState) (look : Look) → BeginsLook b look []
 look_nothing b (Show id) = refl

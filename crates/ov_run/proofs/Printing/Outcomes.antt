@@ -4,8 +4,8 @@ use Rattle.std.specs.Io.KnownBytes.{Appends}
 use Rattle.ov_run.specs.Printed.{refused_line}
 use Rattle.ov_run.specs.Code.Outcomes.{WritesOutcome}
 use Rattle.ov_run.specs.Code.Writing.{Writes}
-use Rattle.ov_run.specs.declared.outcome.Outcome.{Outcome}
-use Rattle.ov_run.specs.declared.outcome.Outcome.TheVariants.{Accepted, Refused}
+use Rattle.ov_run.specs.declared.line_outcome.Outcome.{Outcome}
+use Rattle.ov_run.specs.declared.line_outcome.Outcome.TheVariants.{Accepted, Refused}
 use Rattle.ov_run.proofs.Printing.Ending.{wrote}
 
 -- a text of a line that was done was written, whatever kind of text it is

@@ -13,7 +13,7 @@ use Rattle.ov_snap.specs.CoreState.{CoreState}
 use Rattle.ov_run.specs.Ending.{BeginsLines, EndsLines}
 use Rattle.ov_run.specs.Printed.{packet_line}
 use Rattle.ov_run.specs.Running.{PrintsLine, PrintsLines, PrintsPackets}
-use Rattle.ov_run.specs.declared.scenario.Line.{Line}
+use Rattle.ov_scenario.specs.declared.scenario.Line.{Line}
 
 -- this text was printed of all lines, and these are left: with what they print now, whole, up to some point or up to
 -- their end out of memory, all lines print this text before it

@@ -22,7 +22,7 @@ use Rattle.ov_snap.specs.declared.fault.CoreFault.{CoreFault}
 use Rattle.ov_snap.specs.declared.fault.CoreFault.TheVariants.{NoSuchMoment, NoNodes, BadGroup, OtherGraph}
 use Rattle.ov_snap.specs.declared.fault.CoreFault.TheVariants.{AlreadyFiled}
 use Rattle.ov_run.specs.Subjects.{members_of, IsReportOf, IsReported, SubjectThen, AnalysisJudged}
-use Rattle.ov_run.specs.declared.scenario.Subject.{Subject}
+use Rattle.ov_scenario.specs.declared.scenario.Subject.{Subject}
 
 -- somebody lived at this moment
 abbrev pub Lived : CoreState → ℕ → Type 0

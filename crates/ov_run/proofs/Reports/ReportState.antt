@@ -13,9 +13,9 @@ use Rattle.ov_snap.proofs.Running.{every_report_is_so, run_more}
 use Rattle.ov_run.specs.Theorems.{EveryPrintedReportIsSo, IsMade, IsSoOf, Refuses}
 use Rattle.ov_run.specs.Printed.{report_line, file_text}
 use Rattle.ov_run.specs.Running.{PrintsCertificate, PrintsLine, PrintsLines, PrintsReportLine}
-use Rattle.ov_run.specs.declared.scenario.Line.{Line}
-use Rattle.ov_run.specs.declared.scenario.Line.TheVariants as line
-use Rattle.ov_run.specs.declared.scenario.Subject.{Subject}
+use Rattle.ov_scenario.specs.declared.scenario.Line.{Line}
+use Rattle.ov_scenario.specs.declared.scenario.Line.TheVariants as line
+use Rattle.ov_scenario.specs.declared.scenario.Subject.{Subject}
 
 -- some steps make the second core of the first
 abbrev pub Leads : CoreState → CoreState → Type 0

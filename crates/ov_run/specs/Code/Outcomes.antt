@@ -1,10 +1,10 @@
--- What a line that ran did where it was accepted, with the text that it printed, and what was written of each outcome.
+-- What a line that ran did if it was accepted, with the text that it printed, and what was written of each outcome.
 -- b is the core before, and u the core after.
 use Rattle.std.specs.Prelude.{◌≡◌, ℕ, List, Option}
 use Rattle.std.specs.Io.KnownBytes.{Appends}
 use Rattle.ov_net.specs.Net.{Net, LivesAs}
 use Rattle.ov_net.specs.declared.event.Event.{Event}
-use Rattle.ov_net.specs.declared.entry_and_changes.Entry.{Entry}
+use Rattle.ov_net.specs.declared.journal_entry_and_changes.Entry.{Entry}
 use Rattle.ov_peer.specs.PeerState.{PeerState}
 use Rattle.ov_snap.specs.CoreState.{CoreState}
 use Rattle.ov_snap.specs.ReportState.{ReportState}
@@ -13,13 +13,13 @@ use Rattle.ov_run.specs.Printed.{entry_line, file_text, node_line, refused_line,
 use Rattle.ov_run.specs.Running.{PrintsPackets}
 use Rattle.ov_run.specs.Subjects.{IsReportOf, WasAnalysed}
 use Rattle.ov_run.specs.Code.Writing.{Writes}
-use Rattle.ov_run.specs.declared.outcome.Outcome.{Outcome}
-use Rattle.ov_run.specs.declared.outcome.Outcome.TheVariants.{Accepted, Refused}
-use Rattle.ov_run.specs.declared.scenario.Line.{Line}
-use Rattle.ov_run.specs.declared.scenario.Line.TheVariants as line
-use Rattle.ov_run.specs.declared.scenario.Look.{Look}
-use Rattle.ov_run.specs.declared.scenario.Look.TheVariants.{Show, Packets, Certificate}
-use Rattle.ov_run.specs.declared.scenario.Subject.{Subject}
+use Rattle.ov_run.specs.declared.line_outcome.Outcome.{Outcome}
+use Rattle.ov_run.specs.declared.line_outcome.Outcome.TheVariants.{Accepted, Refused}
+use Rattle.ov_scenario.specs.declared.scenario.Line.{Line}
+use Rattle.ov_scenario.specs.declared.scenario.Line.TheVariants as line
+use Rattle.ov_scenario.specs.declared.scenario.Look.{Look}
+use Rattle.ov_scenario.specs.declared.scenario.Look.TheVariants.{Show, Packets, Certificate}
+use Rattle.ov_scenario.specs.declared.scenario.Subject.{Subject}
 
 -- an event happened, and its entry was printed
 abbrev pub DoesEvent : CoreState → Event → List ℕ → CoreState → List ℕ → Type 0

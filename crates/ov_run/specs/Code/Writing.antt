@@ -1,9 +1,10 @@
 -- What the parts of a run write, and how they fail.
-use Rattle.std.specs.Prelude.{◌≡◌, ◌⊎◌, ℕ, List, Option}
+use Rattle.std.specs.Prelude.{◌≡◌, ◌⊎◌, ℕ, List, Option, Some}
 use Rattle.std.specs.Io.KnownBytes.{Appends}
 use Rattle.ov_io.specs.Device.{AppendsPrefixOf}
 use Rattle.ov_run.specs.declared.run_fault.RunFault.{RunFault}
-use Rattle.ov_run.specs.declared.run_fault.RunFault.TheVariants.{Write, OutOfMemory}
+use Rattle.ov_run.specs.Faults.{IsAnalysisFault, IsRunFault}
+use Rattle.ov_run.specs.declared.run_fault.RunFault.TheVariants.{Read, Write, OutOfMemory}
 
 -- the writer took a whole text of this kind
 abbrev pub Writes : (List ℕ → Type 0) → Option (List ℕ) → Option (List ℕ) → Type 0
@@ -16,3 +17,15 @@ WritesPrefix IsText before after = (text : List ℕ) × IsText text × AppendsPr
 -- the writer failed, or an allocation was refused
 abbrev pub IsOfWriting : RunFault → Type 0
 IsOfWriting fault = (fault ≡ Write) ⊎ (fault ≡ OutOfMemory)
+
+-- what the making of a text of a graph file returns: the file's fault, or out of memory
+abbrev pub IsTextFault : List ℕ → RunFault → Type 0
+IsTextFault bytes Read = ⊥
+IsTextFault bytes Write = ⊥
+IsTextFault bytes other = IsAnalysisFault (Some bytes) other
+
+-- a run that returns this fault before any line ran: the file's fault, or out of memory
+pub record IsBeforeLines (bytes : List ℕ) (f : RunFault) : Type 0 where
+  pub fault : IsRunFault (Some bytes) f
+  pub not_written : ¬ (f ≡ Write)
+  pub not_read : ¬ (f ≡ Read)

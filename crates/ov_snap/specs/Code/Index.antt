@@ -1,4 +1,4 @@
--- How a report is found: the places of all reports stand in the order of what these are found by.
+-- How a report is found: the places of all reports, in the order of the keys by which the reports are found.
 use Rattle.std.specs.Prelude.{◌≡◌, ℕ, zero, suc, ◌<◌, ◌≤◌, List, [], ◌∷◌, length, slice_index}
 use Rattle.std.specs.Cmp.Lexicographic.{slice_cmp}
 use Rattle.std.specs.Ordering.{nat_cmp, ordering_then}
@@ -44,7 +44,7 @@ abbrev pub AreGreater : List ReportState → List ℕ → ReportKey → ℕ → 
 AreGreater reports places key high =
     (i : ℕ) → high ≤ i → i < length places → key_cmp (key_at reports (slice_index places i)) key ≡ Greater
 
--- a report of this key would stand here
+-- the place at which a report of this key would go
 pub record IsGap (reports : List ReportState) (places : List ℕ) (key : ReportKey) (at : ℕ) : Type 0 where
   pub inside : at ≤ length places
   pub less : AreLess reports places key at

@@ -2,6 +2,8 @@
 use ov_io::{Sink, Source};
 use ov_run::{RunFault, run};
 use ov_test_kit::Slow;
+use std::alloc::Global;
+use std::test::Fail;
 use std::thread::Threads;
 
 /// Each scenario, and all that it prints.
@@ -193,24 +195,48 @@ fn scenarios_print_their_lines(rt: HostRuntime) {
     }
 }
 
-/// A scenario, and the fault of its lines.
-static AT_FAULT: [(&str, RunFault); 6] = [
-    ("boot 1\nfly\n", RunFault::Line(2)),
-    ("boot 1\n\nanalyse 1 workers 65\n", RunFault::Line(3)),
-    ("boot 1\ntogether\nend\n", RunFault::Line(2)),
-    ("boot 1\nend\n", RunFault::Line(2)),
-    ("boot 1\nwords 5\n", RunFault::Line(2)),
+/// A scenario, and what is shown of the fault of its lines.
+static AT_FAULT: [(&str, &str); 6] = [
+    ("boot 1\nfly\n", "line 2: refused 70"),
+    ("boot 1\n\nanalyse 1 workers 65\n", "line 3: refused 70"),
+    ("boot 1\ntogether\nend\n", "line 2: refused 70"),
+    ("boot 1\nend\n", "line 2: refused 70"),
+    ("boot 1\nwords 5\n", "line 2: refused 70"),
     (
         "# first\nparams 17 64 0 0 0 0 1\nboot 1\n",
-        RunFault::Params(2),
+        "line 2: refused 21",
     ),
 ];
 
 #[test]
-fn a_file_at_fault_runs_nothing(rt: HostRuntime) {
-    for (scenario, fault) in &AT_FAULT {
-        assert!(rt; comes_to(&rt, scenario, Err(*fault), ""), "at {scenario}");
+fn a_file_at_fault_runs_nothing(rt: HostRuntime) -> Result<(), Fail> {
+    for (scenario, shown) in &AT_FAULT {
+        let mut source = Source::new(scenario.as_bytes());
+        let mut sink = Sink::new(Vec::new(rt.alloc()));
+        let told = run(&rt, rt.alloc(), &mut source, &mut sink);
+        let fault = told.err().ok_or("a fault")?.to_string(rt.alloc())?;
+        let written = sink.into_writer();
+        assert!(rt;
+            fault.as_str() == *shown && written.is_empty(),
+            "at {scenario}"
+        );
     }
+    Ok(())
+}
+
+/// What is shown of a fault without a line.
+fn is_shown(alloc: Global, fault: RunFault, text: &str) -> Result<bool, Fail> {
+    let shown = fault.to_string(alloc)?;
+    Ok(fault.line().is_none() && shown.as_str() == text)
+}
+
+#[test]
+fn faults_are_shown_by_their_numbers(rt: HostRuntime) -> Result<(), Fail> {
+    let alloc = rt.alloc();
+    assert!(rt; is_shown(alloc, RunFault::Read, "refused 71")?);
+    assert!(rt; is_shown(alloc, RunFault::Write, "refused 72")?);
+    assert!(rt; is_shown(alloc, RunFault::OutOfMemory, "refused 99")?);
+    Ok(())
 }
 
 /// With a reader that is interrupted after so many calls, two nodes that join come to this answer, to so many faults of

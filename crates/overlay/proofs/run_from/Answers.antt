@@ -1,7 +1,10 @@
--- What was begun is of the bytes that the reader had.
-use Rattle.std.proofs.Common.{rules}
-use Rattle.overlay.proofs.OfReader.{scenario_begins}
+-- What ran is the scenario of the bytes that the reader had.
+use Rattle.ov_run.proofs.OfReader.{run_of_reader}
 use Rattle.overlay.proofs.run_from.Goals as goal
 
-pub returns-clause-begun : goal.returns-clause-begun
-returns-clause-begun g c = search (rules, scenario_begins)
+pub returns : goal.returns
+returns g c = record {
+  run = run_of_reader g.W.Write.contents c.args.sink.now c.run_told.new.sink (g.R.Read.remaining c.args.reader)
+      c.in_ok-bytes.bytes.items c.deref.result.now c.run_told.result c.in_ok-bytes.ensures.bytes c.deref.ensures.value
+      c.run_told.ensures.run;
+}

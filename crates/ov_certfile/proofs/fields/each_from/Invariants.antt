@@ -5,7 +5,7 @@ use Rattle.ov_certfile.specs.Forms.{each_in}
 use Rattle.ov_certfile.proofs.Listed.{with_front}
 use Rattle.ov_certfile.proofs.fields.each_from.Given as goal
 
-abbrev pub invariant-loop-value : goal.invariant-loop-value
-invariant-loop-value g l =
-    with_front l.fields.items (each_in g.T.Field.form (items_view (drop l.value-index l.values)))
+abbrev pub invariant-loop-at : goal.invariant-loop-at
+invariant-loop-at g l =
+    with_front l.fields.items (each_in g.T.Field.form (items_view (drop l.at l.values)))
     ≡ each_in g.T.Field.form (items_view l.values)

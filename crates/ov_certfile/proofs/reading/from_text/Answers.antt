@@ -5,4 +5,5 @@ use Rattle.ov_certfile.proofs.reading.from_text.Goals as goal
 
 pub returns-in-Ok-clause-only : goal.returns-in-Ok-clause-only
 returns-in-Ok-clause-only c = λ answer told h.
-    read_text_one c.args.text.now (view c.in-Ok.value) answer c.file.result c.in-Ok.ensures.ok (c.file.ensures told) h
+    read_text_one c.args.text.now (view c.in-Ok.value) answer c.from_value.result c.in-Ok.ensures
+    (c.from_value.ensures told) h

@@ -2,15 +2,15 @@
 use Rattle.std.proofs.Common.{◌≡◌, List, ℕ, Result, Ok, Err, IsErrAnd, refl, sym, ap, subst}
 use Rattle.ov_check.specs.Outcome.{IsOutcome, SaysExactNumber, status_of}
 use Rattle.ov_check.specs.Run.{IsRun, status_in}
-use Rattle.ov_check.specs.declared.engine.Judged.{Judged}
-use Rattle.ov_check.specs.declared.fault.JudgeFault.{JudgeFault}
+use Rattle.ov_check.specs.declared.outcome.Outcome.{Outcome}
+use Rattle.ov_check.specs.declared.device_fault.JudgeFault.{JudgeFault}
 use Rattle.ov_check.proofs.Running.{IsRead, written}
 use Rattle.ov_check.proofs.engine.judge_kept.Goals as goal
 
 -- a judge that keeps what it read fails with this fault
-failed_so : (result : Result Judged JudgeFault) (fault : JudgeFault) → IsErrAnd result (λ e. e ≡ fault)
+failed_so : (result : Result Outcome JudgeFault) (fault : JudgeFault) → IsErrAnd result (λ e. e ≡ fault)
     → status_in result ≡ Err fault
-failed_so (Ok j) fault a = absurd a
+failed_so (Ok o) fault a = absurd a
 failed_so (Err e) fault a = ap Err a
 
 pub returns-in_err-write_line-clause-run : goal.returns-in_err-write_line-clause-run

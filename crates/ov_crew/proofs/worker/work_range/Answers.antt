@@ -10,13 +10,14 @@ use Rattle.ov_fans.specs.declared.piece.Piece.{Piece}
 use Rattle.ov_fans.specs.declared.settled.Settled.{Settled}
 use Rattle.ov_fans.specs.Group.{SettlerState}
 use Rattle.ov_fans.specs.Pieces.{IsPiece}
-use Rattle.ov_claims.specs.Claims.{WorkerState}
+use Rattle.ov_claims.specs.Claims.{WorkerState, fresh}
 use Rattle.ov_even.specs.Order.{AreSoMany, IsNumbered}
 use Rattle.ov_even.proofs.AnalysisSteps.Narrowing.{members_few}
 use Rattle.ov_even.proofs.PieceNumbers.Numbering.{numbered_piece}
 use Rattle.ov_crew.specs.Code.Turns.{HasTaken, HasStopped, HasSettled}
 use Rattle.ov_crew.proofs.Taking.{fewer_left}
-use Rattle.ov_crew.proofs.Hauling.{stopped_haul, more_haul, gains}
+use Rattle.ov_crew.specs.Hauls.{IsHaulOf}
+use Rattle.ov_crew.proofs.Hauling.{fresh_haul, stopped_haul, more_haul, gains}
 use Rattle.ov_crew.proofs.worker.work_range.Goals.{In_default-done}
 use Rattle.ov_crew.proofs.worker.work_range.Goals as goal
 
@@ -63,6 +64,23 @@ turned g c =
           {y = c.args.graph.now.nodes} c.nodes.ensures.nodes c.group_piece_at-piece.ensures;
       settled = subst (λ (t : SettlerState). HasSettled t.graph t.members piece x u v before after)
           {y = own} c.loop-number.invariant.settler settled;
+    }
+
+pub loop-number-init : goal.loop-number-init
+loop-number-init g c =
+    let graph = c.args.graph.now in
+    let group = c.args.group.now in
+    let first = c.args.first in
+    let empty = subst (IsHaulOf graph group first fresh) (sym c.new-pieces.ensures.items)
+    (fresh_haul graph group first) in
+    record {
+      settler = c.in-Ok.ensures;
+      board = refl;
+      number = refl;
+      goes_on = ap (λ (v : WorkerState). v.ended) c.requires.new;
+      none_skipped = ap (λ (v : WorkerState). v.skipped) c.requires.new;
+      haul = subst (λ (v : WorkerState). IsHaulOf graph group first v c.new-pieces.result.items) (sym c.requires.new)
+          empty;
     }
 
 pub returns-in_default-clause-haul : goal.returns-in_default-clause-haul

@@ -1,5 +1,5 @@
 -- Each bit that is set names a target next to the source.
-use Rattle.std.proofs.Common.{◌≡◌, ◌∙◌, ◌≤◌, inl, inr, ℕ, List, set, length, length-set, Some, sym, ap, subst}
+use Rattle.std.proofs.Common.{◌≡◌, ◌∙◌, ◌+◌, ◌≤◌, inl, inr, ℕ, List, set, length, length-set, Some, sym, ap, subst}
 use Rattle.std.proofs.Common.{arith}
 use Rattle.std.proofs.lemmas.Bool.{cases_eq}
 use Rattle.std.proofs.lemmas.List.{length_push}
@@ -19,6 +19,7 @@ loop-w-init c =
     record {
       work = c.requires.work;
       few = subst (λ (l : List ℕ). length l ≤ c.args.level) (sym c.requires.empty) (omega arith);
+      count = subst (λ (l : List ℕ). length l ≤ 0) (sym c.requires.empty) (omega arith);
       below = λ v u f. absurd (none_held (net_by_place c.args.net.now) (table_of w.from.items) w.ends.items
           c.requires.work.flow c.requires.empty v u f);
       fits = omega arith;
@@ -43,11 +44,17 @@ loop-w-preserved c =
     let l = (c.requires.ready.nodes w).0 (linked_node n.graph n.source w c.requires.ready.net.graph link) in
     let room = i.work.room.from in
     let reached = first.reached in
-    let items = c.in_ok-push.ensures.items in
+    let items = c.push_reserved.ensures.items in
     let less = c.if-len-level.false in
     record {
       work = record {
-        room = record { from = length-set from w (Some s) ∙ room; next = i.work.room.next };
+        room = record {
+          from = length-set from w (Some s) ∙ room;
+          next = i.work.room.next;
+          tree = i.work.room.tree;
+          hops = i.work.room.hops;
+          ends = let kept = c.push_reserved.ensures.capacity in let r = i.work.room.ends in omega (arith, kept, r);
+        };
         flow = subst (IsFlow n (table_of (set from w (Some s)))) (sym items)
             (flow_direct n c.requires.ready.net (table_of from) (table_of (set from w (Some s))) ends w i.work.flow free
             target (λ u f. let m = i.below w u f in absurd (omega (arith, m, reached)))
@@ -55,6 +62,8 @@ loop-w-preserved c =
       };
       few = let e = c.len.ensures in let p = length_push ends w in
           subst (λ (l : List ℕ). length l ≤ c.args.level) (sym items) (omega (arith, e, p, less));
+      count = let p = length_push ends w in let n = i.count in
+          subst (λ (l : List ℕ). length l ≤ w + 1) (sym items) (omega (arith, p, n, reached));
       below = λ v u f. elim (cases_eq v w) [
         | inl e ↦ omega (arith, e)
         | inr ne ↦ let m = i.below v u (sym (write_others from w (Some s) v ne) ∙ f) in omega (arith, m, reached)

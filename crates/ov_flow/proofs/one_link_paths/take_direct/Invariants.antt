@@ -7,6 +7,7 @@ abbrev pub invariant-loop-w : goal.invariant-loop-w
 invariant-loop-w l = record {
   work : IsWorkOf l.net l.work;
   few : length l.work.ends.items ≤ l.level;
+  count : length l.work.ends.items ≤ l.after;
   below : (v u : ℕ) → table_of l.work.from.items v ≡ Some u → v < l.after;
   fits : l.after ≤ 64 * l.words;
 }

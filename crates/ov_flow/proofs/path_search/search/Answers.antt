@@ -10,8 +10,9 @@ use Rattle.ov_flow.proofs.path_search.search.Goals as goal
 
 pub loop-at-init : goal.loop-at-init
 loop-at-init c = record {
-  grown = c.in_ok-begin.ensures.grown (table_of c.args.from.now);
-  clean = c.in_ok-begin.ensures.clean;
+  grown = c.begin.ensures.grown (table_of c.args.from.now);
+  clean = c.begin.ensures.clean;
+  room = c.begin.ensures.room;
   within = omega arith;
   links = λ k w l. absurd (omega arith);
   backs = λ k u l. absurd (omega arith);
@@ -42,15 +43,16 @@ loop-at-preserved c =
     let from = table_of c.args.from.now in
     let old = c.loop-at.tree in
     let new = c.visit.new.tree in
-    let v = c.in_ok-visit.ensures in
+    let v = c.visit.ensures in
     let f = subst (λ (b : Bool). MatchBool b (IsSearchEnded n new) (IsVisited n from (get_or old.order.items
     c.loop-at.at 0) new))
-    c.if-branch.false v.found in
+    c.if-visit.false v.found in
     let lt : c.loop-at.at < length old.order.items = omega arith in
     let le = v.more.order.0 in
     record {
       grown = v.grown;
       clean = f.swept.clean;
+      room = v.room;
       within = omega (arith, lt, le);
       links = links_more n old.order.items new.order.items old.seen new.seen c.loop-at.at v.more.order lt v.more.seen
           c.loop-at.invariant.links f.swept.links;

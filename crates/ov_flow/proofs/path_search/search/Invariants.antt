@@ -5,12 +5,14 @@ use Rattle.ov_graph.specs.Row.{HasBit}
 use Rattle.ov_split.specs.Places.{net_by_place}
 use Rattle.ov_flow.specs.Code.Reached.{IsGrown, IsClean}
 use Rattle.ov_flow.specs.Code.Walked.{table_of}
+use Rattle.ov_flow.specs.Code.Held.{HasTreeRoom}
 use Rattle.ov_flow.proofs.path_search.search.Given as goal
 
 abbrev pub invariant-loop-at : goal.invariant-loop-at
 invariant-loop-at l = record {
   grown : IsGrown (net_by_place l.net) (table_of l.from) l.tree;
   clean : IsClean (net_by_place l.net) l.tree;
+  room : HasTreeRoom (length l.net.graph.nodes) l.tree;
   within : l.at ≤ length l.tree.order.items;
   links : (k w : ℕ) → k < l.at → Linked (net_by_place l.net).graph (slice_index l.tree.order.items k) w
       → HasBit l.tree.seen w;

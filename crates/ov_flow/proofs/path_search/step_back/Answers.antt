@@ -4,7 +4,7 @@ use Rattle.std.proofs.lemmas.List.{get_or_read}
 use Rattle.ov_ids.specs.Members.{Has}
 use Rattle.ov_split.specs.Places.{net_by_place}
 use Rattle.ov_flow.specs.Code.Walked.{table_of}
-use Rattle.ov_flow.proofs.Reaching.{clean_more, IsReachedBy}
+use Rattle.ov_flow.proofs.Reaching.{clean_more, node_room, IsReachedBy}
 use Rattle.ov_flow.proofs.Visiting.{read_below}
 use Rattle.ov_flow.proofs.path_search.step_back.Goals as goal
 
@@ -26,6 +26,21 @@ bounds c =
     let e = c.requires.table.long in
     omega (arith, b, e)
 
+pub reach-requires-clause-room : goal.reach-requires-clause-room
+reach-requires-clause-room c =
+    let n = net_by_place c.args.net.now in
+    let from = table_of c.args.from.now in
+    let is : from c.index.result.now ≡ Some c.in-Some.before = c.in-Some.is in
+    node_room n (length c.args.net.now.graph.nodes) from c.args.tree.now c.in-Some.before c.requires.ready
+    c.requires.grown c.requires.room
+    ((c.requires.ready.nodes c.in-Some.before).1 (c.requires.table.told c.index.result.now c.in-Some.before is))
+
+pub returns-then-has-clause-room : goal.returns-then-has-clause-room
+returns-then-has-clause-room c = c.reach.ensures.room (length c.args.net.now.graph.nodes) c.requires.room
+
+pub returns-else-has-clause-room : goal.returns-else-has-clause-room
+returns-else-has-clause-room c = c.reach.ensures.room (length c.args.net.now.graph.nodes) c.requires.room
+
 pub returns-then-has-clause-grown : goal.returns-then-has-clause-grown
 returns-then-has-clause-grown c =
     let n = net_by_place c.args.net.now in
@@ -36,7 +51,7 @@ returns-then-has-clause-grown c =
     let is : from x ≡ Some y = c.in-Some.is in
     let e = get_or_read t.order.items c.args.at x c.requires.at c.index.ensures 0 in
     let node = (c.requires.ready.nodes y).1 (c.requires.table.told x y is) in
-    (c.in_ok-reach.ensures.grown n from c.requires.grown node (ap from (sym e) ∙ is)).0
+    (c.reach.ensures.grown n from c.requires.grown node (ap from (sym e) ∙ is)).0
 
 pub returns-then-has-clause-found : goal.returns-then-has-clause-found
 returns-then-has-clause-found c =
@@ -49,7 +64,7 @@ returns-then-has-clause-found c =
     let e = get_or_read t.order.items c.args.at x c.requires.at c.index.ensures 0 in
     let node = (c.requires.ready.nodes y).1 (c.requires.table.told x y is) in
     let r : IsReachedBy n from t c.reach.new.tree y =
-    c.in_ok-reach.ensures.grown n from c.requires.grown node (ap from (sym e) ∙ is) in
+    c.reach.ensures.grown n from c.requires.grown node (ap from (sym e) ∙ is) in
     let s = c.requires.swept in
     let h = (c.targets.ensures.places y).0 (c.has.ensures.0 c.if-has.true) in
     subst (Has n.targets) (sym (r.2 (λ k. s.clean y k h))) h
@@ -64,7 +79,7 @@ returns-else-has-clause-grown c =
     let is : from x ≡ Some y = c.in-Some.is in
     let e = get_or_read t.order.items c.args.at x c.requires.at c.index.ensures 0 in
     let node = (c.requires.ready.nodes y).1 (c.requires.table.told x y is) in
-    (c.in_ok-reach.ensures.grown n from c.requires.grown node (ap from (sym e) ∙ is)).0
+    (c.reach.ensures.grown n from c.requires.grown node (ap from (sym e) ∙ is)).0
 
 pub returns-else-has-clause-found : goal.returns-else-has-clause-found
 returns-else-has-clause-found c =
@@ -77,7 +92,7 @@ returns-else-has-clause-found c =
     let is : from x ≡ Some y = c.in-Some.is in
     let e = get_or_read t.order.items c.args.at x c.requires.at c.index.ensures 0 in
     let node = (c.requires.ready.nodes y).1 (c.requires.table.told x y is) in
-    let r : IsReachedBy n from t u y = c.in_ok-reach.ensures.grown n from c.requires.grown node
+    let r : IsReachedBy n from t u y = c.reach.ensures.grown n from c.requires.grown node
     (ap from (sym e) ∙ is) in
     let s = c.requires.swept in
     let off : ¬ Has n.targets y = λ h. absurd (cc (
@@ -86,8 +101,8 @@ returns-else-has-clause-found c =
     )) in
     record {
       swept = record {
-        clean = clean_more n t.order.items u.order.items y s.clean c.in_ok-reach.ensures.only off;
-        links = λ w l. c.in_ok-reach.ensures.more.seen w (s.links w l);
+        clean = clean_more n t.order.items u.order.items y s.clean c.reach.ensures.only off;
+        links = λ w l. c.reach.ensures.more.seen w (s.links w l);
       };
       back = λ b f.
           let g : from x ≡ Some b = ap from e ∙ f in

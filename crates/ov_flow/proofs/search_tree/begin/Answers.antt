@@ -11,9 +11,9 @@ returns-clause-grown c from =
     let n = net_by_place c.args.net.now in
     let s = c.source-source.result in
     rw (
-      c.in_ok-push.ensures.items ∙ ap (λ (l : List ℕ). l ++ s ∷ []) c.clear.ensures.items,
-      c.in_ok-push-2.ensures.items ∙ ap (λ (l : List ℕ). l ++ 0 ∷ []) c.clear-2.ensures.items,
-      c.in_ok-push-3.ensures.items ∙ ap (λ (l : List (Option ℕ)). l ++ None ∷ []) c.clear-3.ensures.items,
+      c.push_reserved.ensures.items ∙ ap (λ (l : List ℕ). l ++ s ∷ []) c.clear.ensures.items,
+      c.push_reserved-2.ensures.items ∙ ap (λ (l : List ℕ). l ++ 0 ∷ []) c.clear-2.ensures.items,
+      c.push_reserved-3.ensures.items ∙ ap (λ (l : List (Option ℕ)). l ++ None ∷ []) c.clear-3.ensures.items,
     )
     (grown_first n from c.put-2.new.row c.put.new.row c.avoided.result.now EMPTY s
     ((c.requires.ready.nodes s).1 c.source-source.ensures.below) c.source-source.ensures.place c.avoided.ensures.places

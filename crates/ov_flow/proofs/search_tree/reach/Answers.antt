@@ -8,7 +8,7 @@ returns-clause-grown c n from g node step =
     let t = c.args.tree.now in
     let y = c.args.node in
     let new : ¬ Has t.order.items y = λ k. absurd (cc (c.has.ensures.1 ((g.marked y).1 k), c.if-has.false)) in
-    rw (c.in_ok-push.ensures.items, c.in_ok-push-2.ensures.items, c.in_ok-push-3.ensures.items) (
+    rw (c.push_reserved.ensures.items, c.push_reserved-2.ensures.items, c.push_reserved-3.ensures.items) (
       grown_push n from t.order.items t.parents.items t.ways.items t.reached t.seen c.args.at y c.args.way
           c.put.new.row g c.requires.at step node new c.put.ensures,
       has_push t.order.items y,
@@ -17,4 +17,4 @@ returns-clause-grown c n from g node step =
 
 pub returns-clause-only : goal.returns-clause-only
 returns-clause-only c =
-    rw c.in_ok-push.ensures.items (only_last c.args.tree.now.order.items c.args.node)
+    rw c.push_reserved.ensures.items (only_last c.args.tree.now.order.items c.args.node)

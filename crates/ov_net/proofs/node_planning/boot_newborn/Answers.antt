@@ -1,8 +1,8 @@
 use Rattle.std.proofs.Common.{◌∷◌, map, refl, ap, ◌∙◌, None, Some}
 use Rattle.ov_peer.specs.declared.input.Input.TheVariants.{Boot}
 use Rattle.ov_net.specs.NetStep.{change_at}
-use Rattle.ov_net.specs.declared.effects.NodeChange.TheVariants as change
-use Rattle.ov_net.specs.declared.entry_and_changes.Change.TheVariants.{Born}
+use Rattle.ov_net.specs.declared.planned_effects.NodeChange.TheVariants as change
+use Rattle.ov_net.specs.declared.journal_entry_and_changes.Change.TheVariants.{Born}
 use Rattle.ov_net.proofs.Steps.EventEffects.{born_by}
 use Rattle.ov_net.proofs.node_planning.boot_newborn.Goals as goal
 

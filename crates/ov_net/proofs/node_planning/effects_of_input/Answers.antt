@@ -7,7 +7,7 @@ returns-clause-effects c = record {
   planned = c.in_ok-plan.ensures.planned;
   node = refl;
   place = refl;
-  packets = c.in_ok-effects.ensures.packets;
-  changes = c.in_ok-effects.ensures.changes;
-  delivery = c.in_ok-effects.ensures.delivery;
+  packets = c.in_ok-added.ensures.packets;
+  changes = c.in_ok-added.ensures.changes;
+  delivery = c.in_ok-added.ensures.delivery;
 }

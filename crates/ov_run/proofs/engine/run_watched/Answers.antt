@@ -1,48 +1,17 @@
--- What was read is a scenario, and what it prints was written; where the run ended early, a prefix of it.
-use Rattle.std.proofs.Common.{Err, ap, subst}
-use Rattle.ov_run.specs.Scenarios.{IsScenario}
-use Rattle.ov_run.proofs.Printing.WholeRuns.{finished, stopped}
+-- What ran is the scenario of the bytes that the source had.
+use Rattle.ov_run.proofs.OfReader.{run_of_reader, no_read_fault}
 use Rattle.ov_run.proofs.engine.run_watched.Goals as goal
 
 pub returns : goal.returns
 returns g c =
     let read = c.in_ok-bytes in
-    let said = c.in_ok-scenario in
-    let ran = c.in_ok-run_lines.ensures in
-    let printed = ran.prints in
-    let says = subst (λ bytes. IsScenario bytes said.scenario) c.deref.ensures.value said.ensures.scenario in
     record {
-      run = finished g.R.Read.remaining g.W.Write.contents c.args.source.now c.read_all.new.self c.args.sink.now
-          c.run_lines.new.sink read.ensures.faults (read.ensures.not_failed (λ e. absurd cc)) (
-            read.bytes.items,
-            printed.1.0,
-            read.ensures.bytes,
-            record { scenario = said.scenario; says = says; core = printed.0; lines = printed.1.1 },
-            printed.1.2,
-          ) ran.faults;
-    }
-
-pub returns-in_err-run_lines : goal.returns-in_err-run_lines
-returns-in_err-run_lines g c =
-    let read = c.in_ok-bytes in
-    let file = c.in_ok-scenario in
-    let ran = c.in_err-run_lines.ensures in
-    let failed = c.from_residual-in_err-run_lines in
-    let says = subst (λ bytes. IsScenario bytes file.scenario) c.deref.ensures.value file.ensures.scenario in
-    record {
-      run = stopped g.R.Read.remaining g.W.Write.contents c.args.source.now c.read_all.new.self c.args.sink.now
-          c.run_lines.new.sink read.ensures.faults (read.ensures.not_failed (λ e. absurd cc)) failed.result
-          c.in_err-run_lines.field-0.0 failed.ensures.1 (
-            read.bytes.items,
-            ran.begun.0,
-            read.ensures.bytes,
-            record { scenario = file.scenario; says = says; lines = ran.begun.1 },
-            ran.begun.2,
-          ) ran.kind ran.faults (λ memory. let ended = ran.memory (ap Err memory) in (
-            read.bytes.items,
-            ended.0,
-            read.ensures.bytes,
-            record { scenario = file.scenario; says = says; lines = ended.1 },
-            ended.2,
-          ));
+      run = record {
+        run = run_of_reader g.W.Write.contents c.args.sink.now c.run_bytes.new.sink
+            (g.R.Read.remaining c.args.source.now.reader) read.bytes.items c.deref.result.now c.run_bytes.result
+            read.ensures.bytes c.deref.ensures.value c.run_bytes.ensures.run;
+        source = no_read_fault c.run_bytes.result c.run_bytes.ensures.read _ _ read.ensures.faults;
+        failed = λ e. absurd (c.run_bytes.ensures.read e);
+        not_failed = λ other. read.ensures.not_failed (λ e. absurd cc);
+      };
     }

@@ -1,48 +1,19 @@
--- What was read has an answer, and its text was written, or a prefix of it.
-use Rattle.std.proofs.Common.{rules, inr, option_map, string_bytes}
-use Rattle.ov_run.proofs.GraphFiles.Answered.{all_written, begun_written}
+-- What was analysed is the graph file of the bytes that the source had.
+use Rattle.std.proofs.Common.{option_map}
+use Rattle.ov_run.proofs.OfReader.{analysis_of_reader, no_read_fault}
 use Rattle.ov_run.proofs.graph_analysis.analyse_file.Goals as goal
 
 pub returns : goal.returns
-returns g c = record {
-  analysis = record {
-    status = search rules;
-    prints = all_written (g.R.Read.remaining c.args.source.now.reader) (g.W.Write.contents c.args.sink.now.writer)
-        (g.W.Write.contents c.write_all.new.self.writer) c.in_ok-bytes.bytes.items c.deref.result.now
-        (string_bytes c.in_ok-text.text) c.as_bytes.result.now (option_map (λ ids. ids.now) c.args.group)
-        c.args.certificate c.in_ok-bytes.ensures.bytes c.deref.ensures.value c.as_bytes.ensures.value
-        c.in_ok-text.ensures.text c.in_ok-write_all.ensures.bytes;
-    begun = inr
-        (begun_written (g.R.Read.remaining c.args.source.now.reader) (g.W.Write.contents c.args.sink.now.writer)
-        (g.W.Write.contents c.write_all.new.self.writer) c.in_ok-bytes.bytes.items c.deref.result.now
-        (string_bytes c.in_ok-text.text) c.as_bytes.result.now (option_map (λ ids. ids.now) c.args.group)
-        c.args.certificate c.in_ok-bytes.ensures.bytes c.deref.ensures.value c.as_bytes.ensures.value
-        c.in_ok-text.ensures.text c.in_ok-write_all.ensures.prefix);
-    source = search rules;
-    failed = search rules;
-    not_failed = search rules;
-    sink = search rules;
-    unwritten = search rules;
-    fault = search rules;
-  };
-}
-
-pub returns-in_err-write_all : goal.returns-in_err-write_all
-returns-in_err-write_all g c = record {
-  analysis = record {
-    status = search rules;
-    prints = search rules;
-    begun = inr
-        (begun_written (g.R.Read.remaining c.args.source.now.reader) (g.W.Write.contents c.args.sink.now.writer)
-        (g.W.Write.contents c.write_all.new.self.writer) c.in_ok-bytes.bytes.items c.deref.result.now
-        (string_bytes c.in_ok-text.text) c.as_bytes.result.now (option_map (λ ids. ids.now) c.args.group)
-        c.args.certificate c.in_ok-bytes.ensures.bytes c.deref.ensures.value c.as_bytes.ensures.value
-        c.in_ok-text.ensures.text c.in_err-write_all.ensures.prefix);
-    source = search rules;
-    failed = search rules;
-    not_failed = search rules;
-    sink = search rules;
-    unwritten = search rules;
-    fault = search rules;
-  };
-}
+returns g c =
+    let read = c.in_ok-bytes in
+    record {
+      analysis = record {
+        analysis = analysis_of_reader g.W.Write.contents c.args.sink.now c.analyse_bytes.new.sink
+            (option_map (λ ids. ids.now) c.args.group) c.args.certificate (g.R.Read.remaining c.args.source.now.reader)
+            read.bytes.items c.deref.result.now c.analyse_bytes.result read.ensures.bytes c.deref.ensures.value
+            c.analyse_bytes.ensures.analysis;
+        source = no_read_fault c.analyse_bytes.result c.analyse_bytes.ensures.read _ _ read.ensures.faults;
+        failed = λ e. absurd (c.analyse_bytes.ensures.read e);
+        not_failed = λ other. read.ensures.not_failed (λ e. absurd cc);
+      };
+    }

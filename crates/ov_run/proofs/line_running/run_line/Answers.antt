@@ -3,7 +3,7 @@ use Rattle.std.proofs.Common.{[], ◌∷◌, refl, sym, subst}
 use Rattle.std.proofs.KnownBytes.{Appends-nil}
 use Rattle.ov_run.specs.Ending.{BeginsLines, EndsLine}
 use Rattle.ov_run.specs.Running.{PrintsLine}
-use Rattle.ov_run.specs.declared.scenario.Line.{Line}
+use Rattle.ov_scenario.specs.declared.scenario.Line.{Line}
 use Rattle.ov_run.proofs.Printing.Ending.{whole, looked}
 use Rattle.ov_run.proofs.line_running.run_line.Goals as goal
 

@@ -4,7 +4,7 @@ use Rattle.std.proofs.KnownBytes.{Appends-nil, Appends-trans}
 use Rattle.std.proofs.lemmas.List.{nil_from_length}
 use Rattle.ov_snap.specs.CoreState.{opening_core}
 use Rattle.ov_run.specs.declared.run_fault.RunFault.TheVariants.{OutOfMemory}
-use Rattle.ov_run.specs.declared.scenario.Line.{Line}
+use Rattle.ov_scenario.specs.declared.scenario.Line.{Line}
 use Rattle.ov_run.proofs.Printing.Ending.{all_printed, followed, all_went, prefix_went, err_of}
 use Rattle.ov_run.proofs.Printing.Running.{SoFar, begun, more, ended}
 use Rattle.ov_run.proofs.line_running.run_lines.Goals as goal

@@ -23,16 +23,16 @@ returns-clause-found c =
     let e = c.graph.ensures in
     let at = subst (λ (s : SettlerState). IsPiece s.graph s.members p) (sym c.self.view_is) c.requires.piece in
     let is : c.seek.new.self.net ≡ net_of m.graph m.members p =
-    c.in_ok-seek.ensures.net
+    c.seek.ensures.net
     ∙ c.new-net.ensures.net
     ∙ ap (λ (g : LinkGraph). net_at g aim.avoided aim.source aim.targets) e.graph
     ∙ c.aim_for-aim.ensures.net in
-    elim c.match-branch-2.branch [
+    elim c.match-seek.branch [
       | in-None+in_ok-paths-in-None w ↦
           let held : c.seek.new.self.held ≡ level_of p =
           subst (λ o. MatchOption o (c.seek.new.self.held ≡ c.level.result)
           (λ s. (c.seek.new.self.held < c.level.result) × IsFullBy c.seek.new.self.net c.seek.new.self.held s))
-          w.in-None.is c.in_ok-seek.ensures.held
+          w.in-None.is c.seek.ensures.held
           ∙ c.level.ensures in
           let ps = w.in_ok-paths-in-None.field-0 in
           let fan = subst (λ (k : ℕ). IsFanOf c.seek.new.self.net k (map (map (node_at c.seek.new.self.net.graph)) ps))

@@ -3,20 +3,14 @@ use Rattle.ov_flow.specs.Code.Walked.{table_of}
 use Rattle.ov_flow.proofs.Ending.{fan_held}
 use Rattle.ov_flow.proofs.flow.Flow.augment.Goals as goal
 
-pub returns-in_err-augment-clause-fans : goal.returns-in_err-augment-clause-fans
-returns-in_err-augment-clause-fans c =
+pub returns-then-augment-clause-fans : goal.returns-then-augment-clause-fans
+returns-then-augment-clause-fans c =
     let i = c.self.invariant in
     let w = c.augment.new.work in
-    fan_held c.self.inside.net i.0 i.1 (table_of w.from.items) w.ends.items c.in_err-augment.ensures.work.flow
-
-pub returns-then-branch-clause-fans : goal.returns-then-branch-clause-fans
-returns-then-branch-clause-fans c =
-    let i = c.self.invariant in
-    let w = c.augment.new.work in
-    fan_held c.self.inside.net i.0 i.1 (table_of w.from.items) w.ends.items c.in_ok-augment.ensures.work.flow
+    fan_held c.self.inside.net i.0 i.1 (table_of w.from.items) w.ends.items c.augment.ensures.work.flow
 
 pub returns-clause-fans : goal.returns-clause-fans
 returns-clause-fans c =
     let i = c.self.invariant in
     let w = c.augment.new.work in
-    fan_held c.self.inside.net i.0 i.1 (table_of w.from.items) w.ends.items c.in_ok-augment.ensures.work.flow
+    fan_held c.self.inside.net i.0 i.1 (table_of w.from.items) w.ends.items c.augment.ensures.work.flow

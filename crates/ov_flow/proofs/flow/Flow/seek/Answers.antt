@@ -3,20 +3,14 @@ use Rattle.ov_flow.specs.Code.Walked.{table_of}
 use Rattle.ov_flow.proofs.Ending.{fan_held}
 use Rattle.ov_flow.proofs.flow.Flow.seek.Goals as goal
 
-pub returns-in_err-settle-clause-fans : goal.returns-in_err-settle-clause-fans
-returns-in_err-settle-clause-fans c =
+pub returns-then-settle-clause-fans : goal.returns-then-settle-clause-fans
+returns-then-settle-clause-fans c =
     let e = c.places.ensures in
     let w = c.settle.new.work in
-    fan_held c.args.net e.net e.placed (table_of w.from.items) w.ends.items c.in_err-settle.ensures.work.flow
-
-pub returns-then-branch-clause-fans : goal.returns-then-branch-clause-fans
-returns-then-branch-clause-fans c =
-    let e = c.places.ensures in
-    let w = c.settle.new.work in
-    fan_held c.args.net e.net e.placed (table_of w.from.items) w.ends.items c.in_ok-settle.ensures.work.flow
+    fan_held c.args.net e.net e.placed (table_of w.from.items) w.ends.items c.settle.ensures.work.flow
 
 pub returns-clause-fans : goal.returns-clause-fans
 returns-clause-fans c =
     let e = c.places.ensures in
     let w = c.settle.new.work in
-    fan_held c.args.net e.net e.placed (table_of w.from.items) w.ends.items c.in_ok-settle.ensures.work.flow
+    fan_held c.args.net e.net e.placed (table_of w.from.items) w.ends.items c.settle.ensures.work.flow

@@ -2,7 +2,7 @@ use Rattle.std.proofs.Common.{◌++◌, ◌∷◌, [], ◌+◌, length, refl, ap
 use Rattle.ov_net.specs.Code.Codes.{world_of}
 use Rattle.ov_net.specs.Code.Effects.{taking}
 use Rattle.ov_net.specs.Net.{Net}
-use Rattle.ov_net.specs.declared.entry_and_changes.Entry.{Entry}
+use Rattle.ov_net.specs.declared.journal_entry_and_changes.Entry.{Entry}
 use Rattle.ov_net.proofs.Standing.{stands_next}
 use Rattle.ov_net.proofs.world.World.apply.Goals as goal
 

@@ -2,8 +2,9 @@ use Rattle.std.proofs.Common.{◌≤◌, length, subst, ap, ◌∙◌}
 use Rattle.std.proofs.lemmas.Result.{IfOk-weaker}
 use Rattle.ov_net.specs.Limits.{most_packets}
 use Rattle.ov_net.specs.World.{WorldState}
-use Rattle.ov_net.specs.declared.effects.Effects.{Effects}
-use Rattle.ov_net.proofs.Steps.EventEffects.{at_event, at_any, broadcast_short, few_sent, none_sent}
+use Rattle.ov_net.specs.declared.planned_effects.Effects.{Effects}
+use Rattle.ov_net.proofs.Steps.EventEffects.{at_event, at_any, few_sent, none_sent, may_boot, may_deliver, may_lose}
+use Rattle.ov_net.proofs.Steps.EventEffects.{may_repeat, may_crash, may_report, may_shuffle, may_broadcast, may_fire}
 use Rattle.ov_net.proofs.world.World.effects_of.Goals as goal
 
 pub returns-in-Boot-clause-effects : goal.returns-in-Boot-clause-effects
@@ -51,9 +52,59 @@ returns-in-Timer-clause-effects c =
     at_event c.args.self.now.net c.args.event.now _ c.args.words.now c.effects_of_timer.result c.in-Timer.is
     c.effects_of_timer.ensures.effects
 
+pub effects_of_boot-requires : goal.effects_of_boot-requires
+effects_of_boot-requires c = may_boot c.args.self.now.net _ c.args.event.now _ _ c.in-Boot.is c.requires
+
+pub effects_of_deliver-requires : goal.effects_of_deliver-requires
+effects_of_deliver-requires c = may_deliver c.args.self.now.net _ c.args.event.now _ c.in-Deliver.is c.requires
+
+pub effects_of_lose-requires : goal.effects_of_lose-requires
+effects_of_lose-requires c = may_lose c.args.self.now.net _ c.args.event.now _ c.in-Lose.is c.requires
+
+pub effects_of_repeat-requires : goal.effects_of_repeat-requires
+effects_of_repeat-requires c = may_repeat c.args.self.now.net _ c.args.event.now _ c.in-Repeat.is c.requires
+
+pub effects_of_crash-requires-clause-born : goal.effects_of_crash-requires-clause-born
+effects_of_crash-requires-clause-born c = (may_crash c.args.self.now.net _ c.args.event.now _ c.in-Crash.is c.requires).0
+
+pub effects_of_crash-requires-clause-live : goal.effects_of_crash-requires-clause-live
+effects_of_crash-requires-clause-live c = (may_crash c.args.self.now.net _ c.args.event.now _ c.in-Crash.is c.requires).1
+
+pub effects_of_crash_report-requires-clause-born : goal.effects_of_crash_report-requires-clause-born
+effects_of_crash_report-requires-clause-born c = (may_report c.args.self.now.net _ c.args.event.now _ _ c.in-CrashReport.is c.requires).0
+
+pub effects_of_crash_report-requires-clause-live : goal.effects_of_crash_report-requires-clause-live
+effects_of_crash_report-requires-clause-live c = (may_report c.args.self.now.net _ c.args.event.now _ _ c.in-CrashReport.is c.requires).1
+
+pub effects_of_crash_report-requires-clause-gone : goal.effects_of_crash_report-requires-clause-gone
+effects_of_crash_report-requires-clause-gone c = (may_report c.args.self.now.net _ c.args.event.now _ _ c.in-CrashReport.is c.requires).2
+
+pub effects_of_shuffle-requires-clause-born : goal.effects_of_shuffle-requires-clause-born
+effects_of_shuffle-requires-clause-born c = (may_shuffle c.args.self.now.net _ c.args.event.now _ c.in-Shuffle.is c.requires).0
+
+pub effects_of_shuffle-requires-clause-live : goal.effects_of_shuffle-requires-clause-live
+effects_of_shuffle-requires-clause-live c = (may_shuffle c.args.self.now.net _ c.args.event.now _ c.in-Shuffle.is c.requires).1
+
+pub effects_of_broadcast-requires-clause-born : goal.effects_of_broadcast-requires-clause-born
+effects_of_broadcast-requires-clause-born c = (may_broadcast c.args.self.now.net _ c.args.event.now _ _ c.in-Broadcast.is c.requires).0
+
+pub effects_of_broadcast-requires-clause-live : goal.effects_of_broadcast-requires-clause-live
+effects_of_broadcast-requires-clause-live c = (may_broadcast c.args.self.now.net _ c.args.event.now _ _ c.in-Broadcast.is c.requires).1
+
 pub effects_of_broadcast-requires-clause-payload : goal.effects_of_broadcast-requires-clause-payload
-effects_of_broadcast-requires-clause-payload c =
-    broadcast_short c.args.self.now.net _ c.args.event.now _ _ c.in-Broadcast.is c.requires
+effects_of_broadcast-requires-clause-payload c = (may_broadcast c.args.self.now.net _ c.args.event.now _ _ c.in-Broadcast.is c.requires).2
+
+pub effects_of_broadcast-requires-clause-made : goal.effects_of_broadcast-requires-clause-made
+effects_of_broadcast-requires-clause-made c = (may_broadcast c.args.self.now.net _ c.args.event.now _ _ c.in-Broadcast.is c.requires).3
+
+pub effects_of_timer-requires-clause-born : goal.effects_of_timer-requires-clause-born
+effects_of_timer-requires-clause-born c = (may_fire c.args.self.now.net _ c.args.event.now _ _ c.in-Timer.is c.requires).0
+
+pub effects_of_timer-requires-clause-live : goal.effects_of_timer-requires-clause-live
+effects_of_timer-requires-clause-live c = (may_fire c.args.self.now.net _ c.args.event.now _ _ c.in-Timer.is c.requires).1
+
+pub effects_of_timer-requires-clause-timer : goal.effects_of_timer-requires-clause-timer
+effects_of_timer-requires-clause-timer c = (may_fire c.args.self.now.net _ c.args.event.now _ _ c.in-Timer.is c.requires).2
 
 pub returns-in-Boot-clause-few : goal.returns-in-Boot-clause-few
 returns-in-Boot-clause-few c =

@@ -1,5 +1,5 @@
 use Rattle.std.proofs.Common.{◌++◌, [], ◌∷◌, refl, ap, ◌∙◌}
-use Rattle.ov_net.specs.declared.entry_and_changes.Change.TheVariants.{Gone}
+use Rattle.ov_net.specs.declared.journal_entry_and_changes.Change.TheVariants.{Gone}
 use Rattle.ov_net.proofs.Steps.EventEffects.{crash_effects}
 use Rattle.ov_net.proofs.world.World.effects_of_crash.Goals as goal
 

@@ -1,5 +1,5 @@
 use Rattle.std.proofs.Common.{ap, ◌∙◌}
-use Rattle.ov_net.specs.declared.effects.Effects.{Effects}
+use Rattle.ov_net.specs.declared.planned_effects.Effects.{Effects}
 use Rattle.ov_net.proofs.Steps.EventEffects.{lose_effects}
 use Rattle.ov_net.proofs.world.World.effects_of_lose.Goals as goal
 

@@ -1,0 +1,153 @@
+-- What the arguments give is what a parse of them finds.
+use Rattle.std.proofs.Common.{◌≡◌, ◌∙◌, ℕ, List, [], Option, Some, None, true, false, option_map, codes, refl, ap, ap₂}
+use Rattle.std.proofs.Common.{◌⊎◌, sym, subst, inl, inr, Result, IsErrAnd, IsErrOf}
+use Rattle.std.specs.Box.{box_value}
+use Rattle.ov_ids.specs.Options.{◌>>=◌}
+use Rattle.clap.proofs.OnLiterals.{clap_on_literals}
+use Rattle.clap.proofs.SimpleLemmas.{is_false}
+use Rattle.clap.proofs.WalkLemmas.{both, first_value-rows}
+use Rattle.clap.specs.Words.{AddsArg, AddsSubcommand, App, HasKind, HasMatchesOf, IsAmong, Row, Rule, Text, app_of}
+use Rattle.clap.specs.Words.{fault_of, first_of, first_value, is_simple, is_simple_and_free, kind_of, rows_of, rule_of}
+use Rattle.clap.specs.Words.{subcommand_name_of, subcommand_of, subcommand_rows, subcommand_rows_of}
+use Rattle.clap.specs.Words.{with_rule, with_subcommand}
+use Rattle.clap.specs.declared.builder.arg.Arg.{Arg}
+use Rattle.clap.specs.declared.builder.command.Command.{Command}
+use Rattle.clap.specs.declared.error.Error.{Error}
+use Rattle.clap.specs.declared.error.kind.ErrorKind.{ErrorKind}
+use Rattle.clap.specs.declared.error.kind.ErrorKind.TheVariants.{OutOfMemory as no_memory}
+use Rattle.clap.specs.declared.parser.matches.ArgMatches.{ArgMatches}
+use Rattle.clap.specs.declared.parser.matches.ArgMatches.TheViews.{out-ArgMatches, out-SubCommand}
+use Rattle.clap.specs.declared.parser.matches.Found.{Found}
+use Rattle.ov_arguments.specs.Arguments.{AreReadableFor, IsAsked, IsOfGiven, command_given, fault_of_parse, file_asked}
+use Rattle.ov_arguments.specs.Arguments.{group_asked, is_flagged, overlay_command, text_given, workers_asked}
+use Rattle.ov_arguments.specs.declared.arguments.ArgumentsFault.TheVariants.{OutOfMemory}
+use Rattle.ov_arguments.specs.declared.arguments.Request.{Request}
+use Rattle.ov_arguments.specs.declared.arguments.Request.TheVariants.{Run, Analyse}
+
+-- `clap` says what this command finds
+is_told : is_simple overlay_command ≡ true
+unfolding clap_on_literals
+is_told = refl
+
+-- it says which faults this command finds
+fault_is_told : is_simple_and_free overlay_command ≡ true
+unfolding clap_on_literals
+fault_is_told = refl
+
+-- a parse that finds something finds no fault
+pub no_fault_found : (command : App) (arguments : List (List ℕ)) → command ≡ overlay_command
+    → (is_simple_and_free command ≡ true → fault_of command arguments ≡ [])
+    → fault_of overlay_command arguments ≡ []
+no_fault_found command arguments is none =
+    ap (λ a. fault_of a arguments) (sym is) ∙ none (ap is_simple_and_free is ∙ fault_is_told)
+
+-- an error that is of no kind but out of memory
+memory_alone : (kind : ErrorKind) → (kind ≡ no_memory) ⊎ IsAmong kind [] → fault_of_parse kind ≡ OutOfMemory
+memory_alone kind (inl memory) = ap fault_of_parse memory
+memory_alone kind (inr among) = absurd among
+
+-- a parse in which `clap` finds no fault fails out of memory alone
+pub fails_for_memory : (command : App) (arguments : List (List ℕ)) (error : Error) → command ≡ overlay_command
+    → fault_of overlay_command arguments ≡ []
+    → (is_simple_and_free command ≡ true → HasKind (fault_of command arguments) error)
+    → fault_of_parse (kind_of error) ≡ OutOfMemory
+fails_for_memory command arguments error is none kinds =
+    memory_alone (kind_of error) (subst (λ k. HasKind k error) (ap (λ a. fault_of a arguments) is ∙ none)
+    (kinds (ap is_simple_and_free is ∙ fault_is_told)))
+
+found_text : (found : Option (Text × List Row)) (f : Found) (name : List ℕ)
+    → Some (rows_of f) ≡ option_map (λ p. p.1) found
+    → (found >>= λ p. first_of name p.1) ≡ first_value f name
+found_text None f name same = absurd (cc)
+found_text (Some p) f name same =
+    let rows : p.1 ≡ rows_of f = cc in
+    ap (first_of name) rows ∙ sym (first_value-rows f name)
+
+-- the text that the arguments give is the one that the matches of the subcommand have
+given_found : (command : App) (arguments : List (List ℕ)) (m : ArgMatches) (f : Found) (name : List ℕ)
+    → command ≡ overlay_command → HasMatchesOf command arguments m
+    → Some (rows_of f) ≡ option_map (λ p. p.1) (subcommand_rows_of m)
+    → text_given arguments name ≡ first_value f name
+given_found command arguments m f name is has rows =
+    let same : subcommand_rows_of m ≡ subcommand_of overlay_command arguments =
+    (has (ap is_simple is ∙ is_told)).1 ∙ ap (λ c. subcommand_of c arguments) is in
+    found_text (subcommand_of overlay_command arguments) f name (rows ∙ ap (option_map (λ p. p.1)) same)
+
+-- the name of the command that the arguments give is the one that the matches have
+names : (m : ArgMatches) → option_map (λ p. p.0) (subcommand_rows_of m) ≡ subcommand_name_of m
+names m = elim (out-ArgMatches m).subcommand as (λ x. option_map (λ p. p.0) (subcommand_rows x)
+    ≡ option_map (λ b. (out-SubCommand (box_value b)).name.now) x) [ None ↦ refl | Some b ↦ refl ]
+
+command_found : (command : App) (arguments : List (List ℕ)) (m : ArgMatches) (name : List ℕ)
+    → command ≡ overlay_command → HasMatchesOf command arguments m → Some name ≡ subcommand_name_of m
+    → command_given arguments ≡ Some name
+command_found command arguments m name is has named =
+    let same : subcommand_rows_of m ≡ subcommand_of overlay_command arguments =
+    (has (ap is_simple is ∙ is_told)).1 ∙ ap (λ c. subcommand_of c arguments) is in
+    ap (option_map (λ p. p.0)) (sym same) ∙ names m ∙ sym named
+
+-- the fault of a failure is of the kind that all its faults are
+pub err_of : {T E : Type 0} (Is : E → Type 0) (r : Result T E) (f : E) → IsErrAnd r Is → IsErrOf r f → Is f
+err_of Is r f all is = subst (λ q. IsErrAnd q Is) is all
+
+-- what equal names and texts ask for is the same
+asked_same : (c d : Option (List ℕ)) (t u : List ℕ → Option (List ℕ)) → c ≡ d → ((n : List ℕ) → t n ≡ u n)
+    → (r : Request) → IsAsked d u r → IsAsked c t r
+asked_same c d t u e f (Run file explain) a = (
+  (λ x. a.0 (sym e ∙ x)),
+  ap file_asked (f (codes "file")) ∙ a.1,
+  ap is_flagged (f (codes "explain")) ∙ a.2,
+)
+asked_same c d t u e f (Analyse file analysis) a = (
+  e ∙ a.0,
+  ap file_asked (f (codes "file")) ∙ a.1,
+  ap group_asked (f (codes "group")) ∙ a.2,
+  ap workers_asked (f (codes "workers")) ∙ a.3,
+  ap is_flagged (f (codes "certificate")) ∙ a.4,
+  ap is_flagged (f (codes "progress")) ∙ a.5,
+)
+
+-- texts that are equal to readable ones are readable
+readable_same : (c d : Option (List ℕ)) (t u : List ℕ → Option (List ℕ)) → c ≡ d → ((n : List ℕ) → t n ≡ u n)
+    → AreReadableFor c t → AreReadableFor d u
+readable_same c d t u e f r is = record {
+  group = λ x. (r (e ∙ is)).group (ap group_asked (f (codes "group")) ∙ x);
+  workers = λ x. (r (e ∙ is)).workers (ap workers_asked (f (codes "workers")) ∙ x);
+}
+
+-- the texts that ask for something can be read
+pub asked_readable : (command : Option (List ℕ)) (text : List ℕ → Option (List ℕ)) (r : Request)
+    → IsAsked command text r → AreReadableFor command text
+asked_readable command text (Run file explain) a is = absurd (a.0 is)
+asked_readable command text (Analyse file analysis) a is = record {
+  group = λ none. cc;
+  workers = λ none. cc;
+}
+
+-- what the matches of the subcommand ask for is what the arguments give
+module _ (command : App) (arguments : List (List ℕ)) (m : ArgMatches) (f : Found) (name : List ℕ)
+    (is : command ≡ overlay_command) (has : HasMatchesOf command arguments m) (named : Some name ≡ subcommand_name_of m)
+    (rows : Some (rows_of f) ≡ option_map (λ p. p.1) (subcommand_rows_of m)) where
+  pub asked_given : (r : Request) → IsAsked (Some name) (first_value f) r → IsOfGiven arguments r
+  asked_given = asked_same (command_given arguments) (Some name) (text_given arguments) (first_value f)
+      (command_found command arguments m name is has named) (λ n. given_found command arguments m f n is has rows)
+
+  pub readable_given : AreReadableFor (command_given arguments) (text_given arguments)
+      → AreReadableFor (Some name) (first_value f)
+  readable_given = readable_same (command_given arguments) (Some name) (text_given arguments) (first_value f)
+      (command_found command arguments m name is has named) (λ n. given_found command arguments m f n is has rows)
+
+-- one argument more
+pub with_one_more : (old new : Command) (arg : Arg) (app : App) (rule : Rule) → AddsArg old arg new → arg.global ≡ false
+    → app_of old ≡ app → rule_of arg ≡ rule
+    → app_of new ≡ with_rule app rule
+with_one_more old new arg app rule adds own is same = adds.shape own ∙ ap₂ with_rule is same
+
+-- one subcommand more
+pub with_subcommand_more : (old sub new : Command) (app own : App) → AddsSubcommand old sub new → app_of old ≡ app
+    → app_of sub ≡ own → own.top.is_plain ≡ true
+    → app_of new ≡ with_subcommand app own.top
+with_subcommand_more old sub new app own adds is same plain =
+    let told : (app_of sub).top.is_plain ≡ true = ap (λ (a : App). a.top.is_plain) same ∙ plain in
+    adds.shape (is_false _ (both _ _ (both _ _ (both _ _ told).1).1).0)
+    ∙ ap₂ with_subcommand is (ap (λ (a : App). a.top) same)

@@ -1,0 +1,22 @@
+-- The arguments, one after the other.
+use Rattle.std.proofs.Common.{rules, ◌≡◌, codes}
+use Rattle.std.proofs.lemmas.Result.{IfOk-weaker}
+use Rattle.clap.specs.Words.{AddsArg, app_of, new_app, new_rule, rule_of}
+use Rattle.ov_arguments.specs.Arguments.{analyse_command, flag, option}
+use Rattle.ov_arguments.proofs.Asked.{with_one_more}
+use Rattle.ov_arguments.proofs.arguments.analyse_command.Goals as goal
+
+pub returns : goal.returns
+returns c =
+    let none : app_of c.new.result ≡ new_app (codes "analyse") = search rules in
+    let file : rule_of c.new-2.result ≡ new_rule (codes "file") = search rules in
+    let group : rule_of c.option.result ≡ option (codes "group") = search rules in
+    let workers : rule_of c.option-2.result ≡ option (codes "workers") = search rules in
+    let certificate : rule_of c.flag.result ≡ flag (codes "certificate") = search rules in
+    let progress : rule_of c.flag-2.result ≡ flag (codes "progress") = search rules in
+    let one = with_one_more _ _ _ _ _ c.in_ok-arg.ensures c.new-2.ensures.optional.1 none file in
+    let two = with_one_more _ _ _ _ _ c.in_ok-arg-2.ensures c.option.ensures.local one group in
+    let three = with_one_more _ _ _ _ _ c.in_ok-arg-3.ensures c.option-2.ensures.local two workers in
+    let four = with_one_more _ _ _ _ _ c.in_ok-arg-4.ensures c.flag.ensures.local three certificate in
+    IfOk-weaker c.arg-5.result (AddsArg c.in_ok-arg-4.field-0 c.flag-2.result) (λ r. app_of r ≡ analyse_command)
+    (λ r adds. with_one_more _ _ _ _ _ adds c.flag-2.ensures.local four progress) c.arg-5.ensures

@@ -1,0 +1,133 @@
+-- What the arguments of a command line ask for, and why they can't be read. Chosen here.
+use Rattle.std.specs.Prelude.{◌≡◌, ◌≢◌, ℕ, Bool, true, false, ◌<◌, ⊤, List, [], length, Option, Some, None}
+use Rattle.std.specs.Prelude.{IfSome, codes, option_map, string_bytes, if◌then◌else◌}
+use Rattle.std.specs.Str.{bytes_eq}
+use Rattle.std.specs.declared.io.ErrorKind.{ErrorKind}
+use Rattle.std.specs.declared.io.ErrorKind.TheVariants.{InvalidData}
+use Rattle.clap.specs.Simple.{on_top}
+use Rattle.clap.specs.Words.{App, Rule, fault_of, first_of, new_app, new_rule, subcommand_of, with_rule}
+use Rattle.clap.specs.Words.{with_subcommand}
+use Rattle.clap.specs.declared.builder.action.ArgAction.TheVariants.{Set, SetTrue}
+use Rattle.clap.specs.declared.error.kind.ErrorKind.{ErrorKind as ParseErrorKind}
+use Rattle.clap.specs.declared.error.kind.ErrorKind.TheVariants as parse_error
+use Rattle.ov_ids.specs.Options.{◌>>=◌}
+use Rattle.ov_lines.specs.Lines.{ids_of, workers_of}
+use Rattle.ov_arguments.specs.declared.arguments.Request.{Request}
+use Rattle.ov_arguments.specs.declared.arguments.Request.TheVariants.{Run, Analyse}
+use Rattle.ov_arguments.specs.declared.arguments.ArgumentsFault.{ArgumentsFault}
+use Rattle.ov_arguments.specs.declared.arguments.ArgumentsFault.TheVariants.{BadArguments, OutOfMemory}
+
+-- ---- what stands in the arguments, in the words of `clap`, which says what a command finds in which arguments
+
+-- an option with a text, `--NAME TEXT` or `--NAME=TEXT`
+abbrev pub option : List ℕ → Rule
+option name = record (new_rule name) { long = Some name; action = Some Set }
+
+-- an option without a text, `--NAME`
+abbrev pub flag : List ℕ → Rule
+flag name = record (new_rule name) { long = Some name; action = Some SetTrue }
+
+-- `run [FILE] [--explain]`
+abbrev pub run_command : App
+run_command = with_rule (with_rule (new_app (codes "run")) (new_rule (codes "file"))) (flag (codes "explain"))
+
+-- `analyse [FILE] [--group TEXT] [--workers TEXT] [--certificate] [--progress]`
+abbrev pub analyse_command : App
+analyse_command =
+    with_rule
+    (with_rule
+    (with_rule
+    (with_rule (with_rule (new_app (codes "analyse")) (new_rule (codes "file"))) (option (codes "group")))
+    (option (codes "workers")))
+    (flag (codes "certificate")))
+    (flag (codes "progress"))
+
+-- `overlay` with these two; its own name is none of the arguments
+abbrev pub overlay_command : App
+overlay_command =
+    with_subcommand
+    (with_subcommand (on_top (λ s. record s { no_binary_name = true }) (new_app (codes "overlay"))) run_command.top)
+    analyse_command.top
+
+-- the name of the command that the arguments give, if they give one
+abbrev pub command_given : List (List ℕ) → Option (List ℕ)
+command_given arguments = option_map (λ found. found.0) (subcommand_of overlay_command arguments)
+
+-- the text of a file or an option of this name, where the arguments give it. A flag that they give has the text `true`
+abbrev pub text_given : List (List ℕ) → List ℕ → Option (List ℕ)
+text_given arguments name = subcommand_of overlay_command arguments >>= λ found. first_of name found.1
+
+-- ---- what is asked for
+
+-- where an analysis for a group is asked for, the group is of one or more ids
+abbrev pub HasGroupOfIds : Request → Type 0
+HasGroupOfIds (Run file explain) = ⊤
+HasGroupOfIds (Analyse file analysis) = IfSome analysis.group (λ ids. 0 < length ids.items)
+
+-- the group that the text of `--group` asks for, and no group, for all nodes, where it is not there
+abbrev pub group_asked : Option (List ℕ) → Option (Option (List ℕ))
+group_asked None = Some None
+group_asked (Some text) = option_map Some (ids_of text)
+
+-- the number of workers that the text of `--workers` asks for, and one where it is not there
+abbrev pub workers_asked : Option (List ℕ) → Option ℕ
+workers_asked None = Some 1
+workers_asked (Some text) = workers_of text
+
+-- the file that the text of FILE asks for, and none, for standard input, where it is `-` or not there
+abbrev pub file_asked : Option (List ℕ) → Option (List ℕ)
+file_asked None = None
+file_asked (Some text) = if bytes_eq text (codes "-") then None else Some text
+
+-- whether the text of a flag says that it is there
+abbrev pub is_flagged : Option (List ℕ) → Bool
+is_flagged None = false
+is_flagged (Some text) = bytes_eq text (codes "true")
+
+-- what is asked for is what the command's name and these texts of its file and its options ask for
+abbrev pub IsAsked : Option (List ℕ) → (List ℕ → Option (List ℕ)) → Request → Type 0
+IsAsked command text (Run file explain) =
+    (command ≢ Some (codes "analyse"))
+    × (file_asked (text (codes "file")) ≡ option_map (λ f. string_bytes f) file)
+    × (is_flagged (text (codes "explain")) ≡ explain)
+IsAsked command text (Analyse file analysis) =
+    (command ≡ Some (codes "analyse"))
+    × (file_asked (text (codes "file")) ≡ option_map (λ f. string_bytes f) file)
+    × (group_asked (text (codes "group")) ≡ Some (option_map (λ ids. ids.items) analysis.group))
+    × (workers_asked (text (codes "workers")) ≡ Some analysis.workers)
+    × (is_flagged (text (codes "certificate")) ≡ analysis.certificate)
+    × (is_flagged (text (codes "progress")) ≡ analysis.progress)
+
+-- the group and the number of workers that these texts ask for can be read
+pub record AreReadable (text : List ℕ → Option (List ℕ)) : Type 0 where
+  pub group : group_asked (text (codes "group")) ≢ None
+  pub workers : workers_asked (text (codes "workers")) ≢ None
+
+-- the texts of `analyse` can be read; the texts of another command need no reading
+abbrev pub AreReadableFor : Option (List ℕ) → (List ℕ → Option (List ℕ)) → Type 0
+AreReadableFor command text = (command ≡ Some (codes "analyse")) → AreReadable text
+
+-- what is asked for is what these arguments give: the command, the file, the group, the number of workers and the flags
+abbrev pub IsOfGiven : List (List ℕ) → Request → Type 0
+IsOfGiven arguments request = IsAsked (command_given arguments) (text_given arguments) request
+
+-- These arguments ask for something: `clap` finds no fault in them, so no request for help either, and the group and
+-- the number of workers that they give to `analyse` can be read.
+abbrev pub AreTaken : List (List ℕ) → Type 0
+AreTaken arguments =
+    (fault_of overlay_command arguments ≡ []) × AreReadableFor (command_given arguments) (text_given arguments)
+
+-- the fault's number
+abbrev pub number_of : ArgumentsFault → ℕ
+number_of BadArguments = 73
+number_of OutOfMemory = 99
+
+-- why the arguments can't be had: those that are no text are no arguments of the command
+abbrev pub fault_of_text : ErrorKind → ArgumentsFault
+fault_of_text InvalidData = BadArguments
+fault_of_text kind = OutOfMemory
+
+-- why `clap` finds nothing in the arguments: it found a fault in them, or was out of memory
+abbrev pub fault_of_parse : ParseErrorKind → ArgumentsFault
+fault_of_parse parse_error.OutOfMemory = OutOfMemory
+fault_of_parse kind = BadArguments

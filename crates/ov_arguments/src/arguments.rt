@@ -1,0 +1,291 @@
+ghost use Rattle.std.specs.Prelude.{◌≡◌, ◌≢◌, ◌<◌, false, length, map, codes, string_bytes, Some, None, Err};
+ghost use Rattle.std.specs.Prelude.{option_map, IfOk, IfSome, IsErrOf};
+ghost use Rattle.std.specs.IoError.{error_kind};
+ghost use Rattle.clap.specs.Words.{app_of, found_of, first_value, rule_of};
+ghost use Rattle.ov_arguments.specs.Arguments.{AreReadable, AreReadableFor, AreTaken, HasGroupOfIds, IsAsked};
+ghost use Rattle.ov_arguments.specs.Arguments.{IsOfGiven};
+ghost use Rattle.ov_arguments.specs.Arguments.{file_asked, group_asked, is_flagged, workers_asked};
+ghost use Rattle.ov_arguments.specs.Arguments.{analyse_command, flag, option, overlay_command, run_command};
+ghost use Rattle.ov_arguments.specs.Arguments.{fault_of_parse, fault_of_text, number_of};
+ghost use Rattle.ov_arguments.specs.declared.arguments.ArgumentsFault.TheVariants.{BadArguments};
+ghost use Rattle.ov_arguments.specs.declared.arguments.ArgumentsFault.TheVariants.{OutOfMemory as out_of_memory};
+
+use clap::error::ErrorKind;
+use clap::{Arg, ArgAction, ArgMatches, Command, Error as ClapError};
+use ov_claims::Workers;
+use ov_ids::{NodeId, OutOfMemory};
+use ov_lines::{read_ids, read_workers};
+use std::alloc::{AllocError, Global};
+use std::error::Error;
+use std::fmt::{self, Display, Formatter, Write};
+use std::io;
+use std::io::ErrorKind as IoErrorKind;
+
+/// What the arguments of a command line ask for. Without a file, standard input is read.
+#[derive(Debug, PartialEq, Eq, Drop)]
+pub enum Request {
+    /// To run a scenario file. `explain` asks to tell why lines are refused.
+    Run {
+        file: Option<String>,
+        explain: bool,
+    },
+    /// To analyse a graph file.
+    Analyse {
+        file: Option<String>,
+        analysis: AnalysisRequest,
+    },
+}
+
+/// What is asked of an analysis, besides its file.
+#[derive(Debug, PartialEq, Eq, Drop)]
+pub struct AnalysisRequest {
+    /// The members of the group. Without it, all nodes are the group.
+    pub group: Option<Vec<NodeId>>,
+    /// How many workers share out the analysis.
+    pub workers: Workers,
+    /// Whether the certificate file is asked for too.
+    pub certificate: bool,
+    /// Whether it is to be told how far the analysis has come.
+    pub progress: bool,
+}
+
+/// Why the arguments of a command line can't be read. It is shown as the line that `overlay` prints of it on standard
+/// error. The numbers are chosen here.
+#[derive(Clone, Copy, Debug, PartialEq, Eq)]
+pub enum ArgumentsFault {
+    /// They are no arguments of the command, or ask for help (73).
+    BadArguments,
+    /// An allocation was refused (99).
+    OutOfMemory,
+}
+
+impl ArgumentsFault {
+    /// The fault's number.
+    pub fn number(&self) -> u32
+        ensures { result ≡ number_of self.now }
+    {
+        match self {
+            ArgumentsFault::BadArguments => 73,
+            ArgumentsFault::OutOfMemory => 99,
+        }
+    }
+}
+
+impl Display for ArgumentsFault {
+    ghost use Rattle.std.specs.Prelude.{Some};
+    ghost use Rattle.ov_io.specs.Refusal.{refusal_text};
+
+    ghost output = { λ fault. Some (refusal_text (number_of fault)) };
+
+    fn fmt<W: Write>(&self, f: &mut Formatter<W>) -> fmt::Result {
+        let number = self.number();
+        write!(f, "refused {number}")
+    }
+}
+
+impl Error for ArgumentsFault {}
+
+/// Arguments that can't be had: those that are no text are no arguments of the command.
+impl From<io::Error> for ArgumentsFault {
+    ghost from_gives = { λ error e. e ≡ fault_of_text (error_kind error) };
+
+    fn from(error: io::Error) -> ArgumentsFault {
+        match error.kind() {
+            IoErrorKind::InvalidData => ArgumentsFault::BadArguments,
+            _ => ArgumentsFault::OutOfMemory,
+        }
+    }
+}
+
+impl From<AllocError> for ArgumentsFault {
+    ghost from_gives = { λ _ e. e ≡ out_of_memory };
+
+    fn from(_error: AllocError) -> ArgumentsFault {
+        ArgumentsFault::OutOfMemory
+    }
+}
+
+impl From<OutOfMemory> for ArgumentsFault {
+    ghost from_gives = { λ _ e. e ≡ out_of_memory };
+
+    fn from(_fault: OutOfMemory) -> ArgumentsFault {
+        ArgumentsFault::OutOfMemory
+    }
+}
+
+/// Arguments in which `clap` finds nothing: those with a fault are no arguments of the command.
+impl From<ClapError> for ArgumentsFault {
+    ghost use Rattle.clap.specs.Words.{kind_of};
+
+    ghost from_gives = { λ error e. e ≡ fault_of_parse (kind_of error) };
+
+    fn from(error: ClapError) -> ArgumentsFault {
+        match error.kind() {
+            ErrorKind::OutOfMemory => ArgumentsFault::OutOfMemory,
+            _ => ArgumentsFault::BadArguments,
+        }
+    }
+}
+
+/// Reads the arguments that follow the program's name: `run [FILE] [--explain]` or `analyse [FILE] [--group IDS]
+/// [--workers N] [--certificate] [--progress]`. No argument asks for `run`. A file that is absent or `-` is standard
+/// input. IDS are one or more ids of decimal digits and 32 bits, with commas between them. N is decimal digits, and
+/// from 1 to 64; without it there is one worker. No option may stand twice. Behind `--` an argument that begins with
+/// `-` is a file. All other arguments are refused with BadArguments (73), also those that ask for help. OutOfMemory
+/// (99) is returned where an allocation was refused. The arguments and the numbers are chosen here.
+pub fn read_arguments(alloc: Global, arguments: &[String]) -> Result<Request, ArgumentsFault>
+    ensures group { IfOk result HasGroupOfIds }
+    ensures given { IfOk result (IsOfGiven (map (λ argument. string_bytes argument) arguments.now)) }
+    ensures taken { AreTaken (map (λ argument. string_bytes argument) arguments.now)
+        → (result ≢ Err BadArguments) }
+    ensures only { IfOk result (λ _. AreTaken (map (λ argument. string_bytes argument) arguments.now)) }
+{
+    let matches = command(alloc)?.try_get_matches_from(arguments)?;
+    match matches.subcommand() {
+        None => Ok(Request::Run {
+            file: None,
+            explain: false,
+        }),
+        Some((command, found)) => request_of(alloc, command, found),
+    }
+}
+
+/// What a command asks for, by what was found behind it.
+fn request_of(alloc: Global, command: &str, found: &ArgMatches) -> Result<Request, ArgumentsFault>
+    ensures group { IfOk result HasGroupOfIds }
+    ensures asked { IfOk result (IsAsked (Some command.now) (first_value (found_of found.now))) }
+    ensures readable { AreReadableFor (Some command.now) (first_value (found_of found.now))
+        → (result ≢ Err BadArguments) }
+{
+    if command == "analyse" {
+        return analysis_of(alloc, found);
+    }
+    Ok(Request::Run {
+        file: file_of(alloc, found)?,
+        explain: has_flag(found, "explain"),
+    })
+}
+
+/// The analysis that is asked for, by what was found behind the command.
+fn analysis_of(alloc: Global, found: &ArgMatches) -> Result<Request, ArgumentsFault>
+    ensures group { IfOk result HasGroupOfIds }
+    ensures asked { IfOk result (IsAsked (Some (codes "analyse")) (first_value (found_of found.now))) }
+    ensures readable { AreReadable (first_value (found_of found.now)) → (result ≢ Err BadArguments) }
+{
+    let group = group_of(alloc, found)?;
+    let workers = workers_of(found)?;
+    Ok(Request::Analyse {
+        file: file_of(alloc, found)?,
+        analysis: AnalysisRequest {
+            group,
+            workers,
+            certificate: has_flag(found, "certificate"),
+            progress: has_flag(found, "progress"),
+        },
+    })
+}
+
+/// The arguments that `overlay` takes.
+fn command<'a>(alloc: Global) -> Result<Command<'a>, AllocError>
+    ensures { IfOk result (λ c. app_of c ≡ overlay_command) }
+{
+    Command::new(alloc, "overlay")
+        .no_binary_name(true)
+        .subcommand(run_command(alloc)?)?
+        .subcommand(analyse_command(alloc)?)
+}
+
+/// The arguments behind `run`.
+fn run_command<'a>(alloc: Global) -> Result<Command<'a>, AllocError>
+    ensures { IfOk result (λ c. app_of c ≡ run_command) }
+{
+    Command::new(alloc, "run")
+        .arg(Arg::new(alloc, "file"))?
+        .arg(flag(alloc, "explain"))
+}
+
+/// The arguments behind `analyse`.
+fn analyse_command<'a>(alloc: Global) -> Result<Command<'a>, AllocError>
+    ensures { IfOk result (λ c. app_of c ≡ analyse_command) }
+{
+    Command::new(alloc, "analyse")
+        .arg(Arg::new(alloc, "file"))?
+        .arg(option(alloc, "group"))?
+        .arg(option(alloc, "workers"))?
+        .arg(flag(alloc, "certificate"))?
+        .arg(flag(alloc, "progress"))
+}
+
+/// An option of this name, with a text.
+fn option<'a>(alloc: Global, name: &'a str) -> Arg<'a>
+    ensures rule { rule_of result ≡ option name.entry.now }
+    ensures local { result.global ≡ false }
+{
+    Arg::new(alloc, name).long(name).action(ArgAction::Set)
+}
+
+/// An option of this name, without a text.
+fn flag<'a>(alloc: Global, name: &'a str) -> Arg<'a>
+    ensures rule { rule_of result ≡ flag name.entry.now }
+    ensures local { result.global ≡ false }
+{
+    Arg::new(alloc, name).long(name).action(ArgAction::SetTrue)
+}
+
+/// The file that is named, unless it is absent or `-`.
+fn file_of(alloc: Global, matches: &ArgMatches) -> Result<Option<String>, AllocError>
+    ensures { IfOk result (λ file. file_asked (first_value (found_of matches.now) (codes "file"))
+        ≡ option_map string_bytes file) }
+{
+    let Some(file) = matches.get_str("file") else {
+        return Ok(None);
+    };
+    if file == "-" {
+        return Ok(None);
+    }
+    Ok(Some(String::from_str(alloc, file)?))
+}
+
+/// Whether a flag is there.
+fn has_flag(matches: &ArgMatches, name: &str) -> bool
+    ensures { result ≡ is_flagged (first_value (found_of matches.now) name.now) }
+{
+    let Some(text) = matches.get_str(name) else {
+        return false;
+    };
+    text == "true"
+}
+
+/// The ids of the group that is given, or nothing.
+#[tactic(auto, using(ov_lines::proofs::Lines::Spelling::some_id))]
+fn group_of(alloc: Global, matches: &ArgMatches) -> Result<Option<Vec<NodeId>>, ArgumentsFault>
+    ensures given { IfOk result (λ group. group_asked (first_value (found_of matches.now) (codes "group"))
+        ≡ Some (option_map (λ ids. ids.items) group)) }
+    ensures some { IfOk result (λ group. IfSome group (λ ids. 0 < length ids.items)) }
+    ensures bad { IsErrOf result BadArguments
+        → (group_asked (first_value (found_of matches.now) (codes "group")) ≡ None) }
+{
+    let Some(text) = matches.get_str("group") else {
+        return Ok(None);
+    };
+    match read_ids(alloc, text.as_bytes())? {
+        Some(ids) => Ok(Some(ids)),
+        None => Err(ArgumentsFault::BadArguments),
+    }
+}
+
+/// The number of workers that is given, or one.
+fn workers_of(matches: &ArgMatches) -> Result<Workers, ArgumentsFault>
+    ensures given { IfOk result
+        (λ n. workers_asked (first_value (found_of matches.now) (codes "workers")) ≡ Some n) }
+    ensures bad { IsErrOf result BadArguments
+        → (workers_asked (first_value (found_of matches.now) (codes "workers")) ≡ None) }
+{
+    let Some(text) = matches.get_str("workers") else {
+        return Ok(Workers::ONE);
+    };
+    let Some(workers) = read_workers(text.as_bytes()) else {
+        return Err(ArgumentsFault::BadArguments);
+    };
+    Ok(workers)
+}

@@ -1,0 +1,110 @@
+ghost use Rattle.std.specs.Prelude.{◌≡◌};
+ghost use Rattle.ov_certfile.specs.Kinds.{name_of, keys_of};
+
+use crate::verdict::Verdict;
+use crate::version::Version;
+
+/// A key of a file, or of an entry in it.
+#[derive(Clone, Copy)]
+pub enum Key {
+    K,
+    Links,
+    Moment,
+    Nodes,
+    Verdict,
+    Version,
+    Group,
+    Cut,
+    Near,
+    Far,
+    Side,
+    Pairs,
+    Fans,
+    /// The lower node of a pair.
+    I,
+    /// The higher node of a pair, or the node of a fan.
+    J,
+    /// The paths of an entry.
+    Paths,
+}
+
+impl Key {
+    /// The name by which the key stands in a file.
+    pub fn name(self) -> &'static str
+        ensures { result.now ≡ name_of self }
+    {
+        match self {
+            Key::K => "k",
+            Key::Links => "links",
+            Key::Moment => "moment",
+            Key::Nodes => "nodes",
+            Key::Verdict => "verdict",
+            Key::Version => "version",
+            Key::Group => "group",
+            Key::Cut => "cut",
+            Key::Near => "near",
+            Key::Far => "far",
+            Key::Side => "side",
+            Key::Pairs => "pairs",
+            Key::Fans => "fans",
+            Key::I => "i",
+            Key::J => "j",
+            Key::Paths => "paths",
+        }
+    }
+}
+
+/// The keys that a file of this version and verdict must have, in the order in which they are demanded. It may have no
+/// others.
+pub fn keys_of(version: Version, verdict: Verdict) -> &'static [Key]
+    ensures { result.now ≡ keys_of version verdict }
+{
+    match (version, verdict) {
+        (Version::One, Verdict::Linked) => &[
+            Key::K,
+            Key::Links,
+            Key::Moment,
+            Key::Nodes,
+            Key::Verdict,
+            Key::Version,
+        ],
+        (Version::One, Verdict::Split) => &[
+            Key::K,
+            Key::Links,
+            Key::Moment,
+            Key::Nodes,
+            Key::Verdict,
+            Key::Version,
+            Key::Cut,
+            Key::Near,
+            Key::Far,
+            Key::Side,
+            Key::Pairs,
+            Key::Fans,
+        ],
+        (Version::Two, Verdict::Linked) => &[
+            Key::K,
+            Key::Links,
+            Key::Moment,
+            Key::Nodes,
+            Key::Verdict,
+            Key::Version,
+            Key::Group,
+        ],
+        (Version::Two, Verdict::Split) => &[
+            Key::K,
+            Key::Links,
+            Key::Moment,
+            Key::Nodes,
+            Key::Verdict,
+            Key::Version,
+            Key::Group,
+            Key::Cut,
+            Key::Near,
+            Key::Far,
+            Key::Side,
+            Key::Pairs,
+            Key::Fans,
+        ],
+    }
+}

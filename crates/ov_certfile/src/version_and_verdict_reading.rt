@@ -1,0 +1,71 @@
+ghost use Rattle.std.specs.Prelude.{◌≡◌, MatchResult};
+ghost use Rattle.serde_json.specs.View.{view};
+ghost use Rattle.ov_certfile.specs.Kinds.{version_in, verdict_in};
+ghost use Rattle.ov_certfile.specs.Says.{IsFault};
+ghost use Rattle.ov_certfile.specs.Code.Reading.{IsHeaded};
+
+use crate::fault::{BadValue, FileFault};
+use crate::file_keys::{Key, keys_of};
+use crate::object_keys::{first_missing, first_other};
+use crate::value_fault::{Misfit, Wanted};
+use crate::verdict::Verdict;
+use crate::version::Version;
+use serde_json::Value;
+
+/// The version and the verdict of a file that has exactly their keys, or its first fault.
+#[tactic(auto, unfolding(crate::specs::Demands::demands))]
+pub(crate) fn heading_of(value: &Value) -> Result<(Version, Verdict), FileFault>
+    ensures { MatchResult result (λ h. IsHeaded h.0 h.1 (view value.now)) (IsFault (view value.now)) }
+{
+    if !value.is_object() {
+        return Err(FileFault::BadValue(BadValue::of_file()));
+    }
+    let Some(version) = value.get("version") else {
+        return Err(FileFault::MissingKey(Key::Version));
+    };
+    let Some(version) = version_in(version) else {
+        return Err(FileFault::BadVersion);
+    };
+    let Some(verdict) = value.get("verdict") else {
+        return Err(FileFault::MissingKey(Key::Verdict));
+    };
+    let Some(verdict) = verdict_in(verdict) else {
+        let key = Some(Key::Verdict);
+        let misfit = Misfit::new(Wanted::Verdict);
+        return Err(FileFault::BadValue(BadValue { key, misfit }));
+    };
+    let keys = keys_of(version, verdict);
+    if let Some(key) = first_missing(keys, value) {
+        return Err(FileFault::MissingKey(key));
+    }
+    if let Some(at) = first_other(keys, value) {
+        return Err(FileFault::UnknownKey {
+            at,
+            version,
+            verdict,
+        });
+    }
+    Ok((version, verdict))
+}
+
+/// The version that a value says, if it says one.
+fn version_in(value: &Value) -> Option<Version>
+    ensures { result ≡ version_in (view value.now) }
+{
+    match value.as_u64() {
+        Some(1) => Some(Version::One),
+        Some(2) => Some(Version::Two),
+        _ => None,
+    }
+}
+
+/// The verdict that a value says, if it says one.
+fn verdict_in(value: &Value) -> Option<Verdict>
+    ensures { result ≡ verdict_in (view value.now) }
+{
+    match value.as_str() {
+        Some("linked") => Some(Verdict::Linked),
+        Some("split") => Some(Verdict::Split),
+        _ => None,
+    }
+}

@@ -1,0 +1,2 @@
+pub mod GraphFiles
+pub mod Faults

@@ -1,0 +1,40 @@
+/// Why a line can't be read: what stands at a place of it is none of what may stand there.
+#[derive(Clone, Copy, Debug, PartialEq, Eq)]
+pub struct Unread {
+    /// Where the word that is at fault begins, in bytes from the begin of the line; the length of the line if it ends
+    /// too early.
+    pub at: usize,
+    /// What may stand there.
+    pub wanted: &'static [Kind],
+}
+
+/// What may stand at a place of a line.
+#[derive(Clone, Copy, Debug, PartialEq, Eq)]
+pub enum Kind {
+    /// The name of a line, which is its first word.
+    LineName,
+    /// This word.
+    Name(&'static str),
+    /// A number of 32 bits. The text says what it is.
+    Short(&'static str),
+    /// A number of 64 bits. The text says what it is.
+    Long(&'static str),
+    /// A number with its lowest and its highest value. The text says what it is, and tells both limits.
+    Within(&'static str, u64, u64),
+    /// Ids of nodes, with one comma between two.
+    Ids,
+    /// The first of 1 to 64 random words.
+    RandomWord,
+    /// A further random word.
+    FurtherWord,
+    /// No further word.
+    End,
+    /// No further word, since there are as many as may be.
+    Full,
+}
+
+/// The id of a node.
+pub const ID: Kind = Kind::Short("the id of a node");
+
+/// No further word.
+pub const END: &[Kind] = &[Kind::End];

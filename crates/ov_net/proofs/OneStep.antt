@@ -1,0 +1,4 @@
+pub mod OfViews
+pub mod OfTree
+pub mod OfNode
+pub mod OfWorld

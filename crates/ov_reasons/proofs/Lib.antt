@@ -1,4 +1,0 @@
-mod Adding
-mod Asking
-mod GroupFaults
-mod LineWords

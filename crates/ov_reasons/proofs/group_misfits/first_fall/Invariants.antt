@@ -1,7 +1,0 @@
--- the ids so far ascend
-use Rattle.std.proofs.Common.{take}
-use Rattle.ov_ids.specs.Members.{Ascends}
-use Rattle.ov_reasons.proofs.group_misfits.first_fall.Given as goal
-
-abbrev pub invariant-loop-at : goal.invariant-loop-at
-invariant-loop-at l = Ascends (take l.at l.ids)

@@ -1,3 +1,0 @@
--- What only the contracts of private functions speak of; whoever reads the public ones need not believe it.
-pub mod Absent
-pub mod Said

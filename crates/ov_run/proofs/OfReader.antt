@@ -1,0 +1,157 @@
+-- What is said of the bytes that were read is said of the reader that had them. `read` are these bytes as they were
+-- lent.
+use Rattle.std.proofs.Common.{◌≡◌, ◌≢◌, ◌⊎◌, inl, inr, ◌∙◌, ◌+◌, ℕ, Bool, List, Option, Some, None, IfSome, Result, Ok, Err}
+use Rattle.std.proofs.Common.{refl, subst}
+use Rattle.ov_io.specs.Device.{SinkState}
+use Rattle.ov_run.specs.Analysing.{IsAnalysis, PrintsAnalysis, BeginsAnalysis, IsAnalysisOf}
+use Rattle.ov_run.specs.Ending.{IsBegun, Begins, IsEnded, Ends}
+use Rattle.ov_run.specs.Faults.{IsScenarioFileFault, IsAnalysisFileFault, IsAnalysisFault, IsRunFault, read_faults}
+use Rattle.ov_run.specs.Run.{IsRunOf}
+use Rattle.ov_run.specs.Running.{IsOutput, PrintsScenario}
+use Rattle.ov_run.specs.declared.run_fault.RunFault.{RunFault}
+use Rattle.ov_run.specs.declared.run_fault.RunFault.TheVariants as fault
+
+-- what is true of the bytes that were read is true of those that the reader had, if these are known
+told :
+    (P : List ℕ → Type 0) (reader : Option (List ℕ)) (bytes read : List ℕ) → IfSome reader (λ xs. bytes ≡ xs)
+    → read ≡ bytes → P read → IfSome reader P
+told P None bytes read had same is = tt
+told P (Some xs) bytes read had same is = subst P (same ∙ had) is
+
+-- ---- a scenario
+
+-- what it prints
+pub scenario_prints :
+    (reader before after : Option (List ℕ)) (bytes read : List ℕ) → IfSome reader (λ xs. bytes ≡ xs) → read ≡ bytes
+    → PrintsScenario (Some read) before after → PrintsScenario reader before after
+scenario_prints reader before after bytes read had same (own, text, is, output, went) =
+    (bytes, text, had, subst (λ bs. IsOutput bs text) (is ∙ same) output, went)
+
+-- what it begins to print, if anything
+pub scenario_begins :
+    {W : Type 0} (sink sink_after : SinkState W) (reader before after : Option (List ℕ)) (bytes read : List ℕ)
+    → IfSome reader (λ xs. bytes ≡ xs) → read ≡ bytes → (sink_after ≡ sink) ⊎ Begins (Some read) before after
+    → (sink_after ≡ sink) ⊎ Begins reader before after
+scenario_begins sink sink_after reader before after bytes read had same (inl unchanged) = inl unchanged
+scenario_begins sink sink_after reader before after bytes read had same (inr (own, text, is, begun, went)) =
+    inr (bytes, text, had, subst (λ bs. IsBegun bs text) (is ∙ same) begun, went)
+
+-- what it prints before it ends out of memory
+pub scenario_ends :
+    {W : Type 0} (sink sink_after : SinkState W) (reader before after : Option (List ℕ)) (bytes read : List ℕ)
+    → IfSome reader (λ xs. bytes ≡ xs) → read ≡ bytes → (sink_after ≡ sink) ⊎ Ends (Some read) before after
+    → (sink_after ≡ sink) ⊎ Ends reader before after
+scenario_ends sink sink_after reader before after bytes read had same (inl unchanged) = inl unchanged
+scenario_ends sink sink_after reader before after bytes read had same (inr (own, text, is, ended, went)) =
+    inr (bytes, text, had, subst (λ bs. IsEnded bs text) (is ∙ same) ended, went)
+
+-- the fault of its run
+pub run_fault :
+    (reader : Option (List ℕ)) (bytes read : List ℕ) (f : RunFault) → IfSome reader (λ xs. bytes ≡ xs) → read ≡ bytes
+    → IsRunFault (Some read) f → IsRunFault reader f
+run_fault reader bytes read (fault.Line n) had same is =
+    told (λ bs. IsScenarioFileFault bs (fault.Line n)) reader bytes read had same is
+run_fault reader bytes read (fault.Params n) had same is =
+    told (λ bs. IsScenarioFileFault bs (fault.Params n)) reader bytes read had same is
+run_fault reader bytes read (fault.Graph f line) had same is = is
+run_fault reader bytes read fault.Read had same is = tt
+run_fault reader bytes read fault.Write had same is = tt
+run_fault reader bytes read fault.OutOfMemory had same is = tt
+
+-- its run
+pub run_of_reader :
+    {W : Type 0} (contents : W → Option (List ℕ)) (sink sink' : SinkState W) (reader : Option (List ℕ))
+    (bytes read : List ℕ) (result : Result ℕ RunFault)
+    → IfSome reader (λ xs. bytes ≡ xs) → read ≡ bytes → IsRunOf (Some read) contents sink sink' result
+    → IsRunOf reader contents sink sink' result
+run_of_reader contents sink sink' reader bytes read (Ok status) had same ran = record {
+  status = ran.status;
+  prints = scenario_prints _ _ _ bytes read had same ran.prints;
+  begun = scenario_begins sink sink' _ _ _ bytes read had same ran.begun;
+  sink = ran.sink;
+  fault = tt;
+  unread = tt;
+  memory = λ e. absurd cc;
+}
+run_of_reader contents sink sink' reader bytes read (Err f) had same ran = record {
+  status = tt;
+  prints = tt;
+  begun = scenario_begins sink sink' _ _ _ bytes read had same ran.begun;
+  sink = ran.sink;
+  fault = run_fault _ bytes read f had same ran.fault;
+  unread = ran.unread;
+  memory = λ e. scenario_ends sink sink' _ _ _ bytes read had same (ran.memory e);
+}
+
+-- ---- a graph file
+
+-- what is printed of its analysis
+pub analysis_prints :
+    (reader before after : Option (List ℕ)) (group : Option (List ℕ)) (certificate : Bool) (bytes read : List ℕ)
+    → IfSome reader (λ xs. bytes ≡ xs) → read ≡ bytes → PrintsAnalysis (Some read) group certificate before after
+    → PrintsAnalysis reader group certificate before after
+analysis_prints reader before after group certificate bytes read had same (own, text, is, analysis, went) =
+    (bytes, text, had, subst (λ bs. IsAnalysis bs group certificate text) (is ∙ same) analysis, went)
+
+-- what its analysis begins to print, if anything
+pub analysis_begins :
+    {W : Type 0} (sink sink_after : SinkState W) (reader before after : Option (List ℕ)) (group : Option (List ℕ))
+    (certificate : Bool) (bytes read : List ℕ)
+    → IfSome reader (λ xs. bytes ≡ xs) → read ≡ bytes
+    → (sink_after ≡ sink) ⊎ BeginsAnalysis (Some read) group certificate before after
+    → (sink_after ≡ sink) ⊎ BeginsAnalysis reader group certificate before after
+analysis_begins sink sink_after reader before after group certificate bytes read had same (inl unchanged) =
+    inl unchanged
+analysis_begins sink sink_after reader before after group certificate bytes read had same
+    (inr (own, text, is, analysis, went)) =
+    inr (bytes, text, had, subst (λ bs. IsAnalysis bs group certificate text) (is ∙ same) analysis, went)
+
+-- the fault of its analysis
+pub analysis_fault :
+    (reader : Option (List ℕ)) (bytes read : List ℕ) (f : RunFault) → IfSome reader (λ xs. bytes ≡ xs) → read ≡ bytes
+    → IsAnalysisFault (Some read) f → IsAnalysisFault reader f
+analysis_fault reader bytes read (fault.Line n) had same is =
+    told (λ bs. IsAnalysisFileFault bs (fault.Line n)) reader bytes read had same is
+analysis_fault reader bytes read (fault.Params n) had same is = is
+analysis_fault reader bytes read (fault.Graph f line) had same is =
+    told (λ bs. IsAnalysisFileFault bs (fault.Graph f line)) reader bytes read had same is
+analysis_fault reader bytes read fault.Read had same is = tt
+analysis_fault reader bytes read fault.Write had same is = tt
+analysis_fault reader bytes read fault.OutOfMemory had same is = tt
+
+-- its analysis
+pub analysis_of_reader :
+    {W : Type 0} (contents : W → Option (List ℕ)) (sink sink' : SinkState W) (group : Option (List ℕ))
+    (certificate : Bool) (reader : Option (List ℕ)) (bytes read : List ℕ) (result : Result ℕ RunFault)
+    → IfSome reader (λ xs. bytes ≡ xs) → read ≡ bytes
+    → IsAnalysisOf (Some read) contents sink group certificate sink' result
+    → IsAnalysisOf reader contents sink group certificate sink' result
+analysis_of_reader contents sink sink' group certificate reader bytes read (Ok status) had same ran = record {
+  status = ran.status;
+  prints = analysis_prints _ _ _ group certificate bytes read had same ran.prints;
+  begun = analysis_begins sink sink' _ _ _ group certificate bytes read had same ran.begun;
+  sink = ran.sink;
+  unwritten = tt;
+  fault = tt;
+}
+analysis_of_reader contents sink sink' group certificate reader bytes read (Err f) had same ran = record {
+  status = tt;
+  prints = tt;
+  begun = analysis_begins sink sink' _ _ _ group certificate bytes read had same ran.begun;
+  sink = ran.sink;
+  unwritten = ran.unwritten;
+  fault = analysis_fault _ bytes read f had same ran.fault;
+}
+
+-- ---- the counts of the source
+
+-- a call that does not return Read counts no fault of its reader
+pub no_read_fault :
+    (result : Result ℕ RunFault) → result ≢ Err fault.Read → (n m : ℕ) → n ≡ m + 0 → n ≡ m + read_faults result
+no_read_fault (Ok status) other n m reads = reads
+no_read_fault (Err (fault.Line line)) other n m reads = reads
+no_read_fault (Err (fault.Params line)) other n m reads = reads
+no_read_fault (Err (fault.Graph f line)) other n m reads = reads
+no_read_fault (Err fault.Read) other n m reads = absurd (other refl)
+no_read_fault (Err fault.Write) other n m reads = reads
+no_read_fault (Err fault.OutOfMemory) other n m reads = reads

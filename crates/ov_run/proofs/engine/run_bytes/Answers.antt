@@ -1,0 +1,48 @@
+-- What was read is a scenario, and what it prints was written; if the run ended early, a prefix of it.
+use Rattle.std.proofs.Common.{rules, Err, Some, ap, subst, refl}
+use Rattle.ov_scenario.specs.Scenarios.{IsScenario}
+use Rattle.ov_run.proofs.Printing.WholeRuns.{finished, stopped}
+use Rattle.ov_run.proofs.engine.run_bytes.Goals as goal
+
+pub returns : goal.returns
+returns g c =
+    let said = c.in_ok-scenario in
+    let printed = c.in_ok-run_lines.ensures.prints in
+    record {
+      read = λ e. absurd cc;
+      run = finished c.args.bytes.now g.W.Write.contents c.args.sink.now c.run_lines.new.sink (
+        c.args.bytes.now,
+        printed.1.0,
+        refl,
+        record {
+          scenario = said.scenario;
+          says = said.ensures.scenario;
+          core = printed.0;
+          lines = printed.1.1;
+        },
+        printed.1.2,
+      ) c.in_ok-run_lines.ensures.faults;
+    }
+
+pub returns-in_err-run_lines : goal.returns-in_err-run_lines
+returns-in_err-run_lines g c =
+    let file = c.in_ok-scenario in
+    let ran = c.in_err-run_lines.ensures in
+    let failed = c.from_residual-in_err-run_lines in
+    record {
+      read = search rules;
+      run = stopped c.args.bytes.now g.W.Write.contents c.args.sink.now c.run_lines.new.sink failed.result
+          c.in_err-run_lines.field-0.0 failed.ensures.1 (
+            c.args.bytes.now,
+            ran.begun.0,
+            refl,
+            record { scenario = file.scenario; says = file.ensures.scenario; lines = ran.begun.1 },
+            ran.begun.2,
+          ) ran.kind ran.faults (λ memory. let ended = ran.memory (ap Err memory) in (
+            c.args.bytes.now,
+            ended.0,
+            refl,
+            record { scenario = file.scenario; says = file.ensures.scenario; lines = ended.1 },
+            ended.2,
+          ));
+    }

@@ -1,0 +1,41 @@
+-- What was read has an answer, and its text was written, or a prefix of it.
+use Rattle.std.proofs.Common.{rules, inr, option_map, string_bytes, refl}
+use Rattle.ov_run.proofs.GraphFiles.Answered.{all_written, begun_written}
+use Rattle.ov_run.proofs.graph_analysis.analyse_bytes.Goals as goal
+
+pub returns : goal.returns
+returns g c = record {
+  analysis = record {
+    status = search rules;
+    prints = all_written (g.W.Write.contents c.args.sink.now.writer) (g.W.Write.contents c.write_all.new.self.writer)
+        c.args.bytes.now (string_bytes c.in_ok-text.text) c.as_bytes.result.now
+        (option_map (λ ids. ids.now) c.args.group) c.args.certificate c.as_bytes.ensures.value c.in_ok-text.ensures.text
+        c.in_ok-write_all.ensures.bytes;
+    begun = inr
+        (begun_written (g.W.Write.contents c.args.sink.now.writer) (g.W.Write.contents c.write_all.new.self.writer)
+        c.args.bytes.now (string_bytes c.in_ok-text.text) c.as_bytes.result.now
+        (option_map (λ ids. ids.now) c.args.group) c.args.certificate c.as_bytes.ensures.value c.in_ok-text.ensures.text
+        c.in_ok-write_all.ensures.prefix);
+    sink = search rules;
+    unwritten = search rules;
+    fault = search rules;
+  };
+  read = search rules;
+}
+
+pub returns-in_err-write_all : goal.returns-in_err-write_all
+returns-in_err-write_all g c = record {
+  analysis = record {
+    status = search rules;
+    prints = search rules;
+    begun = inr
+        (begun_written (g.W.Write.contents c.args.sink.now.writer) (g.W.Write.contents c.write_all.new.self.writer)
+        c.args.bytes.now (string_bytes c.in_ok-text.text) c.as_bytes.result.now
+        (option_map (λ ids. ids.now) c.args.group) c.args.certificate c.as_bytes.ensures.value c.in_ok-text.ensures.text
+        c.in_err-write_all.ensures.prefix);
+    sink = search rules;
+    unwritten = search rules;
+    fault = search rules;
+  };
+  read = search rules;
+}

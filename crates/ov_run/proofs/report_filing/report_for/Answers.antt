@@ -1,0 +1,10 @@
+-- No refusal stands for the report of what the analysis was given.
+use Rattle.ov_run.proofs.Reports.Filed.{job_filed}
+use Rattle.ov_run.proofs.report_filing.report_for.Goals as goal
+
+pub returns-clause-filing : goal.returns-clause-filing
+returns-clause-filing g c =
+    let job = c.in_ok-job in
+    let made = c.make_report.ensures in
+    job_filed c.args.core.now c.args.subject.now job.job.moment job.job.graph job.ensures.sound job.ensures.judged
+    job.ensures.moment job.ensures.links c.make_report.result made.moment made.graph made.members

@@ -1,0 +1,126 @@
+ghost use Rattle.std.specs.Prelude.{◌≡◌, None, IfOk, IfErr, IfSome, IfNone, OnErr, string_bytes};
+ghost use Rattle.ov_even.specs.Answer.{IsAnswer};
+ghost use Rattle.ov_net.specs.Journal.{AreLinks};
+ghost use Rattle.ov_snap.specs.CoreState.{IsSound};
+ghost use Rattle.ov_snap.specs.ReportState.{ReportState, IsSo};
+ghost use Rattle.ov_ids.specs.FaultOrder.{IsRefusedBy};
+ghost use Rattle.ov_snap.specs.Refusals.{FilingJudged};
+ghost use Rattle.ov_run.specs.Printed.{report_line};
+ghost use Rattle.ov_run.specs.Subjects.{members_of, IsReportOf, AnalysisJudged, WasAnalysed};
+ghost use Rattle.ov_snap.specs.declared.fault.CoreFault.TheVariants.{OutOfMemory as out_of_memory};
+
+use crate::graph_analysis::members_of;
+use crate::line_texts::report_line;
+use ov_claims::Workers;
+use ov_crew::{OpenGate, analyse_group_watched};
+use ov_even::Unwatched;
+use ov_graph::Graph;
+use ov_ids::Seq;
+use ov_net::MOST_ENTRIES;
+use ov_scenario::Subject;
+use ov_snap::{Core, CoreFault, Job, Report};
+use std::alloc::Global;
+use std::thread::Threads;
+
+/// Analyses a subject by this number of workers and files the report. Returns the line of the report, or the first
+/// applicable refusal, and then nothing changed. The line is made before the report is filed, so that out of memory is
+/// a refusal too.
+#[tactic(auto, using(crate::proofs::Reports::Filed::filing_refused))]
+pub(crate) fn file_analysis<T: Threads + Sync>(
+    rt: &T,
+    alloc: Global,
+    core: &mut Core,
+    subject: &Subject,
+    workers: Workers,
+) -> Result<String, CoreFault>
+    ensures analysed { IfOk result (λ line. (r : ReportState) × WasAnalysed core.old subject.now r core.new
+        × (string_bytes line ≡ report_line r.moment r.cert r.graph r.members)) }
+    ensures refused { IfErr result (IsRefusedBy out_of_memory (AnalysisJudged core.old subject.now)) }
+    ensures err { OnErr result (core.new ≡ core.old) }
+{
+    let report = report_for(rt, alloc, core, subject, workers)?;
+    let line = report_line(alloc, report.moment(), report.checked())?;
+    core.file(report)?;
+    Ok(line)
+}
+
+/// Makes the report of a subject. The report is not filed yet.
+#[tactic(auto, using(crate::proofs::Reports::Filed::filed_refused))]
+fn report_for<T: Threads + Sync>(
+    rt: &T,
+    alloc: Global,
+    core: &Core,
+    subject: &Subject,
+    workers: Workers,
+) -> Result<Report, CoreFault>
+    ensures judged { IfOk result (λ r. AnalysisJudged core.now subject.now None) }
+    ensures filing { IfOk result (λ r. FilingJudged core.now r None) }
+    ensures moment { IfOk result (λ r. r.moment ≡ subject.now.moment) }
+    ensures members { IfOk result (λ r. r.members ≡ members_of subject.now.group r.graph) }
+    ensures answer { IfOk result (λ r. IsAnswer r.graph r.members r.cert) }
+    ensures refused { IfErr result (IsRefusedBy out_of_memory (AnalysisJudged core.now subject.now)) }
+{
+    if let Some(_) = filed_report(core, subject) {
+        return Err(CoreFault::AlreadyFiled);
+    }
+    let job = begin(core, subject)?;
+    make_report(rt, alloc, &job, subject, workers)
+}
+
+/// The report that is filed for a subject, if there is one.
+pub(crate) fn filed_report<'a>(core: &'a Core, subject: &Subject) -> Option<&'a Report>
+    ensures some { IfSome result (λ r. IsReportOf core.now subject.now r.now) }
+    ensures none { IfNone result ((r : ReportState) → ¬ IsReportOf core.now subject.now r) }
+    ensures exact { IfSome result (λ r. IsSo core.now.world.journal r.now) }
+{
+    match &subject.group {
+        Some(ids) => core.group_report(subject.moment, ids.as_slice()),
+        None => core.report(subject.moment),
+    }
+}
+
+/// Begins the analysis of a subject of which no report is filed.
+fn begin(core: &Core, subject: &Subject) -> Result<Job, CoreFault>
+    requires free { (r : ReportState) → ¬ IsReportOf core.now subject.now r }
+    ensures judged { IfOk result (λ job. AnalysisJudged core.now subject.now None) }
+    ensures moment { IfOk result (λ job. job.moment ≡ subject.now.moment) }
+    ensures links { IfOk result (λ job. AreLinks core.now.world.journal subject.now.moment job.graph) }
+    ensures sound { IsSound core.now }
+    ensures refused { IfErr result (IsRefusedBy out_of_memory (AnalysisJudged core.now subject.now)) }
+{
+    prove!(core.world().journal().len() <= MOST_ENTRIES);
+    match &subject.group {
+        Some(ids) => core.begin_group(subject.moment, ids.as_slice()),
+        None => core.begin(subject.moment),
+    }
+}
+
+/// Makes the report of a job. The ids are a group of its nodes, so that only memory can be lacking.
+fn make_report<T: Threads + Sync>(
+    rt: &T,
+    alloc: Global,
+    job: &Job,
+    subject: &Subject,
+    workers: Workers,
+) -> Result<Report, CoreFault>
+    ensures moment { IfOk result (λ r. r.moment ≡ job.now.moment) }
+    ensures graph { IfOk result (λ r. r.graph ≡ job.now.graph) }
+    ensures members { IfOk result (λ r. r.members ≡ members_of subject.now.group job.now.graph) }
+    ensures answer { IfOk result (λ r. IsAnswer r.graph r.members r.cert) }
+    ensures err { IfErr result (λ f. f ≡ out_of_memory) }
+{
+    let group = subject.group.as_ref().map(Seq::as_slice);
+    let members = members_of(group, &job.graph);
+    match analyse_group_watched(
+        rt,
+        alloc,
+        &job.graph,
+        members,
+        workers,
+        &OpenGate,
+        &mut Unwatched,
+    ) {
+        Ok(checked) => Ok(Report::new(job.moment, checked)),
+        Err(_) => Err(CoreFault::OutOfMemory),
+    }
+}

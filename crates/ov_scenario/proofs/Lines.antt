@@ -1,0 +1,3 @@
+-- What one line says.
+pub mod Filling
+pub mod InTurn

@@ -1,0 +1,164 @@
+-- Lines that are judged one after the other, by what those before them tell.
+use Rattle.std.proofs.Common.{◌≡◌, ◌∙◌, inl, inr, ℕ, Bool, true, false, if◌then◌else◌, List, [], ◌∷◌, ◌++◌}
+use Rattle.std.proofs.Common.{append_assoc, append-nil, Option, Some, None, refl, ap, sym, subst}
+use Rattle.std.specs.Option.{option_or}
+use Rattle.std.specs.Prelude.{slice_get}
+use Rattle.ov_scenario.specs.Code.Judging.{or_next, with_next}
+use Rattle.ov_scenario.specs.Scenarios.{first_of, is_event, is_params, is_seed, before_of, AreWithin, IsTooLate, IsWrong}
+use Rattle.ov_scenario.specs.Scenarios.{AreFaulty, IsFirstFaulty}
+use Rattle.ov_scenario.specs.Statements.{Stated}
+use Rattle.ov_scenario.specs.declared.line_judging.Before.{Before}
+use Rattle.ov_scenario.specs.declared.scenario_fault.FaultyLine.{FaultyLine}
+use Rattle.ov_scenario.specs.declared.scenario_fault.LineFault.{LineFault}
+use Rattle.ov_scenario.specs.declared.scenario_fault.LineFault.TheVariants as fault
+use Rattle.ov_scenario.specs.declared.scenario_fault.Setting.{Setting}
+use Rattle.ov_scenario.specs.declared.scenario_fault.Setting.TheVariants as sets
+use Rattle.ov_scenario.specs.declared.statement.Statement.{Statement}
+use Rattle.ov_scenario.specs.declared.statement.Statement.TheVariants as says
+
+-- ---- one line
+
+-- a setting that does not come too late stands behind no event, and behind none of its kind
+pub in_time :
+    (s : Setting) (event same : Option ℕ) → ((f : LineFault) → ¬ IsTooLate s event same f)
+    → (event ≡ None) × (same ≡ None)
+in_time s (Some n) same none = absurd (none (fault.BehindEvent s n) refl)
+in_time s None (Some n) none = absurd (none (fault.SetBefore s n) refl)
+in_time s None None none = (refl, refl)
+
+-- parameters that come in time, and are out of their limits
+pub params_beyond :
+    (before : Before) (numbers : List ℕ) → ((f : LineFault) → ¬ IsTooLate sets.Params before.event before.params f)
+    → (¬ AreWithin numbers)
+    → IsWrong before (Some (says.Params numbers)) [] (fault.OutOfLimits numbers)
+params_beyond before numbers none beyond =
+    let free = in_time sets.Params before.event before.params none in
+    inr (free.0, free.1, beyond, refl)
+
+-- parameters out of their limits are at fault, whichever their fault
+pub one_is_wrong :
+    (before : Before) (numbers : List ℕ) (behind : List Stated) → (¬ AreWithin numbers)
+    → ¬ ((f : LineFault) → ¬ IsWrong before (Some (says.Params numbers)) behind f)
+one_is_wrong before numbers behind beyond right =
+    let free = in_time sets.Params before.event before.params (λ f late. right f (inl late)) in
+    right (fault.OutOfLimits numbers) (inr (free.0, free.1, beyond, refl))
+
+-- the first line of a kind, with one line more
+pub first_next :
+    (is_kind : Option Statement → Bool) (lines : List Stated) (line : Stated)
+    → or_next is_kind (first_of is_kind lines) line ≡ first_of is_kind (lines ++ line ∷ [])
+first_next is_kind [] line = refl
+first_next is_kind (other ∷ lines) line =
+    by (is_kind other.says) (is_kind line.says) (first_next is_kind lines line) where
+      by :
+          (own last : Bool)
+          → (if last then option_or (first_of is_kind lines) (Some line.number) else first_of is_kind lines)
+          ≡ first_of is_kind (lines ++ line ∷ [])
+          → (if last then option_or (if own then Some other.number else first_of is_kind lines) (Some line.number)
+          else (if own then Some other.number else first_of is_kind lines))
+          ≡ (if own then Some other.number else first_of is_kind (lines ++ line ∷ []))
+      by true true same = refl
+      by true false same = refl
+      by false last same = same
+
+before_next : (lines : List Stated) (line : Stated) → with_next (before_of lines) line ≡ before_of (lines ++ line ∷ [])
+before_next lines line =
+    ap (λ e. record {
+      event = e;
+      params = (with_next (before_of lines) line).params;
+      seed = (with_next (before_of lines) line).seed;
+    })
+    (first_next is_event lines line)
+    ∙ ap (λ p. record {
+      event = first_of is_event (lines ++ line ∷ []);
+      params = p;
+      seed = (with_next (before_of lines) line).seed;
+    })
+    (first_next is_params lines line)
+    ∙ ap (λ s. record {
+      event = first_of is_event (lines ++ line ∷ []);
+      params = first_of is_params (lines ++ line ∷ []);
+      seed = s;
+    })
+    (first_next is_seed lines line)
+
+-- ---- all lines
+
+-- with the lines at fault of those that are left, these are the lines at fault of all lines. Of the lines before those
+-- that are left this is known
+pub record JudgedSoFar (all left : List Stated) (before : Before) (faulty : List FaultyLine) : Type 0 where
+  pub passed : List Stated
+  pub known : before ≡ before_of passed
+  pub whole : (later : List FaultyLine) → AreFaulty passed left later → AreFaulty [] all (faulty ++ later)
+
+pub begun :
+    (all : List Stated) (before : Before) (faulty : List FaultyLine) → before ≡ before_of [] → faulty ≡ []
+    → JudgedSoFar all all before faulty
+begun all before faulty known none = record {
+  passed = [];
+  known = known;
+  whole = λ later is. subst (λ fs. AreFaulty [] all (fs ++ later)) (sym none) is;
+}
+
+pub fault_more :
+    (all left behind : List Stated) (line : Stated) (f : LineFault) (before next : Before)
+    (faulty gained : List FaultyLine)
+    → JudgedSoFar all left before faulty → left ≡ line ∷ behind → IsWrong before line.says behind f
+    → next ≡ with_next before line → gained ≡ faulty ++ record { line = line.number; fault = f } ∷ []
+    → JudgedSoFar all behind next gained
+unfolding AreFaulty
+fault_more all left behind line f before next faulty gained so_far split wrong steps gains = record {
+  passed = so_far.passed ++ line ∷ [];
+  known = steps ∙ ap (λ (b : Before). with_next b line) so_far.known ∙ before_next so_far.passed line;
+  whole = λ later is.
+      let wrong_there = subst (λ (b : Before). IsWrong b line.says behind f) so_far.known wrong in
+      let own : AreFaulty so_far.passed (line ∷ behind) (record { line = line.number; fault = f } ∷ later) =
+      inr (f, later, wrong_there, refl, is) in
+      let joined = so_far.whole (record { line = line.number; fault = f } ∷ later)
+      (subst (λ (ls : List Stated). AreFaulty so_far.passed ls (record { line = line.number; fault = f } ∷ later))
+      (sym split) own) in
+      subst (λ fs. AreFaulty [] all fs)
+      (sym (append_assoc faulty (record { line = line.number; fault = f } ∷ []) later)
+      ∙ ap (λ fs. fs ++ later) (sym gains))
+      joined;
+}
+
+pub faultless_more :
+    (all left behind : List Stated) (line : Stated) (before next : Before) (faulty : List FaultyLine)
+    → JudgedSoFar all left before faulty → left ≡ line ∷ behind
+    → ((f : LineFault) → ¬ IsWrong before line.says behind f) → next ≡ with_next before line
+    → JudgedSoFar all behind next faulty
+unfolding AreFaulty
+faultless_more all left behind line before next faulty so_far split right steps = record {
+  passed = so_far.passed ++ line ∷ [];
+  known = steps ∙ ap (λ (b : Before). with_next b line) so_far.known ∙ before_next so_far.passed line;
+  whole = λ later is.
+      let right_there = subst (λ (b : Before). (f : LineFault) → ¬ IsWrong b line.says behind f) so_far.known right in
+      let own : AreFaulty so_far.passed (line ∷ behind) later = inl (right_there, is) in
+      so_far.whole later (subst (λ (ls : List Stated). AreFaulty so_far.passed ls later) (sym split) own);
+}
+
+none_left : (passed : List Stated) → AreFaulty passed [] []
+unfolding AreFaulty
+none_left passed = refl
+
+pub all_judged :
+    (all left : List Stated) (before : Before) (faulty : List FaultyLine) → JudgedSoFar all left before faulty
+    → left ≡ []
+    → AreFaulty [] all faulty
+all_judged all left before faulty so_far none =
+    subst (λ fs. AreFaulty [] all fs) (append-nil faulty)
+    (so_far.whole [] (subst (λ (ls : List Stated). AreFaulty so_far.passed ls []) (sym none) (none_left so_far.passed)))
+
+-- ---- a file
+
+-- the first of the lines that were judged at fault
+pub first_at_fault :
+    (lines : List Stated) (faulty : List FaultyLine) (first : FaultyLine) → AreFaulty [] lines faulty
+    → slice_get faulty 0 ≡ Some first
+    → IsFirstFaulty lines first
+unfolding IsFirstFaulty
+first_at_fault lines [] first are is = absurd cc
+first_at_fault lines (own ∷ later) first are is =
+    let same : own ≡ first = cc in
+    (later, subst (λ (f : FaultyLine). AreFaulty [] lines (f ∷ later)) same are)

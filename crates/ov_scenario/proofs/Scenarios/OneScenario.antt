@@ -1,0 +1,208 @@
+-- A file says one scenario.
+use Rattle.std.proofs.Common.{◌≡◌, ◌∙◌, inl, inr, ℕ, Bool, true, false, if◌then◌else◌, List, [], ◌∷◌, ◌++◌, length}
+use Rattle.std.proofs.Common.{map, Option, Some, None, refl, ap, sym, subst, arith}
+use Rattle.std.specs.Option.{option_or}
+use Rattle.rand_core.specs.Stream.{Stream, next_u64}
+use Rattle.ov_ids.specs.Members.{Has}
+use Rattle.ov_ids.specs.ParamsState.{ParamsState}
+use Rattle.ov_words.specs.Stream.{AreOutputs}
+use Rattle.ov_scenario.specs.Code.Judging.{params_in, seed_in, first_in}
+use Rattle.ov_scenario.specs.Draws.{AreDraws, seeded}
+use Rattle.ov_scenario.specs.Scenarios.{stated_lines, first_of, is_event, is_params, is_seed, before_of, default_params}
+use Rattle.ov_scenario.specs.Scenarios.{AreParams, AreParamsOf, IsSeedOf, IsWrong, AreFaulty, AreFaultless, AskFor, AreToRun}
+use Rattle.ov_scenario.specs.Scenarios.{IsScenario}
+use Rattle.ov_scenario.specs.Statements.{Stated}
+use Rattle.ov_scenario.specs.declared.scenario.Line.{Line}
+use Rattle.ov_scenario.specs.declared.scenario.Line.TheVariants as line
+use Rattle.ov_scenario.specs.declared.scenario.Scenario.{Scenario}
+use Rattle.ov_scenario.specs.declared.scenario_fault.LineFault.{LineFault}
+use Rattle.ov_scenario.specs.declared.scenario_fault.Setting.TheVariants as sets
+use Rattle.ov_scenario.specs.declared.statement.Statement.{Statement}
+use Rattle.ov_scenario.specs.declared.statement.Statement.TheVariants as says
+use Rattle.ov_scenario.proofs.Scenarios.Judged.{in_time, first_next}
+
+-- ---- a line without a fault that sets something is the first that sets it
+
+-- what a kind of lines gives, that a line of another kind gives nothing, and that a line of this kind without a fault
+-- stands behind none
+record SetsOnce {A : Type 0} (kind : A → Statement) (given : Option Statement → Option A)
+    (is_kind : Option Statement → Bool) : Type 0 where
+  gives : (x : A) → given (Some (kind x)) ≡ Some x
+  other : (said : Option Statement) → is_kind said ≡ false → given said ≡ None
+  behind_none : (before behind : List Stated) (x : A)
+      → ((f : LineFault) → ¬ IsWrong (before_of before) (Some (kind x)) behind f)
+      → first_of is_kind before ≡ None
+
+no_params : (said : Option Statement) → is_params said ≡ false → params_in said ≡ None
+no_params None is = refl
+no_params (Some (says.Params numbers)) is = absurd cc
+no_params (Some (says.Seed seed)) is = refl
+no_params (Some (says.Words words)) is = refl
+no_params (Some (says.Event event)) is = refl
+no_params (Some (says.Look look)) is = refl
+no_params (Some (says.Analyse subject workers)) is = refl
+
+sets_params : SetsOnce says.Params params_in is_params
+sets_params = record {
+  gives = λ x. refl;
+  other = no_params;
+  behind_none = λ before behind x right.
+      (in_time sets.Params (first_of is_event before) (first_of is_params before) (λ f late. right f (inl late))).1;
+}
+
+no_seed : (said : Option Statement) → is_seed said ≡ false → seed_in said ≡ None
+no_seed None is = refl
+no_seed (Some (says.Params numbers)) is = refl
+no_seed (Some (says.Seed seed)) is = absurd cc
+no_seed (Some (says.Words words)) is = refl
+no_seed (Some (says.Event event)) is = refl
+no_seed (Some (says.Look look)) is = refl
+no_seed (Some (says.Analyse subject workers)) is = refl
+
+sets_seed : SetsOnce says.Seed seed_in is_seed
+sets_seed = record {
+  gives = λ x. refl;
+  other = no_seed;
+  behind_none = λ before behind x right.
+      (in_time sets.Seed (first_of is_event before) (first_of is_seed before) right).1;
+}
+
+-- where no line up to one is of the kind, that one is not, and none before it
+none_up_to :
+    (is_kind : Option Statement → Bool) (before : List Stated) (line : Stated)
+    → first_of is_kind (before ++ line ∷ []) ≡ None
+    → (is_kind line.says ≡ false) × (first_of is_kind before ≡ None)
+none_up_to is_kind before line none =
+    by (is_kind line.says) refl (first_of is_kind before) refl (first_next is_kind before line ∙ none) where
+      by :
+          (t : Bool) → is_kind line.says ≡ t → (o : Option ℕ) → first_of is_kind before ≡ o
+          → (if t then option_or o (Some line.number) else o) ≡ None
+          → (is_kind line.says ≡ false) × (first_of is_kind before ≡ None)
+      by true e None same is = absurd cc
+      by true e (Some n) same is = absurd cc
+      by false e o same is = (e, same ∙ is)
+
+only_first :
+    {A : Type 0} (kind : A → Statement) (given : Option Statement → Option A) (is_kind : Option Statement → Bool)
+    → SetsOnce kind given is_kind
+    → (passed lines : List Stated) (line : Stated) (x : A) → AreFaulty passed lines [] → Has lines line
+    → line.says ≡ Some (kind x)
+    → (first_of is_kind passed ≡ None) × (first_in given lines ≡ Some x)
+unfolding AreFaulty
+only_first kind given is_kind s passed [] line x right has is = absurd has
+only_first kind given is_kind s passed (first ∷ more) line x (inr (f, later, wrong, none, rest)) has is = absurd cc
+only_first kind given is_kind s passed (first ∷ more) line x (inl (right, rest)) (inl same) is =
+    let said = ap (λ (l : Stated). l.says) same ∙ is in (
+      s.behind_none passed more x
+          (subst (λ t. (f : LineFault) → ¬ IsWrong (before_of passed) t more f) said right),
+      ap (λ t. option_or (given t) (first_in given more)) said
+          ∙ ap (λ o. option_or o (first_in given more)) (s.gives x),
+    )
+only_first kind given is_kind s passed (first ∷ more) line x (inl (right, rest)) (inr has) is =
+    let later = only_first kind given is_kind s (passed ++ first ∷ []) more line x rest has is in
+    let none = none_up_to is_kind passed first later.0 in
+    (none.1, ap (λ o. option_or o (first_in given more)) (s.other first.says none.0) ∙ later.1)
+
+-- ---- parameters and seed
+
+-- the parameters with these numbers, whatever they are
+abbrev limits_of : List ℕ → ParamsState
+limits_of (a ∷ p ∷ w ∷ r ∷ ka ∷ kp ∷ t ∷ []) =
+    record { active = a; passive = p; arwl = w; prwl = r; ka = ka; kp = kp; shuffle_ttl = t }
+limits_of other = default_params
+
+-- the parameters with the same numbers are the same
+one_params : (numbers others : List ℕ) (p q : ParamsState) → AreParams numbers p → AreParams others q → numbers ≡ others
+    → p ≡ q
+one_params numbers others p q are also same = ap limits_of (sym are.0 ∙ same ∙ also.0)
+
+one_params_of : (all : List Stated) (p q : ParamsState) → AreFaultless all → AreParamsOf all p → AreParamsOf all q
+    → p ≡ q
+unfolding AreParamsOf
+one_params_of all p q right (inl (own, numbers, has, its, are)) (inl (line, others, also, also_its, also_are)) =
+    let first = only_first says.Params params_in is_params sets_params [] all own numbers right has its in
+    let other = only_first says.Params params_in is_params sets_params [] all line others right also also_its in
+    let same = sym first.1 ∙ other.1 in
+    one_params numbers others p q are also_are cc
+one_params_of all p q right (inl (own, numbers, has, its, are)) (inr none) = absurd (none.0 (own, numbers, has, its))
+one_params_of all p q right (inr none) (inl (line, others, also, also_its, also_are)) =
+    absurd (none.0 (line, others, also, also_its))
+one_params_of all p q right (inr none) (inr other) = none.1 ∙ sym other.1
+
+one_seed_of : (all : List Stated) (x y : ℕ) → AreFaultless all → IsSeedOf all x → IsSeedOf all y → x ≡ y
+unfolding IsSeedOf
+one_seed_of all x y right (inl (own, has, its)) (inl (line, also, also_its)) =
+    let first = only_first says.Seed seed_in is_seed sets_seed [] all own x right has its in
+    let other = only_first says.Seed seed_in is_seed sets_seed [] all line y right also also_its in
+    let same = sym first.1 ∙ other.1 in cc
+one_seed_of all x y right (inl (own, has, its)) (inr none) = absurd (none.0 (own, x, has, its))
+one_seed_of all x y right (inr none) (inl (line, also, also_its)) = absurd (none.0 (line, y, also, also_its))
+one_seed_of all x y right (inr none) (inr other) = none.1 ∙ sym other.1
+
+-- ---- lines to run
+
+-- of two lists of words of one length that a generator answers both are the same, and so is its stream afterwards
+one_output :
+    (stream : Stream) (v w : List ℕ) (a b : Stream) → length v ≡ length w → AreOutputs stream v a
+    → AreOutputs stream w b → (v ≡ w) × (a ≡ b)
+one_output stream [] [] a b long one also = (refl, one ∙ sym also)
+one_output stream [] (y ∷ w) a b long one also = absurd (omega (arith, long))
+one_output stream (x ∷ v) [] a b long one also = absurd (omega (arith, long))
+one_output stream (x ∷ v) (y ∷ w) a b long one also =
+    let later = one_output (next_u64 stream).1 v w a b (omega (arith, long)) one.1 also.1 in
+    let first : x ≡ y = sym one.0 ∙ also.0 in
+    (ap (λ z. z ∷ v) first ∙ ap (λ zs. y ∷ zs) later.0, later.1)
+
+-- what one list of lines asks for, with words that are drawn from one stream, is one list of lines
+one_run :
+    (said : List (Option Statement)) (stream : Stream) (drawn others : List (List ℕ)) (left rest : Stream)
+    (lines also : List Line)
+    → AreDraws stream drawn left → AreDraws stream others rest → AskFor said drawn lines → AskFor said others also
+    → lines ≡ also
+unfolding AskFor
+one_run [] stream drawn others left rest lines also draws again (none, one) (none_also, other) = one ∙ sym other
+one_run (Some (says.Words words) ∷ Some (says.Event e) ∷ more) stream drawn others left rest lines also draws again
+    (later, is, asks) (later_also, is_also, asks_also) =
+    is
+    ∙ ap (λ ls. line.Event e words ∷ ls)
+    (one_run more stream drawn others left rest later later_also draws again asks asks_also) ∙ sym is_also
+one_run (Some (says.Event e) ∷ more) stream drawn others left rest lines also draws again
+    (words, now, later, split, is, asks) (words_also, now_also, later_also, split_also, is_also, asks_also) =
+    let one : AreDraws stream (words ∷ now) left = subst (λ ds. AreDraws stream ds left) split draws in
+    let other : AreDraws stream (words_also ∷ now_also) rest = subst (λ ds. AreDraws stream ds rest) split_also again in
+    let same = one_output stream words words_also one.1.0 other.1.0 (one.0 ∙ sym other.0) one.1.1 other.1.1 in
+    let behind : AreDraws one.1.0 now_also rest = subst (λ s. AreDraws s now_also rest) (sym same.1) other.1.2 in
+    is
+    ∙ ap (λ ls. line.Event e words ∷ ls)
+    (one_run more one.1.0 now now_also left rest later later_also one.1.2 behind asks asks_also)
+    ∙ ap (λ ws. line.Event e ws ∷ later_also) same.0 ∙ sym is_also
+one_run (Some (says.Look look) ∷ more) stream drawn others left rest lines also draws again (later, is, asks)
+    (later_also, is_also, asks_also) =
+    is
+    ∙ ap (λ ls. line.Look look ∷ ls)
+    (one_run more stream drawn others left rest later later_also draws again asks asks_also) ∙ sym is_also
+one_run (Some (says.Analyse subject workers) ∷ more) stream drawn others left rest lines also draws again
+    (later, is, asks)
+    (later_also, is_also, asks_also) =
+    is
+    ∙ ap (λ ls. line.Analyse subject workers ∷ ls)
+    (one_run more stream drawn others left rest later later_also draws again asks asks_also) ∙ sym is_also
+one_run (other ∷ more) stream drawn others left rest lines also draws again asks asks_also =
+    one_run more stream drawn others left rest lines also draws again asks asks_also
+
+one_to_run : (all : List Stated) (x y : ℕ) (lines also : List Line) → x ≡ y → AreToRun all x lines → AreToRun all y also
+    → lines ≡ also
+one_to_run all x y lines also same (drawn, left, draws, asks) (others, rest, again, asks_also) =
+    one_run (map (λ line. line.says) all) (seeded x) drawn others left rest lines also draws
+    (subst (λ z. AreDraws (seeded z) others rest) (sym same) again) asks asks_also
+
+-- a file says one scenario
+pub one_scenario :
+    (bytes : List ℕ) (s t : Scenario) → IsScenario bytes s → IsScenario bytes t
+    → (s.params ≡ t.params) × (s.seed ≡ t.seed) × (s.lines.items ≡ t.lines.items)
+one_scenario bytes s t read also =
+    let seed = one_seed_of (stated_lines bytes) s.seed t.seed read.faultless read.seed also.seed in (
+      one_params_of (stated_lines bytes) s.params t.params read.faultless read.params also.params,
+      seed,
+      one_to_run (stated_lines bytes) s.seed t.seed s.lines.items t.lines.items seed read.lines also.lines,
+    )

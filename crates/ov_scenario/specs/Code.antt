@@ -1,0 +1,4 @@
+-- What only the contracts of private functions speak of; whoever reads the public ones need not believe it.
+pub mod Judging
+pub mod Reading
+pub mod RunnableLines

@@ -1,0 +1,41 @@
+-- How a line is judged, and what lines without a fault give for the whole run.
+use Rattle.std.specs.Prelude.{ℕ, Bool, List, [], ◌∷◌, Option, Some, None, if◌then◌else◌}
+use Rattle.std.specs.Option.{option_or}
+use Rattle.ov_scenario.specs.Scenarios.{is_event, is_params, is_seed}
+use Rattle.ov_scenario.specs.Statements.{Stated}
+use Rattle.ov_scenario.specs.declared.line_judging.Before.{Before}
+use Rattle.ov_scenario.specs.declared.scenario_fault.LineFault.{LineFault}
+use Rattle.ov_scenario.specs.declared.statement.Statement.{Statement}
+use Rattle.ov_scenario.specs.declared.statement.Statement.TheVariants as says
+
+-- the fault that is told is one of these, or none is told and there is none
+abbrev pub Tells : Option LineFault → (LineFault → Type 0) → Type 0
+Tells None Is = (f : LineFault) → ¬ Is f
+Tells (Some f) Is = Is f
+
+-- the number of the first line of a kind, by that of the lines before and the next line
+abbrev pub or_next : (Option Statement → Bool) → Option ℕ → Stated → Option ℕ
+or_next is_kind first line = if is_kind line.says then option_or first (Some line.number) else first
+
+-- what lines tell of those behind them, with the next line
+abbrev pub with_next : Before → Stated → Before
+with_next before line = record {
+  event = or_next is_event before.event line;
+  params = or_next is_params before.params line;
+  seed = or_next is_seed before.seed line;
+}
+
+-- the numbers of the parameters that a line gives that says this
+abbrev pub params_in : Option Statement → Option (List ℕ)
+params_in (Some (says.Params numbers)) = Some numbers
+params_in other = None
+
+-- the seed that a line gives that says this
+abbrev pub seed_in : Option Statement → Option ℕ
+seed_in (Some (says.Seed seed)) = Some seed
+seed_in other = None
+
+-- the first of what these lines give
+abbrev pub first_in : {A : Type 0} → (Option Statement → Option A) → List Stated → Option A
+first_in given [] = None
+first_in given (line ∷ more) = option_or (given line.says) (first_in given more)

@@ -1,0 +1,6 @@
+pub mod Draws
+pub mod Faults
+pub mod Statements
+pub mod Scenarios
+pub mod RunLines
+pub mod Code

@@ -1,0 +1,203 @@
+-- What a scenario file says, and the first fault of a file that says no scenario. Both are facts of its lines that are
+-- not skipped, each with those before it and those behind it. The form of the file is chosen here.
+use Rattle.std.specs.Prelude.{◌≡◌, ◌⊎◌, ℕ, Bool, true, false, List, [], ◌∷◌, ◌++◌, map, Option, Some, None}
+use Rattle.std.specs.Prelude.{if◌then◌else◌}
+use Rattle.rand_core.specs.Stream.{Stream}
+use Rattle.ov_ids.specs.ParamsState.{ParamsState, AreWithinLimits}
+use Rattle.ov_ids.specs.Members.{Has}
+use Rattle.ov_net.specs.declared.event.Event.{Event}
+use Rattle.ov_scenario.specs.Draws.{AreDraws, seeded}
+use Rattle.ov_lines.specs.Lines.{kept_lines}
+use Rattle.ov_lines.specs.declared.unread.Unread.{Unread}
+use Rattle.ov_scenario.specs.Statements.{Stated, statement_of}
+use Rattle.ov_scenario.specs.declared.line_judging.Before.{Before}
+use Rattle.ov_scenario.specs.declared.scenario.Line.{Line}
+use Rattle.ov_scenario.specs.declared.scenario.Line.TheVariants as line
+use Rattle.ov_scenario.specs.declared.scenario.Scenario.{Scenario}
+use Rattle.ov_scenario.specs.declared.scenario_fault.FaultyLine.{FaultyLine}
+use Rattle.ov_scenario.specs.declared.scenario_fault.LineFault.{LineFault}
+use Rattle.ov_scenario.specs.declared.scenario_fault.LineFault.TheVariants as fault
+use Rattle.ov_scenario.specs.declared.scenario_fault.ScenarioFault.{ScenarioFault}
+use Rattle.ov_scenario.specs.declared.scenario_fault.ScenarioFault.TheVariants as refused
+use Rattle.ov_scenario.specs.declared.scenario_fault.Setting.{Setting}
+use Rattle.ov_scenario.specs.declared.scenario_fault.Setting.TheVariants as sets
+use Rattle.ov_scenario.specs.declared.statement.Statement.{Statement}
+use Rattle.ov_scenario.specs.declared.statement.Statement.TheVariants as says
+
+-- a line of this number with these bytes, and what it says
+abbrev pub stated_at : ℕ × List ℕ → Stated
+stated_at line = record { number = line.0; says = statement_of line.1 }
+
+-- the lines of a file that are not skipped, in order: the number of each, and what it says, or none where it can't be
+-- read
+unfoldable pub stated_lines : List ℕ → List Stated
+stated_lines bytes = map stated_at (kept_lines bytes)
+
+-- one of these lines is of this kind
+abbrev pub HasKind : {A : Type 0} → (A → Statement) → List Stated → Type 0
+HasKind {A} kind lines = (line : Stated) × (x : A) × Has lines line × (line.says ≡ Some (kind x))
+
+-- a line that says this is an event
+abbrev pub is_event : Option Statement → Bool
+is_event (Some (says.Event event)) = true
+is_event other = false
+
+-- a line that says this gives parameters
+abbrev pub is_params : Option Statement → Bool
+is_params (Some (says.Params numbers)) = true
+is_params other = false
+
+-- a line that says this gives a seed
+abbrev pub is_seed : Option Statement → Bool
+is_seed (Some (says.Seed seed)) = true
+is_seed other = false
+
+-- the number of the first of these lines that is of a kind
+abbrev pub first_of : (Option Statement → Bool) → List Stated → Option ℕ
+first_of is_kind [] = None
+first_of is_kind (line ∷ more) = if is_kind line.says then Some line.number else first_of is_kind more
+
+-- the number of the first of these lines
+abbrev pub first_number : List Stated → Option ℕ
+first_number [] = None
+first_number (line ∷ more) = Some line.number
+
+-- the first of these lines is an event
+abbrev pub BeginWithEvent : List Stated → Type 0
+BeginWithEvent [] = ⊥
+BeginWithEvent (line ∷ more) = (event : Event) × (line.says ≡ Some (says.Event event))
+
+-- the parameters where no line gives any: those of the experiments of HyParView (Leitão, Pereira, Rodrigues, DSN 2007),
+-- and a time to live of a shuffle that is chosen here
+abbrev pub default_params : ParamsState
+default_params = record { active = 5; passive = 30; arwl = 6; prwl = 3; ka = 3; kp = 4; shuffle_ttl = 4 }
+
+-- these are the parameters with these numbers, in the order of the line, and they are within their limits
+abbrev pub AreParams : List ℕ → ParamsState → Type 0
+AreParams numbers p =
+    (numbers ≡ p.active ∷ p.passive ∷ p.arwl ∷ p.prwl ∷ p.ka ∷ p.kp ∷ p.shuffle_ttl ∷ []) × AreWithinLimits p
+
+-- these numbers are those of parameters within their limits
+abbrev pub AreWithin : List ℕ → Type 0
+AreWithin numbers = (p : ParamsState) × AreParams numbers p
+
+-- what the lines before a line tell of it: the numbers of the first event, the first parameters and the first seed
+abbrev pub before_of : List Stated → Before
+before_of lines = record {
+  event = first_of is_event lines;
+  params = first_of is_params lines;
+  seed = first_of is_seed lines;
+}
+
+-- a line sets something for the whole run too late, and this is its fault: it stands behind an event, or else behind a
+-- line that sets the same. The first of these have these numbers, where there are any
+abbrev pub IsTooLate : Setting → Option ℕ → Option ℕ → LineFault → Type 0
+IsTooLate setting (Some event) same f = f ≡ fault.BehindEvent setting event
+IsTooLate setting None (Some line) f = f ≡ fault.SetBefore setting line
+IsTooLate setting None None f = ⊥
+
+-- a line that says this is at fault, and this is its fault. These lines are before it and behind it
+abbrev pub IsWrong : Before → Option Statement → List Stated → LineFault → Type 0
+-- a line that can't be read; what is wanted, and where, is not said here
+IsWrong before None behind f = (unread : Unread) × (f ≡ fault.Unread unread)
+-- random words that no event follows
+IsWrong before (Some (says.Words words)) behind f =
+    (¬ BeginWithEvent behind) × (f ≡ fault.NoEventNext (first_number behind))
+-- a seed that comes too late
+IsWrong before (Some (says.Seed seed)) behind f = IsTooLate sets.Seed before.event before.seed f
+-- parameters that come too late, or else are out of their limits
+IsWrong before (Some (says.Params numbers)) behind f =
+    IsTooLate sets.Params before.event before.params f
+    ⊎ ((before.event ≡ None) × (before.params ≡ None) × (¬ AreWithin numbers) × (f ≡ fault.OutOfLimits numbers))
+-- an event, a look and an analysis never are
+IsWrong before (Some (says.Event event)) behind f = ⊥
+IsWrong before (Some (says.Look look)) behind f = ⊥
+IsWrong before (Some (says.Analyse subject workers)) behind f = ⊥
+
+-- of these lines, which stand behind those before, these are at fault, in order: each line has no fault and is passed
+-- over, or it is at fault and told with its number and its fault
+unfoldable pub AreFaulty : List Stated → List Stated → List FaultyLine → Type 0
+AreFaulty before [] faulty = faulty ≡ []
+AreFaulty before (line ∷ behind) faulty =
+    (((f : LineFault) → ¬ IsWrong (before_of before) line.says behind f) × AreFaulty (before ++ line ∷ []) behind faulty)
+    ⊎ ((f : LineFault) × (later : List FaultyLine)
+    × IsWrong (before_of before) line.says behind f × (faulty ≡ record { line = line.number; fault = f } ∷ later)
+    × AreFaulty (before ++ line ∷ []) behind later)
+
+-- these are the lines of a file that are at fault, in order
+abbrev pub AreFaultyLines : List ℕ → List FaultyLine → Type 0
+AreFaultyLines bytes faulty = AreFaulty [] (stated_lines bytes) faulty
+
+-- no line is at fault
+abbrev pub AreFaultless : List Stated → Type 0
+AreFaultless lines = AreFaulty [] lines []
+
+-- this is the first of these lines that is at fault
+unfoldable pub IsFirstFaulty : List Stated → FaultyLine → Type 0
+IsFirstFaulty lines first = (later : List FaultyLine) × AreFaulty [] lines (first ∷ later)
+
+-- this is the first line of a file that is at fault, so that the file says no scenario
+abbrev pub IsScenarioFault : List ℕ → FaultyLine → Type 0
+IsScenarioFault bytes first = IsFirstFaulty (stated_lines bytes) first
+
+-- the judging of these lines answers this fault: that of the first line at fault, or out of memory
+abbrev pub IsFirstFault : List Stated → ScenarioFault → Type 0
+IsFirstFault lines (refused.Line first) = IsFirstFaulty lines first
+IsFirstFault lines refused.OutOfMemory = Unit {0}
+
+-- the reading of a file answers this fault: that of its first line at fault, or out of memory
+abbrev pub IsReadingFault : List ℕ → ScenarioFault → Type 0
+IsReadingFault bytes fault = IsFirstFault (stated_lines bytes) fault
+
+-- these are the parameters of these lines: those that one of them gives, or the default ones where none gives any
+unfoldable pub AreParamsOf : List Stated → ParamsState → Type 0
+AreParamsOf lines p =
+    ((line : Stated) × (numbers : List ℕ) × Has lines line × (line.says ≡ Some (says.Params numbers))
+    × AreParams numbers p)
+    ⊎ ((¬ HasKind says.Params lines) × (p ≡ default_params))
+
+-- this is the seed of these lines: the one that one of them gives, or 0 where none does
+unfoldable pub IsSeedOf : List Stated → ℕ → Type 0
+IsSeedOf lines seed =
+    ((line : Stated) × Has lines line × (line.says ≡ Some (says.Seed seed)))
+    ⊎ ((¬ HasKind says.Seed lines) × (seed ≡ 0))
+
+-- lines that say this ask for these lines to run: the events, the looks and the analyses in order, each event with the
+-- random words that stand right before it, or else with the next of those that were drawn. All that were drawn are used
+unfoldable pub AskFor : List (Option Statement) → List (List ℕ) → List Line → Type 0
+AskFor [] drawn lines = (drawn ≡ []) × (lines ≡ [])
+AskFor (Some (says.Words words) ∷ Some (says.Event event) ∷ more) drawn lines =
+    (later : List Line) × (lines ≡ line.Event event words ∷ later) × AskFor more drawn later
+AskFor (Some (says.Event event) ∷ more) drawn lines =
+    (words : List ℕ) × (left : List (List ℕ)) × (later : List Line)
+    × (drawn ≡ words ∷ left) × (lines ≡ line.Event event words ∷ later) × AskFor more left later
+AskFor (Some (says.Look look) ∷ more) drawn lines =
+    (later : List Line) × (lines ≡ line.Look look ∷ later) × AskFor more drawn later
+AskFor (Some (says.Analyse subject workers) ∷ more) drawn lines =
+    (later : List Line) × (lines ≡ line.Analyse subject workers ∷ later) × AskFor more drawn later
+AskFor (other ∷ more) drawn lines = AskFor more drawn lines
+
+-- these lines ask for these lines to run, with random words that are drawn from the generator of the seed
+abbrev pub AreToRun : List Stated → ℕ → List Line → Type 0
+AreToRun lines seed to_run =
+    (drawn : List (List ℕ)) × (left : Stream) × AreDraws (seeded seed) drawn left
+    × AskFor (map (λ line. line.says) lines) drawn to_run
+
+-- the bytes of a file say this scenario: no line is at fault, the parameters and the seed are those of the lines, and
+-- the lines ask for those to run
+pub record IsScenario (bytes : List ℕ) (s : Scenario) : Type 0 where
+  pub faultless : AreFaultless (stated_lines bytes)
+  pub params : AreParamsOf (stated_lines bytes) s.params
+  pub seed : IsSeedOf (stated_lines bytes) s.seed
+  pub lines : AreToRun (stated_lines bytes) s.seed s.lines.items
+
+-- the number is that of the first of these lines
+abbrev pub IsFirstOf : ℕ → List FaultyLine → Type 0
+IsFirstOf n [] = ⊥
+IsFirstOf n (first ∷ later) = first.line ≡ n
+
+-- The line whose fault a file has is the first of its lines at fault, and a file with a fault says no scenario.
+pub record FirstLineHasTheFault : Type 0 where
+  pub first : (bytes : List ℕ) (faulty : List FaultyLine) (f : FaultyLine) → AreFaultyLines bytes faulty
+      → IsScenarioFault bytes f → IsFirstOf f.line faulty
+  pub none : (bytes : List ℕ) (s : Scenario) (f : FaultyLine) → IsScenario bytes s → IsScenarioFault bytes f → ⊥

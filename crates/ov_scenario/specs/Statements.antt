@@ -1,0 +1,145 @@
+-- What one line of a scenario file says. The form of the lines is chosen here.
+use Rattle.std.specs.Prelude.{ℕ, ◌-◌, nat_lt, nat_le, ◌==◌, ◌&&◌, List, [], ◌∷◌, ◌++◌, length, map, replicate, codes, Option}
+use Rattle.std.specs.Prelude.{Some, None, option_map, if◌then◌else◌}
+use Rattle.ov_net.specs.declared.event.Event.{Event}
+use Rattle.ov_net.specs.declared.event.Event.TheVariants as event
+use Rattle.ov_ids.specs.Options.{◌>>=◌}
+use Rattle.ov_lines.specs.Lines.{words_of, behind_word, without_space, same, row, number_within, one, two, three}
+use Rattle.ov_lines.specs.Lines.{each_number, short_bits, one_list, long_bits, workers_first}
+use Rattle.ov_words.specs.Stream.{words_per_event}
+use Rattle.ov_scenario.specs.declared.scenario.Look.TheVariants as look
+use Rattle.ov_scenario.specs.declared.scenario.Subject.{Subject}
+use Rattle.ov_scenario.specs.declared.statement.Statement.{Statement}
+use Rattle.ov_scenario.specs.declared.statement.Statement.TheVariants as says
+
+-- the numbers, where there are seven
+abbrev pub seven : List ℕ → Option (List ℕ)
+seven ns = if length ns == 7 then Some ns else None
+
+-- the random words of an event: those that are given, from one on, and zeros after them
+abbrev pub with_zeros : List ℕ → Option (List ℕ)
+with_zeros ns =
+    if nat_lt 0 (length ns) && nat_le (length ns) words_per_event
+    then Some (ns ++ replicate (words_per_event - length ns) 0)
+    else None
+
+-- the first node hears that the second one crashed
+abbrev pub crash_report_of : ℕ × ℕ → Event
+crash_report_of p = event.CrashReport p.0 p.1
+
+-- a timer of the first node, of the message with this origin and this number
+abbrev pub timer_of : ℕ × (ℕ × ℕ) → Event
+timer_of p = event.Timer p.0 (record { origin = p.1.0; seq = p.1.1 })
+
+-- the numbers of seven parameters
+abbrev pub seven_numbers : List (List ℕ) → Option (List ℕ)
+seven_numbers words = each_number short_bits words >>= seven
+
+-- the random words of an event, which all words spell
+abbrev pub event_words : List (List ℕ) → Option (List ℕ)
+event_words words = each_number long_bits words >>= with_zeros
+
+-- `boot N` and `boot N by C`, behind the name
+abbrev pub boot_of : List (List ℕ) → Option Event
+boot_of [] = None
+boot_of (n ∷ []) = number_within short_bits n >>= λ a. Some (event.Boot a None)
+boot_of (n ∷ by ∷ more) =
+    if same by (codes "by")
+    then (number_within short_bits n >>= λ a. one short_bits more >>= λ c. Some (event.Boot a (Some c)))
+    else None
+
+-- the ids behind `group`
+abbrev pub group_at : ℕ → List (List ℕ) → Option Subject
+group_at moment words = one_list words >>= λ ids. Some (record { moment = moment; group = Some ids })
+
+-- what stands behind a moment: nothing, for all nodes, or `group IDS`, for a group of them
+abbrev pub subject_at : ℕ → List (List ℕ) → Option Subject
+subject_at moment [] = Some (record { moment = moment; group = None })
+subject_at moment (group ∷ more) = if same group (codes "group") then group_at moment more else None
+
+-- `M` and `M group IDS`, behind the name: a moment, for all nodes or for a group of them
+abbrev pub subject_of : List (List ℕ) → Option Subject
+subject_of [] = None
+subject_of (m ∷ more) = number_within short_bits m >>= λ a. subject_at a more
+
+-- the number of workers that these words name, and the words behind it: that of `workers W` where they begin so, and
+-- else one, of no words
+abbrev pub workers_named : List (List ℕ) → Option (ℕ × List (List ℕ))
+workers_named [] = Some (1, [])
+workers_named (name ∷ more) =
+    if same name (codes "workers") then workers_first more else Some (1, name ∷ more)
+
+-- `M`, `M workers W`, `M group IDS` and `M workers W group IDS`, behind the name: what is analysed, and by how many
+-- workers
+abbrev pub analysis_of : List (List ℕ) → Option Statement
+analysis_of [] = None
+analysis_of (m ∷ more) =
+    number_within short_bits m >>= λ a. workers_named more >>= λ p.
+    option_map (λ s. says.Analyse s p.0) (subject_at a p.1)
+
+-- `broadcast N TEXT`, of which this is left behind the name: the payload is all that stands behind the one space that
+-- follows the node, and nothing where none follows it
+abbrev pub broadcast_of : List ℕ → List (List ℕ) → Option Event
+broadcast_of text [] = None
+broadcast_of text (n ∷ more) =
+    number_within short_bits n >>= λ a. Some (event.Broadcast a (without_space (behind_word text)))
+
+-- a line without a further word says this
+abbrev pub alone : {A : Type 0} → A → List (List ℕ) → Option A
+alone x words = if length words == 0 then Some x else None
+
+-- the lines that set something for lines behind them, by their names: what they say with these words behind the name
+abbrev pub setting_rows : List (List ℕ) → List (List ℕ × Option Statement)
+setting_rows words =
+    (codes "params", option_map says.Params (seven_numbers words))
+    ∷ (codes "seed", option_map says.Seed (one long_bits words))
+    ∷ (codes "words", option_map says.Words (event_words words))
+    ∷ []
+
+-- the events, by the names of their lines: what they are with this text, and these words, behind the name. Of
+-- `broadcast` the text counts, and of all others only the words
+abbrev pub event_rows : List ℕ → List (List ℕ) → List (List ℕ × Option Statement)
+event_rows text words =
+    (codes "boot", option_map says.Event (boot_of words))
+    ∷ (codes "deliver", option_map (λ n. says.Event (event.Deliver n)) (one short_bits words))
+    ∷ (codes "lose", option_map (λ n. says.Event (event.Lose n)) (one short_bits words))
+    ∷ (codes "repeat", option_map (λ n. says.Event (event.Repeat n)) (one short_bits words))
+    ∷ (codes "crash", option_map (λ n. says.Event (event.Crash n)) (one short_bits words))
+    ∷ (codes "report", option_map (λ p. says.Event (crash_report_of p)) (two words))
+    ∷ (codes "shuffle", option_map (λ n. says.Event (event.Shuffle n)) (one short_bits words))
+    ∷ (codes "broadcast", option_map says.Event (broadcast_of text words))
+    ∷ (codes "timer", option_map (λ p. says.Event (timer_of p)) (three words))
+    ∷ (codes "snapshot", alone (says.Event event.Snapshot) words)
+    ∷ []
+
+-- the analyses and the looks, by the names of their lines: what they are with these words behind the name
+abbrev pub look_rows : List (List ℕ) → List (List ℕ × Option Statement)
+look_rows words =
+    (codes "analyse", analysis_of words)
+    ∷ (codes "certificate", option_map (λ s. says.Look (look.Certificate s)) (subject_of words))
+    ∷ (codes "show", option_map (λ n. says.Look (look.Show n)) (one short_bits words))
+    ∷ (codes "packets", alone (says.Look look.Packets) words)
+    ∷ []
+
+-- all lines by their names, in the order in which these are told: what they say with this text, and these words, behind
+-- the name
+abbrev pub line_rows : List ℕ → List (List ℕ) → List (List ℕ × Option Statement)
+line_rows text words = setting_rows words ++ event_rows text words ++ look_rows words
+
+-- the names that a line may begin with, in that order
+abbrev pub line_names : List (List ℕ)
+line_names = map (λ row. row.0) (line_rows [] [])
+
+-- what a line with these words says
+abbrev pub stated : List ℕ → List (List ℕ) → Option Statement
+stated line [] = None
+stated line (name ∷ words) = row name (line_rows (behind_word line) words) None
+
+-- what a line says, and none where it can't be read
+abbrev pub statement_of : List ℕ → Option Statement
+statement_of line = stated line (words_of line)
+
+-- a line of this number, and what it says, or none where it can't be read
+pub record Stated : Type 0 where
+  pub number : ℕ
+  pub says : Option Statement

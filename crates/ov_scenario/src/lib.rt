@@ -1,0 +1,24 @@
+//! Scenario files: what their lines say, which lines are at fault and why, and the scenario that a file says.
+#![tactic(auto)]
+
+mod fault_listing;
+mod line_judging;
+mod lines_to_run;
+mod run_line_numbers;
+mod scenario;
+mod scenario_fault;
+mod scenario_reading;
+mod statement;
+mod statement_reading;
+mod theorems;
+mod whole_run_settings;
+mod words_from_seed;
+
+pub use fault_listing::faulty_lines;
+pub use run_line_numbers::numbers_of_run_lines;
+pub use scenario::{Line, Look, Scenario, Subject};
+pub use scenario_fault::{FaultyLine, LineFault, ScenarioFault, Setting};
+pub use scenario_reading::read_scenario;
+pub use statement_reading::line_names;
+pub use theorems::first_line_has_the_fault;
+pub use words_from_seed::draw;

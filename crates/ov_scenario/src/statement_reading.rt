@@ -1,0 +1,370 @@
+ghost use Rattle.std.specs.Prelude.{◌≡◌, ◌==◌, ◌++◌, length, map, option_map, is_ok, IfOk, None, Some};
+ghost use Rattle.std.specs.Result.{result_ok};
+ghost use Rattle.ov_lines.specs.Lines.{words_of, row, two, three};
+ghost use Rattle.ov_scenario.specs.Scenarios.{stated_at};
+ghost use Rattle.ov_scenario.specs.Statements.{seven_numbers, event_words, crash_report_of, timer_of, boot_of};
+ghost use Rattle.ov_scenario.specs.Statements.{broadcast_of, group_at, subject_at, subject_of, analysis_of};
+ghost use Rattle.ov_scenario.specs.Statements.{event_rows, look_rows, line_rows, line_names, statement_of};
+ghost use Rattle.ov_scenario.specs.Code.Reading.{Reads};
+ghost use Rattle.ov_scenario.specs.declared.statement.Statement.TheVariants as says;
+ghost use Rattle.ov_scenario.specs.declared.statement_reading.Unstated.TheVariants as unstated;
+
+use crate::scenario::{Look, Subject};
+use crate::statement::{Stated, Statement};
+use ov_claims::Workers;
+use ov_ids::{MsgId, NodeId, OutOfMemory, Seq};
+use ov_lines::{END, ID, Kind, LineCursor, Unread, is_word};
+use ov_net::Event;
+use ov_words::{WORDS_PER_EVENT, Words};
+use std::alloc::{AllocError, Global};
+
+/// The name of a line of parameters.
+pub(crate) const PARAMS: &str = "params";
+
+/// The name of a line that gives the seed.
+pub(crate) const SEED: &str = "seed";
+
+/// The names that a line of a scenario may begin with, in the order in which they are told.
+pub fn line_names() -> &'static [&'static str]
+    ensures { map (λ name. name.now) result.now ≡ line_names }
+{
+    &[
+        PARAMS,
+        SEED,
+        "words",
+        "boot",
+        "deliver",
+        "lose",
+        "repeat",
+        "crash",
+        "report",
+        "shuffle",
+        "broadcast",
+        "timer",
+        "snapshot",
+        "analyse",
+        "certificate",
+        "show",
+        "packets",
+    ]
+}
+
+/// What the seven numbers of a line of parameters are, in their order.
+const ACTIVE: &[Kind] = &[Kind::Short("the size of the active view")];
+
+const PASSIVE: &[Kind] = &[Kind::Short("the size of the passive view")];
+
+const ACTIVE_WALK: &[Kind] = &[Kind::Short("the active random walk length")];
+
+const PASSIVE_WALK: &[Kind] = &[Kind::Short("the passive random walk length")];
+
+const ACTIVE_SAMPLE: &[Kind] = &[Kind::Short("how many active members a shuffle samples")];
+
+const PASSIVE_SAMPLE: &[Kind] = &[Kind::Short("how many passive members a shuffle samples")];
+
+const SHUFFLE_TTL: &[Kind] = &[Kind::Short("the time to live of a shuffle")];
+
+const PLACE: &[Kind] = &[Kind::Short("the place of a packet")];
+
+const ORIGIN: &[Kind] = &[Kind::Short("the id of the node that made the message")];
+
+const SEQUENCE: &[Kind] = &[Kind::Short("the number of the message")];
+
+const WORKERS: &[Kind] = &[Kind::Within("a number from 1 to 64", 1, 64)];
+
+const MOMENT: &[Kind] = &[Kind::Short("the moment of a snapshot")];
+
+/// Why a line states nothing.
+pub(crate) enum Unstated {
+    /// It can't be read.
+    Unread(Unread),
+    /// An allocation was refused.
+    OutOfMemory,
+}
+
+impl From<Unread> for Unstated {
+    ghost from_gives = { λ unread e. e ≡ unstated.Unread unread };
+
+    fn from(unread: Unread) -> Unstated {
+        Unstated::Unread(unread)
+    }
+}
+
+impl From<AllocError> for Unstated {
+    ghost from_gives = { λ _ e. e ≡ unstated.OutOfMemory };
+
+    fn from(_error: AllocError) -> Unstated {
+        Unstated::OutOfMemory
+    }
+}
+
+impl From<OutOfMemory> for Unstated {
+    ghost from_gives = { λ _ e. e ≡ unstated.OutOfMemory };
+
+    fn from(_fault: OutOfMemory) -> Unstated {
+        Unstated::OutOfMemory
+    }
+}
+
+/// Reads what a line says that is not skipped.
+pub(crate) fn state(alloc: Global, number: usize, text: &[u8]) -> Result<Stated, OutOfMemory>
+    ensures { IfOk result (λ stated. stated ≡ stated_at (number, text.now)) }
+{
+    let says = match read_statement(alloc, text) {
+        Ok(statement) => Ok(statement),
+        Err(Unstated::Unread(unread)) => Err(unread),
+        Err(Unstated::OutOfMemory) => return Err(OutOfMemory),
+    };
+    Ok(Stated { number, says })
+}
+
+/// Reads what a line says.
+pub(crate) fn read_statement(alloc: Global, text: &[u8]) -> Result<Statement, Unstated>
+    ensures { Reads result (statement_of text.now) }
+{
+    let mut cursor = LineCursor::new(text);
+    let unknown = cursor.unread(&[Kind::LineName]);
+    match cursor.word() {
+        Some(name) => read_named(alloc, name, unknown, &mut cursor),
+        None => Err(unknown.into()),
+    }
+}
+
+/// Reads what follows the name of a line. Lines that set something for those behind them come first.
+fn read_named(
+    alloc: Global,
+    name: &[u8],
+    unknown: Unread,
+    cursor: &mut LineCursor,
+) -> Result<Statement, Unstated>
+    ensures { Reads result (row name.now (line_rows cursor.old (words_of cursor.old)) None) }
+{
+    if is_word(name, PARAMS.as_bytes()) {
+        return Ok(Statement::Params(read_params(cursor)?));
+    }
+    if is_word(name, SEED.as_bytes()) {
+        return Ok(Statement::Seed(cursor.last_number(&[Kind::Long("the seed")])?));
+    }
+    if is_word(name, b"words") {
+        return Ok(Statement::Words(Words::new(read_event_words(cursor)?)));
+    }
+    read_event(alloc, name, unknown, cursor)
+}
+
+/// Reads what follows the name of an event, or of a line behind these.
+fn read_event(
+    alloc: Global,
+    name: &[u8],
+    unknown: Unread,
+    cursor: &mut LineCursor,
+) -> Result<Statement, Unstated>
+    ensures { Reads result
+        (row name.now (event_rows cursor.old (words_of cursor.old) ++ look_rows (words_of cursor.old)) None) }
+{
+    if is_word(name, b"boot") {
+        return Ok(Statement::Event(read_boot(cursor)?));
+    }
+    if is_word(name, b"deliver") {
+        return Ok(Statement::Event(Event::Deliver(cursor.last_short_number(PLACE)?)));
+    }
+    if is_word(name, b"lose") {
+        return Ok(Statement::Event(Event::Lose(cursor.last_short_number(PLACE)?)));
+    }
+    if is_word(name, b"repeat") {
+        return Ok(Statement::Event(Event::Repeat(cursor.last_short_number(PLACE)?)));
+    }
+    if is_word(name, b"crash") {
+        let node = NodeId::new(cursor.last_short_number(&[ID])?);
+        return Ok(Statement::Event(Event::Crash(node)));
+    }
+    if is_word(name, b"report") {
+        return Ok(Statement::Event(read_report(cursor)?));
+    }
+    if is_word(name, b"shuffle") {
+        let node = NodeId::new(cursor.last_short_number(&[ID])?);
+        return Ok(Statement::Event(Event::Shuffle(node)));
+    }
+    if is_word(name, b"broadcast") {
+        return Ok(Statement::Event(read_broadcast(alloc, cursor)?));
+    }
+    if is_word(name, b"timer") {
+        return Ok(Statement::Event(read_timer(cursor)?));
+    }
+    if is_word(name, b"snapshot") {
+        read_end(cursor)?;
+        return Ok(Statement::Event(Event::Snapshot));
+    }
+    read_look(alloc, name, unknown, cursor)
+}
+
+/// Reads what follows the name of an analysis or of a look.
+fn read_look(
+    alloc: Global,
+    name: &[u8],
+    unknown: Unread,
+    cursor: &mut LineCursor,
+) -> Result<Statement, Unstated>
+    ensures { Reads result (row name.now (look_rows (words_of cursor.old)) None) }
+{
+    if is_word(name, b"analyse") {
+        return read_analysis(alloc, cursor);
+    }
+    if is_word(name, b"certificate") {
+        let subject = read_subject(alloc, cursor)?;
+        return Ok(Statement::Look(Look::Certificate(subject)));
+    }
+    if is_word(name, b"show") {
+        let node = NodeId::new(cursor.last_short_number(&[ID])?);
+        return Ok(Statement::Look(Look::Show(node)));
+    }
+    if is_word(name, b"packets") {
+        read_end(cursor)?;
+        return Ok(Statement::Look(Look::Packets));
+    }
+    Err(unknown.into())
+}
+
+/// Reads the end of a line.
+fn read_end(cursor: &LineCursor) -> Result<(), Unread>
+    ensures { is_ok result ≡ (length (words_of cursor.now) == 0) }
+{
+    if cursor.is_at_end() {
+        return Ok(());
+    }
+    Err(cursor.unread(END))
+}
+
+/// Reads what follows the name `broadcast`: the node, and the payload, which is all bytes behind one space.
+fn read_broadcast(alloc: Global, cursor: &mut LineCursor) -> Result<Event, Unstated>
+    ensures { Reads result (broadcast_of cursor.old (words_of cursor.old)) }
+{
+    let node = NodeId::new(cursor.short_number(&[ID])?);
+    let payload = Seq::new(Vec::from_slice(alloc, cursor.after_space())?);
+    Ok(Event::Broadcast(node, payload))
+}
+
+/// Reads what follows the name `analyse`: the moment, the number of workers where one is named, and the group where one
+/// is named.
+fn read_analysis(alloc: Global, cursor: &mut LineCursor) -> Result<Statement, Unstated>
+    ensures { Reads result (analysis_of (words_of cursor.old)) }
+{
+    let moment = cursor.short_number(MOMENT)?;
+    let neither = cursor.unread(&[Kind::Name("workers"), Kind::Name("group"), Kind::End]);
+    let Some(name) = cursor.word() else {
+        return Ok(by_one_worker(Subject {
+            moment,
+            group: None,
+        }));
+    };
+    if is_word(name, b"workers") {
+        let workers = match cursor.workers(WORKERS) {
+            Ok(workers) => workers,
+            Err(unread) => return Err(unread.into()),
+        };
+        let subject = read_subject_at(alloc, moment, cursor)?;
+        return Ok(Statement::Analyse { subject, workers });
+    }
+    if is_word(name, b"group") {
+        return Ok(by_one_worker(read_group(alloc, moment, cursor)?));
+    }
+    Err(neither.into())
+}
+
+fn by_one_worker(subject: Subject) -> Statement
+    ensures { result ≡ says.Analyse subject 1 }
+{
+    let workers = Workers::ONE;
+    Statement::Analyse { subject, workers }
+}
+
+/// Reads the moment of an analysis, and its group where one is named: `M`, or `M group IDS`.
+fn read_subject(alloc: Global, cursor: &mut LineCursor) -> Result<Subject, Unstated>
+    ensures { Reads result (subject_of (words_of cursor.old)) }
+{
+    let moment = cursor.short_number(MOMENT)?;
+    read_subject_at(alloc, moment, cursor)
+}
+
+/// Reads what follows the moment of an analysis, or its number of workers: nothing, or `group IDS`.
+fn read_subject_at(alloc: Global, moment: u32, cursor: &mut LineCursor) -> Result<Subject, Unstated>
+    ensures { Reads result (subject_at moment (words_of cursor.old)) }
+{
+    if cursor.is_at_end() {
+        let group = None;
+        return Ok(Subject { moment, group });
+    }
+    cursor.name("group", &[Kind::Name("group"), Kind::End])?;
+    read_group(alloc, moment, cursor)
+}
+
+/// Reads what follows the name `group`: the ids.
+fn read_group(alloc: Global, moment: u32, cursor: &mut LineCursor) -> Result<Subject, Unstated>
+    ensures { Reads result (group_at moment (words_of cursor.old)) }
+{
+    let group = Some(Seq::new(cursor.last_ids(alloc)??));
+    Ok(Subject { moment, group })
+}
+
+fn read_report(cursor: &mut LineCursor) -> Result<Event, Unread>
+    ensures { result_ok result ≡ option_map crash_report_of (two (words_of cursor.old)) }
+{
+    let node = cursor.short_number(&[ID])?;
+    let crashed = cursor.last_short_number(&[ID])?;
+    Ok(Event::CrashReport(NodeId::new(node), NodeId::new(crashed)))
+}
+
+fn read_timer(cursor: &mut LineCursor) -> Result<Event, Unread>
+    ensures { result_ok result ≡ option_map timer_of (three (words_of cursor.old)) }
+{
+    let node = cursor.short_number(&[ID])?;
+    let origin = cursor.short_number(ORIGIN)?;
+    let id = MsgId {
+        origin: NodeId::new(origin),
+        seq: cursor.last_short_number(SEQUENCE)?,
+    };
+    Ok(Event::Timer(NodeId::new(node), id))
+}
+
+fn read_boot(cursor: &mut LineCursor) -> Result<Event, Unread>
+    ensures { result_ok result ≡ boot_of (words_of cursor.old) }
+{
+    let node = NodeId::new(cursor.short_number(&[ID])?);
+    if cursor.is_at_end() {
+        return Ok(Event::Boot(node, None));
+    }
+    cursor.name("by", &[Kind::Name("by"), Kind::End])?;
+    let contact = NodeId::new(cursor.last_short_number(&[ID])?);
+    Ok(Event::Boot(node, Some(contact)))
+}
+
+#[tactic(auto, using(crate::proofs::Lines::InTurn::seven_in_turn))]
+fn read_params(cursor: &mut LineCursor) -> Result<[u32; 7], Unread>
+    ensures { result_ok result ≡ seven_numbers (words_of cursor.old) }
+{
+    let active = cursor.short_number(ACTIVE)?;
+    let passive = cursor.short_number(PASSIVE)?;
+    let arwl = cursor.short_number(ACTIVE_WALK)?;
+    let prwl = cursor.short_number(PASSIVE_WALK)?;
+    let ka = cursor.short_number(ACTIVE_SAMPLE)?;
+    let kp = cursor.short_number(PASSIVE_SAMPLE)?;
+    let shuffle_ttl = cursor.last_short_number(SHUFFLE_TTL)?;
+    Ok([active, passive, arwl, prwl, ka, kp, shuffle_ttl])
+}
+
+/// Reads 1 to 64 random words. Zeros follow them.
+#[tactic(auto, using(crate::proofs::Lines::Filling::more))]
+fn read_event_words(cursor: &mut LineCursor) -> Result<[u64; WORDS_PER_EVENT], Unread>
+    ensures { result_ok result ≡ event_words (words_of cursor.old) }
+{
+    let mut words = [0; WORDS_PER_EVENT];
+    words[0] = cursor.number(&[Kind::RandomWord])?;
+    let mut count = 1;
+    while !cursor.is_at_end() {
+        if count == WORDS_PER_EVENT {
+            return Err(cursor.unread(&[Kind::Full]));
+        }
+        words[count] = cursor.number(&[Kind::FurtherWord])?;
+        count += 1;
+    }
+    Ok(words)
+}

@@ -1,0 +1,55 @@
+ghost use Rattle.std.specs.Prelude.{◌≡◌, IfOk, length, vec_len};
+ghost use Rattle.rand_core.specs.Stream.{Stream};
+ghost use Rattle.ov_words.specs.Stream.{AreOutputs};
+ghost use Rattle.ov_scenario.specs.Code.RunnableLines.{stream_now};
+ghost use Rattle.ov_scenario.specs.Draws.{AreDraws, seeded};
+ghost use Rattle.ov_words.specs.Stream.{words_per_event};
+
+use ov_ids::OutOfMemory;
+use ov_words::Words;
+use rand_core::SeedableRng;
+use rand_pcg::Pcg64;
+use std::alloc::Global;
+
+/// The random words that a seed gives to events, event after event.
+#[derive(Drop)]
+pub(crate) struct SeedWords {
+    generator: Pcg64,
+}
+
+impl SeedWords {
+    /// All random words that the seed gives.
+    #[tactic(auto, unfolding(crate::specs::Draws::seeded, crate::specs::Code::RunnableLines::stream_now))]
+    pub(crate) fn new(seed: u64) -> SeedWords
+        ensures { stream_now result ≡ seeded seed }
+    {
+        SeedWords {
+            generator: Pcg64::seed_from_u64(seed),
+        }
+    }
+
+    /// The random words of the next event.
+    #[tactic(auto, unfolding(crate::specs::Code::RunnableLines::stream_now))]
+    pub(crate) fn next_words(&mut self) -> Words
+        ensures count { length result ≡ words_per_event }
+        ensures outputs { AreOutputs (stream_now self.old) result (stream_now self.new) }
+    {
+        Words::from_rng(&mut self.generator)
+    }
+}
+
+/// The random words that a seed gives to `n` events: for each event the next 64 outputs of `next_u64` of the generator
+/// `Pcg64` that `seed_from_u64` makes of the seed. That they are drawn so is chosen here. OutOfMemory (99) is returned
+/// where an allocation was refused.
+#[tactic(auto, using(crate::proofs::Scenarios::Drawn::draws_more))]
+pub fn draw(alloc: Global, seed: u64, n: usize) -> Result<Vec<Words>, OutOfMemory>
+    ensures count { IfOk result (λ draws. vec_len draws ≡ n) }
+    ensures draws { IfOk result (λ draws. (left : Stream) × AreDraws (seeded seed) draws.items left) }
+{
+    let mut left = SeedWords::new(seed);
+    let mut draws = Vec::with_capacity(alloc, n)?;
+    for _ in 0..n {
+        draws.push(left.next_words())?;
+    }
+    Ok(draws)
+}

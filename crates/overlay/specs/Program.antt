@@ -1,0 +1,20 @@
+-- What the program overlay prints of a fault, and its status.
+use Rattle.std.specs.Prelude.{ℕ, List, Result, Ok, Err}
+use Rattle.ov_io.specs.Refusal.{refusal_text}
+use Rattle.ov_arguments.specs.Arguments.{number_of}
+use Rattle.ov_run.specs.Faults.{run_fault_text}
+use Rattle.ov_arguments.specs.declared.arguments.ArgumentsFault.TheVariants.{BadArguments, OutOfMemory}
+use Rattle.overlay.specs.declared.program_outcome.ProgramFault.{ProgramFault}
+use Rattle.overlay.specs.declared.program_outcome.ProgramFault.TheVariants.{Arguments, Run}
+
+-- what is printed of a fault on standard error, without its line feed
+abbrev pub program_fault_text : ProgramFault → List ℕ
+program_fault_text (Arguments fault) = refusal_text (number_of fault)
+program_fault_text (Run fault) = run_fault_text fault
+
+-- the program's status: that of the run or the analysis, 2 where the arguments are refused, and 1 after another fault
+abbrev pub exit_status : Result ℕ ProgramFault → ℕ
+exit_status (Ok status) = status
+exit_status (Err (Arguments BadArguments)) = 2
+exit_status (Err (Arguments OutOfMemory)) = 1
+exit_status (Err (Run fault)) = 1
