@@ -7,7 +7,7 @@ ghost use Rattle.ov_cert.specs.Code.Tests.{pairs_fault, fans_fault, IsCheckOf};
 
 use crate::cert::{FanPaths, PairPaths};
 use crate::fault::CheckFault;
-use crate::group_members::{first_members, later_members};
+use crate::first_and_later_members::{first_members, later_members};
 use crate::paths::{are_linked, are_paths, is_fan};
 use ov_graph::Graph;
 use ov_ids::NodeId;

@@ -9,9 +9,9 @@ ghost use Rattle.ov_cert.specs.Code.Tests.{unlinked_before, pairs_after, expecte
 
 use crate::cert::Split;
 use crate::entry_judging::{has_fan, has_pair};
-use crate::expected_pair_or_fan::Expected;
+use crate::expected_entry::Expected;
 use crate::fault::CheckFault;
-use crate::group_members::{first_members, later_members};
+use crate::first_and_later_members::{first_members, later_members};
 use crate::paths::are_linked;
 use ov_graph::Graph;
 use ov_ids::{NodeId, OutOfMemory};

@@ -8,7 +8,7 @@ ghost use Rattle.ov_cert.specs.Code.Tests.{body_fault, frame_fault};
 use crate::all_linked::test_all_linked;
 use crate::cert::{Cert, Split};
 use crate::fault::CheckFault;
-use crate::group_members::is_group;
+use crate::first_and_later_members::is_group;
 use crate::node_set::node_set;
 use crate::side_judging::is_side_cut_off;
 use ov_graph::Graph;

@@ -5,7 +5,7 @@ ghost use Rattle.ov_graph.specs.Code.Tests.{are_joined};
 ghost use Rattle.ov_cert.specs.Code.Tests.{chained, is_pair_path, are_pair_paths, is_fan_path, are_fan_paths, entered};
 ghost use Rattle.ov_cert.specs.Code.Tests.{inner, steps};
 
-use crate::group_members::is_earlier;
+use crate::first_and_later_members::is_earlier;
 use crate::node_set::NodeSet;
 use ov_graph::Graph;
 use ov_ids::{NodeId, Seq};

@@ -7,8 +7,8 @@ use Rattle.ov_cert.specs.Valid.{IsValidForGroup, k_of}
 use Rattle.ov_cert.specs.Verdict.{JudgedForGroup}
 use Rattle.ov_cert.proofs.Validity.Exact.{one_verdict, fewest}
 use Rattle.ov_check.specs.Parallel.{SaysVerdict}
-use Rattle.ov_check.specs.declared.parallel_fault.ParallelFault.{ParallelFault}
-use Rattle.ov_check.specs.declared.parallel_fault.ParallelFault.TheVariants.{Check, OutOfMemory}
+use Rattle.ov_check.specs.declared.check_or_memory_fault.ParallelFault.{ParallelFault}
+use Rattle.ov_check.specs.declared.check_or_memory_fault.ParallelFault.TheVariants.{Check, OutOfMemory}
 
 module _ (g : LinkGraph) (q : List ℕ) (c : Cert) where
   -- the certificate is valid exactly where the verdict has no fault

@@ -6,8 +6,8 @@ use Rattle.ov_cert.specs.declared.cert.Cert.TheVariants as cert
 use Rattle.ov_cert.specs.declared.fault.CheckFault.{CheckFault}
 use Rattle.ov_cert.specs.Number as check_fault
 use Rattle.ov_cert.specs.Verdict.{PassesFrame}
-use Rattle.ov_check.specs.declared.parallel_fault.ParallelFault.{ParallelFault}
-use Rattle.ov_check.specs.declared.parallel_fault.ParallelFault.TheVariants.{Check, OutOfMemory}
+use Rattle.ov_check.specs.declared.check_or_memory_fault.ParallelFault.{ParallelFault}
+use Rattle.ov_check.specs.declared.check_or_memory_fault.ParallelFault.TheVariants.{Check, OutOfMemory}
 
 -- a fault of the certificate keeps its own number
 abbrev pub number_of : ParallelFault → ℕ

@@ -4,8 +4,8 @@ use Rattle.ov_io.specs.Name.{unread_text}
 use Rattle.ov_io.specs.Refusal.{refusal_text}
 use Rattle.ov_check.specs.declared.device_fault.JudgeFault.{JudgeFault}
 use Rattle.ov_check.specs.declared.device_fault.JudgeFault.TheVariants.{Read, Write, OutOfMemory}
-use Rattle.ov_check.specs.declared.program.ProgramFault.{ProgramFault}
-use Rattle.ov_check.specs.declared.program.ProgramFault.TheVariants.{Usage, Judge}
+use Rattle.ov_check.specs.declared.arguments_and_exit_status.ProgramFault.{ProgramFault}
+use Rattle.ov_check.specs.declared.arguments_and_exit_status.ProgramFault.TheVariants.{Usage, Judge}
 use Rattle.ov_check.specs.Faults.{number_of}
 
 -- The input that one argument names, where `bytes` are the bytes of a name. `-` is standard input, each other text is

@@ -5,8 +5,8 @@ ghost use Rattle.ov_certfile.specs.Says.{SaysFile, SaysText};
 ghost use Rattle.ov_check.specs.declared.outcome.Outcome.TheVariants.{Refused};
 ghost use Rattle.ov_check.specs.Outcome.{BytesSay, IsRefused, IsOutcome, AreAlike, SaysExactNumber, status_of};
 
+use crate::check_or_memory_fault::ParallelFault;
 use crate::parallel::check_group_parallel;
-use crate::parallel_fault::ParallelFault;
 use ov_cert::{CheckFault, check_group};
 use ov_certfile::{FileFault, Filed, NoJson, from_value, json_in};
 use ov_ids::OutOfMemory;

@@ -9,7 +9,7 @@ ghost use Rattle.ov_cert.specs.Entries.{AreExpected, IsExpected, HoldsEntry};
 ghost use Rattle.ov_check.specs.Parallel.{SaysVerdict, NeedsEntries};
 ghost use Rattle.ov_check.specs.Code.Threads.{Misses};
 
-use crate::parallel_fault::ParallelFault;
+use crate::check_or_memory_fault::ParallelFault;
 use ov_cert::{
     Cert, CheckFault, Expected, Split, check_group_frame, expected_group, judge_group_entry,
 };

@@ -1,7 +1,7 @@
-use crate::entry_words::{tell_entry, tell_extra};
 use crate::fault_phrases::{name_fault, name_refusal};
 use crate::file_words::tell_refusal;
 use crate::frame_words::{tell_count, tell_group, tell_ids, tell_side, tell_unlinked};
+use crate::wrong_entries::{tell_entry, tell_extra};
 use ov_cert::{Cert, CheckFault, Split};
 use ov_certfile::Filed;
 use ov_check::Outcome;

@@ -3,7 +3,6 @@
 #![tactic(auto)]
 
 mod bad_values;
-mod entry_words;
 mod explain;
 mod fault_phrases;
 mod file_words;
@@ -13,5 +12,6 @@ mod graph_words;
 mod near_keys;
 mod path_words;
 mod sentence_parts;
+mod wrong_entries;
 
 pub use explain::reasons;

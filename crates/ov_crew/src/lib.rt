@@ -1,12 +1,12 @@
 //! Workers in threads, which settle the pieces of Even's test together.
 #![tactic(auto)]
 
-mod crew;
+mod analysis_by_threads;
 mod hook_after_claim;
 mod parallel_path_naming;
 mod thread_count;
 mod worker;
 
-pub use crew::{analyse, analyse_group, analyse_group_watched};
+pub use analysis_by_threads::{analyse, analyse_group, analyse_group_watched};
 pub use hook_after_claim::{Gate, OpenGate};
 pub use worker::{work, work_group, work_range};

@@ -9,7 +9,7 @@ ghost use Rattle.ov_even.specs.Code.Cuts.{IsDeciding};
 ghost use Rattle.ov_even.specs.declared.fault.AnalyseFault.TheVariants.{OutOfMemory as out_of_memory};
 
 use crate::certificate_entries::{Entries, entries_of};
-use crate::certificate_path_choice::wanted_paths;
+use crate::certificate_pieces::wanted_paths;
 use crate::fault::AnalyseFault;
 use crate::first_piece_with_cut::first_cut;
 use crate::path_naming::{NamedPaths, name_paths};

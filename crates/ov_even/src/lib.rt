@@ -5,7 +5,7 @@
 mod analysis;
 mod assembly;
 mod certificate_entries;
-mod certificate_path_choice;
+mod certificate_pieces;
 mod fault;
 mod first_piece_with_cut;
 mod level_pieces;
@@ -21,7 +21,7 @@ mod worker_haul;
 
 pub use analysis::{analyse_alone, analyse_group_alone, analyse_group_watched};
 pub use assembly::{assemble, assemble_group, assemble_named};
-pub use certificate_path_choice::wanted_paths;
+pub use certificate_pieces::wanted_paths;
 pub use fault::AnalyseFault;
 pub use level_search::{LevelSearch, Searched};
 pub use ov_fans::Piece;

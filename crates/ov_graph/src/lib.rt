@@ -4,10 +4,10 @@
 mod adjacency_rows;
 mod changing;
 mod fault;
+mod first_fault;
 mod graph;
-mod neighbours;
+mod link_iterators;
 mod places;
-mod refusals;
 pub mod row;
 mod row_shift;
 mod same;
@@ -15,6 +15,6 @@ mod theorems;
 
 pub use fault::{GraphFault, LinkFlaw};
 pub use graph::Graph;
-pub use neighbours::{Links, Neighbours};
+pub use link_iterators::{Links, Neighbours};
 pub use places::is_member;
 pub use theorems::{even_suffices, one_number};

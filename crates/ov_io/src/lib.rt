@@ -2,13 +2,13 @@
 //! by the other.
 #![tactic(auto)]
 
+mod counted_reader_and_writer;
 mod fault;
-mod fault_counting;
-mod name;
+mod file_name_texts;
 mod sink;
 mod source;
 
 pub use fault::{ReadFault, WriteFault};
-pub use name::{shown_name, unopened_text, unread_text};
+pub use file_name_texts::{shown_name, unopened_text, unread_text};
 pub use sink::Sink;
 pub use source::Source;

@@ -2,8 +2,8 @@ ghost use Rattle.std.specs.Prelude.{◌≡◌, ◌+◌, ◌<◌, OnOk};
 ghost use Rattle.std.specs.Io.KnownBytes.{Appends};
 ghost use Rattle.ov_io.specs.Device.{most_faults, write_faults, write_number, AppendsPrefixOf};
 
+use crate::counted_reader_and_writer::CountedWriter;
 use crate::fault::WriteFault;
-use crate::fault_counting::CountedWriter;
 use std::io::Write;
 use std::marker::Model;
 

@@ -2,8 +2,8 @@ ghost use Rattle.std.specs.Prelude.{◌≡◌, ◌≢◌, ◌+◌, ◌<◌, Err,
 ghost use Rattle.std.specs.Io.KnownBytes.{IsAtEnd};
 ghost use Rattle.ov_io.specs.Device.{most_faults, read_faults, read_number, ReaderFailed};
 
+use crate::counted_reader_and_writer::CountedReader;
 use crate::fault::ReadFault;
-use crate::fault_counting::CountedReader;
 use std::alloc::Global;
 use std::io::Read;
 use std::marker::Model;

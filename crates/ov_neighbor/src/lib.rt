@@ -11,7 +11,7 @@
 #![tactic(auto)]
 
 mod attempt;
-mod neighbor;
+mod neighbor_and_disconnect;
 
 pub use attempt::{Attempt, on_crash_report, on_reply};
-pub use neighbor::{on_disconnect, on_neighbor};
+pub use neighbor_and_disconnect::{on_disconnect, on_neighbor};

@@ -3,8 +3,8 @@ use Rattle.std.specs.Prelude.{◌≡◌, ℕ, nat_lt, length, Option, Some, None
 use Rattle.std.specs.FinSet as set
 use Rattle.ov_wire.specs.Messages.{AreInRange, most_payload}
 use Rattle.ov_plum.specs.PlumState.{most_broadcasts}
-use Rattle.ov_plum.specs.declared.fault.TimerFault.{TimerFault}
-use Rattle.ov_plum.specs.declared.fault.TimerFault.TheVariants as timer
+use Rattle.ov_plum.specs.declared.timer_fault.TimerFault.{TimerFault}
+use Rattle.ov_plum.specs.declared.timer_fault.TimerFault.TheVariants as timer
 use Rattle.ov_peer.specs.PeerState.{PeerState}
 use Rattle.ov_peer.specs.declared.fault.PeerFault.{PeerFault}
 use Rattle.ov_peer.specs.declared.fault.PeerFault.TheVariants.{NoTimer, PayloadTooLong, TooManyMessages, OutOfMemory}

@@ -1,7 +1,7 @@
 -- The faults of a timer.
 use Rattle.std.specs.Prelude.{ℕ}
-use Rattle.ov_plum.specs.declared.fault.TimerFault.{TimerFault}
-use Rattle.ov_plum.specs.declared.fault.TimerFault.TheVariants.{NoTimer, OutOfMemory}
+use Rattle.ov_plum.specs.declared.timer_fault.TimerFault.{TimerFault}
+use Rattle.ov_plum.specs.declared.timer_fault.TimerFault.TheVariants.{NoTimer, OutOfMemory}
 
 -- the number of each fault
 abbrev pub number_of : TimerFault → ℕ

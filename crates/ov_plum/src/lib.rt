@@ -6,17 +6,17 @@
 #![tactic(auto)]
 
 mod branches;
-mod fault;
-mod held;
+mod held_message;
 mod map_by_id;
 mod plum;
 mod plum_change;
 mod senders;
 mod step_effects;
+mod timer_fault;
 mod waiting;
 
-pub use fault::TimerFault;
-pub use held::Held;
+pub use held_message::Held;
 pub use plum::Plum;
 pub use plum_change::{PlumChange, PlumPlan};
 pub use step_effects::Spread;
+pub use timer_fault::TimerFault;

@@ -7,14 +7,14 @@ ghost use Rattle.ov_plum.specs.PlumChange.{IsPlumChange, IsPlumPlan, IsPlumStep,
 ghost use Rattle.ov_plum.specs.PlumRows.{AllowedTree, receives, broadcasts, fires, goes_up, goes_down};
 ghost use Rattle.ov_plum.specs.PlumState.{IsPlum, most_broadcasts, most_neighbours, newborn_plum};
 ghost use Rattle.ov_plum.specs.declared.plum_change.PlumChange.TheVariants.{Nothing};
-ghost use Rattle.ov_plum.specs.declared.fault.TimerFault.TheVariants.{NoTimer};
+ghost use Rattle.ov_plum.specs.declared.timer_fault.TimerFault.TheVariants.{NoTimer};
 
 use crate::branches::Branches;
-use crate::fault::TimerFault;
-use crate::held::Held;
+use crate::held_message::Held;
 use crate::map_by_id::ById;
 use crate::plum_change::{PlumChange, PlumPlan};
 use crate::step_effects::{Spread, whole_message};
+use crate::timer_fault::TimerFault;
 use crate::waiting::Waiting;
 use ov_ids::{MsgId, NodeId, OutOfMemory, Seq};
 use ov_wire::{Body, Message};

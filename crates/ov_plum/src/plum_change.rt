@@ -1,4 +1,4 @@
-use crate::held::Held;
+use crate::held_message::Held;
 use crate::step_effects::Spread;
 use ov_ids::{MsgId, NodeId};
 

@@ -5,7 +5,7 @@ ghost use Rattle.ov_plum.specs.PlumRows.{gossip, spread};
 ghost use Rattle.ov_plum.specs.PlumState.{HeldState, most_neighbours};
 
 use crate::branches::Branches;
-use crate::held::Held;
+use crate::held_message::Held;
 use ov_ids::{MsgId, NodeId, OutOfMemory, Seq};
 use ov_wire::{Body, Message};
 use std::alloc::Global;

@@ -3,25 +3,25 @@
 //! decides nothing: what is at fault comes from who judged it. No contract says the texts; examples and tests do.
 #![tactic(auto)]
 
-mod argument_texts;
 mod bad_group_texts;
 mod device_texts;
 mod event_texts;
-mod fault_numbers;
+mod fault_codes;
+mod first_wrong_argument;
 mod graph_file_texts;
 mod line_and_mark;
-mod line_list_parts;
+mod line_heads_and_remark;
 mod look_and_analysis_texts;
 mod parameter_limit_texts;
+mod refused_argument_texts;
 mod refused_lines;
 mod scenario_file_texts;
 mod unknown_line_name_texts;
 mod unread_line_texts;
-mod wrong_arguments;
 
-pub use argument_texts::argument_reasons;
 pub use bad_group_texts::group_reason;
 pub use device_texts::{OUT_OF_MEMORY, READING_FAILED, WRITING_FAILED};
 pub use graph_file_texts::{graph_fault_reasons, graph_reasons, unread_line_reasons};
+pub use refused_argument_texts::argument_reasons;
 pub use refused_lines::{count_line, refusal_line, refusal_reason};
 pub use scenario_file_texts::scenario_reasons;

@@ -1,6 +1,6 @@
 use crate::bad_group_texts::{first_stranger, push_unordered};
 use crate::event_texts::push_node;
-use crate::fault_numbers::{
+use crate::fault_codes::{
     ALREADY_FILED, BAD_GROUP, CRASHED_NODE, NO_NODES, NO_SUCH_MOMENT, OUT_OF_MEMORY, UNKNOWN_NODE,
 };
 use ov_ids::{NodeId, OutOfMemory};

@@ -3,17 +3,17 @@
 #![tactic(auto)]
 
 mod analysis_report;
-mod event_and_report_calls;
 mod fault;
 mod filed_reports;
 mod kept_snapshots;
 mod running_steps;
+mod snapshot_core;
 mod theorems;
 mod worker_desk_calls;
 
 pub use analysis_report::Report;
-pub use event_and_report_calls::Core;
 pub use fault::CoreFault;
 pub use kept_snapshots::{Job, Snapshot};
 pub use running_steps::{CoreStep, run_core};
+pub use snapshot_core::Core;
 pub use theorems::{every_report_is_so, every_report_stays};

@@ -5,8 +5,8 @@ ghost use Rattle.ov_snap.specs.Run.{CoreRun, MayRunOut, RanOut, Takes};
 ghost use Rattle.ov_snap.specs.declared.fault.CoreFault.TheVariants.{OutOfMemory as out_of_memory};
 
 use crate::analysis_report::Report;
-use crate::event_and_report_calls::Core;
 use crate::fault::CoreFault;
+use crate::snapshot_core::Core;
 use ov_ids::{NodeId, OutOfMemory, Params};
 use ov_net::{Event, NetFault};
 use ov_words::Words;

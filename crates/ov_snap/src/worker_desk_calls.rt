@@ -20,9 +20,9 @@ ghost use Rattle.ov_snap.specs.declared.fault.CoreFault.TheVariants as fault;
 ghost use Rattle.ov_snap.specs.declared.kept_snapshots.Snapshot.{Snapshot as Kept};
 
 use crate::analysis_report::Report;
-use crate::event_and_report_calls::Core;
 use crate::fault::CoreFault;
 use crate::kept_snapshots::{Snapshot, find};
+use crate::snapshot_core::Core;
 use ov_claims::Workers;
 use ov_desk::GroupDesk;
 use ov_ids::{NodeId, OutOfMemory};

@@ -3,8 +3,10 @@ use ov_claims::Workers;
 use ov_ids::{NodeId, Params};
 use ov_lines::{ID, Kind, Unread};
 use ov_net::Event;
-use ov_scenario::{FaultyLine, Line, LineFault, Look, Scenario, ScenarioFault, Setting, Subject};
-use ov_scenario::{draw, faulty_lines, read_scenario};
+use ov_scenario::{
+    FaultyLine, Line, LineFault, Look, Scenario, ScenarioFault, Setting, Subject, draw,
+    faulty_lines, read_scenario,
+};
 use ov_test_kit::{ids, message_id, payload, sized, words};
 use ov_words::Words;
 use std::alloc::Global;
@@ -279,14 +281,8 @@ static FIRST_FAULTS: [(&str, AtFault); 12] = [
     ("\n# 1\n  \nparams 17 30 6 3 3 4 4", (4, 21)),
     ("boot 1\nparams 5 30 6 3 3 4 4", (2, 70)),
     ("snapshot\nparams 0 30 6 3 3 4 4", (2, 70)),
-    (
-        "params 5 30 6 3 3 4 4\nparams 5 30 6 3 3 4 4",
-        (2, 70),
-    ),
-    (
-        "params 5 30 6 3 3 4 4\nparams 0 30 6 3 3 4 4",
-        (2, 70),
-    ),
+    ("params 5 30 6 3 3 4 4\nparams 5 30 6 3 3 4 4", (2, 70)),
+    ("params 5 30 6 3 3 4 4\nparams 0 30 6 3 3 4 4", (2, 70)),
     ("seed 1\nseed 1", (2, 70)),
     ("boot 1\nseed 1", (2, 70)),
     ("snapshot\nseed 1", (2, 70)),

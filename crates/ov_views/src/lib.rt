@@ -12,11 +12,11 @@
 #![tactic(auto)]
 
 mod change;
-mod sample;
+mod picked_ids;
 mod step_effects;
 mod views;
 
 pub use change::{Changes, ViewChange};
-pub use sample::Sample;
+pub use picked_ids::Sample;
 pub use step_effects::Moves;
 pub use views::{View, Views};

@@ -2,7 +2,7 @@
 #![tactic(auto)]
 
 mod draws;
-mod words;
+mod event_words;
 
 pub use draws::Draws;
-pub use words::{WORDS_PER_EVENT, Words};
+pub use event_words::{WORDS_PER_EVENT, Words};

@@ -10,8 +10,8 @@ use Rattle.ov_graph.specs.Even.{IsUnlinkedPair}
 use Rattle.ov_graph.specs.Code.Tests.{are_joined}
 use Rattle.ov_cert.specs.declared.cert.Cert.TheVariants as cert
 use Rattle.ov_cert.specs.declared.cert.Split.{Split}
-use Rattle.ov_cert.specs.declared.expected_pair_or_fan.Expected.{Expected}
-use Rattle.ov_cert.specs.declared.expected_pair_or_fan.Expected.TheVariants.{Pair, Fan}
+use Rattle.ov_cert.specs.declared.expected_entry.Expected.{Expected}
+use Rattle.ov_cert.specs.declared.expected_entry.Expected.TheVariants.{Pair, Fan}
 use Rattle.ov_cert.specs.Verdict.{PassesFrame}
 use Rattle.ov_cert.specs.Entries.{of_pairs, of_fans, IsExpected, HoldsEntry}
 use Rattle.ov_cert.specs.Code.Tests.{is_pair_entry, is_fan_entry, unlinked_before, pairs_after}

@@ -1,7 +1,7 @@
 -- What the workers of a crew have done at a board, while they are put together.
 use Rattle.std.specs.Prelude.{◌≡◌, ℕ, ◌+◌, ◌<◌, true, List, [], ◌∷◌, length, Result, Ok, IfOk, OnOk}
 use Rattle.ov_ids.specs.Limits.{number_limit}
-use Rattle.ov_ids.specs.declared.memory.OutOfMemory.{OutOfMemory}
+use Rattle.ov_ids.specs.declared.out_of_memory.OutOfMemory.{OutOfMemory}
 use Rattle.ov_graph.specs.Links.{LinkGraph}
 use Rattle.ov_claims.specs.Claims.{fresh}
 use Rattle.ov_board.specs.Board.{BoardState, SeatState}

@@ -1,7 +1,7 @@
 -- A list that several threads make in parts.
 use Rattle.std.specs.Prelude.{◌≡◌, ℕ, ◌*◌, List, slice_get, take, drop, Result, Some, IfOk, Vec}
 use Rattle.std.specs.Global.{Global}
-use Rattle.ov_ids.specs.declared.memory.OutOfMemory.{OutOfMemory}
+use Rattle.ov_ids.specs.declared.out_of_memory.OutOfMemory.{OutOfMemory}
 use Rattle.ov_even.specs.declared.path_naming.NamedPaths.{NamedPaths}
 
 -- what a thread returns: its part of the list, or out of memory

@@ -1,6 +1,6 @@
 -- How contracts see a core: by the values of its parts.
 use Rattle.ov_snap.specs.CoreState.{CoreState}
-use Rattle.ov_snap.specs.declared.event_and_report_calls.Core.TheInside.{Inside}
+use Rattle.ov_snap.specs.declared.snapshot_core.Core.TheInside.{Inside}
 
 -- the core that these fields hold
 abbrev pub core_of : Inside → CoreState

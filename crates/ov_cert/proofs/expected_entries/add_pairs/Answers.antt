@@ -1,6 +1,6 @@
 -- The pairs of one more member.
 use Rattle.std.proofs.Common.{◌∙◌, ◌+◌, List, take, drop, ap}
-use Rattle.ov_cert.specs.declared.expected_pair_or_fan.Expected.{Expected}
+use Rattle.ov_cert.specs.declared.expected_entry.Expected.{Expected}
 use Rattle.ov_cert.specs.Code.Tests.{pairs_after}
 use Rattle.ov_cert.proofs.EntryOrder.Listed.{with_pairs, column_added}
 use Rattle.ov_cert.proofs.expected_entries.add_pairs.Goals as goal

@@ -4,7 +4,7 @@ use Rattle.std.proofs.Common.{subst, inl, arith}
 use Rattle.std.specs.Prelude.{IfSome, IfNone, OnOk, Result}
 use Rattle.ov_ids.specs.Members.{Has}
 use Rattle.ov_ids.proofs.Members.{has_append_right}
-use Rattle.ov_ids.specs.declared.memory.OutOfMemory.{OutOfMemory}
+use Rattle.ov_ids.specs.declared.out_of_memory.OutOfMemory.{OutOfMemory}
 use Rattle.ov_graph.specs.Links.{LinkGraph}
 use Rattle.ov_fans.specs.declared.piece.Piece.{Piece}
 use Rattle.ov_fans.specs.declared.settled.Settled.{Settled}

@@ -1,9 +1,0 @@
-use Rattle.ov_snap.specs.Code.Kept.{core_of}
-use Rattle.ov_snap.proofs.Keeping.{filed_sound}
-use Rattle.ov_snap.proofs.event_and_report_calls.Core.file_desk.Goals as goal
-
-pub invariant_of-self-2 : goal.invariant_of-self-2
-invariant_of-self-2 c =
-    let own = c.in_ok-report.ensures in
-    filed_sound (core_of c.self.inside) c.args.self.now c.in_ok-report.report c.push.new.self c.self.view_is
-    c.self.invariant own.valid own.free c.in_ok-push.ensures.ok
