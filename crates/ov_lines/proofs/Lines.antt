@@ -1,6 +1,5 @@
 -- Lines, the words of a line, and the numbers that words spell.
 pub mod Kept
-pub mod KeptList
 pub mod Lined
 pub mod Numbers
 pub mod Numerals

@@ -1,10 +1,8 @@
-ghost use Rattle.std.specs.Prelude.{◌≡◌, ◌∷◌, [], map, IfOk, MatchOption};
+ghost use Rattle.std.specs.Prelude.{◌≡◌, ◌∷◌, [], MatchOption};
 ghost use Rattle.ov_lines.specs.Lines.{is_skipped, kept_lines};
 
 use crate::line_and_word_splitting::split_line;
 use crate::word_cursor::LineCursor;
-use ov_ids::OutOfMemory;
-use std::alloc::Global;
 use std::marker::Model;
 
 /// A line of a file that is not skipped, without its line feed and one carriage return before that.
@@ -64,20 +62,6 @@ impl<'a> KeptLines<'a> {
         }
         None
     }
-}
-
-/// The lines of a file that are not skipped, in order. Lines without a word and comments, which begin with `#`, are
-/// skipped, but counted. OutOfMemory (99) is returned where an allocation was refused.
-#[tactic(auto, using(crate::proofs::Lines::KeptList::kept_more, crate::proofs::Lines::KeptList::all_kept))]
-pub fn kept_lines(alloc: Global, bytes: &[u8]) -> Result<Vec<KeptLine<'_>>, OutOfMemory>
-    ensures { IfOk result (λ lines. map (λ l. (l.number, l.text.now)) lines.items ≡ kept_lines bytes.now) }
-{
-    let mut lines = Vec::new(alloc);
-    let mut left = KeptLines::new(bytes);
-    while let Some(line) = left.next_line() {
-        lines.push(line)?;
-    }
-    Ok(lines)
 }
 
 /// Whether a line has no word, or is a comment.
