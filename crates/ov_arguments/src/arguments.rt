@@ -132,7 +132,7 @@ impl From<ClapError> for ArgumentsFault {
 /// input. IDS are one or more ids of decimal digits and 32 bits, with commas between them. N is decimal digits, and
 /// from 1 to 64; without it there is one worker. No option may stand twice. Behind `--` an argument that begins with
 /// `-` is a file. All other arguments are refused with BadArguments (73), also those that ask for help. OutOfMemory
-/// (99) is returned where an allocation was refused. The arguments and the numbers are chosen here.
+/// (99) is returned if an allocation was refused. The arguments and the numbers are chosen here.
 pub fn read_arguments(alloc: Global, arguments: &[String]) -> Result<Request, ArgumentsFault>
     ensures group { IfOk result HasGroupOfIds }
     ensures given { IfOk result (IsOfGiven (map (λ argument. string_bytes argument) arguments.now)) }

@@ -17,7 +17,7 @@ use ov_graph::Graph;
 use ov_ids::{NodeId, OutOfMemory};
 use std::alloc::Global;
 
-/// The expected entries of a certificate for the group of all nodes. See `expected_group`. OutOfMemory (99) where an
+/// The expected entries of a certificate for the group of all nodes. See `expected_group`. OutOfMemory (99) if an
 /// allocation is refused.
 pub fn expected(alloc: Global, graph: &Graph, split: &Split) -> Result<Vec<Expected>, OutOfMemory>
     ensures { IfOk result (λ entries. AreExpected graph.now graph.now.nodes split.now.k entries.items) }

@@ -17,7 +17,7 @@ use serde_json::{Map, Value};
 use std::alloc::{AllocError, Global};
 
 /// The text of the certificate file for the group of all nodes. See `to_text_group`. The moment is at most 65,536.
-/// OutOfMemory (99) where an allocation is refused.
+/// OutOfMemory (99) if an allocation is refused.
 pub fn to_text(
     alloc: Global,
     cert: &Cert,

@@ -41,7 +41,7 @@ impl<'g> Model for Settler<'g> {
 }
 
 impl<'g> Settler<'g> {
-    /// Allocates the buffers for a graph and a group. OutOfMemory (99) where an allocation is refused.
+    /// Allocates the buffers for a graph and a group. OutOfMemory (99) if an allocation is refused.
     pub fn new(
         alloc: Global,
         graph: &'g Graph,

@@ -35,7 +35,7 @@ impl<'g> Model for Flow<'g> {
 
 impl<'g> Flow<'g> {
     /// Allocates the buffers for searches of this net, and of others of its graph. No path is held. OutOfMemory (99)
-    /// where an allocation is refused.
+    /// if an allocation is refused.
     pub fn new(alloc: Global, net: SplitNet<'g>) -> Result<Flow<'g>, OutOfMemory>
         ensures { IfOk result (λ f. f ≡ record { net = net.entry; held = 0 }) }
     {
@@ -81,7 +81,7 @@ impl<'g> Flow<'g> {
     }
 
     /// The paths that are held, which are a fan of the net. Each path is a list of places of nodes, counted from 0.
-    /// OutOfMemory (99) where an allocation is refused.
+    /// OutOfMemory (99) if an allocation is refused.
     pub fn paths(&self) -> Result<PlacePaths, OutOfMemory>
         ensures fan { IfOk result (λ ps. IsFanOf self.now.net self.now.held
             (map (map (node_at self.now.net.graph)) ps)) }

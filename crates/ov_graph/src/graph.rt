@@ -219,7 +219,7 @@ impl Graph {
         part(&self.nodes, &mut self.rows, a, b);
     }
 
-    /// An equal graph. OutOfMemory (99) where an allocation is refused.
+    /// An equal graph. OutOfMemory (99) if an allocation is refused.
     pub fn copy(&self) -> Result<Graph, OutOfMemory>
         ensures { IfOk result (λ g. g ≡ self.now) }
     {

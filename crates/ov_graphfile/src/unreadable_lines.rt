@@ -8,7 +8,7 @@ use ov_lines::KeptLines;
 use std::alloc::Global;
 
 /// All lines of a graph file that can't be read, in order. The first of them is the one that `read_graph` returns.
-/// OutOfMemory (99) is returned where an allocation was refused.
+/// OutOfMemory (99) is returned if an allocation was refused.
 #[tactic(auto, using(crate::proofs::GraphFiles::Unread::counted, crate::proofs::GraphFiles::Unread::passed, crate::proofs::GraphFiles::Unread::all_unread))]
 pub fn unread_lines(alloc: Global, bytes: &[u8]) -> Result<Vec<UnreadLine>, OutOfMemory>
     ensures { IfOk result (λ lines. map (λ l. l.line) lines.items ≡ unread_lines bytes.now) }

@@ -7,7 +7,7 @@ use std::fmt::Write;
 use std::io::Error;
 
 /// The name of a file as a person can read it on one line: a control character stands as its code, as `\u{a}` for a
-/// line feed. AllocError where an allocation is refused.
+/// line feed. AllocError if an allocation is refused.
 pub fn shown_name(alloc: Global, name: &str) -> Result<String, AllocError>
     ensures { IfOk result (λ text. string_bytes text ≡ shown_chars (chars name.now)) }
 {
@@ -19,7 +19,7 @@ pub fn shown_name(alloc: Global, name: &str) -> Result<String, AllocError>
 }
 
 /// What a person is told of a file that can't be opened: its name, as `shown_name` shows it, and the cause. AllocError
-/// where an allocation is refused.
+/// if an allocation is refused.
 pub fn unopened_text(alloc: Global, name: &str, cause: &Error) -> Result<String, AllocError>
     ensures { IfOk result (λ text. TellsUnopened (chars name.now) (string_bytes text)) }
 {
@@ -30,7 +30,7 @@ pub fn unopened_text(alloc: Global, name: &str, cause: &Error) -> Result<String,
     Ok(text)
 }
 
-/// What a person is told of an input that can't be read: its name, as `shown_name` shows it. AllocError where an
+/// What a person is told of an input that can't be read: its name, as `shown_name` shows it. AllocError if an
 /// allocation is refused.
 pub fn unread_text(alloc: Global, name: &str) -> Result<String, AllocError>
     ensures { IfOk result (λ text. string_bytes text ≡ unread_text (chars name.now)) }

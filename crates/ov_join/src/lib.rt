@@ -28,7 +28,7 @@ const STEP_SENDS: usize = MOST_ACTIVE as usize + 1;
 
 /// The effects of JOIN from a node. The node becomes active and is told JOINED, and every other active member is sent
 /// FORWARDJOIN with ARWL steps, in ascending order. At most two random words are used, and at most 17 messages are
-/// sent. OutOfMemory (99) where an allocation is refused, and then nothing has changed. (HyParView: Leitão, Pereira,
+/// sent. OutOfMemory (99) if an allocation is refused, and then nothing has changed. (HyParView: Leitão, Pereira,
 /// Rodrigues, DSN 2007, Algorithm 1; JOINED and the order are chosen here.)
 pub fn on_join(
     alloc: Global,
@@ -80,7 +80,7 @@ fn forward(moves: &mut Moves, me: NodeId, node: NodeId, ttl: u8, members: &[Node
 /// The effects of FORWARDJOIN for a new node, from another node, with `ttl` steps left. Where the walk ends here, the
 /// new node becomes active and is told JOINED. Otherwise the walk goes on with one step less to a random active
 /// member, and the new node becomes passive where PRWL steps are left. At most two random words are used, and at most
-/// two messages are sent. OutOfMemory (99) where an allocation is refused, and then nothing has changed. (HyParView:
+/// two messages are sent. OutOfMemory (99) if an allocation is refused, and then nothing has changed. (HyParView:
 /// Leitão, Pereira, Rodrigues, DSN 2007, Algorithm 1; JOINED, and that a walk which can go nowhere ends, are chosen
 /// here.)
 pub fn on_forward_join(
@@ -148,7 +148,7 @@ fn ends_here(views: &Views, others: &IdSet, ttl: u8) -> bool
 }
 
 /// The effects of JOINED from a node, which has made this one active: it becomes active here. At most two random
-/// words are used, and at most one message is sent. OutOfMemory (99) where an allocation is refused, and then nothing
+/// words are used, and at most one message is sent. OutOfMemory (99) if an allocation is refused, and then nothing
 /// has changed. (JOINED is chosen here, so that active views are symmetric.)
 pub fn on_joined(
     alloc: Global,

@@ -147,7 +147,7 @@ fn go_on(
 
 /// The effects of NEIGHBORREPLY from a node. Where the attempt waits for that node, its yes ends the attempt and makes
 /// it active, and after its no the attempt goes on. A yes from anyone else who is not active is answered by DISCONNECT.
-/// Any other reply does nothing. At most two random words are used. OutOfMemory (99) where an allocation is refused,
+/// Any other reply does nothing. At most two random words are used. OutOfMemory (99) if an allocation is refused,
 /// and then nothing has changed. (NEIGHBOR and its answer are HyParView's; how an attempt goes on is chosen here.)
 pub fn on_reply(
     alloc: Global,
@@ -193,7 +193,7 @@ pub fn on_reply(
 
 /// The effects of a report that a node crashed. The node leaves the view that has it. Where it was active, it goes
 /// down, and a new attempt begins with nobody tried, in place of one that waits. Otherwise, where the attempt waits
-/// for it, the attempt goes on. At most one random word is used. OutOfMemory (99) where an allocation is refused, and
+/// for it, the attempt goes on. At most one random word is used. OutOfMemory (99) if an allocation is refused, and
 /// then nothing has changed. (That a lost active member is replaced by a passive one is HyParView's; how an attempt
 /// goes on is chosen here.)
 pub fn on_crash_report(

@@ -92,7 +92,7 @@ impl Peer {
         }
     }
 
-    /// An equal node. Both nodes share the payloads that they hold. OutOfMemory (99) where an allocation is refused.
+    /// An equal node. Both nodes share the payloads that they hold. OutOfMemory (99) if an allocation is refused.
     pub fn copy(&self) -> Result<Peer, OutOfMemory>
         ensures { IfOk result (λ p. p ≡ self.now) }
     {

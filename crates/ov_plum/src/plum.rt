@@ -62,7 +62,7 @@ impl Plum {
         }
     }
 
-    /// An equal value. The payloads of held messages are shared. OutOfMemory (99) where an allocation is refused.
+    /// An equal value. The payloads of held messages are shared. OutOfMemory (99) if an allocation is refused.
     pub fn copy(&self) -> Result<Plum, OutOfMemory>
         ensures { IfOk result (λ p. p ≡ self.now) }
     {
@@ -108,7 +108,7 @@ impl Plum {
     }
 
     /// Plans a broadcast of the node's own, of at most 1,024 bytes, which is not its 4,097th: it is to be held,
-    /// delivered and sent on. OutOfMemory (99) where an allocation is refused.
+    /// delivered and sent on. OutOfMemory (99) if an allocation is refused.
     pub fn plan_broadcast(&self, payload: Seq<u8>) -> Result<PlumPlan, OutOfMemory>
         requires payload { length payload ≤ most_payload }
         requires made { self.now.made < most_broadcasts }
@@ -131,7 +131,7 @@ impl Plum {
     /// Plans the step at GOSSIP from a node, with a payload of at most 1,024 bytes. Where the message is held, the
     /// sender is to become lazy and to get PRUNE. Else it is to be delivered, held and sent on to all but the sender;
     /// the sender is to become eager, the notes of the message are to go, and its timer is to stop. GOSSIP from the
-    /// node itself does nothing. OutOfMemory (99) where an allocation is refused.
+    /// node itself does nothing. OutOfMemory (99) if an allocation is refused.
     pub fn plan_gossip(
         &self,
         from: NodeId,
@@ -176,7 +176,7 @@ impl Plum {
     }
 
     /// Plans the step at GRAFT from a node: it is to become eager, and to get the message where that is held. GRAFT
-    /// from the node itself does nothing. OutOfMemory (99) where an allocation is refused.
+    /// from the node itself does nothing. OutOfMemory (99) if an allocation is refused.
     pub fn plan_graft(&self, from: NodeId, id: MsgId) -> Result<PlumPlan, OutOfMemory>
         ensures { IfOk result (IsPlumPlan self.now (receives (say from (Graft id)))) }
     {
@@ -208,7 +208,7 @@ impl Plum {
 
     /// Plans the step at which the timer of an id fires. Where there is a note of the id, the oldest is to go, and its
     /// sender is to become eager and to get GRAFT. Where there is none, the timer is to stop. NoTimer (18) where the
-    /// timer does not run; OutOfMemory (99) where an allocation is refused.
+    /// timer does not run; OutOfMemory (99) if an allocation is refused.
     pub fn plan_timer(&self, id: MsgId) -> Result<PlumPlan, TimerFault>
         ensures allowed { IfOk result (IsPlumPlan self.now (fires id)) }
         ensures no_timer { result ≡ Err NoTimer ↔ set.contains self.now.running id ≡ false }
@@ -318,7 +318,7 @@ impl Plum {
     }
 
     /// Plans the step by `plan_timer`, and applies it. NoTimer (18) where the timer does not run; OutOfMemory (99)
-    /// where an allocation is refused. After a fault nothing has changed.
+    /// if an allocation is refused. After a fault nothing has changed.
     pub fn on_timer(&mut self, id: MsgId) -> Result<Spread, TimerFault>
         ensures ok { IfOk result (IsPlumStep self.old (fires id) self.new) }
         ensures no_timer { result ≡ Err NoTimer ↔ set.contains self.old.running id ≡ false }

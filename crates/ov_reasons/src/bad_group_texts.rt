@@ -8,7 +8,7 @@ use std::fmt::Write;
 /// Why the analysis of a graph file of these bytes, for this group, is answered by a refusal: the graph has no nodes
 /// (30), or the ids are no group of nodes (34). Without a group, all nodes are the group. The text ends with a line
 /// feed. None where the analysis is not refused, and where the bytes say no graph: of that `graph_reasons` tells.
-/// OutOfMemory (99) where an allocation is refused.
+/// OutOfMemory (99) if an allocation is refused.
 pub fn group_reason(
     alloc: Global,
     bytes: &[u8],

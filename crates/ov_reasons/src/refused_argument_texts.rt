@@ -29,7 +29,7 @@ Without FILE, or with -, standard input is read. Bare overlay is overlay run.
 const VERSION: &str = "overlay 1.0, proved with Rattle's logic dac8208d650f15bf\n";
 
 /// What is said of arguments that `overlay` refuses, which follow the program's name: help, the version, or what is
-/// wrong with them, with the usage. Without arguments they are those that are no UTF-8. OutOfMemory (99) where an
+/// wrong with them, with the usage. Without arguments they are those that are no UTF-8. OutOfMemory (99) if an
 /// allocation is refused.
 pub fn argument_reasons(alloc: Global, arguments: &[String]) -> Result<String, OutOfMemory> {
     let wrong = wrong_of(alloc, arguments)?;

@@ -6,7 +6,7 @@ use ov_snap::Core;
 use std::alloc::Global;
 
 /// Why a line of a scenario was refused with this number when it was run, as a sentence without a full stop. The core
-/// is as the line found it. OutOfMemory (99) where an allocation is refused.
+/// is as the line found it. OutOfMemory (99) if an allocation is refused.
 pub fn refusal_reason(
     alloc: Global,
     core: &Core,
@@ -23,12 +23,12 @@ pub fn refusal_reason(
 }
 
 /// The line that tells of a refused line of a file, by its number, and why it was refused. It ends with a line feed.
-/// OutOfMemory (99) where an allocation is refused.
+/// OutOfMemory (99) if an allocation is refused.
 pub fn refusal_line(alloc: Global, number: usize, reason: &str) -> Result<String, OutOfMemory> {
     Ok(format!(in alloc; "line {number}: {reason}\n")?)
 }
 
-/// The line that tells how many events were accepted and refused. It ends with a line feed. OutOfMemory (99) where an
+/// The line that tells how many events were accepted and refused. It ends with a line feed. OutOfMemory (99) if an
 /// allocation is refused.
 pub fn count_line(alloc: Global, accepted: u64, refused: u64) -> Result<String, OutOfMemory> {
     let events = if accepted == 1 { "event" } else { "events" };

@@ -9,7 +9,7 @@ use std::alloc::{AllocError, Global};
 use std::fmt::Write;
 
 /// What is wrong with the lines at fault of a scenario file of these bytes, 20 lines at most. What is said of a line
-/// begins with its number and ends with the line and a mark under the word at fault. OutOfMemory (99) where an
+/// begins with its number and ends with the line and a mark under the word at fault. OutOfMemory (99) if an
 /// allocation is refused.
 pub fn scenario_reasons(alloc: Global, bytes: &[u8]) -> Result<String, OutOfMemory> {
     let mut text = String::new(alloc);

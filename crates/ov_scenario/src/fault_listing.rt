@@ -9,7 +9,7 @@ use ov_ids::OutOfMemory;
 use std::alloc::Global;
 
 /// All lines of a scenario file that are at fault, in order. If there is one, the first is that of `read_scenario`.
-/// OutOfMemory (99) is returned where an allocation was refused.
+/// OutOfMemory (99) is returned if an allocation was refused.
 pub fn faulty_lines(alloc: Global, bytes: &[u8]) -> Result<Vec<FaultyLine>, OutOfMemory>
     ensures { IfOk result (λ faulty. AreFaultyLines bytes.now faulty.items) }
 {

@@ -13,7 +13,7 @@ use ov_lines::KeptLines;
 use std::alloc::Global;
 
 /// Reads a scenario file, whose form is chosen here. If a line is at fault, the first one is returned, and its fault
-/// has the number (70 or 21). OutOfMemory (99) is returned where an allocation was refused.
+/// has the number (70 or 21). OutOfMemory (99) is returned if an allocation was refused.
 pub fn read_scenario(alloc: Global, bytes: &[u8]) -> Result<Scenario, ScenarioFault>
     ensures scenario { IfOk result (λ s. IsScenario bytes.now s) }
     ensures fault { IfErr result (λ fault. IsReadingFault bytes.now fault) }

@@ -28,7 +28,7 @@ use std::alloc::Global;
 /// The effects of starting a shuffle. SHUFFLE goes to a random active member. It lists the node itself, then a sample
 /// of its active members, then a sample of its passive members, and that list is kept as `sent`. Where nobody is
 /// active nothing happens, and `sent` stays. No view changes. At most 17 random words are used. OutOfMemory (99)
-/// where an allocation is refused, and then nothing has changed. (HyParView: Leitão, Pereira, Rodrigues, DSN 2007,
+/// if an allocation is refused, and then nothing has changed. (HyParView: Leitão, Pereira, Rodrigues, DSN 2007,
 /// Section 4.4; the order of the choices is chosen here.)
 pub fn start(
     alloc: Global,
@@ -96,7 +96,7 @@ fn append(list: &mut Vec<NodeId>, ids: &[NodeId])
 /// The effects of SHUFFLE of an origin, from a node, with `ttl` steps left. It walks on to a random active member, or
 /// it ends here. Where it ends and the origin is another node, the origin is sent a sample of as many passive members
 /// as the list is long, or of all, and then the list is integrated. At most 17 random words are used: each sampled
-/// member saves the word of one id. OutOfMemory (99) where an allocation is refused, and then nothing has changed.
+/// member saves the word of one id. OutOfMemory (99) if an allocation is refused, and then nothing has changed.
 /// (HyParView: Leitão, Pereira, Rodrigues, DSN 2007, Section 4.4; that a node's own shuffle does nothing where it
 /// ends there is chosen here.)
 pub fn on_shuffle(
@@ -160,7 +160,7 @@ fn walks_on(views: &Views, ttl: u8) -> bool
 }
 
 /// The effects of SHUFFLEREPLY from a node. The list is integrated, and the members that this node sent are given up
-/// first. Nothing is sent. At most 17 random words are used. OutOfMemory (99) where an allocation is refused, and
+/// first. Nothing is sent. At most 17 random words are used. OutOfMemory (99) if an allocation is refused, and
 /// then nothing has changed. (HyParView: Leitão, Pereira, Rodrigues, DSN 2007, Section 4.4.)
 pub fn on_reply(
     alloc: Global,

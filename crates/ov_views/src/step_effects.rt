@@ -17,7 +17,7 @@ impl Moves {
     ghost use Rattle.ov_views.specs.Room.{HasRoom};
 
     /// No moves, with room for so many sends and for two changes. A handler makes all its room so before it changes
-    /// anything. OutOfMemory (99) where an allocation is refused.
+    /// anything. OutOfMemory (99) if an allocation is refused.
     pub fn with_room(alloc: Global, sends: usize) -> Result<Moves, OutOfMemory>
         ensures sends { IfOk result (λ m. m.sends.items ≡ []) }
         ensures changes { IfOk result (λ m. m.changes.items ≡ []) }

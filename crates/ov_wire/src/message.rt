@@ -75,7 +75,7 @@ pub enum Body {
 }
 
 impl Body {
-    /// An equal body. OutOfMemory (99) where an allocation is refused, and only at the kinds 7, 8 and 9, which have a
+    /// An equal body. OutOfMemory (99) if an allocation is refused, and only at the kinds 7, 8 and 9, which have a
     /// list or a payload.
     pub fn copy(&self, alloc: Global) -> Result<Body, OutOfMemory>
         ensures ok { IfOk result (λ body. body ≡ self.now) }
@@ -122,7 +122,7 @@ impl Body {
 }
 
 impl Message {
-    /// An equal message. OutOfMemory (99) where an allocation is refused, and only at the kinds 7, 8 and 9, which have
+    /// An equal message. OutOfMemory (99) if an allocation is refused, and only at the kinds 7, 8 and 9, which have
     /// a list or a payload.
     pub fn copy(&self, alloc: Global) -> Result<Message, OutOfMemory>
         ensures ok { IfOk result (λ m. m ≡ self.now) }

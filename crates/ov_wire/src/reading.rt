@@ -240,7 +240,7 @@ fn message_of(alloc: Global, bytes: &[u8]) -> Result<Message, WireFault>
 }
 
 /// The message that the bytes spell. Where they spell none, the fault of the first wrong field from the left.
-/// OutOfMemory (99) where an allocation is refused, and only where the bytes spell a message with a list or a payload.
+/// OutOfMemory (99) if an allocation is refused, and only where the bytes spell a message with a list or a payload.
 pub fn decode(alloc: Global, bytes: &[u8]) -> Result<Message, WireFault>
     // The bytes spell the message that is returned.
     ensures ok { IfOk result (λ m. Spelling m bytes.now × AreInRange m) }

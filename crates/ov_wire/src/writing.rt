@@ -103,7 +103,7 @@ fn put_body(out: &mut Vec<u8>, body: &Body) -> Result<(), AllocError>
     }
 }
 
-/// The bytes that spell the message, whose fields must be within their ranges. OutOfMemory (99) where an allocation is
+/// The bytes that spell the message, whose fields must be within their ranges. OutOfMemory (99) if an allocation is
 /// refused.
 pub fn encode(alloc: Global, message: &Message) -> Result<Vec<u8>, OutOfMemory>
     requires { AreInRange message.now }

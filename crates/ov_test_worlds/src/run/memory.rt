@@ -1,4 +1,4 @@
-//! What a run prints where an allocation is refused.
+//! What a run prints if an allocation is refused.
 use super::runs::{TWO_JOIN, TWO_JOIN_PRINTS};
 use ov_io::{Sink, Source};
 use ov_run::{RunFault, run};
