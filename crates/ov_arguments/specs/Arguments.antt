@@ -17,7 +17,7 @@ use Rattle.ov_arguments.specs.declared.arguments.Request.TheVariants.{Run, Analy
 use Rattle.ov_arguments.specs.declared.arguments.ArgumentsFault.{ArgumentsFault}
 use Rattle.ov_arguments.specs.declared.arguments.ArgumentsFault.TheVariants.{BadArguments, OutOfMemory}
 
--- ---- what stands in the arguments, in the words of `clap`, which says what a command finds in which arguments
+-- ---- what is in the arguments, in the words of `clap`, which says what a command finds in which arguments
 
 -- an option with a text, `--NAME TEXT` or `--NAME=TEXT`
 abbrev pub option : List ℕ → Rule
@@ -53,28 +53,28 @@ overlay_command =
 abbrev pub command_given : List (List ℕ) → Option (List ℕ)
 command_given arguments = option_map (λ found. found.0) (subcommand_of overlay_command arguments)
 
--- the text of a file or an option of this name, where the arguments give it. A flag that they give has the text `true`
+-- the text of a file or an option of this name, if the arguments give it. A flag that they give has the text `true`
 abbrev pub text_given : List (List ℕ) → List ℕ → Option (List ℕ)
 text_given arguments name = subcommand_of overlay_command arguments >>= λ found. first_of name found.1
 
 -- ---- what is asked for
 
--- where an analysis for a group is asked for, the group is of one or more ids
+-- if an analysis for a group is asked for, the group has one or more ids
 abbrev pub HasGroupOfIds : Request → Type 0
 HasGroupOfIds (Run file explain) = ⊤
 HasGroupOfIds (Analyse file analysis) = IfSome analysis.group (λ ids. 0 < length ids.items)
 
--- the group that the text of `--group` asks for, and no group, for all nodes, where it is not there
+-- the group that the text of `--group` asks for, and no group, for all nodes, if it is not there
 abbrev pub group_asked : Option (List ℕ) → Option (Option (List ℕ))
 group_asked None = Some None
 group_asked (Some text) = option_map Some (ids_of text)
 
--- the number of workers that the text of `--workers` asks for, and one where it is not there
+-- the number of workers that the text of `--workers` asks for, and one if it is not there
 abbrev pub workers_asked : Option (List ℕ) → Option ℕ
 workers_asked None = Some 1
 workers_asked (Some text) = workers_of text
 
--- the file that the text of FILE asks for, and none, for standard input, where it is `-` or not there
+-- the file that the text of FILE asks for, and none, for standard input, if it is `-` or not there
 abbrev pub file_asked : Option (List ℕ) → Option (List ℕ)
 file_asked None = None
 file_asked (Some text) = if bytes_eq text (codes "-") then None else Some text

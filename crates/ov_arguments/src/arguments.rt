@@ -24,7 +24,7 @@ use std::io::ErrorKind as IoErrorKind;
 /// What the arguments of a command line ask for. Without a file, standard input is read.
 #[derive(Debug, PartialEq, Eq, Drop)]
 pub enum Request {
-    /// To run a scenario file. `explain` asks to tell why lines are refused.
+    /// To run a scenario file. `explain` asks to print why lines are refused.
     Run {
         file: Option<String>,
         explain: bool,
@@ -45,7 +45,7 @@ pub struct AnalysisRequest {
     pub workers: Workers,
     /// Whether the certificate file is asked for too.
     pub certificate: bool,
-    /// Whether it is to be told how far the analysis has come.
+    /// Whether to print how far the analysis has come.
     pub progress: bool,
 }
 
@@ -130,7 +130,7 @@ impl From<ClapError> for ArgumentsFault {
 /// Reads the arguments that follow the program's name: `run [FILE] [--explain]` or `analyse [FILE] [--group IDS]
 /// [--workers N] [--certificate] [--progress]`. No argument asks for `run`. A file that is absent or `-` is standard
 /// input. IDS are one or more ids of decimal digits and 32 bits, with commas between them. N is decimal digits, and
-/// from 1 to 64; without it there is one worker. No option may stand twice. Behind `--` an argument that begins with
+/// from 1 to 64; without it there is one worker. No option may be given twice. After `--` an argument that begins with
 /// `-` is a file. All other arguments are refused with BadArguments (73), also those that ask for help. OutOfMemory
 /// (99) is returned if an allocation was refused. The arguments and the numbers are chosen here.
 pub fn read_arguments(alloc: Global, arguments: &[String]) -> Result<Request, ArgumentsFault>
@@ -150,7 +150,7 @@ pub fn read_arguments(alloc: Global, arguments: &[String]) -> Result<Request, Ar
     }
 }
 
-/// What a command asks for, by what was found behind it.
+/// What a command asks for, by what was found after it.
 fn request_of(alloc: Global, command: &str, found: &ArgMatches) -> Result<Request, ArgumentsFault>
     ensures group { IfOk result HasGroupOfIds }
     ensures asked { IfOk result (IsAsked (Some command.now) (first_value (found_of found.now))) }
@@ -166,7 +166,7 @@ fn request_of(alloc: Global, command: &str, found: &ArgMatches) -> Result<Reques
     })
 }
 
-/// The analysis that is asked for, by what was found behind the command.
+/// The analysis that is asked for, by what was found after the command.
 fn analysis_of(alloc: Global, found: &ArgMatches) -> Result<Request, ArgumentsFault>
     ensures group { IfOk result HasGroupOfIds }
     ensures asked { IfOk result (IsAsked (Some (codes "analyse")) (first_value (found_of found.now))) }
@@ -195,7 +195,7 @@ fn command<'a>(alloc: Global) -> Result<Command<'a>, AllocError>
         .subcommand(analyse_command(alloc)?)
 }
 
-/// The arguments behind `run`.
+/// The arguments after `run`.
 fn run_command<'a>(alloc: Global) -> Result<Command<'a>, AllocError>
     ensures { IfOk result (λ c. app_of c ≡ run_command) }
 {
@@ -204,7 +204,7 @@ fn run_command<'a>(alloc: Global) -> Result<Command<'a>, AllocError>
         .arg(flag(alloc, "explain"))
 }
 
-/// The arguments behind `analyse`.
+/// The arguments after `analyse`.
 fn analyse_command<'a>(alloc: Global) -> Result<Command<'a>, AllocError>
     ensures { IfOk result (λ c. app_of c ≡ analyse_command) }
 {

@@ -46,7 +46,7 @@ pub record IsExchange (Step : DeskState → DeskState → Type 0) (old new : Sea
   pub has : HasWorker t new.number new.worker
   pub step : Step s t
 
--- the claims of a closed board: each seat's worker stands at its number, each worker is that of a seat, and the work is
+-- the claims of a closed board: each seat's worker is at its number, each worker is that of a seat, and the work is
 -- done. `lowest` is the lowest number that failed, or the total if no number failed
 pub record IsClosed (b : BoardState) (seats : List SeatState) (lowest : ℕ) : Type 0 where
   pub s : DeskState

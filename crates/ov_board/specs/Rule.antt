@@ -20,7 +20,7 @@ abbrev pub times : ℕ → List Numbered → ℕ
 times w = count_by (λ q. q.0 == w)
 
 -- the words show claims of a board of this size. The workers of all views are exactly the workers of the claims: each
--- stands at its number, each number has one, and no worker is left over
+-- is at its number, each number has one, and no worker is left over
 pub record ShowsClaims (p : BoardSize) (t : State (Unit {0}) SeatView) : Type 0 where
   pub claims : DeskState
   pub words : t.words ≡ claims.next ∷ claims.least ∷ []

@@ -1,4 +1,4 @@
-// The rule of a board's words, and what the exchanges tell.
+// The rule of a board's words, and what the exchanges say.
 use crate::ghost_views::{BoardSize, SeatView};
 use atomic_table::{Join, Play, Split, TableRule};
 use std::marker::{Brand, PhantomData};

@@ -1,4 +1,4 @@
--- Words that several definitions use.
+-- Definitions that several others use.
 use Rattle.std.specs.Prelude.{ℕ, Bool, List, nat_eq}
 use Rattle.std.specs.Cmp.Lexicographic.{pointwise}
 

@@ -19,8 +19,8 @@ pub enum FileFault {
     NotJson(NoJson),
     /// 61: this key is missing.
     MissingKey(Key),
-    /// 62: there is a key that a file of this version and verdict must not have. It stands at this place among the keys
-    /// of the file, in the order of their bytes, counted from 0.
+    /// 62: there is a key that a file of this version and verdict must not have. It is at this place among the keys of
+    /// the file, in the order of their bytes, counted from 0.
     UnknownKey {
         at: usize,
         version: Version,
@@ -39,7 +39,7 @@ pub enum FileFault {
 /// The value that does not have its form.
 #[derive(Clone, Copy)]
 pub struct BadValue {
-    /// The key at which it stands. None: it is the file, which is no object.
+    /// The key at which it is. None: it is the file itself, which is no object.
     pub key: Option<Key>,
     /// Where in the value the form is broken.
     pub misfit: Misfit,

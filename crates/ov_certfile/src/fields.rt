@@ -16,7 +16,7 @@ use ov_ids::{NUMBER_LIMIT, NodeId, Seq};
 use serde_json::{Map, Value, json, put};
 use std::alloc::{AllocError, Global};
 
-/// A type whose values stand in a file. `form` reads a JSON value as such a field, if the value has its form. `as_data`
+/// A type whose values are in a file. `form` reads a JSON value as such a field, if the value has its form. `as_data`
 /// is the value that is written for a field.
 pub(crate) trait Field: Drop {
     ghost use Rattle.std.specs.Prelude.{◌≡◌, Option, IfOk, OnOk, Some};
@@ -28,7 +28,7 @@ pub(crate) trait Field: Drop {
 
     ghost as_data: { Self → Data };
 
-    /// The field that the value stands for. A misfit if the value does not have the form.
+    /// The field that the value represents. A misfit if the value does not have the form.
     fn from_value(alloc: Global, value: &Value) -> Result<Self, ValueFault>
     where
         Self: Sized,

@@ -29,7 +29,7 @@ pub enum Key {
 }
 
 impl Key {
-    /// The name by which the key stands in a file.
+    /// The name of the key in a file.
     pub fn name(self) -> &'static str
         ensures { result.now ≡ name_of self }
     {

@@ -16,14 +16,14 @@ pub enum NoJson {
 }
 
 impl NoJson {
-    /// Bytes of which so many first ones are UTF-8, and no more.
+    /// Why bytes are not JSON, if the first `valid` of them are UTF-8, and no more.
     pub fn no_text(valid: usize) -> NoJson {
         NoJson::NoText {
             byte: valid.saturating_add(1),
         }
     }
 
-    /// Why a text is not JSON, which is not read with this error.
+    /// Why a text is not JSON, if reading it failed with this error.
     pub(crate) fn of(text: &str, error: &Error) -> NoJson {
         if text.is_empty() {
             return NoJson::Empty;

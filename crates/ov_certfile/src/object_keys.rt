@@ -20,7 +20,7 @@ pub fn is_among(keys: &[Key], text: &str) -> bool
     false
 }
 
-/// The first of these keys that a value lacks. One that is no object has none.
+/// The first of these keys that a value lacks. A value that is no object lacks all keys.
 pub(crate) fn first_missing(keys: &[Key], value: &Value) -> Option<Key>
     ensures { result ≡ first_failing (λ key. has_key (name_of key) (view value.now)) keys.now }
 {

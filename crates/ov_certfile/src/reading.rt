@@ -79,7 +79,7 @@ pub fn json_in(alloc: Global, text: &str) -> Result<Value, FileFault>
     }
 }
 
-/// Reads a certificate file, of which the JSON value was read. The faults are those of `from_text` but for NotJson.
+/// Reads a certificate file from its JSON value. The faults are those of `from_text`, except NotJson.
 pub fn from_value(alloc: Global, value: &Value) -> Result<Filed, FileFault>
     ensures { result ≢ Err FileFault.OutOfMemory → SaysFile (view value.now) result }
 {
@@ -155,7 +155,7 @@ fn named_group(
     }
 }
 
-/// The graph of these nodes and links, of which the version allows so many.
+/// The graph of these nodes and links, if the version allows this many nodes.
 fn graph(
     alloc: Global,
     version: Version,

@@ -29,7 +29,7 @@ pub enum Wanted {
     Object,
     /// It must have this key.
     Key(Key),
-    /// It must have no other keys. Such a key stands at this place among its keys, in the order of their bytes.
+    /// It must have no other keys. Such a key is at this place among its keys, in the order of their bytes.
     NoOther(usize),
     /// It must be an array.
     List,
@@ -62,7 +62,7 @@ impl Misfit {
         Misfit { steps, wanted }
     }
 
-    /// The same, told from the value one step farther out.
+    /// The same, as seen from the value one step farther out.
     pub(crate) fn behind(self, step: Step) -> Misfit {
         let steps = Steps {
             first: Some(step),

@@ -1,8 +1,8 @@
 ghost use Rattle.std.specs.Prelude.{◌≡◌};
 ghost use Rattle.ov_certfile.specs.Kinds.{verdict_text};
 
-/// What a file claims of its group: every two members are linked, or some nodes split the group. It stands at the key
-/// `verdict`.
+/// What a file claims of its group: every two members are linked, or some nodes split the group. It is the value at the
+/// key `verdict`.
 #[derive(Clone, Copy, Debug, PartialEq, Eq)]
 pub enum Verdict {
     /// Every two members are linked.

@@ -6,7 +6,7 @@ use ov_graph::Graph;
 /// The highest number of nodes in a file of version 1.
 const MOST_NODES_OF_ONE: usize = 256;
 
-/// The version of a file. Its number stands at the key `version`.
+/// The version of a file. Its number is the value at the key `version`.
 #[derive(Clone, Copy, Debug, PartialEq, Eq)]
 pub enum Version {
     /// The group is all nodes, at most 256.

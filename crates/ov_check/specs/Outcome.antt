@@ -38,7 +38,7 @@ AreAlike (Refused r) (Refused s) = kind_of r.fault ≡ kind_of s.fault
 AreAlike o u = ⊥
 
 -- The number of the file is exact: the size of the smallest set of nodes that splits the group, or one less than the
--- number of its members where every two are linked.
+-- number of its members if every two are linked.
 abbrev pub SaysExactNumber : List ℕ → Type 0
 SaysExactNumber bytes = (f : Filed) × BytesSay bytes (Ok f) × FewestForGroup f.graph f.group (k_of f.cert)
 

@@ -14,7 +14,7 @@ abbrev pub number_of : ParallelFault → ℕ
 number_of (Check fault) = check_fault.number_of fault
 number_of OutOfMemory = 99
 
--- the result says the verdict: none where it is Ok, and else the fault that it names; out of memory says nothing
+-- the result says the verdict: no fault if it is Ok, otherwise the fault that it names; out of memory says nothing
 abbrev pub SaysVerdict : (Option CheckFault → Type 0) → Result (Unit {0}) ParallelFault → Type 0
 SaysVerdict IsVerdict (Ok u) = IsVerdict None
 SaysVerdict IsVerdict (Err (Check fault)) = IsVerdict (Some fault)

@@ -10,14 +10,14 @@ use Rattle.ov_check.specs.Faults.{number_of}
 use Rattle.ov_check.specs.Line.{printed_of}
 use Rattle.ov_check.specs.Outcome.{IsOutcome, SaysExactNumber, status_of}
 
--- the bytes that were read have this outcome; `reader` are the bytes that the reader had, where they are known
+-- the bytes that were read have this outcome; `reader` are the bytes that the reader had, if they are known
 pub record Judgement (reader : Option (List ℕ)) (outcome : Outcome) : Type 0 where
   pub bytes : List ℕ
   pub read : IfSome reader (λ xs. bytes ≡ xs)
   pub comes_to : IsOutcome bytes outcome
 
--- The line of the outcome was appended to what the writer holds. The status is that of the outcome, and where it is 0
--- the number of the file is exact.
+-- The line of the outcome was appended to what the writer holds. The status is that of the outcome, and if it is 0, the
+-- number of the file is exact.
 pub record Prints (reader before after : Option (List ℕ)) (status : ℕ) : Type 0 where
   pub outcome : Outcome
   pub judgement : Judgement reader outcome
@@ -32,9 +32,9 @@ pub record PrintsPrefix (reader before after : Option (List ℕ)) : Type 0 where
   pub prefix : AppendsPrefixOf (printed_of outcome) before after
 
 -- A run, from a source and a sink to what they are after it. `remaining` are the bytes that a reader still has, and
--- `contents` those that a writer holds, where they are known. Read is returned where the reader failed in this run, and
--- Write where the writer did. After Read and OutOfMemory nothing was written, and after Write a prefix of the line was.
--- After Ok and Write the reader is at its end.
+-- `contents` those that a writer holds, if they are known. Read is returned only if the reader failed in this run, and
+-- Write only if the writer did. After Read and OutOfMemory nothing was written, and after Write a prefix of the line
+-- was. After Ok and Write the reader is at its end.
 pub record IsRun {R W : Type 0} (remaining : R → Option (List ℕ)) (contents : W → Option (List ℕ))
     (source : SourceState R) (sink : SinkState W) (source_after : SourceState R) (sink_after : SinkState W)
     (result : Result ℕ JudgeFault) : Type 0 where

@@ -85,7 +85,7 @@ fn named_by(argument: &[u8]) -> Result<Option<&str>, ProgramFault>
     }
 }
 
-/// What a person is told where the arguments name no input.
+/// What is printed for a person if the arguments name no input.
 pub fn why_no_input(fault: &ProgramFault) -> &'static str
     ensures { result.now ≡ no_input_text fault.now }
 {
@@ -96,8 +96,8 @@ pub fn why_no_input(fault: &ProgramFault) -> &'static str
     }
 }
 
-/// What a person is told where the judge failed: that its input, of this name, can't be read; that writing failed; or
-/// that memory was short. Only the first takes memory.
+/// What is printed for a person if the judge failed: that its input, of this name, can't be read; that writing failed;
+/// or that memory was short. Only the first takes memory.
 ///
 /// `OutOfMemory` (99): an allocation was refused.
 pub fn failure_text(
@@ -115,7 +115,7 @@ pub fn failure_text(
     }
 }
 
-/// The program's status: that of the judge, 2 where there are too many arguments, and 1 after a fault.
+/// The program's status: that of the judge, 2 if there are too many arguments, and 1 after a fault.
 pub fn exit_status(answer: &Result<u8, ProgramFault>) -> u8
     ensures { result ≡ exit_status answer.now }
 {

@@ -14,8 +14,8 @@ use std::io::{Read, Write};
 use std::thread::Threads;
 
 /// Reads a certificate file to its end and judges it. Writes the line of its outcome, ended by a line feed, and returns
-/// the program's status: 0 where the certificate holds, so that its number is exact for its group, and 1 where it fails
-/// or the file is refused.
+/// the program's status: 0 if the certificate holds, so that its number is exact for its group, and 1 if it fails or
+/// the file is refused.
 ///
 /// `Read` (71): the reader failed in this call, and nothing was written. `Write` (72): the writer failed in this call,
 /// and a prefix of the line was written. `OutOfMemory` (99): an allocation was refused, and nothing was written.
@@ -33,7 +33,7 @@ pub fn judge<R: Read, W: Write>(
     write_line(alloc, &outcome, sink)
 }
 
-/// As `judge`, by as many threads as `rayon` takes.
+/// Does what `judge` does, by as many threads as `rayon` uses.
 pub fn judge_parallel<R: Read, W: Write>(
     rt: &(impl AllocGlobal + Threads + Sync),
     source: &mut Source<R>,
@@ -47,7 +47,7 @@ pub fn judge_parallel<R: Read, W: Write>(
     Ok(judged.status())
 }
 
-/// As `judge_parallel`. The outcome is returned, whose status is the program's.
+/// Does what `judge_parallel` does, but returns the outcome, whose status is the program's.
 pub fn judge_kept<R: Read, W: Write>(
     rt: &(impl AllocGlobal + Threads + Sync),
     source: &mut Source<R>,

@@ -45,8 +45,8 @@ impl Refusal {
     }
 }
 
-/// The outcome of the bytes of a file. Where the certificate holds, its number is exact for its group. Bytes that are
-/// not text are refused as `NotJson` (60).
+/// The outcome of the bytes of a file. If the certificate holds, its number is exact for its group. Bytes that are not
+/// text are refused as `NotJson` (60).
 ///
 /// `OutOfMemory` (99): an allocation was refused.
 #[tactic(auto, using(crate::proofs::Outcomes::one_outcome))]
@@ -61,7 +61,7 @@ pub fn outcome_of(alloc: Global, bytes: &[u8]) -> Result<Outcome, OutOfMemory>
     }
 }
 
-/// As `outcome_of`, by many threads.
+/// Does what `outcome_of` does, by many threads.
 pub(crate) fn outcome_parallel(
     rt: &(impl AllocGlobal + Threads + Sync),
     bytes: &[u8],
@@ -128,7 +128,7 @@ fn judge_file(filed: Filed) -> Outcome
     }
 }
 
-/// As `judge_file`, by many threads.
+/// Does what `judge_file` does, by many threads.
 fn judge_file_parallel(
     rt: &(impl AllocGlobal + Threads + Sync),
     filed: Filed,
@@ -145,7 +145,7 @@ fn judge_file_parallel(
 }
 
 impl Outcome {
-    /// The program's status: 0 where the certificate holds, and else 1.
+    /// The program's status: 0 if the certificate holds, otherwise 1.
     pub fn status(&self) -> u8
         ensures { result ≡ status_of self.now }
     {

@@ -19,11 +19,11 @@ use rayon::prelude::*;
 use std::alloc::Global;
 use std::thread::Threads;
 
-/// The fewest entries that a thread judges. Fewer than twice as many are judged by one thread: starting another takes
-/// longer than they do.
+/// The fewest entries that a thread judges. One thread judges all entries if there are fewer than twice this number:
+/// starting another thread takes longer than judging them.
 const LEAST_SHARE: usize = 32;
 
-/// Judges a certificate for the group of all nodes by many threads: as `check_group_parallel` for that group.
+/// Judges a certificate for the group of all nodes by many threads. See `check_group_parallel`.
 pub fn check_parallel(
     rt: &(impl AllocGlobal + Threads + Sync),
     graph: &Graph,
@@ -37,11 +37,11 @@ pub fn check_parallel(
     check_group_parallel(rt, graph, graph.nodes(), cert)
 }
 
-/// Judges a certificate for a group, its entries by as many threads as `rayon` takes. The result is that of
+/// Judges a certificate for a group. The entries are judged by as many threads as `rayon` uses. The result is that of
 /// `check_group`, with the same first fault.
 ///
-/// `OutOfMemory` (99): an allocation was refused. This can be only where there are entries to judge: the certificate
-/// says that k nodes split the group, k is not 0, and the frame has no fault.
+/// `OutOfMemory` (99): an allocation was refused. This happens only if there are entries to judge: the certificate says
+/// that k nodes split the group, k is not 0, and the frame has no fault.
 pub fn check_group_parallel(
     rt: &(impl AllocGlobal + Threads + Sync),
     graph: &Graph,
@@ -99,7 +99,7 @@ fn judge_entries(
     Ok(())
 }
 
-/// The expected entries. Where k is 0 there are none, and nothing is allocated.
+/// The expected entries. If k is 0, there are none, and nothing is allocated.
 #[tactic(auto, using(crate::proofs::Placed::none_expected))]
 fn entries_of(
     alloc: Global,
@@ -161,7 +161,7 @@ fn count_fans(group: &[NodeId], k: usize) -> usize
     }
 }
 
-/// Whether there are no more entries than so many pairs and fans.
+/// Whether there are no more entries of pairs, and no more of fans, than these numbers.
 fn has_no_more(split: &Split, pairs: usize, fans: usize) -> bool
     ensures { IsTrue result ↔ ((length split.now.pairs ≤ pairs) × (length split.now.fans ≤ fans)) }
 {

@@ -27,7 +27,7 @@ pub record DeskState : Type 0 where
 abbrev pub most_workers : ℕ
 most_workers = 64
 
--- so many workers may share out numbers
+-- this many workers may share out numbers
 abbrev pub MayWork : ℕ → Type 0
 MayWork n = (1 ≤ n) × (n ≤ most_workers)
 

@@ -27,7 +27,7 @@ impl Workers {
     /// How many there may be, at most.
     const MOST: u32 = 64;
 
-    /// This many workers. None is returned where they are none, or more than 64.
+    /// This many workers. None is returned if the number is 0, or above 64.
     pub fn new(count: u32) -> Option<Workers>
         ensures some { IfSome result (λ w. (w ≡ count) × MayWork count) }
         ensures none { IfNone result (¬ MayWork count) }
@@ -46,7 +46,7 @@ impl Workers {
         self.0
     }
 
-    /// As many of these workers as `most` allows, and one at least.
+    /// These workers, but at most `most` of them, and at least one.
     pub fn at_most(self, most: u64) -> Workers
         ensures number { result ≡ max (min self most) 1 }
         ensures few { result ≤ self }

@@ -23,9 +23,9 @@ ArePiecesOf g q first (x ∷ numbers) [] = ⊥
 ArePiecesOf g q first (x ∷ numbers) (s ∷ pieces) =
     IsNumbered (length g.nodes) (length q) (first + x) s.piece × ArePiecesOf g q first numbers pieces
 
--- what a worker has settled of the pieces with the numbers from `first` on: its number x on the board stands for the
--- piece of number first + x. It has the pieces of the numbers that it worked on, in order, and no others. All results
--- are right. Its failed numbers are exactly those settled with a cut
+-- what a worker has settled of the pieces with the numbers from `first` on: its number x on the board means the piece
+-- of number first + x. It has the pieces of the numbers that it worked on, in order, and no others. All results are
+-- right. Its failed numbers are exactly those settled with a cut
 pub record IsHaulOf (g : LinkGraph) (q : List ℕ) (first : ℕ) (v : WorkerState) (pieces : List Settled) : Type 0 where
   pub right : (s : Settled) → Has pieces s → IsPiece g q s.piece × IsRight g q s
   pub numbers : List ℕ

@@ -38,10 +38,10 @@ pub fn analyse<R: Threads + Sync, G: Gate>(
     analyse_group(rt, alloc, graph, graph.nodes(), workers, gate)
 }
 
-/// Finds the fewest node crashes that split a group, and a certificate that proves the number (Even, SIAM J. Comput.
-/// 4, 1975). There are 1 to 64 workers, each in a thread of its own. All of them try each level, and each passes the
-/// gate with each number that it claims. Faults, in this order: NoNodes (30), the graph has no node; BadGroup (34), the
-/// members are no group. OutOfMemory (99) is returned only where neither applies.
+/// Finds the fewest node crashes that split a group, and a certificate that proves the number (Even, SIAM J. Comput. 4,
+/// 1975). There are 1 to 64 workers, each in a thread of its own. All of them try each level, and each passes the gate
+/// with each number that it claims. Faults, in this order: NoNodes (30), the graph has no node; BadGroup (34), the
+/// members are no group. OutOfMemory (99) is returned only if neither applies.
 pub fn analyse_group<R: Threads + Sync, G: Gate>(
     rt: &R,
     alloc: Global,
@@ -59,9 +59,9 @@ pub fn analyse_group<R: Threads + Sync, G: Gate>(
     analyse_by(rt, alloc, graph, group, &hiring, gate, &mut Unwatched)
 }
 
-/// Does what `analyse_group` does, but a level gets only as many of the workers as its paths pay for. The watcher is
-/// told of each level before it is tried, with place 0. One worker works in the caller's thread and passes no gate, and
-/// the watcher is then told of each piece.
+/// Does what `analyse_group` does, but a level with few paths gets fewer workers. The watcher sees each level before it
+/// is tried, with place 0. One worker works in the caller's thread and passes no gate, and the watcher then sees each
+/// piece.
 pub fn analyse_group_watched<R: Threads + Sync, G: Gate, W: Watcher>(
     rt: &R,
     alloc: Global,

@@ -4,10 +4,10 @@ ghost use Rattle.std.specs.Prelude.{◌≡◌, ◌<◌, ◌≤◌, false};
 use ov_claims::Workers;
 use ov_even::FoundPaths;
 
-/// How many paths must be sought before one thread more pays.
+/// How many paths must be sought before one more thread saves time.
 const PATHS_WORTH_A_THREAD: u64 = 1024;
 
-/// How many paths must be named by ids before one thread more pays.
+/// How many paths must be named by ids before one more thread saves time.
 const NAMES_WORTH_A_THREAD: u64 = 4096;
 
 /// How many workers try each level.
@@ -15,7 +15,7 @@ const NAMES_WORTH_A_THREAD: u64 = 4096;
 pub(crate) struct Hiring {
     /// At most this many.
     pub(crate) workers: Workers,
-    /// Whether a level gets only as many workers as its paths pay for. Otherwise each level gets all workers.
+    /// Whether a level with few paths gets fewer workers. Otherwise each level gets all workers.
     pub(crate) sparing: bool,
 }
 

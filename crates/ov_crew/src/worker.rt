@@ -19,9 +19,9 @@ use ov_graph::Graph;
 use ov_ids::{NodeId, OutOfMemory};
 use std::alloc::Global;
 
-/// Settles pieces with the numbers from `first` on: number x on the board stands for the piece of number `first + x`.
-/// The worker ends when no number is left, or a number below its own has failed. It waits for nobody but the gate. If
-/// it is out of memory, it returns the seat with the claims made so far.
+/// Settles pieces with the numbers from `first` on: number x on the board means the piece of number `first + x`. The
+/// worker ends when no number is left, or a number below its own has failed. It waits for nothing but the gate. If it
+/// is out of memory, it returns the seat with the claims made so far.
 pub fn work_range<G: Gate>(
     alloc: Global,
     board: &Board,

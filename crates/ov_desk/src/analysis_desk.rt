@@ -243,7 +243,7 @@ fn total_to_share(graph: &Graph, group: &[NodeId]) -> u64
     group_total(graph.nodes().len(), group.len())
 }
 
-/// The hands of so many workers, all empty.
+/// The hands of this many workers, all empty.
 fn empty_hands(alloc: Global, workers: Workers) -> Result<Vec<Hand>, OutOfMemory>
     ensures { IfOk result (λ hands. hands.items ≡ replicate workers nothing) }
 {
@@ -254,7 +254,7 @@ fn empty_hands(alloc: Global, workers: Workers) -> Result<Vec<Hand>, OutOfMemory
     Ok(hands)
 }
 
-/// The hauls of so many workers, all without pieces.
+/// The hauls of this many workers, all without pieces.
 fn empty_hauls(alloc: Global, workers: Workers) -> Result<Vec<Haul>, OutOfMemory>
     ensures { IfOk result (λ hauls. pieces_in hauls.items ≡ replicate workers []) }
 {

@@ -1,5 +1,5 @@
--- The certificate that an analysis returns for a graph and a group. The paths in it are left open: any paths will do
--- that make the certificate valid.
+-- The certificate that an analysis returns for a graph and a group. The paths in it are left open: any paths that make
+-- the certificate valid will do.
 use Rattle.std.specs.Prelude.{◌≡◌, ℕ, ◌+◌, List, length, Result, IfOk, IfErr}
 use Rattle.ov_ids.specs.FaultOrder.{IsRefusedBy}
 use Rattle.ov_graph.specs.Links.{LinkGraph, AreAllLinked}

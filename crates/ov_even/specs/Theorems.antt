@@ -45,6 +45,6 @@ AreAlike (cert.Split c) (cert.Split d) = SameSplit c d
 AreAlike (cert.Linked k) (cert.Split d) = ⊥
 AreAlike (cert.Split c) (cert.Linked l) = ⊥
 
--- a graph and a group have one answer, apart from the paths, whoever computes it
+-- a graph and a group have one answer, apart from the paths, whatever computes it
 abbrev pub OneAnswer : Type 0
 OneAnswer = (g : LinkGraph) (q : List ℕ) (c d : Cert) → IsGraph g → IsAnswer g q c → IsAnswer g q d → AreAlike c d

@@ -33,8 +33,8 @@ pub fn analyse_group_alone(
 }
 
 /// Finds the fewest node crashes that split a group, and a certificate that proves the number (Even, SIAM J. Comput. 4,
-/// 1975). The watcher is told of each piece before it is settled. Faults, in this order: NoNodes (30), the graph has no
-/// node; BadGroup (34), the members are no group. OutOfMemory (99) is returned only where neither applies.
+/// 1975). The watcher sees each piece before it is settled. Faults, in this order: NoNodes (30), the graph has no node;
+/// BadGroup (34), the members are no group. OutOfMemory (99) is returned only if neither applies.
 pub fn analyse_group_watched<W: Watcher>(
     alloc: Global,
     graph: &Graph,

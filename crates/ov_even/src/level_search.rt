@@ -174,7 +174,7 @@ fn next_level(low: usize, high: usize) -> usize
     (high - 1).min((2 * low).max(1))
 }
 
-/// The first guess of the deciding level: one more than the least degree of a member, and below the number of nodes.
+/// The first guess of the deciding level: one more than the lowest degree of a member, and below the number of nodes.
 fn first_guess(graph: &Graph, group: &[NodeId]) -> usize
     requires group { IsGroup graph.now group.now }
     requires nodes { 2 ≤ length graph.now.nodes }

@@ -1,7 +1,7 @@
-/// Is told of the progress of an analysis.
+/// Sees the progress of an analysis.
 pub trait Watcher {
     /// A piece is about to be settled. `level` is the level being tried, `place` the place of the piece in it, counted
-    /// from 0, and `size` the number of pieces of the level. An analysis by several workers tells only the beginning of
+    /// from 0, and `size` the number of pieces of the level. An analysis by several workers shows only the beginning of
     /// each level, with place 0.
     fn sees(&mut self, level: usize, place: usize, size: usize);
 }

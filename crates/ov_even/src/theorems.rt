@@ -21,7 +21,7 @@ pub fn first_exists()
     ensures { FirstExists }
 {}
 
-/// A graph and a group have one answer, whoever computes it. Two answers agree in the number, and for a split in the
+/// A graph and a group have one answer, whatever computes it. Two answers agree in the number, and for a split in the
 /// cut, near, far and the side. Only their paths may differ.
 pub fn one_answer()
     ensures { OneAnswer }

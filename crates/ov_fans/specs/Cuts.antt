@@ -1,4 +1,4 @@
--- The cuts of a piece, its nearest least cut, and the right results for a piece (Menger, Fund. Math. 10, 1927).
+-- The cuts of a piece, its nearest minimum cut, and the right results for a piece (Menger, Fund. Math. 10, 1927).
 use Rattle.std.specs.Prelude.{◌≡◌, ◌↔◌, ℕ, ◌<◌, ◌≤◌, List, [], ◌∷◌, map, length}
 use Rattle.ov_ids.specs.Members.{Has, IsApart}
 use Rattle.ov_graph.specs.Links.{LinkGraph}
@@ -13,7 +13,7 @@ use Rattle.ov_fans.specs.declared.settled.Found.{Found}
 use Rattle.ov_fans.specs.declared.settled.Found.TheVariants.{Linked, Paths, Cut}
 use Rattle.ov_fans.specs.declared.settled.Settled.{Settled}
 
--- the members that a cut of the piece may not have: its source, and of a pair the other member
+-- the members that a cut of the piece may not have: its source, and for a pair the other member too
 abbrev pub spared : List ℕ → Piece → List ℕ
 spared q (Pair level i j) = member_at q i ∷ member_at q j ∷ []
 spared q (Fan level j) = member_at q j ∷ []
@@ -25,13 +25,13 @@ pub record IsCut (g : LinkGraph) (q : List ℕ) (p : Piece) (s : List ℕ) : Typ
   pub leaves : IsApart s (spared q p)
   pub parts : (t : ℕ) → IsTarget q p t → ¬ Joined g s (source_of q p) t
 
--- a least cut: no cut has fewer nodes
+-- a minimum cut: no cut has fewer nodes
 pub record IsLeast (g : LinkGraph) (q : List ℕ) (p : Piece) (s : List ℕ) : Type 0 where
   pub cut : IsCut g q p s
   pub least : (t : List ℕ) → IsCut g q p t → length s ≤ length t
 
--- the nearest least cut: each node that is joined to the source without it is so without every other least cut too
--- (Ford and Fulkerson, Flows in Networks, 1962)
+-- the nearest minimum cut: each node that is joined to the source without it is joined to the source without every
+-- other minimum cut too (Ford and Fulkerson, Flows in Networks, 1962)
 pub record IsNearest (g : LinkGraph) (q : List ℕ) (p : Piece) (s : List ℕ) : Type 0 where
   pub least : IsLeast g q p s
   pub nearest : (t : List ℕ) → IsLeast g q p t → (x : ℕ) → Joined g s (source_of q p) x → Joined g t (source_of q p) x
@@ -47,7 +47,7 @@ pub record IsSide (g : LinkGraph) (cut : List ℕ) (near : ℕ) (side : List ℕ
   pub set : IsNodeSet g side
   pub each : (x : ℕ) → Has side x ↔ Joined g cut near x
 
--- c is the parting of the piece: its cut is the nearest least cut, with fewer nodes than the level, and near, far and
+-- c is the parting of the piece: its cut is the nearest minimum cut, with fewer nodes than the level, and near, far and
 -- side are those of this cut
 pub record IsParted (g : LinkGraph) (q : List ℕ) (p : Piece) (c : Parting) : Type 0 where
   pub cut : IsNearest g q p c.cut

@@ -53,7 +53,7 @@ abbrev pub source_place : Piece → ℕ
 source_place (Pair level i j) = i
 source_place (Fan level j) = j
 
--- t is a member at which the paths may end: of a pair the other member, of a fan each member before its source
+-- t is a member at which the paths may end: for a pair the other member, for a fan each member before its source
 abbrev pub IsTarget : List ℕ → Piece → ℕ → Type 0
 IsTarget q (Pair level i j) t = t ≡ member_at q j
 IsTarget q (Fan level j) t = Has (members_below q (member_at q j)) t
@@ -68,7 +68,7 @@ abbrev pub AreAskedPaths : LinkGraph → List ℕ → Piece → List (List ℕ) 
 AreAskedPaths g q (Pair level i j) paths = ArePaths g (member_at q i) (member_at q j) level paths
 AreAskedPaths g q (Fan level j) paths = IsFan g (member_at q j) (members_below q (member_at q j)) level paths
 
--- a piece is good where it is a linked pair, or the paths that it asks for exist
+-- a piece is good if it is a linked pair, or the paths that it asks for exist
 abbrev pub IsGood : LinkGraph → List ℕ → Piece → Type 0
 IsGood g q p = IsLinkedPair g q p ⊎ ((paths : List (List ℕ)) × AreAskedPaths g q p paths)
 

@@ -20,7 +20,7 @@ IsNoCut Linked = Unit {0}
 IsNoCut (Paths paths) = Unit {0}
 IsNoCut (Cut parting) = ⊥
 
--- a piece is good exactly where its right result is not a cut
+-- a piece is good if and only if its right result is not a cut
 abbrev pub RightDecides : Type 0
 RightDecides = (g : LinkGraph) (q : List ℕ) (s : Settled) → IsGraph g → IsRight g q s
     → IsGood g q s.piece ↔ IsNoCut s.found

@@ -1,4 +1,4 @@
-//! The pieces of Even's test. For each its paths are found, or its nearest least cut.
+//! The pieces of Even's test. For each piece its paths are found, or its nearest minimum cut.
 #![tactic(auto)]
 
 mod bit_row_nodes;

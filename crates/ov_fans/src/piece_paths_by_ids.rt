@@ -9,8 +9,8 @@ use ov_graph::Graph;
 use ov_ids::{NodeId, OutOfMemory, Seq};
 use std::alloc::Global;
 
-/// The paths of a settled piece by ids. They are those that the piece asks for (Even, SIAM J. Comput. 4, 1975): of a
-/// pair from its first member to the other, of a fan from its source to members before it.
+/// The paths of a settled piece by ids. They are those that the piece asks for (Even, SIAM J. Comput. 4, 1975): for a
+/// pair from its first member to the other, for a fan from its source to members before it.
 pub fn asked_paths(
     alloc: Global,
     graph: &Graph,

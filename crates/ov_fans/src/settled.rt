@@ -5,14 +5,14 @@ use crate::piece::Piece;
 use ov_flow::PlacePaths;
 use ov_ids::{NodeId, Seq};
 
-/// The nearest least cut of a piece, and two members that it separates: the piece's source, `near`, and `far`.
+/// The nearest minimum cut of a piece, and two members that it separates: the piece's source, `near`, and `far`.
 #[derive(Drop)]
 pub struct Parting {
     /// The nodes of the cut, ascending.
     pub cut: Seq<NodeId>,
     /// The member at the piece's source.
     pub near: NodeId,
-    /// Of a pair the other member. Of a fan the lowest member before its source that is not in the cut.
+    /// For a pair the other member. For a fan the lowest member before its source that is not in the cut.
     pub far: NodeId,
     /// The nodes that are joined to `near` without the cut, ascending.
     pub side: Seq<NodeId>,
@@ -25,7 +25,7 @@ pub enum Found {
     Linked,
     /// The paths that the piece asks for, each a list of places of nodes in the graph, counted from 0.
     Paths(PlacePaths),
-    /// The nearest least cut, with fewer nodes than the level.
+    /// The nearest minimum cut, with fewer nodes than the level.
     Cut(Box<Parting>),
 }
 

@@ -56,7 +56,7 @@ impl<'g> Settler<'g> {
         Ok(Settler { group, flow, alloc })
     }
 
-    /// Settles a piece. The result is a linked pair or paths where the piece is good, and else its nearest least cut,
+    /// Settles a piece. The result is a linked pair or paths if the piece is good, otherwise its nearest minimum cut,
     /// with fewer nodes than its level (Menger, Fund. Math. 10, 1927). Out of memory (99) is the only fault. Graph and
     /// members stay.
     pub fn settle(&mut self, piece: Piece) -> Result<Settled, OutOfMemory>
@@ -107,9 +107,9 @@ pub fn settle(alloc: Global, graph: &Graph, piece: Piece) -> Result<Settled, Out
     settle_group(alloc, graph, graph.nodes(), piece)
 }
 
-/// Settles one piece for a group. The result is a linked pair or paths where the piece is good, and else its nearest
-/// least cut, with fewer nodes than its level (Menger, Fund. Math. 10, 1927). For many pieces a `Settler` allocates its
-/// buffers once. Out of memory is the only fault.
+/// Settles one piece for a group. The result is a linked pair or paths if the piece is good, otherwise its nearest
+/// minimum cut, with fewer nodes than its level (Menger, Fund. Math. 10, 1927). For many pieces a `Settler` allocates
+/// its buffers once. Out of memory is the only fault.
 pub fn settle_group(
     alloc: Global,
     graph: &Graph,
@@ -126,7 +126,7 @@ pub fn settle_group(
     settler.settle(piece)
 }
 
-/// The parting of a piece, from the rows of its nearest least cut and of its side.
+/// The parting of a piece, from the rows of its nearest minimum cut and of its side.
 fn parting(
     alloc: Global,
     group: &SettlerGroup<'_>,

@@ -14,7 +14,7 @@ pub record FlowState : Type 0 where
   pub net : SplitNetState
   pub held : ℕ
 
--- no fan has more than k paths: the nearest least cut has k nodes. `side` are the nodes that are reached without it
+-- no fan has more than k paths: the nearest minimum cut has k nodes. `side` are the nodes that are reached without it
 pub record IsFull (n : SplitNetState) (k : ℕ) (cut side : List ℕ) : Type 0 where
   pub nearest : IsNearestCut n cut
   pub size : length cut ≡ k
@@ -25,7 +25,7 @@ pub record IsFull (n : SplitNetState) (k : ℕ) (cut side : List ℕ) : Type 0 w
 abbrev pub AreBitsOf : LinkGraph → List ℕ → List ℕ → Type 0
 AreBitsOf g row s = (p : ℕ) → HasBit row p ↔ ((p < length g.nodes) × Has s (node_at g p))
 
--- no fan has more than k paths, and the rows have the bits of the nearest least cut and of its side
+-- no fan has more than k paths, and the rows have the bits of the nearest minimum cut and of its side
 pub record IsFullBy (n : SplitNetState) (k : ℕ) (s : CutRows) : Type 0 where
   pub cut : List ℕ
   pub side : List ℕ

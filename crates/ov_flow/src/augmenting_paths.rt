@@ -22,7 +22,7 @@ pub(crate) struct Work {
     pub ends: Vec<u16>,
 }
 
-/// Allocates the buffers for nets with so many places. No path is held.
+/// Allocates the buffers for nets with this many places. No path is held.
 pub(crate) fn new_work(alloc: Global, places: usize) -> Result<Work, AllocError>
     ensures work { IfOk result (λ w. (n : SplitNetState) → length n.graph.nodes ≡ places → IsWorkOf n w) }
     ensures empty { IfOk result (λ w. w.ends.items ≡ []) }
@@ -71,7 +71,7 @@ pub(crate) fn augment(net: &SplitNet<'_>, work: &mut Work) -> bool
     true
 }
 
-/// Starts again, and searches for `level` paths. True: so many are held.
+/// Starts again, and searches for `level` paths. True: this many are held.
 pub(crate) fn settle(net: &SplitNet<'_>, level: usize, work: &mut Work) -> bool
     requires ready { IsReady net.now }
     requires room { HasWorkRoom (length net.now.graph.nodes) work.old }

@@ -9,7 +9,7 @@ ghost use Rattle.ov_flow.specs.Code.Flat.{paths_after, paths_in};
 use ov_ids::{NodeId, OutOfMemory, Seq};
 use std::alloc::Global;
 
-/// The source, which is the last place of a flat list, or 0 where the list is empty.
+/// The source, which is the last place of a flat list, or 0 if the list is empty.
 pub(crate) fn source_in(flat: &[u16]) -> u16
     ensures { result ≡ get_or flat.now (length flat.now - 1) 0 }
 {
@@ -33,7 +33,7 @@ pub(crate) fn count_paths(flat: &[u16]) -> usize
     count
 }
 
-/// Where the source stands first in a flat list.
+/// The first place of the source in a flat list.
 fn place_of(flat: &[u16], source: u16) -> Option<usize>
     ensures place { result ≡ position (λ p. p == source) flat.now }
     ensures within { IfSome result (λ i. i < length flat.now) }

@@ -50,8 +50,8 @@ impl<'g> Flow<'g> {
         self.work.ends.len()
     }
 
-    /// Searches for one more path. If there is none, the result is the nearest least cut, which has as many nodes as
-    /// paths are held (Menger, Fund. Math. 10, 1927). Nothing is allocated.
+    /// Searches for one more path. If there is none, the result is the nearest minimum cut, whose size is the number of
+    /// paths that are held (Menger, Fund. Math. 10, 1927). Nothing is allocated.
     pub fn augment(&mut self) -> Augmentation
         ensures augmentation { IsAugmentation self.old self.new result }
         ensures fans { (paths : List (List ℕ)) × IsFanOf self.new.net self.new.held paths }
@@ -64,7 +64,7 @@ impl<'g> Flow<'g> {
 
     /// Starts again with another net of the same graph, and searches for `level` paths, those of one link first. The
     /// result is `None` if they are found. Otherwise fewer paths are held, no fan has more, and the result is the
-    /// nearest least cut (Menger, Fund. Math. 10, 1927). Nothing is allocated.
+    /// nearest minimum cut (Menger, Fund. Math. 10, 1927). Nothing is allocated.
     pub fn seek(&mut self, net: SplitNet<'g>, level: usize) -> Option<CutRows>
         requires { net.graph ≡ self.old.net.graph }
         ensures net { self.new.net ≡ net.entry }

@@ -10,7 +10,7 @@ use crate::walk_taking::{Hop, take_hops};
 use ov_split::SplitNet;
 use std::alloc::{AllocError, Global};
 
-/// A table of so many places without any path.
+/// A table of this many places without any path.
 pub(crate) fn empty_table(alloc: Global, places: usize) -> Result<Vec<Option<u16>>, AllocError>
     ensures long { IfOk result (λ t. length t.items ≡ places) }
     ensures empty { IfOk result (λ t. (v : ℕ) → table_of t.items v ≡ None) }

@@ -7,7 +7,7 @@ use crate::augmenting_paths::Work;
 use ov_graph::row::{Row, without};
 use ov_split::SplitNet;
 
-/// Why there is no further path: the places of the nearest least cut, and of its side, the nodes that are reached
+/// Why there is no further path: the places of the nearest minimum cut, and of its side, the nodes that are reached
 /// without it (Menger, Fund. Math. 10, 1927).
 #[derive(Clone, Copy)]
 pub struct CutRows {
@@ -22,7 +22,7 @@ pub enum Augmentation {
     Stuck(CutRows),
 }
 
-/// The nearest least cut and its side, after a search that found no path.
+/// The nearest minimum cut and its side, after a search that found no path.
 pub(crate) fn stuck_at(net: &SplitNet<'_>, work: &Work) -> CutRows
     requires ready { IsReady net.now }
     requires work { IsWorkOf net.now work.now }

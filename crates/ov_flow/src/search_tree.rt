@@ -22,7 +22,7 @@ pub(crate) struct Tree {
     pub seen: Row,
 }
 
-/// An empty tree with room for so many nodes.
+/// An empty tree with room for this many nodes.
 pub(crate) fn new_tree(alloc: Global, room: usize) -> Result<Tree, AllocError>
     ensures { IfOk result (HasTreeRoom room) }
 {

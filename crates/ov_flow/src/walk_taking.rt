@@ -11,7 +11,7 @@ ghost use Rattle.ov_flow.specs.Code.Held.{IsReady};
 use crate::search_tree::Tree;
 use ov_split::SplitNet;
 
-/// A step of a walk to `node`: by a link to `way`, or back along a path where there is no `way`.
+/// A step of a walk to `node`: by a link to `way`, or back along a path if there is no `way`.
 #[derive(Clone, Copy)]
 pub(crate) struct Hop {
     pub node: u16,

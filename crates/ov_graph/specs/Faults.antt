@@ -22,8 +22,7 @@ NodeComesAfter at None node After answer = After answer
 NodeComesAfter at (Some before) node After answer =
     HoldsThen (before < node) (UnorderedNode at node before) After answer
 
--- the first fault of the nodes from place `at` on, which stand behind the node `before`. Where there is none `After`
--- decides
+-- the first fault of the nodes from place `at` on, which follow the node `before`. If there is none, `After` decides
 abbrev pub NodesJudged : ℕ → Option ℕ → List ℕ → (Option GraphFault → Type 0) → Option GraphFault → Type 0
 NodesJudged at before [] After answer = After answer
 NodesJudged at before (node ∷ nodes) After answer =
@@ -42,15 +41,15 @@ LinkComesAfter at None l After answer = After answer
 LinkComesAfter at (Some before) l After answer =
     HoldsThen (Precedes before l) (UnorderedLink at l before) After answer
 
--- the first fault of the links from place `at` on, which stand behind the link `before`. Each must join two nodes, and
--- then come after the link before it
+-- the first fault of the links from place `at` on, which follow the link `before`. Each must join two nodes, and then
+-- come after the link before it
 abbrev pub LinksJudged : List ℕ → ℕ → Option (ℕ × ℕ) → List (ℕ × ℕ) → Option GraphFault → Type 0
 LinksJudged nodes at before [] answer = Passed answer
 LinksJudged nodes at before (l ∷ links) answer =
     LinkJoins nodes at l (LinkComesAfter at before l (LinksJudged nodes (suc at) (Some l) links)) answer
 
--- the first fault of nodes and links, or None where there is none. First come too many nodes, then the nodes one by
--- one, and then the links one by one
+-- the first fault of nodes and links, or None if there is none. First come too many nodes, then the nodes one by one,
+-- and then the links one by one
 abbrev pub GraphJudged : List ℕ → List (ℕ × ℕ) → Option GraphFault → Type 0
 GraphJudged nodes links answer =
     HoldsThen (length nodes ≤ most_nodes) (TooManyNodes (length nodes) most_nodes)

@@ -43,14 +43,14 @@ pub record SplitsGroup (g : LinkGraph) (q s : List ℕ) : Type 0 where
 abbrev pub NoFewerSplit : LinkGraph → List ℕ → ℕ → Type 0
 NoFewerSplit g q k = (s : List ℕ) → length s < k → (a b : ℕ) → Survives q s a → Survives q s b → Joined g s a b
 
--- q is a group, and k is the size of the smallest set of nodes that splits it. Where every two members are linked no
--- set splits it, and k is one less than the number of members
+-- q is a group, and k is the size of the smallest set of nodes that splits it. If every two members are linked, no set
+-- splits it, and k is one less than the number of members
 pub record FewestForGroup (g : LinkGraph) (q : List ℕ) (k : ℕ) : Type 0 where
   pub group : IsGroup g q
   pub reached : ((s : List ℕ) × (length s ≡ k) × SplitsGroup g q s) ⊎ (AreAllLinked g q × (length q ≡ k + 1))
   pub least : (s : List ℕ) → length s < k → ¬ SplitsGroup g q s
 
 -- k is the node connectivity of the graph: the size of the smallest set of nodes that splits it, or one less than the
--- number of nodes where every two are linked
+-- number of nodes if every two are linked
 abbrev pub Fewest : LinkGraph → ℕ → Type 0
 Fewest g k = FewestForGroup g g.nodes k

@@ -15,7 +15,7 @@ Precedes l m = (l.0 < m.0) ⊎ ((l.0 ≡ m.0) × (l.1 < m.1))
 abbrev pub IsLink : List ℕ → ℕ × ℕ → Type 0
 IsLink nodes l = (l.0 < l.1) × Has nodes l.0 × Has nodes l.1
 
--- nodes and links stand in ascending order, each once, and each link joins two nodes. So two graphs with the same nodes
+-- nodes and links are in ascending order, each once, and each link joins two nodes. So two graphs with the same nodes
 -- and links are equal values
 pub record IsGraph (g : LinkGraph) : Type 0 where
   pub nodes_ascend : Ascends g.nodes
@@ -30,7 +30,7 @@ HasNode g = 0 < length g.nodes
 abbrev pub most_nodes : ℕ
 most_nodes = 1024
 
--- the graph has at most so many nodes
+-- the graph has at most `most_nodes` nodes
 abbrev pub IsWithinLimit : LinkGraph → Type 0
 IsWithinLimit g = length g.nodes ≤ most_nodes
 

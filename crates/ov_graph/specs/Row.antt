@@ -15,7 +15,7 @@ has_bit row p = bit_at (slice_index row (p / word_bits)) (p % word_bits) == 1
 abbrev pub HasBit : List ℕ → ℕ → Type 0
 HasBit row p = IsTrue (has_bit row p)
 
--- the nodes of xs whose bit is set. The first of xs stands at place p
+-- the nodes of xs whose bit is set. The first of xs is at place p
 unfoldable pub picked : List ℕ → ℕ → List ℕ → List ℕ
 picked row p [] = []
 picked row p (x ∷ xs) = if has_bit row p then x ∷ picked row (suc p) xs else picked row (suc p) xs
@@ -26,7 +26,7 @@ pub record IsFirstFrom (row : List ℕ) (from p : ℕ) : Type 0 where
   pub set : HasBit row p
   pub first : (q : ℕ) → from ≤ q → q < p → ¬ HasBit row q
 
--- `words` is the least number of words with bits for n places
+-- `words` is the lowest number of words with bits for n places
 pub record AreWordsFor (n words : ℕ) : Type 0 where
   pub enough : n ≤ word_bits * words
   pub least : word_bits * words < n + word_bits

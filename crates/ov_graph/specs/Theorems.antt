@@ -4,8 +4,8 @@ use Rattle.ov_graph.specs.Links.{LinkGraph, IsGroup}
 use Rattle.ov_graph.specs.Joined.{NoFewerSplit, FewestForGroup}
 use Rattle.ov_graph.specs.Even.{PassesEven}
 
--- Even's test suffices: where it passes at k, every two surviving members are joined without any set of fewer than k
--- nodes (Even, SIAM J. Comput. 4, 1975)
+-- Even's test suffices: if it passes at k, every two surviving members are joined without any set of fewer than k nodes
+-- (Even, SIAM J. Comput. 4, 1975)
 abbrev pub EvenSuffices : Type 0
 EvenSuffices = (g : LinkGraph) (q : List ℕ) (k : ℕ) → IsGroup g q → PassesEven g q k → NoFewerSplit g q k
 

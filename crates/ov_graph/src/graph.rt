@@ -116,7 +116,7 @@ impl Graph {
         place_of(&self.nodes, a)
     }
 
-    /// The row of a node: bit `p` is set where it is linked to the node at place `p`.
+    /// The row of a node: bit `p` is set if it is linked to the node at place `p`.
     pub fn row(&self, a: NodeId) -> &[u64; WORDS]
         requires { Has self.now.nodes a }
         ensures bits { (p : ℕ) → HasBit result.now p
@@ -126,7 +126,7 @@ impl Graph {
         &self.rows[place_in(&self.nodes, a)]
     }
 
-    /// The row of the node at a place: bit `q` is set where it is linked to the node at place `q`.
+    /// The row of the node at a place: bit `q` is set if it is linked to the node at place `q`.
     pub fn row_at(&self, p: usize) -> &[u64; WORDS]
         requires { p < length self.now.nodes }
         ensures bits { (q : ℕ) → HasBit result.now q
@@ -197,7 +197,7 @@ impl Graph {
         }
     }
 
-    /// Links two different nodes. Nothing changes where they are linked already. Nothing is allocated.
+    /// Links two different nodes. Nothing changes if they are linked already. Nothing is allocated.
     pub fn link(&mut self, a: NodeId, b: NodeId)
         requires a { Has self.old.nodes a }
         requires b { Has self.old.nodes b }
@@ -208,7 +208,7 @@ impl Graph {
         join(&self.nodes, &mut self.rows, a, b);
     }
 
-    /// Removes the link between two different nodes. Nothing changes where they are not linked. Nothing is allocated.
+    /// Removes the link between two different nodes. Nothing changes if they are not linked. Nothing is allocated.
     pub fn unlink(&mut self, a: NodeId, b: NodeId)
         requires a { Has self.old.nodes a }
         requires b { Has self.old.nodes b }

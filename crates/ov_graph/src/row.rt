@@ -105,7 +105,7 @@ pub fn low_bits(word: u64, t: u32) -> u64
     word & ((1 << t) - 1)
 }
 
-/// The least number of words with bits for `n` places.
+/// The lowest number of words with bits for `n` places.
 pub(crate) fn words_for(n: usize) -> usize
     requires { n ≤ word_bits * WORDS }
     ensures words { AreWordsFor n result }

@@ -1,7 +1,7 @@
 ghost use Rattle.ov_graph.specs.Theorems.{EvenSuffices, OneNumber};
 
-/// Even's test suffices: where a group passes it at k, no set of fewer than k nodes splits the group. Every two
-/// surviving members are joined without such a set (Even, SIAM J. Comput. 4, 1975).
+/// Even's test suffices: if a group passes it at k, no set of fewer than k nodes splits the group. Every two surviving
+/// members are joined without such a set (Even, SIAM J. Comput. 4, 1975).
 pub fn even_suffices()
     ensures { EvenSuffices }
 {}

@@ -1,5 +1,5 @@
 -- What a graph file says, the lines of a file that can't be read, and the first fault of a file that says no graph. Its
--- lines are told apart, counted, skipped and split into words as those of a scenario file are. The form of the file is
+-- lines are separated, counted, skipped and split into words as those of a scenario file are. The form of the file is
 -- chosen here.
 use Rattle.std.specs.Prelude.{◌≡◌, ℕ, Bool, true, false, ⊤, List, [], ◌∷◌, ◌++◌, map, slice_get, codes}
 use Rattle.std.specs.Prelude.{Option, Some, None, option_map, is_none}
@@ -30,7 +30,7 @@ graph_line_of (name ∷ rest) =
     ((codes "node", option_map Node (one short_bits rest)) ∷ (codes "link", option_map link_of (two rest)) ∷ [])
     None
 
--- what a line says, and none where it can't be read
+-- what a line says, or None if it can't be read
 abbrev pub graph_line : List ℕ → Option GraphLine
 graph_line line = graph_line_of (words_of line)
 
@@ -44,12 +44,12 @@ graph_lines bytes = map graph_line_at (kept_lines bytes)
 
 -- ---- all lines together
 
--- the node that a line says, where it says one
+-- the node that a line says, if it says one
 abbrev pub node_said : Option GraphLine → List ℕ
 node_said (Some (Node n)) = n ∷ []
 node_said other = []
 
--- the link that a line says, where it says one
+-- the link that a line says, if it says one
 abbrev pub link_said : Option GraphLine → List (ℕ × ℕ)
 link_said (Some (Link a b)) = (a, b) ∷ []
 link_said other = []
@@ -66,7 +66,7 @@ links_said (line ∷ more) = link_said line.1 ++ links_said more
 
 -- ---- numbers of lines
 
--- the numbers of those of these lines of which this holds, in order
+-- the numbers of the lines for which this holds, in order
 unfoldable pub lines_where : (Option GraphLine → Bool) → List (ℕ × Option GraphLine) → List ℕ
 lines_where holds lines = map (λ line. line.0) (filter (λ line. holds line.1) lines)
 
@@ -88,8 +88,8 @@ node_lines bytes = lines_where (is_of_kind kind.Node) (graph_lines bytes)
 abbrev pub link_lines : List ℕ → List ℕ
 link_lines bytes = lines_where (is_of_kind kind.Link) (graph_lines bytes)
 
--- the number of the line of the node or link at the place that a fault names, which counts from 0. Of too many nodes it
--- is that of the first node behind the most that there may be
+-- the number of the line of the node or link at the place that a fault names, which counts from 0. If there are too
+-- many nodes, it is that of the first node beyond the highest number of nodes
 abbrev pub line_at_fault : List ℕ → GraphFault → Option ℕ
 line_at_fault bytes (graph_fault.TooManyNodes count most) = slice_get (node_lines bytes) most
 line_at_fault bytes (graph_fault.UnorderedNode at node before) = slice_get (node_lines bytes) at
@@ -113,7 +113,7 @@ pub record IsNoGraph (bytes : List ℕ) (fault : GraphFault) (n : ℕ) : Type 0 
   pub judged : GraphJudged (nodes_said (graph_lines bytes)) (links_said (graph_lines bytes)) (Some fault)
   pub line : line_at_fault bytes fault ≡ Some n
 
--- a file of these bytes can be refused with this fault: that of the first line that can't be read, or where all can be
+-- a file of these bytes can be refused with this fault: that of the first line that can't be read, or, if all can be
 -- read, the first fault of the nodes and the links; or out of memory
 abbrev pub IsGraphFileFault : List ℕ → GraphFileFault → Type 0
 IsGraphFileFault bytes (fault.Line unread) = slice_get (unread_lines bytes) 0 ≡ Some unread.line

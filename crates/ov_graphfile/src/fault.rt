@@ -14,7 +14,7 @@ use std::fmt::{Display, Formatter, Result, Write};
 pub struct UnreadLine {
     /// Its number among all lines of the file. These are counted from 1.
     pub line: usize,
-    /// Where it can't be read, and what may stand there.
+    /// Where it can't be read, and what may be there.
     pub unread: Unread,
 }
 
@@ -27,7 +27,8 @@ pub enum GraphFileFault {
     /// 31 to 33: the nodes and links of the file are no graph.
     Graph {
         fault: GraphFault,
-        /// The number of the line of the node or link at fault, and of too many nodes, that of the first node too many.
+        /// The number of the line of the node or link at fault. If there are too many nodes, that of the first node too
+        /// many.
         line: usize,
     },
     /// 99: an allocation was refused.

@@ -28,7 +28,7 @@ pub(crate) enum LineKind {
     Link,
 }
 
-/// Reads what a line says. Unread tells where it can't be read, and what may stand there.
+/// Reads what a line says. `Unread` says where it can't be read, and what may be there.
 pub(crate) fn read_graph_line(text: &[u8]) -> Result<GraphLine, Unread>
     ensures { result_ok result ≡ graph_line text.now }
 {

@@ -21,7 +21,7 @@ struct Parts {
 }
 
 impl Parts {
-    /// What no line says.
+    /// No nodes and no links.
     fn new(alloc: Global) -> Parts
         ensures nodes { result.nodes.items ≡ [] }
         ensures links { result.links.items ≡ [] }
@@ -47,7 +47,7 @@ impl Parts {
 
 /// Reads a graph file, whose form is chosen here, and returns the graph that it says. Line (70) is returned for the
 /// first line that can't be read, which is neither `node N` nor `link A B` with ids of 32 bits: the first of
-/// `unread_lines`. Graph (31 to 33) is returned where each line can be read and the nodes and the links, each in the
+/// `unread_lines`. Graph (31 to 33) is returned if each line can be read, and the nodes and the links, each in the
 /// order of the file, are no graph. OutOfMemory (99) is returned if an allocation was refused.
 pub fn read_graph(alloc: Global, bytes: &[u8]) -> Result<Graph, GraphFileFault>
     ensures graph { IfOk result (IsGraphFile bytes.now) }

@@ -36,7 +36,7 @@ pub(crate) fn line_at_fault(bytes: &[u8], fault: &GraphFault) -> Option<usize>
     }
 }
 
-/// The number of the line of this kind that stands behind so many others of this kind.
+/// The number of the line of this kind that follows `at` others of this kind.
 fn nth_line(bytes: &[u8], kind: LineKind, at: usize) -> Option<usize>
     ensures { result ≡ slice_get (lines_where (is_of_kind kind) (graph_lines bytes.now)) at }
 {

@@ -16,7 +16,7 @@ IsDistinct (x ∷ xs) = ¬ Has xs x × IsDistinct xs
 abbrev pub IsApart : List ℕ → List ℕ → Type 0
 IsApart s xs = (x : ℕ) → Has xs x → ¬ Has s x
 
--- each item stands in the relation R to each later one
+-- each item has the relation R to each later one
 abbrev pub Ordered : {X : Type 0} → (X → X → Type 0) → List X → Type 0
 Ordered R [] = Unit {0}
 Ordered R (x ∷ xs) = AllByRecursion (R x) xs × Ordered R xs

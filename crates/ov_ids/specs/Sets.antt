@@ -34,7 +34,7 @@ abbrev pub without_all : List ℕ → List ℕ → List ℕ
 without_all [] xs = xs
 without_all (y ∷ ys) xs = without_all ys (without y xs)
 
--- how many ids stand before the first that is not below x; of a set, how many members are below x
+-- how many ids come before the first that is not below x; for a set, how many members are below x
 abbrev pub count_below : ℕ → List ℕ → ℕ
 count_below x [] = 0
 count_below x (y ∷ ys) = if nat_lt y x then suc (count_below x ys) else 0

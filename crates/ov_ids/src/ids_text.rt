@@ -1,7 +1,7 @@
 use crate::NodeId;
 use std::fmt::{Display, Formatter, Result, Write};
 
-/// Ids with commas between them, or a dash where there are none.
+/// Ids with commas between them, or a dash if there are none.
 #[derive(Drop)]
 pub struct IdsText<'a>(pub &'a [NodeId]);
 

@@ -64,7 +64,7 @@ impl Model for Params {
 }
 
 impl Params {
-    /// The parameters. BadParams (21) where one is out of its limits.
+    /// The parameters. BadParams (21) if one is out of its limits.
     pub fn new(
         active: u32,
         passive: u32,

@@ -43,7 +43,7 @@ impl<T> Seq<T> {
 impl<T: Copy> Seq<T> {
     ghost use Rattle.std.specs.Prelude.{◌≡◌, IfOk};
 
-    /// An equal list. OutOfMemory (99) where the allocation is refused.
+    /// An equal list. OutOfMemory (99) if the allocation is refused.
     pub fn copy(&self, alloc: Global) -> Result<Seq<T>, OutOfMemory>
         ensures { IfOk result (λ list. list ≡ self.now) }
     {

@@ -13,7 +13,7 @@ most_faults = 2 ^ 64 - 1
 abbrev pub most_counted : ℕ
 most_counted = 2 ^ 64 - 1
 
--- a reader that has not ended after so many reads of one call counts as failed (chosen here)
+-- a reader that has not ended after this many reads of one call counts as failed (chosen here)
 abbrev pub most_reads : ℕ
 most_reads = 2 ^ 32 - 1
 
@@ -76,7 +76,7 @@ DidNotEnd before after =
 abbrev pub ReaderFailed : {R : Type 0} → SourceState R → SourceState R → Type 0
 ReaderFailed before after = OneReadFailed before after ⊎ DidNotEnd before after
 
--- what the writer took on is a prefix of these bytes: all, some or none
+-- what the writer took is a prefix of these bytes: all, some or none
 abbrev pub AppendsPrefixOf : List ℕ → Option (List ℕ) → Option (List ℕ) → Type 0
 AppendsPrefixOf bytes before after =
     (prefix rest : List ℕ) × Appends before after prefix × (prefix ++ rest ≡ bytes)

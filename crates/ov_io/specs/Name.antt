@@ -1,4 +1,4 @@
--- The name of a file as a person is shown it. Chosen here.
+-- The name of a file as it is shown to a person. Chosen here.
 use Rattle.std.specs.Prelude.{◌≡◌, ℕ, List, ◌++◌, codes, false, if◌then◌else◌}
 use Rattle.std.specs.Fmt.{digits}
 use Rattle.std.specs.Char.{is_control, encode_utf8}
@@ -13,11 +13,11 @@ shown_char c =
 abbrev pub shown_chars : List ℕ → List ℕ
 shown_chars cs = flat_map shown_char cs
 
--- what is told of a file with a name of these characters that can't be opened: the name as it is shown, and a cause;
--- which cause is left open
+-- what is printed of a file that can't be opened, with a name of these characters: the name as it is shown, and a
+-- cause; which cause is left open
 abbrev pub TellsUnopened : List ℕ → List ℕ → Type 0
 TellsUnopened cs text = (cause : List ℕ) × (text ≡ shown_chars cs ++ (codes " can't be opened: " ++ cause))
 
--- what is told of an input with a name of these characters that can't be read
+-- what is printed of an input that can't be read, with a name of these characters
 abbrev pub unread_text : List ℕ → List ℕ
 unread_text cs = shown_chars cs ++ codes " can't be read"

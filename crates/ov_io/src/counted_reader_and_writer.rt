@@ -9,7 +9,8 @@ ghost use Rattle.ov_io.specs.Code.Reads.{end_answers};
 use crate::fault::{ReadFault, WriteFault};
 use std::io::{Read, Write};
 
-/// A reader, how many reads it answered, how many of these answers were errors, and how many were no byte, the end.
+/// A reader, how many reads it answered, how many of these answers were errors, and how many were no byte, which is the
+/// end.
 #[derive(Drop)]
 pub(crate) struct CountedReader<R> {
     reader: R,
@@ -99,7 +100,7 @@ impl<W: Write> CountedWriter<W> {
         self.writer
     }
 
-    /// Writes once, and counts the answer where it is an error or took nothing.
+    /// Writes once, and counts the answer if it is an error or took nothing.
     pub(crate) fn write(&mut self, bytes: &[u8]) -> Result<usize, WriteFault>
         requires room { self.old.failures < most_faults }
         requires bytes { 0 < length bytes.now }

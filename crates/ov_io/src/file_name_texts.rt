@@ -6,7 +6,7 @@ use std::alloc::{AllocError, Global};
 use std::fmt::Write;
 use std::io::Error;
 
-/// The name of a file as a person can read it on one line: a control character stands as its code, as `\u{a}` for a
+/// The name of a file as a person can read it on one line: a control character is shown as its code, as `\u{a}` for a
 /// line feed. AllocError if an allocation is refused.
 pub fn shown_name(alloc: Global, name: &str) -> Result<String, AllocError>
     ensures { IfOk result (λ text. string_bytes text ≡ shown_chars (chars name.now)) }
@@ -18,8 +18,8 @@ pub fn shown_name(alloc: Global, name: &str) -> Result<String, AllocError>
     Ok(text)
 }
 
-/// What a person is told of a file that can't be opened: its name, as `shown_name` shows it, and the cause. AllocError
-/// if an allocation is refused.
+/// What is printed for a person of a file that can't be opened: its name, as `shown_name` shows it, and the cause.
+/// AllocError if an allocation is refused.
 pub fn unopened_text(alloc: Global, name: &str, cause: &Error) -> Result<String, AllocError>
     ensures { IfOk result (λ text. TellsUnopened (chars name.now) (string_bytes text)) }
 {
@@ -30,7 +30,7 @@ pub fn unopened_text(alloc: Global, name: &str, cause: &Error) -> Result<String,
     Ok(text)
 }
 
-/// What a person is told of an input that can't be read: its name, as `shown_name` shows it. AllocError if an
+/// What is printed for a person of an input that can't be read: its name, as `shown_name` shows it. AllocError if an
 /// allocation is refused.
 pub fn unread_text(alloc: Global, name: &str) -> Result<String, AllocError>
     ensures { IfOk result (λ text. string_bytes text ≡ unread_text (chars name.now)) }

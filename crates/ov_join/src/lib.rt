@@ -1,8 +1,8 @@
 //! What a node does at JOIN, FORWARDJOIN and JOINED, by which a new node comes into the overlay.
 //!
-//! JOIN and FORWARDJOIN are HyParView's (Leitão, Pereira, Rodrigues, DSN 2007, Algorithm 1). JOINED, which tells the
-//! new node who made it active, is chosen here. Every call makes all its room before it changes anything, so nothing
-//! has changed where it is out of memory.
+//! JOIN and FORWARDJOIN are HyParView's (Leitão, Pereira, Rodrigues, DSN 2007, Algorithm 1). JOINED, which says to the
+//! new node which node made it active, is chosen here. Every call makes all its room before it changes anything, so
+//! nothing has changed if it is out of memory.
 //!
 //! The rules of these steps are in `ov_views/specs/JoinRows.antt`, and what a handler promises in `Handling.antt`
 //! beside it.
@@ -23,10 +23,10 @@ use ov_wire::{Body, Message};
 use ov_words::Draws;
 use std::alloc::Global;
 
-/// The most packets that one step sends: one to who joins, and one to each other active member.
+/// The most packets that one step sends: one to the node that joins, and one to each other active member.
 const STEP_SENDS: usize = MOST_ACTIVE as usize + 1;
 
-/// The effects of JOIN from a node. The node becomes active and is told JOINED, and every other active member is sent
+/// The effects of JOIN from a node. The node becomes active and is sent JOINED, and every other active member is sent
 /// FORWARDJOIN with ARWL steps, in ascending order. At most two random words are used, and at most 17 messages are
 /// sent. OutOfMemory (99) if an allocation is refused, and then nothing has changed. (HyParView: Leitão, Pereira,
 /// Rodrigues, DSN 2007, Algorithm 1; JOINED and the order are chosen here.)
@@ -77,12 +77,11 @@ fn forward(moves: &mut Moves, me: NodeId, node: NodeId, ttl: u8, members: &[Node
     }
 }
 
-/// The effects of FORWARDJOIN for a new node, from another node, with `ttl` steps left. Where the walk ends here, the
-/// new node becomes active and is told JOINED. Otherwise the walk goes on with one step less to a random active
-/// member, and the new node becomes passive where PRWL steps are left. At most two random words are used, and at most
-/// two messages are sent. OutOfMemory (99) if an allocation is refused, and then nothing has changed. (HyParView:
-/// Leitão, Pereira, Rodrigues, DSN 2007, Algorithm 1; JOINED, and that a walk which can go nowhere ends, are chosen
-/// here.)
+/// The effects of FORWARDJOIN for a new node, from another node, with `ttl` steps left. If the walk ends here, the new
+/// node becomes active and is sent JOINED. Otherwise the walk goes on with one step less to a random active member, and
+/// the new node becomes passive if PRWL steps are left. At most two random words are used, and at most two messages are
+/// sent. OutOfMemory (99) if an allocation is refused, and then nothing has changed. (HyParView: Leitão, Pereira,
+/// Rodrigues, DSN 2007, Algorithm 1; JOINED, and that a walk which can go nowhere ends, are chosen here.)
 pub fn on_forward_join(
     alloc: Global,
     views: &mut Views,
@@ -129,7 +128,7 @@ pub fn on_forward_join(
     Ok(moves)
 }
 
-/// Takes a node into the passive view where PRWL steps are left.
+/// Takes a node into the passive view if PRWL steps are left.
 fn remember(views: &mut Views, draws: &mut Draws<'_>, node: NodeId, ttl: u8)
     requires { 1 ≤ length draws.old }
     ensures drawn { Drawn draws.old draws.new (λ choices. Remembers views.old node ttl choices views.new) }
@@ -140,7 +139,7 @@ fn remember(views: &mut Views, draws: &mut Draws<'_>, node: NodeId, ttl: u8)
     }
 }
 
-/// Whether the walk of FORWARDJOIN ends, where it could go on to the others.
+/// Whether the walk of FORWARDJOIN ends here. Otherwise it goes on to one of the others.
 fn ends_here(views: &Views, others: &IdSet, ttl: u8) -> bool
     ensures { (s n : ℕ) → others.now ≡ walk_targets views.now s n → result ≡ walk_ends views.now s n ttl }
 {

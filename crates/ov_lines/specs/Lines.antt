@@ -1,5 +1,5 @@
 -- The lines of a file that count, the words of a line, and the numbers that words spell. These words are pieces of the
--- line, and no random words. The form of the files is chosen here.
+-- line, and not random words. The form of the files is chosen here.
 use Rattle.std.specs.Prelude.{ℕ, ◌+◌, ◌^◌, Bool, true, not, IsTrue, nat_lt, nat_le, nat_eq, ◌&&◌, List, [], ◌∷◌, ◌++◌, length}
 use Rattle.std.specs.Prelude.{drop, codes, Option, Some, None, unwrap_or, if◌then◌else◌}
 use Rattle.std.specs.List.{filter, position, slice_split, starts_with}
@@ -20,11 +20,11 @@ is_space b = nat_eq b 32
 abbrev pub is_no_space : ℕ → Bool
 is_no_space b = not (nat_eq b 32)
 
--- the words of a line: what stands between its spaces, where anything does
+-- the words of a line: the parts between its spaces that are not empty
 unfoldable pub words_of : List ℕ → List (List ℕ)
 words_of line = filter (λ part. nat_lt 0 (length part)) (slice_split is_space line)
 
--- the place of the first byte that passes, or the end where none does
+-- the place of the first byte that passes, or the end if none does
 abbrev pub place_or_end : (ℕ → Bool) → List ℕ → ℕ
 place_or_end p text = unwrap_or (position p text) (length text)
 
@@ -32,7 +32,7 @@ place_or_end p text = unwrap_or (position p text) (length text)
 abbrev pub without_spaces : List ℕ → List ℕ
 without_spaces text = drop (place_or_end is_no_space text) text
 
--- what stands behind the first word of a line
+-- what follows the first word of a line
 abbrev pub behind_word : List ℕ → List ℕ
 behind_word line = drop (place_or_end is_space (without_spaces line)) (without_spaces line)
 
@@ -49,7 +49,7 @@ abbrev pub BeginsWith : List ℕ → List (List ℕ) → Type 0
 BeginsWith name [] = ⊥
 BeginsWith name (word ∷ more) = IsTrue (same word name)
 
--- what stands in the first row with this name, or `otherwise` where no row has it
+-- what is in the first row with this name, or `otherwise` if no row has it
 abbrev pub row : {A : Type 0} → List ℕ → List (List ℕ × Option A) → Option A → Option A
 row name [] otherwise = otherwise
 row name (first ∷ rows) otherwise = if same name first.0 then first.1 else row name rows otherwise
@@ -65,7 +65,8 @@ skips (name ∷ rest) = starts_with nat_eq name (codes "#")
 abbrev pub is_skipped : List ℕ → Bool
 is_skipped line = skips (words_of line)
 
--- those of these lines that are not skipped, in order, each with its number; the first of all lines has this number
+-- of these lines, those that are not skipped, in order, each with its number; the first of all these lines has this
+-- number
 unfoldable pub kept_from : ℕ → List (List ℕ) → List (ℕ × List ℕ)
 kept_from n [] = []
 kept_from n (line ∷ more) = (if is_skipped line then [] else (n, line) ∷ []) ++ kept_from (n + 1) more
@@ -85,14 +86,14 @@ short_bits = 32
 abbrev pub long_bits : ℕ
 long_bits = 64
 
--- the number that a word of decimal digits spells, where it fits so many bits
+-- the number that a word of decimal digits spells, if it fits this many bits
 unfoldable pub number_within : ℕ → List ℕ → Option ℕ
 number_within bits word =
     if (nat_lt 0 (length word) && all_ascii_digits word) && nat_lt (digits_value 10 word) (2 ^ bits)
     then Some (digits_value 10 word)
     else None
 
--- one number that fits so many bits, and no further word
+-- one number that fits this many bits, and no further word
 abbrev pub one : ℕ → List (List ℕ) → Option ℕ
 one bits [] = None
 one bits (v ∷ []) = number_within bits v
@@ -103,19 +104,19 @@ abbrev pub two : List (List ℕ) → Option (ℕ × ℕ)
 two [] = None
 two (v ∷ more) = number_within short_bits v >>= λ a. one short_bits more >>= λ b. Some (a, b)
 
--- three of them
+-- three numbers of the bits of an id, and no further word
 abbrev pub three : List (List ℕ) → Option (ℕ × (ℕ × ℕ))
 three [] = None
 three (v ∷ more) = number_within short_bits v >>= λ a. two more >>= λ b. Some (a, b)
 
--- each word spells a number that fits so many bits
+-- each word spells a number that fits this many bits
 abbrev pub each_number : ℕ → List (List ℕ) → Option (List ℕ)
 each_number bits [] = Some []
 each_number bits (w ∷ more) = number_within bits w >>= λ n. each_number bits more >>= λ ns. Some (n ∷ ns)
 
 -- ---- numbers of workers
 
--- the number, where there may be so many workers: from 1 to `most_workers`
+-- the number, if there may be this many workers: from 1 to `most_workers`
 abbrev pub as_workers : ℕ → Option ℕ
 as_workers n = if nat_le 1 n && nat_le n most_workers then Some n else None
 
@@ -123,7 +124,7 @@ as_workers n = if nat_le 1 n && nat_le n most_workers then Some n else None
 abbrev pub workers_of : List ℕ → Option ℕ
 workers_of word = number_within short_bits word >>= as_workers
 
--- the number of workers that the first word spells, and the words behind it
+-- the number of workers that the first word spells, and the words after it
 abbrev pub workers_first : List (List ℕ) → Option (ℕ × List (List ℕ))
 workers_first [] = None
 workers_first (w ∷ more) = workers_of w >>= λ n. Some (n, more)

@@ -31,8 +31,8 @@ fn drop_return(line: &[u8]) -> &[u8]
     line.strip_suffix(b"\r").unwrap_or(line)
 }
 
-/// Splits the first word off: the bytes behind leading spaces, up to the next space or the end. None is returned if
-/// only spaces are left.
+/// Splits the first word off: the bytes after leading spaces, up to the next space or the end. None is returned if only
+/// spaces are left.
 #[tactic(auto, unfolding(crate::specs::Code::Spaced::first_word))]
 pub(crate) fn split_word(text: &[u8]) -> Option<(&[u8], &[u8])>
     ensures { option_map (λ parts. (parts.0.now, parts.1.now)) result ≡ first_word text.now }

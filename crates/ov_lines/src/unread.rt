@@ -1,14 +1,14 @@
-/// Why a line can't be read: what stands at a place of it is none of what may stand there.
+/// Why a line can't be read: at a place of it there is something other than what may be there.
 #[derive(Clone, Copy, Debug, PartialEq, Eq)]
 pub struct Unread {
-    /// Where the word that is at fault begins, in bytes from the begin of the line; the length of the line if it ends
-    /// too early.
+    /// Where the word that is at fault begins, in bytes from the beginning of the line; the length of the line if it
+    /// ends too early.
     pub at: usize,
-    /// What may stand there.
+    /// What may be there.
     pub wanted: &'static [Kind],
 }
 
-/// What may stand at a place of a line.
+/// What may be at a place of a line.
 #[derive(Clone, Copy, Debug, PartialEq, Eq)]
 pub enum Kind {
     /// The name of a line, which is its first word.
@@ -19,7 +19,7 @@ pub enum Kind {
     Short(&'static str),
     /// A number of 64 bits. The text says what it is.
     Long(&'static str),
-    /// A number with its lowest and its highest value. The text says what it is, and tells both limits.
+    /// A number with its lowest and its highest value. The text says what it is, with both limits.
     Within(&'static str, u64, u64),
     /// Ids of nodes, with one comma between two.
     Ids,
@@ -29,7 +29,7 @@ pub enum Kind {
     FurtherWord,
     /// No further word.
     End,
-    /// No further word, since there are as many as may be.
+    /// No further word, since the line has the most words that it may have.
     Full,
 }
 

@@ -4,7 +4,7 @@ ghost use Rattle.ov_lines.specs.Lines.{workers_of};
 use crate::numeral::read_short_number;
 use ov_claims::Workers;
 
-/// The workers whose number a word of decimal digits spells. None is returned where it spells no number from 1 to 64.
+/// The workers whose number a word of decimal digits spells. None is returned if it spells no number from 1 to 64.
 #[tactic(auto, using(crate::proofs::Lines::Numbers::workers_judged))]
 pub fn read_workers(word: &[u8]) -> Option<Workers>
     ensures { result ≡ workers_of word.now }

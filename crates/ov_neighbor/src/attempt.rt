@@ -15,8 +15,8 @@ use ov_words::Draws;
 use std::alloc::Global;
 use std::marker::Model;
 
-/// An attempt to find an active member, or none. Contracts see whom it asked and waits for, and the set of those whom
-/// it has tried. The asked node is one of them, and where nobody is asked nobody is tried.
+/// An attempt to find an active member, or none. Contracts see the node that it asked and waits for, and the set of the
+/// nodes that it has tried. The asked node is one of them, and if nobody is asked, nobody is tried.
 #[derive(Drop)]
 pub struct Attempt {
     asked: Option<NodeId>,
@@ -46,7 +46,7 @@ impl Attempt {
         }
     }
 
-    /// An equal attempt. OutOfMemory (99) where the allocation is refused.
+    /// An equal attempt. OutOfMemory (99) if the allocation is refused.
     pub fn copy(&self) -> Result<Attempt, OutOfMemory>
         ensures { IfOk result (λ copy. copy ≡ self.now) }
     {
@@ -57,14 +57,14 @@ impl Attempt {
         })
     }
 
-    /// The node that the attempt asked and waits for. None where there is no attempt.
+    /// The node that the attempt asked and waits for. None if there is no attempt.
     pub fn asked(&self) -> Option<NodeId>
         ensures { result ≡ self.now.asked }
     {
         self.asked
     }
 
-    /// The nodes that the attempt has tried, ascending. The list is empty where there is no attempt.
+    /// The nodes that the attempt has tried, ascending. The list is empty if there is no attempt.
     pub fn tried(&self) -> &[NodeId]
         ensures value { result.now ≡ self.now.tried }
         ensures attempt { IsAttempt self.now }
@@ -91,7 +91,7 @@ impl Attempt {
     }
 }
 
-/// Makes a node one of the tried. Room for it must be there.
+/// Makes a node one of the tried nodes. Room for it must be there.
 fn enter(tried: &mut Vec<NodeId>, id: NodeId)
     requires untried { ¬ IsIn tried.old.items id }
     requires room { vec_len tried.old < vec_capacity tried.old }
@@ -103,8 +103,8 @@ fn enter(tried: &mut Vec<NodeId>, id: NodeId)
     }
 }
 
-/// Goes on with an attempt that tried these. It asks a random passive member that it has not tried, or ends where
-/// there is nobody to ask. Room for one more of the tried must be there. Returns whom it asked.
+/// Goes on with an attempt that tried these nodes. It asks a random passive member that it has not tried, or ends if
+/// there is nobody to ask. Room for one more tried node must be there. Returns the node that it asked.
 fn go_on(
     tried: &mut Vec<NodeId>,
     views: &Views,
@@ -145,10 +145,11 @@ fn go_on(
     }
 }
 
-/// The effects of NEIGHBORREPLY from a node. Where the attempt waits for that node, its yes ends the attempt and makes
-/// it active, and after its no the attempt goes on. A yes from anyone else who is not active is answered by DISCONNECT.
-/// Any other reply does nothing. At most two random words are used. OutOfMemory (99) if an allocation is refused,
-/// and then nothing has changed. (NEIGHBOR and its answer are HyParView's; how an attempt goes on is chosen here.)
+/// The effects of NEIGHBORREPLY from a node. If the attempt waits for that node, its yes ends the attempt and makes it
+/// active, and after its no the attempt goes on. A yes from any other node that is not active is answered by
+/// DISCONNECT. Any other reply does nothing. At most two random words are used. OutOfMemory (99) if an allocation is
+/// refused, and then nothing has changed. (NEIGHBOR and its answer are HyParView's; how an attempt goes on is chosen
+/// here.)
 pub fn on_reply(
     alloc: Global,
     views: &mut Views,
@@ -191,11 +192,11 @@ pub fn on_reply(
     Ok(moves)
 }
 
-/// The effects of a report that a node crashed. The node leaves the view that has it. Where it was active, it goes
-/// down, and a new attempt begins with nobody tried, in place of one that waits. Otherwise, where the attempt waits
-/// for it, the attempt goes on. At most one random word is used. OutOfMemory (99) if an allocation is refused, and
-/// then nothing has changed. (That a lost active member is replaced by a passive one is HyParView's; how an attempt
-/// goes on is chosen here.)
+/// The effects of a report that a node crashed. The node leaves the view that has it. If it was active, it goes down,
+/// and a new attempt begins with nobody tried, in place of one that waits. Otherwise, if the attempt waits for it, the
+/// attempt goes on. At most one random word is used. OutOfMemory (99) if an allocation is refused, and then nothing has
+/// changed. (That a lost active member is replaced by a passive one is HyParView's; how an attempt goes on is chosen
+/// here.)
 pub fn on_crash_report(
     alloc: Global,
     views: &mut Views,

@@ -3,8 +3,8 @@
 //!
 //! A node that lost an active member asks its passive members one after another, each once, until one accepts, nobody
 //! is left or the active view is full. That is an attempt. How an attempt goes on, and what a reply does that nobody
-//! waits for, are chosen here. Every call makes all its room before it changes anything, so nothing has changed where
-//! it is out of memory.
+//! waits for, are chosen here. Every call makes all its room before it changes anything, so nothing has changed if it
+//! is out of memory.
 //!
 //! The rules of these steps are in `ov_views/specs/NeighborRows.antt`, and what a handler promises in `Handling.antt`
 //! beside it.

@@ -11,11 +11,11 @@ use ov_wire::{Body, Message};
 use ov_words::Draws;
 use std::alloc::Global;
 
-/// The effects of NEIGHBOR from a node, with high or low priority. The node is accepted where it is active, where its
-/// priority is high, or where a place is free in the active view; it is then active. Otherwise it is rejected.
-/// NEIGHBORREPLY tells it so. At most two random words are used. OutOfMemory (99) if an allocation is refused, and
-/// then nothing has changed. (HyParView: Leitão, Pereira, Rodrigues, DSN 2007, Section 4.3; NEIGHBORREPLY as a
-/// message is chosen here.)
+/// The effects of NEIGHBOR from a node, with high or low priority. The node is accepted if it is active, if its
+/// priority is high, or if a place is free in the active view; it is then active. Otherwise it is rejected.
+/// NEIGHBORREPLY says which. At most two random words are used. OutOfMemory (99) if an allocation is refused, and then
+/// nothing has changed. (HyParView: Leitão, Pereira, Rodrigues, DSN 2007, Section 4.3; NEIGHBORREPLY as a message is
+/// chosen here.)
 pub fn on_neighbor(
     alloc: Global,
     views: &mut Views,
@@ -55,10 +55,10 @@ fn reply(me: NodeId, accepted: bool) -> Message
     }
 }
 
-/// The effects of DISCONNECT from a node. Where the node is active it goes down and then becomes passive. No attempt
-/// starts, and nothing is sent. At most one random word is used. OutOfMemory (99) if an allocation is refused, and
-/// then nothing has changed. (HyParView: Leitão, Pereira, Rodrigues, DSN 2007, Algorithm 1; that no attempt starts is
-/// chosen here.)
+/// The effects of DISCONNECT from a node. If the node is active, it goes down and then becomes passive. No attempt
+/// starts, and nothing is sent. At most one random word is used. OutOfMemory (99) if an allocation is refused, and then
+/// nothing has changed. (HyParView: Leitão, Pereira, Rodrigues, DSN 2007, Algorithm 1; that no attempt starts is chosen
+/// here.)
 pub fn on_disconnect(
     alloc: Global,
     views: &mut Views,

@@ -27,7 +27,7 @@ change_at a (view.Up b) = Up a b
 change_at a (view.Down b) = Down a b
 
 -- a node in the state p takes an input, its random choices are drawn from the words, and its state is q afterwards. It
--- sends these messages, its active view changes so, and it delivers this. At least 24 of the words are left
+-- sends these messages, makes these changes of its active view, and delivers this. At least 24 of the words are left
 abbrev pub DrawnStep
     : PeerState → Input → List ℕ → PeerState → List (ℕ × Message) → List ViewChange → Option Delivery → Type 0
 DrawnStep p i words q sends changes delivery =

@@ -16,7 +16,7 @@ pub enum NetFault {
     /// The node crashed.
     #[error("the node crashed")]
     CrashedNode,
-    /// 256 nodes were born, as many as may be.
+    /// 256 nodes were born, the most that may be born.
     #[error("too many nodes were born")]
     TooManyNodes,
     /// There is no packet at this place.
@@ -25,7 +25,7 @@ pub enum NetFault {
     /// Fewer than 64 of the 65,536 places for packets are free. A step may send 64.
     #[error("too few places for packets are free")]
     TooManyPackets,
-    /// The journal has 65,536 entries, as many as it may have.
+    /// The journal has 65,536 entries, the most that it may have.
     #[error("the journal is full")]
     TooManyEntries,
     /// The node that is reported did not crash.
@@ -37,7 +37,7 @@ pub enum NetFault {
     /// The payload has more than 1,024 bytes.
     #[error("the payload is too long")]
     PayloadTooLong,
-    /// The node has made 4,096 broadcasts, as many as it may.
+    /// The node has made 4,096 broadcasts, the most that it may make.
     #[error("the node has made too many broadcasts")]
     TooManyMessages,
     /// An allocation was refused.

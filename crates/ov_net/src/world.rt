@@ -29,7 +29,7 @@ pub const MOST_WORLD_NODES: usize = 256;
 /// The most packets that may be on their way. Chosen here.
 pub const MOST_PACKETS: usize = 65_536;
 
-/// The most packets that one step may send. As many places must be free before it.
+/// The most packets that one step may send. This many places must be free before it.
 pub const STEP_PACKETS: usize = 64;
 
 /// The most entries that the journal may have. Chosen here.

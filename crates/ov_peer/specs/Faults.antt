@@ -12,8 +12,8 @@ use Rattle.ov_peer.specs.declared.input.Input.{Input}
 use Rattle.ov_peer.specs.declared.input.Input.TheVariants.{Boot, Receive, CrashReport, Broadcast, Timer}
 use Rattle.ov_peer.specs.declared.input.Input.TheVariants as input
 
--- The fault of an input, if it has one. Of a broadcast: the payload has more than 1,024 bytes; else the node has made
--- 4,096 broadcasts. Of a timer: it does not run. Out of memory is no fault of an input.
+-- The fault of an input, if it has one. Of a broadcast: the payload has more than 1,024 bytes; otherwise the node has
+-- made 4,096 broadcasts. Of a timer: it does not run. Out of memory is no fault of an input.
 abbrev pub fault_of : PeerState → Input → Option PeerFault
 fault_of p (Boot contact) = None
 fault_of p (Receive message) = None
@@ -24,7 +24,7 @@ fault_of p (Broadcast payload) =
     else (if nat_lt p.tree.made most_broadcasts then None else Some TooManyMessages)
 fault_of p (Timer id) = if set.contains p.tree.running id then None else Some NoTimer
 
--- This is the fault of the input, or None where it has none.
+-- This is the fault of the input, or None if it has none.
 abbrev pub IsFaultOf : PeerState → Input → Option PeerFault → Type 0
 IsFaultOf p i answer = answer ≡ fault_of p i
 
@@ -35,7 +35,7 @@ number_of PayloadTooLong = 19
 number_of TooManyMessages = 20
 number_of OutOfMemory = 99
 
--- Where the input is a message, its fields are within their ranges.
+-- If the input is a message, its fields are within their ranges.
 abbrev pub IsInputInRange : Input → Type 0
 IsInputInRange (Boot contact) = Unit {0}
 IsInputInRange (Receive message) = AreInRange message

@@ -12,7 +12,7 @@ pub record PeerState : Type 0 where
   pub tree : PlumState
 
 -- Both parts are those of one node, and its neighbours in the tree are its active members: each of these is eager or
--- lazy, and nobody else is.
+-- lazy, and no other node is.
 pub record IsPeer (p : PeerState) : Type 0 where
   pub me : p.tree.me ≡ p.hyparview.views.me
   pub neighbours : (x : ℕ) → is_linked p.tree.branches x ≡ has p.hyparview.views.active x

@@ -62,8 +62,8 @@ pub record HearsChanges (m : PeerState) (changes : List ViewChange) (q : PeerSta
   pub hyparview : q.hyparview ≡ m.hyparview
   pub told : Told m.tree changes q.tree
 
--- One step: the node p takes an input, with these choices, and is q afterwards. It sends these messages, its active
--- view changes so, each in this order, and it delivers this.
+-- One step: the node p takes an input, with these choices, and is q afterwards. It sends these messages and makes these
+-- changes of its active view, each in this order, and it delivers this.
 pub record PeerStep (p : PeerState) (input : Input) (choices : List Choice) (q : PeerState)
     (sends : List (ℕ × Message)) (changes : List ViewChange) (delivery : Option Delivery) : Type 0 where
   pub between : PeerState

@@ -131,7 +131,7 @@ impl Peer {
         self.plum.eager()
     }
 
-    /// The lazy members, ascending: the active members who are only told that there is a message.
+    /// The lazy members, ascending: the active members to whom a message is only announced.
     pub fn lazy(&self) -> &[NodeId]
         ensures value { result.now ≡ self.now.tree.branches.lazy }
         ensures branches { AreBranches self.now.tree.branches }
@@ -160,7 +160,7 @@ impl Peer {
     ///
     /// A step uses at most 40 random words and sends at most 64 messages. Faults, the first applicable refusal: NoTimer
     /// (18) if the timer does not run; of a broadcast PayloadTooLong (19) if it has more than 1,024 bytes, then
-    /// TooManyMessages (20) if the node has made 4,096. Out of memory (99) only where none of these applies.
+    /// TooManyMessages (20) if the node has made 4,096. Out of memory (99) only if none of these applies.
     pub fn plan(&self, input: Input, words: &Words) -> Result<Plan, PeerFault>
         requires { IsInputInRange input }
         ensures planned { IfOk result (λ g. DrawnFrom words.now (λ choices. Plans self.now input choices g)) }
@@ -194,8 +194,8 @@ impl Peer {
 
     /// Follows a plan, which must be one for the node as it now is. So the node takes a step, and what is returned is
     /// what this step sends, changes and delivers: what the plan says. It is the step that was planned if the node has
-    /// not changed since. Out of memory (99), the node is as it was. That happens only where the plan's change of the
-    /// tree may allocate.
+    /// not changed since. Out of memory (99), the node is as it was. That happens only if the plan's change of the tree
+    /// may allocate.
     pub fn apply(&mut self, plan: Plan) -> Result<Output, OutOfMemory>
         requires { IsPlanFor self.old plan }
         ensures follows { OnOk result (Follows self.old plan self.new) }

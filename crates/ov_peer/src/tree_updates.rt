@@ -10,7 +10,7 @@ use ov_views::ViewChange;
 use ov_wire::{Body, Message};
 use std::alloc::Global;
 
-/// Tells the tree these changes of the active view, one after another.
+/// Changes the tree by these changes of the active view, one after another.
 #[tactic(auto, using(crate::proofs::Changing::begun, crate::proofs::Changing::told_all))]
 pub(crate) fn tell(plum: &mut Plum, changes: &[ViewChange])
     requires { length plum.old.branches.eager + length plum.old.branches.lazy + length changes.now ≤ most_neighbours }

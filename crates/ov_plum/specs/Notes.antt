@@ -1,5 +1,5 @@
--- The notes of a node. Plumtree keeps one list of announcements: for each message that is missing, who said to have it
--- (Leitão, Pereira, Rodrigues, SRDS 2007). A timer runs for each id whose message is waited for.
+-- The notes of a node. Plumtree keeps one list of announcements: for each message that is missing, the nodes that
+-- announced it (Leitão, Pereira, Rodrigues, SRDS 2007). A timer runs for each id whose message is waited for.
 use Rattle.std.specs.Prelude.{◌≡◌, ℕ, Bool, IsTrue, false, not, List, [], ◌∷◌, ◌++◌, ◌==◌, map as each, filter}
 use Rattle.std.specs.Prelude.{slice_get, if◌then◌else◌, Option}
 use Rattle.std.specs.FinSet as set
@@ -10,7 +10,7 @@ use Rattle.ov_ids.specs.Sets.{has}
 use Rattle.ov_ids.specs.declared.id.MsgId.{MsgId}
 use Rattle.ov_plum.specs.Ids.{id_cmp}
 
--- a note: the id of a message that is missing, and who said to have it
+-- a note: the id of a message that is missing, and a node that announced it
 abbrev pub Note : Type 0
 Note = MsgId × ℕ
 
@@ -22,7 +22,7 @@ is_of id note = eq_by_cmp id_cmp id note.0
 abbrev pub is_after : MsgId → Note → Bool
 is_after id note = is_lt (id_cmp id note.0)
 
--- who said to have this message, the oldest note first
+-- the nodes that announced this message, the oldest note first
 abbrev pub senders : MsgId → List Note → List ℕ
 senders id notes = each (λ n. n.1) (filter (is_of id) notes)
 
@@ -30,8 +30,8 @@ senders id notes = each (λ n. n.1) (filter (is_of id) notes)
 abbrev pub oldest : MsgId → List Note → Option ℕ
 oldest id notes = slice_get (senders id notes) 0
 
--- The notes after s said to have this message. Its note is put behind all notes whose id is not greater, unless it is
--- there. The order among different ids is chosen here: Plumtree leaves it open, and only the order among the notes of
+-- The notes after s announced this message. Its note is put after all notes whose id is not greater, unless it is there
+-- already. The order among different ids is chosen here: Plumtree leaves it open, and only the order among the notes of
 -- one id matters.
 abbrev pub noting : ℕ → MsgId → List Note → List Note
 noting s id notes =
@@ -51,7 +51,7 @@ without_oldest id (n ∷ notes) = if is_of id n then notes else n ∷ without_ol
 abbrev pub without_notes_by : ℕ → List Note → List Note
 without_notes_by x notes = filter (λ n. not (n.1 == x)) notes
 
--- The notes of smaller ids stand first. Nobody is noted twice for one id. The timer of each note's id runs.
+-- The notes of smaller ids come first. Nobody is noted twice for one id. The timer of each note's id runs.
 pub record AreNotes (notes : List Note) (running : set.FinSet id_cmp) : Type 0 where
   pub ordered : Ordered (λ m n. is_after n.0 m ≡ false) notes
   pub once : (id : MsgId) → IsDistinct (senders id notes)

@@ -33,7 +33,7 @@ abbrev pub IsPlumChange : PlumState → PlumChange → Type 0
 IsPlumChange t plum_change = HasPlumStep t (plum_after t plum_change)
 
 -- A step from t to u at this input, with these effects: it is allowed, each message that it sends is in range, and
--- there are at most so many
+-- there are at most `most_sends_at` of them
 abbrev pub IsPlumStep : PlumState → PlumInput → PlumState → Spread → Type 0
 IsPlumStep t input u effects =
     AllowedTree t input u effects.sends.items effects.delivered

@@ -1,6 +1,6 @@
 -- The rows of Plumtree at a node: t is what it keeps before and u after. GOSSIP, IHAVE, GRAFT and PRUNE with their
 -- purposes are Plumtree's (Leitão, Pereira, Rodrigues, SRDS 2007). Chosen here: that IHAVE and GRAFT carry no round,
--- and that a node which is no neighbour is answered too, where it sends GOSSIP again or asks by GRAFT.
+-- and that a node which is no neighbour is answered too, if it sends GOSSIP again or asks by GRAFT.
 use Rattle.std.specs.Prelude.{◌≡◌, ℕ, ◌+◌, ◌<◌, min, IsTrue, not, ◌||◌, ◌==◌, List, [], ◌∷◌, ◌++◌, map as each}
 use Rattle.std.specs.Prelude.{MatchBool, MatchOption, Option, Some, None}
 use Rattle.std.specs.FinMap as map
@@ -45,8 +45,8 @@ AllowedBroadcast t payload u sends delivery =
 abbrev pub passed_on : ℕ → List ℕ → HeldState
 passed_on round payload = record { round = min (round + 1) most_rounds; payload = payload }
 
--- GOSSIP from s. Where the message is held, s becomes lazy and gets PRUNE. Else the message is delivered, held and sent
--- on to all but s; s becomes eager; the notes of the message go, and its timer stops
+-- GOSSIP from s. If the message is held, s becomes lazy and gets PRUNE. Otherwise the message is delivered, held and
+-- sent on to all but s; s becomes eager; the notes of the message go, and its timer stops
 abbrev pub AllowedGossip : PlumState → ℕ → MsgId → ℕ → List ℕ → PlumState → List (ℕ × Message) → Option Delivered
     → Type 0
 AllowedGossip t s id round payload u sends delivery =
@@ -61,15 +61,15 @@ AllowedGossip t s id round payload u sends delivery =
     })
     × (sends ≡ spread t.me id held (down s t.branches)) × (delivery ≡ Some (id, payload)))
 
--- IHAVE from s. Nothing where the message is held or s is no neighbour; else s is noted, and the timer runs
+-- IHAVE from s. Nothing happens if the message is held or s is no neighbour. Otherwise s is noted, and the timer runs
 abbrev pub AllowedIHave : PlumState → ℕ → MsgId → PlumState → List (ℕ × Message) → Option Delivered → Type 0
 AllowedIHave t s id u sends delivery =
     IsQuiet sends delivery
     × MatchBool (map.contains_key t.held id || not (is_linked t.branches s)) (u ≡ t)
     (u ≡ record t { notes = noting s id t.notes; running = set.insert t.running id })
 
--- The timer of an id fires, which only one that runs can do. Where there is a note of the id, the oldest goes, its
--- sender becomes eager and gets GRAFT, and the timer runs on. Where there is none, the timer stops
+-- The timer of an id fires. Only a timer that runs can do so. If there is a note of the id, the oldest goes, its sender
+-- becomes eager and gets GRAFT, and the timer runs on. If there is none, the timer stops
 abbrev pub AllowedTimer : PlumState → MsgId → PlumState → List (ℕ × Message) → Option Delivered → Type 0
 AllowedTimer t id u sends delivery =
     IsTrue (set.contains t.running id) × (delivery ≡ None)
@@ -77,7 +77,7 @@ AllowedTimer t id u sends delivery =
     (λ s. (u ≡ record t { branches = makes_eager s t.branches; notes = without_oldest id t.notes })
     × (sends ≡ (s, say t.me (Graft id)) ∷ []))
 
--- GRAFT from s: it becomes eager, and gets the message where that is held
+-- GRAFT from s: it becomes eager, and gets the message if that is held
 abbrev pub AllowedGraft : PlumState → ℕ → MsgId → PlumState → List (ℕ × Message) → Option Delivered → Type 0
 AllowedGraft t s id u sends delivery =
     (u ≡ record t { branches = makes_eager s t.branches }) × (delivery ≡ None)
@@ -91,7 +91,7 @@ AllowedPrune t s u sends delivery = (u ≡ record t { branches = makes_lazy s t.
 abbrev pub AllowedUp : PlumState → ℕ → PlumState → Type 0
 AllowedUp t x u = u ≡ record t { branches = up x t.branches }
 
--- x is no neighbour any more, and the notes by x go. Timers run on
+-- x is no longer a neighbour, and the notes by x go. Timers run on
 abbrev pub AllowedDown : PlumState → ℕ → PlumState → Type 0
 AllowedDown t x u = u ≡ record t { branches = down x t.branches; notes = without_notes_by x t.notes }
 
@@ -111,7 +111,7 @@ AllowedFrom t s (Shuffle origin ttl ids) u sends delivery = (u ≡ t) × IsQuiet
 AllowedFrom t s (ShuffleReply ids) u sends delivery = (u ≡ t) × IsQuiet sends delivery
 
 -- an input of a node's part of Plumtree: a broadcast of its own, a message, a timer that fires, a node that becomes a
--- neighbour, a neighbour that is none any more
+-- neighbour, a neighbour that is no longer one
 pub data PlumInput : Type 0 where
   broadcasts : List ℕ → PlumInput
   receives : Message → PlumInput

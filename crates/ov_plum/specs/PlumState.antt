@@ -18,13 +18,13 @@ most_broadcasts = 4096
 abbrev pub most_rounds : ℕ
 most_rounds = 65535
 
--- A node's neighbours as two sets: whole messages go at once to the eager ones, and the lazy ones are only told that
--- there is a message
+-- A node's neighbours as two sets: whole messages go at once to the eager ones, and to the lazy ones it is only
+-- announced that there is a message
 pub record BranchesState : Type 0 where
   pub eager : List ℕ
   pub lazy : List ℕ
 
--- both are sets, have nobody in common, and have at most 64 members together
+-- both are sets, have no member in common, and have at most 64 members together
 pub record AreBranches (b : BranchesState) : Type 0 where
   pub eager_set : IsSet b.eager
   pub lazy_set : IsSet b.lazy
@@ -39,7 +39,7 @@ is_linked b x = has b.eager x || has b.lazy x
 abbrev pub up : ℕ → BranchesState → BranchesState
 up x b = record { eager = adding x b.eager; lazy = without x b.lazy }
 
--- x is no neighbour any more
+-- x is no longer a neighbour
 abbrev pub down : ℕ → BranchesState → BranchesState
 down x b = record { eager = without x b.eager; lazy = without x b.lazy }
 

@@ -1,8 +1,8 @@
 //! Plumtree's part of a node: over which links whole broadcasts go, which of them it holds, and which it waits for.
 //!
 //! Plumtree (Leitão, Pereira, Rodrigues, *Epidemic broadcast trees*, SRDS 2007) sends a broadcast whole over eager
-//! links, which come to form a tree, and only announces it over lazy ones; who misses one asks for it, and so mends the
-//! tree.
+//! links, which come to form a tree, and only announces it over lazy ones; a node that misses one asks for it, and so
+//! mends the tree.
 #![tactic(auto)]
 
 mod branches;

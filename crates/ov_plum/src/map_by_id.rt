@@ -12,7 +12,7 @@ use ov_ids::{MsgId, NodeId, OutOfMemory};
 use std::alloc::Global;
 use std::marker::Model;
 
-/// What can be copied, or is out of memory.
+/// A value that can be copied, unless the copy is out of memory.
 pub(crate) trait TryCopy {
     /// An equal value.
     fn try_copy(&self) -> Result<Self, OutOfMemory>
@@ -88,7 +88,7 @@ impl<V: Drop + TryCopy> ById<V> {
     }
 }
 
-/// A copy of each entry. It goes from the last one to the first, since of equal ids the first would count.
+/// A copy of each entry. It goes from the last one to the first, since among equal ids the first entry would count.
 fn copy_of<V: Drop + TryCopy>(entries: &IndexMap<MsgId, V>) -> Result<ById<V>, OutOfMemory>
     ensures { IfOk result (λ m. m ≡ map.from_entries entries.now.entries) }
 {

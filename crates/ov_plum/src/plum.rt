@@ -83,7 +83,7 @@ impl Plum {
         self.branches.eager()
     }
 
-    /// The neighbours who are only told that there is a message, ascending.
+    /// The neighbours to whom a message is only announced, ascending.
     pub fn lazy(&self) -> &[NodeId]
         ensures value { result.now ≡ self.now.branches.lazy }
         ensures kept { IsPlum self.now }
@@ -128,10 +128,10 @@ impl Plum {
         })
     }
 
-    /// Plans the step at GOSSIP from a node, with a payload of at most 1,024 bytes. Where the message is held, the
-    /// sender is to become lazy and to get PRUNE. Else it is to be delivered, held and sent on to all but the sender;
-    /// the sender is to become eager, the notes of the message are to go, and its timer is to stop. GOSSIP from the
-    /// node itself does nothing. OutOfMemory (99) if an allocation is refused.
+    /// Plans the step at GOSSIP from a node, with a payload of at most 1,024 bytes. If the message is held, the sender
+    /// is to become lazy and to get PRUNE. Otherwise it is to be delivered, held and sent on to all but the sender; the
+    /// sender is to become eager, the notes of the message are to go, and its timer is to stop. GOSSIP from the node
+    /// itself does nothing. OutOfMemory (99) if an allocation is refused.
     pub fn plan_gossip(
         &self,
         from: NodeId,
@@ -163,9 +163,9 @@ impl Plum {
         })
     }
 
-    /// Plans the step at IHAVE from a node. Nothing where the message is held, or where the sender is no neighbour or
-    /// the node itself; else the sender is to be noted behind the older notes of the message, unless it is noted, and
-    /// the timer is to run. Nothing is allocated.
+    /// Plans the step at IHAVE from a node. Nothing is to happen if the message is held, or if the sender is no
+    /// neighbour or the node itself. Otherwise the sender is to be noted after the older notes of the message, unless
+    /// it is noted already, and the timer is to run. Nothing is allocated.
     pub fn plan_ihave(&self, from: NodeId, id: MsgId) -> PlumPlan
         ensures { IsPlumPlan self.now (receives (say from (IHave id))) result }
     {
@@ -175,8 +175,8 @@ impl Plum {
         self.quiet(PlumChange::Awaits { id, from })
     }
 
-    /// Plans the step at GRAFT from a node: it is to become eager, and to get the message where that is held. GRAFT
-    /// from the node itself does nothing. OutOfMemory (99) if an allocation is refused.
+    /// Plans the step at GRAFT from a node: it is to become eager, and to get the message if that is held. GRAFT from
+    /// the node itself does nothing. OutOfMemory (99) if an allocation is refused.
     pub fn plan_graft(&self, from: NodeId, id: MsgId) -> Result<PlumPlan, OutOfMemory>
         ensures { IfOk result (IsPlumPlan self.now (receives (say from (Graft id)))) }
     {
@@ -195,7 +195,7 @@ impl Plum {
     }
 
     /// Plans the step at PRUNE from a node: it is to become lazy. PRUNE from the node itself does nothing. Nothing is
-    /// allocated, neither here nor where the plan is applied.
+    /// allocated, neither here nor when the plan is applied.
     pub fn plan_prune(&self, from: NodeId) -> PlumPlan
         ensures allowed { IsPlumPlan self.now (receives (say from Prune)) result }
         ensures room { may_allocate result.plum_change ≡ false }
@@ -206,9 +206,9 @@ impl Plum {
         self.quiet(PlumChange::Lazy(from))
     }
 
-    /// Plans the step at which the timer of an id fires. Where there is a note of the id, the oldest is to go, and its
-    /// sender is to become eager and to get GRAFT. Where there is none, the timer is to stop. NoTimer (18) where the
-    /// timer does not run; OutOfMemory (99) if an allocation is refused.
+    /// Plans the step at which the timer of an id fires. If there is a note of the id, the oldest is to go, and its
+    /// sender is to become eager and to get GRAFT. If there is none, the timer is to stop. NoTimer (18) if the timer
+    /// does not run; OutOfMemory (99) if an allocation is refused.
     pub fn plan_timer(&self, id: MsgId) -> Result<PlumPlan, TimerFault>
         ensures allowed { IfOk result (IsPlumPlan self.now (fires id)) }
         ensures no_timer { result ≡ Err NoTimer ↔ set.contains self.now.running id ≡ false }
@@ -317,8 +317,8 @@ impl Plum {
         }
     }
 
-    /// Plans the step by `plan_timer`, and applies it. NoTimer (18) where the timer does not run; OutOfMemory (99)
-    /// if an allocation is refused. After a fault nothing has changed.
+    /// Plans the step by `plan_timer`, and applies it. NoTimer (18) if the timer does not run; OutOfMemory (99) if an
+    /// allocation is refused. After a fault nothing has changed.
     pub fn on_timer(&mut self, id: MsgId) -> Result<Spread, TimerFault>
         ensures ok { IfOk result (IsPlumStep self.old (fires id) self.new) }
         ensures no_timer { result ≡ Err NoTimer ↔ set.contains self.old.running id ≡ false }
@@ -336,7 +336,7 @@ impl Plum {
         self.branches.up(id);
     }
 
-    /// A node is no neighbour any more, and the notes by it go. Timers run on. Nothing is allocated.
+    /// A node is no longer a neighbour, and the notes by it go. Timers run on. Nothing is allocated.
     pub fn down(&mut self, id: NodeId)
         ensures { AllowedTree self.old (goes_down id) self.new [] None }
     {

@@ -15,7 +15,7 @@ pub enum PlumChange {
     Eager(NodeId),
     /// A neighbour becomes lazy.
     Lazy(NodeId),
-    /// A message is waited for: who said to have it is noted, and its timer runs.
+    /// A message is waited for: the node that announced it is noted, and its timer runs.
     Awaits { id: MsgId, from: NodeId },
     /// A message is asked for: its oldest note goes, and the sender of that note becomes eager.
     Asks { id: MsgId, from: NodeId },

@@ -6,7 +6,8 @@ use ov_ids::{NodeId, OutOfMemory};
 use std::alloc::Global;
 use std::marker::Model;
 
-/// Who said to have a message, the first to say so first: the senders of the notes of one id. Contracts see the list.
+/// The nodes that announced a message, the first to announce it first: the senders of the notes of one id. Contracts
+/// see the list.
 #[derive(Drop)]
 pub struct Senders {
     ids: Vec<NodeId>,

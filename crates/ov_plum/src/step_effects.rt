@@ -69,7 +69,7 @@ impl Spread {
     }
 }
 
-/// The message in which a held one goes to a neighbour.
+/// The message that carries a held one to a neighbour.
 pub(crate) fn whole_message(
     alloc: Global,
     me: NodeId,
@@ -108,7 +108,7 @@ fn send_whole(
     Ok(())
 }
 
-/// The message that tells a neighbour of one that is held.
+/// The message that announces a held one to a neighbour.
 fn announcement(me: NodeId, id: MsgId) -> Message
     ensures { result ≡ say me (IHave id) }
 {
@@ -118,7 +118,7 @@ fn announcement(me: NodeId, id: MsgId) -> Message
     }
 }
 
-/// Tells each of these that there is a message.
+/// Announces a message to each of these.
 fn announce(
     sends: &mut Vec<(NodeId, Message)>,
     me: NodeId,

@@ -7,8 +7,8 @@ use std::fmt::Write;
 
 /// Why the analysis of a graph file of these bytes, for this group, is answered by a refusal: the graph has no nodes
 /// (30), or the ids are no group of nodes (34). Without a group, all nodes are the group. The text ends with a line
-/// feed. None where the analysis is not refused, and where the bytes say no graph: of that `graph_reasons` tells.
-/// OutOfMemory (99) if an allocation is refused.
+/// feed. None if the analysis is not refused, or if the bytes say no graph, which `graph_reasons` explains. OutOfMemory
+/// (99) if an allocation is refused.
 pub fn group_reason(
     alloc: Global,
     bytes: &[u8],
@@ -51,7 +51,8 @@ fn push_refusal(text: &mut String, graph: &Graph, ids: &[NodeId]) -> Result<bool
     Ok(true)
 }
 
-/// Appends why these ids are no group of any graph: there are none, or they do not ascend. Returns whether that is so.
+/// Appends why these ids are no group of any graph: there are none, or they do not ascend. Returns whether one of these
+/// is true.
 pub(crate) fn push_unordered(text: &mut String, ids: &[NodeId]) -> Result<bool, AllocError> {
     if ids.is_empty() {
         text.push_str("the group has no members")?;
@@ -73,7 +74,7 @@ fn push_fall(text: &mut String, before: u32, id: u32) -> Result<(), AllocError> 
     write!(text, "behind {before}")
 }
 
-/// The first of these ids that is not above the one before it, behind that one.
+/// The first of these ids that is not above the one before it, preceded by that one.
 fn first_fall(ids: &[NodeId]) -> Option<(NodeId, NodeId)> {
     for at in 1..ids.len() {
         let (before, id) = (ids[at - 1], ids[at]);

@@ -10,7 +10,7 @@ use std::alloc::AllocError;
 use std::fmt::Write;
 
 /// Appends why a world refuses an event with this number. The world is as the event found it. The numbers are those of
-/// `NetFault`; of any other, that the event was refused.
+/// `NetFault`. For any other number, appends that the event is refused.
 pub(crate) fn push_event_reason(
     text: &mut String,
     world: &World,
@@ -56,7 +56,7 @@ pub(crate) fn push_node(
     write!(text, "{before}{node}{behind}")
 }
 
-/// The node at which the event happens; 0 where it names none.
+/// The node at which the event happens; 0 if it names none.
 fn acting(event: &Event) -> NodeId {
     match event {
         Event::Boot(node, _)
@@ -69,7 +69,7 @@ fn acting(event: &Event) -> NodeId {
     }
 }
 
-/// The node that must live for the event: the contact of a birth, and else the node at which it happens.
+/// The node that must live for the event: the contact of a birth, otherwise the node at which it happens.
 fn met(event: &Event) -> NodeId {
     match event {
         Event::Boot(_, Some(contact)) => *contact,
@@ -77,7 +77,7 @@ fn met(event: &Event) -> NodeId {
     }
 }
 
-/// The node that is said to have crashed, and else the node that must live.
+/// The node that is said to have crashed, otherwise the node that must live.
 fn reported(event: &Event) -> NodeId {
     match event {
         Event::CrashReport(_, crashed) => *crashed,

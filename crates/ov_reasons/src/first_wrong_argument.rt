@@ -30,7 +30,7 @@ pub(crate) enum Wrong<'a> {
     Command(&'a str),
     /// The command has no such option: the command, and the option.
     Unknown(&'a str, &'a str),
-    /// The option stands twice.
+    /// The option is given twice.
     Twice(&'static str),
     /// The option has no value, and takes one of this kind.
     NoValue(&'static str, Kind),
@@ -44,7 +44,7 @@ pub(crate) enum Wrong<'a> {
     Unfound,
 }
 
-/// What is wrong with the arguments behind the program's name.
+/// What is wrong with the arguments after the program's name.
 pub(crate) fn wrong_of(alloc: Global, arguments: &[String]) -> Result<Wrong<'_>, OutOfMemory> {
     let Some((command, rest)) = arguments.split_first() else {
         return Ok(Wrong::NoText);
@@ -64,16 +64,16 @@ pub(crate) fn wrong_of(alloc: Global, arguments: &[String]) -> Result<Wrong<'_>,
     Ok(scan.wrong_of_rest(rest)?.unwrap_or(Wrong::Unfound))
 }
 
-/// What the arguments so far say, as far as it matters to those behind them.
+/// What the arguments so far say, as far as it matters to those after them.
 #[derive(Clone, Copy)]
 struct Scan<'a> {
     alloc: Global,
     command: &'a str,
     /// The option whose value comes next, and the kind of that.
     awaits: Option<(&'static str, Kind)>,
-    /// Which options stood, in the order of all.
+    /// Which options were given, in the order of `COMMAND_OPTIONS`.
     seen: [bool; OPTIONS],
-    /// Whether `--` stood, behind which nothing is an option.
+    /// Whether `--` was given, after which nothing is an option.
     only_files: bool,
     has_file: bool,
 }

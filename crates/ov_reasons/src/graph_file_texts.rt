@@ -10,9 +10,9 @@ use ov_ids::{NodeId, OutOfMemory};
 use std::alloc::{AllocError, Global};
 use std::fmt::Write;
 
-/// Why a graph file of these bytes was refused with this fault. If a line can't be read, all such lines are told of, as
-/// by `scenario_reasons`. If the graph is at fault, the line of the node or the link at fault is. OutOfMemory (99) if
-/// an allocation is refused.
+/// Why a graph file of these bytes was refused with this fault. If a line can't be read, such lines are explained, 20
+/// at most, as by `scenario_reasons`. If the graph is at fault, the line of the node or the link at fault is explained.
+/// OutOfMemory (99) if an allocation is refused.
 pub fn graph_reasons(
     alloc: Global,
     bytes: &[u8],
@@ -38,7 +38,7 @@ pub fn graph_fault_reasons(
     Ok(text)
 }
 
-/// Why each line of a graph file of these bytes that can't be read can't, 20 lines at most. OutOfMemory (99) if an
+/// Why lines of a graph file of these bytes can't be read: each such line, but 20 lines at most. OutOfMemory (99) if an
 /// allocation is refused.
 pub fn unread_line_reasons(alloc: Global, bytes: &[u8]) -> Result<String, OutOfMemory> {
     let lines = unread_lines(alloc, bytes)?;

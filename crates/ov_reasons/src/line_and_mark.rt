@@ -26,8 +26,8 @@ fn start_of_word(line: &[u8], place: usize) -> usize {
     cursor.unread(END).at
 }
 
-/// Appends a line feed, a line of a file, and below that a mark under the byte at this place, or right behind the line.
-/// Of a long line what stands round the mark is shown, with `..` for what is left out.
+/// Appends a line feed, a line of a file, and below that a mark under the byte at this place, or right after the line.
+/// Of a long line only the part around the mark is shown, with `..` for what is left out.
 pub(crate) fn push_marked(text: &mut String, line: &[u8], at: usize) -> Result<(), AllocError> {
     let (before, behind) = line.split_at(at.min(line.len()));
     text.push_str("\n  ")?;
@@ -45,7 +45,7 @@ fn last_width(text: &str) -> usize {
     }
 }
 
-/// Appends a line feed, and a mark behind so many spaces.
+/// Appends a line feed, and a mark after this many spaces.
 fn push_mark(text: &mut String, width: usize) -> Result<(), AllocError> {
     text.push_str("\n")?;
     for _ in 0..width {

@@ -68,7 +68,7 @@ fn push_report(text: &mut String, report: &str, subject: &Subject) -> Result<(),
     write!(text, "{report} is filed of moment {moment} and {group}")
 }
 
-/// Appends why ids are refused as a group of those who lived at a moment.
+/// Appends why ids are refused as a group of the nodes that lived at a moment.
 fn push_bad_ids(
     text: &mut String,
     core: &Core,
@@ -85,7 +85,7 @@ fn push_bad_ids(
     Ok(write!(text, "{moment}")?)
 }
 
-/// The first of these ids that did not live at a moment. None also where it is not known who lived then.
+/// The first of these ids that did not live at a moment. None also if it is not known which nodes lived then.
 fn first_absent(core: &Core, moment: u32, ids: &[NodeId]) -> Result<Option<NodeId>, OutOfMemory> {
     match core.begin(moment) {
         Ok(job) => Ok(first_stranger(&job.graph, ids)),

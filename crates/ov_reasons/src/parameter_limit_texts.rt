@@ -39,7 +39,7 @@ pub(crate) fn push_out_of_limits(
     push_marked_word(text, line, first.unwrap_or(0))
 }
 
-/// Appends that a parameter is out of its limits, behind others or not.
+/// Appends that a parameter is out of its limits, after others or not.
 fn push_parameter(
     text: &mut String,
     is_behind: bool,

@@ -13,7 +13,7 @@ usage: overlay run [FILE] [--explain]
        overlay analyse [FILE] [--group IDS] [--workers N] [--certificate] [--progress]
 ";
 
-/// What stands above the usage where help is asked for.
+/// What is printed above the usage if help is asked for.
 const HELP: &str = "\
 overlay run runs the events of a scenario file, and prints what happens.
   --explain      tells on standard error why lines are refused, and counts the events
@@ -28,9 +28,9 @@ Without FILE, or with -, standard input is read. Bare overlay is overlay run.
 /// The program with its version, and the logic that it is proved with. Each kit of that logic may build it.
 const VERSION: &str = "overlay 1.0, proved with Rattle's logic dac8208d650f15bf\n";
 
-/// What is said of arguments that `overlay` refuses, which follow the program's name: help, the version, or what is
-/// wrong with them, with the usage. Without arguments they are those that are no UTF-8. OutOfMemory (99) if an
-/// allocation is refused.
+/// What is said of arguments that `overlay` refuses: help, the version, or what is wrong with them, with the usage.
+/// They are the arguments after the program's name. An empty list means that an argument is no UTF-8. OutOfMemory (99)
+/// if an allocation is refused.
 pub fn argument_reasons(alloc: Global, arguments: &[String]) -> Result<String, OutOfMemory> {
     let wrong = wrong_of(alloc, arguments)?;
     let mut text = String::new(alloc);
@@ -65,7 +65,7 @@ fn begins_with(arguments: &[String], argument: &str) -> bool {
     }
 }
 
-/// Whether an option asks for help. Behind `--` nothing is an option.
+/// Whether an option asks for help. After `--` nothing is an option.
 fn has_help_option(arguments: &[String]) -> bool {
     for argument in arguments {
         match argument.as_str() {
@@ -147,7 +147,7 @@ fn push_takes(text: &mut String, option: &str, kind: &Kind) -> Result<(), AllocE
     push_kind(text, kind)
 }
 
-/// Appends an argument, or a part of one, with what is said before and behind it.
+/// Appends an argument, or a part of one, with what is said before and after it.
 fn push_quoted(
     text: &mut String,
     before: &str,

@@ -22,13 +22,13 @@ pub fn refusal_reason(
     Ok(text)
 }
 
-/// The line that tells of a refused line of a file, by its number, and why it was refused. It ends with a line feed.
+/// The line that names a refused line of a file by its number, and says why it was refused. It ends with a line feed.
 /// OutOfMemory (99) if an allocation is refused.
 pub fn refusal_line(alloc: Global, number: usize, reason: &str) -> Result<String, OutOfMemory> {
     Ok(format!(in alloc; "line {number}: {reason}\n")?)
 }
 
-/// The line that tells how many events were accepted and refused. It ends with a line feed. OutOfMemory (99) if an
+/// The line that says how many events were accepted and refused. It ends with a line feed. OutOfMemory (99) if an
 /// allocation is refused.
 pub fn count_line(alloc: Global, accepted: u64, refused: u64) -> Result<String, OutOfMemory> {
     let events = if accepted == 1 { "event" } else { "events" };

@@ -68,7 +68,7 @@ fn push_misplaced(text: &mut String, fault: &LineFault) -> Result<(), AllocError
     }
 }
 
-/// Appends that random words stand before a line of this number, which is no event, or before the end of the file.
+/// Appends that random words come before a line of this number, which is no event, or before the end of the file.
 fn push_no_event(text: &mut String, next: Option<usize>) -> Result<(), AllocError> {
     text.push_str("random words must stand right before an event, and ")?;
     match next {

@@ -63,7 +63,7 @@ fn text_of(kind: &Kind) -> &'static str {
     }
 }
 
-/// Appends what may help at a word that stands where a word of this kind is expected.
+/// Appends what may help at a word, if a word of this kind is expected in its place.
 pub(crate) fn push_hint(text: &mut String, word: &[u8], kind: &Kind) -> Result<(), AllocError> {
     match bytes_hint(word) {
         Some(hint) => write!(text, "; {hint}"),
@@ -71,8 +71,8 @@ pub(crate) fn push_hint(text: &mut String, word: &[u8], kind: &Kind) -> Result<(
     }
 }
 
-/// Appends the limits of a number of this kind if what it is does not tell them, or of each id of a list whose ids are
-/// all written as numbers.
+/// Appends the limits of a number of this kind if the text of the kind does not say them, or of each id of a list whose
+/// ids are all written as numbers.
 pub(crate) fn push_limits(text: &mut String, word: &[u8], kind: &Kind) -> Result<(), AllocError> {
     let (short, long) = (u32::MAX, u64::MAX);
     match kind {
@@ -111,7 +111,7 @@ pub(crate) fn bytes_hint(word: &[u8]) -> Option<&'static str> {
     has_sign(word).then_some("a number has no sign")
 }
 
-/// Whether a word is a number behind a sign.
+/// Whether a word is a number after a sign.
 fn has_sign(word: &[u8]) -> bool {
     match word.split_first() {
         Some((sign, digits)) => (*sign == b'-' || *sign == b'+') && read_number(digits).is_some(),

@@ -21,8 +21,8 @@ unfoldable pub answer_text : Cert → LinkGraph → List ℕ → Bool → List �
 answer_text c g q false = report_line 0 c g q
 answer_text c g q true = report_line 0 c g q ++ file_text c g q 0
 
--- a graph without nodes is refused with 30; ids that are no group of the nodes are refused with 34; and else the answer
--- of the analysis is printed, a certificate that is valid for the group
+-- a graph without nodes is refused with 30; ids that are no group of the nodes are refused with 34; otherwise the
+-- answer of the analysis is printed, a certificate that is valid for the group
 abbrev pub PrintsAnswer : LinkGraph → List ℕ → Bool → List ℕ → Type 0
 PrintsAnswer g q certificate text =
     ((¬ HasNode g) × (text ≡ refused_line (even.number_of NoNodes)))
@@ -41,7 +41,7 @@ PrintsAnalysis reader group certificate before after =
     (bytes : List ℕ) × (text : List ℕ) × IfSome reader (λ xs. bytes ≡ xs) × IsAnalysis bytes group certificate text
     × Appends before after text
 
--- the same of a prefix of that text
+-- the same for a prefix of that text
 abbrev pub BeginsAnalysis : Option (List ℕ) → Option (List ℕ) → Bool → Option (List ℕ) → Option (List ℕ) → Type 0
 BeginsAnalysis reader group certificate before after =
     (bytes : List ℕ) × (text : List ℕ) × IfSome reader (λ xs. bytes ≡ xs) × IsAnalysis bytes group certificate text
@@ -61,7 +61,7 @@ pub record IsAnalysisOf {W : Type 0} (reader : Option (List ℕ)) (contents : W 
   -- however it ends, the sink is as before, or the writer took a prefix of the text of the analysis
   pub begun : (sink_after ≡ sink_before)
       ⊎ BeginsAnalysis reader group certificate (contents sink_before.writer) (contents sink_after.writer)
-  -- after Write the sink counts one fault more, and else as many as before
+  -- after Write the sink counts one more fault, otherwise the same number as before
   pub sink : sink_after.faults ≡ sink_before.faults + write_faults result
   -- after any fault but Write, the sink is as before
   pub unwritten : IfErr result (λ f. ¬ (f ≡ Write) → sink_after ≡ sink_before)
@@ -75,7 +75,7 @@ pub record IsFileAnalysis {R W : Type 0} (remaining : R → Option (List ℕ)) (
     (source_after : SourceState R) (sink_after : SinkState W) (result : Result ℕ RunFault) : Type 0 where
   -- it is an analysis of the graph file of the source's reader
   pub analysis : IsAnalysisOf (remaining source_before.reader) contents sink_before group certificate sink_after result
-  -- after Read the source counts one fault more, and else as many as before
+  -- after Read the source counts one more fault, otherwise the same number as before
   pub source : source_after.faults ≡ source_before.faults + read_faults result
   -- Read is returned only if the reader failed in this analysis
   pub failed : IsErrOf result Read → ReaderFailed source_before source_after

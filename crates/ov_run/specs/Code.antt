@@ -1,3 +1,3 @@
--- What only the contracts of private functions speak of; whoever reads the public ones need not believe it.
+-- What only the contracts of private functions use. A reader of the public contracts need not rely on it.
 pub mod Outcomes
 pub mod Writing

@@ -23,7 +23,7 @@ use Rattle.ov_scenario.specs.declared.scenario.Scenario.{Scenario}
 abbrev pub BeginsPackets : List (ℕ × Message) → List ℕ → Type 0
 BeginsPackets packets text = (count : ℕ) × PrintsPackets 0 (take count packets) text
 
--- what is printed of a look that is not printed whole: of `packets` the lines of the first packets, and else nothing
+-- what is printed of a look that is not printed whole: of `packets` the lines of the first packets, otherwise nothing
 abbrev pub BeginsLook : CoreState → Look → List ℕ → Type 0
 BeginsLook b (Show id) text = text ≡ []
 BeginsLook b Packets text = BeginsPackets b.world.net.packets text

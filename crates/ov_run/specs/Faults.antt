@@ -87,7 +87,7 @@ IsRunFault reader Read = ⊤
 IsRunFault reader Write = ⊤
 IsRunFault reader OutOfMemory = ⊤
 
--- the same of an analysis of a graph file, which has no line of parameters
+-- the same for an analysis of a graph file, which has no line of parameters
 abbrev pub IsAnalysisFault : Option (List ℕ) → RunFault → Type 0
 IsAnalysisFault reader (Line n) = IfSome reader (λ bytes. IsAnalysisFileFault bytes (Line n))
 IsAnalysisFault reader (Params n) = ⊥

@@ -20,8 +20,8 @@ change_text (Up a b) = codes " up " ++ (decimal a ++ (codes " " ++ decimal b))
 change_text (Down a b) = codes " down " ++ (decimal a ++ (codes " " ++ decimal b))
 change_text (Gone a) = codes " gone " ++ decimal a
 
--- a delivery, with a space before it: who delivered, the origin of the broadcast, and its number among the broadcasts
--- of that origin
+-- a delivery, with a space before it: the node that delivered, the origin of the broadcast, and its number among the
+-- broadcasts of that origin
 abbrev pub delivery_text : Option Delivery → List ℕ
 delivery_text None = []
 delivery_text (Some d) =

@@ -17,14 +17,14 @@ pub record IsRunOf {W : Type 0} (reader : Option (List ℕ)) (contents : W → O
   pub prints : OnOk result (PrintsScenario reader (contents sink_before.writer) (contents sink_after.writer))
   -- however it ends, the sink is as before, or the writer took a prefix of what the scenario prints up to some point
   pub begun : (sink_after ≡ sink_before) ⊎ Begins reader (contents sink_before.writer) (contents sink_after.writer)
-  -- after Write the sink counts one fault more, and else as many as before
+  -- after Write the sink counts one more fault, otherwise the same number as before
   pub sink : sink_after.faults ≡ sink_before.faults + write_faults result
   -- a fault of a line is that of the first line at fault, and no fault is one of a graph
   pub fault : IfErr result (IsRunFault reader)
   -- after a fault of reading, Line, Params or Read, the sink is as before
   pub unread : IfErr result (λ fault. IsOfReading fault → sink_after ≡ sink_before)
   -- after OutOfMemory the sink is as before, or the writer took all that the scenario prints up to the line that ends
-  -- the run so
+  -- the run out of memory
   pub memory : IsErrOf result OutOfMemory
       → (sink_after ≡ sink_before) ⊎ Ends reader (contents sink_before.writer) (contents sink_after.writer)
 
@@ -35,7 +35,7 @@ pub record IsRun {R W : Type 0} (remaining : R → Option (List ℕ)) (contents 
     (sink_after : SinkState W) (result : Result ℕ RunFault) : Type 0 where
   -- it is a run of the scenario of the source's reader
   pub run : IsRunOf (remaining source_before.reader) contents sink_before sink_after result
-  -- after Read the source counts one fault more, and else as many as before
+  -- after Read the source counts one more fault, otherwise the same number as before
   pub source : source_after.faults ≡ source_before.faults + read_faults result
   -- Read is returned only if the reader failed in this run
   pub failed : IsErrOf result Read → ReaderFailed source_before source_after

@@ -1,4 +1,4 @@
--- The main theorem, as who runs a scenario meets it: what holds of each line that is printed of a report.
+-- The main theorem, for a user who runs a scenario: what holds of each line that is printed of a report.
 use Rattle.std.specs.Prelude.{◌≡◌, ◌⊎◌, ℕ, List}
 use Rattle.ov_ids.specs.ParamsState.{ParamsState}
 use Rattle.ov_snap.specs.CoreState.{CoreState, opening_core}

@@ -55,7 +55,7 @@ impl<'a> Display for ChangesText<'a> {
     }
 }
 
-/// What was delivered, with a space before it. Where nothing was, the text is empty.
+/// What was delivered, with a space before it. If nothing was delivered, the text is empty.
 #[derive(Drop)]
 pub(crate) struct DeliveryText<'a>(pub(crate) &'a Option<Delivery>);
 

@@ -1,6 +1,6 @@
 ghost use Rattle.ov_run.specs.Theorems.{EveryPrintedReportIsSo};
 
-/// The main theorem, as who runs a scenario meets it. Whatever lines ran before: what `analyse` prints is a refusal, or
+/// The main theorem, for a user who runs a scenario. Whatever lines ran before: what `analyse` prints is a refusal, or
 /// the line of a report of what it asks for; and what `certificate` prints is a refusal, or the certificate file of a
 /// report of what it asks for. What the report says is true. A snapshot was taken at its moment, and its graph has
 /// exactly the links that both ends held then. Crashing the k nodes that it names leaves two surviving members of its

@@ -1,5 +1,5 @@
--- The random words that a seed gives to events. The generator is `Pcg64` of the crate `rand_pcg`; that it is used so is
--- chosen here.
+-- The random words that a seed gives to events. The generator is `Pcg64` of the crate `rand_pcg`; that it is used in
+-- this way is chosen here.
 use Rattle.std.specs.Prelude.{◌≡◌, ℕ, List, [], ◌∷◌, length}
 use Rattle.rand_core.specs.Stream.{Stream}
 use Rattle.rand_core.specs.Steps.{stream_of, steps_u64_low}
@@ -11,7 +11,7 @@ use Rattle.ov_words.specs.Stream.{AreOutputs, words_per_event}
 abbrev pub seed_bytes : ℕ
 seed_bytes = 32
 
--- what the generator `Pcg64` returns, from its first call on, where `seed_from_u64` made it of this number
+-- what the generator `Pcg64` returns, from its first call on, if `seed_from_u64` made it of this number
 unfoldable pub seeded : ℕ → Stream
 seeded seed = stream_of (steps_u64_low pcg64) (pcg64_of_seed (pcg32_seed seed_bytes seed))
 

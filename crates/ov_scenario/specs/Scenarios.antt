@@ -1,5 +1,5 @@
 -- What a scenario file says, and the first fault of a file that says no scenario. Both are facts of its lines that are
--- not skipped, each with those before it and those behind it. The form of the file is chosen here.
+-- not skipped, each with those before it and those after it. The form of the file is chosen here.
 use Rattle.std.specs.Prelude.{◌≡◌, ◌⊎◌, ℕ, Bool, true, false, List, [], ◌∷◌, ◌++◌, map, Option, Some, None}
 use Rattle.std.specs.Prelude.{if◌then◌else◌}
 use Rattle.rand_core.specs.Stream.{Stream}
@@ -28,8 +28,7 @@ use Rattle.ov_scenario.specs.declared.statement.Statement.TheVariants as says
 abbrev pub stated_at : ℕ × List ℕ → Stated
 stated_at line = record { number = line.0; says = statement_of line.1 }
 
--- the lines of a file that are not skipped, in order: the number of each, and what it says, or none where it can't be
--- read
+-- the lines of a file that are not skipped, in order: the number of each, and what it says, or None if it can't be read
 unfoldable pub stated_lines : List ℕ → List Stated
 stated_lines bytes = map stated_at (kept_lines bytes)
 
@@ -67,7 +66,7 @@ abbrev pub BeginWithEvent : List Stated → Type 0
 BeginWithEvent [] = ⊥
 BeginWithEvent (line ∷ more) = (event : Event) × (line.says ≡ Some (says.Event event))
 
--- the parameters where no line gives any: those of the experiments of HyParView (Leitão, Pereira, Rodrigues, DSN 2007),
+-- the parameters if no line gives any: those of the experiments of HyParView (Leitão, Pereira, Rodrigues, DSN 2007),
 -- and a time to live of a shuffle that is chosen here
 abbrev pub default_params : ParamsState
 default_params = record { active = 5; passive = 30; arwl = 6; prwl = 3; ka = 3; kp = 4; shuffle_ttl = 4 }
@@ -81,7 +80,7 @@ AreParams numbers p =
 abbrev pub AreWithin : List ℕ → Type 0
 AreWithin numbers = (p : ParamsState) × AreParams numbers p
 
--- what the lines before a line tell of it: the numbers of the first event, the first parameters and the first seed
+-- what matters of the lines before a line: the numbers of the first event, the first parameters and the first seed
 abbrev pub before_of : List Stated → Before
 before_of lines = record {
   event = first_of is_event lines;
@@ -89,14 +88,14 @@ before_of lines = record {
   seed = first_of is_seed lines;
 }
 
--- a line sets something for the whole run too late, and this is its fault: it stands behind an event, or else behind a
--- line that sets the same. The first of these have these numbers, where there are any
+-- a line sets something for the whole run too late, and this is its fault: it comes after an event, or else after a
+-- line that sets the same. The first event and the first such line have these numbers, if there are any
 abbrev pub IsTooLate : Setting → Option ℕ → Option ℕ → LineFault → Type 0
 IsTooLate setting (Some event) same f = f ≡ fault.BehindEvent setting event
 IsTooLate setting None (Some line) f = f ≡ fault.SetBefore setting line
 IsTooLate setting None None f = ⊥
 
--- a line that says this is at fault, and this is its fault. These lines are before it and behind it
+-- a line that says this is at fault, and this is its fault. These lines are before it and after it
 abbrev pub IsWrong : Before → Option Statement → List Stated → LineFault → Type 0
 -- a line that can't be read; what is wanted, and where, is not said here
 IsWrong before None behind f = (unread : Unread) × (f ≡ fault.Unread unread)
@@ -109,13 +108,13 @@ IsWrong before (Some (says.Seed seed)) behind f = IsTooLate sets.Seed before.eve
 IsWrong before (Some (says.Params numbers)) behind f =
     IsTooLate sets.Params before.event before.params f
     ⊎ ((before.event ≡ None) × (before.params ≡ None) × (¬ AreWithin numbers) × (f ≡ fault.OutOfLimits numbers))
--- an event, a look and an analysis never are
+-- an event, a look and an analysis are never at fault
 IsWrong before (Some (says.Event event)) behind f = ⊥
 IsWrong before (Some (says.Look look)) behind f = ⊥
 IsWrong before (Some (says.Analyse subject workers)) behind f = ⊥
 
--- of these lines, which stand behind those before, these are at fault, in order: each line has no fault and is passed
--- over, or it is at fault and told with its number and its fault
+-- of these lines, which follow those before, these are at fault, in order: each line has no fault and is passed over,
+-- or it is at fault and listed with its number and its fault
 unfoldable pub AreFaulty : List Stated → List Stated → List FaultyLine → Type 0
 AreFaulty before [] faulty = faulty ≡ []
 AreFaulty before (line ∷ behind) faulty =
@@ -149,21 +148,21 @@ IsFirstFault lines refused.OutOfMemory = Unit {0}
 abbrev pub IsReadingFault : List ℕ → ScenarioFault → Type 0
 IsReadingFault bytes fault = IsFirstFault (stated_lines bytes) fault
 
--- these are the parameters of these lines: those that one of them gives, or the default ones where none gives any
+-- these are the parameters of these lines: those that one of them gives, or the default ones if none gives any
 unfoldable pub AreParamsOf : List Stated → ParamsState → Type 0
 AreParamsOf lines p =
     ((line : Stated) × (numbers : List ℕ) × Has lines line × (line.says ≡ Some (says.Params numbers))
     × AreParams numbers p)
     ⊎ ((¬ HasKind says.Params lines) × (p ≡ default_params))
 
--- this is the seed of these lines: the one that one of them gives, or 0 where none does
+-- this is the seed of these lines: the one that one of them gives, or 0 if none does
 unfoldable pub IsSeedOf : List Stated → ℕ → Type 0
 IsSeedOf lines seed =
     ((line : Stated) × Has lines line × (line.says ≡ Some (says.Seed seed)))
     ⊎ ((¬ HasKind says.Seed lines) × (seed ≡ 0))
 
 -- lines that say this ask for these lines to run: the events, the looks and the analyses in order, each event with the
--- random words that stand right before it, or else with the next of those that were drawn. All that were drawn are used
+-- random words that come right before it, or else with the next of those that were drawn. All that were drawn are used
 unfoldable pub AskFor : List (Option Statement) → List (List ℕ) → List Line → Type 0
 AskFor [] drawn lines = (drawn ≡ []) × (lines ≡ [])
 AskFor (Some (says.Words words) ∷ Some (says.Event event) ∷ more) drawn lines =

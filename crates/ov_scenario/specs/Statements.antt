@@ -12,7 +12,7 @@ use Rattle.ov_scenario.specs.declared.scenario.Subject.{Subject}
 use Rattle.ov_scenario.specs.declared.statement.Statement.{Statement}
 use Rattle.ov_scenario.specs.declared.statement.Statement.TheVariants as says
 
--- the numbers, where there are seven
+-- the numbers, if there are seven
 abbrev pub seven : List ℕ → Option (List ℕ)
 seven ns = if length ns == 7 then Some ns else None
 
@@ -39,7 +39,7 @@ seven_numbers words = each_number short_bits words >>= seven
 abbrev pub event_words : List (List ℕ) → Option (List ℕ)
 event_words words = each_number long_bits words >>= with_zeros
 
--- `boot N` and `boot N by C`, behind the name
+-- `boot N` and `boot N by C`, after the name
 abbrev pub boot_of : List (List ℕ) → Option Event
 boot_of [] = None
 boot_of (n ∷ []) = number_within short_bits n >>= λ a. Some (event.Boot a None)
@@ -48,28 +48,28 @@ boot_of (n ∷ by ∷ more) =
     then (number_within short_bits n >>= λ a. one short_bits more >>= λ c. Some (event.Boot a (Some c)))
     else None
 
--- the ids behind `group`
+-- the ids after `group`
 abbrev pub group_at : ℕ → List (List ℕ) → Option Subject
 group_at moment words = one_list words >>= λ ids. Some (record { moment = moment; group = Some ids })
 
--- what stands behind a moment: nothing, for all nodes, or `group IDS`, for a group of them
+-- what follows a moment: nothing, for all nodes, or `group IDS`, for a group of them
 abbrev pub subject_at : ℕ → List (List ℕ) → Option Subject
 subject_at moment [] = Some (record { moment = moment; group = None })
 subject_at moment (group ∷ more) = if same group (codes "group") then group_at moment more else None
 
--- `M` and `M group IDS`, behind the name: a moment, for all nodes or for a group of them
+-- `M` and `M group IDS`, after the name: a moment, for all nodes or for a group of them
 abbrev pub subject_of : List (List ℕ) → Option Subject
 subject_of [] = None
 subject_of (m ∷ more) = number_within short_bits m >>= λ a. subject_at a more
 
--- the number of workers that these words name, and the words behind it: that of `workers W` where they begin so, and
--- else one, of no words
+-- the number of workers that these words name, and the words after it: that of `workers W` if they begin with
+-- `workers`, otherwise one, and all words are left
 abbrev pub workers_named : List (List ℕ) → Option (ℕ × List (List ℕ))
 workers_named [] = Some (1, [])
 workers_named (name ∷ more) =
     if same name (codes "workers") then workers_first more else Some (1, name ∷ more)
 
--- `M`, `M workers W`, `M group IDS` and `M workers W group IDS`, behind the name: what is analysed, and by how many
+-- `M`, `M workers W`, `M group IDS` and `M workers W group IDS`, after the name: what is analysed, and by how many
 -- workers
 abbrev pub analysis_of : List (List ℕ) → Option Statement
 analysis_of [] = None
@@ -77,8 +77,8 @@ analysis_of (m ∷ more) =
     number_within short_bits m >>= λ a. workers_named more >>= λ p.
     option_map (λ s. says.Analyse s p.0) (subject_at a p.1)
 
--- `broadcast N TEXT`, of which this is left behind the name: the payload is all that stands behind the one space that
--- follows the node, and nothing where none follows it
+-- `broadcast N TEXT`, of which this is left after the name: the payload is all that follows the one space after the
+-- node, and nothing if no space follows the node
 abbrev pub broadcast_of : List ℕ → List (List ℕ) → Option Event
 broadcast_of text [] = None
 broadcast_of text (n ∷ more) =
@@ -88,7 +88,7 @@ broadcast_of text (n ∷ more) =
 abbrev pub alone : {A : Type 0} → A → List (List ℕ) → Option A
 alone x words = if length words == 0 then Some x else None
 
--- the lines that set something for lines behind them, by their names: what they say with these words behind the name
+-- the lines that set something for lines after them, by their names: what they say with these words after the name
 abbrev pub setting_rows : List (List ℕ) → List (List ℕ × Option Statement)
 setting_rows words =
     (codes "params", option_map says.Params (seven_numbers words))
@@ -96,8 +96,8 @@ setting_rows words =
     ∷ (codes "words", option_map says.Words (event_words words))
     ∷ []
 
--- the events, by the names of their lines: what they are with this text, and these words, behind the name. Of
--- `broadcast` the text counts, and of all others only the words
+-- the events, by the names of their lines: what they are with this text, and these words, after the name. For
+-- `broadcast` the text counts, and for all others only the words
 abbrev pub event_rows : List ℕ → List (List ℕ) → List (List ℕ × Option Statement)
 event_rows text words =
     (codes "boot", option_map says.Event (boot_of words))
@@ -112,7 +112,7 @@ event_rows text words =
     ∷ (codes "snapshot", alone (says.Event event.Snapshot) words)
     ∷ []
 
--- the analyses and the looks, by the names of their lines: what they are with these words behind the name
+-- the analyses and the looks, by the names of their lines: what they are with these words after the name
 abbrev pub look_rows : List (List ℕ) → List (List ℕ × Option Statement)
 look_rows words =
     (codes "analyse", analysis_of words)
@@ -121,8 +121,8 @@ look_rows words =
     ∷ (codes "packets", alone (says.Look look.Packets) words)
     ∷ []
 
--- all lines by their names, in the order in which these are told: what they say with this text, and these words, behind
--- the name
+-- all lines by their names, in the order in which the names are printed: what they say with this text, and these words,
+-- after the name
 abbrev pub line_rows : List ℕ → List (List ℕ) → List (List ℕ × Option Statement)
 line_rows text words = setting_rows words ++ event_rows text words ++ look_rows words
 
@@ -135,11 +135,11 @@ abbrev pub stated : List ℕ → List (List ℕ) → Option Statement
 stated line [] = None
 stated line (name ∷ words) = row name (line_rows (behind_word line) words) None
 
--- what a line says, and none where it can't be read
+-- what a line says, or None if it can't be read
 abbrev pub statement_of : List ℕ → Option Statement
 statement_of line = stated line (words_of line)
 
--- a line of this number, and what it says, or none where it can't be read
+-- a line of this number, and what it says, or None if it can't be read
 pub record Stated : Type 0 where
   pub number : ℕ
   pub says : Option Statement

@@ -17,7 +17,7 @@ pub fn faulty_lines(alloc: Global, bytes: &[u8]) -> Result<Vec<FaultyLine>, OutO
     Ok(judge(alloc, &stated)?)
 }
 
-/// Those of these lines that are at fault, in order. Each line is judged by what stands before it and behind it.
+/// Those of these lines that are at fault, in order. Each line is judged by the lines before it and after it.
 pub(crate) fn judge(alloc: Global, lines: &[Stated]) -> Result<Vec<FaultyLine>, OutOfMemory>
     ensures { IfOk result (λ faulty. AreFaulty [] lines.now faulty.items) }
 {

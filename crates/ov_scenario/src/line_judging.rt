@@ -19,7 +19,7 @@ pub(crate) struct Before {
 }
 
 impl Before {
-    /// No line stands before.
+    /// There is no line before.
     pub(crate) fn nothing() -> Before
         ensures { result ≡ before_of [] }
     {
@@ -30,7 +30,7 @@ impl Before {
         }
     }
 
-    /// What is wrong with the line behind these, which stands before others.
+    /// What is wrong with the line after these. The lines `behind` follow it.
     pub(crate) fn fault_of(&self, line: &Stated, behind: &[Stated]) -> Option<LineFault>
         ensures { Tells result (λ f. IsWrong self.now line.now.says behind.now f) }
     {

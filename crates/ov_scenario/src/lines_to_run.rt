@@ -13,7 +13,7 @@ use ov_net::Event;
 use ov_words::Words;
 use std::alloc::Global;
 
-/// The lines to run of the lines of a file so far, with what the lines behind them need.
+/// The lines to run of the lines of a file so far, with what the lines after them need.
 #[derive(Drop)]
 struct Collector {
     draws: SeedWords,

@@ -11,9 +11,9 @@ use ov_lines::KeptLines;
 use std::alloc::Global;
 
 /// The numbers of the lines of a scenario file that ask for a line to run, which are its events, looks and analyses, in
-/// order. All lines are counted, from 1. Where the file says a scenario, there are as many numbers as lines to run, and
-/// the n-th number is that of the line that asks for the n-th of these. OutOfMemory (99) is returned if an
-/// allocation was refused.
+/// order. All lines are counted, from 1. If the file says a scenario, there are as many numbers as lines to run, and
+/// the n-th number is that of the line that asks for the n-th of these. OutOfMemory (99) is returned if an allocation
+/// was refused.
 #[tactic(auto, using(crate::proofs::Scenarios::Numbered::one_by_one))]
 pub fn numbers_of_run_lines(alloc: Global, bytes: &[u8]) -> Result<Vec<usize>, OutOfMemory>
     ensures numbers { IfOk result (λ numbers. numbers.items ≡ map (λ line. line.number) (lines_that_run bytes.now)) }

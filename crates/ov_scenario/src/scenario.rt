@@ -10,11 +10,11 @@ pub enum Line {
     Event { event: Event, words: Words },
     /// Something is looked at, and nothing changes.
     Look(Look),
-    /// The overlay is analysed by so many workers, and a report is filed.
+    /// The overlay is analysed by this many workers, and a report is filed.
     Analyse { subject: Subject, workers: Workers },
 }
 
-/// What is analysed: the overlay at a moment, for a group of its nodes, or for all of them where no group is named.
+/// What is analysed: the overlay at a moment, for a group of its nodes, or for all of them if no group is named.
 #[derive(Debug, Drop)]
 pub struct Subject {
     pub moment: u32,

@@ -35,7 +35,7 @@ impl Setting {
 pub enum LineFault {
     /// It can't be read (70).
     Unread(Unread),
-    /// It sets something for the whole run behind an event (70). The first event stands on this line.
+    /// It sets something for the whole run after an event (70). The first event is on this line.
     BehindEvent { setting: Setting, event: usize },
     /// It sets something for the whole run that was set before, the first time on this line (70).
     SetBefore { setting: Setting, line: usize },

@@ -5,7 +5,7 @@ use ov_net::Event;
 use ov_words::Words;
 use std::marker::Model;
 
-/// What one line says by itself, whatever stands before it and behind it.
+/// What one line says by itself, whatever comes before it and after it.
 #[derive(Drop)]
 pub(crate) enum Statement {
     /// The numbers of the parameters, which may be out of their limits.

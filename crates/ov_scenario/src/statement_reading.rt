@@ -24,7 +24,7 @@ pub(crate) const PARAMS: &str = "params";
 /// The name of a line that gives the seed.
 pub(crate) const SEED: &str = "seed";
 
-/// The names that a line of a scenario may begin with, in the order in which they are told.
+/// The names that a line of a scenario may begin with, in the order in which they are printed.
 pub fn line_names() -> &'static [&'static str]
     ensures { map (λ name. name.now) result.now ≡ line_names }
 {
@@ -130,7 +130,7 @@ pub(crate) fn read_statement(alloc: Global, text: &[u8]) -> Result<Statement, Un
     }
 }
 
-/// Reads what follows the name of a line. Lines that set something for those behind them come first.
+/// Reads what follows the name of a line. Lines that set something for those after them come first.
 fn read_named(
     alloc: Global,
     name: &[u8],
@@ -151,7 +151,7 @@ fn read_named(
     read_event(alloc, name, unknown, cursor)
 }
 
-/// Reads what follows the name of an event, or of a line behind these.
+/// Reads what follows the name of an event, of an analysis or of a look.
 fn read_event(
     alloc: Global,
     name: &[u8],
@@ -234,7 +234,7 @@ fn read_end(cursor: &LineCursor) -> Result<(), Unread>
     Err(cursor.unread(END))
 }
 
-/// Reads what follows the name `broadcast`: the node, and the payload, which is all bytes behind one space.
+/// Reads what follows the name `broadcast`: the node, and the payload, which is all bytes after one space.
 fn read_broadcast(alloc: Global, cursor: &mut LineCursor) -> Result<Event, Unstated>
     ensures { Reads result (broadcast_of cursor.old (words_of cursor.old)) }
 {
@@ -243,8 +243,8 @@ fn read_broadcast(alloc: Global, cursor: &mut LineCursor) -> Result<Event, Unsta
     Ok(Event::Broadcast(node, payload))
 }
 
-/// Reads what follows the name `analyse`: the moment, the number of workers where one is named, and the group where one
-/// is named.
+/// Reads what follows the name `analyse`: the moment, the number of workers if one is named, and the group if one is
+/// named.
 fn read_analysis(alloc: Global, cursor: &mut LineCursor) -> Result<Statement, Unstated>
     ensures { Reads result (analysis_of (words_of cursor.old)) }
 {
@@ -277,7 +277,7 @@ fn by_one_worker(subject: Subject) -> Statement
     Statement::Analyse { subject, workers }
 }
 
-/// Reads the moment of an analysis, and its group where one is named: `M`, or `M group IDS`.
+/// Reads the moment of an analysis, and its group if one is named: `M`, or `M group IDS`.
 fn read_subject(alloc: Global, cursor: &mut LineCursor) -> Result<Subject, Unstated>
     ensures { Reads result (subject_of (words_of cursor.old)) }
 {

@@ -39,8 +39,8 @@ impl SeedWords {
 }
 
 /// The random words that a seed gives to `n` events: for each event the next 64 outputs of `next_u64` of the generator
-/// `Pcg64` that `seed_from_u64` makes of the seed. That they are drawn so is chosen here. OutOfMemory (99) is returned
-/// if an allocation was refused.
+/// `Pcg64` that `seed_from_u64` makes of the seed. That they are drawn in this way is chosen here. OutOfMemory (99) is
+/// returned if an allocation was refused.
 #[tactic(auto, using(crate::proofs::Scenarios::Drawn::draws_more))]
 pub fn draw(alloc: Global, seed: u64, n: usize) -> Result<Vec<Words>, OutOfMemory>
     ensures count { IfOk result (λ draws. vec_len draws ≡ n) }

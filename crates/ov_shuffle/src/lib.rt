@@ -1,8 +1,8 @@
 //! Shuffles: nodes exchange samples of their views, so that passive views come to have other members with time.
 //!
 //! Shuffles are HyParView's (Leitão, Pereira, Rodrigues, DSN 2007, Section 4.4). The order of a shuffle's choices is
-//! chosen here, and that a node's own shuffle does nothing where it ends at that node. Every call makes all its room
-//! before it changes anything, so nothing has changed where it is out of memory.
+//! chosen here. So is the rule that a node's own shuffle does nothing if it ends at that node. Every call makes all its
+//! room before it changes anything, so nothing has changed if it is out of memory.
 //!
 //! The rules of these steps are in `ov_views/specs/ShuffleRows.antt`, and what a handler promises in `Handling.antt`
 //! beside it.
@@ -26,10 +26,10 @@ pub use sent::Sent;
 use std::alloc::Global;
 
 /// The effects of starting a shuffle. SHUFFLE goes to a random active member. It lists the node itself, then a sample
-/// of its active members, then a sample of its passive members, and that list is kept as `sent`. Where nobody is
-/// active nothing happens, and `sent` stays. No view changes. At most 17 random words are used. OutOfMemory (99)
-/// if an allocation is refused, and then nothing has changed. (HyParView: Leitão, Pereira, Rodrigues, DSN 2007,
-/// Section 4.4; the order of the choices is chosen here.)
+/// of its active members, then a sample of its passive members, and that list is kept as `sent`. If nobody is active,
+/// nothing happens, and `sent` stays. No view changes. At most 17 random words are used. OutOfMemory (99) if an
+/// allocation is refused, and then nothing has changed. (HyParView: Leitão, Pereira, Rodrigues, DSN 2007, Section 4.4;
+/// the order of the choices is chosen here.)
 pub fn start(
     alloc: Global,
     views: &Views,
@@ -94,11 +94,11 @@ fn append(list: &mut Vec<NodeId>, ids: &[NodeId])
 }
 
 /// The effects of SHUFFLE of an origin, from a node, with `ttl` steps left. It walks on to a random active member, or
-/// it ends here. Where it ends and the origin is another node, the origin is sent a sample of as many passive members
-/// as the list is long, or of all, and then the list is integrated. At most 17 random words are used: each sampled
-/// member saves the word of one id. OutOfMemory (99) if an allocation is refused, and then nothing has changed.
-/// (HyParView: Leitão, Pereira, Rodrigues, DSN 2007, Section 4.4; that a node's own shuffle does nothing where it
-/// ends there is chosen here.)
+/// it ends here. If it ends and the origin is another node, the origin is sent a sample of passive members, as many as
+/// the list has ids or all if there are fewer, and then the list is integrated. At most 17 random words are used: each
+/// sampled member saves the word of one id. OutOfMemory (99) if an allocation is refused, and then nothing has changed.
+/// (HyParView: Leitão, Pereira, Rodrigues, DSN 2007, Section 4.4; that a node's own shuffle does nothing if it ends
+/// there is chosen here.)
 pub fn on_shuffle(
     alloc: Global,
     views: &mut Views,

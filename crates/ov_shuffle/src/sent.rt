@@ -29,7 +29,7 @@ impl Sent {
         }
     }
 
-    /// An equal list. OutOfMemory (99) where the allocation is refused.
+    /// An equal list. OutOfMemory (99) if the allocation is refused.
     pub fn copy(&self) -> Result<Sent, OutOfMemory>
         ensures { IfOk result (λ sent. sent ≡ self.now) }
     {

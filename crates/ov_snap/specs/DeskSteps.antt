@@ -10,8 +10,8 @@ use Rattle.ov_snap.specs.ReportState.{ReportState}
 use Rattle.ov_snap.specs.Filing.{WasFiled}
 use Rattle.ov_snap.specs.Refusals.{OpeningJudged, GroupOpeningJudged, TurnJudged, DeskFilingJudged}
 
--- one desk more follows the others, at this place, counted from 0: it is for a group of this moment, has these
--- links, and no turn was taken at it. Nothing else changed
+-- one more desk follows the others, at this place, counted from 0: it is for a group of this moment, has these links,
+-- and no turn was taken at it. Nothing else changed
 pub record HasOneDeskMore (b : CoreState) (g : LinkGraph) (m : ℕ) (q : List ℕ) (workers place : ℕ) (u : CoreState)
     : Type 0 where
   pub desk : GroupDeskState

@@ -1,6 +1,6 @@
--- Why a core refuses: the refusals of each call in their order. The first applicable one is returned. A word `..Judged`
--- holds of the first applicable refusal of a call, or of None if no refusal applies. A word `..Then` begins such a
--- chain: its own conditions come first, and if they all hold `After` decides.
+-- Why a core refuses: the refusals of each call in their order. The first applicable one is returned. A definition
+-- `..Judged` holds for the first applicable refusal of a call, or for None if no refusal applies. A definition `..Then`
+-- begins such a chain: its own conditions come first, and if they all hold, `After` decides.
 use Rattle.std.specs.Prelude.{ℕ, ◌<◌, List, length, Option}
 use Rattle.ov_ids.specs.FaultOrder.{HoldsThen, Passed}
 use Rattle.ov_graph.specs.Links.{LinkGraph, IsGroup}
@@ -60,8 +60,8 @@ GroupBeginJudged b m q answer = GroupThen b m q Passed answer
 abbrev pub IsFiled : CoreState → ℕ → List ℕ → Type 0
 IsFiled b m q = (r : ReportState) × HasReport b m q r
 
--- the first applicable refusal of filing a report: its moment is no snapshot's; its graph has not the links of that
--- moment; a report is filed already for that moment and its group
+-- the first applicable refusal of filing a report: its moment is no snapshot's; its graph does not have the links of
+-- that moment; a report is filed already for that moment and its group
 abbrev pub FilingJudged : CoreState → ReportState → Option CoreFault → Type 0
 FilingJudged b r answer =
     MomentThen b r.moment

@@ -27,8 +27,8 @@ pub record AreSnapshots (journal : List Entry) (snapshots : List Snapshot) : Typ
   pub links : (s : Snapshot) → Has snapshots s → AreLinks journal s.moment s.graph
   pub every : (m : ℕ) → IsMoment journal m → (s : Snapshot) × Has snapshots s × (s.moment ≡ m)
 
--- one snapshot more follows the old ones: it is of the journal's last entry, and has the links that both ends
--- hold there
+-- one more snapshot follows the old ones: it is of the journal's last entry, and has the links that both ends hold
+-- there
 abbrev pub HasOneSnapshotMore : List Entry → List Snapshot → List Snapshot → Type 0
 HasOneSnapshotMore journal old new =
     (s : Snapshot) × (s.moment ≡ length journal) × AreLinks journal s.moment s.graph × (new ≡ old ++ s ∷ [])

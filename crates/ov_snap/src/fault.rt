@@ -16,7 +16,7 @@ pub enum CoreFault {
     /// These ids are no group of the graph of this moment.
     #[error("these are no group of the nodes of this moment")]
     BadGroup,
-    /// There are 65,536 desks, as many as there may be.
+    /// There are 65,536 desks, the most that there may be.
     #[error("there are too many desks")]
     TooManyDesks,
     /// There is no such desk.

@@ -55,7 +55,7 @@ impl Reports {
         }
     }
 
-    /// Puts a report behind the others.
+    /// Puts a report after the others.
     pub(crate) fn push(&mut self, report: Report) -> Result<(), OutOfMemory>
         requires { (r : ReportState) → Has self.old r → ¬ (key_of r ≡ key_of report) }
         ensures ok { OnOk result (self.new ≡ self.old ++ report ∷ []) }
@@ -74,7 +74,7 @@ impl Reports {
 }
 
 /// The place of the report of this moment and group; or, as an error, where its place would go among the places. It is
-/// found by halving.
+/// found by binary search.
 fn search(filed: &[Report], places: &[usize], moment: u32, group: &[NodeId]) -> Result<usize, usize>
     requires { AreInOrder filed.now places.now }
     ensures found { IfOk result (λ p. (p < length filed.now) × (key_at filed.now p ≡ (moment, group.now))) }

@@ -30,7 +30,7 @@ impl Snapshot {
     }
 }
 
-/// The snapshot of a moment, if there is one. It is found by halving.
+/// The snapshot of a moment, if there is one. It is found by binary search.
 pub(crate) fn find(snapshots: &[Snapshot], moment: u32) -> Option<&Snapshot>
     requires { Ordered WasBefore snapshots.now }
     ensures some { IfSome result (λ s. Has snapshots.now s.now × (s.now.moment ≡ moment)) }

@@ -35,7 +35,7 @@ net_by_place n = record {
   targets = map (place_in n.graph) n.targets;
 }
 
--- the node at a place, or none where no place is given
+-- the node at a place, or none if no place is given
 abbrev pub node_if : LinkGraph → Option ℕ → List ℕ
 node_if g None = []
 node_if g (Some p) = node_at g p ∷ []

@@ -38,13 +38,13 @@ pub record IsCutOf (n : SplitNetState) (s : List ℕ) : Type 0 where
   pub off : IsApart n.avoided s
   pub parts : (t : ℕ) → Has n.targets t → ¬ IsReached n s t
 
--- a least cut: no cut has fewer nodes
+-- a minimum cut: no cut has fewer nodes
 pub record IsLeastCut (n : SplitNetState) (s : List ℕ) : Type 0 where
   pub cut : IsCutOf n s
   pub least : (t : List ℕ) → IsCutOf n t → length s ≤ length t
 
--- the nearest least cut: each node that is reached without it is reached without every other least cut too (Ford and
--- Fulkerson, Flows in Networks, 1962)
+-- the nearest minimum cut: each node that is reached without it is reached without every other minimum cut too (Ford
+-- and Fulkerson, Flows in Networks, 1962)
 pub record IsNearestCut (n : SplitNetState) (s : List ℕ) : Type 0 where
   pub least : IsLeastCut n s
   pub nearest : (t : List ℕ) → IsLeastCut n t → (x : ℕ) → IsReached n s x → IsReached n t x

@@ -1,6 +1,6 @@
--- What HyParView's part of a node may do in one step, at one input. The rows of the behaviour stand in JoinRows,
--- NeighborRows and ShuffleRows; each names only what it reads or changes. n is this part before the step, and m is it
--- after the step.
+-- What HyParView's part of a node may do in one step, at one input. The rows of the behaviour are in JoinRows,
+-- NeighborRows and ShuffleRows; each names only what it reads or changes. n is this part before the step, and m is this
+-- part after it.
 use Rattle.std.specs.Prelude.{◌≡◌, ℕ, List, [], ◌∷◌, Option, Some, None}
 use Rattle.ov_wire.specs.declared.Message.{Message}
 use Rattle.ov_wire.specs.declared.Body.{Body}
@@ -33,7 +33,7 @@ pub data HyParViewInput : Type 0 where
   -- the node is to start a shuffle
   shuffles : HyParViewInput
 
--- nothing is chosen, nothing in this part changes, and no change of the active view is told
+-- nothing is chosen, nothing in this part changes, and the active view has no changes
 abbrev pub DoesNothing : HyParViewState → List Choice → HyParViewState → List ViewChange → Type 0
 DoesNothing n choices m changes = (choices ≡ []) × (m ≡ n) × (changes ≡ [])
 

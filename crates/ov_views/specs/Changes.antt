@@ -16,7 +16,7 @@ Keeps v choices w = (choices ≡ []) × (w ≡ v)
 abbrev pub Chosen : List ℕ → ℕ → List Choice → List Choice → Type 0
 Chosen set d choices rest = IsIn set d × (choices ≡ record { from = set; member = d } ∷ rest)
 
--- x enters the passive view, unless it is known. Where that view is full, a random member d goes out
+-- x enters the passive view, unless it is known. If that view is full, a random member d goes out
 abbrev pub AddsPassive : ViewsState → ℕ → List Choice → ViewsState → Type 0
 AddsPassive v x choices w =
     MatchBool (is_known v x) (Keeps v choices w)
@@ -25,7 +25,7 @@ AddsPassive v x choices w =
     ((d : ℕ) × Chosen v.passive d choices []
     × (w ≡ record v { passive = adding x (without d v.passive) })))
 
--- A random active member d goes down and then enters the passive view. Where nobody is active, nothing happens
+-- A random active member d goes down and then enters the passive view. If nobody is active, nothing happens
 abbrev pub DropsRandom : ViewsState → List Choice → ViewsState → List ViewChange → Type 0
 DropsRandom v choices w changes =
     MatchBool (length v.active == 0) (Keeps v choices w × (changes ≡ []))
@@ -33,13 +33,13 @@ DropsRandom v choices w changes =
     × AddsPassive (record v { active = without d v.active }) d rest w
     × (changes ≡ Down d ∷ []))
 
--- where no place is free in the active view, a random member is dropped
+-- if no place is free in the active view, a random member is dropped
 abbrev pub MakesRoom : ViewsState → List Choice → ViewsState → List ViewChange → Type 0
 MakesRoom v choices w drops =
     MatchBool (has_place v) (Keeps v choices w × (drops ≡ [])) (DropsRandom v choices w drops)
 
--- x becomes active and leaves the passive view, unless it is the node itself or active already. Where the active view
--- is full, a random member is dropped first. u are the views once a place is free
+-- x becomes active and leaves the passive view, unless it is the node itself or active already. If the active view is
+-- full, a random member is dropped first. u are the views once a place is free
 abbrev pub AddsActive : ViewsState → ℕ → List Choice → ViewsState → List ViewChange → Type 0
 AddsActive v x choices w changes =
     MatchBool (is_close v x) (Keeps v choices w × (changes ≡ []))
@@ -47,7 +47,7 @@ AddsActive v x choices w changes =
     × MakesRoom (record v { passive = without x v.passive }) choices u drops
     × (w ≡ record u { active = adding x u.active }) × (changes ≡ drops ++ Up x ∷ []))
 
--- x goes down where it was active; nobody else does
+-- x goes down if it was active; no other node goes down
 abbrev pub GoesDown : ViewsState → ℕ → List ViewChange → Type 0
 GoesDown v x changes = MatchBool (has v.active x) (changes ≡ Down x ∷ []) (changes ≡ [])
 

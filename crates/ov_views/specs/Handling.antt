@@ -8,7 +8,7 @@ use Rattle.ov_views.specs.NeighborRows.{AttemptState}
 use Rattle.ov_views.specs.Allowed.{HyParViewState, HyParViewInput, Allowed}
 use Rattle.ov_views.specs.declared.step_effects.Moves.{Moves}
 
--- how many random words a handler must find, of which none draws more than 17: chosen here
+-- how many random words must be left before a handler draws: chosen here. No handler draws more than 17
 abbrev pub step_words : ℕ
 step_words = 40
 

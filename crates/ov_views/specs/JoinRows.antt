@@ -15,14 +15,14 @@ use Rattle.ov_views.specs.declared.change.ViewChange.{ViewChange}
 abbrev pub forwards : ℕ → ℕ → ℕ → List ℕ → List (ℕ × Message)
 forwards me node ttl members = map (λ target. (target, say me (ForwardJoin node ttl))) members
 
--- JOIN from s: s becomes active and is told JOINED, and every other active member is sent FORWARDJOIN with ARWL steps
+-- JOIN from s: s becomes active and is sent JOINED, and every other active member is sent FORWARDJOIN with ARWL steps
 abbrev pub AllowedJoin : ViewsState → ℕ → List Choice → ViewsState → List ViewChange → List (ℕ × Message) → Type 0
 AllowedJoin v s choices w changes sends =
     MatchBool (s == v.me) (Idles v choices w changes sends)
     (AddsActive v s choices w changes
     × (sends ≡ farewells v.me changes ++ (s, say v.me Joined) ∷ forwards v.me s v.params.arwl (without s w.active)))
 
--- the active members that a walk for n may go on to from here, where it came from s
+-- the active members that a walk for n may go on to from here, if it came from s
 abbrev pub walk_targets : ViewsState → ℕ → ℕ → List ℕ
 walk_targets v s n = without n (without s v.active)
 
@@ -30,12 +30,12 @@ walk_targets v s n = without n (without s v.active)
 abbrev pub walk_ends : ViewsState → ℕ → ℕ → ℕ → Bool
 walk_ends v s n ttl = (ttl == 0) || (nat_le (length v.active) 1 || (length (walk_targets v s n) == 0))
 
--- n becomes passive where PRWL steps are left
+-- n becomes passive if PRWL steps are left
 abbrev pub Remembers : ViewsState → ℕ → ℕ → List Choice → ViewsState → Type 0
 Remembers v n ttl choices w = MatchBool (ttl == v.params.prwl) (AddsPassive v n choices w) (Keeps v choices w)
 
--- FORWARDJOIN for n from s. Where the walk ends, n becomes active and is told JOINED. Otherwise n becomes passive
--- where PRWL steps are left, and the walk goes on with one step less to a random active member other than s and n
+-- FORWARDJOIN for n from s. If the walk ends, n becomes active and is sent JOINED. Otherwise n becomes passive if PRWL
+-- steps are left, and the walk goes on with one step less to a random active member other than s and n
 abbrev pub AllowedForwardJoin :
     ViewsState → ℕ → ℕ → ℕ → List Choice → ViewsState → List ViewChange → List (ℕ × Message) → Type 0
 AllowedForwardJoin v s n ttl choices w changes sends =

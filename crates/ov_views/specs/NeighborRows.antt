@@ -13,12 +13,12 @@ use Rattle.ov_views.specs.Changes.{Keeps, Chosen, AddsPassive, AddsActive, Remov
 use Rattle.ov_views.specs.Sending.{say, farewells, Idles}
 use Rattle.ov_views.specs.declared.change.ViewChange.{ViewChange}
 
--- an attempt to find an active member: whom it asked and waits for, and the set of those whom it has tried
+-- an attempt to find an active member: the node that it asked and waits for, and the set of the nodes that it has tried
 pub record AttemptState : Type 0 where
   pub asked : Option ℕ
   pub tried : List ℕ
 
--- the tried are a set, who is asked is one of them, and where nobody is asked nobody is tried
+-- the tried nodes are a set, the asked node is one of them, and if nobody is asked, nobody is tried
 pub record IsAttempt (a : AttemptState) : Type 0 where
   pub set : IsSet a.tried
   pub among : (q : ℕ) → a.asked ≡ Some q → IsIn a.tried q
@@ -44,9 +44,8 @@ untried v tried = without_all tried v.passive
 abbrev pub gives_up : ViewsState → List ℕ → Bool
 gives_up v tried = not (has_place v) || (length (untried v tried) == 0)
 
--- An attempt that tried these goes on as b. It ends where it can ask nobody. Otherwise it asks a random passive
--- member that it has not tried, by NEIGHBOR, and that member counts as tried. The priority is high where nobody is
--- active
+-- An attempt that tried these goes on as b. It ends if it can ask nobody. Otherwise it asks a random passive member
+-- that it has not tried, by NEIGHBOR, and that member counts as tried. The priority is high if nobody is active
 abbrev pub GoesOnAsking : ViewsState → List ℕ → List Choice → AttemptState → List (ℕ × Message) → Type 0
 GoesOnAsking v tried choices b sends =
     MatchBool (gives_up v tried) ((choices ≡ []) × (b ≡ idle) × (sends ≡ []))
@@ -64,8 +63,8 @@ abbrev pub LetsIn : ViewsState → ℕ → List Choice → ViewsState → List V
 LetsIn v s choices w changes sends =
     AddsActive v s choices w changes × (sends ≡ farewells v.me changes ++ (s, say v.me (NeighborReply true)) ∷ [])
 
--- NEIGHBOR from s. Where s is active it is answered yes. With high priority it becomes active and is answered yes.
--- With low priority it does so where a place is free, and otherwise it is answered no
+-- NEIGHBOR from s. If s is active, it is answered yes. With high priority it becomes active and is answered yes. With
+-- low priority the same happens if a place is free, and otherwise it is answered no
 abbrev pub AllowedNeighbor :
     ViewsState → ℕ → Bool → List Choice → ViewsState → List ViewChange → List (ℕ × Message) → Type 0
 AllowedNeighbor v s high choices w changes sends =
@@ -75,7 +74,7 @@ AllowedNeighbor v s high choices w changes sends =
     (MatchBool (has_place v) (LetsIn v s choices w changes sends) (Replies v s false choices w changes sends))))
 
 -- NEIGHBORREPLY from s. A yes from the asked node ends the attempt, and s becomes active; after its no the attempt goes
--- on. A yes from anyone else who is not active is answered by DISCONNECT. Any other reply does nothing
+-- on. A yes from any other node that is not active is answered by DISCONNECT. Any other reply does nothing
 abbrev pub AllowedReply : ViewsState → AttemptState → ℕ → Bool → List Choice → ViewsState → AttemptState →
     List ViewChange → List (ℕ × Message) → Type 0
 AllowedReply v a s accepted choices w b changes sends =
@@ -87,15 +86,15 @@ AllowedReply v a s accepted choices w b changes sends =
     (Keeps v choices w × (b ≡ a) × (changes ≡ [])
     × (sends ≡ (if accepted && not (has v.active s) then (s, say v.me Disconnect) ∷ [] else []))))
 
--- DISCONNECT from s: where s is active it goes down and then becomes passive. No attempt starts
+-- DISCONNECT from s: if s is active, it goes down and then becomes passive. No attempt starts
 abbrev pub AllowedDisconnect :
     ViewsState → ℕ → List Choice → ViewsState → List ViewChange → List (ℕ × Message) → Type 0
 AllowedDisconnect v s choices w changes sends =
     MatchBool ((s == v.me) || not (has v.active s)) (Idles v choices w changes sends)
     ((u : ViewsState) × RemovesActive v s u changes × AddsPassive u s choices w × (sends ≡ []))
 
--- A crash report of p: p leaves the view that has it. Where it was active, a new attempt begins with nobody
--- tried, in place of one that waits. Otherwise, where the attempt waits for p, it goes on
+-- A crash report of p: p leaves the view that has it. If it was active, a new attempt begins with nobody tried, in
+-- place of one that waits. Otherwise, if the attempt waits for p, it goes on
 abbrev pub AllowedCrashReport : ViewsState → AttemptState → ℕ → List Choice → ViewsState → AttemptState →
     List ViewChange → List (ℕ × Message) → Type 0
 AllowedCrashReport v a p choices w b changes sends =

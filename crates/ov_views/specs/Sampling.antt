@@ -12,7 +12,7 @@ abbrev pub AreChosen : List ℕ → List ℕ → List Choice → Type 0
 AreChosen set [] choices = choices ≡ []
 AreChosen set (x ∷ ids) choices = (rest : List Choice) × Chosen set x choices rest × AreChosen (without x set) ids rest
 
--- a sample of r members of the set, or of all where there are fewer, in the order of choosing
+-- a sample of r members of the set, or of all if there are fewer, in the order of choosing
 abbrev pub Samples : List ℕ → ℕ → List Choice → List ℕ → Type 0
 Samples set r choices ids = (length ids ≡ min r (length set)) × AreChosen set ids choices
 
@@ -21,15 +21,15 @@ abbrev pub IsNext : List ℕ → List ℕ → ℕ → List ℕ → Type 0
 IsNext passive sent d left =
     (passed : List ℕ) × IsApart passive passed × IsIn passive d × (sent ≡ passed ++ d ∷ left)
 
--- the passive member d is given up: the first one in `sent`, and where `sent` has none a random one. `left` is what
--- is left of `sent`
+-- the passive member d is given up: the first one in `sent`, or a random one if `sent` has none. `left` is what is left
+-- of `sent`
 abbrev pub GivesUp : List ℕ → List ℕ → ℕ → List ℕ → List Choice → Type 0
 GivesUp passive sent d left choices =
     (IsNext passive sent d left × (choices ≡ []))
     ⊎ (IsApart passive sent × Chosen passive d choices [] × (left ≡ []))
 
--- x enters the passive view, unless it is known. Where that view is full, a member d is given up for it. `left` is
--- what is left of `sent`
+-- x enters the passive view, unless it is known. If that view is full, a member d is given up for it. `left` is what is
+-- left of `sent`
 abbrev pub TakesIn : ViewsState → ℕ → List ℕ → List Choice → ViewsState → List ℕ → Type 0
 TakesIn v x sent choices w left =
     MatchBool (is_known v x) (Keeps v choices w × (left ≡ sent))

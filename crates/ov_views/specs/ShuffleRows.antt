@@ -1,6 +1,6 @@
--- The rows of a node's behaviour where it starts a shuffle, and at SHUFFLE and SHUFFLEREPLY. v are the views before
--- the step and w those after. Shuffles are HyParView's (Leitão, Pereira, Rodrigues, DSN 2007, Section 4.4). That a
--- node's own shuffle does nothing where it ends at that node is chosen here.
+-- The rows of a node's behaviour when it starts a shuffle, and at SHUFFLE and SHUFFLEREPLY. v are the views before the
+-- step and w those after. Shuffles are HyParView's (Leitão, Pereira, Rodrigues, DSN 2007, Section 4.4). That a node's
+-- own shuffle does nothing if it ends at that node is chosen here.
 use Rattle.std.specs.Prelude.{◌≡◌, ℕ, ◌-◌, Bool, ◌&&◌, ◌==◌, nat_lt, List, [], ◌∷◌, ◌++◌, length, MatchBool}
 use Rattle.ov_ids.specs.Sets.{without}
 use Rattle.ov_wire.specs.declared.Message.{Message}
@@ -26,7 +26,7 @@ pub record Starts (v : ViewsState) (choices : List Choice) (list : List ℕ) (se
   pub listed : list ≡ v.me ∷ (active_sample ++ passive_sample)
   pub sent : sends ≡ (receiver, say v.me (Shuffle v.me v.params.shuffle_ttl list)) ∷ []
 
--- A shuffle starts, and its list is kept as the list of the last shuffle. Where nobody is active nothing happens, and
+-- A shuffle starts, and its list is kept as the list of the last shuffle. If nobody is active, nothing happens, and
 -- `sent`, the list of the shuffle before, stays
 abbrev pub AllowedStart : ViewsState → List ℕ → List Choice → List ℕ → List (ℕ × Message) → Type 0
 AllowedStart v sent choices kept sends =
@@ -37,9 +37,9 @@ AllowedStart v sent choices kept sends =
 abbrev pub walks_on : ViewsState → ℕ → Bool
 walks_on v ttl = nat_lt 0 (ttl - 1) && nat_lt 1 (length v.active)
 
--- SHUFFLE of o, from s. It walks on with one step less to a random active member other than s, or it ends here. Where
--- it ends and o is another node, o is sent a sample of as many passive members as the list is long, and then the list
--- is integrated
+-- SHUFFLE of o, from s. It walks on with one step less to a random active member other than s, or it ends here. If it
+-- ends and o is another node, o is sent a sample of passive members, as many as the list has ids, and then the list is
+-- integrated
 abbrev pub AllowedShuffle :
     ViewsState → ℕ → ℕ → ℕ → List ℕ → List Choice → ViewsState → List ViewChange → List (ℕ × Message) → Type 0
 AllowedShuffle v s o ttl ids choices w changes sends =

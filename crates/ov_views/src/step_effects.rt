@@ -16,8 +16,8 @@ pub struct Moves {
 impl Moves {
     ghost use Rattle.ov_views.specs.Room.{HasRoom};
 
-    /// No moves, with room for so many sends and for two changes. A handler makes all its room so before it changes
-    /// anything. OutOfMemory (99) if an allocation is refused.
+    /// No moves, with room for this many sends and for two changes. In this way a handler makes all its room before it
+    /// changes anything. OutOfMemory (99) if an allocation is refused.
     pub fn with_room(alloc: Global, sends: usize) -> Result<Moves, OutOfMemory>
         ensures sends { IfOk result (λ m. m.sends.items ≡ []) }
         ensures changes { IfOk result (λ m. m.changes.items ≡ []) }
@@ -50,7 +50,7 @@ impl Moves {
         self.changes.push_reserved(change);
     }
 
-    /// Tells the changes of one operation. Room for them must be there, and nothing is allocated.
+    /// Appends the changes of one operation. Room for them must be there, and nothing is allocated.
     pub fn tell_changes(&mut self, changes: Changes)
         requires { HasRoom self.old 0 (length changes) }
         ensures changes { self.new.changes.items ≡ self.old.changes.items ++ changes }
@@ -61,7 +61,7 @@ impl Moves {
         }
     }
 
-    /// Tells the changes of one operation, and sends DISCONNECT to the node that goes down. Room for both must be
+    /// Appends the changes of one operation, and sends DISCONNECT to the node that goes down. Room for both must be
     /// there, and nothing is allocated.
     pub fn tell(&mut self, me: NodeId, changes: Changes)
         requires { HasRoom self.old (length (farewells me changes)) (length changes) }

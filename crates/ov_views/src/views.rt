@@ -149,9 +149,9 @@ impl Views {
     }
 
     /// Adds a node to the active view, unless it is the node itself or active already. The node leaves the passive
-    /// view. Where the active view is full, a random member is dropped first, as by `drop_random`. Returns who went
-    /// down and who came up. At most two random words are used. (HyParView's `addNodeActiveView`. That the node
-    /// leaves the passive view, and does so first, is chosen here.)
+    /// view. If the active view is full, a random member is dropped first, as by `drop_random`. Returns which nodes
+    /// went down and came up. At most two random words are used. (HyParView's `addNodeActiveView`. That the node leaves
+    /// the passive view, and does so first, is chosen here.)
     pub fn add_active(&mut self, id: NodeId, draws: &mut Draws<'_>) -> Changes
         requires { 2 ≤ length draws.old }
         ensures drawn { Drawn draws.old draws.new (λ choices. AddsActive self.old id choices self.new result) }
@@ -172,7 +172,7 @@ impl Views {
     }
 
     /// Drops a random active member, if there is one: it goes down, and then it is added to the passive view. Returns
-    /// who went down. At most two random words are used. (HyParView's `dropRandomElementFromActiveView`.)
+    /// which node went down. At most two random words are used. (HyParView's `dropRandomElementFromActiveView`.)
     pub fn drop_random(&mut self, draws: &mut Draws<'_>) -> Changes
         requires { 2 ≤ length draws.old }
         ensures drawn { Drawn draws.old draws.new (λ choices. DropsRandom self.old choices self.new result) }
@@ -205,7 +205,7 @@ impl Views {
         Changes::new(down, None)
     }
 
-    /// Takes a node out of the view that has it, if one has. Where that was the active view, returns that it went down.
+    /// Takes a node out of the view that has it, if one has. If that was the active view, returns that it went down.
     pub fn forget(&mut self, id: NodeId) -> Changes
         ensures forgotten { Forgets self.old id self.new result }
         ensures few { length result ≤ 1 }
@@ -214,8 +214,8 @@ impl Views {
         self.remove_active(id)
     }
 
-    /// Adds a node to the passive view, unless it is the node itself, active or passive. Where that view is full, a
-    /// random member goes out. At most one random word is used. (HyParView's `addNodePassiveView`.)
+    /// Adds a node to the passive view, unless it is the node itself, active or passive. If that view is full, a random
+    /// member goes out. At most one random word is used. (HyParView's `addNodePassiveView`.)
     pub fn add_passive(&mut self, id: NodeId, draws: &mut Draws<'_>)
         requires { 1 ≤ length draws.old }
         ensures drawn { Drawn draws.old draws.new (λ choices. AddsPassive self.old id choices self.new) }
@@ -225,10 +225,10 @@ impl Views {
     }
 
     /// Takes the ids of a shuffle into the passive view, in order. The node itself and the members of either view are
-    /// passed over. Where the passive view is full, an id takes the place of the next id in `sent` that is passive,
-    /// or, where there is none, of a random member. `sent` is walked once: an id that was passed over is not looked
-    /// at again. At most one random word is used for each id. (That the members sent go first is HyParView's; how
-    /// `sent` is walked is chosen here.)
+    /// passed over. If the passive view is full, an id takes the place of the next id in `sent` that is passive, or, if
+    /// there is none, of a random member. `sent` is walked once: an id that was passed over is not looked at again. At
+    /// most one random word is used for each id. (That the members sent go first is HyParView's; how `sent` is walked
+    /// is chosen here.)
     pub fn integrate(&mut self, ids: &[NodeId], sent: &[NodeId], draws: &mut Draws<'_>)
         requires { length ids.now ≤ length draws.old }
         ensures drawn { Drawn draws.old draws.new (λ choices. Integrates self.old ids.now sent.now choices self.new) }
@@ -260,8 +260,8 @@ impl Views {
         left
     }
 
-    /// Picks `count` members of a view at random, or all where it has fewer. They are picked one after another, each
-    /// from those not picked yet, with one random word each. (HyParView samples its views so; how a sample is drawn
+    /// Picks `count` members of a view at random, or all if it has fewer. They are picked one after another, each from
+    /// those not picked yet, with one random word each. (HyParView samples its views at random; how a sample is drawn
     /// is chosen here.)
     pub fn sample(&self, view: View, count: usize, draws: &mut Draws<'_>) -> Sample
         requires { min count (length (members view self.now)) ≤ length draws.old }

@@ -21,14 +21,14 @@ number_of OutOfMemory = 99
 abbrev pub leading_number : Width → List ℕ → ℕ
 leading_number width bytes = from_be_bytes width (take (byte_len width) bytes)
 
--- the number that begins the bytes is cut off by their end (Short), or it is not from least to most
+-- the number that begins the bytes is cut off by their end (Short), or it is not from `least` to `most`
 abbrev pub IsNumberAtFault : Width → ℕ → ℕ → WireFault → List ℕ → WireFault → Type 0
 IsNumberAtFault width least most otherwise bytes fault =
     ((length bytes < byte_len width) × (fault ≡ Short))
     ⊎ ((byte_len width ≤ length bytes) × ((leading_number width bytes < least) ⊎ (most < leading_number width bytes))
     × (fault ≡ otherwise))
 
--- The field that begins the bytes has this fault. A count or a length is judged before the ids or bytes behind it.
+-- The field that begins the bytes has this fault. A count or a length is judged before the ids or bytes after it.
 abbrev pub IsAtFault : Field → List ℕ → WireFault → Type 0
 IsAtFault (Number width least most otherwise) bytes fault = IsNumberAtFault width least most otherwise bytes fault
 IsAtFault Ids bytes fault =
@@ -49,7 +49,7 @@ FirstOf (field ∷ fields) bytes fault =
     ⊎ ((value : Value) × (rest : List ℕ) × Fits field value × (bytes ≡ spelled field value ++ rest)
     × FirstOf fields rest fault)
 
--- The first fault of bytes that should be a message, by the fields of the kind that their second byte says. Where there
--- is no second byte, or it is no kind, the first fault comes before these fields.
+-- The first fault of bytes that should be a message, by the fields of the kind that their second byte says. If there is
+-- no second byte, or it is no kind, the first fault comes before these fields.
 abbrev pub FirstFault : List ℕ → WireFault → Type 0
 FirstFault bytes fault = FirstOf (fields_of (slice_index bytes 1)) bytes fault

@@ -13,14 +13,14 @@ byte_values = 256
 
 -- A field of a message.
 pub data Field : Type 0 where
-  -- a number from least to most, in the bytes of its width, the highest byte first; any other number is this fault
+  -- a number from `least` to `most`, in the bytes of its width, the highest byte first; any other number is this fault
   Number : (width : Width) (least most : ℕ) (otherwise : WireFault) → Field
-  -- a count of 1 byte, at most `most_ids`, and then so many ids of 4 bytes
+  -- a count of 1 byte, at most `most_ids`, and then this many ids of 4 bytes
   Ids : Field
-  -- a length of 2 bytes, at most `most_payload`, and then so many bytes
+  -- a length of 2 bytes, at most `most_payload`, and then this many bytes
   Payload : Field
 
--- a number of this width that is at most so much
+-- a number of this width, from 0 to `most`
 abbrev pub up_to : Width → ℕ → Field
 up_to width most = Number width 0 most BadField
 
@@ -28,12 +28,12 @@ up_to width most = Number width 0 most BadField
 abbrev pub any : Width → Field
 any width = up_to width (byte_values ^ byte_len width - 1)
 
--- What stands in a field: a number, or the ids or bytes of a list.
+-- What is in a field: a number, or the ids or bytes of a list.
 pub data Value : Type 0 where
   One : ℕ → Value
   Many : List ℕ → Value
 
--- the value can stand in the field
+-- the value can be in the field
 abbrev pub Fits : Field → Value → Type 0
 Fits (Number width least most otherwise) (One n) = (n < byte_values ^ byte_len width) × (least ≤ n) × (n ≤ most)
 Fits Ids (Many ids) = (length ids ≤ most_ids) × AllByRecursion (λ id. id < number_limit) ids
@@ -51,7 +51,7 @@ spelled (Number width least most otherwise) (Many ns) = []
 spelled Ids (One n) = []
 spelled Payload (One n) = []
 
--- there are as many values as fields, and each can stand in its field
+-- there are as many values as fields, and each can be in its field
 abbrev pub AllFit : List Field → List Value → Type 0
 AllFit [] [] = Unit {0}
 AllFit (field ∷ fields) (value ∷ values) = Fits field value × AllFit fields values

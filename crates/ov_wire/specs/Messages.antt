@@ -100,7 +100,7 @@ IsBodyInRange (IHave id) = Unit {0}
 IsBodyInRange (Graft id) = Unit {0}
 IsBodyInRange Prune = Unit {0}
 
--- each field of the message is within its range; the fields that are not named above are so by their types
+-- each field of the message is within its range; the types of the fields that are not named above keep them in range
 abbrev pub AreInRange : Message → Type 0
 AreInRange m = IsBodyInRange m.body
 

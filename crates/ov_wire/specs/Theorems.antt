@@ -17,7 +17,7 @@ OneMessage = (m n : Message) (bytes : List ℕ) → Spelling m bytes → Spellin
 abbrev pub NoneBeginsAnother : Type 0
 NoneBeginsAnother = (m n : Message) (a more : List ℕ) → Spelling m a → Spelling n (a ++ more) → more ≡ []
 
--- bytes have at most one first fault, and none where they spell a message
+-- bytes have at most one first fault, and none if they spell a message
 abbrev pub OneFirstFault : Type 0
 OneFirstFault = (bytes : List ℕ) (f : WireFault) → FirstFault bytes f →
     ((g : WireFault) → FirstFault bytes g → f ≡ g) × ((m : Message) → ¬ Spelling m bytes)

@@ -61,7 +61,7 @@ fn byte_at(
     }
 }
 
-/// Ok where nothing follows the last field.
+/// Ok if nothing follows the last field.
 fn end(bytes: &[u8]) -> Result<(), WireFault>
     ensures { ReadsAs (λ _. []) result (values_at [] bytes.now) }
 {
@@ -72,7 +72,7 @@ fn end(bytes: &[u8]) -> Result<(), WireFault>
     }
 }
 
-/// Ok where there are exactly `count` bytes.
+/// Ok if there are exactly `count` bytes.
 fn whole(count: usize, bytes: &[u8]) -> Result<(), WireFault>
     ensures ok { OnOk result (length bytes.now ≡ count) }
     ensures short { IfErr result (λ fault. length bytes.now < count → fault ≡ Short) }
@@ -239,8 +239,8 @@ fn message_of(alloc: Global, bytes: &[u8]) -> Result<Message, WireFault>
     })
 }
 
-/// The message that the bytes spell. Where they spell none, the fault of the first wrong field from the left.
-/// OutOfMemory (99) if an allocation is refused, and only where the bytes spell a message with a list or a payload.
+/// The message that the bytes spell. If they spell none, the fault of the first wrong field from the left. OutOfMemory
+/// (99) if an allocation is refused, and only if the bytes spell a message with a list or a payload.
 pub fn decode(alloc: Global, bytes: &[u8]) -> Result<Message, WireFault>
     // The bytes spell the message that is returned.
     ensures ok { IfOk result (λ m. Spelling m bytes.now × AreInRange m) }
@@ -249,7 +249,7 @@ pub fn decode(alloc: Global, bytes: &[u8]) -> Result<Message, WireFault>
     // Any other fault is the first fault of the bytes, and they spell no message.
     ensures fault { IfErr result (λ fault. fault ≢ OutOfMemory →
         FirstFault bytes.now fault × ((m : Message) → ¬ Spelling m bytes.now)) }
-    // Out of memory only where the bytes spell a message of the kinds 7, 8 and 9, which have a list or a payload.
+    // Out of memory only if the bytes spell a message of the kinds 7, 8 and 9, which have a list or a payload.
     ensures memory { IsErrOf result OutOfMemory →
         HasList (slice_index bytes.now 1) × ((m : Message) × Spelling m bytes.now) }
 {

@@ -15,7 +15,7 @@ pub fn none_begins_another()
     ensures { NoneBeginsAnother }
 {}
 
-/// Bytes have at most one first fault, and none where they spell a message.
+/// Bytes have at most one first fault, and none if they spell a message.
 pub fn one_first_fault()
     ensures { OneFirstFault }
 {}

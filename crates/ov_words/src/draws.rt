@@ -57,7 +57,7 @@ impl<'a> Draws<'a> {
     }
 
     /// Picks a member of a set by the next word, which is then used up: member number `word % size`, counted from 0.
-    /// The members must ascend. None where the set is empty, and then no word is used. (Chosen here.)
+    /// The members must ascend. None if the set is empty, and then no word is used. (Chosen here.)
     pub fn pick(&mut self, set: &[NodeId]) -> Option<NodeId>
         requires words { 0 < length self.old }
         requires set { IsSet set.now }

@@ -12,7 +12,7 @@ abbrev pub program_fault_text : ProgramFault → List ℕ
 program_fault_text (Arguments fault) = refusal_text (number_of fault)
 program_fault_text (Run fault) = run_fault_text fault
 
--- the program's status: that of the run or the analysis, 2 where the arguments are refused, and 1 after another fault
+-- the program's status: that of the run or the analysis, 2 if the arguments are refused, and 1 after another fault
 abbrev pub exit_status : Result ℕ ProgramFault → ℕ
 exit_status (Ok status) = status
 exit_status (Err (Arguments BadArguments)) = 2

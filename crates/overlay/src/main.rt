@@ -1,5 +1,5 @@
 //! Runs a scenario of overlay nodes, and prints what happens; or analyses a graph file, and prints how many crashes of
-//! nodes part it.
+//! nodes split it.
 #![tactic(auto)]
 
 ghost use Rattle.std.specs.Prelude.{◌≡◌, ◌≢◌, ◌⊎◌, ◌<◌, drop, map, option_map, string_bytes};
@@ -31,7 +31,7 @@ use std::io::{self, IsTerminal, Read, Write};
 use std::process::ExitCode;
 use std::thread::Threads;
 
-/// The name of what is read where no file is named.
+/// The name of what is read if no file is named.
 const STANDARD_INPUT: &str = "standard input";
 
 fn main(rt: HostRuntime) -> ExitCode {
@@ -47,7 +47,7 @@ fn print_fault(rt: &HostRuntime, fault: RunFault) -> RunFault
     fault
 }
 
-/// Prints why there is a fault, below its line. Out of memory nothing is told.
+/// Prints why there is a fault, below its line. Prints nothing if an allocation for it was refused.
 fn print_reason(rt: &HostRuntime, reason: Result<String, OutOfMemory>) {
     if let Ok(reason) = reason {
         let _ = eprint!(rt; "{reason}");
@@ -81,13 +81,13 @@ fn answer<T: Threads + Sync>(
     }
 }
 
-/// The program's name and the arguments behind it.
+/// The program's name and the arguments after it.
 fn command_line(rt: &HostRuntime) -> Result<Vec<String>, ArgumentsFault> {
     let texts = env::args(rt)?;
     Ok(texts.collect(rt.alloc())?)
 }
 
-/// The arguments, which stand behind the program's name.
+/// The arguments, which follow the program's name.
 fn behind_name(command_line: &[String]) -> &[String]
     ensures { result.now ≡ drop 1 command_line.now }
 {
@@ -97,7 +97,7 @@ fn behind_name(command_line: &[String]) -> &[String]
     }
 }
 
-/// Ends where the arguments can't be read. Help, the version, or what is wrong with them is told.
+/// Ends if the arguments can't be read. Prints help, the version, or what is wrong with them.
 fn unread_arguments(rt: &HostRuntime, fault: ArgumentsFault, arguments: &[String]) -> ProgramFault
     ensures { result ≡ Arguments fault }
 {
@@ -129,7 +129,7 @@ fn do_asked<T: Threads + Sync>(
     }
 }
 
-/// Ends where a file can't be opened. It is named, with the cause.
+/// Ends if a file can't be opened. Prints its name, with the cause.
 fn not_opened(rt: &HostRuntime, path: &str, error: io::Error) -> RunFault
     ensures { result ≡ RunFault.Read }
 {
@@ -140,7 +140,7 @@ fn not_opened(rt: &HostRuntime, path: &str, error: io::Error) -> RunFault
     ended
 }
 
-/// Ends where a file can't be read. It is named, unless memory ended.
+/// Ends if a file can't be read. Prints its name, unless an allocation was refused.
 fn not_read(rt: &HostRuntime, name: &str, fault: RunFault) -> RunFault
     ensures { result ≡ fault }
 {
@@ -154,7 +154,7 @@ fn not_read(rt: &HostRuntime, name: &str, fault: RunFault) -> RunFault
     ended
 }
 
-/// Opens a file. Where that fails, it is told why.
+/// Opens a file. If that fails, prints why.
 fn opened(rt: &HostRuntime, path: &str) -> Result<File, RunFault>
     ensures { IfErr result (λ fault. fault ≡ RunFault.Read) }
 {
@@ -164,7 +164,7 @@ fn opened(rt: &HostRuntime, path: &str) -> Result<File, RunFault>
     }
 }
 
-/// All bytes of a reader. Where it can't be read, that is told by its name.
+/// All bytes of a reader. If it can't be read, prints that, with its name.
 ///
 /// `Read` (71): the reader failed. `OutOfMemory` (99): an allocation was refused.
 fn bytes_of<R: Read + Drop>(rt: &HostRuntime, reader: R, name: &str) -> Result<Vec<u8>, RunFault>
@@ -178,7 +178,7 @@ fn bytes_of<R: Read + Drop>(rt: &HostRuntime, reader: R, name: &str) -> Result<V
     }
 }
 
-/// Runs the scenario of a file, or of standard input. Where it is to be explained, it is told why lines are refused.
+/// Runs the scenario of a file, or of standard input. If it is to be explained, prints why lines are refused.
 fn run_asked<T: Threads + Sync>(
     rt: &HostRuntime,
     threads: &T,
@@ -198,7 +198,7 @@ fn run_asked<T: Threads + Sync>(
     }
 }
 
-/// Runs the scenario of a reader that has this name. Where it is to be explained, it is told why lines are refused.
+/// Runs the scenario of a reader that has this name. If it is to be explained, prints why lines are refused.
 fn run_from<T: Threads + Sync, R: Read + Drop, W: Write>(
     rt: &HostRuntime,
     threads: &T,
@@ -214,8 +214,8 @@ fn run_from<T: Threads + Sync, R: Read + Drop, W: Write>(
     run_told(rt, threads, &bytes, sink, explain)
 }
 
-/// Runs the scenario of these bytes. A fault of it is told of. Where the run is to be explained, it is told why lines
-/// are refused, and at the end how many events are.
+/// Runs the scenario of these bytes. Prints its fault, if there is one, and why. If the run is to be explained, prints
+/// why lines are refused, and at the end how many events happened and how many were refused.
 fn run_told<T: Threads + Sync, W: Write>(
     rt: &HostRuntime,
     threads: &T,
@@ -275,7 +275,7 @@ fn analyse_from<T: Threads + Sync, R: Read + Drop, W: Write>(
     analyse_told(rt, threads, &bytes, sink, analysis)
 }
 
-/// Analyses the graph file of these bytes. A fault of it is told of, and so is a refusal.
+/// Analyses the graph file of these bytes. Prints a fault or a refusal of it, and why.
 fn analyse_told<T: Threads + Sync, W: Write>(
     rt: &HostRuntime,
     threads: &T,
@@ -308,7 +308,8 @@ fn analyse_told<T: Threads + Sync, W: Write>(
     answer
 }
 
-/// Prints why the analysis of a graph file is refused, if it is, behind its line. Out of memory nothing is told.
+/// Prints why the analysis of a graph file is refused, if it is, after its line. Prints nothing if an allocation for it
+/// was refused.
 fn print_refusal(rt: &HostRuntime, bytes: &[u8], group: Option<&[NodeId]>) {
     if let Ok(Some(reason)) = group_reason(rt.alloc(), bytes, group) {
         let _ = eprint!(rt; "{reason}");

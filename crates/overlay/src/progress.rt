@@ -1,14 +1,14 @@
 use ov_even::Watcher;
 use std::time::{Duration, Instant};
 
-/// The least time between two lines, in milliseconds.
+/// The shortest time between two lines, in milliseconds.
 const PAUSE: u64 = 500;
 
 /// The time before the first line, in milliseconds.
 const START: u64 = 1000;
 
-/// Says on standard error how far an analysis has come, where that is wanted: nothing in the first second, and from
-/// then on at most two lines a second. Where the clock can't be read it says nothing.
+/// Says on standard error how far an analysis has come, if that is wanted: nothing in the first second, and from then
+/// on at most two lines a second. If the clock can't be read, it says nothing.
 #[derive(Drop)]
 pub(crate) struct Progress<'a> {
     rt: &'a HostRuntime,
@@ -28,7 +28,7 @@ impl<'a> Progress<'a> {
         }
     }
 
-    /// Whether the next line is due. If it is, the time to the one behind it begins.
+    /// Whether the next line is due. If it is, the time to the one after it begins.
     fn is_due(&mut self) -> bool {
         let (Some(since), Ok(now)) = (self.since, Instant::now(self.rt)) else {
             return false;

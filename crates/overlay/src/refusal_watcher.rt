@@ -3,12 +3,12 @@ use ov_run::RunWatcher;
 use ov_scenario::{Line, numbers_of_run_lines, read_scenario};
 use ov_snap::Core;
 
-/// Tells on standard error why a run refuses a line, and at its end how many events happened and how many were refused,
-/// if that is wanted. Out of memory nothing is told.
+/// Prints on standard error why a run refuses a line, and at its end how many events happened and how many were
+/// refused, if that is wanted. Prints nothing if an allocation for it is refused.
 #[derive(Drop)]
 pub(crate) struct Explaining<'a> {
     rt: &'a HostRuntime,
-    /// The lines that the run runs, and the number of each in the file. None if nothing is to be told.
+    /// The lines that the run runs, and the number of each in the file. None if nothing is to be printed.
     script: Option<Script>,
     /// How many lines ran.
     ran: usize,
@@ -25,21 +25,21 @@ struct Script {
 }
 
 impl Script {
-    /// The lines of a scenario file of these bytes. None if they say no scenario, and out of memory.
+    /// The lines of a scenario file of these bytes. None if they say no scenario, or if an allocation is refused.
     fn of(rt: &HostRuntime, bytes: &[u8]) -> Option<Script> {
         let numbers = numbers_of_run_lines(rt.alloc(), bytes).ok()?;
         let lines = read_scenario(rt.alloc(), bytes).ok()?.lines;
         Some(Script { lines, numbers })
     }
 
-    /// The line that runs behind so many others, and its number in the file.
+    /// The line that runs after `ran` others, and its number in the file.
     fn line(&self, ran: usize) -> Option<(&Line, usize)> {
         Some((self.lines.get(ran)?, *self.numbers.get(ran)?))
     }
 }
 
 impl<'a> Explaining<'a> {
-    /// A watcher of the run of a scenario file of these bytes. It tells nothing unless that is wanted.
+    /// A watcher of the run of a scenario file of these bytes. It prints nothing unless that is wanted.
     pub(crate) fn new(rt: &'a HostRuntime, bytes: &[u8], is_wanted: bool) -> Explaining<'a> {
         Explaining {
             rt,
@@ -54,7 +54,7 @@ impl<'a> Explaining<'a> {
         }
     }
 
-    /// Tells how many events happened, and how many were refused.
+    /// Prints how many events happened, and how many were refused.
     pub(crate) fn tell_count(&self) {
         if self.script.is_none() {
             return;
@@ -74,7 +74,7 @@ impl<'a> Explaining<'a> {
         matches!(self.line(), Some((Line::Event { .. }, _)))
     }
 
-    /// What is told of the line that ran last and was refused with this number.
+    /// What is printed of the line that ran last and was refused with this number.
     fn reason(&self, core: &Core, number: u32) -> Option<String> {
         let alloc = self.rt.alloc();
         let (line, place) = self.line()?;

@@ -21,7 +21,7 @@ use std::process::ExitCode;
 use std::rt::{Env, Files, Runtime};
 use std::thread::Threads;
 
-/// At least as many bytes as the longest path has that the system opens.
+/// The length in bytes of the longest path that the system opens, or more.
 const LONGEST_PATH: usize = 4096;
 
 fn main(rt: HostRuntime) -> ExitCode {
@@ -81,8 +81,8 @@ fn judge_file<R: Runtime + AllocGlobal + Threads + Sync>(
     }
 }
 
-/// Judges what a reader gives, and writes the line of the outcome. Ok: the status of the outcome, which is 0 only where
-/// the bytes that were read say an exact number. Not Ok: the fault is told, and the name of what can't be read.
+/// Judges what a reader gives, and writes the line of the outcome. Ok: the status of the outcome, which is 0 only if
+/// the bytes that were read say an exact number. Not Ok: the fault is printed, and the name of what can't be read.
 fn judge_from<R: Runtime + AllocGlobal + Threads + Sync, I: Read + Drop, W: Write>(
     rt: &R,
     reader: I,
@@ -109,8 +109,8 @@ fn judge_from<R: Runtime + AllocGlobal + Threads + Sync, I: Read + Drop, W: Writ
     }
 }
 
-/// The status of an outcome. If it is not 0 it is printed on standard error why the certificate does not hold, or why
-/// the file is refused.
+/// The status of an outcome. If it is not 0, standard error says why the certificate does not hold, or why the file is
+/// refused.
 fn explained<R: Runtime + AllocGlobal>(rt: &R, outcome: Outcome) -> u8
     ensures { result ≡ status_of outcome }
 {

@@ -1,4 +1,4 @@
--- The views of seats, and what each exchange tells its seat.
+-- The views of seats, and what each exchange says of its seat.
 use Rattle.std.specs.Prelude.{◌≡◌, ℕ, zero, suc, ◌+◌, List, [], ◌∷◌, ◌++◌, take, drop}
 use Rattle.atomic_table.specs.Seated.{TableId}
 use Rattle.atomic_table.specs.Table.{Me, Step}
@@ -65,7 +65,7 @@ pub record Exchanged (Step : DeskState → DeskState → Type 0) (x : WorkerStat
   pub became : w ≡ (with_seated v.0 ((number_of v.0, x) ∷ []), v.1)
   pub made : (z : TableId) → IsExchange Step (seat_state z v.0) (seat_state z w.0)
 
--- what each of the three exchanges tells, where `found` was in the word
+-- what each of the three exchanges says, when `found` was in the word
 abbrev pub Claimed : Step (Unit {0}) → Holder → ℕ → Holder → Type 0
 Claimed e v found w =
     Exchanged (λ s t. Claims s (number_of v.0) found t) (claiming v.0.total found (worker_of v.0)) v w

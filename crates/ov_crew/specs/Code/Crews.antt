@@ -28,7 +28,7 @@ pub record HasWorked (g : LinkGraph) (q : List ℕ) (first : ℕ) (b : BoardStat
   pub ended : OnOk o.0 (o.1.worker.ended ≡ true)
   pub haul : IfOk o.0 (λ h. IsHaulOf g q first o.1.worker h.pieces.items)
 
--- what workers return that have these hauls and these seats
+-- what workers with these hauls and these seats return
 abbrev pub outcomes : List Haul → List SeatState → List Outcome
 outcomes [] seats = []
 outcomes (h ∷ hauls) [] = []

@@ -16,7 +16,7 @@ pub record HasTaken (total x : ℕ) (w v : WorkerState) : Type 0 where
   pub later : (y : ℕ) → Has w.claimed y → y < x
   pub became : v ≡ record w { claimed = w.claimed ++ x ∷ [] }
 
--- the worker has ended. It claimed and did not skip just what it had claimed before
+-- the worker has ended. The numbers that it claimed and did not skip are those that it had claimed before
 pub record HasStopped (w v : WorkerState) : Type 0 where
   pub ended : v.ended ≡ true
   pub failed : v.failed ≡ w.failed

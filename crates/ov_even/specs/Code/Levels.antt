@@ -5,7 +5,7 @@ use Rattle.ov_graph.specs.Links.{most_nodes}
 use Rattle.ov_fans.specs.declared.piece.Piece.{Piece}
 use Rattle.ov_fans.specs.declared.piece.Piece.TheVariants.{Pair, Fan}
 
--- what the places of members in a group are below: each fits 16 bits
+-- the places of members in a group are below this: each fits 16 bits
 abbrev pub place_limit : ℕ
 place_limit = 2 ^ 16
 

@@ -1,4 +1,4 @@
--- Paths in one flat list: each is written from its end back to the source, and the source stands nowhere else.
+-- Paths in one flat list: each is written from its end back to the source, and the source is nowhere else.
 use Rattle.std.specs.Prelude.{ℕ, ◌-◌, ◌==◌, List, [], ◌∷◌, length, get_or, if◌then◌else◌}
 
 -- the paths of a flat list. `ahead` is the part of the first path that was read already

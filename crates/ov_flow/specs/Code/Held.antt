@@ -13,7 +13,7 @@ use Rattle.ov_flow.specs.declared.augmenting_paths.Work.{Work}
 abbrev pub IsReady : SplitNetState → Type 0
 IsReady n = IsPlaced (net_by_place n) (length n.graph.nodes)
 
--- the tree has room for so many nodes
+-- the tree has room for this many nodes
 abbrev pub HasTreeRoom : ℕ → Tree → Type 0
 HasTreeRoom wide t = (wide ≤ vec_capacity t.order) × (wide ≤ vec_capacity t.parents) × (wide ≤ vec_capacity t.ways)
 
@@ -22,7 +22,7 @@ abbrev pub HasNodeRoom : Tree → Type 0
 HasNodeRoom t = (vec_len t.order < vec_capacity t.order) × (vec_len t.parents < vec_capacity t.parents)
     × (vec_len t.ways < vec_capacity t.ways)
 
--- each table has `wide` places, and each other buffer has room for so many
+-- each table has `wide` places, and each other buffer has room for as many items
 pub record HasWorkRoom (wide : ℕ) (w : Work) : Type 0 where
   pub from : length w.from.items ≡ wide
   pub next : length w.next.items ≡ wide

@@ -10,7 +10,7 @@ use Rattle.ov_split.specs.SplitNetState.{SplitNetState}
 use Rattle.ov_split.specs.Code.Residual.{Table, IsFree, IsStuck}
 use Rattle.ov_flow.specs.declared.search_tree.Tree.{Tree}
 
--- the open end after a link to w is taken: the node before w on its path, or w where no path comes to it
+-- the open end after a link to w is taken: the node before w on its path, or w if no path comes to it
 abbrev pub tip_of : Table → ℕ → ℕ
 tip_of from w = unwrap_or (from w) w
 
@@ -23,7 +23,7 @@ abbrev pub IsStepBy : SplitNetState → Table → ℕ → ℕ → Option ℕ →
 IsStepBy n from x y (Some w) = IsWay n from x y w
 IsStepBy n from x y None = from x ≡ Some y
 
--- a search tree. The first node is the source. A step leads to each later node from its parent, which stands before it
+-- a search tree. The first node is the source. A step leads to each later node from its parent, which comes before it
 pub record IsTree (n : SplitNetState) (from : Table) (order parents : List ℕ) (ways : List (Option ℕ)) : Type 0 where
   pub some : 0 < length order
   pub count : length parents ≡ length order
@@ -35,7 +35,7 @@ pub record IsTree (n : SplitNetState) (from : Table) (order parents : List ℕ) 
   pub distinct : IsDistinct order
   pub nodes : (x : ℕ) → Has order x → Has n.graph.nodes x
 
--- the tree has a parent and a step for each node. Each parent stands before its child
+-- the tree has a parent and a step for each node. Each parent comes before its child
 pub record IsShaped (order parents : List ℕ) (ways : List (Option ℕ)) : Type 0 where
   pub some : 0 < length order
   pub count : length parents ≡ length order

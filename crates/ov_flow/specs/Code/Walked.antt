@@ -7,7 +7,7 @@ use Rattle.ov_split.specs.Code.Residual.{Table, IsFlow}
 use Rattle.ov_flow.specs.Code.Reached.{IsStepBy}
 use Rattle.ov_flow.specs.declared.walk_taking.Hop.{Hop}
 
--- the table that a list stands for: at each place the place before it on its path
+-- the table that a list represents: at each place the place before it on its path
 abbrev pub table_of : List (Option ℕ) → Table
 table_of from = λ v. get_or from v None
 

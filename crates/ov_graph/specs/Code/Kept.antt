@@ -1,4 +1,4 @@
--- How the code keeps a graph: its nodes, and a row of bits for each. In the row of a node bit q is set where it is
+-- How the code keeps a graph: its nodes, and a row of bits for each. In the row of a node, bit q is set if the node is
 -- linked to the node at place q.
 use Rattle.std.specs.Prelude.{◌≡◌, ◌↔◌, ℕ, suc, ◌<◌, ◌≤◌, List, [], ◌∷◌, ◌++◌, map, length, drop, get_or, slice_index}
 use Rattle.ov_ids.specs.Members.{Ascends}
@@ -9,14 +9,14 @@ use Rattle.ov_graph.specs.Row.{HasBit, picked}
 abbrev pub row_at : List (List ℕ) → ℕ → List ℕ
 row_at rows p = get_or rows p []
 
--- the links that rows stand for: from each node of xs to the nodes after it whose bit is set in its row. The first of
--- xs stands at place p
+-- the links that rows represent: from each node of xs to the nodes after it whose bit is set in its row. The first of
+-- xs is at place p
 unfoldable pub links_read : ℕ → List ℕ → List (List ℕ) → List (ℕ × ℕ)
 links_read p [] rows = []
 links_read p (x ∷ xs) [] = []
 links_read p (x ∷ xs) (row ∷ rows) = map (λ y. (x, y)) (picked row (suc p) xs) ++ links_read (suc p) xs rows
 
--- the graph that these nodes and rows stand for
+-- the graph that these nodes and rows represent
 abbrev pub graph_kept : List ℕ → List (List ℕ) → LinkGraph
 graph_kept nodes rows = record { nodes = nodes; links = links_read 0 nodes rows }
 

@@ -28,19 +28,19 @@ link_flaw nodes l =
     if nat_lt l.0 l.1 then (if has nodes l.0 then (if has nodes l.1 then None else Some (NoNode l.1))
     else Some (NoNode l.0)) else Some NotUpward
 
--- the first fault of the nodes from place `at` on, which stand behind the node `before`
+-- the first fault of the nodes from place `at` on, which follow the node `before`
 abbrev pub nodes_fault : ℕ → Option ℕ → List ℕ → Option GraphFault
 nodes_fault at before [] = None
 nodes_fault at None (node ∷ rest) = nodes_fault (suc at) (Some node) rest
 nodes_fault at (Some before) (node ∷ rest) =
     if nat_lt before node then nodes_fault (suc at) (Some node) rest else Some (UnorderedNode at node before)
 
--- the fault of the order of the link l at place `at`, which stands behind the link `before`
+-- the fault of the order of the link l at place `at`, which follows the link `before`
 abbrev pub order_fault : ℕ → Option (ℕ × ℕ) → ℕ × ℕ → Option GraphFault
 order_fault at None l = None
 order_fault at (Some before) l = if precedes before l then None else Some (UnorderedLink at l before)
 
--- the first fault of the links from place `at` on, which stand behind the link `before`
+-- the first fault of the links from place `at` on, which follow the link `before`
 abbrev pub links_fault : List ℕ → ℕ → Option (ℕ × ℕ) → List (ℕ × ℕ) → Option GraphFault
 links_fault nodes at before [] = None
 links_fault nodes at before (l ∷ rest) =

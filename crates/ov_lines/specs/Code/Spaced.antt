@@ -14,7 +14,7 @@ unfoldable pub without_return : List ℕ → List ℕ
 without_return line =
     if pointwise nat_eq (drop (length line - 1) line) (13 ∷ []) then take (length line - 1) line else line
 
--- the first line, without its line feed and one carriage return before that, and what is left behind it; without a line
+-- the first line, without its line feed and one carriage return before that, and what is left after it; without a line
 -- feed all bytes are one line
 unfoldable pub first_line : List ℕ → List ℕ × List ℕ
 first_line bytes =
@@ -26,16 +26,16 @@ first_line bytes =
 abbrev pub up_to_space : List ℕ → List ℕ × List ℕ
 up_to_space text = (take (place_or_end is_space text) text, drop (place_or_end is_space text) text)
 
--- the first word, and what is left behind it; none where there are only spaces
+-- the first word, and what is left after it; None if there are only spaces
 unfoldable pub first_word : List ℕ → Option (List ℕ × List ℕ)
 first_word text = if length (without_spaces text) == 0 then None else Some (up_to_space (without_spaces text))
 
--- the ids that the first word spells, where there is one
+-- the ids that the first word spells, if there is one
 abbrev pub first_list : List (List ℕ) → Option (List ℕ)
 first_list [] = None
 first_list (word ∷ more) = ids_of word
 
--- the number that the first word spells, where there is one and it fits so many bits
+-- the number that the first word spells, if there is one and it fits this many bits
 abbrev pub first_number : ℕ → List (List ℕ) → Option ℕ
 first_number bits [] = None
 first_number bits (word ∷ more) = number_within bits word

@@ -44,13 +44,13 @@ abbrev pub NamedNodeChanges
 NamedNodeChanges None nodes later = later ≡ nodes
 NamedNodeChanges (Some n) nodes later = NodeChanges n.0 n.1 nodes later
 
--- node a can change so: if it is to follow a plan, it is alive, and the plan is one for it
+-- node a can make this change: if it is to follow a plan, it is alive, and the plan is one for it
 abbrev pub CanChange : ℕ → NodeChange → map.FinMap nat_cmp Member → Type 0
 CanChange a (change.Born p) nodes = Unit {0}
 CanChange a (change.Follows g) nodes = (p : PeerState) × (map.get nodes a ≡ Some (Live p)) × IsPlanFor p g
 CanChange a change.Crashes nodes = Unit {0}
 
--- the named node, if there is one, can change so
+-- the named node, if there is one, can make its change
 abbrev pub NamedCanChange : Option (ℕ × NodeChange) → map.FinMap nat_cmp Member → Type 0
 NamedCanChange None nodes = Unit {0}
 NamedCanChange (Some n) nodes = CanChange n.0 n.1 nodes

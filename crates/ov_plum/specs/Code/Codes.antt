@@ -1,4 +1,4 @@
--- That what Plumtree keeps can be a value that contracts see. Nothing here says anything about it.
+-- Codes of what Plumtree keeps, so that contracts can see it as a value. They say nothing about it.
 use Rattle.std.specs.Prelude.{ℕ, List, refl}
 use Rattle.std.specs.Coded.{Coded, code_by, coded×, coded_ℕ, coded_list}
 use Rattle.std.specs.FinMap as map

@@ -18,7 +18,7 @@ abbrev pub notes_among : List (MsgId × List ℕ) → List Note
 notes_among [] = []
 notes_among (e ∷ es) = each (λ s. (e.0, s)) e.1 ++ notes_among es
 
--- what stands in a map of senders
+-- what is in a map of senders
 unfoldable pub waiting_in : map.FinMap id_cmp (List ℕ) → WaitingState
 waiting_in m = record { notes = notes_among (map.entries m); running = set.from_list (map.keys m) }
 

@@ -8,7 +8,7 @@ use Rattle.ov_scenario.specs.declared.scenario_fault.LineFault.{LineFault}
 use Rattle.ov_scenario.specs.declared.statement.Statement.{Statement}
 use Rattle.ov_scenario.specs.declared.statement.Statement.TheVariants as says
 
--- the fault that is told is one of these, or none is told and there is none
+-- the fault that is returned is one of these, or None is returned and there is no such fault
 abbrev pub Tells : Option LineFault → (LineFault → Type 0) → Type 0
 Tells None Is = (f : LineFault) → ¬ Is f
 Tells (Some f) Is = Is f
@@ -17,7 +17,7 @@ Tells (Some f) Is = Is f
 abbrev pub or_next : (Option Statement → Bool) → Option ℕ → Stated → Option ℕ
 or_next is_kind first line = if is_kind line.says then option_or first (Some line.number) else first
 
--- what lines tell of those behind them, with the next line
+-- what matters of lines for those after them, with the next line
 abbrev pub with_next : Before → Stated → Before
 with_next before line = record {
   event = or_next is_event before.event line;
@@ -25,12 +25,12 @@ with_next before line = record {
   seed = or_next is_seed before.seed line;
 }
 
--- the numbers of the parameters that a line gives that says this
+-- the numbers of the parameters that a line gives, if it says this
 abbrev pub params_in : Option Statement → Option (List ℕ)
 params_in (Some (says.Params numbers)) = Some numbers
 params_in other = None
 
--- the seed that a line gives that says this
+-- the seed that a line gives, if it says this
 abbrev pub seed_in : Option Statement → Option ℕ
 seed_in (Some (says.Seed seed)) = Some seed
 seed_in other = None

@@ -20,8 +20,9 @@ abbrev pub waiting : Option (List ℕ) → List (Option Statement)
 waiting None = []
 waiting (Some words) = Some (says.Words words) ∷ []
 
--- what one line says was added: some random words were drawn and some lines to run came. Whatever the lines behind it
--- ask for, the line and they together ask for that behind what came
+-- what one line says was added: the random words `drawn` were drawn, and the lines to run `own` came. If the lines
+-- after it ask for some lines to run, the line and they together ask for `own`, and then for those. Random words that
+-- wait count as the line that gave them
 pub record Collects (old : Collector) (said : Option Statement) (new : Collector) : Type 0 where
   pub drawn : List (List ℕ)
   pub draws : AreDraws (stream_now old.draws) drawn (stream_now new.draws)

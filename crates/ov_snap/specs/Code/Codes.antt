@@ -1,4 +1,4 @@
--- A core can be a value that contracts see. Nothing here says anything else of it.
+-- Codes of a core, so that contracts can see it as a value. They say nothing else about it.
 use Rattle.std.specs.Prelude.{List, refl}
 use Rattle.std.specs.Coded.{Coded, code_by, coded×, coded_list}
 use Rattle.ov_desk.specs.Desk.{GroupDeskState}

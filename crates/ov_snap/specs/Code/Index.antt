@@ -35,11 +35,11 @@ pub record AreInOrder (reports : List ReportState) (places : List ℕ) : Type 0 
   pub every : (p : ℕ) → p < length reports → Has places p
   pub order : Ordered (ReportPrecedes reports) places
 
--- the reports at the places before this one are of lesser keys
+-- the reports at the places before this one have smaller keys
 abbrev pub AreLess : List ReportState → List ℕ → ReportKey → ℕ → Type 0
 AreLess reports places key low = (i : ℕ) → i < low → key_cmp (key_at reports (slice_index places i)) key ≡ Less
 
--- those at the places from this one on are of greater keys
+-- the reports at the places from this one on have greater keys
 abbrev pub AreGreater : List ReportState → List ℕ → ReportKey → ℕ → Type 0
 AreGreater reports places key high =
     (i : ℕ) → high ≤ i → i < length places → key_cmp (key_at reports (slice_index places i)) key ≡ Greater

@@ -1,5 +1,5 @@
 -- Paths that are held while one more is sought (Even, SIAM J. Comput. 4, 1975): a table with the node before each node
--- on its path, and the residual steps that lead to one more path. A node here stands for both of its copies in the
+-- on its path, and the residual steps that lead to one more path. A node here represents both of its copies in the
 -- paper's network.
 use Rattle.std.specs.Prelude.{◌≡◌, ◌≢◌, ℕ, ◌⊎◌, List, Option, Some, None}
 use Rattle.std.specs.Option.{unwrap_or}
@@ -12,7 +12,7 @@ use Rattle.ov_split.specs.SplitNetState.{SplitNetState}
 abbrev pub IsFree : SplitNetState → ℕ → ℕ → Type 0
 IsFree n a b = Linked n.graph a b × ¬ Has n.avoided b
 
--- the node before each node on its path, or None where no path comes to it
+-- the node before each node on its path, or None if no path comes to it
 abbrev pub Table : Type 0
 Table = ℕ → Option ℕ
 

@@ -7,7 +7,7 @@ use Rattle.ov_graph.specs.Row.{HasBit}
 use Rattle.ov_graph.specs.Row.{picked}
 use Rattle.ov_split.specs.SplitNetState.{SplitNetState}
 
--- the net that these values stand for
+-- the net that these values represent
 abbrev pub net_kept : LinkGraph → List ℕ → ℕ → List ℕ → SplitNetState
 net_kept g avoided source targets = record {
   graph = g;

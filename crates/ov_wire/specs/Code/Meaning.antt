@@ -45,6 +45,6 @@ unfoldable pub message_with : Result (List Value) WireFault → Message
 message_with (Ok values) = record { from = number_in values 2; body = body_in (number_in values 1) (drop 3 values) }
 message_with (Err fault) = record { from = 0; body = Prune }
 
--- the message that the bytes spell; any message where they spell none
+-- the message that the bytes spell; any message if they spell none
 abbrev pub message_in : List ℕ → Message
 message_in bytes = message_with (values_at (fields_of (slice_index bytes 1)) bytes)

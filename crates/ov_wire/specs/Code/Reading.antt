@@ -11,7 +11,7 @@ use Rattle.ov_wire.specs.Fields.{Field, Number, Ids, Payload, Value, One, Many}
 use Rattle.ov_wire.specs.Faults.{leading_number}
 
 infixl 10 ◌>>=◌
--- f of the value, or the fault where there is none
+-- f of the value, or the fault if there is none
 abbrev pub ◌>>=◌ : {A B : Type 0} → Result A WireFault → (A → Result B WireFault) → Result B WireFault
 (Ok x) >>= f = f x
 (Err e) >>= f = Err e
@@ -73,7 +73,7 @@ FailsReading BadKind read = read ≡ Err BadKind
 FailsReading BadField read = read ≡ Err BadField
 FailsReading Trailing read = read ≡ Err Trailing
 
--- The same as `ReadsAs` of a function that may be out of memory, but only where something is read.
+-- The same as `ReadsAs`, for a function that may be out of memory, but only if something is read.
 abbrev pub MapsResult : {X Y : Type 0} → (X → Y) → Result X WireFault → Result Y WireFault → Type 0
 MapsResult view (Ok x) read = read ≡ Ok (view x)
 MapsResult view (Err fault) read = FailsReading fault read
