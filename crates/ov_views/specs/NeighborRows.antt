@@ -1,7 +1,7 @@
 -- The rows of a node's behaviour at NEIGHBOR, NEIGHBORREPLY, DISCONNECT and a crash report. v are the views before
 -- the step and w those after; a is the attempt before it and b the one after. NEIGHBOR with its priorities and
--- DISCONNECT are HyParView's (Leitão, Pereira, Rodrigues, DSN 2007). How an attempt goes on, and what a reply does
--- that nobody waits for, are chosen here.
+-- DISCONNECT are HyParView's (Leitão, Pereira, Rodrigues, DSN 2007). How an attempt goes on, what a reply does that
+-- nobody waits for, and that a message from the node itself does nothing, are chosen here.
 use Rattle.std.specs.Prelude.{◌≡◌, ℕ, Bool, true, false, not, ◌||◌, ◌&&◌, ◌==◌, List, [], ◌∷◌, ◌++◌, length}
 use Rattle.std.specs.Prelude.{Option, Some, None, MatchBool, if◌then◌else◌}
 use Rattle.ov_ids.specs.Sets.{IsSet, IsIn, has, adding, without_all}

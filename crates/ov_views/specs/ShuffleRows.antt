@@ -1,6 +1,6 @@
 -- The rows of a node's behaviour when it starts a shuffle, and at SHUFFLE and SHUFFLEREPLY. v are the views before the
 -- step and w those after. Shuffles are HyParView's (Leitão, Pereira, Rodrigues, DSN 2007, Section 4.4). That a node's
--- own shuffle does nothing if it ends at that node is chosen here.
+-- own shuffle does nothing if it ends at that node, nor does a message from the node itself, is chosen here.
 use Rattle.std.specs.Prelude.{◌≡◌, ℕ, ◌-◌, Bool, ◌&&◌, ◌==◌, nat_lt, List, [], ◌∷◌, ◌++◌, length, MatchBool}
 use Rattle.ov_ids.specs.Sets.{without}
 use Rattle.ov_wire.specs.declared.Message.{Message}
