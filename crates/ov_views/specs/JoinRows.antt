@@ -1,7 +1,7 @@
 -- The rows of a node's behaviour at JOIN, FORWARDJOIN and JOINED. v are the views before the step and w those after.
 -- JOIN and FORWARDJOIN are HyParView's (Leitão, Pereira, Rodrigues, DSN 2007, Algorithm 1). Chosen here are JOINED,
--- that a walk does not go to the new node itself, that a walk which can go nowhere ends, and that a message does nothing
--- if its sender, or the new node that it names, is the node that gets it.
+-- that a walk does not go to the new node itself, that a walk which can go nowhere ends, and that a message does
+-- nothing if its sender, or the new node that it names, is the node that gets it.
 use Rattle.std.specs.Prelude.{◌≡◌, ℕ, ◌-◌, Bool, ◌||◌, ◌==◌, nat_le, List, [], ◌∷◌, ◌++◌, length, map, MatchBool}
 use Rattle.ov_ids.specs.Sets.{without}
 use Rattle.ov_wire.specs.declared.Message.{Message}
