@@ -1,6 +1,7 @@
 -- What is said of the bytes that were read is said of the reader that had them. `read` are these bytes as they were
 -- lent.
-use Rattle.std.proofs.Common.{◌≡◌, ◌≢◌, ◌⊎◌, inl, inr, ◌∙◌, ◌+◌, ℕ, Bool, List, Option, Some, None, IfSome, Result, Ok, Err}
+use Rattle.std.proofs.Common.{◌≡◌, ◌≢◌, ◌⊎◌, inl, inr, ◌∙◌, ◌+◌, ℕ, Bool, List, Option, Some, None, IfSome, Result, Ok}
+use Rattle.std.proofs.Common.{Err}
 use Rattle.std.proofs.Common.{refl, subst}
 use Rattle.ov_io.specs.Device.{SinkState}
 use Rattle.ov_run.specs.Analysing.{IsAnalysis, PrintsAnalysis, BeginsAnalysis, IsAnalysisOf}

@@ -29,7 +29,8 @@ at_line bytes n (line_fault.NoEventNext next) is =
 pub of_scenario : (bytes : List ℕ) (own : ScenarioFault) → IsReadingFault bytes own
     → IsBeforeLines bytes (fault_of_scenario own)
 of_scenario bytes (scenario.Line l) is = at_line bytes l.line l.fault (scenario.Line l, is, refl)
-of_scenario bytes scenario.OutOfMemory is = record { fault = tt; not_written = λ e. absurd cc; not_read = λ e. absurd cc }
+of_scenario bytes scenario.OutOfMemory is =
+    record { fault = tt; not_written = λ e. absurd cc; not_read = λ e. absurd cc }
 
 -- the fault of a graph file
 pub of_graph_file : (bytes : List ℕ) (own : GraphFileFault) → IsGraphFileFault bytes own

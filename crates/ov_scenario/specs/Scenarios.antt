@@ -118,7 +118,8 @@ IsWrong before (Some (says.Analyse subject workers)) behind f = ⊥
 unfoldable pub AreFaulty : List Stated → List Stated → List FaultyLine → Type 0
 AreFaulty before [] faulty = faulty ≡ []
 AreFaulty before (line ∷ behind) faulty =
-    (((f : LineFault) → ¬ IsWrong (before_of before) line.says behind f) × AreFaulty (before ++ line ∷ []) behind faulty)
+    (((f : LineFault) → ¬ IsWrong (before_of before) line.says behind f)
+    × AreFaulty (before ++ line ∷ []) behind faulty)
     ⊎ ((f : LineFault) × (later : List FaultyLine)
     × IsWrong (before_of before) line.says behind f × (faulty ≡ record { line = line.number; fault = f } ∷ later)
     × AreFaulty (before ++ line ∷ []) behind later)

@@ -12,7 +12,8 @@ use Rattle.std.specs.declared.cmp.Ordering.TheVariants.{Less, Equal, Greater}
 use Rattle.ov_ids.specs.Members.{Has, Ordered}
 use Rattle.ov_ids.proofs.Members.{all_member, all_from_members, has_append_cases, has_append_left, has_append_right}
 use Rattle.ov_ids.proofs.Members.{has_place, place_of, place_in_take, has_from_take, ordered_at}
-use Rattle.ov_snap.specs.Code.Index.{AreGreater, AreInOrder, AreLess, IsGap, ReportKey, ReportPrecedes, key_at, key_cmp, key_of}
+use Rattle.ov_snap.specs.Code.Index.{AreGreater, AreInOrder, AreLess, IsGap, ReportKey, ReportPrecedes, key_at, key_cmp}
+use Rattle.ov_snap.specs.Code.Index.{key_of}
 use Rattle.ov_snap.specs.ReportState.{ReportState}
 
 -- THE ORDER OF KEYS

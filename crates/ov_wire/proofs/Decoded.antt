@@ -48,7 +48,8 @@ IsAnswered bytes f = FirstFault bytes f × ((m : Message) → ¬ Spelling m byte
 at_first : (bytes : List ℕ) (f : WireFault) → IsBytes bytes → read bytes ≡ Err f → IsAnswered bytes f
 at_first bytes f fits e = (is_first bytes f fits e, λ m s. not_spelled bytes f m e s)
 
-pub answers_first : (bytes : List ℕ) (r : Result Message WireFault) → IsBytes bytes → MapsResult values_of r (read bytes)
+pub answers_first :
+    (bytes : List ℕ) (r : Result Message WireFault) → IsBytes bytes → MapsResult values_of r (read bytes)
     → IfErr r (λ f. f ≢ OutOfMemory → FirstFault bytes f × ((m : Message) → ¬ Spelling m bytes))
 answers_first bytes (Ok n) fits given = tt
 answers_first bytes (Err OutOfMemory) fits given = λ n. absurd (n refl)

@@ -1,5 +1,6 @@
 -- A run that read its scenario: all its lines ran, or it ended while one of them did.
-use Rattle.std.proofs.Common.{◌≡◌, ◌+◌, inl, inr, List, ℕ, Option, Some, Result, Ok, Err, IsErrAnd, refl, sym, subst, arith}
+use Rattle.std.proofs.Common.{◌≡◌, ◌+◌, inl, inr, List, ℕ, Option, Some, Result, Ok, Err, IsErrAnd, refl, sym, subst}
+use Rattle.std.proofs.Common.{arith}
 use Rattle.ov_io.specs.Device.{SinkState}
 use Rattle.ov_run.specs.Ending.{Begins, Ends}
 use Rattle.ov_run.specs.Faults.{write_faults}

@@ -4,7 +4,8 @@ use Rattle.std.proofs.Common.{append_assoc, append-nil, Option, Some, None, refl
 use Rattle.std.specs.Option.{option_or}
 use Rattle.std.specs.Prelude.{slice_get}
 use Rattle.ov_scenario.specs.Code.Judging.{or_next, with_next}
-use Rattle.ov_scenario.specs.Scenarios.{first_of, is_event, is_params, is_seed, before_of, AreWithin, IsTooLate, IsWrong}
+use Rattle.ov_scenario.specs.Scenarios.{first_of, is_event, is_params, is_seed, before_of, AreWithin, IsTooLate}
+use Rattle.ov_scenario.specs.Scenarios.{IsWrong}
 use Rattle.ov_scenario.specs.Scenarios.{AreFaulty, IsFirstFaulty}
 use Rattle.ov_scenario.specs.Statements.{Stated}
 use Rattle.ov_scenario.specs.declared.line_judging.Before.{Before}

@@ -1,6 +1,7 @@
 -- A file has one list of numbers of lines at fault.
 use Rattle.std.proofs.Common.{◌≡◌, ◌∙◌, inl, inr, ℕ, List, [], ◌∷◌, ◌++◌, map, ap, sym}
-use Rattle.ov_scenario.specs.Scenarios.{AreFaulty, AreFaultyLines, AreFaultless, IsFirstOf, IsFirstFaulty, IsScenarioFault, stated_lines}
+use Rattle.ov_scenario.specs.Scenarios.{AreFaulty, AreFaultyLines, AreFaultless, IsFirstOf, IsFirstFaulty}
+use Rattle.ov_scenario.specs.Scenarios.{IsScenarioFault, stated_lines}
 use Rattle.ov_scenario.specs.Statements.{Stated}
 use Rattle.ov_scenario.specs.declared.scenario_fault.FaultyLine.{FaultyLine}
 

@@ -9,7 +9,8 @@ use Rattle.ov_words.specs.Stream.{AreOutputs}
 use Rattle.ov_scenario.specs.Code.Judging.{params_in, seed_in, first_in}
 use Rattle.ov_scenario.specs.Draws.{AreDraws, seeded}
 use Rattle.ov_scenario.specs.Scenarios.{stated_lines, first_of, is_event, is_params, is_seed, before_of, default_params}
-use Rattle.ov_scenario.specs.Scenarios.{AreParams, AreParamsOf, IsSeedOf, IsWrong, AreFaulty, AreFaultless, AskFor, AreToRun}
+use Rattle.ov_scenario.specs.Scenarios.{AreParams, AreParamsOf, IsSeedOf, IsWrong, AreFaulty, AreFaultless, AskFor}
+use Rattle.ov_scenario.specs.Scenarios.{AreToRun}
 use Rattle.ov_scenario.specs.Scenarios.{IsScenario}
 use Rattle.ov_scenario.specs.Statements.{Stated}
 use Rattle.ov_scenario.specs.declared.scenario.Line.{Line}

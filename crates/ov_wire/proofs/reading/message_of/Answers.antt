@@ -26,7 +26,8 @@ returns-in_err-body-clause-read c =
     let p = err_from_is_err_and exit.result exit.ensures.1 in
     let body = Fails-then c.in_err-body.field-0.0 (values_at (slice_index_or kinds (kind - 1) []) left)
     (λ vs. One v ∷ One kind ∷ One c.in_ok-from.from ∷ vs) c.in_err-body.ensures.read in
-    rw (p.1, p.2) (subst (λ (r : Result (List Value) WireFault). FailsReading c.in_err-body.field-0.0 r) (sym whole) body)
+    rw (p.1, p.2)
+    (subst (λ (r : Result (List Value) WireFault). FailsReading c.in_err-body.field-0.0 r) (sym whole) body)
 
 pub returns-clause-read : goal.returns-clause-read
 returns-clause-read c =

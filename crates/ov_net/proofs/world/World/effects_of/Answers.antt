@@ -65,46 +65,60 @@ pub effects_of_repeat-requires : goal.effects_of_repeat-requires
 effects_of_repeat-requires c = may_repeat c.args.self.now.net _ c.args.event.now _ c.in-Repeat.is c.requires
 
 pub effects_of_crash-requires-clause-born : goal.effects_of_crash-requires-clause-born
-effects_of_crash-requires-clause-born c = (may_crash c.args.self.now.net _ c.args.event.now _ c.in-Crash.is c.requires).0
+effects_of_crash-requires-clause-born c =
+    (may_crash c.args.self.now.net _ c.args.event.now _ c.in-Crash.is c.requires).0
 
 pub effects_of_crash-requires-clause-live : goal.effects_of_crash-requires-clause-live
-effects_of_crash-requires-clause-live c = (may_crash c.args.self.now.net _ c.args.event.now _ c.in-Crash.is c.requires).1
+effects_of_crash-requires-clause-live c =
+    (may_crash c.args.self.now.net _ c.args.event.now _ c.in-Crash.is c.requires).1
 
 pub effects_of_crash_report-requires-clause-born : goal.effects_of_crash_report-requires-clause-born
-effects_of_crash_report-requires-clause-born c = (may_report c.args.self.now.net _ c.args.event.now _ _ c.in-CrashReport.is c.requires).0
+effects_of_crash_report-requires-clause-born c =
+    (may_report c.args.self.now.net _ c.args.event.now _ _ c.in-CrashReport.is c.requires).0
 
 pub effects_of_crash_report-requires-clause-live : goal.effects_of_crash_report-requires-clause-live
-effects_of_crash_report-requires-clause-live c = (may_report c.args.self.now.net _ c.args.event.now _ _ c.in-CrashReport.is c.requires).1
+effects_of_crash_report-requires-clause-live c =
+    (may_report c.args.self.now.net _ c.args.event.now _ _ c.in-CrashReport.is c.requires).1
 
 pub effects_of_crash_report-requires-clause-gone : goal.effects_of_crash_report-requires-clause-gone
-effects_of_crash_report-requires-clause-gone c = (may_report c.args.self.now.net _ c.args.event.now _ _ c.in-CrashReport.is c.requires).2
+effects_of_crash_report-requires-clause-gone c =
+    (may_report c.args.self.now.net _ c.args.event.now _ _ c.in-CrashReport.is c.requires).2
 
 pub effects_of_shuffle-requires-clause-born : goal.effects_of_shuffle-requires-clause-born
-effects_of_shuffle-requires-clause-born c = (may_shuffle c.args.self.now.net _ c.args.event.now _ c.in-Shuffle.is c.requires).0
+effects_of_shuffle-requires-clause-born c =
+    (may_shuffle c.args.self.now.net _ c.args.event.now _ c.in-Shuffle.is c.requires).0
 
 pub effects_of_shuffle-requires-clause-live : goal.effects_of_shuffle-requires-clause-live
-effects_of_shuffle-requires-clause-live c = (may_shuffle c.args.self.now.net _ c.args.event.now _ c.in-Shuffle.is c.requires).1
+effects_of_shuffle-requires-clause-live c =
+    (may_shuffle c.args.self.now.net _ c.args.event.now _ c.in-Shuffle.is c.requires).1
 
 pub effects_of_broadcast-requires-clause-born : goal.effects_of_broadcast-requires-clause-born
-effects_of_broadcast-requires-clause-born c = (may_broadcast c.args.self.now.net _ c.args.event.now _ _ c.in-Broadcast.is c.requires).0
+effects_of_broadcast-requires-clause-born c =
+    (may_broadcast c.args.self.now.net _ c.args.event.now _ _ c.in-Broadcast.is c.requires).0
 
 pub effects_of_broadcast-requires-clause-live : goal.effects_of_broadcast-requires-clause-live
-effects_of_broadcast-requires-clause-live c = (may_broadcast c.args.self.now.net _ c.args.event.now _ _ c.in-Broadcast.is c.requires).1
+effects_of_broadcast-requires-clause-live c =
+    (may_broadcast c.args.self.now.net _ c.args.event.now _ _ c.in-Broadcast.is c.requires).1
 
 pub effects_of_broadcast-requires-clause-payload : goal.effects_of_broadcast-requires-clause-payload
-effects_of_broadcast-requires-clause-payload c = (may_broadcast c.args.self.now.net _ c.args.event.now _ _ c.in-Broadcast.is c.requires).2
+effects_of_broadcast-requires-clause-payload c =
+    (may_broadcast c.args.self.now.net _ c.args.event.now _ _ c.in-Broadcast.is c.requires).2
 
 pub effects_of_broadcast-requires-clause-made : goal.effects_of_broadcast-requires-clause-made
-effects_of_broadcast-requires-clause-made c = (may_broadcast c.args.self.now.net _ c.args.event.now _ _ c.in-Broadcast.is c.requires).3
+effects_of_broadcast-requires-clause-made c =
+    (may_broadcast c.args.self.now.net _ c.args.event.now _ _ c.in-Broadcast.is c.requires).3
 
 pub effects_of_timer-requires-clause-born : goal.effects_of_timer-requires-clause-born
-effects_of_timer-requires-clause-born c = (may_fire c.args.self.now.net _ c.args.event.now _ _ c.in-Timer.is c.requires).0
+effects_of_timer-requires-clause-born c =
+    (may_fire c.args.self.now.net _ c.args.event.now _ _ c.in-Timer.is c.requires).0
 
 pub effects_of_timer-requires-clause-live : goal.effects_of_timer-requires-clause-live
-effects_of_timer-requires-clause-live c = (may_fire c.args.self.now.net _ c.args.event.now _ _ c.in-Timer.is c.requires).1
+effects_of_timer-requires-clause-live c =
+    (may_fire c.args.self.now.net _ c.args.event.now _ _ c.in-Timer.is c.requires).1
 
 pub effects_of_timer-requires-clause-timer : goal.effects_of_timer-requires-clause-timer
-effects_of_timer-requires-clause-timer c = (may_fire c.args.self.now.net _ c.args.event.now _ _ c.in-Timer.is c.requires).2
+effects_of_timer-requires-clause-timer c =
+    (may_fire c.args.self.now.net _ c.args.event.now _ _ c.in-Timer.is c.requires).2
 
 pub returns-in-Boot-clause-few : goal.returns-in-Boot-clause-few
 returns-in-Boot-clause-few c =
