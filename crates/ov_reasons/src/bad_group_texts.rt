@@ -67,11 +67,11 @@ pub(crate) fn push_unordered(text: &mut String, ids: &[NodeId]) -> Result<bool, 
 
 /// Appends that an id is not above the one before it.
 fn push_fall(text: &mut String, before: u32, id: u32) -> Result<(), AllocError> {
-    write!(text, "the ids of the group must ascend, and {id} stands ")?;
+    write!(text, "the ids of the group must ascend, and {id} ")?;
     if before == id {
-        return text.push_str("twice");
+        return text.push_str("occurs twice");
     }
-    write!(text, "behind {before}")
+    write!(text, "comes after {before}")
 }
 
 /// The first of these ids that is not above the one before it, preceded by that one.

@@ -109,7 +109,7 @@ fn push_graph_fault(text: &mut String, bytes: &[u8], fault: &GraphFault) -> Resu
 fn push_unordered_node(text: &mut String, is_same: bool, before: NodeId) -> Result<(), AllocError> {
     let id = before.number();
     if is_same {
-        return write!(text, "a node may stand once, and node {id} is");
+        return write!(text, "a node may occur once, and node {id} is");
     }
     write!(text, "nodes must ascend, and this node is below node {id}")
 }
@@ -122,7 +122,7 @@ fn push_unordered_link(
 ) -> Result<(), AllocError> {
     let (from, to) = (before.0.number(), before.1.number());
     if is_same {
-        return write!(text, "a link may stand once, and link {from} {to} is");
+        return write!(text, "a link may occur once, and link {from} {to} is");
     }
     write!(
         text,

@@ -83,7 +83,7 @@ fn push_wrong(alloc: Global, text: &mut String, wrong: Wrong<'_>) -> Result<(), 
         Wrong::NoText => text.push_str("an argument is no UTF-8 text"),
         Wrong::Command(name) => push_no_command(alloc, text, name),
         Wrong::Unknown(command, name) => push_unknown(alloc, text, command, name),
-        Wrong::Twice(option) => push_quoted(text, "", option, " stands twice"),
+        Wrong::Twice(option) => push_quoted(text, "", option, " occurs twice"),
         Wrong::NoValue(option, kind) => push_takes(text, option, &kind),
         Wrong::Value(option, kind, value) => {
             push_takes(text, option, &kind)?;

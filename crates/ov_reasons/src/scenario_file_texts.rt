@@ -56,12 +56,12 @@ fn push_misplaced(text: &mut String, fault: &LineFault) -> Result<(), AllocError
             let name = setting.name();
             write!(
                 text,
-                "`{name}` must stand before any event, and line {event} is one"
+                "`{name}` must come before any event, and line {event} is one"
             )
         }
         LineFault::SetBefore { setting, line } => {
             let name = setting.name();
-            write!(text, "`{name}` may stand once, and is on line {line} too")
+            write!(text, "`{name}` may occur once, and is on line {line} too")
         }
         LineFault::NoEventNext { next } => push_no_event(text, *next),
         LineFault::Unread(_) | LineFault::OutOfLimits(_) => Ok(()),
@@ -70,7 +70,7 @@ fn push_misplaced(text: &mut String, fault: &LineFault) -> Result<(), AllocError
 
 /// Appends that random words come before a line of this number, which is no event, or before the end of the file.
 fn push_no_event(text: &mut String, next: Option<usize>) -> Result<(), AllocError> {
-    text.push_str("random words must stand right before an event, and ")?;
+    text.push_str("random words must come right before an event, and ")?;
     match next {
         Some(next) => write!(text, "line {next} is no event"),
         None => text.push_str("no line follows"),

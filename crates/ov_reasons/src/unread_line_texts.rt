@@ -98,7 +98,7 @@ fn is_numeral(word: &[u8]) -> bool {
 /// What may help at a word by its bytes.
 pub(crate) fn bytes_hint(word: &[u8]) -> Option<&'static str> {
     if word.contains(&b'\t') {
-        return Some("words stand between spaces, and a tab is none");
+        return Some("words are separated by spaces, and a tab is no space");
     }
     if word.contains(&b'\r') {
         return Some(

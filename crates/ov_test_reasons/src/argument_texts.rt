@@ -44,7 +44,7 @@ static WRONG: [(&[&str], &str); 31] = [
     (&["run", "--explain=yes"], "`--explain` takes no value\n"),
     (
         &["run", "--explain", "a", "--explain"],
-        "`--explain` stands twice\n",
+        "`--explain` occurs twice\n",
     ),
     (
         &["run", "--explian"],
@@ -82,7 +82,7 @@ static WRONG: [(&[&str], &str); 31] = [
     ),
     (
         &["analyse", "--group", "1", "--group", "1"],
-        "`--group` stands twice\n",
+        "`--group` occurs twice\n",
     ),
     (
         &["analyse", "--group", "1", "a", "b"],
@@ -98,7 +98,7 @@ static WRONG: [(&[&str], &str); 31] = [
     ),
     (
         &["analyse", "--progress", "--progress"],
-        "`--progress` stands twice\n",
+        "`--progress` occurs twice\n",
     ),
     (
         &["analyse", "--group=1,2", "--workers=64", "a"],

@@ -31,22 +31,22 @@ static TOLD: [(&[u8], Option<&[u32]>, Option<&str>); 18] = [
     (
         TWO,
         Some(&[2, 2]),
-        Some("the ids of the group must ascend, and 2 stands twice\n"),
+        Some("the ids of the group must ascend, and 2 occurs twice\n"),
     ),
     (
         TWO,
         Some(&[1, 2, 1]),
-        Some("the ids of the group must ascend, and 1 stands behind 2\n"),
+        Some("the ids of the group must ascend, and 1 comes after 2\n"),
     ),
     (
         THREE,
         Some(&[2, 7, 7, 1]),
-        Some("the ids of the group must ascend, and 7 stands twice\n"),
+        Some("the ids of the group must ascend, and 7 occurs twice\n"),
     ),
     (
         THREE,
         Some(&[4294967295, 0]),
-        Some("the ids of the group must ascend, and 0 stands behind 4294967295\n"),
+        Some("the ids of the group must ascend, and 0 comes after 4294967295\n"),
     ),
     (TWO, Some(&[1, 3]), Some("the graph has no node 3\n")),
     (

@@ -88,12 +88,12 @@ static REFUSED: [(&[u8], u32, &str); 26] = [
     (
         b"boot 1\nboot 3\nsnapshot\nanalyse 3 group 3,1\n",
         34,
-        "the ids of the group must ascend, and 1 stands behind 3",
+        "the ids of the group must ascend, and 1 comes after 3",
     ),
     (
         b"boot 1\nsnapshot\nanalyse 2 group 1,1\n",
         34,
-        "the ids of the group must ascend, and 1 stands twice",
+        "the ids of the group must ascend, and 1 occurs twice",
     ),
     (
         b"analyse 3\n",

@@ -125,13 +125,13 @@ static SCENARIOS: [(&[u8], &[Told]); 29] = [
         &[
             (
                 1,
-                "expected the id of a node; words stand between spaces, and a tab is none",
+                "expected the id of a node; words are separated by spaces, and a tab is no space",
                 "crash 1\\t2",
                 6,
             ),
             (
                 2,
-                "no line begins with this word; words stand between spaces, and a tab is none",
+                "no line begins with this word; words are separated by spaces, and a tab is no space",
                 "crash\\t1",
                 0,
             ),
@@ -173,13 +173,13 @@ static SCENARIOS: [(&[u8], &[Told]); 29] = [
         &[
             (
                 2,
-                "`seed` must stand before any event, and line 1 is one",
+                "`seed` must come before any event, and line 1 is one",
                 "seed 3",
                 0,
             ),
             (
                 3,
-                "`params` must stand before any event, and line 1 is one",
+                "`params` must come before any event, and line 1 is one",
                 "  params 5 30 6 3 3 4 4",
                 2,
             ),
@@ -190,13 +190,13 @@ static SCENARIOS: [(&[u8], &[Told]); 29] = [
         &[
             (
                 3,
-                "`params` may stand once, and is on line 1 too",
+                "`params` may occur once, and is on line 1 too",
                 "params 5 30 6 3 3 4 4",
                 0,
             ),
             (
                 4,
-                "`seed` may stand once, and is on line 2 too",
+                "`seed` may occur once, and is on line 2 too",
                 "seed 1",
                 0,
             ),
@@ -234,13 +234,13 @@ static SCENARIOS: [(&[u8], &[Told]); 29] = [
         &[
             (
                 1,
-                "random words must stand right before an event, and line 3 is no event",
+                "random words must come right before an event, and line 3 is no event",
                 "words 1",
                 0,
             ),
             (
                 4,
-                "random words must stand right before an event, and no line follows",
+                "random words must come right before an event, and no line follows",
                 "words 2",
                 0,
             ),
@@ -251,7 +251,7 @@ static SCENARIOS: [(&[u8], &[Told]); 29] = [
         &[
             (
                 1,
-                "random words must stand right before an event, and line 2 is no event",
+                "random words must come right before an event, and line 2 is no event",
                 "words 1",
                 0,
             ),
@@ -514,7 +514,7 @@ static GRAPHS: [(&[u8], &[Told]); 11] = [
         b"node 1\nnode 1\n",
         &[(
             2,
-            "a node may stand once, and node 1 is on line 1 too",
+            "a node may occur once, and node 1 is on line 1 too",
             "node 1",
             5,
         )],
@@ -541,7 +541,7 @@ static GRAPHS: [(&[u8], &[Told]); 11] = [
         b"node 1\nnode 2\nlink 1 2\nlink 1 2\n",
         &[(
             4,
-            "a link may stand once, and link 1 2 is on line 3 too",
+            "a link may occur once, and link 1 2 is on line 3 too",
             "link 1 2",
             5,
         )],
