@@ -2,7 +2,8 @@
 ghost use Rattle.std.specs.Prelude.{◌≡◌, ℕ, ◌*◌, ◌<◌, ◌≤◌, length, slice_index, MatchBool};
 ghost use Rattle.ov_graph.specs.Row.{word_bits};
 ghost use Rattle.ov_split.specs.Places.{net_by_place};
-ghost use Rattle.ov_flow.specs.Code.Reached.{tip_of, IsGrown, IsMore, IsClean, IsSearchEnded, IsSweptAt, IsVisited, IsSwept};
+ghost use Rattle.ov_flow.specs.Code.Reached.{tip_of, IsGrown, IsMore, IsClean, IsSearchEnded};
+ghost use Rattle.ov_flow.specs.Code.Reached.{IsSweptAt, IsVisited, IsSwept};
 ghost use Rattle.ov_flow.specs.Code.Walked.{table_of, IsTable};
 ghost use Rattle.ov_flow.specs.Code.Held.{IsReady, HasTreeRoom};
 

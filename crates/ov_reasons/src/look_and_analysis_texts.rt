@@ -88,7 +88,7 @@ fn push_bad_ids(
 /// The first of these ids that did not live at a moment. None also if it is not known which nodes lived then.
 fn first_absent(core: &Core, moment: u32, ids: &[NodeId]) -> Result<Option<NodeId>, OutOfMemory> {
     match core.begin(moment) {
-        Ok(job) => Ok(first_stranger(&job.graph, ids)),
+        Ok(snapshot) => Ok(first_stranger(&snapshot.graph, ids)),
         Err(CoreFault::OutOfMemory) => Err(OutOfMemory),
         Err(_) => Ok(None),
     }

@@ -2,7 +2,7 @@
 use Rattle.std.specs.Prelude.{◌≡◌, ◌⊎◌, ℕ, List}
 use Rattle.ov_ids.specs.ParamsState.{ParamsState}
 use Rattle.ov_snap.specs.CoreState.{CoreState, opening_core}
-use Rattle.ov_snap.specs.ReportState.{ReportState, IsSo}
+use Rattle.ov_snap.specs.ReportState.{ReportState, IsTrueReport}
 use Rattle.ov_run.specs.Printed.{report_line, file_text, refused_line}
 use Rattle.ov_run.specs.Running.{PrintsLine, PrintsLines}
 use Rattle.ov_run.specs.Subjects.{members_of}
@@ -13,7 +13,7 @@ use Rattle.ov_scenario.specs.declared.scenario.Subject.{Subject}
 
 -- the report is for the moment and the group of the subject, and what it says is true
 pub record IsSoOf (u : CoreState) (subject : Subject) (r : ReportState) : Type 0 where
-  pub so : IsSo u.world.journal r
+  pub is_true : IsTrueReport u.world.journal r
   pub moment : r.moment ≡ subject.moment
   pub members : r.members ≡ members_of subject.group r.graph
 
@@ -31,7 +31,7 @@ IsMade b =
 -- `certificate` prints is a refusal, or the certificate file of such a report; and what the report says is true. A
 -- snapshot was taken at its moment, and its graph has exactly the links that both ends held then; crashing the nodes
 -- that it names splits its group, or every two members are linked; and no fewer crashes split it
-pub record EveryPrintedReportIsSo : Type 0 where
+pub record EveryPrintedReportIsTrue : Type 0 where
   pub analysed : (b : CoreState) (subject : Subject) (workers : ℕ) (u : CoreState) (text : List ℕ) → IsMade b
       → PrintsLine b (line.Analyse subject workers) u text
       → ((r : ReportState) × IsSoOf u subject r × (text ≡ report_line r.moment r.cert r.graph r.members))

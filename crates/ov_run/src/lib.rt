@@ -18,4 +18,4 @@ pub use graph_analysis::{analyse_bytes, analyse_file};
 pub use line_texts::{entry_line, node_line, packet_line, refused_line, report_line};
 pub use run_fault::RunFault;
 pub use run_watcher::RunWatcher;
-pub use theorems::every_printed_report_is_so;
+pub use theorems::every_printed_report_is_true;

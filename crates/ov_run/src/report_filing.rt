@@ -2,7 +2,7 @@ ghost use Rattle.std.specs.Prelude.{◌≡◌, None, IfOk, IfErr, IfSome, IfNone
 ghost use Rattle.ov_even.specs.Answer.{IsAnswer};
 ghost use Rattle.ov_net.specs.Journal.{AreLinks};
 ghost use Rattle.ov_snap.specs.CoreState.{IsSound};
-ghost use Rattle.ov_snap.specs.ReportState.{ReportState, IsSo};
+ghost use Rattle.ov_snap.specs.ReportState.{ReportState, IsTrueReport};
 ghost use Rattle.ov_ids.specs.FaultOrder.{IsRefusedBy};
 ghost use Rattle.ov_snap.specs.Refusals.{FilingJudged};
 ghost use Rattle.ov_run.specs.Printed.{report_line};
@@ -18,7 +18,7 @@ use ov_graph::Graph;
 use ov_ids::Seq;
 use ov_net::MOST_ENTRIES;
 use ov_scenario::Subject;
-use ov_snap::{Core, CoreFault, Job, Report};
+use ov_snap::{Core, CoreFault, Report, Snapshot};
 use std::alloc::Global;
 use std::thread::Threads;
 
@@ -63,15 +63,15 @@ fn report_for<T: Threads + Sync>(
     if let Some(_) = filed_report(core, subject) {
         return Err(CoreFault::AlreadyFiled);
     }
-    let job = begin(core, subject)?;
-    make_report(rt, alloc, &job, subject, workers)
+    let snapshot = begin(core, subject)?;
+    make_report(rt, alloc, &snapshot, subject, workers)
 }
 
 /// The report that is filed for a subject, if there is one.
 pub(crate) fn filed_report<'a>(core: &'a Core, subject: &Subject) -> Option<&'a Report>
     ensures some { IfSome result (λ r. IsReportOf core.now subject.now r.now) }
     ensures none { IfNone result ((r : ReportState) → ¬ IsReportOf core.now subject.now r) }
-    ensures exact { IfSome result (λ r. IsSo core.now.world.journal r.now) }
+    ensures exact { IfSome result (λ r. IsTrueReport core.now.world.journal r.now) }
 {
     match &subject.group {
         Some(ids) => core.group_report(subject.moment, ids.as_slice()),
@@ -80,11 +80,11 @@ pub(crate) fn filed_report<'a>(core: &'a Core, subject: &Subject) -> Option<&'a 
 }
 
 /// Begins the analysis of a subject of which no report is filed.
-fn begin(core: &Core, subject: &Subject) -> Result<Job, CoreFault>
+fn begin(core: &Core, subject: &Subject) -> Result<Snapshot, CoreFault>
     requires free { (r : ReportState) → ¬ IsReportOf core.now subject.now r }
-    ensures judged { IfOk result (λ job. AnalysisJudged core.now subject.now None) }
-    ensures moment { IfOk result (λ job. job.moment ≡ subject.now.moment) }
-    ensures links { IfOk result (λ job. AreLinks core.now.world.journal subject.now.moment job.graph) }
+    ensures judged { IfOk result (λ snapshot. AnalysisJudged core.now subject.now None) }
+    ensures moment { IfOk result (λ snapshot. snapshot.moment ≡ subject.now.moment) }
+    ensures links { IfOk result (λ snapshot. AreLinks core.now.world.journal subject.now.moment snapshot.graph) }
     ensures sound { IsSound core.now }
     ensures refused { IfErr result (IsRefusedBy out_of_memory (AnalysisJudged core.now subject.now)) }
 {
@@ -95,32 +95,33 @@ fn begin(core: &Core, subject: &Subject) -> Result<Job, CoreFault>
     }
 }
 
-/// Makes the report of a job. The ids are a group of its nodes, so that only memory can be lacking.
+/// Makes the report of the analysis of a snapshot. The ids are a group of its nodes, so that only memory can be
+/// lacking.
 fn make_report<T: Threads + Sync>(
     rt: &T,
     alloc: Global,
-    job: &Job,
+    snapshot: &Snapshot,
     subject: &Subject,
     workers: Workers,
 ) -> Result<Report, CoreFault>
-    ensures moment { IfOk result (λ r. r.moment ≡ job.now.moment) }
-    ensures graph { IfOk result (λ r. r.graph ≡ job.now.graph) }
-    ensures members { IfOk result (λ r. r.members ≡ members_of subject.now.group job.now.graph) }
+    ensures moment { IfOk result (λ r. r.moment ≡ snapshot.now.moment) }
+    ensures graph { IfOk result (λ r. r.graph ≡ snapshot.now.graph) }
+    ensures members { IfOk result (λ r. r.members ≡ members_of subject.now.group snapshot.now.graph) }
     ensures answer { IfOk result (λ r. IsAnswer r.graph r.members r.cert) }
     ensures err { IfErr result (λ f. f ≡ out_of_memory) }
 {
     let group = subject.group.as_ref().map(Seq::as_slice);
-    let members = members_of(group, &job.graph);
+    let members = members_of(group, &snapshot.graph);
     match analyse_group_watched(
         rt,
         alloc,
-        &job.graph,
+        &snapshot.graph,
         members,
         workers,
         &OpenGate,
         &mut Unwatched,
     ) {
-        Ok(checked) => Ok(Report::new(job.moment, checked)),
+        Ok(checked) => Ok(Report::new(snapshot.moment, checked)),
         Err(_) => Err(CoreFault::OutOfMemory),
     }
 }

@@ -1,4 +1,4 @@
-ghost use Rattle.ov_run.specs.Theorems.{EveryPrintedReportIsSo};
+ghost use Rattle.ov_run.specs.Theorems.{EveryPrintedReportIsTrue};
 
 /// The main theorem, for a user who runs a scenario. Whatever lines ran before: what `analyse` prints is a refusal, or
 /// the line of a report of what it asks for; and what `certificate` prints is a refusal, or the certificate file of a
@@ -7,6 +7,6 @@ ghost use Rattle.ov_run.specs.Theorems.{EveryPrintedReportIsSo};
 /// group that are not joined, or every two members are linked and k is one less than their number; after the crash of
 /// any fewer nodes every two surviving members are joined. The checker, given the graph, the group and the certificate
 /// alone, says yes.
-pub fn every_printed_report_is_so()
-    ensures { EveryPrintedReportIsSo }
+pub fn every_printed_report_is_true()
+    ensures { EveryPrintedReportIsTrue }
 {}

@@ -34,7 +34,7 @@ sound_desks b desks sound few each = record {
   desks = each;
   distinct = sound.distinct;
   one = λ m q r s k l. sound.one m q r s (was m q r k) (was m q s l);
-  so = sound.so;
+  is_true = sound.is_true;
 }
   where
     was : (m : ℕ) (q : List ℕ) (r : ReportState) → HasReport (record b { desks = desks }) m q r → HasReport b m q r

@@ -25,7 +25,7 @@ use Rattle.ov_desk.specs.Desk.{GroupDeskState}
 use Rattle.ov_snap.specs.CoreState.{CoreState, HasReport, HasReportOfAll, IsDeskOf, IsSound}
 use Rattle.ov_snap.specs.CoreState.{most_desks, opening_core}
 use Rattle.ov_snap.specs.Code.Index.{ReportKey, key_of}
-use Rattle.ov_snap.specs.ReportState.{IsSo, ReportState}
+use Rattle.ov_snap.specs.ReportState.{IsTrueReport, ReportState}
 use Rattle.ov_snap.specs.Refusals.{FilingJudged, IsFiled}
 use Rattle.ov_snap.specs.Filing.{WasFiled}
 use Rattle.ov_snap.specs.Run.{Happened}
@@ -51,7 +51,7 @@ sound_begun params = record {
   desks = λ i d h. absurd (none-some d h);
   distinct = tt;
   one = λ m q r s h k. absurd h.filed;
-  so = λ r h. absurd h;
+  is_true = λ r h. absurd h;
 }
 
 -- the parts of a new core
@@ -111,8 +111,8 @@ snapshots_kept journal e what old new is (inr k) h =
     subst (AreSnapshots (journal ++ e ∷ [])) (sym k.1) (snapshots_rest journal e old (λ s. k.0 (sym is ∙ s)) h)
 
 -- what a report says stays true
-so_stays : (journal more : List Entry) (r : ReportState) → IsSo journal r → IsSo (journal ++ more) r
-so_stays journal more r h = record {
+report_stays_true : (journal more : List Entry) (r : ReportState) → IsTrueReport journal r → IsTrueReport (journal ++ more) r
+report_stays_true journal more r h = record {
   moment = moment_stays journal more r.moment h.moment;
   links = links_stay journal more r.moment r.graph (moment_within journal r.moment h.moment) h.links;
   certificate = h.certificate;
@@ -141,8 +141,8 @@ sound_happened b what words e u sound h = record {
       (sound.desks i d (subst (λ (l : List GroupDeskState). slice_get l i ≡ Some d) h.desks k)));
   distinct = subst (Ordered (λ (r s : ReportState). r ≢ s)) (sym h.reports) sound.distinct;
   one = λ m q r s k l. sound.one m q r s (was m q r k) (was m q s l);
-  so = λ r k. subst (λ (j : List Entry). IsSo j r) (sym h.journal)
-      (so_stays b.world.journal (e ∷ []) r (sound.so r (subst (λ (l : List ReportState). Has l r) h.reports k)));
+  is_true = λ r k. subst (λ (j : List Entry). IsTrueReport j r) (sym h.journal)
+      (report_stays_true b.world.journal (e ∷ []) r (sound.is_true r (subst (λ (l : List ReportState). Has l r) h.reports k)));
 }
   where
     was : (m : ℕ) (q : List ℕ) (r : ReportState) → HasReport u m q r → HasReport b m q r
@@ -186,9 +186,9 @@ sound_filed b r u sound h = subst IsSound (sym h.reports) (record {
       | inr too ↦ sound.one m q x y was too
     ]
   ];
-  so = λ x k. elim (has_append_cases b.reports (r ∷ []) x k) [
-    | inl was ↦ sound.so x was
-    | inr (inl e) ↦ subst (IsSo b.world.journal) e own
+  is_true = λ x k. elim (has_append_cases b.reports (r ∷ []) x k) [
+    | inl was ↦ sound.is_true x was
+    | inr (inl e) ↦ subst (IsTrueReport b.world.journal) e own
     | inr (inr none) ↦ absurd none
   ];
 })
@@ -209,7 +209,7 @@ sound_filed b r u sound h = subst IsSound (sym h.reports) (record {
         × (¬ IsFiled b r.moment r.members)
     passed = filing_passed b r h.judged
 
-    own : IsSo b.world.journal r
+    own : IsTrueReport b.world.journal r
     own = record {
       moment = passed.0;
       links = passed.1;
@@ -219,19 +219,19 @@ sound_filed b r u sound h = subst IsSound (sym h.reports) (record {
 
 -- what each report of a sound core says is true
 pub filed_so : (b u : CoreState) (l : List ReportState) → l ≡ b.reports → b ≡ u → IsSound b → (r : ReportState)
-    → Has l r → IsSo u.world.journal r
+    → Has l r → IsTrueReport u.world.journal r
 filed_so b u l at same sound r h =
-    subst (λ (x : CoreState). IsSo x.world.journal r) same
-    (sound.so r (subst (λ (x : List ReportState). Has x r) at h))
+    subst (λ (x : CoreState). IsTrueReport x.world.journal r) same
+    (sound.is_true r (subst (λ (x : List ReportState). Has x r) at h))
 
 -- a report of all nodes is that of the group of the moment's nodes, and the other way round
 own_graph : (b : CoreState) (m : ℕ) (g : LinkGraph) (r : ReportState) → AreLinks b.world.journal m g → r.moment ≡ m
-    → IsSo b.world.journal r → r.graph ≡ g
+    → IsTrueReport b.world.journal r → r.graph ≡ g
 own_graph b m g r links at so =
     links_one b.world.journal m r.graph g (subst (λ n. AreLinks b.world.journal n r.graph) at so.links) links
 
 pub of_all : (b : CoreState) (m : ℕ) (g : LinkGraph) (ns : List ℕ) (r : ReportState) → AreLinks b.world.journal m g
-    → ns ≡ g.nodes → HasReport b m ns r → IsSo b.world.journal r → HasReportOfAll b m r
+    → ns ≡ g.nodes → HasReport b m ns r → IsTrueReport b.world.journal r → HasReportOfAll b m r
 of_all b m g ns r links nodes h so = record {
   filed = h.filed;
   moment = h.moment;
@@ -243,14 +243,14 @@ pub none_of_all : (b : CoreState) (m : ℕ) (g : LinkGraph) (ns : List ℕ) → 
 none_of_all b m g ns sound links nodes none r h = none r (record {
   filed = h.filed;
   moment = h.moment;
-  members = h.members ∙ ap (λ (x : LinkGraph). x.nodes) (own_graph b m g r links h.moment (sound.so r h.filed))
+  members = h.members ∙ ap (λ (x : LinkGraph). x.nodes) (own_graph b m g r links h.moment (sound.is_true r h.filed))
       ∙ sym nodes;
 })
 
 -- if no snapshot was taken, none is filed
 pub none_without : (b : CoreState) (m : ℕ) → IsSound b → ¬ IsMoment b.world.journal m → (r : ReportState)
     → ¬ HasReportOfAll b m r
-none_without b m sound none r h = none (subst (IsMoment b.world.journal) h.moment (sound.so r h.filed).moment)
+none_without b m sound none r h = none (subst (IsMoment b.world.journal) h.moment (sound.is_true r h.filed).moment)
 
 -- what follows of an answer from what is known of it
 pub if_some : {X : Type 0} (P Q : X → Type 0) (o : Option X) → ((x : X) → P x → Q x) → IfSome o P → IfSome o Q

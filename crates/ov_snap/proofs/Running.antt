@@ -7,7 +7,7 @@ use Rattle.ov_desk.specs.Desk.{GroupDeskState}
 use Rattle.ov_desk.specs.Turns.{ClaimsNext, LooksNext, SettlesNext}
 use Rattle.ov_snap.specs.CoreState.{CoreState, IsSound, KeepsReports}
 use Rattle.ov_snap.specs.Filing.{WasFiled}
-use Rattle.ov_snap.specs.Theorems.{EveryReportIsSo, EveryReportStays}
+use Rattle.ov_snap.specs.Theorems.{EveryReportIsTrue, EveryReportStays}
 use Rattle.ov_snap.specs.ReportState.{ReportState}
 use Rattle.ov_snap.specs.Refusals.{DeskFilingJudged, FilingJudged, GroupOpeningJudged, OpeningJudged, TurnJudged}
 use Rattle.ov_snap.specs.Run.{Takes, TakesAll, WasRefused}
@@ -56,9 +56,9 @@ sound_all : (b : CoreState) (steps : List CoreStep) (c : CoreState) → IsSound 
 sound_all b [] c sound run = subst IsSound run sound
 sound_all b (step ∷ steps) c sound run = sound_all run.0 steps c (sound_next b step run.0 sound run.1) run.2
 
-pub every_report_is_so : EveryReportIsSo
-every_report_is_so params steps c run r filed =
-    (sound_all _ steps c (sound_begun params) run).so r filed
+pub every_report_is_true : EveryReportIsTrue
+every_report_is_true params steps c run r filed =
+    (sound_all _ steps c (sound_begun params) run).is_true r filed
 
 -- THE REPORTS STAY
 

@@ -9,7 +9,7 @@ use Rattle.ov_net.specs.World.{WorldState, opening_world}
 use Rattle.ov_net.specs.declared.journal_entry_and_changes.Entry.{Entry}
 use Rattle.ov_desk.specs.Desk.{GroupDeskState}
 use Rattle.ov_desk.specs.Sound.{IsSoundDesk}
-use Rattle.ov_snap.specs.ReportState.{ReportState, IsSo}
+use Rattle.ov_snap.specs.ReportState.{ReportState, IsTrueReport}
 use Rattle.ov_snap.specs.Snapshots.{IsMoment, AreSnapshots}
 use Rattle.ov_snap.specs.declared.kept_snapshots.Snapshot.{Snapshot}
 
@@ -63,4 +63,4 @@ pub record IsSound (b : CoreState) : Type 0 where
   pub desks : (i : ℕ) (d : GroupDeskState) → HasDesk b i d → IsDeskOf b.world.journal d
   pub distinct : Ordered (λ r s. r ≢ s) b.reports
   pub one : (m : ℕ) (q : List ℕ) (r s : ReportState) → HasReport b m q r → HasReport b m q s → r ≡ s
-  pub so : (r : ReportState) → Has b.reports r → IsSo b.world.journal r
+  pub is_true : (r : ReportState) → Has b.reports r → IsTrueReport b.world.journal r

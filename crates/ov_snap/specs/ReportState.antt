@@ -30,7 +30,7 @@ report_of moment checked = record {
 -- joined, or every two members are linked and k is one less than their number; without any fewer nodes every two
 -- surviving members are joined; so k is the fewest crashes that split the group. And the checker, given graph, group
 -- and certificate alone, finds no fault.
-pub record IsSo (journal : List Entry) (r : ReportState) : Type 0 where
+pub record IsTrueReport (journal : List Entry) (r : ReportState) : Type 0 where
   pub moment : IsMoment journal r.moment
   pub links : AreLinks journal r.moment r.graph
   pub certificate : IsTrueForGroup r.graph r.members r.cert

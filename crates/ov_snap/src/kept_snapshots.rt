@@ -15,9 +15,6 @@ pub struct Snapshot {
     pub graph: Graph,
 }
 
-/// What an analysis is given: the moment of a snapshot, and the links that both ends held then.
-pub type Job = Snapshot;
-
 impl Snapshot {
     /// An equal snapshot, or out of memory (99).
     pub(crate) fn copy(&self) -> Result<Snapshot, OutOfMemory>

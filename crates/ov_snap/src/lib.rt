@@ -13,7 +13,7 @@ mod worker_desk_calls;
 
 pub use analysis_report::Report;
 pub use fault::CoreFault;
-pub use kept_snapshots::{Job, Snapshot};
+pub use kept_snapshots::Snapshot;
 pub use running_steps::{CoreStep, run_core};
 pub use snapshot_core::Core;
-pub use theorems::{every_report_is_so, every_report_stays};
+pub use theorems::{every_report_is_true, every_report_stays};

@@ -1,6 +1,6 @@
 ghost use Rattle.std.specs.Prelude.{◌≡◌, ◌≢◌, IfErr, IfOk, MatchResult, OnErr, OnOk};
 ghost use Rattle.ov_ids.specs.Members.{Has};
-ghost use Rattle.ov_snap.specs.ReportState.{IsSo, ReportState};
+ghost use Rattle.ov_snap.specs.ReportState.{IsTrueReport, ReportState};
 ghost use Rattle.ov_snap.specs.Run.{CoreRun, MayRunOut, RanOut, Takes};
 ghost use Rattle.ov_snap.specs.declared.fault.CoreFault.TheVariants.{OutOfMemory as out_of_memory};
 
@@ -56,7 +56,7 @@ pub enum CoreStep {
 /// if a step ran out of memory; only a step to which no refusal applies can do so.
 pub fn run_core(alloc: Global, params: Params, steps: Vec<CoreStep>) -> Result<Core, OutOfMemory>
     ensures run { IfOk result (λ c. CoreRun params steps.items c) }
-    ensures so { IfOk result (λ c. (r : ReportState) → Has c.reports r → IsSo c.world.journal r) }
+    ensures is_true { IfOk result (λ c. (r : ReportState) → Has c.reports r → IsTrueReport c.world.journal r) }
     ensures ended { OnErr result (RanOut params steps.items) }
 {
     let mut core = Core::new(alloc, params);

@@ -6,7 +6,7 @@ ghost use Rattle.ov_net.specs.Journal.{AreLinks};
 ghost use Rattle.ov_net.specs.Refusals.{IsRefusal};
 ghost use Rattle.ov_net.specs.declared.event.Event.TheVariants as told;
 ghost use Rattle.ov_snap.specs.CoreState.{HasReport, HasReportOfAll, IsSound, opening_core};
-ghost use Rattle.ov_snap.specs.ReportState.{IsSo, ReportState};
+ghost use Rattle.ov_snap.specs.ReportState.{IsTrueReport, ReportState};
 ghost use Rattle.ov_snap.specs.Filing.{WasFiled};
 ghost use Rattle.ov_snap.specs.Refusals.{BeginJudged, FilingJudged, GroupBeginJudged};
 ghost use Rattle.ov_snap.specs.Run.{Happened, TookSnapshot};
@@ -16,7 +16,7 @@ ghost use Rattle.ov_snap.specs.declared.fault.CoreFault.TheVariants.{NoSuchMomen
 use crate::analysis_report::Report;
 use crate::fault::CoreFault;
 use crate::filed_reports::Reports;
-use crate::kept_snapshots::{Job, Snapshot, find, make_room};
+use crate::kept_snapshots::{Snapshot, find, make_room};
 use ov_desk::GroupDesk;
 use ov_graph::Graph;
 use ov_ids::{NodeId, OutOfMemory, Params};
@@ -138,10 +138,10 @@ impl Core {
 
     /// What an analysis of all nodes of this moment is given. It is refused if no snapshot was taken at this moment
     /// (50), and then if nobody lived (30); if neither applies, it may be out of memory (99).
-    pub fn begin(&self, moment: u32) -> Result<Job, CoreFault>
-        ensures judged { IfOk result (λ job. BeginJudged self.now moment None) }
-        ensures moment { IfOk result (λ job. job.moment ≡ moment) }
-        ensures links { IfOk result (λ job. AreLinks self.now.world.journal moment job.graph) }
+    pub fn begin(&self, moment: u32) -> Result<Snapshot, CoreFault>
+        ensures judged { IfOk result (λ snapshot. BeginJudged self.now moment None) }
+        ensures moment { IfOk result (λ snapshot. snapshot.moment ≡ moment) }
+        ensures links { IfOk result (λ snapshot. AreLinks self.now.world.journal moment snapshot.graph) }
         ensures refused { IfErr result (IsRefusedBy out_of_memory (BeginJudged self.now moment)) }
     {
         let snapshot = self.lived(moment)?;
@@ -151,11 +151,11 @@ impl Core {
     /// What an analysis of a group of the nodes of this moment is given. It is refused if no snapshot was taken at
     /// this moment (50), then if nobody lived (30), and then if these ids are no group of the moment's graph (34); if
     /// none of these applies, it may be out of memory (99).
-    pub fn begin_group(&self, moment: u32, group: &[NodeId]) -> Result<Job, CoreFault>
-        ensures judged { IfOk result (λ job. GroupBeginJudged self.now moment group.now None) }
-        ensures moment { IfOk result (λ job. job.moment ≡ moment) }
-        ensures links { IfOk result (λ job. AreLinks self.now.world.journal moment job.graph) }
-        ensures group { IfOk result (λ job. IsGroup job.graph group.now) }
+    pub fn begin_group(&self, moment: u32, group: &[NodeId]) -> Result<Snapshot, CoreFault>
+        ensures judged { IfOk result (λ snapshot. GroupBeginJudged self.now moment group.now None) }
+        ensures moment { IfOk result (λ snapshot. snapshot.moment ≡ moment) }
+        ensures links { IfOk result (λ snapshot. AreLinks self.now.world.journal moment snapshot.graph) }
+        ensures group { IfOk result (λ snapshot. IsGroup snapshot.graph group.now) }
         ensures refused { IfErr result (IsRefusedBy out_of_memory (GroupBeginJudged self.now moment group.now)) }
     {
         let snapshot = self.lived(moment)?;
@@ -231,7 +231,7 @@ impl Core {
     pub fn group_report(&self, moment: u32, group: &[NodeId]) -> Option<&Report>
         ensures some { IfSome result (λ r. HasReport self.now moment group.now r.now) }
         ensures none { IfNone result ((r : ReportState) → ¬ HasReport self.now moment group.now r) }
-        ensures so { IfSome result (λ r. IsSo self.now.world.journal r.now) }
+        ensures is_true { IfSome result (λ r. IsTrueReport self.now.world.journal r.now) }
     {
         self.reports.find(moment, group)
     }
@@ -240,7 +240,7 @@ impl Core {
     pub fn report(&self, moment: u32) -> Option<&Report>
         ensures some { IfSome result (λ r. HasReportOfAll self.now moment r.now) }
         ensures none { IfNone result ((r : ReportState) → ¬ HasReportOfAll self.now moment r) }
-        ensures so { IfSome result (λ r. IsSo self.now.world.journal r.now) }
+        ensures is_true { IfSome result (λ r. IsTrueReport self.now.world.journal r.now) }
     {
         match self.kept(moment) {
             Ok(snapshot) => self.group_report(moment, snapshot.graph.nodes()),

@@ -137,11 +137,11 @@ fn crashes(core: &mut Core) -> Result<u32, NetFault> {
 
 /// An analysis of this moment has so many nodes, and 1 and 2 are linked or not.
 fn begins(core: &Core, moment: u32, nodes: usize, is_linked: bool) -> Result<bool, CoreFault> {
-    let job = core.begin(moment)?;
+    let snapshot = core.begin(moment)?;
     Ok(
-        job.moment == moment
-            && job.graph.nodes().len() == nodes
-            && job.graph.linked(NodeId(1), NodeId(2)) == is_linked,
+        snapshot.moment == moment
+            && snapshot.graph.nodes().len() == nodes
+            && snapshot.graph.linked(NodeId(1), NodeId(2)) == is_linked,
     )
 }
 

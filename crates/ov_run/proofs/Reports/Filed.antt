@@ -14,7 +14,7 @@ use Rattle.ov_cert.specs.declared.cert.Cert.TheVariants as cert
 use Rattle.ov_net.specs.Journal.{AreLinks, Live}
 use Rattle.ov_net.proofs.Links.OneGraph.{links_one}
 use Rattle.ov_snap.specs.CoreState.{CoreState, HasReport, IsSound}
-use Rattle.ov_snap.specs.ReportState.{ReportState, IsSo}
+use Rattle.ov_snap.specs.ReportState.{ReportState, IsTrueReport}
 use Rattle.ov_snap.specs.Refusals.{FilingJudged, IsFiled}
 use Rattle.ov_snap.specs.Snapshots.{IsMoment}
 use Rattle.ov_snap.proofs.Refusing.{lived_then, group_then}
@@ -111,7 +111,7 @@ first_of : (q : List ℕ) → 0 < length q → (a : ℕ) × Has q a
 first_of [] some = absurd (omega (arith, some))
 first_of (a ∷ q) some = (a, inl refl)
 
-pub filed_before : (b : CoreState) (s : Subject) (r : ReportState) → IsReportOf b s r → IsSo b.world.journal r
+pub filed_before : (b : CoreState) (s : Subject) (r : ReportState) → IsReportOf b s r → IsTrueReport b.world.journal r
     → AnalysisJudged b s (Some AlreadyFiled)
 filed_before b s r filed exact = by s.group filed.members where
   group : IsGroup r.graph r.members
@@ -140,7 +140,7 @@ filed_before b s r filed exact = by s.group filed.members where
   by (Some ids) members =
       inl (moment, inl (lived, inl ((r.graph, links, subst (IsGroup r.graph) members group), again)))
 
-pub filed_refused : (b : CoreState) (s : Subject) (r : ReportState) → IsReportOf b s r → IsSo b.world.journal r
+pub filed_refused : (b : CoreState) (s : Subject) (r : ReportState) → IsReportOf b s r → IsTrueReport b.world.journal r
     → IsRefusedBy OutOfMemory (AnalysisJudged b s) AlreadyFiled
 filed_refused b s r filed exact = inl (filed_before b s r filed exact)
 
@@ -170,7 +170,7 @@ may_be_filed b s r sound judged moment links members =
     same : (x : ReportState) → HasReport b r.moment r.members x → r.graph ≡ x.graph
     same x filed =
         links_one b.world.journal s.moment r.graph x.graph links
-        (subst (λ m. AreLinks b.world.journal m x.graph) (filed.moment ∙ moment) (sound.so x filed.filed).links)
+        (subst (λ m. AreLinks b.world.journal m x.graph) (filed.moment ∙ moment) (sound.is_true x filed.filed).links)
 
     own : (x : ReportState) → HasReport b r.moment r.members x → IsReportOf b s x
     own x filed = record {

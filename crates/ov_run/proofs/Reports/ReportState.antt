@@ -3,14 +3,14 @@ use Rattle.std.proofs.Common.{◌≡◌, ◌⊎◌, inl, inr, ℕ, List, [], ◌
 use Rattle.ov_ids.specs.Members.{Has}
 use Rattle.ov_ids.proofs.Members.{has_append_right}
 use Rattle.ov_snap.specs.CoreState.{CoreState, opening_core}
-use Rattle.ov_snap.specs.ReportState.{ReportState, IsSo}
+use Rattle.ov_snap.specs.ReportState.{ReportState, IsTrueReport}
 use Rattle.ov_snap.specs.Filing.{WasFiled}
 use Rattle.ov_snap.specs.Refusals.{number_of}
 use Rattle.ov_snap.specs.Run.{TakesAll}
 use Rattle.ov_snap.specs.declared.running_steps.CoreStep.{CoreStep}
 use Rattle.ov_snap.specs.declared.running_steps.CoreStep.TheVariants.{Net, File}
-use Rattle.ov_snap.proofs.Running.{every_report_is_so, run_more}
-use Rattle.ov_run.specs.Theorems.{EveryPrintedReportIsSo, IsMade, IsSoOf, Refuses}
+use Rattle.ov_snap.proofs.Running.{every_report_is_true, run_more}
+use Rattle.ov_run.specs.Theorems.{EveryPrintedReportIsTrue, IsMade, IsSoOf, Refuses}
 use Rattle.ov_run.specs.Printed.{report_line, file_text}
 use Rattle.ov_run.specs.Running.{PrintsCertificate, PrintsLine, PrintsLines, PrintsReportLine}
 use Rattle.ov_scenario.specs.declared.scenario.Line.{Line}
@@ -57,8 +57,8 @@ analysed : (b : CoreState) (subject : Subject) (u : CoreState) (text : List ℕ)
 analysed b subject u text made (inl (r, was, is)) =
     let run = lines_lead (opening_core made.0) made.1 b made.2 made.3 in
     let more = run_more (opening_core made.0) run.0 b (File r) u run.1 (inl was.filed) in
-    let so = every_report_is_so made.0 (run.0 ++ File r ∷ []) u more r (among b r u was.filed) in
-    inl (r, record { so = so; moment = was.moment; members = was.members }, is)
+    let so = every_report_is_true made.0 (run.0 ++ File r ∷ []) u more r (among b r u was.filed) in
+    inl (r, record { is_true = so; moment = was.moment; members = was.members }, is)
 analysed b subject u text made (inr (fault, refused, same, is)) = inr (number_of fault, same, is)
 
 -- what a look at a certificate prints
@@ -67,14 +67,14 @@ certified : (b : CoreState) (subject : Subject) (u : CoreState) (text : List ℕ
     → ((r : ReportState) × IsSoOf u subject r × (text ≡ file_text r.cert r.graph r.members r.moment)) ⊎ Refuses b u text
 certified b subject u text made same (inl (r, filed, inl is)) =
     let run = lines_lead (opening_core made.0) made.1 b made.2 made.3 in
-    let so = every_report_is_so made.0 run.0 b run.1 r filed.filed in
-    let own = subst (λ (x : CoreState). IsSo x.world.journal r) (sym same) so in
-    inl (r, record { so = own; moment = filed.moment; members = filed.members }, is)
+    let so = every_report_is_true made.0 run.0 b run.1 r filed.filed in
+    let own = subst (λ (x : CoreState). IsTrueReport x.world.journal r) (sym same) so in
+    inl (r, record { is_true = own; moment = filed.moment; members = filed.members }, is)
 certified b subject u text made same (inl (r, filed, inr is)) = inr (99, same, is)
 certified b subject u text made same (inr (none, is)) = inr (50, same, is)
 
-pub every_printed_report_is_so : EveryPrintedReportIsSo
-every_printed_report_is_so = record {
+pub every_printed_report_is_true : EveryPrintedReportIsTrue
+every_printed_report_is_true = record {
   analysed = λ b subject workers u text made prints. analysed b subject u text made prints;
   certified = λ b subject u text made prints. certified b subject u text made prints.0 prints.1;
 }

@@ -132,9 +132,9 @@ fn stepped(core: &mut Core, event: Event) -> Answer {
 
 fn begun(core: &Core, moment: u32) -> Answer {
     match core.begin(moment) {
-        Ok(job) => {
-            let is_linked = job.graph.linked(NodeId(1), NodeId(2));
-            Begun(job.graph.nodes().len(), is_linked)
+        Ok(snapshot) => {
+            let is_linked = snapshot.graph.linked(NodeId(1), NodeId(2));
+            Begun(snapshot.graph.nodes().len(), is_linked)
         }
         Err(fault) => Refused(fault.number()),
     }

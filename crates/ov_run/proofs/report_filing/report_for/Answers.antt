@@ -4,7 +4,8 @@ use Rattle.ov_run.proofs.report_filing.report_for.Goals as goal
 
 pub returns-clause-filing : goal.returns-clause-filing
 returns-clause-filing g c =
-    let job = c.in_ok-job in
+    let snapshot = c.in_ok-snapshot in
     let made = c.make_report.ensures in
-    job_filed c.args.core.now c.args.subject.now job.job.moment job.job.graph job.ensures.sound job.ensures.judged
-    job.ensures.moment job.ensures.links c.make_report.result made.moment made.graph made.members
+    job_filed c.args.core.now c.args.subject.now snapshot.snapshot.moment snapshot.snapshot.graph
+    snapshot.ensures.sound snapshot.ensures.judged snapshot.ensures.moment snapshot.ensures.links
+    c.make_report.result made.moment made.graph made.members

@@ -1,6 +1,6 @@
 use Rattle.std.proofs.Common.{◌++◌, ◌∷◌, [], ◌∙◌, sym, ap, append_assoc}
 use Rattle.ov_snap.specs.CoreState.{opening_core}
-use Rattle.ov_snap.proofs.Running.{every_report_is_so, on_err, run_more}
+use Rattle.ov_snap.proofs.Running.{every_report_is_true, on_err, run_more}
 use Rattle.ov_snap.proofs.running_steps.run_core.Goals as goal
 
 pub loop-step-preserved : goal.loop-step-preserved
@@ -11,9 +11,9 @@ loop-step-preserved c = record {
       c.loop-step.invariant.run c.in_ok-take.ensures.took;
 }
 
-pub returns-clause-so : goal.returns-clause-so
-returns-clause-so c =
-    every_report_is_so c.args.params c.loop-step.yielded c.loop-step.core c.loop-step.invariant.run
+pub returns-clause-is_true : goal.returns-clause-is_true
+returns-clause-is_true c =
+    every_report_is_true c.args.params c.loop-step.yielded c.loop-step.core c.loop-step.invariant.run
 
 pub returns-in_err-take-clause-ended : goal.returns-in_err-take-clause-ended
 returns-in_err-take-clause-ended c = on_err c.from_residual.result _ (record {

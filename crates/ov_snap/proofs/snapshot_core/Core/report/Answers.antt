@@ -8,7 +8,7 @@ returns-in-Ok-clause-some c =
     let g : LinkGraph = c.in-Ok.snapshot.now.graph in
     if_both _ _ _ c.group_report.result
     (λ r. of_all c.args.self.now c.args.moment g c.nodes.result.now r.now c.in-Ok.ensures.ok.1 c.nodes.ensures.nodes)
-    c.group_report.ensures.some c.group_report.ensures.so
+    c.group_report.ensures.some c.group_report.ensures.is_true
 
 pub returns-in-Ok-clause-none : goal.returns-in-Ok-clause-none
 returns-in-Ok-clause-none c =
