@@ -111,7 +111,8 @@ snapshots_kept journal e what old new is (inr k) h =
     subst (AreSnapshots (journal ++ e ∷ [])) (sym k.1) (snapshots_rest journal e old (λ s. k.0 (sym is ∙ s)) h)
 
 -- what a report says stays true
-report_stays_true : (journal more : List Entry) (r : ReportState) → IsTrueReport journal r → IsTrueReport (journal ++ more) r
+report_stays_true :
+    (journal more : List Entry) (r : ReportState) → IsTrueReport journal r → IsTrueReport (journal ++ more) r
 report_stays_true journal more r h = record {
   moment = moment_stays journal more r.moment h.moment;
   links = links_stay journal more r.moment r.graph (moment_within journal r.moment h.moment) h.links;
@@ -142,7 +143,8 @@ sound_happened b what words e u sound h = record {
   distinct = subst (Ordered (λ (r s : ReportState). r ≢ s)) (sym h.reports) sound.distinct;
   one = λ m q r s k l. sound.one m q r s (was m q r k) (was m q s l);
   is_true = λ r k. subst (λ (j : List Entry). IsTrueReport j r) (sym h.journal)
-      (report_stays_true b.world.journal (e ∷ []) r (sound.is_true r (subst (λ (l : List ReportState). Has l r) h.reports k)));
+      (report_stays_true b.world.journal (e ∷ []) r
+      (sound.is_true r (subst (λ (l : List ReportState). Has l r) h.reports k)));
 }
   where
     was : (m : ℕ) (q : List ℕ) (r : ReportState) → HasReport u m q r → HasReport b m q r
