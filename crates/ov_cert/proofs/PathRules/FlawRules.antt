@@ -333,15 +333,15 @@ pair_entry_rule g k i j ni nj differ (Some e) f s =
       | false ↦ λ off r. subst Flaw (same_Some NamesOthers f r) (λ h. both_ways (eqb e.i i) off (eq-eqb e.i i h.0))
       | true ↦ λ on_i r. elim (eqb e.j j) as (λ t. eqb e.j j ≡ t → cond t after_j (Some NamesOthers) ≡ Some f
           → Flaw f) [
-            | false ↦ λ off r. subst Flaw (same_Some NamesOthers f r) (λ h. both_ways (eqb e.j j) off (eq-eqb e.j j h.1))
+            | false ↦ λ no r. subst Flaw (same_Some NamesOthers f r) (λ h. both_ways (eqb e.j j) no (eq-eqb e.j j h.1))
             | true ↦ λ on_j r. elim (eqb (length e.paths) k) as (λ t. eqb (length e.paths) k ≡ t
                 → cond t after_number (Some Number) ≡ Some f → Flaw f) [
                   | false ↦ λ off r. subst Flaw (same_Some Number f r) (
-                    eqb-true e.i i on_i,
+                    eqb-true e.i i ei,
                     eqb-true e.j j on_j,
                     λ h. both_ways (eqb (length e.paths) k) off (eq-eqb (length e.paths) k h),
                   )
-                  | true ↦ λ on r. named (eqb-true e.i i on_i) (eqb-true e.j j on_j) (eqb-true (length e.paths) k on) r
+                  | true ↦ λ on r. named (eqb-true e.i i ei) (eqb-true e.j j on_j) (eqb-true (length e.paths) k on) r
                 ] refl r
           ] refl r
     ] refl s
