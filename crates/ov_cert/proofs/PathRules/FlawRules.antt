@@ -337,11 +337,11 @@ pair_entry_rule g k i j ni nj differ (Some e) f s =
             | true ↦ λ on_j r. elim (eqb (length e.paths) k) as (λ t. eqb (length e.paths) k ≡ t
                 → cond t after_number (Some Number) ≡ Some f → Flaw f) [
                   | false ↦ λ off r. subst Flaw (same_Some Number f r) (
-                    eqb-true e.i i ei,
+                    eqb-true e.i i on_i,
                     eqb-true e.j j on_j,
                     λ h. both_ways (eqb (length e.paths) k) off (eq-eqb (length e.paths) k h),
                   )
-                  | true ↦ λ on r. named (eqb-true e.i i ei) (eqb-true e.j j on_j) (eqb-true (length e.paths) k on) r
+                  | true ↦ λ on r. named (eqb-true e.i i on_i) (eqb-true e.j j on_j) (eqb-true (length e.paths) k on) r
                 ] refl r
           ] refl r
     ] refl s
