@@ -75,7 +75,14 @@ fn say_step(text: &mut String, graph: &Graph, a: NodeId, b: NodeId) -> Result<()
         return say_one(text, " has ", b, ", which is no node");
     }
     let b = node(b);
-    say_two(text, " goes from ", a, " to ", b, ", and there is no such link")
+    say_two(
+        text,
+        " goes from ",
+        a,
+        " to ",
+        b,
+        ", and there is no such link",
+    )
 }
 
 /// Tells of a node that a path has twice or, if it has it once, of the first path that has it too.
