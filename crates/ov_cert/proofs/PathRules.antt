@@ -3,3 +3,5 @@ pub mod NodeSets
 pub mod Ends
 pub mod Fresh
 pub mod PathTests
+pub mod FlawTests
+pub mod FlawRules

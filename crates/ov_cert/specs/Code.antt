@@ -2,3 +2,4 @@
 -- use it.
 pub mod Kept
 pub mod Tests
+pub mod Flaws

@@ -1,75 +1,103 @@
-ghost use Rattle.std.specs.Prelude.{◌≡◌, ◌≢◌, ◌+◌, ℕ, ◌<◌, length, true, Some, slice_get};
+ghost use Rattle.std.specs.Prelude.{◌≡◌, ◌≢◌, ◌+◌, ℕ, ◌<◌, length, true, Some, is_none, slice_get};
 ghost use Rattle.ov_ids.specs.Members.{Has, Ascends};
 ghost use Rattle.ov_graph.specs.Links.{IsGroup};
 ghost use Rattle.ov_graph.specs.Even.{later_members};
 ghost use Rattle.ov_cert.specs.Code.Tests.{is_pair_entry, is_fan_entry, unlinked_before, pairs_after, expected_pairs};
 ghost use Rattle.ov_cert.specs.Code.Tests.{pairs_fault, fans_fault, IsCheckOf};
+ghost use Rattle.ov_cert.specs.Code.Flaws.{pair_entry_flaw, fan_entry_flaw};
 
 use crate::cert::{FanPaths, PairPaths};
 use crate::fault::CheckFault;
 use crate::first_and_later_members::{first_members, later_members};
-use crate::paths::{are_linked, are_paths, is_fan};
+use crate::flaws::EntryFlaw;
+use crate::paths::{are_linked, flaw_of_fan, flaw_of_paths};
 use ov_graph::Graph;
 use ov_ids::NodeId;
 
-/// Whether the entry names the pair and has k right paths.
-fn is_entry_of_pair(graph: &Graph, k: usize, i: NodeId, j: NodeId, entry: &PairPaths) -> bool
+/// What is wrong with an entry that should name the pair and have k right paths.
+fn flaw_of_pair(
+    graph: &Graph,
+    k: usize,
+    i: NodeId,
+    j: NodeId,
+    entry: &PairPaths,
+) -> Option<EntryFlaw>
     requires i { Has graph.now.nodes i }
     requires j { Has graph.now.nodes j }
     requires differ { i ≢ j }
-    ensures { result ≡ is_pair_entry graph.now k (i, j) (Some entry.now) }
+    ensures { result ≡ pair_entry_flaw graph.now k (i, j) (Some entry.now) }
 {
+    if entry.i != i || entry.j != j {
+        return Some(EntryFlaw::NamesOthers);
+    }
     let paths = entry.paths.as_slice();
-    entry.i == i && entry.j == j && paths.len() == k && are_paths(graph, i, j, paths)
+    if paths.len() != k {
+        return Some(EntryFlaw::Number);
+    }
+    flaw_of_paths(graph, i, j, paths)
 }
 
-/// Whether the entry names the member and has a fan of k right paths.
-fn is_entry_of_fan(graph: &Graph, group: &[NodeId], k: usize, j: NodeId, entry: &FanPaths) -> bool
+/// What is wrong with an entry that should name the member and have a fan of k right paths.
+fn flaw_of_member(
+    graph: &Graph,
+    group: &[NodeId],
+    k: usize,
+    j: NodeId,
+    entry: &FanPaths,
+) -> Option<EntryFlaw>
     requires group { Ascends group.now }
     requires j { Has graph.now.nodes j }
-    ensures { result ≡ is_fan_entry graph.now group.now k j (Some entry.now) }
+    ensures { result ≡ fan_entry_flaw graph.now group.now k j (Some entry.now) }
 {
+    if entry.j != j {
+        return Some(EntryFlaw::NamesOthers);
+    }
     let paths = entry.paths.as_slice();
-    entry.j == j && paths.len() == k && is_fan(graph, group, j, paths)
+    if paths.len() != k {
+        return Some(EntryFlaw::Number);
+    }
+    flaw_of_fan(graph, group, j, paths)
 }
 
-/// Whether the entry at a place is a right entry of the pair.
-pub(crate) fn has_pair(
+/// What is wrong with the entry at a place, which should be a right entry of the pair.
+pub(crate) fn pair_flaw(
     graph: &Graph,
     k: usize,
     entries: &[PairPaths],
     place: usize,
     i: NodeId,
     j: NodeId,
-) -> bool
+) -> Option<EntryFlaw>
     requires i { Has graph.now.nodes i }
     requires j { Has graph.now.nodes j }
     requires differ { i ≢ j }
-    ensures entry { result ≡ is_pair_entry graph.now k (i, j) (slice_get entries.now place) }
-    ensures within { result ≡ true → place < length entries.now }
+    ensures flaw { result ≡ pair_entry_flaw graph.now k (i, j) (slice_get entries.now place) }
+    ensures right { is_none result ≡ is_pair_entry graph.now k (i, j) (slice_get entries.now place) }
+    ensures within { is_none result ≡ true → place < length entries.now }
 {
     match entries.get(place) {
-        Some(entry) => is_entry_of_pair(graph, k, i, j, entry),
-        None => false,
+        Some(entry) => flaw_of_pair(graph, k, i, j, entry),
+        None => Some(EntryFlaw::Missing),
     }
 }
 
-/// Whether the entry at a place is a right fan of the member.
-pub(crate) fn has_fan(
+/// What is wrong with the entry at a place, which should be a right fan of the member.
+pub(crate) fn fan_flaw(
     graph: &Graph,
     group: &[NodeId],
     k: usize,
     entries: &[FanPaths],
     place: usize,
     j: NodeId,
-) -> bool
+) -> Option<EntryFlaw>
     requires group { Ascends group.now }
     requires j { Has graph.now.nodes j }
-    ensures { result ≡ is_fan_entry graph.now group.now k j (slice_get entries.now place) }
+    ensures flaw { result ≡ fan_entry_flaw graph.now group.now k j (slice_get entries.now place) }
+    ensures right { is_none result ≡ is_fan_entry graph.now group.now k j (slice_get entries.now place) }
 {
     match entries.get(place) {
-        Some(entry) => is_entry_of_fan(graph, group, k, j, entry),
-        None => false,
+        Some(entry) => flaw_of_member(graph, group, k, j, entry),
+        None => Some(EntryFlaw::Missing),
     }
 }
 
@@ -93,7 +121,7 @@ fn check_pairs_of(
         if are_linked(graph, *i, j) {
             continue;
         }
-        if !has_pair(graph, k, entries, next, *i, j) {
+        if pair_flaw(graph, k, entries, next, *i, j).is_some() {
             return Err(CheckFault::Pair { i: *i, j });
         }
         next += 1;
@@ -136,7 +164,7 @@ pub(crate) fn check_fans(
 {
     let later = later_members(group, k);
     for (place, j) in later.iter().enumerate() {
-        if !has_fan(graph, group, k, entries, place, *j) {
+        if fan_flaw(graph, group, k, entries, place, *j).is_some() {
             return Err(CheckFault::Fan { j: *j });
         }
     }

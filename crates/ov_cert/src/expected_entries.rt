@@ -1,17 +1,19 @@
-ghost use Rattle.std.specs.Prelude.{◌≡◌, ◌↔◌, ◌++◌, length, [], IsTrue, IsOk, IfOk, IfErr, OnOk};
+ghost use Rattle.std.specs.Prelude.{◌≡◌, ◌↔◌, ◌++◌, length, [], IfSome, IsNone, IsOk, IfOk, IfErr, OnOk};
 ghost use Rattle.ov_ids.specs.Members.{Has, Ascends};
 ghost use Rattle.ov_graph.specs.Joined.{IsNodeSet};
 ghost use Rattle.ov_graph.specs.Even.{later_members};
 ghost use Rattle.ov_cert.specs.declared.cert.Cert.TheVariants as cert;
 ghost use Rattle.ov_cert.specs.Verdict.{PassesFrame};
 ghost use Rattle.ov_cert.specs.Entries.{of_pairs, of_fans, AreExpected, IsExpected, HoldsEntry, entry_fault};
+ghost use Rattle.ov_cert.specs.Flaws.{HasEntryFlaw};
 ghost use Rattle.ov_cert.specs.Code.Tests.{unlinked_before, pairs_after, expected_pairs};
 
 use crate::cert::Split;
-use crate::entry_judging::{has_fan, has_pair};
+use crate::entry_judging::{fan_flaw, pair_flaw};
 use crate::expected_entry::Expected;
 use crate::fault::CheckFault;
 use crate::first_and_later_members::{first_members, later_members};
+use crate::flaws::EntryFlaw;
 use crate::paths::are_linked;
 use ov_graph::Graph;
 use ov_ids::{NodeId, OutOfMemory};
@@ -111,21 +113,28 @@ pub fn judge_group_entry(
     ensures holds { IsOk result ↔ HoldsEntry graph.now group.now split.now entry }
     ensures fault { IfErr result (λ fault. fault ≡ entry_fault entry) }
 {
-    if !holds_entry(graph, group, split, entry) {
-        return Err(entry.fault());
+    match entry_flaw(graph, group, split, entry) {
+        Some(_) => Err(entry.fault()),
+        None => Ok(()),
     }
-    Ok(())
 }
 
-/// Whether a certificate has the right entry at the place of an expected entry.
-fn holds_entry(graph: &Graph, group: &[NodeId], split: &Split, entry: Expected) -> bool
-    requires frame { PassesFrame graph.now group.now (cert.Split split.now) }
+/// What is wrong with the entry at the place of an expected entry of a group, which is a set of nodes. None exactly if
+/// the certificate has the right entry there. Allocates nothing.
+pub fn entry_flaw(
+    graph: &Graph,
+    group: &[NodeId],
+    split: &Split,
+    entry: Expected,
+) -> Option<EntryFlaw>
+    requires group { IsNodeSet graph.now group.now }
     requires expected { IsExpected graph.now group.now split.now.k entry }
-    ensures { IsTrue result ↔ HoldsEntry graph.now group.now split.now entry }
+    ensures right { IsNone result ↔ HoldsEntry graph.now group.now split.now entry }
+    ensures flaw { IfSome result (λ flaw. HasEntryFlaw graph.now group.now split.now entry flaw) }
 {
     let k = split.k as usize;
     match entry {
-        Expected::Pair { at, i, j } => has_pair(graph, k, split.pairs.as_slice(), at, i, j),
-        Expected::Fan { at, j } => has_fan(graph, group, k, split.fans.as_slice(), at, j),
+        Expected::Pair { at, i, j } => pair_flaw(graph, k, split.pairs.as_slice(), at, i, j),
+        Expected::Fan { at, j } => fan_flaw(graph, group, k, split.fans.as_slice(), at, j),
     }
 }

@@ -1,8 +1,9 @@
-ghost use Rattle.std.specs.Prelude.{◌≡◌, ◌&&◌, not, [], IfSome, IfNone, false, true, if◌then◌else◌};
+ghost use Rattle.std.specs.Prelude.{◌≡◌, ◌&&◌, not, [], IfSome, IfNone, None, false, true, if◌then◌else◌};
 ghost use Rattle.ov_ids.specs.Sets.{has, adding};
 ghost use Rattle.ov_graph.specs.Links.{LinkGraph};
 ghost use Rattle.ov_cert.specs.Code.Kept.{NodeSetState};
-ghost use Rattle.ov_cert.specs.Code.Tests.{fresh, entered, is_node_set};
+ghost use Rattle.ov_cert.specs.Code.Tests.{entered, is_node_set};
+ghost use Rattle.ov_cert.specs.Code.Flaws.{first_taken};
 
 use ov_graph::Graph;
 use ov_graph::row::{EMPTY, Row, has, put};
@@ -62,18 +63,18 @@ impl<'g> NodeSet<'g> {
         true
     }
 
-    /// Adds these ids in order. Stops and returns false at the first id that is no node or is already a member.
-    pub(crate) fn enter_all(&mut self, ids: &[NodeId]) -> bool
+    /// Adds these ids in order. Stops at the first id that is no node or is already a member, and returns it.
+    pub(crate) fn enter_all(&mut self, ids: &[NodeId]) -> Option<NodeId>
         ensures graph { self.new.graph ≡ self.old.graph }
-        ensures fresh { result ≡ fresh self.old.graph self.old.members ids.now }
-        ensures entered { result ≡ true → self.new.members ≡ entered self.old.members ids.now }
+        ensures taken { result ≡ first_taken self.old.graph self.old.members ids.now }
+        ensures entered { result ≡ None → self.new.members ≡ entered self.old.members ids.now }
     {
         for id in ids {
             if !self.enter(*id) {
-                return false;
+                return Some(*id);
             }
         }
-        true
+        None
     }
 }
 
@@ -87,5 +88,8 @@ pub(crate) fn node_set<'g>(graph: &'g Graph, ids: &[NodeId]) -> Option<NodeSet<'
         return None;
     }
     let mut set = NodeSet::new(graph);
-    if set.enter_all(ids) { Some(set) } else { None }
+    match set.enter_all(ids) {
+        None => Some(set),
+        Some(_) => None,
+    }
 }

@@ -1,11 +1,12 @@
-ghost use Rattle.std.specs.Prelude.{◌≡◌, ◌≢◌, ◌≤◌, [], ◌∷◌, ◌++◌, length, true, MatchOption};
+ghost use Rattle.std.specs.Prelude.{◌≡◌, ◌≢◌, ◌≤◌, [], ◌∷◌, ◌++◌, length, None, MatchOption};
 ghost use Rattle.ov_ids.specs.Members.{Has, Ascends};
 ghost use Rattle.ov_ids.specs.Sets.{adding};
 ghost use Rattle.ov_graph.specs.Code.Tests.{are_joined};
-ghost use Rattle.ov_cert.specs.Code.Tests.{chained, is_pair_path, are_pair_paths, is_fan_path, are_fan_paths, entered};
-ghost use Rattle.ov_cert.specs.Code.Tests.{inner, steps};
+ghost use Rattle.ov_cert.specs.Code.Tests.{entered, inner, steps};
+ghost use Rattle.ov_cert.specs.Code.Flaws.{chain_flaw, pair_path_flaw, pair_paths_flaw, fan_path_flaw, fan_paths_flaw};
 
 use crate::first_and_later_members::is_earlier;
+use crate::flaws::{EntryFlaw, PathFlaw};
 use crate::node_set::NodeSet;
 use ov_graph::Graph;
 use ov_ids::{NodeId, Seq};
@@ -17,22 +18,20 @@ pub(crate) fn are_linked(graph: &Graph, a: NodeId, b: NodeId) -> bool
     graph.linked(a, b)
 }
 
-/// Whether each node of a path is linked to the next.
-fn is_chained(graph: &Graph, path: &[NodeId]) -> bool
-    ensures { result ≡ chained graph.now path.now }
+/// The first step of a path over no link.
+fn unlinked_step(graph: &Graph, path: &[NodeId]) -> Option<PathFlaw>
+    ensures { result ≡ chain_flaw graph.now path.now }
 {
-    let Some((first, mut rest)) = path.split_first() else {
-        return true;
-    };
+    let (first, mut rest) = path.split_first()?;
     let mut at = *first;
     while let Some((next, more)) = rest.split_first() {
         if !are_linked(graph, at, *next) {
-            return false;
+            return Some(PathFlaw::NoLink(at, *next));
         }
         at = *next;
         rest = more;
     }
-    true
+    None
 }
 
 /// The parts of a path: its first and last node, the nodes after the first, and the nodes between the ends.
@@ -59,94 +58,111 @@ fn ends_of(path: &[NodeId]) -> Option<Ends<'_>>
     })
 }
 
-/// Whether the path leads from `i` to `j` over links and unused inner nodes. The inner nodes are then marked as used.
-fn takes_pair_path(
+/// What is wrong with a path that should lead from `i` to `j` over links and unused inner nodes. If it is right, its
+/// inner nodes are then marked as used.
+fn take_pair_path(
     graph: &Graph,
     used: &mut NodeSet<'_>,
     i: NodeId,
     j: NodeId,
     path: &[NodeId],
-) -> bool
+) -> Option<PathFlaw>
     requires { used.old.graph ≡ graph.now }
     ensures graph { used.new.graph ≡ graph.now }
-    ensures path { result ≡ is_pair_path graph.now used.old.members i j path.now }
-    ensures used { result ≡ true → used.new.members ≡ entered used.old.members (inner path.now) }
+    ensures flaw { result ≡ pair_path_flaw graph.now used.old.members i j path.now }
+    ensures used { result ≡ None → used.new.members ≡ entered used.old.members (inner path.now) }
 {
     let Some(ends) = ends_of(path) else {
-        return false;
+        return Some(PathFlaw::TooShort);
     };
     if ends.first != i {
-        return false;
+        return Some(PathFlaw::BeginsAt(ends.first));
     }
     if ends.last != j {
-        return false;
+        return Some(PathFlaw::EndsAt(ends.last));
     }
-    if !is_chained(graph, path) {
-        return false;
+    if let Some(flaw) = unlinked_step(graph, path) {
+        return Some(flaw);
     }
-    used.enter_all(ends.inside)
+    match used.enter_all(ends.inside) {
+        Some(id) => Some(PathFlaw::Taken(id)),
+        None => None,
+    }
 }
 
-/// Whether the paths lead from `i` to `j` and share only `i` and `j`.
-pub(crate) fn are_paths(graph: &Graph, i: NodeId, j: NodeId, paths: &[Seq<NodeId>]) -> bool
+/// The first of the paths that is wrong. They should lead from `i` to `j` and share only `i` and `j`.
+pub(crate) fn flaw_of_paths(
+    graph: &Graph,
+    i: NodeId,
+    j: NodeId,
+    paths: &[Seq<NodeId>],
+) -> Option<EntryFlaw>
     requires i { Has graph.now.nodes i }
     requires j { Has graph.now.nodes j }
     requires differ { i ≢ j }
-    ensures { result ≡ are_pair_paths graph.now (adding j (i ∷ [])) i j paths.now }
+    ensures { result ≡ pair_paths_flaw graph.now (adding j (i ∷ [])) i j 0 paths.now }
 {
     let mut used = NodeSet::new(graph);
     used.enter(i);
     used.enter(j);
-    for path in paths {
-        if !takes_pair_path(graph, &mut used, i, j, path.as_slice()) {
-            return false;
+    for (at, path) in paths.iter().enumerate() {
+        if let Some(flaw) = take_pair_path(graph, &mut used, i, j, path.as_slice()) {
+            return Some(EntryFlaw::Path { at, flaw });
         }
     }
-    true
+    None
 }
 
-/// Whether the path leads from `j` over links and unused nodes to a member below `j`. Its nodes are then marked as
-/// used.
-fn takes_fan_path(
+/// What is wrong with a path that should lead from `j` over links and unused nodes to a member below `j`. If it is
+/// right, its nodes are then marked as used.
+fn take_fan_path(
     graph: &Graph,
     group: &[NodeId],
     used: &mut NodeSet<'_>,
     j: NodeId,
     path: &[NodeId],
-) -> bool
+) -> Option<PathFlaw>
     requires graph { used.old.graph ≡ graph.now }
     requires group { Ascends group.now }
     ensures graph { used.new.graph ≡ graph.now }
-    ensures path { result ≡ is_fan_path graph.now group.now used.old.members j path.now }
-    ensures used { result ≡ true → used.new.members ≡ entered used.old.members (steps path.now) }
+    ensures flaw { result ≡ fan_path_flaw graph.now group.now used.old.members j path.now }
+    ensures used { result ≡ None → used.new.members ≡ entered used.old.members (steps path.now) }
 {
     let Some(ends) = ends_of(path) else {
-        return false;
+        return Some(PathFlaw::TooShort);
     };
     if ends.first != j {
-        return false;
+        return Some(PathFlaw::BeginsAt(ends.first));
     }
     if !is_earlier(group, j, ends.last) {
-        return false;
+        return Some(PathFlaw::EndsAt(ends.last));
     }
-    if !is_chained(graph, path) {
-        return false;
+    if let Some(flaw) = unlinked_step(graph, path) {
+        return Some(flaw);
     }
-    used.enter_all(ends.rest)
+    match used.enter_all(ends.rest) {
+        Some(id) => Some(PathFlaw::Taken(id)),
+        None => None,
+    }
 }
 
-/// Whether the paths lead from `j` to members below `j` and share only `j`.
-pub(crate) fn is_fan(graph: &Graph, group: &[NodeId], j: NodeId, paths: &[Seq<NodeId>]) -> bool
+/// The first of the paths that is wrong. They should lead from `j` to members below `j` and share only `j`.
+pub(crate) fn flaw_of_fan(
+    graph: &Graph,
+    group: &[NodeId],
+    j: NodeId,
+    paths: &[Seq<NodeId>],
+) -> Option<EntryFlaw>
     requires group { Ascends group.now }
     requires j { Has graph.now.nodes j }
-    ensures { result ≡ are_fan_paths graph.now group.now (j ∷ []) j paths.now }
+    ensures { result ≡ fan_paths_flaw graph.now group.now (j ∷ []) j 0 paths.now }
 {
     let mut used = NodeSet::new(graph);
     used.enter(j);
-    for path in paths {
-        if !takes_fan_path(graph, group, &mut used, j, path.as_slice()) {
-            return false;
+    for (at, path) in paths.iter().enumerate() {
+        if let Some(flaw) = take_fan_path(graph, group, &mut used, j, path.as_slice()) {
+            return Some(EntryFlaw::Path { at, flaw });
         }
     }
-    true
+    None
 }

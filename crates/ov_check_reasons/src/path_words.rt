@@ -1,173 +1,124 @@
 use crate::sentence_parts::{Part, count, node, say};
+use ov_cert::{EntryFlaw, PathFlaw};
 use ov_graph::{Graph, is_member};
 use ov_ids::{NodeId, OutOfMemory, Seq};
 
-/// What the paths of an entry must be: from `from` to `to` or, where there is no `to`, to members below `from`. They
-/// share `from` and `to` and no other node.
+/// What the paths of an entry must be: from `from` to `to` or, if there is no `to`, to members below `from`.
 #[derive(Drop)]
 pub(crate) struct Rule {
     pub(crate) from: NodeId,
     pub(crate) to: Option<NodeId>,
 }
 
-impl Rule {
-    /// Whether a path may end at a node.
-    fn ends_at(&self, group: &[NodeId], id: NodeId) -> bool {
-        match self.to {
-            Some(to) => id == to,
-            None => id < self.from && group.contains(&id),
-        }
-    }
-
-    /// Whether paths may share a node.
-    fn shares(&self, id: NodeId) -> bool {
-        id == self.from || self.to == Some(id)
-    }
-}
-
-/// What is wrong with a path.
-#[derive(Clone, Copy)]
-enum PathFlaw {
-    /// It has no node.
-    Empty,
-    /// It begins at this node.
-    Begins(NodeId),
-    /// It ends at this node.
-    Ends(NodeId),
-    /// It has this id, which is no node.
-    Stranger(NodeId),
-    /// It goes from a node to another one that is not linked to it.
-    Unlinked(NodeId, NodeId),
-    /// It has this node twice.
-    Twice(NodeId),
-    /// It has a node of the earlier path at this place.
-    Shares(NodeId, usize),
-}
-
-/// What is wrong with the ends of a path.
-fn flaw_of_ends(group: &[NodeId], rule: &Rule, path: &[NodeId]) -> Option<PathFlaw> {
-    let Some(first) = path.first() else {
-        return Some(PathFlaw::Empty);
-    };
-    if *first != rule.from {
-        return Some(PathFlaw::Begins(*first));
-    }
-    let last = path.last()?;
-    if !rule.ends_at(group, *last) {
-        return Some(PathFlaw::Ends(*last));
-    }
-    None
-}
-
-/// The first id of a path that is no node.
-fn first_stranger(graph: &Graph, path: &[NodeId]) -> Option<PathFlaw> {
-    for id in path {
-        if !is_member(graph.nodes(), *id) {
-            return Some(PathFlaw::Stranger(*id));
-        }
-    }
-    None
-}
-
-/// The first step of a path over no link.
-fn first_unlinked(graph: &Graph, path: &[NodeId]) -> Option<PathFlaw> {
-    let mut before: Option<NodeId> = None;
-    for id in path {
-        if let Some(last) = before
-            && !graph.linked(last, *id)
-        {
-            return Some(PathFlaw::Unlinked(last, *id));
-        }
-        before = Some(*id);
-    }
-    None
-}
-
-/// The first node of a path that stands in it once more.
-fn first_twice(path: &[NodeId]) -> Option<PathFlaw> {
-    for (place, id) in path.iter().enumerate() {
-        if path[..place].contains(id) {
-            return Some(PathFlaw::Twice(*id));
-        }
-    }
-    None
-}
-
-/// The first node of a path, none of the shared ones, that an earlier path has.
-fn first_shared(rule: &Rule, earlier: &[Seq<NodeId>], path: &[NodeId]) -> Option<PathFlaw> {
-    for id in path {
-        for (at, other) in earlier.iter().enumerate() {
-            if !rule.shares(*id) && other.as_slice().contains(id) {
-                return Some(PathFlaw::Shares(*id, at));
-            }
-        }
-    }
-    None
-}
-
-/// The first flaw of a path that comes behind these.
-fn flaw_of(
-    graph: &Graph,
-    group: &[NodeId],
-    rule: &Rule,
-    earlier: &[Seq<NodeId>],
-    path: &[NodeId],
-) -> Option<PathFlaw> {
-    flaw_of_ends(group, rule, path)
-        .or_else(|| first_stranger(graph, path))
-        .or_else(|| first_unlinked(graph, path))
-        .or_else(|| first_twice(path))
-        .or_else(|| first_shared(rule, earlier, path))
-}
-
 /// Tells what is wrong with the paths of an entry, whose place in the file is appended already.
 pub(crate) fn tell_paths(
     text: &mut String,
     graph: &Graph,
-    group: &[NodeId],
     rule: &Rule,
     k: u32,
     paths: &[Seq<NodeId>],
+    flaw: EntryFlaw,
 ) -> Result<(), OutOfMemory> {
-    let number = paths.len();
-    if number != k as usize {
-        return say_number_of_paths(text, number, k);
-    }
-    for (at, path) in paths.iter().enumerate() {
-        if let Some(flaw) = flaw_of(graph, group, rule, &paths[..at], path.as_slice()) {
+    match flaw {
+        EntryFlaw::Number => say_number_of_paths(text, paths.len(), k),
+        EntryFlaw::Path { at, flaw } => {
             say(text, &[Part::Text(".paths["), count(at), Part::Text("]")])?;
-            return say_flaw(text, rule, flaw);
+            say_flaw(text, graph, rule, paths, at, flaw)
         }
+        EntryFlaw::Missing | EntryFlaw::NamesOthers => Ok(()),
     }
-    Ok(())
 }
 
 fn say_number_of_paths(text: &mut String, number: usize, k: u32) -> Result<(), OutOfMemory> {
     Ok(write!(text, ": the number of paths is {number}, and k is {k}")?)
 }
 
-fn say_flaw(text: &mut String, rule: &Rule, flaw: PathFlaw) -> Result<(), OutOfMemory> {
+fn say_flaw(
+    text: &mut String,
+    graph: &Graph,
+    rule: &Rule,
+    paths: &[Seq<NodeId>],
+    at: usize,
+    flaw: PathFlaw,
+) -> Result<(), OutOfMemory> {
     match flaw {
-        PathFlaw::Empty => say(text, &[Part::Text(" has no node")]),
-        PathFlaw::Begins(id) => say_two(text, " begins at ", id, ", not at ", node(rule.from), ""),
-        PathFlaw::Ends(id) => say_end(text, rule, id),
-        PathFlaw::Stranger(id) => say_one(text, " has ", id, ", which is no node"),
-        PathFlaw::Unlinked(a, b) => {
-            let b = node(b);
-            say_two(
-                text,
-                " goes from ",
-                a,
-                " to ",
-                b,
-                ", and there is no such link",
-            )
-        }
-        PathFlaw::Twice(id) => say_one(text, " has node ", id, " twice"),
-        PathFlaw::Shares(id, at) => {
-            say_two(text, " meets node ", id, " of paths[", count(at), "]")
+        PathFlaw::TooShort => say_short(text, rule, paths, at),
+        PathFlaw::BeginsAt(id) => say_begin(text, rule, id),
+        PathFlaw::EndsAt(id) => say_end(text, rule, id),
+        PathFlaw::NoLink(a, b) => say_step(text, graph, a, b),
+        PathFlaw::Taken(id) => say_taken(text, paths, at, id),
+    }
+}
+
+/// Tells of a path that has no node, or one.
+fn say_short(
+    text: &mut String,
+    rule: &Rule,
+    paths: &[Seq<NodeId>],
+    at: usize,
+) -> Result<(), OutOfMemory> {
+    let Some(path) = paths.get(at) else {
+        return Ok(());
+    };
+    let Some(first) = path.as_slice().first() else {
+        return say(text, &[Part::Text(" has no node")]);
+    };
+    if *first == rule.from {
+        return say_end(text, rule, *first);
+    }
+    say_begin(text, rule, *first)
+}
+
+/// Tells of a step over no link. An id that is no node has no link.
+fn say_step(text: &mut String, graph: &Graph, a: NodeId, b: NodeId) -> Result<(), OutOfMemory> {
+    if !is_member(graph.nodes(), b) {
+        return say_one(text, " has ", b, ", which is no node");
+    }
+    let b = node(b);
+    say_two(
+        text,
+        " goes from ",
+        a,
+        " to ",
+        b,
+        ", and there is no such link",
+    )
+}
+
+/// Tells of a node that a path has twice or, if it has it once, of the first path that has it too.
+fn say_taken(
+    text: &mut String,
+    paths: &[Seq<NodeId>],
+    at: usize,
+    id: NodeId,
+) -> Result<(), OutOfMemory> {
+    if let Some(path) = paths.get(at)
+        && has_twice(path.as_slice(), id)
+    {
+        return say_one(text, " has node ", id, " twice");
+    }
+    for (place, path) in paths.iter().enumerate() {
+        if path.as_slice().contains(&id) {
+            return say_two(text, " meets node ", id, " of paths[", count(place), "]");
         }
     }
+    Ok(())
+}
+
+/// Whether a path has a node twice.
+fn has_twice(path: &[NodeId], id: NodeId) -> bool {
+    let mut once = false;
+    for other in path {
+        if *other == id && once {
+            return true;
+        }
+        once = once || *other == id;
+    }
+    false
+}
+
+fn say_begin(text: &mut String, rule: &Rule, id: NodeId) -> Result<(), OutOfMemory> {
+    say_two(text, " begins at ", id, ", not at ", node(rule.from), "")
 }
 
 /// Appends a node between two texts.

@@ -1,27 +1,31 @@
+ghost use Rattle.ov_graph.specs.Joined.{IsNodeSet};
+ghost use Rattle.ov_cert.specs.Entries.{AreExpected};
+
 use crate::path_words::{Rule, tell_paths};
 use crate::sentence_parts::{Part, count, node, say};
-use ov_cert::{CheckFault, Expected, Split, expected_group};
+use ov_cert::{CheckFault, EntryFlaw, Expected, Split, entry_flaw, expected_group};
 use ov_graph::Graph;
 use ov_ids::{NodeId, OutOfMemory};
 use std::alloc::Global;
 
-/// The expected entry that a fault is about.
-fn entry_of(
-    alloc: Global,
+/// The expected entry that a fault is about, with what is wrong at its place.
+fn flawed_entry(
     graph: &Graph,
     group: &[NodeId],
     split: &Split,
+    entries: &[Expected],
     fault: CheckFault,
-) -> Result<Option<Expected>, OutOfMemory> {
-    if !graph.is_group(group) {
-        return Ok(None);
-    }
-    for entry in expected_group(alloc, graph, group, split)? {
+) -> Option<(Expected, EntryFlaw)>
+    requires group { IsNodeSet graph.now group.now }
+    requires expected { AreExpected graph.now group.now split.now.k entries.now }
+{
+    for entry in entries {
         if entry.fault() == fault {
-            return Ok(Some(entry));
+            let flaw = entry_flaw(graph, group, split, *entry)?;
+            return Some((*entry, flaw));
         }
     }
-    Ok(None)
+    None
 }
 
 /// Tells what is wrong with the entry of a pair or of a fan.
@@ -33,12 +37,16 @@ pub(crate) fn tell_entry(
     split: &Split,
     fault: CheckFault,
 ) -> Result<(), OutOfMemory> {
-    let Some(entry) = entry_of(alloc, graph, group, split, fault)? else {
+    if !graph.is_group(group) {
+        return Ok(());
+    }
+    let entries = expected_group(alloc, graph, group, split)?;
+    let Some((entry, flaw)) = flawed_entry(graph, group, split, entries.as_slice(), fault) else {
         return Ok(());
     };
     match entry {
-        Expected::Pair { at, i, j } => tell_pair(text, graph, group, split, at, i, j),
-        Expected::Fan { at, j } => tell_fan(text, graph, group, split, at, j),
+        Expected::Pair { at, i, j } => tell_pair(text, graph, split, at, (i, j), flaw),
+        Expected::Fan { at, j } => tell_fan(text, graph, split, at, j, flaw),
     }
 }
 
@@ -49,44 +57,43 @@ fn say_place(text: &mut String, list: &str, at: usize) -> Result<(), OutOfMemory
 fn tell_pair(
     text: &mut String,
     graph: &Graph,
-    group: &[NodeId],
     split: &Split,
     at: usize,
-    i: NodeId,
-    j: NodeId,
+    pair: (NodeId, NodeId),
+    flaw: EntryFlaw,
 ) -> Result<(), OutOfMemory> {
     say_place(text, ": pairs[", at)?;
     let Some(entry) = split.pairs.as_slice().get(at) else {
         return say(text, &[Part::Text(" is missing")]);
     };
-    if entry.i != i || entry.j != j {
+    if let EntryFlaw::NamesOthers = flaw {
         let (i, j) = (node(entry.i), node(entry.j));
         return say(text, &[Part::Text(" has i "), i, Part::Text(" and j "), j]);
     }
     let rule = Rule {
-        from: i,
-        to: Some(j),
+        from: pair.0,
+        to: Some(pair.1),
     };
-    tell_paths(text, graph, group, &rule, split.k, entry.paths.as_slice())
+    tell_paths(text, graph, &rule, split.k, entry.paths.as_slice(), flaw)
 }
 
 fn tell_fan(
     text: &mut String,
     graph: &Graph,
-    group: &[NodeId],
     split: &Split,
     at: usize,
     j: NodeId,
+    flaw: EntryFlaw,
 ) -> Result<(), OutOfMemory> {
     say_place(text, ": fans[", at)?;
     let Some(entry) = split.fans.as_slice().get(at) else {
         return say(text, &[Part::Text(" is missing")]);
     };
-    if entry.j != j {
+    if let EntryFlaw::NamesOthers = flaw {
         return say(text, &[Part::Text(" has j "), node(entry.j)]);
     }
     let rule = Rule { from: j, to: None };
-    tell_paths(text, graph, group, &rule, split.k, entry.paths.as_slice())
+    tell_paths(text, graph, &rule, split.k, entry.paths.as_slice(), flaw)
 }
 
 /// Tells which list of entries is too long.

@@ -1,18 +1,21 @@
 -- The expected entries: how they are collected one by one, and how one entry is checked.
 use Rattle.std.proofs.Common.{◌≡◌, ◌≢◌, ◌∙◌, ◌↔◌, ℕ, suc, ◌+◌, ◌<◌, List, [], ◌∷◌, ◌++◌, length, take, drop, get_or}
 use Rattle.std.proofs.Common.{slice_get, IsTrue, true, false, refl, sym, ap, subst, arith, append_assoc, length-append}
-use Rattle.std.proofs.Common.{add-one}
+use Rattle.std.proofs.Common.{add-one, Bool, Option, Some, None, is_none, IsNone, IfSome}
 use Rattle.std.proofs.Math.Seq.{drop-cons}
 use Rattle.ov_ids.specs.Members.{Has}
 use Rattle.ov_ids.proofs.Members.{has_from_take}
-use Rattle.ov_graph.specs.Links.{LinkGraph, IsGroup}
+use Rattle.ov_graph.specs.Links.{LinkGraph}
+use Rattle.ov_graph.specs.Joined.{IsNodeSet}
 use Rattle.ov_graph.specs.Even.{IsUnlinkedPair}
 use Rattle.ov_graph.specs.Code.Tests.{are_joined}
-use Rattle.ov_cert.specs.declared.cert.Cert.TheVariants as cert
 use Rattle.ov_cert.specs.declared.cert.Split.{Split}
 use Rattle.ov_cert.specs.declared.expected_entry.Expected.{Expected}
 use Rattle.ov_cert.specs.declared.expected_entry.Expected.TheVariants.{Pair, Fan}
-use Rattle.ov_cert.specs.Verdict.{PassesFrame}
+use Rattle.ov_cert.specs.declared.flaws.EntryFlaw.{EntryFlaw}
+use Rattle.ov_cert.specs.Flaws.{HasEntryFlaw}
+use Rattle.ov_cert.specs.Code.Flaws.{pair_entry_flaw, fan_entry_flaw}
+use Rattle.ov_cert.proofs.PathRules.FlawRules.{pair_entry_rule, fan_entry_rule}
 use Rattle.ov_cert.specs.Entries.{of_pairs, of_fans, IsExpected, HoldsEntry}
 use Rattle.ov_cert.specs.Code.Tests.{is_pair_entry, is_fan_entry, unlinked_before, pairs_after}
 use Rattle.ov_cert.proofs.EntryOrder.Columns.{pairs_after_at}
@@ -90,25 +93,23 @@ fan_added entries xs p j l is =
     ∙ ap (λ t. entries ++ t) (sym (ap (of_fans p) e ∙ ap (λ (m : ℕ). Fan p j ∷ of_fans m (drop (p + 1) xs))
     (sym (add-one p))))
 
-frame_group : (g : LinkGraph) (q : List ℕ) (c : Split) → PassesFrame g q (cert.Split c) → IsGroup g q
-frame_group g q c p = p.1
-
--- an expected pair: what its two ends are, and the test of its entry
+-- an expected pair: what its two ends are, and the test and the flaw of its entry
 pub record PairAt (g : LinkGraph) (q : List ℕ) (c : Split) (entry : Expected) (at i j : ℕ) : Type 0 where
   pub i_node : Has g.nodes i
   pub j_node : Has g.nodes j
   pub differ : i ≢ j
   pub tested : IsTrue (is_pair_entry g c.k (i, j) (slice_get c.pairs at)) ↔ HoldsEntry g q c entry
+  pub flawed : (f : EntryFlaw) → pair_entry_flaw g c.k (i, j) (slice_get c.pairs at) ≡ Some f
+      → HasEntryFlaw g q c entry f
 
-pub pair_at : (g : LinkGraph) (q : List ℕ) (c : Split) (entry : Expected) (at i j : ℕ) → PassesFrame g q (cert.Split c)
+pub pair_at : (g : LinkGraph) (q : List ℕ) (c : Split) (entry : Expected) (at i j : ℕ) → IsNodeSet g q
     → IsExpected g q c.k entry
     → entry ≡ Pair at i j → PairAt g q c entry at i j
-pair_at g q c entry at i j frame expected e = subst (λ (x : Expected). PairAt g q c x at i j) (sym e)
+pair_at g q c entry at i j group expected e = subst (λ (x : Expected). PairAt g q c x at i j) (sym e)
     (here (subst (IsExpected g q c.k) e expected))
   where
     here : IsExpected g q c.k (Pair at i j) → PairAt g q c (Pair at i j) at i j
     here h =
-        let group = frame_group g q c frame in
         let u : IsUnlinkedPair g q c.k (i, j) = (h.1.each (i, j)).0 (has_found h.0 at (i, j) h.2) in
         let ni = group.nodes i (has_from_take q c.k i u.0) in
         let nj = group.nodes j (has_from_take q c.k j u.1) in
@@ -117,23 +118,37 @@ pair_at g q c entry at i j frame expected e = subst (λ (x : Expected). PairAt g
           i_node = ni;
           j_node = nj;
           differ = ne;
-          tested = pair_entry_tested g c.k (i, j) ni nj ne
-              (slice_get c.pairs at);
+          tested = pair_entry_tested g c.k (i, j) ni nj ne (slice_get c.pairs at);
+          flawed = pair_entry_rule g c.k i j ni nj ne (slice_get c.pairs at);
         }
 
--- an expected fan: its member, and the test of its entry
+-- an expected fan: its member, and the test and the flaw of its entry
 pub record FanAt (g : LinkGraph) (q : List ℕ) (c : Split) (entry : Expected) (at j : ℕ) : Type 0 where
   pub node : Has g.nodes j
   pub tested : IsTrue (is_fan_entry g q c.k j (slice_get c.fans at)) ↔ HoldsEntry g q c entry
+  pub flawed : (f : EntryFlaw) → fan_entry_flaw g q c.k j (slice_get c.fans at) ≡ Some f → HasEntryFlaw g q c entry f
 
-pub fan_at : (g : LinkGraph) (q : List ℕ) (c : Split) (entry : Expected) (at j : ℕ) → PassesFrame g q (cert.Split c)
+pub fan_at : (g : LinkGraph) (q : List ℕ) (c : Split) (entry : Expected) (at j : ℕ) → IsNodeSet g q
     → IsExpected g q c.k entry
     → entry ≡ Fan at j → FanAt g q c entry at j
-fan_at g q c entry at j frame expected e = subst (λ (x : Expected). FanAt g q c x at j) (sym e)
+fan_at g q c entry at j group expected e = subst (λ (x : Expected). FanAt g q c x at j) (sym e)
     (here (subst (IsExpected g q c.k) e expected))
   where
     here : IsExpected g q c.k (Fan at j) → FanAt g q c (Fan at j) at j
     here h =
-        let group = frame_group g q c frame in
         let n = group.nodes j (later_member q c.k j (has_found _ at j h)) in
-        record { node = n; tested = fan_entry_tested g q group.nodes c.k j n (slice_get c.fans at) }
+        record {
+          node = n;
+          tested = fan_entry_tested g q group.nodes c.k j n (slice_get c.fans at);
+          flawed = fan_entry_rule g q group.nodes c.k j n (slice_get c.fans at);
+        }
+
+-- from the flaw that is found, or none: the entry is right exactly if there is none
+pub right_if_none : {X P : Type 0} (o : Option X) (b : Bool) → is_none o ≡ b → IsTrue b ↔ P → IsNone o ↔ P
+right_if_none None b e tested = ((λ h. tested.0 (sym e)), (λ p. refl))
+right_if_none (Some x) b e tested = ((λ h. absurd cc), (λ p. let t : false ≡ true = e ∙ tested.1 p in absurd cc))
+
+pub flaw_found : {X : Type 0} {P : X → Type 0} (o found : Option X) → o ≡ found
+    → ((x : X) → found ≡ Some x → P x) → IfSome o P
+flaw_found None found e rule = tt
+flaw_found (Some x) found e rule = rule x (sym e)

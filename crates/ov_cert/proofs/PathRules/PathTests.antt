@@ -101,7 +101,7 @@ module _ (g : LinkGraph) (i j : ℕ) (differ : i ≢ j) where
             legs.1 (eq-eqb (last_of b rest) j end, subst (IsWalk g i (a ∷ b ∷ rest)) (sym end) h.0, h.1)),
       )
 
-  inner_within : (p : List ℕ) (x : ℕ) → Has (inner p) x → Has p x
+  pub inner_within : (p : List ℕ) (x : ℕ) → Has (inner p) x → Has p x
   inner_within [] x h = h
   inner_within (a ∷ rest) x h = inr (in_front rest x h)
 
@@ -178,7 +178,7 @@ module _ (g : LinkGraph) (i j : ℕ) (differ : i ≢ j) where
         parts.1,
       )
 
-  pair_paths_tested : (k : ℕ) (ps : List (List ℕ)) → Has g.nodes i → Has g.nodes j
+  pub pair_paths_tested : (k : ℕ) (ps : List (List ℕ)) → Has g.nodes i → Has g.nodes j
       → ((length ps ≡ k) × IsTrue (are_pair_paths g ends i j ps)) ↔ ArePaths g i j k ps
   pair_paths_tested k ps ni nj =
       let all = in_turn_tested g (λ p. IsWalk g i p j) inner (i ∷ j ∷ []) inner_within inner_cover
@@ -196,7 +196,7 @@ module _ (g : LinkGraph) (q : List ℕ) (members : (x : ℕ) → Has q x → Has
   abbrev Descends : List ℕ → Type 0
   Descends p = (t : ℕ) × Has (members_below q j) t × IsWalk g j p t
 
-  earlier_tested : (x : ℕ) → IsTrue (is_earlier q j x) ↔ Has (members_below q j) x
+  pub earlier_tested : (x : ℕ) → IsTrue (is_earlier q j x) ↔ Has (members_below q j) x
   earlier_tested x = (
     (λ t. let p = and_parts (nat_lt x j) (has q x) t in has_filter (λ y. nat_lt y j) q x
         ((has_tested q x (has q x) refl).0 p.1) p.0),
@@ -227,7 +227,7 @@ module _ (g : LinkGraph) (q : List ℕ) (members : (x : ℕ) → Has q x → Has
             )),
       )
 
-  steps_within : (p : List ℕ) (x : ℕ) → Has (steps p) x → Has p x
+  pub steps_within : (p : List ℕ) (x : ℕ) → Has (steps p) x → Has p x
   steps_within [] x h = h
   steps_within (a ∷ rest) x h = inr h
 
@@ -261,7 +261,7 @@ module _ (g : LinkGraph) (q : List ℕ) (members : (x : ℕ) → Has q x → Has
     path.distinct.1,
   )
 
-  fan_paths_tested : (k : ℕ) (ps : List (List ℕ)) → Has g.nodes j
+  pub fan_paths_tested : (k : ℕ) (ps : List (List ℕ)) → Has g.nodes j
       → ((length ps ≡ k) × IsTrue (are_fan_paths g q (j ∷ []) j ps)) ↔ IsFan g j (members_below q j) k ps
   fan_paths_tested k ps nj =
       let all = in_turn_tested g Descends steps (j ∷ []) steps_within steps_cover (λ used p. is_fan_path g q used j p)

@@ -4,8 +4,8 @@ use Rattle.ov_ids.specs.Members.{Has}
 use Rattle.ov_cert.proofs.EntryOrder.Looping.{later_member, has_at}
 use Rattle.ov_cert.proofs.entry_judging.check_fans.Goals as goal
 
-pub has_fan-requires-clause-j : goal.has_fan-requires-clause-j
-has_fan-requires-clause-j c =
+pub fan_flaw-requires-clause-j : goal.fan_flaw-requires-clause-j
+fan_flaw-requires-clause-j c =
     let j = c.index-later-place.result in
     let at = has_at c.later_members-later.result.now c.loop-place.place j c.loop-place-test.true
     c.index-later-place.is in

@@ -1,16 +1,16 @@
 -- Before the first path, the source is used.
 use Rattle.std.proofs.Common.{ap}
 use Rattle.ov_cert.specs.Code.Kept.{NodeSetState}
-use Rattle.ov_cert.specs.Code.Tests.{are_fan_paths}
+use Rattle.ov_cert.specs.Code.Flaws.{fan_paths_flaw}
 use Rattle.ov_cert.proofs.PathRules.NodeSets.{one_entered, node_tested}
-use Rattle.ov_cert.proofs.paths.is_fan.Goals as goal
+use Rattle.ov_cert.proofs.paths.flaw_of_fan.Goals as goal
 
-pub loop-path-init : goal.loop-path-init
-loop-path-init c =
+pub loop-at-init : goal.loop-at-init
+loop-at-init c =
     let g = c.args.graph.now in
     let e = one_entered g c.args.j c.new-used.result c.enter.new.self c.enter.result
     (node_tested g c.args.j c.requires.j) c.new-used.ensures c.enter.ensures.fresh c.enter.ensures.entered in
     record {
       graph = ap (λ (v : NodeSetState). v.graph) e;
-      left = ap (λ (v : NodeSetState). are_fan_paths g c.args.group.now v.members c.args.j c.args.paths.now) e;
+      left = ap (λ (v : NodeSetState). fan_paths_flaw g c.args.group.now v.members c.args.j 0 c.args.paths.now) e;
     }

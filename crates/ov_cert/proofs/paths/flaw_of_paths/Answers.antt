@@ -1,12 +1,12 @@
 -- Before the first path, the two ends are used.
 use Rattle.std.proofs.Common.{ap}
 use Rattle.ov_cert.specs.Code.Kept.{NodeSetState}
-use Rattle.ov_cert.specs.Code.Tests.{are_pair_paths}
+use Rattle.ov_cert.specs.Code.Flaws.{pair_paths_flaw}
 use Rattle.ov_cert.proofs.PathRules.NodeSets.{two_entered, node_tested}
-use Rattle.ov_cert.proofs.paths.are_paths.Goals as goal
+use Rattle.ov_cert.proofs.paths.flaw_of_paths.Goals as goal
 
-pub loop-path-init : goal.loop-path-init
-loop-path-init c =
+pub loop-at-init : goal.loop-at-init
+loop-at-init c =
     let g = c.args.graph.now in
     let e = two_entered g c.args.i c.args.j c.new-used.result c.enter.new.self c.enter-2.new.self c.enter.result
     c.enter-2.result
@@ -14,5 +14,5 @@ loop-path-init c =
     c.enter.ensures.fresh c.enter.ensures.entered c.enter-2.ensures.fresh c.enter-2.ensures.entered in
     record {
       graph = ap (λ (v : NodeSetState). v.graph) e;
-      left = ap (λ (v : NodeSetState). are_pair_paths g v.members c.args.i c.args.j c.args.paths.now) e;
+      left = ap (λ (v : NodeSetState). pair_paths_flaw g v.members c.args.i c.args.j 0 c.args.paths.now) e;
     }
