@@ -40,7 +40,7 @@ def free_memory():
 
 def checks_at_once():
     """How many checks `rt ci` is to run side by side: one a processor, as far as there is memory for each. By itself it
-    reckons with up to 9 GB a check, and then lets processors wait."""
+    reckons with up to 6.5 GB a check, and then lets processors wait."""
     return max(1, min(len(os.sched_getaffinity(0)), free_memory() // CHECK_MEMORY))
 
 
