@@ -9,7 +9,7 @@ use std::alloc::{AllocError, Global};
 /// Reads the ids that a word spells: numbers of decimal digits and 32 bits, with one comma between two. None is
 /// returned if a part of the word is no such number, or is empty. OutOfMemory (99) is returned if an allocation was
 /// refused. The form of the word is chosen here.
-#[tactic(auto, using(crate::proofs::Lines::Spelling::begun, crate::proofs::Lines::Spelling::more, crate::proofs::Lines::Spelling::unread, crate::proofs::Lines::Spelling::all_read), unfolding(crate::specs::Lines::ids_of))]
+#[tactic(auto, unfolding(crate::specs::Lines::ids_of))]
 pub fn read_ids(alloc: Global, word: &[u8]) -> Result<Option<Vec<NodeId>>, OutOfMemory>
     ensures { IfOk result (λ ids. option_map (λ v. v.items) ids ≡ ids_of word.now) }
 {

@@ -47,7 +47,7 @@ impl<'a> KeptLines<'a> {
     }
 
     /// Reads the next line that is not skipped, if there is one.
-    #[tactic(auto, using(crate::proofs::Lines::Kept::skipped, crate::proofs::Lines::Kept::kept, crate::proofs::Lines::Kept::none_left), unfolding(crate::specs::Code::Kept::lines_left))]
+    #[tactic(auto, unfolding(crate::specs::Code::Kept::lines_left))]
     pub fn next_line(&mut self) -> Option<KeptLine<'a>>
         ensures { MatchOption result (self.old ≡ []) (λ l. self.old ≡ (l.number, l.text.now) ∷ self.new) }
     {
