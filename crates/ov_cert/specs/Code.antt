@@ -3,3 +3,4 @@
 pub mod Kept
 pub mod Tests
 pub mod Flaws
+pub mod FrameFlaws

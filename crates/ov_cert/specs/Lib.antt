@@ -3,6 +3,7 @@ pub mod Valid
 pub mod Verdict
 pub mod Entries
 pub mod Flaws
+pub mod FrameFlaws
 pub mod Theorems
 pub mod State
 pub mod Code

@@ -1,9 +1,7 @@
-ghost use Rattle.std.specs.Prelude.{◌≡◌, ◌↔◌, IsTrue};
-ghost use Rattle.std.specs.List.{list_all};
+ghost use Rattle.std.specs.Prelude.{◌≡◌, ◌↔◌, [], slice_get, IsTrue};
 ghost use Rattle.ov_ids.specs.Members.{Ascends};
 ghost use Rattle.ov_graph.specs.Links.{AreAllLinked};
-ghost use Rattle.ov_graph.specs.Code.Tests.{are_joined};
-ghost use Rattle.ov_cert.specs.Code.Tests.{all_linked};
+ghost use Rattle.ov_cert.specs.Code.Tests.{unlinked_before, pairs_after};
 
 use crate::paths::are_linked;
 use ov_graph::Graph;
@@ -14,30 +12,29 @@ pub fn are_all_linked(graph: &Graph, group: &[NodeId]) -> bool
     requires { Ascends group.now }
     ensures { IsTrue result ↔ AreAllLinked graph.now group.now }
 {
-    test_all_linked(graph, group)
+    unlinked_members(graph, group).is_none()
 }
 
-/// Whether every two members are linked, as the test `all_linked` computes it.
-pub(crate) fn test_all_linked(graph: &Graph, group: &[NodeId]) -> bool
-    ensures { result ≡ all_linked graph.now group.now }
+/// The first two members that are not linked, in the order of expected pairs.
+pub(crate) fn unlinked_members(graph: &Graph, group: &[NodeId]) -> Option<(NodeId, NodeId)>
+    ensures { result ≡ slice_get (pairs_after graph.now [] group.now) 0 }
 {
-    let mut left = group;
-    while let Some((first, rest)) = left.split_first() {
-        if !is_linked_to_all(graph, *first, rest) {
-            return false;
+    for (place, j) in group.iter().enumerate() {
+        if let Some(pair) = unlinked_with(graph, &group[..place], *j) {
+            return Some(pair);
         }
-        left = rest;
     }
-    true
+    None
 }
 
-fn is_linked_to_all(graph: &Graph, id: NodeId, others: &[NodeId]) -> bool
-    ensures { result ≡ list_all (λ b. are_joined graph.now.links id b) others.now }
+/// The first of the earlier members that is not linked to `j`, with `j`.
+fn unlinked_with(graph: &Graph, earlier: &[NodeId], j: NodeId) -> Option<(NodeId, NodeId)>
+    ensures { result ≡ slice_get (unlinked_before graph.now earlier.now j) 0 }
 {
-    for other in others {
-        if !are_linked(graph, id, *other) {
-            return false;
+    for i in earlier {
+        if !are_linked(graph, *i, j) {
+            return Some((*i, j));
         }
     }
-    true
+    None
 }

@@ -1,17 +1,10 @@
 ghost use Rattle.std.specs.Prelude.{◌≡◌, take};
 ghost use Rattle.ov_ids.specs.Members.{Ascends};
 ghost use Rattle.ov_graph.specs.Even.{later_members};
-ghost use Rattle.ov_cert.specs.Code.Tests.{is_earlier, is_group};
+ghost use Rattle.ov_cert.specs.Code.Tests.{is_earlier};
 
-use ov_graph::{Graph, is_member};
+use ov_graph::is_member;
 use ov_ids::NodeId;
-
-/// Whether the ids are a group of the graph, as the test `is_group` computes it.
-pub(crate) fn is_group(graph: &Graph, group: &[NodeId]) -> bool
-    ensures { result ≡ is_group graph.now group.now }
-{
-    graph.is_group(group)
-}
 
 /// Whether `id` is a member below `j`.
 pub(crate) fn is_earlier(group: &[NodeId], j: NodeId, id: NodeId) -> bool

@@ -12,6 +12,7 @@ mod fault;
 mod first_and_later_members;
 mod flaws;
 mod frame;
+mod frame_flaws;
 mod node_set;
 mod paths;
 mod side_judging;
@@ -25,5 +26,6 @@ pub use expected_entries::{entry_flaw, expected, expected_group, judge_entry, ju
 pub use expected_entry::Expected;
 pub use fault::CheckFault;
 pub use flaws::{EntryFlaw, PathFlaw};
-pub use frame::{check_frame, check_group_frame};
+pub use frame::{check_frame, check_group_frame, frame_flaw};
+pub use frame_flaws::{EndFlaw, FrameFlaw, SetFlaw, SideFlaw};
 pub use theorems::{one_verdict, valid_means};

@@ -1,13 +1,15 @@
-ghost use Rattle.std.specs.Prelude.{◌≡◌, ◌&&◌, not, [], IfSome, IfNone, None, false, true, if◌then◌else◌};
+ghost use Rattle.std.specs.Prelude.{◌≡◌, ◌&&◌, not, [], Some, None, IfOk, IfErr, if◌then◌else◌};
 ghost use Rattle.ov_ids.specs.Sets.{has, adding};
 ghost use Rattle.ov_graph.specs.Links.{LinkGraph};
 ghost use Rattle.ov_cert.specs.Code.Kept.{NodeSetState};
-ghost use Rattle.ov_cert.specs.Code.Tests.{entered, is_node_set};
+ghost use Rattle.ov_cert.specs.Code.Tests.{entered};
 ghost use Rattle.ov_cert.specs.Code.Flaws.{first_taken};
+ghost use Rattle.ov_cert.specs.Code.FrameFlaws.{order_flaw, set_flaw};
 
+use crate::frame_flaws::SetFlaw;
 use ov_graph::Graph;
 use ov_graph::row::{EMPTY, Row, has, put};
-use ov_ids::{NodeId, is_ascending};
+use ov_ids::NodeId;
 use std::marker::Model;
 
 /// A set of nodes of a graph, as a row with a bit for the place of each node. Allocates nothing. Contracts see the
@@ -78,18 +80,32 @@ impl<'g> NodeSet<'g> {
     }
 }
 
-/// The set of these ids. None if they do not ascend or are not all nodes.
-pub(crate) fn node_set<'g>(graph: &'g Graph, ids: &[NodeId]) -> Option<NodeSet<'g>>
-    ensures some { IfSome result (λ s. s ≡ record { graph = graph.now; members = ids.now }) }
-    ensures set { IfSome result (λ s. is_node_set graph.now ids.now ≡ true) }
-    ensures none { IfNone result (is_node_set graph.now ids.now ≡ false) }
+/// Why the id at a place is not above the id before it, if there is one.
+fn order_flaw(before: Option<NodeId>, at: usize, id: NodeId) -> Option<SetFlaw>
+    ensures { result ≡ order_flaw before at id }
 {
-    if !is_ascending(ids) {
-        return None;
+    match before {
+        Some(before) if id <= before => Some(SetFlaw::NotAbove { at, id, before }),
+        _ => None,
     }
+}
+
+/// The set of these ids. If they are no set of nodes in ascending order, the first id that does not fit.
+pub(crate) fn node_set<'g>(graph: &'g Graph, ids: &[NodeId]) -> Result<NodeSet<'g>, SetFlaw>
+    ensures set { IfOk result (λ s. s ≡ record { graph = graph.now; members = ids.now }) }
+    ensures none { IfOk result (λ _. set_flaw graph.now ids.now ≡ None) }
+    ensures flaw { IfErr result (λ flaw. set_flaw graph.now ids.now ≡ Some flaw) }
+{
     let mut set = NodeSet::new(graph);
-    match set.enter_all(ids) {
-        None => Some(set),
-        Some(_) => None,
+    let mut before = None;
+    for (at, id) in ids.iter().enumerate() {
+        if let Some(flaw) = order_flaw(before, at, *id) {
+            return Err(flaw);
+        }
+        if !set.enter(*id) {
+            return Err(SetFlaw::NoNode { at, id: *id });
+        }
+        before = Some(*id);
     }
+    Ok(set)
 }

@@ -1,82 +1,99 @@
-ghost use Rattle.std.specs.Prelude.{◌≡◌, ◌&&◌, ◌||◌, not, ℕ};
-ghost use Rattle.std.specs.List.{list_all};
+ghost use Rattle.std.specs.Prelude.{◌≡◌, ◌||◌, ℕ};
 ghost use Rattle.ov_ids.specs.Members.{Has, Ascends};
-ghost use Rattle.ov_ids.specs.Sets.{has};
-ghost use Rattle.ov_cert.specs.Code.Tests.{survives, ends_within, is_cut_off};
+ghost use Rattle.ov_graph.specs.Code.Tests.{neighbours_in};
+ghost use Rattle.ov_cert.specs.Code.FrameFlaws.{end_flaw, in_cut_flaw, way_out_of, way_out, side_flaw};
 
 use crate::cert::Split;
+use crate::frame_flaws::{EndFlaw, SideFlaw};
 use crate::node_set::{NodeSet, node_set};
 use ov_graph::{Graph, is_member};
 use ov_ids::NodeId;
 
-/// Whether the id is a member and not in the set.
-fn does_survive(group: &[NodeId], set: &NodeSet<'_>, id: NodeId) -> bool
+/// Why the id is no surviving member.
+fn end_flaw(group: &[NodeId], cut: &NodeSet<'_>, id: NodeId) -> Option<EndFlaw>
     requires { Ascends group.now }
-    ensures { result ≡ survives group.now set.now.members id }
+    ensures { result ≡ end_flaw group.now cut.now.members id }
 {
-    is_member(group, id) && !set.has(id)
+    if !is_member(group, id) {
+        return Some(EndFlaw::NoMember);
+    }
+    if cut.has(id) {
+        return Some(EndFlaw::InCut);
+    }
+    None
 }
 
-/// Whether none of the ids is in the set.
-fn are_outside(set: &NodeSet<'_>, ids: &[NodeId]) -> bool
-    ensures { result ≡ list_all (λ a. not (has set.now.members a)) ids.now }
+/// The first of the ids that is in the cut.
+fn in_cut_flaw(cut: &NodeSet<'_>, ids: &[NodeId]) -> Option<SideFlaw>
+    ensures { result ≡ in_cut_flaw cut.now.members 0 ids.now }
 {
-    for id in ids {
-        if set.has(*id) {
-            return false;
+    for (at, id) in ids.iter().enumerate() {
+        if cut.has(*id) {
+            return Some(SideFlaw::InCut { at, id: *id });
         }
     }
-    true
+    None
 }
 
-/// Whether each link of a node ends in the side or in the cut.
-fn does_end_within(graph: &Graph, side: &NodeSet<'_>, cut: &NodeSet<'_>, id: NodeId) -> bool
+/// The first link of a node that ends neither on the side nor in the cut.
+fn way_out_of(graph: &Graph, side: &NodeSet<'_>, cut: &NodeSet<'_>, id: NodeId) -> Option<SideFlaw>
     requires { Has graph.now.nodes id }
-    ensures { result ≡ ends_within graph.now side.now.members cut.now.members id }
+    ensures { result ≡ way_out_of side.now.members cut.now.members id
+        (neighbours_in graph.now.links id graph.now.nodes) }
 {
     for other in graph.neighbours(id) {
         if !side.has(other) && !cut.has(other) {
-            return false;
+            return Some(SideFlaw::WayOut(id, other));
         }
     }
-    true
+    None
 }
 
-/// Whether each link of each of these nodes ends in the side or in the cut.
-fn do_end_within(graph: &Graph, side: &NodeSet<'_>, cut: &NodeSet<'_>, ids: &[NodeId]) -> bool
+/// The first link of these nodes that ends neither on the side nor in the cut.
+fn way_out(graph: &Graph, side: &NodeSet<'_>, cut: &NodeSet<'_>, ids: &[NodeId]) -> Option<SideFlaw>
     requires { (a : ℕ) → Has ids.now a → Has graph.now.nodes a }
-    ensures { result ≡ list_all (λ a. ends_within graph.now side.now.members cut.now.members a) ids.now }
+    ensures { result ≡ way_out graph.now side.now.members cut.now.members ids.now }
 {
     for id in ids {
-        if !does_end_within(graph, side, cut, *id) {
-            return false;
+        if let Some(flaw) = way_out_of(graph, side, cut, *id) {
+            return Some(flaw);
         }
     }
-    true
+    None
 }
 
-/// Whether near and far are surviving members and the cut separates them. The side must have near and not far, and
-/// every link of a node of the side must end in the side or in the cut.
-pub(crate) fn is_side_cut_off(
+/// Why the side is not cut off. Near and far must be surviving members. The side must be a set of nodes outside the cut
+/// that has near and not far, and every link of a node of the side must end on the side or in the cut.
+pub(crate) fn side_flaw(
     graph: &Graph,
     group: &[NodeId],
     cut: &NodeSet<'_>,
     split: &Split,
-) -> bool
+) -> Option<SideFlaw>
     requires graph { cut.now.graph ≡ graph.now }
     requires group { Ascends group.now }
     requires cut { cut.now.members ≡ split.now.cut }
-    ensures { result ≡ is_cut_off graph.now group.now split.now }
+    ensures { result ≡ side_flaw graph.now group.now split.now }
 {
-    if !does_survive(group, cut, split.near) || !does_survive(group, cut, split.far) {
-        return false;
+    if let Some(flaw) = end_flaw(group, cut, split.near) {
+        return Some(SideFlaw::Near(flaw));
+    }
+    if let Some(flaw) = end_flaw(group, cut, split.far) {
+        return Some(SideFlaw::Far(flaw));
     }
     let ids = split.side.as_slice();
-    let Some(side) = node_set(graph, ids) else {
-        return false;
+    let side = match node_set(graph, ids) {
+        Ok(side) => side,
+        Err(flaw) => return Some(SideFlaw::NoSet(flaw)),
     };
-    if !are_outside(cut, ids) || !side.has(split.near) || side.has(split.far) {
-        return false;
+    if let Some(flaw) = in_cut_flaw(cut, ids) {
+        return Some(flaw);
     }
-    do_end_within(graph, &side, cut, ids)
+    if !side.has(split.near) {
+        return Some(SideFlaw::NearOff);
+    }
+    if side.has(split.far) {
+        return Some(SideFlaw::FarOn);
+    }
+    way_out(graph, &side, cut, ids)
 }

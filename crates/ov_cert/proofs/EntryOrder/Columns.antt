@@ -1,7 +1,7 @@
 -- The expected pairs: the computed list is the list of unlinked pairs among the first k members, and it is the only
 -- one.
 use Rattle.std.proofs.Common.{◌≡◌, ◌∙◌, ℕ, zero, suc, ◌+◌, ◌<◌, inl, inr, List, [], ◌∷◌, ◌++◌, length, take, drop}
-use Rattle.std.proofs.Common.{get_or, true, false, cond, refl, sym, ap, subst, arith, append_assoc, append-nil}
+use Rattle.std.proofs.Common.{get_or, slice_get, Some, None, true, false, cond, refl, sym, ap, subst, arith, append_assoc, append-nil}
 use Rattle.std.proofs.lemmas.Bool.{both_ways}
 use Rattle.std.proofs.lemmas.List.{take_more, at_drop_more}
 use Rattle.ov_ids.specs.Members.{Has, Ordered, Ascends}
@@ -137,12 +137,40 @@ pairs_after_at g xs i d l =
     ∙ ap (λ before. unlinked_before g (take i xs) (get_or xs i d) ++ pairs_after g before (drop (i + 1) xs))
     (sym (take_more xs i d l))
 
+first_of_front : {X : Type 0} (xs ys : List X) (x : X) → slice_get xs 0 ≡ Some x → slice_get (xs ++ ys) 0 ≡ Some x
+first_of_front [] ys x e = absurd cc
+first_of_front (y ∷ xs) ys x e = e
+
+first_of_back : {X : Type 0} (xs ys : List X) → slice_get xs 0 ≡ None → slice_get (xs ++ ys) 0 ≡ slice_get ys 0
+first_of_back [] ys e = refl
+first_of_back (y ∷ xs) ys e = absurd cc
+
+-- the first unlinked pair is one of the member j at place p, or else one of the later members
+module _ (g : LinkGraph) (xs : List ℕ) (p j : ℕ) where
+  abbrev later_pairs : List (ℕ × ℕ)
+  later_pairs = pairs_after g (take (p + 1) xs) (drop (p + 1) xs)
+
+  parted : p < length xs → j ≡ get_or xs p j → pairs_after g (take p xs) (drop p xs) ≡ unlinked_before g (take p xs) j
+      ++ later_pairs
+  parted l at = pairs_after_at g xs p j l ∙ ap (λ (x : ℕ). unlinked_before g (take p xs) x ++ later_pairs) (sym at)
+
+  pub first_in_column : (pair : ℕ × ℕ) → p < length xs → j ≡ get_or xs p j
+      → slice_get (unlinked_before g (take p xs) j) 0 ≡ Some pair
+      → slice_get (pairs_after g (take p xs) (drop p xs)) 0 ≡ Some pair
+  first_in_column pair l at e = ap (λ (ps : List (ℕ × ℕ)). slice_get ps 0) (parted l at)
+      ∙ first_of_front (unlinked_before g (take p xs) j) later_pairs pair e
+
+  pub first_after_column : p < length xs → j ≡ get_or xs p j → slice_get (unlinked_before g (take p xs) j) 0 ≡ None
+      → slice_get later_pairs 0 ≡ slice_get (pairs_after g (take p xs) (drop p xs)) 0
+  first_after_column l at e = sym (ap (λ (ps : List (ℕ × ℕ)). slice_get ps 0) (parted l at)
+      ∙ first_of_back (unlinked_before g (take p xs) j) later_pairs e)
+
 -- the same ascending list, with j counted as the last of the earlier nodes
 moved : (earlier : List ℕ) (j : ℕ) (rest : List ℕ) → Ascends (earlier ++ j ∷ rest)
     → Ascends ((earlier ++ j ∷ []) ++ rest)
 moved earlier j rest up = subst Ascends (sym (append_assoc earlier (j ∷ []) rest)) up
 
-after_sound : (g : LinkGraph) (earlier rest : List ℕ) (p : ℕ × ℕ) → Ascends (earlier ++ rest)
+pub after_sound : (g : LinkGraph) (earlier rest : List ℕ) (p : ℕ × ℕ) → Ascends (earlier ++ rest)
     → Has (pairs_after g earlier rest) p → Has (earlier ++ rest) p.0 × Has rest p.1 × (p.0 < p.1) × ¬ Linked g p.0 p.1
 after_sound g earlier [] p up h = absurd h
 after_sound g earlier (j ∷ rest) p up h = elim (has_append_cases (unlinked_before g earlier j)
@@ -156,7 +184,7 @@ after_sound g earlier (j ∷ rest) p up h = elim (has_append_cases (unlinked_bef
           (subst (λ (l : List ℕ). Has l p.0) (append_assoc earlier (j ∷ []) rest) r.0, inr r.1, r.2, r.3)
     ]
 
-after_complete : (g : LinkGraph) (earlier rest : List ℕ) (i j : ℕ) → Ascends (earlier ++ rest) → Has (earlier ++ rest) i
+pub after_complete : (g : LinkGraph) (earlier rest : List ℕ) (i j : ℕ) → Ascends (earlier ++ rest) → Has (earlier ++ rest) i
     → Has rest j → i < j → ¬ Linked g i j → Has (pairs_after g earlier rest) (i, j)
 after_complete g earlier [] i j up h k l n = absurd k
 after_complete g earlier (x ∷ rest) i j up h k l n = elim k [

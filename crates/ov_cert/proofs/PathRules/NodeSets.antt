@@ -2,7 +2,7 @@
 use Rattle.std.proofs.Common.{◌≡◌, ◌≢◌, ◌∙◌, ◌↔◌, ◌⊎◌, ℕ, ◌+◌, ◌<◌, Bool, true, false, ◌&&◌, not, cond, List, [], ◌∷◌}
 use Rattle.std.proofs.Common.{◌++◌, length, get_or, IsTrue, refl, sym, ap, subst, arith, inl, inr}
 use Rattle.std.proofs.lemmas.Bool.{le-ltb, lt-ltb, ne_eqb}
-use Rattle.std.specs.List.{AllByRecursion, list_all}
+use Rattle.std.specs.List.{AllByRecursion}
 use Rattle.ov_ids.specs.Members.{Has, Ascends}
 use Rattle.ov_ids.specs.Sets.{has, adding}
 use Rattle.ov_ids.proofs.Members.{has_tested, has_place, same_ascending}
@@ -15,7 +15,6 @@ use Rattle.ov_graph.specs.declared.row.TheConstants.{EMPTY}
 use Rattle.ov_graph.proofs.BitRows.Bits.{bit_moved, empty_bit}
 use Rattle.ov_graph.proofs.BitRows.Read.{picked_at, has_picked, ascends_picked, none_picked}
 use Rattle.ov_cert.specs.Code.Kept.{NodeSetState}
-use Rattle.ov_cert.specs.Code.Tests.{fresh, entered}
 use Rattle.ov_cert.proofs.PathRules.Ends.{same_test}
 use Rattle.ov_cert.proofs.PathRules.Fresh.{adding_new, adding_old, adding_cases}
 
@@ -71,57 +70,18 @@ stranger_unmarked row nodes x away = stranger_out (picked row 0 nodes) x (λ h. 
 pub node_in : (xs : List ℕ) (p : ℕ) → p < length xs → has xs (get_or xs p 0) ≡ true
 node_in xs p l = (has_tested xs (get_or xs p 0) (has xs (get_or xs p 0)) refl).1 (has_place xs p 0 l)
 
--- ids that ascend and lie above the set are added one after another
-adding_last : (used : List ℕ) (x : ℕ) → AllByRecursion (λ y. y < x) used → adding x used ≡ used ++ x ∷ []
+-- an id that is above all of the set is added at its end
+pub adding_last : (used : List ℕ) (x : ℕ) → AllByRecursion (λ y. y < x) used → adding x used ≡ used ++ x ∷ []
 adding_last [] x a = refl
 adding_last (y ∷ used) x a = adding_above y x used a.0 ∙ ap (λ t. y ∷ t) (adding_last used x a.1)
 
-not_above : (used : List ℕ) (x : ℕ) → AllByRecursion (λ y. y < x) used → has used x ≡ false
+pub not_above : (used : List ℕ) (x : ℕ) → AllByRecursion (λ y. y < x) used → has used x ≡ false
 not_above [] x a = refl
 not_above (y ∷ used) x a = rw (ne_eqb y x (let l = a.0 in omega (arith, l)), not_above used x a.1) refl
 
-all_append : (P : ℕ → Type 0) (xs : List ℕ) (x : ℕ) → AllByRecursion P xs → P x → AllByRecursion P (xs ++ x ∷ [])
+pub all_append : (P : ℕ → Type 0) (xs : List ℕ) (x : ℕ) → AllByRecursion P xs → P x → AllByRecursion P (xs ++ x ∷ [])
 all_append P [] x a p = (p, tt)
 all_append P (y ∷ xs) x a p = (a.0, all_append P xs x a.1 p)
-
-all_below : (x y : ℕ) (xs : List ℕ) → x < y → AllByRecursion (λ z. z < x) xs → AllByRecursion (λ z. z < y) xs
-all_below x y [] l a = tt
-all_below x y (z ∷ xs) l a = (let m = a.0 in omega (arith, m, l), all_below x y xs l a.1)
-
--- each member of `used` is below each of these ids
-abbrev AllBelow : List ℕ → List ℕ → Type 0
-AllBelow used [] = Unit {0}
-AllBelow used (x ∷ xs) = AllByRecursion (λ y. y < x) used × AllBelow used xs
-
-below_more : (used xs : List ℕ) (x : ℕ) → AllByRecursion (λ y. x < y) xs → AllBelow used xs
-    → AllBelow (used ++ x ∷ []) xs
-below_more used [] x a b = tt
-below_more used (y ∷ xs) x a b = (all_append (λ z. z < y) used x b.0 a.0, below_more used xs x a.1 b.1)
-
-entered_ascending : (g : LinkGraph) (used xs : List ℕ) → Ascends xs → AllBelow used xs
-    → (fresh g used xs ≡ list_all (λ x. has g.nodes x) xs) × (entered used xs ≡ used ++ xs)
-entered_ascending g used [] up b = (refl, append_nil used)
-  where
-    append_nil : (xs : List ℕ) → xs ≡ xs ++ []
-    append_nil [] = refl
-    append_nil (x ∷ xs) = ap (λ t. x ∷ t) (append_nil xs)
-entered_ascending g used (x ∷ xs) up b =
-    let e = adding_last used x b.0 in
-    let r = entered_ascending g (used ++ x ∷ []) xs up.1 (below_more used xs x up.0 b.1) in
-    (rw (not_above used x b.0, e, r.0) refl, rw (e, r.1) (append_one used x xs))
-  where
-    append_one : (xs : List ℕ) (x : ℕ) (ys : List ℕ) → (xs ++ x ∷ []) ++ ys ≡ xs ++ x ∷ ys
-    append_one [] x ys = refl
-    append_one (y ∷ xs) x ys = ap (λ t. y ∷ t) (append_one xs x ys)
-
-none_below : (xs : List ℕ) → AllBelow [] xs
-none_below [] = tt
-none_below (x ∷ xs) = (tt, none_below xs)
-
--- ascending ids are added to the empty set exactly if all are nodes; the set then consists of these ids
-pub entered_set : (g : LinkGraph) (xs : List ℕ) → Ascends xs → (fresh g [] xs ≡ list_all (λ x. has g.nodes x) xs)
-    × (entered [] xs ≡ xs)
-entered_set g xs up = entered_ascending g [] xs up (none_below xs)
 
 -- a node and its place
 pub record AtPlace (nodes row : List ℕ) (p id : ℕ) : Type 0 where

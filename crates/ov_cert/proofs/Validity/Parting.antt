@@ -1,22 +1,25 @@
 -- The tests of a cut and its side are equivalent to the relations. A cut whose side is cut off splits the group.
-use Rattle.std.proofs.Common.{◌≡◌, ◌≢◌, ◌∙◌, ◌↔◌, ◌⊎◌, ℕ, zero, suc, ◌<◌, length, eqb, inl, inr, List, [], ◌∷◌, Bool}
-use Rattle.std.proofs.Common.{true, false, not, ◌&&◌, ◌||◌, IsTrue, None, refl, sym, ap, subst, arith}
-use Rattle.std.proofs.lemmas.Bool.{ne_eqb, and_parts, and_from, or_cases, or_left, or_right, both_ways}
+use Rattle.std.proofs.Common.{◌≡◌, ◌≢◌, ◌↔◌, ◌⊎◌, ℕ, zero, suc, ◌<◌, length, eqb, inl, inr, List, [], ◌∷◌, Bool}
+use Rattle.std.proofs.Common.{true, false, not, ◌&&◌, ◌||◌, IsTrue, None, is_none, slice_get, nat_lt, ◌≤◌, refl, ap}
+use Rattle.std.proofs.Common.{subst, arith}
+use Rattle.std.proofs.lemmas.Bool.{ne_eqb, and_parts, and_from, or_cases, or_left, or_right, both_ways, ltb-true, ltb-false}
 use Rattle.std.specs.List.{list_all}
-use Rattle.ov_ids.specs.Members.{Has, Ordered, Ascends}
+use Rattle.ov_ids.specs.Members.{Has, Ascends}
 use Rattle.ov_ids.specs.Sets.{has}
 use Rattle.ov_ids.specs.Ascending.{ascends_after}
-use Rattle.ov_ids.proofs.Members.{has_tested, all_member, all_from_members}
+use Rattle.ov_ids.proofs.Members.{has_tested}
 use Rattle.ov_ids.proofs.Rising.{ascends_tested}
 use Rattle.ov_graph.specs.Links.{LinkGraph, IsGraph, IsGroup, Linked, AreAllLinked}
 use Rattle.ov_graph.specs.Joined.{Survives, Joined, IsNodeSet, SplitsGroup}
-use Rattle.ov_graph.specs.Code.Tests.{are_joined, neighbours_in}
-use Rattle.ov_graph.proofs.EvenTest.Tested.{joined_tested}
+use Rattle.ov_graph.specs.Code.Tests.{neighbours_in}
+use Rattle.ov_graph.proofs.EvenTest.Tested.{linked_or_not}
 use Rattle.ov_graph.proofs.EvenTest.Filtered.{are_neighbours}
 use Rattle.ov_graph.proofs.EvenTest.Walks.{linked_sym, joined_keeps}
 use Rattle.ov_cert.specs.declared.cert.Split.{Split}
 use Rattle.ov_cert.specs.Valid.{IsCutOff}
 use Rattle.ov_cert.specs.Code.Tests.{is_node_set, is_group, survives, ends_within, is_cut_off, all_linked}
+use Rattle.ov_cert.specs.Code.Tests.{pairs_after}
+use Rattle.ov_cert.proofs.EntryOrder.Columns.{after_sound, after_complete}
 
 -- the tests of two facts combined
 pub and_tested : {P Q : Type 0} (a b : Bool) → (IsTrue a ↔ P) → (IsTrue b ↔ Q) → IsTrue (a && b) ↔ P × Q
@@ -126,50 +129,38 @@ cut_off_tested g q c graph =
       )),
     )
 
--- every two nodes of a list are related in one direction or the other, or are equal
-pub either_way : {X : Type 0} (R : X → X → Type 0) (xs : List X) (a b : X) → Ordered R xs → Has xs a → Has xs b
-    → (a ≡ b) ⊎ (R a b ⊎ R b a)
-either_way R [] a b up h k = absurd h
-either_way R (x ∷ xs) a b up h k = elim h [
-  | inl e ↦ elim k [
-    | inl f ↦ inl (sym e ∙ f)
-    | inr m ↦ inr (inl (subst (λ z. R z b) e (all_member (R x) xs b up.0 m)))
-  ]
-  | inr m ↦ elim k [
-    | inl f ↦ inr (inr (subst (λ z. R z a) f (all_member (R x) xs a up.0 m)))
-    | inr n ↦ either_way R xs a b up.1 m n
-  ]
-]
+-- a list without a first item has no members
+none_in : {X : Type 0} (xs : List X) (x : X) → is_none (slice_get xs 0) ≡ true → ¬ Has xs x
+none_in [] x t h = h
+none_in (y ∷ ys) x t h = let e : false ≡ true = t in absurd cc
 
-linked_tested : (g : LinkGraph) (xs : List ℕ) → IsTrue (all_linked g xs) ↔ Ordered (Linked g) xs
-linked_tested g [] = ((λ h. tt), (λ h. refl))
-linked_tested g (a ∷ rest) =
-    let each = all_tested (λ b. are_joined g.links a b) (Linked g a) rest
-    (λ b. joined_tested g a b (are_joined g.links a b) refl) in
-    let r = and_tested (list_all (λ b. are_joined g.links a b) rest) (all_linked g rest) each
-    (linked_tested g rest) in (
-      (λ h. let p = r.0 h in (all_from_members (Linked g a) rest p.0, p.1)),
-      (λ h. r.1 ((λ b k. all_member (Linked g a) rest b h.0 k), h.1)),
-    )
+no_first : {X : Type 0} (xs : List X) → ((x : X) → ¬ Has xs x) → is_none (slice_get xs 0) ≡ true
+no_first [] none = refl
+no_first (y ∷ ys) none = absurd (none y (inl refl))
 
-each_linked : (g : LinkGraph) (xs : List ℕ) → Ascends xs → ((a b : ℕ) → Has xs a → Has xs b → a ≢ b → Linked g a b)
-    → Ordered (Linked g) xs
-each_linked g [] up all = tt
-each_linked g (x ∷ xs) up all = (
-  all_from_members (Linked g x) xs (λ y h. all x y (inl refl) (inr h)
-      (let l : x < y = all_member (λ z. x < z) xs y up.0 h in omega (arith, l))),
-  each_linked g xs up.1 (λ a b h k. all a b (inr h) (inr k)),
-)
-
+-- there is no first unlinked pair exactly if every two members are linked
 pub all_linked_tested : (g : LinkGraph) (q : List ℕ) → Ascends q → IsTrue (all_linked g q) ↔ AreAllLinked g q
 all_linked_tested g q up =
-    let r = linked_tested g q in (
-      (λ t a b h k n. elim (either_way (Linked g) q a b (r.0 t) h k) [
-        | inl e ↦ absurd (n e)
-        | inr w ↦ elim w [ inl l ↦ l | inr l ↦ linked_sym g b a l ]
+    let pairs = pairs_after g [] q in
+    let upward : is_none (slice_get pairs 0) ≡ true → (a b : ℕ) → Has q a → Has q b → a < b → Linked g a b =
+    λ t a b h k l. elim (linked_or_not g a b) [
+      | inl linked ↦ linked
+      | inr n ↦ absurd (none_in pairs (a, b) t (after_complete g [] q a b up h k l n))
+    ] in (
+      (λ t a b h k n. elim (below_or_not a b) [
+        | inl l ↦ upward t a b h k l
+        | inr m ↦ linked_sym g b a (upward t b a k h (omega (arith, m, n)))
       ]),
-      (λ all. r.1 (each_linked g q up all)),
+      (λ all. no_first pairs (λ p h.
+          let r = after_sound g [] q p up h in
+          r.3 (all p.0 p.1 r.0 r.1 (λ e. let l = r.2 in omega (arith, l, e))))),
     )
+  where
+    below_or_not : (a b : ℕ) → (a < b) ⊎ (b ≤ a)
+    below_or_not a b = elim (nat_lt a b) as (λ t. nat_lt a b ≡ t → (a < b) ⊎ (b ≤ a)) [
+      | true ↦ λ on. inl (ltb-true a b on)
+      | false ↦ λ off. inr (ltb-false a b off)
+    ] refl
 
 -- near and far are different
 pub near_is_not_far : (g : LinkGraph) (q : List ℕ) (c : Split) → IsCutOff g q c → c.near ≢ c.far

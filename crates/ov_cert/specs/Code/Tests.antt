@@ -1,7 +1,8 @@
 -- The verdict as tests that compute. The code is proved against these tests. Each test is equivalent to a relation of
 -- `Valid` or `Verdict`.
 use Rattle.std.specs.Prelude.{ℕ, suc, ◌+◌, ◌&&◌, ◌||◌, ◌==◌, nat_lt, not, Bool, true, false, List, [], ◌∷◌, ◌++◌}
-use Rattle.std.specs.Prelude.{◌≡◌, length, take, slice_get, if◌then◌else◌, Option, Some, None, Result, MatchResult}
+use Rattle.std.specs.Prelude.{◌≡◌, length, take, slice_get, if◌then◌else◌, Option, Some, None, is_none, Result}
+use Rattle.std.specs.Prelude.{MatchResult}
 use Rattle.std.specs.List.{list_all}
 use Rattle.ov_ids.specs.Sets.{has, adding}
 use Rattle.ov_ids.specs.Ascending.{ascends_after}
@@ -145,11 +146,10 @@ is_cut_off g q c =
 
 -- whether every two nodes of the list are linked
 abbrev pub all_linked : LinkGraph → List ℕ → Bool
-all_linked g [] = true
-all_linked g (a ∷ rest) = list_all (λ b. are_joined g.links a b) rest && all_linked g rest
+all_linked g q = is_none (slice_get (pairs_after g [] q) 0)
 
--- the earlier of two faults, if there is one
-abbrev pub first : Option CheckFault → Option CheckFault → Option CheckFault
+-- the earlier of two faults, if there is one; the same of flaws
+abbrev pub first : {X : Type 0} → Option X → Option X → Option X
 first None later = later
 first (Some e) later = Some e
 

@@ -1,8 +1,14 @@
--- A group ascends.
-use Rattle.std.proofs.Common.{◌∙◌, sym}
-use Rattle.ov_cert.proofs.Validity.Parting.{group_tested}
+-- The fault of the flaw is the fault by tests.
+use Rattle.std.proofs.Common.{◌∙◌, Some, option_map, ap}
+use Rattle.ov_cert.specs.FrameFlaws.{flaw_fault}
+use Rattle.ov_cert.proofs.Validity.FrameFlaws.{fault_of_flaw}
 use Rattle.ov_cert.proofs.frame.frame_fault.Goals as goal
 
-pub fault_of_split-requires : goal.fault_of_split-requires
-fault_of_split-requires c = ((group_tested c.args.graph.now c.args.group.now).0
-    (sym c.is_group.ensures ∙ c.if-not-is_group.false)).ascends
+pub returns-in-Some-clause-fault : goal.returns-in-Some-clause-fault
+returns-in-Some-clause-fault c =
+    ap Some c.fault.ensures ∙ ap (option_map flaw_fault) c.in-Some.ensures.flaw
+    ∙ fault_of_flaw c.args.graph.now c.args.group.now c.args.cert.now
+
+pub returns-in-None-clause-fault : goal.returns-in-None-clause-fault
+returns-in-None-clause-fault c = ap (option_map flaw_fault) c.in-None.ensures.flaw
+    ∙ fault_of_flaw c.args.graph.now c.args.group.now c.args.cert.now
