@@ -93,6 +93,12 @@ refused_alike bytes r (Err e) said made = tt
 refused_alike bytes r (Ok o) said made = λ u is.
     subst (AreAlike u) (sym made.0) (one_outcome bytes u (Refused r) is (said made.1))
 
+-- bytes have no other outcome than this one
+pub others_alike : {E : Type 0} (bytes : List ℕ) (result : Result Outcome E) → IfOk result (λ o. IsOutcome bytes o)
+    → IfOk result (λ o. (u : Outcome) → IsOutcome bytes u → AreAlike u o)
+others_alike bytes (Err e) is = tt
+others_alike bytes (Ok o) is = λ u other. one_outcome bytes u o other is
+
 pub refused_outcome : {E : Type 0} (bytes : List ℕ) (r : Refusal) (result : Result Outcome E)
     → (r.fault ≢ OutOfMemory → IsRefused bytes r)
     → IfOk result (λ o. (o ≡ Refused r) × (r.fault ≢ OutOfMemory))

@@ -1,5 +1,5 @@
 -- The outcome of the bytes of a certificate file.
-use Rattle.std.specs.Prelude.{◌≡◌, ◌⊎◌, ℕ, List, Some, IfSome, Result, Ok, Err, IsUtf8}
+use Rattle.std.specs.Prelude.{◌≡◌, ◌⊎◌, ℕ, List, Some, None, MatchOption, Result, Ok, Err, IsUtf8}
 use Rattle.serde_json.specs.Read.{read}
 use Rattle.serde_json.specs.View.{view}
 use Rattle.ov_graph.specs.Joined.{FewestForGroup}
@@ -18,10 +18,14 @@ abbrev pub BytesSay : List ℕ → Result Filed FileFault → Type 0
 BytesSay bytes answer =
     (IsUtf8 bytes × SaysText bytes answer) ⊎ ((¬ IsUtf8 bytes) × (kind_in answer ≡ Err NotJson))
 
--- the bytes are refused with their first fault, and the JSON value that is kept is the one in them
+-- no JSON value is in the bytes: they are not text, or the text is not JSON
+abbrev pub HasNoJson : List ℕ → Type 0
+HasNoJson bytes = (¬ IsUtf8 bytes) ⊎ (read bytes ≡ None)
+
+-- the bytes are refused with their first fault. The JSON value in them is kept, if there is one
 pub record IsRefused (bytes : List ℕ) (r : Refusal) : Type 0 where
   pub says : BytesSay bytes (Err r.fault)
-  pub value : IfSome r.value (λ value. read bytes ≡ Some (view value))
+  pub value : MatchOption r.value (HasNoJson bytes) (λ value. read bytes ≡ Some (view value))
 
 -- The bytes are a certificate file, and its certificate is valid for its group; or the certificate has this first
 -- fault. Bytes that are not a certificate file are refused with their first fault.

@@ -1,4 +1,4 @@
-ghost use Rattle.std.specs.Prelude.{◌≡◌, ◌≢◌, List, ℕ, Some, IfSome, Ok, Err, IfOk, MatchResult};
+ghost use Rattle.std.specs.Prelude.{◌≡◌, ◌≢◌, List, ℕ, Some, None, Ok, Err, IfOk, MatchOption, MatchResult};
 ghost use Rattle.serde_json.specs.Read.{read};
 ghost use Rattle.serde_json.specs.View.{view};
 ghost use Rattle.ov_certfile.specs.Says.{SaysFile, SaysText};
@@ -67,6 +67,7 @@ pub(crate) fn outcome_parallel(
     bytes: &[u8],
 ) -> Result<Outcome, OutOfMemory>
     ensures outcome { IfOk result (λ o. IsOutcome bytes.now o) }
+    ensures only { IfOk result (λ o. (u : Outcome) → IsOutcome bytes.now u → AreAlike u o) }
     ensures exact { IfOk result (λ o. status_of o ≡ 0 → SaysExactNumber bytes.now) }
 {
     match filed_in(rt.alloc(), bytes) {
@@ -94,7 +95,7 @@ fn filed_in(alloc: Global, bytes: &[u8]) -> Result<Filed, Refusal>
 fn filed_in_text(alloc: Global, text: &str) -> Result<Filed, Refusal>
     ensures { MatchResult result (λ filed. SaysText text.now (Ok filed))
         (λ refusal. refusal.fault ≢ FileFault.OutOfMemory → SaysText text.now (Err refusal.fault)
-        × IfSome refusal.value (λ value. read text.now ≡ Some (view value))) }
+        × MatchOption refusal.value (read text.now ≡ None) (λ value. read text.now ≡ Some (view value))) }
 {
     match json_in(alloc, text) {
         Ok(value) => filed_in_value(alloc, value),
@@ -106,7 +107,7 @@ fn filed_in_text(alloc: Global, text: &str) -> Result<Filed, Refusal>
 fn filed_in_value(alloc: Global, value: Value) -> Result<Filed, Refusal>
     ensures { MatchResult result (λ filed. SaysFile (view value) (Ok filed))
         (λ refusal. refusal.fault ≢ FileFault.OutOfMemory → SaysFile (view value) (Err refusal.fault)
-        × IfSome refusal.value (λ kept. kept ≡ value)) }
+        × (refusal.value ≡ Some value)) }
 {
     match from_value(alloc, &value) {
         Ok(filed) => Ok(filed),

@@ -1,12 +1,11 @@
 use crate::fault_phrases::{name_fault, name_refusal};
 use crate::file_words::tell_refusal;
-use crate::frame_words::{tell_count, tell_group, tell_ids, tell_side, tell_unlinked};
+use crate::frame_words::tell_frame;
 use crate::wrong_entries::{tell_entry, tell_extra};
-use ov_cert::{Cert, CheckFault, Split};
+use ov_cert::{Cert, CheckFault};
 use ov_certfile::Filed;
 use ov_check::Outcome;
-use ov_graph::Graph;
-use ov_ids::{NodeId, OutOfMemory};
+use ov_ids::OutOfMemory;
 use std::alloc::Global;
 
 /// Why the outcome of a file is not that its certificate holds, in one line without a line feed: the fault in words,
@@ -43,45 +42,11 @@ fn tell_fault(
 ) -> Result<(), OutOfMemory> {
     let graph = &filed.graph;
     let group = filed.group.as_slice();
-    match &filed.cert {
-        Cert::Linked { k } => tell_linked(text, graph, group, *k, fault),
-        Cert::Split(split) => tell_split(alloc, text, graph, group, split, fault),
-    }
-}
-
-fn tell_linked(
-    text: &mut String,
-    graph: &Graph,
-    group: &[NodeId],
-    k: u32,
-    fault: CheckFault,
-) -> Result<(), OutOfMemory> {
-    match fault {
-        CheckFault::BadGroup => tell_group(text, graph, group),
-        CheckFault::Count => tell_count(text, k, "members", group.len()),
-        CheckFault::NotLinked => tell_unlinked(text, graph, group),
-        _ => Ok(()),
-    }
-}
-
-fn tell_split(
-    alloc: Global,
-    text: &mut String,
-    graph: &Graph,
-    group: &[NodeId],
-    split: &Split,
-    fault: CheckFault,
-) -> Result<(), OutOfMemory> {
-    let cut = split.cut.as_slice();
-    match fault {
-        CheckFault::BadGroup => tell_group(text, graph, group),
-        CheckFault::Count => tell_count(text, split.k, "nodes of the cut", cut.len()),
-        CheckFault::Cut => tell_ids(text, graph, "cut", cut),
-        CheckFault::Side => tell_side(text, graph, group, split),
-        CheckFault::Pair { .. } | CheckFault::Fan { .. } => {
+    match (&filed.cert, fault) {
+        (Cert::Split(split), CheckFault::Pair { .. } | CheckFault::Fan { .. }) => {
             tell_entry(alloc, text, graph, group, split, fault)
         }
-        CheckFault::Extra => tell_extra(alloc, text, graph, group, split),
-        _ => Ok(()),
+        (Cert::Split(split), CheckFault::Extra) => tell_extra(alloc, text, graph, group, split),
+        (cert, _) => tell_frame(text, graph, group, cert),
     }
 }

@@ -1,15 +1,15 @@
 -- What is wrong with the frame: the flaw that is found is one of the fault that is found, and one that the certificate
 -- has.
-use Rattle.std.proofs.Common.{◌≡◌, ◌≢◌, ◌∙◌, ◌↔◌, ◌⊎◌, ℕ, zero, suc, ◌+◌, inl, inr, Bool, true, false, ◌&&◌, ◌||◌}
+use Rattle.std.proofs.Common.{◌≡◌, ◌≢◌, ◌∙◌, ◌↔◌, ◌⊎◌, ℕ, suc, ◌+◌, inl, inr, Bool, true, false, ◌&&◌, ◌||◌}
 use Rattle.std.proofs.Common.{not, cond, eqb, List, [], ◌∷◌, length, slice_get, Option, Some, None, is_none, option_map}
-use Rattle.std.proofs.Common.{IsNone, IfSome, IsTrue, refl, sym, ap, ap₂, subst, arith}
+use Rattle.std.proofs.Common.{IsNone, IfSome, refl, sym, ap, ap₂, subst, arith}
 use Rattle.std.proofs.lemmas.Bool.{both_ways, eqb-true, eq-eqb, or_left, or_right}
 use Rattle.std.proofs.lemmas.Option.{same_Some, none-some}
 use Rattle.std.specs.List.{list_all}
 use Rattle.ov_ids.specs.Members.{Has, Ascends}
 use Rattle.ov_ids.specs.Sets.{has}
 use Rattle.ov_ids.proofs.Members.{has_tested}
-use Rattle.ov_graph.specs.Links.{LinkGraph, IsGraph, Linked}
+use Rattle.ov_graph.specs.Links.{LinkGraph, IsGraph}
 use Rattle.ov_graph.specs.Joined.{IsNodeSet}
 use Rattle.ov_graph.specs.Code.Tests.{neighbours_in}
 use Rattle.ov_graph.proofs.EvenTest.Filtered.{are_neighbours}
@@ -18,17 +18,16 @@ use Rattle.ov_cert.specs.declared.cert.Cert.TheVariants as cert
 use Rattle.ov_cert.specs.declared.cert.Split.{Split}
 use Rattle.ov_cert.specs.declared.fault.CheckFault.{CheckFault}
 use Rattle.ov_cert.specs.declared.fault.CheckFault.TheVariants as fault
-use Rattle.ov_cert.specs.declared.frame_flaws.SetFlaw.{SetFlaw}
 use Rattle.ov_cert.specs.declared.frame_flaws.EndFlaw.{EndFlaw}
 use Rattle.ov_cert.specs.declared.frame_flaws.EndFlaw.TheVariants as end
 use Rattle.ov_cert.specs.declared.frame_flaws.SideFlaw.{SideFlaw}
 use Rattle.ov_cert.specs.declared.frame_flaws.SideFlaw.TheVariants.{Near, Far, NoSet, InCut, NearOff, FarOn, WayOut}
 use Rattle.ov_cert.specs.declared.frame_flaws.FrameFlaw.{FrameFlaw}
-use Rattle.ov_cert.specs.declared.frame_flaws.FrameFlaw.TheVariants.{NoNodes, NoMember, Group, Count, NotLinked, Cut}
+use Rattle.ov_cert.specs.declared.frame_flaws.FrameFlaw.TheVariants.{NoNodes, NoMember, Group, Count, Cut}
 use Rattle.ov_cert.specs.declared.frame_flaws.FrameFlaw.TheVariants.{Side}
 use Rattle.ov_cert.specs.Verdict.{PassesFrame, IsFrameFault}
 use Rattle.ov_cert.specs.FrameFlaws.{flaw_fault, HasEndFlaw, HasSideFlaw, HasFrameFlaw}
-use Rattle.ov_cert.specs.Code.Tests.{survives, ends_within, is_cut_off, is_node_set, is_group, all_linked, pairs_after}
+use Rattle.ov_cert.specs.Code.Tests.{survives, ends_within, is_cut_off, is_node_set, all_linked, pairs_after}
 use Rattle.ov_cert.specs.Code.Tests.{first, body_fault, frame_fault}
 use Rattle.ov_cert.specs.Code.FrameFlaws.{set_flaw, end_flaw, in_cut_flaw, way_out_of, way_out, parting_flaw, side_flaw}
 use Rattle.ov_cert.specs.Code.FrameFlaws.{unlinked, body_flaw, frame_flaw}

@@ -1,5 +1,5 @@
 -- The function goes over the same neighbours as the loop.
-use Rattle.std.proofs.Common.{◌≡◌, ◌∙◌, ℕ, List, Bool, true, false, ◌||◌, cond, Option, Some, None, refl, sym, ap}
+use Rattle.std.proofs.Common.{◌≡◌, ◌∙◌, Bool, false, ◌||◌, cond, Option, Some, refl, sym, ap}
 use Rattle.ov_ids.specs.Sets.{has}
 use Rattle.ov_graph.proofs.EvenTest.Filtered.{neighbours_one}
 use Rattle.ov_cert.specs.declared.frame_flaws.SideFlaw.{SideFlaw}
