@@ -1,5 +1,5 @@
 -- Paths given by their ends.
-use Rattle.std.proofs.Common.{◌≡◌, ◌∙◌, ◌↔◌, ℕ, Bool, true, false, ◌&&◌, not, IsTrue, List, [], ◌∷◌, ◌++◌}
+use Rattle.std.proofs.Common.{◌≡◌, ◌∙◌, ◌↔◌, ℕ, Bool, true, false, not, IsTrue, List, [], ◌∷◌, ◌++◌}
 use Rattle.std.proofs.Common.{refl, ap}
 use Rattle.ov_cert.specs.Code.Tests.{without_last, last_of, inner}
 
@@ -29,8 +29,3 @@ not_false false h = absurd cc
 pub not_true : (b : Bool) → not b ≡ true → b ≡ false
 not_true true h = absurd cc
 not_true false h = refl
-
--- if the earlier tests pass, the last test decides
-pub all_seven : (p q r s t u v b : Bool) → p ≡ true → q ≡ true → r ≡ true → s ≡ true → t ≡ true → u ≡ true → b ≡ v
-    → b ≡ (p && (q && (r && (s && (t && (u && v))))))
-all_seven p q r s t u v b hp hq hr hs ht hu e = rw (hp, hq, hr, hs, ht, hu) e
