@@ -2,7 +2,9 @@
 pub mod FirstCut
 pub mod Slotted
 pub mod Trials
+pub mod Failing
 pub mod Narrowing
+pub mod Tries
 pub mod Named
 pub mod Entered
 pub mod Assembling

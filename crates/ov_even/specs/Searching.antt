@@ -1,9 +1,13 @@
--- The search for the level of the deciding piece, after a level was tried.
-use Rattle.std.specs.Prelude.{◌≡◌, ◌<◌}
+-- The search for the level of the deciding piece: how many levels it tries, and what it has after a level was tried.
+use Rattle.std.specs.Prelude.{◌≡◌, ℕ, ◌+◌, ◌*◌, ◌^◌, ◌<◌, ◌≤◌}
 use Rattle.ov_even.specs.Hauls.{Suffice}
 use Rattle.ov_even.specs.Levels.{SearchState}
 use Rattle.ov_even.specs.declared.level_search.Searched.{Searched}
 use Rattle.ov_even.specs.declared.level_search.Searched.TheVariants.{Enough, Again}
+
+-- so many tries are few for n nodes: at most 2 k + 1 if there are fewer than 2^k nodes, so at most 2 log2 n + 3
+abbrev pub AreFewTries : ℕ → ℕ → Type 0
+AreFewTries n tries = (k : ℕ) → n < 2 ^ k → tries ≤ 2 * k + 1
 
 -- the search goes on, for the same graph and group, with a lower bound on how many levels are still tried
 pub record SearchGoesOn (s next : SearchState) : Type 0 where

@@ -4,6 +4,7 @@ ghost use Rattle.std.specs.Option.{option_copied};
 ghost use Rattle.ov_fans.specs.Theorems.{IsNoCut};
 ghost use Rattle.ov_fans.specs.declared.settled.Settled.{Settled as settled};
 ghost use Rattle.ov_even.specs.Code.Cuts.{IsEarlierCut, IsFirstCut, all_settled};
+ghost use Rattle.ov_even.specs.Code.Narrowing.{IsCutOf};
 
 use crate::piece_order::comes_before;
 use crate::worker_haul::Haul;
@@ -49,7 +50,7 @@ fn is_earlier_cut(settled: &Settled, first: Option<&Settled>) -> bool
 
 /// The size of the cut of a piece, if it has one.
 pub(crate) fn cut_size(settled: &Settled) -> Option<usize>
-    ensures some { IfSome result (λ size. ¬ IsNoCut settled.now.found) }
+    ensures some { IfSome result (IsCutOf settled.now.found) }
     ensures none { IfNone result (IsNoCut settled.now.found) }
 {
     match &settled.found {

@@ -1,13 +1,14 @@
 //! The search for the level of the deciding piece. A certificate needs only that level and the one below it. Other
-//! levels are tried only to find it: levels are doubled first, and the size of a cut that was found then guides the
-//! search.
-ghost use Rattle.std.specs.Prelude.{◌≡◌, ◌<◌, ◌≤◌, ◌+◌, ◌++◌, length, IfOk, IfSome, IfNone};
+//! levels are tried only to find it: levels are about doubled first, and then those between a good level and one that is
+//! not good are halved.
+ghost use Rattle.std.specs.Prelude.{◌≡◌, ◌<◌, ◌≤◌, ◌+◌, ◌++◌, Bool, length, IfOk, IfSome, IfNone};
 ghost use Rattle.ov_graph.specs.Links.{IsGraph, IsWithinLimit, IsGroup, AreAllLinked, most_nodes};
 ghost use Rattle.ov_even.specs.Hauls.{AreRight, Suffice};
 ghost use Rattle.ov_even.specs.Levels.{IsTried};
-ghost use Rattle.ov_even.specs.Searching.{IsSearched};
-ghost use Rattle.ov_even.specs.Code.Narrowing.{HasDeciding, AreBounds, IsBetween, HasCutWithin, tries_left};
+ghost use Rattle.ov_even.specs.Searching.{AreFewTries, IsSearched};
+ghost use Rattle.ov_even.specs.Code.Narrowing.{HasDeciding, AreBounds, IsNext, HasCutWithin, HasCutOf, tries_left};
 
+use crate::failing_level::failing_level;
 use crate::first_piece_with_cut::{cut_size, first_cut};
 use crate::level_trying::try_level;
 use crate::progress_watcher::Watcher;
@@ -29,15 +30,17 @@ pub struct LevelSearch<'a> {
     low: usize,
     /// The level to try next.
     level: usize,
-    /// The deciding level is guessed to be at most this.
+    /// This level is not good.
     high: usize,
+    /// No level just below `high` has been tried in vain.
+    guesses: bool,
     kept: Vec<Haul>,
 }
 
 impl<'a> Model for LevelSearch<'a> {
     ghost use Rattle.std.specs.Prelude.{length};
     ghost use Rattle.ov_even.specs.Levels.{SearchState};
-    ghost use Rattle.ov_even.specs.Code.Narrowing.{HasDeciding, AreBounds, IsBetween, tries_left};
+    ghost use Rattle.ov_even.specs.Code.Narrowing.{HasDeciding, AreBounds, IsNext, tries_left};
 
     ghost Value = { SearchState };
 
@@ -45,11 +48,11 @@ impl<'a> Model for LevelSearch<'a> {
       graph = s.graph.now;
       members = s.group.now;
       level = s.level;
-      left = tries_left (length s.graph.now.nodes) s.low s.high;
+      left = tries_left s.low s.high s.guesses;
     } };
 
     ghost invariant = { λ s. HasDeciding s.graph.now s.group.now
-        × AreBounds s.graph.now s.group.now s.kept.items s.low s.high × IsBetween s.low s.level s.high };
+        × AreBounds s.graph.now s.group.now s.kept.items s.low s.high × IsNext s.low s.high s.guesses s.level };
 }
 
 /// The search after a level was tried.
@@ -62,15 +65,17 @@ pub enum Searched<'a> {
 }
 
 impl<'a> LevelSearch<'a> {
-    /// Begins a search for a group in which two members are not linked.
+    /// Begins a search for a group in which two members are not linked. It tries at most 2 log2 n + 3 levels of a graph
+    /// of n nodes.
     pub fn new(alloc: Global, graph: &'a Graph, group: &'a [NodeId]) -> LevelSearch<'a>
         requires group { IsGroup graph.now group.now }
         requires apart { ¬ AreAllLinked graph.now group.now }
         ensures graph { result.graph ≡ graph.now }
         ensures members { result.members ≡ group.now }
+        ensures few { AreFewTries (length graph.now.nodes) result.left }
     {
-        let high = first_guess(graph, group);
-        LevelSearch::between(graph, group, 0, high, Vec::new(alloc))
+        let high = failing_level(graph, group);
+        LevelSearch::between(graph, group, 0, high, true, Vec::new(alloc))
     }
 
     /// The search with these bounds.
@@ -79,20 +84,22 @@ impl<'a> LevelSearch<'a> {
         group: &'a [NodeId],
         low: usize,
         high: usize,
+        guesses: bool,
         kept: Vec<Haul>,
     ) -> LevelSearch<'a>
         requires deciding { HasDeciding graph.now group.now }
         requires bounds { AreBounds graph.now group.now kept.items low high }
         ensures graph { result.graph ≡ graph.now }
         ensures members { result.members ≡ group.now }
-        ensures left { result.left ≡ tries_left (length graph.now.nodes) low high }
+        ensures left { result.left ≡ tries_left low high guesses }
     {
         LevelSearch {
             graph,
             group,
             low,
-            level: next_level(low, high),
+            level: next_level(low, high, guesses),
             high,
+            guesses,
             kept,
         }
     }
@@ -102,6 +109,7 @@ impl<'a> LevelSearch<'a> {
         ensures level { result ≡ self.now.level }
         ensures low { 1 ≤ result }
         ensures below { result < length self.now.graph.nodes }
+        ensures left { 1 ≤ self.now.left }
         ensures graph { IsGraph self.now.graph }
         ensures within { IsWithinLimit self.now.graph }
         ensures group { IsGroup self.now.graph self.now.members }
@@ -122,18 +130,18 @@ impl<'a> LevelSearch<'a> {
             low,
             level,
             high,
+            guesses,
             kept,
         } = self;
         match cut_within(&hauls, level) {
             None => {
-                let high = high.max(level + 1);
-                let next = LevelSearch::between(graph, group, level, high, hauls);
+                let next = LevelSearch::between(graph, group, level, high, guesses, hauls);
                 Ok(Searched::Again(next))
             }
             Some(_) if level == low + 1 => Ok(Searched::Enough(joined(kept, hauls)?)),
             Some(size) => {
-                let high = (low + 1).max(size.min(level - 1) + 1);
-                let next = LevelSearch::between(graph, group, low, high, kept);
+                let guesses = guesses && level + 1 < high;
+                let next = LevelSearch::between(graph, group, low, size + 1, guesses, kept);
                 Ok(Searched::Again(next))
             }
         }
@@ -162,38 +170,25 @@ pub(crate) fn search<W: Watcher>(
     }
 }
 
-/// The level to try next: `high` if it is just above `low`, otherwise about twice `low`, but below `high`.
-fn next_level(low: usize, high: usize) -> usize
+/// The level to try next: `high` if it is just above `low`. Otherwise it is between the two. As long as levels are
+/// guessed, it is about twice `low`, or just below `high` if that is lower. Then it is in the middle.
+fn next_level(low: usize, high: usize, guesses: bool) -> usize
     requires rises { low < high }
     requires fits { high < most_nodes }
-    ensures { IsBetween low result high }
+    ensures { IsNext low high guesses result }
 {
     if low + 1 == high {
         return high;
     }
-    (high - 1).min((2 * low).max(1))
-}
-
-/// The first guess of the deciding level: one more than the lowest degree of a member, and below the number of nodes.
-fn first_guess(graph: &Graph, group: &[NodeId]) -> usize
-    requires group { IsGroup graph.now group.now }
-    requires nodes { 2 ≤ length graph.now.nodes }
-    ensures low { 1 ≤ result }
-    ensures high { result < length graph.now.nodes }
-    ensures graph { IsGraph graph.now }
-    ensures within { IsWithinLimit graph.now }
-{
-    let mut least = graph.nodes().len() - 2;
-    for member in group {
-        least = least.min(graph.neighbours(*member).count());
+    if guesses {
+        return (high - 1).min(2 * low + 1);
     }
-    least + 1
+    (low + high) / 2
 }
 
-/// The size of the first cut in the hauls, if it belongs to a piece of the level or of a lower one. The contract leaves
-/// the size open, since it only guides the search.
+/// The size of the first cut in the hauls, if it belongs to a piece of the level or of a lower one.
 fn cut_within(hauls: &[Haul], level: usize) -> Option<usize>
-    ensures some { IfSome result (λ size. HasCutWithin hauls.now level) }
+    ensures some { IfSome result (HasCutOf hauls.now level) }
     ensures none { IfNone result (¬ HasCutWithin hauls.now level) }
 {
     let first = first_cut(hauls)?;

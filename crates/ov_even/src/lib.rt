@@ -6,6 +6,7 @@ mod analysis;
 mod assembly;
 mod certificate_entries;
 mod certificate_pieces;
+mod failing_level;
 mod fault;
 mod first_piece_with_cut;
 mod level_pieces;

@@ -1,13 +1,17 @@
--- The search for the deciding level: where it starts, that it ends, and that its result suffices.
-use Rattle.std.proofs.Common.{◌≡◌, ◌≢◌, ◌⊎◌, inl, inr, ℕ, ◌<◌, ◌≤◌, ◌+◌, List, [], ◌∷◌, length, sym}
+-- The search for the deciding level: its bounds after each try, and that its result suffices.
+use Rattle.std.proofs.Common.{◌≡◌, ◌⊎◌, inl, inr, ℕ, zero, suc, Bool, ◌<◌, ◌≤◌, ◌+◌, List, [], ◌∷◌, length, sym}
 use Rattle.std.proofs.Common.{◌∙◌, subst, arith}
 use Rattle.std.proofs.lemmas.Bool.{cases_lt}
 use Rattle.std.proofs.Common.{◌++◌, Option, Some, None, IfSome, IfNone}
 use Rattle.ov_ids.specs.Members.{Has}
 use Rattle.ov_ids.proofs.Members.{ascends_distinct, has_append_left, has_append_right, has_append_cases}
 use Rattle.ov_graph.specs.Links.{LinkGraph, IsGroup, AreAllLinked}
+use Rattle.ov_graph.specs.Even.{PassesEven}
 use Rattle.ov_fans.specs.Pieces.{level_of}
 use Rattle.ov_fans.specs.declared.piece.Piece.{Piece}
+use Rattle.ov_fans.specs.Theorems.{IsNoCut}
+use Rattle.ov_fans.specs.declared.settled.Found.{Found}
+use Rattle.ov_fans.specs.declared.settled.Found.TheVariants.{Linked as linked_found, Paths, Cut}
 use Rattle.ov_fans.specs.declared.settled.Settled.{Settled}
 use Rattle.ov_fans.proofs.PieceCuts.Decided.{decides}
 use Rattle.ov_fans.proofs.PieceNets.Ranks.{fits}
@@ -15,12 +19,12 @@ use Rattle.ov_even.specs.Hauls.{IsInHauls, IsCleared, AreRight, Suffice}
 use Rattle.ov_even.specs.declared.worker_haul.Haul.{Haul}
 use Rattle.ov_fans.specs.Group.{SettlerState}
 use Rattle.ov_even.specs.Levels.{IsLevelCleared, StopsAt, IsTried, SearchState}
-use Rattle.ov_even.specs.Code.Narrowing.{HasDeciding, AreBounds, IsBetween, HasCutWithin}
+use Rattle.ov_even.specs.Code.Narrowing.{HasDeciding, AreBounds, IsNext, HasCutWithin, IsCutOf, HasCutOf}
 use Rattle.ov_even.proofs.EvenTest.Deciding.{cleared_good}
-use Rattle.ov_even.proofs.EvenTest.Passing.{passes_level, lower_good}
+use Rattle.ov_even.proofs.EvenTest.Passing.{passes_none, passes_level, split_has, lower_good}
 use Rattle.ov_even.specs.Code.Cuts.{IsFirstCut, all_settled}
 use Rattle.ov_even.proofs.AnalysisSteps.FirstCut.{among_all, in_hauls}
-use Rattle.ov_even.proofs.EvenTest.Complete.{last_level}
+use Rattle.ov_even.proofs.AnalysisSteps.Failing.{split_fails, within_splits}
 use Rattle.ov_even.proofs.PieceOrder.Comparing.{number_cases}
 
 -- a group has at most as many members as the graph has nodes
@@ -39,13 +43,6 @@ two_nodes g q group apart = elim (cases_lt (length g.nodes) 2) [
   | inr many ↦ many
 ]
 
--- the last level is not cleared
-pub not_last : (g : LinkGraph) (q : List ℕ) (hauls : List Haul) (level : ℕ) → HasDeciding g q → AreRight g q hauls
-    → IsLevelCleared g q hauls level → level + 1 ≢ length g.nodes
-not_last g q hauls level has right cleared e =
-    has.apart (last_level g q has.graph has.group (two_nodes g q has.group has.apart)
-    (λ p at last. cleared_good g q hauls p has.graph right (cleared p at (omega (arith, last, e)))))
-
 -- no piece has a cut, and so none of the level or of a lower one
 pub no_cut_within : (hauls : List Haul) (level : ℕ) → IsFirstCut (all_settled hauls) None → ¬ HasCutWithin hauls level
 no_cut_within hauls level none within = within.2 (none within.0 (among_all hauls within.0 within.1))
@@ -57,9 +54,21 @@ first_behind hauls level s first behind within =
     let low = within.3 in
     first.lowest within.0 (among_all hauls within.0 within.1) within.2 (inl (omega (arith, behind, low)))
 
-pub first_within : (hauls : List Haul) (level : ℕ) (s : Settled) → IsFirstCut (all_settled hauls) (Some s)
-    → level_of s.piece ≤ level → HasCutWithin hauls level
-first_within hauls level s first low = (s, in_hauls hauls s first.there, first.cut, low)
+-- the first cut is of the level or of a lower one
+pub first_within : (hauls : List Haul) (level : ℕ) (s : Settled) (size : Option ℕ)
+    → IsFirstCut (all_settled hauls) (Some s) → level_of s.piece ≤ level → IfSome size (IsCutOf s.found)
+    → IfSome size (HasCutOf hauls level)
+first_within hauls level s None first low of = tt
+first_within hauls level s (Some n) first low of = (s, in_hauls hauls s first.there, of, low)
+
+is_cut : (found : Found) (size : ℕ) → IsCutOf found size → ¬ IsNoCut found
+is_cut linked_found size of none = of
+is_cut (Paths paths) size of none = of
+is_cut (Cut parting) size of none = none
+
+-- a cut of so many nodes is a cut
+pub cut_within : (hauls : List Haul) (level size : ℕ) → HasCutOf hauls level size → HasCutWithin hauls level
+cut_within hauls level size within = (within.0, within.1, is_cut within.0.found size within.2, within.3)
 
 -- where no piece of a tried level or of a lower one has a cut, the level is cleared
 pub tried_clears : (g : LinkGraph) (q : List ℕ) (hauls : List Haul) (level : ℕ) → IsTried g q hauls level
@@ -86,22 +95,61 @@ tried_stops g q hauls level has right low high tried within = elim tried [
   | inr stop ↦ stop
 ]
 
--- the bounds after a level was cleared: it is the lower one, and the upper one is high, or just above the level
-pub cleared_bounds : (g : LinkGraph) (q : List ℕ) (kept hauls : List Haul) (low level high top : ℕ) → HasDeciding g q
-    → AreBounds g q kept low high → IsBetween low level high → AreRight g q hauls → IsTried g q hauls level
-    → ¬ HasCutWithin hauls level → level < top → ((n : ℕ) → level + 1 < n → high < n → top < n)
-    → AreBounds g q hauls level top
-cleared_bounds g q kept hauls low level high top has bounds between right tried none rises within =
+-- if a level is cleared, Even's test passes at it
+pub cleared_passes : (g : LinkGraph) (q : List ℕ) (hauls : List Haul) (level : ℕ) → HasDeciding g q → AreRight g q hauls
+    → level < length g.nodes → IsLevelCleared g q hauls level → PassesEven g q level
+cleared_passes g q hauls zero has right high cleared = passes_none g q
+cleared_passes g q hauls (suc k) has right high cleared =
+    passes_level g q (suc k) has.group (omega arith) high
+    (λ p at e. cleared_good g q hauls p has.graph right (cleared p at e))
+
+-- the bounds after a level was cleared: it becomes the lower one
+pub cleared_bounds : (g : LinkGraph) (q : List ℕ) (kept hauls : List Haul) (low level high : ℕ) → HasDeciding g q
+    → AreBounds g q kept low high → level ≤ high → AreRight g q hauls → IsTried g q hauls level
+    → ¬ HasCutWithin hauls level → AreBounds g q hauls level high
+cleared_bounds g q kept hauls low level high has bounds most right tried none =
     let cleared = tried_clears g q hauls level tried none in
-    let last = not_last g q hauls level has right cleared in
-    let most = between.most in
     let below = bounds.below in
+    let even = cleared_passes g q hauls level has right (omega (arith, most, below)) cleared in
     record {
-      rises = rises;
-      below = within (length g.nodes) (omega (arith, most, below, last)) below;
+      rises = elim (cases_lt level high) [
+        | inl l ↦ l
+        | inr l ↦
+            let e : level ≡ high = omega (arith, l, most) in
+            absurd (bounds.fails (subst (PassesEven g q) e even))
+      ];
+      below = below;
       right = right;
       cleared = cleared;
+      fails = bounds.fails;
     }
+
+-- the bounds after a level turned out to have a cut: the level above the size of the cut is not good
+pub stopped_bounds : (g : LinkGraph) (q : List ℕ) (kept hauls : List Haul) (low level high size : ℕ) → HasDeciding g q
+    → AreBounds g q kept low high → level ≤ high → AreRight g q hauls → HasCutOf hauls level size
+    → AreBounds g q kept low (size + 1)
+stopped_bounds g q kept hauls low level high size has bounds most right within =
+    let w = within_splits g q hauls level size has.group right within in
+    let below = bounds.below in
+    let rises = bounds.rises in
+    let few = w.few in
+    let count = w.count in
+    let even = cleared_passes g q kept low has bounds.right (omega (arith, rises, below)) bounds.cleared in
+    let many = split_has g q low w.set has.group even w.split in
+    record {
+      rises = omega (arith, many, count);
+      below = omega (arith, few, most, below);
+      right = bounds.right;
+      cleared = bounds.cleared;
+      fails = split_fails g q w.set (size + 1) has.group w.split (omega (arith, count));
+    }
+
+-- the level above the size of a cut is at most the level that was tried
+pub size_within : (g : LinkGraph) (q : List ℕ) (hauls : List Haul) (level size : ℕ) → IsGroup g q → AreRight g q hauls
+    → HasCutOf hauls level size → size + 1 ≤ level
+size_within g q hauls level size group right within =
+    let few = (within_splits g q hauls level size group right within).few in
+    omega (arith, few)
 
 -- what is in the hauls of two lists is in those of one
 pub in_either : (kept hauls : List Haul) (s : Settled) → IsInHauls (kept ++ hauls) s
@@ -156,10 +204,10 @@ suffices g q low kept hauls s kept_right cleared right stop =
     )
 
 -- a tried level with a cut suffices, together with the cleared level below it
-pub tried_suffices : (g : LinkGraph) (q : List ℕ) (low level high : ℕ) (kept hauls : List Haul) → HasDeciding g q
-    → AreBounds g q kept low high → IsBetween low level high → AreRight g q hauls → IsTried g q hauls level
+pub tried_suffices : (g : LinkGraph) (q : List ℕ) (low level high : ℕ) (guesses : Bool) (kept hauls : List Haul) → HasDeciding g q
+    → AreBounds g q kept low high → IsNext low high guesses level → AreRight g q hauls → IsTried g q hauls level
     → HasCutWithin hauls level → level ≡ low + 1 → Suffice g q (kept ++ hauls)
-tried_suffices g q low level high kept hauls has bounds between right tried within next =
+tried_suffices g q low level high guesses kept hauls has bounds between right tried within next =
     let above = between.above in
     let most = between.most in
     let below = bounds.below in
@@ -183,11 +231,7 @@ pub tried_of_one : (settler : SettlerState) (g : LinkGraph) (q : List ℕ) (s : 
 tried_of_one settler g q s haul hauls level is d e f same tried =
     rw (d, e, f, ← same) (subst (λ (x : SettlerState). IsTried x.graph x.members (haul ∷ []) level) is tried)
 
--- a fact that holds anyway, where there is a value and where there is none
-pub if_some : {T : Type 0} (P : Type 0) (r : Option T) → P → IfSome r (λ x. P)
-if_some P None p = tt
-if_some P (Some x) p = p
-
+-- a fact that holds anyway, where there is none
 pub if_none : {T : Type 0} (P : Type 0) (r : Option T) → P → IfNone r P
 if_none P None p = p
 if_none P (Some x) p = tt

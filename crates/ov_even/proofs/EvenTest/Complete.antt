@@ -15,7 +15,7 @@ use Rattle.ov_fans.specs.Pieces.{IsPiece, IsGood, level_of}
 use Rattle.ov_fans.specs.declared.piece.Piece.{Piece}
 use Rattle.ov_even.proofs.EvenTest.Passing.{IsLevelGood, passes_level}
 
-not_self : (g : LinkGraph) (a : ℕ) → IsGraph g → ¬ Linked g a a
+pub not_self : (g : LinkGraph) (a : ℕ) → IsGraph g → ¬ Linked g a a
 unfolding Linked
 not_self g a graph l = elim l [
   | inl h ↦ let m = (graph.joins (a, a) h).0 in omega (arith, m)

@@ -3,7 +3,7 @@ use Rattle.std.proofs.Common.{subst, arith}
 use Rattle.std.specs.Option.{option_copied}
 use Rattle.ov_even.specs.Code.Cuts.{IsFirstCut, all_settled}
 use Rattle.ov_even.specs.Code.Narrowing.{HasCutWithin}
-use Rattle.ov_even.proofs.AnalysisSteps.Narrowing.{no_cut_within, first_behind, first_within, if_some, if_none}
+use Rattle.ov_even.proofs.AnalysisSteps.Narrowing.{no_cut_within, first_behind, first_within, if_none}
 use Rattle.ov_even.proofs.level_search.cut_within.Goals as goal
 
 pub returns-in_err-first-clause-none : goal.returns-in_err-first-clause-none
@@ -26,7 +26,6 @@ returns-clause-some c =
     let hauls = c.args.hauls.now in
     let e = c.level.ensures in
     let l = c.if-level.false in
-    if_some (HasCutWithin hauls c.args.level) c.cut_size.result (first_within hauls c.args.level
-    c.in_ok-first.first.now
+    first_within hauls c.args.level c.in_ok-first.first.now c.cut_size.result
     (subst (λ o. IsFirstCut (all_settled hauls) (option_copied o)) c.in_ok-first.was c.first_cut.ensures)
-    (omega (arith, e, l)))
+    (omega (arith, e, l)) c.cut_size.ensures.some

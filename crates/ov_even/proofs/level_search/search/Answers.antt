@@ -41,7 +41,7 @@ returns-in-Enough g c =
       graph = s.graph.now;
       members = s.group.now;
       level = s.level;
-      left = tries_left (length s.graph.now.nodes) s.low s.high;
+      left = tries_left s.low s.high s.guesses;
     })) c.in-Enough.is c.in_ok-hauls.ensures in
     let own = subst (λ (x : SearchState). Suffice x.graph x.members hauls) c.levels.view_is enough in
     rw (l.invariant.graph, l.invariant.members) at own
