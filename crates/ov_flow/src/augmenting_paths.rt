@@ -7,6 +7,7 @@ use crate::one_link_paths::take_direct;
 use crate::path_search::search;
 use crate::path_table::{clear, empty_table, replace_paths};
 use crate::search_tree::{Tree, new_tree};
+use crate::two_link_paths::take_two_links;
 use crate::walk_taking::{Hop, walk_back};
 use ov_split::SplitNet;
 use std::alloc::{AllocError, Global};
@@ -81,6 +82,7 @@ pub(crate) fn settle(net: &SplitNet<'_>, level: usize, work: &mut Work) -> bool
 {
     start(net, work);
     take_direct(net, level, work);
+    take_two_links(net, level, work);
     while work.ends.len() < level {
         if !augment(net, work) {
             return false;

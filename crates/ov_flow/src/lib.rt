@@ -10,6 +10,7 @@ mod path_search;
 mod path_table;
 mod search_result;
 mod search_tree;
+mod two_link_paths;
 mod walk_taking;
 
 pub use flat_paths::PlacePaths;

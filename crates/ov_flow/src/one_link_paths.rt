@@ -1,6 +1,6 @@
 //! Paths of one link.
 ghost use Rattle.std.specs.Prelude.{◌≡◌, ℕ, ◌≤◌, [], length};
-ghost use Rattle.ov_flow.specs.Code.Held.{IsReady, IsWorkOf};
+ghost use Rattle.ov_flow.specs.Code.Held.{IsReady, IsWorkOf, IsOneLinkEach};
 
 use crate::augmenting_paths::Work;
 use ov_graph::row::{both, first_from, without};
@@ -13,6 +13,7 @@ pub(crate) fn take_direct(net: &SplitNet<'_>, level: usize, work: &mut Work)
     requires empty { work.old.ends.items ≡ [] }
     ensures work { IsWorkOf net.now work.new }
     ensures few { length work.new.ends.items ≤ level }
+    ensures one { IsOneLinkEach net.now work.new }
 {
     let source = net.source();
     let words = net.words();

@@ -9,6 +9,7 @@ use Rattle.ov_graph.specs.Even.{PassesEven}
 use Rattle.ov_graph.proofs.EvenTest.Filtered.{linked_node}
 use Rattle.ov_graph.proofs.EvenTest.Sufficing.{even_suffices}
 use Rattle.ov_graph.proofs.EvenTest.Walks.{AllSurvive, steps_of}
+use Rattle.ov_flow.proofs.Beginning.{not_self}
 use Rattle.ov_fans.specs.Pieces.{IsPiece, level_of}
 use Rattle.ov_fans.specs.Cuts.{IsFoundFor}
 use Rattle.ov_fans.specs.declared.piece.Piece.{Piece}
@@ -17,7 +18,7 @@ use Rattle.ov_fans.specs.declared.settled.Found.TheVariants.{Linked as linked_fo
 use Rattle.ov_even.specs.Hauls.{AreRight}
 use Rattle.ov_even.specs.declared.worker_haul.Haul.{Haul}
 use Rattle.ov_even.specs.Code.Narrowing.{HasUnlinked, IsCutOf, HasCutOf}
-use Rattle.ov_even.proofs.EvenTest.Complete.{not_self, none_split}
+use Rattle.ov_even.proofs.EvenTest.Complete.{none_split}
 use Rattle.ov_even.proofs.EvenTest.Passing.{split_has}
 use Rattle.ov_even.proofs.EvenTest.Splitting.{parted_splits}
 

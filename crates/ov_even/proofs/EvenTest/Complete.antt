@@ -11,16 +11,10 @@ use Rattle.ov_graph.proofs.EvenTest.Sufficing.{even_suffices}
 use Rattle.ov_graph.proofs.EvenTest.Tested.{linked_or_not}
 use Rattle.ov_graph.proofs.EvenTest.Walks.{AllSurvive, steps_of}
 use Rattle.ov_split.proofs.Augmenting.Lists.{others_of}
+use Rattle.ov_flow.proofs.Beginning.{not_self}
 use Rattle.ov_fans.specs.Pieces.{IsPiece, IsGood, level_of}
 use Rattle.ov_fans.specs.declared.piece.Piece.{Piece}
 use Rattle.ov_even.proofs.EvenTest.Passing.{IsLevelGood, passes_level}
-
-pub not_self : (g : LinkGraph) (a : ℕ) → IsGraph g → ¬ Linked g a a
-unfolding Linked
-not_self g a graph l = elim l [
-  | inl h ↦ let m = (graph.joins (a, a) h).0 in omega (arith, m)
-  | inr h ↦ let m = (graph.joins (a, a) h).0 in omega (arith, m)
-]
 
 -- the set of all nodes except a and b
 record IsAllBut (g : LinkGraph) (a b : ℕ) (s : List ℕ) : Type 0 where

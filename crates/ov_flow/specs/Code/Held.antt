@@ -1,7 +1,9 @@
 -- The paths that are held between two searches, and the buffers of a search.
-use Rattle.std.specs.Prelude.{◌≡◌, ℕ, ◌+◌, ◌<◌, ◌≤◌, length, vec_len, vec_capacity}
+use Rattle.std.specs.Prelude.{◌≡◌, ℕ, ◌+◌, ◌<◌, ◌≤◌, length, vec_len, vec_capacity, Some}
+use Rattle.ov_ids.specs.Members.{Has}
+use Rattle.ov_graph.specs.Links.{Linked}
 use Rattle.ov_split.specs.SplitNetState.{SplitNetState}
-use Rattle.ov_split.specs.Code.Residual.{IsFlow}
+use Rattle.ov_split.specs.Code.Residual.{Table, IsFree, IsFlow}
 use Rattle.ov_split.specs.Places.{net_by_place}
 use Rattle.ov_split.specs.Placed.{IsPlaced}
 use Rattle.ov_flow.specs.Code.Reached.{IsGrown, IsSwept}
@@ -38,6 +40,26 @@ Holds n w = IsFlow (net_by_place n) (table_of w.from.items) w.ends.items
 pub record IsWorkOf (n : SplitNetState) (w : Work) : Type 0 where
   pub room : HasWorkRoom (length n.graph.nodes) w
   pub flow : Holds n w
+
+-- each path that is held has one link: a path comes only to targets that the source is linked to
+abbrev pub IsOneLinkEach : SplitNetState → Work → Type 0
+IsOneLinkEach n w = (v u : ℕ) → table_of w.from.items v ≡ Some u
+    → Linked (net_by_place n).graph (net_by_place n).source v × Has (net_by_place n).targets v
+
+-- a path may go from the source over u to the target t: u is no target, and no path comes to either
+pub record MayGoOver (n : SplitNetState) (from : Table) (u t : ℕ) : Type 0 where
+  pub first : IsFree n n.source u
+  pub second : IsFree n u t
+  pub inner : ¬ Has n.targets u
+  pub target : Has n.targets t
+  pub fresh : (a : ℕ) → from u ≡ Some a → ⊥
+  pub unused : (a : ℕ) → from t ≡ Some a → ⊥
+
+-- t is a free target: it is a target, it is not avoided, and no path comes to it
+pub record IsFreeTarget (n : SplitNetState) (from : Table) (t : ℕ) : Type 0 where
+  pub target : Has n.targets t
+  pub off : ¬ Has n.avoided t
+  pub unused : (a : ℕ) → from t ≡ Some a → ⊥
 
 -- the same paths are held
 pub record IsSame (old new : Work) : Type 0 where

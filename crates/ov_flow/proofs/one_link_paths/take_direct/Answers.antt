@@ -22,6 +22,8 @@ loop-w-init c =
       count = subst (λ (l : List ℕ). length l ≤ 0) (sym c.requires.empty) (omega arith);
       below = λ v u f. absurd (none_held (net_by_place c.args.net.now) (table_of w.from.items) w.ends.items
           c.requires.work.flow c.requires.empty v u f);
+      one = λ v u f. absurd (none_held (net_by_place c.args.net.now) (table_of w.from.items) w.ends.items
+          c.requires.work.flow c.requires.empty v u f);
       fits = omega arith;
     }
 
@@ -67,6 +69,10 @@ loop-w-preserved c =
       below = λ v u f. elim (cases_eq v w) [
         | inl e ↦ omega (arith, e)
         | inr ne ↦ let m = i.below v u (sym (write_others from w (Some s) v ne) ∙ f) in omega (arith, m, reached)
+      ];
+      one = λ v u f. elim (cases_eq v w) [
+        | inl e ↦ (subst (Linked n.graph n.source) (sym e) link, subst (Has n.targets) (sym e) target)
+        | inr ne ↦ i.one v u (sym (write_others from w (Some s) v ne) ∙ f)
       ];
       fits = let m = c.in-Some.ensures.fits in omega (arith, m);
     }
