@@ -1,8 +1,12 @@
 #!/usr/bin/env python3
 """Writes the five graphs of the table as graph files, `NAME.graph`, into the folder that it is run in.
 
+With a number ARMS it writes one graph instead, `falling-ARMS.graph`, and the ids of a group, `falling-ARMS.group`.
+
 Needs networkx (Debian: python3-networkx).
 """
+
+import sys
 
 import networkx as nx
 
@@ -17,10 +21,37 @@ def write(name, graph):
             file.write(f"link {low} {high}\n")
 
 
-write("ring-200", nx.circulant_graph(200, [1, 2, 3, 4]))
-write("regular-256", nx.random_regular_graph(5, 256, seed=1))
-write("regular-1024", nx.random_regular_graph(5, 1024, seed=1))
-all_but_one = nx.complete_graph(256)
-all_but_one.remove_edge(0, 1)
-write("all-but-one-256", all_but_one)
-write("half-256", nx.gnp_random_graph(256, 0.5, seed=1))
+def write_table():
+    write("ring-200", nx.circulant_graph(200, [1, 2, 3, 4]))
+    write("regular-256", nx.random_regular_graph(5, 256, seed=1))
+    write("regular-1024", nx.random_regular_graph(5, 1024, seed=1))
+    all_but_one = nx.complete_graph(256)
+    all_but_one.remove_edge(0, 1)
+    write("all-but-one-256", all_but_one)
+    write("half-256", nx.gnp_random_graph(256, 0.5, seed=1))
+
+
+def write_falling(arms):
+    """A core of 2 ARMS nodes, in which every two are linked; then the arms; then 2 ARMS leaves, which each arm is linked
+    to. The first arm is linked to the whole core, and each later one to two nodes of it fewer.
+
+    The group is the core and the arms. The arm with m arms before it has 2 ARMS - m paths to members before it, over
+    these m arms and 2 ARMS - 2 m nodes of the core, and no more. So at each level from ARMS + 2 to 2 ARMS the first
+    piece with a cut is the fan of an arm, its cut has one node less than the level, and the number is ARMS + 1. No
+    member has fewer than 2 ARMS links.
+    """
+    core = 2 * arms
+    graph = nx.complete_graph(core)
+    for m in range(arms):
+        graph.add_edges_from((node, core + m) for node in range(core - 2 * m))
+        graph.add_edges_from((core + m, leaf) for leaf in range(core + arms, 2 * core + arms))
+    name = f"falling-{arms}"
+    write(name, graph)
+    with open(f"{name}.group", "w") as file:
+        file.write(",".join(str(member) for member in range(1, core + arms + 1)) + "\n")
+
+
+if len(sys.argv) > 1:
+    write_falling(int(sys.argv[1]))
+else:
+    write_table()

@@ -33,6 +33,9 @@ pub(crate) enum Family {
     TwoSides,
     /// Each to each.
     All,
+    /// Each of the nodes 1 to 32 to each other one. Of the 16 arms, which are the nodes 33 to 48, the first one to the
+    /// nodes 1 to 32, and each later one to two of them fewer. Each arm to the nodes from 49 on.
+    Falling,
 }
 
 impl Family {
@@ -44,8 +47,24 @@ impl Family {
             Family::Ring => apart <= 4 || apart >= 196,
             Family::TwoSides => apart % 2 == 1,
             Family::All => true,
+            Family::Falling => are_falling(low, high),
         }
     }
+}
+
+/// Whether a node of the family `Falling` is linked to a higher one.
+fn are_falling(low: u32, high: u32) -> bool {
+    if high <= 32 {
+        return true;
+    }
+    if high <= 48 {
+        return high
+            .saturating_sub(33)
+            .saturating_mul(2)
+            .saturating_add(low)
+            <= 32;
+    }
+    low > 32 && low <= 48
 }
 
 /// The graph of the nodes 1 to `last`.

@@ -9,3 +9,5 @@ mod gates;
 mod graphs;
 #[cfg(test)]
 mod memory;
+#[cfg(test)]
+mod tries;
