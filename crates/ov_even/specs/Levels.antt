@@ -26,7 +26,7 @@ abbrev pub IsTried : LinkGraph → List ℕ → List Haul → ℕ → Type 0
 IsTried g q hauls level = IsLevelCleared g q hauls level ⊎ ((s : Settled) × StopsAt g q hauls level s)
 
 -- a search: the graph and the group whose deciding piece is looked for, the level to try next, and a bound on how many
--- levels are still tried
+-- levels are still tried, this one among them
 pub record SearchState : Type 0 where
   pub graph : LinkGraph
   pub members : List ℕ

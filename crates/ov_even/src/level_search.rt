@@ -171,7 +171,7 @@ pub(crate) fn search<W: Watcher>(
 }
 
 /// The level to try next: `high` if it is just above `low`. Otherwise it is between the two. As long as levels are
-/// guessed, it is about twice `low`, or just below `high` if that is lower. Then it is in the middle.
+/// guessed, it is 2 * low + 1 if that is less than half of `high`, and else just below `high`. Then it is in the middle.
 fn next_level(low: usize, high: usize, guesses: bool) -> usize
     requires rises { low < high }
     requires fits { high < most_nodes }
@@ -180,10 +180,11 @@ fn next_level(low: usize, high: usize, guesses: bool) -> usize
     if low + 1 == high {
         return high;
     }
-    if guesses {
-        return (high - 1).min(2 * low + 1);
+    if !guesses {
+        return (low + high) / 2;
     }
-    (low + high) / 2
+    let double = 2 * low + 1;
+    if 2 * double < high { double } else { high - 1 }
 }
 
 /// The size of the first cut in the hauls, if it belongs to a piece of the level or of a lower one.

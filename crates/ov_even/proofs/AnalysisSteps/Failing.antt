@@ -1,7 +1,6 @@
 -- Levels at which Even's test does not pass: the last one, that above the degree of a member, and that above the size
 -- of a cut.
-use Rattle.std.proofs.Common.{◌≡◌, ◌≢◌, ◌⊎◌, inl, inr, ℕ, ◌<◌, ◌≤◌, ◌+◌, ◌-◌, List, [], ◌∷◌, length, refl, sym, subst}
-use Rattle.std.proofs.Common.{arith}
+use Rattle.std.proofs.Common.{◌≡◌, ◌≢◌, inl, ℕ, ◌<◌, ◌+◌, List, [], ◌∷◌, length, refl, arith}
 use Rattle.ov_ids.specs.Members.{Has}
 use Rattle.ov_graph.specs.Links.{LinkGraph, IsGraph, Linked, IsGroup, AreAllLinked, AreNeighbours}
 use Rattle.ov_graph.specs.Joined.{Leads, SplitsGroup}

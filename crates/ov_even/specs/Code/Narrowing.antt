@@ -31,7 +31,7 @@ pub record AreBounds (g : LinkGraph) (q : List ℕ) (kept : List Haul) (low high
   pub fails : ¬ PassesEven g q high
 
 -- the level to try next is `high` if that is just above `low`. Otherwise it lies between the two: if levels are
--- guessed, it is 2 * low + 1, or just below `high` if that is lower; if not, it is in the middle
+-- guessed, it is 2 * low + 1 or just below `high`; if not, it is in the middle
 pub record IsNext (low high : ℕ) (guesses : Bool) (level : ℕ) : Type 0 where
   pub above : low < level
   pub most : level ≤ high

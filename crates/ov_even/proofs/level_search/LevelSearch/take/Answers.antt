@@ -1,13 +1,12 @@
 -- A level without a cut becomes the cleared one. A cut in the level just above the cleared one suffices. Another cut
 -- shows that a lower level is not good.
-use Rattle.std.proofs.Common.{◌≡◌, ◌∙◌, ◌<◌, ◌+◌, ◌&&◌, ℕ, Bool, List, nat_lt, sym, ap, subst, arith}
+use Rattle.std.proofs.Common.{◌≡◌, ◌∙◌, ◌+◌, ◌&&◌, Bool, List, nat_lt, sym, ap, subst, arith}
 use Rattle.ov_even.specs.Hauls.{AreRight, Suffice}
 use Rattle.ov_even.specs.Levels.{IsTried, SearchState}
-use Rattle.ov_even.specs.Code.Narrowing.{HasCutWithin, HasCutOf}
+use Rattle.ov_even.specs.Code.Narrowing.{tries_left, HasCutWithin, HasCutOf}
 use Rattle.ov_even.specs.declared.worker_haul.Haul.{Haul}
 use Rattle.ov_even.proofs.AnalysisSteps.Narrowing.{cleared_bounds, stopped_bounds, size_within, cut_within, tried_suffices}
 use Rattle.ov_even.proofs.AnalysisSteps.Tries.{cleared_fewer, stopped_fewer}
-use Rattle.ov_even.specs.Code.Narrowing.{tries_left}
 use Rattle.ov_even.proofs.level_search.LevelSearch.take.Goals.{then-guesses, else-guesses}
 use Rattle.ov_even.proofs.level_search.LevelSearch.take.Goals as goal
 
