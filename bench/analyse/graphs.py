@@ -32,8 +32,8 @@ def write_table():
 
 
 def write_falling(arms):
-    """A core of 2 ARMS nodes, in which every two are linked; then the arms; then 2 ARMS leaves, which each arm is linked
-    to. The first arm is linked to the whole core, and each later one to two nodes of it fewer.
+    """A core of 2 ARMS nodes, in which every two are linked; then the arms; then 2 ARMS leaves, which each arm is
+    linked to. The first arm is linked to the whole core, and each later one to two nodes of it fewer.
 
     The group is the core and the arms. The arm with m arms before it has 2 ARMS - m paths to members before it, over
     these m arms and 2 ARMS - 2 m nodes of the core, and no more. So at each level from ARMS + 2 to 2 ARMS the first

@@ -1,7 +1,7 @@
 //! The search for the level of the deciding piece. A certificate needs only that level and the one below it. Other
-//! levels are tried only to find it: levels are about doubled first, and then those between a good level and one that is
-//! not good are halved.
-ghost use Rattle.std.specs.Prelude.{◌≡◌, ◌<◌, ◌≤◌, ◌+◌, ◌++◌, Bool, length, IfOk, IfSome, IfNone};
+//! levels are tried only to find it: levels are about doubled first, and then those between a good level and one that
+//! is not good are halved.
+ghost use Rattle.std.specs.Prelude.{◌≡◌, ◌<◌, ◌≤◌, ◌+◌, ◌++◌, length, IfOk, IfSome, IfNone};
 ghost use Rattle.ov_graph.specs.Links.{IsGraph, IsWithinLimit, IsGroup, AreAllLinked, most_nodes};
 ghost use Rattle.ov_even.specs.Hauls.{AreRight, Suffice};
 ghost use Rattle.ov_even.specs.Levels.{IsTried};
@@ -171,7 +171,8 @@ pub(crate) fn search<W: Watcher>(
 }
 
 /// The level to try next: `high` if it is just above `low`. Otherwise it is between the two. As long as levels are
-/// guessed, it is 2 * low + 1 if that is less than half of `high`, and else just below `high`. Then it is in the middle.
+/// guessed, it is 2 * low + 1 if that is less than half of `high`, and else just below `high`. Then it is in the
+/// middle.
 fn next_level(low: usize, high: usize, guesses: bool) -> usize
     requires rises { low < high }
     requires fits { high < most_nodes }

@@ -63,8 +63,8 @@ impl<'g> Flow<'g> {
     }
 
     /// Starts again with another net of the same graph, and searches for `level` paths, those of one link and of two
-    /// first. The result is `None` if they are found. Otherwise fewer paths are held, no fan has more, and the result is
-    /// the nearest minimum cut (Menger, Fund. Math. 10, 1927). Nothing is allocated.
+    /// first. The result is `None` if they are found. Otherwise fewer paths are held, no fan has more, and the result
+    /// is the nearest minimum cut (Menger, Fund. Math. 10, 1927). Nothing is allocated.
     pub fn seek(&mut self, net: SplitNet<'g>, level: usize) -> Option<CutRows>
         requires { net.graph ≡ self.old.net.graph }
         ensures net { self.new.net ≡ net.entry }

@@ -8,8 +8,8 @@ use std::test::Fail;
 use std::thread::Threads;
 
 /// The arm with m arms before it has paths to 32 - m of the members before it, and no more: they pass these m arms and
-/// the 32 - 2 m of the first 32 nodes that it is linked to. So at each level from 18 to 32 the first piece with a cut is
-/// the fan of an arm, and its cut has one node less than the level. At level 18 that is the last arm.
+/// the 32 - 2 m of the first 32 nodes that it is linked to. So at each level from 18 to 32 the first piece with a cut
+/// is the fan of an arm, and its cut has one node less than the level. At level 18 that is the last arm.
 static FALLING: Row = Row {
     family: Family::Falling,
     nodes: 80,
@@ -28,8 +28,8 @@ static FALLING: Row = Row {
 /// The members are the first 32 nodes and the arms. Each has 32 links or more.
 const MEMBERS: usize = 48;
 
-/// There are fewer than 2^7 nodes, so at most 2 * 7 + 1 levels are tried. If levels were doubled up to 32, and then tried
-/// one by one from there down, it would be 22.
+/// There are fewer than 2^7 nodes, so at most 2 * 7 + 1 levels are tried. If levels were doubled up to 32, and then
+/// tried one by one from there down, it would be 22.
 const MOST_TRIES: u64 = 15;
 
 /// Counts how often it is told of the beginning of a level.

@@ -24,7 +24,8 @@ use Rattle.ov_even.proofs.EvenTest.Splitting.{parted_splits}
 -- Even's test does not pass at the last level, if two members are not linked
 pub last_fails : (g : LinkGraph) (q : List ℕ) (k : ℕ) → IsGraph g → IsGroup g q → ¬ AreAllLinked g q
     → k + 1 ≡ length g.nodes → ¬ PassesEven g q k
-last_fails g q k graph group apart last even = apart (none_split g q k graph group last (even_suffices g q k group even))
+last_fails g q k graph group apart last even =
+    apart (none_split g q k graph group last (even_suffices g q k group even))
 
 -- it does not pass at a level above the size of a set that splits the group
 pub split_fails : (g : LinkGraph) (q s : List ℕ) (k : ℕ) → IsGroup g q → SplitsGroup g q s → length s < k

@@ -204,8 +204,9 @@ suffices g q low kept hauls s kept_right cleared right stop =
     )
 
 -- a tried level with a cut suffices, together with the cleared level below it
-pub tried_suffices : (g : LinkGraph) (q : List ℕ) (low level high : ℕ) (guesses : Bool) (kept hauls : List Haul) → HasDeciding g q
-    → AreBounds g q kept low high → IsNext low high guesses level → AreRight g q hauls → IsTried g q hauls level
+pub tried_suffices : (g : LinkGraph) (q : List ℕ) (low level high : ℕ) (guesses : Bool) (kept hauls : List Haul)
+    → HasDeciding g q → AreBounds g q kept low high → IsNext low high guesses level → AreRight g q hauls
+    → IsTried g q hauls level
     → HasCutWithin hauls level → level ≡ low + 1 → Suffice g q (kept ++ hauls)
 tried_suffices g q low level high guesses kept hauls has bounds between right tried within next =
     let above = between.above in

@@ -65,8 +65,8 @@ returns-clause-work c =
         ends = let kept = c.push_reserved.ensures.capacity in let r = room.ends in omega (arith, kept, r);
       };
       flow = subst (IsFlow n (table_of (set one t (Some u)))) (sym items)
-          (flow_over n c.requires.ready.net (table_of from) (table_of (set one t (Some u))) ends u t c.requires.work.flow
-          over
+          (flow_over n c.requires.ready.net (table_of from) (table_of (set one t (Some u))) ends u t
+          c.requires.work.flow over
           (write_others one t (Some u) u differ ∙ write_there from u (Some s) (omega (arith, l, wide)) ∙ ap Some is)
           (write_there one t (Some u) (omega (arith, k, wide, long)))
           (λ v nu nt. write_others one t (Some u) v nt ∙ write_others from u (Some s) v nu));

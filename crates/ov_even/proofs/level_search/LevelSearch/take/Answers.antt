@@ -1,11 +1,12 @@
 -- A level without a cut becomes the cleared one. A cut in the level just above the cleared one suffices. Another cut
 -- shows that a lower level is not good.
-use Rattle.std.proofs.Common.{◌≡◌, ◌∙◌, ◌+◌, ◌&&◌, Bool, List, nat_lt, sym, ap, subst, arith}
+use Rattle.std.proofs.Common.{◌≡◌, ◌∙◌, ◌<◌, ◌+◌, ◌&&◌, Bool, List, nat_lt, sym, ap, subst, arith}
 use Rattle.ov_even.specs.Hauls.{AreRight, Suffice}
 use Rattle.ov_even.specs.Levels.{IsTried, SearchState}
 use Rattle.ov_even.specs.Code.Narrowing.{tries_left, HasCutWithin, HasCutOf}
 use Rattle.ov_even.specs.declared.worker_haul.Haul.{Haul}
-use Rattle.ov_even.proofs.AnalysisSteps.Narrowing.{cleared_bounds, stopped_bounds, size_within, cut_within, tried_suffices}
+use Rattle.ov_even.proofs.AnalysisSteps.Narrowing.{cleared_bounds, stopped_bounds, size_within, cut_within}
+use Rattle.ov_even.proofs.AnalysisSteps.Narrowing.{tried_suffices}
 use Rattle.ov_even.proofs.AnalysisSteps.Tries.{cleared_fewer, stopped_fewer}
 use Rattle.ov_even.proofs.level_search.LevelSearch.take.Goals.{then-guesses, else-guesses}
 use Rattle.ov_even.proofs.level_search.LevelSearch.take.Goals as goal
@@ -97,8 +98,8 @@ returns c =
     let up = is.2.above in
     let most = is.2.most in
     let other = c.if-level-low.false in
-    let fewer = stopped_fewer s.low s.high s.level (size + 1) s.guesses is.2 (omega (arith, up, most, other)) bounds.rises
-    few in
+    let between : s.low + 1 < s.high = omega (arith, up, most, other) in
+    let fewer = stopped_fewer s.low s.high s.level (size + 1) s.guesses is.2 between bounds.rises few in
     let guesses : c.if-guesses.guesses ≡ (s.guesses && nat_lt (s.level + 1) s.high) = elim c.if-guesses.branch [
       | then-guesses w ↦
           w.guesses-is ∙ ap (λ (b : Bool). b && nat_lt (s.level + 1) s.high) (sym w.if-guesses.true)
