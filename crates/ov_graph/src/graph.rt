@@ -1,4 +1,4 @@
-ghost use Rattle.std.specs.Prelude.{◌≡◌, ◌≢◌, ◌↔◌, ℕ, ◌<◌, ◌≤◌, length, slice_index, Some, None, IsTrue};
+ghost use Rattle.std.specs.Prelude.{◌≡◌, ◌≢◌, ◌↔◌, ℕ, ◌<◌, ◌≤◌, [], length, slice_index, Some, None, IsTrue};
 ghost use Rattle.std.specs.Prelude.{IfOk, IfSome, IfNone, MatchResult, OnOk, OnErr};
 ghost use Rattle.ov_graph.specs.Links.{LinkGraph, IsGraph, IsWithinLimit, Linked, AreNeighbours, IsGroup, most_nodes};
 ghost use Rattle.ov_graph.specs.Changes.{GainsNode, LosesNode, GainsLink, LosesLink};
@@ -65,6 +65,16 @@ impl Graph {
         match kept(alloc, nodes, links) {
             Ok((nodes, rows)) => Ok(Graph { nodes, rows }),
             Err(_) => Err(GraphFault::OutOfMemory),
+        }
+    }
+
+    /// The graph without nodes. Nothing is allocated.
+    pub fn empty(alloc: Global) -> Graph
+        ensures { result ≡ record { nodes = []; links = [] } }
+    {
+        Graph {
+            nodes: Vec::new(alloc),
+            rows: Vec::new(alloc),
         }
     }
 

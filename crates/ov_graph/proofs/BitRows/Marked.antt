@@ -1,6 +1,6 @@
 -- Rows with the bits of links.
 use Rattle.std.proofs.Common.{◌≡◌, ◌≢◌, ◌∙◌, ◌↔◌, ◌⊎◌, ℕ, ◌+◌, ◌<◌, ◌≤◌, List, [], ◌∷◌, ◌++◌, length, replicate, set}
-use Rattle.std.proofs.Common.{slice_index, inl, inr, sym, ap, ap₂, subst, arith}
+use Rattle.std.proofs.Common.{slice_index, inl, inr, refl, sym, ap, ap₂, subst, arith}
 use Rattle.std.proofs.lemmas.Bool.{cases_order, cases_eq, cases_lt}
 use Rattle.std.proofs.lemmas.List.{get_or-set_same, get_or-set_other, get_or-replicate, length-replicate, get_or_past}
 use Rattle.ov_ids.specs.Members.{Has, Ascends}
@@ -9,7 +9,7 @@ use Rattle.ov_ids.proofs.Members.{same_ordered}
 use Rattle.ov_graph.specs.Links.{LinkGraph, IsGraph, Precedes, Linked, most_nodes}
 use Rattle.ov_graph.specs.Row.{HasBit}
 use Rattle.ov_graph.specs.Code.Kept.{row_at, links_read, graph_kept, IsKept, IsMarked}
-use Rattle.ov_graph.proofs.BitRows.Bits.{bit_moved}
+use Rattle.ov_graph.proofs.BitRows.Bits.{bit_moved, no_row}
 use Rattle.ov_graph.proofs.BitRows.Read.{has_read, in_read, ordered_read, one_place, row_below}
 use Rattle.ov_graph.proofs.EvenTest.Walks.{linked_sym}
 
@@ -282,3 +282,32 @@ pub same_graph : (nodes nodes' : List ℕ) (links : List (ℕ × ℕ)) (rows : L
     → IsGraph (graph_of nodes links) → IsMarked nodes links rows → graph_kept nodes' rows ≡ graph_of nodes links
 same_graph nodes nodes' links rows e graph marked = ap (λ (ns : List ℕ). graph_kept ns rows) e
     ∙ ap (graph_of nodes) (read_back nodes links rows graph marked)
+
+-- no nodes and no rows keep a graph
+pub nothing_kept : (nodes : List ℕ) (rows : List (List ℕ)) → nodes ≡ [] → rows ≡ [] → IsKept nodes rows
+nothing_kept nodes rows n r =
+    subst (λ (ns : List ℕ). IsKept ns rows) (sym n) (subst (IsKept []) (sym r) nothing)
+  where
+    no_bit : (p q : ℕ) → ¬ HasBit (row_at [] p) q
+    no_bit p q h = no_row q (subst (λ (t : List ℕ). HasBit t q) (get_or_past [] p [] (omega arith)) h)
+
+    nothing : IsKept [] []
+    nothing = record {
+      few = omega arith;
+      ascend = tt;
+      each = refl;
+      within = λ p q h. absurd (no_bit p q h);
+      both = λ p q h. absurd (no_bit p q h);
+      apart = λ p h. no_bit p p h;
+    }
+
+-- and it is the graph without nodes
+pub nothing_same : (nodes : List ℕ) (rows : List (List ℕ)) → nodes ≡ [] → rows ≡ []
+    → graph_kept nodes rows ≡ graph_of [] []
+unfolding links_read
+nothing_same nodes rows n r =
+    subst (λ (ns : List ℕ). graph_kept ns rows ≡ graph_of [] []) (sym n)
+    (subst (λ (rs : List (List ℕ)). graph_kept [] rs ≡ graph_of [] []) (sym r) same)
+  where
+    same : graph_kept [] [] ≡ graph_of [] []
+    same = refl

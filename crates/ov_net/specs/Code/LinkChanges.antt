@@ -1,0 +1,51 @@
+-- How the graph of a world changes with the changes of an entry.
+use Rattle.std.specs.Prelude.{◌≡◌, ◌≢◌, ◌↔◌, ◌⊎◌, ℕ, ◌<◌, List, [], ◌∷◌, Option, Some, None}
+use Rattle.std.specs.Ordering.{nat_cmp}
+use Rattle.std.specs.FinMap as map
+use Rattle.ov_ids.specs.Members.{Has}
+use Rattle.ov_graph.specs.Links.{LinkGraph, IsGraph, Linked, most_nodes}
+use Rattle.ov_graph.specs.Changes.{ArePair, GainsNode, LosesNode, LosesLink}
+use Rattle.ov_peer.specs.PeerState.{PeerState}
+use Rattle.ov_net.specs.declared.event.Event.{Event}
+use Rattle.ov_net.specs.declared.event.Event.TheVariants.{Boot, Deliver, Lose, Repeat, Crash, CrashReport, Shuffle}
+use Rattle.ov_net.specs.declared.event.Event.TheVariants.{Broadcast, Timer, Snapshot}
+use Rattle.ov_net.specs.declared.journal_entry_and_changes.Change.{Change}
+use Rattle.ov_net.specs.declared.journal_entry_and_changes.Change.TheVariants.{Born, Up, Down, Gone}
+use Rattle.ov_net.specs.declared.member.Member.{Member}
+use Rattle.ov_net.specs.declared.member.Member.TheVariants.{Live}
+
+-- node a is alive
+abbrev pub IsLive : map.FinMap nat_cmp Member → ℕ → Type 0
+IsLive nodes a = (p : PeerState) × (map.get nodes a ≡ Some (Live p))
+
+-- node a is alive, and holds b in its active view
+abbrev pub Holds : map.FinMap nat_cmp Member → ℕ → ℕ → Type 0
+Holds nodes a b = (p : PeerState) × (map.get nodes a ≡ Some (Live p)) × Has p.hyparview.views.active b
+
+-- the node that is born at an event, if one is
+abbrev pub newborn_of : Event → Option ℕ
+newborn_of (Boot a contact) = Some a
+newborn_of (Deliver i) = None
+newborn_of (Lose i) = None
+newborn_of (Repeat i) = None
+newborn_of (Crash a) = None
+newborn_of (CrashReport a crashed) = None
+newborn_of (Shuffle a) = None
+newborn_of (Broadcast a payload) = None
+newborn_of (Timer a id) = None
+newborn_of Snapshot = None
+
+-- the newborn node, if there is one, is not in the graph, which has room for one node more
+abbrev pub MayGain : Option ℕ → LinkGraph → Type 0
+MayGain None g = Unit {0}
+MayGain (Some a) g = (¬ Has g.nodes a) × (length g.nodes < most_nodes)
+
+-- h is the graph g with the newborn node, if there is one
+abbrev pub Gains : Option ℕ → LinkGraph → LinkGraph → Type 0
+Gains None g h = h ≡ g
+Gains (Some a) g h = GainsNode g a h
+
+-- h is g with a link between a and b, if they differ and b holds a
+record pub LinksMutual (nodes : map.FinMap nat_cmp Member) (a b : ℕ) (g h : LinkGraph) : Type 0 where
+  pub nodes : h.nodes ≡ g.nodes
+  pub links : (x y : ℕ) → Linked h x y ↔ (Linked g x y ⊎ (ArePair a b x y × (a ≢ b) × Holds nodes b a))
