@@ -1,3 +1,4 @@
--- The links that both ends hold, found in the views, and that they are one graph.
-pub mod Scanned
+-- The links that both ends hold, kept as the views change, and that they are one graph.
+pub mod Changing
+pub mod Kept
 pub mod OneGraph

@@ -1,6 +1,6 @@
 -- The invariant of a world: it holds at the beginning and after each event.
 use Rattle.std.proofs.Common.{◌≡◌, ◌≤◌, ◌<◌, ◌+◌, ℕ, zero, suc, Bool, true, false, cond, List, [], ◌∷◌, ◌++◌, length}
-use Rattle.std.proofs.Common.{length-append, Option, None, Some, is_some, refl, sym, ap, subst, ◌∙◌, arith}
+use Rattle.std.proofs.Common.{length-append, Option, None, Some, is_some, inl, inr, refl, sym, ap, subst, ◌∙◌, arith}
 use Rattle.std.specs.Prelude.{slice_get, remove}
 use Rattle.std.specs.Cmp.{nat_cmp_total}
 use Rattle.std.specs.FinMap as map
@@ -8,12 +8,15 @@ use Rattle.std.specs.Ordering.{nat_cmp}
 use Rattle.ov_ids.specs.ParamsState.{ParamsState}
 use Rattle.ov_ids.proofs.Stepping.{step_none}
 use Rattle.ov_wire.specs.declared.message.Message.{Message}
+use Rattle.ov_graph.specs.Links.{LinkGraph, IsGraph, Linked}
 use Rattle.ov_peer.specs.PeerState.{PeerState}
 use Rattle.ov_peer.specs.declared.input.Delivery.{Delivery}
 use Rattle.ov_peer.specs.declared.input.Input.{Input}
 use Rattle.ov_peer.specs.declared.input.Input.TheVariants as input
 use Rattle.ov_net.specs.Code.Codes.{world_of}
-use Rattle.ov_net.specs.Code.Effects.{AreEffects, HaveRoom, IsAfter}
+use Rattle.ov_net.specs.Code.Effects.{AreEffects, HaveRoom, IsAfter, NamedNodeChanges, packets_after}
+use Rattle.ov_net.specs.Code.LinkChanges.{AreChanged, Gains, MayGain, newborn_of}
+use Rattle.ov_net.specs.Journal.{AreLinks}
 use Rattle.ov_net.specs.Limits.{most_world_nodes, most_packets, most_entries}
 use Rattle.ov_net.specs.Net.{Net, LivesAs}
 use Rattle.ov_net.specs.NetStep.{NetStep, Happens, TakesInput, LiveTakesInput, Received}
@@ -28,7 +31,9 @@ use Rattle.ov_net.specs.declared.event.Event.TheVariants.{Broadcast, Timer, Snap
 use Rattle.ov_net.specs.declared.fault.NetFault.TheVariants.{UsedId, TooManyNodes, TooManyEntries}
 use Rattle.ov_net.specs.declared.member.Member.{Member}
 use Rattle.ov_net.specs.declared.member.Member.TheVariants as member
+use Rattle.ov_net.proofs.Journal.Outcomes.{Outcome, outcome, not_none}
 use Rattle.ov_net.proofs.Journal.Telling.{own_begun, own_kept, tells_begun, tells_kept}
+use Rattle.ov_net.proofs.Links.Kept.{IsMutual, by_views, by_journal, few_live, mutual_after}
 use Rattle.ov_net.proofs.Messages.Tracing.{traced_begun, traced_kept}
 use Rattle.ov_net.proofs.Steps.EventEffects.{contact_next}
 
@@ -191,3 +196,82 @@ step_next seen c event words b e u same effects entry after =
 
 pub one_longer : (journal : List Entry) (e : Entry) → length (journal ++ e ∷ []) ≡ length journal + 1
 one_longer journal e = length-append journal (e ∷ [])
+
+-- what an event does to the nodes, by its effects
+outcome_next : (seen c : WorldState) (event : Event) (words : List ℕ) (b : Effects) (nodes : map.FinMap nat_cmp Member)
+    → seen ≡ c → AreEffects c.net event words b → NamedNodeChanges b.node seen.net.nodes nodes
+    → Outcome (map.get seen.net.nodes) (map.get nodes) (newborn_of event) b.changes
+outcome_next seen c event words b nodes same effects changed =
+    let u : Net = record { params = seen.net.params; nodes = nodes; packets = packets_after seen.net b } in
+    let own = subst (λ (x : WorldState). AreEffects x.net event words b) (sym same) effects in
+    outcome seen.net event words u b.changes b.delivery
+    (own.happens u (record { params = refl; nodes = changed; packets = refl }))
+
+-- a world's graph, and what it was before
+pub record GraphAfter (seen : WorldState) (event : Event) (nodes : map.FinMap nat_cmp Member) (changes : List Change)
+    (g k : LinkGraph) : Type 0 where
+  pub was : IsMutual (map.get seen.net.nodes) g
+  pub outcome : Outcome (map.get seen.net.nodes) (map.get nodes) (newborn_of event) changes
+  pub gains : Gains (newborn_of event) g k
+  pub graph : IsGraph k
+
+pub graph_after : (seen c : WorldState) (event : Event) (words : List ℕ) (b : Effects)
+    (nodes : map.FinMap nat_cmp Member) (g k : LinkGraph) → seen ≡ c → Stands seen
+    → AreLinks seen.journal (length seen.journal) g → AreEffects c.net event words b
+    → NamedNodeChanges b.node seen.net.nodes nodes → Gains (newborn_of event) g k → IsGraph k
+    → GraphAfter seen event nodes b.changes g k
+graph_after seen c event words b nodes g k same s are effects changed gains graph = record {
+  was = by_views seen g s.tells are;
+  outcome = outcome_next seen c event words b nodes same effects changed;
+  gains = gains;
+  graph = graph;
+}
+
+-- the newborn node of an event that may happen is not in the graph, which has room for it
+pub may_gain : (seen c : WorldState) (event : Event) (g : LinkGraph) → seen ≡ c → Stands seen
+    → AreLinks seen.journal (length seen.journal) g → MayHappen c.net (length c.journal) event
+    → MayGain (newborn_of event) g
+may_gain seen c event g same s are judged =
+    by event (step_none (length seen.journal < most_entries) TooManyEntries (EventJudged seen.net event)
+    (subst (λ (x : WorldState). MayHappen x.net (length x.journal) event) (sym same) judged)).1
+  where
+    by : (e : Event) → EventJudged seen.net e None → MayGain (newborn_of e) g
+    by (Boot a contact) j =
+        let w = seen.net in
+        let r = step_none (map.get w.nodes a ≡ None) UsedId (ContactThen w contact (BirthLast w)) j in
+        let room = fewer_than contact w r.1 in
+        let is = by_views seen g s.tells are in
+        let few = few_live w.nodes g is in (
+          (λ i. let l = (is.nodes a).0 i in not_none (member.Live l.0) (map.get w.nodes a) l.1 r.0),
+          omega (arith, room, few),
+        )
+    by (Deliver i) j = tt
+    by (Lose i) j = tt
+    by (Repeat i) j = tt
+    by (Crash a) j = tt
+    by (CrashReport a crashed) j = tt
+    by (Shuffle a) j = tt
+    by (Broadcast a payload) j = tt
+    by (Timer a id) j = tt
+    by Snapshot j = tt
+
+-- the graph after an event, changed with its changes
+pub graph_next : (seen : WorldState) (event : Event) (nodes : map.FinMap nat_cmp Member) (changes : List Change)
+    (g k h : LinkGraph) → GraphAfter seen event nodes changes g k → AreChanged nodes changes k h
+    → (params : ParamsState) (packets : List (ℕ × Message)) (journal : List Entry)
+    → Stands (world_of params nodes packets journal) → AreLinks journal (length journal) h
+graph_next seen event nodes changes g k h after changed params packets journal s =
+    by_journal (world_of params nodes packets journal) h s.tells
+    (mutual_after (map.get seen.net.nodes) nodes (newborn_of event) changes g k h after.was after.outcome after.gains
+    after.graph changed)
+
+-- at the beginning there is no node
+pub links_begun : (journal : List Entry) (g : LinkGraph) → journal ≡ [] → g ≡ record { nodes = []; links = [] }
+    → AreLinks journal (length journal) g
+unfolding Linked
+links_begun journal g e f =
+    subst (λ (j : List Entry). AreLinks j (length j) g) (sym e) (subst (AreLinks [] 0) (sym f) (record {
+      graph = record { nodes_ascend = tt; links_ascend = tt; joins = λ l i. absurd i };
+      nodes = λ a. ((λ i. absurd i), (λ l. absurd l.0));
+      links = λ a b. ((λ l. elim l [ inl i ↦ absurd i | inr i ↦ absurd i ]), (λ h. absurd h.0.0));
+    }))

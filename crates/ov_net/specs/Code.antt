@@ -1,5 +1,5 @@
 -- What private contracts and proofs use.
 pub mod Refusals
 pub mod Effects
-pub mod Scan
+pub mod LinkChanges
 pub mod Codes

@@ -5,7 +5,6 @@ ghost use Rattle.ov_peer.specs.PeerState.{PeerState};
 ghost use Rattle.ov_net.specs.Code.Effects.{CanChange, NodeChanges};
 ghost use Rattle.ov_net.specs.declared.planned_effects.NodeChange.TheVariants.{Follows};
 ghost use Rattle.ov_net.specs.declared.member.Member.TheVariants.{Live, Gone};
-ghost use Rattle.ov_net.specs.Code.Scan.{AreLive};
 
 use crate::member::Member;
 use ov_ids::{NodeId, OutOfMemory};
@@ -113,18 +112,5 @@ impl Nodes {
         ensures err { OnErr result (self.new ≡ self.old) }
     {
         Ok(self.members.insert(id, member)?)
-    }
-
-    /// The ids of the live nodes, ascending.
-    pub(crate) fn live_ids(&self, alloc: Global) -> Result<Vec<NodeId>, OutOfMemory>
-        ensures { IfOk result (λ ids. AreLive self.now ids.items) }
-    {
-        let mut ids = Vec::new(alloc);
-        for (id, member) in self.members.iter() {
-            if let Member::Live(_) = member {
-                ids.push(*id)?;
-            }
-        }
-        Ok(ids)
     }
 }

@@ -1,9 +1,11 @@
 ghost use Rattle.std.specs.Prelude.{◌≡◌, ◌≤◌, ◌<◌, ◌+◌, ◌++◌, [], ◌∷◌, ◌↔◌, length, vec_len, vec_capacity};
 ghost use Rattle.std.specs.Prelude.{IfOk, IfErr, IfSome, IfNone, OnOk, OnErr, IsTrue};
+ghost use Rattle.ov_graph.specs.Links.{IsGraph};
 ghost use Rattle.ov_peer.specs.PeerState.{PeerState};
 ghost use Rattle.ov_net.specs.Code.Effects.{AreEffects, HaveRoom, IsWithin, taking};
 ghost use Rattle.ov_net.specs.Code.Effects.{NamedCanChange, NamedNodeChanges};
-ghost use Rattle.ov_net.specs.Journal.{DeliversOnce};
+ghost use Rattle.ov_net.specs.Code.LinkChanges.{Gains, MayGain, newborn_of};
+ghost use Rattle.ov_net.specs.Journal.{AreLinks, DeliversOnce};
 ghost use Rattle.ov_net.specs.Limits.{most_packets, most_entries};
 ghost use Rattle.ov_net.specs.Net.{LivesAs};
 ghost use Rattle.ov_net.specs.NetStep.{NetStep};
@@ -13,10 +15,12 @@ ghost use Rattle.ov_net.specs.World.{Stands, opening_world};
 use crate::event::Event;
 use crate::fault::NetFault;
 use crate::journal_entry_and_changes::Entry;
+use crate::kept_links::{add_newborn, change_graph, remove_newborn};
 use crate::member::Member;
 use crate::nodes::Nodes;
 use crate::packet::Packet;
 use crate::planned_effects::{Effects, NodeChange};
+use ov_graph::Graph;
 use ov_ids::{NodeId, OutOfMemory, Params};
 use ov_peer::Peer;
 use ov_words::Words;
@@ -42,6 +46,7 @@ pub struct World {
     pub(crate) nodes: Nodes,
     pub(crate) packets: Vec<Packet>,
     pub(crate) journal: Vec<Entry>,
+    pub(crate) graph: Graph,
 }
 
 impl Drop for World {
@@ -53,6 +58,7 @@ impl Drop for World {
             nodes: _,
             packets: _,
             journal: _,
+            graph: _,
         } = self;
     }
 }
@@ -67,7 +73,11 @@ impl Model for World {
 
     ghost view = { λ a. world_of a.params a.nodes a.packets.items a.journal.items };
 
-    ghost invariant = { λ a. Stands (world_of a.params a.nodes a.packets.items a.journal.items) };
+    ghost use Rattle.std.specs.Prelude.{length};
+    ghost use Rattle.ov_net.specs.Journal.{AreLinks};
+
+    ghost invariant = { λ a. Stands (world_of a.params a.nodes a.packets.items a.journal.items)
+        × AreLinks a.journal.items (length a.journal.items) a.graph };
 }
 
 impl World {
@@ -81,6 +91,7 @@ impl World {
             nodes: Nodes::new(alloc),
             packets: Vec::new(alloc),
             journal: Vec::new(alloc),
+            graph: Graph::empty(alloc),
         }
     }
 
@@ -93,6 +104,21 @@ impl World {
         ensures once { DeliversOnce self.now.journal }
     {
         &self.journal
+    }
+
+    /// The graph of the links that both ends hold now. Its nodes are the live ones. Two of them are linked if each holds
+    /// the other in its active view. Chosen here.
+    pub fn graph(&self) -> &Graph
+        ensures { AreLinks self.now.journal (length self.now.journal) result.now }
+    {
+        &self.graph
+    }
+
+    /// A copy of the graph of the links that both ends hold now, or out of memory (99).
+    pub fn links(&self) -> Result<Graph, OutOfMemory>
+        ensures { IfOk result (λ g. AreLinks self.now.journal (length self.now.journal) g) }
+    {
+        self.graph.copy()
     }
 
     /// The packets on their way, the oldest first. There are at most 65,536.
@@ -167,41 +193,76 @@ impl World {
         let answer = reserve_and_change(
             self.alloc,
             &mut self.nodes,
+            &mut self.graph,
             &mut self.packets,
             &mut self.journal,
             node,
             packets.len(),
             &entry,
         )?;
+        change_graph(&mut self.graph, &self.nodes, entry.changes.as_slice());
         update_packets(&mut self.packets, taken, packets);
         self.journal.push_reserved(entry);
         Ok(answer)
     }
 }
 
-/// Reserves room for an entry and `count` packets, copies the entry, and changes the named node, if there is one.
-/// Returns the copy. Out of memory, nothing changes.
+/// Reserves room for an entry and `count` packets, copies the entry, adds the entry's newborn node to the graph, and
+/// changes the named node, if there is one. Returns the copy. Out of memory, nothing changes.
 fn reserve_and_change(
     alloc: Global,
     nodes: &mut Nodes,
+    graph: &mut Graph,
     packets: &mut Vec<Packet>,
     journal: &mut Vec<Entry>,
     node: Option<(NodeId, NodeChange)>,
     count: usize,
     entry: &Entry,
 ) -> Result<Entry, OutOfMemory>
-    requires { NamedCanChange node nodes.old }
+    requires change { NamedCanChange node nodes.old }
+    requires graph { IsGraph graph.old }
+    requires newborn { MayGain (newborn_of entry.now.event) graph.old }
     ensures copy { IfOk result (λ e. e ≡ entry.now) }
     ensures ok { OnOk result (NamedNodeChanges node nodes.old nodes.new) }
+    ensures gains { OnOk result (Gains (newborn_of entry.now.event) graph.old graph.new) }
+    ensures graph { OnOk result (IsGraph graph.new) }
     ensures err { OnErr result (nodes.new ≡ nodes.old) }
+    ensures same { OnErr result (graph.new ≡ graph.old) }
     ensures packets { packets.new.items ≡ packets.old.items }
     ensures journal { journal.new.items ≡ journal.old.items }
     ensures places { OnOk result (vec_len packets.new + count ≤ vec_capacity packets.new) }
     ensures place { OnOk result (vec_len journal.new < vec_capacity journal.new) }
 {
     let answer = reserve_and_copy(alloc, packets, journal, count, entry)?;
-    change_named_node(nodes, node)?;
+    change_nodes(nodes, graph, &entry.event, node)?;
     Ok(answer)
+}
+
+/// Adds the node that is born at an event to the graph, and changes the named node, if there are any. Out of memory,
+/// nothing changes.
+fn change_nodes(
+    nodes: &mut Nodes,
+    graph: &mut Graph,
+    event: &Event,
+    node: Option<(NodeId, NodeChange)>,
+) -> Result<(), OutOfMemory>
+    requires change { NamedCanChange node nodes.old }
+    requires graph { IsGraph graph.old }
+    requires newborn { MayGain (newborn_of event.now) graph.old }
+    ensures ok { OnOk result (NamedNodeChanges node nodes.old nodes.new) }
+    ensures gains { OnOk result (Gains (newborn_of event.now) graph.old graph.new) }
+    ensures graph { OnOk result (IsGraph graph.new) }
+    ensures err { OnErr result (nodes.new ≡ nodes.old) }
+    ensures same { OnErr result (graph.new ≡ graph.old) }
+{
+    add_newborn(graph, event)?;
+    match change_named_node(nodes, node) {
+        Ok(()) => Ok(()),
+        Err(error) => {
+            remove_newborn(graph, event);
+            Err(error)
+        }
+    }
 }
 
 /// Reserves room for an entry and `count` packets, and returns a copy of the entry. Packets and journal stay the same.

@@ -11,6 +11,7 @@ use Rattle.ov_peer.specs.PeerState.{PeerState, newborn}
 use Rattle.ov_peer.specs.declared.input.Delivery.{Delivery}
 use Rattle.ov_peer.specs.declared.input.Input.{Input}
 use Rattle.ov_peer.specs.declared.input.Input.TheVariants as input
+use Rattle.ov_net.specs.Code.LinkChanges.{newborn_of}
 use Rattle.ov_net.specs.Net.{Net, LivesAs}
 use Rattle.ov_net.specs.NetStep.{Happens, TakesInput, OnlyPackets, Received, change_at}
 use Rattle.ov_net.specs.declared.journal_entry_and_changes.Change.{Change}
@@ -62,34 +63,34 @@ pub not_none : (m : Member) (o : Option Member) → o ≡ Some m → o ≢ None
 not_none m o e none = cc
 
 -- an event takes the members g to h, with these changes in its entry: nothing changes, or one node takes an input, is
--- born and takes its first input, or crashes
-pub data Outcome (g h : ℕ → Option Member) (changes : List Change) : Type 0 where
-  rests : h ≡ g → changes ≡ [] → Outcome g h changes
+-- born and takes its first input, or crashes. `bears` is the newborn node, if there is one
+pub data Outcome (g h : ℕ → Option Member) (bears : Option ℕ) (changes : List Change) : Type 0 where
+  rests : h ≡ g → bears ≡ None → changes ≡ [] → Outcome g h bears changes
   moved : (a : ℕ) (p q : PeerState) (told : List ViewChange) → g a ≡ Some (member.Live p) → PeerTracks p told q
-      → Puts g a (member.Live q) h → changes ≡ each (change_at a) told → Outcome g h changes
+      → Puts g a (member.Live q) h → bears ≡ None → changes ≡ each (change_at a) told → Outcome g h bears changes
   born : (a : ℕ) (params : ParamsState) (q : PeerState) (told : List ViewChange) → g a ≡ None
-      → PeerTracks (newborn a params) told q
-      → Puts g a (member.Live q) h → changes ≡ Born a ∷ each (change_at a) told → Outcome g h changes
-  gone : (a : ℕ) → Puts g a member.Gone h → changes ≡ Gone a ∷ [] → Outcome g h changes
+      → PeerTracks (newborn a params) told q → Puts g a (member.Live q) h → bears ≡ Some a
+      → changes ≡ Born a ∷ each (change_at a) told → Outcome g h bears changes
+  gone : (a : ℕ) → Puts g a member.Gone h → bears ≡ None → changes ≡ Gone a ∷ [] → Outcome g h bears changes
 
 -- the same from the world w to u
-abbrev pub WorldOutcome : Net → Net → List Change → Type 0
-WorldOutcome w u changes = Outcome (map.get w.nodes) (map.get u.nodes) changes
+abbrev pub WorldOutcome : Net → Net → Option ℕ → List Change → Type 0
+WorldOutcome w u bears changes = Outcome (map.get w.nodes) (map.get u.nodes) bears changes
 
 input_out : (w : Net) (a : ℕ) (p : PeerState) (i : Input) (words : List ℕ) (u : Net) (changes : List Change)
     (delivery : Option Delivery)
-    → LivesAs w a p → TakesInput w a p i words u changes delivery → WorldOutcome w u changes
+    → LivesAs w a p → TakesInput w a p i words u changes delivery → WorldOutcome w u None changes
 input_out w a p i words u changes delivery at h =
     moved a p h.0 h.2 at (peer_tracked p i h.3.2.0 h.0 h.1 h.2 delivery h.3.2.2)
-    (put_in w.nodes u.nodes a (member.Live h.0) (ap (λ (v : Net). v.nodes) h.4)) h.5
+    (put_in w.nodes u.nodes a (member.Live h.0) (ap (λ (v : Net). v.nodes) h.4)) refl h.5
 
 rests_out : (w : Net) (packets : List (ℕ × Message)) (u : Net) (changes : List Change) (delivery : Option Delivery)
-    → OnlyPackets w packets u changes delivery → WorldOutcome w u changes
-rests_out w packets u changes delivery h = rests (ap (λ (v : Net). map.get v.nodes) h.0) h.1
+    → OnlyPackets w packets u changes delivery → WorldOutcome w u None changes
+rests_out w packets u changes delivery h = rests (ap (λ (v : Net). map.get v.nodes) h.0) refl h.1
 
 received_out : (w : Net) (a : ℕ) (message : Message) (m : Option Member) (words : List ℕ) (u : Net)
     (changes : List Change) (delivery : Option Delivery)
-    → map.get w.nodes a ≡ m → Received w a message m words u changes delivery → WorldOutcome w u changes
+    → map.get w.nodes a ≡ m → Received w a message m words u changes delivery → WorldOutcome w u None changes
 received_out w a message (Some (member.Live p)) words u changes delivery at h =
     input_out w a p (input.Receive message) words u changes delivery at h
 received_out w a message (Some member.Gone) words u changes delivery at h = rests_out w w.packets u changes delivery h
@@ -97,19 +98,19 @@ received_out w a message None words u changes delivery at h = rests_out w w.pack
 
 -- each event does one of these
 pub outcome : (w : Net) (event : Event) (words : List ℕ) (u : Net) (changes : List Change) (delivery : Option Delivery)
-    → Happens w event words u changes delivery → WorldOutcome w u changes
+    → Happens w event words u changes delivery → WorldOutcome w u (newborn_of event) changes
 outcome w (Boot a contact) words u changes delivery h =
     let m = h.2 in
     born a w.params m.0 m.2 h.0 (peer_tracked (newborn a w.params) (input.Boot contact) m.3.2.0 m.0 m.1 m.2 delivery
     m.3.2.2)
-    (put_in w.nodes u.nodes a (member.Live m.0) (ap (λ (v : Net). v.nodes) m.4)) (h.3 ∙ ap (λ t. Born a ∷ t) m.5)
+    (put_in w.nodes u.nodes a (member.Live m.0) (ap (λ (v : Net). v.nodes) m.4)) refl (h.3 ∙ ap (λ t. Born a ∷ t) m.5)
 outcome w (Deliver i) words u changes delivery h =
     received_out (record w { packets = remove w.packets i }) h.0.0 h.0.1 (map.get w.nodes h.0.0) words u changes
     delivery refl h.2
 outcome w (Lose i) words u changes delivery h = rests_out w (remove w.packets i) u changes delivery h.2
 outcome w (Repeat i) words u changes delivery h = rests_out w (w.packets ++ h.0 ∷ []) u changes delivery h.2
 outcome w (Crash a) words u changes delivery h =
-    gone a (put_in w.nodes u.nodes a member.Gone (ap (λ (v : Net). v.nodes) h.2)) h.3
+    gone a (put_in w.nodes u.nodes a member.Gone (ap (λ (v : Net). v.nodes) h.2)) refl h.3
 outcome w (CrashReport a crashed) words u changes delivery h =
     input_out w a h.1.0 (input.CrashReport crashed) words u changes delivery h.1.1 h.1.2
 outcome w (Shuffle a) words u changes delivery h = input_out w a h.0 input.Shuffle words u changes delivery h.1 h.2

@@ -14,6 +14,7 @@ use Rattle.ov_views.specs.declared.change.ViewChange.{ViewChange}
 use Rattle.ov_peer.specs.PeerState.{PeerState, newborn}
 use Rattle.ov_graph.specs.Links.{LinkGraph, IsGraph, Linked}
 use Rattle.ov_net.specs.Journal.{changes_of, node_of, HoldsAfter, LivesAfter, HoldMutually, AreLinks}
+use Rattle.ov_net.specs.Code.LinkChanges.{newborn_of}
 use Rattle.ov_net.specs.Net.{HaveOwnIds, Net, LivesAs}
 use Rattle.ov_net.specs.NetStep.{NetStep, change_at}
 use Rattle.ov_net.specs.World.{WorldState, TellsViews, opening_world}
@@ -49,13 +50,14 @@ live_own g a q h put own views tree =
     (λ p e. subst (λ (s : PeerState). (s.hyparview.views.me ≡ a) × (s.tree.me ≡ a)) (same_live q p e) (views, tree))
 
 -- and after every event
-own_after : (g h : ℕ → Option Member) (changes : List Change) → OwnIds g → Outcome g h changes → OwnIds h
-own_after g h changes own (rests same none) = subst OwnIds (sym same) own
-own_after g h changes own (moved a p q told at tracks put is) =
+own_after : (g h : ℕ → Option Member) (bears : Option ℕ) (changes : List Change) → OwnIds g
+    → Outcome g h bears changes → OwnIds h
+own_after g h bears changes own (rests same unborn none) = subst OwnIds (sym same) own
+own_after g h bears changes own (moved a p q told at tracks put unborn is) =
     let was = own a p at in live_own g a q h put own (tracks.views.me ∙ was.0) (tracks.tree ∙ was.1)
-own_after g h changes own (born a params q told none tracks put is) =
+own_after g h bears changes own (born a params q told none tracks put bear is) =
     live_own g a q h put own tracks.views.me tracks.tree
-own_after g h changes own (gone a put is) = put_own g a member.Gone h put own (λ p e. absurd (gone_dead p e))
+own_after g h bears changes own (gone a put unborn is) = put_own g a member.Gone h put own (λ p e. absurd (gone_dead p e))
 
 -- the changes say who of the members is alive and whom each live one holds. None is of a node that was never born
 record Tells (look : ℕ → Option Member) (changes : List Change) : Type 0 where
@@ -181,21 +183,21 @@ moves_told g a p q h before told put tells at follows =
         (moves_hold before a b told p.hyparview.views.active (tells.held a b p at))
 
 -- the changes of an event tell what it does
-told_after : (g h : ℕ → Option Member) (before changes : List Change) → Tells g before → Outcome g h changes
-    → Tells h (before ++ changes)
-told_after g h before changes tells (rests same none) =
+told_after : (g h : ℕ → Option Member) (bears : Option ℕ) (before changes : List Change) → Tells g before
+    → Outcome g h bears changes → Tells h (before ++ changes)
+told_after g h bears before changes tells (rests same unborn none) =
     subst (λ look. Tells look (before ++ changes)) (sym same)
     (subst (Tells g) (sym (append-nil before) ∙ ap (λ l. before ++ l) (sym none)) tells)
-told_after g h before changes tells (moved a p q told at tracks put is) =
+told_after g h bears before changes tells (moved a p q told at tracks put unborn is) =
     subst (λ l. Tells h (before ++ l)) (sym is) (moves_told g a p q h before told put tells at tracks.views.active)
-told_after g h before changes tells (born a params q told none tracks put is) =
+told_after g h bears before changes tells (born a params q told none tracks put bear is) =
     let first = put_there g a (member.Live (newborn a params)) in
     let second : Puts _ a (member.Live q) h =
     record { here = put.here; others = λ x other. put.others x other ∙ sym (first.others x other) } in
     subst (Tells h) (append_assoc before (Born a ∷ []) (each (change_at a) told) ∙ ap (λ l. before ++ l) (sym is))
     (moves_told _ a (newborn a params) q h (before ++ Born a ∷ []) told second
     (born_told g a params _ before first tells none) first.here tracks.views.active)
-told_after g h before changes tells (gone a put is) =
+told_after g h bears before changes tells (gone a put unborn is) =
     subst (λ l. Tells h (before ++ l)) (sym is) (gone_told g a h before put tells)
 
 -- the changes of two lists of entries, one after the other
@@ -245,7 +247,7 @@ tells_begun params = record {
 pub own_kept : (w : Net) (event : Event) (words : List ℕ) (u : Net) (e : Entry) → HaveOwnIds w
     → NetStep w event words u e → HaveOwnIds u
 own_kept w event words u e own step =
-    own_after (map.get w.nodes) (map.get u.nodes) e.changes own (outcome w event words u e.changes e.delivery step.2)
+    own_after (map.get w.nodes) (map.get u.nodes) (newborn_of event) e.changes own (outcome w event words u e.changes e.delivery step.2)
 
 pub tells_kept : (c : WorldState) (event : Event) (words : List ℕ) (u : Net) (e : Entry) → TellsViews c
     → HaveOwnIds c.net → NetStep c.net event words u e
@@ -254,7 +256,7 @@ tells_kept c event words u e tells own step =
     told_views (record { net = u; journal = c.journal ++ e ∷ [] })
     (subst (Tells (map.get u.nodes))
     (ap (λ l. changes_of c.journal ++ l) (sym (append-nil e.changes)) ∙ sym (changes_append c.journal (e ∷ [])))
-    (told_after (map.get c.net.nodes) (map.get u.nodes) (changes_of c.journal) e.changes (views_told c tells)
+    (told_after (map.get c.net.nodes) (map.get u.nodes) (newborn_of event) (changes_of c.journal) e.changes (views_told c tells)
     (outcome c.net event words u e.changes e.delivery step.2)))
 
 -- the links of a world are those that its journal tells

@@ -23,7 +23,7 @@ link_of g h first second same l at = elim (same l.0 l.1 (inl at)) [
 ]
 
 -- graphs with the same nodes, of which the same are linked, are equal
-same_graphs : (g h : LinkGraph) → IsGraph g → IsGraph h → ((a : ℕ) → Has g.nodes a ↔ Has h.nodes a)
+pub same_graphs : (g h : LinkGraph) → IsGraph g → IsGraph h → ((a : ℕ) → Has g.nodes a ↔ Has h.nodes a)
     → ((a b : ℕ) → Linked g a b ↔ Linked h a b) → g ≡ h
 same_graphs g h first second nodes links =
     ap₂ (λ (ns : List ℕ) (ls : List (ℕ × ℕ)). record { nodes = ns; links = ls })

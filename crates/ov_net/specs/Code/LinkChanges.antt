@@ -1,5 +1,5 @@
 -- How the graph of a world changes with the changes of an entry.
-use Rattle.std.specs.Prelude.{◌≡◌, ◌≢◌, ◌↔◌, ◌⊎◌, ℕ, ◌<◌, List, [], ◌∷◌, Option, Some, None}
+use Rattle.std.specs.Prelude.{◌≡◌, ◌≢◌, ◌↔◌, ◌⊎◌, ℕ, ◌<◌, List, [], ◌∷◌, length, Option, Some, None}
 use Rattle.std.specs.Ordering.{nat_cmp}
 use Rattle.std.specs.FinMap as map
 use Rattle.ov_ids.specs.Members.{Has}
@@ -16,11 +16,11 @@ use Rattle.ov_net.specs.declared.member.Member.TheVariants.{Live}
 
 -- node a is alive
 abbrev pub IsLive : map.FinMap nat_cmp Member → ℕ → Type 0
-IsLive nodes a = (p : PeerState) × (map.get nodes a ≡ Some (Live p))
+IsLive members a = (p : PeerState) × (map.get members a ≡ Some (Live p))
 
 -- node a is alive, and holds b in its active view
 abbrev pub Holds : map.FinMap nat_cmp Member → ℕ → ℕ → Type 0
-Holds nodes a b = (p : PeerState) × (map.get nodes a ≡ Some (Live p)) × Has p.hyparview.views.active b
+Holds members a b = (p : PeerState) × (map.get members a ≡ Some (Live p)) × Has p.hyparview.views.active b
 
 -- the node that is born at an event, if one is
 abbrev pub newborn_of : Event → Option ℕ
@@ -46,6 +46,32 @@ Gains None g h = h ≡ g
 Gains (Some a) g h = GainsNode g a h
 
 -- h is g with a link between a and b, if they differ and b holds a
-record pub LinksMutual (nodes : map.FinMap nat_cmp Member) (a b : ℕ) (g h : LinkGraph) : Type 0 where
+pub record GainsMutual (members : map.FinMap nat_cmp Member) (a b : ℕ) (g h : LinkGraph) : Type 0 where
   pub nodes : h.nodes ≡ g.nodes
-  pub links : (x y : ℕ) → Linked h x y ↔ (Linked g x y ⊎ (ArePair a b x y × (a ≢ b) × Holds nodes b a))
+  pub links : (x y : ℕ) → Linked h x y ↔ (Linked g x y ⊎ (ArePair a b x y × (a ≢ b) × Holds members b a))
+
+-- h is the graph g after one change more; `members` are the nodes after the event. A newborn node is in g already
+abbrev pub IsChanged : map.FinMap nat_cmp Member → Change → LinkGraph → LinkGraph → Type 0
+IsChanged members (Born a) g h = h ≡ g
+IsChanged members (Up a b) g h = GainsMutual members a b g h
+IsChanged members (Down a b) g h = LosesLink g a b h
+IsChanged members (Gone a) g h = LosesNode g a h
+
+-- h is the graph g after these changes, one after the other
+abbrev pub AreChanged : map.FinMap nat_cmp Member → List Change → LinkGraph → LinkGraph → Type 0
+AreChanged members [] g h = h ≡ g
+AreChanged members (c ∷ changes) g h =
+    (k : LinkGraph) × IsGraph k × IsChanged members c g k × AreChanged members changes k h
+
+-- each live node is in the graph
+abbrev pub HasAllLive : map.FinMap nat_cmp Member → LinkGraph → Type 0
+HasAllLive members g = (a : ℕ) → IsLive members a → Has g.nodes a
+
+-- the changes fit the nodes after the event: one whose active view changed is alive, and one that crashed is not
+pub record Fit (members : map.FinMap nat_cmp Member) (changes : List Change) : Type 0 where
+  pub up : (a b : ℕ) → Has changes (Up a b) → IsLive members a
+  pub gone : (a : ℕ) → Has changes (Gone a) → ¬ IsLive members a
+
+-- one change fits them
+abbrev pub FitsOne : map.FinMap nat_cmp Member → Change → Type 0
+FitsOne members c = Fit members (c ∷ [])
