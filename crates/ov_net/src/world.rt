@@ -106,8 +106,8 @@ impl World {
         &self.journal
     }
 
-    /// The graph of the links that both ends hold now. Its nodes are the live ones. Two of them are linked if each holds
-    /// the other in its active view. Chosen here.
+    /// The graph of the links that both ends hold now. Its nodes are the live ones. Two of them are linked if each
+    /// holds the other in its active view. Chosen here.
     pub fn graph(&self) -> &Graph
         ensures { AreLinks self.now.journal (length self.now.journal) result.now }
     {

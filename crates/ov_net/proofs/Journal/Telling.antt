@@ -57,7 +57,8 @@ own_after g h bears changes own (moved a p q told at tracks put unborn is) =
     let was = own a p at in live_own g a q h put own (tracks.views.me ∙ was.0) (tracks.tree ∙ was.1)
 own_after g h bears changes own (born a params q told none tracks put bear is) =
     live_own g a q h put own tracks.views.me tracks.tree
-own_after g h bears changes own (gone a put unborn is) = put_own g a member.Gone h put own (λ p e. absurd (gone_dead p e))
+own_after g h bears changes own (gone a put unborn is) =
+    put_own g a member.Gone h put own (λ p e. absurd (gone_dead p e))
 
 -- the changes say who of the members is alive and whom each live one holds. None is of a node that was never born
 record Tells (look : ℕ → Option Member) (changes : List Change) : Type 0 where
@@ -247,7 +248,8 @@ tells_begun params = record {
 pub own_kept : (w : Net) (event : Event) (words : List ℕ) (u : Net) (e : Entry) → HaveOwnIds w
     → NetStep w event words u e → HaveOwnIds u
 own_kept w event words u e own step =
-    own_after (map.get w.nodes) (map.get u.nodes) (newborn_of event) e.changes own (outcome w event words u e.changes e.delivery step.2)
+    own_after (map.get w.nodes) (map.get u.nodes) (newborn_of event) e.changes own
+    (outcome w event words u e.changes e.delivery step.2)
 
 pub tells_kept : (c : WorldState) (event : Event) (words : List ℕ) (u : Net) (e : Entry) → TellsViews c
     → HaveOwnIds c.net → NetStep c.net event words u e
@@ -256,7 +258,8 @@ tells_kept c event words u e tells own step =
     told_views (record { net = u; journal = c.journal ++ e ∷ [] })
     (subst (Tells (map.get u.nodes))
     (ap (λ l. changes_of c.journal ++ l) (sym (append-nil e.changes)) ∙ sym (changes_append c.journal (e ∷ [])))
-    (told_after (map.get c.net.nodes) (map.get u.nodes) (newborn_of event) (changes_of c.journal) e.changes (views_told c tells)
+    (told_after (map.get c.net.nodes) (map.get u.nodes) (newborn_of event) (changes_of c.journal) e.changes
+    (views_told c tells)
     (outcome c.net event words u e.changes e.delivery step.2)))
 
 -- the links of a world are those that its journal tells
