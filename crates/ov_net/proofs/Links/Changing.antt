@@ -1,11 +1,10 @@
 -- What one change does to a graph.
-use Rattle.std.proofs.Common.{◌≡◌, ◌≢◌, ◌↔◌, ◌⊎◌, ℕ, suc, ◌+◌, ◌<◌, List, [], ◌∷◌, length, drop}
+use Rattle.std.proofs.Common.{◌≡◌, ◌≢◌, ◌↔◌, ◌⊎◌, ℕ, suc, ◌+◌, ◌<◌, List, ◌∷◌, length, drop}
 use Rattle.std.proofs.Common.{Bool, IsTrue, get_or, Option, Some, inl, inr, refl, sym, ap, subst, ◌∙◌, arith}
 use Rattle.std.proofs.Math.Seq.{drop-cons}
 use Rattle.std.specs.FinMap as map
 use Rattle.std.specs.Ordering.{nat_cmp}
 use Rattle.ov_ids.specs.Members.{Has}
-use Rattle.ov_ids.specs.Sets.{adding, without}
 use Rattle.ov_graph.specs.Links.{LinkGraph, IsGraph, Linked}
 use Rattle.ov_graph.specs.Changes.{ArePair, GainsNode, LosesNode, GainsLink, LosesLink}
 use Rattle.ov_graph.proofs.EvenTest.Filtered.{linked_node}

@@ -1,43 +1,40 @@
 -- The graph of a world, changed with the changes of an event, is that of the links after it.
-use Rattle.std.proofs.Common.{◌≡◌, ◌≢◌, ◌↔◌, ◌⊎◌, ℕ, ◌+◌, ◌<◌, ◌≤◌, List, [], ◌∷◌, ◌++◌, length, map as each, Option}
-use Rattle.std.proofs.Common.{◌-◌, None, Some, cond, eqb, is_some, inl, inr, refl, sym, ap, subst, ◌∙◌, arith}
+use Rattle.std.proofs.Common.{◌≡◌, ◌≢◌, ◌↔◌, ◌⊎◌, ℕ, ◌<◌, ◌≤◌, List, [], ◌∷◌, length, map as each, Option}
+use Rattle.std.proofs.Common.{◌-◌, None, Some, cond, is_some, inl, inr, refl, sym, ap, subst, ◌∙◌, arith}
 use Rattle.std.proofs.lemmas.Bool.{cases_eq, ne_eqb}
 use Rattle.std.specs.Cmp.{nat_cmp_total, unsigned_ties}
 use Rattle.std.specs.FinMap as map
 use Rattle.std.specs.Ordering.{nat_cmp}
 use Rattle.ov_ids.specs.Members.{Has, Ascends}
 use Rattle.ov_ids.specs.Sets.{adding, without}
-use Rattle.ov_ids.specs.ParamsState.{ParamsState}
 use Rattle.ov_ids.proofs.Members.{all_member}
 use Rattle.ov_views.specs.Changes.{after_changes}
 use Rattle.ov_views.specs.declared.change.ViewChange.{ViewChange}
 use Rattle.ov_views.specs.declared.change.ViewChange.TheVariants as view
-use Rattle.ov_peer.specs.PeerState.{PeerState, newborn}
+use Rattle.ov_peer.specs.PeerState.{PeerState}
 use Rattle.ov_graph.specs.Links.{LinkGraph, IsGraph, Linked}
-use Rattle.ov_graph.specs.Changes.{ArePair, GainsNode, LosesNode, LosesLink}
+use Rattle.ov_graph.specs.Changes.{GainsNode, LosesNode, LosesLink}
 use Rattle.ov_graph.proofs.EvenTest.Filtered.{linked_node}
 use Rattle.ov_graph.proofs.EvenTest.Walks.{linked_sym}
-use Rattle.ov_net.specs.Code.LinkChanges.{AreChanged, Fit, Gains, GainsMutual, HasAllLive, IsLive, newborn_of}
-use Rattle.ov_net.specs.Journal.{AreLinks, node_of}
-use Rattle.ov_net.specs.Net.{HaveOwnIds, Net}
-use Rattle.ov_net.specs.NetStep.{NetStep, change_at}
+use Rattle.ov_net.specs.Code.LinkChanges.{AreChanged, Fit, Gains, GainsMutual, HasAllLive}
+use Rattle.ov_net.specs.Journal.{AreLinks}
+use Rattle.ov_net.specs.NetStep.{change_at}
 use Rattle.ov_net.specs.World.{WorldState, TellsViews}
 use Rattle.ov_net.specs.declared.journal_entry_and_changes.Change.{Change}
 use Rattle.ov_net.specs.declared.journal_entry_and_changes.Change.TheVariants.{Born, Up, Down, Gone}
-use Rattle.ov_net.specs.declared.journal_entry_and_changes.Entry.{Entry}
-use Rattle.ov_net.specs.declared.event.Event.{Event}
 use Rattle.ov_net.specs.declared.member.Member.{Member}
 use Rattle.ov_net.specs.declared.member.Member.TheVariants as member
 use Rattle.ov_net.proofs.Journal.After.{members_adding, members_without, told_lasting, told_node}
-use Rattle.ov_net.proofs.Journal.Outcomes.{Puts, Outcome, rests, moved, born, gone, outcome, same_some}
+use Rattle.ov_net.proofs.Journal.Outcomes.{Puts, Outcome, rests, moved, born, gone, same_some}
 use Rattle.ov_net.proofs.Journal.Outcomes.{same_live, gone_dead, not_none}
-use Rattle.ov_net.proofs.Journal.Telling.{links_of, tells_kept}
+use Rattle.ov_net.proofs.Journal.Telling.{links_of}
 use Rattle.ov_net.proofs.Links.Changing.{lost_linked, same_linked}
 
 -- node a is alive, and holds b, where each id has this member
 abbrev pub HoldsIn : (ℕ → Option Member) → ℕ → ℕ → Type 0
 HoldsIn look a b = (p : PeerState) × (look a ≡ Some (member.Live p)) × Has p.hyparview.views.active b
 
+-- node a is alive there
 abbrev pub LivesIn : (ℕ → Option Member) → ℕ → Type 0
 LivesIn look a = (p : PeerState) × (look a ≡ Some (member.Live p))
 
