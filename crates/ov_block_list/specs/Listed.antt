@@ -1,0 +1,7 @@
+-- A list in blocks, as its callers see it.
+use Rattle.std.specs.Prelude.{ℕ, List}
+
+-- the items of a list in order, and how many more it can take in without an allocation
+pub record Listed (T : Type 0) : Type 0 where
+  pub items : List T
+  pub room : ℕ
