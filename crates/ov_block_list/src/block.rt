@@ -46,6 +46,7 @@ impl<T> Block<T> {
     pub fn len(&self) -> usize
         ensures value { result ≡ length self.now.items }
         ensures fits { result ≤ self.now.capacity }
+        ensures few { result ≤ block_size }
     {
         self.0.len()
     }

@@ -2,5 +2,8 @@
 #![tactic(auto)]
 
 mod block;
+mod block_list;
+mod blocks;
 
-pub use block::{BLOCK, Block};
+pub use block::BLOCK;
+pub use block_list::BlockList;
