@@ -4,6 +4,7 @@ ghost use Rattle.ov_block_list.specs.Listed.{Listed};
 
 use crate::block::{BLOCK, Block};
 use crate::blocks::{add_spare, begin, find, take_out, tidy};
+use crate::items::Items;
 use ov_ids::OutOfMemory;
 use std::alloc::Global;
 use std::marker::Model;
@@ -75,6 +76,13 @@ impl<T> BlockList<T> {
             return Some(&self.full[block].as_slice()[rest]);
         }
         self.last.as_slice().get(place - self.before_last)
+    }
+
+    /// The items in order.
+    pub fn iter(&self) -> Items<'_, T>
+        ensures { result ≡ self.now.items }
+    {
+        Items::new(&self.full, &self.last)
     }
 
     /// Makes room for as many more items. OutOfMemory (99) if an allocation is refused, or if that were more than

@@ -4,6 +4,8 @@
 mod block;
 mod block_list;
 mod blocks;
+mod items;
 
 pub use block::BLOCK;
 pub use block_list::BlockList;
+pub use items::Items;
