@@ -57,7 +57,11 @@ impl<T> Block<T> {
         ensures fits { self.now.capacity ≤ block_size }
     {
         let capacity = self.0.capacity();
-        if capacity < BLOCK { capacity - self.0.len() } else { BLOCK - self.0.len() }
+        if capacity < BLOCK {
+            capacity - self.0.len()
+        } else {
+            BLOCK - self.0.len()
+        }
     }
 
     /// The items in order.

@@ -1,4 +1,4 @@
-ghost use Rattle.std.specs.Prelude.{◌≡◌, ◌+◌, ◌≤◌, ◌<◌, [], ◌∷◌, ◌++◌, ◌==◌, ◌↔◌, length, OnOk, IsSome, IfSome, slice_index_or};
+ghost use Rattle.std.specs.Prelude.{◌≡◌, ◌+◌, ◌*◌, ◌≤◌, ◌<◌, [], ◌∷◌, ◌++◌, ◌==◌, ◌↔◌, length, OnOk, IsSome, IfSome, slice_index_or};
 ghost use Rattle.std.specs.List.{remove};
 ghost use Rattle.ov_block_list.specs.Listed.{Listed};
 
@@ -26,13 +26,18 @@ pub struct BlockList<T> {
 }
 
 impl<T> Model for BlockList<T> {
+    ghost use Rattle.std.specs.Prelude.{◌+◌, length};
     ghost use Rattle.ov_block_list.specs.Listed.{Listed};
 
     ghost Value = { Listed T };
 
     ghost use Rattle.ov_block_list.specs.Code.Kept.{items_of, room_of, AreKept};
 
-    ghost view = { λ a. record { items = items_of a.full.items a.last; room = room_of a.last a.spare.items } };
+    ghost view = { λ a. record {
+      items = items_of a.full.items a.last;
+      room = room_of a.last a.spare.items;
+      blocks = length a.full.items + 1;
+    } };
 
     ghost invariant = { λ a. AreKept a.full.items a.full.cap a.last a.spare.items a.spare.cap a.before_last };
 }
@@ -64,6 +69,14 @@ impl<T> BlockList<T> {
         ensures { result ≡ (length self.now.items == 0) }
     {
         self.len() == 0
+    }
+
+    /// How many blocks a take-out may have to look at: one for each 64 items, and two more at most.
+    pub fn blocks(&self) -> usize
+        ensures value { result ≡ self.now.blocks }
+        ensures few { 64 * self.now.blocks ≤ length self.now.items + 128 }
+    {
+        self.full.len() + 1
     }
 
     /// The item at the place, or None behind the last one.
@@ -124,6 +137,19 @@ impl<T> BlockList<T> {
             begin(&mut self.full, &mut self.last, &mut self.spare);
         }
         self.last.push(item);
+    }
+
+    /// Appends the items, in order. There must be room for them.
+    pub fn append_reserved(&mut self, items: Vec<T>)
+    where
+        T: Drop,
+        requires { length items.items ≤ self.old.room }
+        ensures items { self.new.items ≡ self.old.items ++ items.items }
+        ensures room { self.new.room + length items.items ≡ self.old.room }
+    {
+        for item in items {
+            self.push_reserved(item);
+        }
     }
 
     /// Takes the item at the place out. Nothing is allocated, and the room is not less than before.

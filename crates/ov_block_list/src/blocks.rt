@@ -1,7 +1,8 @@
 //! Blocks in order, and those that are spare.
-ghost use Rattle.std.specs.Prelude.{◌≡◌, ◌+◌, ◌≤◌, ◌<◌, ◌⊎◌, ◌++◌, take, length, slice_index_or, OnOk};
+ghost use Rattle.std.specs.Prelude.{◌≡◌, set, get_or, ◌+◌, ◌≤◌, ◌<◌, ◌⊎◌, ◌++◌, take, length, slice_index_or, OnOk};
 ghost use Rattle.std.specs.List.{AllByRecursion, remove};
 ghost use Rattle.ov_block_list.specs.Code.Blocks.{Filled, block_size, joined, IsWhole, IsSpare};
+ghost use Rattle.ov_block_list.specs.Code.Dense.{AreDense, most_joined, sizes, with_more};
 
 use crate::block::{BLOCK, Block};
 use ov_ids::OutOfMemory;
@@ -31,13 +32,16 @@ pub fn find<T>(blocks: &[Block<T>], place: usize) -> (usize, usize)
     unreachable!()
 }
 
-/// Takes the item at the place out, and returns it with the block that had it. The other blocks stay as they are.
+/// Takes the item at the place out, and returns it with the block that had it. The other blocks stay as they are. They
+/// were dense, so they are if that block had one item more.
 pub fn take_out<T>(blocks: &mut Vec<Block<T>>, place: usize) -> (T, usize)
     requires inside { place < length (joined blocks.old.items) }
     requires whole { AllByRecursion IsWhole blocks.old.items }
+    requires dense { AreDense (sizes blocks.old.items) }
     ensures value { result.0 ≡ slice_index_or (joined blocks.old.items) place result.0 }
     ensures items { joined blocks.new.items ≡ remove (joined blocks.old.items) place }
     ensures whole { AllByRecursion IsWhole blocks.new.items }
+    ensures dense { AreDense (with_more (sizes blocks.new.items) result.1) }
     ensures block { result.1 < length blocks.new.items }
     ensures count { length blocks.new.items ≡ length blocks.old.items }
     ensures room { blocks.new.cap ≡ blocks.old.cap }
@@ -47,14 +51,17 @@ pub fn take_out<T>(blocks: &mut Vec<Block<T>>, place: usize) -> (T, usize)
 }
 
 /// Puts what an emptied block leaves in order: the block at the place becomes spare if it is empty, and is joined with a
-/// neighbour if both together have at most `JOINED` items. The spare blocks must have room for one more.
+/// neighbour if both together have at most `JOINED` items. The blocks were dense when this one had one item more, and are
+/// dense again. The spare blocks must have room for one more.
 pub fn tidy<T>(full: &mut Vec<Block<T>>, spare: &mut Vec<Block<T>>, block: usize)
     requires block { block < length full.old.items }
     requires whole { AllByRecursion IsWhole full.old.items }
+    requires dense { AreDense (with_more (sizes full.old.items) block) }
     requires spare { AllByRecursion IsSpare spare.old.items }
     requires room { length spare.old.items < spare.old.cap }
     ensures items { joined full.new.items ≡ joined full.old.items }
     ensures whole { AllByRecursion IsWhole full.new.items }
+    ensures dense { AreDense (sizes full.new.items) }
     ensures spare { AllByRecursion IsSpare spare.new.items }
     ensures count { length full.new.items + length spare.new.items ≡ length full.old.items + length spare.old.items }
     ensures more_spare { length spare.old.items ≤ length spare.new.items }
@@ -85,6 +92,7 @@ fn join<T>(full: &mut Vec<Block<T>>, spare: &mut Vec<Block<T>>, block: usize)
     requires room { length spare.old.items < spare.old.cap }
     ensures items { joined full.new.items ≡ joined full.old.items }
     ensures whole { AllByRecursion IsWhole full.new.items }
+    ensures sizes { sizes full.new.items ≡ set (remove (sizes full.old.items) (block + 1)) block (get_or (sizes full.old.items) block 0 + get_or (sizes full.old.items) (block + 1) 0) }
     ensures spare { AllByRecursion IsSpare spare.new.items }
     ensures count { length full.new.items + 1 ≡ length full.old.items }
     ensures more_spare { length spare.new.items ≡ length spare.old.items + 1 }
@@ -96,16 +104,19 @@ fn join<T>(full: &mut Vec<Block<T>>, spare: &mut Vec<Block<T>>, block: usize)
     spare.push_reserved(next);
 }
 
-/// Begins a new last block: a spare one, without items. The old one comes behind the full blocks if it has items.
+/// Begins a new last block: a spare one, without items. The old one has no room, and comes behind the full blocks if it has
+/// items.
 pub fn begin<T>(full: &mut Vec<Block<T>>, last: &mut Block<T>, spare: &mut Vec<Block<T>>)
     requires some { 0 < length spare.old.items }
     requires whole { AllByRecursion IsWhole full.old.items }
     requires spare { AllByRecursion IsSpare spare.old.items }
     requires last { (last.old.capacity ≡ 0) ⊎ (last.old.capacity ≡ block_size) }
-    requires last_fits { length last.old.items ≤ last.old.capacity }
+    requires at_end { length last.old.items ≡ last.old.capacity }
+    requires dense { AreDense (sizes full.old.items) }
     requires room { length full.old.items < full.old.cap }
     ensures items { joined full.new.items ≡ joined full.old.items ++ last.old.items }
     ensures last { IsSpare last.new }
+    ensures dense { AreDense (sizes full.new.items) }
     ensures whole { AllByRecursion IsWhole full.new.items }
     ensures spare { AllByRecursion IsSpare spare.new.items }
     ensures one_less { length spare.new.items + 1 ≡ length spare.old.items }
@@ -123,7 +134,11 @@ pub fn begin<T>(full: &mut Vec<Block<T>>, last: &mut Block<T>, spare: &mut Vec<B
 
 /// Makes as many more spare blocks. There must be room for them. OutOfMemory (99) if an allocation is refused: fewer
 /// blocks are made then.
-pub fn add_spare<T>(spare: &mut Vec<Block<T>>, alloc: Global, count: usize) -> Result<(), OutOfMemory>
+pub fn add_spare<T>(
+    spare: &mut Vec<Block<T>>,
+    alloc: Global,
+    count: usize,
+) -> Result<(), OutOfMemory>
     requires spare { AllByRecursion IsSpare spare.old.items }
     requires room { length spare.old.items + count ≤ spare.old.cap }
     ensures made { OnOk result (length spare.new.items ≡ length spare.old.items + count) }

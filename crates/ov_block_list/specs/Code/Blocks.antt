@@ -1,6 +1,6 @@
 -- How a list is kept in blocks.
-use Rattle.std.specs.Prelude.{◌≡◌, ℕ, ◌+◌, ◌≤◌, List, [], length}
-use Rattle.std.specs.List.{AllByRecursion, flat_map}
+use Rattle.std.specs.Prelude.{◌≡◌, ℕ, ◌≤◌, List, [], length}
+use Rattle.std.specs.List.{flat_map}
 
 -- how many items a block has room for
 abbrev pub block_size : ℕ

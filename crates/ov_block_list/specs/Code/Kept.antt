@@ -2,6 +2,7 @@
 use Rattle.std.specs.Prelude.{◌≡◌, ℕ, ◌+◌, ◌-◌, ◌*◌, ◌≤◌, ◌^◌, ◌⊎◌, List, ◌++◌, length}
 use Rattle.std.specs.List.{AllByRecursion}
 use Rattle.ov_block_list.specs.Code.Blocks.{Filled, block_size, joined, IsWhole, IsSpare}
+use Rattle.ov_block_list.specs.Code.Dense.{AreDense, sizes}
 
 -- how many blocks a list has at most, but for the last one
 abbrev pub most_blocks : ℕ
@@ -19,6 +20,7 @@ room_of last spare = last.capacity - length last.items + block_size * length spa
 -- and how many items there are before the last block
 pub record AreKept {T : Type 0} (full : List (Filled T)) (full_room : ℕ) (last : Filled T) (spare : List (Filled T)) (spare_room before_last : ℕ) : Type 0 where
   pub whole : AllByRecursion IsWhole full
+  pub dense : AreDense (sizes full)
   pub empty : AllByRecursion IsSpare spare
   pub last_whole : (last.capacity ≡ 0) ⊎ (last.capacity ≡ block_size)
   pub last_fits : length last.items ≤ last.capacity

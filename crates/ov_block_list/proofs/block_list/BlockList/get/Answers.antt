@@ -16,6 +16,6 @@ returns-then-place-self-clause-value g c =
     (rw c.deref.ensures.value at f.ensures.block) (rw c.deref.ensures.value at f.ensures.inside b) (search rules)
     (rw c.deref.ensures.value at f.ensures.place) in
     let before : c.args.place < length (joined l.full.items)
-        = omega (arith, c.self.invariant.counted, c.if-place-self.true) in
+    = omega (arith, c.self.invariant.counted, c.if-place-self.true) in
     at' ∙ sym (get_or_append_left (joined l.full.items) l.last.items x c.args.place before)
     ∙ ap (λ (q : Listed g.row.T.Denot). get_or q.items c.args.place x) c.self.view_is

@@ -17,12 +17,12 @@ pub returns-then-self-place-clause-room : goal.returns-then-self-place-clause-ro
 returns-then-self-place-clause-room g c =
     let l = c.self.inside in
     let before : l.last.capacity - length l.last.items + block_size * length l.spare.items ≡ c.args.self.now.room
-        = ap (λ (q : Listed g.row.T.Denot). q.room) c.self.view_is in
+    = ap (λ (q : Listed g.row.T.Denot). q.room) c.self.view_is in
     let items = ap length c.remove.ensures.items in
     let count = ap (λ (q : Listed g.row.T.Denot). length q.items) c.self.view_is in
     let parts = length-append (joined l.full.items) l.last.items in
     let kept = c.self.invariant.counted in
     let inside : c.args.place - l.before_last < length l.last.items
-        = omega (arith, count, parts, kept, c.requires, c.if-self-place.true) in
+    = omega (arith, count, parts, kept, c.requires, c.if-self-place.true) in
     let one_less = length-remove l.last.items (c.args.place - l.before_last) inside in
     omega (arith, before, items, one_less, c.remove.ensures.capacity)
