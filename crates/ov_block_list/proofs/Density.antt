@@ -1,5 +1,6 @@
 -- What changes of blocks leave of their density.
-use Rattle.std.proofs.Common.{◌≡◌, ℕ, ◌+◌, ◌*◌, ◌<◌, ◌≤◌, ◌⊎◌, inl, inr, List, [], ◌∷◌, ◌++◌, length, set, get_or, ap, refl, subst, arith, zero, suc, length-append}
+use Rattle.std.proofs.Common.{◌≡◌, ℕ, ◌+◌, ◌*◌, ◌<◌, ◌≤◌, ◌⊎◌, inl, inr, List, [], ◌∷◌, ◌++◌, length, set, get_or}
+use Rattle.std.proofs.Common.{ap, refl, subst, arith, zero, suc, length-append}
 use Rattle.std.specs.List.{remove}
 use Rattle.std.proofs.lemmas.List.{get_or-set_other, get_or-set_same, length-set}
 use Rattle.ov_block_list.specs.Code.Blocks.{Filled, joined}
@@ -65,7 +66,8 @@ same_joined (a ∷ ns) (suc i) (suc j) zero x n s o =
     absurd (elim o [ inl e ↦ omega (arith, e) | inr e ↦ omega (arith, e) ])
 same_joined (a ∷ ns) (suc i) (suc j) (suc k) x n s o =
     ap (λ (ms : List ℕ). a ∷ ms)
-    (same_joined ns i j k x n (omega (arith, s)) (elim o [ inl e ↦ inl (omega (arith, e)) | inr e ↦ inr (omega (arith, e)) ]))
+    (same_joined ns i j k x n (omega (arith, s))
+    (elim o [ inl e ↦ inl (omega (arith, e)) | inr e ↦ inr (omega (arith, e)) ]))
 
 -- each size is above 0
 dense_some : (ns : List ℕ) (i : ℕ) → i < length ns → AreDense ns → 0 < get_or ns i 0

@@ -1,8 +1,8 @@
 //! Blocks in order, and those that are spare.
-ghost use Rattle.std.specs.Prelude.{◌≡◌, set, get_or, ◌+◌, ◌≤◌, ◌<◌, ◌⊎◌, ◌++◌, take, length, slice_index_or, OnOk};
+ghost use Rattle.std.specs.Prelude.{◌≡◌, ◌+◌, ◌≤◌, ◌<◌, ◌⊎◌, ◌++◌, take, length, slice_index_or, OnOk};
 ghost use Rattle.std.specs.List.{AllByRecursion, remove};
 ghost use Rattle.ov_block_list.specs.Code.Blocks.{Filled, block_size, joined, IsWhole, IsSpare};
-ghost use Rattle.ov_block_list.specs.Code.Dense.{AreDense, most_joined, sizes, with_more};
+ghost use Rattle.ov_block_list.specs.Code.Dense.{AreDense, FitsWithNext, sizes, with_more, with_next};
 
 use crate::block::{BLOCK, Block};
 use ov_ids::OutOfMemory;
@@ -50,9 +50,9 @@ pub fn take_out<T>(blocks: &mut Vec<Block<T>>, place: usize) -> (T, usize)
     (blocks[block].remove(rest), block)
 }
 
-/// Puts what an emptied block leaves in order: the block at the place becomes spare if it is empty, and is joined with a
-/// neighbour if both together have at most `JOINED` items. The blocks were dense when this one had one item more, and are
-/// dense again. The spare blocks must have room for one more.
+/// Puts the blocks in order after an item was taken out of the one at the place: it becomes spare if it is empty, and
+/// is joined with a neighbour if both together have at most `JOINED` items. The blocks were dense when it had one item
+/// more, and are dense again. The spare blocks must have room for one more.
 pub fn tidy<T>(full: &mut Vec<Block<T>>, spare: &mut Vec<Block<T>>, block: usize)
     requires block { block < length full.old.items }
     requires whole { AllByRecursion IsWhole full.old.items }
@@ -86,13 +86,13 @@ pub fn tidy<T>(full: &mut Vec<Block<T>>, spare: &mut Vec<Block<T>>, block: usize
 /// Moves the items of the next block behind those of this one, and makes the next one spare.
 fn join<T>(full: &mut Vec<Block<T>>, spare: &mut Vec<Block<T>>, block: usize)
     requires next { block + 1 < length full.old.items }
-    requires fits { (d : Filled T) → length (slice_index_or full.old.items block d).items + length (slice_index_or full.old.items (block + 1) d).items ≤ block_size }
+    requires fits { FitsWithNext full.old.items block }
     requires whole { AllByRecursion IsWhole full.old.items }
     requires spare { AllByRecursion IsSpare spare.old.items }
     requires room { length spare.old.items < spare.old.cap }
     ensures items { joined full.new.items ≡ joined full.old.items }
     ensures whole { AllByRecursion IsWhole full.new.items }
-    ensures sizes { sizes full.new.items ≡ set (remove (sizes full.old.items) (block + 1)) block (get_or (sizes full.old.items) block 0 + get_or (sizes full.old.items) (block + 1) 0) }
+    ensures sizes { sizes full.new.items ≡ with_next (sizes full.old.items) block }
     ensures spare { AllByRecursion IsSpare spare.new.items }
     ensures count { length full.new.items + 1 ≡ length full.old.items }
     ensures more_spare { length spare.new.items ≡ length spare.old.items + 1 }
@@ -104,8 +104,8 @@ fn join<T>(full: &mut Vec<Block<T>>, spare: &mut Vec<Block<T>>, block: usize)
     spare.push_reserved(next);
 }
 
-/// Begins a new last block: a spare one, without items. The old one has no room, and comes behind the full blocks if it has
-/// items.
+/// Begins a new last block: a spare one, without items. The old one has no room, and comes behind the full blocks if it
+/// has items.
 pub fn begin<T>(full: &mut Vec<Block<T>>, last: &mut Block<T>, spare: &mut Vec<Block<T>>)
     requires some { 0 < length spare.old.items }
     requires whole { AllByRecursion IsWhole full.old.items }

@@ -18,7 +18,8 @@ room_of last spare = last.capacity - length last.items + block_size * length spa
 
 -- the parts of a list: full blocks, room for how many of them, the last block, spare blocks, room for how many of them,
 -- and how many items there are before the last block
-pub record AreKept {T : Type 0} (full : List (Filled T)) (full_room : ℕ) (last : Filled T) (spare : List (Filled T)) (spare_room before_last : ℕ) : Type 0 where
+pub record AreKept {T : Type 0} (full : List (Filled T)) (full_room : ℕ) (last : Filled T) (spare : List (Filled T))
+    (spare_room before_last : ℕ) : Type 0 where
   pub whole : AllByRecursion IsWhole full
   pub dense : AreDense (sizes full)
   pub empty : AllByRecursion IsSpare spare

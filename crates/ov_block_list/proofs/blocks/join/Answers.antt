@@ -1,5 +1,6 @@
 -- The next block's items come behind those of this block.
-use Rattle.std.proofs.Common.{◌≡◌, ◌∙◌, ◌+◌, ℕ, List, ◌++◌, length, length-append, get_or, set, ap, ap₂, sym, subst, refl, arith}
+use Rattle.std.proofs.Common.{◌≡◌, ◌∙◌, ◌+◌, ℕ, List, ◌++◌, length, length-append, get_or, set, ap, ap₂, sym, subst}
+use Rattle.std.proofs.Common.{refl, arith}
 use Rattle.std.specs.List.{AllByRecursion}
 use Rattle.std.proofs.lemmas.List.{get_or_default, get_or-map, map-set}
 use Rattle.std.proofs.lemmas.List.Edits.{get_or-remove_below}

@@ -6,7 +6,10 @@ use Rattle.ov_block_list.specs.Code.Dense.{AreDense, most_joined, sizes, with_mo
 use Rattle.ov_block_list.proofs.Density.{dense_kept, dense_next, dense_this, dense_without, sizes_without}
 use Rattle.ov_block_list.proofs.Joining.{joined_emptied}
 use Rattle.ov_block_list.proofs.blocks.tidy.Goals as goal
-use Rattle.ov_block_list.proofs.blocks.tidy.Goals.{else-block-len-via-then-block-len+else-count-len-le-JOINED, else-block-len-via-else-block-len, else-block-gt0-via-then-block-gt0+else-len-count-le-JOINED, else-block-gt0-via-else-block-gt0}
+use Rattle.ov_block_list.proofs.blocks.tidy.Goals.{else-block-len-via-then-block-len+else-count-len-le-JOINED}
+use Rattle.ov_block_list.proofs.blocks.tidy.Goals.{else-block-len-via-else-block-len}
+use Rattle.ov_block_list.proofs.blocks.tidy.Goals.{else-block-gt0-via-then-block-gt0+else-len-count-le-JOINED}
+use Rattle.ov_block_list.proofs.blocks.tidy.Goals.{else-block-gt0-via-else-block-gt0}
 
 pub returns-then-count-eq0-clause-items : goal.returns-then-count-eq0-clause-items
 returns-then-count-eq0-clause-items g c =

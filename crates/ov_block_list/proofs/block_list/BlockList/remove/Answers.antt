@@ -10,7 +10,8 @@ pub returns-then-self-place-clause-items : goal.returns-then-self-place-clause-i
 returns-then-self-place-clause-items g c =
     let l = c.self.inside in
     ap (λ (xs : List g.row.T.Denot). joined l.full.items ++ xs) c.remove.ensures.items
-    ∙ sym (remove-append_right (joined l.full.items) l.last.items l.before_last c.args.place (sym c.self.invariant.counted) (search rules))
+    ∙ sym (remove-append_right (joined l.full.items) l.last.items l.before_last c.args.place
+    (sym c.self.invariant.counted) (search rules))
     ∙ ap (λ (q : Listed g.row.T.Denot). remove q.items c.args.place) c.self.view_is
 
 pub returns-then-self-place-clause-room : goal.returns-then-self-place-clause-room
