@@ -1,6 +1,8 @@
-//! Tests of ids, words, messages and views, and of HyParView's handlers.
+//! Tests of lists in blocks, of ids, words, messages and views, and of HyParView's handlers.
 #![tactic(auto)]
 
+#[cfg(test)]
+mod blocks;
 #[cfg(test)]
 mod ids;
 #[cfg(test)]
