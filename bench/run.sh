@@ -7,7 +7,7 @@ set -e
 root=$(readlink -f -- "$(dirname -- "$(readlink -f -- "$0")")/..")
 bench=$root/bench/$1
 if [ -z "$1" ] || [ ! -f "$bench/uses.txt" ]; then
-    echo 'usage: run.sh crew|net|peer|settle|wire [FOLDER]' >&2
+    echo 'usage: run.sh crew|net|packets|peer|settle|wire [FOLDER]' >&2
     exit 2
 fi
 work=${2:-$(mktemp -d)}
