@@ -3,7 +3,7 @@ ghost use Rattle.ov_ids.specs.Members.{Has, Ordered};
 ghost use Rattle.ov_snap.specs.Snapshots.{WasBefore};
 ghost use Rattle.ov_snap.specs.declared.kept_snapshots.Snapshot.{Snapshot as Kept};
 
-use ov_graph::Graph;
+use crate::shared_graph::SharedGraph;
 use ov_ids::OutOfMemory;
 
 /// A snapshot: the links that both ends held at a moment.
@@ -12,17 +12,17 @@ pub struct Snapshot {
     /// The number of the journal entry of the snapshot.
     pub moment: u32,
     /// The links that both ends held then.
-    pub graph: Graph,
+    pub graph: SharedGraph,
 }
 
 impl Snapshot {
-    /// An equal snapshot, or out of memory (99).
+    /// An equal snapshot, which shares the graph, or out of memory (99), as `SharedGraph::share`.
     pub(crate) fn copy(&self) -> Result<Snapshot, OutOfMemory>
         ensures { IfOk result (λ s. s ≡ self.now) }
     {
         Ok(Snapshot {
             moment: self.moment,
-            graph: self.graph.copy()?,
+            graph: self.graph.share()?,
         })
     }
 }

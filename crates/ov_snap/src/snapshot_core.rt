@@ -17,8 +17,8 @@ use crate::analysis_report::Report;
 use crate::fault::CoreFault;
 use crate::filed_reports::Reports;
 use crate::kept_snapshots::{Snapshot, find, make_room};
+use crate::shared_graph::SharedGraph;
 use ov_desk::GroupDesk;
-use ov_graph::Graph;
 use ov_ids::{NodeId, OutOfMemory, Params};
 use ov_net::{Entry, Event, MOST_ENTRIES, NetFault, World};
 use ov_words::{WORDS_PER_EVENT, Words};
@@ -129,15 +129,23 @@ impl Core {
         Ok(entry)
     }
 
-    /// The links that both ends hold now.
-    fn links_now(&self) -> Result<Graph, OutOfMemory>
+    /// The links that both ends hold now. If they are those of the last snapshot, its graph is shared, and otherwise the
+    /// world's is copied.
+    fn links_now(&self) -> Result<SharedGraph, OutOfMemory>
         ensures { IfOk result (λ g. AreLinks self.now.world.journal (length self.now.world.journal) g) }
     {
-        self.world.links()
+        let graph = self.world.graph();
+        if let Some(last) = self.snapshots.last() {
+            if last.graph.is_same(graph) {
+                return last.graph.share();
+            }
+        }
+        SharedGraph::new(*self.snapshots.allocator(), graph.copy()?)
     }
 
-    /// What an analysis of all nodes of this moment is given. It is refused if no snapshot was taken at this moment
-    /// (50), and then if nobody lived (30); if neither applies, it may be out of memory (99).
+    /// What an analysis of all nodes of this moment is given. Its graph is that of the snapshot, shared and not copied.
+    /// It is refused if no snapshot was taken at this moment (50), and then if nobody lived (30); if neither applies, it
+    /// may be out of memory (99).
     pub fn begin(&self, moment: u32) -> Result<Snapshot, CoreFault>
         ensures judged { IfOk result (λ snapshot. BeginJudged self.now moment None) }
         ensures moment { IfOk result (λ snapshot. snapshot.moment ≡ moment) }
@@ -148,8 +156,8 @@ impl Core {
         Ok(snapshot.copy()?)
     }
 
-    /// What an analysis of a group of the nodes of this moment is given. It is refused if no snapshot was taken at
-    /// this moment (50), then if nobody lived (30), and then if these ids are no group of the moment's graph (34); if
+    /// What an analysis of a group of the nodes of this moment is given. Its graph is that of the snapshot, shared and
+    /// not copied. It is refused if no snapshot was taken at this moment (50), then if nobody lived (30), and then if these ids are no group of the moment's graph (34); if
     /// none of these applies, it may be out of memory (99).
     pub fn begin_group(&self, moment: u32, group: &[NodeId]) -> Result<Snapshot, CoreFault>
         ensures judged { IfOk result (λ snapshot. GroupBeginJudged self.now moment group.now None) }

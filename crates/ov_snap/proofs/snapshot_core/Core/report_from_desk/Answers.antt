@@ -1,4 +1,6 @@
-use Rattle.std.proofs.Common.{◌∙◌, ap, subst}
+use Rattle.std.proofs.Common.{◌∙◌, ap, subst, sym}
+use Rattle.ov_desk.specs.Sound.{IsSoundDesk}
+use Rattle.ov_graph.specs.Links.{LinkGraph}
 use Rattle.ov_net.specs.Journal.{AreLinks}
 use Rattle.ov_snap.specs.ReportState.{ReportState}
 use Rattle.ov_snap.proofs.DeskCalls.{report_free}
@@ -9,8 +11,9 @@ pub certificate-requires-clause-sound : goal.certificate-requires-clause-sound
 certificate-requires-clause-sound c =
     let g = c.in_ok-snapshot.snapshot.now.graph in
     let journal = c.args.self.now.world.journal in
-    desk_sound journal c.in_ok-own.own.now g c.in_ok-own.ensures.own
-    (subst (λ n. AreLinks journal n g) c.moment-moment.ensures c.in_ok-snapshot.ensures.ok.1)
+    subst (λ (h : LinkGraph). IsSoundDesk h c.in_ok-own.own.now) (sym c.deref.ensures)
+    (desk_sound journal c.in_ok-own.own.now g c.in_ok-own.ensures.own
+    (subst (λ n. AreLinks journal n g) c.moment-moment.ensures c.in_ok-snapshot.ensures.ok.1))
 
 pub returns-clause-answer : goal.returns-clause-answer
 returns-clause-answer c =
@@ -25,5 +28,5 @@ returns-clause-free c =
     c.in_ok-snapshot.snapshot.now.graph c.new.result own.has own.judged c.moment-moment.ensures
     c.in_ok-snapshot.ensures.ok
     (ap (λ (r : ReportState). r.moment) c.new.ensures)
-    (ap (λ (r : ReportState). r.graph) c.new.ensures ∙ checked.graph)
+    (ap (λ (r : ReportState). r.graph) c.new.ensures ∙ checked.graph ∙ c.deref.ensures)
     (ap (λ (r : ReportState). r.members) c.new.ensures ∙ checked.members)
