@@ -1,17 +1,17 @@
-ghost use Rattle.std.specs.Prelude.{◌≡◌, ◌≢◌, ◌<◌, false, length, map, codes, string_bytes, Some, None, Err};
+ghost use Rattle.std.specs.Prelude.{◌≡◌, ◌≢◌, ◌<◌, length, map, codes, string_bytes, Some, None, Err};
 ghost use Rattle.std.specs.Prelude.{option_map, IfOk, IfSome, IsErrOf};
 ghost use Rattle.std.specs.IoError.{error_kind};
-ghost use Rattle.clap.specs.Words.{app_of, found_of, first_value, rule_of};
+ghost use Rattle.clap.specs.Words.{found_of, first_value};
 ghost use Rattle.ov_arguments.specs.Arguments.{AreReadable, AreReadableFor, AreTaken, HasGroupOfIds, IsAsked};
 ghost use Rattle.ov_arguments.specs.Arguments.{IsOfGiven};
 ghost use Rattle.ov_arguments.specs.Arguments.{file_asked, group_asked, is_flagged, workers_asked};
-ghost use Rattle.ov_arguments.specs.Arguments.{analyse_command, flag, option, overlay_command, run_command};
 ghost use Rattle.ov_arguments.specs.Arguments.{fault_of_parse, fault_of_text, number_of};
 ghost use Rattle.ov_arguments.specs.declared.arguments.ArgumentsFault.TheVariants.{BadArguments};
 ghost use Rattle.ov_arguments.specs.declared.arguments.ArgumentsFault.TheVariants.{OutOfMemory as out_of_memory};
 
+use crate::taken_arguments::command;
 use clap::error::ErrorKind;
-use clap::{Arg, ArgAction, ArgMatches, Command, Error as ClapError};
+use clap::{ArgMatches, Error as ClapError};
 use ov_claims::Workers;
 use ov_ids::{NodeId, OutOfMemory};
 use ov_lines::{read_ids, read_workers};
@@ -183,53 +183,6 @@ fn analysis_of(alloc: Global, found: &ArgMatches) -> Result<Request, ArgumentsFa
             progress: has_flag(found, "progress"),
         },
     })
-}
-
-/// The arguments that `overlay` takes.
-fn command<'a>(alloc: Global) -> Result<Command<'a>, AllocError>
-    ensures { IfOk result (λ c. app_of c ≡ overlay_command) }
-{
-    Command::new(alloc, "overlay")
-        .no_binary_name(true)
-        .subcommand(run_command(alloc)?)?
-        .subcommand(analyse_command(alloc)?)
-}
-
-/// The arguments after `run`.
-fn run_command<'a>(alloc: Global) -> Result<Command<'a>, AllocError>
-    ensures { IfOk result (λ c. app_of c ≡ run_command) }
-{
-    Command::new(alloc, "run")
-        .arg(Arg::new(alloc, "file"))?
-        .arg(flag(alloc, "explain"))
-}
-
-/// The arguments after `analyse`.
-fn analyse_command<'a>(alloc: Global) -> Result<Command<'a>, AllocError>
-    ensures { IfOk result (λ c. app_of c ≡ analyse_command) }
-{
-    Command::new(alloc, "analyse")
-        .arg(Arg::new(alloc, "file"))?
-        .arg(option(alloc, "group"))?
-        .arg(option(alloc, "workers"))?
-        .arg(flag(alloc, "certificate"))?
-        .arg(flag(alloc, "progress"))
-}
-
-/// An option of this name, with a text.
-fn option<'a>(alloc: Global, name: &'a str) -> Arg<'a>
-    ensures rule { rule_of result ≡ option name.entry.now }
-    ensures local { result.global ≡ false }
-{
-    Arg::new(alloc, name).long(name).action(ArgAction::Set)
-}
-
-/// An option of this name, without a text.
-fn flag<'a>(alloc: Global, name: &'a str) -> Arg<'a>
-    ensures rule { rule_of result ≡ flag name.entry.now }
-    ensures local { result.global ≡ false }
-{
-    Arg::new(alloc, name).long(name).action(ArgAction::SetTrue)
 }
 
 /// The file that is named, unless it is absent or `-`.

@@ -1,0 +1,18 @@
+-- The arguments, one after the other. Help does not matter to them.
+use Rattle.std.proofs.Common.{rules, ◌≡◌, ◌∙◌, ap, codes}
+use Rattle.std.proofs.lemmas.Result.{IfOk-weaker}
+use Rattle.clap.specs.Simple.{app_of_fields}
+use Rattle.clap.specs.Words.{AddsArg, app_of, new_app, new_rule, rule_of}
+use Rattle.ov_arguments.specs.Arguments.{flag, run_command}
+use Rattle.ov_arguments.proofs.Asked.{with_one_more}
+use Rattle.ov_arguments.proofs.taken_arguments.run_command.Goals as goal
+
+pub returns : goal.returns
+returns c =
+    let bare : app_of c.new.result ≡ new_app (codes "run") = search rules in
+    let none : app_of c.about.result ≡ new_app (codes "run") = ap app_of_fields c.about.ensures ∙ bare in
+    let file : rule_of c.file.result ≡ new_rule (codes "file") = search rules in
+    let explain : rule_of c.flag.result ≡ flag (codes "explain") = search rules in
+    let one = with_one_more _ _ _ _ _ c.in_ok-arg.ensures c.file.ensures.local none file in
+    IfOk-weaker c.arg-2.result (AddsArg c.in_ok-arg.field-0 c.flag.result) (λ r. app_of r ≡ run_command)
+    (λ r adds. with_one_more _ _ _ _ _ adds c.flag.ensures.local one explain) c.arg-2.ensures

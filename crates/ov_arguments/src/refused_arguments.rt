@@ -1,0 +1,90 @@
+use crate::taken_arguments::command;
+use clap::ArgMatches;
+use clap::error::ErrorKind;
+use ov_ids::OutOfMemory;
+use ov_io::shown_name;
+use ov_lines::{read_ids, read_workers};
+use std::alloc::{AllocError, Global};
+use std::fmt::Write;
+
+/// The program with its version, and the logic that it is proved with. Each kit of that logic may build it.
+const VERSION: &str = "overlay 1.0, proved with Rattle's logic dac8208d650f15bf\n";
+
+/// What is printed of arguments of which one is no text, so that `clap` does not see them.
+const NO_TEXT: &str = "error: an argument is no UTF-8 text\n";
+
+/// What the texts of `--group` and `--workers` must be. `clap` takes any text; the two are read here.
+const GROUP: &str = "ids from 0 to 4294967295, with one comma between two";
+
+const WORKERS: &str = "a number from 1 to 64";
+
+/// What is said of arguments that `overlay` refuses: help, the version, or what is wrong with them. They are the
+/// arguments after the program's name. An empty list means that an argument is no UTF-8. The text ends with a line
+/// feed; it is empty if nothing is wrong. `clap` makes it, from the arguments that `overlay` takes, except for the
+/// version and for a bad text of `--group` or `--workers`. OutOfMemory (99) if an allocation is refused.
+pub fn argument_reasons(alloc: Global, arguments: &[String]) -> Result<String, OutOfMemory> {
+    match arguments.first() {
+        None => Ok(String::from_str(alloc, NO_TEXT)?),
+        Some(first) if asks_for_version(first.as_str()) => Ok(String::from_str(alloc, VERSION)?),
+        Some(_) => reasons(alloc, arguments),
+    }
+}
+
+/// Whether the first argument asks for the version.
+fn asks_for_version(first: &str) -> bool {
+    first == "--version" || first == "-V"
+}
+
+/// What `clap` says of these arguments, or what is wrong with the texts that it finds in them.
+fn reasons(alloc: Global, arguments: &[String]) -> Result<String, OutOfMemory> {
+    let shown = shown(alloc, arguments)?;
+    match command(alloc)?.try_get_matches_from(&shown) {
+        Ok(matches) => text_reason(alloc, &matches),
+        Err(error) if error.kind() == ErrorKind::OutOfMemory => Err(OutOfMemory),
+        Err(error) => Ok(format!(in alloc; "{error}")?),
+    }
+}
+
+/// The arguments as a person can read them, each on one line: control characters are shown as their codes. None of
+/// them is part of the name of an option, of ids or of a number, so that nothing else is wrong with what is shown.
+fn shown(alloc: Global, arguments: &[String]) -> Result<Vec<String>, AllocError> {
+    let mut shown = Vec::new(alloc);
+    for argument in arguments {
+        shown.push(shown_name(alloc, argument.as_str())?)?;
+    }
+    Ok(shown)
+}
+
+/// What is wrong with the text of `--group` or of `--workers`, if one of them can't be read.
+fn text_reason(alloc: Global, matches: &ArgMatches) -> Result<String, OutOfMemory> {
+    let mut reason = String::new(alloc);
+    let Some((_, found)) = matches.subcommand() else {
+        return Ok(reason);
+    };
+    if let Some(text) = found.get_str("group") {
+        if read_ids(alloc, text.as_bytes())?.is_none() {
+            push_bad_text(&mut reason, "group", text, GROUP)?;
+            return Ok(reason);
+        }
+    }
+    if let Some(text) = found.get_str("workers") {
+        if read_workers(text.as_bytes()).is_none() {
+            push_bad_text(&mut reason, "workers", text, WORKERS)?;
+        }
+    }
+    Ok(reason)
+}
+
+/// Appends that an option takes something other than this text, in the form of `clap`.
+fn push_bad_text(
+    reason: &mut String,
+    option: &str,
+    text: &str,
+    wanted: &str,
+) -> Result<(), AllocError> {
+    write!(
+        reason,
+        "error: invalid value '{text}' for '--{option} <{option}>': it takes {wanted}\n\n\
+         For more information, try '--help'.\n"
+    )
+}

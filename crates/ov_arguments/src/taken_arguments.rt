@@ -1,0 +1,103 @@
+ghost use Rattle.std.specs.Prelude.{◌≡◌, codes, false, IfOk};
+ghost use Rattle.clap.specs.Words.{app_of, new_rule, rule_of};
+ghost use Rattle.ov_arguments.specs.Arguments.{analyse_command, flag, option, overlay_command, run_command};
+
+use clap::{Arg, ArgAction, Command};
+use std::alloc::{AllocError, Global};
+
+/// The program's name, which usage begins with, although it is none of the arguments.
+const NAME: &str = "overlay";
+
+/// What help says of `overlay`.
+const ABOUT: &str = "Runs a scenario file of overlay nodes, or analyses a graph file.";
+
+/// What help says below the commands.
+const BELOW: &str = "\
+Without a file, or with -, a command reads standard input.
+Bare overlay is overlay run.";
+
+/// What help says of `overlay run`, and of its options.
+const ABOUT_RUN: &str = "Runs the events of a scenario file, and prints what happens";
+
+const SCENARIO_FILE: &str = "The scenario file; standard input without it, or with -";
+
+const EXPLAIN: &str = "Tells on standard error why lines are refused, and counts the events";
+
+/// What help says of `overlay analyse`, and of its options.
+const ABOUT_ANALYSE: &str = "Reads a graph file, and prints how few crashed nodes part it";
+
+const GRAPH_FILE: &str = "The graph file; standard input without it, or with -";
+
+const GROUP: &str = "For these nodes alone: ids with one comma between two";
+
+const WORKERS: &str = "With 1 to 64 workers, and with one without it";
+
+const CERTIFICATE: &str = "Prints the certificate file too";
+
+const PROGRESS: &str = "Tells on standard error how far it has come";
+
+/// The arguments that `overlay` takes.
+pub(crate) fn command<'a>(alloc: Global) -> Result<Command<'a>, AllocError>
+    ensures { IfOk result (λ c. app_of c ≡ overlay_command) }
+{
+    Command::new(alloc, NAME)
+        .bin_name(NAME)?
+        .no_binary_name(true)
+        .about(ABOUT)
+        .after_help(BELOW)
+        .subcommand(run_command(alloc)?)?
+        .subcommand(analyse_command(alloc)?)
+}
+
+/// The arguments after `run`.
+fn run_command<'a>(alloc: Global) -> Result<Command<'a>, AllocError>
+    ensures { IfOk result (λ c. app_of c ≡ run_command) }
+{
+    Command::new(alloc, "run")
+        .about(ABOUT_RUN)
+        .arg(file(alloc, SCENARIO_FILE))?
+        .arg(flag(alloc, "explain", EXPLAIN))
+}
+
+/// The arguments after `analyse`.
+fn analyse_command<'a>(alloc: Global) -> Result<Command<'a>, AllocError>
+    ensures { IfOk result (λ c. app_of c ≡ analyse_command) }
+{
+    Command::new(alloc, "analyse")
+        .about(ABOUT_ANALYSE)
+        .arg(file(alloc, GRAPH_FILE))?
+        .arg(option(alloc, "group", GROUP))?
+        .arg(option(alloc, "workers", WORKERS))?
+        .arg(flag(alloc, "certificate", CERTIFICATE))?
+        .arg(flag(alloc, "progress", PROGRESS))
+}
+
+/// A file, of which help says this.
+fn file<'a>(alloc: Global, help: &'a str) -> Arg<'a>
+    ensures rule { rule_of result ≡ new_rule (codes "file") }
+    ensures local { result.global ≡ false }
+{
+    Arg::new(alloc, "file").help(help)
+}
+
+/// An option of this name, with a text. Help says this of it.
+fn option<'a>(alloc: Global, name: &'a str, help: &'a str) -> Arg<'a>
+    ensures rule { rule_of result ≡ option name.entry.now }
+    ensures local { result.global ≡ false }
+{
+    Arg::new(alloc, name)
+        .long(name)
+        .action(ArgAction::Set)
+        .help(help)
+}
+
+/// An option of this name, without a text. Help says this of it.
+fn flag<'a>(alloc: Global, name: &'a str, help: &'a str) -> Arg<'a>
+    ensures rule { rule_of result ≡ flag name.entry.now }
+    ensures local { result.global ≡ false }
+{
+    Arg::new(alloc, name)
+        .long(name)
+        .action(ArgAction::SetTrue)
+        .help(help)
+}
