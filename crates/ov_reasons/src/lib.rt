@@ -1,20 +1,17 @@
 //! Why `overlay` refused something, explained to a person: what is wrong with a line of a scenario file or of a graph
-//! file, with the graph that a file says, or with the arguments of the command. All of it is said after the verdict,
-//! and decides nothing: what is at fault comes from the code that judged it. No contract says the texts; examples and
-//! tests do.
+//! file, or with the graph that a file says. All of it is said after the verdict, and decides nothing: what is at fault
+//! comes from the code that judged it. No contract says the texts; examples and tests do.
 #![tactic(auto)]
 
 mod bad_group_texts;
 mod device_texts;
 mod event_texts;
 mod fault_codes;
-mod first_wrong_argument;
 mod graph_file_texts;
 mod line_and_mark;
 mod line_heads_and_remark;
 mod look_and_analysis_texts;
 mod parameter_limit_texts;
-mod refused_argument_texts;
 mod refused_lines;
 mod scenario_file_texts;
 mod unknown_line_name_texts;
@@ -23,6 +20,5 @@ mod unread_line_texts;
 pub use bad_group_texts::group_reason;
 pub use device_texts::{OUT_OF_MEMORY, READING_FAILED, WRITING_FAILED};
 pub use graph_file_texts::{graph_fault_reasons, graph_reasons, unread_line_reasons};
-pub use refused_argument_texts::argument_reasons;
 pub use refused_lines::{count_line, refusal_line, refusal_reason};
 pub use scenario_file_texts::scenario_reasons;

@@ -75,7 +75,7 @@ fn push_behind(text: &mut String, bytes: &[u8]) -> Result<(), AllocError> {
 
 /// Appends bytes as a person can read them. Bytes that are no UTF-8 and control characters are shown as `\xNN`, but a
 /// tab as `\t` and a carriage return as `\r`.
-pub(crate) fn push_shown(text: &mut String, bytes: &[u8]) -> Result<(), AllocError> {
+fn push_shown(text: &mut String, bytes: &[u8]) -> Result<(), AllocError> {
     for chunk in bytes.utf8_chunks() {
         push_chars(text, chunk.valid())?;
         push_bytes(text, chunk.invalid())?;

@@ -70,7 +70,7 @@ fn push_names(text: &mut String, names: &[&'static str]) -> Result<(), AllocErro
 }
 
 /// Appends a name that may be meant.
-pub(crate) fn push_meant(text: &mut String, name: &str) -> Result<(), AllocError> {
+fn push_meant(text: &mut String, name: &str) -> Result<(), AllocError> {
     write!(text, "; did you mean `{name}`?")
 }
 
@@ -93,7 +93,7 @@ fn meant_name(
 
 /// Whether a word may be meant as this name: it differs in capital letters alone, or by one edit for each three
 /// letters.
-pub(crate) fn is_near(alloc: Global, word: &str, name: &str) -> Result<bool, AllocError> {
+fn is_near(alloc: Global, word: &str, name: &str) -> Result<bool, AllocError> {
     if word.len() > LONGEST {
         return Ok(false);
     }

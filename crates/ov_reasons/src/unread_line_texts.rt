@@ -32,7 +32,7 @@ fn word_at(line: &[u8], at: usize) -> Option<&[u8]> {
 }
 
 /// Appends what is expected at a place of a line.
-pub(crate) fn push_wanted(text: &mut String, wanted: &[Kind]) -> Result<(), AllocError> {
+fn push_wanted(text: &mut String, wanted: &[Kind]) -> Result<(), AllocError> {
     let mut between = "expected ";
     for kind in wanted {
         text.push_str(between)?;
@@ -43,7 +43,7 @@ pub(crate) fn push_wanted(text: &mut String, wanted: &[Kind]) -> Result<(), Allo
 }
 
 /// Appends what a word of a kind is.
-pub(crate) fn push_kind(text: &mut String, kind: &Kind) -> Result<(), AllocError> {
+fn push_kind(text: &mut String, kind: &Kind) -> Result<(), AllocError> {
     match kind {
         Kind::Name(name) => write!(text, "`{name}`"),
         _ => text.push_str(text_of(kind)),
@@ -64,7 +64,7 @@ fn text_of(kind: &Kind) -> &'static str {
 }
 
 /// Appends what may help at a word, if a word of this kind is expected in its place.
-pub(crate) fn push_hint(text: &mut String, word: &[u8], kind: &Kind) -> Result<(), AllocError> {
+fn push_hint(text: &mut String, word: &[u8], kind: &Kind) -> Result<(), AllocError> {
     match bytes_hint(word) {
         Some(hint) => write!(text, "; {hint}"),
         None => push_limits(text, word, kind),
@@ -73,7 +73,7 @@ pub(crate) fn push_hint(text: &mut String, word: &[u8], kind: &Kind) -> Result<(
 
 /// Appends the limits of a number of this kind if the text of the kind does not say them, or of each id of a list whose
 /// ids are all written as numbers.
-pub(crate) fn push_limits(text: &mut String, word: &[u8], kind: &Kind) -> Result<(), AllocError> {
+fn push_limits(text: &mut String, word: &[u8], kind: &Kind) -> Result<(), AllocError> {
     let (short, long) = (u32::MAX, u64::MAX);
     match kind {
         Kind::Ids if are_numerals(word) => write!(text, "; each is a number from 0 to {short}"),

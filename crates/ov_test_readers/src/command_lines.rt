@@ -1,6 +1,6 @@
 //! The arguments of the command line, and the random words that a seed gives.
 use crate::scenario_lines::crew_of;
-use ov_arguments::{AnalysisRequest, ArgumentsFault, Request, read_arguments};
+use ov_arguments::{AnalysisRequest, ArgumentsFault, Request, argument_reasons, read_arguments};
 use ov_claims::Workers;
 use ov_ids::NodeId;
 use ov_scenario::draw;
@@ -9,14 +9,20 @@ use std::alloc::Global;
 use std::io::{Error, ErrorKind};
 use std::test::Fail;
 
-/// What the arguments of this line, one space between them, ask for. The empty line has no argument.
-fn asked(alloc: Global, line: &str) -> Result<Result<Request, ArgumentsFault>, Fail> {
+/// The arguments of this line, one space between them. The empty line has no argument.
+fn arguments_of(alloc: Global, line: &str) -> Result<Vec<String>, Fail> {
     let mut arguments = Vec::new(alloc);
     if !line.is_empty() {
         for argument in line.split(' ') {
             arguments.push(String::from_str(alloc, argument)?)?;
         }
     }
+    Ok(arguments)
+}
+
+/// What the arguments of this line ask for.
+fn asked(alloc: Global, line: &str) -> Result<Result<Request, ArgumentsFault>, Fail> {
+    let arguments = arguments_of(alloc, line)?;
     Ok(read_arguments(alloc, arguments.as_slice()))
 }
 
@@ -329,6 +335,29 @@ fn arguments_that_are_refused(rt: HostRuntime) -> Result<(), Fail> {
             fault_of(rt.alloc(), line)? == Some(ArgumentsFault::BadArguments),
             "at {line}"
         );
+    }
+    Ok(())
+}
+
+/// Whether something is told of the arguments of a line.
+fn is_explained(alloc: Global, line: &str) -> Result<bool, Fail> {
+    let arguments = arguments_of(alloc, line)?;
+    Ok(!argument_reasons(alloc, &arguments)?.is_empty())
+}
+
+#[test]
+fn refused_arguments_alone_are_explained(rt: HostRuntime) -> Result<(), Fail> {
+    for line in &REFUSED {
+        assert!(rt; is_explained(rt.alloc(), line)?, "at {line}");
+    }
+    for (line, _, _) in &FILE_RUNS {
+        assert!(rt; !is_explained(rt.alloc(), line)?, "at {line}");
+    }
+    for (line, _) in &BY_WORKERS {
+        assert!(rt; !is_explained(rt.alloc(), line)?, "at {line}");
+    }
+    for line in &ALL_AT_ONCE {
+        assert!(rt; !is_explained(rt.alloc(), line)?, "at {line}");
     }
     Ok(())
 }

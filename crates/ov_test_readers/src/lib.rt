@@ -2,6 +2,8 @@
 #![tactic(auto)]
 
 #[cfg(test)]
+mod argument_texts;
+#[cfg(test)]
 mod command_lines;
 #[cfg(test)]
 mod graph_files;

@@ -4,8 +4,6 @@
 #[cfg(test)]
 mod agreement;
 #[cfg(test)]
-mod argument_texts;
-#[cfg(test)]
 mod group_refusals;
 #[cfg(test)]
 mod refusals;
