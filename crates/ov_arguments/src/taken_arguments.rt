@@ -14,17 +14,17 @@ const ABOUT: &str = "Runs a scenario file of overlay nodes, or analyses a graph 
 /// What help says below the commands.
 const BELOW: &str = "\
 Without a file, or with -, a command reads standard input.
-Bare overlay is overlay run.";
+Bare overlay is overlay run. overlay --version prints the version.";
 
 /// What help says of `overlay run`, and of its options.
 const ABOUT_RUN: &str = "Runs the events of a scenario file, and prints what happens";
 
 const SCENARIO_FILE: &str = "The scenario file; standard input without it, or with -";
 
-const EXPLAIN: &str = "Tells on standard error why lines are refused, and counts the events";
+const EXPLAIN: &str = "Prints on standard error why lines are refused, and counts the events";
 
 /// What help says of `overlay analyse`, and of its options.
-const ABOUT_ANALYSE: &str = "Reads a graph file, and prints how few crashed nodes part it";
+const ABOUT_ANALYSE: &str = "Reads a graph file, and prints how few crashes split it";
 
 const GRAPH_FILE: &str = "The graph file; standard input without it, or with -";
 
@@ -34,7 +34,7 @@ const WORKERS: &str = "With 1 to 64 workers, and with one without it";
 
 const CERTIFICATE: &str = "Prints the certificate file too";
 
-const PROGRESS: &str = "Tells on standard error how far it has come";
+const PROGRESS: &str = "Prints on standard error how far it has come";
 
 /// The arguments that `overlay` takes.
 pub(crate) fn command<'a>(alloc: Global) -> Result<Command<'a>, AllocError>

@@ -5,7 +5,7 @@ use Rattle.ov_even.specs.Levels.{SearchState}
 use Rattle.ov_even.specs.declared.level_search.Searched.{Searched}
 use Rattle.ov_even.specs.declared.level_search.Searched.TheVariants.{Enough, Again}
 
--- so many tries are few for n nodes: at most 2 k + 1 if there are fewer than 2^k nodes, so at most 2 log2 n + 3
+-- this number of tries is low for n nodes: at most 2 k + 1 if there are fewer than 2^k nodes, so at most 2 log2 n + 3
 abbrev pub AreFewTries : ℕ → ℕ → Type 0
 AreFewTries n tries = (k : ℕ) → n < 2 ^ k → tries ≤ 2 * k + 1
 

@@ -16,7 +16,7 @@ pub(crate) struct Entries {
     pub(crate) fans: Vec<FanPaths>,
 }
 
-/// The entries of these pieces, parted into those of pairs and those of fans.
+/// The entries of these pieces: those of pairs, and those of fans.
 pub(crate) fn entries_of(
     alloc: Global,
     group: &[NodeId],

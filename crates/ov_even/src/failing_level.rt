@@ -7,8 +7,8 @@ ghost use Rattle.ov_even.specs.Code.Narrowing.{HasUnlinked};
 use ov_graph::Graph;
 use ov_ids::NodeId;
 
-/// A level at which Even's test does not pass: one more than the lowest degree of a member that is not linked to all
-/// others, since its neighbours split the group. It is below the number of nodes.
+/// A level at which Even's test does not pass: one more than the lowest degree of a member that is not linked to some
+/// other member, since its neighbours split the group. It is below the number of nodes.
 pub(crate) fn failing_level(graph: &Graph, group: &[NodeId]) -> usize
     requires group { IsGroup graph.now group.now }
     requires apart { ¬ AreAllLinked graph.now group.now }

@@ -1,6 +1,7 @@
 //! Why `overlay` refused something, explained to a person: what is wrong with a line of a scenario file or of a graph
 //! file, or with the graph that a file says. All of it is said after the verdict, and decides nothing: what is at fault
-//! comes from the code that judged it. No contract says the texts; examples and tests do.
+//! comes from the code that judged it, but for the ids of a group, which are looked through once more. No contract says
+//! the texts; examples and tests do.
 #![tactic(auto)]
 
 mod bad_group_texts;

@@ -19,7 +19,8 @@ use Rattle.ov_snap.specs.ReportState.{ReportState}
 -- THE ORDER OF KEYS
 
 key_total : IsTotalOrder key_cmp
-key_total = then_total (on_total (λ (k : ReportKey). k.0) nat_cmp_total) (on_total (λ (k : ReportKey). k.1) nat_list_cmp_total)
+key_total = then_total (on_total (λ (k : ReportKey). k.0) nat_cmp_total)
+    (on_total (λ (k : ReportKey). k.1) nat_list_cmp_total)
 
 -- the two parts of keys that tie are the same
 tied : (r s : Ordering) → ordering_then r s ≡ Equal → (r ≡ Equal) × (s ≡ Equal)
@@ -141,7 +142,8 @@ module _ (reports : List ReportState) (places : List ℕ) (key : ReportKey) wher
       ]
 
 -- what the comparison with the report at a place says
-pub compared : (reports : List ReportState) (p : ℕ) (r : ReportState) (k : ReportKey) (o is : Ordering) → p < length reports
+pub compared : (reports : List ReportState) (p : ℕ) (r : ReportState) (k : ReportKey) (o is : Ordering)
+    → p < length reports
     → r ≡ get_or reports p r → o ≡ key_cmp (key_of r) k → o ≡ is → key_cmp (key_at reports p) k ≡ is
 compared reports p r k o is inside read e same =
     ap (λ (x : ReportKey). key_cmp x k) (key_read reports p r inside ∙ ap key_of (sym read)) ∙ sym e ∙ same
@@ -269,7 +271,8 @@ one_more reports places r at h gap = record { inside = inside; every = every; or
         (λ x y k l up. ap₂ key_cmp (old x k) (old y l) ∙ up) h.order) before after
 
 -- the parts of the reports when one more is filed
-pub pushed : (reports l filed : List ReportState) (places ps qs : List ℕ) (r : ReportState) (k : ReportKey) (at count : ℕ)
+pub pushed : (reports l filed : List ReportState) (places ps qs : List ℕ) (r : ReportState) (k : ReportKey)
+    (at count : ℕ)
     → AreInOrder reports places → l ≡ reports → ps ≡ places → IsGap l ps k at → k ≡ key_of r
     → filed ≡ reports ++ r ∷ [] → count ≡ length reports → qs ≡ insert places at count → AreInOrder filed qs
 pushed reports l filed places ps qs r k at count h e f gap own is counted put =

@@ -32,8 +32,8 @@ impl SharedGraph {
         })
     }
 
-    /// The same graph once more. Nothing is copied, and nothing is allocated. It is out of memory (99) only if the graph
-    /// is shared as often as can be counted.
+    /// The same graph once more, not copied, or out of memory (99). The kit's `Arc` refuses one more owner only if it
+    /// can count no more.
     pub(crate) fn share(&self) -> Result<SharedGraph, OutOfMemory>
         ensures { IfOk result (λ g. g ≡ self.now) }
     {

@@ -129,8 +129,8 @@ impl Core {
         Ok(entry)
     }
 
-    /// The links that both ends hold now. If they are those of the last snapshot, its graph is shared, and otherwise the
-    /// world's is copied.
+    /// The links that both ends hold now. If they are those of the last snapshot, its graph is shared, and otherwise
+    /// the world's is copied.
     fn links_now(&self) -> Result<SharedGraph, OutOfMemory>
         ensures { IfOk result (λ g. AreLinks self.now.world.journal (length self.now.world.journal) g) }
     {
@@ -144,8 +144,8 @@ impl Core {
     }
 
     /// What an analysis of all nodes of this moment is given. Its graph is that of the snapshot, shared and not copied.
-    /// It is refused if no snapshot was taken at this moment (50), and then if nobody lived (30); if neither applies, it
-    /// may be out of memory (99).
+    /// It is refused if no snapshot was taken at this moment (50), and then if nobody lived (30); if neither applies,
+    /// it may be out of memory (99).
     pub fn begin(&self, moment: u32) -> Result<Snapshot, CoreFault>
         ensures judged { IfOk result (λ snapshot. BeginJudged self.now moment None) }
         ensures moment { IfOk result (λ snapshot. snapshot.moment ≡ moment) }
@@ -157,8 +157,8 @@ impl Core {
     }
 
     /// What an analysis of a group of the nodes of this moment is given. Its graph is that of the snapshot, shared and
-    /// not copied. It is refused if no snapshot was taken at this moment (50), then if nobody lived (30), and then if these ids are no group of the moment's graph (34); if
-    /// none of these applies, it may be out of memory (99).
+    /// not copied. It is refused if no snapshot was taken at this moment (50), then if nobody lived (30), and then if
+    /// these ids are no group of the moment's graph (34); if none of these applies, it may be out of memory (99).
     pub fn begin_group(&self, moment: u32, group: &[NodeId]) -> Result<Snapshot, CoreFault>
         ensures judged { IfOk result (λ snapshot. GroupBeginJudged self.now moment group.now None) }
         ensures moment { IfOk result (λ snapshot. snapshot.moment ≡ moment) }

@@ -185,14 +185,14 @@ Usage: overlay [COMMAND]
 
 Commands:
   run      Runs the events of a scenario file, and prints what happens
-  analyse  Reads a graph file, and prints how few crashed nodes part it
+  analyse  Reads a graph file, and prints how few crashes split it
   help     Print this message or the help of the given subcommand(s)
 
 Options:
   -h, --help  Print help
 
 Without a file, or with -, a command reads standard input.
-Bare overlay is overlay run.
+Bare overlay is overlay run. overlay --version prints the version.
 ";
 
 const HELP_OF_RUN: &str = "\
@@ -204,12 +204,12 @@ Arguments:
   [file]  The scenario file; standard input without it, or with -
 
 Options:
-      --explain  Tells on standard error why lines are refused, and counts the events
+      --explain  Prints on standard error why lines are refused, and counts the events
   -h, --help     Print help
 ";
 
 const HELP_OF_ANALYSE: &str = "\
-Reads a graph file, and prints how few crashed nodes part it
+Reads a graph file, and prints how few crashes split it
 
 Usage: overlay analyse [OPTIONS] [file]
 
@@ -220,7 +220,7 @@ Options:
       --group <group>      For these nodes alone: ids with one comma between two
       --workers <workers>  With 1 to 64 workers, and with one without it
       --certificate        Prints the certificate file too
-      --progress           Tells on standard error how far it has come
+      --progress           Prints on standard error how far it has come
   -h, --help               Print help
 ";
 

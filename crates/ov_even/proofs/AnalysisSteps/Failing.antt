@@ -55,7 +55,7 @@ neighbours_split g q a ns graph here other are = record {
       lone_steps g a other.0 ns w.steps are other.2 w.leads w.stay;
 }
 
--- a set that splits the group, with so many nodes, which are fewer than the level
+-- a set of this size, below the level, splits the group
 pub record SplitsWith (g : LinkGraph) (q : List ℕ) (level size : ℕ) : Type 0 where
   pub set : List ℕ
   pub split : SplitsGroup g q set
@@ -73,7 +73,7 @@ cut_splits g q p (Cut parting) size group at right of = record {
   few = let few = right.few in omega (arith, few, of);
 }
 
--- a cut of a level or of a lower one, of so many nodes, splits the group
+-- a cut of this size, of a level or of a lower one, splits the group
 pub within_splits : (g : LinkGraph) (q : List ℕ) (hauls : List Haul) (level size : ℕ) → IsGroup g q → AreRight g q hauls
     → HasCutOf hauls level size → SplitsWith g q level size
 within_splits g q hauls level size group right within =

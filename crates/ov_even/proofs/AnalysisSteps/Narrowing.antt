@@ -66,7 +66,7 @@ is_cut linked_found size of none = of
 is_cut (Paths paths) size of none = of
 is_cut (Cut parting) size of none = none
 
--- a cut of so many nodes is a cut
+-- a cut of some size is a cut
 pub cut_within : (hauls : List Haul) (level size : ℕ) → HasCutOf hauls level size → HasCutWithin hauls level
 cut_within hauls level size within = (within.0, within.1, is_cut within.0.found size within.2, within.3)
 

@@ -58,13 +58,13 @@ tries_left low high guesses =
 abbrev pub HasCutWithin : List Haul → ℕ → Type 0
 HasCutWithin hauls level = (s : Settled) × IsInHauls hauls s × (¬ IsNoCut s.found) × (level_of s.piece ≤ level)
 
--- the result is a cut of so many nodes
+-- the result is a cut of this size
 abbrev pub IsCutOf : Found → ℕ → Type 0
 IsCutOf linked_found size = ⊥
 IsCutOf (Paths paths) size = ⊥
 IsCutOf (Cut parting) size = length parting.value.cut ≡ size
 
--- one of the hauls has a cut of so many nodes, for a piece of the level or of a lower one
+-- one of the hauls has a cut of this size, for a piece of the level or of a lower one
 abbrev pub HasCutOf : List Haul → ℕ → ℕ → Type 0
 HasCutOf hauls level size = (s : Settled) × IsInHauls hauls s × IsCutOf s.found size × (level_of s.piece ≤ level)
 

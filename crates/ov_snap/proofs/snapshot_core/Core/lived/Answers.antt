@@ -7,4 +7,5 @@ pub returns-clause-ok : goal.returns-clause-ok
 returns-clause-ok c =
     let snapshot = c.in_ok-snapshot in
     begin_living c.args.self.now c.args.moment snapshot.snapshot.now.graph c.nodes.result.now c.is_empty.result
-    snapshot.ensures.ok (c.nodes.ensures.nodes ∙ ap (λ (g : LinkGraph). g.nodes) c.deref.ensures) c.is_empty.ensures c.if-is_empty.false
+    snapshot.ensures.ok (c.nodes.ensures.nodes ∙ ap (λ (g : LinkGraph). g.nodes) c.deref.ensures)
+    c.is_empty.ensures c.if-is_empty.false
