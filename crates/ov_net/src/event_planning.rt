@@ -66,7 +66,10 @@ impl World {
         requires { place < length self.now.net.packets }
         ensures { slice_get self.now.net.packets place ≡ Some result.now }
     {
-        &self.packets[place as usize]
+        match self.packets.get(place as usize) {
+            Some(packet) => packet,
+            None => unreachable!(),
+        }
     }
 
     /// The effects by which no node changes. The packet at the named place, if there is one, is taken out, and more

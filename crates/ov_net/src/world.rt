@@ -20,6 +20,7 @@ use crate::member::Member;
 use crate::nodes::Nodes;
 use crate::packet::Packet;
 use crate::planned_effects::{Effects, NodeChange};
+use ov_block_list::BlockList;
 use ov_graph::Graph;
 use ov_ids::{NodeId, OutOfMemory, Params};
 use ov_peer::Peer;
@@ -44,7 +45,7 @@ pub struct World {
     pub(crate) alloc: Global,
     pub(crate) params: Params,
     pub(crate) nodes: Nodes,
-    pub(crate) packets: Vec<Packet>,
+    pub(crate) packets: BlockList<Packet>,
     pub(crate) journal: Vec<Entry>,
     pub(crate) graph: Graph,
 }
@@ -89,7 +90,7 @@ impl World {
             alloc,
             params,
             nodes: Nodes::new(alloc),
-            packets: Vec::new(alloc),
+            packets: BlockList::new(alloc),
             journal: Vec::new(alloc),
             graph: Graph::empty(alloc),
         }
@@ -122,8 +123,8 @@ impl World {
     }
 
     /// The packets on their way, the oldest first. There are at most 65,536.
-    pub fn packets(&self) -> &[Packet]
-        ensures value { result.now ≡ self.now.net.packets }
+    pub fn packets(&self) -> &BlockList<Packet>
+        ensures value { result.now.items ≡ self.now.net.packets }
         ensures few { length self.now.net.packets ≤ most_packets }
     {
         &self.packets
@@ -213,7 +214,7 @@ fn reserve_and_change(
     alloc: Global,
     nodes: &mut Nodes,
     graph: &mut Graph,
-    packets: &mut Vec<Packet>,
+    packets: &mut BlockList<Packet>,
     journal: &mut Vec<Entry>,
     node: Option<(NodeId, NodeChange)>,
     count: usize,
@@ -230,7 +231,7 @@ fn reserve_and_change(
     ensures same { OnErr result (graph.new ≡ graph.old) }
     ensures packets { packets.new.items ≡ packets.old.items }
     ensures journal { journal.new.items ≡ journal.old.items }
-    ensures places { OnOk result (vec_len packets.new + count ≤ vec_capacity packets.new) }
+    ensures places { OnOk result (count ≤ packets.new.room) }
     ensures place { OnOk result (vec_len journal.new < vec_capacity journal.new) }
 {
     let answer = reserve_and_copy(alloc, packets, journal, count, entry)?;
@@ -268,7 +269,7 @@ fn change_nodes(
 /// Reserves room for an entry and `count` packets, and returns a copy of the entry. Packets and journal stay the same.
 fn reserve_and_copy(
     alloc: Global,
-    packets: &mut Vec<Packet>,
+    packets: &mut BlockList<Packet>,
     journal: &mut Vec<Entry>,
     count: usize,
     entry: &Entry,
@@ -276,7 +277,7 @@ fn reserve_and_copy(
     ensures copy { IfOk result (λ e. e ≡ entry.now) }
     ensures packets { packets.new.items ≡ packets.old.items }
     ensures journal { journal.new.items ≡ journal.old.items }
-    ensures places { OnOk result (vec_len packets.new + count ≤ vec_capacity packets.new) }
+    ensures places { OnOk result (count ≤ packets.new.room) }
     ensures place { OnOk result (vec_len journal.new < vec_capacity journal.new) }
 {
     packets.reserve(count)?;
@@ -308,17 +309,13 @@ fn change_named_node(
 }
 
 /// Takes out the packet at the named place, if there is one, and appends more packets. There is room for them.
-fn update_packets(packets: &mut Vec<Packet>, taken: Option<usize>, more: Vec<Packet>)
+fn update_packets(packets: &mut BlockList<Packet>, taken: Option<usize>, more: Vec<Packet>)
     requires within { IsWithin taken packets.old.items }
-    requires room { vec_len packets.old + vec_len more ≤ vec_capacity packets.old }
+    requires room { vec_len more ≤ packets.old.room }
     ensures { packets.new.items ≡ taking taken packets.old.items ++ more.items }
 {
     if let Some(place) = taken {
         packets.remove(place);
     }
-    let mut more = more;
-    match packets.append(&mut more) {
-        Ok(()) => {}
-        Err(_) => unreachable!(),
-    }
+    packets.append_reserved(more);
 }
