@@ -49,7 +49,7 @@ impl World {
         ensures { LivesAs self.now.net node result.now }
     {
         match self.member(node) {
-            Some(Member::Live(peer)) => peer,
+            Some(Member::Live(peer)) => peer.state(),
             _ => unreachable!(),
         }
     }
@@ -112,7 +112,7 @@ impl World {
         match self.member(to) {
             Some(Member::Live(peer)) => {
                 let input = Input::Receive(packet.message(self.alloc)?);
-                effects_of_input(self.alloc, to, taken, peer, input, words)
+                effects_of_input(self.alloc, to, taken, peer.state(), input, words)
             }
             Some(Member::Gone) => Ok(self.packet_effects(taken, Vec::new(self.alloc))),
             None => Ok(self.packet_effects(taken, Vec::new(self.alloc))),
