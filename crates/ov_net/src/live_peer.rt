@@ -6,7 +6,7 @@ use ov_peer::{Peer, Plan};
 use std::alloc::Global;
 use std::marker::Model;
 
-/// A live node's state, kept in a box: the state stays in its place when what holds it is moved. Contracts see the state.
+/// A live node's state in a box, so that it stays in its place when what holds it is moved. Contracts see the state.
 #[derive(Drop)]
 pub struct LivePeer {
     peer: Box<Peer>,
