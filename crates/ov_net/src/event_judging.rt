@@ -49,7 +49,7 @@ impl World {
         ensures err { IfErr result (λ f. IsAbsent self.now.net id f) }
     {
         match self.nodes.get(id) {
-            Some(Member::Live(peer)) => Ok(peer),
+            Some(Member::Live(peer)) => Ok(peer.state()),
             Some(Member::Gone) => Err(NetFault::CrashedNode),
             None => Err(NetFault::UnknownNode),
         }

@@ -49,7 +49,7 @@ impl World {
         ensures { LivesAs self.now.net node result.now }
     {
         match self.member(node) {
-            Some(Member::Live(peer)) => peer,
+            Some(Member::Live(peer)) => peer.state(),
             _ => unreachable!(),
         }
     }
@@ -66,7 +66,10 @@ impl World {
         requires { place < length self.now.net.packets }
         ensures { slice_get self.now.net.packets place ≡ Some result.now }
     {
-        &self.packets[place as usize]
+        match self.packets.get(place as usize) {
+            Some(packet) => packet,
+            None => unreachable!(),
+        }
     }
 
     /// The effects by which no node changes. The packet at the named place, if there is one, is taken out, and more
@@ -109,7 +112,7 @@ impl World {
         match self.member(to) {
             Some(Member::Live(peer)) => {
                 let input = Input::Receive(packet.message(self.alloc)?);
-                effects_of_input(self.alloc, to, taken, peer, input, words)
+                effects_of_input(self.alloc, to, taken, peer.state(), input, words)
             }
             Some(Member::Gone) => Ok(self.packet_effects(taken, Vec::new(self.alloc))),
             None => Ok(self.packet_effects(taken, Vec::new(self.alloc))),

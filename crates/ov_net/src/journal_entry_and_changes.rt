@@ -49,6 +49,54 @@ impl Entry {
     }
 }
 
+/// What an entry tells, but for its number and its random words.
+#[derive(Drop)]
+pub(crate) struct Told {
+    /// The event.
+    pub(crate) event: Event,
+    /// The changes, in order.
+    pub(crate) changes: Seq<Change>,
+    /// The message that a node delivered, if one did.
+    pub(crate) delivery: Option<Delivery>,
+}
+
+impl Told {
+    /// The same told once more, or out of memory (99).
+    pub(crate) fn copy(&self, alloc: Global) -> Result<Told, OutOfMemory>
+        ensures { IfOk result (λ t. t ≡ self.now) }
+    {
+        Ok(Told {
+            event: self.event.copy(alloc)?,
+            changes: self.changes.copy(alloc)?,
+            delivery: copy_delivery(alloc, &self.delivery)?,
+        })
+    }
+
+    /// The entry that tells this, with this number and these random words.
+    pub(crate) fn entry(self, number: u32, words: &Words) -> Entry
+        ensures { result ≡ record {
+          number = number;
+          event = self.event;
+          words = words.now;
+          changes = self.changes;
+          delivery = self.delivery;
+        } }
+    {
+        let Told {
+            event,
+            changes,
+            delivery,
+        } = self;
+        Entry {
+            number,
+            event,
+            words: *words,
+            changes,
+            delivery,
+        }
+    }
+}
+
 /// An equal delivery, if there is one.
 pub(crate) fn copy_delivery(
     alloc: Global,

@@ -110,7 +110,7 @@ fn holds(nodes: &Nodes, node: NodeId, other: NodeId) -> bool
     ensures { IsTrue result ↔ Holds nodes.now node other }
 {
     match nodes.get(node) {
-        Some(Member::Live(peer)) => is_member(peer.active(), other),
+        Some(Member::Live(peer)) => is_member(peer.state().active(), other),
         _ => false,
     }
 }

@@ -9,6 +9,7 @@ ghost use Rattle.ov_net.specs.declared.planned_effects.NodeChange.TheVariants as
 ghost use Rattle.ov_net.specs.declared.journal_entry_and_changes.Change.TheVariants.{Born};
 
 use crate::journal_entry_and_changes::{Change, copy_delivery};
+use crate::live_peer::LivePeer;
 use crate::packet::Packet;
 use crate::planned_effects::{Effects, NodeChange};
 use ov_ids::{NodeId, OutOfMemory, Params, Seq};
@@ -97,6 +98,7 @@ pub(crate) fn effects_of_birth(
 {
     let mut peer = Peer::new(alloc, node, params);
     let added = boot_newborn(alloc, node, &mut peer, contact, words)?;
+    let peer = LivePeer::new(alloc, peer)?;
     Ok(Effects {
         taken: None,
         node: Some((node, NodeChange::Born(peer))),

@@ -2,16 +2,17 @@ ghost use Rattle.std.specs.Prelude.{◌≡◌, OnOk, OnErr};
 ghost use Rattle.ov_net.specs.Code.Effects.{CanChange, NodeChanges};
 
 use crate::journal_entry_and_changes::Change;
+use crate::live_peer::LivePeer;
 use crate::member::Member;
 use crate::nodes::Nodes;
 use crate::packet::Packet;
 use ov_ids::{NodeId, OutOfMemory, Seq};
-use ov_peer::{Delivery, Peer, Plan};
+use ov_peer::{Delivery, Plan};
 
 /// How an event changes a node.
 pub(crate) enum NodeChange {
     /// It is born, and this is its state after its first input.
-    Born(Peer),
+    Born(LivePeer),
     /// It takes an input, and follows this plan.
     Follows(Plan),
     /// It crashes.

@@ -14,12 +14,13 @@ ghost use Rattle.ov_net.specs.World.{Stands, opening_world};
 
 use crate::event::Event;
 use crate::fault::NetFault;
-use crate::journal_entry_and_changes::Entry;
+use crate::journal_entry_and_changes::{Entry, Told};
 use crate::kept_links::{add_newborn, change_graph, remove_newborn};
 use crate::member::Member;
 use crate::nodes::Nodes;
 use crate::packet::Packet;
 use crate::planned_effects::{Effects, NodeChange};
+use ov_block_list::BlockList;
 use ov_graph::Graph;
 use ov_ids::{NodeId, OutOfMemory, Params};
 use ov_peer::Peer;
@@ -44,7 +45,7 @@ pub struct World {
     pub(crate) alloc: Global,
     pub(crate) params: Params,
     pub(crate) nodes: Nodes,
-    pub(crate) packets: Vec<Packet>,
+    pub(crate) packets: BlockList<Packet>,
     pub(crate) journal: Vec<Entry>,
     pub(crate) graph: Graph,
 }
@@ -89,7 +90,7 @@ impl World {
             alloc,
             params,
             nodes: Nodes::new(alloc),
-            packets: Vec::new(alloc),
+            packets: BlockList::new(alloc),
             journal: Vec::new(alloc),
             graph: Graph::empty(alloc),
         }
@@ -122,8 +123,8 @@ impl World {
     }
 
     /// The packets on their way, the oldest first. There are at most 65,536.
-    pub fn packets(&self) -> &[Packet]
-        ensures value { result.now ≡ self.now.net.packets }
+    pub fn packets(&self) -> &BlockList<Packet>
+        ensures value { result.now.items ≡ self.now.net.packets }
         ensures few { length self.now.net.packets ≤ most_packets }
     {
         &self.packets
@@ -135,7 +136,7 @@ impl World {
         ensures none { IfNone result ((p : PeerState) → ¬ LivesAs self.now.net id p) }
     {
         match self.nodes.get(id) {
-            Some(Member::Live(peer)) => Some(peer),
+            Some(Member::Live(peer)) => Some(peer.state()),
             Some(Member::Gone) => None,
             None => None,
         }
@@ -183,13 +184,12 @@ impl World {
             changes,
             delivery,
         } = effects;
-        let entry = Entry {
-            number: next_number(&self.journal),
+        let told = Told {
             event,
-            words: *words,
             changes,
             delivery,
         };
+        let number = next_number(&self.journal);
         let answer = reserve_and_change(
             self.alloc,
             &mut self.nodes,
@@ -198,43 +198,43 @@ impl World {
             &mut self.journal,
             node,
             packets.len(),
-            &entry,
+            &told,
         )?;
-        change_graph(&mut self.graph, &self.nodes, entry.changes.as_slice());
+        change_graph(&mut self.graph, &self.nodes, told.changes.as_slice());
         update_packets(&mut self.packets, taken, packets);
-        self.journal.push_reserved(entry);
-        Ok(answer)
+        self.journal.push_reserved(told.entry(number, words));
+        Ok(answer.entry(number, words))
     }
 }
 
-/// Reserves room for an entry and `count` packets, copies the entry, adds the entry's newborn node to the graph, and
+/// Reserves room for an entry and `count` packets, copies what the entry tells, adds its newborn node to the graph, and
 /// changes the named node, if there is one. Returns the copy. Out of memory, nothing changes.
 fn reserve_and_change(
     alloc: Global,
     nodes: &mut Nodes,
     graph: &mut Graph,
-    packets: &mut Vec<Packet>,
+    packets: &mut BlockList<Packet>,
     journal: &mut Vec<Entry>,
     node: Option<(NodeId, NodeChange)>,
     count: usize,
-    entry: &Entry,
-) -> Result<Entry, OutOfMemory>
+    told: &Told,
+) -> Result<Told, OutOfMemory>
     requires change { NamedCanChange node nodes.old }
     requires graph { IsGraph graph.old }
-    requires newborn { MayGain (newborn_of entry.now.event) graph.old }
-    ensures copy { IfOk result (λ e. e ≡ entry.now) }
+    requires newborn { MayGain (newborn_of told.now.event) graph.old }
+    ensures copy { IfOk result (λ t. t ≡ told.now) }
     ensures ok { OnOk result (NamedNodeChanges node nodes.old nodes.new) }
-    ensures gains { OnOk result (Gains (newborn_of entry.now.event) graph.old graph.new) }
+    ensures gains { OnOk result (Gains (newborn_of told.now.event) graph.old graph.new) }
     ensures graph { OnOk result (IsGraph graph.new) }
     ensures err { OnErr result (nodes.new ≡ nodes.old) }
     ensures same { OnErr result (graph.new ≡ graph.old) }
     ensures packets { packets.new.items ≡ packets.old.items }
     ensures journal { journal.new.items ≡ journal.old.items }
-    ensures places { OnOk result (vec_len packets.new + count ≤ vec_capacity packets.new) }
+    ensures places { OnOk result (count ≤ packets.new.room) }
     ensures place { OnOk result (vec_len journal.new < vec_capacity journal.new) }
 {
-    let answer = reserve_and_copy(alloc, packets, journal, count, entry)?;
-    change_nodes(nodes, graph, &entry.event, node)?;
+    let answer = reserve_and_copy(alloc, packets, journal, count, told)?;
+    change_nodes(nodes, graph, &told.event, node)?;
     Ok(answer)
 }
 
@@ -265,23 +265,24 @@ fn change_nodes(
     }
 }
 
-/// Reserves room for an entry and `count` packets, and returns a copy of the entry. Packets and journal stay the same.
+/// Reserves room for an entry and `count` packets, and returns a copy of what the entry tells. Packets and journal stay
+/// the same.
 fn reserve_and_copy(
     alloc: Global,
-    packets: &mut Vec<Packet>,
+    packets: &mut BlockList<Packet>,
     journal: &mut Vec<Entry>,
     count: usize,
-    entry: &Entry,
-) -> Result<Entry, OutOfMemory>
-    ensures copy { IfOk result (λ e. e ≡ entry.now) }
+    told: &Told,
+) -> Result<Told, OutOfMemory>
+    ensures copy { IfOk result (λ t. t ≡ told.now) }
     ensures packets { packets.new.items ≡ packets.old.items }
     ensures journal { journal.new.items ≡ journal.old.items }
-    ensures places { OnOk result (vec_len packets.new + count ≤ vec_capacity packets.new) }
+    ensures places { OnOk result (count ≤ packets.new.room) }
     ensures place { OnOk result (vec_len journal.new < vec_capacity journal.new) }
 {
     packets.reserve(count)?;
     journal.reserve(1)?;
-    entry.copy(alloc)
+    told.copy(alloc)
 }
 
 /// The number of the next entry.
@@ -308,17 +309,13 @@ fn change_named_node(
 }
 
 /// Takes out the packet at the named place, if there is one, and appends more packets. There is room for them.
-fn update_packets(packets: &mut Vec<Packet>, taken: Option<usize>, more: Vec<Packet>)
+fn update_packets(packets: &mut BlockList<Packet>, taken: Option<usize>, more: Vec<Packet>)
     requires within { IsWithin taken packets.old.items }
-    requires room { vec_len packets.old + vec_len more ≤ vec_capacity packets.old }
+    requires room { vec_len more ≤ packets.old.room }
     ensures { packets.new.items ≡ taking taken packets.old.items ++ more.items }
 {
     if let Some(place) = taken {
         packets.remove(place);
     }
-    let mut more = more;
-    match packets.append(&mut more) {
-        Ok(()) => {}
-        Err(_) => unreachable!(),
-    }
+    packets.append_reserved(more);
 }

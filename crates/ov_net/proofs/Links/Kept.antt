@@ -21,7 +21,7 @@ use Rattle.ov_net.specs.Journal.{AreLinks}
 use Rattle.ov_net.specs.NetStep.{change_at}
 use Rattle.ov_net.specs.World.{WorldState, TellsViews}
 use Rattle.ov_net.specs.declared.journal_entry_and_changes.Change.{Change}
-use Rattle.ov_net.specs.declared.journal_entry_and_changes.Change.TheVariants.{Born, Up, Down, Gone}
+use Rattle.ov_net.specs.declared.journal_entry_and_changes.Change.TheVariants.{Born, Up, Gone}
 use Rattle.ov_net.specs.declared.member.Member.{Member}
 use Rattle.ov_net.specs.declared.member.Member.TheVariants as member
 use Rattle.ov_net.proofs.Journal.After.{members_adding, members_without, told_lasting, told_node}

@@ -1,5 +1,5 @@
 -- The finite map from ids that the entries of a map of nodes stand for.
-use Rattle.std.proofs.Common.{◌≡◌, Bool, true, false, Option, ℕ, ◌+◌, cond, List, [], ◌∷◌, length, None, Some, is_some}
+use Rattle.std.proofs.Common.{◌≡◌, false, ℕ, ◌+◌, cond, List, [], ◌∷◌, length, None, Some, is_some}
 use Rattle.std.proofs.Common.{refl, sym, ap, ◌∙◌, arith}
 use Rattle.std.specs.List.{AllByRecursion}
 use Rattle.std.specs.List.Sorted.{IsStrictlySortedBy}
@@ -7,10 +7,9 @@ use Rattle.std.specs.Map.{lookup, keys_of}
 use Rattle.std.specs.Ordering.{nat_cmp, is_eq, eq_by_cmp}
 use Rattle.std.specs.BTreeMap.{is_at}
 use Rattle.std.specs.Cmp.{nat_cmp_total, eq_by_cmp_equiv}
-use Rattle.std.specs.FinMap.{FinMap, find, from_entries, get, insert, len, contains_key, get-from_entries, get-insert}
+use Rattle.std.specs.FinMap.{find, from_entries, get, insert, len, contains_key, get-from_entries, get-insert}
 use Rattle.std.specs.FinMap.{len-empty, len-insert, same_map, nat_cmp-IsAntisymmetric}
 use Rattle.std.specs.declared.cmp.Ordering.TheVariants.{Less}
-use Rattle.ov_plum.proofs.Maps.{put_again}
 
 module _ {X : Type 0} where
   looked : (es : List (ℕ × X)) (q : ℕ) → find nat_cmp q es ≡ lookup (is_at (nat_cmp q)) es
@@ -49,19 +48,3 @@ module _ {X : Type 0} where
       len-insert nat_cmp_total (from_entries es) e.0 e.1
       ∙ ap (λ b. cond b (len (from_entries {R = nat_cmp} es)) (len (from_entries {R = nat_cmp} es) + 1)) new
       ∙ ap (λ n. n + 1) (counted es h.1) ∙ omega arith
-
-  -- of two values at one id the later one counts
-  pub put_over : (m : FinMap nat_cmp X) (k : ℕ) (a b : X) → insert (insert m k a) k b ≡ insert m k b
-  put_over m k a b = same_map nat_cmp_total nat_cmp-IsAntisymmetric _ _
-      (λ q. get-insert nat_cmp_total (insert m k a) k b q
-      ∙ ap (cond (eq_by_cmp nat_cmp q k) (Some b)) (get-insert nat_cmp_total m k a q)
-      ∙ over (eq_by_cmp nat_cmp q k) (get m q)
-      ∙ sym (get-insert nat_cmp_total m k b q))
-    where
-      over : (t : Bool) (o : Option X) → cond t (Some b) (cond t (Some a) o) ≡ cond t (Some b) o
-      over true o = refl
-      over false o = refl
-
-  -- the old value is put back
-  pub put_back : (m : FinMap nat_cmp X) (k : ℕ) (a b : X) → get m k ≡ Some b → insert (insert m k a) k b ≡ m
-  put_back m k a b at = put_over m k a b ∙ put_again nat_cmp_total nat_cmp-IsAntisymmetric m k b at

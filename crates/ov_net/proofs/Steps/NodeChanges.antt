@@ -1,39 +1,32 @@
--- A node follows a plan: it is taken out of the map, follows the plan, and is put back.
-use Rattle.std.proofs.Common.{◌≡◌, ℕ, Result, Ok, Err, OnErr, None, Some, sym, ap, ◌∙◌}
+-- A node in the map follows a plan.
+use Rattle.std.proofs.Common.{◌≡◌, ℕ, Result, Ok, Err, OnOk, OnErr, Some, sym, ap, ◌∙◌}
 use Rattle.std.specs.Cmp.{nat_cmp_total}
 use Rattle.std.specs.Ordering.{nat_cmp}
 use Rattle.std.specs.FinMap as map
-use Rattle.ov_peer.specs.Planning.{Follows}
-use Rattle.ov_peer.specs.PeerState.{PeerState}
+use Rattle.std.specs.FinMap.{nat_cmp-IsAntisymmetric}
 use Rattle.ov_peer.specs.declared.plan.Plan.{Plan}
-use Rattle.ov_net.specs.Code.Effects.{NodeChanges}
+use Rattle.ov_plum.proofs.Maps.{put_again}
+use Rattle.ov_net.specs.Code.Effects.{MemberFollows, NodeChanges}
 use Rattle.ov_net.specs.declared.planned_effects.NodeChange.TheVariants as change
 use Rattle.ov_net.specs.declared.member.Member.{Member}
-use Rattle.ov_net.specs.declared.member.Member.TheVariants.{Live, Gone}
-use Rattle.ov_net.proofs.Steps.Members.{put_over, put_back}
-use Rattle.ov_net.proofs.Steps.Places.{inserted_here}
 
-pub there : (m n : map.FinMap nat_cmp Member) (k : ℕ) (a : Member) → n ≡ map.insert m k a → ¬ (map.get n k ≡ None)
-there m n k a is none =
-    let e : Some a ≡ None = sym (inserted_here nat_cmp_total m k a) ∙ ap (λ x. map.get x k) (sym is) ∙ none in
-    absurd cc
+module _ {A E P Q : Type 0} where
+  -- what follows from what holds at Ok, and at Err
+  pub on_ok : (r : Result A E) → (P → Q) → OnOk r P → OnOk r Q
+  on_ok (Ok x) f h = f h
+  on_ok (Err e) f h = tt
 
--- out of memory it stayed the same
-pub put_back_as_it_was : {E A : Type 0} (r : Result A E) (m n o : map.FinMap nat_cmp Member) (k : ℕ) (p q : PeerState)
-    → n ≡ map.insert m k Gone → o ≡ map.insert n k (Live q) → q ≡ p → Some (Live p) ≡ map.get m k
-    → OnErr r (o ≡ m)
-put_back_as_it_was r m n o k p q first then same was = on_err r
-    (then ∙ ap (λ x. map.insert x k (Live q)) first
-    ∙ ap (λ (x : PeerState). map.insert (map.insert m k Gone) k (Live x)) same
-    ∙ put_back m k Gone (Live p) (sym was))
-  where
-    on_err : {P E A : Type 0} (r : Result A E) → P → OnErr r P
-    on_err (Ok x) h = tt
-    on_err (Err e) h = h
+  pub on_err : (r : Result A E) → (P → Q) → OnErr r P → OnErr r Q
+  on_err (Ok x) f h = tt
+  on_err (Err e) f h = f h
 
--- it followed the plan
-pub put_back_after : (m n o : map.FinMap nat_cmp Member) (k : ℕ) (g : Plan) (p q : PeerState) → n ≡ map.insert m k Gone
-    → o ≡ map.insert n k (Live q) → Some (Live p) ≡ map.get m k → Follows p g q
-    → NodeChanges k (change.Follows g) m o
-put_back_after m n o k g p q first then was follows =
-    (p, q, sym was, follows, then ∙ ap (λ x. map.insert x k (Live q)) first ∙ put_over m k Gone (Live q))
+-- the node at an id followed the plan
+pub followed : (m n : map.FinMap nat_cmp Member) (k : ℕ) (g : Plan) (a b : Member) → Some a ≡ map.get m k
+    → n ≡ map.insert m k b → MemberFollows a g b → NodeChanges k (change.Follows g) m n
+followed m n k g a b at is f = (f.0, f.1, sym at ∙ ap (λ (x : Member). Some x) f.2, f.3, is ∙ ap (map.insert m k) f.4)
+
+-- the node at an id stayed as it was
+pub stayed : (m n : map.FinMap nat_cmp Member) (k : ℕ) (a b : Member) → Some a ≡ map.get m k → n ≡ map.insert m k b
+    → b ≡ a → n ≡ m
+stayed m n k a b at is same =
+    is ∙ ap (map.insert m k) same ∙ put_again nat_cmp_total nat_cmp-IsAntisymmetric m k a (sym at)

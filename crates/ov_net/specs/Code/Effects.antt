@@ -38,6 +38,10 @@ NodeChanges a (change.Follows g) nodes later =
     × (later ≡ map.insert nodes a (Live q))
 NodeChanges a change.Crashes nodes later = later ≡ map.insert nodes a Gone
 
+-- a node that is alive, before and after it followed the plan
+abbrev pub MemberFollows : Member → Plan → Member → Type 0
+MemberFollows m g n = (p : PeerState) × (q : PeerState) × (m ≡ Live p) × Follows p g q × (n ≡ Live q)
+
 -- the nodes after the change of the named node. Without one they stay the same
 abbrev pub NamedNodeChanges
     : Option (ℕ × NodeChange) → map.FinMap nat_cmp Member → map.FinMap nat_cmp Member → Type 0

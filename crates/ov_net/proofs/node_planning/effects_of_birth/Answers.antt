@@ -1,4 +1,5 @@
-use Rattle.std.proofs.Common.{None, Some, subst}
+use Rattle.std.proofs.Common.{None, Some, sym, subst}
+use Rattle.ov_peer.specs.PeerState.{PeerState, newborn}
 use Rattle.ov_peer.specs.declared.input.Input.TheVariants.{Boot}
 use Rattle.ov_net.specs.Code.Effects.{AreEffectsOfBirth}
 use Rattle.ov_net.specs.declared.planned_effects.Effects.{Effects}
@@ -8,12 +9,14 @@ use Rattle.ov_net.proofs.node_planning.effects_of_birth.Goals as goal
 pub returns-clause-effects : goal.returns-clause-effects
 returns-clause-effects c =
     let added = c.in_ok-added.added in
-    let b : Effects = record {
+    let effects : PeerState → Effects = λ p. record {
       taken = None;
-      node = Some (c.args.node, change.Born c.boot_newborn.new.peer);
+      node = Some (c.args.node, change.Born p);
       packets = added.packets;
       changes = added.changes;
       delivery = added.delivery;
     } in
-    subst (λ p. AreEffectsOfBirth c.args.node p (Boot c.args.contact) c.args.words.now b)
-    c.new-peer.ensures c.in_ok-added.ensures.effects
+    let is : PeerState → PeerState → Type 0 = λ p q.
+    AreEffectsOfBirth c.args.node p (Boot c.args.contact) c.args.words.now (effects q) in
+    subst (λ q. is (newborn c.args.node c.args.params) q) (sym c.in_ok-peer.ensures)
+    (subst (λ p. is p c.boot_newborn.new.peer) c.new-peer.ensures c.in_ok-added.ensures.effects)

@@ -1,19 +1,39 @@
-use Rattle.std.proofs.Common.{sym}
-use Rattle.ov_net.specs.declared.member.Member.TheVariants.{Gone}
-use Rattle.ov_net.proofs.Steps.NodeChanges.{there, put_back_as_it_was, put_back_after}
+use Rattle.std.proofs.Common.{IsSome, refl, subst, sym, ap, ◌∙◌}
+use Rattle.std.proofs.lemmas.Option.{none-some, same_Some}
+use Rattle.std.specs.FinMap as map
+use Rattle.std.specs.Option.{option_copied_mut}
+use Rattle.ov_net.specs.declared.member.Member.TheVariants.{Live}
+use Rattle.ov_net.proofs.Steps.Members.{found, inserted}
+use Rattle.ov_net.proofs.Steps.NodeChanges.{followed, on_err, on_ok, stayed}
 use Rattle.ov_net.proofs.nodes.Nodes.follow.Goals as goal
 
-pub put_back-requires : goal.put_back-requires
-put_back-requires c = there c.args.self.now c.take_out-peer.new.self c.args.id Gone c.take_out-peer.ensures.after
+pub follow-requires : goal.follow-requires
+follow-requires c =
+    let at = sym (ap option_copied_mut c.in-Some.is) ∙ c.get_mut.ensures.value ∙ sym (found _ c.args.id)
+    ∙ ap (λ m. map.get m c.args.id) c.self.view_is in
+    (c.requires.0, same_Some _ _ (at ∙ c.requires.1), c.requires.2)
 
-pub returns-in_err-applied-clause-err : goal.returns-in_err-applied-clause-err
-returns-in_err-applied-clause-err c =
-    put_back_as_it_was c.from_residual.result c.args.self.now c.take_out-peer.new.self c.put_back.new.self c.args.id
-    c.take_out-peer.result c.apply-applied.new.self
-    c.take_out-peer.ensures.after c.put_back.ensures c.in_err-applied.ensures.err (sym c.take_out-peer.ensures.value)
+pub unreachable-requires : goal.unreachable-requires
+unreachable-requires c =
+    none-some (Live c.requires.0) (sym (ap option_copied_mut c.in-None.is) ∙ c.get_mut.ensures.value
+    ∙ sym (found _ c.args.id) ∙ ap (λ m. map.get m c.args.id) c.self.view_is ∙ c.requires.1)
 
 pub returns-clause-ok : goal.returns-clause-ok
 returns-clause-ok c =
-    put_back_after c.args.self.now c.take_out-peer.new.self c.put_back.new.self c.args.id c.args.plan
-    c.take_out-peer.result c.apply-applied.new.self
-    c.take_out-peer.ensures.after c.put_back.ensures (sym c.take_out-peer.ensures.value) c.in_ok-applied.ensures.follows
+    let lent = sym (ap option_copied_mut c.in-Some.is) ∙ c.get_mut.ensures.value in
+    let at = lent ∙ sym (found _ c.args.id) ∙ ap (λ m. map.get m c.args.id) c.self.view_is in
+    let later = c.follow.new.self in
+    let updates = (c.get_mut.follows.holds later).3 (subst IsSome lent refl) in
+    let changed = inserted _ _ c.args.id later updates.0 ∙ ap (λ m. map.insert m c.args.id later) c.self.view_is in
+    on_ok c.follow.result
+    (followed c.args.self.now _ c.args.id c.args.plan c.in-Some.member.now later at changed) c.follow.ensures.ok
+
+pub returns-clause-err : goal.returns-clause-err
+returns-clause-err c =
+    let lent = sym (ap option_copied_mut c.in-Some.is) ∙ c.get_mut.ensures.value in
+    let at = lent ∙ sym (found _ c.args.id) ∙ ap (λ m. map.get m c.args.id) c.self.view_is in
+    let later = c.follow.new.self in
+    let updates = (c.get_mut.follows.holds later).3 (subst IsSome lent refl) in
+    let changed = inserted _ _ c.args.id later updates.0 ∙ ap (λ m. map.insert m c.args.id later) c.self.view_is in
+    on_err c.follow.result (stayed c.args.self.now _ c.args.id c.in-Some.member.now later at changed)
+    c.follow.ensures.err

@@ -51,7 +51,7 @@ invariant_of-self-2 c =
     let effects = c.args.effects in
     let seen = world_of before.params before.nodes before.packets.items before.journal.items in
     let entry : Entry = record {
-      number = c.next_number.result;
+      number = c.next_number-number.result;
       event = c.args.event;
       words = c.args.words.now;
       changes = effects.changes;
@@ -67,14 +67,15 @@ invariant_of-self-2 c =
     let stands = stands_next seen c.args.self.now c.args.event c.args.words.now effects entry later
     c.push_reserved.new.self.items c.self.view_is c.self.invariant.0 c.requires.judged c.requires.effects
     c.requires.few
-    (refl, refl, refl, refl, (c.next_number.ensures ∙ ap (λ v. length v + 1) c.deref.ensures.value))
+    (refl, refl, refl, refl, (c.next_number-number.ensures ∙ ap (λ v. length v + 1) c.deref.ensures.value))
     (record {
       params = refl;
       nodes = c.in_ok-answer.ensures.ok;
       packets = c.update_packets.ensures
           ∙ ap (λ v. taking effects.taken v ++ effects.packets.items) c.in_ok-answer.ensures.packets;
     })
-    (c.push_reserved.ensures.items ∙ ap (λ v. v ++ entry ∷ []) c.in_ok-answer.ensures.journal) in
+    (c.push_reserved.ensures.items ∙ ap (λ v. v ++ c.entry.result ∷ []) c.in_ok-answer.ensures.journal
+    ∙ ap (λ (e : Entry). before.journal.items ++ e ∷ []) c.entry.ensures) in
     let after = graph_after seen c.args.self.now c.args.event c.args.words.now effects nodes before.graph g
     c.self.view_is c.self.invariant.0 c.self.invariant.1 c.requires.effects c.in_ok-answer.ensures.ok
     c.in_ok-answer.ensures.gains c.in_ok-answer.ensures.graph in (

@@ -1,7 +1,7 @@
 use Rattle.std.proofs.Common.{sym, ap, ◌∙◌}
 use Rattle.std.specs.FinMap as map
 use Rattle.ov_net.proofs.Steps.Members.{found, inserted}
-use Rattle.ov_net.proofs.nodes.Nodes.insert.Goals as goal
+use Rattle.ov_net.proofs.nodes.Nodes.put.Goals as goal
 
 pub returns-in_err-insert-clause-present : goal.returns-in_err-insert-clause-present
 returns-in_err-insert-clause-present c =
@@ -12,7 +12,3 @@ pub returns-clause-ok : goal.returns-clause-ok
 returns-clause-ok c =
     inserted _ _ c.args.id c.args.member (c.in_ok-insert.ensures.updates.0)
     ∙ ap (λ m. map.insert m c.args.id c.args.member) c.self.view_is
-
-pub returns-clause-old : goal.returns-clause-old
-returns-clause-old c =
-    c.in_ok-insert.ensures.old ∙ sym (found _ c.args.id) ∙ ap (λ m. map.get m c.args.id) c.self.view_is
