@@ -1,7 +1,5 @@
 use ov_ids::{NodeId, Seq};
-
-/// A list of paths, each a list of ids. Contracts see a list of lists.
-pub type Paths = Seq<Seq<NodeId>>;
+use ov_paths::Paths;
 
 /// A claim about a group of nodes of a graph: k is the fewest node crashes that split the group.
 #[derive(Debug, Drop)]

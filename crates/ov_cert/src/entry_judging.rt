@@ -30,11 +30,10 @@ fn flaw_of_pair(
     if entry.i != i || entry.j != j {
         return Some(EntryFlaw::NamesOthers);
     }
-    let paths = entry.paths.as_slice();
-    if paths.len() != k {
+    if entry.paths.len() != k {
         return Some(EntryFlaw::Number);
     }
-    flaw_of_paths(graph, i, j, paths)
+    flaw_of_paths(graph, i, j, &entry.paths)
 }
 
 /// What is wrong with an entry that should name the member and have a fan of k right paths.
@@ -52,11 +51,10 @@ fn flaw_of_member(
     if entry.j != j {
         return Some(EntryFlaw::NamesOthers);
     }
-    let paths = entry.paths.as_slice();
-    if paths.len() != k {
+    if entry.paths.len() != k {
         return Some(EntryFlaw::Number);
     }
-    flaw_of_fan(graph, group, j, paths)
+    flaw_of_fan(graph, group, j, &entry.paths)
 }
 
 /// What is wrong with the entry at a place, which should be a right entry of the pair.

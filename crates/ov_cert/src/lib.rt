@@ -19,7 +19,7 @@ mod side_judging;
 mod theorems;
 
 pub use all_linked::are_all_linked;
-pub use cert::{Cert, FanPaths, PairPaths, Paths, Split};
+pub use cert::{Cert, FanPaths, PairPaths, Split};
 pub use checked::Checked;
 pub use checker::{check, check_group};
 pub use expected_entries::{entry_flaw, expected, expected_group, judge_entry, judge_group_entry};
@@ -28,4 +28,5 @@ pub use fault::CheckFault;
 pub use flaws::{EntryFlaw, PathFlaw};
 pub use frame::{check_frame, check_group_frame, frame_flaw};
 pub use frame_flaws::{EndFlaw, FrameFlaw, SetFlaw, SideFlaw};
+pub use ov_paths::Paths;
 pub use theorems::{one_verdict, valid_means};

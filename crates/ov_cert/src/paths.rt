@@ -9,7 +9,8 @@ use crate::first_and_later_members::is_earlier;
 use crate::flaws::{EntryFlaw, PathFlaw};
 use crate::node_set::NodeSet;
 use ov_graph::Graph;
-use ov_ids::{NodeId, Seq};
+use ov_ids::NodeId;
+use ov_paths::Paths;
 
 /// Whether two nodes are linked, as the test `are_joined` computes it.
 pub(crate) fn are_linked(graph: &Graph, a: NodeId, b: NodeId) -> bool
@@ -91,12 +92,7 @@ fn take_pair_path(
 }
 
 /// The first of the paths that is wrong. They should lead from `i` to `j` and share only `i` and `j`.
-pub(crate) fn flaw_of_paths(
-    graph: &Graph,
-    i: NodeId,
-    j: NodeId,
-    paths: &[Seq<NodeId>],
-) -> Option<EntryFlaw>
+pub(crate) fn flaw_of_paths(graph: &Graph, i: NodeId, j: NodeId, paths: &Paths) -> Option<EntryFlaw>
     requires i { Has graph.now.nodes i }
     requires j { Has graph.now.nodes j }
     requires differ { i ≢ j }
@@ -106,7 +102,7 @@ pub(crate) fn flaw_of_paths(
     used.enter(i);
     used.enter(j);
     for (at, path) in paths.iter().enumerate() {
-        if let Some(flaw) = take_pair_path(graph, &mut used, i, j, path.as_slice()) {
+        if let Some(flaw) = take_pair_path(graph, &mut used, i, j, path) {
             return Some(EntryFlaw::Path { at, flaw });
         }
     }
@@ -151,7 +147,7 @@ pub(crate) fn flaw_of_fan(
     graph: &Graph,
     group: &[NodeId],
     j: NodeId,
-    paths: &[Seq<NodeId>],
+    paths: &Paths,
 ) -> Option<EntryFlaw>
     requires group { Ascends group.now }
     requires j { Has graph.now.nodes j }
@@ -160,7 +156,7 @@ pub(crate) fn flaw_of_fan(
     let mut used = NodeSet::new(graph);
     used.enter(j);
     for (at, path) in paths.iter().enumerate() {
-        if let Some(flaw) = take_fan_path(graph, group, &mut used, j, path.as_slice()) {
+        if let Some(flaw) = take_fan_path(graph, group, &mut used, j, path) {
             return Some(EntryFlaw::Path { at, flaw });
         }
     }

@@ -1,5 +1,5 @@
 -- Lists that are read and written item by item.
-use Rattle.std.proofs.Common.{◌≡◌, List, [], ◌∷◌, ◌++◌, Option, Some, refl}
+use Rattle.std.proofs.Common.{◌≡◌, List, [], ◌∷◌, ◌++◌, ◌∙◌, Option, Some, None, option_map, ap, append_assoc, refl, sym}
 use Rattle.std.specs.List.{AllByRecursion}
 use Rattle.serde_json.specs.Data.{Data}
 use Rattle.ov_ids.specs.Options.{◌>>=◌}
@@ -23,3 +23,12 @@ pub each_more : {X : Type 0} (P : X → Type 0) (xs : List X) (x : X) → AllByR
     → AllByRecursion P (xs ++ x ∷ [])
 each_more P [] x h p = (p, tt)
 each_more P (y ∷ ys) x h p = (h.0, each_more P ys x h.1 p)
+
+-- one more item was read
+pub item_read : {X : Type 0} (front more : List X) (item : Option X) (later : Option (List X))
+    → option_map (λ x. front ++ x ∷ []) item ≡ Some more
+    → with_front front (item >>= λ x. later >>= λ xs. Some (x ∷ xs)) ≡ with_front more later
+item_read front more None later e = absurd (cc e)
+item_read front more (Some x) None e = refl
+item_read front more (Some x) (Some xs) e =
+    ap Some (sym (append_assoc front (x ∷ []) xs)) ∙ ap (option_map (λ ys. ys ++ xs)) e

@@ -11,6 +11,7 @@ mod file_keys;
 mod graph_writing;
 mod no_json;
 mod object_keys;
+mod paths_field;
 mod reading;
 mod value_fault;
 mod verdict;

@@ -2,6 +2,7 @@ ghost use Rattle.std.specs.Prelude.{◌≡◌};
 ghost use Rattle.ov_certfile.specs.declared.value_fault.ValueFault.TheVariants.{OutOfMemory};
 
 use crate::file_keys::Key;
+use ov_ids::OutOfMemory;
 use std::alloc::{AllocError, AllocFailed};
 
 /// A step into a value.
@@ -81,6 +82,14 @@ pub(crate) enum ValueFault {
     Misfit(Misfit),
     /// 99: out of memory.
     OutOfMemory,
+}
+
+impl From<OutOfMemory> for ValueFault {
+    ghost from_gives = { λ _ e. e ≡ OutOfMemory };
+
+    fn from(_error: OutOfMemory) -> ValueFault {
+        ValueFault::OutOfMemory
+    }
 }
 
 impl From<AllocError> for ValueFault {

@@ -1,7 +1,7 @@
 use crate::sentence_parts::{Part, count, node, say};
-use ov_cert::{EntryFlaw, PathFlaw};
+use ov_cert::{EntryFlaw, PathFlaw, Paths};
 use ov_graph::{Graph, is_member};
-use ov_ids::{NodeId, OutOfMemory, Seq};
+use ov_ids::{NodeId, OutOfMemory};
 
 /// What the paths of an entry must be: from `from` to `to` or, if there is no `to`, to members below `from`.
 #[derive(Drop)]
@@ -16,7 +16,7 @@ pub(crate) fn tell_paths(
     graph: &Graph,
     rule: &Rule,
     k: u32,
-    paths: &[Seq<NodeId>],
+    paths: &Paths,
     flaw: EntryFlaw,
 ) -> Result<(), OutOfMemory> {
     match flaw {
@@ -37,7 +37,7 @@ fn say_flaw(
     text: &mut String,
     graph: &Graph,
     rule: &Rule,
-    paths: &[Seq<NodeId>],
+    paths: &Paths,
     at: usize,
     flaw: PathFlaw,
 ) -> Result<(), OutOfMemory> {
@@ -51,16 +51,11 @@ fn say_flaw(
 }
 
 /// Tells of a path that has no node, or one.
-fn say_short(
-    text: &mut String,
-    rule: &Rule,
-    paths: &[Seq<NodeId>],
-    at: usize,
-) -> Result<(), OutOfMemory> {
+fn say_short(text: &mut String, rule: &Rule, paths: &Paths, at: usize) -> Result<(), OutOfMemory> {
     let Some(path) = paths.get(at) else {
         return Ok(());
     };
-    let Some(first) = path.as_slice().first() else {
+    let Some(first) = path.first() else {
         return say(text, &[Part::Text(" has no node")]);
     };
     if *first == rule.from {
@@ -86,19 +81,16 @@ fn say_step(text: &mut String, graph: &Graph, a: NodeId, b: NodeId) -> Result<()
 }
 
 /// Tells of a node that a path has twice or, if it has it once, of the first path that has it too.
-fn say_taken(
-    text: &mut String,
-    paths: &[Seq<NodeId>],
-    at: usize,
-    id: NodeId,
-) -> Result<(), OutOfMemory> {
+fn say_taken(text: &mut String, paths: &Paths, at: usize, id: NodeId) -> Result<(), OutOfMemory> {
     if let Some(path) = paths.get(at)
-        && has_twice(path.as_slice(), id)
+        && has_twice(path, id)
     {
         return say_one(text, " has node ", id, " twice");
     }
-    for (place, path) in paths.iter().enumerate() {
-        if path.as_slice().contains(&id) {
+    for place in 0..paths.len() {
+        if let Some(path) = paths.get(place)
+            && path.contains(&id)
+        {
             return say_two(text, " meets node ", id, " of paths[", count(place), "]");
         }
     }

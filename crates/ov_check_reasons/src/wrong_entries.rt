@@ -74,7 +74,7 @@ fn tell_pair(
         from: pair.0,
         to: Some(pair.1),
     };
-    tell_paths(text, graph, &rule, split.k, entry.paths.as_slice(), flaw)
+    tell_paths(text, graph, &rule, split.k, &entry.paths, flaw)
 }
 
 fn tell_fan(
@@ -93,7 +93,7 @@ fn tell_fan(
         return say(text, &[Part::Text(" has j "), node(entry.j)]);
     }
     let rule = Rule { from: j, to: None };
-    tell_paths(text, graph, &rule, split.k, entry.paths.as_slice(), flaw)
+    tell_paths(text, graph, &rule, split.k, &entry.paths, flaw)
 }
 
 /// Tells which list of entries is too long.

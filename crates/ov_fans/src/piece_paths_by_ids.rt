@@ -6,7 +6,8 @@ ghost use Rattle.ov_fans.specs.Cuts.{AreRightPaths};
 use crate::piece::Piece;
 use ov_flow::PlacePaths;
 use ov_graph::Graph;
-use ov_ids::{NodeId, OutOfMemory, Seq};
+use ov_ids::{NodeId, OutOfMemory};
+use ov_paths::Paths;
 use std::alloc::Global;
 
 /// The paths of a settled piece by ids. They are those that the piece asks for (Even, SIAM J. Comput. 4, 1975): for a
@@ -17,7 +18,7 @@ pub fn asked_paths(
     group: &[NodeId],
     piece: Piece,
     paths: &PlacePaths,
-) -> Result<Seq<Seq<NodeId>>, OutOfMemory>
+) -> Result<Paths, OutOfMemory>
     requires piece { IsPiece graph.now group.now piece }
     requires right { AreRightPaths graph.now group.now piece paths.now }
     ensures asked { IfOk result (λ ps. AreAskedPaths graph.now group.now piece ps) }

@@ -1,13 +1,13 @@
 //! Paths are read from one flat list. Each is written there from its end back to the source.
-ghost use Rattle.std.specs.Prelude.{◌≡◌, ◌-◌, ◌<◌, ◌==◌, ℕ, [], ◌∷◌, map, reverse, length, get_or};
-ghost use Rattle.std.specs.Prelude.{slice_index, IfOk, IfSome, MatchOption};
+ghost use Rattle.std.specs.Prelude.{◌≡◌, ◌-◌, ◌<◌, ◌≤◌, ◌==◌, ℕ, [], ◌∷◌, ◌++◌, map, reverse, length};
+ghost use Rattle.std.specs.Prelude.{get_or, slice_index, IfSome, MatchOption, OnOk};
 ghost use Rattle.std.specs.List.{position};
 ghost use Rattle.ov_ids.specs.Members.{Has};
 ghost use Rattle.ov_flow.specs.Flow.{ended_by};
 ghost use Rattle.ov_flow.specs.Code.Flat.{paths_after, paths_in};
 
-use ov_ids::{NodeId, OutOfMemory, Seq};
-use std::alloc::Global;
+use ov_ids::{NodeId, OutOfMemory};
+use ov_paths::PathsBuilder;
 
 /// The source, which is the last place of a flat list, or 0 if the list is empty.
 pub(crate) fn source_in(flat: &[u16]) -> u16
@@ -21,7 +21,8 @@ pub(crate) fn source_in(flat: &[u16]) -> u16
 
 /// How many paths a flat list has.
 pub(crate) fn count_paths(flat: &[u16]) -> usize
-    ensures { result ≡ length (paths_in flat.now) }
+    ensures count { result ≡ length (paths_in flat.now) }
+    ensures few { result ≤ length flat.now }
 {
     let source = source_in(flat);
     let mut count = 0;
@@ -53,26 +54,27 @@ pub(crate) fn split_path(flat: &[u16], source: u16) -> Option<(&[u16], &[u16])>
     }
 }
 
-/// A path by ids, from the source to its end, and then `last` if one is given. `path` is written from its end back to
-/// the source.
-pub(crate) fn path_by_ids(
-    alloc: Global,
+/// Appends a path by ids, from the source to its end, and then `last` if one is given. `path` is written from its end
+/// back to the source. No path may be begun.
+pub(crate) fn push_by_ids(
+    paths: &mut PathsBuilder,
     nodes: &[NodeId],
     path: &[u16],
     last: Option<NodeId>,
-) -> Result<Seq<NodeId>, OutOfMemory>
-    requires { (p : ℕ) → Has path.now p → p < length nodes.now }
-    ensures { IfOk result (λ ids. ids ≡ ended_by last (map (λ p. slice_index nodes.now p) (reverse path.now))) }
+) -> Result<(), OutOfMemory>
+    requires places { (p : ℕ) → Has path.now p → p < length nodes.now }
+    requires begun { paths.old.begun ≡ [] }
+    ensures pushed { OnOk result (paths.new.paths ≡ paths.old.paths
+        ++ ended_by last (map (λ p. slice_index nodes.now p) (reverse path.now)) ∷ []) }
+    ensures ended { OnOk result (paths.new.begun ≡ []) }
 {
-    let more = if last.is_some() { 1 } else { 0 };
-    let mut ids = Vec::with_capacity(alloc, path.len() + more)?;
     let mut left = path;
     while let Some((place, before)) = left.split_last() {
-        ids.push_reserved(nodes[*place as usize]);
+        paths.push_id(nodes[*place as usize])?;
         left = before;
     }
     if let Some(id) = last {
-        ids.push_reserved(id);
+        paths.push_id(id)?;
     }
-    Ok(Seq::new(ids))
+    paths.end_path()
 }

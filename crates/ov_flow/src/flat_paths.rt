@@ -8,9 +8,10 @@ ghost use Rattle.ov_split.specs.Places.{net_by_place};
 ghost use Rattle.ov_flow.specs.Code.Walked.{table_of, IsWritten};
 ghost use Rattle.ov_flow.specs.Code.Held.{IsReady};
 
-use crate::flat_path_reading::{count_paths, path_by_ids, source_in, split_path};
+use crate::flat_path_reading::{count_paths, push_by_ids, source_in, split_path};
 use ov_graph::Graph;
-use ov_ids::{NodeId, OutOfMemory, Seq};
+use ov_ids::{NodeId, OutOfMemory};
+use ov_paths::{Paths, PathsBuilder};
 use ov_split::SplitNet;
 use std::alloc::{AllocError, Global};
 use std::marker::Model;
@@ -40,25 +41,27 @@ impl PlacePaths {
     }
 
     /// The paths by ids, each from the source to its end, and then `last` if one is given. The time is linear in the
-    /// total length of the paths.
+    /// total length of the paths. OutOfMemory (99) if an allocation is refused.
     pub fn by_ids(
         &self,
         alloc: Global,
         graph: &Graph,
         last: Option<NodeId>,
-    ) -> Result<Seq<Seq<NodeId>>, OutOfMemory>
+    ) -> Result<Paths, OutOfMemory>
         requires { ArePlaces graph.now self.now }
         ensures { IfOk result (λ ps. ps ≡ map (λ path. ended_by last (map (node_at graph.now) path)) self.now) }
     {
         let source = source_in(&self.flat);
         let nodes = graph.nodes();
-        let mut paths = Vec::with_capacity(alloc, self.count())?;
+        let count = count_paths(&self.flat);
+        let more = if last.is_some() { count } else { 0 };
+        let mut paths = PathsBuilder::with_capacity(alloc, count, self.flat.len() + more)?;
         let mut left = self.flat.as_slice();
         while let Some((path, rest)) = split_path(left, source) {
-            paths.push_reserved(path_by_ids(alloc, nodes, path, last)?);
+            push_by_ids(&mut paths, nodes, path, last)?;
             left = rest;
         }
-        Ok(Seq::new(paths))
+        Ok(paths.finish())
     }
 }
 

@@ -1,7 +1,8 @@
 //! A judge of the paths that a piece asks for, which knows lists of ids and links and nothing else.
 use ov_fans::Piece;
 use ov_graph::Graph;
-use ov_ids::{NodeId, Seq, is_ascending};
+use ov_ids::{NodeId, is_ascending};
+use ov_paths::Paths;
 use std::alloc::{AllocError, Global};
 
 /// Where paths lead: from a node to another one, or else to members of a group that are lower than it.
@@ -62,14 +63,14 @@ impl<'a> Sought<'a> {
     }
 
     /// The nodes that all paths have, and each path's own ones, ascending.
-    fn nodes_once(&self, alloc: Global, paths: &[Seq<NodeId>]) -> Result<Vec<NodeId>, AllocError> {
+    fn nodes_once(&self, alloc: Global, paths: &Paths) -> Result<Vec<NodeId>, AllocError> {
         let mut nodes = Vec::new(alloc);
         nodes.push(self.from)?;
         if let Some(other) = self.other {
             nodes.push(other)?;
         }
-        for path in paths {
-            nodes.extend_from_slice(self.own(path.as_slice()))?;
+        for path in paths.iter() {
+            nodes.extend_from_slice(self.own(path))?;
         }
         nodes.sort_unstable();
         Ok(nodes)
@@ -81,11 +82,11 @@ impl<'a> Sought<'a> {
         &self,
         alloc: Global,
         graph: &Graph,
-        paths: &[Seq<NodeId>],
+        paths: &Paths,
         off: &[u32],
     ) -> Result<bool, AllocError> {
-        for path in paths {
-            if !self.leads(graph, path.as_slice()) {
+        for path in paths.iter() {
+            if !self.leads(graph, path) {
                 return Ok(false);
             }
         }

@@ -6,7 +6,8 @@ use crate::wanted::are_numbered;
 use ov_flow::{Augmentation, CutRows, Flow};
 use ov_graph::Graph;
 use ov_graph::row::{EMPTY, Row, WORDS, agree, put};
-use ov_ids::{NodeId, OutOfMemory, Seq};
+use ov_ids::{NodeId, OutOfMemory};
+use ov_paths::Paths;
 use ov_split::SplitNet;
 use std::alloc::Global;
 use std::test::Fail;
@@ -56,10 +57,11 @@ fn seeks_two(alloc: Global, graph: &Graph) -> Result<bool, OutOfMemory> {
 }
 
 /// These are the two paths of the square, which are 3-2 and 3-4-1, each with this end.
-fn are_of_square(paths: &Seq<Seq<NodeId>>, short: &[u32], long: &[u32]) -> bool {
-    match paths.as_slice() {
-        [first, second] => are_numbered(first.as_slice(), short)
-            && are_numbered(second.as_slice(), long),
+fn are_of_square(paths: &Paths, short: &[u32], long: &[u32]) -> bool {
+    match (paths.get(0), paths.get(1)) {
+        (Some(first), Some(second)) => {
+            paths.len() == 2 && are_numbered(first, short) && are_numbered(second, long)
+        }
         _ => false,
     }
 }

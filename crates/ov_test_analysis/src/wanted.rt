@@ -111,10 +111,9 @@ fn are_paths(
         _ => return Ok(false),
     };
     let asked = asked_paths(alloc, graph, group, piece, paths)?;
-    let asked = asked.as_slice();
     match Sought::of(group, piece) {
         Some(sought) if asked.len() == piece.level() as usize => {
-            Ok(sought.are_paths(alloc, graph, asked, off)?)
+            Ok(sought.are_paths(alloc, graph, &asked, off)?)
         }
         _ => Ok(false),
     }

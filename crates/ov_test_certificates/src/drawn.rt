@@ -64,11 +64,11 @@ pub(crate) fn graph(alloc: Global, drawn: Drawn) -> Result<Graph, GraphFault> {
 }
 
 fn paths(alloc: Global, lists: Lists) -> Result<Paths, OutOfMemory> {
-    let mut paths = Vec::with_capacity(alloc, lists.len())?;
+    let mut paths = Paths::new(alloc);
     for list in lists {
-        paths.push(ids(alloc, list)?)?;
+        paths.push(ids(alloc, list)?.as_slice())?;
     }
-    Ok(Seq::new(paths))
+    Ok(paths)
 }
 
 fn fans(alloc: Global, said: Said) -> Result<Seq<FanPaths>, OutOfMemory> {

@@ -1,5 +1,5 @@
 -- Before the first path, the source is used.
-use Rattle.std.proofs.Common.{ap}
+use Rattle.std.proofs.Common.{ap, ap₂, List, ℕ, length, arith}
 use Rattle.ov_cert.specs.Code.Kept.{NodeSetState}
 use Rattle.ov_cert.specs.Code.Flaws.{fan_paths_flaw}
 use Rattle.ov_cert.proofs.PathRules.NodeSets.{one_entered, node_tested}
@@ -12,5 +12,7 @@ loop-at-init c =
     (node_tested g c.args.j c.requires.j) c.new-used.ensures c.enter.ensures.fresh c.enter.ensures.entered in
     record {
       graph = ap (λ (v : NodeSetState). v.graph) e;
-      left = ap (λ (v : NodeSetState). fan_paths_flaw g c.args.group.now v.members c.args.j 0 c.args.paths.now) e;
+      few = omega (arith, c.iter-path-items.ensures.few, ap length c.iter-path-items.ensures.paths);
+      left = ap₂ (λ (v : NodeSetState) (ps : List (List ℕ)). fan_paths_flaw g c.args.group.now v.members c.args.j 0 ps)
+          e c.iter-path-items.ensures.paths;
     }

@@ -1,5 +1,5 @@
 -- Before the first path, the two ends are used.
-use Rattle.std.proofs.Common.{ap}
+use Rattle.std.proofs.Common.{ap, ap₂, List, ℕ, length, arith}
 use Rattle.ov_cert.specs.Code.Kept.{NodeSetState}
 use Rattle.ov_cert.specs.Code.Flaws.{pair_paths_flaw}
 use Rattle.ov_cert.proofs.PathRules.NodeSets.{two_entered, node_tested}
@@ -14,5 +14,7 @@ loop-at-init c =
     c.enter.ensures.fresh c.enter.ensures.entered c.enter-2.ensures.fresh c.enter-2.ensures.entered in
     record {
       graph = ap (λ (v : NodeSetState). v.graph) e;
-      left = ap (λ (v : NodeSetState). pair_paths_flaw g v.members c.args.i c.args.j 0 c.args.paths.now) e;
+      few = omega (arith, c.iter-path-items.ensures.few, ap length c.iter-path-items.ensures.paths);
+      left = ap₂ (λ (v : NodeSetState) (ps : List (List ℕ)). pair_paths_flaw g v.members c.args.i c.args.j 0 ps) e
+          c.iter-path-items.ensures.paths;
     }

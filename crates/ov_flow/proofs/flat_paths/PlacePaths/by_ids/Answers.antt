@@ -1,8 +1,9 @@
 -- Path by path.
-use Rattle.std.proofs.Common.{◌≡◌, ◌∙◌, ℕ, ◌-◌, get_or, List, [], inl, inr, refl, sym, ap, subst, map, length}
-use Rattle.std.proofs.Common.{reverse, slice_index, arith}
+use Rattle.std.proofs.Common.{◌≡◌, ◌∙◌, ℕ, ◌-◌, ◌∷◌, ◌++◌, get_or, List, [], inl, inr, refl, sym, ap, subst, map, length}
+use Rattle.std.proofs.Common.{reverse, slice_index}
 use Rattle.ov_ids.specs.Members.{Has}
 use Rattle.ov_graph.specs.Paths.{node_at}
+use Rattle.ov_paths.specs.Building.{Building}
 use Rattle.ov_flow.specs.Flow.{ArePlaces, ended_by}
 use Rattle.ov_flow.specs.Code.Flat.{paths_after}
 use Rattle.ov_flow.proofs.FlatPaths.{in_flat, has_reversed, path_more}
@@ -14,19 +15,20 @@ loop-path-init c =
     let g = c.args.graph.now in
     let flat = c.self.inside.flat.items in
     let left = c.as_slice-left.result.now in
+    let f = λ (p : List ℕ). ended_by c.args.last (map (node_at g) p) in
     let all : paths_after s [] left ≡ c.args.self.now =
     ap (paths_after s []) c.as_slice-left.ensures.value
     ∙ in_flat flat s (c.source_in-source.ensures ∙ ap (λ (l : List ℕ). get_or l (length l - 1) 0) c.deref.ensures.value)
     ∙ c.self.view_is in
+    let none = c.in_ok-paths.ensures in
     record {
       places = subst (ArePlaces g) (sym all) c.requires;
-      paths = rw (c.in_ok-paths.ensures.items, all) refl;
-      count = let e = c.in_ok-paths.ensures.len in let m = ap length all in omega (arith, e, m);
-      room = c.in_ok-paths.ensures.exact ∙ c.count.ensures;
+      begun = ap (λ (b : Building). b.begun) none;
+      paths = ap (λ (b : Building). b.paths ++ map f (paths_after s [] left)) none ∙ ap (map f) all;
     }
 
-pub path_by_ids-requires : goal.path_by_ids-requires
-path_by_ids-requires c p h =
+pub push_by_ids-requires-clause-places : goal.push_by_ids-requires-clause-places
+push_by_ids-requires-clause-places c p h =
     let s = c.source_in-source.result in
     let path = c.in-Some.path.now in
     rw c.nodes-nodes.ensures.nodes
@@ -42,16 +44,12 @@ loop-path-preserved c =
     let i = c.loop-path.invariant in
     let first = c.in-Some.ensures.paths in
     let f = λ (p : List ℕ). ended_by c.args.last (map (node_at g) p) in
+    let by_nodes = λ (ns : List ℕ). ended_by c.args.last (map (λ p. slice_index ns p) (reverse path)) in
     record {
       places = λ p h. i.places p (subst (λ (ps : List (List ℕ)). Has ps p) (sym first) (inr h));
-      paths = path_more f c.loop-path.paths.items c.push_reserved.new.self.items (map f c.args.self.now)
-          (paths_after s [] c.loop-path.left.now) (paths_after s [] rest) (reverse path) c.in_ok-path_by_ids.field-0
-          i.paths first c.push_reserved.ensures.items (c.in_ok-path_by_ids.ensures
-          ∙ ap (λ (ns : List ℕ). ended_by c.args.last (map (λ p. slice_index ns p) (reverse path)))
-          c.nodes-nodes.ensures.nodes);
-      count = let e = c.push_reserved.ensures.len in
-          let n = i.count in
-          let m = ap length first in
-          omega (arith, e, m, n);
-      room = c.push_reserved.ensures.capacity ∙ i.room;
+      begun = c.in_ok-push_by_ids.ensures.ended;
+      paths = path_more f c.loop-path.paths.paths c.push_by_ids.new.paths.paths (map f c.args.self.now)
+          (paths_after s [] c.loop-path.left.now) (paths_after s [] rest) (reverse path) (f (reverse path)) i.paths first
+          (c.in_ok-push_by_ids.ensures.pushed
+          ∙ ap (λ (ns : List ℕ). c.loop-path.paths.paths ++ by_nodes ns ∷ []) c.nodes-nodes.ensures.nodes) refl;
     }
