@@ -2,7 +2,7 @@
 use Rattle.std.proofs.Common.{length, ◌<◌}
 use Rattle.ov_lines.specs.Lines.{words_of}
 use Rattle.ov_scenario.proofs.Lines.Filling.{Fills}
-use Rattle.ov_scenario.proofs.statement_reading.read_event_words.Given as goal
+use Rattle.ov_scenario.proofs.given_words.read_event_words.Given as goal
 
 abbrev pub invariant-loop-words : goal.invariant-loop-words
 invariant-loop-words l =

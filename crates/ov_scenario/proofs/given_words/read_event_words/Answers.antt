@@ -2,7 +2,7 @@
 use Rattle.std.proofs.Common.{◌∙◌, set, replicate, sym, refl, arith}
 use Rattle.ov_lines.specs.Lines.{words_of}
 use Rattle.ov_scenario.proofs.Lines.Filling.{first_filled, full}
-use Rattle.ov_scenario.proofs.statement_reading.read_event_words.Goals as goal
+use Rattle.ov_scenario.proofs.given_words.read_event_words.Goals as goal
 
 pub loop-words-init : goal.loop-words-init
 loop-words-init c =
