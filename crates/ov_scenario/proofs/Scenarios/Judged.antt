@@ -198,8 +198,8 @@ judged_more all old new judged faulty so_far (split, steps, told) = by judged.fa
   by (Some f) is wrong =
       fault_more all (left_to_judge old) (left_to_judge new) judged.line f old.before new.before faulty
       (faulty ++ option_to_list (faulty_of judged)) so_far split wrong steps
-      (ap (λ o. faulty ++ option_to_list (option_map (λ (g : LineFault). record { line = judged.line.number; fault = g })
-      o)) is)
+      (ap (λ o. faulty ++ option_to_list (option_map (λ (g : LineFault).
+      record { line = judged.line.number; fault = g }) o)) is)
   by None is right =
       subst (λ fs. JudgedSoFar all (left_to_judge new) new.before fs)
       (sym (append-nil faulty) ∙ ap (λ o. faulty ++ option_to_list (option_map (λ (g : LineFault).
