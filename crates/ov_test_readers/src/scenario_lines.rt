@@ -36,7 +36,10 @@ fn has_lines<'a>(
     expected: &[Line],
 ) -> Result<Scenario<'a>, Fail> {
     let mut scenario = read_scenario(alloc, bytes)?;
-    assert!(rt; are_left(alloc, &mut scenario.lines, expected)?, "at {bytes:?}");
+    assert!(rt;
+        are_left(alloc, &mut scenario.lines, expected)?,
+        "at {bytes:?}"
+    );
     Ok(scenario)
 }
 

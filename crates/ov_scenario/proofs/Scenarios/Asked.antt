@@ -161,36 +161,44 @@ pub record StillLeft (items : List Line) (places : List (ℕ × List ℕ)) (stre
 -- the next line asks for no line to run
 pub passed :
     (items : List Line) (places now later : List (ℕ × List ℕ)) (stream after : Stream)
-    (given waits : Option (List ℕ)) (n : ℕ) (text : List ℕ)
-    → StillLeft items places stream given now → now ≡ (n, text) ∷ later
-    → Asks stream given (statement_of text) None after waits
+    (given waits : Option (List ℕ)) (n : ℕ) (text : List ℕ) (own : Option Statement) (line : Option Line)
+    → StillLeft items places stream given now → now ≡ (n, text) ∷ later → own ≡ statement_of text → line ≡ None
+    → Asks stream given own line after waits
     → StillLeft items places after waits later
 unfolding asking
-passed items places now later stream after given waits n text before first (same, none, asks) = record {
-  asked =
-      ap (λ s. to_run s (waiting waits ++ said later)) same
-      ∙ sym (asks (said later))
-      ∙ ap (λ ls. to_run stream (waiting given ++ said ls)) (sym first)
-      ∙ before.asked;
-  asking_left =
-      sym (ap (λ t. if t then (n, text) ∷ asking later else asking later) none)
-      ∙ ap asking (sym first)
-      ∙ before.asking_left;
-}
+passed items places now later stream after given waits n text own line before first says is asks =
+    let (same, none, asked) = subst (λ l. Asks stream given own l after waits) is asks in
+    record {
+      asked =
+          ap (λ s. to_run s (waiting waits ++ said later)) same
+          ∙ sym (asked (said later))
+          ∙ ap (λ o. to_run stream (waiting given ++ o ∷ said later)) says
+          ∙ ap (λ ls. to_run stream (waiting given ++ said ls)) (sym first)
+          ∙ before.asked;
+      asking_left =
+          sym
+          (ap (λ t. if t then (n, text) ∷ asking later else asking later)
+          (ap asks_for_line (sym says) ∙ none))
+          ∙ ap asking (sym first)
+          ∙ before.asking_left;
+    }
 
 -- the next line asks for this one
 pub taken :
     (items : List Line) (places now later : List (ℕ × List ℕ)) (stream after : Stream)
-    (given waits : Option (List ℕ)) (n : ℕ) (text : List ℕ) (own : Line)
-    → StillLeft items places stream given now → now ≡ (n, text) ∷ later
-    → Asks stream given (statement_of text) (Some own) after waits
-    → (items ≡ own ∷ to_run after (said later)) × (places ≡ (n, text) ∷ asking later)
+    (given waits : Option (List ℕ)) (n : ℕ) (text : List ℕ) (own : Option Statement) (line : Option Line) (next : Line)
+    → StillLeft items places stream given now → now ≡ (n, text) ∷ later → own ≡ statement_of text → line ≡ Some next
+    → Asks stream given own line after waits
+    → (items ≡ next ∷ to_run after (said later)) × (places ≡ (n, text) ∷ asking later)
 unfolding asking
-taken items places now later stream after given waits n text own before first (for, some, asks) = (
-  sym before.asked ∙ ap (λ ls. to_run stream (waiting given ++ said ls)) first ∙ asks (said later),
-  sym before.asking_left ∙ ap asking first
-      ∙ ap (λ t. if t then (n, text) ∷ asking later else asking later) some,
-)
+taken items places now later stream after given waits n text own line next before first says is asks =
+    let (for, some, asked) = subst (λ l. Asks stream given own l after waits) is asks in (
+      sym before.asked ∙ ap (λ ls. to_run stream (waiting given ++ said ls)) first
+          ∙ ap (λ o. to_run stream (waiting given ++ o ∷ said later)) (sym says)
+          ∙ asked (said later),
+      sym before.asking_left ∙ ap asking first
+          ∙ ap (λ t. if t then (n, text) ∷ asking later else asking later) (ap asks_for_line (sym says) ∙ some),
+    )
 
 nothing : (stream : Stream) (given : Option (List ℕ)) → to_run stream (waiting given ++ []) ≡ []
 unfolding to_run
