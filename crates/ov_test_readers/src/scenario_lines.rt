@@ -445,27 +445,27 @@ fn events_without_words_have_those_of_the_seed_in_order(rt: HostRuntime) -> Resu
     Ok(())
 }
 
-/// A scenario file, and its lines that run, each with its number and its text.
-static NUMBERED: (&[u8], [(usize, &[u8]); 7]) = (
-    b"seed 3\nboot 1\n# a comment\nshow 1 \r\n\nwords 1 2\nboot 2 by 1\npackets\n snapshot\nanalyse 4\ncertificate 4",
-    [
-        (2, b"boot 1"),
-        (4, b"show 1 "),
-        (7, b"boot 2 by 1"),
-        (8, b"packets"),
-        (9, b" snapshot"),
-        (10, b"analyse 4"),
-        (11, b"certificate 4"),
-    ],
-);
+/// A scenario file.
+static NUMBERED: &[u8] =
+    b"seed 3\nboot 1\n# a comment\nshow 1 \r\n\nwords 1 2\nboot 2 by 1\npackets\n snapshot\nanalyse 4\ncertificate 4";
+
+/// Its lines that run, each with its number and its text.
+static NUMBERS_AND_TEXTS: [(usize, &str); 7] = [
+    (2, "boot 1"),
+    (4, "show 1 "),
+    (7, "boot 2 by 1"),
+    (8, "packets"),
+    (9, " snapshot"),
+    (10, "analyse 4"),
+    (11, "certificate 4"),
+];
 
 #[test]
 fn lines_that_run_come_with_their_numbers_and_texts(rt: HostRuntime) -> Result<(), Fail> {
-    let (bytes, expected) = &NUMBERED;
-    let mut lines = read_scenario(rt.alloc(), bytes)?.lines;
-    for (number, text) in expected {
+    let mut lines = read_scenario(rt.alloc(), NUMBERED)?.lines;
+    for (number, text) in &NUMBERS_AND_TEXTS {
         let next = lines.next_line(rt.alloc())?.ok_or("one more line")?;
-        assert!(rt; next.number == *number && next.text == *text);
+        assert!(rt; next.number == *number && next.text == text.as_bytes());
     }
     assert!(rt; lines.next_line(rt.alloc())?.is_none());
     Ok(())
