@@ -46,6 +46,16 @@ impl<'a> KeptLines<'a> {
         }
     }
 
+    /// Reads the same lines anew, and leaves these as they are.
+    pub fn copy(&self) -> KeptLines<'a>
+        ensures { result ≡ self.now }
+    {
+        KeptLines {
+            rest: self.rest,
+            count: self.count,
+        }
+    }
+
     /// Reads the next line that is not skipped, if there is one.
     #[tactic(auto, unfolding(crate::specs::Code::Kept::lines_left))]
     pub fn next_line(&mut self) -> Option<KeptLine<'a>>

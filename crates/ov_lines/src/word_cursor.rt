@@ -42,6 +42,16 @@ impl<'a> LineCursor<'a> {
         }
     }
 
+    /// Reads the same anew, and leaves this as it is.
+    pub fn copy(&self) -> LineCursor<'a>
+        ensures { result ≡ self.now }
+    {
+        LineCursor {
+            line: self.line,
+            rest: self.rest,
+        }
+    }
+
     /// Reads the next word, if there is one.
     #[tactic(auto, using(crate::proofs::Lines::Parted::words_none, crate::proofs::Lines::Parted::words_some))]
     pub fn word(&mut self) -> Option<&'a [u8]>

@@ -1,8 +1,8 @@
 -- What the lines of a file say together.
-pub mod Collecting
+pub mod Asked
 pub mod Drawn
 pub mod Judged
-pub mod Numbered
 pub mod OneFault
 pub mod OneScenario
+pub mod Outputs
 pub mod Settled

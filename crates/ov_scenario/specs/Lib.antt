@@ -1,4 +1,5 @@
 pub mod Draws
+pub mod EventWords
 pub mod Faults
 pub mod Statements
 pub mod Scenarios

@@ -1,5 +1,5 @@
 -- What one line of a scenario file says. The form of the lines is chosen here.
-use Rattle.std.specs.Prelude.{ℕ, ◌-◌, nat_lt, nat_le, ◌==◌, ◌&&◌, List, [], ◌∷◌, ◌++◌, length, map, replicate, codes}
+use Rattle.std.specs.Prelude.{ℕ, ◌==◌, List, [], ◌∷◌, ◌++◌, length, map, codes}
 use Rattle.std.specs.Prelude.{Option}
 use Rattle.std.specs.Prelude.{Some, None, option_map, if◌then◌else◌}
 use Rattle.ov_net.specs.declared.event.Event.{Event}
@@ -7,7 +7,7 @@ use Rattle.ov_net.specs.declared.event.Event.TheVariants as event
 use Rattle.ov_ids.specs.Options.{◌>>=◌}
 use Rattle.ov_lines.specs.Lines.{words_of, behind_word, without_space, same, row, number_within, one, two, three}
 use Rattle.ov_lines.specs.Lines.{each_number, short_bits, one_list, long_bits, workers_first}
-use Rattle.ov_words.specs.Stream.{words_per_event}
+use Rattle.ov_scenario.specs.EventWords.{event_words}
 use Rattle.ov_scenario.specs.declared.scenario.Look.TheVariants as look
 use Rattle.ov_scenario.specs.declared.scenario.Subject.{Subject}
 use Rattle.ov_scenario.specs.declared.statement.Statement.{Statement}
@@ -16,13 +16,6 @@ use Rattle.ov_scenario.specs.declared.statement.Statement.TheVariants as says
 -- the numbers, if there are seven
 abbrev pub seven : List ℕ → Option (List ℕ)
 seven ns = if length ns == 7 then Some ns else None
-
--- the random words of an event: those that are given, from one on, and zeros after them
-abbrev pub with_zeros : List ℕ → Option (List ℕ)
-with_zeros ns =
-    if nat_lt 0 (length ns) && nat_le (length ns) words_per_event
-    then Some (ns ++ replicate (words_per_event - length ns) 0)
-    else None
 
 -- the first node hears that the second one crashed
 abbrev pub crash_report_of : ℕ × ℕ → Event
@@ -35,10 +28,6 @@ timer_of p = event.Timer p.0 (record { origin = p.1.0; seq = p.1.1 })
 -- the numbers of seven parameters
 abbrev pub seven_numbers : List (List ℕ) → Option (List ℕ)
 seven_numbers words = each_number short_bits words >>= seven
-
--- the random words of an event, which all words spell
-abbrev pub event_words : List (List ℕ) → Option (List ℕ)
-event_words words = each_number long_bits words >>= with_zeros
 
 -- `boot N` and `boot N by C`, after the name
 abbrev pub boot_of : List (List ℕ) → Option Event

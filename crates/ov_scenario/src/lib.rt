@@ -2,9 +2,10 @@
 #![tactic(auto)]
 
 mod fault_listing;
+mod given_words;
+mod judging;
 mod line_judging;
 mod lines_to_run;
-mod run_line_numbers;
 mod scenario;
 mod scenario_fault;
 mod scenario_reading;
@@ -15,7 +16,7 @@ mod whole_run_settings;
 mod words_from_seed;
 
 pub use fault_listing::faulty_lines;
-pub use run_line_numbers::numbers_of_run_lines;
+pub use lines_to_run::{LineToRun, LinesToRun};
 pub use scenario::{Line, Look, Scenario, Subject};
 pub use scenario_fault::{FaultyLine, LineFault, ScenarioFault, Setting};
 pub use scenario_reading::read_scenario;

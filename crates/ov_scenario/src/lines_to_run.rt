@@ -1,125 +1,108 @@
-ghost use Rattle.std.specs.Prelude.{◌≡◌, [], None, Some, IfOk, OnOk};
+ghost use Rattle.std.specs.Prelude.{◌≡◌, ◌∷◌, [], Ok, None, IfOk, IfErr, IfSome, MatchOption};
 ghost use Rattle.ov_scenario.specs.Draws.{seeded};
-ghost use Rattle.ov_scenario.specs.Scenarios.{AreToRun};
-ghost use Rattle.ov_scenario.specs.Code.RunnableLines.{Collects, stream_now};
-ghost use Rattle.ov_scenario.specs.declared.statement.Statement.TheVariants as says;
+ghost use Rattle.ov_scenario.specs.RunLines.{lines_that_run, AsksFor};
+ghost use Rattle.ov_scenario.specs.Statements.{statement_of};
+ghost use Rattle.ov_scenario.specs.Code.RunnableLines.{Asks, said, stream_now, to_run};
+ghost use Rattle.ov_lines.specs.Lines.{kept_lines};
 
-use crate::scenario::{Line, Look, Subject};
+use crate::given_words::GivenWords;
+use crate::scenario::Line;
 use crate::statement::{Stated, Statement};
+use crate::statement_reading::state;
 use crate::words_from_seed::SeedWords;
-use ov_claims::Workers;
 use ov_ids::OutOfMemory;
-use ov_net::Event;
-use ov_words::Words;
+use ov_lines::{KeptLine, KeptLines};
 use std::alloc::Global;
+use std::marker::Model;
 
-/// The lines to run of the lines of a file so far, with what the lines after them need.
+/// A line to run, and the line of the file that asks for it.
 #[derive(Drop)]
-struct Collector {
+pub struct LineToRun<'a> {
+    /// The number of that line among all lines of the file. These are counted from 1.
+    pub number: usize,
+    /// Its text, without its line feed and one carriage return before that.
+    pub text: &'a [u8],
+    pub line: Line,
+}
+
+/// The lines of a scenario file that are still to run: the events, the looks and the analyses in order, each read from
+/// the file's own text as it is taken. Each event has the random words of the line right before it, or else the next
+/// that the seed gives.
+#[derive(Drop)]
+pub struct LinesToRun<'a> {
+    left: KeptLines<'a>,
     draws: SeedWords,
-    /// The random words of the line right before, if it gives any.
-    given: Option<Words>,
-    lines: Vec<Line>,
 }
 
-impl Collector {
-    /// A collector to which no line was added.
-    fn new(alloc: Global, seed: u64) -> Collector
-        ensures draws { stream_now result.draws ≡ seeded seed }
-        ensures given { result.given ≡ None }
-        ensures lines { result.lines.items ≡ [] }
+impl<'a> Model for LinesToRun<'a> {
+    ghost use Rattle.ov_scenario.specs.RunLines.{RunLines, asking};
+    ghost use Rattle.ov_scenario.specs.Code.RunnableLines.{said, stream_now, to_run};
+
+    ghost Value = { RunLines };
+
+    ghost view = { λ l. record { items = to_run (stream_now l.draws) (said l.left); places = asking l.left } };
+}
+
+impl<'a> LinesToRun<'a> {
+    /// The lines that a file asks to run, with this seed.
+    #[tactic(auto, unfolding(crate::specs::RunLines::asking))]
+    pub(crate) fn new(bytes: &'a [u8], seed: u64) -> LinesToRun<'a>
+        ensures lines { result.items ≡ to_run (seeded seed) (said (kept_lines bytes.now)) }
+        ensures places { result.places ≡ lines_that_run bytes.now }
     {
-        Collector {
+        LinesToRun {
+            left: KeptLines::new(bytes),
             draws: SeedWords::new(seed),
-            given: None,
-            lines: Vec::new(alloc),
         }
     }
 
-    /// Adds what the next line says.
-    #[tactic(auto, using(crate::proofs::Scenarios::Collecting::nothing_collected))]
-    fn add(&mut self, line: Stated) -> Result<(), OutOfMemory>
-        ensures { OnOk result (Collects self.old line.says self.new) }
+    /// Takes the next line to run, if there is one. If an allocation was refused, OutOfMemory (99) is returned, and all
+    /// lines are left as they were.
+    pub fn next_line(&mut self, alloc: Global) -> Result<Option<LineToRun<'a>>, OutOfMemory>
+        ensures line { IfOk result (λ next. MatchOption next (self.old.items ≡ [])
+            (λ l. self.old.items ≡ l.line ∷ self.new.items)) }
+        ensures place { IfOk result (λ next. MatchOption next (self.old.places ≡ [])
+            (λ l. self.old.places ≡ (l.number, l.text.now) ∷ self.new.places)) }
+        ensures asks { IfOk result (λ next. IfSome next (λ l. AsksFor (statement_of l.text.now) l.line)) }
+        ensures end { result ≡ Ok None → self.new ≡ self.old }
+        ensures memory { IfErr result (λ _. self.new ≡ self.old) }
     {
-        let Ok(statement) = line.says else {
-            self.add_nothing();
-            return Ok(());
-        };
-        match statement {
-            Statement::Event(event) => self.add_event(event),
-            Statement::Look(look) => self.add_look(look),
-            Statement::Analyse { subject, workers } => self.add_analysis(subject, workers),
-            Statement::Words(words) => {
-                self.add_words(words);
-                Ok(())
-            }
-            Statement::Params(_) | Statement::Seed(_) => {
-                self.add_nothing();
-                Ok(())
+        let mut left = self.left.copy();
+        let mut given = None;
+        while let Some(KeptLine { number, text }) = left.next_line() {
+            let stated = state(alloc, number, text)?;
+            if let Some(line) = line_of(stated, &mut given, &mut self.draws) {
+                self.left = left;
+                return Ok(Some(LineToRun { number, text, line }));
             }
         }
-    }
-
-    /// Adds a line that asks for no line to run.
-    fn add_nothing(&mut self)
-        ensures { self.new ≡ record self.old { given = None } }
-    {
-        self.given = None;
-    }
-
-    /// Adds random words, which wait for the next line.
-    #[tactic(auto, using(crate::proofs::Scenarios::Collecting::words_collected))]
-    fn add_words(&mut self, words: Words)
-        ensures { Collects self.old (Some (says.Words words)) self.new }
-    {
-        self.given = Some(words);
-    }
-
-    /// Adds an event, with the random words of the line right before it, or else with the next that the seed gives.
-    fn add_event(&mut self, event: Event) -> Result<(), OutOfMemory>
-        ensures { OnOk result (Collects self.old (Some (says.Event event)) self.new) }
-    {
-        let words = match self.given.take() {
-            Some(words) => words,
-            None => self.draws.next_words(),
-        };
-        self.lines.push(Line::Event { event, words })?;
-        Ok(())
-    }
-
-    /// Adds a look.
-    #[tactic(auto, using(crate::proofs::Scenarios::Collecting::look_collected))]
-    fn add_look(&mut self, look: Look) -> Result<(), OutOfMemory>
-        ensures { OnOk result (Collects self.old (Some (says.Look look)) self.new) }
-    {
-        self.given = None;
-        self.lines.push(Line::Look(look))?;
-        Ok(())
-    }
-
-    /// Adds an analysis.
-    #[tactic(auto, using(crate::proofs::Scenarios::Collecting::analysis_collected))]
-    fn add_analysis(&mut self, subject: Subject, workers: Workers) -> Result<(), OutOfMemory>
-        ensures { OnOk result (Collects self.old (Some (says.Analyse subject workers)) self.new) }
-    {
-        self.given = None;
-        self.lines.push(Line::Analyse { subject, workers })?;
-        Ok(())
+        Ok(None)
     }
 }
 
-/// The lines to run: the events, the looks and the analyses in order. Each event has the random words of the line right
-/// before it, or else the next that the seed gives.
-pub(crate) fn lines_to_run(
-    alloc: Global,
-    seed: u64,
-    stated: Vec<Stated>,
-) -> Result<Vec<Line>, OutOfMemory>
-    ensures { IfOk result (λ lines. AreToRun stated.items seed lines.items) }
+/// The line to run that a line of a file asks for, if it asks for one. Random words that it gives wait for the next
+/// line. An event has the random words that wait, or else the next that the seed gives.
+fn line_of<'a>(
+    stated: Stated<'a>,
+    given: &mut Option<GivenWords<'a>>,
+    draws: &mut SeedWords,
+) -> Option<Line>
+    ensures { Asks (stream_now draws.old) given.old stated.entry.says result (stream_now draws.new) given.new }
 {
-    let mut collector = Collector::new(alloc, seed);
-    for line in stated {
-        collector.add(line)?;
+    let waiting = given.take();
+    match stated.says {
+        Ok(Statement::Event(event)) => {
+            let words = draws.event_words(waiting);
+            Some(Line::Event { event, words })
+        }
+        Ok(Statement::Look(look)) => Some(Line::Look(look)),
+        Ok(Statement::Analyse { subject, workers }) => Some(Line::Analyse { subject, workers }),
+        Ok(Statement::Words(words)) => {
+            *given = Some(words);
+            None
+        }
+        Ok(Statement::Params(_)) => None,
+        Ok(Statement::Seed(_)) => None,
+        Err(_) => None,
     }
-    Ok(collector.lines)
 }

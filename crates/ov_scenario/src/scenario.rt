@@ -1,3 +1,4 @@
+use crate::lines_to_run::LinesToRun;
 use ov_claims::Workers;
 use ov_ids::{NodeId, Params, Seq};
 use ov_net::Event;
@@ -33,10 +34,10 @@ pub enum Look {
 }
 
 /// What a scenario file asks for: the parameters of all nodes, the seed of the random words that no line gives, and the
-/// lines to run, in order.
-#[derive(Debug, Drop)]
-pub struct Scenario {
+/// lines to run, in order. The file's bytes are all that is kept of the lines.
+#[derive(Drop)]
+pub struct Scenario<'a> {
     pub params: Params,
     pub seed: u64,
-    pub lines: Vec<Line>,
+    pub lines: LinesToRun<'a>,
 }

@@ -1,28 +1,27 @@
 ghost use Rattle.std.specs.Prelude.{◌≡◌, IfOk, IfErr};
-ghost use Rattle.ov_scenario.specs.Scenarios.{IsScenario, IsFirstFault, IsReadingFault, AreFaultless, stated_lines};
+ghost use Rattle.ov_scenario.specs.Code.Judging.{first_in, params_in, seed_in};
+ghost use Rattle.ov_scenario.specs.RunLines.{lines_that_run};
+ghost use Rattle.ov_scenario.specs.Scenarios.{AreFaultless, IsReadingFault, IsScenario, stated_lines};
 
-use crate::fault_listing::judge;
-use crate::lines_to_run::lines_to_run;
+use crate::judging::Judging;
+use crate::lines_to_run::LinesToRun;
 use crate::scenario::Scenario;
 use crate::scenario_fault::ScenarioFault;
-use crate::statement::Stated;
-use crate::statement_reading::state;
-use crate::whole_run_settings::{params_of, seed_of};
-use ov_ids::OutOfMemory;
-use ov_lines::KeptLines;
+use crate::whole_run_settings::Settings;
 use std::alloc::Global;
 
-/// Reads a scenario file, whose form is chosen here. If a line is at fault, the first one is returned, and its fault
-/// has the number (70 or 21). OutOfMemory (99) is returned if an allocation was refused.
-pub fn read_scenario(alloc: Global, bytes: &[u8]) -> Result<Scenario, ScenarioFault>
+/// Reads a scenario file, whose form is chosen here. All lines are judged, and none is kept: a line to run is read again
+/// from these bytes when it is taken. If a line is at fault, the first one is returned, and its fault has the number (70
+/// or 21). OutOfMemory (99) is returned if an allocation was refused.
+pub fn read_scenario<'a>(alloc: Global, bytes: &'a [u8]) -> Result<Scenario<'a>, ScenarioFault>
     ensures scenario { IfOk result (λ s. IsScenario bytes.now s) }
+    ensures places { IfOk result (λ s. s.lines.places ≡ lines_that_run bytes.now) }
     ensures fault { IfErr result (λ fault. IsReadingFault bytes.now fault) }
 {
-    let stated = read_statements(alloc, bytes)?;
-    refuse_faulty(alloc, &stated)?;
-    let params = params_of(&stated);
-    let seed = seed_of(&stated);
-    let lines = lines_to_run(alloc, seed, stated)?;
+    let settings = read_settings(alloc, bytes)?;
+    let params = settings.params();
+    let seed = settings.seed();
+    let lines = LinesToRun::new(bytes, seed);
     Ok(Scenario {
         params,
         seed,
@@ -30,27 +29,22 @@ pub fn read_scenario(alloc: Global, bytes: &[u8]) -> Result<Scenario, ScenarioFa
     })
 }
 
-/// Returns the first of these lines that is at fault, if there is one.
-fn refuse_faulty(alloc: Global, lines: &[Stated]) -> Result<(), ScenarioFault>
-    ensures faultless { IfOk result (λ _. AreFaultless lines.now) }
-    ensures fault { IfErr result (λ fault. IsFirstFault lines.now fault) }
+/// Judges all lines of a file, and returns what they give for the whole run, or the first one that is at fault.
+fn read_settings(alloc: Global, bytes: &[u8]) -> Result<Settings, ScenarioFault>
+    ensures faultless { IfOk result (λ _. AreFaultless (stated_lines bytes.now)) }
+    ensures params { IfOk result (λ settings. settings.params ≡ first_in params_in (stated_lines bytes.now)) }
+    ensures seed { IfOk result (λ settings. settings.seed ≡ first_in seed_in (stated_lines bytes.now)) }
+    ensures fault { IfErr result (λ fault. IsReadingFault bytes.now fault) }
 {
-    let faulty = judge(alloc, lines)?;
-    match faulty.first() {
-        Some(first) => Err(ScenarioFault::Line(*first)),
-        None => Ok(()),
+    let mut judging = Judging::new(alloc, bytes)?;
+    let mut settings = Settings::nothing();
+    let mut first = None;
+    while let Some(judged) = judging.next_line(alloc)? {
+        settings = settings.with(&judged.line);
+        first = first.or(judged.faulty());
     }
-}
-
-/// Reads what the lines of a file say, in order. Lines that are skipped are left out.
-#[tactic(auto, unfolding(crate::specs::Scenarios::stated_lines))]
-pub(crate) fn read_statements(alloc: Global, bytes: &[u8]) -> Result<Vec<Stated>, OutOfMemory>
-    ensures { IfOk result (λ stated. stated.items ≡ stated_lines bytes.now) }
-{
-    let mut stated = Vec::new(alloc);
-    let mut lines = KeptLines::new(bytes);
-    while let Some(line) = lines.next_line() {
-        stated.push(state(alloc, line.number, line.text)?)?;
+    match first {
+        Some(first) => Err(ScenarioFault::Line(first)),
+        None => Ok(settings),
     }
-    Ok(stated)
 }

@@ -1,19 +1,19 @@
+use crate::given_words::GivenWords;
 use crate::scenario::{Look, Subject};
 use ov_claims::Workers;
 use ov_lines::Unread;
 use ov_net::Event;
-use ov_words::Words;
 use std::marker::Model;
 
 /// What one line says by itself, whatever comes before it and after it.
 #[derive(Drop)]
-pub(crate) enum Statement {
+pub(crate) enum Statement<'a> {
     /// The numbers of the parameters, which may be out of their limits.
     Params([u32; 7]),
     /// The seed of the random words that no line gives.
     Seed(u64),
     /// The random words of the next event.
-    Words(Words),
+    Words(GivenWords<'a>),
     Event(Event),
     Look(Look),
     /// What is analysed, and by how many workers.
@@ -22,14 +22,14 @@ pub(crate) enum Statement {
 
 /// A line that is not skipped. Contracts see of a line that can't be read only that it says nothing.
 #[derive(Drop)]
-pub(crate) struct Stated {
+pub(crate) struct Stated<'a> {
     /// Its number among all lines of the file. These are counted from 1.
     pub(crate) number: usize,
     /// What it says, or why it can't be read.
-    pub(crate) says: Result<Statement, Unread>,
+    pub(crate) says: Result<Statement<'a>, Unread>,
 }
 
-impl Model for Stated {
+impl<'a> Model for Stated<'a> {
     ghost use Rattle.std.specs.Result.{result_ok};
     ghost use Rattle.ov_scenario.specs.Statements.{Stated};
 

@@ -2,20 +2,20 @@ ghost use Rattle.std.specs.Prelude.{◌≡◌, ◌==◌, ◌++◌, length, map, 
 ghost use Rattle.std.specs.Result.{result_ok};
 ghost use Rattle.ov_lines.specs.Lines.{words_of, row, two, three};
 ghost use Rattle.ov_scenario.specs.Scenarios.{stated_at};
-ghost use Rattle.ov_scenario.specs.Statements.{seven_numbers, event_words, crash_report_of, timer_of, boot_of};
+ghost use Rattle.ov_scenario.specs.Statements.{seven_numbers, crash_report_of, timer_of, boot_of};
 ghost use Rattle.ov_scenario.specs.Statements.{broadcast_of, group_at, subject_at, subject_of, analysis_of};
 ghost use Rattle.ov_scenario.specs.Statements.{event_rows, look_rows, line_rows, line_names, statement_of};
 ghost use Rattle.ov_scenario.specs.Code.Reading.{Reads};
 ghost use Rattle.ov_scenario.specs.declared.statement.Statement.TheVariants as says;
 ghost use Rattle.ov_scenario.specs.declared.statement_reading.Unstated.TheVariants as unstated;
 
+use crate::given_words::GivenWords;
 use crate::scenario::{Look, Subject};
 use crate::statement::{Stated, Statement};
 use ov_claims::Workers;
 use ov_ids::{MsgId, NodeId, OutOfMemory, Seq};
 use ov_lines::{END, ID, Kind, LineCursor, Unread, is_word};
 use ov_net::Event;
-use ov_words::{WORDS_PER_EVENT, Words};
 use std::alloc::{AllocError, Global};
 
 /// The name of a line of parameters.
@@ -107,7 +107,11 @@ impl From<OutOfMemory> for Unstated {
 }
 
 /// Reads what a line says that is not skipped.
-pub(crate) fn state(alloc: Global, number: usize, text: &[u8]) -> Result<Stated, OutOfMemory>
+pub(crate) fn state<'a>(
+    alloc: Global,
+    number: usize,
+    text: &'a [u8],
+) -> Result<Stated<'a>, OutOfMemory>
     ensures { IfOk result (λ stated. stated ≡ stated_at (number, text.now)) }
 {
     let says = match read_statement(alloc, text) {
@@ -119,7 +123,7 @@ pub(crate) fn state(alloc: Global, number: usize, text: &[u8]) -> Result<Stated,
 }
 
 /// Reads what a line says.
-pub(crate) fn read_statement(alloc: Global, text: &[u8]) -> Result<Statement, Unstated>
+fn read_statement<'a>(alloc: Global, text: &'a [u8]) -> Result<Statement<'a>, Unstated>
     ensures { Reads result (statement_of text.now) }
 {
     let mut cursor = LineCursor::new(text);
@@ -131,12 +135,12 @@ pub(crate) fn read_statement(alloc: Global, text: &[u8]) -> Result<Statement, Un
 }
 
 /// Reads what follows the name of a line. Lines that set something for those after them come first.
-fn read_named(
+fn read_named<'a>(
     alloc: Global,
     name: &[u8],
     unknown: Unread,
-    cursor: &mut LineCursor,
-) -> Result<Statement, Unstated>
+    cursor: &mut LineCursor<'a>,
+) -> Result<Statement<'a>, Unstated>
     ensures { Reads result (row name.now (line_rows cursor.old (words_of cursor.old)) None) }
 {
     if is_word(name, PARAMS.as_bytes()) {
@@ -146,18 +150,18 @@ fn read_named(
         return Ok(Statement::Seed(cursor.last_number(&[Kind::Long("the seed")])?));
     }
     if is_word(name, b"words") {
-        return Ok(Statement::Words(Words::new(read_event_words(cursor)?)));
+        return Ok(Statement::Words(GivenWords::read(cursor)?));
     }
     read_event(alloc, name, unknown, cursor)
 }
 
 /// Reads what follows the name of an event, of an analysis or of a look.
-fn read_event(
+fn read_event<'a>(
     alloc: Global,
     name: &[u8],
     unknown: Unread,
-    cursor: &mut LineCursor,
-) -> Result<Statement, Unstated>
+    cursor: &mut LineCursor<'a>,
+) -> Result<Statement<'a>, Unstated>
     ensures { Reads result
         (row name.now (event_rows cursor.old (words_of cursor.old) ++ look_rows (words_of cursor.old)) None) }
 {
@@ -198,12 +202,12 @@ fn read_event(
 }
 
 /// Reads what follows the name of an analysis or of a look.
-fn read_look(
+fn read_look<'a>(
     alloc: Global,
     name: &[u8],
     unknown: Unread,
-    cursor: &mut LineCursor,
-) -> Result<Statement, Unstated>
+    cursor: &mut LineCursor<'a>,
+) -> Result<Statement<'a>, Unstated>
     ensures { Reads result (row name.now (look_rows (words_of cursor.old)) None) }
 {
     if is_word(name, b"analyse") {
@@ -245,7 +249,7 @@ fn read_broadcast(alloc: Global, cursor: &mut LineCursor) -> Result<Event, Unsta
 
 /// Reads what follows the name `analyse`: the moment, the number of workers if one is named, and the group if one is
 /// named.
-fn read_analysis(alloc: Global, cursor: &mut LineCursor) -> Result<Statement, Unstated>
+fn read_analysis<'a>(alloc: Global, cursor: &mut LineCursor<'a>) -> Result<Statement<'a>, Unstated>
     ensures { Reads result (analysis_of (words_of cursor.old)) }
 {
     let moment = cursor.short_number(MOMENT)?;
@@ -270,7 +274,7 @@ fn read_analysis(alloc: Global, cursor: &mut LineCursor) -> Result<Statement, Un
     Err(neither.into())
 }
 
-fn by_one_worker(subject: Subject) -> Statement
+fn by_one_worker<'a>(subject: Subject) -> Statement<'a>
     ensures { result ≡ says.Analyse subject 1 }
 {
     let workers = Workers::ONE;
@@ -349,22 +353,4 @@ fn read_params(cursor: &mut LineCursor) -> Result<[u32; 7], Unread>
     let kp = cursor.short_number(PASSIVE_SAMPLE)?;
     let shuffle_ttl = cursor.last_short_number(SHUFFLE_TTL)?;
     Ok([active, passive, arwl, prwl, ka, kp, shuffle_ttl])
-}
-
-/// Reads 1 to 64 random words. Zeros follow them.
-#[tactic(auto, using(crate::proofs::Lines::Filling::more))]
-fn read_event_words(cursor: &mut LineCursor) -> Result<[u64; WORDS_PER_EVENT], Unread>
-    ensures { result_ok result ≡ event_words (words_of cursor.old) }
-{
-    let mut words = [0; WORDS_PER_EVENT];
-    words[0] = cursor.number(&[Kind::RandomWord])?;
-    let mut count = 1;
-    while !cursor.is_at_end() {
-        if count == WORDS_PER_EVENT {
-            return Err(cursor.unread(&[Kind::Full]));
-        }
-        words[count] = cursor.number(&[Kind::FurtherWord])?;
-        count += 1;
-    }
-    Ok(words)
 }

@@ -1,10 +1,11 @@
 ghost use Rattle.std.specs.Prelude.{◌≡◌, IfOk, length, vec_len};
 ghost use Rattle.rand_core.specs.Stream.{Stream};
 ghost use Rattle.ov_words.specs.Stream.{AreOutputs};
-ghost use Rattle.ov_scenario.specs.Code.RunnableLines.{stream_now};
+ghost use Rattle.ov_scenario.specs.Code.RunnableLines.{AreEventWords, stream_now};
 ghost use Rattle.ov_scenario.specs.Draws.{AreDraws, seeded};
 ghost use Rattle.ov_words.specs.Stream.{words_per_event};
 
+use crate::given_words::GivenWords;
 use ov_ids::OutOfMemory;
 use ov_words::Words;
 use rand_core::SeedableRng;
@@ -35,6 +36,17 @@ impl SeedWords {
         ensures outputs { AreOutputs (stream_now self.old) result (stream_now self.new) }
     {
         Words::from_rng(&mut self.generator)
+    }
+
+    /// The random words of an event: these, if they were given, or else the next.
+    #[tactic(auto, using(crate::proofs::Scenarios::Outputs::outputs_drawn))]
+    pub(crate) fn event_words(&mut self, given: Option<GivenWords>) -> Words
+        ensures { AreEventWords (stream_now self.old) given.entry result (stream_now self.new) }
+    {
+        match given {
+            Some(given) => given.words(),
+            None => self.next_words(),
+        }
     }
 }
 

@@ -4,7 +4,7 @@ use ov_ids::{NodeId, Params};
 use ov_lines::{ID, Kind, Unread};
 use ov_net::Event;
 use ov_scenario::{
-    FaultyLine, Line, LineFault, Look, Scenario, ScenarioFault, Setting, Subject, draw,
+    FaultyLine, Line, LineFault, LinesToRun, Look, Scenario, ScenarioFault, Setting, Subject, draw,
     faulty_lines, read_scenario,
 };
 use ov_test_kit::{ids, message_id, payload, sized, words};
@@ -13,22 +13,33 @@ use std::alloc::Global;
 use std::process::Abort;
 use std::test::Fail;
 
-/// These are the lines of the scenario.
-fn are_lines(alloc: Global, scenario: &Scenario, expected: &[Line]) -> Result<bool, Fail> {
-    let told = format!(in alloc; "{:?}", scenario.lines.as_slice())?;
-    let expected = format!(in alloc; "{expected:?}")?;
-    Ok(told.as_str() == expected.as_str())
+/// These lines are left to run, and no more.
+fn are_left(alloc: Global, lines: &mut LinesToRun, expected: &[Line]) -> Result<bool, Fail> {
+    for line in expected {
+        let Some(next) = lines.next_line(alloc)? else {
+            return Ok(false);
+        };
+        let told = format!(in alloc; "{:?}", next.line)?;
+        let wanted = format!(in alloc; "{line:?}")?;
+        if told.as_str() != wanted.as_str() {
+            return Ok(false);
+        }
+    }
+    Ok(lines.next_line(alloc)?.is_none())
 }
 
 /// The file has exactly these lines.
-fn has_lines(
+fn has_lines<'a>(
     rt: &impl Abort,
     alloc: Global,
-    bytes: &[u8],
+    bytes: &'a [u8],
     expected: &[Line],
-) -> Result<Scenario, Fail> {
-    let scenario = read_scenario(alloc, bytes)?;
-    assert!(rt; are_lines(alloc, &scenario, expected)?, "at {bytes:?}");
+) -> Result<Scenario<'a>, Fail> {
+    let mut scenario = read_scenario(alloc, bytes)?;
+    assert!(rt;
+        are_left(alloc, &mut scenario.lines, expected)?,
+        "at {bytes:?}"
+    );
     Ok(scenario)
 }
 
@@ -431,6 +442,32 @@ fn events_without_words_have_those_of_the_seed_in_order(rt: HostRuntime) -> Resu
     ];
     let text = b"seed 7\nlose 1\nwords 5\nlose 2\npackets\nlose 3\nlose 4\n";
     let _ = has_lines(&rt, alloc, text, &expected)?;
+    Ok(())
+}
+
+/// A scenario file.
+static NUMBERED: &[u8] =
+    b"seed 3\nboot 1\n# a comment\nshow 1 \r\n\nwords 1 2\nboot 2 by 1\npackets\n snapshot\nanalyse 4\ncertificate 4";
+
+/// Its lines that run, each with its number and its text.
+static NUMBERS_AND_TEXTS: [(usize, &str); 7] = [
+    (2, "boot 1"),
+    (4, "show 1 "),
+    (7, "boot 2 by 1"),
+    (8, "packets"),
+    (9, " snapshot"),
+    (10, "analyse 4"),
+    (11, "certificate 4"),
+];
+
+#[test]
+fn lines_that_run_come_with_their_numbers_and_texts(rt: HostRuntime) -> Result<(), Fail> {
+    let mut lines = read_scenario(rt.alloc(), NUMBERED)?.lines;
+    for (number, text) in &NUMBERS_AND_TEXTS {
+        let next = lines.next_line(rt.alloc())?.ok_or("one more line")?;
+        assert!(rt; next.number == *number && next.text == text.as_bytes());
+    }
+    assert!(rt; lines.next_line(rt.alloc())?.is_none());
     Ok(())
 }
 

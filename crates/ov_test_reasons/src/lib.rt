@@ -8,6 +8,4 @@ mod group_refusals;
 #[cfg(test)]
 mod refusals;
 #[cfg(test)]
-mod run_lines;
-#[cfg(test)]
 mod told_files;

@@ -5,7 +5,7 @@ use Rattle.std.proofs.Common.{refl, ap, sym, subst, arith, append_assoc, append-
 use Rattle.std.proofs.lemmas.Bool.Decides.{nat_tests}
 use Rattle.ov_ids.specs.Options.{◌>>=◌}
 use Rattle.ov_lines.specs.Lines.{number_within, each_number}
-use Rattle.ov_scenario.specs.Statements.{with_zeros, event_words}
+use Rattle.ov_scenario.specs.EventWords.{with_zeros, event_words}
 use Rattle.ov_lines.specs.Code.Spaced.{first_number}
 use Rattle.ov_lines.proofs.Lines.Parted.{not_empty}
 

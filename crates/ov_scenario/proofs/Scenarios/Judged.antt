@@ -1,13 +1,15 @@
 -- Lines that are judged one after the other, by what those before them tell.
 use Rattle.std.proofs.Common.{◌≡◌, ◌∙◌, inl, inr, ℕ, Bool, true, false, if◌then◌else◌, List, [], ◌∷◌, ◌++◌}
-use Rattle.std.proofs.Common.{append_assoc, append-nil, Option, Some, None, refl, ap, sym, subst}
+use Rattle.std.proofs.Common.{append_assoc, append-nil, map, Option, Some, None, refl, ap, sym, subst}
 use Rattle.std.specs.Option.{option_or}
-use Rattle.std.specs.Prelude.{slice_get}
-use Rattle.ov_scenario.specs.Code.Judging.{or_next, with_next}
+use Rattle.std.specs.Prelude.{slice_get, MatchOption, option_map, option_to_list}
+use Rattle.ov_scenario.specs.Code.Judging.{or_next, with_next, Judges, Tells, faulty_of, left_to_judge, lines_left}
 use Rattle.ov_scenario.specs.Scenarios.{first_of, is_event, is_params, is_seed, before_of, AreWithin, IsTooLate}
 use Rattle.ov_scenario.specs.Scenarios.{IsWrong}
-use Rattle.ov_scenario.specs.Scenarios.{AreFaulty, IsFirstFaulty}
+use Rattle.ov_scenario.specs.Scenarios.{AreFaulty, IsFirstFaulty, stated_at}
 use Rattle.ov_scenario.specs.Statements.{Stated}
+use Rattle.ov_scenario.specs.declared.judging.Judged.{Judged}
+use Rattle.ov_scenario.specs.declared.judging.Judging.{Judging}
 use Rattle.ov_scenario.specs.declared.line_judging.Before.{Before}
 use Rattle.ov_scenario.specs.declared.scenario_fault.FaultyLine.{FaultyLine}
 use Rattle.ov_scenario.specs.declared.scenario_fault.LineFault.{LineFault}
@@ -26,6 +28,34 @@ pub in_time :
 in_time s (Some n) same none = absurd (none (fault.BehindEvent s n) refl)
 in_time s None (Some n) none = absurd (none (fault.SetBefore s n) refl)
 in_time s None None none = (refl, refl)
+
+-- of the lines after a line the first one decides
+wrong_by_next :
+    (before : Before) (said : Option Statement) (next : Stated) (more : List Stated) (f : LineFault)
+    → (IsWrong before said (next ∷ []) f → IsWrong before said (next ∷ more) f)
+    × (IsWrong before said (next ∷ more) f → IsWrong before said (next ∷ []) f)
+wrong_by_next before None next more f = (λ w. w, λ w. w)
+wrong_by_next before (Some (says.Params numbers)) next more f = (λ w. w, λ w. w)
+wrong_by_next before (Some (says.Seed seed)) next more f = (λ w. w, λ w. w)
+wrong_by_next before (Some (says.Words words)) next more f = (λ w. w, λ w. w)
+wrong_by_next before (Some (says.Event event)) next more f = (λ w. w, λ w. w)
+wrong_by_next before (Some (says.Look look)) next more f = (λ w. w, λ w. w)
+wrong_by_next before (Some (says.Analyse subject workers)) next more f = (λ w. w, λ w. w)
+
+-- a line that was judged by the next one alone is judged by all that follow it
+pub told_by_next :
+    (before : Before) (said : Option Statement) (next : Option Stated) (seen : List Stated)
+    (behind : List (ℕ × List ℕ)) (told : Option LineFault)
+    → MatchOption next (seen ≡ []) (λ line. seen ≡ line ∷ []) → Tells told (λ f. IsWrong before said seen f)
+    → Tells told (λ f. IsWrong before said (lines_left next behind) f)
+told_by_next before said None seen behind told is tells =
+    subst (λ (ls : List Stated). Tells told (λ f. IsWrong before said ls f)) is tells
+told_by_next before said (Some line) seen behind None is tells = λ f wrong.
+    tells f (subst (λ (ls : List Stated). IsWrong before said ls f) (sym is)
+    ((wrong_by_next before said line (map stated_at behind) f).1 wrong))
+told_by_next before said (Some line) seen behind (Some f) is tells =
+    (wrong_by_next before said line (map stated_at behind) f).0
+    (subst (λ (ls : List Stated). IsWrong before said ls f) is tells)
 
 -- parameters that come in time, and are out of their limits
 pub params_beyond :
@@ -93,12 +123,15 @@ pub record JudgedSoFar (all left : List Stated) (before : Before) (faulty : List
   pub whole : (later : List FaultyLine) → AreFaulty passed left later → AreFaulty [] all (faulty ++ later)
 
 pub begun :
-    (all : List Stated) (before : Before) (faulty : List FaultyLine) → before ≡ before_of [] → faulty ≡ []
-    → JudgedSoFar all all before faulty
-begun all before faulty known none = record {
+    (all left : List Stated) (before : Before) (faulty : List FaultyLine) → left ≡ all → before ≡ before_of []
+    → faulty ≡ []
+    → JudgedSoFar all left before faulty
+begun all left before faulty same known none = record {
   passed = [];
   known = known;
-  whole = λ later is. subst (λ fs. AreFaulty [] all (fs ++ later)) (sym none) is;
+  whole = λ later is.
+      subst (λ fs. AreFaulty [] all (fs ++ later)) (sym none)
+      (subst (λ (ls : List Stated). AreFaulty [] ls later) same is);
 }
 
 pub fault_more :
@@ -139,6 +172,41 @@ faultless_more all left behind line before next faulty so_far split right steps 
       so_far.whole later (subst (λ (ls : List Stated). AreFaulty so_far.passed ls later) (sym split) own);
 }
 
+-- the next line was judged by the one after it
+pub judges_next :
+    (old new : Judging) (line : Stated) (seen : List Stated) (told : Option LineFault)
+    → old.next ≡ Some line → map stated_at old.behind ≡ left_to_judge new → new.before ≡ with_next old.before line
+    → MatchOption new.next (seen ≡ []) (λ next. seen ≡ next ∷ [])
+    → Tells told (λ f. IsWrong old.before line.says seen f)
+    → Judges old (Some (record { line = line; fault = told })) new
+judges_next old new line seen told is behind steps next tells = (
+  ap (λ (n : Option Stated). lines_left n old.behind) is ∙ ap (λ (ls : List Stated). line ∷ ls) behind,
+  steps,
+  told_by_next old.before line.says new.next seen new.behind told next tells,
+)
+
+-- one line more, which is at fault or not
+pub judged_more :
+    (all : List Stated) (old new : Judging) (judged : Judged) (faulty : List FaultyLine)
+    → JudgedSoFar all (left_to_judge old) old.before faulty → Judges old (Some judged) new
+    → JudgedSoFar all (left_to_judge new) new.before (faulty ++ option_to_list (faulty_of judged))
+judged_more all old new judged faulty so_far (split, steps, told) = by judged.fault refl told where
+  by :
+      (own : Option LineFault) → judged.fault ≡ own
+      → Tells own (λ f. IsWrong old.before judged.line.says (left_to_judge new) f)
+      → JudgedSoFar all (left_to_judge new) new.before (faulty ++ option_to_list (faulty_of judged))
+  by (Some f) is wrong =
+      fault_more all (left_to_judge old) (left_to_judge new) judged.line f old.before new.before faulty
+      (faulty ++ option_to_list (faulty_of judged)) so_far split wrong steps
+      (ap (λ o. faulty ++ option_to_list (option_map (λ (g : LineFault).
+      record { line = judged.line.number; fault = g }) o)) is)
+  by None is right =
+      subst (λ fs. JudgedSoFar all (left_to_judge new) new.before fs)
+      (sym (append-nil faulty) ∙ ap (λ o. faulty ++ option_to_list (option_map (λ (g : LineFault).
+      record { line = judged.line.number; fault = g }) o)) (sym is))
+      (faultless_more all (left_to_judge old) (left_to_judge new) judged.line old.before new.before faulty so_far split
+      right steps)
+
 none_left : (passed : List Stated) → AreFaulty passed [] []
 unfolding AreFaulty
 none_left passed = refl
@@ -163,3 +231,51 @@ first_at_fault lines [] first are is = absurd cc
 first_at_fault lines (own ∷ later) first are is =
     let same : own ≡ first = cc in
     (later, subst (λ (f : FaultyLine). AreFaulty [] lines (f ∷ later)) same are)
+
+-- ---- the first line at fault
+
+-- the lines so far were judged, and this is the first of them that is at fault, if one is
+pub record FirstSoFar (all left : List Stated) (before : Before) (first : Option FaultyLine) : Type 0 where
+  pub faulty : List FaultyLine
+  pub judged : JudgedSoFar all left before faulty
+  pub at_head : first ≡ slice_get faulty 0
+
+pub first_begun :
+    (all left : List Stated) (before : Before) → left ≡ all → before ≡ before_of []
+    → FirstSoFar all left before None
+first_begun all left before same known =
+    record { faulty = []; judged = begun all left before [] same known refl; at_head = refl }
+
+-- one line more, which is at fault or not
+pub first_more :
+    (all : List Stated) (old new : Judging) (judged : Judged) (first : Option FaultyLine)
+    → FirstSoFar all (left_to_judge old) old.before first → Judges old (Some judged) new
+    → FirstSoFar all (left_to_judge new) new.before (option_or first (faulty_of judged))
+first_more all old new judged first so_far judges = record {
+  faulty = so_far.faulty ++ option_to_list (faulty_of judged);
+  judged = judged_more all old new judged so_far.faulty so_far.judged judges;
+  at_head = ap (λ o. option_or o (faulty_of judged)) so_far.at_head ∙ both so_far.faulty (faulty_of judged);
+} where
+  both :
+      (faulty : List FaultyLine) (next : Option FaultyLine)
+      → option_or (slice_get faulty 0) next ≡ slice_get (faulty ++ option_to_list next) 0
+  both [] None = refl
+  both [] (Some f) = refl
+  both (own ∷ faulty) next = refl
+
+-- all lines were judged, and none is at fault
+pub none_at_fault :
+    (all left : List Stated) (before : Before) → FirstSoFar all left before None → left ≡ [] → AreFaulty [] all []
+none_at_fault all left before so_far none = by so_far.faulty so_far.at_head so_far.judged where
+  by : (faulty : List FaultyLine) → None ≡ slice_get faulty 0 → JudgedSoFar all left before faulty → AreFaulty [] all []
+  by [] is judged = all_judged all left before [] judged none
+  by (own ∷ later) is judged = absurd cc
+
+-- all lines were judged, and this one is the first at fault
+pub one_at_fault :
+    (all left : List Stated) (before : Before) (first : FaultyLine) → FirstSoFar all left before (Some first)
+    → left ≡ []
+    → IsFirstFaulty all first
+one_at_fault all left before first so_far none =
+    first_at_fault all so_far.faulty first (all_judged all left before so_far.faulty so_far.judged none)
+    (sym so_far.at_head)

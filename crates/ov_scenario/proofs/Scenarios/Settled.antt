@@ -120,3 +120,35 @@ no_seed lines is = inr (
       absurd (cc (sym (missing seed_in lines is line has) ∙ ap seed_in its)),
   refl,
 )
+
+-- ---- line by line
+
+-- what the lines so far give, or else those that are left, is what all lines give
+abbrev pub GivesSoFar : {A : Type 0} → (Option Statement → Option A) → List Stated → Option A → List Stated → Type 0
+GivesSoFar given all so_far left = option_or so_far (first_in given left) ≡ first_in given all
+
+-- one line more
+pub gives_more :
+    {A : Type 0} (given : Option Statement → Option A) (all : List Stated) (so_far then : Option A)
+    (now later : List Stated) (line : Stated)
+    → GivesSoFar given all so_far now → now ≡ line ∷ later → then ≡ option_or so_far (given line.says)
+    → GivesSoFar given all then later
+gives_more {A} given all so_far then now later line before split is =
+    ap (λ o. option_or o (first_in given later)) is
+    ∙ assoc so_far (given line.says) (first_in given later)
+    ∙ ap (λ ls. option_or so_far (first_in given ls)) (sym split)
+    ∙ before where
+      assoc : (a b c : Option A) → option_or (option_or a b) c ≡ option_or a (option_or b c)
+      assoc None b c = refl
+      assoc (Some x) b c = refl
+
+-- no line is left
+pub all_give :
+    {A : Type 0} (given : Option Statement → Option A) (all : List Stated) (so_far : Option A) (left : List Stated)
+    → GivesSoFar given all so_far left → left ≡ []
+    → so_far ≡ first_in given all
+all_give {A} given all so_far left before none =
+    sym (nothing so_far) ∙ ap (λ ls. option_or so_far (first_in given ls)) (sym none) ∙ before where
+      nothing : (a : Option A) → option_or a None ≡ a
+      nothing None = refl
+      nothing (Some x) = refl

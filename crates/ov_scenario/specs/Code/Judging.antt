@@ -1,9 +1,12 @@
 -- How a line is judged, and what lines without a fault give for the whole run.
-use Rattle.std.specs.Prelude.{ℕ, Bool, List, [], ◌∷◌, Option, Some, None, if◌then◌else◌}
+use Rattle.std.specs.Prelude.{◌≡◌, ℕ, Bool, List, [], ◌∷◌, map, Option, Some, None, option_map, if◌then◌else◌}
 use Rattle.std.specs.Option.{option_or}
-use Rattle.ov_scenario.specs.Scenarios.{is_event, is_params, is_seed}
+use Rattle.ov_scenario.specs.Scenarios.{is_event, is_params, is_seed, stated_at, IsWrong}
 use Rattle.ov_scenario.specs.Statements.{Stated}
 use Rattle.ov_scenario.specs.declared.line_judging.Before.{Before}
+use Rattle.ov_scenario.specs.declared.judging.Judged.{Judged}
+use Rattle.ov_scenario.specs.declared.judging.Judging.{Judging}
+use Rattle.ov_scenario.specs.declared.scenario_fault.FaultyLine.{FaultyLine}
 use Rattle.ov_scenario.specs.declared.scenario_fault.LineFault.{LineFault}
 use Rattle.ov_scenario.specs.declared.statement.Statement.{Statement}
 use Rattle.ov_scenario.specs.declared.statement.Statement.TheVariants as says
@@ -24,6 +27,26 @@ with_next before line = record {
   params = or_next is_params before.params line;
   seed = or_next is_seed before.seed line;
 }
+
+-- the lines that are left to judge: the next one, if there is one, and those of the file behind it
+abbrev pub lines_left : Option Stated → List (ℕ × List ℕ) → List Stated
+lines_left None behind = []
+lines_left (Some line) behind = line ∷ map stated_at behind
+
+-- the same, of a file that is judged
+abbrev pub left_to_judge : Judging → List Stated
+left_to_judge judging = lines_left judging.next judging.behind
+
+-- no line was left, or this one was judged: by what is known of the lines before it, and by those after it
+abbrev pub Judges : Judging → Option Judged → Judging → Type 0
+Judges old None new = left_to_judge old ≡ []
+Judges old (Some judged) new =
+    (left_to_judge old ≡ judged.line ∷ left_to_judge new) × (new.before ≡ with_next old.before judged.line)
+    × Tells judged.fault (λ f. IsWrong old.before judged.line.says (left_to_judge new) f)
+
+-- the line that was judged, if it is at fault
+abbrev pub faulty_of : Judged → Option FaultyLine
+faulty_of judged = option_map (λ f. record { line = judged.line.number; fault = f }) judged.fault
 
 -- the numbers of the parameters that a line gives, if it says this
 abbrev pub params_in : Option Statement → Option (List ℕ)

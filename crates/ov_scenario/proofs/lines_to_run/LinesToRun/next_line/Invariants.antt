@@ -1,0 +1,19 @@
+-- what is still to run, by the lines of the file that are left to read, and nothing was taken
+use Rattle.std.proofs.Common.{◌≡◌, length}
+use Rattle.ov_scenario.specs.RunLines.{asking}
+use Rattle.ov_scenario.specs.Code.RunnableLines.{said, stream_now, to_run}
+use Rattle.ov_scenario.proofs.Scenarios.Asked.{StillLeft}
+use Rattle.ov_scenario.proofs.lines_to_run.LinesToRun.next_line.Given as goal
+
+abbrev pub invariant-loop-number : goal.invariant-loop-number
+invariant-loop-number l =
+    record {
+      left : StillLeft l.fn.self.items l.fn.self.places (stream_now l.self-inside.draws) l.given l.left;
+      same : record {
+        items = to_run (stream_now l.self-inside.draws) (said l.self-inside.left);
+        places = asking l.self-inside.left;
+      } ≡ l.fn.self;
+    }
+
+abbrev pub decreases-loop-number : goal.decreases-loop-number
+decreases-loop-number l = length l.left

@@ -1,0 +1,15 @@
+-- No line is at fault, and this is what the lines give and ask for.
+use Rattle.ov_scenario.specs.Scenarios.{stated_lines}
+use Rattle.ov_scenario.proofs.Scenarios.Asked.{are_to_run}
+use Rattle.ov_scenario.proofs.scenario_reading.read_scenario.Goals as goal
+
+pub returns-clause-scenario : goal.returns-clause-scenario
+returns-clause-scenario c =
+    let bytes = c.args.bytes.now in
+    let given = c.in_ok-settings.ensures in
+    record {
+      faultless = given.faultless;
+      params = c.params-params.ensures (stated_lines bytes) given.faultless given.params;
+      seed = c.seed-seed.ensures (stated_lines bytes) given.seed;
+      lines = are_to_run bytes c.seed-seed.result c.new-lines.result.items c.new-lines.ensures.lines;
+    }

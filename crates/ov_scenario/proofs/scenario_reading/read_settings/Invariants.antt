@@ -1,0 +1,19 @@
+-- with what the lines that are left give, and with those of them that are at fault, this is what all lines give, and
+-- the first that is at fault
+use Rattle.std.proofs.Common.{length}
+use Rattle.ov_scenario.specs.Scenarios.{stated_lines}
+use Rattle.ov_scenario.specs.Code.Judging.{left_to_judge, params_in, seed_in}
+use Rattle.ov_scenario.proofs.Scenarios.Judged.{FirstSoFar}
+use Rattle.ov_scenario.proofs.Scenarios.Settled.{GivesSoFar}
+use Rattle.ov_scenario.proofs.scenario_reading.read_settings.Given as goal
+
+abbrev pub invariant-loop-judging : goal.invariant-loop-judging
+invariant-loop-judging l =
+    record {
+      judged : FirstSoFar (stated_lines l.fn.bytes) (left_to_judge l.judging) l.judging.before l.first;
+      params : GivesSoFar params_in (stated_lines l.fn.bytes) l.settings.params (left_to_judge l.judging);
+      seed : GivesSoFar seed_in (stated_lines l.fn.bytes) l.settings.seed (left_to_judge l.judging);
+    }
+
+abbrev pub decreases-loop-judging : goal.decreases-loop-judging
+decreases-loop-judging l = length (left_to_judge l.judging)
