@@ -10,15 +10,7 @@ import sys
 
 import networkx as nx
 
-
-def write(name, graph):
-    place = {node: at for at, node in enumerate(sorted(graph), 1)}
-    links = sorted(sorted((place[a], place[b])) for a, b in graph.edges())
-    with open(f"{name}.graph", "w") as file:
-        for node in sorted(place.values()):
-            file.write(f"node {node}\n")
-        for low, high in links:
-            file.write(f"link {low} {high}\n")
+from graph_files import write
 
 
 def write_table():

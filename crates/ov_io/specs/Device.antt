@@ -26,7 +26,8 @@ pub record SourceState (R : Type 0) : Type 0 where
   pub ends : ℕ
   pub faults : ℕ
 
--- A sink: its writer, and how many faults it counts. A fault is a write that failed or took nothing.
+-- A sink: its writer, and how many faults it counts. A fault is a write that failed or took nothing, or a flush that
+-- failed.
 pub record SinkState (W : Type 0) : Type 0 where
   pub writer : W
   pub faults : ℕ

@@ -1,7 +1,7 @@
 // The fields are private to this file. So what is counted is what a reader or a writer answered, and nothing else.
 ghost use Rattle.std.specs.Prelude.{◌≡◌, ◌+◌, ◌<◌, min, length, IfOk};
 ghost use Rattle.std.specs.Io.{ReadsAtMost, WritesAtMost};
-ghost use Rattle.std.specs.Io.KnownBytes.{ReadConsumes, WriteAppends};
+ghost use Rattle.std.specs.Io.KnownBytes.{Keeps, ReadConsumes, WriteAppends};
 ghost use Rattle.ov_io.specs.Device.{most_faults, most_counted, read_faults, read_number};
 ghost use Rattle.ov_io.specs.Device.{write_faults, write_number};
 ghost use Rattle.ov_io.specs.Code.Reads.{end_answers};
@@ -67,7 +67,7 @@ impl<R: Read> CountedReader<R> {
     }
 }
 
-/// A writer, and how many of its answers were errors or took nothing.
+/// A writer, and how many of its answers were errors or took nothing, to a flush too.
 #[derive(Drop)]
 pub(crate) struct CountedWriter<W> {
     writer: W,
@@ -86,7 +86,7 @@ impl<W: Write> CountedWriter<W> {
         }
     }
 
-    /// How many writes failed.
+    /// How many writes and flushes failed.
     pub(crate) fn failures(&self) -> u64
         ensures { result ≡ self.now.failures }
     {
@@ -115,6 +115,21 @@ impl<W: Write> CountedWriter<W> {
                 Err(WriteFault)
             }
             Ok(count) => Ok(count),
+        }
+    }
+
+    /// Has the writer hand on what it keeps back, and counts the answer if it is an error.
+    pub(crate) fn flush(&mut self) -> Result<(), WriteFault>
+        requires room { self.old.failures < most_faults }
+        ensures bytes { Keeps (W.contents self.old.writer) (W.contents self.new.writer) }
+        ensures failures { self.new.failures ≡ self.old.failures + write_faults write_number result }
+    {
+        match self.writer.flush() {
+            Ok(()) => Ok(()),
+            Err(_) => {
+                self.failures += 1;
+                Err(WriteFault)
+            }
         }
     }
 }

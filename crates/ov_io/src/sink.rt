@@ -1,5 +1,5 @@
 ghost use Rattle.std.specs.Prelude.{◌≡◌, ◌+◌, ◌<◌, OnOk};
-ghost use Rattle.std.specs.Io.KnownBytes.{Appends};
+ghost use Rattle.std.specs.Io.KnownBytes.{Appends, Keeps};
 ghost use Rattle.ov_io.specs.Device.{most_faults, write_faults, write_number, AppendsPrefixOf};
 
 use crate::counted_reader_and_writer::CountedWriter;
@@ -32,8 +32,8 @@ impl<W: Write> Sink<W> {
         }
     }
 
-    /// How often the writer failed: each write that was answered by an error, an interrupted write too, and each that
-    /// took nothing of what was left.
+    /// How often the writer failed: each write or flush that was answered by an error, an interrupted one too, and each
+    /// write that took nothing of what was left.
     pub fn faults(&self) -> u64
         ensures { result ≡ self.now.faults }
     {
@@ -63,5 +63,17 @@ impl<W: Write> Sink<W> {
             rest = &rest[count..];
         }
         Ok(())
+    }
+
+    /// Has the writer hand on what it took and keeps back, as a writer in blocks does. The bytes that it took stay the
+    /// same.
+    ///
+    /// `WriteFault` (72): the flush failed or was interrupted.
+    pub fn flush(&mut self) -> Result<(), WriteFault>
+        requires { self.old.faults < most_faults }
+        ensures bytes { Keeps (W.contents self.old.writer) (W.contents self.new.writer) }
+        ensures faults { self.new.faults ≡ self.old.faults + write_faults write_number result }
+    {
+        self.writer.flush()
     }
 }

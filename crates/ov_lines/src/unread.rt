@@ -19,8 +19,8 @@ pub enum Kind {
     Short(&'static str),
     /// A number of 64 bits. The text says what it is.
     Long(&'static str),
-    /// A number with its lowest and its highest value. The text says what it is, with both limits.
-    Within(&'static str, u64, u64),
+    /// A number from the first to the second.
+    Within(u64, u64),
     /// Ids of nodes, with one comma between two.
     Ids,
     /// The first of 1 to 64 random words.

@@ -1,47 +1,39 @@
-use crate::fault_codes::{
-    CRASHED_NODE, NO_SUCH_PACKET, NO_TIMER, NOT_CRASHED, OUT_OF_MEMORY, PAYLOAD_TOO_LONG,
-    TOO_MANY_ENTRIES, TOO_MANY_MESSAGES, TOO_MANY_NODES, TOO_MANY_PACKETS, UNKNOWN_NODE, USED_ID,
-};
 use ov_ids::NodeId;
-use ov_net::{Event, MOST_ENTRIES, MOST_PACKETS, MOST_WORLD_NODES, STEP_PACKETS, World};
+use ov_net::{Event, MOST_ENTRIES, MOST_PACKETS, MOST_WORLD_NODES, NetFault, STEP_PACKETS, World};
 use ov_peer::MOST_BROADCASTS;
 use ov_wire::MOST_PAYLOAD;
 use std::alloc::AllocError;
 use std::fmt::Write;
 
-/// Appends why a world refuses an event with this number. The world is as the event found it. The numbers are those of
-/// `NetFault`. For any other number, appends that the event is refused.
+/// Appends why a world refuses an event for this fault. The world is as the event found it.
 pub(crate) fn push_event_reason(
     text: &mut String,
     world: &World,
     event: &Event,
-    number: u32,
+    fault: NetFault,
 ) -> Result<(), AllocError> {
-    match number {
-        UNKNOWN_NODE => push_node(text, "no node ", unborn(world, event), " was born"),
-        USED_ID => push_node(text, "node ", acting(event), " was born before"),
-        CRASHED_NODE => push_node(text, "node ", met(event), " crashed"),
-        NOT_CRASHED => push_node(text, "node ", reported(event), " did not crash"),
-        NO_SUCH_PACKET => push_no_packet(text, world, event),
-        TOO_MANY_PACKETS => push_full_bag(text, world.packets().len()),
-        TOO_MANY_NODES => write!(
+    match fault {
+        NetFault::UnknownNode => push_node(text, "no node ", unborn(world, event), " was born"),
+        NetFault::UsedId => push_node(text, "node ", acting(event), " was born before"),
+        NetFault::CrashedNode => push_node(text, "node ", met(event), " crashed"),
+        NetFault::NotCrashed => push_node(text, "node ", reported(event), " did not crash"),
+        NetFault::NoSuchPacket => push_no_packet(text, world, event),
+        NetFault::TooManyPackets => push_full_bag(text, world.packets().len()),
+        NetFault::TooManyNodes => write!(
             text,
             "{MOST_WORLD_NODES} nodes were born, as many as may be"
         ),
-        TOO_MANY_ENTRIES => {
-            write!(
-                text,
-                "the journal has {MOST_ENTRIES} entries, as many as it may have"
-            )
-        }
-        TOO_MANY_MESSAGES => {
+        NetFault::TooManyEntries => write!(
+            text,
+            "the journal has {MOST_ENTRIES} entries, as many as it may have"
+        ),
+        NetFault::TooManyMessages => {
             push_node(text, "node ", acting(event), " has made ")?;
             write!(text, "{MOST_BROADCASTS} broadcasts, as many as it may")
         }
-        NO_TIMER => push_no_timer(text, event),
-        PAYLOAD_TOO_LONG => push_too_long(text, event),
-        OUT_OF_MEMORY => text.push_str("out of memory"),
-        _ => text.push_str("the event is refused"),
+        NetFault::NoTimer => push_no_timer(text, event),
+        NetFault::PayloadTooLong => push_too_long(text, event),
+        NetFault::OutOfMemory => text.push_str("out of memory"),
     }
 }
 

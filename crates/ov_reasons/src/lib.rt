@@ -7,7 +7,6 @@
 mod bad_group_texts;
 mod device_texts;
 mod event_texts;
-mod fault_codes;
 mod graph_file_texts;
 mod line_and_mark;
 mod line_heads_and_remark;
@@ -21,5 +20,5 @@ mod unread_line_texts;
 pub use bad_group_texts::group_reason;
 pub use device_texts::{OUT_OF_MEMORY, READING_FAILED, WRITING_FAILED};
 pub use graph_file_texts::{graph_fault_reasons, graph_reasons, unread_line_reasons};
-pub use refused_lines::{count_line, refusal_line, refusal_reason};
+pub use refused_lines::{core_refusal_reason, count_line, refusal_line, world_refusal_reason};
 pub use scenario_file_texts::scenario_reasons;

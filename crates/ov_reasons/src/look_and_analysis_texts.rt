@@ -1,60 +1,60 @@
 use crate::bad_group_texts::{first_stranger, push_unordered};
 use crate::event_texts::push_node;
-use crate::fault_codes::{
-    ALREADY_FILED, BAD_GROUP, CRASHED_NODE, NO_NODES, NO_SUCH_MOMENT, OUT_OF_MEMORY, UNKNOWN_NODE,
-};
 use ov_ids::{NodeId, OutOfMemory};
-use ov_scenario::{Look, Subject};
+use ov_net::NetFault;
+use ov_scenario::Subject;
 use ov_snap::{Core, CoreFault};
 use std::alloc::AllocError;
 use std::fmt::Write;
 
-/// Appends why the analysis of a subject is refused with this number. The core is as the analysis found it.
+/// Appends why the analysis of a subject is refused for this fault. The core is as the analysis found it.
 pub(crate) fn push_analysis_reason(
     text: &mut String,
     core: &Core,
     subject: &Subject,
-    number: u32,
+    fault: CoreFault,
 ) -> Result<(), OutOfMemory> {
+    let moment = subject.moment;
+    match fault {
+        CoreFault::BadGroup => push_bad_group(text, core, subject)?,
+        CoreFault::NoNodes => write!(text, "nobody lived at moment {moment}")?,
+        CoreFault::NoSuchMoment => write!(text, "no snapshot was taken at moment {moment}")?,
+        CoreFault::AlreadyFiled => push_report(text, "a report", subject)?,
+        _ => write!(text, "{fault}")?,
+    }
+    Ok(())
+}
+
+/// Appends why the group of a subject is refused.
+fn push_bad_group(text: &mut String, core: &Core, subject: &Subject) -> Result<(), OutOfMemory> {
     match &subject.group {
-        Some(ids) if number == BAD_GROUP => push_bad_ids(
-            text,
-            core,
-            subject.moment,
-            ids.as_slice(),
-        ),
-        _ => Ok(push_refused_analysis(text, subject, number)?),
+        Some(ids) => push_bad_ids(text, core, subject.moment, ids.as_slice()),
+        None => Ok(text.push_str("all nodes are no group")?),
     }
 }
 
-/// Appends why the analysis of a subject is refused with this number, which says nothing of its group.
-fn push_refused_analysis(
+/// Appends why a node is not shown.
+pub(crate) fn push_show_reason(
+    text: &mut String,
+    node: NodeId,
+    fault: NetFault,
+) -> Result<(), AllocError> {
+    match fault {
+        NetFault::UnknownNode => push_node(text, "no node ", node, " was born"),
+        NetFault::CrashedNode => push_node(text, "node ", node, " crashed"),
+        _ => write!(text, "{fault}"),
+    }
+}
+
+/// Appends why the certificate of a subject is not printed.
+pub(crate) fn push_certificate_reason(
     text: &mut String,
     subject: &Subject,
-    number: u32,
+    fault: CoreFault,
 ) -> Result<(), AllocError> {
-    let moment = subject.moment;
-    match number {
-        NO_NODES => write!(text, "nobody lived at moment {moment}"),
-        NO_SUCH_MOMENT => write!(text, "no snapshot was taken at moment {moment}"),
-        ALREADY_FILED => push_report(text, "a report", subject),
-        OUT_OF_MEMORY => text.push_str("out of memory"),
-        _ => text.push_str("the analysis is refused"),
-    }
-}
-
-/// Appends why a look is refused with this number.
-pub(crate) fn push_look_reason(
-    text: &mut String,
-    look: &Look,
-    number: u32,
-) -> Result<(), AllocError> {
-    match (look, number) {
-        (_, OUT_OF_MEMORY) => text.push_str("out of memory"),
-        (Look::Show(node), UNKNOWN_NODE) => push_node(text, "no node ", *node, " was born"),
-        (Look::Show(node), CRASHED_NODE) => push_node(text, "node ", *node, " crashed"),
-        (Look::Certificate(subject), NO_SUCH_MOMENT) => push_report(text, "no report", subject),
-        _ => text.push_str("the look is refused"),
+    match fault {
+        CoreFault::NoSuchMoment => push_report(text, "no report", subject),
+        _ => write!(text, "{fault}"),
     }
 }
 

@@ -1,23 +1,33 @@
 use crate::line_and_mark::push_marked_word;
 use ov_ids::{LONGEST_WALK, MOST_ACTIVE, MOST_PASSIVE, MOST_SAMPLED};
+use ov_scenario::PARAMETERS;
 use std::alloc::AllocError;
 use std::fmt::Write;
 
-/// A parameter: what it is, and its lowest and its highest value.
+/// A parameter: the word for it in the form of the line, its name, and its lowest and its highest value.
 #[derive(Clone, Copy)]
-struct Limits(&'static str, u32, u32);
+struct Limits(&'static str, &'static str, u32, u32);
 
 /// The parameters in the order of their line. R is at most W, which has this value.
 fn limits_with(walk: u32) -> [Limits; 7] {
-    let (passive, sample) = (LONGEST_WALK.min(walk), MOST_SAMPLED);
+    let [
+        active,
+        passive,
+        walk_name,
+        passive_walk,
+        sample,
+        passive_sample,
+        ttl,
+    ] = PARAMETERS;
+    let highest = LONGEST_WALK.min(walk);
     [
-        Limits("A, the size of the active view,", 1, MOST_ACTIVE),
-        Limits("P, the size of the passive view,", 1, MOST_PASSIVE),
-        Limits("W, the active random walk length,", 0, LONGEST_WALK),
-        Limits("R, the passive random walk length,", 0, passive),
-        Limits("KA, how many active members a shuffle samples,", 0, sample),
-        Limits("KP, how many passive members a shuffle samples,", 0, sample),
-        Limits("T, the time to live of a shuffle,", 1, LONGEST_WALK),
+        Limits("A", active, 1, MOST_ACTIVE),
+        Limits("P", passive, 1, MOST_PASSIVE),
+        Limits("W", walk_name, 0, LONGEST_WALK),
+        Limits("R", passive_walk, 0, highest),
+        Limits("KA", sample, 0, MOST_SAMPLED),
+        Limits("KP", passive_sample, 0, MOST_SAMPLED),
+        Limits("T", ttl, 1, LONGEST_WALK),
     ]
 }
 
@@ -31,7 +41,7 @@ pub(crate) fn push_out_of_limits(
     let mut first = None;
     let limits = limits_with(parameters[2]);
     for (place, (limits, parameter)) in limits.iter().zip(parameters).enumerate() {
-        if *parameter < limits.1 || limits.2 < *parameter {
+        if *parameter < limits.2 || limits.3 < *parameter {
             push_parameter(text, first.is_some(), limits, *parameter)?;
             first = first.or(Some(place + 1));
         }
@@ -46,10 +56,10 @@ fn push_parameter(
     limits: &Limits,
     parameter: u32,
 ) -> Result<(), AllocError> {
-    let Limits(name, lowest, highest) = *limits;
+    let Limits(word, name, lowest, highest) = *limits;
     let between = if is_behind { "; " } else { "" };
     write!(
         text,
-        "{between}{name} is {parameter} and must be {lowest} to {highest}"
+        "{between}{word}, {name}, is {parameter} and must be {lowest} to {highest}"
     )
 }

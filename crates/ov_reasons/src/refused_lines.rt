@@ -1,23 +1,52 @@
 use crate::event_texts::push_event_reason;
-use crate::look_and_analysis_texts::{push_analysis_reason, push_look_reason};
+use crate::look_and_analysis_texts::{
+    push_analysis_reason, push_certificate_reason, push_show_reason,
+};
 use ov_ids::OutOfMemory;
-use ov_scenario::Line;
-use ov_snap::Core;
+use ov_net::NetFault;
+use ov_scenario::{Line, Look, line_asked_by};
+use ov_snap::{Core, CoreFault};
 use std::alloc::Global;
+use std::fmt::Write;
 
-/// Why a line of a scenario was refused with this number when it was run, as a sentence without a full stop. The core
-/// is as the line found it. OutOfMemory (99) if an allocation is refused.
-pub fn refusal_reason(
+/// Why the world refused a line of this text for this fault as it ran, as a sentence without a full stop. The core is
+/// as the line found it. OutOfMemory (99) if an allocation is refused.
+pub fn world_refusal_reason(
     alloc: Global,
     core: &Core,
-    line: &Line,
-    number: u32,
+    line: &[u8],
+    fault: NetFault,
 ) -> Result<String, OutOfMemory> {
     let mut text = String::new(alloc);
-    match line {
-        Line::Event { event, .. } => push_event_reason(&mut text, core.world(), event, number)?,
-        Line::Look(look) => push_look_reason(&mut text, look, number)?,
-        Line::Analyse { subject, .. } => push_analysis_reason(&mut text, core, subject, number)?,
+    let asked = line_asked_by(alloc, line)?;
+    match &asked {
+        Some(Line::Event { event, .. }) => {
+            push_event_reason(&mut text, core.world(), event, fault)?
+        }
+        Some(Line::Look(Look::Show(node))) => push_show_reason(&mut text, *node, fault)?,
+        _ => write!(text, "{fault}")?,
+    }
+    Ok(text)
+}
+
+/// Why the core refused a line of this text for this fault as it ran, as a sentence without a full stop. The core is as
+/// the line found it. OutOfMemory (99) if an allocation is refused.
+pub fn core_refusal_reason(
+    alloc: Global,
+    core: &Core,
+    line: &[u8],
+    fault: CoreFault,
+) -> Result<String, OutOfMemory> {
+    let mut text = String::new(alloc);
+    let asked = line_asked_by(alloc, line)?;
+    match &asked {
+        Some(Line::Analyse { subject, .. }) => {
+            push_analysis_reason(&mut text, core, subject, fault)?
+        }
+        Some(Line::Look(Look::Certificate(subject))) => {
+            push_certificate_reason(&mut text, subject, fault)?
+        }
+        _ => write!(text, "{fault}")?,
     }
     Ok(text)
 }

@@ -46,6 +46,7 @@ fn push_wanted(text: &mut String, wanted: &[Kind]) -> Result<(), AllocError> {
 fn push_kind(text: &mut String, kind: &Kind) -> Result<(), AllocError> {
     match kind {
         Kind::Name(name) => write!(text, "`{name}`"),
+        Kind::Within(lowest, highest) => write!(text, "a number from {lowest} to {highest}"),
         _ => text.push_str(text_of(kind)),
     }
 }
@@ -54,7 +55,8 @@ fn push_kind(text: &mut String, kind: &Kind) -> Result<(), AllocError> {
 fn text_of(kind: &Kind) -> &'static str {
     match kind {
         Kind::LineName => "the name of a line",
-        Kind::Name(what) | Kind::Short(what) | Kind::Long(what) | Kind::Within(what, _, _) => what,
+        Kind::Within(_, _) => "a number",
+        Kind::Name(what) | Kind::Short(what) | Kind::Long(what) => what,
         Kind::Ids => "ids with one comma between two, without spaces",
         Kind::RandomWord => "a random word",
         Kind::FurtherWord => "the end of the line or a random word",

@@ -9,6 +9,7 @@ use Rattle.ov_run.specs.Ending.{IsBegun, Begins, IsEnded, Ends}
 use Rattle.ov_run.specs.Faults.{IsScenarioFileFault, IsAnalysisFileFault, IsAnalysisFault, IsRunFault, read_faults}
 use Rattle.ov_run.specs.Run.{IsRunOf}
 use Rattle.ov_run.specs.Running.{IsOutput, PrintsScenario}
+use Rattle.ov_run.specs.declared.answered.Answered.{Answered}
 use Rattle.ov_run.specs.declared.run_fault.RunFault.{RunFault}
 use Rattle.ov_run.specs.declared.run_fault.RunFault.TheVariants as fault
 
@@ -88,11 +89,13 @@ run_of_reader contents sink sink' reader bytes read (Err f) had same ran = recor
 
 -- what is printed of its analysis
 pub analysis_prints :
-    (reader before after : Option (List ℕ)) (group : Option (List ℕ)) (certificate : Bool) (bytes read : List ℕ)
-    → IfSome reader (λ xs. bytes ≡ xs) → read ≡ bytes → PrintsAnalysis (Some read) group certificate before after
-    → PrintsAnalysis reader group certificate before after
-analysis_prints reader before after group certificate bytes read had same (own, text, is, analysis, went) =
-    (bytes, text, had, subst (λ bs. IsAnalysis bs group certificate text) (is ∙ same) analysis, went)
+    (reader before after : Option (List ℕ)) (group : Option (List ℕ)) (certificate : Bool) (answered : Answered)
+    (bytes read : List ℕ)
+    → IfSome reader (λ xs. bytes ≡ xs) → read ≡ bytes
+    → PrintsAnalysis (Some read) group certificate answered before after
+    → PrintsAnalysis reader group certificate answered before after
+analysis_prints reader before after group certificate answered bytes read had same (own, text, is, analysis, went) =
+    (bytes, text, had, subst (λ bs. IsAnalysis bs group certificate answered text) (is ∙ same) analysis, went)
 
 -- what its analysis begins to print, if anything
 pub analysis_begins :
@@ -104,8 +107,9 @@ pub analysis_begins :
 analysis_begins sink sink_after reader before after group certificate bytes read had same (inl unchanged) =
     inl unchanged
 analysis_begins sink sink_after reader before after group certificate bytes read had same
-    (inr (own, text, is, analysis, went)) =
-    inr (bytes, text, had, subst (λ bs. IsAnalysis bs group certificate text) (is ∙ same) analysis, went)
+    (inr (own, answered, text, is, analysis, went)) =
+    let here = subst (λ bs. IsAnalysis bs group certificate answered text) (is ∙ same) analysis in
+    inr (bytes, answered, text, had, here, went)
 
 -- the fault of its analysis
 pub analysis_fault :
@@ -123,20 +127,18 @@ analysis_fault reader bytes read fault.OutOfMemory had same is = tt
 -- its analysis
 pub analysis_of_reader :
     {W : Type 0} (contents : W → Option (List ℕ)) (sink sink' : SinkState W) (group : Option (List ℕ))
-    (certificate : Bool) (reader : Option (List ℕ)) (bytes read : List ℕ) (result : Result ℕ RunFault)
+    (certificate : Bool) (reader : Option (List ℕ)) (bytes read : List ℕ) (result : Result Answered RunFault)
     → IfSome reader (λ xs. bytes ≡ xs) → read ≡ bytes
     → IsAnalysisOf (Some read) contents sink group certificate sink' result
     → IsAnalysisOf reader contents sink group certificate sink' result
-analysis_of_reader contents sink sink' group certificate reader bytes read (Ok status) had same ran = record {
-  status = ran.status;
-  prints = analysis_prints _ _ _ group certificate bytes read had same ran.prints;
+analysis_of_reader contents sink sink' group certificate reader bytes read (Ok answered) had same ran = record {
+  prints = analysis_prints _ _ _ group certificate answered bytes read had same ran.prints;
   begun = analysis_begins sink sink' _ _ _ group certificate bytes read had same ran.begun;
   sink = ran.sink;
   unwritten = tt;
   fault = tt;
 }
 analysis_of_reader contents sink sink' group certificate reader bytes read (Err f) had same ran = record {
-  status = tt;
   prints = tt;
   begun = analysis_begins sink sink' _ _ _ group certificate bytes read had same ran.begun;
   sink = ran.sink;
@@ -148,8 +150,9 @@ analysis_of_reader contents sink sink' group certificate reader bytes read (Err 
 
 -- a call that does not return Read counts no fault of its reader
 pub no_read_fault :
-    (result : Result ℕ RunFault) → result ≢ Err fault.Read → (n m : ℕ) → n ≡ m + 0 → n ≡ m + read_faults result
-no_read_fault (Ok status) other n m reads = reads
+    {A : Type 0} (result : Result A RunFault) → result ≢ Err fault.Read → (n m : ℕ) → n ≡ m + 0
+    → n ≡ m + read_faults result
+no_read_fault (Ok a) other n m reads = reads
 no_read_fault (Err (fault.Line line)) other n m reads = reads
 no_read_fault (Err (fault.Params line)) other n m reads = reads
 no_read_fault (Err (fault.Graph f line)) other n m reads = reads

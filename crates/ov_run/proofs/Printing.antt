@@ -1,5 +1,6 @@
 -- What a scenario prints.
 pub mod Ending
+pub mod HandedOn
 pub mod Outcomes
 pub mod Running
 pub mod WholeRuns

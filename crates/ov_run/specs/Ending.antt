@@ -65,18 +65,21 @@ EndsLook b (Show id) text = ((peer : PeerState) × LivesAs b.world.net id peer) 
 EndsLook b Packets text = BeginsPackets b.world.net.packets text
 EndsLook b (Certificate subject) text = ⊥
 
--- a line that ends a run out of memory, and what it printed: an event that happened, of which nothing was printed, or a
--- look. An event that does not happen ends no run, and no analysis does: out of memory they print `refused 99`
+-- a line that runs and ends a run out of memory, and what it printed: an event that happened, of which nothing was
+-- printed, or a look. An event that does not happen ends no run, and no analysis does: out of memory they print
+-- `refused 99`
 abbrev pub EndsLine : CoreState → Line → List ℕ → Type 0
 EndsLine b (line.Event event words) text = ((e : Entry) × (u : CoreState) × Happened b event words e u) × (text ≡ [])
 EndsLine b (line.Look look) text = EndsLook b look text
 EndsLine b (line.Analyse subject workers) text = ⊥
 
--- the lines in order, up to one that ends the run out of memory
+-- the lines in order, up to the point at which the run ends out of memory: what follows can't be read, so that nothing
+-- is printed of it, or a line runs and ends the run
 abbrev pub EndsLines : CoreState → List Line → List ℕ → Type 0
-EndsLines b [] text = ⊥
+EndsLines b [] text = text ≡ []
 EndsLines b (line ∷ lines) text =
-    EndsLine b line text
+    (text ≡ [])
+    ⊎ EndsLine b line text
     ⊎ ((next : CoreState) × (own : List ℕ) × (others : List ℕ) × PrintsLine b line next own
     × EndsLines next lines others
     × (text ≡ own ++ others))

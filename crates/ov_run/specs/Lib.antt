@@ -3,6 +3,7 @@ pub mod Ending
 pub mod Faults
 pub mod Theorems
 pub mod Printed
+pub mod Refusals
 pub mod Run
 pub mod Running
 pub mod Subjects

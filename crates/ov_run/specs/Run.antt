@@ -23,8 +23,8 @@ pub record IsRunOf {W : Type 0} (reader : Option (List ℕ)) (contents : W → O
   pub fault : IfErr result (IsRunFault reader)
   -- after a fault of reading, Line, Params or Read, the sink is as before
   pub unread : IfErr result (λ fault. IsOfReading fault → sink_after ≡ sink_before)
-  -- after OutOfMemory the sink is as before, or the writer took all that the scenario prints up to the line that ends
-  -- the run out of memory
+  -- after OutOfMemory the sink is as before, or the writer took all that the scenario prints up to the point at which
+  -- the run ends out of memory
   pub memory : IsErrOf result OutOfMemory
       → (sink_after ≡ sink_before) ⊎ Ends reader (contents sink_before.writer) (contents sink_after.writer)
 

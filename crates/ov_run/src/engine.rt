@@ -22,8 +22,11 @@ use std::thread::Threads;
 /// nothing was written, or a prefix of what the scenario prints.
 ///
 /// An event or an analysis that is out of memory is refused with 99, and the run goes on. OutOfMemory (99) is returned
-/// only if reading the scenario was out of memory, or making the line of an event that happened, of a node or of a
-/// packet. The numbers and the form of what is printed are chosen here.
+/// only if reading the scenario was out of memory, or reading a line of it again when its turn came, or making the line
+/// of an event that happened, of a node or of a packet. The numbers and the form of what is printed are chosen here.
+///
+/// Before each analysis and at the end, the writer is asked to hand on what it keeps back (`Write::flush`), unless it
+/// has failed.
 pub fn run<T: Threads + Sync, R: Read, W: Write>(
     rt: &T,
     alloc: Global,
@@ -38,7 +41,7 @@ pub fn run<T: Threads + Sync, R: Read, W: Write>(
 }
 
 /// Does what `run` does. The watcher sees what became of each line that ran, in order, after what the line prints was
-/// written.
+/// given to the writer.
 pub fn run_watched<T: Threads + Sync, R: Read, W: Write, V: RunWatcher>(
     rt: &T,
     alloc: Global,
@@ -74,7 +77,7 @@ pub fn run_bytes<T: Threads + Sync, W: Write, V: RunWatcher>(
 
 /// The scenario that these bytes say.
 #[tactic(auto, using(crate::proofs::Refused::of_scenario))]
-fn scenario_of(alloc: Global, bytes: &[u8]) -> Result<Scenario, RunFault>
+fn scenario_of<'a>(alloc: Global, bytes: &'a [u8]) -> Result<Scenario<'a>, RunFault>
     ensures scenario { IfOk result (λ s. IsScenario bytes.now s) }
     ensures fault { IfErr result (IsBeforeLines bytes.now) }
 {

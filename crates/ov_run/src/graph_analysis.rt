@@ -9,6 +9,7 @@ ghost use Rattle.ov_graphfile.specs.GraphFiles.{IsGraphFile};
 ghost use Rattle.ov_run.specs.Printed.{refused_line};
 ghost use Rattle.ov_run.specs.Subjects.{members_of};
 
+use crate::answered::Answered;
 use crate::line_texts::{refused_line, report_line};
 use crate::run_fault::RunFault;
 use ov_cert::Checked;
@@ -26,8 +27,8 @@ use std::thread::Threads;
 
 /// Reads a graph file to its end, finds how few crashes of nodes split a group of its nodes, by this number of workers,
 /// and writes the line of the answer; the certificate file follows it if that is asked for. Without a group, all nodes
-/// are the group. Returns the program's status, 0. A graph without nodes (30) and ids that are no group (34) are
-/// refusals that are printed, and no faults. The watcher sees how far the analysis has come.
+/// are the group. Returns what was printed. A graph without nodes (30) and ids that are no group (34) are refusals that
+/// are printed, and no faults. The watcher sees how far the analysis has come.
 ///
 /// Line (70) is returned for the first line that can't be read, Graph with the number of its fault if the lines say
 /// no graph, and Read (71) if the reader failed in this call. Write (72) is returned if the writer failed in this call,
@@ -42,7 +43,7 @@ pub fn analyse_file<T: Threads + Sync, R: Read, W: Write, P: Watcher>(
     workers: Workers,
     certificate: bool,
     watcher: &mut P,
-) -> Result<u8, RunFault>
+) -> Result<Answered, RunFault>
     requires reads { source.old.faults < most_faults }
     requires writes { sink.old.faults < most_faults }
     ensures analysis { IsFileAnalysis R.remaining W.contents source.old sink.old
@@ -72,19 +73,26 @@ pub fn analyse_bytes<T: Threads + Sync, W: Write, P: Watcher>(
     workers: Workers,
     certificate: bool,
     watcher: &mut P,
-) -> Result<u8, RunFault>
+) -> Result<Answered, RunFault>
     requires writes { sink.old.faults < most_faults }
     ensures analysis { IsAnalysisOf (Some bytes.now) W.contents sink.old (option_map (λ ids. ids.now) group.entry)
         certificate sink.new result }
     ensures read { result ≢ Err RunFault.Read }
 {
-    let text = text_for(rt, alloc, bytes, group, workers, certificate, watcher)?;
-    sink.write_all(text.as_bytes())?;
-    Ok(0)
+    let answer = answer_for_file(rt, alloc, bytes, group, workers, certificate, watcher)?;
+    sink.write_all(answer.text.as_bytes())?;
+    Ok(answer.answered)
+}
+
+/// What is printed of an analysis, and its text.
+#[derive(Drop)]
+struct Answer {
+    answered: Answered,
+    text: String,
 }
 
 /// What is printed of a graph file.
-fn text_for<T: Threads + Sync, P: Watcher>(
+fn answer_for_file<T: Threads + Sync, P: Watcher>(
     rt: &T,
     alloc: Global,
     bytes: &[u8],
@@ -92,9 +100,9 @@ fn text_for<T: Threads + Sync, P: Watcher>(
     workers: Workers,
     certificate: bool,
     watcher: &mut P,
-) -> Result<String, RunFault>
-    ensures text { IfOk result
-        (λ text. IsAnalysis bytes.now (option_map (λ ids. ids.now) group.entry) certificate (string_bytes text)) }
+) -> Result<Answer, RunFault>
+    ensures answer { IfOk result (λ answer. IsAnalysis bytes.now (option_map (λ ids. ids.now) group.entry) certificate
+        answer.answered (string_bytes answer.text)) }
     ensures fault { IfErr result (IsTextFault bytes.now) }
 {
     let graph = graph_of(alloc, bytes)?;
@@ -133,39 +141,48 @@ fn answer_for<T: Threads + Sync, P: Watcher>(
     workers: Workers,
     certificate: bool,
     watcher: &mut P,
-) -> Result<String, OutOfMemory>
-    ensures { IfOk result (λ text. PrintsAnswer graph.now group.now certificate (string_bytes text)) }
+) -> Result<Answer, OutOfMemory>
+    ensures { IfOk result
+        (λ answer. PrintsAnswer graph.now group.now certificate answer.answered (string_bytes answer.text)) }
 {
     let answer = analyse_group_watched(rt, alloc, graph, group, workers, &OpenGate, watcher);
-    text_of(alloc, graph, group, &answer, certificate)
+    answer_of(alloc, graph, group, &answer, certificate)
 }
 
 /// What is printed of the answer of an analysis of this graph and this group.
 #[tactic(auto, using(crate::proofs::GraphFiles::Answered::printed))]
-fn text_of(
+fn answer_of(
     alloc: Global,
     graph: &Graph,
     group: &[NodeId],
     answer: &Result<Checked, AnalyseFault>,
     certificate: bool,
-) -> Result<String, OutOfMemory>
+) -> Result<Answer, OutOfMemory>
     requires { IsAnalysed graph.now group.now answer.now }
-    ensures { IfOk result (λ text. PrintsAnswer graph.now group.now certificate (string_bytes text)) }
+    ensures { IfOk result
+        (λ answer. PrintsAnswer graph.now group.now certificate answer.answered (string_bytes answer.text)) }
 {
     match answer {
-        Ok(checked) => report_text(alloc, checked, certificate),
+        Ok(checked) => {
+            let text = report_text(alloc, checked, certificate)?;
+            let answered = Answered::Report;
+            Ok(Answer { answered, text })
+        }
         Err(fault) => match fault {
             AnalyseFault::OutOfMemory => Err(OutOfMemory),
-            AnalyseFault::NoNodes | AnalyseFault::BadGroup => refused_text(alloc, fault.number()),
+            AnalyseFault::NoNodes => refusal(alloc, Answered::NoNodes, fault.number()),
+            AnalyseFault::BadGroup => refusal(alloc, Answered::BadGroup, fault.number()),
         },
     }
 }
 
-/// The line of a refusal.
-fn refused_text(alloc: Global, number: u32) -> Result<String, OutOfMemory>
-    ensures { IfOk result (λ text. string_bytes text ≡ refused_line number) }
+/// A refusal, with the line of it.
+fn refusal(alloc: Global, answered: Answered, number: u32) -> Result<Answer, OutOfMemory>
+    ensures answered { IfOk result (λ answer. answer.answered ≡ answered) }
+    ensures text { IfOk result (λ answer. string_bytes answer.text ≡ refused_line number) }
 {
-    Ok(String::from_str(alloc, refused_line(number).as_str())?)
+    let text = String::from_str(alloc, refused_line(number).as_str())?;
+    Ok(Answer { answered, text })
 }
 
 /// The line of a certificate. The certificate file follows it if that is asked for.

@@ -1,21 +1,25 @@
 //! Scenarios of overlay nodes and analyses of graph files: how they run, and what they print.
 #![tactic(auto)]
 
+mod answered;
 mod change_texts;
 mod engine;
 mod graph_analysis;
 mod line_outcome;
 mod line_running;
 mod line_texts;
+mod refusal;
 mod report_filing;
 mod run_fault;
 mod run_watcher;
 mod sink_writing;
 mod theorems;
 
+pub use answered::Answered;
 pub use engine::{run, run_bytes, run_watched};
 pub use graph_analysis::{analyse_bytes, analyse_file};
 pub use line_texts::{entry_line, node_line, packet_line, refused_line, report_line};
+pub use refusal::Refusal;
 pub use run_fault::RunFault;
-pub use run_watcher::RunWatcher;
+pub use run_watcher::{RanLine, RunWatcher};
 pub use theorems::every_printed_report_is_true;

@@ -1,18 +1,19 @@
 ghost use Rattle.std.specs.Prelude.{◌≡◌, ◌⊎◌, ◌<◌, ◌+◌, ◌∷◌, [], IfOk, IfErr, OnOk, IsErrOf};
 ghost use Rattle.ov_io.specs.Device.{most_faults, write_faults as sink_faults, write_number};
 ghost use Rattle.ov_net.specs.declared.journal_entry_and_changes.Entry.{Entry};
-ghost use Rattle.ov_snap.specs.CoreState.{CoreState, opening_core};
+ghost use Rattle.ov_snap.specs.CoreState.{opening_core};
 ghost use Rattle.ov_snap.specs.Run.{Happened};
-ghost use Rattle.ov_run.specs.Ending.{BeginsLines, BeginsLook, EndsLine, EndsLines, EndsLook};
+ghost use Rattle.ov_run.specs.Ending.{BeginsLines, BeginsLook, EndsLine, EndsLook};
 ghost use Rattle.ov_run.specs.Faults.{write_faults};
-ghost use Rattle.ov_run.specs.Running.{PrintsEvent, PrintsReportLine, PrintsLook, PrintsLine, PrintsLines};
-ghost use Rattle.ov_run.specs.Code.Outcomes.{DoesEvent, DoesLine, FilesReport, ShowsLook, WritesOutcome};
+ghost use Rattle.ov_run.specs.Running.{PrintsEvent, PrintsReportLine, PrintsLook, PrintsLine};
+ghost use Rattle.ov_run.specs.Code.Outcomes.{DoesEvent, DoesLine, FilesReport, RanLines, ShowsLook, WritesOutcome};
 ghost use Rattle.ov_run.specs.Code.Writing.{Writes, WritesPrefix, IsOfWriting};
 
 use crate::line_outcome::Outcome;
+use crate::refusal::Refusal;
 use crate::report_filing::file_analysis;
 use crate::run_fault::RunFault;
-use crate::run_watcher::RunWatcher;
+use crate::run_watcher::{RanLine, RunWatcher};
 use crate::sink_writing::{
     write_certificate, write_done, write_entry, write_node, write_packets, write_refusal,
 };
@@ -20,7 +21,7 @@ use ov_claims::Workers;
 use ov_ids::Params;
 use ov_io::{Sink, WriteFault};
 use ov_net::Event;
-use ov_scenario::{Line, Look, Subject};
+use ov_scenario::{Line, LineToRun, LinesToRun, Look, Subject};
 use ov_snap::Core;
 use ov_words::Words;
 use std::alloc::Global;
@@ -28,42 +29,70 @@ use std::io::Write;
 use std::thread::Threads;
 
 /// Runs these lines in a world in which nothing happened, and writes what they print. The watcher sees what became of
-/// each, after that.
+/// each, after that. The writer is then asked to hand on what it keeps back, unless it has failed.
 pub(crate) fn run_lines<T: Threads + Sync, W: Write, V: RunWatcher>(
     rt: &T,
     alloc: Global,
     params: Params,
-    lines: Vec<Line>,
+    lines: LinesToRun<'_>,
     sink: &mut Sink<W>,
     watcher: &mut V,
 ) -> Result<(), RunFault>
     requires faults { sink.old.faults < most_faults }
-    ensures prints { OnOk result ((core : CoreState) × Writes (PrintsLines (opening_core params) lines.items core)
-        (W.contents sink.old.writer) (W.contents sink.new.writer)) }
-    ensures begun { WritesPrefix (BeginsLines (opening_core params) lines.items)
-        (W.contents sink.old.writer) (W.contents sink.new.writer) }
-    ensures memory { IsErrOf result RunFault.OutOfMemory → Writes (EndsLines (opening_core params) lines.items)
-        (W.contents sink.old.writer) (W.contents sink.new.writer) }
-    ensures faults { sink.new.faults ≡ sink.old.faults + write_faults result }
-    ensures kind { IfErr result IsOfWriting }
+    ensures ran { RanLines W.contents (opening_core params) lines.entry.items sink.old sink.new result }
+{
+    let ran = run_each(rt, alloc, params, lines, sink, watcher);
+    if let Err(RunFault::Write) = ran {
+        return ran;
+    }
+    sink.flush()?;
+    ran
+}
+
+/// Runs these lines in a world in which nothing happened, and writes what they print. Each is read when its turn comes.
+fn run_each<T: Threads + Sync, W: Write, V: RunWatcher>(
+    rt: &T,
+    alloc: Global,
+    params: Params,
+    lines: LinesToRun<'_>,
+    sink: &mut Sink<W>,
+    watcher: &mut V,
+) -> Result<(), RunFault>
+    requires faults { sink.old.faults < most_faults }
+    ensures ran { RanLines W.contents (opening_core params) lines.entry.items sink.old sink.new result }
 {
     let mut core = Core::new(alloc, params);
-    for line in lines {
-        let outcome = run_line(rt, alloc, &mut core, line, sink)?;
-        tell(watcher, &core, outcome);
+    let mut left = lines;
+    while let Some(next) = left.next_line(alloc)? {
+        let ran = ran_line(&next);
+        let outcome = run_line(rt, alloc, &mut core, next.line, sink)?;
+        tell(watcher, &core, &ran, outcome);
     }
     Ok(())
 }
 
-/// Shows a watcher what became of a line that ran.
-fn tell<V: RunWatcher>(watcher: &mut V, core: &Core, outcome: Outcome) {
-    match outcome {
-        Outcome::Accepted => watcher.accepted(),
-        Outcome::Refused(number) => watcher.refused(core, number),
+/// The line of the file that asks for a line to run.
+fn ran_line<'a>(next: &LineToRun<'a>) -> RanLine<'a>
+    ensures number { result.number ≡ next.now.number }
+    ensures text { result.text.now ≡ next.now.text.now }
+{
+    RanLine {
+        number: next.number,
+        text: next.text,
+        is_event: matches!(&next.line, Line::Event { .. }),
     }
 }
 
-/// Runs one line, writes what it prints, and returns what became of it.
+/// Shows a watcher what became of a line that ran.
+fn tell<V: RunWatcher>(watcher: &mut V, core: &Core, line: &RanLine<'_>, outcome: Outcome) {
+    match outcome {
+        Outcome::Accepted => watcher.accepted(line),
+        Outcome::Refused(refusal) => watcher.refused(core, line, refusal),
+    }
+}
+
+/// Runs one line, writes what it prints, and returns what became of it. Before an analysis, which may take long, the
+/// writer is asked to hand on what it keeps back.
 fn run_line<T: Threads + Sync, W: Write>(
     rt: &T,
     alloc: Global,
@@ -88,6 +117,7 @@ fn run_line<T: Threads + Sync, W: Write>(
         Line::Event { event, words } => run_event(alloc, core, event, &words, sink),
         Line::Look(look) => write_look(alloc, core, look, sink),
         Line::Analyse { subject, workers } => {
+            sink.flush()?;
             Ok(run_analysis(rt, alloc, core, &subject, workers, sink)?)
         }
     }
@@ -118,7 +148,7 @@ fn run_event<W: Write>(
 {
     match core.step(event, words) {
         Ok(entry) => write_entry(alloc, &entry, sink),
-        Err(fault) => Ok(write_refusal(fault.number(), sink)?),
+        Err(fault) => Ok(write_refusal(Refusal::World(fault), sink)?),
     }
 }
 
@@ -144,7 +174,7 @@ fn run_analysis<T: Threads + Sync, W: Write>(
 {
     match file_analysis(rt, alloc, core, subject, workers) {
         Ok(line) => write_done(line.as_bytes(), sink),
-        Err(refusal) => write_refusal(refusal.number(), sink),
+        Err(fault) => write_refusal(Refusal::Core(fault), sink),
     }
 }
 

@@ -1,12 +1,24 @@
+use crate::refusal::Refusal;
 use ov_snap::Core;
+
+/// A line of a scenario file that ran.
+#[derive(Clone, Copy, Debug)]
+pub struct RanLine<'a> {
+    /// Its number among all lines of the file. These are counted from 1.
+    pub number: usize,
+    /// Its text, without its line feed and one carriage return before that.
+    pub text: &'a [u8],
+    /// Whether it is an event.
+    pub is_event: bool,
+}
 
 /// Sees what became of each line that ran. It changes neither the run nor what is printed.
 pub trait RunWatcher {
-    /// The next line was done: its event happened, its report was filed, or what it looks at was written.
-    fn accepted(&mut self);
+    /// This line was done: its event happened, its report was filed, or what it looks at was given to the writer.
+    fn accepted(&mut self, line: &RanLine<'_>);
 
-    /// The next line was refused with this number, and the line of that was written. The core is as the line found it.
-    fn refused(&mut self, core: &Core, number: u32);
+    /// This line was refused, and the line of that was given to the writer. The core is as the line found it.
+    fn refused(&mut self, core: &Core, line: &RanLine<'_>, refusal: Refusal);
 }
 
 /// A watcher that does nothing.
@@ -14,7 +26,7 @@ pub trait RunWatcher {
 pub(crate) struct Unwatched;
 
 impl RunWatcher for Unwatched {
-    fn accepted(&mut self) {}
+    fn accepted(&mut self, _line: &RanLine<'_>) {}
 
-    fn refused(&mut self, _core: &Core, _number: u32) {}
+    fn refused(&mut self, _core: &Core, _line: &RanLine<'_>, _refusal: Refusal) {}
 }

@@ -8,14 +8,17 @@ ghost use Rattle.ov_peer.specs.PeerState.{PeerState};
 ghost use Rattle.ov_run.specs.Ending.{BeginsPackets};
 ghost use Rattle.ov_run.specs.Faults.{write_faults};
 ghost use Rattle.ov_run.specs.Printed.{entry_line, file_text, node_line, refused_line};
+ghost use Rattle.ov_run.specs.Refusals.{number_of};
 ghost use Rattle.ov_run.specs.Running.{PrintsNode, PrintsPackets, PrintsCertificate};
 ghost use Rattle.ov_run.specs.Code.Outcomes.{ShowsCertificate, ShowsNode, WritesOutcome};
 ghost use Rattle.ov_run.specs.Code.Writing.{Writes, WritesPrefix, IsOfWriting};
 
 use crate::line_outcome::Outcome;
 use crate::line_texts::{entry_line, node_line, packet_line, refused_line};
+use crate::refusal::Refusal;
 use crate::report_filing::filed_report;
 use crate::run_fault::RunFault;
+use ov_block_list::BlockList;
 use ov_certfile::to_text_group;
 use ov_ids::{NodeId, OutOfMemory};
 use ov_io::{Sink, WriteFault};
@@ -40,19 +43,20 @@ pub(crate) fn write_done<W: Write>(text: &[u8], sink: &mut Sink<W>) -> Result<Ou
 
 /// Writes the line of a refusal. Nothing is allocated, so only the writer can fail.
 pub(crate) fn write_refusal<W: Write>(
-    number: u32,
+    refusal: Refusal,
     sink: &mut Sink<W>,
 ) -> Result<Outcome, WriteFault>
     requires faults { sink.old.faults < most_faults }
-    ensures outcome { IfOk result (λ outcome. outcome ≡ Outcome.Refused number) }
+    ensures outcome { IfOk result (λ outcome. outcome ≡ Outcome.Refused refusal) }
     ensures bytes { OnOk result
-        (Appends (W.contents sink.old.writer) (W.contents sink.new.writer) (refused_line number)) }
-    ensures prefix { AppendsPrefixOf (refused_line number) (W.contents sink.old.writer) (W.contents sink.new.writer) }
+        (Appends (W.contents sink.old.writer) (W.contents sink.new.writer) (refused_line (number_of refusal))) }
+    ensures prefix { AppendsPrefixOf (refused_line (number_of refusal))
+        (W.contents sink.old.writer) (W.contents sink.new.writer) }
     ensures faults { sink.new.faults ≡ sink.old.faults + sink_faults write_number result }
 {
-    let line = refused_line(number);
+    let line = refused_line(refusal.number());
     sink.write_all(line.as_str().as_bytes())?;
-    Ok(Outcome::Refused(number))
+    Ok(Outcome::Refused(refusal))
 }
 
 /// Writes the line of an accepted event.
@@ -96,8 +100,8 @@ pub(crate) fn write_node<W: Write>(
 {
     match world.peer(id) {
         Some(peer) => write_peer(alloc, id, peer, sink),
-        None if world.born(id) => Ok(write_refusal(NetFault::CrashedNode.number(), sink)?),
-        None => Ok(write_refusal(NetFault::UnknownNode.number(), sink)?),
+        None if world.born(id) => Ok(write_refusal(Refusal::World(NetFault::CrashedNode), sink)?),
+        None => Ok(write_refusal(Refusal::World(NetFault::UnknownNode), sink)?),
     }
 }
 
@@ -140,12 +144,12 @@ pub(crate) fn write_certificate<W: Write>(
     ensures faults { sink.new.faults ≡ sink.old.faults + sink_faults write_number result }
 {
     let Some(report) = filed_report(core, subject) else {
-        return write_refusal(CoreFault::NoSuchMoment.number(), sink);
+        return write_refusal(Refusal::Core(CoreFault::NoSuchMoment), sink);
     };
     prove!(core.world().journal().len() <= MOST_ENTRIES);
     match file_text(alloc, report) {
         Ok(text) => write_done(text.as_bytes(), sink),
-        Err(fault) => write_refusal(fault.number(), sink),
+        Err(OutOfMemory) => write_refusal(Refusal::Core(CoreFault::OutOfMemory), sink),
     }
 }
 
@@ -164,24 +168,26 @@ fn file_text(alloc: Global, report: &Report) -> Result<String, OutOfMemory>
 /// Writes the lines of packets. If OutOfMemory is returned, the lines of the first packets were written whole.
 pub(crate) fn write_packets<W: Write>(
     alloc: Global,
-    packets: &[Packet],
+    packets: &BlockList<Packet>,
     sink: &mut Sink<W>,
 ) -> Result<Outcome, RunFault>
     requires faults { sink.old.faults < most_faults }
-    requires few { length packets.now ≤ most_packets }
+    requires few { length packets.now.items ≤ most_packets }
     ensures outcome { IfOk result (λ outcome. outcome ≡ Outcome.Accepted) }
-    ensures prints { OnOk result (Writes (PrintsPackets 0 packets.now)
+    ensures prints { OnOk result (Writes (PrintsPackets 0 packets.now.items)
         (W.contents sink.old.writer) (W.contents sink.new.writer)) }
-    ensures begun { WritesPrefix (BeginsPackets packets.now)
+    ensures begun { WritesPrefix (BeginsPackets packets.now.items)
         (W.contents sink.old.writer) (W.contents sink.new.writer) }
-    ensures memory { IsErrOf result RunFault.OutOfMemory → Writes (BeginsPackets packets.now)
+    ensures memory { IsErrOf result RunFault.OutOfMemory → Writes (BeginsPackets packets.now.items)
         (W.contents sink.old.writer) (W.contents sink.new.writer) }
     ensures faults { sink.new.faults ≡ sink.old.faults + write_faults result }
     ensures kind { IfErr result IsOfWriting }
 {
-    for (place, packet) in packets.iter().enumerate() {
-        let line = packet_line(alloc, place as u32, packet.to(), packet.bytes())?;
+    let mut place = 0;
+    for packet in packets.iter() {
+        let line = packet_line(alloc, place, packet.to(), packet.bytes())?;
         sink.write_all(line.as_bytes())?;
+        place += 1;
     }
     Ok(Outcome::Accepted)
 }

@@ -16,10 +16,10 @@ mod whole_run_settings;
 mod words_from_seed;
 
 pub use fault_listing::faulty_lines;
-pub use lines_to_run::{LineToRun, LinesToRun};
+pub use lines_to_run::{LineToRun, LinesToRun, line_asked_by};
 pub use scenario::{Line, Look, Scenario, Subject};
 pub use scenario_fault::{FaultyLine, LineFault, ScenarioFault, Setting};
 pub use scenario_reading::read_scenario;
-pub use statement_reading::line_names;
+pub use statement_reading::{PARAMETERS, line_names};
 pub use theorems::first_line_has_the_fault;
 pub use words_from_seed::draw;

@@ -1,6 +1,6 @@
-ghost use Rattle.std.specs.Prelude.{◌≡◌, ◌∷◌, [], Ok, None, IfOk, IfErr, IfSome, MatchOption};
+ghost use Rattle.std.specs.Prelude.{◌≡◌, ◌∷◌, [], false, Ok, None, IfOk, IfErr, IfSome, MatchOption};
 ghost use Rattle.ov_scenario.specs.Draws.{seeded};
-ghost use Rattle.ov_scenario.specs.RunLines.{lines_that_run, AsksFor};
+ghost use Rattle.ov_scenario.specs.RunLines.{asks_for_line, lines_that_run, AsksFor};
 ghost use Rattle.ov_scenario.specs.Statements.{statement_of};
 ghost use Rattle.ov_scenario.specs.Code.RunnableLines.{Asks, said, stream_now, to_run};
 ghost use Rattle.ov_lines.specs.Lines.{kept_lines};
@@ -8,10 +8,11 @@ ghost use Rattle.ov_lines.specs.Lines.{kept_lines};
 use crate::given_words::GivenWords;
 use crate::scenario::Line;
 use crate::statement::{Stated, Statement};
-use crate::statement_reading::state;
+use crate::statement_reading::{Unstated, read_statement, state};
 use crate::words_from_seed::SeedWords;
 use ov_ids::OutOfMemory;
 use ov_lines::{KeptLine, KeptLines};
+use ov_words::{WORDS_PER_EVENT, Words};
 use std::alloc::Global;
 use std::marker::Model;
 
@@ -104,5 +105,26 @@ fn line_of<'a>(
         Ok(Statement::Params(_)) => None,
         Ok(Statement::Seed(_)) => None,
         Err(_) => None,
+    }
+}
+
+/// The line that a line of a file with this text asks to run, whatever comes before it. The random words of an event
+/// are zeros. None if it asks for no line. OutOfMemory (99) is returned if an allocation was refused.
+pub fn line_asked_by(alloc: Global, text: &[u8]) -> Result<Option<Line>, OutOfMemory>
+    ensures { IfOk result (λ line. MatchOption line (asks_for_line (statement_of text.now) ≡ false)
+        (λ l. AsksFor (statement_of text.now) l)) }
+{
+    match read_statement(alloc, text) {
+        Ok(Statement::Event(event)) => {
+            let words = Words::new([0; WORDS_PER_EVENT]);
+            Ok(Some(Line::Event { event, words }))
+        }
+        Ok(Statement::Look(look)) => Ok(Some(Line::Look(look))),
+        Ok(Statement::Analyse { subject, workers }) => {
+            Ok(Some(Line::Analyse { subject, workers }))
+        }
+        Ok(Statement::Params(_) | Statement::Seed(_) | Statement::Words(_)) => Ok(None),
+        Err(Unstated::Unread(_)) => Ok(None),
+        Err(Unstated::OutOfMemory) => Err(OutOfMemory),
     }
 }

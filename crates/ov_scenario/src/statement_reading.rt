@@ -49,20 +49,44 @@ pub fn line_names() -> &'static [&'static str]
     ]
 }
 
+const ACTIVE_VIEW: &str = "the size of the active view";
+
+const PASSIVE_VIEW: &str = "the size of the passive view";
+
+const ACTIVE_WALK_LENGTH: &str = "the active random walk length";
+
+const PASSIVE_WALK_LENGTH: &str = "the passive random walk length";
+
+const ACTIVE_SAMPLED: &str = "how many active members a shuffle samples";
+
+const PASSIVE_SAMPLED: &str = "how many passive members a shuffle samples";
+
+const TIME_TO_LIVE: &str = "the time to live of a shuffle";
+
 /// What the seven numbers of a line of parameters are, in their order.
-const ACTIVE: &[Kind] = &[Kind::Short("the size of the active view")];
+pub const PARAMETERS: [&str; 7] = [
+    ACTIVE_VIEW,
+    PASSIVE_VIEW,
+    ACTIVE_WALK_LENGTH,
+    PASSIVE_WALK_LENGTH,
+    ACTIVE_SAMPLED,
+    PASSIVE_SAMPLED,
+    TIME_TO_LIVE,
+];
 
-const PASSIVE: &[Kind] = &[Kind::Short("the size of the passive view")];
+const ACTIVE: &[Kind] = &[Kind::Short(ACTIVE_VIEW)];
 
-const ACTIVE_WALK: &[Kind] = &[Kind::Short("the active random walk length")];
+const PASSIVE: &[Kind] = &[Kind::Short(PASSIVE_VIEW)];
 
-const PASSIVE_WALK: &[Kind] = &[Kind::Short("the passive random walk length")];
+const ACTIVE_WALK: &[Kind] = &[Kind::Short(ACTIVE_WALK_LENGTH)];
 
-const ACTIVE_SAMPLE: &[Kind] = &[Kind::Short("how many active members a shuffle samples")];
+const PASSIVE_WALK: &[Kind] = &[Kind::Short(PASSIVE_WALK_LENGTH)];
 
-const PASSIVE_SAMPLE: &[Kind] = &[Kind::Short("how many passive members a shuffle samples")];
+const ACTIVE_SAMPLE: &[Kind] = &[Kind::Short(ACTIVE_SAMPLED)];
 
-const SHUFFLE_TTL: &[Kind] = &[Kind::Short("the time to live of a shuffle")];
+const PASSIVE_SAMPLE: &[Kind] = &[Kind::Short(PASSIVE_SAMPLED)];
+
+const SHUFFLE_TTL: &[Kind] = &[Kind::Short(TIME_TO_LIVE)];
 
 const PLACE: &[Kind] = &[Kind::Short("the place of a packet")];
 
@@ -70,7 +94,7 @@ const ORIGIN: &[Kind] = &[Kind::Short("the id of the node that made the message"
 
 const SEQUENCE: &[Kind] = &[Kind::Short("the number of the message")];
 
-const WORKERS: &[Kind] = &[Kind::Within("a number from 1 to 64", 1, 64)];
+const WORKERS: &[Kind] = &[Kind::Within(1, 64)];
 
 const MOMENT: &[Kind] = &[Kind::Short("the moment of a snapshot")];
 
@@ -123,7 +147,7 @@ pub(crate) fn state<'a>(
 }
 
 /// Reads what a line says.
-fn read_statement<'a>(alloc: Global, text: &'a [u8]) -> Result<Statement<'a>, Unstated>
+pub(crate) fn read_statement<'a>(alloc: Global, text: &'a [u8]) -> Result<Statement<'a>, Unstated>
     ensures { Reads result (statement_of text.now) }
 {
     let mut cursor = LineCursor::new(text);

@@ -11,7 +11,7 @@ use ov_claims::Workers;
 use ov_even::Watcher;
 use ov_ids::NodeId;
 use ov_io::{Sink, Source};
-use ov_run::{RunFault, analyse_file};
+use ov_run::{Answered, RunFault, analyse_file};
 use ov_test_kit::{Slow, ids};
 use std::alloc::{AllocError, Global};
 use std::io::{Read, Write};
@@ -37,7 +37,7 @@ pub(crate) fn analysed(
     group: Option<&[NodeId]>,
     workers: Workers,
     certificate: bool,
-) -> (Result<u8, RunFault>, Vec<u8>) {
+) -> (Result<Answered, RunFault>, Vec<u8>) {
     let mut source = Source::new(file);
     let mut sink = Sink::new(Vec::new(rt.alloc()));
     let mut watcher = Counter { count: 0 };
@@ -59,7 +59,7 @@ pub(crate) fn analysed_whole<R: Read, W: Write>(
     rt: &(impl AllocGlobal + Threads + Sync),
     source: &mut Source<R>,
     sink: &mut Sink<W>,
-) -> (Result<u8, RunFault>, u64)
+) -> (Result<Answered, RunFault>, u64)
     requires reads { source.old.faults < most_faults }
     requires writes { sink.old.faults < most_faults }
 {
@@ -77,7 +77,16 @@ pub(crate) fn analysed_whole<R: Read, W: Write>(
     (told, watcher.count)
 }
 
-/// The analysis of this file for this group by one worker ends with status 0 and prints this text.
+/// What is said to be printed if this text is.
+fn answered_by(text: &str) -> Answered {
+    match text {
+        "refused 30\n" => Answered::NoNodes,
+        "refused 34\n" => Answered::BadGroup,
+        _ => Answered::Report,
+    }
+}
+
+/// The analysis of this file for this group by one worker prints this text, and says so.
 pub(crate) fn prints(
     rt: &(impl AllocGlobal + Threads + Sync),
     file: &str,
@@ -85,7 +94,7 @@ pub(crate) fn prints(
     text: &str,
 ) -> bool {
     let (told, written) = analysed(rt, file.as_bytes(), group, Workers::ONE, false);
-    told == Ok(0) && written.as_slice() == text.as_bytes()
+    told == Ok(answered_by(text)) && written.as_slice() == text.as_bytes()
 }
 
 /// The analysis of this file by so many workers prints the line of its answer, as one worker does.
@@ -99,7 +108,7 @@ fn prints_by_workers(
         return false;
     };
     let (told, written) = analysed(rt, file.as_bytes(), None, workers, false);
-    told == Ok(0) && written.as_slice() == text.as_bytes()
+    told == Ok(answered_by(text)) && written.as_slice() == text.as_bytes()
 }
 
 /// Graph files, and what is printed of the group of all their nodes.
@@ -255,7 +264,7 @@ static JUDGED: [(&str, &str); 4] = [
 fn certificates_behind_the_line_hold(rt: HostRuntime) {
     for (file, line) in &JUDGED {
         let (told, written) = analysed(&rt, file.as_bytes(), None, Workers::ONE, true);
-        assert_eq!(rt; told, Ok(0));
+        assert_eq!(rt; told, Ok(Answered::Report));
         let judged = judged(rt.alloc(), written.as_slice());
         assert!(rt; judged.as_slice() == line.as_bytes(), "at {line}");
         assert!(rt; written.as_slice().ends_with(b"\n"));
@@ -267,7 +276,7 @@ fn a_watcher_is_told_of_an_analysis(rt: HostRuntime) {
     let mut source = Source::new(SQUARE.as_bytes());
     let mut sink = Sink::new(Vec::new(rt.alloc()));
     let (told, count) = analysed_whole(&rt, &mut source, &mut sink);
-    assert!(rt; told == Ok(0) && count > 0);
+    assert!(rt; told == Ok(Answered::Report) && count > 0);
 }
 
 /// With a writer that is interrupted after so many calls, the path of three comes to this answer and to so many faults
@@ -275,7 +284,7 @@ fn a_watcher_is_told_of_an_analysis(rt: HostRuntime) {
 fn comes_by_slow_writer(
     rt: &(impl AllocGlobal + Threads + Sync),
     calls_left: usize,
-    answer: Result<u8, RunFault>,
+    answer: Result<Answered, RunFault>,
     faults: u64,
 ) -> bool {
     let mut source = Source::new(PATH_OF_THREE.as_bytes());
@@ -292,5 +301,5 @@ fn a_writer_is_interrupted_at_each_write(rt: HostRuntime) {
         let is_refused = comes_by_slow_writer(&rt, calls_left, Err(RunFault::Write), 1);
         assert!(rt; is_refused, "at {calls_left}");
     }
-    assert!(rt; comes_by_slow_writer(&rt, writes, Ok(0), 0));
+    assert!(rt; comes_by_slow_writer(&rt, writes, Ok(Answered::Report), 0));
 }

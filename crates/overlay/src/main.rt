@@ -24,15 +24,18 @@ use ov_arguments::{AnalysisRequest, ArgumentsFault, Request, argument_reasons, r
 use ov_ids::{NodeId, OutOfMemory};
 use ov_io::{Sink, Source, unopened_text, unread_text};
 use ov_reasons::group_reason;
-use ov_run::{RunFault, analyse_bytes, run_bytes};
+use ov_run::{Answered, RunFault, analyse_bytes, run_bytes};
 use std::env;
 use std::fs::File;
-use std::io::{self, IsTerminal, Read, Write};
+use std::io::{self, BufWriter, IsTerminal, Read, Write};
 use std::process::ExitCode;
 use std::thread::Threads;
 
 /// The name of what is read if no file is named.
 const STANDARD_INPUT: &str = "standard input";
+
+/// How many bytes are kept back before they are written, if what is printed is written in blocks.
+const BLOCK: usize = 64 * 1024;
 
 fn main(rt: HostRuntime) -> ExitCode {
     let answer = overlay(&rt, &rt);
@@ -178,7 +181,8 @@ fn bytes_of<R: Read + Drop>(rt: &HostRuntime, reader: R, name: &str) -> Result<V
     }
 }
 
-/// Runs the scenario of a file, or of standard input. If it is to be explained, prints why lines are refused.
+/// Runs the scenario of a file, or of standard input. If it is to be explained, prints why lines are refused. What is
+/// printed is written line by line then, and on a terminal, so that it stands beside these reasons; else in blocks.
 fn run_asked<T: Threads + Sync>(
     rt: &HostRuntime,
     threads: &T,
@@ -191,7 +195,37 @@ fn run_asked<T: Threads + Sync>(
     if file.is_none() && rt.stdin().is_terminal() {
         let _ = eprintln!(rt; "reading a scenario from standard input");
     }
-    let mut sink = Sink::new(rt.stdout());
+    if explain || rt.stdout().is_terminal() {
+        return run_into(rt, threads, file, rt.stdout(), explain);
+    }
+    match BufWriter::with_capacity(rt.alloc(), BLOCK, rt.stdout()) {
+        Ok(writer) => run_into(rt, threads, file, writer, explain),
+        Err(_) => Err(without_memory(rt).into()),
+    }
+}
+
+/// Ends before anything is read, since an allocation was refused.
+fn without_memory(rt: &HostRuntime) -> RunFault
+    ensures { result ≡ RunFault.OutOfMemory }
+{
+    let ended = print_fault(rt, RunFault::OutOfMemory);
+    let _ = eprintln!(rt; "out of memory");
+    ended
+}
+
+/// Runs the scenario of a file, or of standard input, and prints into this writer. If it is to be explained, prints why
+/// lines are refused.
+fn run_into<T: Threads + Sync, W: Write + Drop>(
+    rt: &HostRuntime,
+    threads: &T,
+    file: Option<String>,
+    writer: W,
+    explain: bool,
+) -> Result<u8, ProgramFault>
+    ensures status { IfOk result (λ status. status ≡ 0) }
+    ensures fault { IfErr result (λ e. (fault : RunFault) × (e ≡ Run fault)) }
+{
+    let mut sink = Sink::new(writer);
     match file.as_deref() {
         None => Ok(run_from(rt, threads, rt.stdin(), &mut sink, STANDARD_INPUT, explain)?),
         Some(path) => Ok(run_from(rt, threads, opened(rt, path)?, &mut sink, path, explain)?),
@@ -226,11 +260,18 @@ fn run_told<T: Threads + Sync, W: Write>(
     requires { sink.old.faults < most_faults }
     ensures run { IsRunOf (Some bytes.now) W.contents sink.old sink.new result }
 {
-    let mut explaining = Explaining::new(rt, bytes, explain);
+    let mut explaining = Explaining::new(rt, explain);
     let answer = run_bytes(threads, rt.alloc(), bytes, sink, &mut explaining);
     tell_fault(rt, bytes, &answer);
-    explaining.tell_count();
+    if has_run(&answer) {
+        explaining.tell_count();
+    }
     answer
+}
+
+/// Whether lines of a scenario may have run: not if a line is at fault. Out of memory, perhaps none ran.
+fn has_run(answer: &Result<u8, RunFault>) -> bool {
+    !matches!(answer, Err(RunFault::Line(_) | RunFault::Params(_)))
 }
 
 /// Prints the line of the fault of a run of these bytes, if it has one, and why there is one.
@@ -253,9 +294,10 @@ fn analyse_asked<T: Threads + Sync>(
 {
     let mut sink = Sink::new(rt.stdout());
     match file.as_deref() {
-        None => Ok(analyse_from(rt, threads, rt.stdin(), &mut sink, STANDARD_INPUT, analysis)?),
-        Some(path) => Ok(analyse_from(rt, threads, opened(rt, path)?, &mut sink, path, analysis)?),
-    }
+        None => analyse_from(rt, threads, rt.stdin(), &mut sink, STANDARD_INPUT, analysis)?,
+        Some(path) => analyse_from(rt, threads, opened(rt, path)?, &mut sink, path, analysis)?,
+    };
+    Ok(0)
 }
 
 /// Analyses the graph of a reader that has this name.
@@ -266,7 +308,7 @@ fn analyse_from<T: Threads + Sync, R: Read + Drop, W: Write>(
     sink: &mut Sink<W>,
     name: &str,
     analysis: &AnalysisRequest,
-) -> Result<u8, RunFault>
+) -> Result<Answered, RunFault>
     requires { sink.old.faults < most_faults }
     ensures analysis { IsAnalysisOf (R.remaining reader) W.contents sink.old
         (option_map (λ ids. ids.items) analysis.now.group) analysis.now.certificate sink.new result }
@@ -282,7 +324,7 @@ fn analyse_told<T: Threads + Sync, W: Write>(
     bytes: &[u8],
     sink: &mut Sink<W>,
     analysis: &AnalysisRequest,
-) -> Result<u8, RunFault>
+) -> Result<Answered, RunFault>
     requires { sink.old.faults < most_faults }
     ensures analysis { IsAnalysisOf (Some bytes.now) W.contents sink.old
         (option_map (λ ids. ids.items) analysis.now.group) analysis.now.certificate sink.new result }
@@ -299,7 +341,10 @@ fn analyse_told<T: Threads + Sync, W: Write>(
         &mut progress,
     );
     match &answer {
-        Ok(_) => print_refusal(rt, bytes, analysis.group.as_deref()),
+        Ok(Answered::Report) => {}
+        Ok(Answered::NoNodes | Answered::BadGroup) => {
+            print_refusal(rt, bytes, analysis.group.as_deref());
+        }
         Err(fault) => {
             print_fault(rt, *fault);
             print_reason(rt, analysis_reason(rt.alloc(), bytes, fault));
@@ -308,8 +353,8 @@ fn analyse_told<T: Threads + Sync, W: Write>(
     answer
 }
 
-/// Prints why the analysis of a graph file is refused, if it is, after its line. Prints nothing if an allocation for it
-/// was refused.
+/// Prints why the analysis of a graph file was refused, after its line. Prints nothing if an allocation for it was
+/// refused.
 fn print_refusal(rt: &HostRuntime, bytes: &[u8], group: Option<&[NodeId]>) {
     if let Ok(Some(reason)) = group_reason(rt.alloc(), bytes, group) {
         let _ = eprint!(rt; "{reason}");

@@ -1,5 +1,5 @@
 -- What is printed of an answer, and of the file that it is for.
-use Rattle.std.proofs.Common.{◌≡◌, ◌+◌, inl, inr, ℕ, Bool, List, Option, Some, Err, refl, sym, subst, arith}
+use Rattle.std.proofs.Common.{◌≡◌, ◌+◌, inl, ℕ, Bool, List, Option, Some, Err, refl, sym, subst, arith}
 use Rattle.std.specs.Io.KnownBytes.{Appends}
 use Rattle.ov_graph.specs.Links.{LinkGraph}
 use Rattle.ov_cert.specs.State.{CheckedState}
@@ -9,6 +9,8 @@ use Rattle.ov_even.specs.Answer.{IsCheckedAnswer}
 use Rattle.ov_run.specs.Analysing.{answer_text, PrintsAnswer, IsAnalysis, PrintsAnalysis, BeginsAnalysis}
 use Rattle.ov_run.specs.Analysing.{IsAnalysisOf}
 use Rattle.ov_run.specs.Code.Writing.{IsTextFault}
+use Rattle.ov_run.specs.declared.answered.Answered.{Answered}
+use Rattle.ov_run.specs.declared.answered.Answered.TheVariants.{Report}
 use Rattle.ov_run.specs.declared.run_fault.RunFault.{RunFault}
 use Rattle.ov_run.specs.declared.run_fault.RunFault.TheVariants as fault
 use Rattle.ov_graphfile.specs.GraphFiles.{IsGraphFile}
@@ -18,7 +20,7 @@ use Rattle.ov_run.specs.Subjects.{members_of}
 pub printed :
     (g : LinkGraph) (q : List ℕ) (c : CheckedState) (certificate : Bool) (text : List ℕ) → IsCheckedAnswer g q c
     → IsValidForGroup c.graph c.members c.cert → text ≡ answer_text c.cert c.graph c.members certificate
-    → PrintsAnswer g q certificate text
+    → PrintsAnswer g q certificate Report text
 printed g q c certificate text answer valid is =
     let here =
     subst (λ r. IsValidForGroup g r c.cert) answer.members
@@ -26,35 +28,38 @@ printed g q c certificate text answer valid is =
     let line : text ≡ answer_text c.cert g q certificate =
     subst (λ r. text ≡ answer_text c.cert g r certificate) answer.members
     (subst (λ f. text ≡ answer_text c.cert f c.members certificate) answer.graph is) in
-    inr (inr (c.cert, answer.answer, here, line))
+    (c.cert, answer.answer, here, line)
 
 -- and with the file that says the graph it is the analysis of the file
 pub analysed :
-    (bytes text : List ℕ) (group : Option (List ℕ)) (certificate : Bool) (g : LinkGraph) (q : List ℕ)
-    → IsGraphFile bytes g → q ≡ members_of group g → PrintsAnswer g q certificate text
-    → IsAnalysis bytes group certificate text
-analysed bytes text group certificate g q says members prints =
+    (bytes text : List ℕ) (group : Option (List ℕ)) (certificate : Bool) (answered : Answered) (g : LinkGraph)
+    (q : List ℕ)
+    → IsGraphFile bytes g → q ≡ members_of group g → PrintsAnswer g q certificate answered text
+    → IsAnalysis bytes group certificate answered text
+analysed bytes text group certificate answered g q says members prints =
     record {
       graph = g;
       says = says;
-      prints = subst (λ r. PrintsAnswer g r certificate text) members prints;
+      prints = subst (λ r. PrintsAnswer g r certificate answered text) members prints;
     }
 
 -- all of the text was written, as it was lent
 pub all_written :
     (before after : Option (List ℕ)) (bytes text sent : List ℕ) (group : Option (List ℕ)) (certificate : Bool)
-    → sent ≡ text → IsAnalysis bytes group certificate text → Appends before after sent
-    → PrintsAnalysis (Some bytes) group certificate before after
-all_written before after bytes text sent group certificate same analysis went =
-    (bytes, sent, refl, subst (λ t. IsAnalysis bytes group certificate t) (sym same) analysis, went)
+    (answered : Answered)
+    → sent ≡ text → IsAnalysis bytes group certificate answered text → Appends before after sent
+    → PrintsAnalysis (Some bytes) group certificate answered before after
+all_written before after bytes text sent group certificate answered same analysis went =
+    (bytes, sent, refl, subst (λ t. IsAnalysis bytes group certificate answered t) (sym same) analysis, went)
 
 -- a prefix of it was
 pub begun_written :
     (before after : Option (List ℕ)) (bytes text sent : List ℕ) (group : Option (List ℕ)) (certificate : Bool)
-    → sent ≡ text → IsAnalysis bytes group certificate text → AppendsPrefixOf sent before after
+    (answered : Answered)
+    → sent ≡ text → IsAnalysis bytes group certificate answered text → AppendsPrefixOf sent before after
     → BeginsAnalysis (Some bytes) group certificate before after
-begun_written before after bytes text sent group certificate same analysis went =
-    (bytes, sent, refl, subst (λ t. IsAnalysis bytes group certificate t) (sym same) analysis, went)
+begun_written before after bytes text sent group certificate answered same analysis went =
+    (bytes, answered, sent, refl, subst (λ t. IsAnalysis bytes group certificate answered t) (sym same) analysis, went)
 
 same : (m : ℕ) → m ≡ m + 0
 same m = omega arith
@@ -65,7 +70,6 @@ pub refused :
     (certificate : Bool) (f : RunFault)
     → IsTextFault bytes f → IsAnalysisOf (Some bytes) contents sink group certificate sink (Err f)
 refused bytes contents sink group certificate (fault.Line n) is = record {
-  status = tt;
   prints = tt;
   begun = inl refl;
   sink = same sink.faults;
@@ -74,7 +78,6 @@ refused bytes contents sink group certificate (fault.Line n) is = record {
 }
 refused bytes contents sink group certificate (fault.Params n) is = absurd is
 refused bytes contents sink group certificate (fault.Graph g line) is = record {
-  status = tt;
   prints = tt;
   begun = inl refl;
   sink = same sink.faults;
@@ -84,7 +87,6 @@ refused bytes contents sink group certificate (fault.Graph g line) is = record {
 refused bytes contents sink group certificate fault.Read is = absurd is
 refused bytes contents sink group certificate fault.Write is = absurd is
 refused bytes contents sink group certificate fault.OutOfMemory is = record {
-  status = tt;
   prints = tt;
   begun = inl refl;
   sink = same sink.faults;

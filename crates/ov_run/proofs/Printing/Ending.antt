@@ -1,9 +1,9 @@
 -- What is printed up to some point, and what went to a writer of that.
-use Rattle.std.proofs.Common.{◌≡◌, ◌⊎◌, inl, inr, ℕ, Option, List, [], ◌∷◌, ◌++◌, append_assoc, ap, sym, ◌∙◌, refl}
+use Rattle.std.proofs.Common.{◌≡◌, ◌⊎◌, inl, inr, ℕ, Option, Some, None, List, [], ◌∷◌, ◌++◌, append_assoc, ap, sym, ◌∙◌, refl}
 use Rattle.std.proofs.Common.{Result, Ok, Err, OnOk, IsErrAnd, IsErrOf, subst}
 use Rattle.std.proofs.KnownBytes.{Appends-nil, Appends-trans}
 use Rattle.std.proofs.lemmas.List.{append-nil}
-use Rattle.std.specs.Io.KnownBytes.{Appends}
+use Rattle.std.specs.Io.KnownBytes.{Appends, Keeps}
 use Rattle.ov_io.specs.Device.{AppendsPrefixOf}
 use Rattle.ov_snap.specs.CoreState.{CoreState, opening_core}
 use Rattle.ov_run.specs.Ending.{BeginsLook, BeginsLine, BeginsLines, IsBegun}
@@ -81,6 +81,28 @@ prefix_went a b c text own first (prefix, rest, appends, is) = (
   Appends-trans a b c text prefix first appends,
   append_assoc text prefix rest ∙ ap (λ t. text ++ t) is,
 )
+
+-- what was held is held still
+pub appended_kept : (a b c : Option (List ℕ)) (text : List ℕ) → Appends a b text → Keeps b c → Appends a c text
+appended_kept None b c text went kept = tt
+appended_kept (Some x) None c text went kept = absurd went
+appended_kept (Some x) (Some y) None text went kept = absurd kept
+appended_kept (Some x) (Some y) (Some z) text went kept = kept ∙ went
+
+pub prefix_kept :
+    (a b c : Option (List ℕ)) (text : List ℕ) → AppendsPrefixOf text a b → Keeps b c → AppendsPrefixOf text a c
+prefix_kept a b c text (prefix, rest, went, is) kept = (prefix, rest, appended_kept a b c prefix went kept, is)
+
+-- and a text goes behind it
+pub kept_appended : (a b c : Option (List ℕ)) (text : List ℕ) → Keeps a b → Appends b c text → Appends a c text
+kept_appended None b c text kept went = tt
+kept_appended (Some x) None c text kept went = absurd kept
+kept_appended (Some x) (Some y) None text kept went = absurd went
+kept_appended (Some x) (Some y) (Some z) text kept went = went ∙ ap (λ t. t ++ text) kept
+
+pub kept_prefix :
+    (a b c : Option (List ℕ)) (text : List ℕ) → Keeps a b → AppendsPrefixOf text b c → AppendsPrefixOf text a c
+kept_prefix a b c text kept (prefix, rest, went, is) = (prefix, rest, kept_appended a b c prefix kept went, is)
 
 -- ---- what a call wrote
 

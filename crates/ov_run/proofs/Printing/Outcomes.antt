@@ -1,12 +1,14 @@
 -- What was written of a line that was done, and of one that was refused.
 use Rattle.std.proofs.Common.{◌≡◌, ℕ, List, Option, Result, Ok, Err, IfOk, OnOk, sym, subst}
-use Rattle.std.specs.Io.KnownBytes.{Appends}
+use Rattle.std.specs.Io.KnownBytes.{Appends, Keeps}
 use Rattle.ov_run.specs.Printed.{refused_line}
+use Rattle.ov_run.specs.Refusals.{number_of}
 use Rattle.ov_run.specs.Code.Outcomes.{WritesOutcome}
 use Rattle.ov_run.specs.Code.Writing.{Writes}
 use Rattle.ov_run.specs.declared.line_outcome.Outcome.{Outcome}
 use Rattle.ov_run.specs.declared.line_outcome.Outcome.TheVariants.{Accepted, Refused}
-use Rattle.ov_run.proofs.Printing.Ending.{wrote}
+use Rattle.ov_run.specs.declared.refusal.Refusal.{Refusal}
+use Rattle.ov_run.proofs.Printing.Ending.{kept_appended, wrote}
 
 -- a text of a line that was done was written, whatever kind of text it is
 pub accepted :
@@ -25,8 +27,17 @@ done IsDone a b text result said is appends = accepted IsDone a b result is (wro
 
 -- a refusal was written
 pub refused :
-    {E : Type 0} (IsDone : List ℕ → Type 0) (a b : Option (List ℕ)) (number : ℕ) (result : Result Outcome E)
-    → IfOk result (λ outcome. outcome ≡ Refused number) → OnOk result (Appends a b (refused_line number))
+    {E : Type 0} (IsDone : List ℕ → Type 0) (a b : Option (List ℕ)) (refusal : Refusal) (result : Result Outcome E)
+    → IfOk result (λ outcome. outcome ≡ Refused refusal)
+    → OnOk result (Appends a b (refused_line (number_of refusal)))
     → IfOk result (WritesOutcome IsDone a b)
-refused IsDone a b number (Ok outcome) is appends = subst (WritesOutcome IsDone a b) (sym is) appends
-refused IsDone a b number (Err e) is appends = tt
+refused IsDone a b refusal (Ok outcome) is appends = subst (WritesOutcome IsDone a b) (sym is) appends
+refused IsDone a b refusal (Err e) is appends = tt
+
+-- what was written of an outcome goes behind what was held before
+pub kept_outcome :
+    (IsDone : List ℕ → Type 0) (a b c : Option (List ℕ)) (outcome : Outcome)
+    → Keeps a b → WritesOutcome IsDone b c outcome → WritesOutcome IsDone a c outcome
+kept_outcome IsDone a b c Accepted kept (text, is, went) = (text, is, kept_appended a b c text kept went)
+kept_outcome IsDone a b c (Refused refusal) kept went =
+    kept_appended a b c (refused_line (number_of refusal)) kept went

@@ -1,16 +1,15 @@
 -- What was printed so far, and what is left to print.
-use Rattle.std.proofs.Common.{inr, arith, ◌<◌, take, get_or, ◌≡◌, ◌≢◌, Option, ◌∙◌, ℕ, suc}
+use Rattle.std.proofs.Common.{inl, inr, arith, take, ◌≡◌, ◌≢◌, Option, ◌∙◌, ℕ, suc}
 use Rattle.std.proofs.Common.{◌+◌, List, [], ◌∷◌, ◌++◌, append_assoc, length, Some, None, ap, sym, subst, refl}
-use Rattle.std.proofs.lemmas.List.{append-nil, length-take-le}
-use Rattle.std.proofs.Math.Numerals.{suc-eq-add-one}
-use Rattle.std.proofs.Math.Seq.{take-suc}
+use Rattle.std.proofs.lemmas.List.{append-nil}
+use Rattle.std.proofs.Math.Seq.{take-append_seam}
 use Rattle.ov_wire.specs.Messages.{Spelling}
 use Rattle.ov_wire.specs.declared.message.Message.{Message}
 use Rattle.ov_net.specs.declared.member.Member.{Member}
 use Rattle.ov_net.specs.declared.member.Member.TheVariants.{Live, Gone}
 use Rattle.ov_peer.specs.PeerState.{PeerState}
 use Rattle.ov_snap.specs.CoreState.{CoreState}
-use Rattle.ov_run.specs.Ending.{BeginsLines, EndsLines}
+use Rattle.ov_run.specs.Ending.{BeginsLines, BeginsPackets, EndsLines}
 use Rattle.ov_run.specs.Printed.{packet_line}
 use Rattle.ov_run.specs.Running.{PrintsLine, PrintsLines, PrintsPackets}
 use Rattle.ov_scenario.specs.declared.scenario.Line.{Line}
@@ -37,12 +36,17 @@ more b all now next line lines text own so_far prints = record {
       (so_far.prefix (own ++ later) (inr (next, own, later, prints, others, refl)));
   ends = λ later others.
       subst (λ t. EndsLines b all t) (sym (append_assoc text own later))
-      (so_far.ends (own ++ later) (inr (next, own, later, prints, others, refl)));
+      (so_far.ends (own ++ later) (inr (inr (next, own, later, prints, others, refl))));
 }
 
 pub ended : (b : CoreState) (all : List Line) (now : CoreState) (text : List ℕ) → SoFar b all now [] text
     → PrintsLines b all now text
 ended b all now text so_far = subst (λ t. PrintsLines b all now t) (append-nil text) (so_far.whole now [] (refl, refl))
+
+-- memory can be lacking to read any line
+pub unread : (b : CoreState) (lines : List Line) → EndsLines b lines []
+unread b [] = refl
+unread b (line ∷ lines) = inl refl
 
 -- one packet more is printed, at the place behind these
 pub packets_more :
@@ -76,19 +80,22 @@ gone (Some Gone) born absent = refl
 
 -- the packet at the next place is printed, and this is its line
 pub packets_next :
-    (all : List (ℕ × Message)) (place to : ℕ) (packet : ℕ × Message) (text bytes line : List ℕ) → place < length all
-    → packet ≡ get_or all place packet
-    → to ≡ packet.0 → Spelling packet.1 bytes → line ≡ packet_line place to bytes
-    → PrintsPackets 0 (take place all) text
-    → PrintsPackets 0 (take (place + 1) all) (text ++ line)
-packets_next all place to packet text bytes line within is its spelling line_is prints =
-    let long = length-take-le place all (omega (arith, within)) in
-    let count : 0 + length (take place all) ≡ place = omega (arith, long) in
-    let next : take place all ++ packet ∷ [] ≡ take (place + 1) all =
-    sym (ap (λ n. take n all) (sym (suc-eq-add-one place)) ∙ take-suc all place packet within
-    ∙ ap (λ p. take place all ++ p ∷ []) (sym is)) in
-    let own : packet_line (0 + length (take place all)) packet.0 bytes ≡ line =
+    (packets : List (ℕ × Message)) (place to : ℕ) (packet : ℕ × Message) (text bytes line : List ℕ)
+    → place ≡ length packets → to ≡ packet.0 → Spelling packet.1 bytes → line ≡ packet_line place to bytes
+    → PrintsPackets 0 packets text
+    → PrintsPackets 0 (packets ++ packet ∷ []) (text ++ line)
+packets_next packets place to packet text bytes line at its spelling line_is prints =
+    let count : 0 + length packets ≡ place = omega (arith, at) in
+    let own : packet_line (0 + length packets) packet.0 bytes ≡ line =
     ap (λ n. packet_line n packet.0 bytes) count ∙ ap (λ a. packet_line place a bytes) (sym its) ∙ sym line_is in
-    subst (λ ps. PrintsPackets 0 ps (text ++ line)) next
-    (subst (λ t. PrintsPackets 0 (take place all ++ packet ∷ []) (text ++ t)) own
-    (packets_more 0 (take place all) packet text bytes prints spelling))
+    subst (λ t. PrintsPackets 0 (packets ++ packet ∷ []) (text ++ t)) own
+    (packets_more 0 packets packet text bytes prints spelling)
+
+-- the first packets are printed, and others are still to come
+pub packets_begun :
+    (all printed coming : List (ℕ × Message)) (text : List ℕ) → printed ++ coming ≡ all
+    → PrintsPackets 0 printed text → BeginsPackets all text
+packets_begun all printed coming text is prints =
+    let first : take (length printed) all ≡ printed =
+    ap (take (length printed)) (sym is) ∙ take-append_seam printed coming in
+    (length printed, subst (λ ps. PrintsPackets 0 ps text) (sym first) prints)

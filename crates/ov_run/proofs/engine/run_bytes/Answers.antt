@@ -7,7 +7,7 @@ use Rattle.ov_run.proofs.engine.run_bytes.Goals as goal
 pub returns : goal.returns
 returns g c =
     let said = c.in_ok-scenario in
-    let printed = c.in_ok-run_lines.ensures.prints in
+    let printed = c.in_ok-run_lines.ensures.ran.prints in
     record {
       read = λ e. absurd cc;
       run = finished c.args.bytes.now g.W.Write.contents c.args.sink.now c.run_lines.new.sink (
@@ -21,13 +21,13 @@ returns g c =
           lines = printed.1.1;
         },
         printed.1.2,
-      ) c.in_ok-run_lines.ensures.faults;
+      ) c.in_ok-run_lines.ensures.ran.faults;
     }
 
 pub returns-in_err-run_lines : goal.returns-in_err-run_lines
 returns-in_err-run_lines g c =
     let file = c.in_ok-scenario in
-    let ran = c.in_err-run_lines.ensures in
+    let ran = c.in_err-run_lines.ensures.ran in
     let failed = c.from_residual-in_err-run_lines in
     record {
       read = search rules;

@@ -6,15 +6,16 @@ use Rattle.ov_run.proofs.graph_analysis.analyse_bytes.Goals as goal
 pub returns : goal.returns
 returns g c = record {
   analysis = record {
-    status = search rules;
     prints = all_written (g.W.Write.contents c.args.sink.now.writer) (g.W.Write.contents c.write_all.new.self.writer)
-        c.args.bytes.now (string_bytes c.in_ok-text.text) c.as_bytes.result.now
-        (option_map (λ ids. ids.now) c.args.group) c.args.certificate c.as_bytes.ensures.value c.in_ok-text.ensures.text
+        c.args.bytes.now (string_bytes c.in_ok-answer.answer.text) c.as_bytes.result.now
+        (option_map (λ ids. ids.now) c.args.group) c.args.certificate
+        c.in_ok-answer.answer.answered c.as_bytes.ensures.value c.in_ok-answer.ensures.answer
         c.in_ok-write_all.ensures.bytes;
     begun = inr
         (begun_written (g.W.Write.contents c.args.sink.now.writer) (g.W.Write.contents c.write_all.new.self.writer)
-        c.args.bytes.now (string_bytes c.in_ok-text.text) c.as_bytes.result.now
-        (option_map (λ ids. ids.now) c.args.group) c.args.certificate c.as_bytes.ensures.value c.in_ok-text.ensures.text
+        c.args.bytes.now (string_bytes c.in_ok-answer.answer.text) c.as_bytes.result.now
+        (option_map (λ ids. ids.now) c.args.group) c.args.certificate
+        c.in_ok-answer.answer.answered c.as_bytes.ensures.value c.in_ok-answer.ensures.answer
         c.in_ok-write_all.ensures.prefix);
     sink = search rules;
     unwritten = search rules;
@@ -26,12 +27,12 @@ returns g c = record {
 pub returns-in_err-write_all : goal.returns-in_err-write_all
 returns-in_err-write_all g c = record {
   analysis = record {
-    status = search rules;
     prints = search rules;
     begun = inr
         (begun_written (g.W.Write.contents c.args.sink.now.writer) (g.W.Write.contents c.write_all.new.self.writer)
-        c.args.bytes.now (string_bytes c.in_ok-text.text) c.as_bytes.result.now
-        (option_map (λ ids. ids.now) c.args.group) c.args.certificate c.as_bytes.ensures.value c.in_ok-text.ensures.text
+        c.args.bytes.now (string_bytes c.in_ok-answer.answer.text) c.as_bytes.result.now
+        (option_map (λ ids. ids.now) c.args.group) c.args.certificate
+        c.in_ok-answer.answer.answered c.as_bytes.ensures.value c.in_ok-answer.ensures.answer
         c.in_err-write_all.ensures.prefix);
     sink = search rules;
     unwritten = search rules;

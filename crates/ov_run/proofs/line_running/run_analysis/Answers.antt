@@ -1,6 +1,5 @@
 -- The line of the report was written, or that of the refusal, or a prefix of one.
-use Rattle.std.proofs.Common.{◌∙◌, ap, inl, inr}
-use Rattle.ov_run.specs.Printed.{refused_line}
+use Rattle.std.proofs.Common.{◌∙◌, inl, inr, refl}
 use Rattle.ov_run.specs.Running.{PrintsReportLine}
 use Rattle.ov_run.specs.Code.Outcomes.{FilesReport}
 use Rattle.ov_run.proofs.Printing.Ending.{wrote}
@@ -23,12 +22,12 @@ returns-in-Ok-clause-outcome g c =
 pub returns-in-Err-clause-prints : goal.returns-in-Err-clause-prints
 returns-in-Err-clause-prints g c =
     wrote (PrintsReportLine c.args.core.now c.args.subject.now c.file_analysis.new.core) _ _ _ c.write_refusal.result
-    (inr (c.in-Err.refusal, c.in-Err.ensures.refused, c.in-Err.ensures.err, ap refused_line c.number.ensures))
+    (inr (c.in-Err.fault, c.in-Err.ensures.refused, c.in-Err.ensures.err, refl))
     c.write_refusal.ensures.bytes
 
 pub returns-in-Err-clause-begun : goal.returns-in-Err-clause-begun
 returns-in-Err-clause-begun g c = (
   _,
-  inr (c.in-Err.refusal, c.in-Err.ensures.refused, c.in-Err.ensures.err, ap refused_line c.number.ensures),
+  inr (c.in-Err.fault, c.in-Err.ensures.refused, c.in-Err.ensures.err, refl),
   c.write_refusal.ensures.prefix,
 )

@@ -1,6 +1,5 @@
 -- What went is a prefix of the line of the entry, or of the refusal.
-use Rattle.std.proofs.Common.{ap, inl, inr, refl}
-use Rattle.ov_run.specs.Printed.{refused_line}
+use Rattle.std.proofs.Common.{inl, inr, refl}
 use Rattle.ov_run.proofs.line_running.run_event.Goals as goal
 
 pub returns-in-Ok-clause-begun : goal.returns-in-Ok-clause-begun
@@ -9,13 +8,13 @@ returns-in-Ok-clause-begun g c = (_, inl (c.in-Ok.entry, c.in-Ok.ensures.happene
 pub returns-in_err-write_refusal-in-Err-clause-begun : goal.returns-in_err-write_refusal-in-Err-clause-begun
 returns-in_err-write_refusal-in-Err-clause-begun g c = (
   _,
-  inr (c.in-Err.fault, c.in-Err.ensures.refused, c.in-Err.ensures.err, ap refused_line c.number.ensures),
+  inr (c.in-Err.fault, c.in-Err.ensures.refused, c.in-Err.ensures.err, refl),
   c.write_refusal.ensures.prefix,
 )
 
 pub returns-in_ok-write_refusal-in-Err-clause-begun : goal.returns-in_ok-write_refusal-in-Err-clause-begun
 returns-in_ok-write_refusal-in-Err-clause-begun g c = (
   _,
-  inr (c.in-Err.fault, c.in-Err.ensures.refused, c.in-Err.ensures.err, ap refused_line c.number.ensures),
+  inr (c.in-Err.fault, c.in-Err.ensures.refused, c.in-Err.ensures.err, refl),
   c.write_refusal.ensures.prefix,
 )

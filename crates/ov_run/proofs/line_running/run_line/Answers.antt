@@ -4,7 +4,9 @@ use Rattle.std.proofs.KnownBytes.{Appends-nil}
 use Rattle.ov_run.specs.Ending.{BeginsLines, EndsLine}
 use Rattle.ov_run.specs.Running.{PrintsLine}
 use Rattle.ov_scenario.specs.declared.scenario.Line.{Line}
-use Rattle.ov_run.proofs.Printing.Ending.{whole, looked}
+use Rattle.ov_run.proofs.Printing.Ending.{whole, looked, kept_appended, kept_prefix}
+use Rattle.ov_run.specs.Code.Outcomes.{FilesReport}
+use Rattle.ov_run.proofs.Printing.Outcomes.{kept_outcome}
 use Rattle.ov_run.proofs.line_running.run_line.Goals as goal
 
 pub returns-in-Event-clause-prints : goal.returns-in-Event-clause-prints
@@ -39,17 +41,22 @@ pub returns-in_err-run_analysis-in-Analyse-clause-begun : goal.returns-in_err-ru
 returns-in_err-run_analysis-in-Analyse-clause-begun g c =
     let began = c.run_analysis.ensures.begun in
     let said : PrintsLine c.args.core.now c.args.line c.run_analysis.new.core began.0 = rw (c.in-Analyse.is) began.1 in
-    (began.0, whole _ _ _ began.0 said, began.2)
+    (began.0, whole _ _ _ began.0 said, kept_prefix _ _ _ began.0 c.flush.ensures.bytes began.2)
 
 pub returns-in_ok-run_analysis-in-Analyse-clause-prints : goal.returns-in_ok-run_analysis-in-Analyse-clause-prints
 returns-in_ok-run_analysis-in-Analyse-clause-prints g c =
     let printed = c.in_ok-run_analysis-in-Analyse.ensures.prints in
     let said : PrintsLine c.args.core.now c.args.line c.run_analysis.new.core printed.0 =
     rw (c.in-Analyse.is) printed.1 in
-    (printed.0, said, printed.2)
+    (printed.0, said, kept_appended _ _ _ printed.0 c.flush.ensures.bytes printed.2)
 
 pub returns-in_ok-run_analysis-in-Analyse-clause-begun : goal.returns-in_ok-run_analysis-in-Analyse-clause-begun
 returns-in_ok-run_analysis-in-Analyse-clause-begun g c =
     let began = c.run_analysis.ensures.begun in
     let said : PrintsLine c.args.core.now c.args.line c.run_analysis.new.core began.0 = rw (c.in-Analyse.is) began.1 in
-    (began.0, whole _ _ _ began.0 said, began.2)
+    (began.0, whole _ _ _ began.0 said, kept_prefix _ _ _ began.0 c.flush.ensures.bytes began.2)
+
+pub returns-in_ok-run_analysis-in-Analyse-clause-outcome : goal.returns-in_ok-run_analysis-in-Analyse-clause-outcome
+returns-in_ok-run_analysis-in-Analyse-clause-outcome g c =
+    rw (c.in-Analyse.is) (kept_outcome (FilesReport c.args.core.now c.in-Analyse.subject c.run_analysis.new.core) _ _ _ _
+    c.flush.ensures.bytes c.in_ok-run_analysis-in-Analyse.ensures.outcome)

@@ -1,8 +1,7 @@
 -- What is printed where a report is filed, and where none is. The moment of a report is one of the journal.
-use Rattle.std.proofs.Common.{◌≡◌, ◌∙◌, ap, inl, inr, length, arith}
+use Rattle.std.proofs.Common.{◌≡◌, ◌∙◌, ap, inl, inr, refl, length, arith}
 use Rattle.ov_net.specs.World.{WorldState}
 use Rattle.ov_snap.proofs.Moments.{moment_within}
-use Rattle.ov_run.specs.Printed.{refused_line}
 use Rattle.ov_run.specs.Running.{PrintsCertificate}
 use Rattle.ov_run.specs.Code.Outcomes.{ShowsCertificate}
 use Rattle.ov_run.proofs.Printing.Ending.{wrote}
@@ -11,7 +10,7 @@ use Rattle.ov_run.proofs.sink_writing.write_certificate.Goals as goal
 
 pub returns-in_default-clause-begun : goal.returns-in_default-clause-begun
 returns-in_default-clause-begun g c =
-    (_, inr (c.in_default.ensures.none, ap refused_line c.number.ensures), c.write_refusal.ensures.prefix)
+    (_, inr (c.in_default.ensures.none, refl), c.write_refusal.ensures.prefix)
 
 pub file_text-requires : goal.file_text-requires
 file_text-requires g c =
@@ -44,12 +43,12 @@ returns-in-Ok-clause-begun g c = (
 pub returns-in-Err-clause-begun : goal.returns-in-Err-clause-begun
 returns-in-Err-clause-begun g c = (
   _,
-  inl (c.in-Some.report.now, c.in-Some.ensures.some, inr (ap refused_line c.number-in-Err.ensures)),
+  inl (c.in-Some.report.now, c.in-Some.ensures.some, inr (refl)),
   c.write_refusal-in-Err.ensures.prefix,
 )
 
 pub returns-in-Err-clause-prints : goal.returns-in-Err-clause-prints
 returns-in-Err-clause-prints g c =
     wrote (PrintsCertificate c.args.core.now c.args.subject.now) _ _ _ c.write_refusal-in-Err.result
-    (inl (c.in-Some.report.now, c.in-Some.ensures.some, inr (ap refused_line c.number-in-Err.ensures)))
+    (inl (c.in-Some.report.now, c.in-Some.ensures.some, inr (refl)))
     c.write_refusal-in-Err.ensures.bytes

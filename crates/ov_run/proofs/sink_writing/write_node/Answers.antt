@@ -1,6 +1,5 @@
 -- A node that is there lives; one that was born and is not there crashed; and one that is not there was never born.
-use Rattle.std.proofs.Common.{ap, inl, inr, refl}
-use Rattle.ov_run.specs.Printed.{refused_line}
+use Rattle.std.proofs.Common.{inl, inr, refl}
 use Rattle.ov_run.specs.Running.{PrintsNode}
 use Rattle.ov_run.specs.Code.Outcomes.{ShowsNode}
 use Rattle.ov_run.proofs.Printing.Ending.{wrote}
@@ -25,34 +24,34 @@ returns-in-Some-clause-begun g c =
 pub returns-in_ok-write_refusal-in-None-clause-prints : goal.returns-in_ok-write_refusal-in-None-clause-prints
 returns-in_ok-write_refusal-in-None-clause-prints g c = (
   _,
-  inr (inr (gone _ (c.if-born.ensures.0 refl) c.in-None.ensures.none, ap refused_line c.number.ensures)),
+  inr (inr (gone _ (c.if-born.ensures.0 refl) c.in-None.ensures.none, refl)),
   c.in_ok-write_refusal-in-None.ensures.bytes,
 )
 
 pub returns-in_ok-write_refusal-in-None-clause-begun : goal.returns-in_ok-write_refusal-in-None-clause-begun
 returns-in_ok-write_refusal-in-None-clause-begun g c = (
   _,
-  inr (inr (gone _ (c.if-born.ensures.0 refl) c.in-None.ensures.none, ap refused_line c.number.ensures)),
+  inr (inr (gone _ (c.if-born.ensures.0 refl) c.in-None.ensures.none, refl)),
   c.write_refusal.ensures.prefix,
 )
 
 pub returns-in_err-write_refusal-in-None-clause-begun : goal.returns-in_err-write_refusal-in-None-clause-begun
 returns-in_err-write_refusal-in-None-clause-begun g c = (
   _,
-  inr (inr (gone _ (c.if-born.ensures.0 refl) c.in-None.ensures.none, ap refused_line c.number.ensures)),
+  inr (inr (gone _ (c.if-born.ensures.0 refl) c.in-None.ensures.none, refl)),
   c.write_refusal.ensures.prefix,
 )
 
 pub returns-in_ok-write_refusal-in-None-2-clause-begun : goal.returns-in_ok-write_refusal-in-None-2-clause-begun
 returns-in_ok-write_refusal-in-None-2-clause-begun g c = (
   _,
-  inr (inl ((λ born. let is = c.if-born.ensures.1 born in absurd cc), ap refused_line c.number-in-None-2.ensures)),
+  inr (inl ((λ born. let is = c.if-born.ensures.1 born in absurd cc), refl)),
   c.write_refusal-in-None-2.ensures.prefix,
 )
 
 pub returns-in_err-write_refusal-in-None-2-clause-begun : goal.returns-in_err-write_refusal-in-None-2-clause-begun
 returns-in_err-write_refusal-in-None-2-clause-begun g c = (
   _,
-  inr (inl ((λ born. let is = c.if-born.ensures.1 born in absurd cc), ap refused_line c.number-in-None-2.ensures)),
+  inr (inl ((λ born. let is = c.if-born.ensures.1 born in absurd cc), refl)),
   c.write_refusal-in-None-2.ensures.prefix,
 )

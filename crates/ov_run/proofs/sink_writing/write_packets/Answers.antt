@@ -1,54 +1,79 @@
--- One packet more, and all of them; and where the writer failed, the packets before it and a prefix of its line.
-use Rattle.std.proofs.Common.{◌≤◌, ◌+◌, ◌++◌, ◌∙◌, string_bytes, subst, length, arith}
+-- One packet more, and all of them; and if the writer failed, the packets before it and a prefix of its line.
+use Rattle.std.proofs.Common.{◌≡◌, ◌+◌, ◌++◌, ◌∷◌, [], ◌∙◌, string_bytes, append_assoc, ap, map, sym, subst, length, arith}
 use Rattle.std.proofs.KnownBytes.{Appends-trans}
-use Rattle.std.proofs.lemmas.List.{take_all}
+use Rattle.std.proofs.lemmas.List.{length-append, map-append}
 use Rattle.ov_run.specs.Printed.{packet_line}
 use Rattle.ov_run.specs.Running.{PrintsPackets}
-use Rattle.ov_run.proofs.Printing.Ending.{prefix_went}
-use Rattle.ov_run.proofs.Printing.Running.{packets_next}
+use Rattle.ov_run.proofs.Printing.Ending.{all_went, prefix_went}
+use Rattle.ov_run.proofs.Printing.Running.{packets_begun, packets_next}
 use Rattle.ov_run.proofs.sink_writing.write_packets.Goals as goal
 
-pub loop-place-preserved : goal.loop-place-preserved
-loop-place-preserved g c =
-    let said = c.loop-place.invariant.printed in
+pub loop-packet-preserved : goal.loop-packet-preserved
+loop-packet-preserved g c =
+    let before = c.loop-packet.invariant in
+    let packet = c.in-Some.packet.now in
+    let rest = c.next.new.self in
+    let seen = map (λ p. p.now) c.loop-packet.yielded in
+    let more : map (λ p. p.now) (c.loop-packet.yielded ++ c.in-Some.packet ∷ []) ≡ seen ++ packet ∷ [] =
+    map-append _ c.loop-packet.yielded (c.in-Some.packet ∷ []) in
+    let step : c.loop-packet.packet-iterator ≡ packet ∷ rest = c.in-Some.ensures.steps in
+    let said = before.printed in
     let line = c.as_bytes.result.now in
     let line_is = ◌∙◌ {b = string_bytes c.in_ok-line.line}
-    {c = packet_line c.loop-place.place c.to.result c.bytes.result.now} c.as_bytes.ensures.value c.in_ok-line.ensures in
-    let test = c.loop-place-test.true in
+    {c = packet_line c.loop-packet.place c.to.result c.bytes.result.now} c.as_bytes.ensures.value c.in_ok-line.ensures in
+    let long : length (seen ++ packet ∷ []) ≡ length seen + 1 = length-append seen (packet ∷ []) in
+    let at = before.place in
     let failed = c.in_ok-write_all.ensures.faults in
-    let none = c.loop-place.invariant.faults in
+    let none = before.faults in
+    let next = packets_next seen c.loop-packet.place c.to.result packet said.0 c.bytes.result.now line at c.to.ensures
+    c.bytes.ensures line_is said.1 in
     record {
-      within = omega (arith, test);
+      all = ap (λ s. s ++ rest) more ∙ append_assoc seen (packet ∷ []) rest ∙ ap (λ i. seen ++ i) (sym step) ∙ before.all;
+      place = let count : c.loop-packet.place + 1 ≡ length (seen ++ packet ∷ []) = omega (arith, long, at) in
+          count ∙ ap length (sym more);
       printed = (
         said.0 ++ line,
-        packets_next c.args.packets.now c.loop-place.place c.to.result c.index-packets-place.result said.0
-            c.bytes.result.now line test c.index-packets-place.is
-            c.to.ensures c.bytes.ensures line_is said.1,
+        subst (λ ps. PrintsPackets 0 ps (said.0 ++ line)) (sym more) next,
         Appends-trans _ _ _ _ _ said.2 c.in_ok-write_all.ensures.bytes,
       );
       faults = omega (arith, failed, none);
     }
 
-pub returns-in_err-write_all-clause-begun : goal.returns-in_err-write_all-clause-begun
-returns-in_err-write_all-clause-begun g c =
-    let said = c.loop-place.invariant.printed in
-    let line = c.as_bytes.result.now in
-    let line_is = ◌∙◌ {b = string_bytes c.in_ok-line.line}
-    {c = packet_line c.loop-place.place c.to.result c.bytes.result.now} c.as_bytes.ensures.value c.in_ok-line.ensures in
-    let first =
-    packets_next c.args.packets.now c.loop-place.place c.to.result c.index-packets-place.result said.0
-    c.bytes.result.now line c.loop-place-test.true
-    c.index-packets-place.is c.to.ensures c.bytes.ensures line_is said.1 in (
-      said.0 ++ line,
-      (c.loop-place.place + 1, first),
-      prefix_went _ _ _ said.0 line said.2
-          c.in_err-write_all.ensures.prefix,
+pub returns-in_err-line-clause-begun : goal.returns-in_err-line-clause-begun
+returns-in_err-line-clause-begun g c =
+    let before = c.loop-packet.invariant in
+    let said = before.printed in (
+      said.0,
+      packets_begun c.args.packets.now.items (map (λ p. p.now) c.loop-packet.yielded) c.loop-packet.packet-iterator
+          said.0 before.all said.1,
+      all_went _ _ said.0 said.2,
     )
 
-pub returns-clause-prints : goal.returns-clause-prints
-returns-clause-prints g c =
-    let said = c.loop-place.invariant.printed in
-    let place = c.loop-place.place in
-    let test = c.loop-place-test.false in
-    let past : length c.args.packets.now ≤ place = omega (arith, test) in
-    (said.0, subst (λ ps. PrintsPackets 0 ps said.0) (take_all place c.args.packets.now past) said.1, said.2)
+pub returns-in_err-line-clause-memory : goal.returns-in_err-line-clause-memory
+returns-in_err-line-clause-memory g c memory =
+    let before = c.loop-packet.invariant in
+    let said = before.printed in (
+      said.0,
+      packets_begun c.args.packets.now.items (map (λ p. p.now) c.loop-packet.yielded) c.loop-packet.packet-iterator
+          said.0 before.all said.1,
+      said.2,
+    )
+
+pub returns-in_err-write_all-clause-begun : goal.returns-in_err-write_all-clause-begun
+returns-in_err-write_all-clause-begun g c =
+    let before = c.loop-packet.invariant in
+    let packet = c.in-Some.packet.now in
+    let rest = c.next.new.self in
+    let seen = map (λ p. p.now) c.loop-packet.yielded in
+    let step : c.loop-packet.packet-iterator ≡ packet ∷ rest = c.in-Some.ensures.steps in
+    let said = before.printed in
+    let line = c.as_bytes.result.now in
+    let line_is = ◌∙◌ {b = string_bytes c.in_ok-line.line}
+    {c = packet_line c.loop-packet.place c.to.result c.bytes.result.now} c.as_bytes.ensures.value c.in_ok-line.ensures in
+    let next = packets_next seen c.loop-packet.place c.to.result packet said.0 c.bytes.result.now line before.place
+    c.to.ensures c.bytes.ensures line_is said.1 in
+    let all = append_assoc seen (packet ∷ []) rest ∙ ap (λ i. seen ++ i) (sym step) ∙ before.all in (
+      said.0 ++ line,
+      packets_begun c.args.packets.now.items (seen ++ packet ∷ []) rest (said.0 ++ line) all next,
+      prefix_went _ _ _ said.0 line said.2 c.in_err-write_all.ensures.prefix,
+    )

@@ -1,0 +1,10 @@
+/// What the analysis of a graph file printed.
+#[derive(Clone, Copy, Debug, PartialEq, Eq)]
+pub enum Answered {
+    /// The line of a report, and the certificate file if that is asked for.
+    Report,
+    /// A refusal, since the graph has no nodes (30).
+    NoNodes,
+    /// A refusal, since the ids are no group of the nodes (34).
+    BadGroup,
+}
