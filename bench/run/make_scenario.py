@@ -13,11 +13,11 @@ import random
 import sys
 
 # After the births: so many deliveries, then so many shuffles and so many repetitions, again and again.
-DELIVERIES = 95
-SHUFFLES = 3
+DELIVERIES = 97
+SHUFFLES = 1
 REPETITIONS = 1
 # A broadcast comes after so many deliveries for each node.
-DELIVERIES_PER_NODE = 0.5
+DELIVERIES_PER_NODE = 0.25
 # So many deliveries come after a birth.
 DELIVERIES_AFTER_BIRTH = 6
 

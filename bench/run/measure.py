@@ -20,7 +20,7 @@ RUNS = 7
 SCENARIOS = {
     "65,000 events, 200 nodes, 95 of 100 deliver": [sys.executable, HERE / "make_scenario.py", "65000", "200"],
     "65,000 events, 200 nodes, a bag that fills": [sys.executable, HERE.parent / "net" / "scenario.py", "200", "65000"],
-    "58,000 times lose 0, from a bag nearly full": [sys.executable, HERE / "full_bag.py"],
+    "55,000 times lose 0, from a bag nearly full": [sys.executable, HERE / "full_bag.py"],
     "1,000,000 lines, 65,000 of them events": [sys.executable, HERE / "many_lines.py", "1000000"],
 }
 
