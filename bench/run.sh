@@ -2,10 +2,12 @@
 # run.sh BENCH [FOLDER]: lays the program of bench/BENCH and the crates that it uses into FOLDER, or into a new folder,
 # proves and builds it there, and runs it. Where the bench has the same in plain Rust, that is built too, and runs
 # first. The bench's uses.txt is its program's line in crates.txt; what those crates use is found in the crates.txt of
-# this repository.
+# this repository. With UNPROVED=1 nothing is proved, so that it is built in a minute (see build-unproved); with
+# CRATES=CHECKOUT the crates are those of another checkout, so that commits can be compared by one program.
 set -e
 root=$(readlink -f -- "$(dirname -- "$(readlink -f -- "$0")")/..")
 bench=$root/bench/$1
+crates=${CRATES:-$root}
 if [ -z "$1" ] || [ ! -f "$bench/uses.txt" ]; then
     echo 'usage: run.sh crew|net|packets|peer|settle|wire [FOLDER]' >&2
     exit 2
@@ -30,12 +32,12 @@ below() {
         }
         FNR == NR { line[$1] = $0; uses[$1] = $2; next }
         { take($2) }
-    ' "$root/crates.txt" "$1"
+    ' "$crates/crates.txt" "$1"
 }
 
 below "$bench/uses.txt" > "$work/crates.txt"
 for crate in $(cut -d : -f 1 "$work/crates.txt"); do
-    cp -r "$root/crates/$crate" "$work/crates/"
+    cp -r "$crates/crates/$crate" "$work/crates/"
 done
 cat "$bench/uses.txt" >> "$work/crates.txt"
 cp "$bench/bench_$1.rt.txt" "$program/src/main.rt"
@@ -45,7 +47,12 @@ if [ -f "$bench/plain.rs" ]; then
     rustc -O -o "$work/plain" "$bench/plain.rs"
 fi
 cd "$program"
-rt run > "$work/build.log" 2>&1 || { tail -20 "$work/build.log"; exit 1; }
+if [ -n "$UNPROVED" ]; then
+    mkdir -p out
+    "$root/bench/build-unproved" "$work" "bench_$1" "out/bench_$1"
+else
+    rt run > "$work/build.log" 2>&1 || { tail -20 "$work/build.log"; exit 1; }
+fi
 if [ -f "$bench/plain.rs" ]; then
     echo "plain Rust"
     "$work/plain"
