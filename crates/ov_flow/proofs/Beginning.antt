@@ -17,29 +17,38 @@ use Rattle.ov_flow.specs.Code.Walked.{table_of, IsTable}
 use Rattle.ov_flow.proofs.Copying.{held_turned}
 
 -- the table of the paths that are held names only places
-pub flow_table : (n : SplitNetState) (wide : ℕ) (from : List (Option ℕ)) (ends : List ℕ) → IsPlaced n wide
+pub held_table : (n : SplitNetState) (wide : ℕ) (from : List (Option ℕ)) (ends : List ℕ) → IsPlaced n wide
     → length from ≡ wide
-    → IsFlow n (table_of from) ends → IsTable wide from
-flow_table n wide from ends placed long flow = record {
+    → AreHeld n (table_of from) ends → IsTable wide from
+held_table n wide from ends placed long held = record {
   long = long;
   told = λ v u f.
-      let l = linked_sym n.graph u v (flow.held.free v u f).0 in
+      let l = linked_sym n.graph u v (held.free v u f).0 in
       (placed.nodes u).0 (linked_node n.graph v u placed.net.graph l);
 }
 
+pub flow_table : (n : SplitNetState) (wide : ℕ) (from : List (Option ℕ)) (ends : List ℕ) → IsPlaced n wide
+    → length from ≡ wide
+    → IsFlow n (table_of from) ends → IsTable wide from
+flow_table n wide from ends placed long flow = held_table n wide from ends placed long flow.held
+
 -- as the source is no target, there are fewer ends than places
-pub ends_below : (n : SplitNetState) (wide : ℕ) (from : Table) (ends : List ℕ) → IsPlaced n wide → IsFlow n from ends
-    → length ends < wide
-ends_below n wide from ends placed flow =
+pub ends_few : (n : SplitNetState) (wide : ℕ) (from : Table) (ends : List ℕ) → IsPlaced n wide → AreHeld n from ends
+    → ((e : ℕ) → Has ends e → Has n.targets e) → length ends < wide
+ends_few n wide from ends placed held targets =
     let net = placed.net in
     let count = placed.count in
     let b = distinct_length (n.source ∷ ends) n.graph.nodes
-    ((λ h. net.no_target (flow.targets n.source h)), flow.held.distinct)
+    ((λ h. net.no_target (targets n.source h)), held.distinct)
     (λ x h. elim h [
       | inl e ↦ subst (Has n.graph.nodes) e net.source
-      | inr k ↦ net.targets.nodes x (flow.targets x k)
+      | inr k ↦ net.targets.nodes x (targets x k)
     ]) in
     omega (arith, b, count)
+
+pub ends_below : (n : SplitNetState) (wide : ℕ) (from : Table) (ends : List ℕ) → IsPlaced n wide → IsFlow n from ends
+    → length ends < wide
+ends_below n wide from ends placed flow = ends_few n wide from ends placed flow.held flow.targets
 
 -- nothing is held
 pub flow_none : (n : SplitNetState) (from : Table) → ((v : ℕ) → from v ≡ None) → IsFlow n from []

@@ -8,3 +8,4 @@ pub mod Writing
 pub mod Rows
 pub mod FlatPaths
 pub mod Tidying
+pub mod Seeking

@@ -1,8 +1,12 @@
 //! The buffers of a search, and the paths that are held.
 ghost use Rattle.std.specs.Prelude.{◌≡◌, ℕ, ◌<◌, ◌≤◌, [], length, false, IfOk, MatchBool};
 ghost use Rattle.ov_split.specs.SplitNetState.{SplitNetState};
+ghost use Rattle.ov_split.specs.Places.{net_by_place};
+ghost use Rattle.ov_flow.specs.Code.Reached.{IsTreeOf};
 ghost use Rattle.ov_flow.specs.Code.Held.{IsReady, HasWorkRoom, IsWorkOf, IsSame, IsLonger, IsAtEnd};
 
+use crate::layered_walks::take_more;
+use crate::layers::{Layers, new_layers};
 use crate::one_link_paths::take_direct;
 use crate::path_search::search;
 use crate::path_table::{clear, empty_table, replace_paths};
@@ -13,7 +17,7 @@ use ov_split::SplitNet;
 use std::alloc::{AllocError, Global};
 
 /// The tree and the walk of the last search, and the paths that are held: in `from` the place before each place on its
-/// path, and their ends. `next` is a buffer for `from`.
+/// path, and their ends. `next` is a buffer for `from`. `layers` are those of the last search.
 #[derive(Drop)]
 pub(crate) struct Work {
     pub tree: Tree,
@@ -21,6 +25,7 @@ pub(crate) struct Work {
     pub from: Vec<Option<u16>>,
     pub next: Vec<Option<u16>>,
     pub ends: Vec<u16>,
+    pub layers: Layers,
 }
 
 /// Allocates the buffers for nets with this many places. No path is held.
@@ -34,6 +39,7 @@ pub(crate) fn new_work(alloc: Global, places: usize) -> Result<Work, AllocError>
         from: empty_table(alloc, places)?,
         next: empty_table(alloc, places)?,
         ends: Vec::with_capacity(alloc, places)?,
+        layers: new_layers(alloc)?,
     })
 }
 
@@ -54,6 +60,7 @@ pub(crate) fn augment(net: &SplitNet<'_>, work: &mut Work) -> bool
     ensures work { IsWorkOf net.now work.new }
     ensures longer { MatchBool result (IsLonger work.old work.new) (IsSame work.old work.new) }
     ensures end { result ≡ false → IsAtEnd net.now work.new }
+    ensures grown { IsTreeOf (net_by_place net.now) work.new.tree }
 {
     if !search(net, &work.from, &mut work.tree) {
         return false;
@@ -72,7 +79,8 @@ pub(crate) fn augment(net: &SplitNet<'_>, work: &mut Work) -> bool
     true
 }
 
-/// Starts again, and searches for `level` paths. True: this many are held.
+/// Starts again, and searches for `level` paths. After each search that finds one, more walks are taken through its
+/// layers. True: this many are held.
 pub(crate) fn settle(net: &SplitNet<'_>, level: usize, work: &mut Work) -> bool
     requires ready { IsReady net.now }
     requires room { HasWorkRoom (length net.now.graph.nodes) work.old }
@@ -87,6 +95,7 @@ pub(crate) fn settle(net: &SplitNet<'_>, level: usize, work: &mut Work) -> bool
         if !augment(net, work) {
             return false;
         }
+        take_more(net, level, work);
     }
     true
 }

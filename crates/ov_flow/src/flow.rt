@@ -62,9 +62,10 @@ impl<'g> Flow<'g> {
         Augmentation::Stuck(stuck_at(&self.net, &self.work))
     }
 
-    /// Starts again with another net of the same graph, and searches for `level` paths, those of one link and of two
-    /// first. The result is `None` if they are found. Otherwise fewer paths are held, no fan has more, and the result
-    /// is the nearest minimum cut (Menger, Fund. Math. 10, 1927). Nothing is allocated.
+    /// Starts again with another net of the same graph, and searches for `level` paths: first those of one link and of
+    /// two, then many by each search (Even and Tarjan, SIAM J. Comput. 4, 1975). The result is `None` if they are
+    /// found. Otherwise fewer paths are held, no fan has more, and the result is the nearest minimum cut (Menger, Fund.
+    /// Math. 10, 1927). Nothing is allocated.
     pub fn seek(&mut self, net: SplitNet<'g>, level: usize) -> Option<CutRows>
         requires { net.graph ≡ self.old.net.graph }
         ensures net { self.new.net ≡ net.entry }

@@ -5,6 +5,8 @@ mod augmenting_paths;
 mod flat_path_reading;
 mod flat_paths;
 mod flow;
+mod layered_walks;
+mod layers;
 mod one_link_paths;
 mod path_search;
 mod path_table;

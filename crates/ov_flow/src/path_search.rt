@@ -12,7 +12,7 @@ use ov_graph::row::{WORDS, first_from, has, put, without};
 use ov_split::SplitNet;
 
 /// The open end after a link to `w` is taken.
-fn tip(from: &[Option<u16>], w: u16) -> u16
+pub(crate) fn tip(from: &[Option<u16>], w: u16) -> u16
     requires { w < length from.now }
     ensures { result ≡ tip_of (table_of from.now) w }
 {

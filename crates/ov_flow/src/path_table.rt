@@ -74,6 +74,26 @@ fn retrace(net: &SplitNet<'_>, from: &[Option<u16>], next: &mut [Option<u16>], e
     }
 }
 
+/// Reduces the table to the paths to the ends. `next` is a buffer for it.
+pub(crate) fn keep_paths(
+    net: &SplitNet<'_>,
+    from: &mut Vec<Option<u16>>,
+    next: &mut Vec<Option<u16>>,
+    ends: &[u16],
+)
+    requires ready { IsReady net.now }
+    requires from { length from.old.items ≡ length net.now.graph.nodes }
+    requires next { length next.old.items ≡ length net.now.graph.nodes }
+    requires held { AreHeld (net_by_place net.now) (table_of from.old.items) ends.now }
+    requires targets { (e : ℕ) → Has ends.now e → Has (net_by_place net.now).targets e }
+    ensures flow { IsFlow (net_by_place net.now) (table_of from.new.items) ends.now }
+    ensures from { length from.new.items ≡ length from.old.items }
+    ensures next { length next.new.items ≡ length next.old.items }
+{
+    retrace(net, from, next, ends);
+    std::mem::swap(from, next);
+}
+
 /// Takes a walk to one more end. A walk that meets paths may leave cycles in the table. Then only the paths are kept.
 pub(crate) fn replace_paths(
     net: &SplitNet<'_>,
@@ -96,6 +116,5 @@ pub(crate) fn replace_paths(
     if take_hops(net, from, hops, target) {
         return;
     }
-    retrace(net, from, next, ends);
-    std::mem::swap(from, next);
+    keep_paths(net, from, next, ends);
 }

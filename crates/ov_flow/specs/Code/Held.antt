@@ -3,7 +3,7 @@ use Rattle.std.specs.Prelude.{◌≡◌, ℕ, ◌+◌, ◌<◌, ◌≤◌, lengt
 use Rattle.ov_ids.specs.Members.{Has}
 use Rattle.ov_graph.specs.Links.{Linked}
 use Rattle.ov_split.specs.SplitNetState.{SplitNetState}
-use Rattle.ov_split.specs.Code.Residual.{Table, IsFree, IsFlow}
+use Rattle.ov_split.specs.Code.Residual.{Table, IsFree, AreHeld, IsFlow}
 use Rattle.ov_split.specs.Places.{net_by_place}
 use Rattle.ov_split.specs.Placed.{IsPlaced}
 use Rattle.ov_flow.specs.Code.Reached.{IsGrown, IsSwept}
@@ -40,6 +40,12 @@ Holds n w = IsFlow (net_by_place n) (table_of w.from.items) w.ends.items
 pub record IsWorkOf (n : SplitNetState) (w : Work) : Type 0 where
   pub room : HasWorkRoom (length n.graph.nodes) w
   pub flow : Holds n w
+
+-- the same, but the table may have cycles beside the paths
+pub record IsOpenWorkOf (n : SplitNetState) (w : Work) : Type 0 where
+  pub room : HasWorkRoom (length n.graph.nodes) w
+  pub held : AreHeld (net_by_place n) (table_of w.from.items) w.ends.items
+  pub targets : (e : ℕ) → Has w.ends.items e → Has (net_by_place n).targets e
 
 -- each path that is held has one link: a path comes only to targets that the source is linked to
 abbrev pub IsOneLinkEach : SplitNetState → Work → Type 0

@@ -63,6 +63,10 @@ pub record IsGrownBy (n : SplitNetState) (from : Table) (order parents : List �
 abbrev pub IsGrown : SplitNetState → Table → Tree → Type 0
 IsGrown n from t = IsGrownBy n from t.order.items t.parents.items t.ways.items t.reached t.seen
 
+-- the tree of a search, by some table
+abbrev pub IsTreeOf : SplitNetState → Tree → Type 0
+IsTreeOf n t = (from : Table) × IsGrown n from t
+
 -- xs is a prefix of ys
 abbrev pub Extends : List ℕ → List ℕ → Type 0
 Extends xs ys = (length xs ≤ length ys) × ((k : ℕ) → k < length xs → slice_index ys k ≡ slice_index xs k)

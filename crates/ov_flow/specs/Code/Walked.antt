@@ -2,6 +2,7 @@
 use Rattle.std.specs.Prelude.{◌≡◌, ℕ, ◌<◌, List, [], ◌∷◌, ◌++◌, length, get_or, reverse, Option, Some, None}
 use Rattle.ov_ids.specs.Members.{Has, IsDistinct}
 use Rattle.ov_graph.specs.Joined.{Leads}
+use Rattle.ov_graph.specs.Row.{HasBit}
 use Rattle.ov_split.specs.SplitNetState.{SplitNetState}
 use Rattle.ov_split.specs.Code.Residual.{Table, IsFlow}
 use Rattle.ov_flow.specs.Code.Reached.{IsStepBy}
@@ -30,6 +31,17 @@ Goes n from x (h ∷ hops) t = IsStepBy n from x h.node h.way × Goes n from h.n
 pub record IsWalkBy (n : SplitNetState) (from : Table) (hops : List Hop) (t : ℕ) : Type 0 where
   pub goes : Goes n from n.source hops t
   pub distinct : IsDistinct (n.source ∷ nodes_of hops)
+
+-- the node to which steps from x lead
+abbrev pub end_of : ℕ → List Hop → ℕ
+end_of x [] = x
+end_of x (h ∷ hops) = end_of h.node hops
+
+-- a step from x to a node that is not visited
+pub record IsNextHop (n : SplitNetState) (from : Table) (x : ℕ) (visited : List ℕ) (hop : Hop) : Type 0 where
+  pub step : IsStepBy n from x hop.node hop.way
+  pub node : Has n.graph.nodes hop.node
+  pub fresh : ¬ HasBit visited hop.node
 
 -- `path` is the path from the source to e in the table, without the source
 abbrev pub IsTraced : SplitNetState → Table → ℕ → List ℕ → Type 0

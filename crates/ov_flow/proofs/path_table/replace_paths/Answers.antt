@@ -8,8 +8,8 @@ use Rattle.ov_flow.proofs.Copying.{held_turned}
 use Rattle.ov_flow.proofs.Tidying.{targets_turned, open_before, flow_turned}
 use Rattle.ov_flow.proofs.path_table.replace_paths.Goals as goal
 
-pub retrace-requires-clause-held : goal.retrace-requires-clause-held
-retrace-requires-clause-held c =
+pub keep_paths-requires-clause-held : goal.keep_paths-requires-clause-held
+keep_paths-requires-clause-held c =
     let n = net_by_place c.args.net.now in
     let target = c.args.target in
     let ends = c.args.ends.now in
@@ -19,14 +19,13 @@ retrace-requires-clause-held c =
     subst (λ (l : List (Option ℕ)). IsFlowBefore n (table_of l) ends target) (sym c.deref_mut.ensures.value)
     c.requires.flow in
     let long : length new ≡ c.args.from.now.len = c.take_hops.auto.from ∙ c.deref_mut.ensures.len in
-    let is : c.deref.result.now ≡ new = c.deref.ensures.value
-    ∙ take_at new (drop (length new) c.args.from.now.items) c.args.from.now.len long in
+    let is = take_at new (drop (length new) c.args.from.now.items) c.args.from.now.len long in
     subst (λ (l : List (Option ℕ)). AreHeld n (table_of l) ends) (sym is)
     (subst (AreHeld n (table_of new)) (sym b.is) (held_turned n (table_of new) target b.before
     (c.take_hops.ensures.held b.before (open_before n c.requires.ready.net (table_of old) ends target b))))
 
-pub retrace-requires-clause-targets : goal.retrace-requires-clause-targets
-retrace-requires-clause-targets c =
+pub keep_paths-requires-clause-targets : goal.keep_paths-requires-clause-targets
+keep_paths-requires-clause-targets c =
     targets_turned (net_by_place c.args.net.now) (table_of c.args.from.now.items) c.args.ends.now c.args.target
     c.requires.flow c.requires.target
 
