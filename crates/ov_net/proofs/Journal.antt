@@ -3,3 +3,4 @@ pub mod After
 pub mod Tracked
 pub mod Outcomes
 pub mod Telling
+pub mod Resting

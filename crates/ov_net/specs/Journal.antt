@@ -1,7 +1,7 @@
 -- The journal of a world, and what its first m entries say: who was alive then, whom each node held in its active
 -- view, and which links both ends held. Entries are numbered from 1, so entry m is the last of the first m. Defined
 -- here, over the active views of HyParView (Leitão, Pereira, Rodrigues, DSN 2007).
-use Rattle.std.specs.Prelude.{◌≡◌, ◌≢◌, ◌↔◌, ◌⊎◌, ℕ, ◌≤◌, List, [], ◌∷◌, ◌++◌, take, slice_get, Some}
+use Rattle.std.specs.Prelude.{◌≡◌, ◌≢◌, ◌↔◌, ◌⊎◌, ℕ, ◌+◌, ◌≤◌, List, [], ◌∷◌, ◌++◌, length, take, slice_get, Some}
 use Rattle.ov_ids.specs.Members.{Has}
 use Rattle.ov_ids.specs.declared.id.MsgId.{MsgId}
 use Rattle.ov_graph.specs.Links.{LinkGraph, IsGraph, Linked}
@@ -55,6 +55,23 @@ pub record AreLinks (journal : List Entry) (m : ℕ) (g : LinkGraph) : Type 0 wh
   pub graph : IsGraph g
   pub nodes : (a : ℕ) → Has g.nodes a ↔ Live journal m a
   pub links : (a b : ℕ) → Linked g a b ↔ HoldMutually journal m a b
+
+-- entry n tells a change: a birth, a crash, or a change of an active view
+pub record TellsChange (journal : List Entry) (n : ℕ) : Type 0 where
+  pub early : List Entry
+  pub entry : Entry
+  pub late : List Entry
+  pub parts : journal ≡ early ++ entry ∷ late
+  pub number : n ≡ length early + 1
+  pub tells : entry.changes ≢ []
+
+-- the links have been the same ones since entry `since`, which tells a change, or always if that is 0: the links of
+-- each moment from it on are those of now
+pub record AreSameSince (journal : List Entry) (since : ℕ) : Type 0 where
+  pub within : since ≤ length journal
+  pub told : (since ≡ 0) ⊎ TellsChange journal since
+  pub links : (m : ℕ) (g : LinkGraph) → since ≤ m → m ≤ length journal → AreLinks journal m g
+      → AreLinks journal (length journal) g
 
 -- at the entry e node n delivers the message with this id and payload
 abbrev pub Delivers : Entry → ℕ → MsgId → List ℕ → Type 0

@@ -1,7 +1,7 @@
-ghost use Rattle.std.specs.Prelude.{IfOk, IfErr, length};
+ghost use Rattle.std.specs.Prelude.{IfOk, IfErr, OnOk, Some, length};
 ghost use Rattle.ov_net.specs.Code.Refusals.{fault_in, IsAbsent};
 ghost use Rattle.ov_net.specs.Net.{LivesAs, IsGone};
-ghost use Rattle.ov_net.specs.Refusals.{EventJudged, StepJudged, BirthLast, PlacesLast};
+ghost use Rattle.ov_net.specs.Refusals.{EventJudged, StepJudged, MayHappen, BirthLast, PlacesLast};
 ghost use Rattle.ov_net.specs.declared.event.Event.TheVariants.{Boot, Deliver, Lose, Crash};
 ghost use Rattle.ov_net.specs.declared.event.Event.TheVariants.{CrashReport, Shuffle, Broadcast, Timer};
 
@@ -14,9 +14,11 @@ use ov_peer::{MOST_BROADCASTS, Peer};
 use ov_wire::MOST_PAYLOAD;
 
 impl World {
-    /// The first applicable refusal of an event, but out of memory.
-    pub(crate) fn judge(&self, event: &Event) -> Result<(), NetFault>
-        ensures { StepJudged self.now.net (length self.now.journal) event.now (fault_in result) }
+    /// The first applicable refusal (10 to 20) of an event, but out of memory. Nothing changes. If none applies, the
+    /// same event may next end in out of memory (99) only.
+    pub fn judge(&self, event: &Event) -> Result<(), NetFault>
+        ensures ok { OnOk result (MayHappen self.now.net (length self.now.journal) event.now) }
+        ensures err { IfErr result (λ f. StepJudged self.now.net (length self.now.journal) event.now (Some f)) }
     {
         if self.journal.len() >= MOST_ENTRIES {
             return Err(NetFault::TooManyEntries);

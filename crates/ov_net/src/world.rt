@@ -1,11 +1,11 @@
-ghost use Rattle.std.specs.Prelude.{◌≡◌, ◌≤◌, ◌<◌, ◌+◌, ◌++◌, [], ◌∷◌, ◌↔◌, length, vec_len, vec_capacity};
+ghost use Rattle.std.specs.Prelude.{◌≡◌, ◌≢◌, ◌≤◌, ◌<◌, ◌+◌, ◌++◌, ◌⊎◌, [], ◌∷◌, ◌↔◌, length, vec_len, vec_capacity};
 ghost use Rattle.std.specs.Prelude.{IfOk, IfErr, IfSome, IfNone, OnOk, OnErr, IsTrue};
 ghost use Rattle.ov_graph.specs.Links.{IsGraph};
 ghost use Rattle.ov_peer.specs.PeerState.{PeerState};
 ghost use Rattle.ov_net.specs.Code.Effects.{AreEffects, HaveRoom, IsWithin, taking};
 ghost use Rattle.ov_net.specs.Code.Effects.{NamedCanChange, NamedNodeChanges};
 ghost use Rattle.ov_net.specs.Code.LinkChanges.{Gains, MayGain, newborn_of};
-ghost use Rattle.ov_net.specs.Journal.{AreLinks, DeliversOnce};
+ghost use Rattle.ov_net.specs.Journal.{AreLinks, AreSameSince, DeliversOnce};
 ghost use Rattle.ov_net.specs.Limits.{most_packets, most_entries};
 ghost use Rattle.ov_net.specs.Net.{LivesAs};
 ghost use Rattle.ov_net.specs.NetStep.{NetStep};
@@ -48,6 +48,8 @@ pub struct World {
     pub(crate) packets: BlockList<Packet>,
     pub(crate) journal: Vec<Entry>,
     pub(crate) graph: Graph,
+    /// The number of the last entry that told a change, or 0.
+    pub(crate) since: u32,
 }
 
 impl Drop for World {
@@ -60,6 +62,7 @@ impl Drop for World {
             packets: _,
             journal: _,
             graph: _,
+            since: _,
         } = self;
     }
 }
@@ -75,10 +78,11 @@ impl Model for World {
     ghost view = { λ a. world_of a.params a.nodes a.packets.items a.journal.items };
 
     ghost use Rattle.std.specs.Prelude.{length};
-    ghost use Rattle.ov_net.specs.Journal.{AreLinks};
+    ghost use Rattle.ov_net.specs.Journal.{AreLinks, AreSameSince};
 
     ghost invariant = { λ a. Stands (world_of a.params a.nodes a.packets.items a.journal.items)
-        × AreLinks a.journal.items (length a.journal.items) a.graph };
+        × AreLinks a.journal.items (length a.journal.items) a.graph
+        × AreSameSince a.journal.items a.since };
 }
 
 impl World {
@@ -93,6 +97,7 @@ impl World {
             packets: BlockList::new(alloc),
             journal: Vec::new(alloc),
             graph: Graph::empty(alloc),
+            since: 0,
         }
     }
 
@@ -120,6 +125,14 @@ impl World {
         ensures { IfOk result (λ g. AreLinks self.now.journal (length self.now.journal) g) }
     {
         self.graph.copy()
+    }
+
+    /// The number of the entry since which the links are the same ones, or 0 if they were never others. Chosen here: it
+    /// is the last entry that told a change.
+    pub fn links_since(&self) -> u32
+        ensures { AreSameSince self.now.journal result }
+    {
+        self.since
     }
 
     /// The packets on their way, the oldest first. There are at most 65,536.
@@ -202,6 +215,7 @@ impl World {
         )?;
         change_graph(&mut self.graph, &self.nodes, told.changes.as_slice());
         update_packets(&mut self.packets, taken, packets);
+        self.since = since_after(self.since, &told, number);
         self.journal.push_reserved(told.entry(number, words));
         Ok(answer.entry(number, words))
     }
@@ -291,6 +305,17 @@ fn next_number(journal: &[Entry]) -> u32
     ensures { result ≡ length journal.now + 1 }
 {
     journal.len() as u32 + 1
+}
+
+/// The number of the last entry that told a change, after one more entry, which tells this and has this number.
+fn since_after(before: u32, told: &Told, number: u32) -> u32
+    ensures { ((told.now.changes ≡ []) × (result ≡ before)) ⊎ ((told.now.changes ≢ []) × (result ≡ number)) }
+{
+    if told.changes.as_slice().is_empty() {
+        before
+    } else {
+        number
+    }
 }
 
 /// Changes the named node, if there is one. Out of memory, nothing changes.

@@ -5,6 +5,7 @@ use Rattle.ov_net.specs.Code.LinkChanges.{AreChanged, Fit}
 use Rattle.ov_net.specs.Net.{Net}
 use Rattle.ov_net.specs.declared.journal_entry_and_changes.Change.{Change}
 use Rattle.ov_net.specs.declared.journal_entry_and_changes.Entry.{Entry}
+use Rattle.ov_net.proofs.Journal.Resting.{same_after}
 use Rattle.ov_net.proofs.Links.Kept.{fit_after, live_after}
 use Rattle.ov_net.proofs.Standing.{graph_after, graph_next, may_gain, stands_next}
 use Rattle.ov_net.proofs.world.World.apply.Goals as goal
@@ -64,18 +65,21 @@ invariant_of-self-2 c =
       nodes = nodes;
       packets = c.update_packets.new.packets.items;
     } in
+    let journal = c.push_reserved.ensures.items
+    ∙ ap (λ v. v ++ c.entry.result ∷ []) c.in_ok-answer.ensures.journal
+    ∙ ap (λ (e : Entry). before.journal.items ++ e ∷ []) c.entry.ensures in
+    let numbered = c.next_number-number.ensures ∙ ap (λ v. length v + 1) c.deref.ensures.value in
     let stands = stands_next seen c.args.self.now c.args.event c.args.words.now effects entry later
     c.push_reserved.new.self.items c.self.view_is c.self.invariant.0 c.requires.judged c.requires.effects
     c.requires.few
-    (refl, refl, refl, refl, (c.next_number-number.ensures ∙ ap (λ v. length v + 1) c.deref.ensures.value))
+    (refl, refl, refl, refl, numbered)
     (record {
       params = refl;
       nodes = c.in_ok-answer.ensures.ok;
       packets = c.update_packets.ensures
           ∙ ap (λ v. taking effects.taken v ++ effects.packets.items) c.in_ok-answer.ensures.packets;
     })
-    (c.push_reserved.ensures.items ∙ ap (λ v. v ++ c.entry.result ∷ []) c.in_ok-answer.ensures.journal
-    ∙ ap (λ (e : Entry). before.journal.items ++ e ∷ []) c.entry.ensures) in
+    journal in
     let after = graph_after seen c.args.self.now c.args.event c.args.words.now effects nodes before.graph g
     c.self.view_is c.self.invariant.0 c.self.invariant.1 c.requires.effects c.in_ok-answer.ensures.ok
     c.in_ok-answer.ensures.gains c.in_ok-answer.ensures.graph in (
@@ -84,4 +88,7 @@ invariant_of-self-2 c =
           (subst (λ (changes : List Change). AreChanged nodes changes g c.change_graph.new.graph) c.as_slice.ensures
           c.change_graph.ensures) before.params c.update_packets.new.packets.items c.push_reserved.new.self.items
           stands,
+      same_after before.journal.items c.push_reserved.new.self.items entry before.since
+          c.since_after-self-inside.result c.next_number-number.result journal numbered
+          c.since_after-self-inside.ensures c.self.invariant.2,
     )

@@ -1,3 +1,4 @@
+use Rattle.ov_net.proofs.Journal.Resting.{same_begun}
 use Rattle.ov_net.proofs.Standing.{links_begun, stands_new}
 use Rattle.ov_net.proofs.world.World.new.Goals as goal
 
@@ -6,4 +7,5 @@ invariant_of-result c = (
   stands_new c.args.params c.new.result c.new-2.result.items c.new-3.result.items c.new.ensures c.new-2.ensures.items
       c.new-3.ensures.items,
   links_begun c.new-3.result.items c.empty.result c.new-3.ensures.items c.empty.ensures,
+  same_begun c.new-3.result.items c.new-3.ensures.items,
 )
