@@ -11,7 +11,7 @@ use Rattle.ov_ids.proofs.Stepping.{step_none}
 use Rattle.ov_graph.specs.Links.{LinkGraph}
 use Rattle.ov_cert.specs.Valid.{IsValidForGroup}
 use Rattle.ov_cert.proofs.Validity.Exact.{valid_means}
-use Rattle.ov_net.specs.Journal.{AreLinks}
+use Rattle.ov_net.specs.Journal.{AreLinks, AreSameSince}
 use Rattle.ov_net.specs.declared.journal_entry_and_changes.Entry.{Entry}
 use Rattle.ov_net.specs.declared.event.Event.{Event}
 use Rattle.ov_net.specs.declared.event.Event.TheVariants as event
@@ -20,7 +20,9 @@ use Rattle.ov_net.specs.Refusals.{StepJudged}
 use Rattle.ov_net.specs.declared.fault.NetFault.{NetFault}
 use Rattle.ov_net.specs.World.{WorldState, opening_world}
 use Rattle.ov_net.proofs.Links.OneGraph.{links_one}
+use Rattle.ov_net.proofs.Journal.Resting.{links_rest}
 use Rattle.ov_net.proofs.Journal.Telling.{links_stay}
+use Rattle.ov_net.proofs.Steps.Places.{has_at}
 use Rattle.ov_desk.specs.Desk.{GroupDeskState}
 use Rattle.ov_snap.specs.CoreState.{CoreState, HasReport, HasReportOfAll, IsDeskOf, IsSound}
 use Rattle.ov_snap.specs.CoreState.{most_desks, opening_core}
@@ -33,7 +35,6 @@ use Rattle.ov_snap.specs.Snapshots.{AreSnapshots, IsMoment, IsSnapshot, Snapshot
 use Rattle.ov_snap.specs.declared.fault.CoreFault.{CoreFault}
 use Rattle.ov_snap.specs.declared.fault.CoreFault.TheVariants.{NoSuchMoment, OtherGraph, AlreadyFiled}
 use Rattle.ov_snap.specs.declared.kept_snapshots.Snapshot.{Snapshot}
-use Rattle.ov_snap.proofs.Resting.{links_rest}
 use Rattle.ov_snap.proofs.Moments.{moment_cases, moment_new, moment_stays, moment_within, ordered_more}
 
 no_moment : (m : ℕ) → ¬ IsMoment [] m
@@ -277,6 +278,20 @@ filed_sound b u r reports same sound valid judged is = sound_filed b r _ sound (
   valid = valid;
   reports = ap (λ (l : List ReportState). record b { reports = l }) is;
 })
+
+-- the links of a kept snapshot are those of now, if they are the same ones since its moment. So are those that share
+-- its graph
+pub links_shared : {E : Type 0} (b u : CoreState) (kept : List Snapshot) (i since : ℕ) (s : Snapshot)
+    (shared : Result LinkGraph E) → b ≡ u → IsSound b → kept ≡ b.snapshots → Some s ≡ slice_get kept i
+    → since ≤ s.moment → AreSameSince b.world.journal since → IfOk shared (λ g. g ≡ s.graph)
+    → IfOk shared (λ g. AreLinks u.world.journal (length u.world.journal) g)
+links_shared b u kept i since s (Ok g) seen sound are at from same is =
+    let has = subst (λ (l : List Snapshot). Has l s) are (has_at kept i s (sym at)) in
+    let own = same.links s.moment s.graph from (moment_within b.world.journal s.moment (sound.snapshots.moments s has))
+    (sound.snapshots.links s has) in
+    subst (λ (x : CoreState). AreLinks x.world.journal (length x.world.journal) g) seen
+    (subst (AreLinks b.world.journal (length b.world.journal)) (sym is) own)
+links_shared b u kept i since s (Err f) seen sound are at from same is = tt
 
 -- a snapshot event, whose links were taken before it
 pub snapshot_happened : (b : CoreState) (words : List ℕ) (e : Entry) (world : WorldState) (g : LinkGraph)

@@ -1,5 +1,4 @@
 pub mod Moments
-pub mod Resting
 pub mod Finding
 pub mod Indexing
 pub mod Refusing

@@ -129,18 +129,20 @@ impl Core {
         Ok(entry)
     }
 
-    /// The links that both ends hold now. If they are those of the last snapshot, its graph is shared, and otherwise
-    /// the world's is copied.
+    /// The links that both ends hold now. If they are those of the last snapshot, its graph is shared, and otherwise the
+    /// world's is copied. If no change was told since that snapshot, the graphs need not be compared.
     fn links_now(&self) -> Result<SharedGraph, OutOfMemory>
         ensures { IfOk result (λ g. AreLinks self.now.world.journal (length self.now.world.journal) g) }
     {
-        let graph = self.world.graph();
         if let Some(last) = self.snapshots.last() {
-            if last.graph.is_same(graph) {
+            if last.moment >= self.world.links_since() {
+                return last.graph.share();
+            }
+            if last.graph.is_same(self.world.graph()) {
                 return last.graph.share();
             }
         }
-        SharedGraph::new(*self.snapshots.allocator(), graph.copy()?)
+        SharedGraph::new(*self.snapshots.allocator(), self.world.links()?)
     }
 
     /// What an analysis of all nodes of this moment is given. Its graph is that of the snapshot, shared and not copied.
@@ -182,8 +184,29 @@ impl Core {
         ensures refused { IfErr result (IsRefusedBy out_of_memory (FilingJudged self.old report)) }
         ensures err { OnErr result (self.new ≡ self.old) }
     {
-        self.judge(&report)?;
+        self.judge_report(&report)?;
         self.reports.push(report)?;
+        Ok(())
+    }
+
+    /// The first applicable refusal of filing a report (50, 51, 52, as `file` has them), but out of memory. Nothing
+    /// changes. If none applies, filing the report next may end in out of memory (99) only.
+    pub fn judge_report(&self, report: &Report) -> Result<(), CoreFault>
+        ensures ok { OnOk result (FilingJudged self.now report.now None) }
+        ensures valid { OnOk result (IsValidForGroup report.now.graph report.now.members report.now.cert) }
+        ensures err { IfErr result (λ f. FilingJudged self.now report.now (Some f)) }
+    {
+        let snapshot = self.kept(report.moment())?;
+        let checked = report.checked();
+        if !checked.graph().is_same(&snapshot.graph) {
+            return Err(CoreFault::OtherGraph);
+        }
+        if self
+            .group_report(report.moment(), checked.members())
+            .is_some()
+        {
+            return Err(CoreFault::AlreadyFiled);
+        }
         Ok(())
     }
 
@@ -213,26 +236,6 @@ impl Core {
             return Err(CoreFault::NoNodes);
         }
         Ok(snapshot)
-    }
-
-    /// The first applicable refusal of filing a report, except out of memory.
-    fn judge(&self, report: &Report) -> Result<(), CoreFault>
-        ensures ok { OnOk result (FilingJudged self.now report.now None) }
-        ensures valid { OnOk result (IsValidForGroup report.now.graph report.now.members report.now.cert) }
-        ensures err { IfErr result (λ f. FilingJudged self.now report.now (Some f)) }
-    {
-        let snapshot = self.kept(report.moment())?;
-        let checked = report.checked();
-        if !checked.graph().is_same(&snapshot.graph) {
-            return Err(CoreFault::OtherGraph);
-        }
-        if self
-            .group_report(report.moment(), checked.members())
-            .is_some()
-        {
-            return Err(CoreFault::AlreadyFiled);
-        }
-        Ok(())
     }
 
     /// The report that is filed for this moment and group, if there is one. What it says is true.

@@ -250,7 +250,8 @@ impl Core {
         let snapshot = self.kept(moment)?;
         let checked = own.certificate(&snapshot.graph)?;
         prove!(!checked.members().is_empty());
-        Ok(Report::new(moment, checked))
+        let report = Report::new(*self.desks.allocator(), moment, checked)?;
+        Ok(report)
     }
 
     /// The desk of this number, whose report may be filed, or the first applicable refusal.

@@ -71,7 +71,7 @@ fn report(alloc: Global, moment: u32, is_linked: bool) -> Result<Report, Fail> {
     } else {
         unlinked(alloc)?
     };
-    Ok(Report::new(moment, checked))
+    Ok(Report::new(alloc, moment, checked)?)
 }
 
 /// A moment, whether its report says that nodes 1 and 2 are linked, the fault of filing it, and whether one is filed.

@@ -18,15 +18,15 @@ certificate-requires-clause-sound c =
 pub returns-clause-answer : goal.returns-clause-answer
 returns-clause-answer c =
     let own = c.in_ok-checked.ensures.answer in
-    rw c.new.ensures (rw (own.graph, own.members) own.answer)
+    rw c.in_ok-report.ensures (rw (own.graph, own.members) own.answer)
 
 pub returns-clause-free : goal.returns-clause-free
 returns-clause-free c =
     let own = c.in_ok-own.ensures in
     let checked = c.in_ok-checked.ensures.answer in
     report_free c.args.self.now c.args.desk c.in_ok-own.own.now c.moment-moment.result
-    c.in_ok-snapshot.snapshot.now.graph c.new.result own.has own.judged c.moment-moment.ensures
+    c.in_ok-snapshot.snapshot.now.graph c.in_ok-report.report own.has own.judged c.moment-moment.ensures
     c.in_ok-snapshot.ensures.ok
-    (ap (λ (r : ReportState). r.moment) c.new.ensures)
-    (ap (λ (r : ReportState). r.graph) c.new.ensures ∙ checked.graph ∙ c.deref.ensures)
-    (ap (λ (r : ReportState). r.members) c.new.ensures ∙ checked.members)
+    (ap (λ (r : ReportState). r.moment) c.in_ok-report.ensures)
+    (ap (λ (r : ReportState). r.graph) c.in_ok-report.ensures ∙ checked.graph ∙ c.deref.ensures)
+    (ap (λ (r : ReportState). r.members) c.in_ok-report.ensures ∙ checked.members)

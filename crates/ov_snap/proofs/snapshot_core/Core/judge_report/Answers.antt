@@ -4,7 +4,7 @@ use Rattle.std.proofs.lemmas.Bool.{both_ways}
 use Rattle.ov_graph.specs.Links.{LinkGraph}
 use Rattle.ov_cert.specs.State.{CheckedState}
 use Rattle.ov_snap.proofs.Refusing.{filing_other}
-use Rattle.ov_snap.proofs.snapshot_core.Core.judge.Goals as goal
+use Rattle.ov_snap.proofs.snapshot_core.Core.judge_report.Goals as goal
 
 pub returns-then-not-is_same-clause-err : goal.returns-then-not-is_same-clause-err
 returns-then-not-is_same-clause-err c =
