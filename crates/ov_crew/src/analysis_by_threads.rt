@@ -101,8 +101,17 @@ fn analyse_by<R: Threads + Sync, G: Gate, W: Watcher>(
     if !graph.is_group(group) {
         return Err(AnalyseFault::BadGroup);
     }
-    let hauls = enough(rt, alloc, graph, group, hiring, gate, watcher)?;
-    assembled(rt, alloc, graph, group, &hauls, hiring)
+    let mut hauls = enough(rt, alloc, graph, group, hiring, gate, watcher)?;
+    let answer = assembled(rt, alloc, graph, group, &hauls, hiring);
+    clear_by_crew(rt, &mut hauls, hiring.workers);
+    answer
+}
+
+/// Drops the pieces of these hauls, in as many threads as there are workers. On dense graphs their paths take hundreds
+/// of megabytes.
+fn clear_by_crew<R: Threads + Sync>(rt: &R, hauls: &mut [Haul], workers: Workers) {
+    let clear = |_place: usize, haul: &mut Haul| haul.pieces.clear();
+    thread::for_each_mut(rt, hauls, workers.count() as usize, &clear);
 }
 
 /// Makes the certificate of these hauls. Several threads name its paths.

@@ -4,7 +4,7 @@ use Rattle.ov_even.specs.Hauls.{Suffice}
 use Rattle.ov_even.specs.declared.worker_haul.Haul.{Haul}
 use Rattle.ov_crew.proofs.analysis_by_threads.analyse_by.Goals as goal
 
-pub assembled-requires-clause-suffice : goal.assembled-requires-clause-suffice
-assembled-requires-clause-suffice g c κs within =
+pub assembled-answer-requires-clause-suffice : goal.assembled-answer-requires-clause-suffice
+assembled-answer-requires-clause-suffice g c κs within =
     subst (λ (hauls : List Haul). Suffice c.args.graph.now c.args.group.now hauls) (sym c.deref.ensures.value)
     c.in_ok-hauls.ensures
