@@ -5,4 +5,5 @@ pub mod Judged
 pub mod OneFault
 pub mod OneScenario
 pub mod Outputs
+pub mod Readable
 pub mod Settled

@@ -1,39 +1,86 @@
--- Which lines of a scenario file ask for a line to run, and what is still to run.
-use Rattle.std.specs.Prelude.{◌≡◌, ℕ, Bool, true, false, List, Option, Some, None}
+-- Which lines of a scenario file run, which of these need memory to be read, and what is still to run.
+use Rattle.std.specs.Prelude.{◌≡◌, ℕ, Bool, true, false, List, [], ◌∷◌, Option, Some, None, IsSome, replicate}
 use Rattle.std.specs.List.{filter}
 use Rattle.ov_lines.specs.Lines.{kept_lines}
+use Rattle.ov_net.specs.declared.event.Event.{Event}
+use Rattle.ov_net.specs.declared.event.Event.TheVariants as event
 use Rattle.ov_scenario.specs.Statements.{statement_of}
+use Rattle.ov_words.specs.Stream.{words_per_event}
 use Rattle.ov_scenario.specs.declared.scenario.Line.{Line}
 use Rattle.ov_scenario.specs.declared.scenario.Line.TheVariants as line
+use Rattle.ov_scenario.specs.declared.scenario.Look.{Look}
+use Rattle.ov_scenario.specs.declared.scenario.Look.TheVariants as look
+use Rattle.ov_scenario.specs.declared.scenario.Subject.{Subject}
 use Rattle.ov_scenario.specs.declared.statement.Statement.{Statement}
 use Rattle.ov_scenario.specs.declared.statement.Statement.TheVariants as says
 
--- a line that says this asks for a line to run: it is an event, a look or an analysis
-abbrev pub asks_for_line : Option Statement → Bool
-asks_for_line None = false
-asks_for_line (Some (says.Params numbers)) = false
-asks_for_line (Some (says.Seed seed)) = false
-asks_for_line (Some (says.Words words)) = false
-asks_for_line (Some (says.Event event)) = true
-asks_for_line (Some (says.Look look)) = true
-asks_for_line (Some (says.Analyse subject workers)) = true
+-- a line that says this runs: it is an event, a look or an analysis
+abbrev pub runs : Option Statement → Bool
+runs None = false
+runs (Some (says.Params numbers)) = false
+runs (Some (says.Seed seed)) = false
+runs (Some (says.Words words)) = false
+runs (Some (says.Event event)) = true
+runs (Some (says.Look look)) = true
+runs (Some (says.Analyse subject workers)) = true
 
--- of these lines, each with its number, those that ask for a line to run, in order
-unfoldable pub asking : List (ℕ × List ℕ) → List (ℕ × List ℕ)
-asking lines = filter (λ line. asks_for_line (statement_of line.1)) lines
+-- of these lines, each with its number, those that run, in order
+unfoldable pub those_that_run : List (ℕ × List ℕ) → List (ℕ × List ℕ)
+those_that_run lines = filter (λ line. runs (statement_of line.1)) lines
 
--- the lines of a file that ask for a line to run, in order, each with its number
+-- the lines of a file that run, in order, each with its number
 abbrev pub lines_that_run : List ℕ → List (ℕ × List ℕ)
-lines_that_run bytes = asking (kept_lines bytes)
+lines_that_run bytes = those_that_run (kept_lines bytes)
 
--- a line that says this asks for this line: for this event, whatever its random words, this look or this analysis
-abbrev pub AsksFor : Option Statement → Line → Type 0
-AsksFor (Some (says.Event event)) (line.Event same words) = same ≡ event
-AsksFor (Some (says.Look look)) (line.Look same) = same ≡ look
-AsksFor (Some (says.Analyse subject workers)) (line.Analyse same number) = (same ≡ subject) × (number ≡ workers)
-AsksFor other own = ⊥
+-- this is the line to run of a line that says this: this event, whatever its random words, this look or this analysis
+abbrev pub IsLineOf : Option Statement → Line → Type 0
+IsLineOf (Some (says.Event event)) (line.Event same words) = same ≡ event
+IsLineOf (Some (says.Look look)) (line.Look same) = same ≡ look
+IsLineOf (Some (says.Analyse subject workers)) (line.Analyse same number) = (same ≡ subject) × (number ≡ workers)
+IsLineOf other own = ⊥
 
--- what is still to run: the lines, in order, and the lines of the file that ask for them, one for each, with its number
+-- if this line is an event, its random words are zeros
+abbrev pub HasZeros : Line → Type 0
+HasZeros (line.Event event words) = words ≡ replicate words_per_event 0
+HasZeros other = Unit {0}
+
+-- ---- memory
+
+-- this event has a payload: it is a broadcast
+abbrev pub HasPayload : Event → Type 0
+HasPayload (event.Broadcast node payload) = Unit {0}
+HasPayload other = ⊥
+
+-- this subject has the ids of a group
+abbrev pub HasIds : Subject → Type 0
+HasIds subject = IsSome subject.group
+
+-- this look has the ids of a group: it is a certificate of one
+abbrev pub LookHasIds : Look → Type 0
+LookHasIds (look.Certificate subject) = HasIds subject
+LookHasIds other = ⊥
+
+-- memory is needed to read a line that says this: it has a payload or the ids of a group
+abbrev pub ReadingNeedsMemory : Statement → Type 0
+ReadingNeedsMemory (says.Event event) = HasPayload event
+ReadingNeedsMemory (says.Look look) = LookHasIds look
+ReadingNeedsMemory (says.Analyse subject workers) = HasIds subject
+ReadingNeedsMemory other = ⊥
+
+-- memory is needed to read the line of a file that runs as this line: it has a payload or the ids of a group
+abbrev pub LineNeedsMemory : Line → Type 0
+LineNeedsMemory (line.Event event words) = HasPayload event
+LineNeedsMemory (line.Look look) = LookHasIds look
+LineNeedsMemory (line.Analyse subject workers) = HasIds subject
+
+-- memory is needed to read the line of a file that runs as the first of these lines
+abbrev pub FirstNeedsMemory : List Line → Type 0
+FirstNeedsMemory [] = ⊥
+FirstNeedsMemory (line ∷ more) = LineNeedsMemory line
+
+-- ---- what is still to run
+
+-- what is still to run: the lines, in order, and for each the line of the file that runs as this line, with its number
 pub record RunLines : Type 0 where
   pub items : List Line
-  pub places : List (ℕ × List ℕ)
+  pub file_lines : List (ℕ × List ℕ)

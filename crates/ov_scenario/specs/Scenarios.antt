@@ -98,31 +98,31 @@ IsTooLate setting None None f = ⊥
 -- a line that says this is at fault, and this is its fault. These lines are before it and after it
 abbrev pub IsWrong : Before → Option Statement → List Stated → LineFault → Type 0
 -- a line that can't be read; what is wanted, and where, is not said here
-IsWrong before None behind f = (unread : Unread) × (f ≡ fault.Unread unread)
+IsWrong before None after f = (unread : Unread) × (f ≡ fault.Unread unread)
 -- random words that no event follows
-IsWrong before (Some (says.Words words)) behind f =
-    (¬ BeginWithEvent behind) × (f ≡ fault.NoEventNext (first_number behind))
+IsWrong before (Some (says.Words words)) after f =
+    (¬ BeginWithEvent after) × (f ≡ fault.NoEventNext (first_number after))
 -- a seed that comes too late
-IsWrong before (Some (says.Seed seed)) behind f = IsTooLate sets.Seed before.event before.seed f
+IsWrong before (Some (says.Seed seed)) after f = IsTooLate sets.Seed before.event before.seed f
 -- parameters that come too late, or else are out of their limits
-IsWrong before (Some (says.Params numbers)) behind f =
+IsWrong before (Some (says.Params numbers)) after f =
     IsTooLate sets.Params before.event before.params f
     ⊎ ((before.event ≡ None) × (before.params ≡ None) × (¬ AreWithin numbers) × (f ≡ fault.OutOfLimits numbers))
 -- an event, a look and an analysis are never at fault
-IsWrong before (Some (says.Event event)) behind f = ⊥
-IsWrong before (Some (says.Look look)) behind f = ⊥
-IsWrong before (Some (says.Analyse subject workers)) behind f = ⊥
+IsWrong before (Some (says.Event event)) after f = ⊥
+IsWrong before (Some (says.Look look)) after f = ⊥
+IsWrong before (Some (says.Analyse subject workers)) after f = ⊥
 
 -- of these lines, which follow those before, these are at fault, in order: each line has no fault and is passed over,
 -- or it is at fault and listed with its number and its fault
 unfoldable pub AreFaulty : List Stated → List Stated → List FaultyLine → Type 0
 AreFaulty before [] faulty = faulty ≡ []
-AreFaulty before (line ∷ behind) faulty =
-    (((f : LineFault) → ¬ IsWrong (before_of before) line.says behind f)
-    × AreFaulty (before ++ line ∷ []) behind faulty)
+AreFaulty before (line ∷ after) faulty =
+    (((f : LineFault) → ¬ IsWrong (before_of before) line.says after f)
+    × AreFaulty (before ++ line ∷ []) after faulty)
     ⊎ ((f : LineFault) × (later : List FaultyLine)
-    × IsWrong (before_of before) line.says behind f × (faulty ≡ record { line = line.number; fault = f } ∷ later)
-    × AreFaulty (before ++ line ∷ []) behind later)
+    × IsWrong (before_of before) line.says after f × (faulty ≡ record { line = line.number; fault = f } ∷ later)
+    × AreFaulty (before ++ line ∷ []) after later)
 
 -- these are the lines of a file that are at fault, in order
 abbrev pub AreFaultyLines : List ℕ → List FaultyLine → Type 0
@@ -162,26 +162,26 @@ IsSeedOf lines seed =
     ((line : Stated) × Has lines line × (line.says ≡ Some (says.Seed seed)))
     ⊎ ((¬ HasKind says.Seed lines) × (seed ≡ 0))
 
--- lines that say this ask for these lines to run: the events, the looks and the analyses in order, each event with the
--- random words that come right before it, or else with the next of those that were drawn. All that were drawn are used
-unfoldable pub AskFor : List (Option Statement) → List (List ℕ) → List Line → Type 0
-AskFor [] drawn lines = (drawn ≡ []) × (lines ≡ [])
-AskFor (Some (says.Words words) ∷ Some (says.Event event) ∷ more) drawn lines =
-    (later : List Line) × (lines ≡ line.Event event words ∷ later) × AskFor more drawn later
-AskFor (Some (says.Event event) ∷ more) drawn lines =
+-- lines that say this run as these lines: the events, the looks and the analyses in order, each event with the random
+-- words that come right before it, or else with the next of those that were drawn. All that were drawn are used
+unfoldable pub RunAs : List (Option Statement) → List (List ℕ) → List Line → Type 0
+RunAs [] drawn lines = (drawn ≡ []) × (lines ≡ [])
+RunAs (Some (says.Words words) ∷ Some (says.Event event) ∷ more) drawn lines =
+    (later : List Line) × (lines ≡ line.Event event words ∷ later) × RunAs more drawn later
+RunAs (Some (says.Event event) ∷ more) drawn lines =
     (words : List ℕ) × (left : List (List ℕ)) × (later : List Line)
-    × (drawn ≡ words ∷ left) × (lines ≡ line.Event event words ∷ later) × AskFor more left later
-AskFor (Some (says.Look look) ∷ more) drawn lines =
-    (later : List Line) × (lines ≡ line.Look look ∷ later) × AskFor more drawn later
-AskFor (Some (says.Analyse subject workers) ∷ more) drawn lines =
-    (later : List Line) × (lines ≡ line.Analyse subject workers ∷ later) × AskFor more drawn later
-AskFor (other ∷ more) drawn lines = AskFor more drawn lines
+    × (drawn ≡ words ∷ left) × (lines ≡ line.Event event words ∷ later) × RunAs more left later
+RunAs (Some (says.Look look) ∷ more) drawn lines =
+    (later : List Line) × (lines ≡ line.Look look ∷ later) × RunAs more drawn later
+RunAs (Some (says.Analyse subject workers) ∷ more) drawn lines =
+    (later : List Line) × (lines ≡ line.Analyse subject workers ∷ later) × RunAs more drawn later
+RunAs (other ∷ more) drawn lines = RunAs more drawn lines
 
--- these lines ask for these lines to run, with random words that are drawn from the generator of the seed
+-- these lines run as these lines to run, with random words that are drawn from the generator of the seed
 abbrev pub AreToRun : List Stated → ℕ → List Line → Type 0
 AreToRun lines seed to_run =
     (drawn : List (List ℕ)) × (left : Stream) × AreDraws (seeded seed) drawn left
-    × AskFor (map (λ line. line.says) lines) drawn to_run
+    × RunAs (map (λ line. line.says) lines) drawn to_run
 
 -- the bytes of a file say this scenario: no line is at fault, the parameters and the seed are those of the lines, and
 -- the lines ask for those to run

@@ -17,7 +17,7 @@ pub(crate) struct Judging<'a> {
     before: Before,
     /// The line to judge next, if there is one.
     next: Option<Stated<'a>>,
-    behind: KeptLines<'a>,
+    after: KeptLines<'a>,
 }
 
 /// A line that was judged.
@@ -33,7 +33,7 @@ impl<'a> Drop for Judging<'a> {
         let Judging {
             before: _,
             next: _,
-            behind: _,
+            after: _,
         } = self;
     }
 }
@@ -63,13 +63,13 @@ impl<'a> Judging<'a> {
         ensures before { IfOk result (λ judging. judging.before ≡ before_of []) }
         ensures lines { IfOk result (λ judging. left_to_judge judging ≡ stated_lines bytes.now) }
     {
-        let mut behind = KeptLines::new(bytes);
-        let next = state_next(alloc, &mut behind)?;
+        let mut after = KeptLines::new(bytes);
+        let next = state_next(alloc, &mut after)?;
         let before = Before::nothing();
         Ok(Judging {
             before,
             next,
-            behind,
+            after,
         })
     }
 
@@ -77,7 +77,7 @@ impl<'a> Judging<'a> {
     pub(crate) fn next_line(&mut self, alloc: Global) -> Result<Option<Judged<'a>>, OutOfMemory>
         ensures { IfOk result (λ judged. Judges self.old judged self.new) }
     {
-        let next = state_next(alloc, &mut self.behind)?;
+        let next = state_next(alloc, &mut self.after)?;
         let Some(line) = replace(&mut self.next, next) else {
             return Ok(None);
         };

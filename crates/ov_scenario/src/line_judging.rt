@@ -30,15 +30,15 @@ impl Before {
         }
     }
 
-    /// What is wrong with the line after these. The lines `behind` follow it.
-    pub(crate) fn fault_of(&self, line: &Stated, behind: &[Stated]) -> Option<LineFault>
-        ensures { Tells result (λ f. IsWrong self.now line.now.says behind.now f) }
+    /// What is wrong with the line after these. The lines `after` follow it.
+    pub(crate) fn fault_of(&self, line: &Stated, after: &[Stated]) -> Option<LineFault>
+        ensures { Tells result (λ f. IsWrong self.now line.now.says after.now f) }
     {
         match &line.says {
             Err(unread) => Some(LineFault::Unread(*unread)),
             Ok(Statement::Params(numbers)) => self.fault_of_params(*numbers),
             Ok(Statement::Seed(_)) => self.fault_of_setting(Setting::Seed, self.seed),
-            Ok(Statement::Words(_)) => fault_of_words(behind),
+            Ok(Statement::Words(_)) => fault_of_words(after),
             Ok(Statement::Event(_)) => None,
             Ok(Statement::Look(_)) => None,
             Ok(Statement::Analyse { .. }) => None,
@@ -87,13 +87,13 @@ impl Before {
 }
 
 /// What is wrong with random words before these lines.
-fn fault_of_words(behind: &[Stated]) -> Option<LineFault>
-    ensures { Tells result (λ f. (¬ BeginWithEvent behind.now) × (f ≡ fault.NoEventNext (first_number behind.now))) }
+fn fault_of_words(after: &[Stated]) -> Option<LineFault>
+    ensures { Tells result (λ f. (¬ BeginWithEvent after.now) × (f ≡ fault.NoEventNext (first_number after.now))) }
 {
-    if begin_with_event(behind) {
+    if begin_with_event(after) {
         return None;
     }
-    let next = number_of_first(behind);
+    let next = number_of_first(after);
     Some(LineFault::NoEventNext { next })
 }
 

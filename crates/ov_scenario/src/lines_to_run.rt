@@ -1,8 +1,9 @@
 ghost use Rattle.std.specs.Prelude.{◌≡◌, ◌∷◌, [], false, Ok, None, IfOk, IfErr, IfSome, MatchOption};
 ghost use Rattle.ov_scenario.specs.Draws.{seeded};
-ghost use Rattle.ov_scenario.specs.RunLines.{asks_for_line, lines_that_run, AsksFor};
+ghost use Rattle.ov_scenario.specs.RunLines.{lines_that_run, runs, FirstNeedsMemory, HasZeros, IsLineOf};
+ghost use Rattle.ov_scenario.specs.RunLines.{ReadingNeedsMemory};
 ghost use Rattle.ov_scenario.specs.Statements.{statement_of};
-ghost use Rattle.ov_scenario.specs.Code.RunnableLines.{Asks, said, stream_now, to_run};
+ghost use Rattle.ov_scenario.specs.Code.RunnableLines.{AreReadable, TakesLine, said, stream_now, to_run};
 ghost use Rattle.ov_lines.specs.Lines.{kept_lines};
 
 use crate::given_words::GivenWords;
@@ -28,7 +29,7 @@ pub struct LineToRun<'a> {
 
 /// The lines of a scenario file that are still to run: the events, the looks and the analyses in order, each read from
 /// the file's own text as it is taken. Each event has the random words of the line right before it, or else the next
-/// that the seed gives.
+/// that the seed gives. Each line that is left of the file can be read.
 #[derive(Drop)]
 pub struct LinesToRun<'a> {
     left: KeptLines<'a>,
@@ -36,20 +37,24 @@ pub struct LinesToRun<'a> {
 }
 
 impl<'a> Model for LinesToRun<'a> {
-    ghost use Rattle.ov_scenario.specs.RunLines.{RunLines, asking};
-    ghost use Rattle.ov_scenario.specs.Code.RunnableLines.{said, stream_now, to_run};
+    ghost use Rattle.ov_scenario.specs.RunLines.{RunLines, those_that_run};
+    ghost use Rattle.ov_scenario.specs.Code.RunnableLines.{AreReadable, said, stream_now, to_run};
 
     ghost Value = { RunLines };
 
-    ghost view = { λ l. record { items = to_run (stream_now l.draws) (said l.left); places = asking l.left } };
+    ghost view = { λ l.
+        record { items = to_run (stream_now l.draws) (said l.left); file_lines = those_that_run l.left } };
+
+    ghost invariant = { λ l. AreReadable l.left };
 }
 
 impl<'a> LinesToRun<'a> {
-    /// The lines that a file asks to run, with this seed.
-    #[tactic(auto, unfolding(crate::specs::RunLines::asking))]
+    /// The lines that a file asks to run, with this seed. All lines of the file can be read.
+    #[tactic(auto, unfolding(crate::specs::RunLines::those_that_run))]
     pub(crate) fn new(bytes: &'a [u8], seed: u64) -> LinesToRun<'a>
+        requires readable { AreReadable (kept_lines bytes.now) }
         ensures lines { result.items ≡ to_run (seeded seed) (said (kept_lines bytes.now)) }
-        ensures places { result.places ≡ lines_that_run bytes.now }
+        ensures file_lines { result.file_lines ≡ lines_that_run bytes.now }
     {
         LinesToRun {
             left: KeptLines::new(bytes),
@@ -58,15 +63,16 @@ impl<'a> LinesToRun<'a> {
     }
 
     /// Takes the next line to run, if there is one. If an allocation was refused, OutOfMemory (99) is returned, and all
-    /// lines are left as they were.
+    /// lines are left as they were. The next line then has a payload, or the ids of a group.
     pub fn next_line(&mut self, alloc: Global) -> Result<Option<LineToRun<'a>>, OutOfMemory>
         ensures line { IfOk result (λ next. MatchOption next (self.old.items ≡ [])
             (λ l. self.old.items ≡ l.line ∷ self.new.items)) }
-        ensures place { IfOk result (λ next. MatchOption next (self.old.places ≡ [])
-            (λ l. self.old.places ≡ (l.number, l.text.now) ∷ self.new.places)) }
-        ensures asks { IfOk result (λ next. IfSome next (λ l. AsksFor (statement_of l.text.now) l.line)) }
+        ensures file_line { IfOk result (λ next. MatchOption next (self.old.file_lines ≡ [])
+            (λ l. self.old.file_lines ≡ (l.number, l.text.now) ∷ self.new.file_lines)) }
+        ensures says { IfOk result (λ next. IfSome next (λ l. IsLineOf (statement_of l.text.now) l.line)) }
         ensures end { result ≡ Ok None → self.new ≡ self.old }
-        ensures memory { IfErr result (λ _. self.new ≡ self.old) }
+        ensures err { IfErr result (λ _. self.new ≡ self.old) }
+        ensures memory { IfErr result (λ _. FirstNeedsMemory self.old.items) }
     {
         let mut left = self.left.copy();
         let mut given = None;
@@ -88,7 +94,7 @@ fn line_of<'a>(
     given: &mut Option<GivenWords<'a>>,
     draws: &mut SeedWords,
 ) -> Option<Line>
-    ensures { Asks (stream_now draws.old) given.old stated.entry.says result (stream_now draws.new) given.new }
+    ensures { TakesLine (stream_now draws.old) given.old stated.entry.says result (stream_now draws.new) given.new }
 {
     let waiting = given.take();
     match stated.says {
@@ -109,10 +115,13 @@ fn line_of<'a>(
 }
 
 /// The line that a line of a file with this text asks to run, whatever comes before it. The random words of an event
-/// are zeros. None if it asks for no line. OutOfMemory (99) is returned if an allocation was refused.
+/// are zeros. None if it asks for no line. OutOfMemory (99) is returned if an allocation was refused: the line then has
+/// a payload or the ids of a group, or it can't be read.
 pub fn line_asked_by(alloc: Global, text: &[u8]) -> Result<Option<Line>, OutOfMemory>
-    ensures { IfOk result (λ line. MatchOption line (asks_for_line (statement_of text.now) ≡ false)
-        (λ l. AsksFor (statement_of text.now) l)) }
+    ensures line { IfOk result (λ line. MatchOption line (runs (statement_of text.now) ≡ false)
+        (λ l. IsLineOf (statement_of text.now) l)) }
+    ensures zeros { IfOk result (λ line. IfSome line HasZeros) }
+    ensures memory { IfErr result (λ _. IfSome (statement_of text.now) ReadingNeedsMemory) }
 {
     match read_statement(alloc, text) {
         Ok(Statement::Event(event)) => {

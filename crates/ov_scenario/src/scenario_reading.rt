@@ -10,12 +10,12 @@ use crate::scenario_fault::ScenarioFault;
 use crate::whole_run_settings::Settings;
 use std::alloc::Global;
 
-/// Reads a scenario file, whose form is chosen here. All lines are judged, and none is kept: a line to run is read again
-/// from these bytes when it is taken. If a line is at fault, the first one is returned, and its fault has the number (70
-/// or 21). OutOfMemory (99) is returned if an allocation was refused.
+/// Reads a scenario file, whose form is chosen here. All lines are judged, and none is kept: a line to run is read
+/// again from these bytes when it is taken. If a line is at fault, the first one is returned, and its fault has the
+/// number (70 or 21). OutOfMemory (99) is returned if an allocation was refused.
 pub fn read_scenario<'a>(alloc: Global, bytes: &'a [u8]) -> Result<Scenario<'a>, ScenarioFault>
     ensures scenario { IfOk result (λ s. IsScenario bytes.now s) }
-    ensures places { IfOk result (λ s. s.lines.places ≡ lines_that_run bytes.now) }
+    ensures file_lines { IfOk result (λ s. s.lines.file_lines ≡ lines_that_run bytes.now) }
     ensures fault { IfErr result (λ fault. IsReadingFault bytes.now fault) }
 {
     let settings = read_settings(alloc, bytes)?;

@@ -1,6 +1,7 @@
-ghost use Rattle.std.specs.Prelude.{◌≡◌, ◌==◌, ◌++◌, length, map, option_map, is_ok, IfOk, None, Some};
+ghost use Rattle.std.specs.Prelude.{◌≡◌, ◌==◌, ◌++◌, length, map, option_map, is_ok, IfErr, IfOk, IfSome, None, Some};
 ghost use Rattle.std.specs.Result.{result_ok};
 ghost use Rattle.ov_lines.specs.Lines.{words_of, row, two, three};
+ghost use Rattle.ov_scenario.specs.RunLines.{HasIds, HasPayload, ReadingNeedsMemory};
 ghost use Rattle.ov_scenario.specs.Scenarios.{stated_at};
 ghost use Rattle.ov_scenario.specs.Statements.{seven_numbers, crash_report_of, timer_of, boot_of};
 ghost use Rattle.ov_scenario.specs.Statements.{broadcast_of, group_at, subject_at, subject_of, analysis_of};
@@ -136,7 +137,8 @@ pub(crate) fn state<'a>(
     number: usize,
     text: &'a [u8],
 ) -> Result<Stated<'a>, OutOfMemory>
-    ensures { IfOk result (λ stated. stated ≡ stated_at (number, text.now)) }
+    ensures stated { IfOk result (λ stated. stated ≡ stated_at (number, text.now)) }
+    ensures memory { IfErr result (λ _. IfSome (statement_of text.now) ReadingNeedsMemory) }
 {
     let says = match read_statement(alloc, text) {
         Ok(statement) => Ok(statement),
@@ -148,7 +150,7 @@ pub(crate) fn state<'a>(
 
 /// Reads what a line says.
 pub(crate) fn read_statement<'a>(alloc: Global, text: &'a [u8]) -> Result<Statement<'a>, Unstated>
-    ensures { Reads result (statement_of text.now) }
+    ensures { Reads ReadingNeedsMemory result (statement_of text.now) }
 {
     let mut cursor = LineCursor::new(text);
     let unknown = cursor.unread(&[Kind::LineName]);
@@ -165,7 +167,7 @@ fn read_named<'a>(
     unknown: Unread,
     cursor: &mut LineCursor<'a>,
 ) -> Result<Statement<'a>, Unstated>
-    ensures { Reads result (row name.now (line_rows cursor.old (words_of cursor.old)) None) }
+    ensures { Reads ReadingNeedsMemory result (row name.now (line_rows cursor.old (words_of cursor.old)) None) }
 {
     if is_word(name, PARAMS.as_bytes()) {
         return Ok(Statement::Params(read_params(cursor)?));
@@ -186,7 +188,7 @@ fn read_event<'a>(
     unknown: Unread,
     cursor: &mut LineCursor<'a>,
 ) -> Result<Statement<'a>, Unstated>
-    ensures { Reads result
+    ensures { Reads ReadingNeedsMemory result
         (row name.now (event_rows cursor.old (words_of cursor.old) ++ look_rows (words_of cursor.old)) None) }
 {
     if is_word(name, b"boot") {
@@ -232,7 +234,7 @@ fn read_look<'a>(
     unknown: Unread,
     cursor: &mut LineCursor<'a>,
 ) -> Result<Statement<'a>, Unstated>
-    ensures { Reads result (row name.now (look_rows (words_of cursor.old)) None) }
+    ensures { Reads ReadingNeedsMemory result (row name.now (look_rows (words_of cursor.old)) None) }
 {
     if is_word(name, b"analyse") {
         return read_analysis(alloc, cursor);
@@ -264,7 +266,7 @@ fn read_end(cursor: &LineCursor) -> Result<(), Unread>
 
 /// Reads what follows the name `broadcast`: the node, and the payload, which is all bytes after one space.
 fn read_broadcast(alloc: Global, cursor: &mut LineCursor) -> Result<Event, Unstated>
-    ensures { Reads result (broadcast_of cursor.old (words_of cursor.old)) }
+    ensures { Reads HasPayload result (broadcast_of cursor.old (words_of cursor.old)) }
 {
     let node = NodeId::new(cursor.short_number(&[ID])?);
     let payload = Seq::new(Vec::from_slice(alloc, cursor.after_space())?);
@@ -274,7 +276,7 @@ fn read_broadcast(alloc: Global, cursor: &mut LineCursor) -> Result<Event, Unsta
 /// Reads what follows the name `analyse`: the moment, the number of workers if one is named, and the group if one is
 /// named.
 fn read_analysis<'a>(alloc: Global, cursor: &mut LineCursor<'a>) -> Result<Statement<'a>, Unstated>
-    ensures { Reads result (analysis_of (words_of cursor.old)) }
+    ensures { Reads ReadingNeedsMemory result (analysis_of (words_of cursor.old)) }
 {
     let moment = cursor.short_number(MOMENT)?;
     let neither = cursor.unread(&[Kind::Name("workers"), Kind::Name("group"), Kind::End]);
@@ -307,7 +309,7 @@ fn by_one_worker<'a>(subject: Subject) -> Statement<'a>
 
 /// Reads the moment of an analysis, and its group if one is named: `M`, or `M group IDS`.
 fn read_subject(alloc: Global, cursor: &mut LineCursor) -> Result<Subject, Unstated>
-    ensures { Reads result (subject_of (words_of cursor.old)) }
+    ensures { Reads HasIds result (subject_of (words_of cursor.old)) }
 {
     let moment = cursor.short_number(MOMENT)?;
     read_subject_at(alloc, moment, cursor)
@@ -315,7 +317,7 @@ fn read_subject(alloc: Global, cursor: &mut LineCursor) -> Result<Subject, Unsta
 
 /// Reads what follows the moment of an analysis, or its number of workers: nothing, or `group IDS`.
 fn read_subject_at(alloc: Global, moment: u32, cursor: &mut LineCursor) -> Result<Subject, Unstated>
-    ensures { Reads result (subject_at moment (words_of cursor.old)) }
+    ensures { Reads HasIds result (subject_at moment (words_of cursor.old)) }
 {
     if cursor.is_at_end() {
         let group = None;
@@ -327,7 +329,7 @@ fn read_subject_at(alloc: Global, moment: u32, cursor: &mut LineCursor) -> Resul
 
 /// Reads what follows the name `group`: the ids.
 fn read_group(alloc: Global, moment: u32, cursor: &mut LineCursor) -> Result<Subject, Unstated>
-    ensures { Reads result (group_at moment (words_of cursor.old)) }
+    ensures { Reads HasIds result (group_at moment (words_of cursor.old)) }
 {
     let group = Some(Seq::new(cursor.last_ids(alloc)??));
     Ok(Subject { moment, group })

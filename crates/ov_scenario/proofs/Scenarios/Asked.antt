@@ -6,10 +6,11 @@ use Rattle.ov_net.specs.declared.event.Event.{Event}
 use Rattle.ov_words.specs.Stream.{words_per_event}
 use Rattle.ov_lines.specs.Lines.{kept_lines}
 use Rattle.ov_scenario.specs.Draws.{AreDraws, seeded}
-use Rattle.ov_scenario.specs.RunLines.{asks_for_line, asking}
-use Rattle.ov_scenario.specs.Scenarios.{AskFor, AreToRun, stated_at, stated_lines}
+use Rattle.ov_scenario.specs.RunLines.{runs, those_that_run}
+use Rattle.ov_scenario.specs.Scenarios.{RunAs, AreToRun, stated_at, stated_lines}
 use Rattle.ov_scenario.specs.Statements.{statement_of}
-use Rattle.ov_scenario.specs.Code.RunnableLines.{AreEventWords, Asks, later_words, next_words, said, to_run, waiting}
+use Rattle.ov_scenario.specs.Code.RunnableLines.{AreEventWords, TakesLine, later_words, next_words, said, to_run}
+use Rattle.ov_scenario.specs.Code.RunnableLines.{waiting}
 use Rattle.ov_scenario.specs.declared.scenario.Line.{Line}
 use Rattle.ov_scenario.specs.declared.scenario.Line.TheVariants as line
 use Rattle.ov_scenario.specs.declared.scenario.Look.{Look}
@@ -24,8 +25,8 @@ use Rattle.ov_scenario.proofs.Scenarios.Outputs.{are_outputs, count_outputs}
 asked :
     (stream : Stream) (lines : List (Option Statement))
     → (drawn : List (List ℕ)) × (left : Stream) × AreDraws stream drawn left
-    × AskFor lines drawn (to_run stream lines)
-unfolding AskFor to_run
+    × RunAs lines drawn (to_run stream lines)
+unfolding RunAs to_run
 asked stream [] = ([], stream, refl, (refl, refl))
 asked stream (Some (says.Words words) ∷ Some (says.Event event) ∷ more) =
     let (drawn, left, draws, asks) = asked stream more in
@@ -59,8 +60,8 @@ are_to_run bytes seed lines is =
       drawn,
       left,
       draws,
-      subst (λ ls. AskFor ls drawn lines) (says_of (kept_lines bytes))
-          (subst (λ ls. AskFor (said (kept_lines bytes)) drawn ls) (sym is) asks),
+      subst (λ ls. RunAs ls drawn lines) (says_of (kept_lines bytes))
+          (subst (λ ls. RunAs (said (kept_lines bytes)) drawn ls) (sym is) asks),
     )
 
 -- ---- one line
@@ -92,7 +93,7 @@ passes stream (Some given) (Some (says.Event event)) nothing more = absurd nothi
 passes stream (Some given) (Some (says.Look look)) nothing more = absurd nothing
 passes stream (Some given) (Some (says.Analyse subject workers)) nothing more = absurd nothing
 
-none_asked : (says : Option Statement) → AsksNothing says → asks_for_line says ≡ false
+none_asked : (says : Option Statement) → AsksNothing says → runs says ≡ false
 none_asked None nothing = refl
 none_asked (Some (says.Params numbers)) nothing = refl
 none_asked (Some (says.Seed seed)) nothing = refl
@@ -105,16 +106,16 @@ none_asked (Some (says.Analyse subject workers)) nothing = absurd nothing
 pub asks_nothing :
     (stream : Stream) (given left : Option (List ℕ)) (said nothing : Option Statement) → said ≡ nothing
     → AsksNothing nothing → left ≡ None
-    → Asks stream given said None stream left
+    → TakesLine stream given said None stream left
 asks_nothing stream given left said nothing is asks none =
-    subst (λ g. Asks stream given said None stream g) (sym none)
-    (subst (λ s. Asks stream given s None stream None) (sym is)
+    subst (λ g. TakesLine stream given said None stream g) (sym none)
+    (subst (λ s. TakesLine stream given s None stream None) (sym is)
     (refl, none_asked nothing asks, passes stream given nothing asks))
 
 -- random words wait for the next line
 pub asks_words :
     (stream : Stream) (given : Option (List ℕ)) (words : List ℕ)
-    → Asks stream given (Some (says.Words words)) None stream (Some words)
+    → TakesLine stream given (Some (says.Words words)) None stream (Some words)
 unfolding to_run
 asks_words stream None words = (refl, refl, λ more. refl)
 asks_words stream (Some given) words = (refl, refl, λ more. refl)
@@ -122,7 +123,7 @@ asks_words stream (Some given) words = (refl, refl, λ more. refl)
 -- a look
 pub asks_look :
     (stream : Stream) (given left : Option (List ℕ)) (look : Look)
-    → Asks stream given (Some (says.Look look)) (Some (line.Look look)) stream left
+    → TakesLine stream given (Some (says.Look look)) (Some (line.Look look)) stream left
 unfolding to_run
 asks_look stream None left look = (refl, refl, λ more. refl)
 asks_look stream (Some given) left look = (refl, refl, λ more. refl)
@@ -130,7 +131,7 @@ asks_look stream (Some given) left look = (refl, refl, λ more. refl)
 -- an analysis
 pub asks_analysis :
     (stream : Stream) (given left : Option (List ℕ)) (subject : Subject) (workers : ℕ)
-    → Asks stream given (Some (says.Analyse subject workers)) (Some (line.Analyse subject workers)) stream left
+    → TakesLine stream given (Some (says.Analyse subject workers)) (Some (line.Analyse subject workers)) stream left
 unfolding to_run
 asks_analysis stream None left subject workers = ((refl, refl), refl, λ more. refl)
 asks_analysis stream (Some given) left subject workers = ((refl, refl), refl, λ more. refl)
@@ -139,7 +140,7 @@ asks_analysis stream (Some given) left subject workers = ((refl, refl), refl, λ
 pub asks_event :
     (stream after : Stream) (given left : Option (List ℕ)) (words : List ℕ) (event : Event)
     → AreEventWords stream given words after
-    → Asks stream given (Some (says.Event event)) (Some (line.Event event words)) after left
+    → TakesLine stream given (Some (says.Event event)) (Some (line.Event event words)) after left
 unfolding to_run
 asks_event stream after None left words event drawn =
     (refl, refl, λ more. ap (λ (p : List ℕ × Stream). line.Event event p.0 ∷ to_run p.1 more) drawn)
@@ -153,21 +154,21 @@ asks_event stream after (Some given) left words event (are, same) = (
 -- ---- the lines that are left of a file
 
 -- of the lines that are still to run, these lines of the file are left to read, and these random words wait
-pub record StillLeft (items : List Line) (places : List (ℕ × List ℕ)) (stream : Stream) (given : Option (List ℕ))
+pub record StillLeft (items : List Line) (file_lines : List (ℕ × List ℕ)) (stream : Stream) (given : Option (List ℕ))
     (left : List (ℕ × List ℕ)) : Type 0 where
   pub asked : to_run stream (waiting given ++ said left) ≡ items
-  pub asking_left : asking left ≡ places
+  pub run_left : those_that_run left ≡ file_lines
 
 -- the next line asks for no line to run
 pub passed :
-    (items : List Line) (places now later : List (ℕ × List ℕ)) (stream after : Stream)
+    (items : List Line) (file_lines now later : List (ℕ × List ℕ)) (stream after : Stream)
     (given waits : Option (List ℕ)) (n : ℕ) (text : List ℕ) (own : Option Statement) (line : Option Line)
-    → StillLeft items places stream given now → now ≡ (n, text) ∷ later → own ≡ statement_of text → line ≡ None
-    → Asks stream given own line after waits
-    → StillLeft items places after waits later
-unfolding asking
-passed items places now later stream after given waits n text own line before first says is asks =
-    let (same, none, asked) = subst (λ l. Asks stream given own l after waits) is asks in
+    → StillLeft items file_lines stream given now → now ≡ (n, text) ∷ later → own ≡ statement_of text → line ≡ None
+    → TakesLine stream given own line after waits
+    → StillLeft items file_lines after waits later
+unfolding those_that_run
+passed items file_lines now later stream after given waits n text own line before first says is asks =
+    let (same, none, asked) = subst (λ l. TakesLine stream given own l after waits) is asks in
     record {
       asked =
           ap (λ s. to_run s (waiting waits ++ said later)) same
@@ -175,29 +176,29 @@ passed items places now later stream after given waits n text own line before fi
           ∙ ap (λ o. to_run stream (waiting given ++ o ∷ said later)) says
           ∙ ap (λ ls. to_run stream (waiting given ++ said ls)) (sym first)
           ∙ before.asked;
-      asking_left =
+      run_left =
           sym
-          (ap (λ t. if t then (n, text) ∷ asking later else asking later)
-          (ap asks_for_line (sym says) ∙ none))
-          ∙ ap asking (sym first)
-          ∙ before.asking_left;
+          (ap (λ t. if t then (n, text) ∷ those_that_run later else those_that_run later)
+          (ap runs (sym says) ∙ none))
+          ∙ ap those_that_run (sym first)
+          ∙ before.run_left;
     }
 
 -- the next line asks for this one
 pub taken :
-    (items : List Line) (places now later : List (ℕ × List ℕ)) (stream after : Stream)
+    (items : List Line) (file_lines now later : List (ℕ × List ℕ)) (stream after : Stream)
     (given waits : Option (List ℕ)) (n : ℕ) (text : List ℕ) (own : Option Statement) (line : Option Line) (next : Line)
-    → StillLeft items places stream given now → now ≡ (n, text) ∷ later → own ≡ statement_of text → line ≡ Some next
-    → Asks stream given own line after waits
-    → (items ≡ next ∷ to_run after (said later)) × (places ≡ (n, text) ∷ asking later)
-unfolding asking
-taken items places now later stream after given waits n text own line next before first says is asks =
-    let (for, some, asked) = subst (λ l. Asks stream given own l after waits) is asks in (
+    → StillLeft items file_lines stream given now → now ≡ (n, text) ∷ later → own ≡ statement_of text → line ≡ Some next
+    → TakesLine stream given own line after waits
+    → (items ≡ next ∷ to_run after (said later)) × (file_lines ≡ (n, text) ∷ those_that_run later)
+unfolding those_that_run
+taken items file_lines now later stream after given waits n text own line next before first says is asks =
+    let (for, some, asked) = subst (λ l. TakesLine stream given own l after waits) is asks in (
       sym before.asked ∙ ap (λ ls. to_run stream (waiting given ++ said ls)) first
           ∙ ap (λ o. to_run stream (waiting given ++ o ∷ said later)) (sym says)
           ∙ asked (said later),
-      sym before.asking_left ∙ ap asking first
-          ∙ ap (λ t. if t then (n, text) ∷ asking later else asking later) (ap asks_for_line (sym says) ∙ some),
+      sym before.run_left ∙ ap those_that_run first
+          ∙ ap (λ t. if t then (n, text) ∷ those_that_run later else those_that_run later) (ap runs (sym says) ∙ some),
     )
 
 nothing : (stream : Stream) (given : Option (List ℕ)) → to_run stream (waiting given ++ []) ≡ []
@@ -207,11 +208,11 @@ nothing stream (Some words) = refl
 
 -- no line is left
 pub ended :
-    (items : List Line) (places left : List (ℕ × List ℕ)) (stream : Stream) (given : Option (List ℕ))
-    → StillLeft items places stream given left → left ≡ []
-    → (items ≡ []) × (places ≡ [])
-unfolding asking
-ended items places left stream given before none = (
+    (items : List Line) (file_lines left : List (ℕ × List ℕ)) (stream : Stream) (given : Option (List ℕ))
+    → StillLeft items file_lines stream given left → left ≡ []
+    → (items ≡ []) × (file_lines ≡ [])
+unfolding those_that_run
+ended items file_lines left stream given before none = (
   sym before.asked ∙ ap (λ ls. to_run stream (waiting given ++ said ls)) none ∙ nothing stream given,
-  sym before.asking_left ∙ ap asking none,
+  sym before.run_left ∙ ap those_that_run none,
 )

@@ -21,7 +21,7 @@ use Rattle.ov_scenario.specs.declared.statement.Statement.TheVariants as says
 
 -- ---- one line
 
--- a setting that does not come too late stands behind no event, and behind none of its kind
+-- a setting that does not come too late stands after no event, and after none of its kind
 pub in_time :
     (s : Setting) (event same : Option ℕ) → ((f : LineFault) → ¬ IsTooLate s event same f)
     → (event ≡ None) × (same ≡ None)
@@ -45,16 +45,16 @@ wrong_by_next before (Some (says.Analyse subject workers)) next more f = (λ w. 
 -- a line that was judged by the next one alone is judged by all that follow it
 pub told_by_next :
     (before : Before) (said : Option Statement) (next : Option Stated) (seen : List Stated)
-    (behind : List (ℕ × List ℕ)) (told : Option LineFault)
+    (after : List (ℕ × List ℕ)) (told : Option LineFault)
     → MatchOption next (seen ≡ []) (λ line. seen ≡ line ∷ []) → Tells told (λ f. IsWrong before said seen f)
-    → Tells told (λ f. IsWrong before said (lines_left next behind) f)
-told_by_next before said None seen behind told is tells =
+    → Tells told (λ f. IsWrong before said (lines_left next after) f)
+told_by_next before said None seen after told is tells =
     subst (λ (ls : List Stated). Tells told (λ f. IsWrong before said ls f)) is tells
-told_by_next before said (Some line) seen behind None is tells = λ f wrong.
+told_by_next before said (Some line) seen after None is tells = λ f wrong.
     tells f (subst (λ (ls : List Stated). IsWrong before said ls f) (sym is)
-    ((wrong_by_next before said line (map stated_at behind) f).1 wrong))
-told_by_next before said (Some line) seen behind (Some f) is tells =
-    (wrong_by_next before said line (map stated_at behind) f).0
+    ((wrong_by_next before said line (map stated_at after) f).1 wrong))
+told_by_next before said (Some line) seen after (Some f) is tells =
+    (wrong_by_next before said line (map stated_at after) f).0
     (subst (λ (ls : List Stated). IsWrong before said ls f) is tells)
 
 -- parameters that come in time, and are out of their limits
@@ -68,9 +68,9 @@ params_beyond before numbers none beyond =
 
 -- parameters out of their limits are at fault, whichever their fault
 pub one_is_wrong :
-    (before : Before) (numbers : List ℕ) (behind : List Stated) → (¬ AreWithin numbers)
-    → ¬ ((f : LineFault) → ¬ IsWrong before (Some (says.Params numbers)) behind f)
-one_is_wrong before numbers behind beyond right =
+    (before : Before) (numbers : List ℕ) (after : List Stated) → (¬ AreWithin numbers)
+    → ¬ ((f : LineFault) → ¬ IsWrong before (Some (says.Params numbers)) after f)
+one_is_wrong before numbers after beyond right =
     let free = in_time sets.Params before.event before.params (λ f late. right f (inl late)) in
     right (fault.OutOfLimits numbers) (inr (free.0, free.1, beyond, refl))
 
@@ -135,18 +135,18 @@ begun all left before faulty same known none = record {
 }
 
 pub fault_more :
-    (all left behind : List Stated) (line : Stated) (f : LineFault) (before next : Before)
+    (all left after : List Stated) (line : Stated) (f : LineFault) (before next : Before)
     (faulty gained : List FaultyLine)
-    → JudgedSoFar all left before faulty → left ≡ line ∷ behind → IsWrong before line.says behind f
+    → JudgedSoFar all left before faulty → left ≡ line ∷ after → IsWrong before line.says after f
     → next ≡ with_next before line → gained ≡ faulty ++ record { line = line.number; fault = f } ∷ []
-    → JudgedSoFar all behind next gained
+    → JudgedSoFar all after next gained
 unfolding AreFaulty
-fault_more all left behind line f before next faulty gained so_far split wrong steps gains = record {
+fault_more all left after line f before next faulty gained so_far split wrong steps gains = record {
   passed = so_far.passed ++ line ∷ [];
   known = steps ∙ ap (λ (b : Before). with_next b line) so_far.known ∙ before_next so_far.passed line;
   whole = λ later is.
-      let wrong_there = subst (λ (b : Before). IsWrong b line.says behind f) so_far.known wrong in
-      let own : AreFaulty so_far.passed (line ∷ behind) (record { line = line.number; fault = f } ∷ later) =
+      let wrong_there = subst (λ (b : Before). IsWrong b line.says after f) so_far.known wrong in
+      let own : AreFaulty so_far.passed (line ∷ after) (record { line = line.number; fault = f } ∷ later) =
       inr (f, later, wrong_there, refl, is) in
       let joined = so_far.whole (record { line = line.number; fault = f } ∷ later)
       (subst (λ (ls : List Stated). AreFaulty so_far.passed ls (record { line = line.number; fault = f } ∷ later))
@@ -158,31 +158,31 @@ fault_more all left behind line f before next faulty gained so_far split wrong s
 }
 
 pub faultless_more :
-    (all left behind : List Stated) (line : Stated) (before next : Before) (faulty : List FaultyLine)
-    → JudgedSoFar all left before faulty → left ≡ line ∷ behind
-    → ((f : LineFault) → ¬ IsWrong before line.says behind f) → next ≡ with_next before line
-    → JudgedSoFar all behind next faulty
+    (all left after : List Stated) (line : Stated) (before next : Before) (faulty : List FaultyLine)
+    → JudgedSoFar all left before faulty → left ≡ line ∷ after
+    → ((f : LineFault) → ¬ IsWrong before line.says after f) → next ≡ with_next before line
+    → JudgedSoFar all after next faulty
 unfolding AreFaulty
-faultless_more all left behind line before next faulty so_far split right steps = record {
+faultless_more all left after line before next faulty so_far split right steps = record {
   passed = so_far.passed ++ line ∷ [];
   known = steps ∙ ap (λ (b : Before). with_next b line) so_far.known ∙ before_next so_far.passed line;
   whole = λ later is.
-      let right_there = subst (λ (b : Before). (f : LineFault) → ¬ IsWrong b line.says behind f) so_far.known right in
-      let own : AreFaulty so_far.passed (line ∷ behind) later = inl (right_there, is) in
+      let right_there = subst (λ (b : Before). (f : LineFault) → ¬ IsWrong b line.says after f) so_far.known right in
+      let own : AreFaulty so_far.passed (line ∷ after) later = inl (right_there, is) in
       so_far.whole later (subst (λ (ls : List Stated). AreFaulty so_far.passed ls later) (sym split) own);
 }
 
 -- the next line was judged by the one after it
 pub judges_next :
     (old new : Judging) (line : Stated) (seen : List Stated) (told : Option LineFault)
-    → old.next ≡ Some line → map stated_at old.behind ≡ left_to_judge new → new.before ≡ with_next old.before line
+    → old.next ≡ Some line → map stated_at old.after ≡ left_to_judge new → new.before ≡ with_next old.before line
     → MatchOption new.next (seen ≡ []) (λ next. seen ≡ next ∷ [])
     → Tells told (λ f. IsWrong old.before line.says seen f)
     → Judges old (Some (record { line = line; fault = told })) new
-judges_next old new line seen told is behind steps next tells = (
-  ap (λ (n : Option Stated). lines_left n old.behind) is ∙ ap (λ (ls : List Stated). line ∷ ls) behind,
+judges_next old new line seen told is after steps next tells = (
+  ap (λ (n : Option Stated). lines_left n old.after) is ∙ ap (λ (ls : List Stated). line ∷ ls) after,
   steps,
-  told_by_next old.before line.says new.next seen new.behind told next tells,
+  told_by_next old.before line.says new.next seen new.after told next tells,
 )
 
 -- one line more, which is at fault or not

@@ -15,15 +15,15 @@ same_numbers :
     → numbers_of faulty ≡ numbers_of also
 unfolding AreFaulty
 same_numbers passed [] faulty also is other = ap numbers_of (is ∙ sym other)
-same_numbers passed (line ∷ behind) faulty also (inl (right, rest)) (inl (too, more)) =
-    same_numbers (passed ++ line ∷ []) behind faulty also rest more
-same_numbers passed (line ∷ behind) faulty also (inl (right, rest)) (inr (f, later, wrong, is, more)) =
+same_numbers passed (line ∷ after) faulty also (inl (right, rest)) (inl (too, more)) =
+    same_numbers (passed ++ line ∷ []) after faulty also rest more
+same_numbers passed (line ∷ after) faulty also (inl (right, rest)) (inr (f, later, wrong, is, more)) =
     absurd (right f wrong)
-same_numbers passed (line ∷ behind) faulty also (inr (f, later, wrong, is, more)) (inl (right, rest)) =
+same_numbers passed (line ∷ after) faulty also (inr (f, later, wrong, is, more)) (inl (right, rest)) =
     absurd (right f wrong)
-same_numbers passed (line ∷ behind) faulty also (inr (f, later, wrong, is, rest)) (inr (g, left, too, same, more)) =
+same_numbers passed (line ∷ after) faulty also (inr (f, later, wrong, is, rest)) (inr (g, left, too, same, more)) =
     ap numbers_of is
-    ∙ ap (λ ns. line.number ∷ ns) (same_numbers (passed ++ line ∷ []) behind later left rest more)
+    ∙ ap (λ ns. line.number ∷ ns) (same_numbers (passed ++ line ∷ []) after later left rest more)
     ∙ sym (ap numbers_of same)
 
 first_of_all :

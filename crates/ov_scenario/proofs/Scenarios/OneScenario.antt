@@ -9,7 +9,7 @@ use Rattle.ov_words.specs.Stream.{AreOutputs}
 use Rattle.ov_scenario.specs.Code.Judging.{params_in, seed_in, first_in}
 use Rattle.ov_scenario.specs.Draws.{AreDraws, seeded}
 use Rattle.ov_scenario.specs.Scenarios.{stated_lines, first_of, is_event, is_params, is_seed, before_of, default_params}
-use Rattle.ov_scenario.specs.Scenarios.{AreParams, AreParamsOf, IsSeedOf, IsWrong, AreFaulty, AreFaultless, AskFor}
+use Rattle.ov_scenario.specs.Scenarios.{AreParams, AreParamsOf, IsSeedOf, IsWrong, AreFaulty, AreFaultless, RunAs}
 use Rattle.ov_scenario.specs.Scenarios.{AreToRun}
 use Rattle.ov_scenario.specs.Scenarios.{IsScenario}
 use Rattle.ov_scenario.specs.Statements.{Stated}
@@ -158,9 +158,9 @@ one_output stream (x ∷ v) (y ∷ w) a b long one also =
 one_run :
     (said : List (Option Statement)) (stream : Stream) (drawn others : List (List ℕ)) (left rest : Stream)
     (lines also : List Line)
-    → AreDraws stream drawn left → AreDraws stream others rest → AskFor said drawn lines → AskFor said others also
+    → AreDraws stream drawn left → AreDraws stream others rest → RunAs said drawn lines → RunAs said others also
     → lines ≡ also
-unfolding AskFor
+unfolding RunAs
 one_run [] stream drawn others left rest lines also draws again (none, one) (none_also, other) = one ∙ sym other
 one_run (Some (says.Words words) ∷ Some (says.Event e) ∷ more) stream drawn others left rest lines also draws again
     (later, is, asks) (later_also, is_also, asks_also) =

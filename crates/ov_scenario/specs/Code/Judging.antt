@@ -28,14 +28,14 @@ with_next before line = record {
   seed = or_next is_seed before.seed line;
 }
 
--- the lines that are left to judge: the next one, if there is one, and those of the file behind it
+-- the lines that are left to judge: the next one, if there is one, and those of the file after it
 abbrev pub lines_left : Option Stated → List (ℕ × List ℕ) → List Stated
-lines_left None behind = []
-lines_left (Some line) behind = line ∷ map stated_at behind
+lines_left None after = []
+lines_left (Some line) after = line ∷ map stated_at after
 
 -- the same, of a file that is judged
 abbrev pub left_to_judge : Judging → List Stated
-left_to_judge judging = lines_left judging.next judging.behind
+left_to_judge judging = lines_left judging.next judging.after
 
 -- no line was left, or this one was judged: by what is known of the lines before it, and by those after it
 abbrev pub Judges : Judging → Option Judged → Judging → Type 0

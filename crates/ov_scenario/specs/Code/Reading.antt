@@ -1,10 +1,11 @@
 -- How what a line says is read.
-use Rattle.std.specs.Prelude.{◌≡◌, Option, Some, None, Result, Ok, Err}
+use Rattle.std.specs.Prelude.{◌≡◌, Option, Some, None, IfSome, Result, Ok, Err}
 use Rattle.ov_scenario.specs.declared.statement_reading.Unstated.{Unstated}
 use Rattle.ov_scenario.specs.declared.statement_reading.Unstated.TheVariants as unstated
 
--- what was read is what is said, and if the line can't be read, nothing is said
-abbrev pub Reads : {A : Type 0} → Result A Unstated → Option A → Type 0
-Reads (Ok x) said = said ≡ Some x
-Reads (Err (unstated.Unread unread)) said = said ≡ None
-Reads (Err unstated.OutOfMemory) said = Unit {0}
+-- what was read is what is said; if the line can't be read, nothing is said; and if memory was lacking, what is said
+-- needs memory, or nothing is said
+abbrev pub Reads : {A : Type 0} → (A → Type 0) → Result A Unstated → Option A → Type 0
+Reads NeedsMemory (Ok x) said = said ≡ Some x
+Reads NeedsMemory (Err (unstated.Unread unread)) said = said ≡ None
+Reads NeedsMemory (Err unstated.OutOfMemory) said = IfSome said NeedsMemory

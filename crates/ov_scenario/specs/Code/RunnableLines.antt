@@ -1,10 +1,10 @@
 -- What the lines that are left of a file ask to run, as a function of what the reader keeps.
-use Rattle.std.specs.Prelude.{◌≡◌, ℕ, zero, suc, true, false, List, [], ◌∷◌, ◌++◌, map, Option, Some, None}
+use Rattle.std.specs.Prelude.{◌≡◌, ℕ, zero, suc, true, false, List, [], ◌∷◌, ◌++◌, map, Option, Some, None, IsSome}
 use Rattle.rand_core.specs.Stream.{Stream, next_u64}
 use Rattle.rand_core.specs.Steps.{stream_of, steps_u64_low}
 use Rattle.rand_pcg.specs.Pcg.{pcg64}
 use Rattle.ov_words.specs.Stream.{words_per_event}
-use Rattle.ov_scenario.specs.RunLines.{asks_for_line, AsksFor}
+use Rattle.ov_scenario.specs.RunLines.{runs, IsLineOf}
 use Rattle.ov_scenario.specs.Statements.{statement_of}
 use Rattle.ov_scenario.specs.declared.words_from_seed.SeedWords.{SeedWords}
 use Rattle.ov_scenario.specs.declared.scenario.Line.{Line}
@@ -50,6 +50,11 @@ to_run stream (other ∷ more) = to_run stream more
 abbrev pub said : List (ℕ × List ℕ) → List (Option Statement)
 said lines = map (λ line. statement_of line.1) lines
 
+-- each of these lines of a file can be read
+unfoldable pub AreReadable : List (ℕ × List ℕ) → Type 0
+AreReadable [] = Unit {0}
+AreReadable (line ∷ more) = IsSome (statement_of line.1) × AreReadable more
+
 -- random words that wait for an event, as the line that gave them
 abbrev pub waiting : Option (List ℕ) → List (Option Statement)
 waiting None = []
@@ -57,11 +62,11 @@ waiting (Some words) = Some (says.Words words) ∷ []
 
 -- of a line that says this, no line to run came, or this one: with what the lines after it ask for, that is what it and
 -- they ask for. Random words that wait count as the line that gave them
-abbrev pub Asks : Stream → Option (List ℕ) → Option Statement → Option Line → Stream → Option (List ℕ) → Type 0
-Asks before given says None after left =
-    (after ≡ before) × (asks_for_line says ≡ false)
+abbrev pub TakesLine : Stream → Option (List ℕ) → Option Statement → Option Line → Stream → Option (List ℕ) → Type 0
+TakesLine before given says None after left =
+    (after ≡ before) × (runs says ≡ false)
     × ((more : List (Option Statement)) → to_run before (waiting given ++ says ∷ more)
     ≡ to_run before (waiting left ++ more))
-Asks before given says (Some own) after left =
-    AsksFor says own × (asks_for_line says ≡ true)
+TakesLine before given says (Some own) after left =
+    IsLineOf says own × (runs says ≡ true)
     × ((more : List (Option Statement)) → to_run before (waiting given ++ says ∷ more) ≡ own ∷ to_run after more)

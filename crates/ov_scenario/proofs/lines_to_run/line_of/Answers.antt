@@ -1,6 +1,6 @@
 -- What each line asks for.
 use Rattle.std.proofs.Common.{rules, ◌≡◌, Some, None, sym, subst}
-use Rattle.ov_scenario.specs.Code.RunnableLines.{stream_now, AreEventWords, Asks}
+use Rattle.ov_scenario.specs.Code.RunnableLines.{stream_now, AreEventWords, TakesLine}
 use Rattle.ov_scenario.specs.declared.statement.Statement.TheVariants as says
 use Rattle.ov_scenario.specs.declared.scenario.Line.TheVariants as line
 use Rattle.ov_scenario.proofs.Scenarios.Asked.{asks_nothing, asks_words, asks_look, asks_analysis, asks_event}
@@ -16,7 +16,7 @@ returns-in-Ok-Event c =
     let is : c.args.stated.says ≡ Some (says.Event event) = search rules in
     let drawn : AreEventWords before given words after =
     subst (λ g. AreEventWords before g words after) c.take-waiting.ensures.value c.event_words-words.ensures in
-    let asks = subst (λ s. Asks before given s (Some (line.Event event words)) after None) (sym is)
+    let asks = subst (λ s. TakesLine before given s (Some (line.Event event words)) after None) (sym is)
     (asks_event before after given None words event drawn) in
     rw c.in-Ok-Event.event-is asks
 
@@ -26,8 +26,8 @@ returns-in-Ok-Look c =
     let given = c.args.given.now in
     let before = stream_now c.args.draws.now in
     let is : c.args.stated.says ≡ Some (says.Look look) = search rules in
-    let asks =
-    subst (λ s. Asks before given s (Some (line.Look look)) before None) (sym is) (asks_look before given None look) in
+    let asks = subst (λ s. TakesLine before given s (Some (line.Look look)) before None) (sym is)
+    (asks_look before given None look) in
     rw c.in-Ok-Look.look-is asks
 
 pub returns-in-Ok-Analyse : goal.returns-in-Ok-Analyse
@@ -37,7 +37,7 @@ returns-in-Ok-Analyse c =
     let given = c.args.given.now in
     let before = stream_now c.args.draws.now in
     let is : c.args.stated.says ≡ Some (says.Analyse subject workers) = search rules in
-    let asks = subst (λ s. Asks before given s (Some (line.Analyse subject workers)) before None) (sym is)
+    let asks = subst (λ s. TakesLine before given s (Some (line.Analyse subject workers)) before None) (sym is)
     (asks_analysis before given None subject workers) in
     rw (c.in-Ok-Analyse.subject-is, c.in-Ok-Analyse.workers-is) asks
 
@@ -48,7 +48,7 @@ returns-in-Ok-Words c =
     let before = stream_now c.args.draws.now in
     let is : c.args.stated.says ≡ Some (says.Words words) = search rules in
     let asks =
-    subst (λ s. Asks before given s None before (Some words)) (sym is) (asks_words before given words) in
+    subst (λ s. TakesLine before given s None before (Some words)) (sym is) (asks_words before given words) in
     rw c.in-Ok-Words.words-is asks
 
 pub returns-in-Ok-Params : goal.returns-in-Ok-Params

@@ -1,7 +1,12 @@
 -- No line is at fault, and this is what the lines give and ask for.
 use Rattle.ov_scenario.specs.Scenarios.{stated_lines}
 use Rattle.ov_scenario.proofs.Scenarios.Asked.{are_to_run}
+use Rattle.ov_scenario.proofs.Scenarios.Readable.{faultless_readable}
 use Rattle.ov_scenario.proofs.scenario_reading.read_scenario.Goals as goal
+
+pub new-lines-requires : goal.new-lines-requires
+new-lines-requires c =
+    record { readable = faultless_readable c.args.bytes.now c.in_ok-settings.ensures.faultless }
 
 pub returns-clause-scenario : goal.returns-clause-scenario
 returns-clause-scenario c =
