@@ -10,6 +10,7 @@ use Rattle.ov_wire.specs.declared.message.Message.{Message}
 use Rattle.ov_snap.specs.CoreState.{CoreState, opening_core}
 use Rattle.ov_snap.specs.Run.{Happened}
 use Rattle.ov_run.specs.Running.{PrintsLine, PrintsPackets}
+use Rattle.ov_scenario.specs.RunLines.{LineNeedsMemory}
 use Rattle.ov_scenario.specs.Scenarios.{IsScenario}
 use Rattle.ov_scenario.specs.declared.scenario.Line.{Line}
 use Rattle.ov_scenario.specs.declared.scenario.Line.TheVariants as line
@@ -73,12 +74,12 @@ EndsLine b (line.Event event words) text = ((e : Entry) × (u : CoreState) × Ha
 EndsLine b (line.Look look) text = EndsLook b look text
 EndsLine b (line.Analyse subject workers) text = ⊥
 
--- the lines in order, up to the point at which the run ends out of memory: what follows can't be read, so that nothing
--- is printed of it, or a line runs and ends the run
+-- the lines in order, up to the one at which the run ends out of memory: memory is needed to read it, and nothing was
+-- printed of it, or it runs and ends the run. After the last line no run ends out of memory
 abbrev pub EndsLines : CoreState → List Line → List ℕ → Type 0
-EndsLines b [] text = text ≡ []
+EndsLines b [] text = ⊥
 EndsLines b (line ∷ lines) text =
-    (text ≡ [])
+    (LineNeedsMemory line × (text ≡ []))
     ⊎ EndsLine b line text
     ⊎ ((next : CoreState) × (own : List ℕ) × (others : List ℕ) × PrintsLine b line next own
     × EndsLines next lines others

@@ -22,8 +22,9 @@ use std::thread::Threads;
 /// nothing was written, or a prefix of what the scenario prints.
 ///
 /// An event or an analysis that is out of memory is refused with 99, and the run goes on. OutOfMemory (99) is returned
-/// only if reading the scenario was out of memory, or reading a line of it again when its turn came, or making the line
-/// of an event that happened, of a node or of a packet. The numbers and the form of what is printed are chosen here.
+/// only if reading the scenario was out of memory, or reading a line of it with a payload or ids again when its turn
+/// came, or making the line of an event that happened, of a node or of a packet. The numbers and the form of what is
+/// printed are chosen here.
 ///
 /// Before each analysis and at the end, the writer is asked to hand on what it keeps back (`Write::flush`), unless it
 /// has failed.

@@ -8,6 +8,7 @@ mod graph_analysis;
 mod line_outcome;
 mod line_running;
 mod line_texts;
+mod recent_reports;
 mod refusal;
 mod report_filing;
 mod run_fault;

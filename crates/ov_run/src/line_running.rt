@@ -10,6 +10,7 @@ ghost use Rattle.ov_run.specs.Code.Outcomes.{DoesEvent, DoesLine, FilesReport, R
 ghost use Rattle.ov_run.specs.Code.Writing.{Writes, WritesPrefix, IsOfWriting};
 
 use crate::line_outcome::Outcome;
+use crate::recent_reports::RecentReports;
 use crate::refusal::Refusal;
 use crate::report_filing::file_analysis;
 use crate::run_fault::RunFault;
@@ -61,11 +62,12 @@ fn run_each<T: Threads + Sync, W: Write, V: RunWatcher>(
     requires faults { sink.old.faults < most_faults }
     ensures ran { RanLines W.contents (opening_core params) lines.entry.items sink.old sink.new result }
 {
+    let mut recent = RecentReports::new(alloc);
     let mut core = Core::new(alloc, params);
     let mut left = lines;
     while let Some(next) = left.next_line(alloc)? {
         let ran = ran_line(&next);
-        let outcome = run_line(rt, alloc, &mut core, next.line, sink)?;
+        let outcome = run_line(rt, alloc, &mut core, &mut recent, next.line, sink)?;
         tell(watcher, &core, &ran, outcome);
     }
     Ok(())
@@ -97,6 +99,7 @@ fn run_line<T: Threads + Sync, W: Write>(
     rt: &T,
     alloc: Global,
     core: &mut Core,
+    recent: &mut RecentReports,
     line: Line,
     sink: &mut Sink<W>,
 ) -> Result<Outcome, RunFault>
@@ -118,7 +121,7 @@ fn run_line<T: Threads + Sync, W: Write>(
         Line::Look(look) => write_look(alloc, core, look, sink),
         Line::Analyse { subject, workers } => {
             sink.flush()?;
-            Ok(run_analysis(rt, alloc, core, &subject, workers, sink)?)
+            Ok(run_analysis(rt, alloc, core, recent, &subject, workers, sink)?)
         }
     }
 }
@@ -158,6 +161,7 @@ fn run_analysis<T: Threads + Sync, W: Write>(
     rt: &T,
     alloc: Global,
     core: &mut Core,
+    recent: &mut RecentReports,
     subject: &Subject,
     workers: Workers,
     sink: &mut Sink<W>,
@@ -172,7 +176,7 @@ fn run_analysis<T: Threads + Sync, W: Write>(
         (W.contents sink.old.writer) (W.contents sink.new.writer) }
     ensures faults { sink.new.faults ≡ sink.old.faults + sink_faults write_number result }
 {
-    match file_analysis(rt, alloc, core, subject, workers) {
+    match file_analysis(rt, alloc, core, recent, subject, workers) {
         Ok(line) => write_done(line.as_bytes(), sink),
         Err(fault) => write_refusal(Refusal::Core(fault), sink),
     }

@@ -5,31 +5,34 @@ ghost use Rattle.ov_snap.specs.CoreState.{IsSound};
 ghost use Rattle.ov_snap.specs.ReportState.{ReportState, IsTrueReport};
 ghost use Rattle.ov_ids.specs.FaultOrder.{IsRefusedBy};
 ghost use Rattle.ov_snap.specs.Refusals.{FilingJudged};
+ghost use Rattle.ov_run.specs.Code.Recent.{HasAnswer};
 ghost use Rattle.ov_run.specs.Printed.{report_line};
 ghost use Rattle.ov_run.specs.Subjects.{members_of, IsReportOf, AnalysisJudged, WasAnalysed};
 ghost use Rattle.ov_snap.specs.declared.fault.CoreFault.TheVariants.{OutOfMemory as out_of_memory};
 
 use crate::graph_analysis::members_of;
 use crate::line_texts::report_line;
+use crate::recent_reports::RecentReports;
 use ov_claims::Workers;
 use ov_crew::{OpenGate, analyse_group_watched};
 use ov_even::Unwatched;
 use ov_graph::Graph;
-use ov_ids::Seq;
+use ov_ids::{NodeId, Seq};
 use ov_net::MOST_ENTRIES;
 use ov_scenario::Subject;
 use ov_snap::{Core, CoreFault, Report, Snapshot};
 use std::alloc::Global;
 use std::thread::Threads;
 
-/// Analyses a subject by this number of workers and files the report. Returns the line of the report, or the first
-/// applicable refusal, and then nothing changed. The line is made before the report is filed, so that out of memory is
-/// a refusal too.
+/// Analyses a subject by this number of workers and files the report; if a recent one is about the same graph and
+/// group, its certificate is shared instead. Returns the line of the report, or the first applicable refusal, and then
+/// nothing changed. The line is made before the report is filed, so that out of memory is a refusal too.
 #[tactic(auto, using(crate::proofs::Reports::Filed::filing_refused))]
 pub(crate) fn file_analysis<T: Threads + Sync>(
     rt: &T,
     alloc: Global,
     core: &mut Core,
+    recent: &mut RecentReports,
     subject: &Subject,
     workers: Workers,
 ) -> Result<String, CoreFault>
@@ -38,18 +41,19 @@ pub(crate) fn file_analysis<T: Threads + Sync>(
     ensures refused { IfErr result (IsRefusedBy out_of_memory (AnalysisJudged core.old subject.now)) }
     ensures err { OnErr result (core.new ≡ core.old) }
 {
-    let report = report_for(rt, alloc, core, subject, workers)?;
+    let report = report_for(rt, alloc, core, recent, subject, workers)?;
     let line = report_line(alloc, report.moment(), report.checked())?;
     core.file(report)?;
     Ok(line)
 }
 
-/// Makes the report of a subject. The report is not filed yet.
+/// Makes the report of a subject, or shares a recent one. The report is not filed yet.
 #[tactic(auto, using(crate::proofs::Reports::Filed::filed_refused))]
 fn report_for<T: Threads + Sync>(
     rt: &T,
     alloc: Global,
     core: &Core,
+    recent: &mut RecentReports,
     subject: &Subject,
     workers: Workers,
 ) -> Result<Report, CoreFault>
@@ -64,7 +68,7 @@ fn report_for<T: Threads + Sync>(
         return Err(CoreFault::AlreadyFiled);
     }
     let snapshot = begin(core, subject)?;
-    make_report(rt, alloc, &snapshot, subject, workers)
+    report_about(rt, alloc, &snapshot, recent, subject, workers)
 }
 
 /// The report that is filed for a subject, if there is one.
@@ -95,12 +99,14 @@ fn begin(core: &Core, subject: &Subject) -> Result<Snapshot, CoreFault>
     }
 }
 
-/// Makes the report of the analysis of a snapshot. The ids are a group of its nodes, so that only memory can be
-/// lacking.
-fn make_report<T: Threads + Sync>(
+/// The report of a snapshot, which shares the certificate of a recent one that is about the same graph and group; if
+/// there is none, it is made, and kept for later ones. The ids are a group of the snapshot's nodes, so that only memory
+/// can be lacking.
+fn report_about<T: Threads + Sync>(
     rt: &T,
     alloc: Global,
     snapshot: &Snapshot,
+    recent: &mut RecentReports,
     subject: &Subject,
     workers: Workers,
 ) -> Result<Report, CoreFault>
@@ -112,6 +118,37 @@ fn make_report<T: Threads + Sync>(
 {
     let group = subject.group.as_ref().map(Seq::as_slice);
     let members = members_of(group, &snapshot.graph);
+    if let Some(known) = recent.find(&snapshot.graph, members) {
+        return Ok(known.again(snapshot.moment)?);
+    }
+    let report = make_report(rt, alloc, snapshot, members, workers)?;
+    keep(recent, &report);
+    Ok(report)
+}
+
+/// Keeps a report for later analyses, if there is memory for that.
+fn keep(recent: &mut RecentReports, report: &Report)
+    requires { HasAnswer report.now }
+{
+    if let Ok(shared) = report.again(report.moment()) {
+        drop(recent.keep(shared));
+    }
+}
+
+/// Makes the report of an analysis of these members of a snapshot.
+fn make_report<T: Threads + Sync>(
+    rt: &T,
+    alloc: Global,
+    snapshot: &Snapshot,
+    members: &[NodeId],
+    workers: Workers,
+) -> Result<Report, CoreFault>
+    ensures moment { IfOk result (λ r. r.moment ≡ snapshot.now.moment) }
+    ensures graph { IfOk result (λ r. r.graph ≡ snapshot.now.graph) }
+    ensures members { IfOk result (λ r. r.members ≡ members.now) }
+    ensures answer { IfOk result (λ r. IsAnswer r.graph r.members r.cert) }
+    ensures err { IfErr result (λ f. f ≡ out_of_memory) }
+{
     match analyse_group_watched(
         rt,
         alloc,
@@ -121,7 +158,7 @@ fn make_report<T: Threads + Sync>(
         &OpenGate,
         &mut Unwatched,
     ) {
-        Ok(checked) => Ok(Report::new(snapshot.moment, checked)),
+        Ok(checked) => Ok(Report::new(alloc, snapshot.moment, checked)?),
         Err(_) => Err(CoreFault::OutOfMemory),
     }
 }

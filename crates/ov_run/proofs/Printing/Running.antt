@@ -12,6 +12,7 @@ use Rattle.ov_snap.specs.CoreState.{CoreState}
 use Rattle.ov_run.specs.Ending.{BeginsLines, BeginsPackets, EndsLines}
 use Rattle.ov_run.specs.Printed.{packet_line}
 use Rattle.ov_run.specs.Running.{PrintsLine, PrintsLines, PrintsPackets}
+use Rattle.ov_scenario.specs.RunLines.{FirstNeedsMemory}
 use Rattle.ov_scenario.specs.declared.scenario.Line.{Line}
 
 -- this text was printed of all lines, and these are left: with what they print now, whole, up to some point or up to
@@ -43,10 +44,10 @@ pub ended : (b : CoreState) (all : List Line) (now : CoreState) (text : List ℕ
     → PrintsLines b all now text
 ended b all now text so_far = subst (λ t. PrintsLines b all now t) (append-nil text) (so_far.whole now [] (refl, refl))
 
--- memory can be lacking to read any line
-pub unread : (b : CoreState) (lines : List Line) → EndsLines b lines []
-unread b [] = refl
-unread b (line ∷ lines) = inl refl
+-- memory is lacking to read the first line
+pub unread : (b : CoreState) (lines : List Line) → FirstNeedsMemory lines → EndsLines b lines []
+unread b [] needs = absurd needs
+unread b (line ∷ lines) needs = inl (needs, refl)
 
 -- one packet more is printed, at the place behind these
 pub packets_more :

@@ -2,7 +2,7 @@
 use super::runs::comes_to;
 
 /// Each scenario, and all that it prints.
-static ANALYSES: [(&str, &str); 9] = [
+static ANALYSES: [(&str, &str); 10] = [
     (
         "boot 1\nboot 2 by 1\ndeliver 0\nsnapshot\ndeliver 0\nsnapshot\nanalyse 4\nanalyse 6\n",
         "entry 1 born 1\nentry 2 born 2\nentry 3 up 1 2\nentry 4\nentry 5 up 2 1\nentry 6\n\
@@ -51,6 +51,14 @@ static ANALYSES: [(&str, &str); 9] = [
         "entry 1 born 1\nentry 2 born 2\nentry 3\nreport 3 linked k 0 group 2\n\
          {\"group\":[2],\"k\":0,\"links\":[],\"moment\":3,\"nodes\":[1,2],\"verdict\":\"linked\",\"version\":2}\n\
          refused 50\nrefused 50\nrefused 50\n",
+    ),
+    // two moments with the same links: the second report of all nodes is that of the first, at its own moment
+    (
+        "boot 1\nboot 2\nsnapshot\nsnapshot\nanalyse 3\nanalyse 4\nanalyse 4 group 2\ncertificate 4\nanalyse 4\n",
+        "entry 1 born 1\nentry 2 born 2\nentry 3\nentry 4\nreport 3 split k 0 cut - near 2 far 1 side 2\n\
+         report 4 split k 0 cut - near 2 far 1 side 2\nreport 4 linked k 0 group 2\n\
+         {\"cut\":[],\"fans\":[],\"far\":1,\"k\":0,\"links\":[],\"moment\":4,\"near\":2,\"nodes\":[1,2],\"pairs\":[],\"side\":[2],\
+         \"verdict\":\"split\",\"version\":1}\nrefused 52\n",
     ),
 ];
 

@@ -1,6 +1,5 @@
 -- What was read is a scenario, and what it prints was written; if the run ended early, a prefix of it.
-use Rattle.std.proofs.Common.{rules, Err, Some, ap, subst, refl}
-use Rattle.ov_scenario.specs.Scenarios.{IsScenario}
+use Rattle.std.proofs.Common.{rules, Err, ap, refl}
 use Rattle.ov_run.proofs.Printing.WholeRuns.{finished, stopped}
 use Rattle.ov_run.proofs.engine.run_bytes.Goals as goal
 

@@ -1,5 +1,5 @@
 -- What was read has an answer, and its text was written, or a prefix of it.
-use Rattle.std.proofs.Common.{rules, inr, option_map, string_bytes, refl}
+use Rattle.std.proofs.Common.{rules, inr, option_map, string_bytes}
 use Rattle.ov_run.proofs.GraphFiles.Answered.{all_written, begun_written}
 use Rattle.ov_run.proofs.graph_analysis.analyse_bytes.Goals as goal
 

@@ -1,4 +1,4 @@
--- One line more, and all of them; and if a line ends the run, or none can be read, what was printed up to there.
+-- One line more, and all of them; and if a line ends the run, or the next can't be read, what was printed up to there.
 use Rattle.std.proofs.Common.{◌≡◌, ◌++◌, ◌∷◌, [], List, Option, Err, MatchOption, ap, inl, inr, subst, refl, arith}
 use Rattle.std.proofs.KnownBytes.{Appends-nil, Appends-trans}
 use Rattle.ov_snap.specs.CoreState.{opening_core}
@@ -81,7 +81,7 @@ returns-in_err-next g c =
             prefix_went _ _ _ said.0 [] said.2 (none_went _ []),
           ) (inr refl) (omega (arith, none)) (λ is. (
             said.0 ++ [],
-            said.1.ends [] (unread now left),
+            said.1.ends [] (unread now left c.in_err-next.ensures.memory),
             Appends-trans _ _ _ _ _ said.2 (Appends-nil _),
           ));
     }

@@ -1,5 +1,4 @@
 -- What the lines printed is what they printed still, handed on or not.
-use Rattle.std.proofs.Common.{rules}
 use Rattle.ov_snap.specs.CoreState.{opening_core}
 use Rattle.ov_run.proofs.Printing.HandedOn.{handed_on}
 use Rattle.ov_run.proofs.line_running.run_lines.Goals as goal

@@ -5,7 +5,7 @@ use Rattle.ov_run.proofs.report_filing.report_for.Goals as goal
 pub returns-clause-filing : goal.returns-clause-filing
 returns-clause-filing g c =
     let snapshot = c.in_ok-snapshot in
-    let made = c.make_report.ensures in
+    let made = c.report_about.ensures in
     job_filed c.args.core.now c.args.subject.now snapshot.snapshot.moment snapshot.snapshot.graph
     snapshot.ensures.sound snapshot.ensures.judged snapshot.ensures.moment snapshot.ensures.links
-    c.make_report.result made.moment made.graph made.members
+    c.report_about.result made.moment made.graph made.members
