@@ -1,0 +1,38 @@
+use Rattle.std.proofs.Common.{◌≡◌, ◌++◌, ◌∙◌, ap, map, subst, sym}
+use Rattle.ov_hall.specs.Logs.{core_made}
+use Rattle.ov_hall.specs.Passes.{AllBegin, seen_alike}
+use Rattle.ov_hall.proofs.Alike.{drivers_seen, sole_after, sole_first}
+use Rattle.ov_hall.proofs.shared_hall.Hall.unite.Given as given
+use Rattle.ov_hall.proofs.shared_hall.Hall.unite.Goals as goal
+
+-- all passes have joined
+joined : (g : given.Over) (c : goal.After-look g) → c.join_all-stand.result ≡ c.args.passes.items
+joined g c = c.join_all-stand.ensures ∙ ap (λ l. l ++ c.args.passes.items) c.nobody.ensures.nobody
+
+alike : (g : given.Over) (c : goal.After-look g)
+    → c.look.new.stand ≡ seen_alike 0 g.N.HallName.drivers c.nobody.new.self
+alike g c =
+    c.look.ensures.seen
+    ∙ drivers_seen 0 g.N.HallName.drivers c.join_all-stand.result c.nobody.new.self
+    (ap (map (λ t. t.driver)) (joined g c) ∙ c.requires.all)
+
+pub invariant_of-result : goal.invariant_of-result
+invariant_of-result g c =
+    let n = g.N.HallName.drivers in
+    let some = c.args.self.some in (
+      (sole_after n c.look.new.stand c.nobody.new.self some (alike g c), some),
+      c.look.ensures.same ∙ sym (sole_first n c.look.new.stand c.nobody.new.self some (alike g c)),
+      c.args.self.table_is,
+      c.args.self.one_word,
+      c.args.self.count,
+    )
+
+pub returns : goal.returns
+returns g c =
+    let log = c.nobody.new.self in
+    let n = g.N.HallName.drivers in (
+      log,
+      ap (core_made g.N.HallName.params) (sym (sole_first n c.look.new.stand log c.args.self.some (alike g c))),
+      c.look.ensures.log,
+      subst (λ l. AllBegin l log) (joined g c) c.look.ensures.began,
+    )

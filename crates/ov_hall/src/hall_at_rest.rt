@@ -1,0 +1,159 @@
+ghost use Rattle.std.specs.Prelude.{◌≡◌, length, IfOk, IfErr, OnOk, OnErr};
+ghost use Rattle.ov_ids.specs.FaultOrder.{IsRefusedBy};
+ghost use Rattle.ov_net.specs.Refusals.{IsRefusal};
+ghost use Rattle.ov_snap.specs.CoreState.{opening_core};
+ghost use Rattle.ov_snap.specs.Filing.{WasFiled};
+ghost use Rattle.ov_snap.specs.Refusals.{FilingJudged};
+ghost use Rattle.ov_snap.specs.Run.{Happened};
+ghost use Rattle.ov_snap.specs.declared.fault.CoreFault.TheVariants.{OutOfMemory as out_of_memory};
+ghost use Rattle.ov_hall.specs.Logs.{IsHistory, core_made};
+ghost use Rattle.ov_hall.specs.Passes.{AreDrivers, seen_alike};
+
+use crate::count_rule::{HallName, Law, Leave};
+use crate::driver_passes::{Pass, Stand};
+use crate::ghost_views::View;
+use crate::hall_opening::Opening;
+use crate::locked_state::State;
+use crate::shared_hall::{Gathered, Hall};
+use atomic_table::Table;
+use ov_ids::Params;
+use ov_net::{Entry, Event, NetFault};
+use ov_snap::{Core, CoreFault, Report};
+use ov_words::Words;
+use std::alloc::Global;
+use std::marker::{Model, PhantomData};
+use std::sync::Mutex;
+
+/// A hall at rest: one hand has the core and the passes of all drivers, and there is no lock. Contracts see the core.
+#[derive(Drop)]
+pub struct Whole<N: HallName> {
+    pub(crate) table: Table<(), View, u64, Law, Global>,
+    pub(crate) state: State<N>,
+    pub(crate) drivers: u64,
+    pub(crate) stand: Stand<N>,
+}
+
+impl<N: HallName> Model for Whole<N> {
+    ghost use Rattle.std.specs.Prelude.{◌≡◌, ◌<◌};
+    ghost use Rattle.ov_snap.specs.CoreState.{CoreState};
+    ghost use Rattle.ov_snap.specs.Code.Codes.{core_code};
+    ghost use Rattle.ov_hall.specs.Logs.{core_made};
+    ghost use Rattle.ov_hall.specs.Passes.{first_seen, seen_alike};
+
+    ghost Value = { CoreState };
+
+    ghost coded = { core_code };
+
+    ghost view = { λ w. core_made N.params (first_seen w.stand) };
+
+    ghost invariant = { λ w. ((w.stand ≡ seen_alike 0 N.drivers (first_seen w.stand)) × (0 < N.drivers))
+        × (w.state ≡ first_seen w.stand) × (w.table.shared.table_id ≡ N.table)
+        × (w.table.shared.table_id.words ≡ 1) × (w.drivers ≡ N.drivers) };
+}
+
+impl<N: HallName> Whole<N> {
+    /// A hall over a core in which nothing happened. Nothing is allocated.
+    pub fn new(alloc: Global, params: Params, opening: Opening) -> Whole<N>
+        requires name { (opening.table ≡ N.table) × (opening.drivers ≡ N.drivers) }
+        requires params { params ≡ N.params }
+        ensures { result ≡ opening_core params }
+    {
+        let Opening {
+            table,
+            mut place,
+            drivers,
+        } = opening;
+        let all = table.shared.split_seat::<Leave>(&mut place);
+        let state = State {
+            core: Core::new(alloc, params),
+            entry_drivers: Vec::new(alloc),
+            report_drivers: Vec::new(alloc),
+            place,
+            of: PhantomData,
+        };
+        let stand = Stand {
+            place: all,
+            of: PhantomData,
+        };
+        Whole {
+            table,
+            state,
+            drivers,
+            stand,
+        }
+    }
+
+    /// The core.
+    pub fn core(&self) -> &Core
+        ensures { result.now ≡ self.now }
+    {
+        &self.state.core
+    }
+
+    /// Takes one event by driver 0, as `Core::step` does, with the same faults. What is refused changes nothing.
+    pub fn step(&mut self, event: Event, words: &Words) -> Result<Entry, NetFault>
+        ensures happened { IfOk result (λ e. Happened self.old event words.now e self.new) }
+        ensures refused { IfErr result (IsRefusal self.old.world.net (length self.old.world.journal) event) }
+        ensures err { OnErr result (self.new ≡ self.old) }
+    {
+        self.state
+            .step(&self.table.shared, &mut self.stand, 0, event, words)
+    }
+
+    /// Files a report by driver 0, as `Core::file` does, with the same faults. What is refused changes nothing.
+    pub fn file(&mut self, report: Report) -> Result<(), CoreFault>
+        ensures filed { OnOk result (WasFiled self.old report self.new) }
+        ensures refused { IfErr result (IsRefusedBy out_of_memory (FilingJudged self.old report)) }
+        ensures err { OnErr result (self.new ≡ self.old) }
+    {
+        self.state
+            .file(&self.table.shared, &mut self.stand, 0, report)
+    }
+
+    /// The lock round the core, and the pass of each driver, in the order of their numbers from 0. Out of memory gives
+    /// all back.
+    pub fn part(self, alloc: Global) -> Result<(Hall<N>, Vec<Pass<N>>), Whole<N>>
+        ensures passes { IfOk result (λ r. (log : _) × (core_made N.params log ≡ self)
+            × (r.1.items ≡ seen_alike 0 N.drivers log)) }
+        ensures all { IfOk result (λ r. AreDrivers N.drivers r.1.items) }
+        ensures err { IfErr result (λ w. w ≡ self) }
+    {
+        let Whole {
+            table,
+            state,
+            drivers,
+            stand,
+        } = self;
+        match stand.part(alloc, &table.shared, drivers) {
+            Ok(passes) => {
+                let hall = Hall {
+                    table,
+                    state: Mutex::new(state),
+                    drivers,
+                };
+                Ok((hall, passes))
+            }
+            Err(stand) => Err(Whole {
+                table,
+                state,
+                drivers,
+                stand,
+            }),
+        }
+    }
+
+    /// The core, and the drivers of its entries and of its reports.
+    pub fn close(self) -> Gathered
+        ensures core { result.core ≡ self }
+        ensures history { (log : _) × IsHistory N.params N.drivers log result.core result.entry_drivers.items
+            result.report_drivers.items }
+    {
+        let Whole {
+            table: _,
+            state,
+            drivers: _,
+            stand: _,
+        } = self;
+        Gathered::of(state)
+    }
+}
