@@ -3,7 +3,8 @@
 # proves and builds it there, and runs it. Where the bench has the same in plain Rust, that is built too, and runs
 # first. The bench's uses.txt is its program's line in crates.txt; what those crates use is found in the crates.txt of
 # this repository. With UNPROVED=1 nothing is proved, so that it is built in a minute (see build-unproved); with
-# CRATES=CHECKOUT the crates are those of another checkout, so that commits can be compared by one program.
+# CRATES=CHECKOUT the crates are those of another checkout, so that commits can be compared by one program; with
+# BUILD_ONLY=1 nothing is run, and the program is FOLDER/crates/bench_BENCH/out/bench_BENCH.
 set -e
 root=$(readlink -f -- "$(dirname -- "$(readlink -f -- "$0")")/..")
 bench=$root/bench/$1
@@ -52,6 +53,9 @@ if [ -n "$UNPROVED" ]; then
     "$root/bench/build-unproved" "$work" "bench_$1" "out/bench_$1"
 else
     rt run > "$work/build.log" 2>&1 || { tail -20 "$work/build.log"; exit 1; }
+fi
+if [ -n "$BUILD_ONLY" ]; then
+    exit 0
 fi
 if [ -f "$bench/plain.rs" ]; then
     echo "plain Rust"

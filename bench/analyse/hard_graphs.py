@@ -1,6 +1,6 @@
 #!/usr/bin/env python3
-"""hard_graphs.py: writes graphs of up to 1,024 nodes on which an analysis has much to do, as graph files `NAME.graph`,
-into the folder that it is run in.
+"""hard_graphs.py: writes graphs of 1,024 nodes on which an analysis has much to do, as graph files `NAME.graph`, into
+the folder that it is run in.
 
 half-1024 has half of all links, at random; regular-64-1024 is a random graph in which each node has 64 links; ring-78
 is a ring of 1,024 nodes, each linked to the 78 next on each side, with its ids shuffled; two-sides-512 links each of 512

@@ -1,8 +1,9 @@
 #!/usr/bin/env python3
 """scenario.py [NODES [EVENTS [DELIVERIES]]]: writes a scenario for `overlay run`.
 
-NODES nodes are born, each by an earlier one. Then they broadcast and shuffle in turn, with DELIVERIES deliveries of the oldest
-packet after each broadcast and five after each shuffle, until there are EVENTS events. With few deliveries the bag fills.
+NODES nodes are born, each by an earlier one. Then they broadcast and shuffle in turn, with DELIVERIES deliveries of
+the oldest packet after each broadcast and five after each shuffle, until there are EVENTS events. With few deliveries
+the bag fills.
 """
 
 import sys

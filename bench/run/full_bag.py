@@ -1,6 +1,6 @@
 #!/usr/bin/env python3
-"""full_bag.py: writes a scenario that fills the bag of packets, nearly, and then loses the first packet 55,000 times. The
-lines that fill it are few, since each broadcast of a node with many neighbours sends many packets.
+"""full_bag.py: writes a scenario that fills the bag of packets, nearly, and then loses the first packet 55,000 times.
+The lines that fill it are few, since each broadcast of a node with many neighbours sends many packets.
 """
 
 # The nodes, and how many neighbours each may have: each broadcast sends one packet to each neighbour.

@@ -1,11 +1,11 @@
 #!/usr/bin/env python3
 """make_scenario.py [LINES [NODES [SEED]]]: writes a scenario of LINES events over NODES nodes for `overlay run`.
 
-The nodes are born first, each by an earlier one at random, with six deliveries after each birth. Then some 95 of 100
-lines are deliveries. The others are shuffles, repetitions of the oldest packet, and broadcasts of 16 bytes, meant to be
-so many that packets do not run out. A place is chosen at random among the packets that are surely on their way: a birth by a
-contact and a repetition send one packet each, a delivery takes one. If no packet is sure, the oldest one is delivered.
-The same words give the same scenario.
+The nodes are born first, each by an earlier one at random, with six deliveries after each birth. Then nearly all lines
+are deliveries: with the defaults 62,318 of 65,000. The others are shuffles, repetitions of the oldest packet, and
+broadcasts of 16 bytes, meant to be so many that packets do not run out. A place is chosen at random among the packets
+that are surely on their way: a birth by a contact and a repetition send one packet each, a delivery takes one. If no
+packet is sure, the oldest one is delivered. The same words give the same scenario.
 """
 
 import itertools

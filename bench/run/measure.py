@@ -6,9 +6,9 @@ time and the highest peak of memory are printed, and what the last program takes
 with an error if two programs print different lines.
 """
 
+import hashlib
 import os
 import pathlib
-import resource
 import subprocess
 import sys
 import tempfile
@@ -18,7 +18,7 @@ HERE = pathlib.Path(__file__).resolve().parent
 RUNS = 7
 # The name of each scenario, and the words with which it is made.
 SCENARIOS = {
-    "65,000 events, 200 nodes, 95 of 100 deliver": [sys.executable, HERE / "make_scenario.py", "65000", "200"],
+    "65,000 events, 200 nodes, 62,318 of them deliver": [sys.executable, HERE / "make_scenario.py", "65000", "200"],
     "65,000 events, 200 nodes, a bag that fills": [sys.executable, HERE.parent / "net" / "scenario.py", "200", "65000"],
     "55,000 times lose 0, from a bag nearly full": [sys.executable, HERE / "full_bag.py"],
     "1,000,000 lines, 65,000 of them events": [sys.executable, HERE / "many_lines.py", "1000000"],
@@ -26,7 +26,9 @@ SCENARIOS = {
 
 
 def run(program, scenario, output):
-    """The seconds and the peak in KB of one run of a program."""
+    """The seconds and the peak in KB, of 1,024 bytes, of one run of a program. A peak is never told as less than what this
+    process has in memory, so it keeps no scenario and no output.
+    """
     with open(scenario, "rb") as given, open(output, "wb") as taken:
         begun = time.monotonic()
         started = subprocess.Popen([program, "run"], stdin=given, stdout=taken, stderr=subprocess.DEVNULL)
@@ -36,6 +38,12 @@ def run(program, scenario, output):
     if started.returncode:
         sys.exit(f"{program} ended with status {started.returncode}")
     return took, used.ru_maxrss
+
+
+def digest(path):
+    """A checksum of a file."""
+    with open(path, "rb") as file:
+        return hashlib.file_digest(file, "sha256").hexdigest()
 
 
 def main(programs):
@@ -51,7 +59,7 @@ def main(programs):
             for _ in range(RUNS):
                 for program in programs:
                     taken[program].append(run(program, scenario, output))
-                    printed.add(output.read_bytes())
+                    printed.add(digest(output))
             if len(printed) > 1:
                 sys.exit(f"{name}: the programs print different lines")
             best = [(min(it[0] for it in taken[one]), max(it[1] for it in taken[one])) for one in programs]
