@@ -5,12 +5,19 @@ ghost use Rattle.ov_ids.specs.Sets.{has, count_below};
 
 use ov_ids::NodeId;
 
-/// The place of a node in ascending nodes, by binary search.
+/// The place of a node in ascending nodes. It is looked for first where it stands if the ids have no gaps, and then by
+/// binary search.
 pub(crate) fn place_of(nodes: &[NodeId], a: NodeId) -> Option<usize>
     requires { Ascends nodes.now }
     ensures some { IfSome result (λ p. (p < length nodes.now) × (slice_index nodes.now p ≡ a)) }
     ensures none { IfNone result (¬ Has nodes.now a) }
 {
+    if let Some(first) = nodes.first() {
+        let guess = a.number().wrapping_sub(first.number()) as usize;
+        if guess < nodes.len() && nodes[guess] == a {
+            return Some(guess);
+        }
+    }
     nodes.binary_search(&a).ok()
 }
 

@@ -33,9 +33,8 @@ pub(crate) fn read_graph_line(text: &[u8]) -> Result<GraphLine, Unread>
     ensures { result_ok result ≡ graph_line text.now }
 {
     let mut cursor = LineCursor::new(text);
-    let unread = cursor.unread(&[Kind::LineName]);
     let Some(name) = cursor.word() else {
-        return Err(unread);
+        return Err(unread_name(text));
     };
     if is_word(name, b"node") {
         let node = cursor.last_short_number(NODE_ID)?;
@@ -44,7 +43,12 @@ pub(crate) fn read_graph_line(text: &[u8]) -> Result<GraphLine, Unread>
     if is_word(name, b"link") {
         return read_link(&mut cursor);
     }
-    Err(unread)
+    Err(unread_name(text))
+}
+
+/// A line whose first word is not its name.
+fn unread_name(text: &[u8]) -> Unread {
+    LineCursor::new(text).unread(&[Kind::LineName])
 }
 
 fn read_link(cursor: &mut LineCursor) -> Result<GraphLine, Unread>

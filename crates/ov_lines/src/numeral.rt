@@ -1,4 +1,5 @@
-ghost use Rattle.std.specs.Prelude.{◌≡◌, ◌<◌, ◌^◌, IfSome, IfNone};
+ghost use Rattle.std.specs.Prelude.{◌≡◌, ◌<◌, ◌≤◌, ◌^◌, IfSome, IfNone};
+ghost use Rattle.std.specs.Char.{digit_value};
 ghost use Rattle.std.specs.Str.Parse.{IsNumeral, digits_value};
 ghost use Rattle.ov_lines.specs.Lines.{number_within, long_bits, short_bits};
 
@@ -9,18 +10,31 @@ pub fn read_number(word: &[u8]) -> Option<u64>
     parsed(word)
 }
 
-#[tactic(auto, using(crate::proofs::Lines::Numerals::numeral_is_text))]
 fn parsed(word: &[u8]) -> Option<u64>
     ensures some { IfSome result (λ n. IsNumeral 10 word.now × (n ≡ digits_value 10 word.now)) }
     ensures none { IfNone result (IsNumeral 10 word.now → digits_value 10 word.now < 2 ^ long_bits → ⊥) }
 {
-    let Ok(text) = str::from_utf8(word) else {
-        return None;
-    };
-    if word.first() == Some(&b'+') {
+    if word.is_empty() {
         return None;
     }
-    text.parse().ok()
+    let mut number: u64 = 0;
+    for byte in word {
+        let digit = digit_of(*byte)?;
+        number = number.checked_mul(10)?.checked_add(digit)?;
+    }
+    Some(number)
+}
+
+/// The value of a decimal digit.
+fn digit_of(byte: u8) -> Option<u64>
+    ensures some { IfSome result (λ digit. (digit ≡ digit_value byte) × (digit < 10)) }
+    ensures none { IfNone result (10 ≤ digit_value byte) }
+{
+    if byte.is_ascii_digit() {
+        Some(u64::from(byte - b'0'))
+    } else {
+        None
+    }
 }
 
 /// The number that a word of decimal digits spells if it fits 32 bits.

@@ -118,11 +118,14 @@ impl<'a> LineCursor<'a> {
         ensures left { words_of self.new ≡ drop 1 (words_of self.old) }
         ensures behind { IfOk result (λ _. self.new ≡ behind_word self.old) }
     {
-        let unread = self.unread(wanted);
+        let before = self.copy();
         let Some(word) = self.word() else {
-            return Err(unread);
+            return Err(before.unread(wanted));
         };
-        read_short_number(word).ok_or(unread)
+        match read_short_number(word) {
+            Some(number) => Ok(number),
+            None => Err(before.unread(wanted)),
+        }
     }
 
     /// Reads the next word, which spells a node's id.

@@ -1,17 +1,14 @@
--- Decimal digits are text, and a test finds what they spell.
+-- What decimal digits spell, and a test that finds it.
 use Rattle.std.proofs.Common.{◌≡◌, ◌<◌, ◌^◌, ℕ, Bool, true, false, ◌&&◌, nat_lt, List, [], ◌∷◌, length, Option, Some}
-use Rattle.std.proofs.Common.{None, if◌then◌else◌, IfSome, IfNone, refl, ap, sym, subst, arith}
-use Rattle.std.specs.Str.{IsUtf8, all_ascii_digits}
-use Rattle.std.specs.Str.Parse.{IsNumeral, AllDigits, digits_value}
-use Rattle.std.proofs.lemmas.Str.{IsUtf8-from_ascii}
-use Rattle.std.proofs.lemmas.Fmt.{IsAscii-from_digits}
+use Rattle.std.proofs.Common.{None, if◌then◌else◌, IfSome, IfNone, refl, ap, sym, subst, arith, ◌+◌, ◌*◌, ◌≤◌, drop, get_or}
+use Rattle.std.specs.Str.{all_ascii_digits}
+use Rattle.std.specs.Char.{digit_value}
+use Rattle.std.specs.Str.Parse.{IsNumeral, AllDigits, digits_value_after, digits_value}
 use Rattle.std.proofs.lemmas.Str.Parse.{tells_all_ascii_digits, digit_from_value}
 use Rattle.std.proofs.lemmas.Str.{digit_value_digit}
+use Rattle.std.proofs.lemmas.List.{drop_more}
 use Rattle.std.proofs.lemmas.Bool.{lt-ltb, ltb-true, false≢true}
 use Rattle.ov_lines.specs.Lines.{number_within}
-
-pub numeral_is_text : (word : List ℕ) → IsNumeral 10 word → IsUtf8 word
-numeral_is_text word numeral = IsUtf8-from_ascii word (IsAscii-from_digits word numeral.1)
 
 both : (a b : Bool) → (a && b) ≡ true → (a ≡ true) × (b ≡ true)
 both true b e = (refl, e)
@@ -61,3 +58,19 @@ pub number_read : (word : List ℕ) (r : Option ℕ) → IfSome r (λ n. IsNumer
     → r ≡ number_within 64 word
 number_read word None some fits none = sym (not_numbered 64 word none)
 number_read word (Some n) some fits none = sym (numbered 64 n word some.0 some.1 fits)
+
+-- a number is no more than the one that it spells with further digits
+least_value : (n : ℕ) (digits : List ℕ) → n ≤ digits_value_after 10 n digits
+least_value n [] = omega arith
+least_value n (c ∷ cs) = omega (arith, least_value (n * 10 + digit_value c) cs)
+
+-- where the digits from a place on, after a number, spell what all do, the number with the next digit is no more
+pub next_value : (n place : ℕ) (word : List ℕ) → place < length word
+    → digits_value_after 10 n (drop place word) ≡ digits_value 10 word
+    → n * 10 + digit_value (get_or word place 0) ≤ digits_value 10 word
+next_value n place word within same =
+    let next = get_or word place 0 in
+    let split : drop place word ≡ next ∷ drop (place + 1) word = drop_more word place 0 within in
+    let step : digits_value_after 10 n (drop place word)
+    ≡ digits_value_after 10 (n * 10 + digit_value next) (drop (place + 1) word) = ap (digits_value_after 10 n) split in
+    omega (arith, step, same, least_value (n * 10 + digit_value next) (drop (place + 1) word))
