@@ -1,8 +1,9 @@
 -- The hauls and the seats of a crew, put together from what each worker returned.
 use Rattle.std.proofs.Common.{◌≡◌, ℕ, zero, suc, ◌+◌, ◌^◌, ◌<◌, true, List, [], ◌∷◌, ◌++◌, length, Ok}
-use Rattle.std.proofs.Common.{slice_get, Some, refl, sym, ap, ◌∙◌, arith}
+use Rattle.std.proofs.Common.{slice_get, Some, refl, sym, ap, ◌∙◌, subst, inl, inr, arith}
 use Rattle.std.proofs.lemmas.Option.{same_Some, slice_get-get_or}
 use Rattle.std.specs.Prelude.{All}
+use Rattle.ov_ids.specs.Members.{Has}
 use Rattle.ov_graph.specs.Links.{LinkGraph}
 use Rattle.ov_board.specs.Board.{BoardState, SeatState, new_seat}
 use Rattle.ov_even.specs.Levels.{AreNumbersOf}
@@ -35,6 +36,14 @@ pub all_new : (b : BoardState) (seats : List SeatState) (n : ℕ) → length sea
 all_new b seats n long has i d low =
     let is = same_Some _ _ (sym (slice_get-get_or seats i d low) ∙ has i (omega (arith, low, long))) in
     (ap (λ (s : SeatState). s.board) is, ap (λ (s : SeatState). s.worker) is)
+
+-- what holds of all holds of each
+pub each_of_all : {X : Type 0} (P : X → Type 0) (xs : List X) (x : X) → All P xs → Has xs x → P x
+each_of_all P [] x all h = absurd h
+each_of_all P (y ∷ ys) x all h = elim h [
+  | inl e ↦ subst P e (all 0 y (omega arith))
+  | inr k ↦ each_of_all P ys x (λ i d low. all (suc i) d (omega (arith, low))) k
+]
 
 -- what is known of workers that have worked at the board and were not out of memory
 pub record HaveAllWorked (g : LinkGraph) (q : List ℕ) (first : ℕ) (b : BoardState) (seats : List SeatState)

@@ -12,7 +12,6 @@ use Rattle.ov_fans.specs.Pieces.{IsPiece}
 use Rattle.ov_fans.specs.Cuts.{IsRight}
 use Rattle.ov_fans.specs.Theorems.{IsNoCut}
 use Rattle.ov_fans.specs.declared.piece.Piece.{Piece}
-use Rattle.ov_fans.specs.declared.settled.Found.{Found}
 use Rattle.ov_fans.specs.declared.settled.Settled.{Settled}
 use Rattle.ov_claims.specs.Claims.{WorkerState, fresh}
 use Rattle.ov_claims.specs.Steps.{failing}
@@ -52,12 +51,12 @@ stopped_haul g q first w v pieces none s h = record {
   );
 }
 
--- the worker w took number x, whose piece was settled with this result, and has become v
-pub record HasGained (w v : WorkerState) (x : ℕ) (found : Found) : Type 0 where
+-- the worker w took number x, and has become v. The number failed if `Fails` holds
+pub record HasGained (w v : WorkerState) (x : ℕ) (Fails : Type 0) : Type 0 where
   pub claimed : v.claimed ≡ w.claimed ++ x ∷ []
   pub skipped : v.skipped ≡ w.skipped
   pub ended : v.ended ≡ w.ended
-  pub failed : (y : ℕ) → Has v.failed y ↔ (Has w.failed y ⊎ ((y ≡ x) × ¬ IsNoCut found))
+  pub failed : (y : ℕ) → Has v.failed y ↔ (Has w.failed y ⊎ ((y ≡ x) × Fails))
 
 -- the failed numbers after one more
 more_failed : (x : ℕ) (xs : List ℕ) (y : ℕ) → Has (adding x xs) y ↔ ((y ≡ x) ⊎ Has xs y)
@@ -69,35 +68,35 @@ more_failed x xs y =
       (λ h. new.0 (more.1 (elim h [ inl e ↦ inl e | inr k ↦ inr (old.1 k) ]))),
     )
 
--- a worker that takes a number and settles its piece has gained it
-gained : (w v : WorkerState) (x : ℕ) (found : Found)
-    → (IsNoCut found × (v ≡ gaining x w)) ⊎ ((¬ IsNoCut found) × (v ≡ failing x (gaining x w))) → HasGained w v x found
-gained w v x found became = elim became [
-  | inl k ↦ subst (λ (u : WorkerState). HasGained w u x found) (sym k.1) record {
-    claimed = refl;
-    skipped = refl;
-    ended = refl;
-    failed = λ y. ((λ h. inl h), (λ h. elim h [ inl m ↦ m | inr m ↦ absurd (m.1 k.0) ]));
-  }
-  | inr k ↦ subst (λ (u : WorkerState). HasGained w u x found) (sym k.1) record {
-    claimed = refl;
-    skipped = refl;
-    ended = refl;
-    failed = λ y.
-        let more = more_failed x w.failed y in (
-          (λ h. elim (more.0 h) [ inl e ↦ inr (e, k.0) | inr m ↦ inl m ]),
-          (λ h. more.1 (elim h [ inl m ↦ inr m | inr m ↦ inl m.0 ])),
-        );
-  }
-]
+-- a worker that takes a number has gained it, without a failure or with one
+pub gained_good : (w v : WorkerState) (x : ℕ) (Fails : Type 0) → ¬ Fails → v ≡ gaining x w → HasGained w v x Fails
+gained_good w v x Fails good became = subst (λ (u : WorkerState). HasGained w u x Fails) (sym became) record {
+  claimed = refl;
+  skipped = refl;
+  ended = refl;
+  failed = λ y. ((λ h. inl h), (λ h. elim h [ inl m ↦ m | inr m ↦ absurd (good m.1) ]));
+}
+
+pub gained_failed : (w v : WorkerState) (x : ℕ) (Fails : Type 0) → Fails → v ≡ failing x (gaining x w)
+    → HasGained w v x Fails
+gained_failed w v x Fails fails became = subst (λ (u : WorkerState). HasGained w u x Fails) (sym became) record {
+  claimed = refl;
+  skipped = refl;
+  ended = refl;
+  failed = λ y.
+      let more = more_failed x w.failed y in (
+        (λ h. elim (more.0 h) [ inl e ↦ inr (e, fails) | inr m ↦ inl m ]),
+        (λ h. more.1 (elim h [ inl m ↦ inr m | inr m ↦ inl m.0 ])),
+      );
+}
 
 pub gains : (g : LinkGraph) (q : List ℕ) (total x : ℕ) (piece : Piece) (w u v : WorkerState)
     (before after : List Settled) → HasTaken total x w u → (s : HasSettled g q piece x u v before after)
-    → HasGained w v x s.settled.found
-gains g q total x piece w u v before after t s = gained w v x s.settled.found (elim s.became [
-  | inl k ↦ inl (k.0, k.1 ∙ t.became)
-  | inr k ↦ inr (k.0, k.1 ∙ ap (failing x) t.became)
-])
+    → HasGained w v x (¬ IsNoCut s.settled.found)
+gains g q total x piece w u v before after t s = elim s.became [
+  | inl k ↦ gained_good w v x (¬ IsNoCut s.settled.found) (λ n. n k.0) (k.1 ∙ t.became)
+  | inr k ↦ gained_failed w v x (¬ IsNoCut s.settled.found) k.0 (k.1 ∙ ap (failing x) t.became)
+]
 
 -- one piece more
 pieces_push : (g : LinkGraph) (q : List ℕ) (first x : ℕ) (numbers : List ℕ) (pieces : List Settled) (s : Settled)
@@ -149,7 +148,7 @@ record AddsPiece (g : LinkGraph) (q : List ℕ) (first x : ℕ) (w v : WorkerSta
   was : IsHaulOf g q first w pieces
   none : w.skipped ≡ None
   later : (y : ℕ) → Has w.claimed y → y < x
-  gained : HasGained w v x piece.found
+  gained : HasGained w v x (¬ IsNoCut piece.found)
   numbered : IsNumbered (length g.nodes) (length q) (first + x) piece.piece
   right : IsRight g q piece
 

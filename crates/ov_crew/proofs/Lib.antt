@@ -3,3 +3,6 @@ pub mod Hauling
 pub mod Trying
 pub mod Gathering
 pub mod Joining
+pub mod Examining
+pub mod Deciding
+pub mod Ascending

@@ -1,9 +1,11 @@
 -- What a worker is after it claimed a number and looked.
 use Rattle.std.proofs.Common.{◌≡◌, ℕ, ◌+◌, ◌-◌, ◌<◌, ◌≤◌, Bool, true, false, cond, nat_lt, max}
-use Rattle.std.proofs.Common.{List, [], ◌∷◌, ◌++◌, Some, refl, sym, ap, ◌∙◌, subst, inl, inr, arith}
+use Rattle.std.proofs.Common.{List, [], ◌∷◌, ◌++◌, Option, Some, Ok, refl, sym, ap, ◌∙◌, subst, inl, inr, arith}
+use Rattle.std.specs.Prelude.{IfSome, OnOk, Result}
 use Rattle.std.proofs.lemmas.Bool.Decides.{nat_tests}
 use Rattle.std.proofs.lemmas.Option.{same_Some}
 use Rattle.ov_ids.specs.Members.{Has}
+use Rattle.ov_ids.specs.declared.out_of_memory.OutOfMemory.{OutOfMemory}
 use Rattle.ov_ids.proofs.Members.{has_append_left, has_append_right, has_append_cases}
 use Rattle.ov_claims.specs.Claims.{WorkerState}
 use Rattle.ov_claims.specs.Steps.{claiming, looking}
@@ -94,3 +96,12 @@ fewer_left total x w v claimed t same =
     let was = bound_below w.claimed x t.later in
     let is : bound_of claimed ≡ x + 1 = ap bound_of same ∙ bound_more w.claimed x was in
     omega (arith, below, was, is)
+
+-- the number that was taken
+pub taken_here : (total : ℕ) (w v : WorkerState) (o : Option ℕ) (x : ℕ) → o ≡ Some x
+    → IfSome o (λ y. HasTaken total y w v) → HasTaken total x w v
+taken_here total w v o x is t = subst (λ (p : Option ℕ). IfSome p (λ y. HasTaken total y w v)) is t
+
+-- what is known of a piece that was settled or examined
+pub settled_here : (P : Type 0) (r : Result (Unit {0}) OutOfMemory) → r ≡ Ok tt → OnOk r P → P
+settled_here P r is h = subst (λ (o : Result (Unit {0}) OutOfMemory). OnOk o P) is h

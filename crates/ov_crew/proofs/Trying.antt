@@ -99,7 +99,7 @@ cut_at g q first b seats hauls least x k are f =
     (a.0, (m.haul, m.there, a.1.0), a.1.1, a.2)
 
 -- a failed number is below the total
-failed_below : (s : DeskState) (x : ℕ) → IsLegal s → HasFailed s x → x < s.total
+pub failed_below : (s : DeskState) (x : ℕ) → IsLegal s → HasFailed s x → x < s.total
 failed_below s x l f =
     let own = (l.workers f.0 f.1 f.2).failed_own x f.3 in
     ((l.claimed x).0 (f.0, (f.1, f.2, own))).1

@@ -2,3 +2,6 @@
 pub mod Turns
 pub mod Crews
 pub mod Parts
+pub mod Ascending
+pub mod Examined
+pub mod Searched

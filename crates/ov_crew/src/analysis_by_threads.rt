@@ -154,7 +154,7 @@ fn enough<R: Threads + Sync, G: Gate, W: Watcher>(
         let level = levels.level();
         let numbers = level_numbers(graph.nodes().len(), group.len(), level);
         watcher.sees(level, 0, numbers.size as usize);
-        let workers = hiring.workers_for(level, numbers.size);
+        let workers = hiring.workers_for(graph, group, level);
         let hauls = try_level(rt, alloc, graph, group, numbers, workers, gate)?;
         match levels.take(hauls)? {
             Searched::Enough(hauls) => return Ok(hauls),

@@ -3,6 +3,10 @@ ghost use Rattle.std.specs.Prelude.{◌≡◌, ◌<◌, ◌≤◌, false};
 
 use ov_claims::Workers;
 use ov_even::FoundPaths;
+use ov_fans::shared_bits;
+use ov_graph::Graph;
+use ov_graph::row::{EMPTY, Row, put};
+use ov_ids::NodeId;
 
 /// How many paths must be sought before one more thread saves time.
 const PATHS_WORTH_A_THREAD: u64 = 1024;
@@ -20,15 +24,15 @@ pub(crate) struct Hiring {
 }
 
 impl Hiring {
-    /// The number of workers for a level with `size` pieces.
-    pub(crate) fn workers_for(&self, level: usize, size: u64) -> Workers
+    /// The number of workers for a level. It follows the paths that the pieces of the level ask for.
+    pub(crate) fn workers_for(&self, graph: &Graph, group: &[NodeId], level: usize) -> Workers
         ensures few { result ≤ self.now.workers }
         ensures all { self.now.sparing ≡ false → result ≡ self.now.workers }
     {
         if !self.sparing {
             return self.workers;
         }
-        let paths = size.saturating_mul(level as u64);
+        let paths = asking_pieces(graph, group, level).saturating_mul(level as u64);
         self.workers.at_most(paths / PATHS_WORTH_A_THREAD)
     }
 
@@ -45,4 +49,34 @@ impl Hiring {
             .max(1);
         found.len().div_ceil(threads as usize)
     }
+}
+
+/// How many pieces of a level ask for paths: the pairs of unlinked members among the first `level` members, and the
+/// fans of later members.
+fn asking_pieces(graph: &Graph, group: &[NodeId], level: usize) -> u64 {
+    let first = &group[..level.min(group.len())];
+    let row = row_of(graph, first);
+    let mut unlinked: usize = 0;
+    for member in first {
+        if let Some(place) = graph.place(*member) {
+            let linked = shared_bits(graph.row_at(place), &row, graph.words());
+            unlinked = unlinked.saturating_add(first.len().saturating_sub(linked));
+        }
+    }
+    // Each member was counted as not linked to itself, and each pair at both its members.
+    let pairs = unlinked.saturating_sub(first.len()) / 2;
+    let fans = group.len() - first.len();
+    pairs.saturating_add(fans) as u64
+}
+
+/// The row of the places of these nodes.
+fn row_of(graph: &Graph, nodes: &[NodeId]) -> Row {
+    prove!(graph.nodes().len() <= Graph::MOST_NODES);
+    let mut row = EMPTY;
+    for node in nodes {
+        if let Some(place) = graph.place(*node) {
+            put(&mut row, place);
+        }
+    }
+    row
 }

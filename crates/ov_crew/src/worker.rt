@@ -11,9 +11,10 @@ ghost use Rattle.ov_even.specs.Order.{AreMoreThan, AreSoMany};
 ghost use Rattle.ov_crew.specs.Hauls.{IsHaulOf};
 ghost use Rattle.ov_crew.specs.Code.Turns.{HasTaken, HasStopped, HasSettled};
 
+use crate::ascending_pieces::AscendingPieces;
 use crate::hook_after_claim::Gate;
 use ov_board::{Board, Seat};
-use ov_even::{Haul, group_piece_at};
+use ov_even::Haul;
 use ov_fans::{Piece, Settled, Settler};
 use ov_graph::Graph;
 use ov_ids::{NodeId, OutOfMemory};
@@ -46,6 +47,7 @@ pub fn work_range<G: Gate>(
         Ok(settler) => settler,
         Err(fault) => return (Err(fault), seat),
     };
+    let mut order = AscendingPieces::new(graph.nodes().len(), group.len());
     let mut seat = seat;
     let mut pieces = Vec::new(alloc);
     loop {
@@ -53,7 +55,7 @@ pub fn work_range<G: Gate>(
         let Some(number) = next else {
             return (Ok(Haul { pieces }), taken);
         };
-        let piece = group_piece_at(graph.nodes().len(), group.len(), first + number);
+        let piece = order.piece_at(first + number);
         let (done, settled) = settle_piece(board, &mut settler, piece, number, &mut pieces, taken);
         if let Err(fault) = done {
             return (Err(fault), settled);
@@ -63,7 +65,7 @@ pub fn work_range<G: Gate>(
 }
 
 /// Claims the next number, passes the gate, and looks. Returns the number to work on, or None if the worker has ended.
-fn take_number<G: Gate>(board: &Board, seat: Seat, gate: &G) -> (Option<u64>, Seat)
+pub(crate) fn take_number<G: Gate>(board: &Board, seat: Seat, gate: &G) -> (Option<u64>, Seat)
     requires mine { seat.board ≡ board.now }
     requires goes_on { seat.worker.ended ≡ false }
     requires none_skipped { seat.worker.skipped ≡ None }

@@ -3,9 +3,12 @@ pub mod FirstCut
 pub mod Slotted
 pub mod Trials
 pub mod Failing
+pub mod Bounding
 pub mod Narrowing
 pub mod Tries
 pub mod Named
+pub mod Examining
 pub mod Entered
 pub mod Assembling
 pub mod ByNumbers
+pub mod Outlining

@@ -1,14 +1,33 @@
--- The levels of pieces: when a level was tried, the state of the search for the level of the deciding piece, and the
--- numbers of the pieces of a level.
-use Rattle.std.specs.Prelude.{◌≡◌, ◌↔◌, ◌⊎◌, ℕ, ◌+◌, ◌<◌, ◌≤◌, List}
+-- The levels of pieces: when a level is good, when it is decided and when it was tried, the state of the search for the
+-- level of the deciding piece, and the numbers of the pieces of a level.
+use Rattle.std.specs.Prelude.{◌≡◌, ◌↔◌, ◌⊎◌, ℕ, ◌+◌, ◌<◌, ◌≤◌, List, Option, Some, None}
 use Rattle.ov_graph.specs.Links.{LinkGraph}
-use Rattle.ov_fans.specs.Pieces.{IsPiece, level_of}
+use Rattle.ov_fans.specs.Pieces.{IsPiece, IsGood, level_of}
+use Rattle.ov_fans.specs.Cuts.{IsParted}
 use Rattle.ov_fans.specs.Theorems.{IsNoCut}
 use Rattle.ov_fans.specs.declared.piece.Piece.{Piece}
 use Rattle.ov_fans.specs.declared.settled.Settled.{Settled}
 use Rattle.ov_even.specs.Order.{ComesBefore, IsNumbered, AreSoMany}
 use Rattle.ov_even.specs.Hauls.{IsInHauls, IsCleared}
+use Rattle.ov_even.specs.declared.cut_search.PartedPiece.{PartedPiece}
 use Rattle.ov_even.specs.declared.worker_haul.Haul.{Haul}
+
+-- a level is good: each of its pieces is good
+abbrev pub IsLevelGood : LinkGraph → List ℕ → ℕ → Type 0
+IsLevelGood g q level = (p : Piece) → IsPiece g q p → level_of p ≡ level → IsGood g q p
+
+-- f is the first piece of the level that is not good, with its parting
+pub record IsFirstOfLevel (g : LinkGraph) (q : List ℕ) (level : ℕ) (f : PartedPiece) : Type 0 where
+  pub piece : IsPiece g q f.piece
+  pub of_level : level_of f.piece ≡ level
+  pub fails : ¬ IsGood g q f.piece
+  pub before : (r : Piece) → IsPiece g q r → level_of r ≡ level → ComesBefore r f.piece → IsGood g q r
+  pub parted : IsParted g q f.piece f.parting.value
+
+-- a level is decided: None says that it is good, and otherwise this is its first piece that is not good
+abbrev pub IsLevelDecided : LinkGraph → List ℕ → ℕ → Option PartedPiece → Type 0
+IsLevelDecided g q level None = IsLevelGood g q level
+IsLevelDecided g q level (Some f) = IsFirstOfLevel g q level f
 
 -- the hauls clear a level: each of its pieces is cleared
 abbrev pub IsLevelCleared : LinkGraph → List ℕ → List Haul → ℕ → Type 0

@@ -7,4 +7,5 @@ pub mod Searching
 pub mod Naming
 pub mod Faults
 pub mod Theorems
+pub mod Outlines
 pub mod Code

@@ -1,7 +1,10 @@
 -- The search for the level of the deciding piece: how many levels it tries, and what it has after a level was tried.
 use Rattle.std.specs.Prelude.{◌≡◌, ℕ, ◌+◌, ◌*◌, ◌^◌, ◌<◌, ◌≤◌}
+use Rattle.ov_even.specs.First.{IsDecidingCut}
 use Rattle.ov_even.specs.Hauls.{Suffice}
 use Rattle.ov_even.specs.Levels.{SearchState}
+use Rattle.ov_even.specs.declared.cut_search.CutSearched.{CutSearched}
+use Rattle.ov_even.specs.declared.cut_search.CutSearched.TheVariants as cut
 use Rattle.ov_even.specs.declared.level_search.Searched.{Searched}
 use Rattle.ov_even.specs.declared.level_search.Searched.TheVariants.{Enough, Again}
 
@@ -9,7 +12,7 @@ use Rattle.ov_even.specs.declared.level_search.Searched.TheVariants.{Enough, Aga
 abbrev pub AreFewTries : ℕ → ℕ → Type 0
 AreFewTries n tries = (k : ℕ) → n < 2 ^ k → tries ≤ 2 * k + 1
 
--- the search goes on, for the same graph and group, with a lower bound on how many levels are still tried
+-- the search goes on, for the same graph and group, with a smaller bound on how many levels are still tried
 pub record SearchGoesOn (s next : SearchState) : Type 0 where
   pub graph : next.graph ≡ s.graph
   pub members : next.members ≡ s.members
@@ -19,3 +22,8 @@ pub record SearchGoesOn (s next : SearchState) : Type 0 where
 abbrev pub IsSearched : SearchState → Searched → Type 0
 IsSearched s (Enough hauls) = Suffice s.graph s.members hauls.items
 IsSearched s (Again next) = SearchGoesOn s next
+
+-- after a level was decided, the deciding piece is known with its parting, or the search goes on
+abbrev pub IsCutSearched : SearchState → CutSearched → Type 0
+IsCutSearched s (cut.Decided f) = IsDecidingCut s.graph s.members f
+IsCutSearched s (cut.Again next) = SearchGoesOn s next

@@ -9,12 +9,13 @@ ghost use Rattle.ov_even.specs.Code.Cuts.{IsDeciding};
 ghost use Rattle.ov_even.specs.declared.fault.AnalyseFault.TheVariants.{OutOfMemory as out_of_memory};
 
 use crate::certificate_entries::{Entries, entries_of};
+use crate::certificate_outline::linked_cert;
 use crate::certificate_pieces::wanted_paths;
 use crate::fault::AnalyseFault;
 use crate::first_piece_with_cut::first_cut;
 use crate::path_naming::{NamedPaths, name_paths};
 use crate::worker_haul::Haul;
-use ov_cert::{Cert, Checked, Split, are_all_linked};
+use ov_cert::{Cert, Checked, Split};
 use ov_fans::{Found, Parting, Settled};
 use ov_graph::Graph;
 use ov_ids::{NodeId, OutOfMemory, Seq};
@@ -99,10 +100,8 @@ fn cert_of(
     ensures valid { IfOk result (λ c. IsValidForGroup graph.now group.now c) }
 {
     prove!(graph.nodes().len() <= Graph::MOST_NODES);
-    if are_all_linked(graph, group) {
-        return Ok(Cert::Linked {
-            k: group.len() as u32 - 1,
-        });
+    if let Some(cert) = linked_cert(graph, group) {
+        return Ok(cert);
     }
     match first_cut(hauls) {
         Some(first) => split_cert(alloc, graph, group, first, named),

@@ -1,15 +1,14 @@
-//! The search for the level of the deciding piece. A certificate needs only that level and the one below it. Other
-//! levels are tried only to find it: levels are about doubled first, and then those between a good level and one that
-//! is not good are halved.
+//! The search for the level of the deciding piece, with what was settled of that level and the one below it: a
+//! certificate needs no more. Other levels are tried only to find it.
 ghost use Rattle.std.specs.Prelude.{◌≡◌, ◌<◌, ◌≤◌, ◌+◌, ◌++◌, length, IfOk, IfSome, IfNone};
-ghost use Rattle.ov_graph.specs.Links.{IsGraph, IsWithinLimit, IsGroup, AreAllLinked, most_nodes};
+ghost use Rattle.ov_graph.specs.Links.{IsGraph, IsWithinLimit, IsGroup, AreAllLinked};
 ghost use Rattle.ov_even.specs.Hauls.{AreRight, Suffice};
 ghost use Rattle.ov_even.specs.Levels.{IsTried};
 ghost use Rattle.ov_even.specs.Searching.{AreFewTries, IsSearched};
-ghost use Rattle.ov_even.specs.Code.Narrowing.{HasDeciding, AreBounds, IsNext, HasCutWithin, HasCutOf, tries_left};
+ghost use Rattle.ov_even.specs.Code.Narrowing.{HasCutWithin, HasCutOf};
 
-use crate::failing_level::failing_level;
 use crate::first_piece_with_cut::{cut_size, first_cut};
+use crate::level_bounds::LevelBounds;
 use crate::level_trying::try_level;
 use crate::progress_watcher::Watcher;
 use crate::worker_haul::Haul;
@@ -24,35 +23,20 @@ use std::marker::Model;
 /// graph, the members, the level to try next, and a bound on how many levels are still tried.
 #[derive(Drop)]
 pub struct LevelSearch<'a> {
-    graph: &'a Graph,
-    group: &'a [NodeId],
-    /// The kept hauls clear this level.
-    low: usize,
-    /// The level to try next.
-    level: usize,
-    /// This level is not good.
-    high: usize,
-    /// No level just below `high` has been tried in vain.
-    guesses: bool,
+    bounds: LevelBounds<'a>,
+    /// These clear the good level `low` of the bounds.
     kept: Vec<Haul>,
 }
 
 impl<'a> Model for LevelSearch<'a> {
-    ghost use Rattle.std.specs.Prelude.{length};
     ghost use Rattle.ov_even.specs.Levels.{SearchState};
-    ghost use Rattle.ov_even.specs.Code.Narrowing.{HasDeciding, AreBounds, IsNext, tries_left};
+    ghost use Rattle.ov_even.specs.Code.Narrowing.{AreKept};
 
     ghost Value = { SearchState };
 
-    ghost view = { λ s. record {
-      graph = s.graph.now;
-      members = s.group.now;
-      level = s.level;
-      left = tries_left s.low s.high s.guesses;
-    } };
+    ghost view = { λ s. s.bounds.search };
 
-    ghost invariant = { λ s. HasDeciding s.graph.now s.group.now
-        × AreBounds s.graph.now s.group.now s.kept.items s.low s.high × IsNext s.low s.high s.guesses s.level };
+    ghost invariant = { λ s. AreKept s.bounds s.kept.items };
 }
 
 /// The search after a level was tried.
@@ -74,33 +58,9 @@ impl<'a> LevelSearch<'a> {
         ensures members { result.members ≡ group.now }
         ensures few { AreFewTries (length graph.now.nodes) result.left }
     {
-        let high = failing_level(graph, group);
-        LevelSearch::between(graph, group, 0, high, true, Vec::new(alloc))
-    }
-
-    /// The search with these bounds.
-    fn between(
-        graph: &'a Graph,
-        group: &'a [NodeId],
-        low: usize,
-        high: usize,
-        guesses: bool,
-        kept: Vec<Haul>,
-    ) -> LevelSearch<'a>
-        requires deciding { HasDeciding graph.now group.now }
-        requires bounds { AreBounds graph.now group.now kept.items low high }
-        ensures graph { result.graph ≡ graph.now }
-        ensures members { result.members ≡ group.now }
-        ensures left { result.left ≡ tries_left low high guesses }
-    {
         LevelSearch {
-            graph,
-            group,
-            low,
-            level: next_level(low, high, guesses),
-            high,
-            guesses,
-            kept,
+            bounds: LevelBounds::new(graph, group),
+            kept: Vec::new(alloc),
         }
     }
 
@@ -114,7 +74,7 @@ impl<'a> LevelSearch<'a> {
         ensures within { IsWithinLimit self.now.graph }
         ensures group { IsGroup self.now.graph self.now.members }
     {
-        self.level
+        self.bounds.level()
     }
 
     /// Takes what was settled of the level to try next: each of its pieces, or each up to one that has a cut. The order
@@ -124,26 +84,17 @@ impl<'a> LevelSearch<'a> {
         requires tried { IsTried self.graph self.members hauls.items self.level }
         ensures { IfOk result (IsSearched self.entry) }
     {
-        let LevelSearch {
-            graph,
-            group,
-            low,
-            level,
-            high,
-            guesses,
-            kept,
-        } = self;
-        match cut_within(&hauls, level) {
-            None => {
-                let next = LevelSearch::between(graph, group, level, high, guesses, hauls);
-                Ok(Searched::Again(next))
-            }
-            Some(_) if level == low + 1 => Ok(Searched::Enough(joined(kept, hauls)?)),
-            Some(size) => {
-                let guesses = guesses && level + 1 < high;
-                let next = LevelSearch::between(graph, group, low, size + 1, guesses, kept);
-                Ok(Searched::Again(next))
-            }
+        let LevelSearch { bounds, kept } = self;
+        match cut_within(&hauls, bounds.level()) {
+            None => Ok(Searched::Again(LevelSearch {
+                bounds: bounds.raised(),
+                kept: hauls,
+            })),
+            Some(_) if bounds.is_just_above_low() => Ok(Searched::Enough(joined(kept, hauls)?)),
+            Some(size) => Ok(Searched::Again(LevelSearch {
+                bounds: bounds.lowered(size),
+                kept,
+            })),
         }
     }
 }
@@ -168,24 +119,6 @@ pub(crate) fn search<W: Watcher>(
             Searched::Again(next) => levels = next,
         }
     }
-}
-
-/// The level to try next: `high` if it is just above `low`. Otherwise it is between the two. As long as levels are
-/// guessed, it is 2 * low + 1 if that is less than half of `high`, and else just below `high`. Then it is in the
-/// middle.
-fn next_level(low: usize, high: usize, guesses: bool) -> usize
-    requires rises { low < high }
-    requires fits { high < most_nodes }
-    ensures { IsNext low high guesses result }
-{
-    if low + 1 == high {
-        return high;
-    }
-    if !guesses {
-        return (low + high) / 2;
-    }
-    let double = 2 * low + 1;
-    if 2 * double < high { double } else { high - 1 }
 }
 
 /// The size of the first cut in the hauls, if it belongs to a piece of the level or of a lower one.

@@ -5,10 +5,14 @@
 mod analysis;
 mod assembly;
 mod certificate_entries;
+mod certificate_outline;
 mod certificate_pieces;
+mod cut_search;
 mod failing_level;
 mod fault;
+mod first_cut_of_level;
 mod first_piece_with_cut;
+mod level_bounds;
 mod level_pieces;
 mod level_search;
 mod level_trying;
@@ -22,7 +26,9 @@ mod worker_haul;
 
 pub use analysis::{analyse_alone, analyse_group_alone, analyse_group_watched};
 pub use assembly::{assemble, assemble_group, assemble_named};
+pub use certificate_outline::{linked_cert, outline_group_watched, outline_of};
 pub use certificate_pieces::wanted_paths;
+pub use cut_search::{CutSearch, CutSearched, PartedPiece};
 pub use fault::AnalyseFault;
 pub use level_search::{LevelSearch, Searched};
 pub use ov_fans::Piece;

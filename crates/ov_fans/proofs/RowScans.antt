@@ -2,3 +2,4 @@
 pub mod Lower
 pub mod Outside
 pub mod Listing
+pub mod Counting

@@ -1,5 +1,6 @@
-ghost use Rattle.std.specs.Prelude.{◌≡◌, ◌↔◌, ◌<◌, IfOk};
+ghost use Rattle.std.specs.Prelude.{◌≡◌, ◌↔◌, ℕ, ◌<◌, List, IfOk, IfSome, IfNone, MatchOption};
 ghost use Rattle.ov_graph.specs.Links.{IsGraph, IsGroup};
+ghost use Rattle.ov_split.specs.SplitNetState.{IsFanOf};
 ghost use Rattle.ov_flow.specs.Flow.{IsFullBy};
 ghost use Rattle.ov_fans.specs.Pieces.{level_of, IsPiece, IsLinkedPair, IsGood};
 ghost use Rattle.ov_fans.specs.Cuts.{IsRight, IsFoundFor, IsParted};
@@ -11,6 +12,7 @@ use crate::group_member_places::SettlerGroup;
 use crate::piece::Piece;
 use crate::piece_net::{aim_for, is_linked_pair};
 use crate::settled::{Found, Parting, Settled};
+use crate::short_paths::has_short_paths;
 use crate::target_past_cut::far_of;
 use ov_flow::{CutRows, Flow};
 use ov_graph::Graph;
@@ -76,6 +78,29 @@ impl<'g> Settler<'g> {
         Ok(Settled { piece, found })
     }
 
+    /// The nearest minimum cut of a piece, with its parting, or None if the piece is good (Menger, Fund. Math. 10,
+    /// 1927). It is the cut that `settle` finds, but no paths are made. No search is made for a pair with enough common
+    /// neighbours, nor for a fan whose source is linked to enough members before it: these are good. Out of memory (99)
+    /// is the only fault. Graph and members stay.
+    pub fn nearest_cut(&mut self, piece: Piece) -> Result<Option<Box<Parting>>, OutOfMemory>
+        requires { IsPiece self.old.graph self.old.members piece }
+        ensures none { IfOk result (λ cut. IfNone cut (IsGood self.old.graph self.old.members piece)) }
+        ensures some { IfOk result (λ cut. IfSome cut (λ c. IsParted self.old.graph self.old.members piece c.value)) }
+        ensures stays { self.new ≡ self.old }
+    {
+        if is_linked_pair(&self.group, piece) || has_short_paths(&self.group, piece) {
+            return Ok(None);
+        }
+        match seek(&self.group, &mut self.flow, piece) {
+            None => Ok(None),
+            Some(rows) => {
+                let held = self.flow.held();
+                let parting = parting(self.alloc, &self.group, piece, &rows, held)?;
+                Ok(Some(parting))
+            }
+        }
+    }
+
     /// The result of a search for a piece that is no linked pair.
     fn sought(&mut self, piece: Piece) -> Result<Found, OutOfMemory>
         requires piece { IsPiece self.old.graph self.old.members piece }
@@ -84,9 +109,7 @@ impl<'g> Settler<'g> {
         ensures stays { self.new ≡ self.old }
         ensures graph { IsGraph self.old.graph }
     {
-        let aim = aim_for(&self.group, piece);
-        let net = SplitNet::new(self.group.graph(), aim.avoided, aim.source, aim.targets);
-        match self.flow.seek(net, piece.level() as usize) {
+        match seek(&self.group, &mut self.flow, piece) {
             None => Ok(Found::Paths(self.flow.paths()?)),
             Some(rows) => {
                 let held = self.flow.held();
@@ -95,6 +118,25 @@ impl<'g> Settler<'g> {
             }
         }
     }
+}
+
+/// Seeks the paths of a piece that is no linked pair. If they are found, the flow holds them, and the result is None.
+/// Otherwise the result is the nearest minimum cut of the piece's net.
+fn seek<'g>(group: &SettlerGroup<'g>, flow: &mut Flow<'g>, piece: Piece) -> Option<CutRows>
+    requires piece { IsPiece group.now.graph group.now.members piece }
+    requires apart { ¬ IsLinkedPair group.now.graph group.now.members piece }
+    requires graph { flow.old.net.graph ≡ group.now.graph }
+    ensures net { flow.new.net ≡ net_of group.now.graph group.now.members piece }
+    ensures held { MatchOption result (flow.new.held ≡ level_of piece) (λ rows. (flow.new.held < level_of piece)
+        × IsFullBy (net_of group.now.graph group.now.members piece) flow.new.held rows) }
+    ensures fan { (paths : List (List ℕ)) × IsFanOf flow.new.net flow.new.held paths }
+    ensures stays { flow.new.net.graph ≡ flow.old.net.graph }
+    ensures graph { IsGraph group.now.graph }
+    ensures group { IsGroup group.now.graph group.now.members }
+{
+    let aim = aim_for(group, piece);
+    let net = SplitNet::new(group.graph(), aim.avoided, aim.source, aim.targets);
+    flow.seek(net, piece.level() as usize)
 }
 
 /// Settles one piece for the group of all nodes, as `settle_group` does.

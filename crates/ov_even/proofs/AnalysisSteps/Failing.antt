@@ -1,6 +1,6 @@
 -- Levels at which Even's test does not pass: the last one, that above the degree of a member, and that above the size
 -- of a cut.
-use Rattle.std.proofs.Common.{◌≡◌, ◌≢◌, inl, ℕ, ◌<◌, ◌+◌, List, [], ◌∷◌, length, refl, arith}
+use Rattle.std.proofs.Common.{◌≡◌, ◌≢◌, inl, ℕ, ◌<◌, ◌+◌, List, [], ◌∷◌, length, refl, subst, arith}
 use Rattle.ov_ids.specs.Members.{Has}
 use Rattle.ov_graph.specs.Links.{LinkGraph, IsGraph, Linked, IsGroup, AreAllLinked, AreNeighbours}
 use Rattle.ov_graph.specs.Joined.{Leads, SplitsGroup}
@@ -10,13 +10,14 @@ use Rattle.ov_graph.proofs.EvenTest.Sufficing.{even_suffices}
 use Rattle.ov_graph.proofs.EvenTest.Walks.{AllSurvive, steps_of}
 use Rattle.ov_flow.proofs.Beginning.{not_self}
 use Rattle.ov_fans.specs.Pieces.{IsPiece, level_of}
-use Rattle.ov_fans.specs.Cuts.{IsFoundFor}
+use Rattle.ov_fans.specs.Cuts.{IsParted, IsFoundFor}
 use Rattle.ov_fans.specs.declared.piece.Piece.{Piece}
+use Rattle.ov_fans.specs.declared.settled.Parting.{Parting}
 use Rattle.ov_fans.specs.declared.settled.Found.{Found}
 use Rattle.ov_fans.specs.declared.settled.Found.TheVariants.{Linked as linked_found, Paths, Cut}
 use Rattle.ov_even.specs.Hauls.{AreRight}
 use Rattle.ov_even.specs.declared.worker_haul.Haul.{Haul}
-use Rattle.ov_even.specs.Code.Narrowing.{HasUnlinked, IsCutOf, HasCutOf}
+use Rattle.ov_even.specs.Code.Narrowing.{HasUnlinked, IsCutOf, HasCutOf, SplitsWith}
 use Rattle.ov_even.proofs.EvenTest.Complete.{none_split}
 use Rattle.ov_even.proofs.EvenTest.Passing.{split_has}
 use Rattle.ov_even.proofs.EvenTest.Splitting.{parted_splits}
@@ -55,23 +56,18 @@ neighbours_split g q a ns graph here other are = record {
       lone_steps g a other.0 ns w.steps are other.2 w.leads w.stay;
 }
 
--- a set of this size, below the level, splits the group
-pub record SplitsWith (g : LinkGraph) (q : List ℕ) (level size : ℕ) : Type 0 where
-  pub set : List ℕ
-  pub split : SplitsGroup g q set
-  pub count : length set ≡ size
-  pub few : size < level
+-- the cut of a parting splits the group, and is smaller than the level of its piece
+pub parting_splits : (g : LinkGraph) (q : List ℕ) (p : Piece) (c : Parting) → IsGroup g q → IsPiece g q p
+    → IsParted g q p c → SplitsWith g q (level_of p) (length c.cut)
+parting_splits g q p c group at parted =
+    record { set = c.cut; split = parted_splits g q p c group at parted; count = refl; few = parted.few }
 
 cut_splits : (g : LinkGraph) (q : List ℕ) (p : Piece) (found : Found) (size : ℕ) → IsGroup g q → IsPiece g q p
     → IsFoundFor g q p found → IsCutOf found size → SplitsWith g q (level_of p) size
 cut_splits g q p linked_found size group at right of = absurd of
 cut_splits g q p (Paths paths) size group at right of = absurd of
-cut_splits g q p (Cut parting) size group at right of = record {
-  set = parting.value.cut;
-  split = parted_splits g q p parting.value group at right;
-  count = of;
-  few = let few = right.few in omega (arith, few, of);
-}
+cut_splits g q p (Cut parting) size group at right of =
+    subst (SplitsWith g q (level_of p)) of (parting_splits g q p parting.value group at right)
 
 -- a cut of this size, of a level or of a lower one, splits the group
 pub within_splits : (g : LinkGraph) (q : List ℕ) (hauls : List Haul) (level size : ℕ) → IsGroup g q → AreRight g q hauls

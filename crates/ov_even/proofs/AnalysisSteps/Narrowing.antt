@@ -1,12 +1,11 @@
--- The search for the deciding level: its bounds after each try, and that its result suffices.
-use Rattle.std.proofs.Common.{◌≡◌, ◌⊎◌, inl, inr, ℕ, zero, suc, Bool, ◌<◌, ◌≤◌, ◌+◌, List, [], ◌∷◌, length, sym}
+-- The search for the deciding level: what a tried level says, and that its result suffices.
+use Rattle.std.proofs.Common.{◌≡◌, ◌⊎◌, inl, inr, ℕ, ◌<◌, ◌≤◌, ◌+◌, List, [], ◌∷◌, length, sym}
 use Rattle.std.proofs.Common.{◌∙◌, subst, arith}
 use Rattle.std.proofs.lemmas.Bool.{cases_lt}
 use Rattle.std.proofs.Common.{◌++◌, Option, Some, None, IfSome, IfNone}
 use Rattle.ov_ids.specs.Members.{Has}
 use Rattle.ov_ids.proofs.Members.{ascends_distinct, has_append_left, has_append_right, has_append_cases}
-use Rattle.ov_graph.specs.Links.{LinkGraph, IsGroup, AreAllLinked}
-use Rattle.ov_graph.specs.Even.{PassesEven}
+use Rattle.ov_graph.specs.Links.{LinkGraph, IsGraph, IsGroup, AreAllLinked}
 use Rattle.ov_fans.specs.Pieces.{level_of}
 use Rattle.ov_fans.specs.declared.piece.Piece.{Piece}
 use Rattle.ov_fans.specs.Theorems.{IsNoCut}
@@ -18,13 +17,13 @@ use Rattle.ov_fans.proofs.PieceNets.Ranks.{fits}
 use Rattle.ov_even.specs.Hauls.{IsInHauls, IsCleared, AreRight, Suffice}
 use Rattle.ov_even.specs.declared.worker_haul.Haul.{Haul}
 use Rattle.ov_fans.specs.Group.{SettlerState}
-use Rattle.ov_even.specs.Levels.{IsLevelCleared, StopsAt, IsTried, SearchState}
-use Rattle.ov_even.specs.Code.Narrowing.{HasDeciding, AreBounds, IsNext, HasCutWithin, IsCutOf, HasCutOf}
+use Rattle.ov_even.specs.Levels.{IsLevelGood, IsLevelCleared, StopsAt, IsTried, SearchState}
+use Rattle.ov_even.specs.Searching.{SearchGoesOn}
+use Rattle.ov_even.specs.Code.Narrowing.{BoundsState, AreKept, HasCutWithin, IsCutOf, HasCutOf}
 use Rattle.ov_even.proofs.EvenTest.Deciding.{cleared_good}
-use Rattle.ov_even.proofs.EvenTest.Passing.{passes_none, passes_level, split_has, lower_good}
+use Rattle.ov_even.proofs.EvenTest.Passing.{below_good}
 use Rattle.ov_even.specs.Code.Cuts.{IsFirstCut, all_settled}
 use Rattle.ov_even.proofs.AnalysisSteps.FirstCut.{among_all, in_hauls}
-use Rattle.ov_even.proofs.AnalysisSteps.Failing.{split_fails, within_splits}
 use Rattle.ov_even.proofs.PieceOrder.Comparing.{number_cases}
 
 -- a group has at most as many members as the graph has nodes
@@ -80,76 +79,25 @@ tried_clears g q hauls level tried none = elim tried [
       absurd (none (stop.0, stop.1.there, stop.1.cut, omega (arith, at)))
 ]
 
+-- where no piece of a tried level or of a lower one has a cut, the level is good
+pub tried_good : (g : LinkGraph) (q : List ℕ) (hauls : List Haul) (level : ℕ) → IsGraph g → AreRight g q hauls
+    → IsTried g q hauls level → ¬ HasCutWithin hauls level → IsLevelGood g q level
+tried_good g q hauls level graph right tried none p at e =
+    cleared_good g q hauls p graph right (tried_clears g q hauls level tried none p at e)
+
 -- where such a piece has a cut, the level is not cleared
-pub tried_stops : (g : LinkGraph) (q : List ℕ) (hauls : List Haul) (level : ℕ) → HasDeciding g q → AreRight g q hauls
-    → 1 ≤ level → level < length g.nodes → IsTried g q hauls level → HasCutWithin hauls level
+pub tried_stops : (g : LinkGraph) (q : List ℕ) (hauls : List Haul) (level : ℕ) → IsGraph g → IsGroup g q
+    → AreRight g q hauls → level < length g.nodes → IsTried g q hauls level → HasCutWithin hauls level
     → (s : Settled) × StopsAt g q hauls level s
-tried_stops g q hauls level has right low high tried within = elim tried [
+tried_stops g q hauls level graph group right high tried within = elim tried [
   | inl cleared ↦
       let s = within.0 in
       let is = right s within.1 in
-      let even = passes_level g q level has.group low high
-      (λ p at e. cleared_good g q hauls p has.graph right (cleared p at e)) in
-      let good = lower_good g q level s.piece has.graph has.group even is.0 within.3 in
-      absurd (within.2 ((decides g q s has.graph is.1).0 good))
+      let good = below_good g q level s.piece graph group high
+      (λ p at e. cleared_good g q hauls p graph right (cleared p at e)) is.0 within.3 in
+      absurd (within.2 ((decides g q s graph is.1).0 good))
   | inr stop ↦ stop
 ]
-
--- if a level is cleared, Even's test passes at it
-pub cleared_passes : (g : LinkGraph) (q : List ℕ) (hauls : List Haul) (level : ℕ) → HasDeciding g q → AreRight g q hauls
-    → level < length g.nodes → IsLevelCleared g q hauls level → PassesEven g q level
-cleared_passes g q hauls zero has right high cleared = passes_none g q
-cleared_passes g q hauls (suc k) has right high cleared =
-    passes_level g q (suc k) has.group (omega arith) high
-    (λ p at e. cleared_good g q hauls p has.graph right (cleared p at e))
-
--- the bounds after a level was cleared: it becomes the lower one
-pub cleared_bounds : (g : LinkGraph) (q : List ℕ) (kept hauls : List Haul) (low level high : ℕ) → HasDeciding g q
-    → AreBounds g q kept low high → level ≤ high → AreRight g q hauls → IsTried g q hauls level
-    → ¬ HasCutWithin hauls level → AreBounds g q hauls level high
-cleared_bounds g q kept hauls low level high has bounds most right tried none =
-    let cleared = tried_clears g q hauls level tried none in
-    let below = bounds.below in
-    let even = cleared_passes g q hauls level has right (omega (arith, most, below)) cleared in
-    record {
-      rises = elim (cases_lt level high) [
-        | inl l ↦ l
-        | inr l ↦
-            let e : level ≡ high = omega (arith, l, most) in
-            absurd (bounds.fails (subst (PassesEven g q) e even))
-      ];
-      below = below;
-      right = right;
-      cleared = cleared;
-      fails = bounds.fails;
-    }
-
--- the bounds after a level turned out to have a cut: the level above the size of the cut is not good
-pub stopped_bounds : (g : LinkGraph) (q : List ℕ) (kept hauls : List Haul) (low level high size : ℕ) → HasDeciding g q
-    → AreBounds g q kept low high → level ≤ high → AreRight g q hauls → HasCutOf hauls level size
-    → AreBounds g q kept low (size + 1)
-stopped_bounds g q kept hauls low level high size has bounds most right within =
-    let w = within_splits g q hauls level size has.group right within in
-    let below = bounds.below in
-    let rises = bounds.rises in
-    let few = w.few in
-    let count = w.count in
-    let even = cleared_passes g q kept low has bounds.right (omega (arith, rises, below)) bounds.cleared in
-    let many = split_has g q low w.set has.group even w.split in
-    record {
-      rises = omega (arith, many, count);
-      below = omega (arith, few, most, below);
-      right = bounds.right;
-      cleared = bounds.cleared;
-      fails = split_fails g q w.set (size + 1) has.group w.split (omega (arith, count));
-    }
-
--- the level above the size of a cut is at most the level that was tried
-pub size_within : (g : LinkGraph) (q : List ℕ) (hauls : List Haul) (level size : ℕ) → IsGroup g q → AreRight g q hauls
-    → HasCutOf hauls level size → size + 1 ≤ level
-size_within g q hauls level size group right within =
-    let few = (within_splits g q hauls level size group right within).few in
-    omega (arith, few)
 
 -- what is in the hauls of two lists is in those of one
 pub in_either : (kept hauls : List Haul) (s : Settled) → IsInHauls (kept ++ hauls) s
@@ -204,17 +152,31 @@ suffices g q low kept hauls s kept_right cleared right stop =
     )
 
 -- a tried level with a cut suffices, together with the cleared level below it
-pub tried_suffices : (g : LinkGraph) (q : List ℕ) (low level high : ℕ) (guesses : Bool) (kept hauls : List Haul)
-    → HasDeciding g q → AreBounds g q kept low high → IsNext low high guesses level → AreRight g q hauls
-    → IsTried g q hauls level
-    → HasCutWithin hauls level → level ≡ low + 1 → Suffice g q (kept ++ hauls)
-tried_suffices g q low level high guesses kept hauls has bounds between right tried within next =
-    let above = between.above in
-    let most = between.most in
-    let below = bounds.below in
-    let stop = tried_stops g q hauls level has right (omega (arith, above)) (omega (arith, most, below)) tried within in
-    suffices g q low kept hauls stop.0 bounds.right bounds.cleared right
+pub tried_suffices : (bounds : BoundsState) (kept hauls : List Haul) (level : ℕ) → IsGraph bounds.search.graph
+    → IsGroup bounds.search.graph bounds.search.members → level < length bounds.search.graph.nodes
+    → AreKept bounds kept → AreRight bounds.search.graph bounds.search.members hauls
+    → IsTried bounds.search.graph bounds.search.members hauls level → HasCutWithin hauls level
+    → level ≡ bounds.low + 1 → Suffice bounds.search.graph bounds.search.members (kept ++ hauls)
+tried_suffices bounds kept hauls level graph group below keeps right tried within next =
+    let g = bounds.search.graph in
+    let q = bounds.search.members in
+    let stop = tried_stops g q hauls level graph group right below tried within in
+    suffices g q bounds.low kept hauls stop.0 keeps.right keeps.cleared right
     (subst (λ (l : ℕ). StopsAt g q hauls l stop.0) next stop.1)
+
+-- the hauls that cleared a level are kept when it becomes the lower bound
+pub kept_raised : (bounds next : BoundsState) (hauls : List Haul)
+    → AreRight bounds.search.graph bounds.search.members hauls
+    → IsLevelCleared bounds.search.graph bounds.search.members hauls bounds.search.level
+    → next.low ≡ bounds.search.level → SearchGoesOn bounds.search next.search → AreKept next hauls
+kept_raised bounds next hauls right cleared low on =
+    record { right = rw (on.graph, on.members) right; cleared = rw (low, on.graph, on.members) cleared }
+
+-- the kept hauls are kept while the lower bound stays
+pub kept_on : (bounds next : BoundsState) (kept : List Haul) → AreKept bounds kept → next.low ≡ bounds.low
+    → SearchGoesOn bounds.search next.search → AreKept next kept
+kept_on bounds next kept keeps low on =
+    record { right = rw (on.graph, on.members) keeps.right; cleared = rw (low, on.graph, on.members) keeps.cleared }
 
 -- the haul of a settler for the graph and the group of a search is right for that search
 pub right_of_one : (settler : SettlerState) (g : LinkGraph) (q : List ℕ) (s : SearchState) (haul : Haul)

@@ -91,31 +91,37 @@ alone_cleared g q haul r cleared = elim cleared [
   | inr t ↦ inr (t.0, (haul, inl refl, t.1), t.2, t.3)
 ]
 
+-- a piece of the level that comes before the next one is among those that were yielded
+pub before_seen : (g : LinkGraph) (q : List ℕ) (level : ℕ) (seen rest : List Piece) (p r : Piece)
+    → pieces_of_level (length q) level ≡ seen ++ p ∷ rest → IsPiece g q r → level_of r ≡ level → ComesBefore r p
+    → Has seen r
+before_seen g q level seen rest p r e is same first =
+    let order : Ordered ComesBefore (seen ++ p ∷ rest) =
+    subst (Ordered ComesBefore) e (ordered_columns level 0 (length q)) in
+    let h : Has (seen ++ p ∷ rest) r = subst (λ l. Has l r) e (listed g q level r is same) in
+    elim (has_append_cases seen (p ∷ rest) r h) [
+      | inl k ↦ k
+      | inr k ↦ absurd (elim k [
+        | inl d ↦ before_once p (subst (λ x. ComesBefore x p) (sym d) first)
+        | inr m ↦ not_both_before r p first
+            (ordered_across ComesBefore (seen ++ p ∷ []) rest p r
+            (subst (Ordered ComesBefore) (sym (append_assoc seen (p ∷ []) rest)) order)
+            (has_append_right seen (p ∷ []) p (inl refl)) m)
+      ])
+    ]
+
 -- a piece has a cut, and the pieces before it in the level are cleared
 pub stops : (g : LinkGraph) (q : List ℕ) (level : ℕ) (pieces : List Settled) (haul : Haul) (s : Settled)
     (seen rest : List Piece) → haul.pieces.items ≡ pieces ++ s ∷ []
     → pieces_of_level (length q) level ≡ seen ++ s.piece ∷ rest → level_of s.piece ≡ level → ¬ IsNoCut s.found
     → AreCleared g q pieces seen → StopsAt g q (haul ∷ []) level s
-stops g q level pieces haul s seen rest put e at cut cleared =
-    let order : Ordered ComesBefore (seen ++ s.piece ∷ rest) =
-    subst (Ordered ComesBefore) e (ordered_columns level 0 (length q)) in record {
-      there = (haul, inl refl, subst (λ l. Has l s) (sym put) (has_append_right pieces (s ∷ []) s (inl refl)));
-      of_level = at;
-      cut = cut;
-      before = λ r is same first.
-          let h : Has (seen ++ s.piece ∷ rest) r = subst (λ l. Has l r) e (listed g q level r is same) in
-          elim (has_append_cases seen (s.piece ∷ rest) r h) [
-            | inl k ↦ alone_cleared g q haul r
-                (subst (λ l. IsClearedBy g q l r) (sym put) (cleared_more g q pieces s r (cleared r k)))
-            | inr k ↦ absurd (elim k [
-              | inl d ↦ before_once s.piece (subst (λ p. ComesBefore p s.piece) (sym d) first)
-              | inr m ↦ not_both_before r s.piece first
-                  (ordered_across ComesBefore (seen ++ s.piece ∷ []) rest s.piece r
-                  (subst (Ordered ComesBefore) (sym (append_assoc seen (s.piece ∷ []) rest)) order)
-                  (has_append_right seen (s.piece ∷ []) s.piece (inl refl)) m)
-            ])
-          ];
-    }
+stops g q level pieces haul s seen rest put e at cut cleared = record {
+  there = (haul, inl refl, subst (λ l. Has l s) (sym put) (has_append_right pieces (s ∷ []) s (inl refl)));
+  of_level = at;
+  cut = cut;
+  before = λ r is same first. alone_cleared g q haul r (subst (λ l. IsClearedBy g q l r) (sym put)
+      (cleared_more g q pieces s r (cleared r (before_seen g q level seen rest s.piece r e is same first))));
+}
 
 -- no piece of the level is left
 pub level_cleared : (g : LinkGraph) (q : List ℕ) (level : ℕ) (haul : Haul) (seen : List Piece)

@@ -14,7 +14,8 @@ use Rattle.ov_split.proofs.Augmenting.Lists.{others_of}
 use Rattle.ov_flow.proofs.Beginning.{not_self}
 use Rattle.ov_fans.specs.Pieces.{IsPiece, IsGood, level_of}
 use Rattle.ov_fans.specs.declared.piece.Piece.{Piece}
-use Rattle.ov_even.proofs.EvenTest.Passing.{IsLevelGood, passes_level}
+use Rattle.ov_even.specs.Levels.{IsLevelGood}
+use Rattle.ov_even.proofs.EvenTest.Passing.{passes_level}
 
 -- the set of all nodes except a and b
 record IsAllBut (g : LinkGraph) (a b : ℕ) (s : List ℕ) : Type 0 where

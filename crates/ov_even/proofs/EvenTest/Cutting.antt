@@ -66,7 +66,7 @@ pub record IsSmallCut (g : LinkGraph) (q : List ℕ) (p : Piece) (s : List ℕ) 
   pub nearest : IsNearest g q p s
   pub few : length s < level_of p
 
-linked_pair_or_not : (g : LinkGraph) (q : List ℕ) (p : Piece) → IsLinkedPair g q p ⊎ (¬ IsLinkedPair g q p)
+pub linked_pair_or_not : (g : LinkGraph) (q : List ℕ) (p : Piece) → IsLinkedPair g q p ⊎ (¬ IsLinkedPair g q p)
 linked_pair_or_not g q (Pair level i j) = linked_or_not g (member_at q i) (member_at q j)
 linked_pair_or_not g q (Fan level j) = inr (λ h. h)
 

@@ -11,7 +11,8 @@ use Rattle.ov_even.specs.First.{IsFirst}
 use Rattle.ov_even.specs.Hauls.{AreRight, IsCleared, Decides}
 use Rattle.ov_even.specs.declared.worker_haul.Haul.{Haul}
 use Rattle.ov_even.proofs.PieceOrder.PieceLevels.{level_low, level_high}
-use Rattle.ov_even.proofs.EvenTest.Passing.{IsLevelGood, passes_level, lower_good}
+use Rattle.ov_even.specs.Levels.{IsLevelGood}
+use Rattle.ov_even.proofs.EvenTest.Passing.{below_good}
 
 -- a piece that is cleared is good
 pub cleared_good : (g : LinkGraph) (q : List ℕ) (hauls : List Haul) (r : Piece) → IsGraph g → AreRight g q hauls
@@ -33,8 +34,7 @@ before_good g q hauls s r graph group right decided at before = elim (cases_lt (
       let high = level_high g q s.piece (right s decided.there).0 in
       let level : IsLevelGood g q k = λ p there e. cleared_good g q hauls p graph right
       (decided.before p there (inl (omega (arith, e, far))) (omega (arith, e, far))) in
-      let even = passes_level g q k group (omega (arith, low, far)) (omega (arith, high)) level in
-      lower_good g q k r graph group even at (omega (arith, far))
+      below_good g q k r graph group (omega (arith, high)) level at (omega (arith, far))
 ]
 
 -- a piece that decides is the first piece that is not good

@@ -1,5 +1,5 @@
 -- The first piece that is not good is unique, and it gives the number of the group.
-use Rattle.std.proofs.Common.{◌≡◌, ℕ, zero, suc, ◌+◌, ◌-◌, ◌<◌, inl, inr, List, length, arith}
+use Rattle.std.proofs.Common.{◌≡◌, ℕ, ◌+◌, ◌-◌, ◌<◌, inl, inr, List, length, arith}
 use Rattle.ov_graph.specs.Links.{LinkGraph, IsGraph, AreAllLinked, IsGroup}
 use Rattle.ov_graph.specs.Joined.{FewestForGroup}
 use Rattle.ov_graph.specs.Even.{PassesEven}
@@ -8,12 +8,13 @@ use Rattle.ov_fans.specs.Pieces.{IsPiece, IsGood, level_of}
 use Rattle.ov_fans.specs.Cuts.{IsCut}
 use Rattle.ov_fans.specs.declared.piece.Piece.{Piece}
 use Rattle.ov_even.specs.First.{IsFirst}
+use Rattle.ov_even.specs.Levels.{IsLevelGood}
 use Rattle.ov_even.specs.Theorems.{FirstGivesNumber, OneFirst}
 use Rattle.ov_even.proofs.PieceOrder.PieceLevels.{level_low, level_high}
 use Rattle.ov_even.proofs.PieceOrder.Ordering.{one_comes_before}
 use Rattle.ov_even.proofs.EvenTest.Cutting.{good_or_cut}
 use Rattle.ov_even.proofs.EvenTest.Splitting.{piece_splits}
-use Rattle.ov_even.proofs.EvenTest.Passing.{passes_none, passes_level, split_has}
+use Rattle.ov_even.proofs.EvenTest.Passing.{good_passes, split_has}
 
 -- there is at most one first piece that is not good
 pub one_first : OneFirst
@@ -25,14 +26,17 @@ one_first g q p r first other = elim (one_comes_before p r) [
   ]
 ]
 
--- Even's test passes at the level below the first piece that is not good
+-- the level below that of the first piece that is not good is good
+pub under_good : (g : LinkGraph) (q : List ℕ) (p : Piece) (k : ℕ) → IsFirst g q p → level_of p ≡ k + 1
+    → IsLevelGood g q k
+under_good g q p k first e r at same = first.before r at (inl (omega (arith, e, same)))
+
+-- Even's test passes at that level
 pub first_passes : (g : LinkGraph) (q : List ℕ) (p : Piece) (k : ℕ) → IsGroup g q → IsFirst g q p → level_of p ≡ k + 1
     → PassesEven g q k
-first_passes g q p zero group first e = passes_none g q
-first_passes g q p (suc k) group first e =
+first_passes g q p k group first e =
     let high = level_high g q p first.piece in
-    passes_level g q (suc k) group (omega arith) (omega (arith, e, high))
-    (λ r at same. first.before r at (inl (omega (arith, e, same))))
+    good_passes g q k group (omega (arith, e, high)) (under_good g q p k first e)
 
 -- a cut of that piece with fewer nodes than its level has exactly one node fewer
 pub first_counts : (g : LinkGraph) (q : List ℕ) (p : Piece) (k : ℕ) (s : List ℕ) → IsGroup g q → IsFirst g q p

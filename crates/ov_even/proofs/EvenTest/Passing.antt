@@ -1,5 +1,5 @@
 -- If each piece of a level is good, Even's test passes at that level, and each piece of a lower level is good.
-use Rattle.std.proofs.Common.{◌≡◌, ℕ, ◌<◌, ◌≤◌, inl, inr, List, length, refl, subst, arith}
+use Rattle.std.proofs.Common.{ℕ, zero, suc, ◌<◌, ◌≤◌, inl, inr, List, length, refl, subst, arith}
 use Rattle.std.proofs.lemmas.Bool.{cases_lt}
 use Rattle.ov_ids.specs.Members.{Has}
 use Rattle.ov_graph.specs.Links.{LinkGraph, IsGraph, Linked, IsGroup}
@@ -10,13 +10,10 @@ use Rattle.ov_graph.proofs.EvenTest.Sufficing.{even_suffices}
 use Rattle.ov_fans.specs.Pieces.{member_at, level_of, IsPiece, IsGood}
 use Rattle.ov_fans.specs.declared.piece.Piece.{Piece}
 use Rattle.ov_fans.specs.declared.piece.Piece.TheVariants.{Pair, Fan}
+use Rattle.ov_even.specs.Levels.{IsLevelGood}
 use Rattle.ov_even.proofs.EvenTest.Cutting.{good_or_cut}
 use Rattle.ov_even.proofs.EvenTest.Splitting.{piece_splits}
 use Rattle.ov_even.proofs.PieceOrder.Placing.{pair_piece, fan_piece}
-
--- each piece of the level is good
-abbrev pub IsLevelGood : LinkGraph → List ℕ → ℕ → Type 0
-IsLevelGood g q k = (p : Piece) → IsPiece g q p → level_of p ≡ k → IsGood g q p
 
 level_pairs : (g : LinkGraph) (q : List ℕ) (k a b : ℕ) → IsGroup g q → 1 ≤ k → k < length g.nodes → IsLevelGood g q k
     → IsUnlinkedPair g q k (a, b) → (paths : List (List ℕ)) × ArePaths g a b k paths
@@ -52,6 +49,12 @@ passes_level g q k group low high good = record {
   fans = λ a h. level_fans g q k a low high good h;
 }
 
+-- if a level is good, Even's test passes at it; level 0 has no pieces
+pub good_passes : (g : LinkGraph) (q : List ℕ) (k : ℕ) → IsGroup g q → k < length g.nodes → IsLevelGood g q k
+    → PassesEven g q k
+good_passes g q zero group high good = passes_none g q
+good_passes g q (suc k) group high good = passes_level g q (suc k) group (omega arith) high good
+
 -- a set that splits a group has at least k nodes if Even's test passes at k
 pub split_has : (g : LinkGraph) (q : List ℕ) (k : ℕ) (s : List ℕ) → IsGroup g q → PassesEven g q k → SplitsGroup g q s
     → k ≤ length s
@@ -72,3 +75,9 @@ lower_good g q k p graph group even at low = elim (good_or_cut g q p graph group
       let many = split_has g q k c.0 group even split in
       absurd (omega (arith, low, few, many))
 ]
+
+-- if a level is good, each piece of a lower level is good
+pub below_good : (g : LinkGraph) (q : List ℕ) (k : ℕ) (p : Piece) → IsGraph g → IsGroup g q → k < length g.nodes
+    → IsLevelGood g q k → IsPiece g q p → level_of p ≤ k → IsGood g q p
+below_good g q k p graph group high good at low =
+    lower_good g q k p graph group (good_passes g q k group high good) at low

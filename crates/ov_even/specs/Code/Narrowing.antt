@@ -1,9 +1,10 @@
--- What a search for the level of the deciding piece keeps: level `low` is cleared, and Even's test does not pass at
--- level `high`.
+-- What a search for the level of the deciding piece keeps: level `low` is good, and Even's test does not pass at level
+-- `high`.
 use Rattle.std.specs.Prelude.{◌≡◌, ◌≢◌, ◌⊎◌, ℕ, zero, suc, ◌+◌, ◌-◌, ◌*◌, ◌/◌, ◌<◌, ◌≤◌, Bool, IsTrue, List, length}
 use Rattle.std.specs.Prelude.{if◌then◌else◌, nat_lt}
 use Rattle.ov_ids.specs.Members.{Has}
 use Rattle.ov_graph.specs.Links.{LinkGraph, Linked, IsGraph, IsWithinLimit, IsGroup, AreAllLinked}
+use Rattle.ov_graph.specs.Joined.{SplitsGroup}
 use Rattle.ov_graph.specs.Even.{PassesEven}
 use Rattle.ov_fans.specs.Pieces.{level_of}
 use Rattle.ov_fans.specs.Theorems.{IsNoCut}
@@ -11,7 +12,7 @@ use Rattle.ov_fans.specs.declared.settled.Found.{Found}
 use Rattle.ov_fans.specs.declared.settled.Found.TheVariants.{Linked as linked_found, Paths, Cut}
 use Rattle.ov_fans.specs.declared.settled.Settled.{Settled}
 use Rattle.ov_even.specs.Hauls.{IsInHauls, AreRight}
-use Rattle.ov_even.specs.Levels.{IsLevelCleared}
+use Rattle.ov_even.specs.Levels.{IsLevelGood, IsLevelCleared, SearchState}
 use Rattle.ov_even.specs.declared.worker_haul.Haul.{Haul}
 
 -- the graph and the group are such that there is a deciding piece
@@ -21,14 +22,23 @@ pub record HasDeciding (g : LinkGraph) (q : List ℕ) : Type 0 where
   pub group : IsGroup g q
   pub apart : ¬ AreAllLinked g q
 
--- the bounds: the kept hauls are right and clear level `low`; `high` is above it and is a level of the graph, and
--- Even's test does not pass at it
-pub record AreBounds (g : LinkGraph) (q : List ℕ) (kept : List Haul) (low high : ℕ) : Type 0 where
+-- the bounds: each piece of level `low` is good; `high` is above it and is a level of the graph, and Even's test does
+-- not pass at it
+pub record AreBounds (g : LinkGraph) (q : List ℕ) (low high : ℕ) : Type 0 where
   pub rises : low < high
   pub below : high < length g.nodes
-  pub right : AreRight g q kept
-  pub cleared : IsLevelCleared g q kept low
+  pub good : IsLevelGood g q low
   pub fails : ¬ PassesEven g q high
+
+-- the bounds of a search, as contracts see them: the state of the search, and the good level `low`
+pub record BoundsState : Type 0 where
+  pub search : SearchState
+  pub low : ℕ
+
+-- the hauls that a search keeps are right and clear the good level `low`
+pub record AreKept (bounds : BoundsState) (kept : List Haul) : Type 0 where
+  pub right : AreRight bounds.search.graph bounds.search.members kept
+  pub cleared : IsLevelCleared bounds.search.graph bounds.search.members kept bounds.low
 
 -- the level to try next is `high` if that is just above `low`. Otherwise it lies between the two: if levels are
 -- guessed, it is 2 * low + 1 or just below `high`; if not, it is in the middle
@@ -71,3 +81,10 @@ HasCutOf hauls level size = (s : Settled) × IsInHauls hauls s × IsCutOf s.foun
 -- the member is not linked to some other member
 abbrev pub HasUnlinked : LinkGraph → List ℕ → ℕ → Type 0
 HasUnlinked g q a = (b : ℕ) × Has q b × (a ≢ b) × ¬ Linked g a b
+
+-- a set of this size, below the level, splits the group
+pub record SplitsWith (g : LinkGraph) (q : List ℕ) (level size : ℕ) : Type 0 where
+  pub set : List ℕ
+  pub split : SplitsGroup g q set
+  pub count : length set ≡ size
+  pub few : size < level

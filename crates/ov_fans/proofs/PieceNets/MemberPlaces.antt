@@ -22,7 +22,7 @@ abbrev pub AreBelow : LinkGraph → List ℕ → Type 0
 AreBelow g places = (p : ℕ) → Has places p → p < length g.nodes
 
 -- nodes ascend where their places do, and the other way round
-ascend_nodes : (g : LinkGraph) (places : List ℕ) → Ascends g.nodes → AreBelow g places → Ascends places
+pub ascend_nodes : (g : LinkGraph) (places : List ℕ) → Ascends g.nodes → AreBelow g places → Ascends places
     → Ascends (map (node_at g) places)
 ascend_nodes g [] nodes below up = tt
 ascend_nodes g (p ∷ ps) nodes below up = (

@@ -36,6 +36,10 @@ pair_differ g q level i j group at e =
     let r = members_rise q i j group.ascends l m n in
     omega (arith, r, e)
 
+-- no member is below itself
+pub below_self : (q : List ℕ) (a : ℕ) → ¬ Has (members_below q a) a
+below_self q a h = let r : a < a = ltb-true a a (has_filtered (λ y. nat_lt y a) q a h).1 in omega (arith, r)
+
 pub is_net : (g : LinkGraph) (q : List ℕ) (p : Piece) → IsGraph g → IsGroup g q → IsPiece g q p → ¬ IsLinkedPair g q p
     → IsSplitNet (net_of g q p)
 is_net g q (Pair level i j) graph group at apart =
@@ -73,11 +77,6 @@ is_net g q (Fan level j) graph group at apart =
       not_avoided = λ h. h;
       no_target = λ h. below_self q a h;
     }
-  where
-    below_self : (q : List ℕ) (a : ℕ) → ¬ Has (members_below q a) a
-    below_self q a h =
-        let r : a < a = ltb-true a a (has_filtered (λ y. nat_lt y a) q a h).1 in
-        omega (arith, r)
 
 walk_push : (g : LinkGraph) (a b c : ℕ) (p : List ℕ) → IsWalk g a p b → Linked g b c → IsWalk g a (p ++ c ∷ []) c
 walk_push g a b c [] w r = absurd w

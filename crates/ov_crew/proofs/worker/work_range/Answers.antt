@@ -1,34 +1,25 @@
 -- The worker takes one number more and settles its piece, or has stopped.
-use Rattle.std.proofs.Common.{◌≡◌, ◌+◌, ℕ, List, [], ◌∷◌, length, Option, Some, Ok, refl, sym, ap, ◌∙◌}
+use Rattle.std.proofs.Common.{◌+◌, ℕ, List, [], ◌∷◌, length, Option, refl, sym, ap, ◌∙◌}
 use Rattle.std.proofs.Common.{subst, inl, arith}
-use Rattle.std.specs.Prelude.{IfSome, IfNone, OnOk, Result}
+use Rattle.std.specs.Prelude.{IfNone}
 use Rattle.ov_ids.specs.Members.{Has}
 use Rattle.ov_ids.proofs.Members.{has_append_right}
-use Rattle.ov_ids.specs.declared.out_of_memory.OutOfMemory.{OutOfMemory}
 use Rattle.ov_graph.specs.Links.{LinkGraph}
 use Rattle.ov_fans.specs.declared.piece.Piece.{Piece}
 use Rattle.ov_fans.specs.declared.settled.Settled.{Settled}
 use Rattle.ov_fans.specs.Group.{SettlerState}
 use Rattle.ov_fans.specs.Pieces.{IsPiece}
 use Rattle.ov_claims.specs.Claims.{WorkerState, fresh}
-use Rattle.ov_even.specs.Order.{AreSoMany, IsNumbered}
+use Rattle.ov_even.specs.Order.{AreMoreThan, IsNumbered}
 use Rattle.ov_even.proofs.AnalysisSteps.Narrowing.{members_few}
 use Rattle.ov_even.proofs.PieceNumbers.Numbering.{numbered_piece}
+use Rattle.ov_crew.specs.Code.Ascending.{GroupSizes}
 use Rattle.ov_crew.specs.Code.Turns.{HasTaken, HasStopped, HasSettled}
-use Rattle.ov_crew.proofs.Taking.{fewer_left}
+use Rattle.ov_crew.proofs.Taking.{fewer_left, taken_here, settled_here}
 use Rattle.ov_crew.specs.Hauls.{IsHaulOf}
 use Rattle.ov_crew.proofs.Hauling.{fresh_haul, stopped_haul, more_haul, gains}
 use Rattle.ov_crew.proofs.worker.work_range.Goals.{In_default-done}
 use Rattle.ov_crew.proofs.worker.work_range.Goals as goal
-
--- the number that was taken
-taken_here : (total : ℕ) (w v : WorkerState) (o : Option ℕ) (x : ℕ) → o ≡ Some x
-    → IfSome o (λ y. HasTaken total y w v) → HasTaken total x w v
-taken_here total w v o x is t = subst (λ (p : Option ℕ). IfSome p (λ y. HasTaken total y w v)) is t
-
--- what was settled and how the worker has gained it
-settled_here : (P : Type 0) (r : Result (Unit {0}) OutOfMemory) → r ≡ Ok tt → OnOk r P → P
-settled_here P r is h = subst (λ (o : Result (Unit {0}) OutOfMemory). OnOk o P) is h
 
 -- the worker's turn: it took the number x of a piece and settled that
 record HasTurned (g : LinkGraph) (q : List ℕ) (first total x : ℕ) (w v : WorkerState) (before after : List Settled)
@@ -46,7 +37,7 @@ turned g c =
     let u = c.take_number-next.result.1.worker in
     let v = c.settle_piece-done.result.1.worker in
     let x = c.in-Some.number in
-    let piece = c.group_piece_at-piece.result in
+    let piece = c.piece_at-piece.result in
     let m = length c.args.group.now in
     let before = c.loop-number.pieces.items in
     let after = c.settle_piece-done.new.pieces.items in
@@ -60,8 +51,8 @@ turned g c =
       piece = piece;
       taken = taken_here c.args.board.now.total c.loop-number.seat.worker u c.take_number-next.result.0 x c.in-Some.is
           c.take_number-next.ensures.taken;
-      numbered = subst (λ (nodes : List ℕ). IsNumbered (length nodes) m (c.args.first + x) piece)
-          {y = c.args.graph.now.nodes} c.nodes.ensures.nodes c.group_piece_at-piece.ensures;
+      numbered = subst (λ (s : GroupSizes). IsNumbered s.nodes s.members (c.args.first + x) piece) c.loop-number.invariant.order
+          c.piece_at-piece.ensures.numbered;
       settled = subst (λ (t : SettlerState). HasSettled t.graph t.members piece x u v before after)
           {y = own} c.loop-number.invariant.settler settled;
     }
@@ -75,6 +66,8 @@ loop-number-init g c =
     (fresh_haul graph group first) in
     record {
       settler = c.in-Ok.ensures;
+      order = c.new-order.ensures
+          ∙ ap (λ (nodes : List ℕ). record { nodes = length nodes; members = length group }) c.nodes.ensures.nodes;
       board = refl;
       number = refl;
       goes_on = ap (λ (v : WorkerState). v.ended) c.requires.new;
@@ -93,26 +86,26 @@ returns-in_default-clause-haul g c =
     stopped_haul c.args.graph.now c.args.group.now c.args.first w v c.loop-number.pieces.items i.none_skipped stopped
     i.haul
 
-pub group_piece_at-piece-requires-clause-members : goal.group_piece_at-piece-requires-clause-members
-group_piece_at-piece-requires-clause-members g c =
+pub new-order-requires-clause-members : goal.new-order-requires-clause-members
+new-order-requires-clause-members g c =
     let few = members_few c.args.graph.now c.args.group.now c.requires.group in
     omega (arith, few, ap length c.nodes.ensures.nodes)
 
-pub group_piece_at-piece-requires-clause-below : goal.group_piece_at-piece-requires-clause-below
-group_piece_at-piece-requires-clause-below g c total many =
-    let m = length c.args.group.now in
+pub piece_at-piece-requires : goal.piece_at-piece-requires
+piece_at-piece-requires g c =
+    let x = c.args.first + c.in-Some.number in
     let t = taken_here c.args.board.now.total c.loop-number.seat.worker c.take_number-next.result.1.worker
     c.take_number-next.result.0 c.in-Some.number c.in-Some.is c.take_number-next.ensures.taken in
-    c.requires.range c.in-Some.number t.below total
-    (subst (λ (nodes : List ℕ). AreSoMany (length nodes) m total) c.nodes.ensures.nodes many)
+    subst (λ (s : GroupSizes). AreMoreThan s.nodes s.members x) (sym c.loop-number.invariant.order)
+    (c.requires.range c.in-Some.number t.below)
 
 pub settle_piece-done-requires-clause-piece : goal.settle_piece-done-requires-clause-piece
 settle_piece-done-requires-clause-piece g c =
-    let piece = c.group_piece_at-piece.result in
+    let piece = c.piece_at-piece.result in
     let m = length c.args.group.now in
     let own : SettlerState = record { graph = c.args.graph.now; members = c.args.group.now } in
-    let numbered = subst (λ (nodes : List ℕ). IsNumbered (length nodes) m (c.args.first + c.in-Some.number) piece)
-    {y = c.args.graph.now.nodes} c.nodes.ensures.nodes c.group_piece_at-piece.ensures in
+    let numbered = subst (λ (s : GroupSizes). IsNumbered s.nodes s.members (c.args.first + c.in-Some.number) piece) c.loop-number.invariant.order
+    c.piece_at-piece.ensures.numbered in
     subst (λ (s : SettlerState). IsPiece s.graph s.members piece) {x = own} (sym c.loop-number.invariant.settler)
     (numbered_piece (length c.args.graph.now.nodes) m (c.args.first + c.in-Some.number) piece numbered)
 
@@ -145,6 +138,7 @@ loop-number-preserved g c =
     before after t.taken t.settled in
     record {
       settler = c.settle_piece-done.ensures.stays ∙ i.settler;
+      order = c.piece_at-piece.ensures.stays ∙ i.order;
       board = c.settle_piece-done.ensures.board ∙ (c.take_number-next.ensures.board ∙ i.board);
       number = c.settle_piece-done.ensures.number ∙ (c.take_number-next.ensures.number ∙ i.number);
       goes_on = gain.ended ∙ i.goes_on;

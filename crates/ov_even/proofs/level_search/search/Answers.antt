@@ -3,7 +3,6 @@ use Rattle.std.proofs.Common.{ap, sym, subst, length, arith}
 use Rattle.ov_even.specs.Hauls.{AreRight, Suffice}
 use Rattle.ov_even.specs.Levels.{SearchState, IsTried}
 use Rattle.ov_even.specs.Searching.{IsSearched}
-use Rattle.ov_even.specs.Code.Narrowing.{tries_left}
 use Rattle.ov_even.proofs.AnalysisSteps.Narrowing.{members_few, right_of_one, tried_of_one}
 use Rattle.ov_even.proofs.level_search.search.Goals as goal
 
@@ -35,13 +34,7 @@ take-requires-clause-tried g c =
 pub returns-in-Enough : goal.returns-in-Enough
 returns-in-Enough g c =
     let l = c.loop-levels in
-    let s = c.levels.inside in
     let hauls = c.in-Enough.hauls.items in
-    let enough = subst (IsSearched (record {
-      graph = s.graph.now;
-      members = s.group.now;
-      level = s.level;
-      left = tries_left s.low s.high s.guesses;
-    })) c.in-Enough.is c.in_ok-hauls.ensures in
+    let enough = subst (IsSearched c.levels.inside.bounds.search) c.in-Enough.is c.in_ok-hauls.ensures in
     let own = subst (λ (x : SearchState). Suffice x.graph x.members hauls) c.levels.view_is enough in
     rw (l.invariant.graph, l.invariant.members) at own

@@ -1,10 +1,9 @@
 -- What the search finds is right for the piece.
-use Rattle.std.proofs.Common.{◌≡◌, ◌∙◌, ◌<◌, ℕ, IfOk, map, sym, ap, subst}
+use Rattle.std.proofs.Common.{◌≡◌, ◌<◌, ℕ, IfOk, map, sym, subst}
 use Rattle.std.specs.Option.{MatchOption}
-use Rattle.ov_graph.specs.Links.{LinkGraph, IsGraph}
+use Rattle.ov_graph.specs.Links.{IsGraph}
 use Rattle.ov_graph.specs.Paths.{node_at}
 use Rattle.ov_split.specs.SplitNetState.{IsFanOf}
-use Rattle.ov_split.specs.Places.{net_at}
 use Rattle.ov_flow.specs.Flow.{IsFullBy}
 use Rattle.ov_fans.specs.Group.{SettlerState}
 use Rattle.ov_fans.specs.Pieces.{IsPiece, IsLinkedPair, level_of}
@@ -19,25 +18,18 @@ pub returns-clause-found : goal.returns-clause-found
 returns-clause-found c =
     let m = c.self.inside.group in
     let p = c.args.piece in
-    let aim = c.aim_for-aim.result in
-    let e = c.graph.ensures in
+    let e = c.seek.ensures in
+    let k = c.seek.new.flow.held in
+    let net = c.seek.new.flow.net in
     let at = subst (λ (s : SettlerState). IsPiece s.graph s.members p) (sym c.self.view_is) c.requires.piece in
-    let is : c.seek.new.self.net ≡ net_of m.graph m.members p =
-    c.seek.ensures.net
-    ∙ c.new-net.ensures.net
-    ∙ ap (λ (g : LinkGraph). net_at g aim.avoided aim.source aim.targets) e.graph
-    ∙ c.aim_for-aim.ensures.net in
     elim c.match-seek.branch [
       | in-None+in_ok-paths-in-None w ↦
-          let held : c.seek.new.self.held ≡ level_of p =
-          subst (λ o. MatchOption o (c.seek.new.self.held ≡ c.level.result)
-          (λ s. (c.seek.new.self.held < c.level.result) × IsFullBy c.seek.new.self.net c.seek.new.self.held s))
-          w.in-None.is c.seek.ensures.held
-          ∙ c.level.ensures in
+          let held : k ≡ level_of p = subst (λ o. MatchOption o (k ≡ level_of p)
+          (λ s. (k < level_of p) × IsFullBy (net_of m.graph m.members p) k s)) w.in-None.is e.held in
           let ps = w.in_ok-paths-in-None.field-0 in
-          let fan = subst (λ (k : ℕ). IsFanOf c.seek.new.self.net k (map (map (node_at c.seek.new.self.net.graph)) ps))
-          held w.in_ok-paths-in-None.ensures.fan in
-          let right = right_paths m.graph m.members p c.seek.new.self.net ps e.is_graph e.group at is fan
+          let fan = subst (λ (l : ℕ). IsFanOf net l (map (map (node_at net.graph)) ps)) held
+          w.in_ok-paths-in-None.ensures.fan in
+          let right = right_paths m.graph m.members p net ps e.graph e.group at e.net fan
           w.in_ok-paths-in-None.ensures.places in
           let apart = subst (λ (s : SettlerState). ¬ IsLinkedPair s.graph s.members p) (sym c.self.view_is)
           c.requires.apart in
@@ -50,4 +42,4 @@ returns-clause-found c =
     ]
 
 pub returns-clause-graph : goal.returns-clause-graph
-returns-clause-graph c = subst (λ (s : SettlerState). IsGraph s.graph) c.self.view_is c.graph.ensures.is_graph
+returns-clause-graph c = subst (λ (s : SettlerState). IsGraph s.graph) c.self.view_is c.seek.ensures.graph
