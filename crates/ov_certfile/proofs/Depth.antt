@@ -1,7 +1,7 @@
 -- A written object is nested only a few levels deep, so the JSON reader accepts its text.
-use Rattle.std.proofs.Common.{◌≡◌, ◌∙◌, ℕ, ◌+◌, ◌≤◌, List, [], ◌∷◌, Some, ap, arith}
+use Rattle.std.proofs.Common.{ℕ, ◌+◌, ◌≤◌, List, [], ◌∷◌, arith}
 use Rattle.serde_json.specs.Data.{Data, depth}
-use Rattle.serde_json.specs.Read.{read, max_depth}
+use Rattle.serde_json.specs.Read.{max_depth}
 use Rattle.ov_graph.specs.Links.{LinkGraph}
 use Rattle.ov_cert.specs.declared.cert.Cert.{Cert}
 use Rattle.ov_cert.specs.declared.cert.Cert.TheVariants as cert
@@ -9,7 +9,6 @@ use Rattle.ov_cert.specs.declared.cert.PairPaths.{PairPaths}
 use Rattle.ov_cert.specs.declared.cert.FanPaths.{FanPaths}
 use Rattle.ov_certfile.specs.DataOf.{data_of, data_in, version_for, whole_data, list_data, ids_data, link_data}
 use Rattle.ov_certfile.specs.DataOf.{paths_data, pair_data, fan_data}
-use Rattle.ov_certfile.specs.ReadsBack.{ReadsBack, TextReadsBack}
 use Rattle.ov_certfile.specs.declared.version.Version.{Version}
 use Rattle.ov_certfile.specs.declared.version.Version.TheVariants.{One, Two}
 
@@ -66,13 +65,6 @@ version_depth Two (cert.Split c) g q m =
     let i = ids_depth q in
     omega (arith, a, b, d, e, f, h, i)
 
-depth_within : (c : Cert) (g : LinkGraph) (q : List ℕ) (m : ℕ) → depth (data_of c g q m) ≤ max_depth
+pub depth_within : (c : Cert) (g : LinkGraph) (q : List ℕ) (m : ℕ) → depth (data_of c g q m) ≤ max_depth
 unfolding data_of
 depth_within c g q m = version_depth (version_for g q) c g q m
-
--- the text of the object has the meaning of the object
-pub text_reads_back : (c : Cert) (g : LinkGraph) (q : List ℕ) (m : ℕ) (d : Data) (text : List ℕ) → d ≡ data_of c g q m
-    → (depth d ≤ max_depth → read text ≡ Some d) → ReadsBack c g q m → TextReadsBack c g q m text
-text_reads_back c g q m d text e reads back =
-    let t : read text ≡ Some (data_of c g q m) = reads (rw e (depth_within c g q m)) ∙ ap Some e in
-    record { says = record { json = rw t (back.says); no_json = rw t tt } }

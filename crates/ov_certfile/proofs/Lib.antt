@@ -1,9 +1,10 @@
 pub mod OtherKeys
 pub mod Listed
-pub mod Written
+pub mod Members
 pub mod Back
 pub mod Headed
 pub mod Told
 pub mod OneAnswer
 pub mod Rewritten
 pub mod Depth
+pub mod ReadAsWritten

@@ -4,7 +4,6 @@ use Rattle.std.proofs.Common.{subst, arith, inl, nat_lt, nat_le}
 use Rattle.std.specs.Cmp.Lexicographic.{same_text}
 use Rattle.std.proofs.lemmas.Grind.{common_steps}
 use Rattle.std.proofs.lemmas.Bool.{leb-true}
-use Rattle.serde_json.specs.Data.{Members, no_members, object}
 use Rattle.serde_json.proofs.OnLiterals.{serde_json_on_literals}
 use Rattle.ov_graph.specs.Links.{LinkGraph, IsGraph, most_nodes}
 use Rattle.ov_graph.proofs.EvenTest.Tested.{no_fault_found, passed}
@@ -19,31 +18,9 @@ use Rattle.ov_certfile.specs.Demands.{demands, first_unmet, FileGraphJudged}
 use Rattle.ov_certfile.specs.Says.{Says}
 use Rattle.ov_certfile.specs.DataOf.{whole_data, version_for, data_in, data_of}
 use Rattle.ov_certfile.specs.ReadsBack.{ReadsBack}
-use Rattle.ov_certfile.specs.Code.Writing.{with_graph, with_cert, with_group, GraphReadsBack, CertReadsBack}
-use Rattle.ov_certfile.specs.Code.Writing.{GroupReadsBack}
+use Rattle.ov_certfile.specs.Code.Writing.{GraphReadsBack, CertReadsBack, GroupReadsBack, FileReadsBack}
 use Rattle.ov_certfile.specs.declared.version.Version.{Version}
 use Rattle.ov_certfile.specs.declared.version.Version.TheVariants.{One, Two}
-
--- ---- the members that are written make up the object
-
-put_in : (version : Version) (c : Cert) (g : LinkGraph) (q : List ℕ) (m : ℕ)
-    → object (with_group version q (with_cert c (with_graph version g m no_members))) ≡ data_in version c g q m
-unfolding data_in
-put_in One (cert.Linked k) g q m = refl
-put_in Two (cert.Linked k) g q m = refl
-put_in One (cert.Split c) g q m = refl
-put_in Two (cert.Split c) g q m = refl
-
-pub all_put_in : (version : Version) (c : Cert) (g : LinkGraph) (q : List ℕ) (m : ℕ) (none graph said all : Members)
-    → version ≡ version_for g q → none ≡ no_members → graph ≡ with_graph version g m none → said ≡ with_cert c graph
-    → all ≡ with_group version q said → object all ≡ data_of c g q m
-unfolding data_of
-all_put_in version c g q m none graph said all v n a b e =
-    let As : Version → Type 0 =
-    λ w. object (with_group version q (with_cert c (with_graph version g m no_members))) ≡ data_in w c g q m in
-    rw (e, b, a, n) (subst As v (put_in version c g q m))
-
--- ---- the object has the meaning that was written
 
 -- there are no more nodes than the version allows
 abbrev IsFew : Version → LinkGraph → Type 0
@@ -165,11 +142,9 @@ moment_back : (m : ℕ) → m ≤ last_moment → moment_in (whole_data m) ≡ S
 moment_back m h = let e : nat_lt m (last_moment + 1) ≡ true = grind (arith, common_steps) in rw e refl
 
 pub reads_back : (version : Version) (c : Cert) (g : LinkGraph) (q : List ℕ) (m : ℕ) → version ≡ version_for g q
-    → GraphReadsBack g → CertReadsBack c → GroupReadsBack version q → m ≤ last_moment → ReadsBack c g q m
+    → FileReadsBack version c g q → m ≤ last_moment → ReadsBack c g q m
 unfolding data_of
-reads_back version c g q m v h b p t =
-    let r = ruled g q h.within in
-    record {
-      says =
-          in_version (version_for g q) c g q m h b (subst (λ w. GroupReadsBack w q) v p) r.0 r.1 (moment_back m t);
-    }
+reads_back version c g q m v h t =
+    let r = ruled g q h.graph.within in
+    let named = subst (λ w. GroupReadsBack w q) v h.named in
+    record { says = in_version (version_for g q) c g q m h.graph h.cert named r.0 r.1 (moment_back m t) }

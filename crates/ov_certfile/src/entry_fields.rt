@@ -1,17 +1,19 @@
-ghost use Rattle.std.specs.Prelude.{◌≡◌, is_none, OnOk, Some};
-ghost use Rattle.serde_json.specs.Data.{object, no_members};
-ghost use Rattle.serde_json.specs.View.{view, members_view};
+ghost use Rattle.std.specs.Prelude.{◌≡◌, is_none, OnOk, Some, string_bytes};
+ghost use Rattle.serde_json.specs.View.{view};
 ghost use Rattle.ov_certfile.specs.Keys.{has_just};
 ghost use Rattle.ov_certfile.specs.Kinds.{names_of};
 ghost use Rattle.ov_certfile.specs.Forms.{pair_in, fan_in};
 ghost use Rattle.ov_certfile.specs.DataOf.{pair_data, fan_data};
+ghost use Rattle.ov_certfile.specs.Code.Writing.{WritesValue};
 
-use crate::fields::{Field, put_field, read_in};
+use crate::fields::{Field, read_in};
 use crate::file_keys::Key;
+use crate::member_writing::write_field;
 use crate::object_keys::{first_missing, first_other};
 use crate::value_fault::{Misfit, ValueFault, Wanted};
+use crate::value_writing::write_mark;
 use ov_cert::{FanPaths, PairPaths};
-use serde_json::{Map, Value};
+use serde_json::Value;
 use std::alloc::{AllocError, Global};
 
 /// The keys of a pair.
@@ -55,10 +57,8 @@ impl Field for PairPaths {
         Ok(PairPaths { i, j, paths })
     }
 
-    fn to_value(&self, alloc: Global) -> Result<Value, AllocError> {
-        let mut members = Map::new(alloc);
-        put_pair(&mut members, alloc, self)?;
-        Ok(Value::Object(members))
+    fn write_to(&self, out: &mut String) -> Result<(), AllocError> {
+        write_pair(out, self)
     }
 }
 
@@ -80,38 +80,34 @@ impl Field for FanPaths {
         Ok(FanPaths { j, paths })
     }
 
-    fn to_value(&self, alloc: Global) -> Result<Value, AllocError> {
-        let mut members = Map::new(alloc);
-        put_fan(&mut members, alloc, self)?;
-        Ok(Value::Object(members))
+    fn write_to(&self, out: &mut String) -> Result<(), AllocError> {
+        write_fan(out, self)
     }
 }
 
-#[tactic(auto, using(crate::proofs::Back::pair_back), unfolding(crate::specs::DataOf::pair_data))]
-fn put_pair(
-    members: &mut Map<String, Value>,
-    alloc: Global,
-    entry: &PairPaths,
-) -> Result<(), AllocError>
-    ensures members { OnOk result (members_view members.old.entries ≡ no_members
-        → object (members_view members.new.entries) ≡ pair_data entry.now) }
+/// Appends the entry of a pair.
+#[tactic(auto, using(crate::proofs::Back::pair_back))]
+fn write_pair(out: &mut String, entry: &PairPaths) -> Result<(), AllocError>
+    ensures text { OnOk result (WritesValue (pair_data entry.now) (string_bytes out.old) (string_bytes out.new)) }
     ensures reads_back { OnOk result (pair_in (pair_data entry.now) ≡ Some entry.now) }
 {
-    put_field(members, alloc, "i", &entry.i)?;
-    put_field(members, alloc, "j", &entry.j)?;
-    Ok(put_field(members, alloc, "paths", &entry.paths)?)
+    write_mark(out, '{')?;
+    write_field(out, false, Key::I, &entry.i)?;
+    write_field(out, true, Key::J, &entry.j)?;
+    write_field(out, true, Key::Paths, &entry.paths)?;
+    write_mark(out, '}')?;
+    Ok(())
 }
 
-#[tactic(auto, using(crate::proofs::Back::fan_back), unfolding(crate::specs::DataOf::fan_data))]
-fn put_fan(
-    members: &mut Map<String, Value>,
-    alloc: Global,
-    entry: &FanPaths,
-) -> Result<(), AllocError>
-    ensures members { OnOk result (members_view members.old.entries ≡ no_members
-        → object (members_view members.new.entries) ≡ fan_data entry.now) }
+/// Appends the entry of a fan.
+#[tactic(auto, using(crate::proofs::Back::fan_back))]
+fn write_fan(out: &mut String, entry: &FanPaths) -> Result<(), AllocError>
+    ensures text { OnOk result (WritesValue (fan_data entry.now) (string_bytes out.old) (string_bytes out.new)) }
     ensures reads_back { OnOk result (fan_in (fan_data entry.now) ≡ Some entry.now) }
 {
-    put_field(members, alloc, "j", &entry.j)?;
-    Ok(put_field(members, alloc, "paths", &entry.paths)?)
+    write_mark(out, '{')?;
+    write_field(out, false, Key::J, &entry.j)?;
+    write_field(out, true, Key::Paths, &entry.paths)?;
+    write_mark(out, '}')?;
+    Ok(())
 }

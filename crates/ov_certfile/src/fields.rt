@@ -1,28 +1,28 @@
-ghost use Rattle.std.specs.Prelude.{◌≡◌, ◌≤◌, ◌<◌, ◌+◌, map, IfOk, OnOk, Some};
+ghost use Rattle.std.specs.Prelude.{◌≡◌, ◌≤◌, ◌<◌, ◌+◌, Some};
 ghost use Rattle.ov_ids.specs.Limits.{number_limit};
-ghost use Rattle.serde_json.specs.View.{view, items_view, members_view};
-ghost use Rattle.serde_json.specs.Data.{put as with_member};
+ghost use Rattle.serde_json.specs.View.{view, items_view};
 ghost use Rattle.ov_certfile.specs.Keys.{said};
 ghost use Rattle.ov_certfile.specs.Kinds.{name_of};
 ghost use Rattle.ov_certfile.specs.Forms.{whole_below, each_in, list_in};
-ghost use Rattle.ov_certfile.specs.DataOf.{list_data};
 ghost use Rattle.ov_certfile.specs.Code.Reading.{Reads, ReadsAt};
 ghost use Rattle.ov_certfile.specs.declared.fault.FileFault.{FileFault};
 
 use crate::fault::{BadValue, FileFault};
 use crate::file_keys::Key;
 use crate::value_fault::{Misfit, Step, ValueFault, Wanted};
+use crate::value_writing::{write_list, write_mark, write_whole};
 use ov_ids::{NUMBER_LIMIT, NodeId, Seq};
-use serde_json::{Map, Value, json, put};
+use serde_json::Value;
 use std::alloc::{AllocError, Global};
 
 /// A type whose values are in a file. `form` reads a JSON value as such a field, if the value has its form. `as_data`
-/// is the value that is written for a field.
+/// is the value whose text is written for a field.
 pub(crate) trait Field: Drop {
-    ghost use Rattle.std.specs.Prelude.{◌≡◌, Option, IfOk, OnOk, Some};
+    ghost use Rattle.std.specs.Prelude.{◌≡◌, Option, OnOk, Some, string_bytes};
     ghost use Rattle.serde_json.specs.Data.{Data};
     ghost use Rattle.serde_json.specs.View.{view};
     ghost use Rattle.ov_certfile.specs.Code.Reading.{Reads};
+    ghost use Rattle.ov_certfile.specs.Code.Writing.{WritesValue};
 
     ghost form: { Data → Option Self };
 
@@ -34,9 +34,9 @@ pub(crate) trait Field: Drop {
         Self: Sized,
         ensures { Reads (λ x. x) result (form (view value.now)) };
 
-    /// The value that is written for the field. Reading it gives the field back.
-    fn to_value(&self, alloc: Global) -> Result<Value, AllocError>
-        ensures value { IfOk result (λ v. view v ≡ as_data self.now) }
+    /// Appends the text of the field. Reading it gives the field back.
+    fn write_to(&self, out: &mut String) -> Result<(), AllocError>
+        ensures text { OnOk result (WritesValue (as_data self.now) (string_bytes out.old) (string_bytes out.new)) }
         ensures reads_back { OnOk result (form (as_data self.now) ≡ Some self.now) };
 }
 
@@ -64,8 +64,8 @@ impl Field for NodeId {
         Ok(NodeId(number))
     }
 
-    fn to_value(&self, _alloc: Global) -> Result<Value, AllocError> {
-        Ok(Value::from(self.number()))
+    fn write_to(&self, out: &mut String) -> Result<(), AllocError> {
+        write_whole(out, self.number())
     }
 }
 
@@ -85,11 +85,14 @@ impl Field for (NodeId, NodeId) {
         Ok((ids[0], ids[1]))
     }
 
-    fn to_value(&self, alloc: Global) -> Result<Value, AllocError> {
+    fn write_to(&self, out: &mut String) -> Result<(), AllocError> {
         let (low, high) = *self;
-        let low = low.number();
-        let high = high.number();
-        json!(in alloc; [low, high])
+        write_mark(out, '[')?;
+        low.write_to(out)?;
+        write_mark(out, ',')?;
+        high.write_to(out)?;
+        write_mark(out, ']')?;
+        Ok(())
     }
 }
 
@@ -106,8 +109,8 @@ impl<T: Field> Field for Seq<T> {
         Ok(Seq::new(items))
     }
 
-    fn to_value(&self, alloc: Global) -> Result<Value, AllocError> {
-        list_value(alloc, self.as_slice())
+    fn write_to(&self, out: &mut String) -> Result<(), AllocError> {
+        write_list(out, self.as_slice())
     }
 }
 
@@ -134,27 +137,6 @@ fn each_from<T: Field>(alloc: Global, values: &[Value]) -> Result<Vec<T>, ValueF
         }
     }
     Ok(fields)
-}
-
-/// The array of the values that are written for these fields.
-pub(crate) fn list_value<T: Field>(alloc: Global, fields: &[T]) -> Result<Value, AllocError>
-    ensures value { IfOk result (λ v. view v ≡ list_data T.as_data fields.now) }
-    ensures reads_back { OnOk result (list_in T.form (list_data T.as_data fields.now) ≡ Some fields.now) }
-{
-    let values = each_value(alloc, fields)?;
-    Ok(Value::Array(values))
-}
-
-fn each_value<T: Field>(alloc: Global, fields: &[T]) -> Result<Vec<Value>, AllocError>
-    ensures values { IfOk result (λ v. map view v.items ≡ map T.as_data fields.now) }
-    ensures reads_back { OnOk result (list_in T.form (list_data T.as_data fields.now) ≡ Some fields.now) }
-{
-    let mut values = Vec::new(alloc);
-    for field in fields {
-        let value = field.to_value(alloc)?;
-        values.push(value)?;
-    }
-    Ok(values)
 }
 
 /// Reads the value at a key of an object as a field.
@@ -208,19 +190,4 @@ fn bad_at(key: Key, misfit: Misfit) -> FileFault
 {
     let key = Some(key);
     FileFault::BadValue(BadValue { key, misfit })
-}
-
-/// Adds a field at its key.
-pub(crate) fn put_field<T: Field>(
-    members: &mut Map<String, Value>,
-    alloc: Global,
-    key: &str,
-    field: &T,
-) -> Result<(), AllocError>
-    ensures members { OnOk result (members_view members.new.entries
-        ≡ with_member key.now (T.as_data field.now) (members_view members.old.entries)) }
-    ensures reads_back { OnOk result (T.form (T.as_data field.now) ≡ Some field.now) }
-{
-    let value = field.to_value(alloc)?;
-    put(members, alloc, key, value)
 }

@@ -1,12 +1,14 @@
 //! The paths of an entry. They are read id by id, and written path by path.
-ghost use Rattle.std.specs.Prelude.{◌≡◌, ◌++◌, [], ◌∷◌, map, IfOk, OnOk, Some, option_map};
+ghost use Rattle.std.specs.Prelude.{◌≡◌, ◌++◌, [], ◌∷◌, OnOk, Some, option_map, string_bytes};
 ghost use Rattle.serde_json.specs.View.{view, items_view};
 ghost use Rattle.ov_certfile.specs.Forms.{id_in, ids_in, paths_in, each_in};
-ghost use Rattle.ov_certfile.specs.DataOf.{ids_data, paths_data};
+ghost use Rattle.ov_certfile.specs.DataOf.{paths_data};
 ghost use Rattle.ov_certfile.specs.Code.Reading.{Reads};
+ghost use Rattle.ov_certfile.specs.Code.Writing.{WritesValue};
 
-use crate::fields::{Field, list_value};
+use crate::fields::Field;
 use crate::value_fault::{Misfit, Step, ValueFault, Wanted};
+use crate::value_writing::{write_comma, write_list, write_mark};
 use ov_cert::Paths;
 use ov_ids::NodeId;
 use ov_paths::PathsBuilder;
@@ -28,9 +30,8 @@ impl Field for Paths {
         }
     }
 
-    fn to_value(&self, alloc: Global) -> Result<Value, AllocError> {
-        let values = path_values(alloc, self)?;
-        Ok(Value::Array(values))
+    fn write_to(&self, out: &mut String) -> Result<(), AllocError> {
+        write_paths(out, self)
     }
 }
 
@@ -84,15 +85,18 @@ fn push_ids(alloc: Global, paths: &mut PathsBuilder, values: &[Value]) -> Result
     Ok(())
 }
 
-/// The values that are written for these paths.
-fn path_values(alloc: Global, paths: &Paths) -> Result<Vec<Value>, AllocError>
-    ensures values { IfOk result (λ v. map view v.items ≡ map ids_data paths.now) }
+/// Appends the array of these paths.
+fn write_paths(out: &mut String, paths: &Paths) -> Result<(), AllocError>
+    ensures text { OnOk result (WritesValue (paths_data paths.now) (string_bytes out.old) (string_bytes out.new)) }
     ensures reads_back { OnOk result (paths_in (paths_data paths.now) ≡ Some paths.now) }
 {
-    let mut values = Vec::with_capacity(alloc, paths.len())?;
+    write_mark(out, '[')?;
+    let mut later = false;
     for path in paths.iter() {
-        let value = list_value(alloc, path)?;
-        values.push(value)?;
+        write_comma(out, later)?;
+        write_list(out, path)?;
+        later = true;
     }
-    Ok(values)
+    write_mark(out, ']')?;
+    Ok(())
 }

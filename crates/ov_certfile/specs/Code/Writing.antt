@@ -1,54 +1,24 @@
--- What the functions that write a file add to an object, and that it reads back.
-use Rattle.std.specs.Prelude.{◌≡◌, ℕ, ◌≤◌, List, length, codes, Some}
-use Rattle.serde_json.specs.Data.{string, Members, put as with_member}
+-- The texts that the functions append that write a file, and that what is written is read back.
+use Rattle.std.specs.Prelude.{◌≡◌, ◌≤◌, ◌++◌, ℕ, Bool, true, List, length, Some}
+use Rattle.serde_json.specs.Data.{Data, Members}
+use Rattle.serde_json.specs.Written.{compact_text, members_text}
 use Rattle.ov_graph.specs.Links.{LinkGraph, IsGraph, most_nodes}
 use Rattle.ov_cert.specs.declared.cert.Cert.{Cert}
 use Rattle.ov_cert.specs.declared.cert.Cert.TheVariants as cert
 use Rattle.ov_cert.specs.declared.cert.Split.{Split}
 use Rattle.ov_certfile.specs.Forms.{count_in, id_in, ids_in, links_in, pairs_in, fans_in}
-use Rattle.ov_certfile.specs.Kinds.{verdict_text, version_number}
 use Rattle.ov_certfile.specs.DataOf.{whole_data, ids_data, list_data, link_data, pair_data, fan_data}
 use Rattle.ov_certfile.specs.declared.version.Version.{Version}
 use Rattle.ov_certfile.specs.declared.version.Version.TheVariants.{One, Two}
-use Rattle.ov_certfile.specs.declared.verdict.Verdict.{Verdict}
-use Rattle.ov_certfile.specs.declared.verdict.Verdict.TheVariants.{Linked, Split as VerdictSplit}
 
--- these members with what every file has: version, moment, nodes and links
-abbrev pub with_graph : Version → LinkGraph → ℕ → Members → Members
-with_graph version g moment members =
-    with_member (codes "version") (whole_data (version_number version))
-    (with_member (codes "moment") (whole_data moment)
-    (with_member (codes "nodes") (ids_data g.nodes)
-    (with_member (codes "links") (list_data link_data g.links) members)))
+-- the text of a value was appended
+abbrev pub WritesValue : Data → List ℕ → List ℕ → Type 0
+WritesValue d old new = new ≡ old ++ compact_text d
 
--- these members with the verdict and k
-abbrev pub with_verdict : Verdict → ℕ → Members → Members
-with_verdict verdict k members =
-    with_member (codes "k") (whole_data k) (with_member (codes "verdict") (string (verdict_text verdict)) members)
-
--- these members with the cut and its side
-abbrev pub with_cut : Split → Members → Members
-with_cut c members =
-    with_member (codes "side") (ids_data c.side)
-    (with_member (codes "far") (whole_data c.far)
-    (with_member (codes "near") (whole_data c.near)
-    (with_member (codes "cut") (ids_data c.cut) members)))
-
--- these members with the entries
-abbrev pub with_entries : Split → Members → Members
-with_entries c members =
-    with_member (codes "fans") (list_data fan_data c.fans)
-    (with_member (codes "pairs") (list_data pair_data c.pairs) members)
-
--- these members with the certificate
-abbrev pub with_cert : Cert → Members → Members
-with_cert (cert.Linked k) members = with_verdict Linked k members
-with_cert (cert.Split c) members = with_entries c (with_cut c (with_verdict VerdictSplit c.k members))
-
--- these members with the group, if the version names one
-abbrev pub with_group : Version → List ℕ → Members → Members
-with_group One group members = members
-with_group Two group members = with_member (codes "group") (ids_data group) members
+-- Members were appended, the first of them with a comma before it if `later` is true. `add` puts them before other
+-- members: whatever members follow, with their text the whole is the old text and that of all of them.
+pub record WritesMembers (later : Bool) (add : Members → Members) (old : List ℕ) (new : List ℕ) : Type 0 where
+  pub followed : (ms : Members) → new ++ members_text true ms ≡ old ++ members_text later (add ms)
 
 -- g is a graph within the limit, and the values written for its nodes and links read back
 pub record GraphReadsBack (g : LinkGraph) : Type 0 where
@@ -78,3 +48,9 @@ CertReadsBack (cert.Split c) = (count_in (whole_data c.k) ≡ Some c.k) × CutRe
 abbrev pub GroupReadsBack : Version → List ℕ → Type 0
 GroupReadsBack One group = Unit {0}
 GroupReadsBack Two group = ids_in (ids_data group) ≡ Some group
+
+-- the values written in a file of this version read back
+pub record FileReadsBack (version : Version) (c : Cert) (g : LinkGraph) (group : List ℕ) : Type 0 where
+  pub graph : GraphReadsBack g
+  pub cert : CertReadsBack c
+  pub named : GroupReadsBack version group
