@@ -1,10 +1,11 @@
 ghost use Rattle.std.specs.Prelude.{◌≡◌, length, IfOk, IfErr, OnOk, OnErr};
 ghost use Rattle.ov_ids.specs.FaultOrder.{IsRefusedBy};
 ghost use Rattle.ov_net.specs.Refusals.{IsRefusal};
+ghost use Rattle.ov_net.specs.declared.event.Event.TheVariants as told;
 ghost use Rattle.ov_snap.specs.CoreState.{opening_core};
 ghost use Rattle.ov_snap.specs.Filing.{WasFiled};
 ghost use Rattle.ov_snap.specs.Refusals.{FilingJudged};
-ghost use Rattle.ov_snap.specs.Run.{Happened};
+ghost use Rattle.ov_snap.specs.Run.{Happened, TookSnapshot};
 ghost use Rattle.ov_snap.specs.declared.fault.CoreFault.TheVariants.{OutOfMemory as out_of_memory};
 ghost use Rattle.ov_hall.specs.Logs.{IsHistory, core_made};
 ghost use Rattle.ov_hall.specs.Passes.{AreDrivers, seen_alike};
@@ -19,7 +20,7 @@ use atomic_table::Table;
 use ov_ids::Params;
 use ov_net::{Entry, Event, NetFault};
 use ov_snap::{Core, CoreFault, Report};
-use ov_words::Words;
+use ov_words::{WORDS_PER_EVENT, Words};
 use std::alloc::Global;
 use std::marker::{Model, PhantomData};
 use std::sync::Mutex;
@@ -98,6 +99,18 @@ impl<N: HallName> Whole<N> {
     {
         self.state
             .step(&self.table.shared, &mut self.stand, 0, event, words)
+    }
+
+    /// Takes a snapshot by driver 0, as `Core::snapshot` does, with the same faults. Returns its moment. What is
+    /// refused changes nothing.
+    pub fn snapshot(&mut self) -> Result<u32, NetFault>
+        ensures happened { IfOk result (λ m. TookSnapshot self.old m self.new) }
+        ensures refused { IfErr result
+            (λ f. IsRefusal self.old.world.net (length self.old.world.journal) told.Snapshot f) }
+        ensures err { OnErr result (self.new ≡ self.old) }
+    {
+        let entry = self.step(Event::Snapshot, &Words::new([0; WORDS_PER_EVENT]))?;
+        Ok(entry.number)
     }
 
     /// Files a report by driver 0, as `Core::file` does, with the same faults. What is refused changes nothing.

@@ -17,7 +17,7 @@ use std::thread;
 use std::thread::Threads;
 
 #[test]
-fn two_drivers_step_at_once(rt: HostRuntime) -> Result<(), Fail> {
+fn write_read_back(rt: HostRuntime) -> Result<(), Fail> {
     let params = sized(5, 30)?;
     let opening = Opening::new(rt.alloc(), 2)?;
     step_at_once::<Brand, _>(&rt, rt.alloc(), params, opening)

@@ -2,4 +2,6 @@
 #![tactic(auto)]
 
 #[cfg(test)]
+mod analyses_beside;
+#[cfg(test)]
 mod halls;
