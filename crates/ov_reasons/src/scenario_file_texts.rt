@@ -64,7 +64,30 @@ fn push_misplaced(text: &mut String, fault: &LineFault) -> Result<(), AllocError
             write!(text, "`{name}` may occur once, and is on line {line} too")
         }
         LineFault::NoEventNext { next } => push_no_event(text, *next),
+        LineFault::NoEnd
+        | LineFault::NotInSection
+        | LineFault::TooManySections { .. }
+        | LineFault::NotHeld { .. } => push_section_fault(text, fault),
         LineFault::Unread(_) | LineFault::OutOfLimits(_) => Ok(()),
+    }
+}
+
+/// Appends what is wrong with a line that begins or ends sections, or stands in one.
+fn push_section_fault(text: &mut String, fault: &LineFault) -> Result<(), AllocError> {
+    match fault {
+        LineFault::NoEnd => text.push_str("its sections have no `end`"),
+        LineFault::NotInSection => text.push_str(
+            "it must come after a `together` that has no `end` yet",
+        ),
+        LineFault::TooManySections { together } => write!(
+            text,
+            "a block has at most 64 sections, and the one that begins on line {together} has as many"
+        ),
+        LineFault::NotHeld { together } => write!(
+            text,
+            "a section holds events and `analyse M` alone, and line {together} begins sections"
+        ),
+        _ => Ok(()),
     }
 }
 

@@ -1,3 +1,4 @@
 -- What one line says.
+pub mod Ending
 pub mod Filling
 pub mod InTurn

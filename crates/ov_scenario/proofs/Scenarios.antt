@@ -1,6 +1,8 @@
 -- What the lines of a file say together.
 pub mod Asked
 pub mod Drawn
+pub mod Drivers
+pub mod InBlock
 pub mod Judged
 pub mod OneFault
 pub mod OneScenario

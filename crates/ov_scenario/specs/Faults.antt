@@ -19,6 +19,10 @@ line_fault_number (fault.BehindEvent setting event) = 70
 line_fault_number (fault.SetBefore setting line) = 70
 line_fault_number (fault.OutOfLimits numbers) = 21
 line_fault_number (fault.NoEventNext next) = 70
+line_fault_number fault.NoEnd = 70
+line_fault_number fault.NotInSection = 70
+line_fault_number (fault.TooManySections together) = 70
+line_fault_number (fault.NotHeld together) = 70
 
 -- the fault's number
 abbrev pub number_of : ScenarioFault → ℕ

@@ -4,4 +4,5 @@ pub mod Faults
 pub mod Statements
 pub mod Scenarios
 pub mod RunLines
+pub mod Sections
 pub mod Code

@@ -1,10 +1,12 @@
 -- Which lines of a scenario file run, which of these need memory to be read, and what is still to run.
-use Rattle.std.specs.Prelude.{◌≡◌, ℕ, Bool, true, false, List, [], ◌∷◌, Option, Some, None, IsSome, replicate}
+use Rattle.std.specs.Prelude.{◌≡◌, ℕ, max, Bool, true, false, List, [], ◌∷◌, length, Option, Some, None, IsSome}
+use Rattle.std.specs.Prelude.{replicate, if◌then◌else◌}
 use Rattle.std.specs.List.{filter}
 use Rattle.ov_lines.specs.Lines.{kept_lines}
 use Rattle.ov_net.specs.declared.event.Event.{Event}
 use Rattle.ov_net.specs.declared.event.Event.TheVariants as event
-use Rattle.ov_scenario.specs.Statements.{statement_of}
+use Rattle.ov_scenario.specs.Sections.{is_together, is_end}
+use Rattle.ov_scenario.specs.Statements.{statement_of, workers_or_one}
 use Rattle.ov_words.specs.Stream.{words_per_event}
 use Rattle.ov_scenario.specs.declared.scenario.Line.{Line}
 use Rattle.ov_scenario.specs.declared.scenario.Line.TheVariants as line
@@ -14,7 +16,7 @@ use Rattle.ov_scenario.specs.declared.scenario.Subject.{Subject}
 use Rattle.ov_scenario.specs.declared.statement.Statement.{Statement}
 use Rattle.ov_scenario.specs.declared.statement.Statement.TheVariants as says
 
--- a line that says this runs: it is an event, a look or an analysis
+-- a line that says this runs: it is an event, a look or an analysis, or begins a block of sections
 abbrev pub runs : Option Statement → Bool
 runs None = false
 runs (Some (says.Params numbers)) = false
@@ -23,20 +25,34 @@ runs (Some (says.Words words)) = false
 runs (Some (says.Event event)) = true
 runs (Some (says.Look look)) = true
 runs (Some (says.Analyse subject workers)) = true
+runs (Some says.Together) = true
+runs (Some says.Also) = false
+runs (Some says.End) = false
 
--- of these lines, each with its number, those that run, in order
+-- of these lines, each with its number, those that stand in no block, and those that begin one. Before the first of
+-- them a block is open, or none is
+unfoldable pub outside_blocks : Bool → List (ℕ × List ℕ) → List (ℕ × List ℕ)
+outside_blocks is_open [] = []
+outside_blocks false (line ∷ more) = line ∷ outside_blocks (is_together (statement_of line.1)) more
+outside_blocks true (line ∷ more) =
+    if is_end (statement_of line.1) then outside_blocks false more else outside_blocks true more
+
+-- of these lines, each with its number, those that run, in order. A block of sections runs as its first line
 unfoldable pub those_that_run : List (ℕ × List ℕ) → List (ℕ × List ℕ)
-those_that_run lines = filter (λ line. runs (statement_of line.1)) lines
+those_that_run lines = filter (λ line. runs (statement_of line.1)) (outside_blocks false lines)
 
 -- the lines of a file that run, in order, each with its number
 abbrev pub lines_that_run : List ℕ → List (ℕ × List ℕ)
 lines_that_run bytes = those_that_run (kept_lines bytes)
 
--- this is the line to run of a line that says this: this event, whatever its random words, this look or this analysis
+-- this is the line to run of a line that says this: this event, whatever its random words, this look, this analysis, or
+-- a block, whatever its sections
 abbrev pub IsLineOf : Option Statement → Line → Type 0
 IsLineOf (Some (says.Event event)) (line.Event same words) = same ≡ event
 IsLineOf (Some (says.Look look)) (line.Look same) = same ≡ look
-IsLineOf (Some (says.Analyse subject workers)) (line.Analyse same number) = (same ≡ subject) × (number ≡ workers)
+IsLineOf (Some (says.Analyse subject workers)) (line.Analyse same number) =
+    (same ≡ subject) × (number ≡ workers_or_one workers)
+IsLineOf (Some says.Together) (line.Together sections) = Unit {0}
 IsLineOf other own = ⊥
 
 -- if this line is an event, its random words are zeros
@@ -67,16 +83,26 @@ ReadingNeedsMemory (says.Look look) = LookHasIds look
 ReadingNeedsMemory (says.Analyse subject workers) = HasIds subject
 ReadingNeedsMemory other = ⊥
 
--- memory is needed to read the line of a file that runs as this line: it has a payload or the ids of a group
+-- memory is needed to read the line of a file that runs as this line: it has a payload or the ids of a group, or it
+-- begins a block, whose lines are read with it
 abbrev pub LineNeedsMemory : Line → Type 0
 LineNeedsMemory (line.Event event words) = HasPayload event
 LineNeedsMemory (line.Look look) = LookHasIds look
 LineNeedsMemory (line.Analyse subject workers) = HasIds subject
+LineNeedsMemory (line.Together sections) = Unit {0}
 
 -- memory is needed to read the line of a file that runs as the first of these lines
 abbrev pub FirstNeedsMemory : List Line → Type 0
 FirstNeedsMemory [] = ⊥
 FirstNeedsMemory (line ∷ more) = LineNeedsMemory line
+
+-- ---- drivers
+
+-- how many drivers these lines need: as many as the largest block has sections, and one if there is no block
+unfoldable pub drivers_for : List Line → ℕ
+drivers_for [] = 1
+drivers_for (line.Together sections ∷ more) = max (length sections) (drivers_for more)
+drivers_for (other ∷ more) = drivers_for more
 
 -- ---- what is still to run
 

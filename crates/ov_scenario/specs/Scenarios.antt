@@ -9,8 +9,11 @@ use Rattle.ov_net.specs.declared.event.Event.{Event}
 use Rattle.ov_scenario.specs.Draws.{AreDraws, seeded}
 use Rattle.ov_lines.specs.Lines.{kept_lines}
 use Rattle.ov_lines.specs.declared.unread.Unread.{Unread}
-use Rattle.ov_scenario.specs.Statements.{Stated, statement_of}
+use Rattle.ov_scenario.specs.RunLines.{drivers_for}
+use Rattle.ov_scenario.specs.Sections.{SectionLine, IsPlain, has_end, most_sections, open_after, section_line}
+use Rattle.ov_scenario.specs.Statements.{Stated, ToldLine, statement_of, told, workers_or_one}
 use Rattle.ov_scenario.specs.declared.line_judging.Before.{Before}
+use Rattle.ov_scenario.specs.declared.open_block.OpenBlock.{OpenBlock}
 use Rattle.ov_scenario.specs.declared.scenario.Line.{Line}
 use Rattle.ov_scenario.specs.declared.scenario.Line.TheVariants as line
 use Rattle.ov_scenario.specs.declared.scenario.Scenario.{Scenario}
@@ -21,6 +24,7 @@ use Rattle.ov_scenario.specs.declared.scenario_fault.ScenarioFault.{ScenarioFaul
 use Rattle.ov_scenario.specs.declared.scenario_fault.ScenarioFault.TheVariants as refused
 use Rattle.ov_scenario.specs.declared.scenario_fault.Setting.{Setting}
 use Rattle.ov_scenario.specs.declared.scenario_fault.Setting.TheVariants as sets
+use Rattle.ov_scenario.specs.declared.section.Deed.TheVariants as deed
 use Rattle.ov_scenario.specs.declared.statement.Statement.{Statement}
 use Rattle.ov_scenario.specs.declared.statement.Statement.TheVariants as says
 
@@ -80,12 +84,14 @@ AreParams numbers p =
 abbrev pub AreWithin : List ℕ → Type 0
 AreWithin numbers = (p : ParamsState) × AreParams numbers p
 
--- what matters of the lines before a line: the numbers of the first event, the first parameters and the first seed
+-- what matters of the lines before a line: the numbers of the first event, the first parameters and the first seed, and
+-- the block that is open
 abbrev pub before_of : List Stated → Before
 before_of lines = record {
   event = first_of is_event lines;
   params = first_of is_params lines;
   seed = first_of is_seed lines;
+  block = open_after lines;
 }
 
 -- a line sets something for the whole run too late, and this is its fault: it comes after an event, or else after a
@@ -95,23 +101,62 @@ IsTooLate setting (Some event) same f = f ≡ fault.BehindEvent setting event
 IsTooLate setting None (Some line) f = f ≡ fault.SetBefore setting line
 IsTooLate setting None None f = ⊥
 
+-- random words are at fault, and this is their fault: the first of the lines after them is no event
+abbrev pub IsNoEventNext : List Stated → LineFault → Type 0
+IsNoEventNext after f = (¬ BeginWithEvent after) × (f ≡ fault.NoEventNext (first_number after))
+
+-- a line that says this, and stands in no block, is at fault, and this is its fault. These lines are before it, and
+-- these after it
+abbrev pub IsWrongOutside : Before → Statement → List Stated → LineFault → Type 0
+-- random words that no event follows
+IsWrongOutside before (says.Words words) after f = IsNoEventNext after f
+-- a seed that comes too late
+IsWrongOutside before (says.Seed seed) after f = IsTooLate sets.Seed before.event before.seed f
+-- parameters that come too late, or else are out of their limits
+IsWrongOutside before (says.Params numbers) after f =
+    IsTooLate sets.Params before.event before.params f
+    ⊎ ((before.event ≡ None) × (before.params ≡ None) × (¬ AreWithin numbers) × (f ≡ fault.OutOfLimits numbers))
+-- an event, a look and an analysis are never at fault
+IsWrongOutside before (says.Event event) after f = ⊥
+IsWrongOutside before (says.Look look) after f = ⊥
+IsWrongOutside before (says.Analyse subject workers) after f = ⊥
+-- a block that no line ends
+IsWrongOutside before says.Together after f = (has_end after ≡ false) × (f ≡ fault.NoEnd)
+-- a further section of no block, and an end of none
+IsWrongOutside before says.Also after f = f ≡ fault.NotInSection
+IsWrongOutside before says.End after f = f ≡ fault.NotInSection
+
+-- a line that says this, and stands in this block, is at fault, and this is its fault. These lines are after it
+abbrev pub IsWrongInside : OpenBlock → Statement → List Stated → LineFault → Type 0
+-- random words that no event follows
+IsWrongInside block (says.Words words) after f = IsNoEventNext after f
+-- an event is never at fault
+IsWrongInside block (says.Event event) after f = ⊥
+-- an analysis of a group, or by a named number of workers
+IsWrongInside block (says.Analyse subject workers) after f =
+    (¬ IsPlain subject workers) × (f ≡ fault.NotHeld block.together)
+-- a section of a block that has as many as it may have
+IsWrongInside block says.Also after f =
+    (block.sections ≡ most_sections) × (f ≡ fault.TooManySections block.together)
+-- the end of the block is never at fault
+IsWrongInside block says.End after f = ⊥
+-- parameters, a seed, a look, and another block
+IsWrongInside block (says.Params numbers) after f = f ≡ fault.NotHeld block.together
+IsWrongInside block (says.Seed seed) after f = f ≡ fault.NotHeld block.together
+IsWrongInside block (says.Look look) after f = f ≡ fault.NotHeld block.together
+IsWrongInside block says.Together after f = f ≡ fault.NotHeld block.together
+
+-- a line that says this is at fault, and this is its fault. It stands in this block, if in one. These lines are before
+-- it, and these after it
+abbrev pub IsWrongIn : Option OpenBlock → Before → Statement → List Stated → LineFault → Type 0
+IsWrongIn None before said after f = IsWrongOutside before said after f
+IsWrongIn (Some block) before said after f = IsWrongInside block said after f
+
 -- a line that says this is at fault, and this is its fault. These lines are before it and after it
 abbrev pub IsWrong : Before → Option Statement → List Stated → LineFault → Type 0
 -- a line that can't be read; what is wanted, and where, is not said here
 IsWrong before None after f = (unread : Unread) × (f ≡ fault.Unread unread)
--- random words that no event follows
-IsWrong before (Some (says.Words words)) after f =
-    (¬ BeginWithEvent after) × (f ≡ fault.NoEventNext (first_number after))
--- a seed that comes too late
-IsWrong before (Some (says.Seed seed)) after f = IsTooLate sets.Seed before.event before.seed f
--- parameters that come too late, or else are out of their limits
-IsWrong before (Some (says.Params numbers)) after f =
-    IsTooLate sets.Params before.event before.params f
-    ⊎ ((before.event ≡ None) × (before.params ≡ None) × (¬ AreWithin numbers) × (f ≡ fault.OutOfLimits numbers))
--- an event, a look and an analysis are never at fault
-IsWrong before (Some (says.Event event)) after f = ⊥
-IsWrong before (Some (says.Look look)) after f = ⊥
-IsWrong before (Some (says.Analyse subject workers)) after f = ⊥
+IsWrong before (Some said) after f = IsWrongIn before.block before said after f
 
 -- of these lines, which follow those before, these are at fault, in order: each line has no fault and is passed over,
 -- or it is at fault and listed with its number and its fault
@@ -162,34 +207,56 @@ IsSeedOf lines seed =
     ((line : Stated) × Has lines line × (line.says ≡ Some (says.Seed seed)))
     ⊎ ((¬ HasKind says.Seed lines) × (seed ≡ 0))
 
--- lines that say this run as these lines: the events, the looks and the analyses in order, each event with the random
--- words that come right before it, or else with the next of those that were drawn. All that were drawn are used
-unfoldable pub RunAs : List (Option Statement) → List (List ℕ) → List Line → Type 0
-RunAs [] drawn lines = (drawn ≡ []) × (lines ≡ [])
-RunAs (Some (says.Words words) ∷ Some (says.Event event) ∷ more) drawn lines =
-    (later : List Line) × (lines ≡ line.Event event words ∷ later) × RunAs more drawn later
-RunAs (Some (says.Event event) ∷ more) drawn lines =
-    (words : List ℕ) × (left : List (List ℕ)) × (later : List Line)
-    × (drawn ≡ words ∷ left) × (lines ≡ line.Event event words ∷ later) × RunAs more left later
-RunAs (Some (says.Look look) ∷ more) drawn lines =
-    (later : List Line) × (lines ≡ line.Look look ∷ later) × RunAs more drawn later
-RunAs (Some (says.Analyse subject workers) ∷ more) drawn lines =
-    (later : List Line) × (lines ≡ line.Analyse subject workers ∷ later) × RunAs more drawn later
-RunAs (other ∷ more) drawn lines = RunAs more drawn lines
+unfoldable mutual
+  -- lines that say this run as these lines: the events, the looks, the analyses and the blocks of sections in order,
+  -- each event with the random words that come right before it, or else with the next of those that were drawn. All
+  -- that were drawn are used
+  pub RunAs : List ToldLine → List (List ℕ) → List Line → Type 0
+  RunAs [] drawn lines = (drawn ≡ []) × (lines ≡ [])
+  RunAs ((before, Some (says.Words words)) ∷ (own, Some (says.Event event)) ∷ more) drawn lines =
+      (later : List Line) × (lines ≡ line.Event event words ∷ later) × RunAs more drawn later
+  RunAs ((own, Some (says.Event event)) ∷ more) drawn lines =
+      (words : List ℕ) × (left : List (List ℕ)) × (later : List Line)
+      × (drawn ≡ words ∷ left) × (lines ≡ line.Event event words ∷ later) × RunAs more left later
+  RunAs ((own, Some (says.Look look)) ∷ more) drawn lines =
+      (later : List Line) × (lines ≡ line.Look look ∷ later) × RunAs more drawn later
+  RunAs ((own, Some (says.Analyse subject workers)) ∷ more) drawn lines =
+      (later : List Line) × (lines ≡ line.Analyse subject (workers_or_one workers) ∷ later) × RunAs more drawn later
+  RunAs ((own, Some says.Together) ∷ more) drawn lines = BlockRunsAs [] [] more drawn lines
+  RunAs (other ∷ more) drawn lines = RunAs more drawn lines
 
--- these lines run as these lines to run, with random words that are drawn from the generator of the seed
-abbrev pub AreToRun : List Stated → ℕ → List Line → Type 0
+  -- the same of lines in a block. It has these sections so far, and then one with these lines so far. If no line ends
+  -- the block, it ends with the file; no file without a fault has such a block
+  pub BlockRunsAs :
+      List (List SectionLine) → List SectionLine → List ToldLine → List (List ℕ) → List Line → Type 0
+  BlockRunsAs sections held [] drawn lines = (drawn ≡ []) × (lines ≡ line.Together (sections ++ held ∷ []) ∷ [])
+  BlockRunsAs sections held ((own, Some says.End) ∷ more) drawn lines =
+      (later : List Line) × (lines ≡ line.Together (sections ++ held ∷ []) ∷ later) × RunAs more drawn later
+  BlockRunsAs sections held ((own, Some says.Also) ∷ more) drawn lines =
+      BlockRunsAs (sections ++ held ∷ []) [] more drawn lines
+  BlockRunsAs sections held ((before, Some (says.Words words)) ∷ (own, Some (says.Event event)) ∷ more) drawn lines =
+      BlockRunsAs sections (held ++ section_line own (deed.Event event words) ∷ []) more drawn lines
+  BlockRunsAs sections held ((own, Some (says.Event event)) ∷ more) drawn lines =
+      (words : List ℕ) × (left : List (List ℕ)) × (drawn ≡ words ∷ left)
+      × BlockRunsAs sections (held ++ section_line own (deed.Event event words) ∷ []) more left lines
+  BlockRunsAs sections held ((own, Some (says.Analyse subject workers)) ∷ more) drawn lines =
+      BlockRunsAs sections (held ++ section_line own (deed.Analyse subject.moment) ∷ []) more drawn lines
+  BlockRunsAs sections held (other ∷ more) drawn lines = BlockRunsAs sections held more drawn lines
+
+-- these lines of a file, each with its number, run as these lines to run, with random words that are drawn from the
+-- generator of the seed
+abbrev pub AreToRun : List (ℕ × List ℕ) → ℕ → List Line → Type 0
 AreToRun lines seed to_run =
-    (drawn : List (List ℕ)) × (left : Stream) × AreDraws (seeded seed) drawn left
-    × RunAs (map (λ line. line.says) lines) drawn to_run
+    (drawn : List (List ℕ)) × (left : Stream) × AreDraws (seeded seed) drawn left × RunAs (told lines) drawn to_run
 
--- the bytes of a file say this scenario: no line is at fault, the parameters and the seed are those of the lines, and
--- the lines ask for those to run
+-- the bytes of a file say this scenario: no line is at fault, the parameters and the seed are those of the lines, the
+-- lines ask for those to run, and the drivers are as many as these need
 pub record IsScenario (bytes : List ℕ) (s : Scenario) : Type 0 where
   pub faultless : AreFaultless (stated_lines bytes)
   pub params : AreParamsOf (stated_lines bytes) s.params
   pub seed : IsSeedOf (stated_lines bytes) s.seed
-  pub lines : AreToRun (stated_lines bytes) s.seed s.lines.items
+  pub lines : AreToRun (kept_lines bytes) s.seed s.lines.items
+  pub drivers : s.drivers ≡ drivers_for s.lines.items
 
 -- the number is that of the first of these lines
 abbrev pub IsFirstOf : ℕ → List FaultyLine → Type 0

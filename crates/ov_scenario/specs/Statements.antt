@@ -52,15 +52,22 @@ abbrev pub subject_of : List (List ℕ) → Option Subject
 subject_of [] = None
 subject_of (m ∷ more) = number_within short_bits m >>= λ a. subject_at a more
 
--- the number of workers that these words name, and the words after it: that of `workers W` if they begin with
--- `workers`, otherwise one, and all words are left
-abbrev pub workers_named : List (List ℕ) → Option (ℕ × List (List ℕ))
-workers_named [] = Some (1, [])
+-- the number of workers, if these words name one, and the words after it: that of `workers W` if they begin with
+-- `workers`, otherwise none, and all words are left
+abbrev pub workers_named : List (List ℕ) → Option (Option ℕ × List (List ℕ))
+workers_named [] = Some (None, [])
 workers_named (name ∷ more) =
-    if same name (codes "workers") then workers_first more else Some (1, name ∷ more)
+    if same name (codes "workers")
+    then option_map (λ p. (Some p.0, p.1)) (workers_first more)
+    else Some (None, name ∷ more)
+
+-- the number of workers of an analysis: the one that is named, or else one
+abbrev pub workers_or_one : Option ℕ → ℕ
+workers_or_one None = 1
+workers_or_one (Some workers) = workers
 
 -- `M`, `M workers W`, `M group IDS` and `M workers W group IDS`, after the name: what is analysed, and by how many
--- workers
+-- workers, if a number is named
 abbrev pub analysis_of : List (List ℕ) → Option Statement
 analysis_of [] = None
 analysis_of (m ∷ more) =
@@ -111,10 +118,18 @@ look_rows words =
     ∷ (codes "packets", alone (says.Look look.Packets) words)
     ∷ []
 
+-- the lines that begin and end sections, by their names: they stand alone
+abbrev pub section_rows : List (List ℕ) → List (List ℕ × Option Statement)
+section_rows words =
+    (codes "together", alone says.Together words)
+    ∷ (codes "also", alone says.Also words)
+    ∷ (codes "end", alone says.End words)
+    ∷ []
+
 -- all lines by their names, in the order in which the names are printed: what they say with this text, and these words,
 -- after the name
 abbrev pub line_rows : List ℕ → List (List ℕ) → List (List ℕ × Option Statement)
-line_rows text words = setting_rows words ++ event_rows text words ++ look_rows words
+line_rows text words = setting_rows words ++ event_rows text words ++ look_rows words ++ section_rows words
 
 -- the names that a line may begin with, in that order
 abbrev pub line_names : List (List ℕ)
@@ -128,6 +143,14 @@ stated line (name ∷ words) = row name (line_rows (behind_word line) words) Non
 -- what a line says, or None if it can't be read
 abbrev pub statement_of : List ℕ → Option Statement
 statement_of line = stated line (words_of line)
+
+-- a line of a file, with its number, and what it says, or None if it can't be read
+abbrev pub ToldLine : Type 0
+ToldLine = (ℕ × List ℕ) × Option Statement
+
+-- lines of a file, each with its number, and what each says
+abbrev pub told : List (ℕ × List ℕ) → List ToldLine
+told lines = map (λ line. (line, statement_of line.1)) lines
 
 -- a line of this number, and what it says, or None if it can't be read
 pub record Stated : Type 0 where

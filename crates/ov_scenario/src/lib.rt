@@ -1,14 +1,19 @@
 //! Scenario files: what their lines say, which lines are at fault and why, and the scenario that a file says.
 #![tactic(auto)]
 
+mod block_reading;
 mod fault_listing;
 mod given_words;
 mod judging;
 mod line_judging;
+mod lines_ahead;
 mod lines_to_run;
+mod open_block;
 mod scenario;
 mod scenario_fault;
 mod scenario_reading;
+mod section;
+mod section_judging;
 mod statement;
 mod statement_reading;
 mod theorems;
@@ -20,6 +25,7 @@ pub use lines_to_run::{LineToRun, LinesToRun, line_asked_by};
 pub use scenario::{Line, Look, Scenario, Subject};
 pub use scenario_fault::{FaultyLine, LineFault, ScenarioFault, Setting};
 pub use scenario_reading::read_scenario;
+pub use section::{Deed, SectionLine};
 pub use statement_reading::{PARAMETERS, line_names};
 pub use theorems::first_line_has_the_fault;
 pub use words_from_seed::draw;

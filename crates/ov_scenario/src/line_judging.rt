@@ -1,25 +1,30 @@
-ghost use Rattle.std.specs.Prelude.{◌≡◌, ◌↔◌, [], Some, IfSome, IfNone, IsTrue};
-ghost use Rattle.ov_scenario.specs.Scenarios.{IsWrong, IsTooLate, BeginWithEvent, AreParams, AreWithin};
-ghost use Rattle.ov_scenario.specs.Scenarios.{before_of, first_number};
+ghost use Rattle.std.specs.Prelude.{◌≡◌, [], false, IfSome, IfNone};
+ghost use Rattle.ov_scenario.specs.Scenarios.{IsWrong, IsWrongOutside, IsTooLate, AreParams, AreWithin, before_of};
+ghost use Rattle.ov_scenario.specs.Sections.{has_end};
 ghost use Rattle.ov_scenario.specs.Code.Judging.{Tells, with_next};
 ghost use Rattle.ov_scenario.specs.declared.scenario_fault.LineFault.TheVariants as fault;
 ghost use Rattle.ov_scenario.specs.declared.statement.Statement.TheVariants as says;
 
+use crate::lines_ahead::LinesAhead;
+use crate::open_block::{OpenBlock, block_after};
 use crate::scenario_fault::{LineFault, Setting};
+use crate::section_judging::fault_of_words;
 use crate::statement::{Stated, Statement};
 use ov_ids::Params;
 
-/// The numbers of the first event, the first parameters and the first seed of the lines before a line, whether or not
-/// these are at fault.
+/// What is known of the lines before a line: the numbers of the first event, the first parameters and the first seed,
+/// whether or not these are at fault, and the block that is open.
 #[derive(Clone, Copy)]
 pub(crate) struct Before {
     event: Option<usize>,
     params: Option<usize>,
     seed: Option<usize>,
+    block: Option<OpenBlock>,
 }
 
 impl Before {
     /// There is no line before.
+    #[tactic(auto, unfolding(crate::specs::Sections::open_from))]
     pub(crate) fn nothing() -> Before
         ensures { result ≡ before_of [] }
     {
@@ -27,28 +32,51 @@ impl Before {
             event: None,
             params: None,
             seed: None,
+            block: None,
         }
     }
 
+    /// The block that is open, if one is.
+    pub(crate) fn open_block(&self) -> Option<OpenBlock>
+        ensures { result ≡ self.now.block }
+    {
+        self.block
+    }
+
     /// What is wrong with the line after these. The lines `after` follow it.
-    pub(crate) fn fault_of(&self, line: &Stated, after: &[Stated]) -> Option<LineFault>
+    pub(crate) fn fault_of(&self, line: &Stated, after: &LinesAhead) -> Option<LineFault>
         ensures { Tells result (λ f. IsWrong self.now line.now.says after.now f) }
     {
         match &line.says {
             Err(unread) => Some(LineFault::Unread(*unread)),
-            Ok(Statement::Params(numbers)) => self.fault_of_params(*numbers),
-            Ok(Statement::Seed(_)) => self.fault_of_setting(Setting::Seed, self.seed),
-            Ok(Statement::Words(_)) => fault_of_words(after),
-            Ok(Statement::Event(_)) => None,
-            Ok(Statement::Look(_)) => None,
-            Ok(Statement::Analyse { .. }) => None,
+            Ok(said) => match self.block {
+                Some(block) => block.fault_of(said, after),
+                None => self.fault_outside(said, after),
+            },
+        }
+    }
+
+    /// What is wrong with a line that stands in no block.
+    fn fault_outside(&self, said: &Statement, after: &LinesAhead) -> Option<LineFault>
+        ensures { Tells result (λ f. IsWrongOutside self.now said.now after.now f) }
+    {
+        match said {
+            Statement::Params(numbers) => self.fault_of_params(*numbers),
+            Statement::Seed(_) => self.fault_of_setting(Setting::Seed, self.seed),
+            Statement::Words(_) => fault_of_words(after),
+            Statement::Event(_) => None,
+            Statement::Look(_) => None,
+            Statement::Analyse { .. } => None,
+            Statement::Together => fault_of_block(after),
+            Statement::Also => Some(LineFault::NotInSection),
+            Statement::End => Some(LineFault::NotInSection),
         }
     }
 
     /// What is wrong with parameters: they come too late, or else are out of their limits.
     #[tactic(auto, using(crate::proofs::Scenarios::Judged::params_beyond))]
     fn fault_of_params(&self, numbers: [u32; 7]) -> Option<LineFault>
-        ensures { Tells result (λ f. IsWrong self.now (Some (says.Params numbers)) [] f) }
+        ensures { Tells result (λ f. IsWrongOutside self.now (says.Params numbers) [] f) }
     {
         if let Some(fault) = self.fault_of_setting(Setting::Params, self.params) {
             return Some(fault);
@@ -76,41 +104,33 @@ impl Before {
         ensures { result ≡ with_next self line.now }
     {
         let mut before = self;
+        before.block = block_after(self.block, line);
         match &line.says {
             Ok(Statement::Event(_)) => before.event = before.event.or(Some(line.number)),
             Ok(Statement::Params(_)) => before.params = before.params.or(Some(line.number)),
             Ok(Statement::Seed(_)) => before.seed = before.seed.or(Some(line.number)),
-            Ok(Statement::Words(_) | Statement::Look(_) | Statement::Analyse { .. }) | Err(_) => {}
+            Ok(
+                Statement::Words(_)
+                | Statement::Look(_)
+                | Statement::Analyse { .. }
+                | Statement::Together
+                | Statement::Also
+                | Statement::End,
+            )
+            | Err(_) => {}
         }
         before
     }
 }
 
-/// What is wrong with random words before these lines.
-fn fault_of_words(after: &[Stated]) -> Option<LineFault>
-    ensures { Tells result (λ f. (¬ BeginWithEvent after.now) × (f ≡ fault.NoEventNext (first_number after.now))) }
+/// What is wrong with a block before these lines.
+fn fault_of_block(after: &LinesAhead) -> Option<LineFault>
+    ensures { Tells result (λ f. (has_end after.now ≡ false) × (f ≡ fault.NoEnd)) }
 {
-    if begin_with_event(after) {
+    if after.have_end() {
         return None;
     }
-    let next = number_of_first(after);
-    Some(LineFault::NoEventNext { next })
-}
-
-fn number_of_first(lines: &[Stated]) -> Option<usize>
-    ensures { result ≡ first_number lines.now }
-{
-    Some(lines.first()?.number)
-}
-
-/// Whether the first of these lines is an event.
-fn begin_with_event(lines: &[Stated]) -> bool
-    ensures { IsTrue result ↔ BeginWithEvent lines.now }
-{
-    match lines.first() {
-        Some(line) => matches!(&line.says, Ok(Statement::Event(_))),
-        None => false,
-    }
+    Some(LineFault::NoEnd)
 }
 
 /// The parameters with these numbers, in the order of a line of parameters, if they are within their limits.

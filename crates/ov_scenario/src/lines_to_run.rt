@@ -2,34 +2,37 @@ ghost use Rattle.std.specs.Prelude.{◌≡◌, ◌∷◌, [], false, Ok, None, I
 ghost use Rattle.ov_scenario.specs.Draws.{seeded};
 ghost use Rattle.ov_scenario.specs.RunLines.{lines_that_run, runs, FirstNeedsMemory, HasZeros, IsLineOf};
 ghost use Rattle.ov_scenario.specs.RunLines.{ReadingNeedsMemory};
-ghost use Rattle.ov_scenario.specs.Statements.{statement_of};
-ghost use Rattle.ov_scenario.specs.Code.RunnableLines.{AreReadable, TakesLine, said, stream_now, to_run};
+ghost use Rattle.ov_scenario.specs.Sections.{is_together};
+ghost use Rattle.ov_scenario.specs.Statements.{statement_of, told, workers_or_one};
+ghost use Rattle.ov_scenario.specs.Code.RunnableLines.{AreReadable, TakesLine, stream_now, to_run};
 ghost use Rattle.ov_lines.specs.Lines.{kept_lines};
 
+use crate::block_reading::read_sections;
 use crate::given_words::GivenWords;
 use crate::scenario::Line;
 use crate::statement::{Stated, Statement};
 use crate::statement_reading::{Unstated, read_statement, state};
 use crate::words_from_seed::SeedWords;
-use ov_ids::OutOfMemory;
+use ov_claims::Workers;
+use ov_ids::{OutOfMemory, Seq};
 use ov_lines::{KeptLine, KeptLines};
 use ov_words::{WORDS_PER_EVENT, Words};
 use std::alloc::Global;
 use std::marker::Model;
 
-/// A line to run, and the line of the file that asks for it.
+/// A line to run, and the line of the file that asks for it. Of a block of sections that is its first line.
 #[derive(Drop)]
 pub struct LineToRun<'a> {
     /// The number of that line among all lines of the file. These are counted from 1.
     pub number: usize,
     /// Its text, without its line feed and one carriage return before that.
     pub text: &'a [u8],
-    pub line: Line,
+    pub line: Line<'a>,
 }
 
-/// The lines of a scenario file that are still to run: the events, the looks and the analyses in order, each read from
-/// the file's own text as it is taken. Each event has the random words of the line right before it, or else the next
-/// that the seed gives. Each line that is left of the file can be read.
+/// The lines of a scenario file that are still to run: the events, the looks, the analyses and the blocks of sections
+/// in order, each read from the file's own text as it is taken. Each event has the random words of the line right
+/// before it, or else the next that the seed gives. Each line that is left of the file can be read.
 #[derive(Drop)]
 pub struct LinesToRun<'a> {
     left: KeptLines<'a>,
@@ -38,12 +41,13 @@ pub struct LinesToRun<'a> {
 
 impl<'a> Model for LinesToRun<'a> {
     ghost use Rattle.ov_scenario.specs.RunLines.{RunLines, those_that_run};
-    ghost use Rattle.ov_scenario.specs.Code.RunnableLines.{AreReadable, said, stream_now, to_run};
+    ghost use Rattle.ov_scenario.specs.Statements.{told};
+    ghost use Rattle.ov_scenario.specs.Code.RunnableLines.{AreReadable, stream_now, to_run};
 
     ghost Value = { RunLines };
 
     ghost view = { λ l.
-        record { items = to_run (stream_now l.draws) (said l.left); file_lines = those_that_run l.left } };
+        record { items = to_run (stream_now l.draws) (told l.left); file_lines = those_that_run l.left } };
 
     ghost invariant = { λ l. AreReadable l.left };
 }
@@ -53,7 +57,7 @@ impl<'a> LinesToRun<'a> {
     #[tactic(auto, unfolding(crate::specs::RunLines::those_that_run))]
     pub(crate) fn new(bytes: &'a [u8], seed: u64) -> LinesToRun<'a>
         requires readable { AreReadable (kept_lines bytes.now) }
-        ensures lines { result.items ≡ to_run (seeded seed) (said (kept_lines bytes.now)) }
+        ensures lines { result.items ≡ to_run (seeded seed) (told (kept_lines bytes.now)) }
         ensures file_lines { result.file_lines ≡ lines_that_run bytes.now }
     {
         LinesToRun {
@@ -62,8 +66,9 @@ impl<'a> LinesToRun<'a> {
         }
     }
 
-    /// Takes the next line to run, if there is one. If an allocation was refused, OutOfMemory (99) is returned, and all
-    /// lines are left as they were. The next line then has a payload, or the ids of a group.
+    /// Takes the next line to run, if there is one. A block of sections is read whole. If an allocation was refused,
+    /// OutOfMemory (99) is returned, and all lines are left as they were. The next line then has a payload, or the ids
+    /// of a group, or is a block.
     pub fn next_line(&mut self, alloc: Global) -> Result<Option<LineToRun<'a>>, OutOfMemory>
         ensures line { IfOk result (λ next. MatchOption next (self.old.items ≡ [])
             (λ l. self.old.items ≡ l.line ∷ self.new.items)) }
@@ -78,6 +83,13 @@ impl<'a> LinesToRun<'a> {
         let mut given = None;
         while let Some(KeptLine { number, text }) = left.next_line() {
             let stated = state(alloc, number, text)?;
+            if stated.is_together() {
+                let mut draws = self.draws.copy()?;
+                let line = Line::Together(read_sections(alloc, &mut left, &mut draws)?);
+                self.left = left;
+                self.draws = draws;
+                return Ok(Some(LineToRun { number, text, line }));
+            }
             if let Some(line) = line_of(stated, &mut given, &mut self.draws) {
                 self.left = left;
                 return Ok(Some(LineToRun { number, text, line }));
@@ -87,13 +99,14 @@ impl<'a> LinesToRun<'a> {
     }
 }
 
-/// The line to run that a line of a file asks for, if it asks for one. Random words that it gives wait for the next
-/// line. An event has the random words that wait, or else the next that the seed gives.
+/// The line to run that a line of a file asks for that begins no block, if it asks for one. Random words that it gives
+/// wait for the next line. An event has the random words that wait, or else the next that the seed gives.
 fn line_of<'a>(
     stated: Stated<'a>,
     given: &mut Option<GivenWords<'a>>,
     draws: &mut SeedWords,
-) -> Option<Line>
+) -> Option<Line<'a>>
+    requires single { is_together stated.says ≡ false }
     ensures { TakesLine (stream_now draws.old) given.old stated.entry.says result (stream_now draws.new) given.new }
 {
     let waiting = given.take();
@@ -103,21 +116,37 @@ fn line_of<'a>(
             Some(Line::Event { event, words })
         }
         Ok(Statement::Look(look)) => Some(Line::Look(look)),
-        Ok(Statement::Analyse { subject, workers }) => Some(Line::Analyse { subject, workers }),
+        Ok(Statement::Analyse { subject, workers }) => {
+            let workers = workers_or_one(workers);
+            Some(Line::Analyse { subject, workers })
+        }
         Ok(Statement::Words(words)) => {
             *given = Some(words);
             None
         }
         Ok(Statement::Params(_)) => None,
         Ok(Statement::Seed(_)) => None,
+        Ok(Statement::Together) => None,
+        Ok(Statement::Also) => None,
+        Ok(Statement::End) => None,
         Err(_) => None,
     }
 }
 
+/// The workers of an analysis: as many as are named, or else one.
+fn workers_or_one(named: Option<Workers>) -> Workers
+    ensures { result ≡ workers_or_one named }
+{
+    match named {
+        Some(workers) => workers,
+        None => Workers::ONE,
+    }
+}
+
 /// The line that a line of a file with this text asks to run, whatever comes before it. The random words of an event
-/// are zeros. None if it asks for no line. OutOfMemory (99) is returned if an allocation was refused: the line then has
-/// a payload or the ids of a group, or it can't be read.
-pub fn line_asked_by(alloc: Global, text: &[u8]) -> Result<Option<Line>, OutOfMemory>
+/// are zeros, and a block has no sections. None if it asks for no line. OutOfMemory (99) is returned if an allocation
+/// was refused: the line then has a payload or the ids of a group, or it can't be read.
+pub fn line_asked_by<'a>(alloc: Global, text: &'a [u8]) -> Result<Option<Line<'a>>, OutOfMemory>
     ensures line { IfOk result (λ line. MatchOption line (runs (statement_of text.now) ≡ false)
         (λ l. IsLineOf (statement_of text.now) l)) }
     ensures zeros { IfOk result (λ line. IfSome line HasZeros) }
@@ -130,9 +159,13 @@ pub fn line_asked_by(alloc: Global, text: &[u8]) -> Result<Option<Line>, OutOfMe
         }
         Ok(Statement::Look(look)) => Ok(Some(Line::Look(look))),
         Ok(Statement::Analyse { subject, workers }) => {
-            Ok(Some(Line::Analyse { subject, workers }))
+            let workers = workers_or_one(workers);
+            let line = Line::Analyse { subject, workers };
+            Ok(Some(line))
         }
+        Ok(Statement::Together) => Ok(Some(Line::Together(Seq::new(Vec::new(alloc))))),
         Ok(Statement::Params(_) | Statement::Seed(_) | Statement::Words(_)) => Ok(None),
+        Ok(Statement::Also | Statement::End) => Ok(None),
         Err(Unstated::Unread(_)) => Ok(None),
         Err(Unstated::OutOfMemory) => Err(OutOfMemory),
     }

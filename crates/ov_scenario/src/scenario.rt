@@ -1,4 +1,5 @@
 use crate::lines_to_run::LinesToRun;
+use crate::section::SectionLine;
 use ov_claims::Workers;
 use ov_ids::{NodeId, Params, Seq};
 use ov_net::Event;
@@ -6,13 +7,15 @@ use ov_words::Words;
 
 /// A line of a scenario that is run.
 #[derive(Debug, Drop)]
-pub enum Line {
+pub enum Line<'a> {
     /// An event happens, with these random words.
     Event { event: Event, words: Words },
     /// Something is looked at, and nothing changes.
     Look(Look),
     /// The overlay is analysed by this many workers, and a report is filed.
     Analyse { subject: Subject, workers: Workers },
+    /// Sections run at once, each by a driver of its own: 1 to 64 of them, each with its lines in order.
+    Together(Seq<Seq<SectionLine<'a>>>),
 }
 
 /// What is analysed: the overlay at a moment, for a group of its nodes, or for all of them if no group is named.
@@ -33,11 +36,13 @@ pub enum Look {
     Certificate(Subject),
 }
 
-/// What a scenario file asks for: the parameters of all nodes, the seed of the random words that no line gives, and the
-/// lines to run, in order. The file's bytes are all that is kept of the lines.
+/// What a scenario file asks for: the parameters of all nodes, the seed of the random words that no line gives, how
+/// many drivers its sections need, and the lines to run, in order. The file's bytes are all that is kept of the lines.
 #[derive(Drop)]
 pub struct Scenario<'a> {
     pub params: Params,
     pub seed: u64,
+    /// How many drivers the lines need: as many as the largest block has sections, and one if there is no block.
+    pub drivers: Workers,
     pub lines: LinesToRun<'a>,
 }

@@ -44,6 +44,14 @@ pub enum LineFault {
     /// It gives random words, and the next line that is not skipped is no event (70). That line has this number, if
     /// there is one.
     NoEventNext { next: Option<usize> },
+    /// It begins a block of sections, and no line after it ends one (70).
+    NoEnd,
+    /// It begins a further section or ends a block, and stands in no block (70).
+    NotInSection,
+    /// It begins a section of a block that has 64 of them (70). The block began on this line.
+    TooManySections { together: usize },
+    /// It is none of the lines that a section holds, and stands in one (70). The block began on this line.
+    NotHeld { together: usize },
 }
 
 impl LineFault {
@@ -56,7 +64,11 @@ impl LineFault {
             LineFault::Unread(_)
             | LineFault::BehindEvent { .. }
             | LineFault::SetBefore { .. }
-            | LineFault::NoEventNext { .. } => 70,
+            | LineFault::NoEventNext { .. }
+            | LineFault::NoEnd
+            | LineFault::NotInSection
+            | LineFault::TooManySections { .. }
+            | LineFault::NotHeld { .. } => 70,
         }
     }
 }

@@ -1,5 +1,5 @@
-ghost use Rattle.std.specs.Prelude.{◌≡◌, IfOk, IfErr};
-ghost use Rattle.ov_scenario.specs.Code.Judging.{first_in, params_in, seed_in};
+ghost use Rattle.std.specs.Prelude.{◌≡◌, None, max, IfOk, IfErr};
+ghost use Rattle.ov_scenario.specs.Code.Judging.{drivers_from, first_in, params_in, seed_in};
 ghost use Rattle.ov_scenario.specs.RunLines.{lines_that_run};
 ghost use Rattle.ov_scenario.specs.Scenarios.{AreFaultless, IsReadingFault, IsScenario, stated_lines};
 
@@ -18,13 +18,18 @@ pub fn read_scenario<'a>(alloc: Global, bytes: &'a [u8]) -> Result<Scenario<'a>,
     ensures file_lines { IfOk result (λ s. s.lines.file_lines ≡ lines_that_run bytes.now) }
     ensures fault { IfErr result (λ fault. IsReadingFault bytes.now fault) }
 {
-    let settings = read_settings(alloc, bytes)?;
+    let settings = match read_settings(alloc, bytes) {
+        Ok(settings) => settings,
+        Err(fault) => return Err(fault),
+    };
     let params = settings.params();
     let seed = settings.seed();
+    let drivers = settings.drivers();
     let lines = LinesToRun::new(bytes, seed);
     Ok(Scenario {
         params,
         seed,
+        drivers,
         lines,
     })
 }
@@ -34,13 +39,14 @@ fn read_settings(alloc: Global, bytes: &[u8]) -> Result<Settings, ScenarioFault>
     ensures faultless { IfOk result (λ _. AreFaultless (stated_lines bytes.now)) }
     ensures params { IfOk result (λ settings. settings.params ≡ first_in params_in (stated_lines bytes.now)) }
     ensures seed { IfOk result (λ settings. settings.seed ≡ first_in seed_in (stated_lines bytes.now)) }
+    ensures drivers { IfOk result (λ settings. settings.drivers ≡ max 1 (drivers_from None (stated_lines bytes.now))) }
     ensures fault { IfErr result (λ fault. IsReadingFault bytes.now fault) }
 {
     let mut judging = Judging::new(alloc, bytes)?;
     let mut settings = Settings::nothing();
     let mut first = None;
     while let Some(judged) = judging.next_line(alloc)? {
-        settings = settings.with(&judged.line);
+        settings = settings.with(&judged.line, judging.open_block());
         first = first.or(judged.faulty());
     }
     match first {

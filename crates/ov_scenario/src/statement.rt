@@ -1,3 +1,6 @@
+ghost use Rattle.std.specs.Prelude.{◌≡◌};
+ghost use Rattle.ov_scenario.specs.Sections.{is_end, is_together};
+
 use crate::given_words::GivenWords;
 use crate::scenario::{Look, Subject};
 use ov_claims::Workers;
@@ -16,8 +19,17 @@ pub(crate) enum Statement<'a> {
     Words(GivenWords<'a>),
     Event(Event),
     Look(Look),
-    /// What is analysed, and by how many workers.
-    Analyse { subject: Subject, workers: Workers },
+    /// What is analysed, and by how many workers, if the line names a number.
+    Analyse {
+        subject: Subject,
+        workers: Option<Workers>,
+    },
+    /// A block of sections begins with its first section.
+    Together,
+    /// The next section of the block begins.
+    Also,
+    /// The block ends.
+    End,
 }
 
 /// A line that is not skipped. Contracts see of a line that can't be read only that it says nothing.
@@ -27,6 +39,22 @@ pub(crate) struct Stated<'a> {
     pub(crate) number: usize,
     /// What it says, or why it can't be read.
     pub(crate) says: Result<Statement<'a>, Unread>,
+}
+
+impl<'a> Stated<'a> {
+    /// Whether it begins a block of sections.
+    pub(crate) fn is_together(&self) -> bool
+        ensures { result ≡ is_together self.now.says }
+    {
+        matches!(&self.says, Ok(Statement::Together))
+    }
+
+    /// Whether it ends a block of sections.
+    pub(crate) fn is_end(&self) -> bool
+        ensures { result ≡ is_end self.now.says }
+    {
+        matches!(&self.says, Ok(Statement::End))
+    }
 }
 
 impl<'a> Model for Stated<'a> {

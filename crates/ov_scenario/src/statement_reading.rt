@@ -5,7 +5,8 @@ ghost use Rattle.ov_scenario.specs.RunLines.{HasIds, HasPayload, ReadingNeedsMem
 ghost use Rattle.ov_scenario.specs.Scenarios.{stated_at};
 ghost use Rattle.ov_scenario.specs.Statements.{seven_numbers, crash_report_of, timer_of, boot_of};
 ghost use Rattle.ov_scenario.specs.Statements.{broadcast_of, group_at, subject_at, subject_of, analysis_of};
-ghost use Rattle.ov_scenario.specs.Statements.{event_rows, look_rows, line_rows, line_names, statement_of};
+ghost use Rattle.ov_scenario.specs.Statements.{event_rows, look_rows, section_rows, line_rows, line_names};
+ghost use Rattle.ov_scenario.specs.Statements.{statement_of};
 ghost use Rattle.ov_scenario.specs.Code.Reading.{Reads};
 ghost use Rattle.ov_scenario.specs.declared.statement.Statement.TheVariants as says;
 ghost use Rattle.ov_scenario.specs.declared.statement_reading.Unstated.TheVariants as unstated;
@@ -13,7 +14,6 @@ ghost use Rattle.ov_scenario.specs.declared.statement_reading.Unstated.TheVarian
 use crate::given_words::GivenWords;
 use crate::scenario::{Look, Subject};
 use crate::statement::{Stated, Statement};
-use ov_claims::Workers;
 use ov_ids::{MsgId, NodeId, OutOfMemory, Seq};
 use ov_lines::{END, ID, Kind, LineCursor, Unread, is_word};
 use ov_net::Event;
@@ -47,6 +47,9 @@ pub fn line_names() -> &'static [&'static str]
         "certificate",
         "show",
         "packets",
+        "together",
+        "also",
+        "end",
     ]
 }
 
@@ -100,6 +103,7 @@ const WORKERS: &[Kind] = &[Kind::Within(1, 64)];
 const MOMENT: &[Kind] = &[Kind::Short("the moment of a snapshot")];
 
 /// Why a line states nothing.
+#[derive(Drop)]
 pub(crate) enum Unstated {
     /// It can't be read.
     Unread(Unread),
@@ -181,7 +185,7 @@ fn read_named<'a>(
     read_event(alloc, name, unknown, cursor)
 }
 
-/// Reads what follows the name of an event, of an analysis or of a look.
+/// Reads what follows the name of any line that sets nothing for those after it.
 fn read_event<'a>(
     alloc: Global,
     name: &[u8],
@@ -189,7 +193,8 @@ fn read_event<'a>(
     cursor: &mut LineCursor<'a>,
 ) -> Result<Statement<'a>, Unstated>
     ensures { Reads ReadingNeedsMemory result
-        (row name.now (event_rows cursor.old (words_of cursor.old) ++ look_rows (words_of cursor.old)) None) }
+        (row name.now (event_rows cursor.old (words_of cursor.old) ++ look_rows (words_of cursor.old)
+        ++ section_rows (words_of cursor.old)) None) }
 {
     if is_word(name, b"boot") {
         return Ok(Statement::Event(read_boot(cursor)?));
@@ -227,14 +232,15 @@ fn read_event<'a>(
     read_look(alloc, name, unknown, cursor)
 }
 
-/// Reads what follows the name of an analysis or of a look.
+/// Reads what follows the name of an analysis, of a look, or of a line that begins or ends a section.
 fn read_look<'a>(
     alloc: Global,
     name: &[u8],
     unknown: Unread,
     cursor: &mut LineCursor<'a>,
 ) -> Result<Statement<'a>, Unstated>
-    ensures { Reads ReadingNeedsMemory result (row name.now (look_rows (words_of cursor.old)) None) }
+    ensures { Reads ReadingNeedsMemory result
+        (row name.now (look_rows (words_of cursor.old) ++ section_rows (words_of cursor.old)) None) }
 {
     if is_word(name, b"analyse") {
         return read_analysis(alloc, cursor);
@@ -250,6 +256,29 @@ fn read_look<'a>(
     if is_word(name, b"packets") {
         read_end(cursor)?;
         return Ok(Statement::Look(Look::Packets));
+    }
+    read_section(name, unknown, cursor)
+}
+
+/// Reads what follows the name of a line that begins or ends a section.
+fn read_section<'a>(
+    name: &[u8],
+    unknown: Unread,
+    cursor: &LineCursor<'a>,
+) -> Result<Statement<'a>, Unstated>
+    ensures { Reads ReadingNeedsMemory result (row name.now (section_rows (words_of cursor.now)) None) }
+{
+    if is_word(name, b"together") {
+        read_end(cursor)?;
+        return Ok(Statement::Together);
+    }
+    if is_word(name, b"also") {
+        read_end(cursor)?;
+        return Ok(Statement::Also);
+    }
+    if is_word(name, b"end") {
+        read_end(cursor)?;
+        return Ok(Statement::End);
     }
     Err(unknown.into())
 }
@@ -281,10 +310,8 @@ fn read_analysis<'a>(alloc: Global, cursor: &mut LineCursor<'a>) -> Result<State
     let moment = cursor.short_number(MOMENT)?;
     let neither = cursor.unread(&[Kind::Name("workers"), Kind::Name("group"), Kind::End]);
     let Some(name) = cursor.word() else {
-        return Ok(by_one_worker(Subject {
-            moment,
-            group: None,
-        }));
+        let group = None;
+        return Ok(analysis_of(Subject { moment, group }));
     };
     if is_word(name, b"workers") {
         let workers = match cursor.workers(WORKERS) {
@@ -292,18 +319,20 @@ fn read_analysis<'a>(alloc: Global, cursor: &mut LineCursor<'a>) -> Result<State
             Err(unread) => return Err(unread.into()),
         };
         let subject = read_subject_at(alloc, moment, cursor)?;
+        let workers = Some(workers);
         return Ok(Statement::Analyse { subject, workers });
     }
     if is_word(name, b"group") {
-        return Ok(by_one_worker(read_group(alloc, moment, cursor)?));
+        return Ok(analysis_of(read_group(alloc, moment, cursor)?));
     }
     Err(neither.into())
 }
 
-fn by_one_worker<'a>(subject: Subject) -> Statement<'a>
-    ensures { result ≡ says.Analyse subject 1 }
+/// An analysis for which no number of workers is named.
+fn analysis_of<'a>(subject: Subject) -> Statement<'a>
+    ensures { result ≡ says.Analyse subject None }
 {
-    let workers = Workers::ONE;
+    let workers = None;
     Statement::Analyse { subject, workers }
 }
 

@@ -1,18 +1,22 @@
-ghost use Rattle.std.specs.Prelude.{◌≡◌, List, None};
+ghost use Rattle.std.specs.Prelude.{◌≡◌, List, None, max};
 ghost use Rattle.std.specs.Option.{option_or};
-ghost use Rattle.ov_scenario.specs.Code.Judging.{first_in, params_in, seed_in};
+ghost use Rattle.ov_scenario.specs.Code.Judging.{first_in, params_in, sections_of, seed_in};
 ghost use Rattle.ov_scenario.specs.Statements.{Stated as StatedLine};
 ghost use Rattle.ov_scenario.specs.Scenarios.{AreFaultless, AreParamsOf, IsSeedOf, default_params};
 
 use crate::line_judging::params_within_limits;
+use crate::open_block::{OpenBlock, sections_of};
 use crate::statement::{Stated, Statement};
+use ov_claims::Workers;
 use ov_ids::Params;
 
-/// What lines give for the whole run: the numbers of the first parameters, and the first seed, if they give any.
+/// What lines give for the whole run: the numbers of the first parameters, and the first seed, if they give any, and
+/// how many drivers they need.
 #[derive(Clone, Copy)]
 pub(crate) struct Settings {
     params: Option<[u32; 7]>,
     seed: Option<u64>,
+    drivers: Workers,
 }
 
 impl Settings {
@@ -20,19 +24,23 @@ impl Settings {
     pub(crate) fn nothing() -> Settings
         ensures params { result.params ≡ None }
         ensures seed { result.seed ≡ None }
+        ensures drivers { result.drivers ≡ 1 }
     {
         Settings {
             params: None,
             seed: None,
+            drivers: Workers::ONE,
         }
     }
 
-    /// What these lines and the next one give.
-    pub(crate) fn with(self, line: &Stated) -> Settings
+    /// What these lines and the next one give. After that one this block is open, if one is.
+    pub(crate) fn with(self, line: &Stated, block: Option<OpenBlock>) -> Settings
         ensures params { result.params ≡ option_or self.params (params_in line.now.says) }
         ensures seed { result.seed ≡ option_or self.seed (seed_in line.now.says) }
+        ensures drivers { result.drivers ≡ max self.drivers (sections_of block) }
     {
         let mut settings = self;
+        settings.drivers = more_workers(self.drivers, sections_of(block));
         match &line.says {
             Ok(Statement::Params(numbers)) => settings.params = settings.params.or(Some(*numbers)),
             Ok(Statement::Seed(seed)) => settings.seed = settings.seed.or(Some(*seed)),
@@ -40,7 +48,10 @@ impl Settings {
                 Statement::Words(_)
                 | Statement::Event(_)
                 | Statement::Look(_)
-                | Statement::Analyse { .. },
+                | Statement::Analyse { .. }
+                | Statement::Together
+                | Statement::Also
+                | Statement::End,
             )
             | Err(_) => {}
         }
@@ -61,6 +72,13 @@ impl Settings {
         }
     }
 
+    /// How many drivers the lines need.
+    pub(crate) fn drivers(&self) -> Workers
+        ensures { result ≡ self.now.drivers }
+    {
+        self.drivers
+    }
+
     /// The seed that lines give, or 0.
     pub(crate) fn seed(&self) -> u64
         ensures { (lines : List StatedLine) → self.now.seed ≡ first_in seed_in lines → IsSeedOf lines result }
@@ -70,6 +88,16 @@ impl Settings {
             None => 0,
         }
     }
+}
+
+/// The higher one of two numbers of workers.
+fn more_workers(these: Workers, those: Workers) -> Workers
+    ensures { result ≡ max these those }
+{
+    if these.count() < those.count() {
+        return those;
+    }
+    these
 }
 
 /// The parameters of a scenario that gives none.

@@ -29,6 +29,14 @@ impl SeedWords {
         }
     }
 
+    /// The same random words anew. OutOfMemory (99) is returned if an allocation was refused.
+    pub(crate) fn copy(&self) -> Result<SeedWords, OutOfMemory>
+        ensures { IfOk result (λ draws. draws ≡ self.now) }
+    {
+        let generator = self.generator.clone()?;
+        Ok(SeedWords { generator })
+    }
+
     /// The random words of the next event.
     #[tactic(auto, unfolding(crate::specs::Code::RunnableLines::stream_now))]
     pub(crate) fn next_words(&mut self) -> Words

@@ -11,3 +11,5 @@ mod graph_files;
 mod id_lists;
 #[cfg(test)]
 mod scenario_lines;
+#[cfg(test)]
+mod scenario_sections;

@@ -29,7 +29,7 @@ fn are_left(alloc: Global, lines: &mut LinesToRun, expected: &[Line]) -> Result<
 }
 
 /// The file has exactly these lines.
-fn has_lines<'a>(
+pub(crate) fn has_lines<'a>(
     rt: &impl Abort,
     alloc: Global,
     bytes: &'a [u8],
@@ -44,7 +44,7 @@ fn has_lines<'a>(
 }
 
 /// The words of the last of so many events that have none of their own, by this seed.
-fn drawn(alloc: Global, seed: u64, count: usize) -> Result<Words, Fail> {
+pub(crate) fn drawn(alloc: Global, seed: u64, count: usize) -> Result<Words, Fail> {
     let draws = draw(alloc, seed, count)?;
     Ok(*draws.last().ok_or("the words of an event")?)
 }
@@ -162,7 +162,7 @@ pub(crate) fn crew_of(count: u32) -> Result<Workers, Fail> {
 }
 
 /// The line of an analysis by so many workers.
-fn analysis(subject: Subject, count: u32) -> Result<Line, Fail> {
+fn analysis(subject: Subject, count: u32) -> Result<Line<'static>, Fail> {
     let workers = crew_of(count)?;
     Ok(Line::Analyse { subject, workers })
 }
@@ -513,7 +513,7 @@ fn unread(line: usize, at: usize, wanted: &'static [Kind]) -> FaultyLine {
 }
 
 /// The lines at fault of a file are these.
-fn has_faults(
+pub(crate) fn has_faults(
     rt: &impl Abort,
     alloc: Global,
     text: &str,

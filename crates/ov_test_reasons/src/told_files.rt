@@ -54,7 +54,7 @@ pub(crate) fn graph_told(alloc: Global, file: &[u8]) -> Result<String, OutOfMemo
 /// What is said of a first word that is near to no name.
 const NO_NAME: &str = "no line begins with this word; lines begin with \
     `params`, `seed`, `words`, `boot`, `deliver`, `lose`, `repeat`, `crash`, `report`, `shuffle`, `broadcast`, `timer`, \
-    `snapshot`, `analyse`, `certificate`, `show` or `packets`";
+    `snapshot`, `analyse`, `certificate`, `show`, `packets`, `together`, `also` or `end`";
 
 /// Scenario files, and what is told of them.
 static SCENARIOS: [(&[u8], &[Told]); 29] = [

@@ -1,16 +1,18 @@
 -- Lines that are judged one after the other, by what those before them tell.
 use Rattle.std.proofs.Common.{◌≡◌, ◌∙◌, inl, inr, ℕ, Bool, true, false, if◌then◌else◌, List, [], ◌∷◌, ◌++◌}
-use Rattle.std.proofs.Common.{append_assoc, append-nil, map, Option, Some, None, refl, ap, sym, subst}
+use Rattle.std.proofs.Common.{append_assoc, append-nil, Option, Some, None, refl, ap, sym, subst}
 use Rattle.std.specs.Option.{option_or}
-use Rattle.std.specs.Prelude.{slice_get, MatchOption, option_map, option_to_list}
-use Rattle.ov_scenario.specs.Code.Judging.{or_next, with_next, Judges, Tells, faulty_of, left_to_judge, lines_left}
+use Rattle.std.specs.Prelude.{slice_get, option_map, option_to_list}
+use Rattle.ov_scenario.specs.Code.Judging.{or_next, with_next, Judges, Tells, faulty_of}
 use Rattle.ov_scenario.specs.Scenarios.{first_of, is_event, is_params, is_seed, before_of, AreWithin, IsTooLate}
-use Rattle.ov_scenario.specs.Scenarios.{IsWrong}
-use Rattle.ov_scenario.specs.Scenarios.{AreFaulty, IsFirstFaulty, stated_at}
+use Rattle.ov_scenario.specs.Scenarios.{IsWrong, IsWrongIn, IsWrongOutside}
+use Rattle.ov_scenario.specs.Scenarios.{AreFaulty, IsFirstFaulty}
+use Rattle.ov_scenario.specs.Sections.{open_from, open_next}
 use Rattle.ov_scenario.specs.Statements.{Stated}
 use Rattle.ov_scenario.specs.declared.judging.Judged.{Judged}
 use Rattle.ov_scenario.specs.declared.judging.Judging.{Judging}
 use Rattle.ov_scenario.specs.declared.line_judging.Before.{Before}
+use Rattle.ov_scenario.specs.declared.open_block.OpenBlock.{OpenBlock}
 use Rattle.ov_scenario.specs.declared.scenario_fault.FaultyLine.{FaultyLine}
 use Rattle.ov_scenario.specs.declared.scenario_fault.LineFault.{LineFault}
 use Rattle.ov_scenario.specs.declared.scenario_fault.LineFault.TheVariants as fault
@@ -29,39 +31,11 @@ in_time s (Some n) same none = absurd (none (fault.BehindEvent s n) refl)
 in_time s None (Some n) none = absurd (none (fault.SetBefore s n) refl)
 in_time s None None none = (refl, refl)
 
--- of the lines after a line the first one decides
-wrong_by_next :
-    (before : Before) (said : Option Statement) (next : Stated) (more : List Stated) (f : LineFault)
-    → (IsWrong before said (next ∷ []) f → IsWrong before said (next ∷ more) f)
-    × (IsWrong before said (next ∷ more) f → IsWrong before said (next ∷ []) f)
-wrong_by_next before None next more f = (λ w. w, λ w. w)
-wrong_by_next before (Some (says.Params numbers)) next more f = (λ w. w, λ w. w)
-wrong_by_next before (Some (says.Seed seed)) next more f = (λ w. w, λ w. w)
-wrong_by_next before (Some (says.Words words)) next more f = (λ w. w, λ w. w)
-wrong_by_next before (Some (says.Event event)) next more f = (λ w. w, λ w. w)
-wrong_by_next before (Some (says.Look look)) next more f = (λ w. w, λ w. w)
-wrong_by_next before (Some (says.Analyse subject workers)) next more f = (λ w. w, λ w. w)
-
--- a line that was judged by the next one alone is judged by all that follow it
-pub told_by_next :
-    (before : Before) (said : Option Statement) (next : Option Stated) (seen : List Stated)
-    (after : List (ℕ × List ℕ)) (told : Option LineFault)
-    → MatchOption next (seen ≡ []) (λ line. seen ≡ line ∷ []) → Tells told (λ f. IsWrong before said seen f)
-    → Tells told (λ f. IsWrong before said (lines_left next after) f)
-told_by_next before said None seen after told is tells =
-    subst (λ (ls : List Stated). Tells told (λ f. IsWrong before said ls f)) is tells
-told_by_next before said (Some line) seen after None is tells = λ f wrong.
-    tells f (subst (λ (ls : List Stated). IsWrong before said ls f) (sym is)
-    ((wrong_by_next before said line (map stated_at after) f).1 wrong))
-told_by_next before said (Some line) seen after (Some f) is tells =
-    (wrong_by_next before said line (map stated_at after) f).0
-    (subst (λ (ls : List Stated). IsWrong before said ls f) is tells)
-
 -- parameters that come in time, and are out of their limits
 pub params_beyond :
     (before : Before) (numbers : List ℕ) → ((f : LineFault) → ¬ IsTooLate sets.Params before.event before.params f)
     → (¬ AreWithin numbers)
-    → IsWrong before (Some (says.Params numbers)) [] (fault.OutOfLimits numbers)
+    → IsWrongOutside before (says.Params numbers) [] (fault.OutOfLimits numbers)
 params_beyond before numbers none beyond =
     let free = in_time sets.Params before.event before.params none in
     inr (free.0, free.1, beyond, refl)
@@ -70,9 +44,12 @@ params_beyond before numbers none beyond =
 pub one_is_wrong :
     (before : Before) (numbers : List ℕ) (after : List Stated) → (¬ AreWithin numbers)
     → ¬ ((f : LineFault) → ¬ IsWrong before (Some (says.Params numbers)) after f)
-one_is_wrong before numbers after beyond right =
-    let free = in_time sets.Params before.event before.params (λ f late. right f (inl late)) in
-    right (fault.OutOfLimits numbers) (inr (free.0, free.1, beyond, refl))
+one_is_wrong before numbers after beyond right = by before.block right where
+  by : (block : Option OpenBlock) → ((f : LineFault) → ¬ IsWrongIn block before (says.Params numbers) after f) → ⊥
+  by (Some block) right = right (fault.NotHeld block.together) refl
+  by None right =
+      let free = in_time sets.Params before.event before.params (λ f late. right f (inl late)) in
+      right (fault.OutOfLimits numbers) (inr (free.0, free.1, beyond, refl))
 
 -- the first line of a kind, with one line more
 pub first_next :
@@ -92,26 +69,44 @@ first_next is_kind (other ∷ lines) line =
       by true false same = refl
       by false last same = same
 
+-- the block that is open, with one line more
+pub open_more :
+    (open_before : Option OpenBlock) (lines : List Stated) (line : Stated)
+    → open_next (open_from open_before lines) line.number line.says ≡ open_from open_before (lines ++ line ∷ [])
+unfolding open_from
+open_more open_before [] line = refl
+open_more open_before (other ∷ lines) line = open_more (open_next open_before other.number other.says) lines line
+
 before_next : (lines : List Stated) (line : Stated) → with_next (before_of lines) line ≡ before_of (lines ++ line ∷ [])
 before_next lines line =
     ap (λ e. record {
       event = e;
       params = (with_next (before_of lines) line).params;
       seed = (with_next (before_of lines) line).seed;
+      block = (with_next (before_of lines) line).block;
     })
     (first_next is_event lines line)
     ∙ ap (λ p. record {
       event = first_of is_event (lines ++ line ∷ []);
       params = p;
       seed = (with_next (before_of lines) line).seed;
+      block = (with_next (before_of lines) line).block;
     })
     (first_next is_params lines line)
     ∙ ap (λ s. record {
       event = first_of is_event (lines ++ line ∷ []);
       params = first_of is_params (lines ++ line ∷ []);
       seed = s;
+      block = (with_next (before_of lines) line).block;
     })
     (first_next is_seed lines line)
+    ∙ ap (λ o. record {
+      event = first_of is_event (lines ++ line ∷ []);
+      params = first_of is_params (lines ++ line ∷ []);
+      seed = first_of is_seed (lines ++ line ∷ []);
+      block = o;
+    })
+    (open_more None lines line)
 
 -- ---- all lines
 
@@ -172,39 +167,26 @@ faultless_more all left after line before next faulty so_far split right steps =
       so_far.whole later (subst (λ (ls : List Stated). AreFaulty so_far.passed ls later) (sym split) own);
 }
 
--- the next line was judged by the one after it
-pub judges_next :
-    (old new : Judging) (line : Stated) (seen : List Stated) (told : Option LineFault)
-    → old.next ≡ Some line → map stated_at old.after ≡ left_to_judge new → new.before ≡ with_next old.before line
-    → MatchOption new.next (seen ≡ []) (λ next. seen ≡ next ∷ [])
-    → Tells told (λ f. IsWrong old.before line.says seen f)
-    → Judges old (Some (record { line = line; fault = told })) new
-judges_next old new line seen told is after steps next tells = (
-  ap (λ (n : Option Stated). lines_left n old.after) is ∙ ap (λ (ls : List Stated). line ∷ ls) after,
-  steps,
-  told_by_next old.before line.says new.next seen new.after told next tells,
-)
-
 -- one line more, which is at fault or not
 pub judged_more :
     (all : List Stated) (old new : Judging) (judged : Judged) (faulty : List FaultyLine)
-    → JudgedSoFar all (left_to_judge old) old.before faulty → Judges old (Some judged) new
-    → JudgedSoFar all (left_to_judge new) new.before (faulty ++ option_to_list (faulty_of judged))
+    → JudgedSoFar all old.ahead old.before faulty → Judges old (Some judged) new
+    → JudgedSoFar all new.ahead new.before (faulty ++ option_to_list (faulty_of judged))
 judged_more all old new judged faulty so_far (split, steps, told) = by judged.fault refl told where
   by :
       (own : Option LineFault) → judged.fault ≡ own
-      → Tells own (λ f. IsWrong old.before judged.line.says (left_to_judge new) f)
-      → JudgedSoFar all (left_to_judge new) new.before (faulty ++ option_to_list (faulty_of judged))
+      → Tells own (λ f. IsWrong old.before judged.line.says new.ahead f)
+      → JudgedSoFar all new.ahead new.before (faulty ++ option_to_list (faulty_of judged))
   by (Some f) is wrong =
-      fault_more all (left_to_judge old) (left_to_judge new) judged.line f old.before new.before faulty
+      fault_more all old.ahead new.ahead judged.line f old.before new.before faulty
       (faulty ++ option_to_list (faulty_of judged)) so_far split wrong steps
       (ap (λ o. faulty ++ option_to_list (option_map (λ (g : LineFault).
       record { line = judged.line.number; fault = g }) o)) is)
   by None is right =
-      subst (λ fs. JudgedSoFar all (left_to_judge new) new.before fs)
+      subst (λ fs. JudgedSoFar all new.ahead new.before fs)
       (sym (append-nil faulty) ∙ ap (λ o. faulty ++ option_to_list (option_map (λ (g : LineFault).
       record { line = judged.line.number; fault = g }) o)) (sym is))
-      (faultless_more all (left_to_judge old) (left_to_judge new) judged.line old.before new.before faulty so_far split
+      (faultless_more all old.ahead new.ahead judged.line old.before new.before faulty so_far split
       right steps)
 
 none_left : (passed : List Stated) → AreFaulty passed [] []
@@ -249,8 +231,8 @@ first_begun all left before same known =
 -- one line more, which is at fault or not
 pub first_more :
     (all : List Stated) (old new : Judging) (judged : Judged) (first : Option FaultyLine)
-    → FirstSoFar all (left_to_judge old) old.before first → Judges old (Some judged) new
-    → FirstSoFar all (left_to_judge new) new.before (option_or first (faulty_of judged))
+    → FirstSoFar all old.ahead old.before first → Judges old (Some judged) new
+    → FirstSoFar all new.ahead new.before (option_or first (faulty_of judged))
 first_more all old new judged first so_far judges = record {
   faulty = so_far.faulty ++ option_to_list (faulty_of judged);
   judged = judged_more all old new judged so_far.faulty so_far.judged judges;

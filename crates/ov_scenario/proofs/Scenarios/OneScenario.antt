@@ -1,23 +1,29 @@
 -- A file says one scenario.
 use Rattle.std.proofs.Common.{◌≡◌, ◌∙◌, inl, inr, ℕ, Bool, true, false, if◌then◌else◌, List, [], ◌∷◌, ◌++◌, length}
-use Rattle.std.proofs.Common.{map, Option, Some, None, refl, ap, sym, subst, arith}
+use Rattle.std.proofs.Common.{Option, Some, None, refl, ap, sym, subst, arith}
 use Rattle.std.specs.Option.{option_or}
 use Rattle.rand_core.specs.Stream.{Stream, next_u64}
 use Rattle.ov_ids.specs.Members.{Has}
 use Rattle.ov_ids.specs.ParamsState.{ParamsState}
+use Rattle.ov_lines.specs.Lines.{kept_lines}
 use Rattle.ov_words.specs.Stream.{AreOutputs}
 use Rattle.ov_scenario.specs.Code.Judging.{params_in, seed_in, first_in}
 use Rattle.ov_scenario.specs.Draws.{AreDraws, seeded}
-use Rattle.ov_scenario.specs.Scenarios.{stated_lines, first_of, is_event, is_params, is_seed, before_of, default_params}
-use Rattle.ov_scenario.specs.Scenarios.{AreParams, AreParamsOf, IsSeedOf, IsWrong, AreFaulty, AreFaultless, RunAs}
-use Rattle.ov_scenario.specs.Scenarios.{AreToRun}
+use Rattle.ov_scenario.specs.Scenarios.{stated_lines, first_of, is_params, is_seed, before_of, default_params}
+use Rattle.ov_scenario.specs.Scenarios.{AreParams, AreParamsOf, IsSeedOf, IsWrong, IsWrongIn, AreFaulty, AreFaultless}
+use Rattle.ov_scenario.specs.Scenarios.{AreToRun, BlockRunsAs, RunAs}
 use Rattle.ov_scenario.specs.Scenarios.{IsScenario}
-use Rattle.ov_scenario.specs.Statements.{Stated}
+use Rattle.ov_scenario.specs.Sections.{SectionLine, open_after, section_line}
+use Rattle.ov_scenario.specs.Statements.{Stated, ToldLine, told, workers_or_one}
+use Rattle.ov_scenario.specs.declared.line_judging.Before.{Before}
+use Rattle.ov_scenario.specs.declared.open_block.OpenBlock.{OpenBlock}
 use Rattle.ov_scenario.specs.declared.scenario.Line.{Line}
 use Rattle.ov_scenario.specs.declared.scenario.Line.TheVariants as line
 use Rattle.ov_scenario.specs.declared.scenario.Scenario.{Scenario}
 use Rattle.ov_scenario.specs.declared.scenario_fault.LineFault.{LineFault}
+use Rattle.ov_scenario.specs.declared.scenario_fault.LineFault.TheVariants as fault
 use Rattle.ov_scenario.specs.declared.scenario_fault.Setting.TheVariants as sets
+use Rattle.ov_scenario.specs.declared.section.Deed.TheVariants as deed
 use Rattle.ov_scenario.specs.declared.statement.Statement.{Statement}
 use Rattle.ov_scenario.specs.declared.statement.Statement.TheVariants as says
 use Rattle.ov_scenario.proofs.Scenarios.Judged.{in_time, first_next}
@@ -42,13 +48,22 @@ no_params (Some (says.Words words)) is = refl
 no_params (Some (says.Event event)) is = refl
 no_params (Some (says.Look look)) is = refl
 no_params (Some (says.Analyse subject workers)) is = refl
+no_params (Some says.Together) is = refl
+no_params (Some says.Also) is = refl
+no_params (Some says.End) is = refl
+
+before_params :
+    (block : Option OpenBlock) (before : Before) (numbers : List ℕ) (behind : List Stated)
+    → ((f : LineFault) → ¬ IsWrongIn block before (says.Params numbers) behind f) → before.params ≡ None
+before_params (Some block) before numbers behind right = absurd (right (fault.NotHeld block.together) refl)
+before_params None before numbers behind right =
+    (in_time sets.Params before.event before.params (λ f late. right f (inl late))).1
 
 sets_params : SetsOnce says.Params params_in is_params
 sets_params = record {
   gives = λ x. refl;
   other = no_params;
-  behind_none = λ before behind x right.
-      (in_time sets.Params (first_of is_event before) (first_of is_params before) (λ f late. right f (inl late))).1;
+  behind_none = λ before behind x right. before_params (open_after before) (before_of before) x behind right;
 }
 
 no_seed : (said : Option Statement) → is_seed said ≡ false → seed_in said ≡ None
@@ -59,13 +74,21 @@ no_seed (Some (says.Words words)) is = refl
 no_seed (Some (says.Event event)) is = refl
 no_seed (Some (says.Look look)) is = refl
 no_seed (Some (says.Analyse subject workers)) is = refl
+no_seed (Some says.Together) is = refl
+no_seed (Some says.Also) is = refl
+no_seed (Some says.End) is = refl
+
+before_seed :
+    (block : Option OpenBlock) (before : Before) (seed : ℕ) (behind : List Stated)
+    → ((f : LineFault) → ¬ IsWrongIn block before (says.Seed seed) behind f) → before.seed ≡ None
+before_seed (Some block) before seed behind right = absurd (right (fault.NotHeld block.together) refl)
+before_seed None before seed behind right = (in_time sets.Seed before.event before.seed right).1
 
 sets_seed : SetsOnce says.Seed seed_in is_seed
 sets_seed = record {
   gives = λ x. refl;
   other = no_seed;
-  behind_none = λ before behind x right.
-      (in_time sets.Seed (first_of is_event before) (first_of is_seed before) right).1;
+  behind_none = λ before behind x right. before_seed (open_after before) (before_of before) x behind right;
 }
 
 -- where no line up to one is of the kind, that one is not, and none before it
@@ -154,47 +177,97 @@ one_output stream (x ∷ v) (y ∷ w) a b long one also =
     let first : x ≡ y = sym one.0 ∙ also.0 in
     (ap (λ z. z ∷ v) first ∙ ap (λ zs. y ∷ zs) later.0, later.1)
 
--- what one list of lines asks for, with words that are drawn from one stream, is one list of lines
-one_run :
-    (said : List (Option Statement)) (stream : Stream) (drawn others : List (List ℕ)) (left rest : Stream)
-    (lines also : List Line)
-    → AreDraws stream drawn left → AreDraws stream others rest → RunAs said drawn lines → RunAs said others also
-    → lines ≡ also
-unfolding RunAs
-one_run [] stream drawn others left rest lines also draws again (none, one) (none_also, other) = one ∙ sym other
-one_run (Some (says.Words words) ∷ Some (says.Event e) ∷ more) stream drawn others left rest lines also draws again
-    (later, is, asks) (later_also, is_also, asks_also) =
-    is
-    ∙ ap (λ ls. line.Event e words ∷ ls)
-    (one_run more stream drawn others left rest later later_also draws again asks asks_also) ∙ sym is_also
-one_run (Some (says.Event e) ∷ more) stream drawn others left rest lines also draws again
-    (words, now, later, split, is, asks) (words_also, now_also, later_also, split_also, is_also, asks_also) =
+-- the words of the next event are one list, and so are those of the later ones
+one_draw :
+    (stream : Stream) (drawn others : List (List ℕ)) (words also : List ℕ) (now now_also : List (List ℕ))
+    (left rest : Stream)
+    → AreDraws stream drawn left → AreDraws stream others rest → drawn ≡ words ∷ now → others ≡ also ∷ now_also
+    → (later : Stream) × (words ≡ also) × AreDraws later now left × AreDraws later now_also rest
+one_draw stream drawn others words also now now_also left rest draws again split split_also =
     let one : AreDraws stream (words ∷ now) left = subst (λ ds. AreDraws stream ds left) split draws in
-    let other : AreDraws stream (words_also ∷ now_also) rest = subst (λ ds. AreDraws stream ds rest) split_also again in
-    let same = one_output stream words words_also one.1.0 other.1.0 (one.0 ∙ sym other.0) one.1.1 other.1.1 in
-    let behind : AreDraws one.1.0 now_also rest = subst (λ s. AreDraws s now_also rest) (sym same.1) other.1.2 in
-    is
-    ∙ ap (λ ls. line.Event e words ∷ ls)
-    (one_run more one.1.0 now now_also left rest later later_also one.1.2 behind asks asks_also)
-    ∙ ap (λ ws. line.Event e ws ∷ later_also) same.0 ∙ sym is_also
-one_run (Some (says.Look look) ∷ more) stream drawn others left rest lines also draws again (later, is, asks)
-    (later_also, is_also, asks_also) =
-    is
-    ∙ ap (λ ls. line.Look look ∷ ls)
-    (one_run more stream drawn others left rest later later_also draws again asks asks_also) ∙ sym is_also
-one_run (Some (says.Analyse subject workers) ∷ more) stream drawn others left rest lines also draws again
-    (later, is, asks)
-    (later_also, is_also, asks_also) =
-    is
-    ∙ ap (λ ls. line.Analyse subject workers ∷ ls)
-    (one_run more stream drawn others left rest later later_also draws again asks asks_also) ∙ sym is_also
-one_run (other ∷ more) stream drawn others left rest lines also draws again asks asks_also =
-    one_run more stream drawn others left rest lines also draws again asks asks_also
+    let other : AreDraws stream (also ∷ now_also) rest = subst (λ ds. AreDraws stream ds rest) split_also again in
+    let same = one_output stream words also one.1.0 other.1.0 (one.0 ∙ sym other.0) one.1.1 other.1.1 in
+    (one.1.0, same.0, one.1.2, subst (λ s. AreDraws s now_also rest) (sym same.1) other.1.2)
 
-one_to_run : (all : List Stated) (x y : ℕ) (lines also : List Line) → x ≡ y → AreToRun all x lines → AreToRun all y also
+mutual
+  unfolding RunAs
+
+  -- what one list of lines asks for, with words that are drawn from one stream, is one list of lines
+  one_run :
+      (said : List ToldLine) (stream : Stream) (drawn others : List (List ℕ))
+      (left rest : Stream) (lines also : List Line)
+      → AreDraws stream drawn left → AreDraws stream others rest → RunAs said drawn lines → RunAs said others also
+      → lines ≡ also
+  one_run [] stream drawn others left rest lines also draws again (none, one) (none_also, other) = one ∙ sym other
+  one_run ((before, Some (says.Words words)) ∷ (own, Some (says.Event e)) ∷ more) stream drawn others left rest lines
+      also draws again (later, is, asks) (later_also, is_also, asks_also) =
+      is
+      ∙ ap (λ ls. line.Event e words ∷ ls)
+      (one_run more stream drawn others left rest later later_also draws again asks asks_also) ∙ sym is_also
+  one_run ((own, Some (says.Event e)) ∷ more) stream drawn others left rest lines also draws again
+      (words, now, later, split, is, asks) (words_also, now_also, later_also, split_also, is_also, asks_also) =
+      let same = one_draw stream drawn others words words_also now now_also left rest draws again split split_also in
+      is
+      ∙ ap (λ ls. line.Event e words ∷ ls)
+      (one_run more same.0 now now_also left rest later later_also same.2 same.3 asks asks_also)
+      ∙ ap (λ ws. line.Event e ws ∷ later_also) same.1 ∙ sym is_also
+  one_run ((own, Some (says.Look look)) ∷ more) stream drawn others left rest lines also draws again (later, is, asks)
+      (later_also, is_also, asks_also) =
+      is
+      ∙ ap (λ ls. line.Look look ∷ ls)
+      (one_run more stream drawn others left rest later later_also draws again asks asks_also) ∙ sym is_also
+  one_run ((own, Some (says.Analyse subject workers)) ∷ more) stream drawn others left rest lines also draws again
+      (later, is, asks)
+      (later_also, is_also, asks_also) =
+      is
+      ∙ ap (λ ls. line.Analyse subject (workers_or_one workers) ∷ ls)
+      (one_run more stream drawn others left rest later later_also draws again asks asks_also) ∙ sym is_also
+  one_run ((own, Some says.Together) ∷ more) stream drawn others left rest lines also draws again asks asks_also =
+      one_block [] [] more stream drawn others left rest lines also draws again asks asks_also
+  one_run (other ∷ more) stream drawn others left rest lines also draws again asks asks_also =
+      one_run more stream drawn others left rest lines also draws again asks asks_also
+
+  -- the same of lines in a block
+  one_block :
+      (sections : List (List SectionLine)) (held : List SectionLine)
+      (said : List ToldLine) (stream : Stream) (drawn others : List (List ℕ))
+      (left rest : Stream) (lines also : List Line)
+      → AreDraws stream drawn left → AreDraws stream others rest → BlockRunsAs sections held said drawn lines
+      → BlockRunsAs sections held said others also
+      → lines ≡ also
+  one_block sections held [] stream drawn others left rest lines also draws again (none, one) (none_also, other) =
+      one ∙ sym other
+  one_block sections held ((own, Some says.End) ∷ more) stream drawn others left rest lines also draws again
+      (later, is, asks) (later_also, is_also, asks_also) =
+      is
+      ∙ ap (λ ls. line.Together (sections ++ held ∷ []) ∷ ls)
+      (one_run more stream drawn others left rest later later_also draws again asks asks_also) ∙ sym is_also
+  one_block sections held ((own, Some says.Also) ∷ more) stream drawn others left rest lines also draws again asks
+      asks_also =
+      one_block (sections ++ held ∷ []) [] more stream drawn others left rest lines also draws again asks asks_also
+  one_block sections held ((before, Some (says.Words words)) ∷ (own, Some (says.Event e)) ∷ more) stream drawn others
+      left rest lines also draws again asks asks_also =
+      one_block sections (held ++ section_line own (deed.Event e words) ∷ []) more stream drawn others left rest lines
+      also draws again asks asks_also
+  one_block sections held ((own, Some (says.Event e)) ∷ more) stream drawn others left rest lines also draws again
+      (words, now, split, asks) (words_also, now_also, split_also, asks_also) =
+      let same = one_draw stream drawn others words words_also now now_also left rest draws again split split_also in
+      one_block sections (held ++ section_line own (deed.Event e words) ∷ []) more same.0 now now_also left rest lines
+      also same.2 same.3 asks
+      (subst (λ ws. BlockRunsAs sections (held ++ section_line own (deed.Event e ws) ∷ []) more now_also also)
+      (sym same.1) asks_also)
+  one_block sections held ((own, Some (says.Analyse subject workers)) ∷ more) stream drawn others left rest lines also
+      draws again asks asks_also =
+      one_block sections (held ++ section_line own (deed.Analyse subject.moment) ∷ []) more stream drawn others left
+      rest lines also draws again asks asks_also
+  one_block sections held (other ∷ more) stream drawn others left rest lines also draws again asks asks_also =
+      one_block sections held more stream drawn others left rest lines also draws again asks asks_also
+
+one_to_run : (all : List (ℕ × List ℕ)) (x y : ℕ) (lines also : List Line) → x ≡ y → AreToRun all x lines
+    → AreToRun all y also
     → lines ≡ also
 one_to_run all x y lines also same (drawn, left, draws, asks) (others, rest, again, asks_also) =
-    one_run (map (λ line. line.says) all) (seeded x) drawn others left rest lines also draws
+    one_run (told all) (seeded x) drawn others left rest lines also draws
     (subst (λ z. AreDraws (seeded z) others rest) (sym same) again) asks asks_also
 
 -- a file says one scenario
@@ -205,5 +278,5 @@ one_scenario bytes s t read also =
     let seed = one_seed_of (stated_lines bytes) s.seed t.seed read.faultless read.seed also.seed in (
       one_params_of (stated_lines bytes) s.params t.params read.faultless read.params also.params,
       seed,
-      one_to_run (stated_lines bytes) s.seed t.seed s.lines.items t.lines.items seed read.lines also.lines,
+      one_to_run (kept_lines bytes) s.seed t.seed s.lines.items t.lines.items seed read.lines also.lines,
     )

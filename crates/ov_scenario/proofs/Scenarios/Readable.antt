@@ -1,20 +1,22 @@
 -- Lines that can be read, and for which of these memory can be lacking.
-use Rattle.std.proofs.Common.{◌≡◌, ◌∙◌, inr, inl, ℕ, List, [], ◌∷◌, ◌++◌, map, Option, Some, None, IsSome, IfSome}
+use Rattle.std.proofs.Common.{◌≡◌, ◌∙◌, inr, inl, ℕ, true, List, [], ◌∷◌, ◌++◌, map, Option, Some, None, IsSome, IfSome}
 use Rattle.std.proofs.Common.{refl, ap, sym, subst}
 use Rattle.rand_core.specs.Stream.{Stream}
 use Rattle.ov_lines.specs.Lines.{kept_lines}
 use Rattle.ov_lines.specs.declared.unread.Unread.{Unread}
 use Rattle.ov_scenario.specs.RunLines.{FirstNeedsMemory, ReadingNeedsMemory}
 use Rattle.ov_scenario.specs.Scenarios.{AreFaulty, AreFaultless, IsWrong, before_of, stated_at, stated_lines}
-use Rattle.ov_scenario.specs.Statements.{Stated, statement_of}
-use Rattle.ov_scenario.specs.Code.RunnableLines.{AreReadable, said, to_run, waiting}
+use Rattle.ov_scenario.specs.Sections.{SectionLine, is_together, section_line}
+use Rattle.ov_scenario.specs.Statements.{Stated, ToldLine, statement_of, told}
+use Rattle.ov_scenario.specs.Code.RunnableLines.{AreReadable, block_to_run, later_words, next_words, to_run, waiting}
 use Rattle.ov_scenario.specs.declared.line_judging.Before.{Before}
 use Rattle.ov_scenario.specs.declared.scenario.Line.{Line}
 use Rattle.ov_scenario.specs.declared.scenario_fault.LineFault.{LineFault}
 use Rattle.ov_scenario.specs.declared.scenario_fault.LineFault.TheVariants as fault
+use Rattle.ov_scenario.specs.declared.section.Deed.TheVariants as deed
 use Rattle.ov_scenario.specs.declared.statement.Statement.{Statement}
 use Rattle.ov_scenario.specs.declared.statement.Statement.TheVariants as says
-use Rattle.ov_scenario.proofs.Scenarios.Asked.{StillLeft}
+use Rattle.ov_scenario.proofs.Scenarios.Asked.{StillLeft, block_begun}
 
 -- ---- lines without a fault can be read
 
@@ -61,19 +63,53 @@ later_readable now later n text are first = (next_readable now later n text are 
 
 -- a line that can be read and needs memory asks for a line to run
 asks_first :
-    (stream : Stream) (given : Option (List ℕ)) (own : Option Statement) (more : List (Option Statement)) → IsSome own
-    → IfSome own ReadingNeedsMemory → FirstNeedsMemory (to_run stream (waiting given ++ own ∷ more))
+    (stream : Stream) (given : Option (List ℕ)) (own : Option Statement) (line : ℕ × List ℕ)
+    (more : List ToldLine) → IsSome own
+    → IfSome own ReadingNeedsMemory → FirstNeedsMemory (to_run stream (waiting given ++ (line, own) ∷ more))
 unfolding to_run
-asks_first stream given None more some needs = absurd cc
-asks_first stream given (Some (says.Params numbers)) more some needs = absurd needs
-asks_first stream given (Some (says.Seed seed)) more some needs = absurd needs
-asks_first stream given (Some (says.Words words)) more some needs = absurd needs
-asks_first stream None (Some (says.Event event)) more some needs = needs
-asks_first stream (Some words) (Some (says.Event event)) more some needs = needs
-asks_first stream None (Some (says.Look look)) more some needs = needs
-asks_first stream (Some words) (Some (says.Look look)) more some needs = needs
-asks_first stream None (Some (says.Analyse subject workers)) more some needs = needs
-asks_first stream (Some words) (Some (says.Analyse subject workers)) more some needs = needs
+asks_first stream given None line more some needs = absurd cc
+asks_first stream given (Some (says.Params numbers)) line more some needs = absurd needs
+asks_first stream given (Some (says.Seed seed)) line more some needs = absurd needs
+asks_first stream given (Some (says.Words words)) line more some needs = absurd needs
+asks_first stream given (Some says.Together) line more some needs = absurd needs
+asks_first stream given (Some says.Also) line more some needs = absurd needs
+asks_first stream given (Some says.End) line more some needs = absurd needs
+asks_first stream None (Some (says.Event event)) line more some needs = needs
+asks_first stream (Some words) (Some (says.Event event)) line more some needs = needs
+asks_first stream None (Some (says.Look look)) line more some needs = needs
+asks_first stream (Some words) (Some (says.Look look)) line more some needs = needs
+asks_first stream None (Some (says.Analyse subject workers)) line more some needs = needs
+asks_first stream (Some words) (Some (says.Analyse subject workers)) line more some needs = needs
+
+-- a block needs memory
+pub block_needs_memory :
+    (stream : Stream) (sections : List (List SectionLine)) (held : List SectionLine)
+    (lines : List ToldLine) → FirstNeedsMemory (block_to_run stream sections held lines)
+unfolding to_run
+block_needs_memory stream sections held [] = tt
+block_needs_memory stream sections held ((own, Some says.End) ∷ more) = tt
+block_needs_memory stream sections held ((own, Some says.Also) ∷ more) =
+    block_needs_memory stream (sections ++ held ∷ []) [] more
+block_needs_memory stream sections held ((before, Some (says.Words words)) ∷ (own, Some (says.Event event)) ∷ more) =
+    block_needs_memory stream sections (held ++ section_line own (deed.Event event words) ∷ []) more
+block_needs_memory stream sections held ((own, Some (says.Event event)) ∷ more) =
+    block_needs_memory (later_words stream) sections
+    (held ++ section_line own (deed.Event event (next_words stream)) ∷ []) more
+block_needs_memory stream sections held ((own, Some (says.Analyse subject workers)) ∷ more) =
+    block_needs_memory stream sections (held ++ section_line own (deed.Analyse subject.moment) ∷ []) more
+block_needs_memory stream sections held (other ∷ more) = block_needs_memory stream sections held more
+
+-- memory is lacking to read the block that the first line that is left begins
+pub block_lacking :
+    (items : List Line) (file_lines now later : List (ℕ × List ℕ)) (stream : Stream) (given : Option (List ℕ)) (n : ℕ)
+    (text : List ℕ) (own : Option Statement)
+    → StillLeft items file_lines stream given now → now ≡ (n, text) ∷ later → own ≡ statement_of text
+    → is_together own ≡ true
+    → FirstNeedsMemory items
+block_lacking items file_lines now later stream given n text own before first says is =
+    subst (λ (ls : List Line). FirstNeedsMemory ls)
+    (sym (block_begun items file_lines now later stream given n text own before first says is))
+    (block_needs_memory stream [] [] (told later))
 
 -- memory is lacking to read the first line that is left, so the next line to run needs memory
 pub lacking :
@@ -84,5 +120,6 @@ pub lacking :
     → FirstNeedsMemory items
 lacking items file_lines now later stream given n text before are first needs =
     subst (λ (ls : List Line). FirstNeedsMemory ls)
-    (ap (λ ls. to_run stream (waiting given ++ said ls)) (sym first) ∙ before.asked)
-    (asks_first stream given (statement_of text) (said later) (next_readable now later n text are first).0 needs)
+    (ap (λ ls. to_run stream (waiting given ++ told ls)) (sym first) ∙ before.asked)
+    (asks_first stream given (statement_of text) (n, text) (told later) (next_readable now later n text are first).0
+    needs)

@@ -54,6 +54,9 @@ says_params (Some (says.Words words)) numbers is = absurd cc
 says_params (Some (says.Event event)) numbers is = absurd cc
 says_params (Some (says.Look look)) numbers is = absurd cc
 says_params (Some (says.Analyse subject workers)) numbers is = absurd cc
+says_params (Some says.Together) numbers is = absurd cc
+says_params (Some says.Also) numbers is = absurd cc
+says_params (Some says.End) numbers is = absurd cc
 
 -- the parameters that are given, within their limits
 pub params_given :
@@ -107,6 +110,9 @@ says_seed (Some (says.Words words)) seed is = absurd cc
 says_seed (Some (says.Event event)) seed is = absurd cc
 says_seed (Some (says.Look look)) seed is = absurd cc
 says_seed (Some (says.Analyse subject workers)) seed is = absurd cc
+says_seed (Some says.Together) seed is = absurd cc
+says_seed (Some says.Also) seed is = absurd cc
+says_seed (Some says.End) seed is = absurd cc
 
 pub seed_given : (lines : List Stated) (seed : ℕ) → first_in seed_in lines ≡ Some seed → IsSeedOf lines seed
 unfolding IsSeedOf

@@ -1,11 +1,13 @@
 -- How a line is judged, and what lines without a fault give for the whole run.
-use Rattle.std.specs.Prelude.{◌≡◌, ℕ, Bool, List, [], ◌∷◌, map, Option, Some, None, option_map, if◌then◌else◌}
+use Rattle.std.specs.Prelude.{◌≡◌, ℕ, max, Bool, List, [], ◌∷◌, Option, Some, None, option_map, if◌then◌else◌}
 use Rattle.std.specs.Option.{option_or}
-use Rattle.ov_scenario.specs.Scenarios.{is_event, is_params, is_seed, stated_at, IsWrong}
+use Rattle.ov_scenario.specs.Scenarios.{is_event, is_params, is_seed, IsWrong}
+use Rattle.ov_scenario.specs.Sections.{open_next}
 use Rattle.ov_scenario.specs.Statements.{Stated}
 use Rattle.ov_scenario.specs.declared.line_judging.Before.{Before}
 use Rattle.ov_scenario.specs.declared.judging.Judged.{Judged}
 use Rattle.ov_scenario.specs.declared.judging.Judging.{Judging}
+use Rattle.ov_scenario.specs.declared.open_block.OpenBlock.{OpenBlock}
 use Rattle.ov_scenario.specs.declared.scenario_fault.FaultyLine.{FaultyLine}
 use Rattle.ov_scenario.specs.declared.scenario_fault.LineFault.{LineFault}
 use Rattle.ov_scenario.specs.declared.statement.Statement.{Statement}
@@ -26,23 +28,15 @@ with_next before line = record {
   event = or_next is_event before.event line;
   params = or_next is_params before.params line;
   seed = or_next is_seed before.seed line;
+  block = open_next before.block line.number line.says;
 }
-
--- the lines that are left to judge: the next one, if there is one, and those of the file after it
-abbrev pub lines_left : Option Stated → List (ℕ × List ℕ) → List Stated
-lines_left None after = []
-lines_left (Some line) after = line ∷ map stated_at after
-
--- the same, of a file that is judged
-abbrev pub left_to_judge : Judging → List Stated
-left_to_judge judging = lines_left judging.next judging.after
 
 -- no line was left, or this one was judged: by what is known of the lines before it, and by those after it
 abbrev pub Judges : Judging → Option Judged → Judging → Type 0
-Judges old None new = left_to_judge old ≡ []
+Judges old None new = old.ahead ≡ []
 Judges old (Some judged) new =
-    (left_to_judge old ≡ judged.line ∷ left_to_judge new) × (new.before ≡ with_next old.before judged.line)
-    × Tells judged.fault (λ f. IsWrong old.before judged.line.says (left_to_judge new) f)
+    (old.ahead ≡ judged.line ∷ new.ahead) × (new.before ≡ with_next old.before judged.line)
+    × Tells judged.fault (λ f. IsWrong old.before judged.line.says new.ahead f)
 
 -- the line that was judged, if it is at fault
 abbrev pub faulty_of : Judged → Option FaultyLine
@@ -62,3 +56,16 @@ seed_in other = None
 abbrev pub first_in : {A : Type 0} → (Option Statement → Option A) → List Stated → Option A
 first_in given [] = None
 first_in given (line ∷ more) = option_or (given line.says) (first_in given more)
+
+-- how many sections this block has, or one if there is none
+abbrev pub sections_of : Option OpenBlock → ℕ
+sections_of None = 1
+sections_of (Some block) = block.sections
+
+-- how many sections the block that is open after one of these lines has, at most. This one was open before them, if one
+-- was
+unfoldable pub drivers_from : Option OpenBlock → List Stated → ℕ
+drivers_from open_before [] = 0
+drivers_from open_before (line ∷ more) =
+    max (sections_of (open_next open_before line.number line.says))
+    (drivers_from (open_next open_before line.number line.says) more)

@@ -1,7 +1,7 @@
 -- One line more, which is at fault or not, and all lines.
 use Rattle.std.proofs.Common.{rules, ◌≡◌, ◌++◌, Some, sym, subst}
 use Rattle.std.specs.Prelude.{option_to_list}
-use Rattle.ov_scenario.specs.Code.Judging.{Judges, faulty_of, left_to_judge}
+use Rattle.ov_scenario.specs.Code.Judging.{Judges, faulty_of}
 use Rattle.ov_scenario.specs.Scenarios.{stated_lines}
 use Rattle.ov_scenario.proofs.Scenarios.Judged.{JudgedSoFar, judged_more, all_judged}
 use Rattle.ov_scenario.proofs.fault_listing.faulty_lines.Goals.{in-Some-faulty+in_ok-push, in_default-faulty}
@@ -21,10 +21,10 @@ loop-judging-preserved c =
       | in-Some-faulty+in_ok-push w ↦ search rules
       | in_default-faulty w ↦ search rules
     ] in
-    subst (λ fs. JudgedSoFar all (left_to_judge new) new.before fs) (sym lists)
+    subst (λ fs. JudgedSoFar all new.ahead new.before fs) (sym lists)
     (judged_more all old new judged so_far c.loop-judging.invariant judges)
 
 pub returns : goal.returns
 returns c =
-    all_judged (stated_lines c.args.bytes.now) (left_to_judge c.loop-judging.judging) c.loop-judging.judging.before
+    all_judged (stated_lines c.args.bytes.now) c.loop-judging.judging.ahead c.loop-judging.judging.before
     c.loop-judging.faulty.items c.loop-judging.invariant (search rules)

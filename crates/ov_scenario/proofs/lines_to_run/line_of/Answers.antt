@@ -1,5 +1,6 @@
 -- What each line asks for.
 use Rattle.std.proofs.Common.{rules, ◌≡◌, Some, None, sym, subst}
+use Rattle.ov_scenario.specs.Statements.{workers_or_one}
 use Rattle.ov_scenario.specs.Code.RunnableLines.{stream_now, AreEventWords, TakesLine}
 use Rattle.ov_scenario.specs.declared.statement.Statement.TheVariants as says
 use Rattle.ov_scenario.specs.declared.scenario.Line.TheVariants as line
@@ -37,9 +38,10 @@ returns-in-Ok-Analyse c =
     let given = c.args.given.now in
     let before = stream_now c.args.draws.now in
     let is : c.args.stated.says ≡ Some (says.Analyse subject workers) = search rules in
-    let asks = subst (λ s. TakesLine before given s (Some (line.Analyse subject workers)) before None) (sym is)
+    let asks = subst
+    (λ s. TakesLine before given s (Some (line.Analyse subject (workers_or_one workers))) before None) (sym is)
     (asks_analysis before given None subject workers) in
-    rw (c.in-Ok-Analyse.subject-is, c.in-Ok-Analyse.workers-is) asks
+    rw (c.workers_or_one-workers.ensures) (rw (c.in-Ok-Analyse.subject-is, c.in-Ok-Analyse.workers-is) asks)
 
 pub returns-in-Ok-Words : goal.returns-in-Ok-Words
 returns-in-Ok-Words c =
@@ -62,6 +64,16 @@ returns-in-Ok-Seed c =
     let nothing = Some (says.Seed c.in-Ok-Seed.field-0-0) in
     asks_nothing (stream_now c.args.draws.now) c.args.given.now c.take-waiting.new.self c.args.stated.says nothing
     (search rules) tt c.take-waiting.ensures.after
+
+pub returns-in-Ok-Also : goal.returns-in-Ok-Also
+returns-in-Ok-Also c =
+    asks_nothing (stream_now c.args.draws.now) c.args.given.now c.take-waiting.new.self c.args.stated.says
+    (Some says.Also) (search rules) tt c.take-waiting.ensures.after
+
+pub returns-in-Ok-End : goal.returns-in-Ok-End
+returns-in-Ok-End c =
+    asks_nothing (stream_now c.args.draws.now) c.args.given.now c.take-waiting.new.self c.args.stated.says
+    (Some says.End) (search rules) tt c.take-waiting.ensures.after
 
 pub returns-in-Err : goal.returns-in-Err
 returns-in-Err c =

@@ -2,7 +2,8 @@
 -- the first that is at fault
 use Rattle.std.proofs.Common.{length}
 use Rattle.ov_scenario.specs.Scenarios.{stated_lines}
-use Rattle.ov_scenario.specs.Code.Judging.{left_to_judge, params_in, seed_in}
+use Rattle.ov_scenario.specs.Code.Judging.{params_in, seed_in}
+use Rattle.ov_scenario.proofs.Scenarios.Drivers.{NeedsSoFar}
 use Rattle.ov_scenario.proofs.Scenarios.Judged.{FirstSoFar}
 use Rattle.ov_scenario.proofs.Scenarios.Settled.{GivesSoFar}
 use Rattle.ov_scenario.proofs.scenario_reading.read_settings.Given as goal
@@ -10,10 +11,11 @@ use Rattle.ov_scenario.proofs.scenario_reading.read_settings.Given as goal
 abbrev pub invariant-loop-judging : goal.invariant-loop-judging
 invariant-loop-judging l =
     record {
-      judged : FirstSoFar (stated_lines l.fn.bytes) (left_to_judge l.judging) l.judging.before l.first;
-      params : GivesSoFar params_in (stated_lines l.fn.bytes) l.settings.params (left_to_judge l.judging);
-      seed : GivesSoFar seed_in (stated_lines l.fn.bytes) l.settings.seed (left_to_judge l.judging);
+      judged : FirstSoFar (stated_lines l.fn.bytes) l.judging.ahead l.judging.before l.first;
+      params : GivesSoFar params_in (stated_lines l.fn.bytes) l.settings.params l.judging.ahead;
+      drivers : NeedsSoFar (stated_lines l.fn.bytes) l.settings.drivers l.judging.before.block l.judging.ahead;
+      seed : GivesSoFar seed_in (stated_lines l.fn.bytes) l.settings.seed l.judging.ahead;
     }
 
 abbrev pub decreases-loop-judging : goal.decreases-loop-judging
-decreases-loop-judging l = length (left_to_judge l.judging)
+decreases-loop-judging l = length l.judging.ahead
