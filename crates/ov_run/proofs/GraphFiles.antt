@@ -1,2 +1,3 @@
 -- What the analysis of a graph file prints.
+pub mod Lines
 pub mod Answered

@@ -1,3 +1,4 @@
+pub mod Blocks
 pub mod GraphFiles
 pub mod OfReader
 pub mod Printing

@@ -24,6 +24,14 @@ at_line bytes n (line_fault.OutOfLimits numbers) is =
     record { fault = is; not_written = λ e. absurd cc; not_read = λ e. absurd cc }
 at_line bytes n (line_fault.NoEventNext next) is =
     record { fault = is; not_written = λ e. absurd cc; not_read = λ e. absurd cc }
+at_line bytes n line_fault.NoEnd is =
+    record { fault = is; not_written = λ e. absurd cc; not_read = λ e. absurd cc }
+at_line bytes n line_fault.NotInSection is =
+    record { fault = is; not_written = λ e. absurd cc; not_read = λ e. absurd cc }
+at_line bytes n (line_fault.TooManySections together) is =
+    record { fault = is; not_written = λ e. absurd cc; not_read = λ e. absurd cc }
+at_line bytes n (line_fault.NotHeld together) is =
+    record { fault = is; not_written = λ e. absurd cc; not_read = λ e. absurd cc }
 
 -- the fault of a scenario file
 pub of_scenario : (bytes : List ℕ) (own : ScenarioFault) → IsReadingFault bytes own

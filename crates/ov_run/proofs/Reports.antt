@@ -1,4 +1,5 @@
 -- Reports of a scenario.
+pub mod BlockSteps
 pub mod Filed
 pub mod Recent
 pub mod ReportState

@@ -30,11 +30,12 @@ BeginsLook b (Show id) text = text ≡ []
 BeginsLook b Packets text = BeginsPackets b.world.net.packets text
 BeginsLook b (Certificate subject) text = text ≡ []
 
--- what is printed of a line that is not printed whole: of an event and of an analysis nothing
+-- what is printed of a line that is not printed whole: of an event, of an analysis and of a block of sections nothing
 abbrev pub BeginsLine : CoreState → Line → List ℕ → Type 0
 BeginsLine b (line.Event event words) text = text ≡ []
 BeginsLine b (line.Look look) text = BeginsLook b look text
 BeginsLine b (line.Analyse subject workers) text = text ≡ []
+BeginsLine b (line.Together sections) text = text ≡ []
 
 -- the lines in order, up to some point: the first is not printed whole, or it is and the others begin
 abbrev pub BeginsLines : CoreState → List Line → List ℕ → Type 0
@@ -67,12 +68,13 @@ EndsLook b Packets text = BeginsPackets b.world.net.packets text
 EndsLook b (Certificate subject) text = ⊥
 
 -- a line that runs and ends a run out of memory, and what it printed: an event that happened, of which nothing was
--- printed, or a look. An event that does not happen ends no run, and no analysis does: out of memory they print
--- `refused 99`
+-- printed, a look, or a block of sections, of which nothing was printed. An event that does not happen ends no run, and
+-- no analysis does: out of memory they print `refused 99`
 abbrev pub EndsLine : CoreState → Line → List ℕ → Type 0
 EndsLine b (line.Event event words) text = ((e : Entry) × (u : CoreState) × Happened b event words e u) × (text ≡ [])
 EndsLine b (line.Look look) text = EndsLook b look text
 EndsLine b (line.Analyse subject workers) text = ⊥
+EndsLine b (line.Together sections) text = text ≡ []
 
 -- the lines in order, up to the one at which the run ends out of memory: memory is needed to read it, and nothing was
 -- printed of it, or it runs and ends the run. After the last line no run ends out of memory

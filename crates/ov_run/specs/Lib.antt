@@ -6,5 +6,6 @@ pub mod Printed
 pub mod Refusals
 pub mod Run
 pub mod Running
+pub mod Sections
 pub mod Subjects
 pub mod Code

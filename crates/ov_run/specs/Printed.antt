@@ -36,6 +36,14 @@ entry_line e =
 unfoldable pub refused_line : ℕ → List ℕ
 refused_line number = codes "refused " ++ (decimal number ++ codes "\n")
 
+-- a block of sections: how many sections ran at once, and how many of all their lines were accepted and how many
+-- refused
+unfoldable pub together_line : ℕ → ℕ → ℕ → List ℕ
+together_line sections accepted refused =
+    codes "together "
+    ++ (decimal sections
+    ++ (codes " accepted " ++ (decimal accepted ++ (codes " refused " ++ (decimal refused ++ codes "\n")))))
+
 -- a report: its moment, and what its certificate says of the graph and the group
 unfoldable pub report_line : ℕ → Cert → LinkGraph → List ℕ → List ℕ
 report_line m c g q = codes "report " ++ (decimal m ++ (codes " " ++ (cert_text c g q ++ codes "\n")))

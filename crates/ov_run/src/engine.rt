@@ -1,16 +1,23 @@
-ghost use Rattle.std.specs.Prelude.{◌<◌, ◌≢◌, Some, Err, IfOk, IfErr};
+ghost use Rattle.std.specs.Prelude.{◌≡◌, ◌<◌, ◌≤◌, ◌≢◌, Some, Err, IfOk, IfErr};
 ghost use Rattle.ov_io.specs.Device.{most_faults};
+ghost use Rattle.ov_run.specs.Code.Outcomes.{RanLines};
 ghost use Rattle.ov_run.specs.Code.Writing.{IsBeforeLines};
 ghost use Rattle.ov_run.specs.Run.{IsRun, IsRunOf};
+ghost use Rattle.ov_scenario.specs.RunLines.{drivers_for};
 ghost use Rattle.ov_scenario.specs.Scenarios.{IsScenario};
+ghost use Rattle.ov_snap.specs.CoreState.{opening_core};
 
 use crate::line_running::run_lines;
 use crate::run_fault::RunFault;
 use crate::run_watcher::{RunWatcher, Unwatched};
+use ov_hall::{HallName, Opening, Whole};
+use ov_ids::Params;
 use ov_io::{Sink, Source};
-use ov_scenario::{Scenario, read_scenario};
+use ov_scenario::{LinesToRun, Scenario, read_scenario};
 use std::alloc::Global;
 use std::io::{Read, Write};
+use std::marker::Brand;
+use std::sync::Wait;
 use std::thread::Threads;
 
 /// Reads a scenario to its end, runs its lines in order in a world in which nothing happened, and writes what each
@@ -23,12 +30,12 @@ use std::thread::Threads;
 ///
 /// An event or an analysis that is out of memory is refused with 99, and the run goes on. OutOfMemory (99) is returned
 /// only if reading the scenario was out of memory, or reading a line of it with a payload or ids again when its turn
-/// came, or making the line of an event that happened, of a node or of a packet. The numbers and the form of what is
-/// printed are chosen here.
+/// came, or running a block of sections, or making the line of an event that happened, of a node or of a packet. The
+/// numbers and the form of what is printed are chosen here.
 ///
-/// Before each analysis and at the end, the writer is asked to hand on what it keeps back (`Write::flush`), unless it
-/// has failed.
-pub fn run<T: Threads + Sync, R: Read, W: Write>(
+/// Before each analysis, before each block of sections and at the end, the writer is asked to hand on what it keeps
+/// back (`Write::flush`), unless it has failed.
+pub fn run<T: Threads + Wait + Sync, R: Read, W: Write>(
     rt: &T,
     alloc: Global,
     source: &mut Source<R>,
@@ -43,7 +50,7 @@ pub fn run<T: Threads + Sync, R: Read, W: Write>(
 
 /// Does what `run` does. The watcher sees what became of each line that ran, in order, after what the line prints was
 /// given to the writer.
-pub fn run_watched<T: Threads + Sync, R: Read, W: Write, V: RunWatcher>(
+pub fn run_watched<T: Threads + Wait + Sync, R: Read, W: Write, V: RunWatcher>(
     rt: &T,
     alloc: Global,
     source: &mut Source<R>,
@@ -60,7 +67,7 @@ pub fn run_watched<T: Threads + Sync, R: Read, W: Write, V: RunWatcher>(
 
 /// Does what `run_watched` does with the scenario that these bytes say, which were read before.
 #[tactic(auto, using(crate::proofs::Printing::WholeRuns::refused))]
-pub fn run_bytes<T: Threads + Sync, W: Write, V: RunWatcher>(
+pub fn run_bytes<T: Threads + Wait + Sync, W: Write, V: RunWatcher>(
     rt: &T,
     alloc: Global,
     bytes: &[u8],
@@ -72,8 +79,37 @@ pub fn run_bytes<T: Threads + Sync, W: Write, V: RunWatcher>(
     ensures read { result ≢ Err RunFault.Read }
 {
     let scenario = scenario_of(alloc, bytes)?;
-    run_lines(rt, alloc, scenario.params, scenario.lines, sink, watcher)?;
+    let opening = Opening::new(alloc, scenario.drivers.count() as u64)?;
+    run_in_hall::<Brand, _, _, _>(
+        rt,
+        alloc,
+        scenario.params,
+        opening,
+        scenario.lines,
+        sink,
+        watcher,
+    )?;
     Ok(0)
+}
+
+/// Runs these lines in a new hall, in which nothing happened, and writes what they print.
+fn run_in_hall<N: HallName + Send + Sync, T: Threads + Wait + Sync, W: Write, V: RunWatcher>(
+    rt: &T,
+    alloc: Global,
+    params: Params,
+    opening: Opening,
+    lines: LinesToRun<'_>,
+    sink: &mut Sink<W>,
+    watcher: &mut V,
+) -> Result<(), RunFault>
+    requires faults { sink.old.faults < most_faults }
+    requires name { (opening.table ≡ N.table) × (opening.drivers ≡ N.drivers) }
+    requires params { params ≡ N.params }
+    requires drivers { drivers_for lines.items ≤ N.drivers }
+    ensures ran { RanLines W.contents (opening_core params) lines.entry.items sink.old sink.new result }
+{
+    let hall = Whole::<N>::new(alloc, params, opening);
+    run_lines(rt, alloc, hall, lines, sink, watcher)
 }
 
 /// The scenario that these bytes say.

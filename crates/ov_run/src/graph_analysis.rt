@@ -1,7 +1,9 @@
-ghost use Rattle.std.specs.Prelude.{◌≡◌, ◌≢◌, ◌<◌, option_map, string_bytes, Some, Err, IfOk, IfErr};
+ghost use Rattle.std.specs.Prelude.{◌≡◌, ◌≢◌, ◌⊎◌, ◌<◌, true, false, option_map, string_bytes, Some, Err, IfOk, IfErr};
 ghost use Rattle.ov_cert.specs.Valid.{IsValidForGroup};
 ghost use Rattle.ov_io.specs.Device.{most_faults};
-ghost use Rattle.ov_even.specs.Answer.{IsAnalysed};
+ghost use Rattle.ov_even.specs.Faults.{GroupJudged};
+ghost use Rattle.ov_even.specs.declared.fault.AnalyseFault.TheVariants.{OutOfMemory as out_of_memory};
+ghost use Rattle.ov_run.specs.declared.answered.Answered.TheVariants as answered;
 ghost use Rattle.ov_run.specs.Analysing.{answer_text, PrintsAnswer, IsAnalysis, IsAnalysisOf};
 ghost use Rattle.ov_run.specs.Analysing.{IsFileAnalysis};
 ghost use Rattle.ov_run.specs.Code.Writing.{IsTextFault};
@@ -10,12 +12,12 @@ ghost use Rattle.ov_run.specs.Printed.{refused_line};
 ghost use Rattle.ov_run.specs.Subjects.{members_of};
 
 use crate::answered::Answered;
-use crate::line_texts::{refused_line, report_line};
+use crate::line_texts::{cert_line, refused_line, report_line};
 use crate::run_fault::RunFault;
 use ov_cert::Checked;
 use ov_certfile::to_text_group;
 use ov_claims::Workers;
-use ov_crew::{OpenGate, analyse_group_watched};
+use ov_crew::{OpenGate, analyse_group_watched, outline_group_watched};
 use ov_even::{AnalyseFault, Watcher};
 use ov_graph::Graph;
 use ov_graphfile::read_graph;
@@ -145,26 +147,67 @@ fn answer_for<T: Threads + Sync, P: Watcher>(
     ensures { IfOk result
         (λ answer. PrintsAnswer graph.now group.now certificate answer.answered (string_bytes answer.text)) }
 {
-    let answer = analyse_group_watched(rt, alloc, graph, group, workers, &OpenGate, watcher);
-    answer_of(alloc, graph, group, &answer, certificate)
+    let text = if certificate {
+        line_with_certificate(rt, alloc, graph, group, workers, watcher)
+    } else {
+        line_alone(rt, alloc, graph, group, workers, watcher)
+    };
+    answer_of(alloc, graph, group, certificate, text)
 }
 
-/// What is printed of the answer of an analysis of this graph and this group.
-#[tactic(auto, using(crate::proofs::GraphFiles::Answered::printed))]
+/// The line of the answer. The paths of its certificate are not kept.
+#[tactic(auto, using(crate::proofs::GraphFiles::Answered::refused_or_memory))]
+fn line_alone<T: Threads + Sync, P: Watcher>(
+    rt: &T,
+    alloc: Global,
+    graph: &Graph,
+    group: &[NodeId],
+    workers: Workers,
+    watcher: &mut P,
+) -> Result<String, AnalyseFault>
+    ensures prints { IfOk result (λ text. PrintsAnswer graph.now group.now false answered.Report (string_bytes text)) }
+    ensures refused { IfErr result
+        (λ fault. GroupJudged graph.now group.now (Some fault) ⊎ (fault ≡ out_of_memory)) }
+{
+    let outline = outline_group_watched(rt, alloc, graph, group, workers, &OpenGate, watcher)?;
+    Ok(cert_line(alloc, 0, &outline, graph, group)?)
+}
+
+/// The line of the answer, followed by its certificate file.
+#[tactic(auto, using(crate::proofs::GraphFiles::Answered::refused_or_memory))]
+fn line_with_certificate<T: Threads + Sync, P: Watcher>(
+    rt: &T,
+    alloc: Global,
+    graph: &Graph,
+    group: &[NodeId],
+    workers: Workers,
+    watcher: &mut P,
+) -> Result<String, AnalyseFault>
+    ensures prints { IfOk result (λ text. PrintsAnswer graph.now group.now true answered.Report (string_bytes text)) }
+    ensures refused { IfErr result
+        (λ fault. GroupJudged graph.now group.now (Some fault) ⊎ (fault ≡ out_of_memory)) }
+{
+    let checked = analyse_group_watched(rt, alloc, graph, group, workers, &OpenGate, watcher)?;
+    Ok(report_text(alloc, &checked)?)
+}
+
+/// What is printed of an analysis of this graph and this group, which ended with this text or this refusal.
 fn answer_of(
     alloc: Global,
     graph: &Graph,
     group: &[NodeId],
-    answer: &Result<Checked, AnalyseFault>,
     certificate: bool,
+    text: Result<String, AnalyseFault>,
 ) -> Result<Answer, OutOfMemory>
-    requires { IsAnalysed graph.now group.now answer.now }
+    requires prints { IfOk text
+        (λ text. PrintsAnswer graph.now group.now certificate answered.Report (string_bytes text)) }
+    requires refused { IfErr text
+        (λ fault. GroupJudged graph.now group.now (Some fault) ⊎ (fault ≡ out_of_memory)) }
     ensures { IfOk result
         (λ answer. PrintsAnswer graph.now group.now certificate answer.answered (string_bytes answer.text)) }
 {
-    match answer {
-        Ok(checked) => {
-            let text = report_text(alloc, checked, certificate)?;
+    match text {
+        Ok(text) => {
             let answered = Answered::Report;
             Ok(Answer { answered, text })
         }
@@ -185,18 +228,15 @@ fn refusal(alloc: Global, answered: Answered, number: u32) -> Result<Answer, Out
     Ok(Answer { answered, text })
 }
 
-/// The line of a certificate. The certificate file follows it if that is asked for.
+/// The line of a certificate, followed by its file.
 #[tactic(auto, unfolding(crate::specs::Analysing::answer_text))]
-fn report_text(alloc: Global, checked: &Checked, certificate: bool) -> Result<String, OutOfMemory>
+fn report_text(alloc: Global, checked: &Checked) -> Result<String, OutOfMemory>
     ensures text { IfOk result (λ text. string_bytes text
-        ≡ answer_text checked.now.cert checked.now.graph checked.now.members certificate) }
+        ≡ answer_text checked.now.cert checked.now.graph checked.now.members true) }
     ensures valid { IsValidForGroup checked.now.graph checked.now.members checked.now.cert }
 {
     let (cert, graph, group) = (checked.cert(), checked.graph(), checked.members());
     let line = report_line(alloc, 0, checked)?;
-    if !certificate {
-        return Ok(line);
-    }
     let file = to_text_group(alloc, cert, graph, group, 0)?;
     Ok(format!(in alloc; "{line}{file}\n")?)
 }

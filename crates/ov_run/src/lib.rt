@@ -13,13 +13,17 @@ mod refusal;
 mod report_filing;
 mod run_fault;
 mod run_watcher;
+mod section_running;
+mod sections_at_once;
 mod sink_writing;
 mod theorems;
 
 pub use answered::Answered;
 pub use engine::{run, run_bytes, run_watched};
 pub use graph_analysis::{analyse_bytes, analyse_file};
-pub use line_texts::{entry_line, node_line, packet_line, refused_line, report_line};
+pub use line_texts::{
+    entry_line, node_line, packet_line, refused_line, report_line, together_line,
+};
 pub use refusal::Refusal;
 pub use run_fault::RunFault;
 pub use run_watcher::{RanLine, RunWatcher};

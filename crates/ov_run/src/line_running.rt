@@ -1,48 +1,60 @@
-ghost use Rattle.std.specs.Prelude.{◌≡◌, ◌⊎◌, ◌<◌, ◌+◌, ◌∷◌, [], IfOk, IfErr, OnOk, IsErrOf};
+ghost use Rattle.std.specs.Prelude.{◌≡◌, ◌⊎◌, ◌<◌, ◌≤◌, ◌+◌, length, Ok, Err, IfOk, IfErr, OnOk, IsErrOf};
 ghost use Rattle.ov_io.specs.Device.{most_faults, write_faults as sink_faults, write_number};
 ghost use Rattle.ov_net.specs.declared.journal_entry_and_changes.Entry.{Entry};
-ghost use Rattle.ov_snap.specs.CoreState.{opening_core};
 ghost use Rattle.ov_snap.specs.Run.{Happened};
-ghost use Rattle.ov_run.specs.Ending.{BeginsLines, BeginsLook, EndsLine, EndsLook};
+ghost use Rattle.ov_run.specs.Ending.{BeginsLook, EndsLook};
 ghost use Rattle.ov_run.specs.Faults.{write_faults};
-ghost use Rattle.ov_run.specs.Running.{PrintsEvent, PrintsReportLine, PrintsLook, PrintsLine};
-ghost use Rattle.ov_run.specs.Code.Outcomes.{DoesEvent, DoesLine, FilesReport, RanLines, ShowsLook, WritesOutcome};
+ghost use Rattle.ov_run.specs.Running.{PrintsEvent, PrintsReportLine, PrintsLook};
+ghost use Rattle.ov_run.specs.Code.Outcomes.{DoesEvent, FilesReport, LineRan, RanLines, ShowsLook, WritesOutcome};
+ghost use Rattle.ov_run.specs.Code.Jobs.{HasDrivers};
 ghost use Rattle.ov_run.specs.Code.Writing.{Writes, WritesPrefix, IsOfWriting};
+ghost use Rattle.ov_scenario.specs.RunLines.{drivers_for};
+ghost use Rattle.ov_scenario.specs.declared.scenario.Line.TheVariants as kind;
 
 use crate::line_outcome::Outcome;
+use crate::line_texts::together_line;
 use crate::recent_reports::RecentReports;
 use crate::refusal::Refusal;
 use crate::report_filing::file_analysis;
 use crate::run_fault::RunFault;
 use crate::run_watcher::{RanLine, RunWatcher};
+use crate::sections_at_once::run_together;
 use crate::sink_writing::{
     write_certificate, write_done, write_entry, write_node, write_packets, write_refusal,
 };
 use ov_claims::Workers;
-use ov_ids::Params;
+use ov_hall::{HallName, Whole};
+use ov_ids::Seq;
 use ov_io::{Sink, WriteFault};
 use ov_net::Event;
-use ov_scenario::{Line, LineToRun, LinesToRun, Look, Subject};
+use ov_scenario::{Line, LineToRun, LinesToRun, Look, SectionLine, Subject};
 use ov_snap::Core;
 use ov_words::Words;
 use std::alloc::Global;
 use std::io::Write;
+use std::sync::Wait;
 use std::thread::Threads;
 
-/// Runs these lines in a world in which nothing happened, and writes what they print. The watcher sees what became of
-/// each, after that. The writer is then asked to hand on what it keeps back, unless it has failed.
-pub(crate) fn run_lines<T: Threads + Sync, W: Write, V: RunWatcher>(
+/// Runs these lines in this hall, and writes what they print. The watcher sees what became of each, after that. The
+/// writer is then asked to hand on what it keeps back, unless it has failed.
+pub(crate) fn run_lines<
+    N: HallName + Send + Sync,
+    T: Threads + Wait + Sync,
+    W: Write,
+    V: RunWatcher,
+>(
     rt: &T,
     alloc: Global,
-    params: Params,
+    hall: Whole<N>,
     lines: LinesToRun<'_>,
     sink: &mut Sink<W>,
     watcher: &mut V,
 ) -> Result<(), RunFault>
     requires faults { sink.old.faults < most_faults }
-    ensures ran { RanLines W.contents (opening_core params) lines.entry.items sink.old sink.new result }
+    requires drivers { drivers_for lines.items ≤ N.drivers }
+    ensures ran { RanLines W.contents hall lines.entry.items sink.old sink.new result }
 {
-    let ran = run_each(rt, alloc, params, lines, sink, watcher);
+    let ran = run_each(rt, alloc, hall, lines, sink, watcher);
     if let Err(RunFault::Write) = ran {
         return ran;
     }
@@ -50,25 +62,26 @@ pub(crate) fn run_lines<T: Threads + Sync, W: Write, V: RunWatcher>(
     ran
 }
 
-/// Runs these lines in a world in which nothing happened, and writes what they print. Each is read when its turn comes.
-fn run_each<T: Threads + Sync, W: Write, V: RunWatcher>(
+/// Runs these lines in this hall, and writes what they print. Each is read when its turn comes.
+fn run_each<N: HallName + Send + Sync, T: Threads + Wait + Sync, W: Write, V: RunWatcher>(
     rt: &T,
     alloc: Global,
-    params: Params,
+    mut hall: Whole<N>,
     lines: LinesToRun<'_>,
     sink: &mut Sink<W>,
     watcher: &mut V,
 ) -> Result<(), RunFault>
     requires faults { sink.old.faults < most_faults }
-    ensures ran { RanLines W.contents (opening_core params) lines.entry.items sink.old sink.new result }
+    requires drivers { drivers_for lines.items ≤ N.drivers }
+    ensures ran { RanLines W.contents hall lines.entry.items sink.old sink.new result }
 {
     let mut recent = RecentReports::new(alloc);
-    let mut core = Core::new(alloc, params);
     let mut left = lines;
     while let Some(next) = left.next_line(alloc)? {
         let ran = ran_line(&next);
-        let outcome = run_line(rt, alloc, &mut core, &mut recent, next.line, sink)?;
-        tell(watcher, &core, &ran, outcome);
+        let (outcome, after) = run_line(rt, alloc, hall, &mut recent, next.line, sink)?;
+        hall = after;
+        tell(watcher, hall.core(), &ran, outcome);
     }
     Ok(())
 }
@@ -93,63 +106,101 @@ fn tell<V: RunWatcher>(watcher: &mut V, core: &Core, line: &RanLine<'_>, outcome
     }
 }
 
-/// Runs one line, writes what it prints, and returns what became of it. Before an analysis, which may take long, the
-/// writer is asked to hand on what it keeps back.
-fn run_line<T: Threads + Sync, W: Write>(
+/// Runs one line, writes what it prints, and returns what became of it, with the hall after it. Before an analysis or a
+/// block of sections, which may take long, the writer is asked to hand on what it keeps back.
+fn run_line<N: HallName + Send + Sync, T: Threads + Wait + Sync, W: Write>(
     rt: &T,
     alloc: Global,
-    core: &mut Core,
+    mut hall: Whole<N>,
     recent: &mut RecentReports,
-    line: Line,
+    line: Line<'_>,
     sink: &mut Sink<W>,
-) -> Result<Outcome, RunFault>
+) -> Result<(Outcome, Whole<N>), RunFault>
     requires faults { sink.old.faults < most_faults }
-    ensures outcome { IfOk result (WritesOutcome (DoesLine core.old line core.new)
-        (W.contents sink.old.writer) (W.contents sink.new.writer)) }
-    ensures unchanged { IfOk result (λ outcome. (outcome ≡ Outcome.Accepted) ⊎ (core.new ≡ core.old)) }
-    ensures prints { OnOk result (Writes (PrintsLine core.old line core.new)
-        (W.contents sink.old.writer) (W.contents sink.new.writer)) }
-    ensures begun { WritesPrefix (BeginsLines core.old (line ∷ []))
-        (W.contents sink.old.writer) (W.contents sink.new.writer) }
-    ensures memory { IsErrOf result RunFault.OutOfMemory → Writes (EndsLine core.old line)
-        (W.contents sink.old.writer) (W.contents sink.new.writer) }
-    ensures faults { sink.new.faults ≡ sink.old.faults + write_faults result }
-    ensures kind { IfErr result IsOfWriting }
+    requires drivers { HasDrivers N.drivers line }
+    ensures ran { LineRan W.contents hall line.entry (λ r. r.0) (λ r. r.1) sink.old sink.new result }
 {
     match line {
-        Line::Event { event, words } => run_event(alloc, core, event, &words, sink),
-        Line::Look(look) => write_look(alloc, core, look, sink),
+        Line::Event { event, words } => {
+            let outcome = run_event(alloc, &mut hall, event, &words, sink);
+            with_hall(outcome, hall)
+        }
+        Line::Look(look) => {
+            let outcome = write_look(alloc, hall.core(), look, sink);
+            with_hall(outcome, hall)
+        }
         Line::Analyse { subject, workers } => {
             sink.flush()?;
-            Ok(run_analysis(rt, alloc, core, recent, &subject, workers, sink)?)
+            let outcome = run_analysis(rt, alloc, &mut hall, recent, &subject, workers, sink)?;
+            Ok((outcome, hall))
+        }
+        Line::Together(sections) => {
+            sink.flush()?;
+            run_block(rt, alloc, hall, sections, sink)
         }
     }
 }
 
+/// What became of a line, with the hall after it.
+fn with_hall<N: HallName>(
+    outcome: Result<Outcome, RunFault>,
+    hall: Whole<N>,
+) -> Result<(Outcome, Whole<N>), RunFault>
+    ensures ok { IfOk result (λ r. (outcome ≡ Ok r.0) × (r.1 ≡ hall)) }
+    ensures err { IfErr result (λ fault. outcome ≡ Err fault) }
+{
+    match outcome {
+        Ok(outcome) => Ok((outcome, hall)),
+        Err(fault) => Err(fault),
+    }
+}
+
+/// Runs the sections of a block at once, each by a driver of its own, and writes the line of that after all of them
+/// ended. OutOfMemory is returned before anything is written. The watcher of the run is not told of their lines.
+fn run_block<N: HallName + Send + Sync, T: Threads + Wait + Sync, W: Write>(
+    rt: &T,
+    alloc: Global,
+    hall: Whole<N>,
+    sections: Seq<Seq<SectionLine<'_>>>,
+    sink: &mut Sink<W>,
+) -> Result<(Outcome, Whole<N>), RunFault>
+    requires faults { sink.old.faults < most_faults }
+    requires drivers { length sections ≤ N.drivers }
+    ensures ran { LineRan W.contents hall (kind.Together sections.entry) (λ r. r.0) (λ r. r.1) sink.old sink.new
+        result }
+{
+    let sections = sections.into_vec();
+    let count = sections.len();
+    let ran = run_together(rt, alloc, hall, sections)?;
+    let text = together_line(count, ran.accepted, ran.refused);
+    let outcome = write_done(text.as_str().as_bytes(), sink)?;
+    Ok((outcome, ran.hall))
+}
+
 /// Does an event, or refuses it, and writes its line. An event that is out of memory is refused as any other:
 /// OutOfMemory is returned only if an event happened and its line can't be made.
-fn run_event<W: Write>(
+fn run_event<N: HallName, W: Write>(
     alloc: Global,
-    core: &mut Core,
+    hall: &mut Whole<N>,
     event: Event,
     words: &Words,
     sink: &mut Sink<W>,
 ) -> Result<Outcome, RunFault>
     requires faults { sink.old.faults < most_faults }
-    ensures outcome { IfOk result (WritesOutcome (DoesEvent core.old event words.now core.new)
+    ensures outcome { IfOk result (WritesOutcome (DoesEvent hall.old event words.now hall.new)
         (W.contents sink.old.writer) (W.contents sink.new.writer)) }
-    ensures unchanged { IfOk result (λ outcome. (outcome ≡ Outcome.Accepted) ⊎ (core.new ≡ core.old)) }
-    ensures prints { OnOk result (Writes (PrintsEvent core.old event words.now core.new)
+    ensures unchanged { IfOk result (λ outcome. (outcome ≡ Outcome.Accepted) ⊎ (hall.new ≡ hall.old)) }
+    ensures prints { OnOk result (Writes (PrintsEvent hall.old event words.now hall.new)
         (W.contents sink.old.writer) (W.contents sink.new.writer)) }
-    ensures begun { WritesPrefix (PrintsEvent core.old event words.now core.new)
+    ensures begun { WritesPrefix (PrintsEvent hall.old event words.now hall.new)
         (W.contents sink.old.writer) (W.contents sink.new.writer) }
     ensures happened { IsErrOf result RunFault.OutOfMemory
-        → (entry : Entry) × Happened core.old event words.now entry core.new }
+        → (entry : Entry) × Happened hall.old event words.now entry hall.new }
     ensures nothing { IsErrOf result RunFault.OutOfMemory → sink.new ≡ sink.old }
     ensures faults { sink.new.faults ≡ sink.old.faults + write_faults result }
     ensures kind { IfErr result IsOfWriting }
 {
-    match core.step(event, words) {
+    match hall.step(event, words) {
         Ok(entry) => write_entry(alloc, &entry, sink),
         Err(fault) => Ok(write_refusal(Refusal::World(fault), sink)?),
     }
@@ -157,26 +208,26 @@ fn run_event<W: Write>(
 
 /// Analyses a subject by this number of workers and files the report, or refuses, and writes the line of that. Out of
 /// memory is a refusal, so that only the writer can fail.
-fn run_analysis<T: Threads + Sync, W: Write>(
+fn run_analysis<N: HallName, T: Threads + Sync, W: Write>(
     rt: &T,
     alloc: Global,
-    core: &mut Core,
+    hall: &mut Whole<N>,
     recent: &mut RecentReports,
     subject: &Subject,
     workers: Workers,
     sink: &mut Sink<W>,
 ) -> Result<Outcome, WriteFault>
     requires faults { sink.old.faults < most_faults }
-    ensures outcome { IfOk result (WritesOutcome (FilesReport core.old subject.now core.new)
+    ensures outcome { IfOk result (WritesOutcome (FilesReport hall.old subject.now hall.new)
         (W.contents sink.old.writer) (W.contents sink.new.writer)) }
-    ensures unchanged { IfOk result (λ outcome. (outcome ≡ Outcome.Accepted) ⊎ (core.new ≡ core.old)) }
-    ensures prints { OnOk result (Writes (PrintsReportLine core.old subject.now core.new)
+    ensures unchanged { IfOk result (λ outcome. (outcome ≡ Outcome.Accepted) ⊎ (hall.new ≡ hall.old)) }
+    ensures prints { OnOk result (Writes (PrintsReportLine hall.old subject.now hall.new)
         (W.contents sink.old.writer) (W.contents sink.new.writer)) }
-    ensures begun { WritesPrefix (PrintsReportLine core.old subject.now core.new)
+    ensures begun { WritesPrefix (PrintsReportLine hall.old subject.now hall.new)
         (W.contents sink.old.writer) (W.contents sink.new.writer) }
     ensures faults { sink.new.faults ≡ sink.old.faults + sink_faults write_number result }
 {
-    match file_analysis(rt, alloc, core, recent, subject, workers) {
+    match file_analysis(rt, alloc, hall, recent, subject, workers) {
         Ok(line) => write_done(line.as_bytes(), sink),
         Err(fault) => write_refusal(Refusal::Core(fault), sink),
     }

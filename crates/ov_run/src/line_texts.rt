@@ -1,11 +1,12 @@
 ghost use Rattle.std.specs.Prelude.{◌≡◌, IfOk, string_bytes};
-ghost use Rattle.ov_run.specs.Printed.{entry_line, refused_line, report_line, node_line, packet_line};
+ghost use Rattle.ov_run.specs.Printed.{entry_line, refused_line, report_line, node_line, packet_line, together_line};
 
 use crate::change_texts::{ChangesText, DeliveryText};
 use arrayvec::ArrayString;
 use itoa::Buffer;
-use ov_cert::Checked;
+use ov_cert::{Cert, Checked};
 use ov_certfile::CertText;
+use ov_graph::Graph;
 use ov_ids::{IdsText, NodeId, OutOfMemory};
 use ov_net::Entry;
 use ov_peer::Peer;
@@ -36,14 +37,50 @@ pub fn refused_line(number: u32) -> ArrayString<64>
     line
 }
 
+/// The line of a block: `together D accepted A refused R`. Nothing is allocated.
+#[tactic(auto, unfolding(crate::specs::Printed::together_line))]
+pub fn together_line(sections: usize, accepted: u128, refused: u128) -> ArrayString<192>
+    ensures { result.bytes ≡ together_line sections accepted refused }
+{
+    let mut digits = Buffer::new();
+    let mut line = ArrayString::new();
+    line.push_str("together ");
+    line.push_str(digits.format(sections));
+    line.push_str(" accepted ");
+    line.push_str(digits.format(accepted));
+    line.push_str(" refused ");
+    line.push_str(digits.format(refused));
+    line.push_str("\n");
+    line
+}
+
 /// The line of a report: `report M`, and what the certificate says of the graph and the group. OutOfMemory (99) if an
 /// allocation is refused.
-#[tactic(auto, unfolding(crate::specs::Printed::report_line))]
 pub fn report_line(alloc: Global, moment: u32, checked: &Checked) -> Result<String, OutOfMemory>
     ensures { IfOk result (λ line. string_bytes line
         ≡ report_line moment checked.now.cert checked.now.graph checked.now.members) }
 {
-    let (cert, graph, group) = (checked.cert(), checked.graph(), checked.members());
+    cert_line(
+        alloc,
+        moment,
+        checked.cert(),
+        checked.graph(),
+        checked.members(),
+    )
+}
+
+/// Makes the line of a report of this moment and this certificate, whose paths it does not look at. OutOfMemory (99) if
+/// an allocation is refused.
+#[tactic(auto, unfolding(crate::specs::Printed::report_line))]
+pub(crate) fn cert_line(
+    alloc: Global,
+    moment: u32,
+    cert: &Cert,
+    graph: &Graph,
+    group: &[NodeId],
+) -> Result<String, OutOfMemory>
+    ensures { IfOk result (λ line. string_bytes line ≡ report_line moment cert.now graph.now group.now) }
+{
     let claim = CertText { cert, graph, group };
     Ok(format!(in alloc; "report {moment} {claim}\n")?)
 }

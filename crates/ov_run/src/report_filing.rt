@@ -17,6 +17,7 @@ use ov_claims::Workers;
 use ov_crew::{OpenGate, analyse_group_watched};
 use ov_even::Unwatched;
 use ov_graph::Graph;
+use ov_hall::{HallName, Whole};
 use ov_ids::{NodeId, Seq};
 use ov_net::MOST_ENTRIES;
 use ov_scenario::Subject;
@@ -28,22 +29,22 @@ use std::thread::Threads;
 /// group, its certificate is shared instead. Returns the line of the report, or the first applicable refusal, and then
 /// nothing changed. The line is made before the report is filed, so that out of memory is a refusal too.
 #[tactic(auto, using(crate::proofs::Reports::Filed::filing_refused))]
-pub(crate) fn file_analysis<T: Threads + Sync>(
+pub(crate) fn file_analysis<N: HallName, T: Threads + Sync>(
     rt: &T,
     alloc: Global,
-    core: &mut Core,
+    hall: &mut Whole<N>,
     recent: &mut RecentReports,
     subject: &Subject,
     workers: Workers,
 ) -> Result<String, CoreFault>
-    ensures analysed { IfOk result (λ line. (r : ReportState) × WasAnalysed core.old subject.now r core.new
+    ensures analysed { IfOk result (λ line. (r : ReportState) × WasAnalysed hall.old subject.now r hall.new
         × (string_bytes line ≡ report_line r.moment r.cert r.graph r.members)) }
-    ensures refused { IfErr result (IsRefusedBy out_of_memory (AnalysisJudged core.old subject.now)) }
-    ensures err { OnErr result (core.new ≡ core.old) }
+    ensures refused { IfErr result (IsRefusedBy out_of_memory (AnalysisJudged hall.old subject.now)) }
+    ensures err { OnErr result (hall.new ≡ hall.old) }
 {
-    let report = report_for(rt, alloc, core, recent, subject, workers)?;
+    let report = report_for(rt, alloc, hall.core(), recent, subject, workers)?;
     let line = report_line(alloc, report.moment(), report.checked())?;
-    core.file(report)?;
+    hall.file(report)?;
     Ok(line)
 }
 
@@ -136,7 +137,7 @@ fn keep(recent: &mut RecentReports, report: &Report)
 }
 
 /// Makes the report of an analysis of these members of a snapshot.
-fn make_report<T: Threads + Sync>(
+pub(crate) fn make_report<T: Threads + Sync>(
     rt: &T,
     alloc: Global,
     snapshot: &Snapshot,

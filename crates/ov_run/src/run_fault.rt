@@ -69,7 +69,11 @@ impl RunFault {
                 LineFault::Unread(_)
                 | LineFault::BehindEvent { .. }
                 | LineFault::SetBefore { .. }
-                | LineFault::NoEventNext { .. } => RunFault::Line(*line),
+                | LineFault::NoEventNext { .. }
+                | LineFault::NoEnd
+                | LineFault::NotInSection
+                | LineFault::TooManySections { .. }
+                | LineFault::NotHeld { .. } => RunFault::Line(*line),
             },
             ScenarioFault::OutOfMemory => RunFault::OutOfMemory,
         }

@@ -12,7 +12,8 @@ pub struct RanLine<'a> {
     pub is_event: bool,
 }
 
-/// Sees what became of each line that ran. It changes neither the run nor what is printed.
+/// Sees what became of each line that ran. It changes neither the run nor what is printed. A block of sections is told
+/// as one line, which is always done; what became of the lines in its sections is not told.
 pub trait RunWatcher {
     /// This line was done: its event happened, its report was filed, or what it looks at was given to the writer.
     fn accepted(&mut self, line: &RanLine<'_>);

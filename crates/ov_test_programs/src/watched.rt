@@ -3,6 +3,7 @@ use ov_io::{Sink, Source};
 use ov_run::{RanLine, Refusal, RunFault, RunWatcher, run, run_watched};
 use ov_snap::Core;
 use std::io::{self, BufWriter, ErrorKind, Write};
+use std::sync::Wait;
 use std::test::Fail;
 use std::thread::Threads;
 
@@ -86,7 +87,7 @@ static RUNS: [(&str, &[Told]); 6] = [
 
 /// What a run of this file returns and prints.
 fn printed(
-    rt: &(impl AllocGlobal + Threads + Sync),
+    rt: &(impl AllocGlobal + Threads + Wait + Sync),
     file: &str,
 ) -> (Result<u8, RunFault>, Vec<u8>) {
     let mut source = Source::new(file.as_bytes());
@@ -96,7 +97,7 @@ fn printed(
 }
 
 /// A run of this file that is watched returns and prints the same, and tells this.
-fn tells(rt: &(impl AllocGlobal + Threads + Sync), file: &str, told: &[Told]) -> bool {
+fn tells(rt: &(impl AllocGlobal + Threads + Wait + Sync), file: &str, told: &[Told]) -> bool {
     let mut listener = Listener {
         told: Vec::new(rt.alloc()),
         texts: Vec::new(rt.alloc()),
@@ -210,7 +211,7 @@ impl Write for Unflushed {
 /// With a writer whose flush fails after so many flushes, a run with one analysis comes to this answer and to so many
 /// faults of the writer.
 fn comes_to(
-    rt: &(impl AllocGlobal + Threads + Sync),
+    rt: &(impl AllocGlobal + Threads + Wait + Sync),
     flushes_left: usize,
     answer: Result<u8, RunFault>,
     faults: u64,

@@ -29,6 +29,7 @@ use std::env;
 use std::fs::File;
 use std::io::{self, BufWriter, IsTerminal, Read, Write};
 use std::process::ExitCode;
+use std::sync::Wait;
 use std::thread::Threads;
 
 /// The name of what is read if no file is named.
@@ -58,7 +59,7 @@ fn print_reason(rt: &HostRuntime, reason: Result<String, OutOfMemory>) {
 }
 
 /// Does what the command line asks for.
-fn overlay<T: Threads + Sync>(rt: &HostRuntime, threads: &T) -> Result<u8, ProgramFault>
+fn overlay<T: Threads + Wait + Sync>(rt: &HostRuntime, threads: &T) -> Result<u8, ProgramFault>
     ensures status { IfOk result (λ status. status ≡ 0) }
 {
     match command_line(rt) {
@@ -68,7 +69,7 @@ fn overlay<T: Threads + Sync>(rt: &HostRuntime, threads: &T) -> Result<u8, Progr
 }
 
 /// Does what these arguments ask for.
-fn answer<T: Threads + Sync>(
+fn answer<T: Threads + Wait + Sync>(
     rt: &HostRuntime,
     threads: &T,
     arguments: &[String],
@@ -118,7 +119,7 @@ fn unread_arguments(rt: &HostRuntime, fault: ArgumentsFault, arguments: &[String
 }
 
 /// Does what is asked for.
-fn do_asked<T: Threads + Sync>(
+fn do_asked<T: Threads + Wait + Sync>(
     rt: &HostRuntime,
     threads: &T,
     request: Request,
@@ -183,7 +184,7 @@ fn bytes_of<R: Read + Drop>(rt: &HostRuntime, reader: R, name: &str) -> Result<V
 
 /// Runs the scenario of a file, or of standard input. If it is to be explained, prints why lines are refused. What is
 /// printed is written line by line then, and on a terminal, so that it stands beside these reasons; else in blocks.
-fn run_asked<T: Threads + Sync>(
+fn run_asked<T: Threads + Wait + Sync>(
     rt: &HostRuntime,
     threads: &T,
     file: Option<String>,
@@ -215,7 +216,7 @@ fn without_memory(rt: &HostRuntime) -> RunFault
 
 /// Runs the scenario of a file, or of standard input, and prints into this writer. If it is to be explained, prints why
 /// lines are refused.
-fn run_into<T: Threads + Sync, W: Write + Drop>(
+fn run_into<T: Threads + Wait + Sync, W: Write + Drop>(
     rt: &HostRuntime,
     threads: &T,
     file: Option<String>,
@@ -233,7 +234,7 @@ fn run_into<T: Threads + Sync, W: Write + Drop>(
 }
 
 /// Runs the scenario of a reader that has this name. If it is to be explained, prints why lines are refused.
-fn run_from<T: Threads + Sync, R: Read + Drop, W: Write>(
+fn run_from<T: Threads + Wait + Sync, R: Read + Drop, W: Write>(
     rt: &HostRuntime,
     threads: &T,
     reader: R,
@@ -250,7 +251,7 @@ fn run_from<T: Threads + Sync, R: Read + Drop, W: Write>(
 
 /// Runs the scenario of these bytes. Prints its fault, if there is one, and why. If the run is to be explained, prints
 /// why lines are refused, and at the end how many events happened and how many were refused.
-fn run_told<T: Threads + Sync, W: Write>(
+fn run_told<T: Threads + Wait + Sync, W: Write>(
     rt: &HostRuntime,
     threads: &T,
     bytes: &[u8],

@@ -1,5 +1,6 @@
 -- What is printed up to some point, and what went to a writer of that.
-use Rattle.std.proofs.Common.{◌≡◌, ◌⊎◌, inl, inr, ℕ, Option, Some, None, List, [], ◌∷◌, ◌++◌, append_assoc, ap, sym, ◌∙◌, refl}
+use Rattle.std.proofs.Common.{◌≡◌, ◌⊎◌, inl, inr, ℕ, Option, Some, None, List, [], ◌∷◌, ◌++◌, append_assoc, ap, sym}
+use Rattle.std.proofs.Common.{◌∙◌, refl}
 use Rattle.std.proofs.Common.{Result, Ok, Err, OnOk, IsErrAnd, IsErrOf, subst}
 use Rattle.std.proofs.KnownBytes.{Appends-nil, Appends-trans}
 use Rattle.std.proofs.lemmas.List.{append-nil}
@@ -23,6 +24,7 @@ line_nothing : (b : CoreState) (line : Line) → BeginsLine b line []
 line_nothing b (line.Event event words) = refl
 line_nothing b (line.Look look) = look_nothing b look
 line_nothing b (line.Analyse subject workers) = refl
+line_nothing b (line.Together sections) = refl
 
 -- nothing is printed yet
 pub nothing : (b : CoreState) (lines : List Line) → BeginsLines b lines []

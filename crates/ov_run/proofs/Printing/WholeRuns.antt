@@ -106,3 +106,12 @@ refused bytes contents sink f before = record {
   unwritten fault.Read m not = same m
   unwritten fault.Write m not = absurd (not refl)
   unwritten fault.OutOfMemory m not = same m
+
+-- it had no room for a hall
+pub without_room :
+    {W : Type 0} (bytes : List ℕ) (contents : W → Option (List ℕ)) (sink : SinkState W) (result : Result ℕ RunFault)
+    → IsErrAnd result (λ e. e ≡ OutOfMemory) → IsRunOf (Some bytes) contents sink sink result
+without_room bytes contents sink result is =
+    subst (IsRunOf (Some bytes) contents sink sink) (sym (failed_by result OutOfMemory is))
+    (refused bytes contents sink OutOfMemory
+    (record { fault = tt; not_written = λ e. absurd cc; not_read = λ e. absurd cc }))

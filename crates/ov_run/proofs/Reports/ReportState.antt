@@ -10,16 +10,13 @@ use Rattle.ov_snap.specs.Run.{TakesAll}
 use Rattle.ov_snap.specs.declared.running_steps.CoreStep.{CoreStep}
 use Rattle.ov_snap.specs.declared.running_steps.CoreStep.TheVariants.{Net, File}
 use Rattle.ov_snap.proofs.Running.{every_report_is_true, run_more}
+use Rattle.ov_run.proofs.Reports.BlockSteps.{Leads, block_leads}
 use Rattle.ov_run.specs.Theorems.{EveryPrintedReportIsTrue, IsMade, IsSoOf, Refuses}
 use Rattle.ov_run.specs.Printed.{report_line, file_text}
 use Rattle.ov_run.specs.Running.{PrintsCertificate, PrintsLine, PrintsLines, PrintsReportLine}
 use Rattle.ov_scenario.specs.declared.scenario.Line.{Line}
 use Rattle.ov_scenario.specs.declared.scenario.Line.TheVariants as line
 use Rattle.ov_scenario.specs.declared.scenario.Subject.{Subject}
-
--- some steps make the second core of the first
-abbrev pub Leads : CoreState → CoreState → Type 0
-Leads b u = (steps : List CoreStep) × TakesAll b steps u
 
 -- nothing changed, and steps follow
 rests : (b next u : CoreState) → next ≡ b → Leads next u → Leads b u
@@ -37,6 +34,8 @@ line_leads b (line.Analyse subject workers) next own u (inl (r, analysed, is)) l
     (File r ∷ leads.0, (next, inl analysed.filed, leads.1))
 line_leads b (line.Analyse subject workers) next own u (inr (fault, refused, same, is)) leads =
     rests b next u same leads
+line_leads b (line.Together sections) next own u (accepted, refused, ran, all, is) leads =
+    block_leads b sections next accepted u ran leads
 
 lines_lead : (b : CoreState) (lines : List Line) (u : CoreState) (text : List ℕ) → PrintsLines b lines u text
     → Leads b u

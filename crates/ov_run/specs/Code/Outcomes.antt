@@ -1,6 +1,6 @@
 -- What a line that ran did if it was accepted, with the text that it printed, and what was written of each outcome.
 -- b is the core before, and u the core after.
-use Rattle.std.specs.Prelude.{◌≡◌, ◌+◌, ℕ, List, Option, Result, OnOk, IfErr, IsErrOf}
+use Rattle.std.specs.Prelude.{◌≡◌, ◌⊎◌, ◌+◌, ℕ, List, [], ◌∷◌, Option, Result, IfOk, OnOk, IfErr, IsErrOf}
 use Rattle.std.specs.Io.KnownBytes.{Appends}
 use Rattle.ov_io.specs.Device.{SinkState}
 use Rattle.ov_net.specs.Net.{Net, LivesAs}
@@ -10,11 +10,11 @@ use Rattle.ov_peer.specs.PeerState.{PeerState}
 use Rattle.ov_snap.specs.CoreState.{CoreState}
 use Rattle.ov_snap.specs.ReportState.{ReportState}
 use Rattle.ov_snap.specs.Run.{Happened}
-use Rattle.ov_run.specs.Ending.{BeginsLines, EndsLines}
+use Rattle.ov_run.specs.Ending.{BeginsLines, EndsLine, EndsLines}
 use Rattle.ov_run.specs.Faults.{write_faults}
 use Rattle.ov_run.specs.Printed.{entry_line, file_text, node_line, refused_line, report_line}
 use Rattle.ov_run.specs.Refusals.{number_of}
-use Rattle.ov_run.specs.Running.{PrintsLines, PrintsPackets}
+use Rattle.ov_run.specs.Running.{PrintsBlock, PrintsLine, PrintsLines, PrintsPackets}
 use Rattle.ov_run.specs.Subjects.{IsReportOf, WasAnalysed}
 use Rattle.ov_run.specs.Code.Writing.{IsOfWriting, Writes, WritesPrefix}
 use Rattle.ov_run.specs.declared.run_fault.RunFault.{RunFault}
@@ -56,11 +56,35 @@ abbrev pub DoesLine : CoreState → Line → CoreState → List ℕ → Type 0
 DoesLine b (line.Event event words) u text = DoesEvent b event words u text
 DoesLine b (line.Look look) u text = ShowsLook b look text
 DoesLine b (line.Analyse subject workers) u text = FilesReport b subject u text
+DoesLine b (line.Together sections) u text = PrintsBlock b sections u text
 
 -- the writer took what is printed of a line that was done, or the number of the refusal
 abbrev pub WritesOutcome : (List ℕ → Type 0) → Option (List ℕ) → Option (List ℕ) → Outcome → Type 0
 WritesOutcome IsDone before after Accepted = Writes IsDone before after
 WritesOutcome IsDone before after (Refused refusal) = Appends before after (refused_line (number_of refusal))
+
+-- one line ran from the core b on, or ended the run, from a sink before it to what it is after it; of what is returned
+-- this is the outcome, and this the core after it
+pub record LineRan {A W : Type 0} (contents : W → Option (List ℕ)) (b : CoreState) (line : Line)
+    (outcome_of : A → Outcome) (core_of : A → CoreState) (before after : SinkState W) (result : Result A RunFault)
+    : Type 0 where
+  -- without fault, the line was done, or refused, and that was written
+  pub outcome : IfOk result (λ a. WritesOutcome (DoesLine b line (core_of a)) (contents before.writer)
+      (contents after.writer) (outcome_of a))
+  -- what was refused changed nothing
+  pub unchanged : IfOk result (λ a. (outcome_of a ≡ Accepted) ⊎ (core_of a ≡ b))
+  -- without fault, the writer took what the line prints
+  pub prints : IfOk result (λ a. Writes (PrintsLine b line (core_of a)) (contents before.writer)
+      (contents after.writer))
+  -- however it ends, the writer took a prefix of what the line prints up to some point
+  pub begun : WritesPrefix (BeginsLines b (line ∷ [])) (contents before.writer) (contents after.writer)
+  -- after OutOfMemory it took all that the line prints up to the point at which the run ends
+  pub memory : IsErrOf result OutOfMemory
+      → Writes (EndsLine b line) (contents before.writer) (contents after.writer)
+  -- after Write the sink counts one more fault, otherwise the same number as before
+  pub faults : after.faults ≡ before.faults + write_faults result
+  -- each fault is of the writer or of memory
+  pub kind : IfErr result IsOfWriting
 
 -- these lines ran from the core b on, all of them or up to a fault, from a sink before them to what it is after them
 pub record RanLines {A W : Type 0} (contents : W → Option (List ℕ)) (b : CoreState) (lines : List Line)

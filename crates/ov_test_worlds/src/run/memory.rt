@@ -2,6 +2,7 @@
 use super::runs::{TWO_JOIN, TWO_JOIN_PRINTS};
 use ov_io::{Sink, Source};
 use ov_run::{RunFault, run};
+use std::sync::Wait;
 use std::test::Fail;
 use std::thread::Threads;
 
@@ -44,7 +45,10 @@ struct Outcome {
 }
 
 /// Runs a scenario with a writer that has room.
-fn outcome_of(rt: &(impl AllocGlobal + Threads + Sync), story: &Story) -> Result<Outcome, Fail> {
+fn outcome_of(
+    rt: &(impl AllocGlobal + Threads + Wait + Sync),
+    story: &Story,
+) -> Result<Outcome, Fail> {
     let mut source = Source::new(story.scenario.as_bytes());
     let mut sink = Sink::new(Vec::with_capacity(rt.alloc(), 256)?);
     let answer = run(rt, rt.alloc(), &mut source, &mut sink);

@@ -3,11 +3,12 @@ use ov_io::{Sink, Source};
 use ov_run::{RunFault, run};
 use ov_test_kit::Slow;
 use std::alloc::Global;
+use std::sync::Wait;
 use std::test::Fail;
 use std::thread::Threads;
 
 /// Each scenario, and all that it prints.
-static SCENARIOS: [(&str, &str); 9] = [
+static SCENARIOS: [(&str, &str); 12] = [
     ("", ""),
     (
         "snapshot\ncertificate 1\nshow 1\npackets\n",
@@ -37,6 +38,19 @@ static SCENARIOS: [(&str, &str); 9] = [
     (
         "# a joke\r\n  boot   01 \r\n\n   \nlose 0\nshuffle 1\npackets\n",
         "entry 1 born 1\nrefused 14\nentry 2\n",
+    ),
+    (
+        "together\nboot 1\nalso\nboot 2\nend\nsnapshot\nanalyse 3\n",
+        "together 2 accepted 2 refused 0\nentry 3\nreport 3 split k 0 cut - near 2 far 1 side 2\n",
+    ),
+    (
+        "boot 1\nsnapshot\ntogether\nanalyse 2\nalso\nboot 2\nend\ncertificate 2\n",
+        "entry 1 born 1\nentry 2\ntogether 2 accepted 2 refused 0\n\
+         {\"k\":0,\"links\":[],\"moment\":2,\"nodes\":[1],\"verdict\":\"linked\",\"version\":1}\n",
+    ),
+    (
+        "together\nend\ntogether\nanalyse 1\nalso\ncrash 1\nalso\nend\n",
+        "together 1 accepted 0 refused 0\ntogether 3 accepted 0 refused 2\n",
     ),
 ];
 
@@ -176,7 +190,7 @@ node 4 active 2 passive - eager 2 lazy -
 
 /// The scenario comes to this answer and prints this text.
 pub(super) fn comes_to(
-    rt: &(impl AllocGlobal + Threads + Sync),
+    rt: &(impl AllocGlobal + Threads + Wait + Sync),
     scenario: &str,
     answer: Result<u8, RunFault>,
     text: &str,
@@ -199,7 +213,7 @@ fn scenarios_print_their_lines(rt: HostRuntime) {
 static AT_FAULT: [(&str, &str); 6] = [
     ("boot 1\nfly\n", "line 2: refused 70"),
     ("boot 1\n\nanalyse 1 workers 65\n", "line 3: refused 70"),
-    ("boot 1\ntogether\nend\n", "line 2: refused 70"),
+    ("boot 1\ntogether\n", "line 2: refused 70"),
     ("boot 1\nend\n", "line 2: refused 70"),
     ("boot 1\nwords 5\n", "line 2: refused 70"),
     (
@@ -242,7 +256,7 @@ fn faults_are_shown_by_their_numbers(rt: HostRuntime) -> Result<(), Fail> {
 /// With a reader that is interrupted after so many calls, two nodes that join come to this answer, to so many faults of
 /// the reader, and to this text.
 fn comes_by_slow_reader(
-    rt: &(impl AllocGlobal + Threads + Sync),
+    rt: &(impl AllocGlobal + Threads + Wait + Sync),
     calls_left: usize,
     answer: Result<u8, RunFault>,
     faults: u64,
@@ -269,7 +283,7 @@ fn a_reader_is_interrupted_at_each_read(rt: HostRuntime) {
 /// With a writer that is interrupted after so many calls, two nodes that join come to this answer, to no fault of the
 /// reader, and to so many of the writer.
 fn comes_by_slow_writer(
-    rt: &(impl AllocGlobal + Threads + Sync),
+    rt: &(impl AllocGlobal + Threads + Wait + Sync),
     calls_left: usize,
     answer: Result<u8, RunFault>,
     faults: u64,

@@ -1,15 +1,15 @@
 -- What was read is a scenario, and what it prints was written; if the run ended early, a prefix of it.
-use Rattle.std.proofs.Common.{rules, Err, ap, refl}
-use Rattle.ov_run.proofs.Printing.WholeRuns.{finished, stopped}
+use Rattle.std.proofs.Common.{rules, Err, ap, arith, refl}
+use Rattle.ov_run.proofs.Printing.WholeRuns.{finished, stopped, without_room}
 use Rattle.ov_run.proofs.engine.run_bytes.Goals as goal
 
 pub returns : goal.returns
 returns g c =
     let said = c.in_ok-scenario in
-    let printed = c.in_ok-run_lines.ensures.ran.prints in
+    let printed = c.in_ok-run_in_hall.ensures.ran.prints in
     record {
       read = λ e. absurd cc;
-      run = finished c.args.bytes.now g.W.Write.contents c.args.sink.now c.run_lines.new.sink (
+      run = finished c.args.bytes.now g.W.Write.contents c.args.sink.now c.run_in_hall.new.sink (
         c.args.bytes.now,
         printed.1.0,
         refl,
@@ -20,18 +20,25 @@ returns g c =
           lines = printed.1.1;
         },
         printed.1.2,
-      ) c.in_ok-run_lines.ensures.ran.faults;
+      ) c.in_ok-run_in_hall.ensures.ran.faults;
     }
 
-pub returns-in_err-run_lines : goal.returns-in_err-run_lines
-returns-in_err-run_lines g c =
+pub returns-in_err-opening : goal.returns-in_err-opening
+returns-in_err-opening g c = record {
+  read = search rules;
+  run = without_room c.args.bytes.now g.W.Write.contents c.args.sink.now c.from_residual-in_err-opening.result
+      c.from_residual-in_err-opening.ensures.1;
+}
+
+pub returns-in_err-run_in_hall : goal.returns-in_err-run_in_hall
+returns-in_err-run_in_hall g c =
     let file = c.in_ok-scenario in
-    let ran = c.in_err-run_lines.ensures.ran in
-    let failed = c.from_residual-in_err-run_lines in
+    let ran = c.in_err-run_in_hall.ensures.ran in
+    let failed = c.from_residual-in_err-run_in_hall in
     record {
       read = search rules;
-      run = stopped c.args.bytes.now g.W.Write.contents c.args.sink.now c.run_lines.new.sink failed.result
-          c.in_err-run_lines.field-0.0 failed.ensures.1 (
+      run = stopped c.args.bytes.now g.W.Write.contents c.args.sink.now c.run_in_hall.new.sink failed.result
+          c.in_err-run_in_hall.field-0.0 failed.ensures.1 (
             c.args.bytes.now,
             ran.begun.0,
             refl,
@@ -45,3 +52,11 @@ returns-in_err-run_lines g c =
             ended.2,
           ));
     }
+
+-- there is a driver for each section of the largest block
+pub run_in_hall-requires-clause-drivers : goal.run_in_hall-requires-clause-drivers
+run_in_hall-requires-clause-drivers g c =
+    let needed = c.in_ok-scenario.ensures.scenario.drivers in
+    let made = c.in_ok-opening.ensures in
+    let count = c.count.ensures.count in
+    omega (arith, needed, made, count)

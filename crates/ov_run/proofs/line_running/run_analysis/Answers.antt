@@ -9,19 +9,19 @@ use Rattle.ov_run.proofs.line_running.run_analysis.Goals as goal
 pub returns-in-Ok-clause-prints : goal.returns-in-Ok-clause-prints
 returns-in-Ok-clause-prints g c =
     let made = c.in-Ok.ensures.analysed in
-    wrote (PrintsReportLine c.args.core.now c.args.subject.now c.file_analysis.new.core) _ _ c.as_bytes.result.now
+    wrote (PrintsReportLine c.args.hall.now c.args.subject.now c.file_analysis.new.hall) _ _ c.as_bytes.result.now
     c.write_done.result (inl (made.0, made.1, c.as_bytes.ensures.value ∙ made.2)) c.write_done.ensures.bytes
 
 pub returns-in-Ok-clause-outcome : goal.returns-in-Ok-clause-outcome
 returns-in-Ok-clause-outcome g c =
     let made = c.in-Ok.ensures.analysed in
-    done (FilesReport c.args.core.now c.args.subject.now c.file_analysis.new.core) _ _ c.as_bytes.result.now
+    done (FilesReport c.args.hall.now c.args.subject.now c.file_analysis.new.hall) _ _ c.as_bytes.result.now
     c.write_done.result (made.0, made.1, c.as_bytes.ensures.value ∙ made.2) c.write_done.ensures.outcome
     c.write_done.ensures.bytes
 
 pub returns-in-Err-clause-prints : goal.returns-in-Err-clause-prints
 returns-in-Err-clause-prints g c =
-    wrote (PrintsReportLine c.args.core.now c.args.subject.now c.file_analysis.new.core) _ _ _ c.write_refusal.result
+    wrote (PrintsReportLine c.args.hall.now c.args.subject.now c.file_analysis.new.hall) _ _ _ c.write_refusal.result
     (inr (c.in-Err.fault, c.in-Err.ensures.refused, c.in-Err.ensures.err, refl))
     c.write_refusal.ensures.bytes
 

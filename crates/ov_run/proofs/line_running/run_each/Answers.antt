@@ -1,57 +1,67 @@
 -- One line more, and all of them; and if a line ends the run, or the next can't be read, what was printed up to there.
-use Rattle.std.proofs.Common.{◌≡◌, ◌++◌, ◌∷◌, [], List, Option, Err, MatchOption, ap, inl, inr, subst, refl, arith}
+use Rattle.std.proofs.Common.{◌≡◌, ◌≤◌, ◌++◌, ◌∷◌, [], List, Option, Err, MatchOption, ap, inl, inr, subst, refl, arith}
 use Rattle.std.proofs.KnownBytes.{Appends-nil, Appends-trans}
-use Rattle.ov_snap.specs.CoreState.{opening_core}
 use Rattle.ov_scenario.specs.declared.lines_to_run.LineToRun.{LineToRun}
 use Rattle.ov_scenario.specs.declared.scenario.Line.{Line}
+use Rattle.ov_scenario.specs.RunLines.{drivers_for}
+use Rattle.ov_run.proofs.Blocks.Drivers.{drivers_more}
 use Rattle.ov_run.specs.declared.run_fault.RunFault.TheVariants.{OutOfMemory}
 use Rattle.ov_run.proofs.Printing.Ending.{all_printed, followed, all_went, none_went, nothing, prefix_went}
 use Rattle.ov_run.proofs.Printing.HandedOn.{stopped_by}
 use Rattle.ov_run.proofs.Printing.Running.{SoFar, begun, more, ended, unread}
 use Rattle.ov_run.proofs.line_running.run_each.Goals as goal
 
-pub loop-core-init : goal.loop-core-init
-loop-core-init g c =
-    rw (c.new-core.ensures) (record {
-      printed = ([], begun _ _, Appends-nil _);
-      faults = refl;
-    })
+pub loop-recent-init : goal.loop-recent-init
+loop-recent-init g c =
+    record { printed = ([], begun _ _, Appends-nil _); drivers = c.requires.drivers; faults = refl }
 
-pub loop-core-preserved : goal.loop-core-preserved
-loop-core-preserved g c =
-    let start = opening_core c.args.params in
+pub loop-recent-preserved : goal.loop-recent-preserved
+loop-recent-preserved g c =
+    let start = c.args.hall in
     let all = c.args.lines.items in
-    let now = c.loop-core.core in
-    let next = c.run_line.new.core in
+    let now = c.loop-recent.hall in
+    let next = c.in_ok-outcome.after in
     let line = c.in-Some.next.line in
     let lines = c.next_line.new.self.items in
-    let said = c.loop-core.invariant.printed in
-    let own = c.in_ok-outcome.ensures.prints in
-    let step : c.loop-core.left.items ≡ line ∷ lines =
-    subst (λ (n : Option LineToRun). MatchOption n (c.loop-core.left.items ≡ [])
-    (λ l. c.loop-core.left.items ≡ l.line ∷ lines)) c.in-Some.is c.in_ok-next.ensures.line in
+    let said = c.loop-recent.invariant.printed in
+    let own = c.in_ok-outcome.ensures.ran.prints in
+    let step : c.loop-recent.left.items ≡ line ∷ lines =
+    subst (λ (n : Option LineToRun). MatchOption n (c.loop-recent.left.items ≡ [])
+    (λ l. c.loop-recent.left.items ≡ l.line ∷ lines)) c.in-Some.is c.in_ok-next.ensures.line in
     let so_far = subst (λ (ls : List Line). SoFar start all now ls said.0) step said.1 in
-    let failed = c.in_ok-outcome.ensures.faults in
-    let none = c.loop-core.invariant.faults in
+    let failed = c.in_ok-outcome.ensures.ran.faults in
+    let none = c.loop-recent.invariant.faults in
     record {
       printed = (
         said.0 ++ own.0,
         more start all now next line lines said.0 own.0 so_far own.1,
         Appends-trans _ _ _ _ _ said.2 own.2,
       );
+      drivers = (drivers_more g.N.HallName.drivers line lines
+          (subst (λ (ls : List Line). drivers_for ls ≤ g.N.HallName.drivers) step c.loop-recent.invariant.drivers)).1;
       faults = omega (arith, failed, none);
     }
 
+pub run_line-requires-clause-drivers : goal.run_line-requires-clause-drivers
+run_line-requires-clause-drivers g c κs within =
+    let line = c.in-Some.next.line in
+    let lines = c.next_line.new.self.items in
+    let step : c.loop-recent.left.items ≡ line ∷ lines =
+    subst (λ (n : Option LineToRun). MatchOption n (c.loop-recent.left.items ≡ [])
+    (λ l. c.loop-recent.left.items ≡ l.line ∷ lines)) c.in-Some.is c.in_ok-next.ensures.line in
+    (drivers_more g.N.HallName.drivers line lines
+    (subst (λ (ls : List Line). drivers_for ls ≤ g.N.HallName.drivers) step c.loop-recent.invariant.drivers)).0
+
 pub returns : goal.returns
 returns g c =
-    let start = opening_core c.args.params in
+    let start = c.args.hall in
     let all = c.args.lines.items in
-    let now = c.loop-core.core in
-    let said = c.loop-core.invariant.printed in
-    let none = c.loop-core.invariant.faults in
-    let empty : c.loop-core.left.items ≡ [] =
-    subst (λ (n : Option LineToRun). MatchOption n (c.loop-core.left.items ≡ [])
-    (λ l. c.loop-core.left.items ≡ l.line ∷ c.next_line.new.self.items)) c.in_default.is c.in_ok-next.ensures.line in
+    let now = c.loop-recent.hall in
+    let said = c.loop-recent.invariant.printed in
+    let none = c.loop-recent.invariant.faults in
+    let empty : c.loop-recent.left.items ≡ [] =
+    subst (λ (n : Option LineToRun). MatchOption n (c.loop-recent.left.items ≡ [])
+    (λ l. c.loop-recent.left.items ≡ l.line ∷ c.next_line.new.self.items)) c.in_default.is c.in_ok-next.ensures.line in
     let so_far = subst (λ (ls : List Line). SoFar start all now ls said.0) empty said.1 in
     let prints = ended start all now said.0 so_far in
     record {
@@ -66,15 +76,15 @@ returns g c =
 
 pub returns-in_err-next : goal.returns-in_err-next
 returns-in_err-next g c =
-    let start = opening_core c.args.params in
+    let start = c.args.hall in
     let all = c.args.lines.items in
-    let now = c.loop-core.core in
-    let left = c.loop-core.left.items in
-    let said = c.loop-core.invariant.printed in
-    let none = c.loop-core.invariant.faults in
+    let now = c.loop-recent.hall in
+    let left = c.loop-recent.left.items in
+    let said = c.loop-recent.invariant.printed in
+    let none = c.loop-recent.invariant.faults in
     record {
       ran =
-          stopped_by g.W.Write.contents start all c.args.sink.now c.loop-core.sink c.from_residual.result OutOfMemory
+          stopped_by g.W.Write.contents start all c.args.sink.now c.loop-recent.sink c.from_residual.result OutOfMemory
           c.from_residual.ensures.1 (
             said.0 ++ [],
             said.1.prefix [] (nothing now left),
@@ -88,19 +98,19 @@ returns-in_err-next g c =
 
 pub returns-in_err-outcome : goal.returns-in_err-outcome
 returns-in_err-outcome g c =
-    let start = opening_core c.args.params in
+    let start = c.args.hall in
     let all = c.args.lines.items in
-    let now = c.loop-core.core in
+    let now = c.loop-recent.hall in
     let line = c.in-Some.next.line in
     let lines = c.next_line.new.self.items in
-    let said = c.loop-core.invariant.printed in
-    let none = c.loop-core.invariant.faults in
-    let own = c.in_err-outcome.ensures in
+    let said = c.loop-recent.invariant.printed in
+    let none = c.loop-recent.invariant.faults in
+    let own = c.in_err-outcome.ensures.ran in
     let counted = own.faults in
     let failed = c.from_residual-in_err-outcome in
-    let step : c.loop-core.left.items ≡ line ∷ lines =
-    subst (λ (n : Option LineToRun). MatchOption n (c.loop-core.left.items ≡ [])
-    (λ l. c.loop-core.left.items ≡ l.line ∷ lines)) c.in-Some.is c.in_ok-next.ensures.line in
+    let step : c.loop-recent.left.items ≡ line ∷ lines =
+    subst (λ (n : Option LineToRun). MatchOption n (c.loop-recent.left.items ≡ [])
+    (λ l. c.loop-recent.left.items ≡ l.line ∷ lines)) c.in-Some.is c.in_ok-next.ensures.line in
     let so_far = subst (λ (ls : List Line). SoFar start all now ls said.0) step said.1 in
     record {
       ran =

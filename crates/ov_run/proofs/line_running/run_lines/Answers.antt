@@ -1,11 +1,10 @@
 -- What the lines printed is what they printed still, handed on or not.
-use Rattle.ov_snap.specs.CoreState.{opening_core}
 use Rattle.ov_run.proofs.Printing.HandedOn.{handed_on}
 use Rattle.ov_run.proofs.line_running.run_lines.Goals as goal
 
 pub returns : goal.returns
 returns g c = record {
-  ran = handed_on g.W.Write.contents (opening_core c.args.params) c.args.lines.items c.args.sink.now
+  ran = handed_on g.W.Write.contents c.args.hall c.args.lines.items c.args.sink.now
       c.run_each-ran.new.sink c.flush.new.self c.flush.ensures.bytes c.run_each-ran.result
       c.in_ok-flush.ensures.faults c.run_each-ran.ensures.ran;
 }

@@ -1,5 +1,6 @@
 -- One packet more, and all of them; and if the writer failed, the packets before it and a prefix of its line.
-use Rattle.std.proofs.Common.{◌≡◌, ◌+◌, ◌++◌, ◌∷◌, [], ◌∙◌, string_bytes, append_assoc, ap, map, sym, subst, length, arith}
+use Rattle.std.proofs.Common.{◌≡◌, ◌+◌, ◌++◌, ◌∷◌, [], ◌∙◌, string_bytes, append_assoc, ap, map, sym, subst, length}
+use Rattle.std.proofs.Common.{arith}
 use Rattle.std.proofs.KnownBytes.{Appends-trans}
 use Rattle.std.proofs.lemmas.List.{length-append, map-append}
 use Rattle.ov_run.specs.Printed.{packet_line}

@@ -1,0 +1,5 @@
+-- Blocks of sections.
+pub mod AllSections
+pub mod Drivers
+pub mod Jobs
+pub mod SectionLines

@@ -1,0 +1,44 @@
+-- The jobs of the drivers in a block, and what came of each.
+use Rattle.std.specs.Prelude.{◌≡◌, ℕ, ◌+◌, ◌≤◌, List, [], ◌∷◌, length, MatchBool, Bool}
+use Rattle.ov_ids.specs.ParamsState.{ParamsState}
+use Rattle.ov_hall.specs.declared.ghost_views.Ticket.{Ticket}
+use Rattle.ov_run.specs.Sections.{IsAccepted, IsRefused, RunsSection}
+use Rattle.ov_scenario.specs.declared.section.Deed.{Deed}
+use Rattle.ov_scenario.specs.Sections.{SectionLine}
+use Rattle.ov_scenario.specs.declared.scenario.Line.{Line}
+use Rattle.ov_scenario.specs.declared.scenario.Line.TheVariants as line
+
+-- there is a driver for each section of a line that is a block
+abbrev pub HasDrivers : ℕ → Line → Type 0
+HasDrivers n (line.Together sections) = length sections ≤ n
+HasDrivers n other = Unit {0}
+
+-- a job: the pass of a driver, and the lines that it runs
+abbrev pub Job : Type 0
+Job = Ticket × List SectionLine
+
+-- what came of a job: the pass after it, and how many lines were accepted and how many refused
+abbrev pub Ran : Type 0
+Ran = Ticket × ℕ × ℕ
+
+-- the line was accepted if the test says yes, and otherwise refused
+abbrev pub RunsLine : ParamsState → Ticket → Deed → Bool → Ticket → Type 0
+RunsLine params p deed accepted q = MatchBool accepted (IsAccepted params p deed q) (IsRefused params p deed q)
+
+-- the job of each driver: its pass, and its section; a driver without a section has no line to run
+abbrev pub jobs_of : List Ticket → List (List SectionLine) → List Job
+jobs_of [] sections = []
+jobs_of (p ∷ ps) [] = (p, []) ∷ jobs_of ps []
+jobs_of (p ∷ ps) (section ∷ sections) = (p, section) ∷ jobs_of ps sections
+
+-- the job was done
+abbrev pub HasRun : ParamsState → Job → Ran → Type 0
+HasRun params job ran =
+    RunsSection params job.0 job.1 ran.1 ran.0 × (ran.1 + ran.2 ≡ length job.1)
+
+-- each job was done, with the result at its place
+abbrev pub HaveRun : ParamsState → List Job → List Ran → Type 0
+HaveRun params [] [] = Unit {0}
+HaveRun params [] (r ∷ rs) = ⊥
+HaveRun params (j ∷ js) [] = ⊥
+HaveRun params (j ∷ js) (r ∷ rs) = HasRun params j r × HaveRun params js rs
