@@ -10,7 +10,7 @@ root=$(readlink -f -- "$(dirname -- "$(readlink -f -- "$0")")/..")
 bench=$root/bench/$1
 crates=${CRATES:-$root}
 if [ -z "$1" ] || [ ! -f "$bench/uses.txt" ]; then
-    echo 'usage: run.sh crew|net|packets|peer|settle|wire [FOLDER]' >&2
+    echo 'usage: run.sh crew|hall|net|packets|peer|settle|wire [FOLDER]' >&2
     exit 2
 fi
 work=${2:-$(mktemp -d)}
