@@ -1,0 +1,380 @@
+"""The cases of check-devices about devices that fail, and about names that can't be opened."""
+
+import contextlib
+import errno
+import os
+import pathlib
+import re
+import resource
+import shutil
+import signal
+import subprocess
+import tempfile
+import termios
+import time
+
+from device_lab import BARE, CASES, CERTIFICATE, CHECK, COMMANDS, EXPLAIN, LONGEST, PREFIX, PROGRESS, READ, RIGHT, RUN
+from device_lab import WRITE, Case, Differs, Lab, Skip, case, ending_of, read_again, told
+from device_lab import FAULT_LINE, KNOWN
+
+# The user that has no rights and owns nothing.
+NOBODY = 65534
+
+
+def each(name, done, promised, wanted, commands=COMMANDS, file=True, **how):
+    """Adds a case in which commands are run on their examples, all in the same way. What opens a stream, in `how`, is
+    called for each run."""
+
+    def act(lab):
+        for command in commands:
+            with contextlib.ExitStack() as stack:
+                given = {key: it(lab, command) if callable(it) else it for key, it in how.items()}
+                for value in given.values():
+                    if hasattr(value, "close"):
+                        stack.callback(value.close)
+                seen = lab.run(lab.words(command, lab.example(command) if file else None), **given)
+            yield command.name, told(seen, b"" if "stdout" in given else lab.right(command), command.explains), wanted
+
+    CASES.append(Case("devices", name, done, promised, act))
+
+
+def opened(name, mode):
+    """Opens a file for a run."""
+    return lambda lab, command: open(name, mode, buffering=0)
+
+
+def example_opened(lab, command):
+    """The example of a command, opened."""
+    return open(lab.example(command), "rb")
+
+
+def widowed(lab, command):
+    """A pipe that nobody reads any more."""
+    reader, writer = os.pipe()
+    os.close(reader)
+    return os.fdopen(writer, "wb")
+
+
+def dead_terminal(lab, command):
+    """A terminal whose other end is closed."""
+    master, slave = os.openpty()
+    os.close(master)
+    return os.fdopen(slave, "wb", buffering=0)
+
+
+NO_READ = "reading failed: `refused 71`, status 1 (FORMATS.md)"
+NO_WRITE = "writing failed: `refused 72`, status 1 (FORMATS.md)"
+UNHEARD = "what was to go there is lost, and nothing else changes (FORMATS.md, devices)"
+each("closed standard input, with FILE", "`FILE <&-`", "FILE alone is read (FORMATS.md)", RIGHT, closed=(0,))
+each("closed standard input", "`<&-`", NO_READ, READ, file=False, closed=(0,))
+each("standard input that can only be written to", "`0>/dev/null`", NO_READ, READ, file=False,
+     stdin=opened("/dev/null", "wb"))
+each("FILE `-`", "`- <FILE`", "standard input is read (FORMATS.md)", RIGHT, file=False, stdin=example_opened)
+each("bare `overlay`", "`<FILE`", "it runs a scenario from standard input (FORMATS.md)", RIGHT, [BARE], file=False,
+     stdin=example_opened)
+each("closed standard output", "`FILE >&-`", NO_WRITE, WRITE, closed=(1,))
+each("standard output that can only be read", "`FILE 1</dev/null`", NO_WRITE, WRITE, stdout=opened("/dev/null", "rb"))
+each("closed standard error", "`FILE 2>&-`", UNHEARD, RIGHT, closed=(2,))
+each("full standard error", "`FILE 2>/dev/full`", UNHEARD, RIGHT, stderr=opened("/dev/full", "wb"))
+each("standard error that nobody reads", "a pipe without a reader as standard error", UNHEARD, RIGHT, stderr=widowed)
+each("all three closed", "`FILE <&- >&- 2>&-`", "writing failed: status 1 (FORMATS.md)", "status 1, prints nothing",
+     closed=(0, 1, 2))
+each("full device", "`FILE >/dev/full`", NO_WRITE, WRITE, stdout=opened("/dev/full", "wb"))
+each("reader gone at once", "a pipe without a reader, SIGPIPE at its default",
+     "SIGPIPE is ignored, so writing fails: `refused 72`, status 1 (FORMATS.md, devices)", WRITE, stdout=widowed)
+each("reader gone at once, SIGPIPE ignored", "the same under `trap '' PIPE`", "the same", WRITE, stdout=widowed,
+     ignored=(signal.SIGPIPE,))
+each("a terminal that hangs up", "standard output is a terminal whose other end is closed", NO_WRITE, WRITE,
+     stdout=dead_terminal, start_new_session=True)
+
+
+@case("devices", "closed standard error, and a fault", "`MISSING 2>&-`", "status 1 (FORMATS.md)")
+def closed_errors(lab):
+    for command in COMMANDS:
+        seen = lab.run(lab.words(command, "missing"), closed=(2,))
+        yield command.name, told(seen), "status 1, prints nothing"
+
+
+@case("devices", "FILE in the place of a closed stream", "`FILE >&- 2>&-`: the system opens FILE as standard output",
+      "FILE is only read, and stays as it is")
+def untouched(lab):
+    for command in COMMANDS:
+        copy = shutil.copy(lab.example(command), lab.room)
+        os.chmod(copy, 0o644)
+        before = pathlib.Path(copy).read_bytes()
+        seen = lab.run(lab.words(command, copy), closed=(1, 2))
+        same = "FILE is as before" if pathlib.Path(copy).read_bytes() == before else "FILE is changed"
+        yield command.name, f"{ending_of(seen.status)}, {same}", "status 1, FILE is as before"
+
+
+def fault_among(err):
+    """The line of the fault. With --explain the reasons of refused lines stand above it."""
+    return next((it for it in err.split(b"\n") if FAULT_LINE.match(it)), b"")
+
+
+@case("devices", "full device, large output", "output of more than three blocks of 64 KB `>/dev/full`", NO_WRITE)
+def full_large(lab):
+    for command, kind in ((RUN, "scenario"), (EXPLAIN, "scenario"), (CERTIFICATE, "dense")):
+        with open("/dev/full", "wb", buffering=0) as full:
+            seen = lab.run(lab.words(command, lab.large(kind)), stdout=full)
+        yield command.name, told(seen._replace(err=fault_among(seen.err))), WRITE
+
+
+def with_file(lab, words, limit, **how):
+    """Runs a program with a file as standard output that may have so many bytes."""
+    with tempfile.TemporaryFile(dir=lab.room) as out, tempfile.TemporaryFile(dir=lab.room) as given:
+        # standard error is a pipe, so that the limit is none for it
+        reader, writer = os.pipe()
+        with os.fdopen(reader, "rb") as end:
+            with os.fdopen(writer, "wb") as err:
+                seen = lab.run(words, stdout=out, stderr=err, limits={resource.RLIMIT_FSIZE: limit}, stdin=given, **how)
+            return seen._replace(out=read_again(out), err=end.read())
+
+
+@case("devices", "device full in the last block", "a file that may have 5 bytes fewer than the output, SIGXFSZ ignored",
+      "writing failed: `refused 72`, status 1, after a prefix of the output (FORMATS.md)")
+def full_at_last(lab):
+    files = [lab.large("scenario"), lab.example(EXPLAIN), *(lab.large("graph") for _ in range(3)), lab.example(CHECK)]
+    for command, file in zip(COMMANDS, files):
+        right = lab.right(command, file)
+        seen = with_file(lab, lab.words(command, file), len(right) - 5, ignored=(signal.SIGXFSZ,))
+        yield command.name, told(seen._replace(err=fault_among(seen.err)), right), PREFIX
+
+
+@case("devices", "file at its limit of size", "`ulimit -f` below the output, SIGXFSZ at its default",
+      "SIGXFSZ ends the program, after a prefix of the output (FORMATS.md, devices)")
+def file_limit(lab):
+    for command in COMMANDS:
+        seen = with_file(lab, lab.words(command, lab.example(command)), 20)
+        text = told(seen, lab.right(command), command.explains)
+        yield command.name, text, "ended by SIGXFSZ, a prefix of the right output"
+
+
+@case("devices", "reader gone after the first line", "large output into a pipe that is closed after its first line",
+      NO_WRITE)
+def gone_after_line(lab):
+    for command, kind in ((RUN, "scenario"), (EXPLAIN, "scenario"), (CERTIFICATE, "dense")):
+        file, line = lab.large(kind), []
+
+        def read_line(process):
+            line.append(process.stdout.readline())
+            process.stdout.close()
+
+        seen = lab.run(lab.words(command, file), during=read_line, stdout=subprocess.PIPE, bufsize=0)
+        seen = seen._replace(out=line[0], err=fault_among(seen.err))
+        yield command.name, told(seen, lab.right(command, file)), PREFIX
+
+
+@case("devices", "output that would have to wait", "a full pipe that does not wait (O_NONBLOCK)",
+      "a write that returns an error counts as failed: `refused 72`, status 1 (FORMATS.md)")
+def impatient_output(lab):
+    for command in COMMANDS:
+        reader, writer = os.pipe()
+        os.set_blocking(writer, False)
+        with contextlib.suppress(BlockingIOError):
+            while True:
+                os.write(writer, bytes(4096))
+        with os.fdopen(reader, "rb"), os.fdopen(writer, "wb") as out:
+            seen = lab.run(lab.words(command, lab.example(command)), stdout=out)
+        yield command.name, told(seen), WRITE
+
+
+@case("devices", "input that would have to wait", "half of the input in a pipe that does not wait (O_NONBLOCK)",
+      "a read that returns an error counts as failed: `refused 71`, status 1, and nothing is printed (FORMATS.md)")
+def impatient_input(lab):
+    for command in COMMANDS:
+        data = pathlib.Path(lab.example(command)).read_bytes()
+        reader, writer = os.pipe()
+        os.set_blocking(reader, False)
+        with os.fdopen(reader, "rb") as given, os.fdopen(writer, "wb", buffering=0) as half:
+            half.write(data[: len(data) // 2])
+            seen = lab.run(lab.words(command), stdin=given)
+        yield command.name, told(seen), READ
+
+
+@case("devices", "input in single bytes", "a pipe that gets a byte at a time, with a stop (SIGSTOP, SIGCONT) amid it",
+      "standard input is read, whatever its pieces (FORMATS.md)")
+def slow_input(lab):
+    for command in COMMANDS:
+        data = pathlib.Path(lab.example(command)).read_bytes()
+
+        def feed_slowly(process):
+            for at in range(len(data)):
+                os.write(process.stdin.fileno(), data[at : at + 1])
+                if at == len(data) // 2:
+                    os.kill(process.pid, signal.SIGSTOP)
+                    time.sleep(0.02)
+                    os.kill(process.pid, signal.SIGCONT)
+            process.stdin.close()
+
+        seen = lab.run(lab.words(command), during=feed_slowly, stdin=subprocess.PIPE, bufsize=0)
+        yield command.name, told(seen, lab.right(command), command.explains), RIGHT
+
+
+@case("devices", "input from a terminal", "lines typed at a terminal, and ^D",
+      "standard input is read; bare `overlay` and `overlay run` say so on standard error (FORMATS.md)")
+def typed_input(lab):
+    for command in [BARE, *COMMANDS]:
+        master, slave = os.openpty()
+        how = termios.tcgetattr(slave)
+        how[3] &= ~termios.ECHO
+        termios.tcsetattr(slave, termios.TCSANOW, how)
+        data = pathlib.Path(lab.example(command)).read_bytes()
+
+        def type_in(process):
+            for line in data.splitlines(keepends=True):
+                os.write(master, line)
+            # once more where the last line has no end
+            os.write(master, b"\x04" if data.endswith(b"\n") else b"\x04\x04")
+
+        with os.fdopen(slave, "rb", buffering=0) as given:
+            seen = lab.run(lab.words(command), during=type_in, stdin=given, start_new_session=True)
+        os.close(master)
+        said = seen.err.startswith(b"reading a scenario from standard input\n")
+        text = told(seen, lab.right(command), said or command.explains) + (", says so" if said else "")
+        yield command.name, text, RIGHT + (", says so" if command.kind == "scenario" else "")
+
+
+@case("devices", "empty file", "`/dev/null`", "a run of no lines has status 0; a graph without nodes is `refused 30`, "
+      "status 0; an empty file is no JSON: `refused 60`, status 1 (FORMATS.md)")
+def empty(lab):
+    wanted = {"scenario": "status 0, prints nothing", "graph": "status 0, `refused 30`",
+              "certificate": "status 1, `refused 60`"}
+    for command in COMMANDS:
+        seen = lab.run(lab.words(command, "/dev/null"))
+        yield command.name, told(seen, explains=command.explains), wanted[command.kind]
+
+
+def open_for_reader(path):
+    """Opens a FIFO for writing, once somebody reads it."""
+    end = time.monotonic() + LONGEST
+    while True:
+        try:
+            return os.open(path, os.O_WRONLY | os.O_NONBLOCK)
+        except OSError as why:
+            if why.errno != errno.ENXIO or time.monotonic() > end:
+                raise Differs("does not open the FIFO") from why
+            time.sleep(0.002)
+
+
+@case("devices", "a FIFO", "FILE is a FIFO that a writer opens later", "FILE is read (FORMATS.md)")
+def fifo(lab):
+    for command in COMMANDS:
+        path = os.path.join(lab.room, "fifo")
+        os.mkfifo(path)
+        data = pathlib.Path(lab.example(command)).read_bytes()
+
+        def write_into(process):
+            descriptor = open_for_reader(path)
+            os.write(descriptor, data)
+            os.close(descriptor)
+
+        seen = lab.run(lab.words(command, path), during=write_into)
+        os.remove(path)
+        yield command.name, told(seen, lab.right(command), command.explains), RIGHT
+
+
+@case("devices", "progress", "`analyse --progress --workers 4` of a ring of 1,024 nodes, and the same `2>/dev/full`",
+      "lines `level L: piece P of S`, none in the first second, at most two a second; the answer (FORMATS.md)")
+def progress(lab):
+    words, known = [*lab.words(PROGRESS), "--workers", "4", lab.large("ring")], KNOWN["ring"].encode()
+    seen = lab.run(words)
+    with open("/dev/full", "wb", buffering=0) as full:
+        unheard = lab.run(words, stderr=full)
+    lines = seen.err.splitlines()
+    alike = all(re.fullmatch(rb"level \d+: piece \d+ of \d+", line) for line in lines)
+    few = len(lines) <= 2 * max(0, seen.seconds - 1) + 1
+    fits = "in this form" if alike and few else f"otherwise: {seen.err[:80]!r}"
+    same = "the same answer" if unheard.out == seen.out else "another answer"
+    start = "k 156" if seen.out.startswith(known) else f"{seen.out[:40]!r}"
+    text = f"{ending_of(seen.status)}, {start}, lines {fits}; {ending_of(unheard.status)}, {same}"
+    note = f"{len(lines)} lines in {seen.seconds:.1f} s"
+    yield PROGRESS.name, text, "status 0, k 156, lines in this form; status 0, the same answer", note
+
+
+# Names
+
+
+def by_name(name, done, promised, wanted, make):
+    """Adds a case in which the commands are given the words that a function makes."""
+
+    def act(lab):
+        for command in COMMANDS:
+            seen = lab.run(lab.words(command) + make(lab, command))
+            there = wanted[command.program] if isinstance(wanted, dict) else wanted
+            yield command.name, told(seen, lab.right(command), command.explains), there
+
+    CASES.append(Case("names", name, done, promised, act))
+
+
+def copied(name):
+    """Makes a copy of the example under another name."""
+
+    def make(lab, command):
+        shutil.copyfile(lab.example(command), os.path.join(os.fsencode(lab.room), name))
+        return [name]
+
+    return make
+
+
+ARGUMENTS = "status 2, prints nothing, `refused 73`"
+USAGE = "status 2, prints nothing, `usage: overlay-check [FILE]`"
+NOT_OPENED = "can't be opened: `refused 71`, status 1 (FORMATS.md)"
+by_name("a folder", "FILE is a folder", NO_READ, READ, lambda lab, _: [lab.room])
+by_name("a device that can't be read", "FILE is /proc/self/mem", NO_READ, READ, lambda lab, _: ["/proc/self/mem"])
+by_name("no such file", "FILE is not there", NOT_OPENED, READ, lambda lab, _: ["none"])
+by_name("an empty name", "FILE is `''`", NOT_OPENED, READ, lambda lab, _: [""])
+by_name("a name of 5,000 bytes", "FILE is `aa..a`", NOT_OPENED, READ, lambda lab, _: ["a" * 5000])
+by_name("a name of 3,910 bytes", "FILE is `././..` and a name", "names of up to 4,096 bytes are opened (FORMATS.md)",
+        RIGHT, lambda lab, command: [b"./" * 1950 + copied(b"short.file")(lab, command)[0]])
+by_name("a name with a line feed", "FILE is `a\\nb`, and is there", "FILE is read (FORMATS.md)", RIGHT, copied(b"a\nb"))
+by_name("a name that is no UTF-8", "FILE is `f\\xff`, and is there",
+        "`overlay`: `refused 73`, status 2; `overlay-check`: `refused 71`, status 1 (FORMATS.md)",
+        {"overlay": ARGUMENTS, "overlay-check": READ}, copied(b"f\xff"))
+by_name("an argument that is no UTF-8", "`--\\xff FILE`", "`overlay`: `refused 73`, status 2; `overlay-check`: "
+        "more than one argument, whatever its bytes: usage, status 2 (FORMATS.md)",
+        {"overlay": ARGUMENTS, "overlay-check": USAGE}, lambda lab, command: [b"--\xff", lab.example(command)])
+by_name("a name with a dash", "`-- -x`; `overlay-check -x`",
+        "after `--` nothing is an option; `overlay-check` has none (FORMATS.md)", RIGHT,
+        lambda lab, command: [*(["--"] if command is not CHECK else []), *copied(b"-x")(lab, command)])
+
+
+@case("names", "a name that is no UTF-8, by standard input", "`<f\\xff`", "such a file can be read so (FORMATS.md)")
+def strange_name(lab):
+    for command in COMMANDS:
+        name = copied(b"f\xff")(lab, command)[0]
+        with open(os.path.join(os.fsencode(lab.room), name), "rb") as given:
+            seen = lab.run(lab.words(command), stdin=given)
+        yield command.name, told(seen, lab.right(command), command.explains), RIGHT
+
+
+@case("names", "one descriptor besides the three", "FILE under `ulimit -n 4`", "FILE is read (FORMATS.md)")
+def few_descriptors(lab):
+    for command in COMMANDS:
+        file = lab.large(command.kind)
+        seen = lab.run(lab.words(command, file), limits={resource.RLIMIT_NOFILE: 4})
+        yield command.name, told(seen, lab.right(command, file), command.explains), RIGHT
+
+
+def for_nobody(lab):
+    """The lab with copies of the programs that another user can start."""
+    if os.geteuid() != 0:
+        raise Skip("only root can become another user")
+    os.chmod(lab.room, 0o755)
+    copies = {}
+    for name, path in lab.programs.items():
+        copies[name] = shutil.copy(path, os.path.join(lab.room, f"copy-of-{name}"))
+        os.chmod(copies[name], 0o755)
+    return Lab(copies, lab.room)
+
+
+@case("names", "a file without permission", "FILE of mode 000, as another user (65534)", NOT_OPENED)
+def forbidden(lab):
+    other = for_nobody(lab)
+    for command in COMMANDS:
+        name = copied(b"forbidden")(lab, command)[0]
+        path = os.path.join(os.fsencode(lab.room), name)
+        os.chmod(path, 0)
+        seen = lab.run(other.words(command, name), user=NOBODY)
+        os.remove(path)
+        yield command.name, told(seen), READ

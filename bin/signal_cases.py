@@ -1,0 +1,266 @@
+"""The cases of check-devices about signals, threads that can't be started, and Valgrind."""
+
+import contextlib
+import fcntl
+import os
+import pathlib
+import re
+import resource
+import select
+import shutil
+import signal
+import subprocess
+import sys
+import termios
+import time
+
+from device_cases import NOBODY, for_nobody
+from device_lab import ANALYSE, CASES, CHECK, COMMANDS, EXAMPLES, EXPLAIN, MB, MEMORY, RIGHT, RUN, Case, Differs, Skip
+from device_lab import case, told
+from limit_cases import threaded, told_of_threads
+
+# What ends a program: ^C, kill, and a terminal that is closed.
+SIGNALS = (signal.SIGINT, signal.SIGTERM, signal.SIGHUP)
+ENDS = "the signal ends the program at once (FORMATS.md, devices)"
+
+
+def state_of(process):
+    """The fields of a process that the system tells, from its state on."""
+    return pathlib.Path(f"/proc/{process.pid}/stat").read_text().rpartition(")")[2].split()
+
+
+def after_work(process, seconds):
+    """Waits until a process has used so much of a processor."""
+    end, ticks = time.monotonic() + 30, seconds * os.sysconf("SC_CLK_TCK")
+    while sum(int(it) for it in state_of(process)[11:13]) < ticks:
+        if state_of(process)[0] in "ZX" or time.monotonic() > end:
+            raise Differs("ended before the signal")
+        time.sleep(0.002)
+
+
+class Blow:
+    """A signal that is sent to a program while it runs, and when it was sent."""
+
+    def __init__(self, number, ready):
+        self.number, self.ready, self.moment = number, ready, 0.0
+
+    def __call__(self, process):
+        self.ready(process)
+        self.moment = time.monotonic()
+        process.send_signal(self.number)
+
+    def told(self):
+        """How long ago it was sent, in words."""
+        took = time.monotonic() - self.moment
+        return "at once" if took < 1 else f"{took:.1f} s later"
+
+
+def at_work(seconds):
+    """Waits until a program has worked so long."""
+    return lambda process: after_work(process, seconds)
+
+
+@case("signals", "a signal amid an analysis", "SIGINT, SIGTERM, SIGHUP after 0.3 s of work on a ring of 1,024 nodes, "
+      "each linked with the 78 next on each side", ENDS + ", and it has printed nothing")
+def amid_analysis(lab):
+    for number in SIGNALS:
+        for more in ([], ["--certificate"], ["--progress"], ["--workers", "4"]):
+            blow = Blow(number, at_work(0.3))
+            seen = lab.run([*lab.words(ANALYSE), *more, lab.large("ring")], during=blow)
+            text = f"{told(seen)}, {blow.told()}"
+            yield " ".join(["analyse", *more]), text, f"ended by {number.name}, prints nothing, at once"
+
+
+@case("signals", "a signal amid a run", "SIGINT, SIGTERM, SIGHUP after 0.2 s of work on 4,000,000 lines `show 1`",
+      ENDS + "; what it has printed is a prefix of its output, of whole lines with `--explain`")
+def amid_run(lab):
+    path = os.path.join(lab.room, "long.scenario")
+    with open(path, "w") as file:
+        for _ in range(400):
+            file.write("show 1\n" * 10_000)
+    for number in SIGNALS:
+        for command in (RUN, EXPLAIN):
+            blow = Blow(number, at_work(0.2))
+            seen = lab.run(lab.words(command, path), stderr=subprocess.DEVNULL, during=blow)
+            line = b"refused 10\n"
+            right, whole = line * (len(seen.out) // len(line) + 2), len(seen.out) % len(line) == 0
+            text = f"{told(seen, right)}, {blow.told()}" + ("" if whole or command is RUN else ", part of a line")
+            yield command.name, text, f"ended by {number.name}, a prefix of the right output, at once"
+    os.remove(path)
+
+
+def waits_for_input(process):
+    """Gives a program part of its input, and waits until it has read this and asks for more."""
+    process.stdin.write(b"# a part\n")
+    end, unread = time.monotonic() + 10, bytearray(4)
+    while time.monotonic() < end:
+        fcntl.ioctl(process.stdin, termios.FIONREAD, unread)
+        if not int.from_bytes(unread, sys.byteorder) and state_of(process)[0] == "S":
+            return
+        time.sleep(0.002)
+    raise Differs("does not read")
+
+
+@case("signals", "a signal while it waits for input", "SIGINT, SIGTERM, SIGHUP with part of the input in a pipe",
+      ENDS + ", and it has printed nothing")
+def amid_reading(lab):
+    for number in SIGNALS:
+        for command in COMMANDS:
+            blow = Blow(number, waits_for_input)
+            seen = lab.run(lab.words(command), during=blow, stdin=subprocess.PIPE, bufsize=0)
+            yield command.name, f"{told(seen)}, {blow.told()}", f"ended by {number.name}, prints nothing, at once"
+
+
+def waits_for_reader(process):
+    """Waits until a program waits for somebody who reads."""
+    select.select([process.stdout], [], [], 10)
+    end = time.monotonic() + 10
+    while state_of(process)[0] != "S" and time.monotonic() < end:
+        time.sleep(0.002)
+
+
+@case("signals", "a signal while nobody reads", "SIGINT, SIGTERM, SIGHUP while its output fills a pipe", ENDS)
+def amid_writing(lab):
+    for number in SIGNALS:
+        for command in (RUN, EXPLAIN):
+            blow = Blow(number, waits_for_reader)
+            words = lab.words(command, lab.large("scenario"))
+            seen = lab.run(words, during=blow, stdout=subprocess.PIPE, stderr=subprocess.DEVNULL)
+            yield command.name, f"{told(seen)}, {blow.told()}", f"ended by {number.name}, prints nothing, at once"
+
+
+@case("signals", "a signal that is ignored", "SIGHUP amid an analysis under `nohup`",
+      "the analysis goes on (FORMATS.md, devices)")
+def ignored_signal(lab):
+    words, right = [*lab.words(ANALYSE), lab.large("dense")], lab.right(ANALYSE, lab.large("dense"))
+    seen = lab.run(words, during=Blow(signal.SIGHUP, lambda _: time.sleep(0.01)), ignored=(signal.SIGHUP,))
+    yield "analyse", told(seen, right), RIGHT
+
+
+def numbers_in(mask):
+    """The signals of a mask, in words."""
+    bits = int(mask, 16)
+    return " ".join(signal.Signals(it).name for it in range(1, 32) if bits >> (it - 1) & 1) or "none"
+
+
+@case("signals", "what is done with signals", "the masks in /proc/PID/status amid an analysis",
+      "SIGPIPE is ignored, and no other signal is ignored, caught or blocked (FORMATS.md, devices)")
+def dispositions(lab):
+    masks = {}
+
+    def look(process):
+        after_work(process, 0.2)
+        text = pathlib.Path(f"/proc/{process.pid}/status").read_text()
+        masks.update(re.findall(r"(Sig(?:Ign|Cgt|Blk)):\s+(\w+)", text))
+        process.kill()
+
+    lab.run(lab.words(ANALYSE, lab.large("ring")), during=look)
+    text = ", ".join(f"{name} {numbers_in(mask)}" for name, mask in sorted(masks.items()))
+    yield "analyse", text, "SigBlk none, SigCgt none, SigIgn SIGPIPE"
+
+
+# Threads
+
+
+class Counted:
+    """The most threads that a program was seen to have."""
+
+    def __init__(self):
+        self.most = 0
+
+    def __call__(self, process):
+        path = pathlib.Path(f"/proc/{process.pid}/status")
+        with contextlib.suppress(OSError):
+            while "State:\tZ" not in (text := path.read_text()):
+                self.most = max(self.most, int(re.search(r"Threads:\s+(\d+)", text)[1]))
+
+
+def by_nobody(lab, most):
+    """Runs what starts threads as a user who may have only so many threads."""
+    other = for_nobody(lab)
+    for (name, words, file), (_, copied_words, _) in zip(threaded(lab, 64), threaded(Readable(other, lab), 64)):
+        counted = Counted()
+        limits = {resource.RLIMIT_NPROC: most}
+        seen = lab.run(copied_words, user=NOBODY, limits=limits, during=counted)
+        more = "" if counted.most <= most else f", {counted.most} threads"
+        yield name, told_of_threads(lab, seen, words, file) + more, RIGHT
+
+
+class Readable:
+    """The lab of another user, with the larger inputs of this one as files that all may read."""
+
+    def __init__(self, other, lab):
+        self.words, self.lab = other.words, lab
+
+    def large(self, kind):
+        """A larger file of a kind."""
+        os.chmod(self.lab.large(kind), 0o644)
+        return self.lab.large(kind)
+
+
+FEWER = "a thread that can't be started is no fault: the output is the same (FORMATS.md, devices)"
+
+
+@case("threads", "threads are there to be refused", "`analyse --workers 64`, and the most threads that were seen",
+      "at most N threads (FORMATS.md)")
+def many_threads(lab):
+    counted = Counted()
+    lab.run([*lab.words(ANALYSE), "--workers", "64", lab.large("dense")], during=counted)
+    text = "2 to 64 threads" if 2 <= counted.most <= 64 else f"{counted.most} threads"
+    yield "analyse --workers 64", text, "2 to 64 threads", f"{counted.most} threads"
+
+
+@case("threads", "no thread can be started", "64 workers, sections, a large certificate as another user (65534), "
+      "`ulimit -u 1`", FEWER)
+def no_threads(lab):
+    yield from by_nobody(lab, 1)
+
+
+@case("threads", "few threads can be started", "the same, `ulimit -u 3`", FEWER)
+def few_threads(lab):
+    yield from by_nobody(lab, 3)
+
+
+@case("threads", "no room for the stack of a thread", "64 workers, sections, a large certificate, 64 MB of addresses",
+      FEWER + "; or out of memory, `refused 99`, if what threads take is what is missing")
+def no_stacks(lab):
+    for name, words, file in threaded(lab, 64):
+        seen = lab.run(words, limits={resource.RLIMIT_AS: 64 * MB})
+        yield name, told_of_threads(lab, seen, words, file), (RIGHT, MEMORY)
+
+
+# Valgrind
+TOOLS = {
+    "memcheck": ["--leak-check=full", "--errors-for-leak-kinds=definite,indirect,possible"],
+    "helgrind": [],
+    "drd": [],
+}
+# The status of Valgrind if a tool reports an error, and the most seconds of a run.
+REPORTED, SLOWLY = 99, 600
+
+
+def under_tool(lab, tool):
+    """Runs what starts threads under a tool of Valgrind."""
+    if not shutil.which("valgrind"):
+        raise Skip("there is no valgrind")
+    options = [f"--tool={tool}", f"--error-exitcode={REPORTED}", "-q", *TOOLS[tool]]
+    limits = {resource.RLIMIT_AS: resource.RLIM_INFINITY, resource.RLIMIT_CPU: SLOWLY}
+    sections, certificate, sixty = str(EXAMPLES / "sections.scenario"), lab.large("entries"), lab.large("sixty")
+    crew = [*lab.words(ANALYSE), "--workers", "4"]
+    for name, words in (
+        ("analyse --workers 4", [*crew, sixty]),
+        ("analyse --workers 4 --certificate", [*crew, "--certificate", sixty]),
+        ("run, sections", lab.words(RUN, sections)),
+        ("overlay-check", lab.words(CHECK, certificate)),
+    ):
+        seen = lab.run(["valgrind", *options, *words], limits=limits, seconds=SLOWLY)
+        text = told_of_threads(lab, seen._replace(err=b""), words, words[-1])
+        reports = len(re.findall(rb"(?m)^==\d+== \S", seen.err))
+        yield name, text + (f", {reports} lines of reports" if seen.err else ""), RIGHT, f"{seen.seconds:.0f} s"
+
+
+for the_tool in TOOLS:
+    the_runs = f"a crew of 4 workers, a hall with sections, the parallel checker under Valgrind's {the_tool}"
+    CASES.append(
+        Case("valgrind", the_tool, the_runs, "no error is reported", lambda lab, it=the_tool: under_tool(lab, it))
+    )
