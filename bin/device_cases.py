@@ -2,28 +2,29 @@
 
 import contextlib
 import errno
+import fcntl
 import os
 import pathlib
 import re
 import resource
 import shutil
 import signal
+import socket
 import subprocess
 import tempfile
 import termios
 import time
 
-from device_lab import BARE, CASES, CERTIFICATE, CHECK, COMMANDS, EXPLAIN, LONGEST, PREFIX, PROGRESS, READ, RIGHT, RUN
-from device_lab import WRITE, Case, Differs, Lab, Skip, case, ending_of, read_again, told
-from device_lab import FAULT_LINE, KNOWN
+from device_lab import BARE, CASES, CERTIFICATE, CHECK, COMMANDS, EXPLAIN, FAULT_LINE, KNOWN, LINES, LONGEST, PREFIX
+from device_lab import PROGRESS, READ, RIGHT, RUN, WRITE, Case, Differs, Lab, Skip, case, ending_of, read_again, told
 
 # The user that has no rights and owns nothing.
 NOBODY = 65534
 
 
-def each(name, done, promised, wanted, commands=COMMANDS, file=True, **how):
-    """Adds a case in which commands are run on their examples, all in the same way. What opens a stream, in `how`, is
-    called for each run."""
+def each(name, done, promised, wanted, commands=COMMANDS, file="", **how):
+    """Adds a case in which commands are run on their examples, or on a file, or None, all in the same way. What opens a
+    stream, in `how`, is called for each run."""
 
     def act(lab):
         for command in commands:
@@ -32,7 +33,7 @@ def each(name, done, promised, wanted, commands=COMMANDS, file=True, **how):
                 for value in given.values():
                     if hasattr(value, "close"):
                         stack.callback(value.close)
-                seen = lab.run(lab.words(command, lab.example(command) if file else None), **given)
+                seen = lab.run(lab.words(command, lab.example(command) if file == "" else file), **given)
             yield command.name, told(seen, b"" if "stdout" in given else lab.right(command), command.explains), wanted
 
     CASES.append(Case("devices", name, done, promised, act))
@@ -66,11 +67,14 @@ NO_READ = "reading failed: `refused 71`, status 1 (FORMATS.md)"
 NO_WRITE = "writing failed: `refused 72`, status 1 (FORMATS.md)"
 UNHEARD = "what was to go there is lost, and nothing else changes (FORMATS.md, devices)"
 each("closed standard input, with FILE", "`FILE <&-`", "FILE alone is read (FORMATS.md)", RIGHT, closed=(0,))
-each("closed standard input", "`<&-`", NO_READ, READ, file=False, closed=(0,))
-each("standard input that can only be written to", "`0>/dev/null`", NO_READ, READ, file=False,
+each("closed standard input", "`<&-`", NO_READ, READ, file=None, closed=(0,))
+each("standard input that can only be written to", "`0>/dev/null`", NO_READ, READ, file=None,
      stdin=opened("/dev/null", "wb"))
-each("FILE `-`", "`- <FILE`", "standard input is read (FORMATS.md)", RIGHT, file=False, stdin=example_opened)
-each("bare `overlay`", "`<FILE`", "it runs a scenario from standard input (FORMATS.md)", RIGHT, [BARE], file=False,
+each("FILE `-`", "`- <FILE`", "standard input is read (FORMATS.md)", RIGHT, file=None, stdin=example_opened)
+each("FILE `/dev/stdin`", "`/dev/stdin <FILE`", "FILE is read (FORMATS.md)", RIGHT, file="/dev/stdin",
+     stdin=example_opened)
+each("empty environment", "`env -i .. FILE`", "no variable is looked at", RIGHT, env={})
+each("bare `overlay`", "`<FILE`", "it runs a scenario from standard input (FORMATS.md)", RIGHT, [BARE], file=None,
      stdin=example_opened)
 each("closed standard output", "`FILE >&-`", NO_WRITE, WRITE, closed=(1,))
 each("standard output that can only be read", "`FILE 1</dev/null`", NO_WRITE, WRITE, stdout=opened("/dev/null", "rb"))
@@ -163,6 +167,63 @@ def gone_after_line(lab):
         seen = lab.run(lab.words(command, file), during=read_line, stdout=subprocess.PIPE, bufsize=0)
         seen = seen._replace(out=line[0], err=fault_among(seen.err))
         yield command.name, told(seen, lab.right(command, file)), PREFIX
+
+
+@case("devices", "a slow reader", "large output into a pipe of 4 KB, of which 777 bytes are taken at a time",
+      "a write may take a part; the rest follows (FORMATS.md)")
+def slow_reader(lab):
+    for command, kind in ((RUN, "scenario"), (EXPLAIN, "scenario"), (CERTIFICATE, "graph"), (CHECK, "certificate")):
+        pieces, file = [], lab.large(kind)
+
+        def take(process):
+            fcntl.fcntl(process.stdout, fcntl.F_SETPIPE_SZ, 4096)
+            while piece := process.stdout.read(777):
+                pieces.append(piece)
+            process.stdout.close()
+
+        seen = lab.run(lab.words(command, file), during=take, stdout=subprocess.PIPE, bufsize=0)
+        yield command.name, told(seen._replace(out=b"".join(pieces)), lab.right(command, file), command.explains), RIGHT
+
+
+@case("devices", "both outputs in one file", "`run --explain FILE >BOTH 2>&1` of lines that are all refused",
+      "a line is explained after its `refused N` is printed (FORMATS.md)")
+def in_one_file(lab):
+    with tempfile.TemporaryFile(dir=lab.room) as both:
+        seen = lab.run(lab.words(EXPLAIN, lab.large("scenario")), stdout=both, stderr=both)
+        *lines, count, end = read_again(both).split(b"\n")
+    starts = [b"line %d: " % (at // 2 + 1) if at % 2 else b"refused 10" for at in range(len(lines))]
+    wrong = [line for line, start in zip(lines, starts) if not line.startswith(start)]
+    text = f"{ending_of(seen.status)}, {len(lines)} lines, {len(wrong)} out of order"
+    yield EXPLAIN.name, text, f"status 0, {2 * LINES} lines, 0 out of order"
+
+
+@case("devices", "output behind the input", "`FILE >>FILE`", "the input is read to its end before anything is printed "
+      "(FORMATS.md, devices)")
+def appended(lab):
+    for command in COMMANDS:
+        copy = pathlib.Path(shutil.copy(lab.example(command), lab.room))
+        os.chmod(copy, 0o644)
+        before = copy.read_bytes()
+        with open(copy, "ab") as out:
+            seen = lab.run(lab.words(command, str(copy)), stdout=out)
+        after = copy.read_bytes()
+        seen = seen._replace(out=after.removeprefix(before))
+        yield command.name, told(seen, lab.right(command), command.explains), RIGHT
+
+
+@case("devices", "input that breaks off", "half of the input from a socket, and then an error (ECONNRESET)",
+      "reading failed: `refused 71`, status 1, and nothing is printed (FORMATS.md)")
+def broken_input(lab):
+    for command in COMMANDS:
+        data = pathlib.Path(lab.example(command)).read_bytes()
+        given, writer = socket.socketpair()
+        # what the other end has not read when it is closed makes an error here
+        given.send(b"unread")
+        writer.sendall(data[: len(data) // 2])
+        writer.close()
+        with given:
+            seen = lab.run(lab.words(command), stdin=given)
+        yield command.name, told(seen), READ
 
 
 @case("devices", "output that would have to wait", "a full pipe that does not wait (O_NONBLOCK)",
@@ -317,12 +378,20 @@ def copied(name):
     return make
 
 
+def loop_in(lab):
+    """A symbolic link to itself."""
+    with contextlib.suppress(FileExistsError):
+        os.symlink("loop", os.path.join(lab.room, "loop"))
+    return "loop"
+
+
 ARGUMENTS = "status 2, prints nothing, `refused 73`"
 USAGE = "status 2, prints nothing, `usage: overlay-check [FILE]`"
 NOT_OPENED = "can't be opened: `refused 71`, status 1 (FORMATS.md)"
 by_name("a folder", "FILE is a folder", NO_READ, READ, lambda lab, _: [lab.room])
 by_name("a device that can't be read", "FILE is /proc/self/mem", NO_READ, READ, lambda lab, _: ["/proc/self/mem"])
 by_name("no such file", "FILE is not there", NOT_OPENED, READ, lambda lab, _: ["none"])
+by_name("a loop of links", "FILE is a symbolic link to itself", NOT_OPENED, READ, lambda lab, _: [loop_in(lab)])
 by_name("an empty name", "FILE is `''`", NOT_OPENED, READ, lambda lab, _: [""])
 by_name("a name of 5,000 bytes", "FILE is `aa..a`", NOT_OPENED, READ, lambda lab, _: ["a" * 5000])
 by_name("a name of 3,910 bytes", "FILE is `././..` and a name", "names of up to 4,096 bytes are opened (FORMATS.md)",

@@ -55,6 +55,8 @@ COMMANDS = [
 RUN, EXPLAIN, ANALYSE, CERTIFICATE, PROGRESS, CHECK = COMMANDS
 BARE = Command("overlay", "overlay", (), "four-nodes.scenario", "scenario")
 WORKERS = Command("analyse --workers 64", "overlay", ("analyse", "--workers", "64"), "two-clusters.graph", "graph")
+# The commands that print what another one prints.
+ALIKE = {BARE: RUN, WORKERS: ANALYSE}
 
 
 class Seen(NamedTuple):
@@ -207,7 +209,7 @@ class Lab:
 
     def right(self, command, file=None):
         """What a command prints of a file, or of its example. It is held once against what is known from elsewhere."""
-        file = file or self.example(command)
+        command, file = ALIKE.get(command, command), file or self.example(command)
         key = command.words, file
         if key not in self.outputs:
             seen = self.run(self.words(command, file))

@@ -10,7 +10,7 @@ import tempfile
 import time
 from typing import NamedTuple
 
-from device_lab import ANALYSE, BARE, CHECK, COMMANDS, EXAMPLES, EXPLAIN, GB, LIMITS, LONGEST, MB, MEMORY, RIGHT, RUN
+from device_lab import ANALYSE, CHECK, COMMANDS, EXAMPLES, EXPLAIN, GB, LIMITS, LONGEST, MB, MEMORY, RIGHT, RUN
 from device_lab import WORKERS, Command, case, confirm_certificate, told
 
 # Floods: bytes in all, what a program may take besides what it takes for each, and the addresses that it has.
@@ -132,7 +132,7 @@ def told_of_memory(command, seen, right):
 
 def descend(lab, command, file):
     """Runs a command under falling limits until it can't start. For each end, the limits at which it was seen."""
-    right, ranges = lab.right(ANALYSE if command is WORKERS else command, file), {}
+    right, ranges = lab.right(command, file), {}
     for step in memory_steps():
         try:
             seen = lab.run(lab.words(command, file), limits={resource.RLIMIT_AS: step})
