@@ -126,12 +126,12 @@ def full_large(lab):
 
 def with_file(lab, words, limit, **how):
     """Runs a program with a file as standard output that may have so many bytes."""
-    with tempfile.TemporaryFile(dir=lab.room) as out, tempfile.TemporaryFile(dir=lab.room) as given:
+    with tempfile.TemporaryFile(dir=lab.room) as out:
         # standard error is a pipe, so that the limit is none for it
         reader, writer = os.pipe()
         with os.fdopen(reader, "rb") as end:
             with os.fdopen(writer, "wb") as err:
-                seen = lab.run(words, stdout=out, stderr=err, limits={resource.RLIMIT_FSIZE: limit}, stdin=given, **how)
+                seen = lab.run(words, stdout=out, stderr=err, limits={resource.RLIMIT_FSIZE: limit}, **how)
             return seen._replace(out=read_again(out), err=end.read())
 
 

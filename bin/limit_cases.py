@@ -92,12 +92,12 @@ REFUSED_LINES = "status 0, the right lines up to a `refused 99`"
 
 
 def memory_steps():
-    """Limits on addresses in bytes, falling."""
+    """Limits on addresses in bytes, falling: by a twentieth down to 4 MB, and then by two pages."""
     step = 64 * MB
-    while step > 8 * MB:
+    while step > 4 * MB:
         yield step
-        step = step * 9 // 10
-    yield from range(8 * MB, MB, -48 * 1024)
+        step = step * 19 // 20
+    yield from range(4 * MB, MB, -2 * resource.getpagesize())
 
 
 def has_not_started(seen):
@@ -158,7 +158,8 @@ LITTLE = ("the right output, or out of memory: `refused 99`, status 1; in a run 
           "of a line (FORMATS.md, devices)")
 
 
-@case("memory", "little memory, small input", "64 MB of addresses, and less in steps, until it can't start", LITTLE)
+@case("memory", "little memory, small input", "64 MB of addresses, then 5% less again and again, from 4 MB on 8 KB less, "
+      "until it can't start", LITTLE)
 def little_small(lab):
     yield from little_memory(lab, [(command, lab.example(command)) for command in [*COMMANDS, WORKERS]])
 
