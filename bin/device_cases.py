@@ -15,8 +15,9 @@ import tempfile
 import termios
 import time
 
-from device_lab import BARE, CASES, CERTIFICATE, CHECK, COMMANDS, EXPLAIN, FAULT_LINE, KNOWN, LINES, LONGEST, PREFIX
-from device_lab import PROGRESS, READ, RIGHT, RUN, WRITE, Case, Differs, Lab, Skip, case, ending_of, read_again, told
+from device_lab import BARE, CASES, CERTIFICATE, CHECK, COMMANDS, EXPLAIN, LINES, LONGEST, PREFIX
+from device_lab import PROGRESS, READ, RIGHT, RUN, WRITE, Case, Differs, Lab, Skip, case, ending_of, fault_among
+from device_lab import read_again, told
 
 # The user that has no rights and owns nothing.
 NOBODY = 65534
@@ -109,11 +110,6 @@ def untouched(lab):
         seen = lab.run(lab.words(command, copy), closed=(1, 2))
         same = "FILE is as before" if pathlib.Path(copy).read_bytes() == before else "FILE is changed"
         yield command.name, f"{ending_of(seen.status)}, {same}", "status 1, FILE is as before"
-
-
-def fault_among(err):
-    """The line of the fault. With --explain the reasons of refused lines stand above it."""
-    return next((it for it in err.split(b"\n") if FAULT_LINE.match(it)), b"")
 
 
 @case("devices", "full device, large output", "output of more than three blocks of 64 KB `>/dev/full`", NO_WRITE)
@@ -335,22 +331,28 @@ def fifo(lab):
         yield command.name, told(seen, lab.right(command), command.explains), RIGHT
 
 
-@case("devices", "progress", "`analyse --progress --workers 4` of a ring of 1,024 nodes, and the same `2>/dev/full`",
+def told_of_progress(seen):
+    """Whether lines of progress have their form and come as seldom as is promised, in words."""
+    lines = seen.err.splitlines()
+    if not all(re.fullmatch(rb"level \d+: piece \d+ of \d+", line) for line in lines):
+        return f"other lines: {seen.err[:80]!r}"
+    return "lines in this form, as seldom" if len(lines) <= 2 * max(0, seen.seconds - 1) + 1 else "too many lines"
+
+
+@case("devices", "progress", "`analyse --progress` of a ring of 512 nodes, each linked with the 40 next on each side, by "
+      "1 worker and by 4, and the same `2>/dev/full`",
       "lines `level L: piece P of S`, none in the first second, at most two a second; the answer (FORMATS.md)")
 def progress(lab):
-    words, known = [*lab.words(PROGRESS), "--workers", "4", lab.large("ring")], KNOWN["ring"].encode()
-    seen = lab.run(words)
-    with open("/dev/full", "wb", buffering=0) as full:
-        unheard = lab.run(words, stderr=full)
-    lines = seen.err.splitlines()
-    alike = all(re.fullmatch(rb"level \d+: piece \d+ of \d+", line) for line in lines)
-    few = len(lines) <= 2 * max(0, seen.seconds - 1) + 1
-    fits = "in this form" if alike and few else f"otherwise: {seen.err[:80]!r}"
-    same = "the same answer" if unheard.out == seen.out else "another answer"
-    start = "k 156" if seen.out.startswith(known) else f"{seen.out[:40]!r}"
-    text = f"{ending_of(seen.status)}, {start}, lines {fits}; {ending_of(unheard.status)}, {same}"
-    note = f"{len(lines)} lines in {seen.seconds:.1f} s"
-    yield PROGRESS.name, text, "status 0, k 156, lines in this form; status 0, the same answer", note
+    right = lab.right(PROGRESS, lab.large("small-ring"))
+    for workers in ("1", "4"):
+        words = [*lab.words(PROGRESS), "--workers", workers, lab.large("small-ring")]
+        seen = lab.run(words)
+        text = f"{told(seen, right, explains=True)}, {told_of_progress(seen)}"
+        note = f"{seen.err.count(10)} lines in {seen.seconds:.1f} s"
+        yield f"--workers {workers}", text, f"{RIGHT}, lines in this form, as seldom", note
+        with open("/dev/full", "wb", buffering=0) as full:
+            yield f"--workers {workers} 2>/dev/full", told(lab.run(words, stderr=full), right), RIGHT
+
 
 
 # Names

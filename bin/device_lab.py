@@ -114,6 +114,11 @@ def fault_line(err):
     return f", `{line.decode()}`" if FAULT_LINE.match(line) else ""
 
 
+def fault_among(err):
+    """The line of a fault. With --explain the reasons of refused lines stand above it."""
+    return next((it for it in err.split(b"\n") if FAULT_LINE.match(it)), b"")
+
+
 def told_output(out, right):
     """What standard output got, in words."""
     if out == right:
@@ -237,8 +242,8 @@ LINES = 30_000
 # Two groups of so many nodes, all linked within, that share some: the fewest crashes are those of the shared ones.
 CLIQUE, SHARED = 70, 20
 SHARED_IDS = ",".join(str(it) for it in range(CLIQUE - SHARED + 1, CLIQUE + 1))
-# A ring of so many nodes, each linked with the next ones on each side: twice as many crashes split it, and no fewer.
-RING, NEXT = 1024, 78
+# Rings of so many nodes, each linked with the next ones on each side: twice as many crashes split them, and no fewer.
+RING, SMALL_RING = (1024, 78), (512, 40)
 
 
 def make_scenario(lab, path):
@@ -287,12 +292,17 @@ def make_sixty(lab, path):
     make_dense(lab, path, 60, 0.8)
 
 
-def make_ring(lab, path):
-    """The ring, its nodes in an order by chance: an analysis of seconds."""
-    order = list(range(1, RING + 1))
+def make_ring(lab, path, total=RING[0], following=RING[1]):
+    """A ring, its nodes in an order by chance: an analysis of many seconds."""
+    order = list(range(1, total + 1))
     random.Random(1).shuffle(order)
-    links = {tuple(sorted((order[at], order[(at + by) % RING]))) for at in range(RING) for by in range(1, NEXT + 1)}
-    write_graph(path, RING, sorted(links))
+    links = [(order[at], order[(at + by) % total]) for at in range(total) for by in range(1, following + 1)]
+    write_graph(path, total, sorted({(min(pair), max(pair)) for pair in links}))
+
+
+def make_small_ring(lab, path):
+    """A smaller ring: an analysis of a few seconds."""
+    make_ring(lab, path, *SMALL_RING)
 
 
 def make_world(lab, path):
@@ -313,6 +323,7 @@ MAKERS = {
     "dense": make_dense,
     "sixty": make_sixty,
     "ring": make_ring,
+    "small-ring": make_small_ring,
     "world": make_world,
 }
 # How the output of each input begins, or the whole of it if it ends with a line feed.
@@ -323,7 +334,8 @@ KNOWN = {
     "entries": "holds 0 split k ",
     "dense": "report 0 split k ",
     "sixty": "report 0 split k ",
-    "ring": f"report 0 split k {2 * NEXT} cut ",
+    "ring": f"report 0 split k {2 * RING[1]} cut ",
+    "small-ring": f"report 0 split k {2 * SMALL_RING[1]} cut ",
     "world": "entry 1 born 1\nentry 2 born 2\nentry 3 up 1 2",
     "four-nodes.scenario": (EXAMPLES / "four-nodes.txt").read_text(),
     "sections.scenario": (EXAMPLES / "sections.txt").read_text(),

@@ -11,22 +11,23 @@ import time
 from typing import NamedTuple
 
 from device_lab import ANALYSE, CHECK, COMMANDS, EXAMPLES, EXPLAIN, GB, LIMITS, LONGEST, MB, MEMORY, RIGHT, RUN
-from device_lab import WORKERS, Command, case, confirm_certificate, told
+from device_lab import WORKERS, Command, case, confirm_certificate, fault_among, told
 
 # Floods: bytes in all, what a program may take besides what it takes for each, and the addresses that it has.
-SIZE, BASE = 1_000_000_000, 32 * MB
+SIZE, PART, BASE = 1_000_000_000, 100_000_000, 32 * MB
 ROOM = LIMITS[resource.RLIMIT_AS]
 
 
 class Flood(NamedTuple):
     """A long input: what it is, who reads it, the piece that is repeated, what is to be seen, the most bytes of memory
-    for each byte of it, and what it begins with."""
+    for each byte of it, how many bytes it has, and what it begins with."""
 
     what: str
     command: Command
     piece: bytes
     wanted: str
     most: float
+    size: int = SIZE
     head: bytes = b""
 
 
@@ -35,22 +36,24 @@ class Flood(NamedTuple):
 FLOODS = [
     Flood("comments", RUN, b"# " + b"x" * 61 + b"\n", "status 0, prints nothing", 1.1),
     Flood("one line without an end", RUN, b"1", "status 1, prints nothing, `line 1: refused 70`", 1.1),
-    Flood("lines `x`", RUN, b"x\n", "status 1, prints nothing, `line 1: refused 70`", ROOM / SIZE),
+    Flood("lines `x`", RUN, b"x\n", "status 1, prints nothing, `line 1: refused 70`", ROOM / PART, PART),
+    Flood("lines `boot 1` of a section", RUN, b"boot 1\n", MEMORY, ROOM / PART, PART, b"together\n"),
     Flood("comments", ANALYSE, b"# " + b"x" * 61 + b"\n", "status 0, `refused 30`", 1.1),
-    Flood("lines `node 1`", ANALYSE, b"node 1\n", "status 1, prints nothing, `refused 31`", 2.2),
-    Flood("lines `link 1 2`", ANALYSE, b"link 1 2\n", "status 1, prints nothing, `refused 32`", 2.2,
+    Flood("lines `node 1`", ANALYSE, b"node 1\n", "status 1, prints nothing, `refused 31`", 2.2, PART),
+    Flood("lines `link 1 2`", ANALYSE, b"link 1 2\n", "status 1, prints nothing, `refused 32`", 2.2, PART,
           b"node 1\nnode 2\n"),
     Flood("spaces", CHECK, b" ", "status 1, `refused 60`", 2.2),
     Flood("`[` without an end", CHECK, b"[", "status 1, `refused 60`", 2.2),
     Flood("bytes that are no UTF-8", CHECK, b"\xff", "status 1, `refused 60`", 1.1),
-    Flood("a list of numbers, as JSON begins", CHECK, b"0,", MEMORY, ROOM / SIZE, b"["),
+    Flood("a list of numbers, as JSON begins", CHECK, b"0,", MEMORY, ROOM / SIZE, SIZE, b"["),
 ]
 
 
-def feed(process, piece, size, head=b""):
-    """Writes `head`, and then a piece again and again, until so many bytes are written or nobody reads. Returns how
-    many were written."""
-    block, rest, left = piece * (MB // len(piece)), memoryview(head), size
+def feed(process, flood):
+    """Writes a flood, in whole pieces, until it ends or nobody reads. Returns how many bytes were written."""
+    block, rest = flood.piece * (MB // len(flood.piece)), memoryview(flood.head)
+    size = len(flood.head) + flood.size // len(flood.piece) * len(flood.piece)
+    left = size
     descriptor, end = process.stdin.fileno(), time.monotonic() + LONGEST
     os.set_blocking(descriptor, False)
     with contextlib.suppress(OSError):
@@ -66,13 +69,13 @@ def feed(process, piece, size, head=b""):
     return size - left
 
 
-@case("floods", "1 GB from a pipe", f"{SIZE:,} bytes on standard input, with 3 GB of addresses",
+@case("floods", "1 GB from a pipe", "1 GB, or 100 MB, on standard input, with 3 GB of addresses",
       "the line and the status of FORMATS.md, and memory as FORMATS.md, devices, says")
 def floods(lab):
     for flood in FLOODS:
         fed = []
         seen = lab.run(lab.words(flood.command), stdin=subprocess.PIPE, bufsize=0,
-                       during=lambda process: fed.append(feed(process, flood.piece, SIZE, flood.head)))
+                       during=lambda process: fed.append(feed(process, flood)))
         bound = flood.most * fed[0] + BASE
         within = "" if seen.peak <= bound else f", takes more than {bound / 1e6:.0f} MB"
         note = f"{fed[0] / 1e6:.0f} MB were read, peak {seen.peak / 1e6:.0f} MB, {seen.seconds:.1f} s"
@@ -122,7 +125,7 @@ def told_of_memory(command, seen, right):
     scenario = command.kind == "scenario"
     if seen.status == 0 and seen.out == right:
         return RIGHT
-    if seen.status == 1 and seen.err.startswith(b"refused 99\n"):
+    if seen.status == 1 and fault_among(seen.err) == b"refused 99":
         if not seen.out or (scenario and is_before_refusal(seen.out, right)):
             return MEMORY if not seen.out else "status 1, whole lines, and then `refused 99`"
     if scenario and seen.status == 0 and b"refused 99\n" in seen.out and is_before_refusal(seen.out, right):
@@ -158,7 +161,7 @@ LITTLE = ("the right output, or out of memory: `refused 99`, status 1; in a run 
           "of a line (FORMATS.md, devices)")
 
 
-@case("memory", "little memory, small input", "64 MB of addresses, then 5% less again and again, from 4 MB on 8 KB less, "
+@case("memory", "little memory, small input", "64 MB of addresses, 5% less again and again, from 4 MB on 8 KB less, "
       "until it can't start", LITTLE)
 def little_small(lab):
     yield from little_memory(lab, [(command, lab.example(command)) for command in [*COMMANDS, WORKERS]])

@@ -11,12 +11,13 @@ import shutil
 import signal
 import subprocess
 import sys
+import tempfile
 import termios
 import time
 
 from device_cases import NOBODY, for_nobody
 from device_lab import ANALYSE, CASES, CHECK, COMMANDS, EXAMPLES, EXPLAIN, MB, MEMORY, RIGHT, RUN, Case, Differs, Skip
-from device_lab import case, told
+from device_lab import case, read_again, told
 from limit_cases import threaded, told_of_threads
 
 # What ends a program: ^C, kill, and a terminal that is closed.
@@ -47,7 +48,7 @@ class Blow:
     def __call__(self, process):
         self.ready(process)
         self.moment = time.monotonic()
-        process.send_signal(self.number)
+        os.kill(process.pid, self.number)
 
     def told(self):
         """How long ago it was sent, in words."""
@@ -71,21 +72,35 @@ def amid_analysis(lab):
             yield " ".join(["analyse", *more]), text, f"ended by {number.name}, prints nothing, at once"
 
 
-@case("signals", "a signal amid a run", "SIGINT, SIGTERM, SIGHUP after 0.2 s of work on 4,000,000 lines `show 1`",
+def has_printed(file):
+    """Waits until a program has written something into a file."""
+
+    def ready(process):
+        end = time.monotonic() + 30
+        while not os.fstat(file.fileno()).st_size:
+            if state_of(process)[0] in "ZX" or time.monotonic() > end:
+                raise Differs("prints nothing")
+            time.sleep(0.001)
+
+    return ready
+
+
+@case("signals", "a signal amid a run", "SIGINT, SIGTERM, SIGHUP once the first of a million lines `show 1` are printed",
       ENDS + "; what it has printed is a prefix of its output, of whole lines with `--explain`")
 def amid_run(lab):
-    path = os.path.join(lab.room, "long.scenario")
+    path, line = os.path.join(lab.room, "long.scenario"), b"refused 10\n"
     with open(path, "w") as file:
-        for _ in range(400):
-            file.write("show 1\n" * 10_000)
+        file.writelines("show 1\n" * 10_000 for _ in range(100))
     for number in SIGNALS:
         for command in (RUN, EXPLAIN):
-            blow = Blow(number, at_work(0.2))
-            seen = lab.run(lab.words(command, path), stderr=subprocess.DEVNULL, during=blow)
-            line = b"refused 10\n"
-            right, whole = line * (len(seen.out) // len(line) + 2), len(seen.out) % len(line) == 0
-            text = f"{told(seen, right)}, {blow.told()}" + ("" if whole or command is RUN else ", part of a line")
-            yield command.name, text, f"ended by {number.name}, a prefix of the right output, at once"
+            with tempfile.TemporaryFile(dir=lab.room) as out:
+                blow = Blow(number, has_printed(out))
+                seen = lab.run(lab.words(command, path), stdout=out, stderr=subprocess.DEVNULL, during=blow)
+                seen = seen._replace(out=read_again(out))
+            part = ", part of a line" if len(seen.out) % len(line) and command is EXPLAIN else ""
+            text = f"{told(seen, line * (len(seen.out) // len(line) + 2))}, {blow.told()}{part}"
+            note = f"{len(seen.out)} bytes"
+            yield command.name, text, f"ended by {number.name}, a prefix of the right output, at once", note
     os.remove(path)
 
 
@@ -132,9 +147,9 @@ def amid_writing(lab):
 @case("signals", "a signal that is ignored", "SIGHUP amid an analysis under `nohup`",
       "the analysis goes on (FORMATS.md, devices)")
 def ignored_signal(lab):
-    words, right = [*lab.words(ANALYSE), lab.large("dense")], lab.right(ANALYSE, lab.large("dense"))
-    seen = lab.run(words, during=Blow(signal.SIGHUP, lambda _: time.sleep(0.01)), ignored=(signal.SIGHUP,))
-    yield "analyse", told(seen, right), RIGHT
+    file = lab.large("small-ring")
+    seen = lab.run(lab.words(ANALYSE, file), during=Blow(signal.SIGHUP, at_work(0.1)), ignored=(signal.SIGHUP,))
+    yield "analyse", told(seen, lab.right(ANALYSE, file)), RIGHT
 
 
 def numbers_in(mask):
@@ -152,7 +167,7 @@ def dispositions(lab):
         after_work(process, 0.2)
         text = pathlib.Path(f"/proc/{process.pid}/status").read_text()
         masks.update(re.findall(r"(Sig(?:Ign|Cgt|Blk)):\s+(\w+)", text))
-        process.kill()
+        os.kill(process.pid, signal.SIGKILL)
 
     lab.run(lab.words(ANALYSE, lab.large("ring")), during=look)
     text = ", ".join(f"{name} {numbers_in(mask)}" for name, mask in sorted(masks.items()))
