@@ -339,8 +339,8 @@ def told_of_progress(seen):
     return "lines in this form, as seldom" if len(lines) <= 2 * max(0, seen.seconds - 1) + 1 else "too many lines"
 
 
-@case("devices", "progress", "`analyse --progress` of a ring of 512 nodes, each linked with the 40 next on each side, by "
-      "1 worker and by 4, and the same `2>/dev/full`",
+@case("devices", "progress", "`analyse --progress` of a ring of 512 nodes, each linked with the 40 next on each side, "
+      "by 1 worker and by 4, and the same `2>/dev/full`",
       "lines `level L: piece P of S`, none in the first second, at most two a second; the answer (FORMATS.md)")
 def progress(lab):
     right = lab.right(PROGRESS, lab.large("small-ring"))

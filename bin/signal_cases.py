@@ -19,6 +19,7 @@ from device_cases import NOBODY, for_nobody
 from device_lab import ANALYSE, CASES, CHECK, COMMANDS, EXAMPLES, EXPLAIN, MB, MEMORY, RIGHT, RUN, Case, Differs, Skip
 from device_lab import case, read_again, told
 from limit_cases import threaded, told_of_threads
+from repository import ROOT
 
 # What ends a program: ^C, kill, and a terminal that is closed.
 SIGNALS = (signal.SIGINT, signal.SIGTERM, signal.SIGHUP)
@@ -85,7 +86,7 @@ def has_printed(file):
     return ready
 
 
-@case("signals", "a signal amid a run", "SIGINT, SIGTERM, SIGHUP once the first of a million lines `show 1` are printed",
+@case("signals", "a signal amid a run", "SIGINT, SIGTERM, SIGHUP once the first of a million lines `show 1` is printed",
       ENDS + "; what it has printed is a prefix of its output, of whole lines with `--explain`")
 def amid_run(lab):
     path, line = os.path.join(lab.room, "long.scenario"), b"refused 10\n"
@@ -247,35 +248,61 @@ def no_stacks(lab):
 # Valgrind
 TOOLS = {
     "memcheck": ["--leak-check=full", "--errors-for-leak-kinds=definite,indirect,possible"],
-    "helgrind": [],
-    "drd": [],
+    "helgrind": ["--fair-sched=try"],
+    "drd": ["--fair-sched=try"],
 }
+SUPPRESSIONS = ROOT / "bin" / "valgrind.supp"
 # The status of Valgrind if a tool reports an error, and the most seconds of a run.
 REPORTED, SLOWLY = 99, 600
+
+
+def make_sections(path):
+    """Eight sections that start, crash and snapshot nodes and analyse what was there before. Returns how many lines
+    they have that are accepted or refused."""
+    lines = ["boot 1"]
+    for node in range(2, 13):
+        lines += [f"boot {node} by 1", "deliver 0", "deliver 0"]
+    lines += ["deliver 0"] * 60 + ["snapshot"]
+    sections = [[f"analyse {len(lines)}"], ["broadcast 1 hello", "deliver 0", "crash 3", "report 2 3"], []]
+    for at in range(5):
+        sections.append([it for node in range(6) for it in (f"boot {100 * at + 50 + node} by {at + 1}", "deliver 0")])
+    text = "\nalso\n".join("\n".join(section) for section in sections)
+    pathlib.Path(path).write_text("\n".join(lines) + f"\ntogether\n{text}\nend\n")
+    return sum(len(section) for section in sections)
+
+
+def told_of_sections(seen, lines):
+    """What was seen of a run of these sections. How many lines are refused depends on the order of the threads."""
+    last = re.search(rb"\ntogether 8 accepted (\d+) refused (\d+)\n$", seen.out)
+    if last and int(last[1]) + int(last[2]) == lines:
+        return told(seen, seen.out)
+    return told(seen)
 
 
 def under_tool(lab, tool):
     """Runs what starts threads under a tool of Valgrind."""
     if not shutil.which("valgrind"):
         raise Skip("there is no valgrind")
-    options = [f"--tool={tool}", f"--error-exitcode={REPORTED}", "-q", *TOOLS[tool]]
+    options = [f"--tool={tool}", f"--error-exitcode={REPORTED}", f"--suppressions={SUPPRESSIONS}", "-q", *TOOLS[tool]]
     limits = {resource.RLIMIT_AS: resource.RLIM_INFINITY, resource.RLIMIT_CPU: SLOWLY}
-    sections, certificate, sixty = str(EXAMPLES / "sections.scenario"), lab.large("entries"), lab.large("sixty")
-    crew = [*lab.words(ANALYSE), "--workers", "4"]
+    sixty, eight = lab.large("sixty"), os.path.join(lab.room, "eight.scenario")
+    lines, crew = make_sections(eight), [*lab.words(ANALYSE), "--workers", "4"]
     for name, words in (
         ("analyse --workers 4", [*crew, sixty]),
         ("analyse --workers 4 --certificate", [*crew, "--certificate", sixty]),
-        ("run, sections", lab.words(RUN, sections)),
-        ("overlay-check", lab.words(CHECK, certificate)),
+        ("run, three sections", lab.words(RUN, str(EXAMPLES / "sections.scenario"))),
+        ("run, eight sections", lab.words(RUN, eight)),
+        ("overlay-check", lab.words(CHECK, lab.large("entries"))),
     ):
         seen = lab.run(["valgrind", *options, *words], limits=limits, seconds=SLOWLY)
-        text = told_of_threads(lab, seen._replace(err=b""), words, words[-1])
-        reports = len(re.findall(rb"(?m)^==\d+== \S", seen.err))
-        yield name, text + (f", {reports} lines of reports" if seen.err else ""), RIGHT, f"{seen.seconds:.0f} s"
+        ended = seen._replace(err=b"")
+        text = told_of_sections(ended, lines) if words[-1] == eight else told_of_threads(lab, ended, words, words[-1])
+        reports = len(re.findall(rb"Possible data race|Conflicting|Invalid |uninitialised|lost in", seen.err))
+        yield name, text + (f", {reports} reports" if seen.err else ""), RIGHT, f"{seen.seconds:.0f} s"
 
 
 for the_tool in TOOLS:
-    the_runs = f"a crew of 4 workers, a hall with sections, the parallel checker under Valgrind's {the_tool}"
+    the_runs = f"a crew of 4 workers, halls with sections, the parallel checker under Valgrind's {the_tool}"
     CASES.append(
         Case("valgrind", the_tool, the_runs, "no error is reported", lambda lab, it=the_tool: under_tool(lab, it))
     )
