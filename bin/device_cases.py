@@ -16,7 +16,7 @@ import termios
 import time
 
 from device_lab import BARE, CASES, CERTIFICATE, CHECK, COMMANDS, EXPLAIN, LINES, LONGEST, PREFIX
-from device_lab import PROGRESS, READ, RIGHT, RUN, WRITE, Case, Differs, Lab, Skip, case, ending_of, fault_among
+from device_lab import PROGRESS, READ, RIGHT, RUN, WRITE, Case, Differs, Lab, case, ending_of, fault_among
 from device_lab import read_again, told
 
 # The user that has no rights and owns nothing.
@@ -85,6 +85,8 @@ each("standard error that nobody reads", "a pipe without a reader as standard er
 each("all three closed", "`FILE <&- >&- 2>&-`", "writing failed: status 1 (FORMATS.md)", "status 1, prints nothing",
      closed=(0, 1, 2))
 each("full device", "`FILE >/dev/full`", NO_WRITE, WRITE, stdout=opened("/dev/full", "wb"))
+each("full device, and nothing to print", "`/dev/null >/dev/full`", "nothing is written, so nothing fails (FORMATS.md, "
+     "devices)", "status 0, prints nothing", [RUN, EXPLAIN], file="/dev/null", stdout=opened("/dev/full", "wb"))
 each("reader gone at once", "a pipe without a reader, SIGPIPE at its default",
      "SIGPIPE is ignored, so writing fails: `refused 72`, status 1 (FORMATS.md, devices)", WRITE, stdout=widowed)
 each("reader gone at once, SIGPIPE ignored", "the same under `trap '' PIPE`", "the same", WRITE, stdout=widowed,
@@ -427,25 +429,25 @@ def few_descriptors(lab):
         yield command.name, told(seen, lab.right(command, file), command.explains), RIGHT
 
 
-def for_nobody(lab):
-    """The lab with copies of the programs that another user can start."""
+def without_rights(lab):
+    """A lab and a user without the rights of root. For root these are copies of the programs that NOBODY can start."""
     if os.geteuid() != 0:
-        raise Skip("only root can become another user")
+        return lab, None
     os.chmod(lab.room, 0o755)
     copies = {}
     for name, path in lab.programs.items():
         copies[name] = shutil.copy(path, os.path.join(lab.room, f"copy-of-{name}"))
         os.chmod(copies[name], 0o755)
-    return Lab(copies, lab.room)
+    return Lab(copies, lab.room), NOBODY
 
 
-@case("names", "a file without permission", "FILE of mode 000, as another user (65534)", NOT_OPENED)
+@case("names", "a file without permission", "FILE of mode 000; for root as another user (65534)", NOT_OPENED)
 def forbidden(lab):
-    other = for_nobody(lab)
+    other, user = without_rights(lab)
     for command in COMMANDS:
         name = copied(b"forbidden")(lab, command)[0]
         path = os.path.join(os.fsencode(lab.room), name)
         os.chmod(path, 0)
-        seen = lab.run(other.words(command, name), user=NOBODY)
+        seen = lab.run(other.words(command, name), user=user)
         os.remove(path)
         yield command.name, told(seen), READ

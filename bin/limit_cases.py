@@ -5,6 +5,7 @@ import fcntl
 import os
 import resource
 import select
+import shutil
 import subprocess
 import tempfile
 import time
@@ -20,7 +21,7 @@ ROOM = LIMITS[resource.RLIMIT_AS]
 
 class Flood(NamedTuple):
     """A long input: what it is, who reads it, the piece that is repeated, what is to be seen, the most bytes of memory
-    for each byte of it, how many bytes it has, and what it begins with."""
+    for each byte of it, how many bytes it has, and what stands before and behind them."""
 
     what: str
     command: Command
@@ -29,6 +30,7 @@ class Flood(NamedTuple):
     most: float
     size: int = SIZE
     head: bytes = b""
+    tail: bytes = b""
 
 
 # A text that is refused costs its bytes and, of a certificate, a copy of them. What costs more takes memory up to the
@@ -37,7 +39,7 @@ FLOODS = [
     Flood("comments", RUN, b"# " + b"x" * 61 + b"\n", "status 0, prints nothing", 1.1),
     Flood("one line without an end", RUN, b"1", "status 1, prints nothing, `line 1: refused 70`", 1.1),
     Flood("lines `x`", RUN, b"x\n", "status 1, prints nothing, `line 1: refused 70`", ROOM / PART, PART),
-    Flood("lines `boot 1` of a section", RUN, b"boot 1\n", MEMORY, ROOM / PART, PART, b"together\n"),
+    Flood("lines `boot 1` of a section", RUN, b"boot 1\n", MEMORY, ROOM / PART, PART, b"together\n", b"end\n"),
     Flood("comments", ANALYSE, b"# " + b"x" * 61 + b"\n", "status 0, `refused 30`", 1.1),
     Flood("lines `node 1`", ANALYSE, b"node 1\n", "status 1, prints nothing, `refused 31`", 2.2, PART),
     Flood("lines `link 1 2`", ANALYSE, b"link 1 2\n", "status 1, prints nothing, `refused 32`", 2.2, PART,
@@ -49,24 +51,32 @@ FLOODS = [
 ]
 
 
+def blocks_of(flood):
+    """The bytes of a flood, in blocks of whole pieces."""
+    block, count = flood.piece * (MB // len(flood.piece)), flood.size // len(flood.piece)
+    yield flood.head
+    for _ in range(count * len(flood.piece) // len(block)):
+        yield block
+    yield flood.piece * (count % (len(block) // len(flood.piece)))
+    yield flood.tail
+
+
 def feed(process, flood):
-    """Writes a flood, in whole pieces, until it ends or nobody reads. Returns how many bytes were written."""
-    block, rest = flood.piece * (MB // len(flood.piece)), memoryview(flood.head)
-    size = len(flood.head) + flood.size // len(flood.piece) * len(flood.piece)
-    left = size
-    descriptor, end = process.stdin.fileno(), time.monotonic() + LONGEST
+    """Writes a flood until it ends or nobody reads. Returns how many bytes were written."""
+    descriptor, end, written = process.stdin.fileno(), time.monotonic() + LONGEST, 0
     os.set_blocking(descriptor, False)
     with contextlib.suppress(OSError):
         fcntl.fcntl(descriptor, fcntl.F_SETPIPE_SZ, MB)
     with contextlib.suppress(BrokenPipeError):
-        while left > 0 and time.monotonic() < end:
-            rest = rest or memoryview(block)
-            if select.select([], [descriptor], [], 1)[1]:
-                with contextlib.suppress(BlockingIOError):
-                    count = os.write(descriptor, rest[:left])
-                    rest, left = rest[count:], left - count
+        for block in blocks_of(flood):
+            rest = memoryview(block)
+            while rest and time.monotonic() < end:
+                if select.select([], [descriptor], [], 1)[1]:
+                    with contextlib.suppress(BlockingIOError):
+                        count = os.write(descriptor, rest)
+                        rest, written = rest[count:], written + count
     process.stdin.close()
-    return size - left
+    return written
 
 
 @case("floods", "1 GB from a pipe", "1 GB, or 100 MB, on standard input, with 3 GB of addresses",
@@ -251,7 +261,7 @@ def wide_stacks(lab):
 def threaded(lab, workers):
     """What starts threads: its name, the words, and the file, which is the last of them."""
     dense, analyse = lab.large("dense"), [*lab.words(ANALYSE), "--workers", str(workers)]
-    sections, certificate = str(EXAMPLES / "sections.scenario"), lab.large("entries")
+    sections, certificate = shutil.copy(EXAMPLES / "sections.scenario", lab.room), lab.large("entries")
     yield f"analyse --workers {workers}", [*analyse, dense], dense
     yield f"analyse --workers {workers} --certificate", [*analyse, "--certificate", dense], dense
     yield "run, sections", lab.words(RUN, sections), sections

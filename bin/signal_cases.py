@@ -15,7 +15,7 @@ import tempfile
 import termios
 import time
 
-from device_cases import NOBODY, for_nobody
+from device_cases import without_rights
 from device_lab import ANALYSE, CASES, CHECK, COMMANDS, EXAMPLES, EXPLAIN, MB, MEMORY, RIGHT, RUN, Case, Differs, Skip
 from device_lab import case, read_again, told
 from limit_cases import threaded, told_of_threads
@@ -191,27 +191,16 @@ class Counted:
                 self.most = max(self.most, int(re.search(r"Threads:\s+(\d+)", text)[1]))
 
 
-def by_nobody(lab, most):
-    """Runs what starts threads as a user who may have only so many threads."""
-    other = for_nobody(lab)
-    for (name, words, file), (_, copied_words, _) in zip(threaded(lab, 64), threaded(Readable(other, lab), 64)):
-        counted = Counted()
-        limits = {resource.RLIMIT_NPROC: most}
-        seen = lab.run(copied_words, user=NOBODY, limits=limits, during=counted)
+def with_threads(lab, most):
+    """Runs what starts threads as a user who may have only so many."""
+    other, user = without_rights(lab)
+    for name, words, file in threaded(lab, 64):
+        os.chmod(file, 0o644)
+        program = CHECK if words[0] == lab.words(CHECK)[0] else RUN
+        counted, limits = Counted(), {resource.RLIMIT_NPROC: most}
+        seen = lab.run([other.words(program)[0], *words[1:]], user=user, limits=limits, during=counted)
         more = "" if counted.most <= most else f", {counted.most} threads"
         yield name, told_of_threads(lab, seen, words, file) + more, RIGHT
-
-
-class Readable:
-    """The lab of another user, with the larger inputs of this one as files that all may read."""
-
-    def __init__(self, other, lab):
-        self.words, self.lab = other.words, lab
-
-    def large(self, kind):
-        """A larger file of a kind."""
-        os.chmod(self.lab.large(kind), 0o644)
-        return self.lab.large(kind)
 
 
 FEWER = "a thread that can't be started is no fault: the output is the same (FORMATS.md, devices)"
@@ -226,15 +215,15 @@ def many_threads(lab):
     yield "analyse --workers 64", text, "2 to 64 threads", f"{counted.most} threads"
 
 
-@case("threads", "no thread can be started", "64 workers, sections, a large certificate as another user (65534), "
-      "`ulimit -u 1`", FEWER)
+@case("threads", "no thread can be started", "64 workers, sections, a large certificate, `ulimit -u 1`; for root "
+      "as another user (65534)", FEWER)
 def no_threads(lab):
-    yield from by_nobody(lab, 1)
+    yield from with_threads(lab, 1)
 
 
 @case("threads", "few threads can be started", "the same, `ulimit -u 3`", FEWER)
 def few_threads(lab):
-    yield from by_nobody(lab, 3)
+    yield from with_threads(lab, 3)
 
 
 @case("threads", "no room for the stack of a thread", "64 workers, sections, a large certificate, 64 MB of addresses",
