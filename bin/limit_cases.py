@@ -102,6 +102,7 @@ def endless(lab):
 
 # Memory
 REFUSED_LINES = "status 0, the right lines up to a `refused 99`"
+PARTLY = "status 1, whole lines, and then `refused 99`"
 
 
 def memory_steps():
@@ -137,7 +138,7 @@ def told_of_memory(command, seen, right):
         return RIGHT
     if seen.status == 1 and fault_among(seen.err) == b"refused 99":
         if not seen.out or (scenario and is_before_refusal(seen.out, right)):
-            return MEMORY if not seen.out else "status 1, whole lines, and then `refused 99`"
+            return PARTLY if seen.out else MEMORY
     if scenario and seen.status == 0 and b"refused 99\n" in seen.out and is_before_refusal(seen.out, right):
         return REFUSED_LINES
     return told(seen, right, command.explains)
@@ -162,7 +163,7 @@ def little_memory(lab, files):
     for command, file in files:
         allowed = [RIGHT, MEMORY]
         if command.kind == "scenario":
-            allowed += [REFUSED_LINES, "status 1, whole lines, and then `refused 99`"]
+            allowed += [REFUSED_LINES, PARTLY]
         for text, steps in descend(lab, command, file).items():
             yield command.name, text, allowed, f"{len(steps)} limits, {min(steps) / MB:.2f} to {max(steps) / MB:.2f} MB"
 

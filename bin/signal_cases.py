@@ -18,7 +18,7 @@ import time
 from device_cases import without_rights
 from device_lab import ANALYSE, CASES, CHECK, COMMANDS, EXAMPLES, EXPLAIN, MB, MEMORY, RIGHT, RUN, Case, Differs, Skip
 from device_lab import case, read_again, told
-from limit_cases import threaded, told_of_threads
+from limit_cases import PARTLY, threaded, told_of_memory, told_of_threads
 from repository import ROOT
 
 # What ends a program: ^C, kill, and a terminal that is closed.
@@ -226,12 +226,35 @@ def few_threads(lab):
     yield from with_threads(lab, 3)
 
 
-@case("threads", "no room for the stack of a thread", "64 workers, sections, a large certificate, 64 MB of addresses",
-      FEWER + "; or out of memory, `refused 99`, if what threads take is what is missing")
+# Addresses in MB, of which a thread takes 8 MB for its stack and the C library 64 MB for what it allocates.
+FEW_ADDRESSES = (1024, 512, 256, 128, 64, 32, 24, 20, 16, 12, 8)
+IN_SECTIONS = "status 0, the right lines, with lines of sections refused"
+
+
+def told_of_sections_refused(seen, right):
+    """What was seen of the three sections with little memory. They have five lines, and any may be refused."""
+    before = right.partition(b"together ")[0]
+    lines = re.match(rb"together 3 accepted (\d) refused (\d)\n", seen.out.removeprefix(before))
+    if seen.status == 0 and seen.out != right and lines and int(lines[1]) + int(lines[2]) == 5:
+        return IN_SECTIONS
+    return told_of_memory(RUN, seen, right)
+
+
+@case("threads", "no room for the stack of a thread", "64 workers, sections, a large certificate, 1 GB of addresses, "
+      "and less in steps, down to 8 MB", FEWER + "; or out of memory, since what threads take is missing elsewhere")
 def no_stacks(lab):
     for name, words, file in threaded(lab, 64):
-        seen = lab.run(words, limits={resource.RLIMIT_AS: 64 * MB})
-        yield name, told_of_threads(lab, seen, words, file), (RIGHT, MEMORY)
+        ranges = {}
+        for size in FEW_ADDRESSES:
+            seen = lab.run(words, limits={resource.RLIMIT_AS: size * MB})
+            if "sections" in name:
+                text = told_of_sections_refused(seen, lab.right(RUN, file))
+            else:
+                text = told_of_threads(lab, seen, words, file)
+            ranges.setdefault(text, []).append(str(size))
+        for text, sizes in ranges.items():
+            allowed = (RIGHT, MEMORY, *((PARTLY, IN_SECTIONS) if "sections" in name else ()))
+            yield name, text, allowed, f"{', '.join(sizes)} MB"
 
 
 # Valgrind
