@@ -172,14 +172,16 @@ def gone_after_line(lab):
 def slow_reader(lab):
     for command, kind in ((RUN, "scenario"), (EXPLAIN, "scenario"), (CERTIFICATE, "graph"), (CHECK, "certificate")):
         pieces, file = [], lab.large(kind)
+        reader, writer = os.pipe()
+        fcntl.fcntl(writer, fcntl.F_SETPIPE_SZ, 4096)
 
         def take(process):
-            fcntl.fcntl(process.stdout, fcntl.F_SETPIPE_SZ, 4096)
-            while piece := process.stdout.read(777):
+            os.close(writer)
+            while piece := os.read(reader, 777):
                 pieces.append(piece)
-            process.stdout.close()
+            os.close(reader)
 
-        seen = lab.run(lab.words(command, file), during=take, stdout=subprocess.PIPE, bufsize=0)
+        seen = lab.run(lab.words(command, file), during=take, stdout=writer)
         yield command.name, told(seen._replace(out=b"".join(pieces)), lab.right(command, file), command.explains), RIGHT
 
 
