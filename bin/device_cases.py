@@ -74,7 +74,7 @@ each("standard input that can only be written to", "`0>/dev/null`", NO_READ, REA
 each("FILE `-`", "`- <FILE`", "standard input is read (FORMATS.md)", RIGHT, file=None, stdin=example_opened)
 each("FILE `/dev/stdin`", "`/dev/stdin <FILE`", "FILE is read (FORMATS.md)", RIGHT, file="/dev/stdin",
      stdin=example_opened)
-each("empty environment", "`env -i .. FILE`", "no variable is looked at", RIGHT, env={})
+each("empty environment", "`env -i .. FILE`", "no variable is looked at (FORMATS.md, devices)", RIGHT, env={})
 each("bare `overlay`", "`<FILE`", "it runs a scenario from standard input (FORMATS.md)", RIGHT, [BARE], file=None,
      stdin=example_opened)
 each("closed standard output", "`FILE >&-`", NO_WRITE, WRITE, closed=(1,))
@@ -103,7 +103,7 @@ def closed_errors(lab):
 
 
 @case("devices", "FILE in the place of a closed stream", "`FILE >&- 2>&-`: the system opens FILE as standard output",
-      "FILE is only read, and stays as it is")
+      "FILE is opened for reading alone (FORMATS.md, devices)")
 def untouched(lab):
     for command in COMMANDS:
         copy = shutil.copy(lab.example(command), lab.room)
