@@ -1,11 +1,13 @@
 #!/usr/bin/env python3
 """Writes the five graphs of the table as graph files, `NAME.graph`, into the folder that it is run in.
 
-With a number ARMS it writes one graph instead, `falling-ARMS.graph`, and the ids of a group, `falling-ARMS.group`.
+With a number ARMS it writes one graph instead, `falling-ARMS.graph`, and the ids of a group, `falling-ARMS.group`; with
+`ring RING REACH ARMS` it writes `steps-RING-REACH-ARMS.graph` and its group.
 
 Needs networkx (Debian: python3-networkx).
 """
 
+import random
 import sys
 
 import networkx as nx
@@ -39,11 +41,40 @@ def write_falling(arms):
         graph.add_edges_from((core + m, leaf) for leaf in range(core + arms, 2 * core + arms))
     name = f"falling-{arms}"
     write(name, graph)
+    write_group(name, core + arms)
+
+
+def write_steps(ring, reach, arms):
+    """A ring in which each node is linked to the REACH next ones on each side, with its ids shuffled; then the arms;
+    then the leaves. Arm m, counted from 1, is linked to 2 REACH - m nodes of the ring and to m leaves of its own.
+
+    The group is the ring and the arms. No member has fewer than 2 REACH links, and arm m has 2 REACH - m paths to the
+    ring at most. So an analysis that goes down from level to level by the sizes of cuts tries ARMS levels, and each is
+    examined up to the first arm that lacks a path. In the ring most pieces ask for a search.
+    """
+    choice = random.Random(1)
+    places = list(range(ring))
+    choice.shuffle(places)
+    graph = nx.relabel_nodes(nx.circulant_graph(ring, range(1, reach + 1)), dict(enumerate(places)))
+    leaf = ring + arms
+    for m in range(1, arms + 1):
+        graph.add_edges_from((node, ring + m - 1) for node in choice.sample(range(ring), 2 * reach - m))
+        graph.add_edges_from((ring + m - 1, it) for it in range(leaf, leaf + m))
+        leaf += m
+    name = f"steps-{ring}-{reach}-{arms}"
+    write(name, graph)
+    write_group(name, ring + arms)
+
+
+def write_group(name, members):
+    """Writes the first nodes, so many of them, as a group."""
     with open(f"{name}.group", "w") as file:
-        file.write(",".join(str(member) for member in range(1, core + arms + 1)) + "\n")
+        file.write(",".join(str(member) for member in range(1, members + 1)) + "\n")
 
 
-if len(sys.argv) > 1:
+if sys.argv[1:2] == ["ring"]:
+    write_steps(*map(int, sys.argv[2:]))
+elif len(sys.argv) > 1:
     write_falling(int(sys.argv[1]))
 else:
     write_table()

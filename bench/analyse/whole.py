@@ -15,6 +15,7 @@ and each checker, which is given the name of that file, must say yes to it.
 
 import os
 import pathlib
+import shutil
 import subprocess
 import sys
 import tempfile
@@ -79,10 +80,13 @@ def refusing(checkers, program, graph):
     """Those checkers that do not say yes to the certificate of a graph."""
     if not checkers:
         return []
-    with tempfile.NamedTemporaryFile(suffix=".json") as file:
+    # a certificate is never held here: no peak of a later run would be told as less than this script's memory
+    with tempfile.TemporaryFile() as printed, tempfile.NamedTemporaryFile(suffix=".json") as file:
         words = [program, *words_for(graph), "--workers", "4", "--certificate"]
-        printed = subprocess.run(words, stdout=subprocess.PIPE, check=True).stdout
-        file.write(printed.split(b"\n", 1)[1])
+        subprocess.run(words, stdout=printed, check=True)
+        printed.seek(0)
+        printed.readline()
+        shutil.copyfileobj(printed, file)
         file.flush()
         return [one for one in checkers
                 if not subprocess.run([one, file.name], stdout=subprocess.PIPE).stdout.startswith(b"holds")]

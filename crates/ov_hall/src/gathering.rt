@@ -1,6 +1,6 @@
 ghost use Rattle.std.specs.Prelude.{◌≡◌, ◌<◌, ◌≤◌, length, IfOk, IfErr, OnOk};
 ghost use Rattle.ov_hall.specs.Faults.{number_of};
-ghost use Rattle.ov_hall.specs.Logs.{IsHistory, IsLog, core_made};
+ghost use Rattle.ov_hall.specs.Logs.{IsHistory, IsLog};
 ghost use Rattle.ov_hall.specs.Passes.{AllBegin, AreDrivers};
 
 use crate::count_rule::HallName;
@@ -70,11 +70,11 @@ impl<N: HallName> Hall<N> {
     }
 
     /// The hall at rest, by the passes of all drivers, in the order of their numbers. What each pass has seen begins
-    /// the log of the core, and has all that its driver did. Nothing is allocated, and nobody waits.
+    /// the hall's log, and has all that its driver did. Nothing is allocated, and nobody waits.
     pub fn unite(self, passes: Vec<Pass<N>>) -> Whole<N>
         requires all { AreDrivers N.drivers passes.items }
-        ensures { (log : _) × (core_made N.params log ≡ result) × IsLog N.params N.drivers log
-            × AllBegin passes.items log }
+        ensures log { IsLog N.params N.drivers result }
+        ensures began { AllBegin passes.items result }
     {
         let Hall {
             table,

@@ -1,13 +1,12 @@
-ghost use Rattle.std.specs.Prelude.{◌≡◌, length, IfOk, IfErr, OnOk, OnErr};
+ghost use Rattle.std.specs.Prelude.{◌≡◌, [], ◌∷◌, ◌++◌, false, true, length, IfOk, IfErr, OnOk, OnErr};
 ghost use Rattle.ov_ids.specs.FaultOrder.{IsRefusedBy};
 ghost use Rattle.ov_net.specs.Refusals.{IsRefusal};
 ghost use Rattle.ov_net.specs.declared.event.Event.TheVariants as told;
-ghost use Rattle.ov_snap.specs.CoreState.{opening_core};
 ghost use Rattle.ov_snap.specs.Filing.{WasFiled};
 ghost use Rattle.ov_snap.specs.Refusals.{FilingJudged};
 ghost use Rattle.ov_snap.specs.Run.{Happened, TookSnapshot};
 ghost use Rattle.ov_snap.specs.declared.fault.CoreFault.TheVariants.{OutOfMemory as out_of_memory};
-ghost use Rattle.ov_hall.specs.Logs.{IsHistory, core_made};
+ghost use Rattle.ov_hall.specs.Logs.{IsHistory, IsLog, core_made, mark};
 ghost use Rattle.ov_hall.specs.Passes.{AreDrivers, seen_alike};
 
 use crate::count_rule::{HallName, Law, Leave};
@@ -25,7 +24,8 @@ use std::alloc::Global;
 use std::marker::{Model, PhantomData};
 use std::sync::Mutex;
 
-/// A hall at rest: one hand has the core and the passes of all drivers, and there is no lock. Contracts see the core.
+/// A hall at rest: one hand has the core and the passes of all drivers, and there is no lock. Contracts see the log, which
+/// makes the core. What one hand does is marked as driver 0's.
 #[derive(Drop)]
 pub struct Whole<N: HallName> {
     pub(crate) table: Table<(), View, u64, Law, Global>,
@@ -35,17 +35,16 @@ pub struct Whole<N: HallName> {
 }
 
 impl<N: HallName> Model for Whole<N> {
-    ghost use Rattle.std.specs.Prelude.{◌≡◌, ◌<◌};
-    ghost use Rattle.ov_snap.specs.CoreState.{CoreState};
-    ghost use Rattle.ov_snap.specs.Code.Codes.{core_code};
-    ghost use Rattle.ov_hall.specs.Logs.{core_made};
+    ghost use Rattle.std.specs.Prelude.{◌≡◌, ◌<◌, List};
+    ghost use Rattle.ov_hall.specs.Code.Codes.{log_code};
     ghost use Rattle.ov_hall.specs.Passes.{first_seen, seen_alike};
+    ghost use Rattle.ov_hall.specs.declared.ghost_views.Mark.{Mark};
 
-    ghost Value = { CoreState };
+    ghost Value = { List Mark };
 
-    ghost coded = { core_code };
+    ghost coded = { log_code };
 
-    ghost view = { λ w. core_made N.params (first_seen w.stand) };
+    ghost view = { λ w. first_seen w.stand };
 
     ghost invariant = { λ w. ((w.stand ≡ seen_alike 0 N.drivers (first_seen w.stand)) × (0 < N.drivers))
         × (w.state ≡ first_seen w.stand) × (w.table.shared.table_id ≡ N.table)
@@ -57,7 +56,7 @@ impl<N: HallName> Whole<N> {
     pub fn new(alloc: Global, params: Params, opening: Opening) -> Whole<N>
         requires name { (opening.table ≡ N.table) × (opening.drivers ≡ N.drivers) }
         requires params { params ≡ N.params }
-        ensures { result ≡ opening_core params }
+        ensures { result ≡ [] }
     {
         let Opening {
             table,
@@ -84,17 +83,20 @@ impl<N: HallName> Whole<N> {
         }
     }
 
-    /// The core.
+    /// The core, which is the one that the log makes.
     pub fn core(&self) -> &Core
-        ensures { result.now ≡ self.now }
+        ensures { result.now ≡ core_made N.params self.now }
     {
         &self.state.core
     }
 
     /// Takes one event by driver 0, as `Core::step` does, with the same faults. What is refused changes nothing.
     pub fn step(&mut self, event: Event, words: &Words) -> Result<Entry, NetFault>
-        ensures happened { IfOk result (λ e. Happened self.old event words.now e self.new) }
-        ensures refused { IfErr result (IsRefusal self.old.world.net (length self.old.world.journal) event) }
+        ensures happened { IfOk result
+            (λ e. Happened (core_made N.params self.old) event words.now e (core_made N.params self.new)) }
+        ensures marked { OnOk result (self.new ≡ self.old ++ mark 0 false (core_made N.params self.new) ∷ []) }
+        ensures refused { IfErr result (IsRefusal (core_made N.params self.old).world.net
+            (length (core_made N.params self.old).world.journal) event) }
         ensures err { OnErr result (self.new ≡ self.old) }
     {
         self.state
@@ -104,9 +106,11 @@ impl<N: HallName> Whole<N> {
     /// Takes a snapshot by driver 0, as `Core::snapshot` does, with the same faults. Returns its moment. What is
     /// refused changes nothing.
     pub fn snapshot(&mut self) -> Result<u32, NetFault>
-        ensures happened { IfOk result (λ m. TookSnapshot self.old m self.new) }
-        ensures refused { IfErr result
-            (λ f. IsRefusal self.old.world.net (length self.old.world.journal) told.Snapshot f) }
+        ensures happened { IfOk result
+            (λ m. TookSnapshot (core_made N.params self.old) m (core_made N.params self.new)) }
+        ensures marked { OnOk result (self.new ≡ self.old ++ mark 0 false (core_made N.params self.new) ∷ []) }
+        ensures refused { IfErr result (λ f. IsRefusal (core_made N.params self.old).world.net
+            (length (core_made N.params self.old).world.journal) told.Snapshot f) }
         ensures err { OnErr result (self.new ≡ self.old) }
     {
         let entry = self.step(Event::Snapshot, &Words::new([0; WORDS_PER_EVENT]))?;
@@ -115,19 +119,21 @@ impl<N: HallName> Whole<N> {
 
     /// Files a report by driver 0, as `Core::file` does, with the same faults. What is refused changes nothing.
     pub fn file(&mut self, report: Report) -> Result<(), CoreFault>
-        ensures filed { OnOk result (WasFiled self.old report self.new) }
-        ensures refused { IfErr result (IsRefusedBy out_of_memory (FilingJudged self.old report)) }
+        ensures filed { OnOk result (WasFiled (core_made N.params self.old) report (core_made N.params self.new)) }
+        ensures marked { OnOk result (self.new ≡ self.old ++ mark 0 true (core_made N.params self.new) ∷ []) }
+        ensures refused { IfErr result
+            (IsRefusedBy out_of_memory (FilingJudged (core_made N.params self.old) report)) }
         ensures err { OnErr result (self.new ≡ self.old) }
     {
         self.state
             .file(&self.table.shared, &mut self.stand, 0, report)
     }
 
-    /// The lock round the core, and the pass of each driver, in the order of their numbers from 0. Out of memory gives
-    /// all back.
+    /// The lock round the core, and the pass of each driver, in the order of their numbers from 0. Each has seen the
+    /// whole log. Out of memory gives all back.
     pub fn part(self, alloc: Global) -> Result<(Hall<N>, Vec<Pass<N>>), Whole<N>>
-        ensures passes { IfOk result (λ r. (log : _) × (core_made N.params log ≡ self)
-            × (r.1.items ≡ seen_alike 0 N.drivers log)) }
+        ensures passes { IfOk result (λ r. r.1.items ≡ seen_alike 0 N.drivers self) }
+        ensures log { IsLog N.params N.drivers self }
         ensures all { IfOk result (λ r. AreDrivers N.drivers r.1.items) }
         ensures err { IfErr result (λ w. w ≡ self) }
     {
@@ -155,10 +161,9 @@ impl<N: HallName> Whole<N> {
         }
     }
 
-    /// The core, and the drivers of its entries and of its reports.
+    /// The core that the log makes, and the drivers of its entries and of its reports, as the log names them.
     pub fn close(self) -> Gathered
-        ensures core { result.core ≡ self }
-        ensures history { (log : _) × IsHistory N.params N.drivers log result.core result.entry_drivers.items
+        ensures history { IsHistory N.params N.drivers self result.core result.entry_drivers.items
             result.report_drivers.items }
     {
         let Whole {

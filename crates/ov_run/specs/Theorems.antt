@@ -1,5 +1,6 @@
 -- The main theorem, for a user who runs a scenario: what holds of each line that is printed of a report.
 use Rattle.std.specs.Prelude.{◌≡◌, ◌⊎◌, ℕ, List}
+use Rattle.ov_ids.specs.Members.{Has}
 use Rattle.ov_ids.specs.ParamsState.{ParamsState}
 use Rattle.ov_snap.specs.CoreState.{CoreState, opening_core}
 use Rattle.ov_snap.specs.ReportState.{ReportState, IsTrueReport}
@@ -30,7 +31,8 @@ IsMade b =
 -- whatever lines ran before: what `analyse` prints is a refusal, or the line of a report of what it asks for; what
 -- `certificate` prints is a refusal, or the certificate file of such a report; and what the report says is true. A
 -- snapshot was taken at its moment, and its graph has exactly the links that both ends held then; crashing the nodes
--- that it names splits its group, or every two members are linked; and no fewer crashes split it
+-- that it names splits its group, or every two members are linked; and no fewer crashes split it. The same is true of
+-- each report that is filed when a line has run, so of those that the sections of a block file, and print nowhere
 pub record EveryPrintedReportIsTrue : Type 0 where
   pub analysed : (b : CoreState) (subject : Subject) (workers : ℕ) (u : CoreState) (text : List ℕ) → IsMade b
       → PrintsLine b (line.Analyse subject workers) u text
@@ -40,3 +42,5 @@ pub record EveryPrintedReportIsTrue : Type 0 where
       → PrintsLine b (line.Look (Certificate subject)) u text
       → ((r : ReportState) × IsSoOf u subject r × (text ≡ file_text r.cert r.graph r.members r.moment))
       ⊎ Refuses b u text
+  pub filed : (b : CoreState) (line : Line) (u : CoreState) (text : List ℕ) → IsMade b → PrintsLine b line u text
+      → (r : ReportState) → Has u.reports r → IsTrueReport u.world.journal r

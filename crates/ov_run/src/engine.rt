@@ -7,10 +7,11 @@ ghost use Rattle.ov_scenario.specs.RunLines.{drivers_for};
 ghost use Rattle.ov_scenario.specs.Scenarios.{IsScenario};
 ghost use Rattle.ov_snap.specs.CoreState.{opening_core};
 
+use crate::hall_of_run::RunHall;
 use crate::line_running::run_lines;
 use crate::run_fault::RunFault;
 use crate::run_watcher::{RunWatcher, Unwatched};
-use ov_hall::{HallName, Opening, Whole};
+use ov_hall::{HallName, Opening};
 use ov_ids::Params;
 use ov_io::{Sink, Source};
 use ov_scenario::{LinesToRun, Scenario, read_scenario};
@@ -108,7 +109,7 @@ fn run_in_hall<N: HallName + Send + Sync, T: Threads + Wait + Sync, W: Write, V:
     requires drivers { drivers_for lines.items ≤ N.drivers }
     ensures ran { RanLines W.contents (opening_core params) lines.entry.items sink.old sink.new result }
 {
-    let hall = Whole::<N>::new(alloc, params, opening);
+    let hall = RunHall::<N>::new(alloc, params, opening);
     run_lines(rt, alloc, hall, lines, sink, watcher)
 }
 

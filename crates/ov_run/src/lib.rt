@@ -5,6 +5,7 @@ mod answered;
 mod change_texts;
 mod engine;
 mod graph_analysis;
+mod hall_of_run;
 mod line_outcome;
 mod line_running;
 mod line_texts;

@@ -11,6 +11,7 @@ ghost use Rattle.ov_run.specs.Code.Writing.{Writes, WritesPrefix, IsOfWriting};
 ghost use Rattle.ov_scenario.specs.RunLines.{drivers_for};
 ghost use Rattle.ov_scenario.specs.declared.scenario.Line.TheVariants as kind;
 
+use crate::hall_of_run::RunHall;
 use crate::line_outcome::Outcome;
 use crate::line_texts::together_line;
 use crate::recent_reports::RecentReports;
@@ -23,7 +24,7 @@ use crate::sink_writing::{
     write_certificate, write_done, write_entry, write_node, write_packets, write_refusal,
 };
 use ov_claims::Workers;
-use ov_hall::{HallName, Whole};
+use ov_hall::HallName;
 use ov_ids::Seq;
 use ov_io::{Sink, WriteFault};
 use ov_net::Event;
@@ -45,7 +46,7 @@ pub(crate) fn run_lines<
 >(
     rt: &T,
     alloc: Global,
-    hall: Whole<N>,
+    hall: RunHall<N>,
     lines: LinesToRun<'_>,
     sink: &mut Sink<W>,
     watcher: &mut V,
@@ -66,7 +67,7 @@ pub(crate) fn run_lines<
 fn run_each<N: HallName + Send + Sync, T: Threads + Wait + Sync, W: Write, V: RunWatcher>(
     rt: &T,
     alloc: Global,
-    mut hall: Whole<N>,
+    mut hall: RunHall<N>,
     lines: LinesToRun<'_>,
     sink: &mut Sink<W>,
     watcher: &mut V,
@@ -111,11 +112,11 @@ fn tell<V: RunWatcher>(watcher: &mut V, core: &Core, line: &RanLine<'_>, outcome
 fn run_line<N: HallName + Send + Sync, T: Threads + Wait + Sync, W: Write>(
     rt: &T,
     alloc: Global,
-    mut hall: Whole<N>,
+    mut hall: RunHall<N>,
     recent: &mut RecentReports,
     line: Line<'_>,
     sink: &mut Sink<W>,
-) -> Result<(Outcome, Whole<N>), RunFault>
+) -> Result<(Outcome, RunHall<N>), RunFault>
     requires faults { sink.old.faults < most_faults }
     requires drivers { HasDrivers N.drivers line }
     ensures ran { LineRan W.contents hall line.entry (λ r. r.0) (λ r. r.1) sink.old sink.new result }
@@ -144,8 +145,8 @@ fn run_line<N: HallName + Send + Sync, T: Threads + Wait + Sync, W: Write>(
 /// What became of a line, with the hall after it.
 fn with_hall<N: HallName>(
     outcome: Result<Outcome, RunFault>,
-    hall: Whole<N>,
-) -> Result<(Outcome, Whole<N>), RunFault>
+    hall: RunHall<N>,
+) -> Result<(Outcome, RunHall<N>), RunFault>
     ensures ok { IfOk result (λ r. (outcome ≡ Ok r.0) × (r.1 ≡ hall)) }
     ensures err { IfErr result (λ fault. outcome ≡ Err fault) }
 {
@@ -160,10 +161,10 @@ fn with_hall<N: HallName>(
 fn run_block<N: HallName + Send + Sync, T: Threads + Wait + Sync, W: Write>(
     rt: &T,
     alloc: Global,
-    hall: Whole<N>,
+    hall: RunHall<N>,
     sections: Seq<Seq<SectionLine<'_>>>,
     sink: &mut Sink<W>,
-) -> Result<(Outcome, Whole<N>), RunFault>
+) -> Result<(Outcome, RunHall<N>), RunFault>
     requires faults { sink.old.faults < most_faults }
     requires drivers { length sections ≤ N.drivers }
     ensures ran { LineRan W.contents hall (kind.Together sections.entry) (λ r. r.0) (λ r. r.1) sink.old sink.new
@@ -181,7 +182,7 @@ fn run_block<N: HallName + Send + Sync, T: Threads + Wait + Sync, W: Write>(
 /// OutOfMemory is returned only if an event happened and its line can't be made.
 fn run_event<N: HallName, W: Write>(
     alloc: Global,
-    hall: &mut Whole<N>,
+    hall: &mut RunHall<N>,
     event: Event,
     words: &Words,
     sink: &mut Sink<W>,
@@ -211,7 +212,7 @@ fn run_event<N: HallName, W: Write>(
 fn run_analysis<N: HallName, T: Threads + Sync, W: Write>(
     rt: &T,
     alloc: Global,
-    hall: &mut Whole<N>,
+    hall: &mut RunHall<N>,
     recent: &mut RecentReports,
     subject: &Subject,
     workers: Workers,

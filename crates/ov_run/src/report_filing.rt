@@ -11,13 +11,14 @@ ghost use Rattle.ov_run.specs.Subjects.{members_of, IsReportOf, AnalysisJudged, 
 ghost use Rattle.ov_snap.specs.declared.fault.CoreFault.TheVariants.{OutOfMemory as out_of_memory};
 
 use crate::graph_analysis::members_of;
+use crate::hall_of_run::RunHall;
 use crate::line_texts::report_line;
 use crate::recent_reports::RecentReports;
 use ov_claims::Workers;
 use ov_crew::{OpenGate, analyse_group_watched};
 use ov_even::Unwatched;
 use ov_graph::Graph;
-use ov_hall::{HallName, Whole};
+use ov_hall::HallName;
 use ov_ids::{NodeId, Seq};
 use ov_net::MOST_ENTRIES;
 use ov_scenario::Subject;
@@ -32,7 +33,7 @@ use std::thread::Threads;
 pub(crate) fn file_analysis<N: HallName, T: Threads + Sync>(
     rt: &T,
     alloc: Global,
-    hall: &mut Whole<N>,
+    hall: &mut RunHall<N>,
     recent: &mut RecentReports,
     subject: &Subject,
     workers: Workers,

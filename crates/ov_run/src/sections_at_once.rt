@@ -4,8 +4,9 @@ ghost use Rattle.ov_hall.specs.Parts.{total};
 ghost use Rattle.ov_run.specs.Sections.{RunTogether};
 ghost use Rattle.ov_run.specs.Code.Jobs.{HasRun, HaveRun, jobs_of};
 
+use crate::hall_of_run::RunHall;
 use crate::section_running::{Job, Ran, run_section};
-use ov_hall::{Hall, HallName, Pass, Whole};
+use ov_hall::{Hall, HallName, Pass};
 use ov_ids::{OutOfMemory, Seq};
 use ov_scenario::SectionLine;
 use std::alloc::Global;
@@ -16,7 +17,7 @@ use std::thread::Threads;
 /// What came of a block: the hall after it, and how many lines of all its sections were accepted and how many refused.
 #[derive(Drop)]
 pub struct BlockRan<N: HallName> {
-    pub hall: Whole<N>,
+    pub hall: RunHall<N>,
     pub accepted: u128,
     pub refused: u128,
 }
@@ -26,20 +27,20 @@ pub struct BlockRan<N: HallName> {
 pub fn run_together<N: HallName + Send + Sync, T: Threads + Wait + Sync>(
     rt: &T,
     alloc: Global,
-    hall: Whole<N>,
+    hall: RunHall<N>,
     sections: Vec<Seq<SectionLine<'_>>>,
 ) -> Result<BlockRan<N>, OutOfMemory>
     requires enough { length sections.items ≤ N.drivers }
     ensures ran { IfOk result (λ r. RunTogether hall sections.entry.items r.hall r.accepted) }
     ensures all { IfOk result (λ r. r.accepted + r.refused ≡ total length sections.entry.items) }
 {
-    let Ok((hall, passes)) = hall.part(alloc) else {
+    let Ok((hall, passes)) = hall.into_inner().part(alloc) else {
         return Err(OutOfMemory);
     };
     let jobs = jobs_of(alloc, passes, sections)?;
     let ran = run_jobs(rt, alloc, &hall, jobs)?;
     let (passes, accepted, refused) = sorted_out(alloc, ran)?;
-    let hall = hall.unite(passes);
+    let hall = RunHall::of(hall.unite(passes));
     Ok(BlockRan {
         hall,
         accepted,

@@ -23,7 +23,7 @@ pub(crate) struct Row {
     pub(crate) side: &'static [u32],
 }
 
-static PETERSEN: Row = Row {
+pub(crate) static PETERSEN: Row = Row {
     family: Family::Petersen,
     nodes: 10,
     k: 3,
@@ -33,7 +33,7 @@ static PETERSEN: Row = Row {
     side: &[1],
 };
 
-static RING: Row = Row {
+pub(crate) static RING: Row = Row {
     family: Family::Ring,
     nodes: 200,
     k: 8,
@@ -44,7 +44,7 @@ static RING: Row = Row {
 };
 
 /// The certificate has so many paths that several threads name them.
-static TWO_SIDES: Row = Row {
+pub(crate) static TWO_SIDES: Row = Row {
     family: Family::TwoSides,
     nodes: 80,
     k: 40,

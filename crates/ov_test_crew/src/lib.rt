@@ -10,4 +10,6 @@ mod graphs;
 #[cfg(test)]
 mod memory;
 #[cfg(test)]
+mod outlines;
+#[cfg(test)]
 mod tries;

@@ -37,11 +37,16 @@ line_leads b (line.Analyse subject workers) next own u (inr (fault, refused, sam
 line_leads b (line.Together sections) next own u (accepted, refused, ran, all, is) leads =
     block_leads b sections next accepted u ran leads
 
+-- lines ran in order, and steps follow
+lines_on : (b : CoreState) (lines : List Line) (next : CoreState) (text : List ℕ) (u : CoreState)
+    → PrintsLines b lines next text → Leads next u → Leads b u
+lines_on b [] next text u prints leads = rests b next u prints.0 leads
+lines_on b (line ∷ lines) next text u (mid, own, others, first, rest, is) leads =
+    line_leads b line mid own u first (lines_on mid lines next others u rest leads)
+
 lines_lead : (b : CoreState) (lines : List Line) (u : CoreState) (text : List ℕ) → PrintsLines b lines u text
     → Leads b u
-lines_lead b [] u text prints = ([], sym prints.0)
-lines_lead b (line ∷ lines) u text (next, own, others, first, rest, is) =
-    line_leads b line next own u first (lines_lead next lines u others rest)
+lines_lead b lines u text prints = lines_on b lines u text u prints ([], refl)
 
 -- a report that was filed is among the reports
 among : (b : CoreState) (r : ReportState) (u : CoreState) → WasFiled b r u → Has u.reports r
@@ -72,8 +77,17 @@ certified b subject u text made same (inl (r, filed, inl is)) =
 certified b subject u text made same (inl (r, filed, inr is)) = inr (99, same, is)
 certified b subject u text made same (inr (none, is)) = inr (50, same, is)
 
+-- after any line
+filed : (b : CoreState) (line : Line) (u : CoreState) (text : List ℕ) → IsMade b → PrintsLine b line u text
+    → (r : ReportState) → Has u.reports r → IsTrueReport u.world.journal r
+filed b line u text made prints r has =
+    let last = line_leads b line u text u prints ([], refl) in
+    let run = lines_on (opening_core made.0) made.1 b made.2 u made.3 last in
+    every_report_is_true made.0 run.0 u run.1 r has
+
 pub every_printed_report_is_true : EveryPrintedReportIsTrue
 every_printed_report_is_true = record {
   analysed = λ b subject workers u text made prints. analysed b subject u text made prints;
   certified = λ b subject u text made prints. certified b subject u text made prints.0 prints.1;
+  filed = filed;
 }

@@ -1,5 +1,5 @@
-use Rattle.std.proofs.Common.{ap, map, ◌∙◌}
-use Rattle.ov_hall.specs.Passes.{first_seen}
+use Rattle.std.proofs.Common.{◌∙◌, ap, map}
+use Rattle.ov_hall.specs.Passes.{first_seen, seen_alike}
 use Rattle.ov_hall.proofs.Alike.{alike_drivers}
 use Rattle.ov_hall.proofs.hall_at_rest.Whole.part.Goals as goal
 
@@ -10,4 +10,4 @@ returns-in-Ok-clause-all g c =
 
 pub returns-in-Ok-clause-passes : goal.returns-in-Ok-clause-passes
 returns-in-Ok-clause-passes g c =
-    (first_seen c.self.inside.stand, c.self.view_is, c.in-Ok.ensures.passes ∙ c.self.invariant.0.0)
+    c.in-Ok.ensures.passes ∙ (c.self.invariant.0.0 ∙ ap (seen_alike 0 g.N.HallName.drivers) c.self.view_is)

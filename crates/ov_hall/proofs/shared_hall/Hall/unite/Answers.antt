@@ -1,5 +1,5 @@
 use Rattle.std.proofs.Common.{◌≡◌, ◌++◌, ◌∙◌, ap, map, subst, sym}
-use Rattle.ov_hall.specs.Logs.{core_made}
+use Rattle.ov_hall.specs.Logs.{IsLog}
 use Rattle.ov_hall.specs.Passes.{AllBegin, seen_alike}
 use Rattle.ov_hall.proofs.Alike.{drivers_seen, sole_after, sole_first}
 use Rattle.ov_hall.proofs.shared_hall.Hall.unite.Given as given
@@ -27,12 +27,13 @@ invariant_of-result g c =
       c.args.self.count,
     )
 
-pub returns : goal.returns
-returns g c =
+pub returns-clause-log : goal.returns-clause-log
+returns-clause-log g c =
+    subst (IsLog g.N.HallName.params g.N.HallName.drivers) (sym (sole_first g.N.HallName.drivers c.look.new.stand
+    c.nobody.new.self c.args.self.some (alike g c))) c.look.ensures.log
+
+pub returns-clause-began : goal.returns-clause-began
+returns-clause-began g c =
     let log = c.nobody.new.self in
-    let n = g.N.HallName.drivers in (
-      log,
-      ap (core_made g.N.HallName.params) (sym (sole_first n c.look.new.stand log c.args.self.some (alike g c))),
-      c.look.ensures.log,
-      subst (λ l. AllBegin l log) (joined g c) c.look.ensures.began,
-    )
+    subst (AllBegin c.args.passes.items) (sym (sole_first g.N.HallName.drivers c.look.new.stand log c.args.self.some
+    (alike g c))) (subst (λ l. AllBegin l log) (joined g c) c.look.ensures.began)

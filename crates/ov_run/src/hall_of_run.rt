@@ -1,0 +1,90 @@
+//! The hall of a run while one hand has it: what lines outside sections need of it.
+ghost use Rattle.std.specs.Prelude.{◌≡◌, length, IfOk, IfErr, OnOk, OnErr};
+ghost use Rattle.ov_hall.specs.Logs.{core_made};
+ghost use Rattle.ov_ids.specs.FaultOrder.{IsRefusedBy};
+ghost use Rattle.ov_net.specs.Refusals.{IsRefusal};
+ghost use Rattle.ov_snap.specs.CoreState.{opening_core};
+ghost use Rattle.ov_snap.specs.Filing.{WasFiled};
+ghost use Rattle.ov_snap.specs.Refusals.{FilingJudged};
+ghost use Rattle.ov_snap.specs.Run.{Happened};
+ghost use Rattle.ov_snap.specs.declared.fault.CoreFault.TheVariants.{OutOfMemory as out_of_memory};
+
+use ov_hall::{HallName, Opening, Whole};
+use ov_ids::Params;
+use ov_net::{Entry, Event, NetFault};
+use ov_snap::{Core, CoreFault, Report};
+use ov_words::Words;
+use std::alloc::Global;
+use std::marker::Model;
+
+/// The hall of a run, in one hand. Contracts see the core that its log makes, and no driver: which driver did something
+/// is nothing to what a run prints.
+#[derive(Drop)]
+pub struct RunHall<N: HallName> {
+    pub(crate) hall: Whole<N>,
+}
+
+impl<N: HallName> Model for RunHall<N> {
+    ghost use Rattle.ov_hall.specs.Logs.{core_made};
+    ghost use Rattle.ov_snap.specs.CoreState.{CoreState};
+    ghost use Rattle.ov_snap.specs.Code.Codes.{core_code};
+
+    ghost Value = { CoreState };
+
+    ghost coded = { core_code };
+
+    ghost view = { λ r. core_made N.params r.hall };
+}
+
+impl<N: HallName> RunHall<N> {
+    /// The hall of a run in which nothing happened.
+    pub(crate) fn new(alloc: Global, params: Params, opening: Opening) -> RunHall<N>
+        requires name { (opening.table ≡ N.table) × (opening.drivers ≡ N.drivers) }
+        requires params { params ≡ N.params }
+        ensures { result ≡ opening_core params }
+    {
+        RunHall {
+            hall: Whole::<N>::new(alloc, params, opening),
+        }
+    }
+
+    /// The hall of a run, from one at rest.
+    pub(crate) fn of(hall: Whole<N>) -> RunHall<N>
+        ensures { result ≡ core_made N.params hall }
+    {
+        RunHall { hall }
+    }
+
+    /// The hall at rest.
+    pub(crate) fn into_inner(self) -> Whole<N>
+        ensures { core_made N.params result ≡ self }
+    {
+        let RunHall { hall } = self;
+        hall
+    }
+
+    /// The core.
+    pub(crate) fn core(&self) -> &Core
+        ensures { result.now ≡ self.now }
+    {
+        self.hall.core()
+    }
+
+    /// Takes one event, as `Core::step` does.
+    pub(crate) fn step(&mut self, event: Event, words: &Words) -> Result<Entry, NetFault>
+        ensures happened { IfOk result (λ e. Happened self.old event words.now e self.new) }
+        ensures refused { IfErr result (IsRefusal self.old.world.net (length self.old.world.journal) event) }
+        ensures err { OnErr result (self.new ≡ self.old) }
+    {
+        self.hall.step(event, words)
+    }
+
+    /// Files a report, as `Core::file` does.
+    pub(crate) fn file(&mut self, report: Report) -> Result<(), CoreFault>
+        ensures filed { OnOk result (WasFiled self.old report self.new) }
+        ensures refused { IfErr result (IsRefusedBy out_of_memory (FilingJudged self.old report)) }
+        ensures err { OnErr result (self.new ≡ self.old) }
+    {
+        self.hall.file(report)
+    }
+}

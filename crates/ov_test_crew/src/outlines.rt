@@ -1,0 +1,70 @@
+//! Answers without paths, by workers in threads.
+use crate::crews::{PETERSEN, RING, Row, TWO_SIDES, crew_of, gives};
+use crate::gates::{Meeting, Opening};
+use crate::graphs::of_size;
+use ov_cert::Cert;
+use ov_crew::{OpenGate, outline_group_watched};
+use ov_even::Unwatched;
+use std::alloc::Global;
+use std::test::Fail;
+use std::thread::Threads;
+
+/// Whether this number of workers finds the answer of a row, without paths.
+fn is_outlined<R: Threads + Sync>(
+    rt: &R,
+    alloc: Global,
+    row: &Row,
+    count: u32,
+) -> Result<bool, Fail> {
+    let graph = of_size(alloc, row.family, row.nodes)?;
+    let group = graph.nodes();
+    let workers = crew_of(count)?;
+    let outline = outline_group_watched(
+        rt,
+        alloc,
+        &graph,
+        group,
+        workers,
+        &OpenGate,
+        &mut Unwatched,
+    )?;
+    Ok(gives(&outline, row) && has_no_paths(&outline))
+}
+
+/// Whether a certificate has no entries.
+fn has_no_paths(cert: &Cert) -> bool {
+    match cert {
+        Cert::Linked { .. } => true,
+        Cert::Split(split) => split.pairs.as_slice().is_empty() && split.fans.as_slice().is_empty(),
+    }
+}
+
+#[test]
+fn the_same_without_paths(rt: HostRuntime) -> Result<(), Fail> {
+    for count in [1, 2, 4] {
+        for row in [&PETERSEN, &RING, &TWO_SIDES] {
+            assert!(rt; is_outlined(&rt, rt.alloc(), row, count)?);
+        }
+    }
+    Ok(())
+}
+
+/// The levels that pay get two workers, which meet.
+#[test]
+fn a_level_that_pays_gets_two_workers_without_paths(rt: HostRuntime) -> Result<(), Fail> {
+    let meeting = Meeting::new();
+    let mut opening = Opening { meeting: &meeting };
+    let graph = of_size(rt.alloc(), TWO_SIDES.family, TWO_SIDES.nodes)?;
+    let two = crew_of(2)?;
+    let outline = outline_group_watched(
+        &rt,
+        rt.alloc(),
+        &graph,
+        graph.nodes(),
+        two,
+        &meeting,
+        &mut opening,
+    )?;
+    assert!(rt; gives(&outline, &TWO_SIDES) && meeting.saw_both());
+    Ok(())
+}
