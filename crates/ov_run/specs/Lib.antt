@@ -1,6 +1,7 @@
 pub mod Analysing
 pub mod Ending
 pub mod Faults
+pub mod Progress
 pub mod Theorems
 pub mod Printed
 pub mod Refusals

@@ -19,10 +19,9 @@ use Rattle.ov_snap.specs.declared.fault.CoreFault.TheVariants.{NoSuchMoment, Out
 use Rattle.ov_ids.specs.FaultOrder.{IsRefusedBy}
 use Rattle.ov_snap.specs.Run.{Happened}
 use Rattle.ov_snap.specs.declared.fault.CoreFault.{CoreFault}
-use Rattle.ov_hall.specs.Parts.{total}
 use Rattle.ov_run.specs.Printed.{entry_line, refused_line, report_line, file_text, node_line, packet_line}
 use Rattle.ov_run.specs.Printed.{together_line}
-use Rattle.ov_run.specs.Sections.{RunTogether}
+use Rattle.ov_run.specs.Sections.{RunTogether, ToldLine, accepted_in, refused_in}
 use Rattle.ov_scenario.specs.Scenarios.{IsScenario}
 use Rattle.ov_scenario.specs.Sections.{SectionLine}
 use Rattle.ov_run.specs.Subjects.{IsReportOf, AnalysisJudged, WasAnalysed}
@@ -77,12 +76,16 @@ PrintsLook b (Show id) text = PrintsNode b.world.net id text
 PrintsLook b Packets text = PrintsPackets 0 b.world.net.packets text
 PrintsLook b (Certificate subject) text = PrintsCertificate b subject text
 
--- the sections of a block run at once, and after all of them ended one line is printed: how many sections there are,
--- how many of all their lines were accepted, and how many were refused
+-- the sections of a block run at once, and this comes of all their lines; after all of them ended one line is printed:
+-- how many sections there are, how many of these lines were accepted, and how many were refused
+abbrev pub RunsBlock : CoreState → List (List SectionLine) → List ToldLine → CoreState → List ℕ → Type 0
+RunsBlock b sections told u text =
+    RunTogether b sections u told
+    × (text ≡ together_line (length sections) (accepted_in told) (refused_in told))
+
+-- the same, whatever comes of the lines
 abbrev pub PrintsBlock : CoreState → List (List SectionLine) → CoreState → List ℕ → Type 0
-PrintsBlock b sections u text =
-    (accepted : ℕ) × (refused : ℕ) × RunTogether b sections u accepted × (accepted + refused ≡ total length sections)
-    × (text ≡ together_line (length sections) accepted refused)
+PrintsBlock b sections u text = (told : List ToldLine) × RunsBlock b sections told u text
 
 -- one line of a scenario. Any number of workers may share out an analysis: what is said of its line is the same
 abbrev pub PrintsLine : CoreState → Line → CoreState → List ℕ → Type 0

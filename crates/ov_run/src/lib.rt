@@ -9,6 +9,7 @@ mod hall_of_run;
 mod line_outcome;
 mod line_running;
 mod line_texts;
+mod pacing;
 mod recent_reports;
 mod refusal;
 mod report_filing;
@@ -25,6 +26,7 @@ pub use graph_analysis::{analyse_bytes, analyse_file};
 pub use line_texts::{
     entry_line, node_line, packet_line, refused_line, report_line, together_line,
 };
+pub use pacing::Pacing;
 pub use refusal::Refusal;
 pub use run_fault::RunFault;
 pub use run_watcher::{RanLine, RunWatcher};

@@ -1,4 +1,4 @@
-ghost use Rattle.std.specs.Prelude.{◌≡◌, ◌⊎◌, ◌<◌, ◌≤◌, ◌+◌, length, Ok, Err, IfOk, IfErr, OnOk, IsErrOf};
+ghost use Rattle.std.specs.Prelude.{◌≡◌, ◌⊎◌, ◌<◌, ◌≤◌, ◌+◌, [], length, Ok, Err, IfOk, IfErr, OnOk, IsErrOf};
 ghost use Rattle.ov_io.specs.Device.{most_faults, write_faults as sink_faults, write_number};
 ghost use Rattle.ov_net.specs.declared.journal_entry_and_changes.Entry.{Entry};
 ghost use Rattle.ov_snap.specs.Run.{Happened};
@@ -6,20 +6,20 @@ ghost use Rattle.ov_run.specs.Ending.{BeginsLook, EndsLook};
 ghost use Rattle.ov_run.specs.Faults.{write_faults};
 ghost use Rattle.ov_run.specs.Running.{PrintsEvent, PrintsReportLine, PrintsLook};
 ghost use Rattle.ov_run.specs.Code.Outcomes.{DoesEvent, FilesReport, LineRan, RanLines, ShowsLook, WritesOutcome};
-ghost use Rattle.ov_run.specs.Code.Jobs.{HasDrivers};
+ghost use Rattle.ov_run.specs.Code.Jobs.{HasDrivers, joined};
 ghost use Rattle.ov_run.specs.Code.Writing.{Writes, WritesPrefix, IsOfWriting};
 ghost use Rattle.ov_scenario.specs.RunLines.{drivers_for};
 ghost use Rattle.ov_scenario.specs.declared.scenario.Line.TheVariants as kind;
 
 use crate::hall_of_run::RunHall;
-use crate::line_outcome::Outcome;
+use crate::line_outcome::{Outcome, ToldLine};
 use crate::line_texts::together_line;
 use crate::recent_reports::RecentReports;
 use crate::refusal::Refusal;
 use crate::report_filing::file_analysis;
 use crate::run_fault::RunFault;
 use crate::run_watcher::{RanLine, RunWatcher};
-use crate::sections_at_once::run_together;
+use crate::sections_at_once::{BlockRan, run_together};
 use crate::sink_writing::{
     write_certificate, write_done, write_entry, write_node, write_packets, write_refusal,
 };
@@ -80,9 +80,10 @@ fn run_each<N: HallName + Send + Sync, T: Threads + Wait + Sync, W: Write, V: Ru
     let mut left = lines;
     while let Some(next) = left.next_line(alloc)? {
         let ran = ran_line(&next);
-        let (outcome, after) = run_line(rt, alloc, hall, &mut recent, next.line, sink)?;
+        let (outcome, after, told) = run_line(rt, alloc, hall, &mut recent, next.line, sink)?;
         hall = after;
         tell(watcher, hall.core(), &ran, outcome);
+        tell_sections(watcher, told);
     }
     Ok(())
 }
@@ -107,33 +108,54 @@ fn tell<V: RunWatcher>(watcher: &mut V, core: &Core, line: &RanLine<'_>, outcome
     }
 }
 
-/// Runs one line, writes what it prints, and returns what became of it, with the hall after it. Before an analysis or a
-/// block of sections, which may take long, the writer is asked to hand on what it keeps back.
-fn run_line<N: HallName + Send + Sync, T: Threads + Wait + Sync, W: Write>(
+/// Shows a watcher what became of the lines of sections.
+fn tell_sections<V: RunWatcher>(watcher: &mut V, told: Seq<Seq<ToldLine<'_>>>) {
+    for section in told.into_vec() {
+        tell_section(watcher, section.as_slice());
+    }
+}
+
+/// Shows a watcher what became of the lines of one section.
+fn tell_section<V: RunWatcher>(watcher: &mut V, told: &[ToldLine<'_>]) {
+    for one in told {
+        match one.outcome {
+            Outcome::Accepted => watcher.accepted(&one.line),
+            Outcome::Refused(refusal) => watcher.refused_in_section(&one.line, refusal),
+        }
+    }
+}
+
+/// What became of a line, the hall after it, and if it is a block, what is told of the lines of its sections.
+type LineDone<'a, N> = (Outcome, RunHall<N>, Seq<Seq<ToldLine<'a>>>);
+
+/// Runs one line, writes what it prints, and returns what became of it. Before an analysis or a block of sections,
+/// which may take long, the writer is asked to hand on what it keeps back.
+fn run_line<'a, N: HallName + Send + Sync, T: Threads + Wait + Sync, W: Write>(
     rt: &T,
     alloc: Global,
     mut hall: RunHall<N>,
     recent: &mut RecentReports,
-    line: Line<'_>,
+    line: Line<'a>,
     sink: &mut Sink<W>,
-) -> Result<(Outcome, RunHall<N>), RunFault>
+) -> Result<LineDone<'a, N>, RunFault>
     requires faults { sink.old.faults < most_faults }
     requires drivers { HasDrivers N.drivers line }
-    ensures ran { LineRan W.contents hall line.entry (λ r. r.0) (λ r. r.1) sink.old sink.new result }
+    ensures ran { LineRan W.contents hall line.entry (λ r. r.0) (λ r. joined r.2) (λ r. r.1) sink.old sink.new
+        result }
 {
     match line {
         Line::Event { event, words } => {
             let outcome = run_event(alloc, &mut hall, event, &words, sink);
-            with_hall(outcome, hall)
+            with_hall(alloc, outcome, hall)
         }
         Line::Look(look) => {
             let outcome = write_look(alloc, hall.core(), look, sink);
-            with_hall(outcome, hall)
+            with_hall(alloc, outcome, hall)
         }
         Line::Analyse { subject, workers } => {
             sink.flush()?;
             let outcome = run_analysis(rt, alloc, &mut hall, recent, &subject, workers, sink)?;
-            Ok((outcome, hall))
+            Ok((outcome, hall, Seq::new(Vec::new(alloc))))
         }
         Line::Together(sections) => {
             sink.flush()?;
@@ -142,40 +164,46 @@ fn run_line<N: HallName + Send + Sync, T: Threads + Wait + Sync, W: Write>(
     }
 }
 
-/// What became of a line, with the hall after it.
-fn with_hall<N: HallName>(
+/// What became of a line that is no block, with the hall after it.
+fn with_hall<'a, N: HallName>(
+    alloc: Global,
     outcome: Result<Outcome, RunFault>,
     hall: RunHall<N>,
-) -> Result<(Outcome, RunHall<N>), RunFault>
-    ensures ok { IfOk result (λ r. (outcome ≡ Ok r.0) × (r.1 ≡ hall)) }
+) -> Result<LineDone<'a, N>, RunFault>
+    ensures ok { IfOk result (λ r. (outcome ≡ Ok r.0) × (r.1 ≡ hall) × (r.2 ≡ [])) }
     ensures err { IfErr result (λ fault. outcome ≡ Err fault) }
 {
     match outcome {
-        Ok(outcome) => Ok((outcome, hall)),
+        Ok(outcome) => Ok((outcome, hall, Seq::new(Vec::new(alloc)))),
         Err(fault) => Err(fault),
     }
 }
 
 /// Runs the sections of a block at once, each by a driver of its own, and writes the line of that after all of them
-/// ended. OutOfMemory is returned before anything is written. The watcher of the run is not told of their lines.
-fn run_block<N: HallName + Send + Sync, T: Threads + Wait + Sync, W: Write>(
+/// ended. OutOfMemory is returned before anything is written.
+fn run_block<'a, N: HallName + Send + Sync, T: Threads + Wait + Sync, W: Write>(
     rt: &T,
     alloc: Global,
     hall: RunHall<N>,
-    sections: Seq<Seq<SectionLine<'_>>>,
+    sections: Seq<Seq<SectionLine<'a>>>,
     sink: &mut Sink<W>,
-) -> Result<(Outcome, RunHall<N>), RunFault>
+) -> Result<LineDone<'a, N>, RunFault>
     requires faults { sink.old.faults < most_faults }
     requires drivers { length sections ≤ N.drivers }
-    ensures ran { LineRan W.contents hall (kind.Together sections.entry) (λ r. r.0) (λ r. r.1) sink.old sink.new
-        result }
+    ensures ran { LineRan W.contents hall (kind.Together sections.entry) (λ r. r.0) (λ r. joined r.2) (λ r. r.1)
+        sink.old sink.new result }
 {
     let sections = sections.into_vec();
     let count = sections.len();
-    let ran = run_together(rt, alloc, hall, sections)?;
-    let text = together_line(count, ran.accepted, ran.refused);
+    let BlockRan {
+        hall,
+        told,
+        accepted,
+        refused,
+    } = run_together(rt, alloc, hall, sections)?;
+    let text = together_line(count, accepted, refused);
     let outcome = write_done(text.as_str().as_bytes(), sink)?;
-    Ok((outcome, ran.hall))
+    Ok((outcome, hall, told))
 }
 
 /// Does an event, or refuses it, and writes its line. An event that is out of memory is refused as any other:

@@ -104,7 +104,7 @@ fn begin(core: &Core, subject: &Subject) -> Result<Snapshot, CoreFault>
 /// The report of a snapshot, which shares the certificate of a recent one that is about the same graph and group; if
 /// there is none, it is made, and kept for later ones. The ids are a group of the snapshot's nodes, so that only memory
 /// can be lacking.
-fn report_about<T: Threads + Sync>(
+pub(crate) fn report_about<T: Threads + Sync>(
     rt: &T,
     alloc: Global,
     snapshot: &Snapshot,
@@ -138,7 +138,7 @@ fn keep(recent: &mut RecentReports, report: &Report)
 }
 
 /// Makes the report of an analysis of these members of a snapshot.
-pub(crate) fn make_report<T: Threads + Sync>(
+fn make_report<T: Threads + Sync>(
     rt: &T,
     alloc: Global,
     snapshot: &Snapshot,

@@ -12,14 +12,18 @@ pub struct RanLine<'a> {
     pub is_event: bool,
 }
 
-/// Sees what became of each line that ran. It changes neither the run nor what is printed. A block of sections is told
-/// as one line, which is always done; what became of the lines in its sections is not told.
+/// Sees what became of each line that ran. It changes neither the run nor what is printed. A block of sections is told as
+/// one line, which is always done, after its own line was given to the writer; then each line of its sections is told,
+/// section by section, and those of one section in order.
 pub trait RunWatcher {
     /// This line was done: its event happened, its report was filed, or what it looks at was given to the writer.
     fn accepted(&mut self, line: &RanLine<'_>);
 
     /// This line was refused, and the line of that was given to the writer. The core is as the line found it.
     fn refused(&mut self, core: &Core, line: &RanLine<'_>, refusal: Refusal);
+
+    /// This line of a section was refused. The core that refused it has been stepped since, so it is not at hand.
+    fn refused_in_section(&mut self, line: &RanLine<'_>, refusal: Refusal);
 }
 
 /// A watcher that does nothing.
@@ -30,4 +34,6 @@ impl RunWatcher for Unwatched {
     fn accepted(&mut self, _line: &RanLine<'_>) {}
 
     fn refused(&mut self, _core: &Core, _line: &RanLine<'_>, _refusal: Refusal) {}
+
+    fn refused_in_section(&mut self, _line: &RanLine<'_>, _refusal: Refusal) {}
 }

@@ -1,11 +1,11 @@
 //! The sections of a block, each in a thread of its own.
-ghost use Rattle.std.specs.Prelude.{◌≡◌, ◌≤◌, ◌<◌, ◌+◌, length, map, IfOk};
-ghost use Rattle.ov_hall.specs.Parts.{total};
-ghost use Rattle.ov_run.specs.Sections.{RunTogether};
-ghost use Rattle.ov_run.specs.Code.Jobs.{HasRun, HaveRun, jobs_of};
+ghost use Rattle.std.specs.Prelude.{◌≡◌, ◌≤◌, ◌<◌, ◌+◌, [], length, map, vec_capacity, IfOk};
+ghost use Rattle.ov_run.specs.Sections.{RunTogether, accepted_in, refused_in};
+ghost use Rattle.ov_run.specs.Code.Jobs.{HasRun, HaveRun, jobs_of, joined};
 
 use crate::hall_of_run::RunHall;
-use crate::section_running::{Job, Ran, run_section};
+use crate::line_outcome::{ToldLine, count_accepted};
+use crate::section_running::{Job, Ran, Section, run_section};
 use ov_hall::{Hall, HallName, Pass};
 use ov_ids::{OutOfMemory, Seq};
 use ov_scenario::SectionLine;
@@ -14,35 +14,42 @@ use std::sync::Wait;
 use std::thread;
 use std::thread::Threads;
 
-/// What came of a block: the hall after it, and how many lines of all its sections were accepted and how many refused.
+/// What came of a block: the hall after it, what is told of the lines of each section, and how many of all lines were
+/// accepted and how many refused.
 #[derive(Drop)]
-pub struct BlockRan<N: HallName> {
+pub struct BlockRan<'a, N: HallName> {
     pub hall: RunHall<N>,
+    pub told: Seq<Seq<ToldLine<'a>>>,
     pub accepted: u128,
     pub refused: u128,
 }
 
-/// Runs section i by driver i, all at once, each in a thread of its own. Out of memory ends the hall, since threads
-/// that have no room drop their passes.
-pub fn run_together<N: HallName + Send + Sync, T: Threads + Wait + Sync>(
+/// Runs section i by driver i, all at once, each in a thread of its own. The room for what is told of the lines is made
+/// before any line runs. Out of memory ends the hall, since threads that have no room drop their passes.
+pub fn run_together<'a, N: HallName + Send + Sync, T: Threads + Wait + Sync>(
     rt: &T,
     alloc: Global,
     hall: RunHall<N>,
-    sections: Vec<Seq<SectionLine<'_>>>,
-) -> Result<BlockRan<N>, OutOfMemory>
+    sections: Vec<Seq<SectionLine<'a>>>,
+) -> Result<BlockRan<'a, N>, OutOfMemory>
     requires enough { length sections.items ≤ N.drivers }
-    ensures ran { IfOk result (λ r. RunTogether hall sections.entry.items r.hall r.accepted) }
-    ensures all { IfOk result (λ r. r.accepted + r.refused ≡ total length sections.entry.items) }
+    ensures ran { IfOk result (λ r. RunTogether hall sections.entry.items r.hall (joined r.told)) }
+    ensures accepted { IfOk result (λ r. r.accepted ≡ accepted_in (joined r.told)) }
+    ensures refused { IfOk result (λ r. r.refused ≡ refused_in (joined r.told)) }
 {
     let Ok((hall, passes)) = hall.into_inner().part(alloc) else {
         return Err(OutOfMemory);
     };
     let jobs = jobs_of(alloc, passes, sections)?;
+    let back = Vec::with_capacity(alloc, jobs.len())?;
+    let told = Vec::with_capacity(alloc, jobs.len())?;
     let ran = run_jobs(rt, alloc, &hall, jobs)?;
-    let (passes, accepted, refused) = sorted_out(alloc, ran)?;
-    let hall = RunHall::of(hall.unite(passes));
+    let (back, told) = sorted_out(ran, back, told);
+    let (accepted, refused) = counted(&told);
+    let hall = RunHall::of(hall.unite(back));
     Ok(BlockRan {
         hall,
+        told: Seq::new(told),
         accepted,
         refused,
     })
@@ -60,44 +67,59 @@ fn jobs_of<'a, N: HallName>(
     let mut left = sections.into_iter();
     for pass in passes {
         let lines = left.next().unwrap_or(Seq::new(Vec::new(alloc)));
-        jobs.push_reserved((pass, lines));
+        let section = Section::new(alloc, lines)?;
+        jobs.push_reserved((pass, section));
     }
     Ok(jobs)
 }
 
 /// Does each job in a thread of its own. Returns the results in order.
-fn run_jobs<N: HallName + Send + Sync, T: Threads + Wait + Sync>(
+fn run_jobs<'a, N: HallName + Send + Sync, T: Threads + Wait + Sync>(
     rt: &T,
     alloc: Global,
     hall: &Hall<N>,
-    jobs: Vec<Job<'_, N>>,
-) -> Result<Vec<Ran<N>>, OutOfMemory>
+    jobs: Vec<Job<'a, N>>,
+) -> Result<Vec<Ran<'a, N>>, OutOfMemory>
     ensures { IfOk result (λ ran. HaveRun N.params jobs.entry.items ran.items) }
 {
-    let work = |job: Job<'_, N>| -> Ran<N>
+    let work = |job|
         ensures { HasRun N.params job.entry result }
     { run_section(rt, alloc, hall, job) };
     Ok(thread::map_vec(rt, jobs, &work)?)
 }
 
-/// The passes of all drivers, and how many of all lines were accepted and how many refused.
-fn sorted_out<N: HallName>(
-    alloc: Global,
-    ran: Vec<Ran<N>>,
-) -> Result<(Vec<Pass<N>>, u128, u128), OutOfMemory>
-    ensures passes { IfOk result (λ r. r.0.items ≡ map (λ x. x.0) ran.items) }
-    ensures accepted { IfOk result (λ r. r.1 ≡ total (λ x. x.1) ran.items) }
-    ensures refused { IfOk result (λ r. r.2 ≡ total (λ x. x.2) ran.items) }
+/// The passes of all drivers, and what is told of the lines of each. Both go where there is room for them.
+fn sorted_out<'a, N: HallName>(
+    ran: Vec<Ran<'a, N>>,
+    mut passes: Vec<Pass<N>>,
+    mut told: Vec<Seq<ToldLine<'a>>>,
+) -> (Vec<Pass<N>>, Vec<Seq<ToldLine<'a>>>)
+    requires empty { (passes.items ≡ []) × (told.items ≡ []) }
+    requires room { (length ran.items ≤ vec_capacity passes) × (length ran.items ≤ vec_capacity told) }
+    ensures passes { result.0.items ≡ map (λ x. x.0) ran.entry.items }
+    ensures told { result.1.items ≡ map (λ x. x.1) ran.entry.items }
 {
-    let mut passes = Vec::with_capacity(alloc, ran.len())?;
+    for (pass, own) in ran {
+        passes.push_reserved(pass);
+        told.push_reserved(own);
+    }
+    (passes, told)
+}
+
+/// How many of all these lines were accepted, and how many refused.
+fn counted(told: &[Seq<ToldLine<'_>>]) -> (u128, u128)
+    ensures accepted { result.0 ≡ accepted_in (joined told.now) }
+    ensures refused { result.1 ≡ refused_in (joined told.now) }
+{
     let mut accepted = 0u128;
     let mut refused = 0u128;
-    for (pass, own_accepted, own_refused) in ran {
-        passes.push_reserved(pass);
-        accepted = with_own(accepted, own_accepted);
-        refused = with_own(refused, own_refused);
+    for own in told {
+        let lines = own.as_slice();
+        let done = count_accepted(lines);
+        accepted = with_own(accepted, done);
+        refused = with_own(refused, lines.len() - done);
     }
-    Ok((passes, accepted, refused))
+    (accepted, refused)
 }
 
 /// A number of lines, and those of one section more.

@@ -7,9 +7,9 @@ use std::sync::Wait;
 use std::test::Fail;
 use std::thread::Threads;
 
-/// What is told of a line: its number, whether it is an event, and if it was refused, the number of the refusal and the
-/// length of the journal.
-type Told = (usize, bool, Option<(u32, usize)>);
+/// What is told of a line: its number, whether it is an event, and if it was refused, the number of the refusal, and the
+/// length of the journal unless the line stands in a section.
+type Told = (usize, bool, Option<(u32, Option<usize>)>);
 
 /// Keeps what it is told, and the texts of the lines, each with a line feed.
 #[derive(Drop)]
@@ -32,22 +32,28 @@ impl RunWatcher for Listener {
     }
 
     fn refused(&mut self, core: &Core, line: &RanLine<'_>, refusal: Refusal) {
-        let refused = (refusal.number(), core.world().journal().len());
+        let refused = (refusal.number(), Some(core.world().journal().len()));
+        let _ = self.told.push((line.number, line.is_event, Some(refused)));
+        self.keep_text(line.text);
+    }
+
+    fn refused_in_section(&mut self, line: &RanLine<'_>, refusal: Refusal) {
+        let refused = (refusal.number(), None);
         let _ = self.told.push((line.number, line.is_event, Some(refused)));
         self.keep_text(line.text);
     }
 }
 
 /// Scenarios, and what is told of each line that runs.
-static RUNS: [(&str, &[Told]); 6] = [
+static RUNS: [(&str, &[Told]); 9] = [
     ("", &[]),
     (
         "boot 1\nboot 1\nshow 1\nshow 2\n",
         &[
             (1, true, None),
-            (2, true, Some((11, 1))),
+            (2, true, Some((11, Some(1)))),
             (3, false, None),
-            (4, false, Some((10, 1))),
+            (4, false, Some((10, Some(1)))),
         ],
     ),
     (
@@ -55,20 +61,20 @@ static RUNS: [(&str, &[Told]); 6] = [
         &[
             (1, true, None),
             (2, true, None),
-            (3, false, Some((12, 2))),
-            (4, true, Some((11, 2))),
-            (5, true, Some((12, 2))),
+            (3, false, Some((12, Some(2)))),
+            (4, true, Some((11, Some(2)))),
+            (5, true, Some((12, Some(2)))),
         ],
     ),
     (
         "# nobody\nseed 7\nsnapshot\n\ndeliver 0\npackets\ncertificate 1\nanalyse 1\nanalyse 2\n",
         &[
             (3, true, None),
-            (5, true, Some((14, 1))),
+            (5, true, Some((14, Some(1)))),
             (6, false, None),
-            (7, false, Some((50, 1))),
-            (8, false, Some((30, 1))),
-            (9, false, Some((50, 1))),
+            (7, false, Some((50, Some(1)))),
+            (8, false, Some((30, Some(1)))),
+            (9, false, Some((50, Some(1)))),
         ],
     ),
     (
@@ -76,13 +82,40 @@ static RUNS: [(&str, &[Told]); 6] = [
         &[
             (1, true, None),
             (2, true, None),
-            (3, false, Some((34, 2))),
+            (3, false, Some((34, Some(2)))),
             (4, false, None),
-            (5, false, Some((52, 2))),
+            (5, false, Some((52, Some(2)))),
             (6, false, None),
         ],
     ),
     ("boot 1\nfly\n", &[]),
+    ("together\nend\n", &[(1, false, None)]),
+    (
+        "boot 1\nshow 1\ntogether\nboot 2\nboot 2\ncrash 9\nalso\nalso\nanalyse 7\nboot 3\nend\nshow 2\n",
+        &[
+            (1, true, None),
+            (2, false, None),
+            (3, false, None),
+            (4, true, None),
+            (5, true, Some((11, None))),
+            (6, true, Some((10, None))),
+            (9, false, Some((50, None))),
+            (10, true, None),
+            (12, false, None),
+        ],
+    ),
+    (
+        "boot 1\nsnapshot\ntogether\nanalyse 2\nanalyse 2\nalso\nboot 1\nend\nanalyse 2\n",
+        &[
+            (1, true, None),
+            (2, true, None),
+            (3, false, None),
+            (4, false, None),
+            (5, false, Some((52, None))),
+            (7, true, Some((11, None))),
+            (9, false, Some((52, Some(2)))),
+        ],
+    ),
 ];
 
 /// What a run of this file returns and prints.
@@ -110,9 +143,10 @@ fn tells(rt: &(impl AllocGlobal + Threads + Wait + Sync), file: &str, told: &[To
 }
 
 /// A scenario with lines that do not run, and the texts of those that do.
-const MIXED: &str = "# nobody\nseed 7\nsnapshot\n\ndeliver 0\r\nshow 3\n";
+const MIXED: &str =
+    "# nobody\nseed 7\nsnapshot\n\ndeliver 0\r\nshow 3\ntogether\n# four\n boot 4\r\nalso\nboot 4 by 5\nend\n";
 
-const THAT_RUN: &str = "snapshot\ndeliver 0\nshow 3\n";
+const THAT_RUN: &str = "snapshot\ndeliver 0\nshow 3\ntogether\n boot 4\nboot 4 by 5\n";
 
 #[test]
 fn a_watcher_is_given_the_text_of_each_line(rt: HostRuntime) {

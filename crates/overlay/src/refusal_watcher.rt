@@ -30,8 +30,13 @@ impl<'a> Explaining<'a> {
         if !self.is_wanted {
             return;
         }
-        if let Ok(line) = count_line(self.rt.alloc(), self.accepted, self.refused) {
-            let _ = eprint!(self.rt; "{line}");
+        self.print(count_line(self.rt.alloc(), self.accepted, self.refused));
+    }
+
+    /// Counts a line that was refused, if it is an event.
+    fn count_refused(&mut self, line: &RanLine<'_>) {
+        if line.is_event {
+            self.refused = self.refused.saturating_add(1);
         }
     }
 
@@ -49,6 +54,24 @@ impl<'a> Explaining<'a> {
         };
         refusal_line(alloc, line.number, &reason)
     }
+
+    /// What is printed of a line of a section that was refused: the fault's own words, since the core that refused the
+    /// line is not at hand.
+    fn section_reason(&self, line: &RanLine<'_>, refusal: Refusal) -> Result<String, OutOfMemory> {
+        let alloc = self.rt.alloc();
+        let reason = match refusal {
+            Refusal::World(fault) => fault.to_string(alloc)?,
+            Refusal::Core(fault) => fault.to_string(alloc)?,
+        };
+        refusal_line(alloc, line.number, &reason)
+    }
+
+    /// Prints what is said of a line, if there was memory for it.
+    fn print(&self, said: Result<String, OutOfMemory>) {
+        if let Ok(text) = said {
+            let _ = eprint!(self.rt; "{text}");
+        }
+    }
 }
 
 impl<'a> RunWatcher for Explaining<'a> {
@@ -59,14 +82,16 @@ impl<'a> RunWatcher for Explaining<'a> {
     }
 
     fn refused(&mut self, core: &Core, line: &RanLine<'_>, refusal: Refusal) {
-        if line.is_event {
-            self.refused = self.refused.saturating_add(1);
+        self.count_refused(line);
+        if self.is_wanted {
+            self.print(self.reason(core, line, refusal));
         }
-        if !self.is_wanted {
-            return;
-        }
-        if let Ok(reason) = self.reason(core, line, refusal) {
-            let _ = eprint!(self.rt; "{reason}");
+    }
+
+    fn refused_in_section(&mut self, line: &RanLine<'_>, refusal: Refusal) {
+        self.count_refused(line);
+        if self.is_wanted {
+            self.print(self.section_reason(line, refusal));
         }
     }
 }

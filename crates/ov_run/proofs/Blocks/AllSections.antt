@@ -5,14 +5,14 @@ use Rattle.std.proofs.Common.{refl, sym, ap, ◌∙◌, subst, ⊎_elim, arith}
 use Rattle.ov_ids.specs.ParamsState.{ParamsState}
 use Rattle.ov_snap.specs.CoreState.{CoreState}
 use Rattle.ov_hall.specs.Logs.{AreBelow, Begins, IsLog, core_made, of_driver}
-use Rattle.ov_hall.specs.Parts.{hit, total}
-use Rattle.ov_hall.specs.Passes.{AllBegin, AreDrivers, numbers_from, seen_alike, ticket}
+use Rattle.ov_hall.specs.Parts.{hit}
+use Rattle.ov_hall.specs.Passes.{AllBegin, numbers_from, seen_alike, ticket}
 use Rattle.ov_hall.specs.declared.ghost_views.Mark.{Mark}
 use Rattle.ov_hall.specs.declared.ghost_views.Ticket.{Ticket}
 use Rattle.ov_hall.proofs.Alike.{same_rest}
 use Rattle.ov_hall.proofs.Counting.{hits}
-use Rattle.ov_run.specs.Sections.{RunSections, RunTogether, RunsSection}
-use Rattle.ov_run.specs.Code.Jobs.{HaveRun, Job, Ran, jobs_of}
+use Rattle.ov_run.specs.Sections.{RunSections, RunTogether, ToldLine}
+use Rattle.ov_run.specs.Code.Jobs.{HaveRun, Job, Ran, jobs_of, joined}
 use Rattle.ov_scenario.specs.Sections.{SectionLine}
 use Rattle.ov_run.proofs.Blocks.SectionLines.{Extends, section_on}
 
@@ -35,34 +35,37 @@ in_order params seen d zero sections (r ∷ rs) ran = absurd ran
 in_order params seen d (suc n) [] [] ran = absurd ran
 in_order params seen d (suc n) (s ∷ ss) [] ran = absurd ran
 in_order params seen d (suc n) [] (r ∷ rs) ran =
-    let own = section_on params (ticket d seen) [] r.1 r.0 ran.0.0 in
+    let own = section_on params (ticket d seen) [] r.1 r.0 ran.0 in
     (λ i. (own.0 i) ∷ in_order params seen (d + 1) n [] rs ran.1 i)
 in_order params seen d (suc n) (s ∷ ss) (r ∷ rs) ran =
-    let own = section_on params (ticket d seen) s r.1 r.0 ran.0.0 in
+    let own = section_on params (ticket d seen) s r.1 r.0 ran.0 in
     (λ i. (own.0 i) ∷ in_order params seen (d + 1) n ss rs ran.1 i)
 
--- drivers without a section have no line that was accepted
+-- what is told of the lines of all drivers
+abbrev pub told_by : List Ran → List ToldLine
+told_by rs = joined (map (λ r. r.1) rs)
+
+-- drivers without a section have no lines
 idle : (params : ParamsState) (seen : List Mark) (d n : ℕ) (rs : List Ran) → DriversRan params seen d n [] rs
-    → total (λ r. r.1) rs ≡ 0
+    → told_by rs ≡ []
 idle params seen d zero [] ran = refl
 idle params seen d zero (r ∷ rs) ran = absurd ran
 idle params seen d (suc n) [] ran = absurd ran
-idle params seen d (suc n) (r ∷ rs) ran =
-    let own = ran.0.0.1 in omega (arith, own, idle params seen (d + 1) n rs ran.1)
+idle params seen d (suc n) (r ∷ rs) ran = (λ i. ran.0.1 i ++ idle params seen (d + 1) n rs ran.1 i)
 
 -- what the drivers with sections did
 pub sections_ran : (params : ParamsState) (seen log : List Mark) (d n : ℕ) (sections : List (List SectionLine))
     (rs : List Ran) → length sections ≤ n → DriversRan params seen d n sections rs
-    → AllBegin (map (λ r. r.0) rs) log → RunSections params seen log d sections (total (λ r. r.1) rs)
+    → AllBegin (map (λ r. r.0) rs) log → RunSections params seen log d sections (told_by rs)
 sections_ran params seen log d n [] rs few ran begin = idle params seen d n rs ran
 sections_ran params seen log d zero (s ∷ ss) rs few ran begin = absurd (omega (arith, few))
 sections_ran params seen log d (suc n) (s ∷ ss) [] few ran begin = absurd ran
 sections_ran params seen log d (suc n) (s ∷ ss) (r ∷ rs) few ran begin =
-    let own = section_on params (ticket d seen) s r.1 r.0 ran.0.0 in (
+    let own = section_on params (ticket d seen) s r.1 r.0 ran.0 in (
       r.0,
       r.1,
-      total (λ x. x.1) rs,
-      ran.0.0,
+      told_by rs,
+      ran.0,
       subst (λ x. Begins x r.0.seen log) own.0 begin.0,
       sections_ran params seen log (d + 1) n ss rs (omega (arith, few)) ran.1 begin.1,
       refl,
@@ -77,7 +80,7 @@ idle_begins params seen log x d (suc n) [] [] low high ran begin = absurd ran
 idle_begins params seen log x d (suc n) (s ∷ ss) [] low high ran begin = absurd ran
 idle_begins params seen log x d (suc n) [] (r ∷ rs) low high ran begin = ⊎_elim
     (λ (h : (x ≡ d) × (hit x d ≡ 1)).
-    let mine : Begins d seen log = subst (λ (t : Ticket). Begins t.driver t.seen log) ran.0.0.0 begin.0 in
+    let mine : Begins d seen log = subst (λ (t : Ticket). Begins t.driver t.seen log) ran.0.0 begin.0 in
     subst (λ y. Begins y seen log) (sym h.0) mine)
     (λ (h : (x ≢ d) × (hit x d ≡ 0)). let ne = h.0 in
     idle_begins params seen log x (d + 1) n [] rs (omega (arith, low, ne)) (omega (arith, high)) ran.1 begin.1)
@@ -110,17 +113,17 @@ goes_on params seen log zero sections rs some ran begin = absurd (omega (arith, 
 goes_on params seen log (suc n) [] [] some ran begin = absurd ran
 goes_on params seen log (suc n) (s ∷ ss) [] some ran begin = absurd ran
 goes_on params seen log (suc n) [] (r ∷ rs) some ran begin =
-    after seen log r.0 (section_on params (ticket 0 seen) [] r.1 r.0 ran.0.0) begin.0
+    after seen log r.0 (section_on params (ticket 0 seen) [] r.1 r.0 ran.0) begin.0
 goes_on params seen log (suc n) (s ∷ ss) (r ∷ rs) some ran begin =
-    after seen log r.0 (section_on params (ticket 0 seen) s r.1 r.0 ran.0.0) begin.0
+    after seen log r.0 (section_on params (ticket 0 seen) s r.1 r.0 ran.0) begin.0
 
 -- the whole block
 pub ran_together : (params : ParamsState) (n : ℕ) (seen log : List Mark) (b u : CoreState)
-    (sections : List (List SectionLine)) (rs : List Ran) (accepted : ℕ) → 0 < n → length sections ≤ n
+    (sections : List (List SectionLine)) (rs : List Ran) (told : List (List ToldLine)) → 0 < n → length sections ≤ n
     → core_made params seen ≡ b → core_made params log ≡ u → IsLog params n log
-    → DriversRan params seen 0 n sections rs → AllBegin (map (λ r. r.0) rs) log → accepted ≡ total (λ r. r.1) rs
-    → RunTogether b sections u accepted
-ran_together params n seen log b u sections rs accepted some few at to is ran begin sum =
+    → DriversRan params seen 0 n sections rs → AllBegin (map (λ r. r.0) rs) log → told ≡ map (λ r. r.1) rs
+    → RunTogether b sections u (joined told)
+ran_together params n seen log b u sections rs told some few at to is ran begin is_told =
     let on = goes_on params seen log n sections rs some ran begin in
     let below : AreBelow n on.0 = below_rest n seen on.0 (subst (AreBelow n) on.1 is.below) in
     record {
@@ -133,7 +136,7 @@ ran_together params n seen log b u sections rs accepted some few at to is ran be
       after = to;
       is_log = is;
       goes_on = on.1;
-      ran = subst (RunSections params seen log 0 sections) (sym sum)
+      ran = subst (λ l. RunSections params seen log 0 sections (joined l)) (sym is_told)
           (sections_ran params seen log 0 n sections rs few ran begin);
       no_others = λ x high. ⊎_elim (λ (far : n ≤ x). beyond n x on.0 far below) (λ (low : x < n). mine x high low)
           (within n x);
@@ -148,30 +151,9 @@ ran_together params n seen log b u sections rs accepted some few at to is ran be
           let same : b.0 ≡ on.0 = same_rest seen b.0 on.0 (sym b.1 ∙ on.1) in
           subst (λ l. of_driver x l ≡ 0) same b.2
 
--- ---- how many lines there are
-
--- all lines of the jobs are those of the sections
-job_lines : (ps : List Ticket) (sections : List (List SectionLine)) → length sections ≤ length ps
-    → total (λ j. length j.1) (jobs_of ps sections) ≡ total length sections
-job_lines [] [] few = refl
-job_lines [] (s ∷ ss) few = absurd (omega (arith, few))
-job_lines (p ∷ ps) [] few = omega (arith, job_lines ps [] (omega arith))
-job_lines (p ∷ ps) (s ∷ ss) few = omega (arith, job_lines ps ss (omega (arith, few)))
-
-both_kinds : (params : ParamsState) (js : List Job) (rs : List Ran) → HaveRun params js rs
-    → total (λ r. r.1) rs + total (λ r. r.2) rs ≡ total (λ j. length j.1) js
-both_kinds params [] [] ran = refl
-both_kinds params [] (r ∷ rs) ran = absurd ran
-both_kinds params (j ∷ js) [] ran = absurd ran
-both_kinds params (j ∷ js) (r ∷ rs) ran =
-    let own = ran.0.1 in omega (arith, own, both_kinds params js rs ran.1)
-
-pub all_counted : (params : ParamsState) (ps : List Ticket) (sections : List (List SectionLine)) (rs : List Ran)
-    → length sections ≤ length ps → HaveRun params (jobs_of ps sections) rs
-    → total (λ r. r.1) rs + total (λ r. r.2) rs ≡ total length sections
-all_counted params ps sections rs few ran =
-    both_kinds params (jobs_of ps sections) rs ran ∙ job_lines ps sections few
-
-pub alike_length : (d n : ℕ) (log : List Mark) → length (seen_alike d n log) ≡ n
-alike_length d zero log = refl
-alike_length d (suc n) log = omega (arith, alike_length (d + 1) n log)
+-- there is a result for each job
+pub ran_length : (params : ParamsState) (js : List Job) (rs : List Ran) → HaveRun params js rs → length rs ≡ length js
+ran_length params [] [] ran = refl
+ran_length params [] (r ∷ rs) ran = absurd ran
+ran_length params (j ∷ js) [] ran = absurd ran
+ran_length params (j ∷ js) (r ∷ rs) ran = omega (arith, ran_length params js rs ran.1)

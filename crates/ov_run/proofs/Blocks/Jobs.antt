@@ -1,5 +1,5 @@
 -- The jobs of a block: each was done, and what is left of them while they are made and their results are taken.
-use Rattle.std.proofs.Common.{◌≡◌, ◌∙◌, ◌+◌, ℕ, zero, suc, ◌<◌, List, [], ◌∷◌, length, slice_index_or, ap, refl, subst}
+use Rattle.std.proofs.Common.{◌≡◌, ◌∙◌, ◌+◌, ℕ, suc, ◌<◌, List, [], ◌∷◌, length, slice_index_or, ap, refl}
 use Rattle.std.proofs.Common.{sym, arith}
 use Rattle.std.proofs.Common.{MatchOption, Option, None, Some, unwrap_or}
 use Rattle.ov_ids.specs.ParamsState.{ParamsState}

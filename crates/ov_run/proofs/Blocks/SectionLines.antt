@@ -1,10 +1,7 @@
 -- The lines of a section, one after the other, and what each does to the pass of its driver.
-use Rattle.std.proofs.Common.{◌≡◌, ℕ, ◌+◌, ◌≤◌, Bool, true, false, List, [], ◌∷◌, ◌++◌, length, inl, inr, cond}
-use Rattle.std.proofs.Common.{◌⊎◌, None, Result, Ok, Err, IfOk, IfErr, OnErr, MatchBool, refl, sym, ap, ◌∙◌, subst}
-use Rattle.std.proofs.Common.{arith, append_assoc}
-use Rattle.std.proofs.Common.{OnOk, is_ok}
+use Rattle.std.proofs.Common.{◌≡◌, ℕ, Bool, true, false, List, [], ◌∷◌, ◌++◌, length, inl, inr, append_assoc}
+use Rattle.std.proofs.Common.{◌⊎◌, None, Result, Ok, Err, OnOk, IfErr, OnErr, refl, sym, ap, ◌∙◌, subst, arith}
 use Rattle.std.proofs.lemmas.List.{append-nil}
-use mir.Val.{bool_byte}
 use Rattle.ov_ids.specs.ParamsState.{ParamsState}
 use Rattle.ov_ids.specs.FaultOrder.{IsRefusedBy}
 use Rattle.ov_snap.specs.Refusals.{BeginJudged, FilingJudged}
@@ -13,11 +10,15 @@ use Rattle.ov_snap.specs.declared.fault.CoreFault.{CoreFault}
 use Rattle.ov_snap.specs.declared.fault.CoreFault.TheVariants.{OutOfMemory}
 use Rattle.ov_snap.specs.declared.kept_snapshots.Snapshot.{Snapshot}
 use Rattle.ov_hall.specs.Logs.{core_made, mark}
-use Rattle.ov_hall.specs.Passes.{HasBegun, HasFiled, HasLooked, HasStepped}
+use Rattle.ov_hall.specs.Passes.{HasBegun, HasFiled, HasLooked}
 use Rattle.ov_hall.specs.declared.ghost_views.Mark.{Mark}
 use Rattle.ov_hall.specs.declared.ghost_views.Ticket.{Ticket}
-use Rattle.ov_run.specs.Sections.{HasAnalysed, IsAccepted, IsRefused, IsRefusedAnalysis, IsReportOn, RunsSection}
-use Rattle.ov_run.specs.Code.Jobs.{RunsLine}
+use Rattle.ov_run.specs.Sections.{HasAnalysed, IsAccepted, IsRefused, IsRefusedAnalysis, IsReportOn, RunsLine}
+use Rattle.ov_run.specs.Sections.{RunsSection, ToldLine, is_event, told_of}
+use Rattle.ov_run.specs.declared.line_outcome.Outcome.{Outcome}
+use Rattle.ov_run.specs.declared.line_outcome.Outcome.TheVariants.{Accepted, Refused}
+use Rattle.ov_run.specs.declared.refusal.Refusal.{Refusal}
+use Rattle.ov_run.specs.declared.refusal.Refusal.TheVariants.{World, Core}
 use Rattle.ov_scenario.specs.declared.section.Deed.{Deed}
 use Rattle.ov_scenario.specs.declared.section.Deed.TheVariants as deed
 use Rattle.ov_scenario.specs.Sections.{SectionLine}
@@ -57,94 +58,106 @@ accepted_on params p (deed.Event event words) q (e, s) =
 accepted_on params p (deed.Analyse m) q (r, begun, answered, filed) =
     extends_on p begun q (looked_on p begun answered.0) (filed_on params begun r q filed)
 
-refused_on : (params : ParamsState) (p : Ticket) (d : Deed) (q : Ticket) → IsRefused params p d q → Extends p q
-refused_on params p (deed.Event event words) q (fault, is, looked) = looked_on p q looked
-refused_on params p (deed.Analyse m) q (inl (fault, is, looked)) = looked_on p q looked
-refused_on params p (deed.Analyse m) q (inr (r, begun, fault, answered, is, looked)) =
+refused_on : (params : ParamsState) (p : Ticket) (d : Deed) (refusal : Refusal) (q : Ticket)
+    → IsRefused params p d refusal q → Extends p q
+refused_on params p (deed.Event event words) (World fault) q (is, looked) = looked_on p q looked
+refused_on params p (deed.Event event words) (Core fault) q none = absurd none
+refused_on params p (deed.Analyse m) (World fault) q none = absurd none
+refused_on params p (deed.Analyse m) (Core fault) q (inl (is, looked)) = looked_on p q looked
+refused_on params p (deed.Analyse m) (Core fault) q (inr (r, begun, answered, is, looked)) =
     extends_on p begun q (looked_on p begun answered.0) (looked_on begun q looked)
 
+line_on : (params : ParamsState) (p : Ticket) (d : Deed) (outcome : Outcome) (q : Ticket)
+    → RunsLine params p d outcome q → Extends p q
+line_on params p d Accepted q does = accepted_on params p d q does
+line_on params p d (Refused refusal) q is = refused_on params p d refusal q is
+
 -- a section is of one driver, who has seen more at its end
-pub section_on : (params : ParamsState) (p : Ticket) (lines : List SectionLine) (accepted : ℕ) (q : Ticket)
-    → RunsSection params p lines accepted q → Extends p q
-section_on params p [] accepted q (same, none) = subst (Extends p) (sym same) (extends_self p)
-section_on params p (line ∷ lines) accepted q (next, inl (others, first, rest, is)) =
-    extends_on p next q (accepted_on params p line.deed next first) (section_on params next lines others q rest)
-section_on params p (line ∷ lines) accepted q (next, inr (first, rest)) =
-    extends_on p next q (refused_on params p line.deed next first) (section_on params next lines accepted q rest)
+pub section_on : (params : ParamsState) (p : Ticket) (lines : List SectionLine) (told : List ToldLine) (q : Ticket)
+    → RunsSection params p lines told q → Extends p q
+section_on params p [] told q (same, none) = subst (Extends p) (sym same) (extends_self p)
+section_on params p (line ∷ lines) told q (next, outcome, others, first, rest, is) =
+    extends_on p next q (line_on params p line.deed outcome next first) (section_on params next lines others q rest)
+
+-- a line of these parts, and what is told of it
+abbrev pub line_as : ℕ → List ℕ → Deed → SectionLine
+line_as number text deed = record { number = number; text = text; deed = deed }
+
+abbrev pub line_told : ℕ → List ℕ → Bool → Outcome → ToldLine
+line_told number text event outcome =
+    record { number = number; text = text; is_event = event; outcome = outcome }
+
+-- what is told of a line that was taken apart
+pub told_as : (number : ℕ) (text : List ℕ) (deed : Deed) (event : Bool) (outcome : Outcome) (line : SectionLine)
+    → line_as number text deed ≡ line → event ≡ is_event deed
+    → line_told number text event outcome ≡ told_of line outcome
+told_as number text deed event outcome line same is =
+    ap (λ e. line_told number text e outcome) is ∙ ap (λ l. told_of l outcome) same
 
 -- ---- a section up to some line
 
--- so many of all lines were accepted up to the pass `now`, and these are left
-abbrev pub SectionSoFar : ParamsState → Ticket → List SectionLine → Ticket → List SectionLine → ℕ → Type 0
+-- this came of the lines up to the pass `now`, and these are left
+abbrev pub SectionSoFar : ParamsState → Ticket → List SectionLine → Ticket → List SectionLine → List ToldLine → Type 0
 SectionSoFar params p all now left said =
-    (more : ℕ) (q : Ticket) → RunsSection params now left more q → RunsSection params p all (said + more) q
+    (more : List ToldLine) (q : Ticket) → RunsSection params now left more q → RunsSection params p all (said ++ more) q
 
-pub section_begun : (params : ParamsState) (p : Ticket) (all : List SectionLine) → SectionSoFar params p all p all 0
-section_begun params p all more q runs =
-    let same : more ≡ 0 + more = omega arith in subst (λ n. RunsSection params p all n q) same runs
+pub section_begun :
+    (params : ParamsState) (p : Ticket) (all : List SectionLine) → SectionSoFar params p all p all []
+section_begun params p all more q runs = runs
 
 pub section_more : (params : ParamsState) (p : Ticket) (all : List SectionLine) (now : Ticket) (line : SectionLine)
-    (left : List SectionLine) (said : ℕ) (accepted : Bool) (next : Ticket)
-    → SectionSoFar params p all now (line ∷ left) said → RunsLine params now line.deed accepted next
-    → SectionSoFar params p all next left (said + bool_byte accepted)
-section_more params p all now line left said true next so_far does more q runs =
-    let same : said + (more + 1) ≡ (said + 1) + more = omega arith in
-    subst (λ n. RunsSection params p all n q) same (so_far (more + 1) q (next, inl (more, does, runs, refl)))
-section_more params p all now line left said false next so_far does more q runs =
-    let same : said + more ≡ (said + 0) + more = omega arith in
-    subst (λ n. RunsSection params p all n q) same (so_far more q (next, inr (does, runs)))
-
-pub one_most : (b : Bool) → bool_byte b ≤ 1
-one_most true = omega arith
-one_most false = omega arith
+    (left : List SectionLine) (said : List ToldLine) (one : ToldLine) (next : Ticket)
+    → SectionSoFar params p all now (line ∷ left) said
+    → (outcome : Outcome) × RunsLine params now line.deed outcome next × (one ≡ told_of line outcome)
+    → SectionSoFar params p all next left (said ++ one ∷ [])
+section_more params p all now line left said one next so_far (outcome, does, is) more q runs =
+    subst (λ told. RunsSection params p all told q) (sym (append_assoc said (one ∷ []) more))
+    (so_far (one ∷ more) q (next, outcome, more, does, runs, ap (λ t. t ∷ more) is))
 
 pub section_ended : (params : ParamsState) (p : Ticket) (all : List SectionLine) (now : Ticket)
-    (left : List SectionLine) (said : ℕ) → length left ≡ 0 → SectionSoFar params p all now left said
+    (left : List SectionLine) (said : List ToldLine) → length left ≡ 0 → SectionSoFar params p all now left said
     → RunsSection params p all said now
 section_ended params p all now [] said none so_far =
-    let same : said + 0 ≡ said = omega arith in
-    subst (λ n. RunsSection params p all n now) same (so_far 0 now (refl, refl))
+    subst (λ told. RunsSection params p all told now) (append-nil said) (so_far [] now (refl, refl))
 section_ended params p all now (line ∷ left) said none so_far = absurd (omega (arith, none))
 
 -- ---- an analysis
 
--- it was refused before it began
-pub not_begun : {S : Type 0} (params : ParamsState) (p : Ticket) (m : ℕ) (q : Ticket) (result : Result S CoreFault)
-    (f : CoreFault) → result ≡ Err f
-    → IfErr result (IsRefusedBy OutOfMemory (BeginJudged (core_made params q.seen) m)) → HasLooked p q
-    → IsRefusedAnalysis params p m q
-not_begun params p m q result f is refused looked =
-    inl (f, subst (λ r. IfErr r (IsRefusedBy OutOfMemory (BeginJudged (core_made params q.seen) m))) is refused, looked)
+module _ (params : ParamsState) (begun : Ticket) (s : Snapshot) (q : Ticket) where
+  -- its report was filed
+  abbrev pub Files : Type 0
+  Files = (r : ReportState) × IsReportOn s r × HasFiled params begun r q
 
--- what the filing of its report came to
-abbrev pub FilesReport : ParamsState → Ticket → Snapshot → Bool → Ticket → Type 0
-FilesReport params begun s accepted q =
-    MatchBool accepted
-    ((r : ReportState) × IsReportOn s r × HasFiled params begun r q)
-    ((q ≡ begun) ⊎ ((r : ReportState) × IsReportOn s r
-    × ((fault : CoreFault) × IsRefusedBy OutOfMemory (FilingJudged (core_made params q.seen) r) fault)
-    × HasLooked begun q))
+  -- its report was not filed: there was no memory to make it, or its filing was refused
+  abbrev pub FilesNot : CoreFault → Type 0
+  FilesNot fault =
+      ((fault ≡ OutOfMemory) × (q ≡ begun))
+      ⊎ ((r : ReportState) × IsReportOn s r × IsRefusedBy OutOfMemory (FilingJudged (core_made params q.seen) r) fault
+      × HasLooked begun q)
 
-pub filed_or_not : {A : Type 0} (params : ParamsState) (begun : Ticket) (s : Snapshot) (r : ReportState)
-    (filed : Result A CoreFault) (ok : Bool) (q : Ticket) → ok ≡ is_ok filed → IsReportOn s r
-    → OnOk filed (HasFiled params begun r q)
-    → IfErr filed (IsRefusedBy OutOfMemory (FilingJudged (core_made params q.seen) r))
-    → OnErr filed (HasLooked begun q) → FilesReport params begun s ok q
-filed_or_not params begun s r (Ok u) ok q is on filed refused looked =
-    subst (λ b. FilesReport params begun s b q) (sym is) (r, on, filed)
-filed_or_not params begun s r (Err f) ok q is on filed refused looked =
-    subst (λ b. FilesReport params begun s b q) (sym is) (inr (r, on, (f, refused), looked))
+  pub files : {A : Type 0} (r : ReportState) (filed : Result A CoreFault) → IsReportOn s r
+      → OnOk filed (HasFiled params begun r q) → OnOk filed Files
+  files r (Ok u) on filed = (r, on, filed)
+  files r (Err f) on filed = tt
 
-pub analysed : (params : ParamsState) (p : Ticket) (m : ℕ) (begun : Ticket) (s : Snapshot) (accepted : Bool)
-    (q : Ticket) → HasLooked p begun → HasBegun (core_made params begun.seen) m s
-    → FilesReport params begun s accepted q
-    → MatchBool accepted (HasAnalysed params p m q) (IsRefusedAnalysis params p m q)
-analysed params p m begun s true q looked began (r, is, filed) = (r, begun, (looked, (s, began, is)), filed)
-analysed params p m begun s false q looked began (inl same) =
-    inl (
-      OutOfMemory,
-      inr (refl, subst (λ (t : Ticket). BeginJudged (core_made params t.seen) m None) (sym same) began.judged),
-      subst (HasLooked p) (sym same) looked,
-    )
-analysed params p m begun s false q looked began (inr (r, is, refused, after)) =
-    inr (r, begun, refused.0, (looked, (s, began, is)), refused.1, after)
+  pub files_not : {A : Type 0} (r : ReportState) (filed : Result A CoreFault) → IsReportOn s r
+      → IfErr filed (IsRefusedBy OutOfMemory (FilingJudged (core_made params q.seen) r))
+      → OnErr filed (HasLooked begun q) → IfErr filed FilesNot
+  files_not r (Ok u) on refused looked = tt
+  files_not r (Err f) on refused looked = inr (r, on, refused, looked)
+
+  module _ {A : Type 0} (p : Ticket) (m : ℕ) (looked : HasLooked p begun)
+      (began : HasBegun (core_made params begun.seen) m s) where
+    pub analysed : (filed : Result A CoreFault) → OnOk filed Files → OnOk filed (HasAnalysed params p m q)
+    analysed (Ok u) (r, on, filed) = (r, begun, (looked, (s, began, on)), filed)
+    analysed (Err f) filed = tt
+
+    pub not_analysed : (filed : Result A CoreFault) → IfErr filed FilesNot
+        → IfErr filed (λ fault. IsRefusedAnalysis params p m fault q)
+    not_analysed (Ok u) refused = tt
+    not_analysed (Err f) (inl (memory, same)) =
+        inl (
+          inr (memory, subst (λ (t : Ticket). BeginJudged (core_made params t.seen) m None) (sym same) began.judged),
+          subst (HasLooked p) (sym same) looked,
+        )
+    not_analysed (Err f) (inr (r, on, refused, after)) = inr (r, begun, (looked, (s, began, on)), refused, after)

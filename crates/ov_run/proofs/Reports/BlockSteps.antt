@@ -1,5 +1,5 @@
 -- What a block did are steps of a core.
-use Rattle.std.proofs.Common.{◌≡◌, ◌∙◌, ℕ, Bool, true, false, List, [], ◌∷◌, inl, sym, ap, subst}
+use Rattle.std.proofs.Common.{◌≡◌, ◌∙◌, Bool, true, false, List, [], ◌∷◌, inl, sym, ap, subst}
 use Rattle.ov_snap.specs.CoreState.{CoreState, opening_core}
 use Rattle.ov_snap.specs.Run.{TakesAll}
 use Rattle.ov_snap.specs.declared.running_steps.CoreStep.{CoreStep}
@@ -8,7 +8,7 @@ use Rattle.ov_hall.specs.Logs.{AreSteps, core_after, core_made}
 use Rattle.ov_hall.specs.declared.ghost_views.Mark.{Mark}
 use Rattle.ov_hall.proofs.Exact.{Steps}
 use Rattle.ov_hall.proofs.Seen.{core_append, steps_behind}
-use Rattle.ov_run.specs.Sections.{RunTogether}
+use Rattle.ov_run.specs.Sections.{RunTogether, ToldLine}
 use Rattle.ov_scenario.specs.Sections.{SectionLine}
 
 -- some steps make the second core of the first
@@ -28,9 +28,9 @@ marks_lead b (m ∷ ms) u steps leads =
     mark_leads m.filed b m.after u steps.0 (marks_lead m.after ms u steps.1 leads)
 
 -- a block ran, and steps follow
-pub block_leads : (b : CoreState) (sections : List (List SectionLine)) (next : CoreState) (accepted : ℕ) (u : CoreState)
-    → RunTogether b sections next accepted → Leads next u → Leads b u
-block_leads b sections next accepted u ran leads =
+pub block_leads : (b : CoreState) (sections : List (List SectionLine)) (next : CoreState) (told : List ToldLine)
+    (u : CoreState) → RunTogether b sections next told → Leads next u → Leads b u
+block_leads b sections next told u ran leads =
     let start = opening_core ran.params in
     let steps = steps_behind start ran.seen ran.more (subst (AreSteps start) ran.goes_on ran.is_log.steps) in
     let to : core_after (core_made ran.params ran.seen) ran.more ≡ next =

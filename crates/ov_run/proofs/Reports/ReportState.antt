@@ -6,8 +6,6 @@ use Rattle.ov_snap.specs.CoreState.{CoreState, opening_core}
 use Rattle.ov_snap.specs.ReportState.{ReportState, IsTrueReport}
 use Rattle.ov_snap.specs.Filing.{WasFiled}
 use Rattle.ov_snap.specs.Refusals.{number_of}
-use Rattle.ov_snap.specs.Run.{TakesAll}
-use Rattle.ov_snap.specs.declared.running_steps.CoreStep.{CoreStep}
 use Rattle.ov_snap.specs.declared.running_steps.CoreStep.TheVariants.{Net, File}
 use Rattle.ov_snap.proofs.Running.{every_report_is_true, run_more}
 use Rattle.ov_run.proofs.Reports.BlockSteps.{Leads, block_leads}
@@ -34,8 +32,8 @@ line_leads b (line.Analyse subject workers) next own u (inl (r, analysed, is)) l
     (File r ∷ leads.0, (next, inl analysed.filed, leads.1))
 line_leads b (line.Analyse subject workers) next own u (inr (fault, refused, same, is)) leads =
     rests b next u same leads
-line_leads b (line.Together sections) next own u (accepted, refused, ran, all, is) leads =
-    block_leads b sections next accepted u ran leads
+line_leads b (line.Together sections) next own u (told, runs) leads =
+    block_leads b sections next told u runs.0 leads
 
 -- lines ran in order, and steps follow
 lines_on : (b : CoreState) (lines : List Line) (next : CoreState) (text : List ℕ) (u : CoreState)

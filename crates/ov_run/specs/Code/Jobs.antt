@@ -1,9 +1,8 @@
 -- The jobs of the drivers in a block, and what came of each.
-use Rattle.std.specs.Prelude.{◌≡◌, ℕ, ◌+◌, ◌≤◌, List, [], ◌∷◌, length, MatchBool, Bool}
+use Rattle.std.specs.Prelude.{ℕ, ◌≤◌, List, [], ◌∷◌, flat_map, length}
 use Rattle.ov_ids.specs.ParamsState.{ParamsState}
 use Rattle.ov_hall.specs.declared.ghost_views.Ticket.{Ticket}
-use Rattle.ov_run.specs.Sections.{IsAccepted, IsRefused, RunsSection}
-use Rattle.ov_scenario.specs.declared.section.Deed.{Deed}
+use Rattle.ov_run.specs.Sections.{RunsSection, ToldLine}
 use Rattle.ov_scenario.specs.Sections.{SectionLine}
 use Rattle.ov_scenario.specs.declared.scenario.Line.{Line}
 use Rattle.ov_scenario.specs.declared.scenario.Line.TheVariants as line
@@ -17,13 +16,13 @@ HasDrivers n other = Unit {0}
 abbrev pub Job : Type 0
 Job = Ticket × List SectionLine
 
--- what came of a job: the pass after it, and how many lines were accepted and how many refused
+-- what came of a job: the pass after it, and the lines with what came of each
 abbrev pub Ran : Type 0
-Ran = Ticket × ℕ × ℕ
+Ran = Ticket × List ToldLine
 
--- the line was accepted if the test says yes, and otherwise refused
-abbrev pub RunsLine : ParamsState → Ticket → Deed → Bool → Ticket → Type 0
-RunsLine params p deed accepted q = MatchBool accepted (IsAccepted params p deed q) (IsRefused params p deed q)
+-- what came of the lines of each driver, one driver after the other
+abbrev pub joined : List (List ToldLine) → List ToldLine
+joined told = flat_map (λ own. own) told
 
 -- the job of each driver: its pass, and its section; a driver without a section has no line to run
 abbrev pub jobs_of : List Ticket → List (List SectionLine) → List Job
@@ -33,8 +32,7 @@ jobs_of (p ∷ ps) (section ∷ sections) = (p, section) ∷ jobs_of ps sections
 
 -- the job was done
 abbrev pub HasRun : ParamsState → Job → Ran → Type 0
-HasRun params job ran =
-    RunsSection params job.0 job.1 ran.1 ran.0 × (ran.1 + ran.2 ≡ length job.1)
+HasRun params job ran = RunsSection params job.0 job.1 ran.1 ran.0
 
 -- each job was done, with the result at its place
 abbrev pub HaveRun : ParamsState → List Job → List Ran → Type 0

@@ -14,7 +14,8 @@ use Rattle.ov_run.specs.Ending.{BeginsLines, EndsLine, EndsLines}
 use Rattle.ov_run.specs.Faults.{write_faults}
 use Rattle.ov_run.specs.Printed.{entry_line, file_text, node_line, refused_line, report_line}
 use Rattle.ov_run.specs.Refusals.{number_of}
-use Rattle.ov_run.specs.Running.{PrintsBlock, PrintsLine, PrintsLines, PrintsPackets}
+use Rattle.ov_run.specs.Running.{PrintsLine, PrintsLines, PrintsPackets, RunsBlock}
+use Rattle.ov_run.specs.Sections.{ToldLine}
 use Rattle.ov_run.specs.Subjects.{IsReportOf, WasAnalysed}
 use Rattle.ov_run.specs.Code.Writing.{IsOfWriting, Writes, WritesPrefix}
 use Rattle.ov_run.specs.declared.run_fault.RunFault.{RunFault}
@@ -51,12 +52,17 @@ ShowsLook b (Show id) text = ShowsNode b.world.net id text
 ShowsLook b Packets text = PrintsPackets 0 b.world.net.packets text
 ShowsLook b (Certificate subject) text = ShowsCertificate b subject text
 
--- one line was done
-abbrev pub DoesLine : CoreState → Line → CoreState → List ℕ → Type 0
-DoesLine b (line.Event event words) u text = DoesEvent b event words u text
-DoesLine b (line.Look look) u text = ShowsLook b look text
-DoesLine b (line.Analyse subject workers) u text = FilesReport b subject u text
-DoesLine b (line.Together sections) u text = PrintsBlock b sections u text
+-- one line was done; if it is a block, this came of the lines of its sections
+abbrev pub DoesLine : CoreState → Line → List ToldLine → CoreState → List ℕ → Type 0
+DoesLine b (line.Event event words) told u text = DoesEvent b event words u text
+DoesLine b (line.Look look) told u text = ShowsLook b look text
+DoesLine b (line.Analyse subject workers) told u text = FilesReport b subject u text
+DoesLine b (line.Together sections) told u text = RunsBlock b sections told u text
+
+-- the line is a block of sections
+abbrev pub IsBlock : Line → Type 0
+IsBlock (line.Together sections) = Unit {0}
+IsBlock other = ⊥
 
 -- the writer took what is printed of a line that was done, or the number of the refusal
 abbrev pub WritesOutcome : (List ℕ → Type 0) → Option (List ℕ) → Option (List ℕ) → Outcome → Type 0
@@ -64,13 +70,15 @@ WritesOutcome IsDone before after Accepted = Writes IsDone before after
 WritesOutcome IsDone before after (Refused refusal) = Appends before after (refused_line (number_of refusal))
 
 -- one line ran from the core b on, or ended the run, from a sink before it to what it is after it; of what is returned
--- this is the outcome, and this the core after it
+-- this is the outcome, this what is told of lines in sections, and this the core after it
 pub record LineRan {A W : Type 0} (contents : W → Option (List ℕ)) (b : CoreState) (line : Line)
-    (outcome_of : A → Outcome) (core_of : A → CoreState) (before after : SinkState W) (result : Result A RunFault)
-    : Type 0 where
+    (outcome_of : A → Outcome) (told_of : A → List ToldLine) (core_of : A → CoreState) (before after : SinkState W)
+    (result : Result A RunFault) : Type 0 where
   -- without fault, the line was done, or refused, and that was written
-  pub outcome : IfOk result (λ a. WritesOutcome (DoesLine b line (core_of a)) (contents before.writer)
+  pub outcome : IfOk result (λ a. WritesOutcome (DoesLine b line (told_of a) (core_of a)) (contents before.writer)
       (contents after.writer) (outcome_of a))
+  -- only of a block are lines in sections told
+  pub told : IfOk result (λ a. IsBlock line ⊎ (told_of a ≡ []))
   -- what was refused changed nothing
   pub unchanged : IfOk result (λ a. (outcome_of a ≡ Accepted) ⊎ (core_of a ≡ b))
   -- without fault, the writer took what the line prints

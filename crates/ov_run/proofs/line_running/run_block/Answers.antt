@@ -1,14 +1,12 @@
 -- The block ran, and its line was written; or nothing was, or a prefix of that line.
-use Rattle.std.proofs.Common.{◌≡◌, ◌∙◌, ◌≤◌, List, ℕ, length, rules, ap, arith, refl, subst, sym}
+use Rattle.std.proofs.Common.{◌≡◌, ◌≤◌, List, ℕ, length, rules, arith, subst, sym}
 use Rattle.std.specs.Io.KnownBytes.{Appends}
-use Rattle.ov_hall.specs.Parts.{total}
 use Rattle.ov_io.specs.Device.{AppendsPrefixOf}
-use Rattle.ov_run.specs.Running.{PrintsBlock}
-use Rattle.ov_run.specs.Sections.{RunTogether}
+use Rattle.ov_run.specs.Code.Jobs.{joined}
 use Rattle.ov_scenario.specs.declared.scenario.Line.TheVariants as line
 use Rattle.ov_run.specs.Printed.{together_line}
 use Rattle.ov_run.proofs.Printing.Ending.{whole}
-use Rattle.ov_run.proofs.Printing.OneLine.{at_a_write, block_ended, block_ran}
+use Rattle.ov_run.proofs.Printing.OneLine.{at_a_write, block_ended, block_ran, block_runs}
 use Rattle.ov_run.proofs.line_running.run_block.Goals as goal
 
 pub run_together-requires-clause-enough : goal.run_together-requires-clause-enough
@@ -25,22 +23,21 @@ pub returns : goal.returns
 returns g c =
     let contents = g.W.Write.contents in
     let sections = c.args.sections in
-    let same = c.into_vec-sections.ensures in
-    let ran = c.in_ok-ran.ran in
+    let ran = c.in_ok-hall.field-0 in
+    let own = c.in_ok-hall.ensures in
     let said : List ℕ = together_line (length sections) ran.accepted ran.refused in
     let text : c.as_bytes.result.now ≡ said = search rules in
-    let together = subst (λ ss. RunTogether c.args.hall ss ran.hall ran.accepted) same c.in_ok-ran.ensures.ran in
-    let all = c.in_ok-ran.ensures.all ∙ ap (total length) same in
-    let prints : PrintsBlock c.args.hall sections ran.hall said = (ran.accepted, ran.refused, together, all, refl) in
     record {
-      ran = block_ran contents c.args.hall ran.hall c.args.sink.now c.write_done.new.sink sections said
-          c.in_ok-outcome.outcome c.in_ok-outcome.ensures.outcome prints
+      ran = block_ran contents c.args.hall ran.hall c.args.sink.now c.write_done.new.sink sections ran.told said
+          c.in_ok-outcome.outcome c.in_ok-outcome.ensures.outcome
+          (block_runs c.args.hall c.into_vec-sections.result.items sections ran.hall ran.told ran.accepted ran.refused
+          c.into_vec-sections.ensures own.ran own.accepted own.refused)
           (subst (Appends (contents c.args.sink.now.writer) (contents c.write_done.new.sink.writer)) text
           c.in_ok-outcome.ensures.bytes) c.in_ok-outcome.ensures.faults;
     }
 
-pub returns-in_err-ran : goal.returns-in_err-ran
-returns-in_err-ran g c = record {
+pub returns-in_err-hall : goal.returns-in_err-hall
+returns-in_err-hall g c = record {
   ran = block_ended g.W.Write.contents c.args.hall c.args.sections c.args.sink.now c.from_residual.result
       c.from_residual.ensures.1;
 }
@@ -49,13 +46,12 @@ pub returns-in_err-outcome : goal.returns-in_err-outcome
 returns-in_err-outcome g c =
     let contents = g.W.Write.contents in
     let sections = c.args.sections in
-    let same = c.into_vec-sections.ensures in
-    let ran = c.in_ok-ran.ran in
+    let ran = c.in_ok-hall.field-0 in
+    let own = c.in_ok-hall.ensures in
     let said : List ℕ = together_line (length sections) ran.accepted ran.refused in
     let text : c.as_bytes.result.now ≡ said = search rules in
-    let together = subst (λ ss. RunTogether c.args.hall ss ran.hall ran.accepted) same c.in_ok-ran.ensures.ran in
-    let all = c.in_ok-ran.ensures.all ∙ ap (total length) same in
-    let prints : PrintsBlock c.args.hall sections ran.hall said = (ran.accepted, ran.refused, together, all, refl) in
+    let runs = block_runs c.args.hall c.into_vec-sections.result.items sections ran.hall ran.told ran.accepted
+    ran.refused c.into_vec-sections.ensures own.ran own.accepted own.refused in
     let went = subst (λ (t : List ℕ). AppendsPrefixOf t (contents c.args.sink.now.writer)
     (contents c.write_done.new.sink.writer)) text c.in_err-outcome.ensures.prefix in
     let failed = c.from_residual-in_err-outcome in
@@ -63,7 +59,7 @@ returns-in_err-outcome g c =
       ran = at_a_write contents c.args.hall (line.Together sections) c.args.sink.now c.write_done.new.sink
           failed.result failed.ensures.1 (
             said,
-            whole c.args.hall (line.Together sections) ran.hall said prints,
+            whole c.args.hall (line.Together sections) ran.hall said (joined ran.told, runs),
             went,
           ) c.in_err-outcome.ensures.faults;
     }

@@ -1,5 +1,5 @@
 -- Each kind of line, with the hall after it.
-use Rattle.std.proofs.Common.{Ok, refl, sym, subst, arith}
+use Rattle.std.proofs.Common.{◌≡◌, ◌∙◌, Ok, [], refl, sym, subst, arith}
 use Rattle.ov_snap.specs.CoreState.{CoreState}
 use Rattle.ov_scenario.specs.declared.scenario.Line.{Line}
 use Rattle.ov_scenario.specs.declared.scenario.Line.TheVariants as line
@@ -121,11 +121,12 @@ returns-in_ok-outcome-in-Analyse g c =
     let u = c.run_analysis.new.hall in
     let o = c.in_ok-outcome-in-Analyse.outcome in
     let own = c.in_ok-outcome-in-Analyse.ensures in
-    let ran = analysis_ran contents c.args.hall u mid after subject workers o own.outcome own.unchanged own.prints
-    own.faults in
-    let all = subst (λ (l : Line). RanWith contents c.args.hall l mid after (Ok (o, u))) (sym c.in-Analyse.is) ran in
+    let none : c.new-in-Analyse.result ≡ [] = c.new-in-Analyse.ensures ∙ c.new.ensures.items in
+    let ran = analysis_ran contents c.args.hall u mid after subject workers o c.new-in-Analyse.result none own.outcome
+    own.unchanged own.prints own.faults in
+    let all = subst (λ (l : Line). RanWith contents c.args.hall l mid after (Ok (o, u, c.new-in-Analyse.result))) (sym c.in-Analyse.is) ran in
     record {
-      ran = handed_on_before contents c.args.hall c.args.line c.args.sink.now mid after (Ok (o, u))
+      ran = handed_on_before contents c.args.hall c.args.line c.args.sink.now mid after (Ok (o, u, c.new-in-Analyse.result))
           c.flush.ensures.bytes c.in_ok-flush-in-Analyse.ensures.faults all;
     }
 

@@ -31,13 +31,14 @@ loop-pass-preserved g c =
     let o = c.next-in-loop-pass.result in
     let left = c.next-in-loop-pass.new.self.rest in
     let later = jobs_of ps left.items in
-    let lines : c.unwrap_or-lines.result ≡ unwrap_or o [] =
-    c.unwrap_or-lines.ensures ∙ ap (unwrap_or o) (c.new-in-loop-pass.ensures ∙ c.new.ensures.items) in
+    let lines : c.in_ok-section.section ≡ unwrap_or o [] =
+    c.in_ok-section.ensures
+    ∙ (c.unwrap_or-lines.ensures ∙ ap (unwrap_or o) (c.new-in-loop-pass.ensures ∙ c.new.ensures.items)) in
     let taken : c.loop-pass.pass-iterator.rest.items ≡ p ∷ ps = c.in-Some.ensures.steps.0 in
     let next : jobs_of (p ∷ ps) c.loop-pass.left.rest.items ≡ (p, unwrap_or o []) ∷ later =
     job_next p ps c.loop-pass.left.rest.items left.items _ _ o (sym c.loop-pass.left.rest.ok.0) (sym left.ok.0)
     c.next-in-loop-pass.ensures.cases in
-    let own : Job = (p, c.unwrap_or-lines.result) in
+    let own : Job = (p, c.in_ok-section.section) in
     let pushed : c.push_reserved.new.self.items ≡ jobs ++ own ∷ [] = c.push_reserved.ensures.items in
     record {
       jobs = ap (λ l. l ++ later) pushed
