@@ -1,10 +1,11 @@
 #!/bin/sh
 # run.sh BENCH [FOLDER]: lays the program of bench/BENCH and the crates that it uses into FOLDER, or into a new folder,
 # proves and builds it there, and runs it. Where the bench has the same in plain Rust, that is built too, and runs
-# first. The bench's uses.txt is its program's line in crates.txt; what those crates use is found in the crates.txt of
-# this repository. With UNPROVED=1 nothing is proved, so that it is built in a minute (see build-unproved); with
-# CRATES=CHECKOUT the crates are those of another checkout, so that commits can be compared by one program; with
-# BUILD_ONLY=1 nothing is run, and the program is FOLDER/crates/bench_BENCH/out/bench_BENCH.
+# first. The bench's uses.txt is its program's line in crates.txt, its folder proofs, if there is one, the program's;
+# what those crates use is found in the crates.txt of this repository. With UNPROVED=1 nothing is proved, so that it is
+# built in a minute (see build-unproved); with CRATES=CHECKOUT the crates are those of another checkout, so that commits
+# can be compared by one program; with BUILD_ONLY=1 nothing is run, and the program is
+# FOLDER/crates/bench_BENCH/out/bench_BENCH.
 set -e
 root=$(readlink -f -- "$(dirname -- "$(readlink -f -- "$0")")/..")
 bench=$root/bench/$1
@@ -44,6 +45,9 @@ cat "$bench/uses.txt" >> "$work/crates.txt"
 cp "$bench/bench_$1.rt.txt" "$program/src/main.rt"
 : > "$program/specs/Lib.antt"
 : > "$program/proofs/Lib.antt"
+if [ -d "$bench/proofs" ]; then
+    cp -r "$bench/proofs" "$program/"
+fi
 if [ -f "$bench/plain.rs" ]; then
     rustc -O -o "$work/plain" "$bench/plain.rs"
 fi

@@ -4,4 +4,8 @@
 #[cfg(test)]
 mod analyses_beside;
 #[cfg(test)]
+mod group_reports;
+#[cfg(test)]
 mod halls;
+#[cfg(test)]
+mod many_drivers;
