@@ -2,6 +2,8 @@
 #![tactic(auto)]
 
 #[cfg(test)]
+mod altered_files;
+#[cfg(test)]
 mod certfile;
 #[cfg(test)]
 mod changes;
@@ -15,6 +17,8 @@ mod devices;
 mod drawn;
 #[cfg(test)]
 mod entries;
+#[cfg(test)]
+mod failing_calls;
 #[cfg(test)]
 mod files;
 #[cfg(test)]

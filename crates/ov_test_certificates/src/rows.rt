@@ -50,6 +50,7 @@ pub(crate) const SQUARE: &str = r#"
 "version":1 => "version":2 => refused 61
 "version":1 => "version":3 => refused 64
 "version":1 => "group":[1,2,3,4],"version":2 => holds 0 split k 2 cut 2,4 near 1 far 3 side 1
+"moment":0 => "moment":70000 => refused 63
 "k":2 => "k":3 => fails 40
 "cut":[2,4] => "cut":[4,2] => fails 41
 "cut":[2,4] => "cut":[2,9] => fails 41

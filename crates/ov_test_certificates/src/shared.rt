@@ -7,7 +7,7 @@ use std::test::Fail;
 type Wrong = &'static [(u32, u32)];
 
 /// Appends the numbers from the first to the last, with commas between them.
-fn put_numbers(text: &mut String, first: u32, last: u32) -> Result<(), AllocError> {
+pub(crate) fn put_numbers(text: &mut String, first: u32, last: u32) -> Result<(), AllocError> {
     write!(text, "{first}")?;
     for number in first..last {
         let next = number + 1;

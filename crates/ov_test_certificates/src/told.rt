@@ -32,7 +32,7 @@ pub(crate) fn is_judged(alloc: Global, bytes: &[u8], line: &str) -> Result<bool,
 }
 
 /// Many threads judge the bytes, and print this line.
-fn is_judged_by_threads(
+pub(crate) fn is_judged_by_threads(
     rt: &(impl AllocGlobal + Threads + Sync),
     bytes: &[u8],
     line: &str,

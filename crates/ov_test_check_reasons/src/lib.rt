@@ -4,6 +4,8 @@
 #[cfg(test)]
 mod files;
 #[cfg(test)]
+mod near_misses;
+#[cfg(test)]
 mod shared;
 #[cfg(test)]
 mod statements;

@@ -6,6 +6,8 @@ mod agreement;
 #[cfg(test)]
 mod group_refusals;
 #[cfg(test)]
+mod long_lines;
+#[cfg(test)]
 mod refusals;
 #[cfg(test)]
 mod told_files;

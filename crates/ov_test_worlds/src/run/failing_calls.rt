@@ -1,0 +1,207 @@
+//! Devices of which one call fails and no other one: what a run answers, and what the next run does.
+ghost use Rattle.std.specs.Prelude.{◌≡◌, IfOk};
+
+use super::altered_scenarios::{JOIN_AND_ANALYSE, JOIN_AND_ANALYSE_PRINTS};
+use ov_io::{Sink, Source};
+use ov_run::{RunFault, run};
+use std::alloc::Global;
+use std::io::{Error, ErrorKind, Read, Write};
+use std::sync::Wait;
+use std::thread::Threads;
+
+/// A device that gives or takes one byte a call. The call after `calls_left` others fails, and no other one: with this
+/// error, or as one that takes nothing.
+#[derive(Drop)]
+struct FailsOnce<'a> {
+    rest: &'a [u8],
+    taken: Vec<u8>,
+    calls_left: usize,
+    error: Option<ErrorKind>,
+}
+
+impl<'a> FailsOnce<'a> {
+    fn new(
+        alloc: Global,
+        rest: &'a [u8],
+        calls_left: usize,
+        error: Option<ErrorKind>,
+    ) -> FailsOnce<'a> {
+        FailsOnce {
+            rest,
+            taken: Vec::new(alloc),
+            calls_left,
+            error,
+        }
+    }
+
+    /// Whether this is the call that fails.
+    fn fails(&mut self) -> bool {
+        if self.calls_left == 0 {
+            self.calls_left = usize::MAX;
+            return true;
+        }
+        self.calls_left -= 1;
+        false
+    }
+
+    /// The answer of the call that fails.
+    fn failure(&self) -> std::io::Result<usize>
+        ensures { IfOk result (λ count. count ≡ 0) }
+    {
+        match self.error {
+            Some(kind) => Err(Error::from(kind)),
+            None => Ok(0),
+        }
+    }
+}
+
+impl<'a> Read for FailsOnce<'a> {
+    fn read(&mut self, buf: &mut [u8]) -> std::io::Result<usize> {
+        if self.fails() {
+            return self.failure();
+        }
+        let Some((first, rest)) = self.rest.split_first() else {
+            return Ok(0);
+        };
+        let Some(place) = buf.first_mut() else {
+            return Ok(0);
+        };
+        *place = *first;
+        self.rest = rest;
+        Ok(1)
+    }
+}
+
+impl<'a> Write for FailsOnce<'a> {
+    fn write(&mut self, buf: &[u8]) -> std::io::Result<usize> {
+        if self.fails() {
+            return self.failure();
+        }
+        let Some(first) = buf.first() else {
+            return Ok(0);
+        };
+        match self.taken.push(*first) {
+            Ok(()) => Ok(1),
+            Err(_) => Err(Error::from(ErrorKind::OutOfMemory)),
+        }
+    }
+
+    fn flush(&mut self) -> std::io::Result<()> {
+        Ok(())
+    }
+}
+
+/// The read after so many others fails. The answer is Read, and nothing was written.
+fn fails_at_read(
+    rt: &(impl AllocGlobal + Threads + Wait + Sync),
+    reads: usize,
+    kind: ErrorKind,
+) -> bool {
+    let alloc = rt.alloc();
+    let device = FailsOnce::new(alloc, JOIN_AND_ANALYSE.as_bytes(), reads, Some(kind));
+    let mut source = Source::new(device);
+    let mut sink = Sink::new(Vec::new(alloc));
+    let answer = run(rt, alloc, &mut source, &mut sink);
+    answer == Err(RunFault::Read)
+        && source.faults() == 1
+        && sink.faults() == 0
+        && sink.into_writer().is_empty()
+}
+
+/// How a read may fail.
+const READ_ERRORS: [ErrorKind; 3] = [
+    ErrorKind::Interrupted,
+    ErrorKind::WouldBlock,
+    ErrorKind::Other,
+];
+
+#[test]
+fn each_read_fails_once(rt: HostRuntime) {
+    let reads = JOIN_AND_ANALYSE.len() + 1;
+    for kind in READ_ERRORS {
+        for calls in 0..reads {
+            assert!(rt; fails_at_read(&rt, calls, kind), "at {calls}");
+        }
+    }
+}
+
+/// The first read fails, and the next run reads and prints all.
+fn goes_on_after_a_read(rt: &(impl AllocGlobal + Threads + Wait + Sync)) -> bool {
+    let alloc = rt.alloc();
+    let error = Some(ErrorKind::Interrupted);
+    let mut source = Source::new(FailsOnce::new(alloc, JOIN_AND_ANALYSE.as_bytes(), 0, error));
+    let mut sink = Sink::new(Vec::new(alloc));
+    let failed = run(rt, alloc, &mut source, &mut sink);
+    if source.faults() != 1 || sink.faults() != 0 {
+        return false;
+    }
+    let next = run(rt, alloc, &mut source, &mut sink);
+    failed == Err(RunFault::Read)
+        && next == Ok(0)
+        && source.faults() == 1
+        && sink.into_writer().as_slice() == JOIN_AND_ANALYSE_PRINTS.as_bytes()
+}
+
+/// The bytes are the first ones that are printed, so many, and then all that is printed.
+fn are_cut_and_whole(bytes: &[u8], count: usize) -> bool {
+    let prints = JOIN_AND_ANALYSE_PRINTS.as_bytes();
+    let (front, back) = bytes.split_at(count.min(bytes.len()));
+    front.len() == count && prints.starts_with(front) && back == prints
+}
+
+/// The write after so many others fails. The answer is Write, and what was taken before it stands. The next run prints
+/// all.
+fn fails_at_write(
+    rt: &(impl AllocGlobal + Threads + Wait + Sync),
+    writes: usize,
+    error: Option<ErrorKind>,
+) -> bool {
+    let alloc = rt.alloc();
+    let mut sink = Sink::new(FailsOnce::new(alloc, &[], writes, error));
+    let mut source = Source::new(JOIN_AND_ANALYSE.as_bytes());
+    let failed = run(rt, alloc, &mut source, &mut sink);
+    if sink.faults() != 1 {
+        return false;
+    }
+    let mut again = Source::new(JOIN_AND_ANALYSE.as_bytes());
+    let next = run(rt, alloc, &mut again, &mut sink);
+    failed == Err(RunFault::Write)
+        && next == Ok(0)
+        && sink.faults() == 1
+        && are_cut_and_whole(&sink.into_writer().taken, writes)
+}
+
+/// How a write may fail. Without an error it takes nothing.
+const WRITE_ERRORS: [Option<ErrorKind>; 3] = [
+    Some(ErrorKind::Interrupted),
+    Some(ErrorKind::BrokenPipe),
+    None,
+];
+
+#[test]
+fn each_write_fails_once(rt: HostRuntime) {
+    for error in WRITE_ERRORS {
+        for calls in 0..JOIN_AND_ANALYSE_PRINTS.len() {
+            assert!(rt; fails_at_write(&rt, calls, error), "at {calls}");
+        }
+    }
+}
+
+/// No call of the devices fails: all is read and printed, a byte a call.
+fn fails_never(rt: &(impl AllocGlobal + Threads + Wait + Sync)) -> bool {
+    let alloc = rt.alloc();
+    let device = FailsOnce::new(alloc, JOIN_AND_ANALYSE.as_bytes(), usize::MAX, None);
+    let mut source = Source::new(device);
+    let mut sink = Sink::new(FailsOnce::new(alloc, &[], usize::MAX, None));
+    let answer = run(rt, alloc, &mut source, &mut sink);
+    answer == Ok(0)
+        && source.faults() == 0
+        && sink.faults() == 0
+        && sink.into_writer().taken.as_slice() == JOIN_AND_ANALYSE_PRINTS.as_bytes()
+}
+
+#[test]
+fn a_run_goes_on_by_bytes_and_after_a_failure(rt: HostRuntime) {
+    assert!(rt; fails_never(&rt));
+    assert!(rt; goes_on_after_a_read(&rt));
+}
