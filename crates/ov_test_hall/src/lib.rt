@@ -5,3 +5,5 @@
 mod analyses_beside;
 #[cfg(test)]
 mod halls;
+#[cfg(test)]
+mod memory;
