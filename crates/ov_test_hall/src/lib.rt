@@ -9,3 +9,5 @@ mod group_reports;
 mod halls;
 #[cfg(test)]
 mod many_drivers;
+#[cfg(test)]
+mod memory;
