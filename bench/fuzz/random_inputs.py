@@ -1,0 +1,137 @@
+"""Random scenarios and graph files, most of whose lines can be read: for comparisons without a fuzzer."""
+
+SPACES = (b" ",) * 12 + (b"  ", b"   ")
+ENDS = (b"\n",) * 12 + (b"\r\n", b" \n", b"\n\n", b"\n# by the way\n", b"\n  \n")
+
+
+def written(random, words):
+    """A line of these words, sometimes with more spaces or comments than are needed."""
+    text = b""
+    for at, word in enumerate(words):
+        text += (random.choice(SPACES) if at else b"") + (word if isinstance(word, bytes) else str(word).encode())
+    return text + random.choice(ENDS)
+
+
+def group_word(random, most):
+    """A word of ids, mostly a group."""
+    some = random.sample(range(1, most + 1), random.randint(1, min(5, most)))
+    return ",".join(map(str, some if random.random() < 0.1 else sorted(some)))
+
+
+class ScenarioMaker:
+    """Makes a scenario of a few nodes, and guesses how far it has come, so that most lines are accepted."""
+
+    def __init__(self, random):
+        self.random, self.born, self.crashed = random, [], []
+        self.most, self.moments, self.entries = random.choice((3, 6, 12, 30)), [], 0
+        self.eager_delivery = random.random() < 0.8
+
+    def node(self):
+        return self.random.choice(self.born) if self.born and self.random.random() < 0.97 else self.random.randint(0, 40)
+
+    def boot(self):
+        name = len(self.born) + 1 if self.random.random() < 0.97 else self.node()
+        words = ["boot", name] + (["by", self.node()] if self.born and self.random.random() < 0.95 else [])
+        self.born.append(name)
+        return words
+
+    def crash(self):
+        self.crashed.append(self.node())
+        return ["crash", self.crashed[-1]]
+
+    def report(self):
+        return ["report", self.node(), self.random.choice(self.crashed) if self.crashed else self.node()]
+
+    def snapshot(self):
+        self.moments.append(self.entries + 1)
+        return ["snapshot"]
+
+    def broadcast(self):
+        payload = bytes(self.random.randrange(11, 256) for _ in range(self.random.choice((0, 1, 5, 40))))
+        return ["broadcast", self.node(), payload.replace(b"\r", b"r")]
+
+    def event(self):
+        if len(self.born) < 2 or (len(self.born) < self.most and self.random.random() < 0.1):
+            return self.boot()
+        pick = self.random.choices(("deliver", "lose", "repeat", "crash", "report", "shuffle", "broadcast", "timer",
+                                    "snapshot"), (60, 3, 3, 2, 4, 8, 4, 6, 3))[0]
+        if pick in ("deliver", "lose", "repeat"):
+            return [pick, 0 if self.random.random() < 0.6 else self.random.randint(0, 9)]
+        if pick == "shuffle":
+            return [pick, self.node()]
+        if pick == "timer":
+            return [pick, self.node(), self.node(), self.random.randint(0, 1)]
+        return getattr(self, pick)()
+
+    def look(self):
+        pick = self.random.choice(("analyse", "certificate", "show", "packets"))
+        if pick == "show":
+            return [pick, self.node()]
+        if pick == "packets":
+            return [pick]
+        moment = self.random.choice(self.moments) if self.moments else self.random.randint(1, 9)
+        words = [pick, moment]
+        if pick == "analyse" and self.random.random() < 0.1:
+            words += ["workers", self.random.randint(1, 4)]
+        if self.random.random() < 0.4:
+            words += ["group", group_word(self.random, max(2, len(self.born)))]
+        return words
+
+    def lines_of_event(self):
+        self.entries += 1
+        words = []
+        if self.random.random() < 0.1:
+            words = [["words", *(self.random.getrandbits(self.random.choice((2, 64))) for _ in range(4))]]
+        return words + [self.event()]
+
+    def sections(self):
+        """A block, mostly of one section that has lines."""
+        lines = [["together"]]
+        for at in range(self.random.randint(1, 3)):
+            lines += [["also"]] if at else []
+            if at == 0 or self.random.random() < 0.1:
+                for _ in range(self.random.randint(0, 5)):
+                    lines += self.lines_of_event()
+        return lines + [["end"]]
+
+    def lines(self, size):
+        if self.random.random() < 0.7:
+            walk = self.random.randint(0, 6)
+            yield ["params", self.random.randint(1, 6), self.random.randint(1, 10), walk, self.random.randint(0, walk),
+                   self.random.randint(0, 4), self.random.randint(0, 4), self.random.randint(1, 5)]
+        if self.random.random() < 0.7:
+            yield ["seed", self.random.getrandbits(64)]
+        for _ in range(size):
+            pick = self.random.random()
+            if pick < 0.12:
+                yield self.look()
+            elif pick < 0.13:
+                yield from self.sections()
+            else:
+                yield from self.lines_of_event()
+
+
+def scenario(random):
+    """The bytes of a scenario; in one of ten a byte is changed."""
+    lines = ScenarioMaker(random).lines(random.choice((5, 30, 150, 600)))
+    return damaged(random, b"".join(written(random, words) for words in lines))
+
+
+def damaged(random, data):
+    """The same bytes, or in one of ten cases with another byte somewhere."""
+    if not data or random.random() > 0.1:
+        return data
+    at = random.randrange(len(data))
+    return data[:at] + bytes([random.choice(b" 0123456789,abel\r\n#")]) + data[at + 1 :]
+
+
+def graph(random):
+    """The bytes of a graph file, of up to 40 nodes."""
+    size = random.choice((1, 2, 3, 5, 8, 13, 20, 40))
+    nodes = sorted(random.sample(range(random.choice((size, 100, 2**32 - 1)) + 1), size))
+    share = random.choice((0.05, 0.1, 0.3, 0.6, 0.95, 1))
+    lines = [["node", node] for node in nodes]
+    lines += [["link", a, b] for at, a in enumerate(nodes) for b in nodes[at + 1 :] if random.random() < share]
+    data = damaged(random, b"".join(written(random, words) for words in lines))
+    group = sorted(random.sample(nodes, random.randint(1, size)))
+    return data, group if random.random() < 0.6 else None

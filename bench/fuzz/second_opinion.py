@@ -1,0 +1,145 @@
+#!/usr/bin/env python3
+"""second_opinion.py run FILE | analyse FILE [--group IDS] [--certificate]: what `overlay` should print.
+
+A second reader of scenarios and graph files in plain Python, written from docs/FORMATS.md, docs/PROTOCOL.md and
+docs/CONNECTIVITY.md and not from the Rattle code. Standard output, the status and the first line of standard error are
+those that the documents ask of `overlay run FILE` and `overlay analyse FILE`. FILE `-` is standard input.
+
+The paths of a certificate are this reader's own; others may be as right. A line that the order of sections decides
+begins with `?` here. There is no limit on memory or time: an analysis takes about a second for 100 nodes with 10 links
+each. `unlike` compares what a program printed with what is asked; other scripts call that.
+"""
+
+import argparse
+import json
+import pathlib
+import sys
+
+from connectivity import Analysis, Graph
+from scenario_lines import Refused, ScenarioReader, Unreadable, ids, read_graph
+from world import Certificate, Run, Undetermined
+
+sys.path.insert(0, str(pathlib.Path(__file__).resolve().parent.parent / "check"))
+import check  # noqa: E402  the independent checker of certificate files
+
+# What two right certificates of one report may have different.
+PATHS = ("pairs", "fans")
+
+
+class Answer:
+    """What a program should print: the lines of standard output, the first one of standard error, and the status."""
+
+    def __init__(self, lines, fault=None, status=0):
+        self.lines, self.fault, self.status = lines, fault, status
+
+
+def answer_run(data):
+    """What `overlay run` should print for the bytes of a scenario."""
+    try:
+        return Answer(Run(ScenarioReader(data)).printed)
+    except Refused as fault:
+        return Answer([], str(fault), 1)
+
+
+def answer_analyse(data, group=None, has_certificate=False):
+    """What `overlay analyse` should print for the bytes of a graph file, and a group of ids if one is given."""
+    try:
+        graph = Graph(*read_graph(data))
+    except Refused as fault:
+        return Answer([], str(fault), 1)
+    if not graph.nodes:
+        return Answer(["refused 30"])
+    if group is not None and not graph.is_group(group):
+        return Answer(["refused 34"])
+    found = Analysis(graph, graph.nodes if group is None else group)
+    return Answer([found.line(0), *([Certificate(found.certificate(0))] if has_certificate else [])])
+
+
+def is_same_certificate(text, other):
+    """Whether two texts of certificates differ in their paths alone, and the first one holds."""
+    try:
+        said, asked = json.loads(text), json.loads(other)
+        if not check.judge(text.encode()).startswith("holds "):
+            return False
+    except (ValueError, check.Answer):
+        return False
+    is_compact = json.dumps(said, sort_keys=True, separators=(",", ":")) == text
+    return is_compact and all(said.get(key) == asked.get(key) for key in {*said, *asked} if key not in PATHS)
+
+
+def is_fit(line, asked):
+    """Whether a line is what is asked."""
+    if isinstance(asked, Undetermined):
+        return asked.fits(line)
+    return line == asked or (isinstance(asked, Certificate) and is_same_certificate(line, asked))
+
+
+def unlike_lines(lines, asked):
+    """What is wrong with lines that were printed, in words, or None."""
+    at = 0
+    for wanted in asked:
+        if isinstance(wanted, Undetermined) and wanted.is_many:
+            while at < len(lines) and wanted.fits(lines[at]):
+                at += 1
+            continue
+        if at == len(lines):
+            return f"line {at + 1} is missing, and should be {str(wanted)!r}"
+        if not is_fit(lines[at], wanted):
+            return f"line {at + 1} is {lines[at]!r}, and should be {str(wanted)!r}"
+        at += 1
+    return None if at == len(lines) else f"line {at + 1} is one too many: {lines[at]!r}"
+
+
+def unlike(answer, out, err, status):
+    """What is wrong with what a program printed, in words, or None: bytes of both outputs, and the status."""
+    text = out.decode(errors="backslashreplace")
+    if status != answer.status:
+        return f"the status is {status}, and should be {answer.status}"
+    if text and not text.endswith("\n"):
+        return "standard output does not end with a line feed"
+    first = err.decode(errors="backslashreplace").partition("\n")[0]
+    if answer.fault is not None and first != answer.fault:
+        return f"standard error begins with {first!r}, and should with {answer.fault!r}"
+    return unlike_lines(text.split("\n")[:-1], answer.lines)
+
+
+def group_of(word):
+    """The ids of an option."""
+    try:
+        return ids(word.encode())
+    except Unreadable:
+        raise argparse.ArgumentTypeError("it takes ids with one comma between two") from None
+
+
+def read_file(name):
+    if name == "-":
+        return sys.stdin.buffer.read()
+    with open(name, "rb") as opened:
+        return opened.read()
+
+
+def main():
+    parser = argparse.ArgumentParser(description="Says what overlay should print, by its documents alone.")
+    commands = parser.add_subparsers(dest="command", required=True)
+    commands.add_parser("run").add_argument("file")
+    analyse = commands.add_parser("analyse")
+    analyse.add_argument("file")
+    analyse.add_argument("--group", type=group_of, metavar="IDS")
+    analyse.add_argument("--certificate", action="store_true")
+    given = parser.parse_args()
+    data = read_file(given.file)
+    answer = answer_run(data) if given.command == "run" else answer_analyse(data, given.group, given.certificate)
+    for line in answer.lines:
+        print(line)
+    if answer.fault:
+        print(answer.fault, file=sys.stderr)
+    return answer.status
+
+
+if __name__ == "__main__":
+    try:
+        sys.exit(main())
+    except BrokenPipeError:
+        sys.exit(1)
+    except OSError as why:
+        sys.exit(f"second_opinion.py: {why}")
