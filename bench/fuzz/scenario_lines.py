@@ -133,8 +133,8 @@ def are_in_limits(active, passive, walk, passive_walk, of_active, of_passive, sh
 class ScenarioReader:
     """Judges the lines of a scenario in their order, and keeps what they say.
 
-    `lines` has, for each line that runs, what it says and the random words that the file gives it, or None. A block of
-    sections stands there as `("sections", [lines of a section, ..])`.
+    `lines` has, for each line that runs, what it says, the random words that the file gives it or None, and its place
+    in the file. A block of sections stands there as `("sections", [lines of a section, ..])`.
     """
 
     def __init__(self, data):
@@ -165,18 +165,18 @@ class ScenarioReader:
             self.words = said[1:]
         elif kind in IS_EVENT:
             self.has_event = True
-            self.put(said)
+            self.put(at, said)
         elif self.sections is not None:
             self.demand(kind == "analyse" and said[2:] == (None, None), at)
-            self.put(said)
+            self.put(at, said)
         elif kind in ("params", "seed"):
             self.take_setting(at, kind, said[1:])
         else:
-            self.put(said)
+            self.put(at, said)
 
-    def put(self, said):
+    def put(self, at, said):
         lines = self.lines if self.sections is None else self.sections[-1]
-        lines.append((said, self.words))
+        lines.append((said, self.words, self.places[at]))
         self.words = None
 
     def take_mark(self, at, kind):
@@ -189,7 +189,7 @@ class ScenarioReader:
             self.sections.append([])
         else:
             self.demand(self.sections is not None, at)
-            self.lines.append((("sections", self.sections), None))
+            self.lines.append((("sections", self.sections), None, self.places[at]))
             self.sections = None
 
     def take_setting(self, at, kind, given):

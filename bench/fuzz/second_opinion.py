@@ -27,18 +27,28 @@ PATHS = ("pairs", "fans")
 
 
 class Answer:
-    """What a program should print: the lines of standard output, the first one of standard error, and the status."""
+    """What a program should print: the lines of standard output, the first one of standard error, and the status.
 
-    def __init__(self, lines, fault=None, status=0):
-        self.lines, self.fault, self.status = lines, fault, status
+    `explained` has how the lines on standard error begin that `--explain` asks for, or None if they are not determined.
+    """
+
+    def __init__(self, lines, fault=None, status=0, explained=None):
+        self.lines, self.fault, self.status, self.explained = lines, fault, status, explained
+
+    def is_determined(self):
+        return not any(isinstance(line, Undetermined) for line in self.lines)
 
 
 def answer_run(data):
     """What `overlay run` should print for the bytes of a scenario."""
     try:
-        return Answer(Run(ScenarioReader(data)).printed)
+        run = Run(ScenarioReader(data))
     except Refused as fault:
         return Answer([], str(fault), 1)
+    accepted, refused = run.events
+    count = f"{accepted} event{'s' * (accepted != 1)} accepted, {refused} refused"
+    explained = [f"line {place}: " for place in run.refused] + [count]
+    return Answer(run.printed, explained=explained if run.is_determined else None)
 
 
 def answer_analyse(data, group=None, has_certificate=False):

@@ -3,7 +3,7 @@
 from connectivity import Analysis, Graph, listed
 from nodes import JOIN, Node, encoded
 from pcg import Pcg64
-from scenario_lines import DEFAULT_PARAMS
+from scenario_lines import DEFAULT_PARAMS, IS_EVENT
 
 WORDS = 64
 MOST_BORN, MOST_ENTRIES, MOST_PACKETS, MOST_SENT = 256, 65536, 65536, 64
@@ -154,14 +154,29 @@ class Certificate(str):
 
 
 class Run:
-    """A scenario as it runs; `printed` has what standard output gets, line by line."""
+    """A scenario as it runs.
+
+    `printed` has what standard output gets, line by line; `refused` the places in the file of the lines that were refused,
+    and `events` how many events were accepted and how many refused, both outside sections.
+    """
 
     def __init__(self, reader):
         self.world = World(reader.params or DEFAULT_PARAMS)
         self.generator = Pcg64(reader.seed[0] if reader.seed else 0)
         self.reports, self.printed, self.is_determined = {}, [], True
-        for said, words in reader.lines:
-            self.printed += self.lines_of(said, words)
+        self.refused, self.events = [], [0, 0]
+        for said, words, place in reader.lines:
+            printed = self.lines_of(said, words)
+            self.printed += printed
+            self.count(said[0], place, printed)
+
+    def count(self, kind, place, printed):
+        """Counts a line outside sections."""
+        is_refused = bool(printed) and str(printed[0]).startswith("refused ")
+        if is_refused:
+            self.refused.append(place)
+        if kind in IS_EVENT:
+            self.events[is_refused] += 1
 
     def words_of(self, given):
         """The random words of an event: those given with zeros behind them, or the next ones of the generator."""
@@ -229,7 +244,7 @@ class Run:
         if not self.is_determined or len(filled) > 1:
             self.is_determined = False
             return SectionsLine(len(sections), count)
-        printed = [line for lines in filled for said, words in lines for line in self.lines_of(said, words)]
+        printed = [line for lines in filled for said, words, _ in lines for line in self.lines_of(said, words)]
         refused = sum(line.startswith("refused ") for line in printed)
         return f"together {len(sections)} accepted {count - refused} refused {refused}"
 
