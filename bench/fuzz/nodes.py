@@ -3,6 +3,7 @@
 A message is a tuple: its kind, its sender, and its fields in the order of the table in docs/FORMATS.md.
 """
 
+import copy
 import struct
 
 (JOIN, FORWARDJOIN, JOINED, NEIGHBOR, NEIGHBORREPLY, DISCONNECT, SHUFFLE, SHUFFLEREPLY, GOSSIP, IHAVE, GRAFT,
@@ -58,6 +59,14 @@ class Node:
         self.asked, self.tried, self.sent = None, set(), []
         self.lazy, self.held, self.notes, self.timers, self.made = set(), {}, {}, set(), 0
         self.begin(())
+
+    def copy(self):
+        """An equal node, between two steps."""
+        other = copy.copy(self)
+        other.active, other.passive, other.tried = set(self.active), set(self.passive), set(self.tried)
+        other.lazy, other.held, other.timers = set(self.lazy), dict(self.held), set(self.timers)
+        other.notes = {name: list(said) for name, said in self.notes.items()}
+        return other
 
     def begin(self, words):
         """Begins a step."""

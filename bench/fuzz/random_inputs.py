@@ -85,12 +85,12 @@ class ScenarioMaker:
         return words + [self.event()]
 
     def sections(self):
-        """A block, mostly of one section that has lines."""
+        """A block of sections, some of which have no lines."""
         lines = [["together"]]
         for at in range(self.random.randint(1, 3)):
             lines += [["also"]] if at else []
-            if at == 0 or self.random.random() < 0.1:
-                for _ in range(self.random.randint(0, 5)):
+            if at == 0 or self.random.random() < 0.4:
+                for _ in range(self.random.randint(0, 3)):
                     lines += self.lines_of_event()
         return lines + [["end"]]
 

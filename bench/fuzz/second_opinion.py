@@ -5,8 +5,9 @@ A second reader of scenarios and graph files in plain Python, written from docs/
 docs/CONNECTIVITY.md and not from the Rattle code. Standard output, the status and the first line of standard error are
 those that the documents ask of `overlay run FILE` and `overlay analyse FILE`. FILE `-` is standard input.
 
-The paths of a certificate are this reader's own; others may be as right. A line that the order of sections decides
-begins with `?` here. There is no limit on memory or time: an analysis takes about a second for 100 nodes with 10 links
+The paths of a certificate are this reader's own; others may be as right. If the order of sections decides what is
+printed, one of the outputs is printed, and on standard error how many there are. If too many orders are possible, a line
+that they decide begins with `?` here. There is no limit on memory or time: an analysis takes about a second for 100 nodes with 10 links
 each. `unlike` compares what a program printed with what is asked; other scripts call that.
 """
 
@@ -17,7 +18,7 @@ import sys
 
 from connectivity import Analysis, Graph
 from scenario_lines import Refused, ScenarioReader, Unreadable, ids, read_graph
-from world import Certificate, Run, Undetermined
+from scenario_run import Certificate, Run, Undetermined
 
 sys.path.insert(0, str(pathlib.Path(__file__).resolve().parent.parent / "check"))
 import check  # noqa: E402  the independent checker of certificate files
@@ -30,13 +31,22 @@ class Answer:
     """What a program should print: the lines of standard output, the first one of standard error, and the status.
 
     `explained` has how the lines on standard error begin that `--explain` asks for, or None if they are not determined.
+    `others` are further answers that are as right, by other orders of sections.
     """
 
     def __init__(self, lines, fault=None, status=0, explained=None):
-        self.lines, self.fault, self.status, self.explained = lines, fault, status, explained
+        self.lines, self.fault, self.status, self.explained, self.others = lines, fault, status, explained, []
 
     def is_determined(self):
-        return not any(isinstance(line, Undetermined) for line in self.lines)
+        return not self.others and not any(isinstance(line, Undetermined) for line in self.lines)
+
+
+def answer_of(state, is_determined):
+    """The answer of one run of a scenario."""
+    accepted, refused = state.events
+    count = f"{accepted} event{'s' * (accepted != 1)} accepted, {refused} refused"
+    explained = [f"line {place}: " for place in state.refused] + [count]
+    return Answer(state.printed, explained=explained if is_determined else None)
 
 
 def answer_run(data):
@@ -45,10 +55,11 @@ def answer_run(data):
         run = Run(ScenarioReader(data))
     except Refused as fault:
         return Answer([], str(fault), 1)
-    accepted, refused = run.events
-    count = f"{accepted} event{'s' * (accepted != 1)} accepted, {refused} refused"
-    explained = [f"line {place}: " for place in run.refused] + [count]
-    return Answer(run.printed, explained=explained if run.is_determined else None)
+    found = {}
+    for state in run.states:
+        found.setdefault((*state.printed, *state.refused), answer_of(state, run.is_determined))
+    answer, *answer.others = found.values()
+    return answer
 
 
 def answer_analyse(data, group=None, has_certificate=False):
@@ -110,7 +121,10 @@ def unlike(answer, out, err, status):
     first = err.decode(errors="backslashreplace").partition("\n")[0]
     if answer.fault is not None and first != answer.fault:
         return f"standard error begins with {first!r}, and should with {answer.fault!r}"
-    return unlike_lines(text.split("\n")[:-1], answer.lines)
+    lines = text.split("\n")[:-1]
+    if any(unlike_lines(lines, other.lines) is None for other in answer.others):
+        return None
+    return unlike_lines(lines, answer.lines)
 
 
 def group_of(word):
@@ -143,6 +157,8 @@ def main():
         print(line)
     if answer.fault:
         print(answer.fault, file=sys.stderr)
+    if answer.others:
+        print(f"one of {len(answer.others) + 1} outputs, by the order of sections", file=sys.stderr)
     return answer.status
 
 

@@ -122,7 +122,7 @@ def explained(answer):
             return f"standard error has {len(lines)} lines, and should have {len(asked)}"
         told = next((pair for pair in zip(lines, asked) if not pair[0].startswith(pair[1])), None)
         return told and f"standard error has {told[0]!r}, and should have {told[1]!r}"
-    return None if answer.explained is None else more
+    return None if answer.explained is None or answer.others else more
 
 
 def scenario_cases(data):

@@ -1,0 +1,94 @@
+#!/usr/bin/env python3
+"""keep.py --overlay PROGRAM --overlay-check PROGRAM [--room FOLDER] [--loops FOLDER] TARGET..: renews the corpus.
+
+Of each target, the kept corpus and the queue that fuzz.py left in the room are minimised by afl-cmin: as few inputs as
+have the coverage of all. An input is kept with what an independent reader says that is printed, if the real program
+prints just that, if the order of sections decides nothing of it, and if it is short. Of the longer ones the first are
+kept that fit into a target's share of the size.
+"""
+
+import argparse
+import json
+import os
+import pathlib
+import shutil
+import subprocess
+import sys
+
+import corpus
+import fuzz
+import seeds
+from targets import CASES, CRATES
+
+# Bytes that a target's file may have, and what one row may have.
+LARGEST = {"certificate": 500_000, "scenario": 800_000, "graph": 400_000, "arguments": 60_000}
+LONGEST_ROW = 12_000
+
+
+def gathered(target, room):
+    """A folder with the kept corpus and the queue of a target."""
+    folder = room / "gathered" / target
+    shutil.rmtree(folder, ignore_errors=True)
+    seeds.lay(target, folder)
+    queue = room / target / "default" / "queue"
+    for at, path in enumerate(sorted(it for it in queue.iterdir() if it.is_file())):
+        shutil.copy(path, folder / f"queue-{at}")
+    return folder
+
+
+def minimised(target, program, room):
+    """A folder with as few of them as have the coverage of all."""
+    folder = room / "minimised" / target
+    shutil.rmtree(folder, ignore_errors=True)
+    folder.parent.mkdir(parents=True, exist_ok=True)
+    command = ["afl-cmin", "-i", gathered(target, room), "-o", folder, "-m", "none", "-t", "5000", "--", program, target]
+    with open(room / f"{target}.cmin.log", "w") as told:
+        subprocess.run(command, env=os.environ | fuzz.SETTINGS, stdout=told, stderr=subprocess.STDOUT, check=True)
+    return folder
+
+
+def row(target, data, programs):
+    """The row of an input, or None if it is not to be kept."""
+    cases = list(CASES[target](data))
+    if not cases or not all(case.answer.is_determined() for case in cases) or any(it.unlike(programs) for it in cases):
+        return None
+    return corpus.row_of(target, data, cases[-1].words, cases[-1].answer)
+
+
+def size(it):
+    return len(json.dumps(it, separators=(",", ":"))) + 1
+
+
+def kept(target, folder, programs):
+    """The rows that are kept, the shortest first."""
+    found = [row(target, path.read_bytes(), programs) for path in sorted(folder.iterdir()) if path.is_file()]
+    left, rows = LARGEST[target], []
+    for it in sorted((it for it in found if it), key=lambda it: (size(it), json.dumps(it))):
+        left -= size(it)
+        if size(it) <= LONGEST_ROW and left >= 0:
+            rows.append(it)
+    return rows, len(found)
+
+
+def main():
+    parser = argparse.ArgumentParser(description="Renews the kept corpus.")
+    parser.add_argument("--overlay", required=True, metavar="PROGRAM")
+    parser.add_argument("--overlay-check", required=True, metavar="PROGRAM")
+    parser.add_argument("--room", type=pathlib.Path, default=fuzz.HERE / "out", metavar="FOLDER")
+    parser.add_argument("--loops", type=pathlib.Path, metavar="FOLDER")
+    parser.add_argument("targets", choices=CASES, nargs="+", metavar="TARGET")
+    given = parser.parse_args()
+    programs = {"overlay": str(pathlib.Path(given.overlay).resolve()),
+                "overlay_check": str(pathlib.Path(given.overlay_check).resolve())}
+    for target in given.targets:
+        program = fuzz.loop_of(CRATES[target], given.loops or given.room / "loops")
+        rows, count = kept(target, minimised(target, program, given.room), programs)
+        corpus.write(target, rows)
+        print(f"{target}: {count} inputs after afl-cmin, {len(rows)} kept, {corpus.path_of(target).stat().st_size} bytes")
+
+
+if __name__ == "__main__":
+    try:
+        sys.exit(main())
+    except (OSError, subprocess.CalledProcessError) as why:
+        sys.exit(f"keep.py: {why}")
