@@ -91,7 +91,8 @@ class ScenarioMaker:
             lines += [["also"]] if at else []
             if at == 0 or self.random.random() < 0.4:
                 for _ in range(self.random.randint(0, 3)):
-                    lines += self.lines_of_event()
+                    is_analysis = self.moments and self.random.random() < 0.2
+                    lines += [["analyse", self.random.choice(self.moments)]] if is_analysis else self.lines_of_event()
         return lines + [["end"]]
 
     def lines(self, size):
