@@ -1,8 +1,9 @@
 #!/usr/bin/env python3
 """compare_random.py PROGRAM [NUMBER [SEED]]: holds a program `overlay` against the second opinion.
 
-The examples' scenarios and graph files are compared first, and then so many random scenarios and so many random graph
-files (300 without a number). An input on which the two differ is kept in `found/`, and named. The status is 1 then.
+The examples' scenarios and graph files are compared first, then files that reach the limits of a world and of a graph,
+and then so many random scenarios and so many random graph files (300 without a number). An input on which the two
+differ is kept in `found/`, and named. The status is 1 then.
 """
 
 import pathlib
@@ -33,6 +34,8 @@ def inputs(number, seed):
         yield path.name, "run", path.read_bytes(), None
     for path in sorted(EXAMPLES.rglob("*.graph")):
         yield path.name, "analyse", path.read_bytes(), None
+    for name, command, data in random_inputs.limits():
+        yield f"limit-of-{name}", command, data, None
     for at in range(number):
         source = random.Random(f"{seed} {at}")
         yield f"random-{seed}-{at}.scenario", "run", random_inputs.scenario(source), None

@@ -3,7 +3,8 @@
 The first line of a file is its head: the program, and the words by which it is run. Each other line has the input as
 "text", or as "base64" if it is no text; "words" if it is run by others than the head's; the lines of standard output in
 "out"; and "status" and "error", the first line of standard error, if they are not 0 and none. A certificate in "out" is
-an object without its paths, which may differ. In arguments.jsonl an input is the words, one a line, and nothing is read.
+an object without its paths, which may differ. In arguments.jsonl an input has the words, one a line, and standard input
+is empty.
 """
 
 import base64

@@ -2,7 +2,7 @@
 """fuzz.py --seconds N --overlay PROGRAM --overlay-check PROGRAM [--room FOLDER] [--loops FOLDER] TARGET..: one sitting.
 
 Fuzzes each target for N seconds, one after the other on one processor, beginning with the kept corpus, the examples and
-random inputs, and judges what is found by judge.py: afl-fuzz's queue, crashes and hangs. PROGRAMs are the real programs.
+random inputs, and judges by judge.py what is found: afl-fuzz's queue, crashes and hangs. PROGRAMs are the real programs.
 The programs that are fuzzed are built by `build` into FOLDER/loops if they are not there, or are those of --loops. All
 is laid into the room, `out` beside this script without --room; a target's queue of an earlier sitting there is gone on
 with. A line for the table of README.md is printed for each target. The status is 1 if an input differs.

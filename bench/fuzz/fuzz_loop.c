@@ -11,8 +11,8 @@
  *   arguments    each line of the input is an argument of overlay, which reads nothing
  *
  * The program's own main is renamed to program_main, and its calls of read, write, open and _exit are sent to the
- * functions below (ld --wrap). rattle_arg and rattle_arg_count stand in for those of the kit, which return the arguments
- * of the process.
+ * functions below (ld --wrap). rattle_arg and rattle_arg_count stand in for those of the kit, which return the
+ * arguments of the process.
  */
 #include <errno.h>
 #include <setjmp.h>

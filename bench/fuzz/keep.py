@@ -41,7 +41,8 @@ def minimised(target, program, room):
     folder = room / "minimised" / target
     shutil.rmtree(folder, ignore_errors=True)
     folder.parent.mkdir(parents=True, exist_ok=True)
-    command = ["afl-cmin", "-i", gathered(target, room), "-o", folder, "-m", "none", "-t", "5000", "--", program, target]
+    command = ["afl-cmin", "-i", gathered(target, room), "-o", folder, "-m", "none", "-t", "5000", "--",
+               program, target]
     with open(room / f"{target}.cmin.log", "w") as told:
         subprocess.run(command, env=os.environ | fuzz.SETTINGS, stdout=told, stderr=subprocess.STDOUT, check=True)
     return folder
@@ -84,7 +85,8 @@ def main():
         program = fuzz.loop_of(CRATES[target], given.loops or given.room / "loops")
         rows, count = kept(target, minimised(target, program, given.room), programs)
         corpus.write(target, rows)
-        print(f"{target}: {count} inputs after afl-cmin, {len(rows)} kept, {corpus.path_of(target).stat().st_size} bytes")
+        size_of_file = corpus.path_of(target).stat().st_size
+        print(f"{target}: {count} inputs after afl-cmin, {len(rows)} kept, {size_of_file} bytes")
 
 
 if __name__ == "__main__":

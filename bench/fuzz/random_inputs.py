@@ -27,7 +27,8 @@ class ScenarioMaker:
         self.eager_delivery = random.random() < 0.8
 
     def node(self):
-        return self.random.choice(self.born) if self.born and self.random.random() < 0.97 else self.random.randint(0, 40)
+        is_born = self.born and self.random.random() < 0.97
+        return self.random.choice(self.born) if is_born else self.random.randint(0, 40)
 
     def boot(self):
         name = len(self.born) + 1 if self.random.random() < 0.97 else self.node()
@@ -136,3 +137,19 @@ def graph(random):
     data = damaged(random, b"".join(written(random, words) for words in lines))
     group = sorted(random.sample(nodes, random.randint(1, size)))
     return data, group if random.random() < 0.6 else None
+
+
+def limits():
+    """Scenarios and graph files that reach the limits of a world and of a graph: name, command and bytes of each."""
+    two = b"boot 1\nboot 2 by 1\n"
+    full = b"repeat 0\n" * 65475 + b"deliver 0\nlose 0\nlose 0\nlose 0\ndeliver 0\ndeliver 0\n"
+    nodes = b"".join(b"node %d\n" % at for at in range(1024))
+    links = b"".join(b"link %d %d\n" % (at, at + 1) for at in range(1023))
+    yield "entries", "run", b"boot 1\n" + b"shuffle 1\n" * 65534 + b"snapshot\ncrash 1\nanalyse 65536\nshow 1\n"
+    yield "packets", "run", two + full
+    yield "messages", "run", two + b"broadcast 1 x\n" * 4098 + b"broadcast 2 y\n"
+    payloads = b"".join(b"broadcast 1 " + b"x" * size + b"\n" for size in (1024, 1025))
+    yield "payloads", "run", two + payloads + b"packets\n"
+    yield "nodes", "run", b"".join(b"boot %d\n" % at for at in range(258)) + b"snapshot\nanalyse 257\n"
+    yield "nodes-of-a-graph", "analyse", nodes + links
+    yield "nodes-too-many", "analyse", nodes + b"node 1024\n" + links

@@ -51,8 +51,8 @@ class Certificate(str):
 class State:
     """How far one run of a scenario has come.
 
-    `printed` has what standard output gets, line by line; `refused` the places in the file of the lines that were refused,
-    and `events` how many events were accepted and how many refused, both outside sections.
+    `printed` has what standard output gets, line by line. `refused` has the places in the file of the lines that were
+    refused, and `events` how many events were accepted and how many refused, both outside sections.
     """
 
     def __init__(self, params):
@@ -168,7 +168,7 @@ def orders(state, sections, accepted=0, refused=0):
 
 
 class Run:
-    """All runs of a scenario: `states` has one for each output, and what is not `is_determined` is printed by `guess`."""
+    """All runs of a scenario, a state for each. From a block on that has too many orders, lines are guessed."""
 
     def __init__(self, reader):
         self.generator = Pcg64(reader.seed[0] if reader.seed else 0)

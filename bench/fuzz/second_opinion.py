@@ -6,9 +6,9 @@ docs/CONNECTIVITY.md and not from the Rattle code. Standard output, the status a
 those that the documents ask of `overlay run FILE` and `overlay analyse FILE`. FILE `-` is standard input.
 
 The paths of a certificate are this reader's own; others may be as right. If the order of sections decides what is
-printed, one of the outputs is printed, and on standard error how many there are. If too many orders are possible, a line
-that they decide begins with `?` here. There is no limit on memory or time: an analysis takes about a second for 100 nodes with 10 links
-each. `unlike` compares what a program printed with what is asked; other scripts call that.
+printed, one of the outputs is printed, and on standard error how many there are. If too many orders are possible, a
+line that they decide begins with `?`. There is no limit on memory or time: an analysis takes about a second for 100
+nodes with 10 links each. `unlike` compares what a program printed with what is asked; other scripts call that.
 """
 
 import argparse
