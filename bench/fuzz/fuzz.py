@@ -2,7 +2,7 @@
 """fuzz.py --seconds N --overlay PROGRAM --overlay-check PROGRAM [--room FOLDER] [--loops FOLDER] TARGET..: one sitting.
 
 Fuzzes each target for N seconds, one after the other on one processor, beginning with the kept corpus, the examples and
-random inputs, and judges by judge.py what is found: afl-fuzz's queue, crashes and hangs. PROGRAMs are the real programs.
+random inputs, and judges by judge.py what is found: afl-fuzz's queue, crashes and hangs. PROGRAM is a real program.
 The programs that are fuzzed are built by `build` into FOLDER/loops if they are not there, or are those of --loops. All
 is laid into the room, `out` beside this script without --room; a target's queue of an earlier sitting there is gone on
 with. A line for the table of README.md is printed for each target. The status is 1 if an input differs.
@@ -35,6 +35,16 @@ def loop_of(crate, folder):
     return program
 
 
+def settings_of(target, folder):
+    """The environment of afl-fuzz. Lines are mutated too, but not of certificate files, which mostly have one."""
+    if target == "certificate":
+        return os.environ | SETTINGS
+    library = folder / "line_mutator.so"
+    if not library.exists():
+        subprocess.run(["gcc", "-O2", "-shared", "-fPIC", HERE / "line_mutator.c", "-o", library], check=True)
+    return os.environ | SETTINGS | {"AFL_CUSTOM_MUTATOR_LIBRARY": str(library.resolve())}
+
+
 def fuzz(target, program, room, seconds):
     """Runs afl-fuzz for so long, and answers its folder."""
     beginning = room / "seeds" / target
@@ -45,7 +55,7 @@ def fuzz(target, program, room, seconds):
                "-G", str(seeds.LONGEST[target]), "-x", HERE / "words" / f"{target}.dict", "--", program, target]
     log = room / f"{target}.log"
     with open(log, "w") as told:
-        run = subprocess.run(command, env=os.environ | SETTINGS, stdout=told, stderr=subprocess.STDOUT)
+        run = subprocess.run(command, env=settings_of(target, program.parent), stdout=told, stderr=subprocess.STDOUT)
     if run.returncode:
         sys.exit(f"fuzz.py: afl-fuzz failed, see {log}")
     return found / "default"
