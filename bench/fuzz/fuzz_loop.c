@@ -16,6 +16,7 @@
  */
 #include <errno.h>
 #include <setjmp.h>
+#include <signal.h>
 #include <stddef.h>
 #include <stdio.h>
 #include <stdlib.h>
@@ -23,12 +24,14 @@
 #include <sys/types.h>
 #include <unistd.h>
 
-enum { LOOPS = 20000, MOST_ARGUMENTS = 64, LONGEST_INPUT = 1 << 20, STATUS_OF_USAGE = 2 };
+/* The first place of the map of coverage belongs to afl-fuzz. */
+enum { MAP_BEGIN = 8, LOOPS = 20000, MOST_ARGUMENTS = 64, LONGEST_INPUT = 1 << 20, STATUS_OF_USAGE = 2 };
 
 /* AFL++'s runtime: the test case in shared memory, and the loop. */
 int __afl_sharedmem_fuzzing = 1;
 extern unsigned int *__afl_fuzz_len;
-extern unsigned char *__afl_fuzz_ptr;
+extern unsigned char *__afl_fuzz_ptr, *__afl_area_ptr;
+extern unsigned int __afl_final_loc;
 void __afl_manual_init(void);
 int __afl_persistent_loop(unsigned int);
 /* afl-fuzz looks for these texts in the program. */
@@ -40,12 +43,34 @@ ssize_t __real_read(int file, void *room, size_t size);
 ssize_t __real_write(int file, const void *bytes, size_t size);
 void __real__exit(int status) __attribute__((noreturn));
 
+/* How often each edge of the program was taken: clang counts it in line, which is faster than AFL++'s calls. */
+static unsigned char *counters;
+static size_t counter_count;
 static const unsigned char *input;
 static size_t input_left;
 static int is_running;
 static jmp_buf ended;
 static const unsigned char *arguments[MOST_ARGUMENTS];
 static size_t lengths[MOST_ARGUMENTS], argument_count;
+
+/* Called before AFL++'s runtime sets up its map, which is to have a byte for each counter. */
+void __sanitizer_cov_8bit_counters_init(unsigned char *begin, unsigned char *end) {
+    counters = begin;
+    counter_count = (size_t)(end - begin);
+    __afl_final_loc = MAP_BEGIN + (unsigned int)counter_count;
+}
+
+/* Hands the counts of a run to afl-fuzz. */
+static void tell_counts(void) {
+    memcpy(__afl_area_ptr + MAP_BEGIN, counters, counter_count);
+}
+
+/* The same before the program ends by a signal, so that afl-fuzz can tell one crash from another. */
+static void on_crash(int number) {
+    tell_counts();
+    signal(number, SIG_DFL);
+    raise(number);
+}
 
 ssize_t __wrap_read(int file, void *room, size_t size) {
     if (!is_running || file != STDIN_FILENO)
@@ -164,10 +189,12 @@ static void run(const char *target, const unsigned char *bytes, size_t size) {
         arguments_of_lines(bytes, size);
         input_left = 0;
     }
+    memset(counters, 0, counter_count);
     is_running = 1;
     if (setjmp(ended) == 0)
         program_main(0, NULL, NULL);
     is_running = 0;
+    tell_counts();
 }
 
 int main(int count, char **words) {
@@ -176,6 +203,9 @@ int main(int count, char **words) {
         fprintf(stderr, "usage: %s certificate|scenario|graph|arguments\n", words[0]);
         return STATUS_OF_USAGE;
     }
+    const int crashes[] = {SIGSEGV, SIGABRT, SIGILL, SIGBUS, SIGFPE, SIGTRAP};
+    for (size_t at = 0; at < sizeof crashes / sizeof crashes[0]; at++)
+        signal(crashes[at], on_crash);
     __afl_manual_init();
     while (__afl_persistent_loop(LOOPS)) {
         if (__afl_fuzz_ptr) {

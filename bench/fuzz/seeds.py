@@ -9,7 +9,7 @@ from second_opinion import answer_analyse
 
 EXAMPLES = corpus.FOLDER.parent.parent.parent / "examples"
 SUFFIXES = {"certificate": ".json", "scenario": ".scenario", "graph": ".graph"}
-LONGEST = {"certificate": 8192, "scenario": 4096, "graph": 4096, "arguments": 512}
+LONGEST = {"certificate": 6000, "scenario": 1500, "graph": 2000, "arguments": 400}
 RANDOM_SEEDS = 60
 OPTIONS = (b"", b"# --certificate\n", b"# --workers 2 --certificate\n", b"# --group 1,3\n")
 
