@@ -55,7 +55,7 @@ def read_arguments(words):
         texts = [word.decode() for word in words]
     except UnicodeDecodeError:
         raise BadArguments from None
-    if not texts:
+    if texts in ([], ["--"]):
         return Request("run")
     command, *texts = texts
     if command not in OPTIONS:

@@ -49,9 +49,10 @@ def line_of(line):
 def row_of(target, data, words, answer):
     """The row of an input, for which an independent reader gives this answer."""
     row = written(data)
-    words = [word if isinstance(word, str) else word.decode() for word in words]
-    if words != HEADS[target].get("words", words):
-        row["words"] = words
+    if "words" in HEADS[target]:
+        words = [word if isinstance(word, str) else word.decode() for word in words]
+        if words != HEADS[target]["words"]:
+            row["words"] = words
     row["out"] = [line_of(str(line)) for line in answer.lines]
     if answer.status:
         row["status"] = answer.status

@@ -53,7 +53,14 @@ def row(target, data, programs):
     cases = list(CASES[target](data))
     if not cases or not all(case.answer.is_determined() for case in cases) or any(it.unlike(programs) for it in cases):
         return None
-    return corpus.row_of(target, data, cases[-1].words, cases[-1].answer)
+    if target == "arguments":
+        # a word ends at a zero byte
+        data = b"".join(word + b"\n" for word in cases[-1].words)
+    try:
+        return corpus.row_of(target, data, cases[-1].words, cases[-1].answer)
+    except UnicodeDecodeError:
+        # words of a graph file that are no text
+        return None
 
 
 def size(it):

@@ -159,13 +159,19 @@ def graph_cases(data):
     yield Case("overlay", words, data, asked(words, data))
 
 
+def is_there(word):
+    """Whether an argument names something that is there, as a folder of dots is."""
+    try:
+        return not word.strip(b".") or pathlib.Path(word.decode(errors="replace")).exists()
+    except OSError:
+        return False
+
+
 def arguments_cases(data):
-    """A command line, an argument a line."""
+    """A command line, an argument a line. None is judged by which a file or a folder could be opened."""
     lines = data.split(b"\n")
     words = [line.partition(b"\0")[0] for line in (lines if lines[-1] else lines[:-1])]
-    named = [word for word in words if word.strip(b".-") and pathlib.Path(word.decode(errors="replace")).exists()]
-    # what exists here is not there for the loop, and a word of dots is a folder
-    if not named and not any(word and not word.strip(b".") for word in words):
+    if not any(word and is_there(word) for word in words):
         yield Case("overlay", words, b"", asked(words, b""))
 
 
