@@ -3,7 +3,7 @@
 
 The examples' scenarios and graph files are compared first, then files that reach the limits of a world and of a graph,
 and then so many random scenarios and so many random graph files (300 without a number). An input on which the two
-differ is kept in `found/`, and named. The status is 1 then.
+differ is kept in `out/found`, and named. The status is 1 then.
 """
 
 import pathlib
@@ -54,8 +54,8 @@ def main(program, number="300", seed="1"):
         why = differs(program, words, data, answer)
         if why:
             found += 1
-            (HERE / "found").mkdir(exist_ok=True)
-            (HERE / "found" / name).write_bytes(data)
+            (HERE / "out" / "found").mkdir(parents=True, exist_ok=True)
+            (HERE / "out" / "found" / name).write_bytes(data)
             print(f"{name}: {' '.join(words)}: {why}")
     print(f"{count} inputs, {found} differences")
     return 1 if found else 0

@@ -190,7 +190,8 @@ class Run:
     def line(self, said, given, place):
         """A line outside sections."""
         if not self.is_determined:
-            self.states[0].printed.append(guess(said[0]))
+            for state in self.states:
+                state.printed.append(guess(said[0]))
             return
         words = self.words_of(said, given)
         for state in self.states:
@@ -204,8 +205,8 @@ class Run:
         number = number_of_orders(steps)
         if not self.is_determined or number > MOST_ORDERS or number * len(self.states) > MOST_OUTPUTS:
             self.is_determined = False
-            self.states = self.states[:1]
-            self.states[0].printed.append(SectionsLine(len(sections), count))
+            for state in self.states:
+                state.printed.append(SectionsLine(len(sections), count))
             return
         found = [it for state in self.states for it in orders(state, steps)]
         for state, accepted, refused in found:
