@@ -1,8 +1,11 @@
 #!/usr/bin/env python3
-"""fuzz.py --seconds N --overlay PROGRAM --overlay-check PROGRAM [--room FOLDER] [--loops FOLDER] TARGET..: one sitting.
+"""fuzz.py --seconds N --overlay PROGRAM --overlay-check PROGRAM [--room FOLDER] [--loops FOLDER] [--processor P]
+TARGET..: one sitting.
 
 Fuzzes each target for N seconds, one after the other on one processor, beginning with the kept corpus, the examples and
-random inputs, and judges by judge.py what is found: afl-fuzz's queue, crashes and hangs. PROGRAM is a real program.
+random inputs, and judges by judge.py what is found: afl-fuzz's queue, crashes and hangs. PROGRAM is a real program. The
+processor is the last one that may be used, or P: afl-fuzz and the program that it runs wait for each other, and are
+faster on one.
 The programs that are fuzzed are built by `build` into FOLDER/loops if they are not there, or are those of --loops. All
 is laid into the room, `out` beside this script without --room; a target's queue of an earlier sitting there is gone on
 with. A line for the table of README.md is printed for each target. The status is 1 if an input differs.
@@ -12,6 +15,7 @@ import argparse
 import datetime
 import os
 import pathlib
+import resource
 import shutil
 import subprocess
 import sys
@@ -45,6 +49,12 @@ def settings_of(target, folder):
     return os.environ | SETTINGS | {"AFL_CUSTOM_MUTATOR_LIBRARY": str(library.resolve())}
 
 
+def used():
+    """The seconds of processor time that ended children have used."""
+    usage = resource.getrusage(resource.RUSAGE_CHILDREN)
+    return usage.ru_utime + usage.ru_stime
+
+
 def fuzz(target, program, room, seconds):
     """Runs afl-fuzz for so long, and answers its folder."""
     beginning = room / "seeds" / target
@@ -62,9 +72,16 @@ def fuzz(target, program, room, seconds):
 
 
 def statistics(folder):
-    """What afl-fuzz says of itself, by name."""
+    """What afl-fuzz says of itself, by name; of the earlier sittings that it goes on with, too."""
+    if not (folder / "fuzzer_stats").exists():
+        return {}
     lines = (folder / "fuzzer_stats").read_text().splitlines()
     return {name.strip(): value.strip() for name, _, value in (line.partition(":") for line in lines)}
+
+
+def runs_of(target, room):
+    """How many runs there were of a target in this room."""
+    return int(statistics(room / target / "default").get("execs_done", 0))
 
 
 def judged(target, folder, given):
@@ -77,15 +94,25 @@ def judged(target, folder, given):
     return sum(not line.startswith((" ", f"{target}: ")) for line in run.stdout.splitlines())
 
 
-def row(target, folder, seconds, differing):
-    """The line of a sitting for the table."""
+def row(target, folder, seconds, runs, differing):
+    """The line of a sitting for the table: of so many seconds of processor time, and so many runs."""
     said = statistics(folder)
     date = datetime.date.today().isoformat()
     commit = subprocess.run(["git", "rev-parse", "--short=8", "HEAD"], cwd=HERE, capture_output=True, text=True)
     crashes, hangs = said.get("saved_crashes", "0"), said.get("saved_hangs", "0")
-    rate = float(said["execs_per_sec"])
-    return (f"| {date} | {commit.stdout.strip()} | {target} | {seconds / 3600:.2f} | {rate:,.0f} | "
-            f"{said['corpus_count']} | {crashes} crashes, {hangs} hangs, {differing} differences |")
+    rate = f"{seconds / 3600:.2f} | {runs:,} | {runs / seconds:,.0f}"
+    findings = f"{crashes} crashes, {hangs} hangs, {differing} differences"
+    return f"| {date} | {commit.stdout.strip()} | {target} | {rate} | {said['corpus_count']} | {findings} |"
+
+
+def sit(target, given):
+    """Fuzzes one target, and judges what is found: the line of the table, and how many inputs differ."""
+    loop = loop_of(CRATES[target], given.loops or given.room / "loops")
+    runs, seconds = runs_of(target, given.room), used()
+    folder = fuzz(target, loop, given.room, given.seconds)
+    runs, seconds = runs_of(target, given.room) - runs, used() - seconds
+    differing = judged(target, folder, given)
+    return row(target, folder, seconds, runs, differing), differing
 
 
 def main():
@@ -95,16 +122,13 @@ def main():
     parser.add_argument("--overlay-check", required=True, metavar="PROGRAM")
     parser.add_argument("--room", type=pathlib.Path, default=HERE / "out", metavar="FOLDER")
     parser.add_argument("--loops", type=pathlib.Path, metavar="FOLDER")
+    parser.add_argument("--processor", type=int, metavar="P")
     parser.add_argument("targets", choices=CASES, nargs="+", metavar="TARGET")
     given = parser.parse_args()
-    loops, rows, differing = given.loops or given.room / "loops", [], 0
-    for target in given.targets:
-        folder = fuzz(target, loop_of(CRATES[target], loops), given.room, given.seconds)
-        unlike = judged(target, folder, given)
-        differing += unlike
-        rows.append(row(target, folder, given.seconds, unlike))
+    os.sched_setaffinity(0, {max(os.sched_getaffinity(0)) if given.processor is None else given.processor})
+    rows, differing = zip(*(sit(target, given) for target in given.targets))
     print(*rows, sep="\n")
-    return 1 if differing else 0
+    return 1 if any(differing) else 0
 
 
 if __name__ == "__main__":
