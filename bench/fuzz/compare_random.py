@@ -2,7 +2,7 @@
 """compare_random.py PROGRAM [NUMBER [SEED]]: holds a program `overlay` against the second opinion.
 
 The examples' scenarios and graph files are compared first, then files that reach the limits of a world and of a graph,
-and then so many random scenarios and so many random graph files (300 without a number). An input on which the two
+and then so many random scenarios of two kinds, and so many random graph files (300 without a number). An input on which the two
 differ is kept in `out/found`, and named. The status is 1 then.
 """
 
@@ -39,6 +39,7 @@ def inputs(number, seed):
     for at in range(number):
         source = random.Random(f"{seed} {at}")
         yield f"random-{seed}-{at}.scenario", "run", random_inputs.scenario(source), None
+        yield f"guided-{seed}-{at}.scenario", "run", random_inputs.guided(source), None
         yield f"random-{seed}-{at}.graph", "analyse", *random_inputs.graph(source)
 
 

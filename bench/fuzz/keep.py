@@ -2,9 +2,10 @@
 """keep.py --overlay PROGRAM --overlay-check PROGRAM [--room FOLDER] [--loops FOLDER] TARGET..: renews the corpus.
 
 Of each target, the kept corpus and the queue that fuzz.py left in the room are minimised by afl-cmin: as few inputs as
-have the coverage of all. An input is kept with what an independent reader says that is printed, if the real program
-prints just that, if the order of sections decides nothing of it, and if it is short. Of the longer ones the first are
-kept that fit into a target's share of the size.
+have the coverage of all. Of scenarios, random ones are kept beside them, since much of what a node does shows in no
+coverage. An input is kept with what an independent reader says that is printed, if the real program prints just that, if
+the order of sections decides nothing of it, and if its row is short. The shortest are kept first, as many as fit into a
+target's share of the size.
 """
 
 import argparse
@@ -23,6 +24,8 @@ from targets import CASES, CRATES
 # Bytes that a target's file may have, and what one row may have.
 LARGEST = {"certificate": 500_000, "scenario": 800_000, "graph": 400_000, "arguments": 60_000}
 LONGEST_ROW = 12_000
+# Bytes of a target's file that the random ones may have.
+OF_RANDOM = {"certificate": 0, "scenario": 450_000, "graph": 0, "arguments": 0}
 
 
 def gathered(target, room):
@@ -67,15 +70,26 @@ def size(it):
     return len(json.dumps(it, separators=(",", ":"))) + 1
 
 
+def fitting(rows, left):
+    """The rows that fit into so many bytes, one after the other, and the bytes that are left."""
+    found = []
+    for it in rows:
+        if it and size(it) <= min(left, LONGEST_ROW):
+            found.append(it)
+            left -= size(it)
+    return found, left
+
+
 def kept(target, folder, programs):
-    """The rows that are kept, the shortest first."""
-    found = [row(target, path.read_bytes(), programs) for path in sorted(folder.iterdir()) if path.is_file()]
-    left, rows = LARGEST[target], []
-    for it in sorted((it for it in found if it), key=lambda it: (size(it), json.dumps(it))):
-        left -= size(it)
-        if size(it) <= LONGEST_ROW and left >= 0:
-            rows.append(it)
-    return rows, len(found)
+    """The rows that are kept, the shortest first, and how many inputs there were."""
+    known = {path.read_bytes(): None for path in sorted(folder.iterdir()) if path.is_file()}
+    found = [row(target, data, programs) for data in known]
+    others = [row(target, data, programs) for data in seeds.random_ones(target) if data not in known]
+    chosen, left = fitting(others, OF_RANDOM[target])
+    left += LARGEST[target] - OF_RANDOM[target]
+    shortest = sorted(filter(None, found), key=lambda it: (size(it), json.dumps(it)))
+    rows, _ = fitting(shortest, left)
+    return sorted(rows + chosen, key=lambda it: (size(it), json.dumps(it))), len(found)
 
 
 def main():

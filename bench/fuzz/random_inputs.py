@@ -1,5 +1,8 @@
 """Random scenarios and graph files, most of whose lines can be read: for comparisons without a fuzzer."""
 
+from pcg import Pcg64
+from scenario_run import WORDS, State
+
 SPACES = (b" ",) * 12 + (b"  ", b"   ")
 ENDS = (b"\n",) * 12 + (b"\r\n", b" \n", b"\n\n", b"\n# by the way\n", b"\n  \n")
 
@@ -137,6 +140,86 @@ def graph(random):
     data = damaged(random, b"".join(written(random, words) for words in lines))
     group = sorted(random.sample(nodes, random.randint(1, size)))
     return data, group if random.random() < 0.6 else None
+
+
+class GuidedMaker:
+    """Makes a scenario beside a world of the second opinion, so that rare events come: timers that run, and reports to
+    nodes that know who crashed. Views are small, and the scenario is short."""
+
+    def __init__(self, random):
+        self.random = random
+        walk = random.randint(0, 4)
+        self.params = (random.randint(1, 3), random.randint(1, 3), walk, random.randint(0, walk), random.randint(0, 3),
+                       random.randint(0, 3), random.randint(1, 4))
+        self.seed = random.getrandbits(8)
+        self.state, self.generator = State(self.params), Pcg64(self.seed)
+        self.most = random.randint(3, 8)
+
+    def live(self):
+        return [node for node in self.state.world.nodes.values() if node is not None]
+
+    def boot(self):
+        name, live = len(self.state.world.nodes) + 1, self.live()
+        return ("boot", name, self.random.choice(live).me if live else None)
+
+    def timer(self):
+        running = [(node.me, *name) for node in self.live() for name in sorted(node.timers)]
+        return ("timer", *self.random.choice(running)) if running else None
+
+    def report(self):
+        crashed = {name for name, node in self.state.world.nodes.items() if node is None}
+        known = [(node.me, name) for node in self.live()
+                 for name in sorted(crashed & (node.active | node.passive | {node.asked}))]
+        return ("report", *self.random.choice(known)) if known else None
+
+    def packet(self, kind):
+        count = len(self.state.world.packets)
+        return (kind, self.random.randrange(min(count, 12))) if count else None
+
+    def at_node(self, kind):
+        live = self.live()
+        return (kind, self.random.choice(live).me, *([b"x"] if kind == "broadcast" else [])) if live else None
+
+    def event(self):
+        if len(self.live()) < 2 or (len(self.state.world.nodes) < self.most and self.random.random() < 0.15):
+            return self.boot()
+        kind = self.random.choices(("deliver", "lose", "repeat", "timer", "report", "crash", "shuffle", "broadcast",
+                                    "snapshot"), (60, 5, 5, 14, 12, 3, 8, 8, 2))[0]
+        if kind in ("deliver", "lose", "repeat"):
+            return self.packet(kind)
+        if kind in ("crash", "shuffle", "broadcast"):
+            return self.at_node(kind)
+        return ("snapshot",) if kind == "snapshot" else getattr(self, kind)()
+
+    def looks(self):
+        """Lines that show what came of it: each node now and then, and an analysis of the last snapshot."""
+        for node in self.live():
+            yield f"show {node.me}"
+        if self.state.world.moments:
+            yield f"analyse {max(self.state.world.moments)}"
+        yield "packets"
+
+    def lines(self, size):
+        yield "params " + " ".join(map(str, self.params))
+        yield f"seed {self.seed}"
+        for at in range(1, size + 1):
+            said = self.event()
+            if said is None:
+                continue
+            self.state.do(said, [self.generator.next() for _ in range(WORDS)], at)
+            kind, *given = [word.decode() if isinstance(word, bytes) else word for word in said]
+            if kind == "boot":
+                given = given[:1] if given[1] is None else [given[0], "by", given[1]]
+            yield " ".join(map(str, [kind, *given]))
+            if at % 40 == 0:
+                yield from self.looks()
+        yield from self.looks()
+
+
+def guided(random):
+    """The bytes of a short scenario in which rare events come."""
+    lines = GuidedMaker(random).lines(random.choice((60, 100, 140)))
+    return "".join(f"{line}\n" for line in lines).encode()
 
 
 def limits():

@@ -9,8 +9,8 @@ from second_opinion import answer_analyse
 
 EXAMPLES = corpus.FOLDER.parent.parent.parent / "examples"
 SUFFIXES = {"certificate": ".json", "scenario": ".scenario", "graph": ".graph"}
-LONGEST = {"certificate": 6000, "scenario": 1500, "graph": 2000, "arguments": 400}
-RANDOM_SEEDS = 60
+LONGEST = {"certificate": 6000, "scenario": 2000, "graph": 2000, "arguments": 400}
+RANDOM_SEEDS = {"certificate": 60, "scenario": 300, "graph": 60, "arguments": 0}
 OPTIONS = (b"", b"# --certificate\n", b"# --workers 2 --certificate\n", b"# --group 1,3\n")
 
 
@@ -42,14 +42,22 @@ def certificate(source):
     return lines[1].encode() if len(lines) == 2 else b"{}"
 
 
-MAKERS = {"certificate": certificate, "scenario": random_inputs.scenario, "graph": graph_with_options}
+def scenario(source):
+    """A random scenario, mostly of the kind in which rare events come."""
+    return random_inputs.scenario(source) if source.random() < 0.2 else random_inputs.guided(source)
+
+
+MAKERS = {"certificate": certificate, "scenario": scenario, "graph": graph_with_options}
+
+
+def random_ones(target):
+    """The random seeds of a target, the same in each sitting."""
+    return [MAKERS[target](random.Random(f"{target} {at}")) for at in range(RANDOM_SEEDS[target])]
 
 
 def all_of(target):
     """Each seed of a target, once."""
-    found = [corpus.input_of(row) for row in corpus.rows(target)] + list(of_examples(target))
-    if target in MAKERS:
-        found += [MAKERS[target](random.Random(f"{target} {at}")) for at in range(RANDOM_SEEDS)]
+    found = [corpus.input_of(row) for row in corpus.rows(target)] + list(of_examples(target)) + random_ones(target)
     return {data: None for data in found if 0 < len(data) <= LONGEST[target]}
 
 
