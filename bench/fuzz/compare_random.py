@@ -2,8 +2,8 @@
 """compare_random.py PROGRAM [NUMBER [SEED]]: holds a program `overlay` against the second opinion.
 
 The examples' scenarios and graph files are compared first, then files that reach the limits of a world and of a graph,
-and then so many random scenarios of two kinds, and so many random graph files (300 without a number). An input on which the two
-differ is kept in `out/found`, and named. The status is 1 then.
+and then so many random scenarios of each of two kinds, and so many random graph files (300 without a number). An input
+on which the two differ is kept in `out/found`, and named. The status is 1 then.
 """
 
 import pathlib

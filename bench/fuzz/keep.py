@@ -3,9 +3,9 @@
 
 Of each target, the kept corpus and the queue that fuzz.py left in the room are minimised by afl-cmin: as few inputs as
 have the coverage of all. Of scenarios, random ones are kept beside them, since much of what a node does shows in no
-coverage. An input is kept with what an independent reader says that is printed, if the real program prints just that, if
-the order of sections decides nothing of it, and if its row is short. The shortest are kept first, as many as fit into a
-target's share of the size.
+coverage. An input is kept with what an independent reader says that is printed, if the real program prints just that,
+if the order of sections decides nothing of it, and if its row is short. The shortest are kept first, as many as fit
+into a target's share of the size.
 """
 
 import argparse
