@@ -16,7 +16,11 @@ from targets import CASES
 def inputs(paths):
     """The files among these paths and in these folders."""
     for path in paths:
-        yield from sorted(it for it in path.iterdir() if it.is_file()) if path.is_dir() else [path]
+        if path.is_dir():
+            # the page that afl-fuzz lays beside crashes is no input
+            yield from sorted(it for it in path.iterdir() if it.is_file() and it.name != "README.txt")
+        else:
+            yield path
 
 
 def differences(target, data, programs):
