@@ -1,0 +1,68 @@
+#!/usr/bin/env python3
+"""compare_random.py PROGRAM [NUMBER [SEED]]: holds a program `overlay` against the second opinion.
+
+The examples' scenarios and graph files are compared first, then files that reach the limits of a world and of a graph,
+and then so many random scenarios of each of two kinds, and so many random graph files (300 without a number). An input
+on which the two differ is kept in `out/found`, and named. The status is 1 then.
+"""
+
+import pathlib
+import random
+import subprocess
+import sys
+
+import random_inputs
+import second_opinion
+
+HERE = pathlib.Path(__file__).resolve().parent
+EXAMPLES = HERE.parent.parent / "examples"
+SECONDS = 60
+
+
+def differs(program, words, data, answer):
+    """What a program prints otherwise than is asked, in words, or None."""
+    try:
+        run = subprocess.run([program, *words], input=data, capture_output=True, timeout=SECONDS)
+    except subprocess.TimeoutExpired:
+        return f"it has not ended after {SECONDS} seconds"
+    return second_opinion.unlike(answer, run.stdout, run.stderr, run.returncode)
+
+
+def inputs(number, seed):
+    """Each input's name, its command, its bytes and its group."""
+    for path in sorted(EXAMPLES.rglob("*.scenario")):
+        yield path.name, "run", path.read_bytes(), None
+    for path in sorted(EXAMPLES.rglob("*.graph")):
+        yield path.name, "analyse", path.read_bytes(), None
+    for name, command, data in random_inputs.limits():
+        yield f"limit-of-{name}", command, data, None
+    for at in range(number):
+        source = random.Random(f"{seed} {at}")
+        yield f"random-{seed}-{at}.scenario", "run", random_inputs.scenario(source), None
+        yield f"guided-{seed}-{at}.scenario", "run", random_inputs.guided(source), None
+        yield f"random-{seed}-{at}.graph", "analyse", *random_inputs.graph(source)
+
+
+def main(program, number="300", seed="1"):
+    count, found = 0, 0
+    for name, command, data, group in inputs(int(number), seed):
+        count += 1
+        if command == "run":
+            words, answer = ["run"], second_opinion.answer_run(data)
+        else:
+            chosen = ["--group", ",".join(map(str, group))] if group else []
+            words, answer = ["analyse", "--certificate", *chosen], second_opinion.answer_analyse(data, group, True)
+        why = differs(program, words, data, answer)
+        if why:
+            found += 1
+            (HERE / "out" / "found").mkdir(parents=True, exist_ok=True)
+            (HERE / "out" / "found" / name).write_bytes(data)
+            print(f"{name}: {' '.join(words)}: {why}")
+    print(f"{count} inputs, {found} differences")
+    return 1 if found else 0
+
+
+if __name__ == "__main__":
+    if not 2 <= len(sys.argv) <= 4:
+        sys.exit("usage: compare_random.py PROGRAM [NUMBER [SEED]]")
+    sys.exit(main(*sys.argv[1:]))

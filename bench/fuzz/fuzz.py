@@ -1,0 +1,138 @@
+#!/usr/bin/env python3
+"""fuzz.py --seconds N --overlay PROGRAM --overlay-check PROGRAM [--room FOLDER] [--loops FOLDER] [--processor P]
+TARGET..: one sitting.
+
+Fuzzes each target for N seconds, one after the other on one processor, beginning with the kept corpus, the examples and
+random inputs, and judges by judge.py what is found: afl-fuzz's queue, crashes and hangs. PROGRAM is a real program. The
+processor is the last one that may be used, or P: afl-fuzz and the program that it runs wait for each other, and are
+faster on one.
+The programs that are fuzzed are built by `build` into FOLDER/loops if they are not there, or are those of --loops. All
+is laid into the room, `out` beside this script without --room; a target's queue of an earlier sitting there is gone on
+with. A line for the table of README.md is printed for each target. The status is 1 if an input differs.
+"""
+
+import argparse
+import datetime
+import os
+import pathlib
+import resource
+import shutil
+import subprocess
+import sys
+
+import seeds
+from targets import CASES, CRATES
+
+HERE = pathlib.Path(__file__).resolve().parent
+# Milliseconds that one input may take.
+LONGEST_RUN = 2000
+SETTINGS = {"AFL_SKIP_CPUFREQ": "1", "AFL_I_DONT_CARE_ABOUT_MISSING_CRASHES": "1", "AFL_NO_UI": "1",
+            "AFL_NO_AFFINITY": "1", "AFL_AUTORESUME": "1", "AFL_NO_STARTUP_CALIBRATION": "1"}
+
+
+def loop_of(crate, folder):
+    """The program of a crate that is fuzzed, built if it is not there."""
+    program = folder / crate
+    if not program.exists():
+        folder.mkdir(parents=True, exist_ok=True)
+        subprocess.run([HERE / "build", crate, program], check=True)
+    return program
+
+
+def settings_of(target, folder):
+    """The environment of afl-fuzz. Lines are mutated too, but not of certificate files, which mostly have one."""
+    if target == "certificate":
+        return os.environ | SETTINGS
+    library = folder / "line_mutator.so"
+    if not library.exists():
+        subprocess.run(["gcc", "-O2", "-shared", "-fPIC", HERE / "line_mutator.c", "-o", library], check=True)
+    return os.environ | SETTINGS | {"AFL_CUSTOM_MUTATOR_LIBRARY": str(library.resolve())}
+
+
+def used():
+    """The seconds of processor time that ended children have used."""
+    usage = resource.getrusage(resource.RUSAGE_CHILDREN)
+    return usage.ru_utime + usage.ru_stime
+
+
+def fuzz(target, program, room, seconds):
+    """Runs afl-fuzz for so long, and answers its folder."""
+    beginning = room / "seeds" / target
+    shutil.rmtree(beginning, ignore_errors=True)
+    seeds.lay(target, beginning)
+    found = room / target
+    command = ["afl-fuzz", "-i", beginning, "-o", found, "-V", str(seconds), "-t", str(LONGEST_RUN), "-m", "none",
+               "-G", str(seeds.LONGEST[target]), "-x", HERE / "words" / f"{target}.dict", "--", program, target]
+    log = room / f"{target}.log"
+    with open(log, "w") as told:
+        run = subprocess.run(command, env=settings_of(target, program.parent), stdout=told, stderr=subprocess.STDOUT)
+    if run.returncode:
+        sys.exit(f"fuzz.py: afl-fuzz failed, see {log}")
+    return found / "default"
+
+
+def statistics(folder):
+    """What afl-fuzz says of itself, by name; of the earlier sittings that it goes on with, too."""
+    if not (folder / "fuzzer_stats").exists():
+        return {}
+    lines = (folder / "fuzzer_stats").read_text().splitlines()
+    return {name.strip(): value.strip() for name, _, value in (line.partition(":") for line in lines)}
+
+
+def runs_of(target, room):
+    """How many runs there were of a target in this room."""
+    return int(statistics(room / target / "default").get("execs_done", 0))
+
+
+def judged(target, folder, given):
+    """How many inputs differ, which judge.py prints."""
+    paths = [it for it in (folder / "queue", folder / "crashes", folder / "hangs") if it.is_dir() and any(it.iterdir())]
+    command = [HERE / "judge.py", "--overlay", given.overlay, "--overlay-check", given.overlay_check,
+               "--kept", given.room / "found", target, *paths]
+    run = subprocess.run(command, capture_output=True, text=True)
+    print(run.stdout, run.stderr, sep="", end="", flush=True)
+    return sum(not line.startswith((" ", f"{target}: ")) for line in run.stdout.splitlines())
+
+
+def row(target, folder, seconds, runs, differing):
+    """The line of a sitting for the table: of so many seconds of processor time, and so many runs."""
+    said = statistics(folder)
+    date = datetime.date.today().isoformat()
+    commit = subprocess.run(["git", "rev-parse", "--short=8", "HEAD"], cwd=HERE, capture_output=True, text=True)
+    crashes, hangs = said.get("saved_crashes", "0"), said.get("saved_hangs", "0")
+    rate = f"{seconds / 3600:.2f} | {runs:,} | {runs / seconds:,.0f}"
+    findings = f"{crashes} crashes, {hangs} hangs, {differing} differences"
+    return f"| {date} | {commit.stdout.strip()} | {target} | {rate} | {said['corpus_count']} | {findings} |"
+
+
+def sit(target, given):
+    """Fuzzes one target, and judges what is found: the line of the table, and how many inputs differ."""
+    loop = loop_of(CRATES[target], given.loops or given.room / "loops")
+    runs, seconds = runs_of(target, given.room), used()
+    folder = fuzz(target, loop, given.room, given.seconds)
+    runs, seconds = runs_of(target, given.room) - runs, used() - seconds
+    differing = judged(target, folder, given)
+    return row(target, folder, seconds, runs, differing), differing
+
+
+def main():
+    parser = argparse.ArgumentParser(description="Fuzzes the programs, and judges what is found.")
+    parser.add_argument("--seconds", type=int, required=True, metavar="N")
+    parser.add_argument("--overlay", required=True, metavar="PROGRAM")
+    parser.add_argument("--overlay-check", required=True, metavar="PROGRAM")
+    parser.add_argument("--room", type=pathlib.Path, default=HERE / "out", metavar="FOLDER")
+    parser.add_argument("--loops", type=pathlib.Path, metavar="FOLDER")
+    parser.add_argument("--processor", type=int, metavar="P")
+    parser.add_argument("targets", choices=CASES, nargs="+", metavar="TARGET")
+    given = parser.parse_args()
+    os.sched_setaffinity(0, {max(os.sched_getaffinity(0)) if given.processor is None else given.processor})
+    rows, differing = zip(*(sit(target, given) for target in given.targets))
+    print(*rows, sep="\n")
+    return 1 if any(differing) else 0
+
+
+if __name__ == "__main__":
+    try:
+        sys.exit(main())
+    except (OSError, subprocess.CalledProcessError) as why:
+        sys.exit(f"fuzz.py: {why}")

@@ -1,0 +1,68 @@
+"""The inputs that afl-fuzz begins with: the kept corpus, the examples, and random scenarios and graphs."""
+
+import hashlib
+import random
+
+import corpus
+import random_inputs
+from second_opinion import answer_analyse
+
+EXAMPLES = corpus.FOLDER.parent.parent.parent / "examples"
+SUFFIXES = {"certificate": ".json", "scenario": ".scenario", "graph": ".graph"}
+LONGEST = {"certificate": 6000, "scenario": 2000, "graph": 2000, "arguments": 400}
+RANDOM_SEEDS = {"certificate": 60, "scenario": 300, "graph": 60, "arguments": 0}
+OPTIONS = (b"", b"# --certificate\n", b"# --workers 2 --certificate\n", b"# --group 1,3\n")
+
+
+def of_examples(target):
+    """The examples of a target."""
+    if target == "arguments":
+        for path in sorted(EXAMPLES.glob("arguments/*.args")):
+            program, _, words = path.read_bytes().partition(b"\n")
+            if program == b"overlay":
+                yield words
+        return
+    for path in sorted(EXAMPLES.rglob(f"*{SUFFIXES[target]}")):
+        yield path.read_bytes()
+
+
+def graph_with_options(source):
+    """A random graph file whose first line has arguments."""
+    data, group = random_inputs.graph(source)
+    words = source.choice(OPTIONS)
+    if group and source.random() < 0.5:
+        words = b"# --group " + ",".join(map(str, group)).encode() + b" --certificate\n"
+    return words + data
+
+
+def certificate(source):
+    """The certificate file of a random graph, with paths that the second opinion finds."""
+    data, group = random_inputs.graph(source)
+    lines = answer_analyse(data, group, True).lines
+    return lines[1].encode() if len(lines) == 2 else b"{}"
+
+
+def scenario(source):
+    """A random scenario, mostly of the kind in which rare events come."""
+    return random_inputs.scenario(source) if source.random() < 0.2 else random_inputs.guided(source)
+
+
+MAKERS = {"certificate": certificate, "scenario": scenario, "graph": graph_with_options}
+
+
+def random_ones(target):
+    """The random seeds of a target, the same in each sitting."""
+    return [MAKERS[target](random.Random(f"{target} {at}")) for at in range(RANDOM_SEEDS[target])]
+
+
+def all_of(target):
+    """Each seed of a target, once."""
+    found = [corpus.input_of(row) for row in corpus.rows(target)] + list(of_examples(target)) + random_ones(target)
+    return {data: None for data in found if 0 < len(data) <= LONGEST[target]}
+
+
+def lay(target, folder):
+    """Writes the seeds of a target into a folder."""
+    folder.mkdir(parents=True, exist_ok=True)
+    for data in all_of(target):
+        (folder / hashlib.sha1(data).hexdigest()[:16]).write_bytes(data)

@@ -1,0 +1,182 @@
+"""What is fuzzed: how each kind of input is run by the real programs, and what the independent readers say of it."""
+
+import json
+import pathlib
+import subprocess
+import sys
+import tempfile
+
+from command_line import BadArguments, read_arguments
+import second_opinion
+from second_opinion import Answer, answer_analyse, answer_run, check
+
+SECONDS = 60
+DEEPEST = 127
+# How `run` in fuzz_loop.c takes the words of a graph file's first line.
+OF_WORDS = frozenset(b"0123456789,")
+
+
+class Case:
+    """One call of a program: its crate, its arguments, its standard input, and the answer that is asked."""
+
+    def __init__(self, crate, words, data, answer, more=None):
+        self.crate, self.words, self.data, self.answer = crate, words, data, answer
+        # what else to ask of standard error, as a function of its bytes that says what is wrong, or None
+        self.more = more
+
+    def unlike(self, programs, seconds=SECONDS):
+        """What the program prints otherwise than is asked, in words, or None."""
+        with tempfile.TemporaryDirectory() as folder:
+            command = [programs[self.crate], *self.words]
+            try:
+                run = subprocess.run(command, input=self.data, capture_output=True, timeout=seconds, cwd=folder)
+            except subprocess.TimeoutExpired:
+                return f"it has not ended after {seconds} seconds"
+        why = second_opinion.unlike(self.answer, run.stdout, run.stderr, run.returncode)
+        return why or (self.more and self.more(run.stderr))
+
+
+class NotRead(Exception):
+    """A text that the JSON reader of the format refuses, although Python's json reads it."""
+
+
+def has_surrogate(value):
+    """Whether a text, or one in a list, has half of a surrogate pair; `pairs_of` has asked it of the lists' objects."""
+    if isinstance(value, str):
+        return any("\ud800" <= sign <= "\udfff" for sign in value)
+    return isinstance(value, list) and any(map(has_surrogate, value))
+
+
+def float_of(digits):
+    """A number, unless it is too large to be a float."""
+    if float(digits) in (float("inf"), float("-inf")):
+        raise NotRead
+    return 0
+
+
+def pairs_of(pairs):
+    """An object's keys and values, also those that a later one with the same key replaces."""
+    if any(has_surrogate(part) for pair in pairs for part in pair):
+        raise NotRead
+    return dict(pairs)
+
+
+def depth(text):
+    """How deep lists and objects are nested, of a text that is JSON."""
+    deepest = now = 0
+    in_text = escaped = False
+    for sign in text:
+        if in_text:
+            in_text = escaped or sign != '"'
+            escaped = sign == "\\" and not escaped
+        elif sign == '"':
+            in_text = True
+        elif sign in "[{":
+            now += 1
+            deepest = max(deepest, now)
+        elif sign in "]}":
+            now -= 1
+    return deepest
+
+
+def is_unread(data):
+    """Whether the format's reader refuses a text that Python's json may read: docs/FORMATS.md, below the faults."""
+    try:
+        text = data.decode()
+        value = json.loads(text, parse_int=float_of, parse_float=float_of, object_pairs_hook=pairs_of)
+        return depth(text) > DEEPEST or has_surrogate(value)
+    except NotRead:
+        return True
+    except (ValueError, RecursionError):
+        return False
+
+
+def one_line(err):
+    """What is wrong with standard error if it is to have one line."""
+    return None if err.count(b"\n") == 1 and err.endswith(b"\n") else f"standard error is {err!r}, and not one line"
+
+
+def nothing(err):
+    return f"standard error is {err!r}, and should be empty" if err else None
+
+
+def certificate_cases(data):
+    """A certificate file, judged by overlay-check."""
+    if is_unread(data):
+        line = "refused 60"
+    else:
+        try:
+            line = check.judge(data)
+        except check.Answer as fault:
+            line = str(fault)
+    status = 0 if line.startswith("holds ") else 1
+    yield Case("overlay_check", [], data, Answer([line], status=status), one_line if status else nothing)
+
+
+def explained(answer):
+    """What is wrong with the explanations on standard error, as a function of its bytes."""
+    def more(err):
+        lines = err.decode(errors="backslashreplace").split("\n")[:-1]
+        asked = answer.explained
+        if len(lines) != len(asked):
+            return f"standard error has {len(lines)} lines, and should have {len(asked)}"
+        told = next((pair for pair in zip(lines, asked) if not pair[0].startswith(pair[1])), None)
+        return told and f"standard error has {told[0]!r}, and should have {told[1]!r}"
+    return None if answer.explained is None or answer.others else more
+
+
+def scenario_cases(data):
+    """A scenario, run with and without explanations."""
+    answer = answer_run(data)
+    yield Case("overlay", ["run"], data, answer, None if answer.fault else nothing)
+    yield Case("overlay", ["run", "--explain"], data, answer, explained(answer))
+
+
+def words_of_graph(data):
+    """The arguments that the first line of a graph file gives, as in fuzz_loop.c."""
+    line = data.partition(b"\n")[0]
+    words = [word for word in line[1:].split(b" ") if word]
+    fits = all(word.startswith(b"--") or OF_WORDS.issuperset(word) for word in words)
+    return words if line.startswith(b"#") and fits and b"\0" not in line else []
+
+
+def asked(words, data):
+    """What `overlay` should print for these arguments, if it reads this on standard input and there is no file."""
+    try:
+        request = read_arguments(words)
+    except BadArguments:
+        return Answer([], "refused 73", 2)
+    if request.file is not None:
+        return Answer([], "refused 71", 1)
+    if request.command == "run":
+        return answer_run(data)
+    return answer_analyse(data, request.options.get("group"), "certificate" in request.options)
+
+
+def graph_cases(data):
+    """A graph file, analysed with the arguments of its first line."""
+    words = [b"analyse", *words_of_graph(data)]
+    yield Case("overlay", words, data, asked(words, data))
+
+
+def is_there(word):
+    """Whether an argument names something that is there, as a folder of dots is."""
+    try:
+        return not word.strip(b".") or pathlib.Path(word.decode(errors="replace")).exists()
+    except OSError:
+        return False
+
+
+def arguments_cases(data):
+    """A command line, an argument a line. None is judged by which a file or a folder could be opened."""
+    lines = data.split(b"\n")
+    words = [line.partition(b"\0")[0] for line in (lines if lines[-1] else lines[:-1])]
+    if not any(word and is_there(word) for word in words):
+        yield Case("overlay", words, b"", asked(words, b""))
+
+
+CASES = {"certificate": certificate_cases, "scenario": scenario_cases, "graph": graph_cases,
+         "arguments": arguments_cases}
+CRATES = {"certificate": "overlay_check", "scenario": "overlay", "graph": "overlay", "arguments": "overlay"}
+# Python's json follows nested lists by its own stack.
+sys.setrecursionlimit(20000)
