@@ -93,10 +93,11 @@ err_of Is r f all is = subst (λ q. IsErrAnd q Is) is all
 -- what equal names and texts ask for is the same
 asked_same : (c d : Option (List ℕ)) (t u : List ℕ → Option (List ℕ)) → c ≡ d → ((n : List ℕ) → t n ≡ u n)
     → (r : Request) → IsAsked d u r → IsAsked c t r
-asked_same c d t u e f (Run file explain) a = (
+asked_same c d t u e f (Run file run) a = (
   (λ x. a.0 (sym e ∙ x)),
   ap file_asked (f (codes "file")) ∙ a.1,
   ap is_flagged (f (codes "explain")) ∙ a.2,
+  ap is_flagged (f (codes "progress")) ∙ a.3,
 )
 asked_same c d t u e f (Analyse file analysis) a = (
   e ∙ a.0,
@@ -118,7 +119,7 @@ readable_same c d t u e f r is = record {
 -- the texts that ask for something can be read
 pub asked_readable : (command : Option (List ℕ)) (text : List ℕ → Option (List ℕ)) (r : Request)
     → IsAsked command text r → AreReadableFor command text
-asked_readable command text (Run file explain) a is = absurd (a.0 is)
+asked_readable command text (Run file run) a is = absurd (a.0 is)
 asked_readable command text (Analyse file analysis) a is = record {
   group = λ none. cc;
   workers = λ none. cc;

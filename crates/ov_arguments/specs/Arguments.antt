@@ -27,9 +27,12 @@ option name = record (new_rule name) { long = Some name; action = Some Set }
 abbrev pub flag : List ℕ → Rule
 flag name = record (new_rule name) { long = Some name; action = Some SetTrue }
 
--- `run [FILE] [--explain]`
+-- `run [FILE] [--explain] [--progress]`
 abbrev pub run_command : App
-run_command = with_rule (with_rule (new_app (codes "run")) (new_rule (codes "file"))) (flag (codes "explain"))
+run_command =
+    with_rule
+    (with_rule (with_rule (new_app (codes "run")) (new_rule (codes "file"))) (flag (codes "explain")))
+    (flag (codes "progress"))
 
 -- `analyse [FILE] [--group TEXT] [--workers TEXT] [--certificate] [--progress]`
 abbrev pub analyse_command : App
@@ -61,7 +64,7 @@ text_given arguments name = subcommand_of overlay_command arguments >>= λ found
 
 -- if an analysis for a group is asked for, the group has one or more ids
 abbrev pub HasGroupOfIds : Request → Type 0
-HasGroupOfIds (Run file explain) = ⊤
+HasGroupOfIds (Run file run) = ⊤
 HasGroupOfIds (Analyse file analysis) = IfSome analysis.group (λ ids. 0 < length ids.items)
 
 -- the group that the text of `--group` asks for, and no group, for all nodes, if it is not there
@@ -86,10 +89,11 @@ is_flagged (Some text) = bytes_eq text (codes "true")
 
 -- what is asked for is what the command's name and these texts of its file and its options ask for
 abbrev pub IsAsked : Option (List ℕ) → (List ℕ → Option (List ℕ)) → Request → Type 0
-IsAsked command text (Run file explain) =
+IsAsked command text (Run file run) =
     (command ≢ Some (codes "analyse"))
     × (file_asked (text (codes "file")) ≡ option_map (λ f. string_bytes f) file)
-    × (is_flagged (text (codes "explain")) ≡ explain)
+    × (is_flagged (text (codes "explain")) ≡ run.explain)
+    × (is_flagged (text (codes "progress")) ≡ run.progress)
 IsAsked command text (Analyse file analysis) =
     (command ≡ Some (codes "analyse"))
     × (file_asked (text (codes "file")) ≡ option_map (λ f. string_bytes f) file)

@@ -24,16 +24,25 @@ use std::io::ErrorKind as IoErrorKind;
 /// What the arguments of a command line ask for. Without a file, standard input is read.
 #[derive(Debug, PartialEq, Eq, Drop)]
 pub enum Request {
-    /// To run a scenario file. `explain` asks to print why lines are refused.
+    /// To run a scenario file.
     Run {
         file: Option<String>,
-        explain: bool,
+        run: RunRequest,
     },
     /// To analyse a graph file.
     Analyse {
         file: Option<String>,
         analysis: AnalysisRequest,
     },
+}
+
+/// What is asked of a run, besides its file.
+#[derive(Clone, Copy, Debug, PartialEq, Eq)]
+pub struct RunRequest {
+    /// Whether to print why lines are refused.
+    pub explain: bool,
+    /// Whether to print how far the run has come.
+    pub progress: bool,
 }
 
 /// What is asked of an analysis, besides its file.
@@ -127,12 +136,12 @@ impl From<ClapError> for ArgumentsFault {
     }
 }
 
-/// Reads the arguments that follow the program's name: `run [FILE] [--explain]` or `analyse [FILE] [--group IDS]
-/// [--workers N] [--certificate] [--progress]`. No argument asks for `run`. A file that is absent or `-` is standard
-/// input. IDS are one or more ids of decimal digits and 32 bits, with commas between them. N is decimal digits, and
-/// from 1 to 64; without it there is one worker. No option may be given twice. After `--` an argument that begins with
-/// `-` is a file. All other arguments are refused with BadArguments (73), also those that ask for help. OutOfMemory
-/// (99) is returned if an allocation was refused. The arguments and the numbers are chosen here.
+/// Reads the arguments that follow the program's name: `run [FILE] [--explain] [--progress]` or `analyse [FILE] [--group
+/// IDS] [--workers N] [--certificate] [--progress]`. No argument asks for `run`. A file that is absent or `-` is
+/// standard input. IDS are one or more ids of decimal digits and 32 bits, with commas between them. N is decimal
+/// digits, and from 1 to 64; without it there is one worker. No option may be given twice. After `--` an argument that
+/// begins with `-` is a file. All other arguments are refused with BadArguments (73), also those that ask for help.
+/// OutOfMemory (99) is returned if an allocation was refused. The arguments and the numbers are chosen here.
 pub fn read_arguments(alloc: Global, arguments: &[String]) -> Result<Request, ArgumentsFault>
     ensures group { IfOk result HasGroupOfIds }
     ensures given { IfOk result (IsOfGiven (map (λ argument. string_bytes argument) arguments.now)) }
@@ -144,7 +153,10 @@ pub fn read_arguments(alloc: Global, arguments: &[String]) -> Result<Request, Ar
     match matches.subcommand() {
         None => Ok(Request::Run {
             file: None,
-            explain: false,
+            run: RunRequest {
+                explain: false,
+                progress: false,
+            },
         }),
         Some((command, found)) => request_of(alloc, command, found),
     }
@@ -162,7 +174,10 @@ fn request_of(alloc: Global, command: &str, found: &ArgMatches) -> Result<Reques
     }
     Ok(Request::Run {
         file: file_of(alloc, found)?,
-        explain: has_flag(found, "explain"),
+        run: RunRequest {
+            explain: has_flag(found, "explain"),
+            progress: has_flag(found, "progress"),
+        },
     })
 }
 

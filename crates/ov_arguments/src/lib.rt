@@ -5,5 +5,5 @@ mod arguments;
 mod refused_arguments;
 mod taken_arguments;
 
-pub use arguments::{AnalysisRequest, ArgumentsFault, Request, read_arguments};
+pub use arguments::{AnalysisRequest, ArgumentsFault, Request, RunRequest, read_arguments};
 pub use refused_arguments::argument_reasons;

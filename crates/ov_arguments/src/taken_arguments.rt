@@ -16,14 +16,17 @@ const BELOW: &str = "\
 Without a file, or with -, a command reads standard input.
 Bare overlay is overlay run. overlay --version prints the version.";
 
-/// What help says of `overlay run`, and of its options.
+/// What help says of `--progress` of both commands.
+const PROGRESS: &str = "Prints on standard error how far it has come";
+
+/// What help says of `overlay run`, and of its other options.
 const ABOUT_RUN: &str = "Runs the events of a scenario file, and prints what happens";
 
 const SCENARIO_FILE: &str = "The scenario file; standard input without it, or with -";
 
 const EXPLAIN: &str = "Prints on standard error why lines are refused, and counts the events";
 
-/// What help says of `overlay analyse`, and of its options.
+/// What help says of `overlay analyse`, and of its other options.
 const ABOUT_ANALYSE: &str = "Reads a graph file, and prints how few crashes split it";
 
 const GRAPH_FILE: &str = "The graph file; standard input without it, or with -";
@@ -33,8 +36,6 @@ const GROUP: &str = "For these nodes alone: ids with one comma between two";
 const WORKERS: &str = "With 1 to 64 workers, and with one without it";
 
 const CERTIFICATE: &str = "Prints the certificate file too";
-
-const PROGRESS: &str = "Prints on standard error how far it has come";
 
 /// The arguments that `overlay` takes.
 pub(crate) fn command<'a>(alloc: Global) -> Result<Command<'a>, AllocError>
@@ -56,7 +57,8 @@ fn run_command<'a>(alloc: Global) -> Result<Command<'a>, AllocError>
     Command::new(alloc, "run")
         .about(ABOUT_RUN)
         .arg(file(alloc, SCENARIO_FILE))?
-        .arg(flag(alloc, "explain", EXPLAIN))
+        .arg(flag(alloc, "explain", EXPLAIN))?
+        .arg(flag(alloc, "progress", PROGRESS))
 }
 
 /// The arguments after `analyse`.

@@ -22,7 +22,7 @@ const RUN: &str = "overlay run [OPTIONS] [file]";
 const ANALYSE: &str = "overlay analyse [OPTIONS] [file]";
 
 /// Arguments, what is said to be wrong with them, and the usage that follows.
-static WRONG: [(&[&str], &str, &str); 21] = [
+static WRONG: [(&[&str], &str, &str); 22] = [
     (&["foo"], "unrecognized subcommand 'foo'", OVERLAY),
     (
         &["analyze", "x"],
@@ -73,6 +73,11 @@ static WRONG: [(&[&str], &str, &str); 21] = [
         &["run", "--explain", "a", "--explain"],
         "the argument '--explain' cannot be used multiple times",
         RUN,
+    ),
+    (
+        &["run", "--progres", "a"],
+        "unexpected argument '--progres' found\n\n  tip: a similar argument exists: '--progress'",
+        "overlay run --progress [file]",
     ),
     (
         &["run", "--explain=yes"],
@@ -204,8 +209,9 @@ Arguments:
   [file]  The scenario file; standard input without it, or with -
 
 Options:
-      --explain  Prints on standard error why lines are refused, and counts the events
-  -h, --help     Print help
+      --explain   Prints on standard error why lines are refused, and counts the events
+      --progress  Prints on standard error how far it has come
+  -h, --help      Print help
 ";
 
 const HELP_OF_ANALYSE: &str = "\

@@ -1,6 +1,8 @@
 //! The arguments of the command line, and the random words that a seed gives.
 use crate::scenario_lines::crew_of;
-use ov_arguments::{AnalysisRequest, ArgumentsFault, Request, argument_reasons, read_arguments};
+use ov_arguments::{
+    AnalysisRequest, ArgumentsFault, Request, RunRequest, argument_reasons, read_arguments,
+};
 use ov_claims::Workers;
 use ov_ids::NodeId;
 use ov_scenario::draw;
@@ -38,52 +40,66 @@ fn asks(alloc: Global, line: &str, expected: &Request) -> Result<bool, Fail> {
     })
 }
 
-/// Arguments that ask for a run of standard input, and whether it is to be explained.
-static RUNS: [(&str, bool); 8] = [
-    ("", false),
-    ("--", false),
-    ("run", false),
-    ("run -", false),
-    ("run --", false),
-    ("run -- -", false),
-    ("run --explain", true),
-    ("run - --explain", true),
+/// Arguments that ask for a run of standard input, and whether it is to be explained, and to tell how far it has come.
+static RUNS: [(&str, bool, bool); 11] = [
+    ("", false, false),
+    ("--", false, false),
+    ("run", false, false),
+    ("run -", false, false),
+    ("run --", false, false),
+    ("run -- -", false, false),
+    ("run --explain", true, false),
+    ("run - --explain", true, false),
+    ("run --progress", false, true),
+    ("run --progress -", false, true),
+    ("run --progress --explain", true, true),
 ];
 
-/// Arguments that ask for a run of a file: its name, and whether the run is to be explained.
-static FILE_RUNS: [(&str, &str, bool); 11] = [
-    ("run g", "g", false),
-    ("run -- g", "g", false),
-    ("run -- -g", "-g", false),
-    ("run -- --explain", "--explain", false),
-    ("run --explain -- --", "--", true),
-    ("run g --explain", "g", true),
-    ("run --explain g", "g", true),
-    ("run run", "run", false),
-    ("run analyse", "analyse", false),
-    ("run help", "help", false),
-    ("run \u{e4}/g.txt", "\u{e4}/g.txt", false),
+/// Arguments that ask for a run of a file: its name, and the same.
+static FILE_RUNS: [(&str, &str, bool, bool); 14] = [
+    ("run g", "g", false, false),
+    ("run -- g", "g", false, false),
+    ("run -- -g", "-g", false, false),
+    ("run -- --explain", "--explain", false, false),
+    ("run --explain -- --", "--", true, false),
+    ("run g --explain", "g", true, false),
+    ("run --explain g", "g", true, false),
+    ("run g --progress", "g", false, true),
+    ("run --explain g --progress", "g", true, true),
+    ("run --explain -- --progress", "--progress", true, false),
+    ("run run", "run", false, false),
+    ("run analyse", "analyse", false, false),
+    ("run help", "help", false, false),
+    ("run \u{e4}/g.txt", "\u{e4}/g.txt", false, false),
 ];
 
-/// The line asks for a run of this file.
+/// The line asks for this run of this file.
 fn asks_for_run(
     alloc: Global,
     line: &str,
     file: Option<String>,
-    explain: bool,
+    run: RunRequest,
 ) -> Result<bool, Fail> {
-    asks(alloc, line, &Request::Run { file, explain })
+    asks(alloc, line, &Request::Run { file, run })
 }
 
 #[test]
 fn arguments_that_ask_for_a_run(rt: HostRuntime) -> Result<(), Fail> {
     let alloc = rt.alloc();
-    for (line, explain) in &RUNS {
-        assert!(rt; asks_for_run(alloc, line, None, *explain)?, "at {line}");
+    for (line, explain, progress) in &RUNS {
+        let run = RunRequest {
+            explain: *explain,
+            progress: *progress,
+        };
+        assert!(rt; asks_for_run(alloc, line, None, run)?, "at {line}");
     }
-    for (line, name, explain) in &FILE_RUNS {
+    for (line, name, explain, progress) in &FILE_RUNS {
+        let run = RunRequest {
+            explain: *explain,
+            progress: *progress,
+        };
         let file = file(alloc, name)?;
-        assert!(rt; asks_for_run(alloc, line, file, *explain)?, "at {line}");
+        assert!(rt; asks_for_run(alloc, line, file, run)?, "at {line}");
     }
     Ok(())
 }
@@ -246,7 +262,7 @@ fn arguments_that_ask_for_all_at_once(rt: HostRuntime) -> Result<(), Fail> {
 }
 
 /// Arguments that are none of the command, or ask for help.
-static REFUSED: [&str; 74] = [
+static REFUSED: [&str; 75] = [
     "fly",
     "-",
     "g",
@@ -258,7 +274,8 @@ static REFUSED: [&str; 74] = [
     "run -- g --explain",
     "run --group 4",
     "run --certificate",
-    "run --progress",
+    "run --progress --progress",
+    "run --progress=yes",
     "run --explain --explain",
     "run --explain=yes",
     "run --explain yes no",
@@ -350,7 +367,7 @@ fn refused_arguments_alone_are_explained(rt: HostRuntime) -> Result<(), Fail> {
     for line in &REFUSED {
         assert!(rt; is_explained(rt.alloc(), line)?, "at {line}");
     }
-    for (line, _, _) in &FILE_RUNS {
+    for (line, _, _, _) in &FILE_RUNS {
         assert!(rt; !is_explained(rt.alloc(), line)?, "at {line}");
     }
     for (line, _) in &BY_WORKERS {

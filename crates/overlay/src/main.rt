@@ -15,12 +15,15 @@ mod fault_reasons;
 mod program_outcome;
 mod progress;
 mod refusal_watcher;
+mod run_news;
 
 use crate::fault_reasons::{analysis_reason, run_reason};
 use crate::program_outcome::{ProgramFault, exit_status};
-use crate::progress::Progress;
-use crate::refusal_watcher::Explaining;
-use ov_arguments::{AnalysisRequest, ArgumentsFault, Request, argument_reasons, read_arguments};
+use crate::progress::PieceProgress;
+use crate::run_news::RunNews;
+use ov_arguments::{
+    AnalysisRequest, ArgumentsFault, Request, RunRequest, argument_reasons, read_arguments,
+};
 use ov_ids::{NodeId, OutOfMemory};
 use ov_io::{Sink, Source, unopened_text, unread_text};
 use ov_reasons::group_reason;
@@ -128,7 +131,7 @@ fn do_asked<T: Threads + Wait + Sync>(
     ensures fault { IfErr result (λ e. (fault : RunFault) × (e ≡ Run fault)) }
 {
     match request {
-        Request::Run { file, explain } => run_asked(rt, threads, file, explain),
+        Request::Run { file, run } => run_asked(rt, threads, file, run),
         Request::Analyse { file, analysis } => analyse_asked(rt, threads, file, &analysis),
     }
 }
@@ -188,7 +191,7 @@ fn run_asked<T: Threads + Wait + Sync>(
     rt: &HostRuntime,
     threads: &T,
     file: Option<String>,
-    explain: bool,
+    run: RunRequest,
 ) -> Result<u8, ProgramFault>
     ensures status { IfOk result (λ status. status ≡ 0) }
     ensures fault { IfErr result (λ e. (fault : RunFault) × (e ≡ Run fault)) }
@@ -196,11 +199,11 @@ fn run_asked<T: Threads + Wait + Sync>(
     if file.is_none() && rt.stdin().is_terminal() {
         let _ = eprintln!(rt; "reading a scenario from standard input");
     }
-    if explain || rt.stdout().is_terminal() {
-        return run_into(rt, threads, file, rt.stdout(), explain);
+    if run.explain || rt.stdout().is_terminal() {
+        return run_into(rt, threads, file, rt.stdout(), run);
     }
     match BufWriter::with_capacity(rt.alloc(), BLOCK, rt.stdout()) {
-        Ok(writer) => run_into(rt, threads, file, writer, explain),
+        Ok(writer) => run_into(rt, threads, file, writer, run),
         Err(_) => Err(without_memory(rt).into()),
     }
 }
@@ -214,58 +217,57 @@ fn without_memory(rt: &HostRuntime) -> RunFault
     ended
 }
 
-/// Runs the scenario of a file, or of standard input, and prints into this writer. If it is to be explained, prints why
-/// lines are refused.
+/// Runs the scenario of a file, or of standard input, and prints into this writer.
 fn run_into<T: Threads + Wait + Sync, W: Write + Drop>(
     rt: &HostRuntime,
     threads: &T,
     file: Option<String>,
     writer: W,
-    explain: bool,
+    run: RunRequest,
 ) -> Result<u8, ProgramFault>
     ensures status { IfOk result (λ status. status ≡ 0) }
     ensures fault { IfErr result (λ e. (fault : RunFault) × (e ≡ Run fault)) }
 {
     let mut sink = Sink::new(writer);
     match file.as_deref() {
-        None => Ok(run_from(rt, threads, rt.stdin(), &mut sink, STANDARD_INPUT, explain)?),
-        Some(path) => Ok(run_from(rt, threads, opened(rt, path)?, &mut sink, path, explain)?),
+        None => Ok(run_from(rt, threads, rt.stdin(), &mut sink, STANDARD_INPUT, run)?),
+        Some(path) => Ok(run_from(rt, threads, opened(rt, path)?, &mut sink, path, run)?),
     }
 }
 
-/// Runs the scenario of a reader that has this name. If it is to be explained, prints why lines are refused.
+/// Runs the scenario of a reader that has this name.
 fn run_from<T: Threads + Wait + Sync, R: Read + Drop, W: Write>(
     rt: &HostRuntime,
     threads: &T,
     reader: R,
     sink: &mut Sink<W>,
     name: &str,
-    explain: bool,
+    run: RunRequest,
 ) -> Result<u8, RunFault>
     requires { sink.old.faults < most_faults }
     ensures run { IsRunOf (R.remaining reader) W.contents sink.old sink.new result }
 {
     let bytes = bytes_of(rt, reader, name)?;
-    run_told(rt, threads, &bytes, sink, explain)
+    run_told(rt, threads, &bytes, sink, run)
 }
 
-/// Runs the scenario of these bytes. Prints its fault, if there is one, and why. If the run is to be explained, prints
-/// why lines are refused, and at the end how many events happened and how many were refused.
+/// Runs the scenario of these bytes. Prints its fault, if there is one, and why. Prints what else is asked for: how far
+/// the run has come; why lines are refused, and at the end how many events happened and how many were refused.
 fn run_told<T: Threads + Wait + Sync, W: Write>(
     rt: &HostRuntime,
     threads: &T,
     bytes: &[u8],
     sink: &mut Sink<W>,
-    explain: bool,
+    run: RunRequest,
 ) -> Result<u8, RunFault>
     requires { sink.old.faults < most_faults }
     ensures run { IsRunOf (Some bytes.now) W.contents sink.old sink.new result }
 {
-    let mut explaining = Explaining::new(rt, explain);
-    let answer = run_bytes(threads, rt.alloc(), bytes, sink, &mut explaining);
+    let mut news = RunNews::new(rt, run, bytes);
+    let answer = run_bytes(threads, rt.alloc(), bytes, sink, &mut news);
     tell_fault(rt, bytes, &answer);
     if has_run(&answer) {
-        explaining.tell_count();
+        news.tell_count();
     }
     answer
 }
@@ -330,7 +332,7 @@ fn analyse_told<T: Threads + Sync, W: Write>(
     ensures analysis { IsAnalysisOf (Some bytes.now) W.contents sink.old
         (option_map (λ ids. ids.items) analysis.now.group) analysis.now.certificate sink.new result }
 {
-    let mut progress = Progress::new(rt, analysis.progress || rt.stderr().is_terminal());
+    let mut progress = PieceProgress::new(rt, analysis.progress);
     let answer = analyse_bytes(
         threads,
         rt.alloc(),

@@ -1,53 +1,101 @@
 use ov_even::Watcher;
-use std::time::{Duration, Instant};
+use ov_run::{Pacing, RanLine};
+use std::io::IsTerminal;
+use std::time::Instant;
 
-/// The shortest time between two lines, in milliseconds.
-const PAUSE: u64 = 500;
-
-/// The time before the first line, in milliseconds.
-const START: u64 = 1000;
-
-/// Says on standard error how far an analysis has come, if that is wanted: nothing in the first second, and from then
-/// on at most two lines a second. If the clock can't be read, it says nothing.
+/// Says when lines of progress are due by the clock, if they are wanted. If the clock can't be read, none is.
 #[derive(Drop)]
-pub(crate) struct Progress<'a> {
+struct PacedClock<'a> {
     rt: &'a HostRuntime,
     is_wanted: bool,
-    /// The time of the last line, or of the first look at the clock, and how long to wait from then on.
-    since: Option<Instant>,
-    pause: Duration,
+    begun: Option<Instant>,
+    pacing: Pacing,
 }
 
-impl<'a> Progress<'a> {
-    pub(crate) fn new(rt: &'a HostRuntime, is_wanted: bool) -> Progress<'a> {
-        Progress {
+impl<'a> PacedClock<'a> {
+    /// Lines are wanted if they are asked for, or if standard error is a terminal.
+    fn new(rt: &'a HostRuntime, is_asked: bool) -> PacedClock<'a> {
+        PacedClock {
             rt,
-            is_wanted,
-            since: Instant::now(rt).ok(),
-            pause: Duration::from_millis(START),
+            is_wanted: is_asked || rt.stderr().is_terminal(),
+            begun: Instant::now(rt).ok(),
+            pacing: Pacing::new(),
         }
     }
 
-    /// Whether the next line is due. If it is, the time to the one after it begins.
+    /// Whether a line is due now, which is then printed.
     fn is_due(&mut self) -> bool {
-        let (Some(since), Ok(now)) = (self.since, Instant::now(self.rt)) else {
+        if !self.is_wanted {
+            return false;
+        }
+        let (Some(begun), Ok(now)) = (self.begun, Instant::now(self.rt)) else {
             return false;
         };
-        if now.duration_since(since) < self.pause {
-            return false;
-        }
-        self.since = Some(now);
-        self.pause = Duration::from_millis(PAUSE);
-        true
+        let passed = now.duration_since(begun).as_millis();
+        self.pacing
+            .is_due(u64::try_from(passed).unwrap_or(u64::MAX))
     }
 }
 
-impl<'a> Watcher for Progress<'a> {
+/// Says on standard error which piece an analysis has come to, at the pace of `Pacing`.
+#[derive(Drop)]
+pub(crate) struct PieceProgress<'a> {
+    clock: PacedClock<'a>,
+}
+
+impl<'a> PieceProgress<'a> {
+    pub(crate) fn new(rt: &'a HostRuntime, is_asked: bool) -> PieceProgress<'a> {
+        PieceProgress {
+            clock: PacedClock::new(rt, is_asked),
+        }
+    }
+}
+
+impl<'a> Watcher for PieceProgress<'a> {
     fn sees(&mut self, level: usize, place: usize, size: usize) {
-        if !self.is_wanted || !self.is_due() {
+        if !self.clock.is_due() {
             return;
         }
         let piece = place.saturating_add(1);
-        let _ = eprintln!(self.rt; "level {level}: piece {piece} of {size}");
+        let _ = eprintln!(self.clock.rt; "level {level}: piece {piece} of {size}");
+    }
+}
+
+/// Says on standard error which line of its file a run has done last, at the pace of `Pacing`.
+#[derive(Drop)]
+pub(crate) struct LineProgress<'a> {
+    clock: PacedClock<'a>,
+    /// How many lines the file has.
+    count: usize,
+}
+
+impl<'a> LineProgress<'a> {
+    /// The progress of a run of a file of these bytes.
+    pub(crate) fn new(rt: &'a HostRuntime, is_asked: bool, bytes: &[u8]) -> LineProgress<'a> {
+        let clock = PacedClock::new(rt, is_asked);
+        let count = if clock.is_wanted {
+            line_count(bytes)
+        } else {
+            0
+        };
+        LineProgress { clock, count }
+    }
+
+    /// This line was done.
+    pub(crate) fn sees(&mut self, line: &RanLine<'_>) {
+        if !self.clock.is_due() {
+            return;
+        }
+        let (number, count) = (line.number, self.count);
+        let _ = eprintln!(self.clock.rt; "line {number} of {count}");
+    }
+}
+
+/// How many lines a file of these bytes has. Its last line need not end with a line feed.
+fn line_count(bytes: &[u8]) -> usize {
+    let ended = bytes.iter().filter(|byte| **byte == b'\n').count();
+    match bytes.last() {
+        None | Some(b'\n') => ended,
+        Some(_) => ended.saturating_add(1),
     }
 }

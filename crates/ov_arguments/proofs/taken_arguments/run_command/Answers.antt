@@ -13,6 +13,8 @@ returns c =
     let none : app_of c.about.result ≡ new_app (codes "run") = ap app_of_fields c.about.ensures ∙ bare in
     let file : rule_of c.file.result ≡ new_rule (codes "file") = search rules in
     let explain : rule_of c.flag.result ≡ flag (codes "explain") = search rules in
+    let progress : rule_of c.flag-2.result ≡ flag (codes "progress") = search rules in
     let one = with_one_more _ _ _ _ _ c.in_ok-arg.ensures c.file.ensures.local none file in
-    IfOk-weaker c.arg-2.result (AddsArg c.in_ok-arg.field-0 c.flag.result) (λ r. app_of r ≡ run_command)
-    (λ r adds. with_one_more _ _ _ _ _ adds c.flag.ensures.local one explain) c.arg-2.ensures
+    let two = with_one_more _ _ _ _ _ c.in_ok-arg-2.ensures c.flag.ensures.local one explain in
+    IfOk-weaker c.arg-3.result (AddsArg c.in_ok-arg-2.field-0 c.flag-2.result) (λ r. app_of r ≡ run_command)
+    (λ r adds. with_one_more _ _ _ _ _ adds c.flag-2.ensures.local two progress) c.arg-3.ensures
