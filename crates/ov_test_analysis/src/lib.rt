@@ -6,6 +6,8 @@ mod drawn;
 #[cfg(test)]
 mod families;
 #[cfg(test)]
+mod memory;
+#[cfg(test)]
 mod path_judge;
 #[cfg(test)]
 mod pieces;

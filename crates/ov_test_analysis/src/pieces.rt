@@ -11,7 +11,7 @@ use std::alloc::Global;
 use std::test::Fail;
 
 /// Graphs with pieces of the group of all their nodes.
-const ALL: [(Drawn, &[Row<'_>]); 6] = [
+pub(crate) const ALL: [(Drawn, &[Row<'_>]); 6] = [
     (
         PATH_OF_THREE,
         &[(Fan(2, 3), Cut(&[2], 3, 1, &[3])), (Fan(1, 3), Paths)],

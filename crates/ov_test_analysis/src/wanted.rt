@@ -34,7 +34,7 @@ pub(crate) enum Want<'a> {
 /// A piece, and what it is to come to.
 pub(crate) type Row<'a> = (Ask, Want<'a>);
 
-fn piece_of(ask: Ask) -> Piece {
+pub(crate) fn piece_of(ask: Ask) -> Piece {
     match ask {
         Ask::Pair(level, i, j) => Piece::Pair { level, i, j },
         Ask::Fan(level, j) => Piece::Fan { level, j },
@@ -48,7 +48,7 @@ fn is_level(graph: &Graph, level: u16) -> bool
     1 <= level && (level as usize) < graph.nodes().len()
 }
 
-fn is_piece(graph: &Graph, group: &[NodeId], piece: Piece) -> bool
+pub(crate) fn is_piece(graph: &Graph, group: &[NodeId], piece: Piece) -> bool
     ensures { IsTrue result → IsPiece graph.now group.now piece }
 {
     match piece {
@@ -120,7 +120,7 @@ fn are_paths(
 }
 
 /// What a piece came to is what it is to come to.
-fn comes_to(
+pub(crate) fn comes_to(
     alloc: Global,
     graph: &Graph,
     group: &[NodeId],

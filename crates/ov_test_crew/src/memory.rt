@@ -8,7 +8,6 @@ use ov_crew::{OpenGate, analyse, work};
 use ov_even::{AnalyseFault, Haul, total};
 use ov_ids::OutOfMemory;
 use std::alloc::Global;
-use std::process::Abort;
 use std::test::Fail;
 use std::thread::Threads;
 

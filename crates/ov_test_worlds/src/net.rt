@@ -125,12 +125,12 @@ fn put_change(told: &mut String, change: Change) -> Result<(), Fail> {
     Ok(())
 }
 
-fn told_of(alloc: Global, entry: &Entry) -> Result<String, Fail> {
-    let mut told = String::new(alloc);
+/// Appends an entry: its number, its changes, and its delivery.
+fn put_entry(told: &mut String, entry: &Entry) -> Result<(), Fail> {
     let number = entry.number;
     write!(told, "entry {number}")?;
     for change in entry.changes.as_slice() {
-        put_change(&mut told, *change)?;
+        put_change(told, *change)?;
     }
     if let Some(delivery) = &entry.delivery {
         let node = delivery.node.number();
@@ -138,6 +138,12 @@ fn told_of(alloc: Global, entry: &Entry) -> Result<String, Fail> {
         let seq = delivery.id.seq;
         write!(told, " delivered {node} {origin} {seq}")?;
     }
+    Ok(())
+}
+
+fn told_of(alloc: Global, entry: &Entry) -> Result<String, Fail> {
+    let mut told = String::new(alloc);
+    put_entry(&mut told, entry)?;
     Ok(told)
 }
 

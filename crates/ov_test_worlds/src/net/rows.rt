@@ -7,7 +7,7 @@ use ov_net::World;
 use std::test::Fail;
 
 /// Node 1 has two active places. At its third join the word 5 picks the second of two members.
-static FULL_VIEW: [(Line, &str); 9] = [
+pub(super) static FULL_VIEW: [(Line, &str); 9] = [
     (Boot(1), "entry 1 born 1"),
     (BootBy(3, 1), "entry 2 born 3"),
     (Deliver(0), "entry 3 up 1 3"),
@@ -24,7 +24,7 @@ static FULL_VIEW: [(Line, &str); 9] = [
 ];
 
 /// A broadcast that reaches its receiver twice.
-static BROADCAST_REPEAT: [(Line, &str); 12] = [
+pub(super) static BROADCAST_REPEAT: [(Line, &str); 12] = [
     (Boot(1), "entry 1 born 1"),
     (BootBy(2, 1), "entry 2 born 2"),
     (Deliver(0), "entry 3 up 1 2"),

@@ -37,6 +37,17 @@ static ONE_NODE_IS_ANALYSED: Story = Story {
     ],
 };
 
+/// What the sections do is counted: a boot that is refused is one of the two events.
+static TWO_SECTIONS: Story = Story {
+    scenario: "together\nboot 1\nalso\nboot 2\nend\nsnapshot\nanalyse 3\n",
+    prints: "together 2 accepted 2 refused 0\nentry 3\nreport 3 split k 0 cut - near 2 far 1 side 2\n",
+    one_refused: &[
+        "together 2 accepted 1 refused 1\nentry 2\nrefused 50\n",
+        "together 2 accepted 2 refused 0\nrefused 99\nrefused 50\n",
+        "together 2 accepted 2 refused 0\nentry 3\nrefused 99\n",
+    ],
+};
+
 /// What a run answered, and what it wrote.
 #[derive(Drop)]
 struct Outcome {
@@ -121,6 +132,19 @@ fn out_of_memory_refuses_an_analysis_or_ends_the_run(rt: HostRuntime) -> Result<
         let _ = println!(rt; "seen: analyse: {told}");
         assert!(rt; told != "neither");
         assert!(rt; outcome_of(&rt, &ONE_NODE_IS_ANALYSED)?.is_whole(&ONE_NODE_IS_ANALYSED));
+    }
+    Ok(())
+}
+
+/// The same of a scenario with sections, whose drivers run in threads.
+#[test]
+fn out_of_memory_refuses_a_line_of_a_section_or_ends_the_run(rt: HostRuntime) -> Result<(), Fail> {
+    let first = outcome_of(&rt, &TWO_SECTIONS)?;
+    if !first.is_whole(&TWO_SECTIONS) {
+        let told = told(&first, &TWO_SECTIONS);
+        let _ = println!(rt; "seen: sections: {told}");
+        assert!(rt; told != "neither");
+        assert!(rt; outcome_of(&rt, &TWO_SECTIONS)?.is_whole(&TWO_SECTIONS));
     }
     Ok(())
 }

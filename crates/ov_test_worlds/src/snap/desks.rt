@@ -11,7 +11,7 @@ use std::test::Fail;
 
 /// What happens at desk 0 or 1, by the number of the desk and of the worker.
 #[derive(Clone, Copy, Debug)]
-enum Turn {
+pub(super) enum Turn {
     Claim(u32, u32),
     Look(u32, u32),
     Settle(u32, u32),
@@ -19,7 +19,7 @@ enum Turn {
 }
 
 /// What the turn answers; 0 where it answers nothing.
-fn takes(core: &mut Core, turn: Turn) -> Result<u64, CoreFault> {
+pub(super) fn takes(core: &mut Core, turn: Turn) -> Result<u64, CoreFault> {
     match turn {
         Turn::Claim(desk, worker) => core.claim(desk, worker),
         Turn::Look(desk, worker) => core.look(desk, worker),
@@ -54,7 +54,7 @@ static TURNS: [(Turn, Result<u64, CoreFault>); 14] = [
 ];
 
 /// The report of this moment says that so many crashes split the overlay, and part these two nodes.
-fn is_split(core: &Core, moment: u32, k: u32, near: u32, far: u32) -> bool {
+pub(super) fn is_split(core: &Core, moment: u32, k: u32, near: u32, far: u32) -> bool {
     let Some(report) = core.report(moment) else {
         return false;
     };
@@ -116,7 +116,7 @@ fn workers_skip_what_is_above_a_failed_piece(rt: HostRuntime) -> Result<(), Fail
 }
 
 /// Nodes 1 and 2, and then 2 and 3 take each other in. Word of node 3 for node 1 is lost, so these two are not linked.
-fn path_of_three(core: &mut Core) -> Result<u32, NetFault> {
+pub(super) fn path_of_three(core: &mut Core) -> Result<u32, NetFault> {
     let events = [
         Event::Boot(NodeId(1), None),
         Event::Boot(NodeId(2), Some(NodeId(1))),
@@ -134,7 +134,7 @@ fn path_of_three(core: &mut Core) -> Result<u32, NetFault> {
 }
 
 /// The four pieces of the path 1, 2, 3: three are good, and the last, the fan of 3 at level 2, comes to the cut 2.
-static SHARES: [(Turn, Result<u64, CoreFault>); 15] = [
+pub(super) static SHARES: [(Turn, Result<u64, CoreFault>); 15] = [
     (Turn::Claim(0, 0), Ok(0)),
     (Turn::Claim(0, 1), Ok(1)),
     (Turn::Look(0, 0), Ok(4)),

@@ -1,10 +1,13 @@
+//! Cores in which an allocation is refused. `bin/refuse-allocations` refuses each in turn.
+use super::desks::{SHARES, Turn, is_split, path_of_three, takes};
 use super::{new_core, report, step, two_join};
-use Answer::{Begun, Filed, Happened, Refused, Taken};
-use Call::{Begin, File, Snapshot, Step};
+use Answer::{Begun, Filed, Happened, Numbered, Refused, Taken};
+use Call::{Begin, BeginFor, File, Open, OpenFor, Snapshot, Step, Take};
 use ov_cert::Cert;
 use ov_ids::NodeId;
 use ov_net::{Change, Event};
 use ov_snap::{Core, CoreFault};
+use ov_test_kit::ids;
 use std::alloc::Global;
 use std::process::Abort;
 use std::test::Fail;
@@ -16,8 +19,34 @@ enum Call {
     Step(usize),
     Snapshot,
     Begin(u32),
+    BeginFor(u32, &'static [u32]),
+    /// A desk of this moment for so many workers.
+    Open(u32, u32),
+    /// The same for a group.
+    OpenFor(u32, &'static [u32], u32),
+    /// A turn of a worker, or the filing of a desk.
+    Take(Turn),
     /// A report of this moment on nodes 1 and 2, linked or not.
     File(u32, bool),
+}
+
+impl Call {
+    /// The name of the call.
+    fn name(self) -> &'static str {
+        match self {
+            Step(_) => "step",
+            Snapshot => "snapshot",
+            Begin(_) => "begin",
+            BeginFor(..) => "begin_group",
+            Open(..) => "open_desk",
+            OpenFor(..) => "open_group_desk",
+            Take(Turn::Claim(..)) => "claim",
+            Take(Turn::Look(..)) => "look",
+            Take(Turn::Settle(..)) => "settle",
+            Take(Turn::File(_)) => "file_desk",
+            File(..) => "file",
+        }
+    }
 }
 
 /// What a call answers.
@@ -29,12 +58,15 @@ enum Answer {
     Taken(u32),
     /// How many nodes the graph has, and whether 1 and 2 are linked.
     Begun(usize, bool),
+    /// A desk, or what a turn answers; 0 if it answers nothing.
+    Numbered(u64),
     Filed,
     Refused(u32),
 }
 
-/// Two nodes join, an analysis begins with each of the two snapshots, and a report is filed for each, once.
-fn rows() -> [(Call, Answer); 14] {
+/// Two nodes join. At each of the two snapshots an analysis begins. The first one is shared out at a desk of all nodes
+/// and at one of node 1, and a report is filed of the second one.
+fn rows() -> [(Call, Answer); 28] {
     let (one, two) = (NodeId(1), NodeId(2));
     [
         (Step(0), Happened(1, Some(Change::Born(one)))),
@@ -46,48 +78,64 @@ fn rows() -> [(Call, Answer); 14] {
         (Begin(4), Begun(2, false)),
         (Begin(5), Refused(50)),
         (Begin(6), Begun(2, true)),
-        (File(4, true), Refused(51)),
-        (File(4, false), Filed),
-        (File(4, false), Refused(52)),
+        (BeginFor(6, &[1]), Begun(2, true)),
+        (BeginFor(6, &[2, 1]), Refused(34)),
+        (Open(4, 2), Numbered(0)),
+        (Take(Turn::Claim(0, 0)), Numbered(0)),
+        (Take(Turn::Claim(0, 1)), Numbered(1)),
+        (Take(Turn::Settle(0, 1)), Refused(54)),
+        (Take(Turn::File(0)), Refused(55)),
+        (Take(Turn::Look(0, 0)), Numbered(1)),
+        (Take(Turn::Settle(0, 0)), Numbered(0)),
+        (Take(Turn::Claim(0, 0)), Numbered(2)),
         (File(6, true), Filed),
+        (OpenFor(4, &[1], 1), Numbered(1)),
+        (Take(Turn::Claim(1, 0)), Numbered(0)),
+        (Take(Turn::File(1)), Numbered(0)),
+        (Take(Turn::File(0)), Numbered(0)),
+        (Take(Turn::File(0)), Refused(52)),
+        (File(4, true), Refused(51)),
+        (File(4, false), Refused(52)),
         (Step(5), Happened(7, None)),
     ]
 }
 
-/// What is seen of a core of nodes 1 and 2.
+/// What is seen of a core: of its nodes 1 and 2, of the moments 4, 6 and 9, and of its first two desks.
 #[derive(Clone, Copy, PartialEq, Eq)]
 struct Seen {
     entries: usize,
     packets: usize,
     first_holds: Option<NodeId>,
     second_holds: Option<NodeId>,
-    fourth: SeenMoment,
-    sixth: SeenMoment,
+    moments: [SeenMoment; 3],
+    desks: [Option<SeenDesk>; 2],
 }
 
-/// What is seen of a moment: whether a snapshot was taken at it, and the moment of the report that is filed for it.
+/// What is seen of a moment: whether a snapshot was taken at it, and the moments that the reports name which are filed
+/// for all its nodes and for node 1.
 #[derive(Clone, Copy, PartialEq, Eq)]
 struct SeenMoment {
     is_taken: bool,
     filed: Option<u32>,
+    filed_for_one: Option<u32>,
 }
 
-/// The core of the last row: each node holds the other, and for each of the two moments a report is filed.
-fn last() -> Seen {
-    Seen {
-        entries: 7,
-        packets: 0,
-        first_holds: Some(NodeId(2)),
-        second_holds: Some(NodeId(1)),
-        fourth: SeenMoment {
-            is_taken: true,
-            filed: Some(4),
-        },
-        sixth: SeenMoment {
-            is_taken: true,
-            filed: Some(6),
-        },
-    }
+/// What is seen of a desk: how many numbers it shares out, the lowest that failed, and the next turns of its
+/// workers 0 and 1.
+#[derive(Clone, Copy, PartialEq, Eq)]
+struct SeenDesk {
+    total: u64,
+    least: u64,
+    turns: [Option<NextTurn>; 2],
+}
+
+/// The next turn of a worker.
+#[derive(Clone, Copy, PartialEq, Eq)]
+enum NextTurn {
+    Claims,
+    Looks,
+    Settles,
+    Ended,
 }
 
 fn held_by(core: &Core, node: u32) -> Option<NodeId> {
@@ -102,7 +150,37 @@ fn seen_at(core: &Core, moment: u32) -> SeenMoment {
             Some(report) => Some(report.moment()),
             None => None,
         },
+        filed_for_one: match core.group_report(moment, &[NodeId(1)]) {
+            Some(report) => Some(report.moment()),
+            None => None,
+        },
     }
+}
+
+fn turn_at(core: &Core, desk: u32, worker: u32) -> Option<NextTurn> {
+    let desk = core.desk(desk)?;
+    if !desk.has_worker(worker) {
+        return None;
+    }
+    if desk.claims_next(worker) {
+        return Some(NextTurn::Claims);
+    }
+    if desk.looks_next(worker) {
+        return Some(NextTurn::Looks);
+    }
+    if desk.settles_next(worker) {
+        return Some(NextTurn::Settles);
+    }
+    Some(NextTurn::Ended)
+}
+
+fn seen_desk(core: &Core, place: u32) -> Option<SeenDesk> {
+    let desk = core.desk(place)?;
+    Some(SeenDesk {
+        total: desk.total(),
+        least: desk.least(),
+        turns: [turn_at(core, place, 0), turn_at(core, place, 1)],
+    })
 }
 
 fn seen_in(core: &Core) -> Seen {
@@ -111,8 +189,8 @@ fn seen_in(core: &Core) -> Seen {
         packets: core.world().packets().len(),
         first_holds: held_by(core, 1),
         second_holds: held_by(core, 2),
-        fourth: seen_at(core, 4),
-        sixth: seen_at(core, 6),
+        moments: [seen_at(core, 4), seen_at(core, 6), seen_at(core, 9)],
+        desks: [seen_desk(core, 0), seen_desk(core, 1)],
     }
 }
 
@@ -130,14 +208,45 @@ fn stepped(core: &mut Core, event: Event) -> Answer {
     }
 }
 
-fn begun(core: &Core, moment: u32) -> Answer {
-    match core.begin(moment) {
+fn begun(answer: Result<ov_snap::Snapshot, CoreFault>) -> Answer {
+    match answer {
         Ok(snapshot) => {
             let is_linked = snapshot.graph.linked(NodeId(1), NodeId(2));
             Begun(snapshot.graph.nodes().len(), is_linked)
         }
         Err(fault) => Refused(fault.number()),
     }
+}
+
+fn numbered(answer: Result<u64, CoreFault>) -> Answer {
+    match answer {
+        Ok(number) => Numbered(number),
+        Err(fault) => Refused(fault.number()),
+    }
+}
+
+fn opened(answer: Result<u32, CoreFault>) -> Answer {
+    match answer {
+        Ok(desk) => Numbered(u64::from(desk)),
+        Err(fault) => Refused(fault.number()),
+    }
+}
+
+/// The answer of a call that opens a desk for a group.
+fn opened_for(
+    alloc: Global,
+    core: &mut Core,
+    moment: u32,
+    members: &[u32],
+    workers: u32,
+) -> Result<Answer, Fail> {
+    let members = ids(alloc, members)?.into_vec();
+    Ok(opened(core.open_group_desk(moment, members, workers)))
+}
+
+fn begun_for(alloc: Global, core: &Core, moment: u32, members: &[u32]) -> Result<Answer, Fail> {
+    let members = ids(alloc, members)?;
+    Ok(begun(core.begin_group(moment, members.as_slice())))
 }
 
 fn made(alloc: Global, core: &mut Core, call: Call) -> Result<Answer, Fail> {
@@ -147,7 +256,11 @@ fn made(alloc: Global, core: &mut Core, call: Call) -> Result<Answer, Fail> {
             Ok(moment) => Taken(moment),
             Err(fault) => Refused(fault.number()),
         },
-        Begin(moment) => begun(core, moment),
+        Begin(moment) => begun(core.begin(moment)),
+        BeginFor(moment, members) => begun_for(alloc, core, moment, members)?,
+        Open(moment, workers) => opened(core.open_desk(moment, workers)),
+        OpenFor(moment, members, workers) => opened_for(alloc, core, moment, members, workers)?,
+        Take(turn) => numbered(takes(core, turn)),
         File(moment, is_linked) => match core.file(report(alloc, moment, is_linked)?) {
             Ok(()) => Filed,
             Err(fault) => Refused(fault.number()),
@@ -155,15 +268,26 @@ fn made(alloc: Global, core: &mut Core, call: Call) -> Result<Answer, Fail> {
     })
 }
 
-/// The answer of a call. Where memory was wanted the core is as before, and the call is made once more.
-fn answer_of(rt: &impl Abort, alloc: Global, core: &mut Core, call: Call) -> Result<Answer, Fail> {
+/// The answer of a call is this one, the second time if memory is refused the first time; the core is then as before.
+fn answers(
+    rt: &(impl Abort + Print),
+    alloc: Global,
+    core: &mut Core,
+    call: Call,
+    expected: Answer,
+) -> Result<(), Fail> {
     let before = seen_in(core);
-    let answer = made(alloc, core, call)?;
-    if answer != Refused(99) {
-        return Ok(answer);
+    let first = made(alloc, core, call)?;
+    if first != Refused(99) {
+        assert!(rt; first == expected);
+        return Ok(());
     }
     assert!(rt; seen_in(core) == before);
-    made(alloc, core, call)
+    let second = made(alloc, core, call)?;
+    assert!(rt; second == expected);
+    let name = call.name();
+    let _ = println!(rt; "seen: {name}: refused 99, all as before, then the row's answer");
+    Ok(())
 }
 
 /// The report of moment 6 says that all nodes are linked.
@@ -174,18 +298,42 @@ fn has_linked(core: &Core) -> bool {
     matches!(report.checked().cert(), Cert::Linked { k: 1 })
 }
 
-/// All rows are answered, and the core is `last` afterwards.
-fn answers(rt: &impl Abort, alloc: Global, core: &mut Core) -> Result<(), Fail> {
-    for (i, (call, expected)) in rows().into_iter().enumerate() {
-        let answer = answer_of(rt, alloc, core, call)?;
-        assert!(rt; answer == expected, "in row {i}");
+/// The report of moment 4 and node 1 says that nothing splits it.
+fn has_one(core: &Core) -> bool {
+    let Some(report) = core.group_report(4, &[NodeId(1)]) else {
+        return false;
+    };
+    matches!(report.checked().cert(), Cert::Linked { k: 0 })
+}
+
+/// All rows are answered, and three reports are filed afterwards.
+fn joined(rt: &(impl Abort + Print), alloc: Global, core: &mut Core) -> Result<(), Fail> {
+    for (call, expected) in rows() {
+        answers(rt, alloc, core, call, expected)?;
     }
-    assert!(rt; seen_in(core) == last() && has_linked(core));
+    assert_eq!(rt; core.world().journal().len(), 7);
+    assert!(rt; is_split(core, 4, 0, 2, 1) && has_one(core) && has_linked(core));
     Ok(())
 }
 
-/// Of the memory that this takes, all but the reports that are filed is the core's.
+/// A refused call changes nothing, and is answered as in its row when it is made again.
 #[test]
-fn out_of_memory_changes_nothing(rt: HostRuntime) -> Result<(), Fail> {
-    answers(&rt, rt.alloc(), &mut new_core(rt.alloc())?)
+fn out_of_memory_changes_no_core(rt: HostRuntime) -> Result<(), Fail> {
+    joined(&rt, rt.alloc(), &mut new_core(rt.alloc())?)
+}
+
+/// Two workers settle the four pieces of a path, and the certificate is made of them.
+fn shared_out(rt: &(impl Abort + Print), alloc: Global, core: &mut Core) -> Result<(), Fail> {
+    let moment = path_of_three(core)?;
+    answers(rt, alloc, core, Open(moment, 2), Numbered(0))?;
+    for (turn, answer) in &SHARES {
+        answers(rt, alloc, core, Take(*turn), numbered(*answer))?;
+    }
+    assert!(rt; is_split(core, moment, 1, 3, 1));
+    Ok(())
+}
+
+#[test]
+fn out_of_memory_changes_no_desk(rt: HostRuntime) -> Result<(), Fail> {
+    shared_out(&rt, rt.alloc(), &mut new_core(rt.alloc())?)
 }
