@@ -8,6 +8,8 @@ mod gates;
 #[cfg(test)]
 mod graphs;
 #[cfg(test)]
+mod highest_levels;
+#[cfg(test)]
 mod memory;
 #[cfg(test)]
 mod outlines;
