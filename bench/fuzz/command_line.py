@@ -1,4 +1,9 @@
-"""Reads the arguments of `overlay`, by docs/FORMATS.md alone."""
+"""Reads the arguments of `overlay`, by docs/FORMATS.md.
+
+That page leaves some things to `clap`, and so does this reader, from what is commonly known of it: refused are an
+option that occurs twice, a value after `=` of an option without one, and a value that begins with `-`. That `--` alone
+is bare `overlay` was taken from the program, when the page did not say it.
+"""
 
 from scenario_lines import MOST_WORKERS, Unreadable, ids, number
 

@@ -97,6 +97,7 @@ class Graph:
             self.neighbours[b].append(a)
 
     def is_group(self, group):
+        """Whether these are a group of nodes of the graph."""
         return (bool(group) and all(a < b for a, b in zip(group, group[1:]))
                 and all(node in self.neighbours for node in group))
 
@@ -152,6 +153,7 @@ class Analysis:
         return None
 
     def settle(self):
+        """Looks for the first piece that is not good, level by level."""
         level = 1
         while (failing := self.first_failing(level)) is None:
             level += 1
@@ -170,6 +172,7 @@ class Analysis:
         return {"pairs": pairs, "fans": fans}
 
     def is_whole(self):
+        """Whether the group is all nodes."""
         return self.group == self.graph.nodes
 
     def line(self, moment):

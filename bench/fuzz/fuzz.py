@@ -95,10 +95,11 @@ def judged(target, folder, given):
 
 
 def row(target, folder, seconds, runs, differing):
-    """The line of a sitting for the table: of so many seconds of processor time, and so many runs."""
+    """The line of a sitting for the table, with the last commit of the sources."""
     said = statistics(folder)
     date = datetime.date.today().isoformat()
-    commit = subprocess.run(["git", "rev-parse", "--short=8", "HEAD"], cwd=HERE, capture_output=True, text=True)
+    last = ["git", "log", "-1", "--format=%h", "--abbrev=8", "--", HERE.parent.parent / "crates"]
+    commit = subprocess.run(last, cwd=HERE, capture_output=True, text=True)
     crashes, hangs = said.get("saved_crashes", "0"), said.get("saved_hangs", "0")
     rate = f"{seconds / 3600:.2f} | {runs:,} | {runs / seconds:,.0f}"
     findings = f"{crashes} crashes, {hangs} hangs, {differing} differences"

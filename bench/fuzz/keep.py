@@ -83,13 +83,12 @@ def fitting(rows, left):
 def kept(target, folder, programs):
     """The rows that are kept, the shortest first, and how many inputs there were."""
     known = {path.read_bytes(): None for path in sorted(folder.iterdir()) if path.is_file()}
-    found = [row(target, data, programs) for data in known]
-    others = [row(target, data, programs) for data in seeds.random_ones(target) if data not in known]
-    chosen, left = fitting(others, OF_RANDOM[target])
-    left += LARGEST[target] - OF_RANDOM[target]
+    apart = dict.fromkeys(seeds.random_ones(target)) if OF_RANDOM[target] else {}
+    chosen, left = fitting([row(target, data, programs) for data in apart], OF_RANDOM[target])
+    found = [row(target, data, programs) for data in known if data not in apart]
     shortest = sorted(filter(None, found), key=lambda it: (size(it), json.dumps(it)))
-    rows, _ = fitting(shortest, left)
-    return sorted(rows + chosen, key=lambda it: (size(it), json.dumps(it))), len(found)
+    rows, _ = fitting(shortest, left + LARGEST[target] - OF_RANDOM[target])
+    return sorted(rows + chosen, key=lambda it: (size(it), json.dumps(it))), len(known)
 
 
 def main():

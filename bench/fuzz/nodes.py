@@ -73,15 +73,18 @@ class Node:
         self.draws, self.sends, self.changes, self.delivered = Draws(words), [], [], None
 
     def send(self, to, kind, *fields):
+        """Sends a message of this kind with these fields."""
         self.sends.append((to, (kind, self.me, *fields)))
 
     # The two views. A neighbour of the tree is an active member: eager, unless it is in `lazy`.
 
     def up(self, other):
+        """Another node becomes active."""
         self.active.add(other)
         self.changes.append(f"up {self.me} {other}")
 
     def down(self, other):
+        """Another node is no longer active; the tree forgets it."""
         self.active.discard(other)
         self.lazy.discard(other)
         for said in self.notes.values():
@@ -90,9 +93,11 @@ class Node:
         self.changes.append(f"down {self.me} {other}")
 
     def is_known(self, other):
+        """Whether it is the node itself, active or passive."""
         return other == self.me or other in self.active or other in self.passive
 
     def add_passive(self, other):
+        """The row `add_passive` of the table of views."""
         if self.is_known(other):
             return
         if len(self.passive) >= self.passive_size:
@@ -100,6 +105,7 @@ class Node:
         self.passive.add(other)
 
     def add_active(self, other):
+        """The row `add_active` of the table of views."""
         if other == self.me or other in self.active:
             return
         self.passive.discard(other)
@@ -124,12 +130,14 @@ class Node:
     # HyParView
 
     def on_join(self, sender):
+        """JOIN from a sender."""
         self.add_active(sender)
         self.send(sender, JOINED)
         for other in sorted(self.active - {sender}):
             self.send(other, FORWARDJOIN, sender, self.walk)
 
     def on_forward_join(self, sender, new, life):
+        """FORWARDJOIN of a new node with a time to live."""
         if new == self.me:
             return
         others = self.active - {sender, new}
@@ -142,9 +150,11 @@ class Node:
         self.send(self.draws.pick(others), FORWARDJOIN, new, life - 1)
 
     def on_joined(self, sender):
+        """JOINED from a sender."""
         self.add_active(sender)
 
     def on_neighbor(self, sender, priority):
+        """NEIGHBOR from a sender."""
         if sender not in self.active and priority == LOW and len(self.active) >= self.active_size:
             self.send(sender, NEIGHBORREPLY, NO)
             return
@@ -162,6 +172,7 @@ class Node:
         self.send(self.asked, NEIGHBOR, LOW if self.active else HIGH)
 
     def on_neighbor_reply(self, sender, answer):
+        """NEIGHBORREPLY from a sender."""
         if sender != self.asked:
             if answer == YES and sender not in self.active:
                 self.send(sender, DISCONNECT)
@@ -172,11 +183,13 @@ class Node:
             self.go_on()
 
     def on_disconnect(self, sender):
+        """DISCONNECT from a sender."""
         if sender in self.active:
             self.down(sender)
             self.add_passive(sender)
 
     def on_report(self, crashed):
+        """The report of a crash."""
         was_active = crashed in self.active
         self.passive.discard(crashed)
         if was_active:
@@ -186,6 +199,7 @@ class Node:
             self.go_on()
 
     def start_shuffle(self):
+        """A shuffle starts."""
         if not self.active:
             return
         target = self.draws.pick(self.active)
@@ -194,6 +208,7 @@ class Node:
         self.send(target, SHUFFLE, self.me, self.shuffle_life, self.sent)
 
     def on_shuffle(self, sender, origin, life, ids):
+        """SHUFFLE of a list with an origin and a time to live."""
         left = max(life - 1, 0)
         if left > 0 and len(self.active) > 1:
             self.send(self.draws.pick(self.active - {sender}), SHUFFLE, origin, left, ids)
@@ -203,14 +218,17 @@ class Node:
             self.integrate(ids, given)
 
     def on_shuffle_reply(self, sender, ids):
+        """SHUFFLEREPLY of a list."""
         self.integrate(ids, self.sent)
 
     # Plumtree
 
     def make_eager(self, other):
+        """Makes a neighbour eager."""
         self.lazy.discard(other)
 
     def make_lazy(self, other):
+        """Makes a neighbour lazy."""
         if other in self.active:
             self.lazy.add(other)
 
@@ -222,6 +240,7 @@ class Node:
             self.send(other, IHAVE, *name)
 
     def start_broadcast(self, payload):
+        """A broadcast of the node's own."""
         name = self.me, self.made
         self.made += 1
         self.held[name] = payload, 0
@@ -229,6 +248,7 @@ class Node:
         self.spread(name, 0, payload)
 
     def on_gossip(self, sender, origin, sequence, turn, payload):
+        """GOSSIP of a message, the first one or a later one."""
         name = origin, sequence
         if name in self.held:
             self.make_lazy(sender)
@@ -243,6 +263,7 @@ class Node:
         self.make_eager(sender)
 
     def on_ihave(self, sender, *name):
+        """IHAVE of a message."""
         if name in self.held or sender not in self.active:
             return
         said = self.notes.setdefault(name, [])
@@ -251,6 +272,7 @@ class Node:
         self.timers.add(name)
 
     def on_timer(self, name):
+        """The timer of a message, which runs."""
         said = self.notes.get(name)
         if not said:
             self.timers.discard(name)
@@ -260,15 +282,18 @@ class Node:
         self.send(oldest, GRAFT, *name)
 
     def on_graft(self, sender, *name):
+        """GRAFT of a message."""
         self.make_eager(sender)
         if name in self.held:
             payload, turn = self.held[name]
             self.send(sender, GOSSIP, *name, turn, payload)
 
     def on_prune(self, sender):
+        """PRUNE from a sender."""
         self.make_lazy(sender)
 
     def receive(self, message):
+        """Handles a message."""
         kind, sender, *fields = message
         if sender != self.me:
             getattr(self, HANDLERS[kind])(sender, *fields)

@@ -38,8 +38,10 @@ class Pcg64:
         self.step()
 
     def step(self):
+        """The next state."""
         self.state = (self.state * MULTIPLIER + self.increment) & MASK_128
 
     def next(self):
+        """The next word."""
         self.step()
         return rotated((self.state >> 64 ^ self.state) & MASK_64, self.state >> 122, 64)

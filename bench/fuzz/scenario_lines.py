@@ -30,6 +30,7 @@ def split_lines(data):
 
 
 def is_skipped(line):
+    """Whether a line is skipped."""
     rest = line.lstrip(b" ")
     return not rest or rest.startswith(b"#")
 
@@ -148,14 +149,17 @@ class ScenarioReader:
             self.take(at, said)
 
     def demand(self, true, at, fault=70):
+        """Refuses the file at a line."""
         if not true:
             raise Refused(f"line {self.places[at]}: refused {fault}")
 
     def is_event(self, at):
+        """Whether there is such a line, and it says an event."""
         said = self.said[at] if at < len(self.said) else None
         return said is not None and said[0] in IS_EVENT
 
     def take(self, at, said):
+        """Judges a line, and keeps what it says."""
         self.demand(said is not None, at)
         kind = said[0]
         if kind in ("together", "also", "end"):
@@ -175,6 +179,7 @@ class ScenarioReader:
             self.put(at, said)
 
     def put(self, at, said):
+        """Keeps what a line says, in its section if it is in one."""
         lines = self.lines if self.sections is None else self.sections[-1]
         lines.append((said, self.words, self.places[at]))
         self.words = None
@@ -193,6 +198,7 @@ class ScenarioReader:
             self.sections = None
 
     def take_setting(self, at, kind, given):
+        """`params` and `seed`."""
         self.demand(getattr(self, kind) is None and not self.has_event, at)
         self.demand(kind == "seed" or are_in_limits(*given), at, 21)
         setattr(self, kind, given)

@@ -28,6 +28,7 @@ class Undetermined:
         return f"? {' or '.join(self.beginnings)}, as the order of sections says" + (", for each" * self.is_many)
 
     def fits(self, line):
+        """Whether a line may stand here."""
         return line.startswith(self.beginnings)
 
 
@@ -39,6 +40,7 @@ class SectionsLine(Undetermined):
         self.count = count
 
     def fits(self, line):
+        """Whether a line may stand here."""
         words = line.split(" ")
         return (super().fits(line) and len(words) == 6 and words[4] == "refused"
                 and words[3].isdigit() and words[5].isdigit() and int(words[3]) + int(words[5]) == self.count)
@@ -81,10 +83,12 @@ class State:
             self.events[is_refused] += 1
 
     def event(self, kind, given, words):
+        """What the line of an accepted event prints."""
         said = self.world.step(kind, given, words)
         return " ".join([f"entry {self.world.entries}", *said])
 
     def graph_of(self, moment):
+        """The graph of a moment."""
         demand(moment in self.world.moments, NO_SUCH_MOMENT)
         return self.world.moments[moment]
 
@@ -101,23 +105,27 @@ class State:
         return self.reports[moment, group]
 
     def analyse(self, moment, workers, ids):
+        """`analyse`."""
         graph = self.begin(moment)
         group = tuple(graph.nodes) if ids is None else ids
         demand(graph.is_group(group), BAD_GROUP)
         return [self.file(moment, group).line(moment)]
 
     def certificate(self, moment, ids):
+        """`certificate`."""
         group = tuple(self.graph_of(moment).nodes) if ids is None else ids
         demand((moment, group) in self.reports, NO_SUCH_MOMENT)
         return [Certificate(self.reports[moment, group].certificate(moment))]
 
     def show(self, name):
+        """`show`."""
         node = self.world.live(name)
         views = node.active, node.passive, node.active - node.lazy, node.lazy
         active, passive, eager, lazy = (listed(sorted(view)) for view in views)
         return [f"node {name} active {active} passive {passive} eager {eager} lazy {lazy}"]
 
     def packets(self):
+        """`packets`."""
         return [f"packet {at} to {to} {encoded(message).hex()}"
                 for at, (to, message) in enumerate(self.world.packets)]
 

@@ -11,6 +11,29 @@ EXAMPLES = corpus.FOLDER.parent.parent.parent / "examples"
 SUFFIXES = {"certificate": ".json", "scenario": ".scenario", "graph": ".graph"}
 LONGEST = {"certificate": 6000, "scenario": 2000, "graph": 2000, "arguments": 400}
 RANDOM_SEEDS = {"certificate": 60, "scenario": 300, "graph": 60, "arguments": 0}
+# Random scenarios that notice rules of plant.py which few others notice.
+TELLING = (65, 217, 736, 486, 672, 877, 986, 927, 966, 974, 1037, 1043, 264, 437, 96, 237, 362, 35, 109, 159)
+TRIANGLE = b"""params 3 3 2 1 3 1 2
+boot 1
+boot 2 by 1
+deliver 0
+deliver 0
+boot 3 by 1
+deliver 0
+deliver 0
+deliver 0
+deliver 0
+"""
+# Node 2 and node 3 become lazy to each other. Then 3 hears of a message before it comes.
+ANNOUNCED = b"broadcast 1 a\n" + b"deliver 0\n" * 6 + b"broadcast 1 b\ndeliver 0\ndeliver 1\n"
+# Rules that random scenarios hardly reach.
+DIRECTED = (
+    b"boot 1\r\r\nboot 2\n", b"boot 1\nboot 2\r", b"boot 1\r\nboot 2\r\n",
+    b"together\n" + b"also\n" * 63 + b"end\nboot 1\n", b"together\n" + b"also\n" * 64 + b"end\nboot 1\n",
+    TRIANGLE + b"words 0\nshuffle 1\npackets\n", TRIANGLE + b"words 1 1\nshuffle 1\npackets\n",
+    TRIANGLE + ANNOUNCED + b"timer 3 1 1\npackets\ntimer 3 1 1\ntimer 3 1 1\n",
+    TRIANGLE + ANNOUNCED + b"deliver 0\ntimer 3 1 1\nshow 3\n",
+)
 OPTIONS = (b"", b"# --certificate\n", b"# --workers 2 --certificate\n", b"# --group 1,3\n")
 
 
@@ -51,8 +74,11 @@ MAKERS = {"certificate": certificate, "scenario": scenario, "graph": graph_with_
 
 
 def random_ones(target):
-    """The random seeds of a target, the same in each sitting."""
-    return [MAKERS[target](random.Random(f"{target} {at}")) for at in range(RANDOM_SEEDS[target])]
+    """The random seeds of a target, the same in each sitting; of scenarios also those that are chosen above."""
+    chosen = []
+    if target == "scenario":
+        chosen = [*DIRECTED, *(random_inputs.guided(random.Random(f"telling {at}")) for at in TELLING)]
+    return chosen + [MAKERS[target](random.Random(f"{target} {at}")) for at in range(RANDOM_SEEDS[target])]
 
 
 def all_of(target):

@@ -14,6 +14,7 @@ class Refusal(Exception):
 
 
 def demand(true, number):
+    """Refuses, by this number, what does not hold."""
     if not true:
         raise Refusal(number)
 
@@ -26,6 +27,7 @@ class World:
         self.moments = {}
 
     def copy(self):
+        """An equal world."""
         other = World(self.params)
         other.nodes = {name: node and node.copy() for name, node in self.nodes.items()}
         other.packets, other.entries, other.moments = list(self.packets), self.entries, dict(self.moments)
@@ -38,9 +40,11 @@ class World:
         return self.nodes[node]
 
     def demand_room(self):
+        """Refuses if the packets leave no room for what a step sends."""
         demand(MOST_PACKETS - len(self.packets) >= MOST_SENT, TOO_MANY_PACKETS)
 
     def demand_packet(self, place):
+        """Refuses if there is no packet at a place."""
         demand(place < len(self.packets), NO_SUCH_PACKET)
 
     def step(self, kind, given, words):
@@ -57,6 +61,7 @@ class World:
         return changes + node.changes + delivered
 
     def do_boot(self, words, name, contact):
+        """`boot`."""
         demand(name not in self.nodes, USED_ID)
         if contact is not None:
             self.live(contact)
@@ -69,6 +74,7 @@ class World:
         return [f"born {name}"], node
 
     def do_deliver(self, words, place):
+        """`deliver`."""
         self.demand_packet(place)
         self.demand_room()
         to, message = self.packets.pop(place)
@@ -79,22 +85,26 @@ class World:
         return [], node
 
     def do_lose(self, words, place):
+        """`lose`."""
         self.demand_packet(place)
         self.packets.pop(place)
         return [], None
 
     def do_repeat(self, words, place):
+        """`repeat`."""
         self.demand_packet(place)
         self.demand_room()
         self.packets.append(self.packets[place])
         return [], None
 
     def do_crash(self, words, name):
+        """`crash`."""
         self.live(name)
         self.nodes[name] = None
         return [f"gone {name}"], None
 
     def do_report(self, words, name, crashed):
+        """`report`."""
         node = self.live(name)
         demand(crashed in self.nodes, UNKNOWN_NODE)
         demand(self.nodes[crashed] is None, NOT_CRASHED)
@@ -104,6 +114,7 @@ class World:
         return [], node
 
     def do_shuffle(self, words, name):
+        """`shuffle`."""
         node = self.live(name)
         self.demand_room()
         node.begin(words)
@@ -111,6 +122,7 @@ class World:
         return [], node
 
     def do_broadcast(self, words, name, payload):
+        """`broadcast`."""
         node = self.live(name)
         demand(len(payload) <= LONGEST_PAYLOAD, PAYLOAD_TOO_LONG)
         demand(node.made < MOST_BROADCASTS, TOO_MANY_MESSAGES)
@@ -120,6 +132,7 @@ class World:
         return [], node
 
     def do_timer(self, words, name, origin, sequence):
+        """`timer`."""
         node = self.live(name)
         demand((origin, sequence) in node.timers, NO_TIMER)
         self.demand_room()
@@ -128,6 +141,7 @@ class World:
         return [], node
 
     def do_snapshot(self, words):
+        """`snapshot`."""
         return [], None
 
     def graph(self):
