@@ -47,6 +47,8 @@ cp "$bench/bench_$1.rt.txt" "$program/src/main.rt"
 : > "$program/proofs/Lib.antt"
 if [ -d "$bench/proofs" ]; then
     cp -r "$bench/proofs" "$program/"
+    # their names end in .txt here, since `rt ci` takes no file of proofs outside a crate
+    find "$program/proofs" -name '*.antt.txt' -exec sh -c 'mv "$1" "${1%.txt}"' _ {} \;
 fi
 if [ -f "$bench/plain.rs" ]; then
     rustc -O -o "$work/plain" "$bench/plain.rs"
