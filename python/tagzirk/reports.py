@@ -121,7 +121,7 @@ def analyse(graph: Graph[Node], group: Optional[Iterable[Node]] = None, workers:
     if members is not None:
         words.append(f"--group={','.join(map(str, members))}")
     ended = call(find("overlay", overlay), words, named.text.encode())
-    line, *certificates = lines_of(ended)
+    line, *certificates = lines_of(ended) or [""]
     if line.startswith("refused "):
         refuse(line, ended.err)
     certificate = "\n".join(certificates)

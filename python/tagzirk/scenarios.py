@@ -209,7 +209,7 @@ class Run:
 
     def run_again(self, line: str) -> List[str]:
         """The lines that the scenario prints if one more line follows."""
-        return lines_of(call(self.overlay, ["run"], self.scenario + f"\n{line}\n".encode()))
+        return lines_of(call(self.overlay, ["run"], self.scenario + f"\n{line}\n".encode())) or [""]
 
 
 def run(scenario: Union[str, bytes, "os.PathLike[str]"], *, overlay: Optional[Program] = None,

@@ -60,6 +60,7 @@ class Names(unittest.TestCase):
         graph = named_graph([("a", "b"), ("b", "c")])
         self.assertIsNone(graph.members(None))
         self.assertEqual(graph.members(iter(["c", "a", "c"])), [1, 3])
+        self.assertEqual(named_graph([(1000, 5), (5, 64)]).members([1000, 64, 5]), [5, 64, 1000])
         for group in [], ["d"], "ab", [["a"]], ["a", None]:
             with self.assertRaises(BadGraph, msg=group):
                 graph.members(group)

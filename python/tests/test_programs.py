@@ -3,6 +3,7 @@
 Others stand in for a program that lies or fails.
 """
 
+import dataclasses
 import doctest
 import importlib
 import itertools
@@ -18,6 +19,7 @@ import unittest
 from unittest import mock
 
 import tagzirk
+from tagzirk.answers import read_answer
 from tagzirk.programs import CHECKOUT, find
 
 EXAMPLES = CHECKOUT / "examples"
@@ -155,6 +157,12 @@ class Checks(unittest.TestCase):
         answer = tagzirk.check(EXAMPLES / "two-unlinked.json").answer
         self.assertEqual(answer, tagzirk.Answer(4, 0, False, (), 2, 1, (2,), None))
 
+    def test_lines_that_are_no_answers(self):
+        mixed = "holds 0 linked k 1 cut 2 near 3 far 1 side 3"
+        for line in "holds 0 split k 1", mixed, "holds 0 linked k", "holds", "":
+            self.assertIsNone(read_answer(line, "holds"), line)
+        self.assertIsNone(read_answer("report 0 linked k 1", "holds"))
+
     def test_a_text_names_no_file(self):
         self.assertEqual(tagzirk.check(str(EXAMPLES / "square.json")).line, "refused 60")
         with self.assertRaises(FileNotFoundError):
@@ -236,7 +244,13 @@ class StandIns(unittest.TestCase):
         square, other = (EXAMPLES / f"{name}.json" for name in ("square", "two-unlinked"))
         of_moment = right.certificate.replace('"moment":0', '"moment":7')
         longer = right.certificate.replace('"nodes":[1,2,3]', '"nodes":[1,2,3,4]')
-        grouped = tagzirk.analyse(path, group=["a", "c"])
+        others = {
+            "another group": tagzirk.analyse(path, group=["a", "c"]),
+            "other links": tagzirk.analyse([(1, 2), (1, 3)]),
+            "another node": tagzirk.analyse({1: [2], 2: [1, 3], 3: [2], 4: []}),
+        }
+        with self.assertRaises(tagzirk.NotConfirmed):
+            tagzirk.analyse(path, overlay=self.program("sys.stdin.read()"))
         for text, printed in [
             ("another graph", [f"report{tagzirk.check(square).line[5:]}", square.read_text().strip()]),
             ("another graph, of another moment", [f"report{tagzirk.check(other).line[5:]}", other.read_text().strip()]),
@@ -245,8 +259,8 @@ class StandIns(unittest.TestCase):
             ("no line", ["report", right.certificate]),
             ("no certificate", [line]),
             ("a certificate that fails", [line, longer]),
-            ("another group", [f"report{tagzirk.check(grouped.certificate).line[5:]}", grouped.certificate]),
-        ]:
+        ] + [(text, [f"report{tagzirk.check(other.certificate).line[5:]}", other.certificate])
+             for text, other in others.items()]:
             with self.assertRaises(tagzirk.NotConfirmed, msg=text):
                 tagzirk.analyse(path, overlay=self.that_prints(*printed))
 
@@ -255,9 +269,11 @@ class StandIns(unittest.TestCase):
             with self.assertRaises(tagzirk.NotConfirmed):
                 tagzirk.analyse([(1, 2)], overlay_check=self.program(text))
         for text in "print('yes')", "print('holds 0 linked k 1'); sys.exit(1)", "print('fails 44 3')", \
-                "import os; os.kill(os.getpid(), 9)", "print('oh', file=sys.stderr); sys.exit(1)", "":
+                "print('oh', file=sys.stderr); sys.exit(1)", "":
             with self.assertRaises(tagzirk.ProgramFailed, msg=text):
                 tagzirk.analyse([(1, 2)], overlay_check=self.program(text))
+        with self.assertRaisesRegex(tagzirk.ProgramFailed, "was ended by signal 9"):
+            tagzirk.check("{}", overlay_check=self.program("import os; os.kill(os.getpid(), 9)"))
         with self.assertRaises(tagzirk.Refused) as raised:
             tagzirk.check("{}", overlay_check=self.program("print('refused 99', file=sys.stderr); sys.exit(1)"))
         self.assertEqual(raised.exception.number, 99)
@@ -268,12 +284,30 @@ class StandIns(unittest.TestCase):
             other = tagzirk.Run(texts, (), run.scenario, run.overlay, None)
             with self.assertRaises(tagzirk.NotConfirmed):
                 other.certificate(2)
-        text = run.certificate(2)
-        for lie in text.replace('"moment":2', '"moment":3'), text.replace('"k":0', '"k":1'):
-            program = self.that_prints(*run.texts, lie)
-            other = tagzirk.Run(run.texts, (), run.scenario, str(program), None)
-            with self.assertRaises(tagzirk.NotConfirmed, msg=lie):
-                other.certificate(2)
+        other = tagzirk.Run((*run.texts[:2], "report 2 linked k 7"), (), run.scenario, "", None)
+        other = dataclasses.replace(other, overlay=str(self.that_prints(*other.texts, run.certificate(2))))
+        with self.assertRaisesRegex(tagzirk.NotConfirmed, "the report is not that of the certificate"):
+            other.certificate(2)
+
+    def test_certificates_that_lie(self):
+        # its report is filed in a section, so no line says what the certificate must be
+        run = tagzirk.run("boot 1\nboot 2 by 1\nsnapshot\ntogether\nanalyse 3\nend\n")
+        text = run.certificate(3)
+        self.assertEqual(tagzirk.check(text).line, "holds 3 split k 0 cut - near 2 far 1 side 2")
+        group = text.replace('"far":1,', '"far":1,"group":[1,2],').replace('"version":1', '"version":2')
+        self.assertTrue(tagzirk.check(group))
+        alone = {"k": 0, "links": [], "moment": 3, "nodes": [1, 2], "group": [1], "verdict": "linked", "version": 2}
+        for text, asked, is_right in [
+            (text, None, True), (group, None, True), (group, [2, 1], True), (text, [1], False),
+            (json.dumps(alone), [1], True), (json.dumps(alone), None, False), (json.dumps(alone), [1, 2], False),
+            (text.replace('"moment":3', '"moment":4'), None, False), (text.replace('"k":0', '"k":1'), None, False),
+        ]:
+            other = dataclasses.replace(run, overlay=str(self.that_prints(*run.texts, text)))
+            if is_right:
+                self.assertEqual(other.certificate(3, asked), text)
+            else:
+                with self.assertRaises(tagzirk.NotConfirmed, msg=(text, asked)):
+                    other.certificate(3, asked)
 
     def test_where_programs_are_found(self):
         program = str(self.program("", "overlay-check"))
