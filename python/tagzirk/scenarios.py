@@ -6,6 +6,7 @@ import json
 import os
 import re
 from dataclasses import dataclass, field
+from functools import cached_property
 from typing import Callable, Iterable, List, Optional, Tuple, Type, TypeVar, Union
 
 from .answers import Answer, Ids, ids_of, read_answer
@@ -161,7 +162,7 @@ class Run:
     overlay: str = field(repr=False)
     overlay_check: Optional[Program] = field(repr=False)
 
-    @property
+    @cached_property
     def lines(self) -> Tuple[Line, ...]:
         """What each line says."""
         return tuple(map(read_line, self.texts))
