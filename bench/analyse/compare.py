@@ -3,7 +3,7 @@
 
 usage: compare.py OVERLAY CHECKER GRAPH..   the programs `overlay` and `overlay-check`, and graph files
 
-Each certificate is handed to `overlay-check` and to `../check/check.py`, and each number is compared with igraph's and
+Each certificate is handed to `overlay-check` and to `tools/check.py`, and each number is compared with igraph's and
 networkx's; it ends with an error where they differ. Times are milliseconds: of the program whole, with and without
 `--certificate`, the least of several runs; of the libraries one call alone, without reading or making the graph. A call
 is ended after LIMIT seconds, and its number is then not compared. networkx has no least cut of a graph that is split.
@@ -17,7 +17,7 @@ import time
 
 RUNS = 10
 LIMIT = 30
-CHECK = pathlib.Path(__file__).parent.parent / "check" / "check.py"
+CHECK = pathlib.Path(__file__).resolve().parent.parent.parent / "tools" / "check.py"
 
 
 def read(name):

@@ -24,6 +24,7 @@ from dataclasses import dataclass, field
 from pathlib import Path
 
 HERE = Path(__file__).resolve().parent
+CHECK = HERE.parent.parent / "tools" / "check.py"
 LEAST_ROUNDS = 3
 ROUNDS_MS = 20_000
 LONG_MS = 20_000  # what takes longer is run once
@@ -82,7 +83,7 @@ def sides_of(file, cores, before, now):
         "now, all": Side([now, file], cores),
         "reading, one": Side([now, miscounted], one),
         "reading, all": Side([now, miscounted], cores),
-        "check.py": Side([sys.executable, HERE / "check.py", file], cores),
+        "check.py": Side([sys.executable, CHECK, file], cores),
     }
     if before is None:
         del sides["before"]

@@ -2,7 +2,7 @@
 """judge.py --overlay PROGRAM --overlay-check PROGRAM [--kept FOLDER] TARGET PATH..: runs inputs by the real programs.
 
 TARGET is certificate, scenario, graph or arguments. Each PATH is an input, or a folder of inputs such as the queue of
-afl-fuzz. What a program prints is held against an independent reader: ../check/check.py for certificate files, and
+afl-fuzz. What a program prints is held against an independent reader: ../../tools/check.py for certificate files, and
 second_opinion.py for the others. An input on which the two differ is copied to FOLDER, and named. The status is 1 then.
 """
 

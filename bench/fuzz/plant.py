@@ -105,15 +105,15 @@ def answers(folder):
 def noticed(file, text, wrong):
     """How many kept inputs notice a wrong rule, or None if its text is not there once."""
     with tempfile.TemporaryDirectory() as room:
-        bench = pathlib.Path(room) / "bench"
-        shutil.copytree(HERE, bench / "fuzz", ignore=shutil.ignore_patterns("out"))
-        shutil.copytree(HERE.parent / "check", bench / "check", ignore=shutil.ignore_patterns("out"))
-        path = bench / "fuzz" / file
+        fuzz = pathlib.Path(room) / "bench" / "fuzz"
+        shutil.copytree(HERE, fuzz, ignore=shutil.ignore_patterns("out"))
+        shutil.copytree(HERE.parent.parent / "tools", pathlib.Path(room) / "tools")
+        path = fuzz / file
         source = path.read_text()
         if source.count(text) != 1:
             return None
         path.write_text(source.replace(text, wrong))
-        return sum(not is_same for is_same in answers(bench / "fuzz").values())
+        return sum(not is_same for is_same in answers(fuzz).values())
 
 
 def main():

@@ -21,7 +21,7 @@ from connectivity import Analysis, Graph
 from scenario_lines import Refused, ScenarioReader, Unreadable, ids, read_graph
 from scenario_run import Certificate, Run, Undetermined
 
-sys.path.insert(0, str(pathlib.Path(__file__).resolve().parent.parent / "check"))
+sys.path.insert(0, str(pathlib.Path(__file__).resolve().parent.parent.parent / "tools"))
 import check  # noqa: E402  the independent checker of certificate files
 
 # What two right certificates of one report may have different.

@@ -1,0 +1,58 @@
+"""What overlay-check says of a certificate."""
+
+from __future__ import annotations
+
+import os
+from dataclasses import dataclass
+from typing import Optional, Union
+
+from .answers import Answer, read_answer
+from .errors import ProgramFailed
+from .programs import Program, bytes_of, call, find, refuse
+
+
+@dataclass(frozen=True)
+class Verdict:
+    """What overlay-check says of a certificate. It is true, as a condition, if the certificate holds.
+
+    `line` is the line that the program prints. If it is `holds ..`, `answer` is what it says; else `answer` is None,
+    and `reason` says what is wrong.
+    """
+
+    line: str
+    answer: Optional[Answer]
+    reason: str
+
+    @property
+    def holds(self) -> bool:
+        """Whether the certificate holds."""
+        return self.answer is not None
+
+    def __bool__(self) -> bool:
+        return self.holds
+
+
+def check(certificate: Union[str, bytes, "os.PathLike[str]"], *, overlay_check: Optional[Program] = None) -> Verdict:
+    """Asks overlay-check about a certificate: the text of a certificate file, its bytes, or the path of one.
+
+    A text is never taken for the name of a file: name a file by a `pathlib.Path`. A certificate that fails and a file
+    that is no certificate file give a verdict, and no error.
+
+    >>> check('{"k":1,"links":[[1,2]],"moment":6,"nodes":[1,2],"verdict":"linked","version":1}').line
+    'holds 6 linked k 1'
+    >>> verdict = check('{"k":2,"links":[[1,2]],"moment":6,"nodes":[1,2],"verdict":"linked","version":1}')
+    >>> verdict.holds, verdict.line
+    (False, 'fails 40')
+
+    It holds of the graph in the file. Whether this is your graph is to be compared: docs/CHECK-A-REPORT.md says how.
+    """
+    program = find("overlay_check", overlay_check)
+    ended = call(program, [], bytes_of(certificate))
+    line = ended.out.rstrip("\n")
+    if not line:
+        refuse(*ended.err.partition("\n")[::2])
+    answer = read_answer(line, "holds")
+    is_said = answer is not None if ended.status == 0 else line.startswith(("fails ", "refused "))
+    if not is_said:
+        raise ProgramFailed(f"{program} is not overlay-check: it printed {line!r}, with status {ended.status}")
+    return Verdict(line, answer, ended.err.rstrip("\n"))

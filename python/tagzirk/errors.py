@@ -1,0 +1,36 @@
+"""What can go wrong, each with its reason in words."""
+
+from __future__ import annotations
+
+
+class TagzirkError(Exception):
+    """Any error of this package."""
+
+
+class BadGraph(TagzirkError, ValueError):
+    """What was given is no graph, or no group of its nodes."""
+
+
+class ProgramMissing(TagzirkError):
+    """A program was not found, or could not be started."""
+
+
+class ProgramFailed(TagzirkError):
+    """A program ended in a way that its documents do not promise, by a signal for instance."""
+
+
+class Refused(TagzirkError):
+    """A program refused what it was given.
+
+    `number` is the number of the fault, as in docs/FAULTS.md; `line` is the line that says it, such as `refused 31`;
+    `reason` is what the program says of it in words.
+    """
+
+    def __init__(self, number: int, line: str, reason: str) -> None:
+        super().__init__(f"{line}\n{reason}" if reason else line)
+        self.number, self.line, self.reason = number, line, reason
+
+
+class NotConfirmed(TagzirkError):
+    """The checker did not confirm a report, or its certificate is not of the graph, the group or the moment that was
+    asked about. Nothing is known then."""

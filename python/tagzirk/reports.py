@@ -1,0 +1,144 @@
+"""How many crashes a graph survives: `analyse`, and the report that it gives."""
+
+from __future__ import annotations
+
+import json
+from dataclasses import dataclass, field
+from typing import Any, Dict, Generic, Iterable, List, Optional, Tuple
+
+from .answers import Answer, read_answer
+from .checks import check
+from .errors import NotConfirmed
+from .graphs import Graph, NamedGraph, Node, named_graph
+from .programs import Program, call, find, lines_of, refuse
+
+
+@dataclass(frozen=True)
+class Report(Generic[Node]):
+    """How many crashes split a graph, or a group of its nodes, in the caller's names.
+
+    - `is_linked`: every two members are linked. Then no crashes separate two members, and `k` is one less than the
+      number of members; `cut` and `side` are empty, `near` and `far` are None.
+    - Else crashing the `k` nodes of `cut` separates `near` from `far`; `side` has the nodes that `near` still reaches,
+      with `near` itself. Crashing fewer than `k` nodes separates no two surviving members. `k` is 0 if two members
+      are separated without any crash.
+    - `group`: the members, in the order of their ids; None if all nodes are.
+    - `certificate`: the text of a certificate file, which proves this. overlay-check has said yes to it.
+    - `ids`: which id each node has in the certificate.
+    - `graph_file`: the graph as a graph file, as `tools/check.py --graph` prints it from the certificate.
+
+    Print it to read it in words.
+    """
+
+    k: int
+    is_linked: bool
+    cut: Tuple[Node, ...]
+    near: Optional[Node]
+    far: Optional[Node]
+    side: Tuple[Node, ...]
+    group: Optional[Tuple[Node, ...]]
+    certificate: str = field(repr=False)
+    ids: Dict[Node, int] = field(repr=False)
+    graph_file: str = field(repr=False)
+
+    @property
+    def survives(self) -> int:
+        """How many crashes the overlay survives, whichever nodes they strike: that many crashes, or fewer, separate no
+        two surviving members. It is `k - 1`, or 0 if `k` is 0.
+
+        If two members are not linked, one crash more does separate two, when it strikes the `cut`. If `k` is 0, they
+        are separated without any crash.
+
+        If every two members are linked, no number of crashes ever separates two of them. `survives` is then the most
+        crashes that are sure to leave two members: two less than there are members, or 0.
+        """
+        return max(self.k - 1, 0)
+
+    def __str__(self) -> str:
+        """What it says, in words."""
+        who = "nodes" if self.group is None else f"members of the group {listed(self.group)}"
+        if self.is_linked:
+            return f"Every two {who} are linked: no crashes separate two of them."
+        if self.k == 0:
+            return f"{self.near} and {self.far} are separated without any crash."
+        cut = f"Crashing {listed(self.cut)} separates {self.near} from {self.far}."
+        return f"{cut} Fewer crashes separate no two surviving {who}."
+
+
+def listed(names: Iterable[Any]) -> str:
+    return ", ".join(map(str, names))
+
+
+def confirmed(certificate: str, overlay_check: Optional[Program]) -> Answer:
+    """What a certificate says to which overlay-check says yes."""
+    verdict = check(certificate, overlay_check=overlay_check)
+    if verdict.answer is None:
+        raise NotConfirmed(f"the certificate does not hold: {verdict.line}\n{verdict.reason}")
+    return verdict.answer
+
+
+def demand_asked(answer: Answer, certificate: str, graph: NamedGraph[Any], members: Optional[List[int]]) -> None:
+    """Demands that a certificate that holds is of this graph and these members."""
+    said = json.loads(certificate)
+    if said["nodes"] != graph.nodes or said["links"] != graph.links:
+        raise NotConfirmed("the graph in the certificate is another one")
+    group = said.get("group", graph.nodes)
+    if group != (graph.nodes if members is None else members):
+        raise NotConfirmed("the group in the certificate is another one")
+    if answer.moment != 0:
+        raise NotConfirmed("the certificate is of a moment, and not of a graph that was given")
+
+
+def analyse(graph: Graph[Node], group: Optional[Iterable[Node]] = None, workers: int = 1, *,
+            overlay: Optional[Program] = None, overlay_check: Optional[Program] = None) -> Report[Node]:
+    """Finds the fewest crashes that split a graph, and has the answer checked.
+
+    `graph` is one of these, and names are any hashable values:
+
+    - an undirected networkx graph; links that occur twice count once;
+    - a list of edges, each a pair of names; the nodes are those that occur;
+    - a dict of views, from each node's name to the names of its peers. Two nodes are linked if each lists the other.
+      The nodes are the keys: a peer without a view of its own is none.
+
+    With a `group` of nodes only these must stay joined; the cut may have any nodes. `workers` is 1 to 64: at most so
+    many threads share out the analysis.
+
+    >>> square = [("a", "b"), ("b", "c"), ("c", "d"), ("d", "a")]
+    >>> report = analyse(square)
+    >>> report.k, report.survives, sorted(report.cut)
+    (2, 1, ['b', 'd'])
+    >>> print(analyse({"a": ["b"], "b": ["a", "c"], "c": ["a"]}))
+    c and a are separated without any crash.
+
+    What is trusted: overlay-check, Python, and a few lines here. A report is given only after overlay-check said yes
+    to its certificate, and the graph and the group in the certificate were compared with those that were given; else
+    this raises `NotConfirmed`. The program overlay, which makes the certificate, need not be trusted. `Refused` says
+    why it refuses a graph: it takes 1 to 1,024 nodes.
+    """
+    named = named_graph(graph)
+    members = named.members(group)
+    words = ["analyse", "--certificate", f"--workers={workers}"]
+    if members is not None:
+        words.append(f"--group={','.join(map(str, members))}")
+    ended = call(find("overlay", overlay), words, named.text.encode())
+    line, *certificates = lines_of(ended) or [""]
+    if line.startswith("refused "):
+        refuse(line, ended.err)
+    certificate = "\n".join(certificates)
+    answer = confirmed(certificate, overlay_check)
+    if read_answer(line, "report") != answer:
+        raise NotConfirmed(f"the report is not that of the certificate: {line}")
+    demand_asked(answer, certificate, named, members)
+    names = {place: name for name, place in named.ids.items()}
+    return Report(
+        k=answer.k,
+        is_linked=answer.is_linked,
+        cut=tuple(names[place] for place in answer.cut),
+        near=None if answer.near is None else names[answer.near],
+        far=None if answer.far is None else names[answer.far],
+        side=tuple(names[place] for place in answer.side),
+        group=None if members is None else tuple(names[place] for place in members),
+        certificate=certificate,
+        ids=named.ids,
+        graph_file=named.text,
+    )

@@ -1,0 +1,87 @@
+"""Tests of how graphs are read. They need no program."""
+
+import unittest
+
+from tagzirk.errors import BadGraph
+from tagzirk.graphs import named_graph
+
+try:
+    import networkx
+except ImportError:
+    networkx = None
+
+
+class Views(unittest.TestCase):
+    def test_a_link_needs_both_ends(self):
+        graph = named_graph({"a": ["b", "c"], "b": {"a", "c"}, "c": ("b",), "d": []})
+        self.assertEqual(graph.ids, {"a": 1, "b": 2, "c": 3, "d": 4})
+        self.assertEqual(graph.links, [[1, 2], [2, 3]])
+
+    def test_a_peer_without_a_view_is_no_node(self):
+        graph = named_graph({"a": ["b", "gone"], "b": ["a", "gone"]})
+        self.assertEqual((graph.nodes, graph.links), ([1, 2], [[1, 2]]))
+
+    def test_what_is_no_view(self):
+        for views in {"a": "b", "b": "a"}, {"a": 1}, {"a": ["a"]}, {"a": [["b"]]}:
+            with self.assertRaises(BadGraph, msg=views):
+                named_graph(views)
+
+
+class Edges(unittest.TestCase):
+    def test_nodes_are_those_that_occur(self):
+        graph = named_graph(iter([("x", "y"), ("z", "y"), ("y", "x"), frozenset("xz")]))
+        self.assertEqual(graph.ids.keys(), {"x", "y", "z"})
+        self.assertEqual(graph.links, [[1, 2], [1, 3], [2, 3]])
+        self.assertEqual(named_graph([]).text, "")
+
+    def test_what_is_no_edge(self):
+        for edge in "ab", b"ab", ("a",), ("a", "b", {}), 1, None, (["a"], "b"), ("a", "a"):
+            with self.assertRaises(BadGraph, msg=edge):
+                named_graph([edge])
+
+    def test_what_is_no_graph(self):
+        for graph in "ab", b"ab", None, 7:
+            with self.assertRaises(BadGraph, msg=graph):
+                named_graph(graph)
+
+
+class Names(unittest.TestCase):
+    def test_ids_are_kept(self):
+        graph = named_graph([(9, 4), (0, 2**32 - 1)])
+        self.assertEqual(graph.text, "node 0\nnode 4\nnode 9\nnode 4294967295\nlink 0 4294967295\nlink 4 9\n")
+
+    def test_other_names_are_numbered(self):
+        for names in ("a", "b"), (1, 2**32), (1, -1), (1, 2.5), (None, ("a", 1)), (False, True), (frozenset(), 3):
+            graph = named_graph([names])
+            self.assertEqual(list(graph.ids.items()), [(names[0], 1), (names[1], 2)])
+            self.assertEqual(graph.text, "node 1\nnode 2\nlink 1 2\n")
+
+    def test_groups(self):
+        graph = named_graph([("a", "b"), ("b", "c")])
+        self.assertIsNone(graph.members(None))
+        self.assertEqual(graph.members(iter(["c", "a", "c"])), [1, 3])
+        self.assertEqual(named_graph([(1000, 5), (5, 64)]).members([1000, 64, 5]), [5, 64, 1000])
+        for group in [], ["d"], "ab", [["a"]], ["a", None]:
+            with self.assertRaises(BadGraph, msg=group):
+                graph.members(group)
+
+
+@unittest.skipUnless(networkx, "networkx is not there")
+class Networkx(unittest.TestCase):
+    def test_nodes_without_links_count(self):
+        graph = networkx.Graph([("b", "a")])
+        graph.add_node("c")
+        self.assertEqual(named_graph(graph).ids, {"b": 1, "a": 2, "c": 3})
+        self.assertEqual(named_graph(graph).links, [[1, 2]])
+
+    def test_links_that_occur_twice_count_once(self):
+        self.assertEqual(named_graph(networkx.MultiGraph([(1, 2), (2, 1), (2, 3)])).links, [[1, 2], [2, 3]])
+
+    def test_directed_graphs_and_loops_are_refused(self):
+        for graph in networkx.DiGraph([(1, 2)]), networkx.Graph([(1, 1)]):
+            with self.assertRaises(BadGraph):
+                named_graph(graph)
+
+
+if __name__ == "__main__":
+    unittest.main()

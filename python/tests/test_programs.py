@@ -1,0 +1,329 @@
+"""Tests with both programs: those that the variables TAGZIRK_OVERLAY and TAGZIRK_OVERLAY_CHECK name, or that are found.
+
+Others stand in for a program that lies or fails.
+"""
+
+import dataclasses
+import doctest
+import importlib
+import itertools
+import json
+import os
+import pathlib
+import random
+import stat
+import subprocess
+import sys
+import tempfile
+import unittest
+from unittest import mock
+
+import tagzirk
+from tagzirk.answers import read_answer
+from tagzirk.programs import CHECKOUT, find
+
+EXAMPLES = CHECKOUT / "examples"
+CHECKER = CHECKOUT / "tools" / "check.py"
+MODULES = ("tagzirk", "tagzirk.answers", "tagzirk.checks", "tagzirk.graphs", "tagzirk.reports", "tagzirk.scenarios")
+RING_WITH_TAIL = [(1, 2), (2, 3), (3, 4), (4, 5), (1, 5), (2, 6)]
+
+
+def load_tests(loader, tests, pattern):
+    """The examples in the docstrings are tests too."""
+    for name in MODULES:
+        tests.addTests(doctest.DocTestSuite(importlib.import_module(name)))
+    return tests
+
+
+def two_clusters():
+    """Two clusters, a b c and f g h, which meet at d and e alone."""
+    links = [(a, b) for a in "abc" for b in "abcde" if a < b] + [(a, b) for a in "defgh" for b in "fgh" if a < b]
+    return links
+
+
+def reached(nodes, links, crashed, start):
+    """The nodes that a survivor reaches."""
+    found, more = {start}, [start]
+    while more:
+        now = more.pop()
+        for link in links:
+            if now in link:
+                other = link[0] if link[1] == now else link[1]
+                if other not in found and other not in crashed:
+                    found.add(other)
+                    more.append(other)
+    return found
+
+
+def is_split(nodes, links, crashed, members):
+    """Whether crashes separate two surviving members."""
+    alive = [it for it in members if it not in crashed]
+    return bool(alive) and not set(alive) <= reached(nodes, links, crashed, alive[0])
+
+
+class Analyses(unittest.TestCase):
+    def test_two_clusters(self):
+        report = tagzirk.analyse(two_clusters())
+        self.assertEqual((report.k, report.survives, report.is_linked), (2, 1, False))
+        self.assertEqual((set(report.cut), report.near, report.far), (set("de"), "f", "a"))
+        self.assertEqual(set(report.side), set("fgh"))
+        words = "Crashing d, e separates f from a. Fewer crashes separate no two surviving nodes."
+        self.assertEqual(str(report), words)
+
+    def test_linked(self):
+        for number in 1, 2, 5:
+            names = [f"node {at}" for at in range(number)]
+            report = tagzirk.analyse({name: [other for other in names if other != name] for name in names})
+            self.assertEqual((report.k, report.is_linked, report.survives), (number - 1, True, max(number - 2, 0)))
+            self.assertEqual((report.cut, report.near, report.far, report.side), ((), None, None, ()))
+            self.assertEqual(str(report), "Every two nodes are linked: no crashes separate two of them.")
+
+    def test_split_without_a_crash(self):
+        report = tagzirk.analyse([("a", "b"), ("c", "d")])
+        self.assertEqual((report.k, report.survives, report.cut, report.is_linked), (0, 0, (), False))
+        self.assertEqual(str(report), "c and a are separated without any crash.")
+
+    def test_groups(self):
+        self.assertEqual(tagzirk.analyse(RING_WITH_TAIL).k, 1)
+        report = tagzirk.analyse(RING_WITH_TAIL, group=[5, 1, 3])
+        self.assertEqual((report.k, report.group), (2, (1, 3, 5)))
+        self.assertIn("no two surviving members of the group 1, 3, 5.", str(report))
+        self.assertEqual(tagzirk.analyse(RING_WITH_TAIL, group={1, 2}).k, 1)
+        self.assertEqual(tagzirk.analyse(RING_WITH_TAIL, group=range(1, 7)).group, (1, 2, 3, 4, 5, 6))
+        with self.assertRaises(tagzirk.BadGraph):
+            tagzirk.analyse(RING_WITH_TAIL, group=[7])
+
+    def test_against_all_crashes(self):
+        source = random.Random(3)
+        for _ in range(25):
+            number = source.randint(2, 7)
+            nodes = [(at, "name") for at in range(number)]
+            links = [link for link in itertools.combinations(nodes, 2) if source.random() < 0.6]
+            members = source.sample(nodes, source.randint(1, number))
+            views = {a: [b for b in nodes if (a, b) in links or (b, a) in links] for a in nodes}
+            report = tagzirk.analyse(views, group=members, workers=source.choice((1, 3)))
+            for size in range(number + 1):
+                splits = any(is_split(nodes, links, them, members) for them in itertools.combinations(nodes, size))
+                if report.is_linked or size <= report.survives and report.k > 0:
+                    self.assertFalse(splits, (links, members, size))
+                elif size == report.k:
+                    self.assertTrue(splits, (links, members, size))
+            if report.is_linked:
+                self.assertEqual(report.k, len(members) - 1)
+            else:
+                self.assertEqual(len(report.cut), report.k)
+                self.assertEqual(set(report.side), reached(nodes, links, report.cut, report.near))
+                self.assertNotIn(report.far, report.side)
+
+    def test_other_checkers_agree(self):
+        report = tagzirk.analyse(two_clusters())
+        for words, printed in ([], "holds 0 split k 2"), (["--graph"], report.graph_file):
+            ended = subprocess.run([sys.executable, CHECKER, *words], input=report.certificate.encode(),
+                                   stdout=subprocess.PIPE)
+            self.assertEqual(ended.returncode, 0)
+            self.assertTrue(ended.stdout.decode().startswith(printed))
+        self.assertEqual(report.ids["a"], 1)
+
+    def test_more_nodes_than_version_1_has(self):
+        ring = [(at, (at + 1) % 1024) for at in range(1024)]
+        report = tagzirk.analyse(ring, workers=4)
+        self.assertEqual((report.k, json.loads(report.certificate)["version"]), (2, 2))
+
+    def test_what_is_refused(self):
+        for graph, workers, number, reason in [
+            ([], 1, 30, "the graph has no nodes"),
+            ({at: [] for at in range(1025)}, 1, 31, "a graph has at most 1024 nodes"),
+            ([(1, 2)], 65, 73, "it takes a number from 1 to 64"),
+        ]:
+            with self.assertRaises(tagzirk.Refused) as raised:
+                tagzirk.analyse(graph, workers=workers)
+            self.assertEqual((raised.exception.number, raised.exception.line), (number, f"refused {number}"))
+            self.assertIn(reason, raised.exception.reason)
+
+
+class Checks(unittest.TestCase):
+    def test_the_examples(self):
+        for name, line in ("square", "holds 0 split k 2 cut 2,4 near 1 far 3 side 1"), ("no-nodes", "fails 47"), \
+                ("five-but-one-pair-missing", "fails 43 1 2"), ("not-json", "refused 60"):
+            path = EXAMPLES / f"{name}.json"
+            for given in path, path.read_bytes(), path.read_text():
+                verdict = tagzirk.check(given)
+                self.assertEqual((verdict.line, verdict.holds), (line, name == "square"))
+                self.assertEqual((bool(verdict), verdict.reason == ""), (verdict.holds, verdict.holds))
+
+    def test_answers(self):
+        answer = tagzirk.check(EXAMPLES / "ring-with-tail-group.json").answer
+        self.assertEqual(answer, tagzirk.Answer(0, 2, False, (2, 5), 1, 3, (1,), (1, 3, 5)))
+        answer = tagzirk.check(EXAMPLES / "two-unlinked.json").answer
+        self.assertEqual(answer, tagzirk.Answer(4, 0, False, (), 2, 1, (2,), None))
+
+    def test_lines_that_are_no_answers(self):
+        mixed = "holds 0 linked k 1 cut 2 near 3 far 1 side 3"
+        for line in "holds 0 split k 1", mixed, "holds 0 linked k", "holds", "":
+            self.assertIsNone(read_answer(line, "holds"), line)
+        self.assertIsNone(read_answer("report 0 linked k 1", "holds"))
+
+    def test_a_text_names_no_file(self):
+        self.assertEqual(tagzirk.check(str(EXAMPLES / "square.json")).line, "refused 60")
+        with self.assertRaises(FileNotFoundError):
+            tagzirk.check(EXAMPLES / "nowhere.json")
+
+
+class Runs(unittest.TestCase):
+    def test_twenty_four_nodes(self):
+        run = tagzirk.run(EXAMPLES / "twenty-four-nodes.scenario")
+        kept = (EXAMPLES / "twenty-four-nodes.txt").read_text().splitlines()
+        self.assertEqual(list(run.texts), kept)
+        self.assertEqual(len(run.entries), sum(line.startswith("entry ") for line in kept))
+        self.assertEqual([it.moment for it in run.reports], [int(it.split()[1]) for it in kept if it[:6] == "report"])
+        first = run.reports[0]
+        self.assertEqual((first.moment, first.k, first.cut), (886, 2, (9, 10)))
+        certificate = run.certificate(886)
+        self.assertEqual(tagzirk.check(certificate).answer, first)
+        group = next(it.group for it in run.reports if it.group)
+        moment = next(it.moment for it in run.reports if it.group)
+        self.assertEqual(tagzirk.check(run.certificate(moment, reversed(group))).answer.group, group)
+        with self.assertRaises(tagzirk.Refused) as raised:
+            run.certificate(885)
+        self.assertEqual(raised.exception.number, 50)
+
+    def test_each_line_is_known(self):
+        for path in EXAMPLES.glob("*.scenario"):
+            run = tagzirk.run(path.read_text())
+            self.assertEqual(run.of_kind(tagzirk.OtherLine), (), path.name)
+            self.assertEqual(len(run.lines), len(run.texts))
+
+    def test_lines(self):
+        run = tagzirk.run("boot 1\nboot 2 by 1\npackets\ncrash 3\ncrash 2\nshow 1\nbroadcast 1 hi\ntogether\nend")
+        born, other, packet, refusal, gone, view, sent, sections = run.lines
+        self.assertEqual(born, tagzirk.Entry(1, (tagzirk.Change("born", 1),), None))
+        self.assertEqual((packet.place, packet.to, packet.content[:2]), (0, 1, b"\x01\x01"))
+        self.assertEqual((refusal, run.refusals), (tagzirk.Refusal(10), (refusal,)))
+        self.assertEqual(gone.changes, (tagzirk.Change("gone", 2),))
+        self.assertEqual((view.node, view.active), (1, ()))
+        self.assertEqual(sent.delivery, tagzirk.Delivery(1, 1, 0))
+        self.assertEqual(sections, tagzirk.Sections(1, 0, 0))
+        self.assertEqual(run.explanations, ("line 4: no node 3 was born", "4 events accepted, 1 refused"))
+
+    def test_a_report_that_only_a_section_filed(self):
+        run = tagzirk.run("boot 1\nsnapshot\ntogether\nanalyse 2\nend\n")
+        self.assertEqual(run.reports, ())
+        self.assertEqual(tagzirk.check(run.certificate(2)).line, "holds 2 linked k 0")
+
+    def test_scenarios_that_cannot_be_read(self):
+        with self.assertRaises(tagzirk.Refused) as raised:
+            tagzirk.run(EXAMPLES / "mistakes" / "via-for-by.scenario")
+        self.assertEqual(raised.exception.number, 70)
+        self.assertRegex(raised.exception.line, r"^line \d+: refused 70$")
+        self.assertIn("expected `by` or the end of the line", str(raised.exception))
+
+
+class StandIns(unittest.TestCase):
+    """Programs that lie or fail."""
+
+    def setUp(self):
+        room = tempfile.TemporaryDirectory()
+        self.addCleanup(room.cleanup)
+        self.room = pathlib.Path(room.name)
+
+    def program(self, text, name="stand-in"):
+        """A program that runs this Python text."""
+        path = self.room / name
+        path.write_text(f"#!{sys.executable}\nimport sys\n{text}\n")
+        path.chmod(path.stat().st_mode | stat.S_IXUSR)
+        return path
+
+    def that_prints(self, *lines):
+        return self.program(f"sys.stdin.read()\nprint({chr(10).join(lines)!r})")
+
+    def test_an_overlay_that_lies(self):
+        path = [("a", "b"), ("b", "c")]
+        right = tagzirk.analyse(path)
+        line = "report 0 split k 1 cut 2 near 3 far 1 side 3"
+        self.assertEqual(tagzirk.analyse(path, overlay=self.that_prints(line, right.certificate)), right)
+        square, other = (EXAMPLES / f"{name}.json" for name in ("square", "two-unlinked"))
+        of_moment = right.certificate.replace('"moment":0', '"moment":7')
+        longer = right.certificate.replace('"nodes":[1,2,3]', '"nodes":[1,2,3,4]')
+        others = {
+            "another group": tagzirk.analyse(path, group=["a", "c"]),
+            "other links": tagzirk.analyse([(1, 2), (1, 3)]),
+            "another node": tagzirk.analyse({1: [2], 2: [1, 3], 3: [2], 4: []}),
+        }
+        with self.assertRaises(tagzirk.NotConfirmed):
+            tagzirk.analyse(path, overlay=self.program("sys.stdin.read()"))
+        for text, printed in [
+            ("another graph", [f"report{tagzirk.check(square).line[5:]}", square.read_text().strip()]),
+            ("another graph, of another moment", [f"report{tagzirk.check(other).line[5:]}", other.read_text().strip()]),
+            ("another moment", [line.replace("report 0", "report 7"), of_moment]),
+            ("a line of another number", [line.replace("k 1", "k 2"), right.certificate]),
+            ("no line", ["report", right.certificate]),
+            ("no certificate", [line]),
+            ("a certificate that fails", [line, longer]),
+        ] + [(text, [f"report{tagzirk.check(other.certificate).line[5:]}", other.certificate])
+             for text, other in others.items()]:
+            with self.assertRaises(tagzirk.NotConfirmed, msg=text):
+                tagzirk.analyse(path, overlay=self.that_prints(*printed))
+
+    def test_a_checker_that_does_not_say_yes(self):
+        for text in "print('fails 44 3'); sys.exit(1)", "print('refused 60'); sys.exit(1)":
+            with self.assertRaises(tagzirk.NotConfirmed):
+                tagzirk.analyse([(1, 2)], overlay_check=self.program(text))
+        for text in "print('yes')", "print('holds 0 linked k 1'); sys.exit(1)", "print('fails 44 3')", \
+                "print('oh', file=sys.stderr); sys.exit(1)", "":
+            with self.assertRaises(tagzirk.ProgramFailed, msg=text):
+                tagzirk.analyse([(1, 2)], overlay_check=self.program(text))
+        with self.assertRaisesRegex(tagzirk.ProgramFailed, "was ended by signal 9"):
+            tagzirk.check("{}", overlay_check=self.program("import os; os.kill(os.getpid(), 9)"))
+        with self.assertRaises(tagzirk.Refused) as raised:
+            tagzirk.check("{}", overlay_check=self.program("print('refused 99', file=sys.stderr); sys.exit(1)"))
+        self.assertEqual(raised.exception.number, 99)
+
+    def test_an_overlay_that_runs_otherwise_the_second_time(self):
+        run = tagzirk.run("boot 1\nsnapshot\nanalyse 2\n")
+        for texts in ("entry 1 born 1",), (*run.texts[:2], "report 2 linked k 7"):
+            other = tagzirk.Run(texts, (), run.scenario, run.overlay, None)
+            with self.assertRaises(tagzirk.NotConfirmed):
+                other.certificate(2)
+        other = tagzirk.Run((*run.texts[:2], "report 2 linked k 7"), (), run.scenario, "", None)
+        other = dataclasses.replace(other, overlay=str(self.that_prints(*other.texts, run.certificate(2))))
+        with self.assertRaisesRegex(tagzirk.NotConfirmed, "the report is not that of the certificate"):
+            other.certificate(2)
+
+    def test_certificates_that_lie(self):
+        # its report is filed in a section, so no line says what the certificate must be
+        run = tagzirk.run("boot 1\nboot 2 by 1\nsnapshot\ntogether\nanalyse 3\nend\n")
+        text = run.certificate(3)
+        self.assertEqual(tagzirk.check(text).line, "holds 3 split k 0 cut - near 2 far 1 side 2")
+        group = text.replace('"far":1,', '"far":1,"group":[1,2],').replace('"version":1', '"version":2')
+        self.assertTrue(tagzirk.check(group))
+        alone = {"k": 0, "links": [], "moment": 3, "nodes": [1, 2], "group": [1], "verdict": "linked", "version": 2}
+        for text, asked, is_right in [
+            (text, None, True), (group, None, True), (group, [2, 1], True), (text, [1], False),
+            (json.dumps(alone), [1], True), (json.dumps(alone), None, False), (json.dumps(alone), [1, 2], False),
+            (text.replace('"moment":3', '"moment":4'), None, False), (text.replace('"k":0', '"k":1'), None, False),
+        ]:
+            other = dataclasses.replace(run, overlay=str(self.that_prints(*run.texts, text)))
+            if is_right:
+                self.assertEqual(other.certificate(3, asked), text)
+            else:
+                with self.assertRaises(tagzirk.NotConfirmed, msg=(text, asked)):
+                    other.certificate(3, asked)
+
+    def test_where_programs_are_found(self):
+        program = str(self.program("", "overlay-check"))
+        with mock.patch.dict(os.environ, {"PATH": str(self.room)}):
+            os.environ.pop("TAGZIRK_OVERLAY_CHECK", None)
+            self.assertEqual(find("overlay_check", None), program)
+            os.environ["TAGZIRK_OVERLAY_CHECK"] = "/of/the/variable"
+            self.assertEqual(find("overlay_check", None), "/of/the/variable")
+            self.assertEqual(find("overlay_check", pathlib.Path("/given")), "/given")
+            with self.assertRaisesRegex(tagzirk.ProgramMissing, "/of/the/variable could not be started: No such file"):
+                tagzirk.check("{}")
+            os.environ.pop("TAGZIRK_OVERLAY_CHECK")
+            with mock.patch("tagzirk.programs.CHECKOUT", self.room), mock.patch.dict(os.environ, {"PATH": ""}):
+                with self.assertRaisesRegex(tagzirk.ProgramMissing, "TAGZIRK_OVERLAY_CHECK"):
+                    tagzirk.check("{}")
+
+
+if __name__ == "__main__":
+    unittest.main()
