@@ -1,5 +1,5 @@
 -- An analysis is one line to run more.
-use Rattle.std.proofs.Common.{◌≡◌, ◌∙◌, ◌<◌, ap, ◌++◌, ◌∷◌, [], None, arith}
+use Rattle.std.proofs.Common.{◌∙◌, ◌<◌, ap, ◌++◌, ◌∷◌, [], None, arith}
 use Rattle.ov_ids.specs.Limits.{number_limit}
 use Rattle.ov_scenario.specs.declared.scenario.Line.TheVariants as line
 use Rattle.ov_script.specs.WrittenLines.{analysis_line, ended}
