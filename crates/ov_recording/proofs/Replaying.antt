@@ -99,11 +99,14 @@ subject_alone b m (Some ids) f After rest =
 unreported : (b d : CoreState) (s : Subject) → AreAlikeCores b d → ¬ IsReported d s → ¬ IsReported b s
 unreported b d s alike free reported =
     let found = other_side b.reports d.reports reported.0 alike.reports reported.1.filed in
-    free (found.0, record {
-      filed = found.1;
-      moment = sym found.2.moment ∙ reported.1.moment;
-      members = sym found.2.members ∙ reported.1.members ∙ ap (members_of s.group) found.2.graph;
-    })
+    free (
+      found.0,
+      record {
+        filed = found.1;
+        moment = sym found.2.moment ∙ reported.1.moment;
+        members = sym found.2.members ∙ reported.1.members ∙ ap (members_of s.group) found.2.graph;
+      },
+    )
 
 refused_analysis : (b d : CoreState) (s : Subject) (r : ReportState) (v : CoreState) (f : CoreFault)
     → AreAlikeCores b d → WasAnalysed d s r v → IsRefusedBy OutOfMemory (AnalysisJudged b s) f
