@@ -1,10 +1,11 @@
 //! The lines of a script, each appended to a text that has room for it.
 ghost use Rattle.std.specs.Prelude.{◌≡◌, ◌≤◌, ◌+◌, ◌∷◌, ◌++◌, length, decimal, vec_len, vec_capacity};
+ghost use Rattle.ov_ids.specs.ParamsState.{AreWithinLimits};
 ghost use Rattle.ov_script.specs.Acts.{act_line};
 ghost use Rattle.ov_script.specs.Scripts.{line_room};
 ghost use Rattle.ov_script.specs.WrittenLines.{comment_line, ended, line_of, numerals, params_line};
 ghost use Rattle.ov_script.specs.WrittenLines as spec;
-ghost use Rattle.ov_script.specs.Code.Writing.{number_room, params_room, room_of};
+ghost use Rattle.ov_script.specs.Code.Writing.{IsShort, number_room, params_room, room_of};
 ghost use Rattle.ov_script.specs.declared.act.Act.TheVariants as act;
 
 use crate::act::Act;
@@ -65,6 +66,7 @@ pub(crate) fn write_line(text: &mut Vec<u8>, name: &[u8], numbers: &[u64])
 pub(crate) fn write_params(text: &mut Vec<u8>, params: Params)
     requires room { vec_len text.old + params_room ≤ vec_capacity text.old }
     ensures items { text.new.items ≡ text.old.items ++ ended (params_line params) }
+    ensures limits { AreWithinLimits params }
     ensures len { vec_len text.new ≤ vec_len text.old + params_room }
     ensures capacity { vec_capacity text.old ≤ vec_capacity text.new }
 {
@@ -84,7 +86,8 @@ pub(crate) fn write_params(text: &mut Vec<u8>, params: Params)
 #[tactic(auto, unfolding(crate::specs::Acts::act_line))]
 fn write_boot(text: &mut Vec<u8>, node: NodeId, contact: Option<NodeId>)
     requires room { vec_len text.old + line_room ≤ vec_capacity text.old }
-    ensures { text.new.items ≡ text.old.items ++ ended (act_line (act.Boot node contact)) }
+    ensures items { text.new.items ≡ text.old.items ++ ended (act_line (act.Boot node contact)) }
+    ensures short { IsShort (act.Boot node contact) }
 {
     match contact {
         None => write_line(text, b"boot", &[node.0 as u64]),
@@ -99,7 +102,8 @@ fn write_boot(text: &mut Vec<u8>, node: NodeId, contact: Option<NodeId>)
 #[tactic(auto, unfolding(crate::specs::Acts::act_line))]
 pub(crate) fn write_act(text: &mut Vec<u8>, act: &Act)
     requires room { vec_len text.old + line_room ≤ vec_capacity text.old }
-    ensures { text.new.items ≡ text.old.items ++ ended (act_line act.now) }
+    ensures items { text.new.items ≡ text.old.items ++ ended (act_line act.now) }
+    ensures short { IsShort act.now }
 {
     match act {
         Act::Boot(node, contact) => write_boot(text, *node, *contact),
