@@ -23,8 +23,8 @@ pub record DidSomeOfIt (b : CoreState) (lines : List Line) (text : List ℕ) : T
   pub core : CoreState
   pub prints : PrintsAllAccepted b done core text
 
--- the lines ran from b on, and at one of them memory ran out, of which they printed this text. All lines before it were
--- accepted. No refusal applies to it, and `refused 99` was printed of it
+-- the lines ran from b on and printed this text, and at one of them memory ran out: all lines before it were accepted,
+-- no refusal applies to it, and `refused 99` was printed of it
 pub record RanOutOfMemory (b : CoreState) (lines : List Line) (text : List ℕ) : Type 0 where
   pub done : List Line
   pub line : Line
