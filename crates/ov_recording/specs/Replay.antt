@@ -18,8 +18,7 @@ use Rattle.ov_run.specs.Subjects.{AnalysisJudged, WasAnalysed}
 abbrev pub AcceptsLine : CoreState → Line → CoreState → Type 0
 AcceptsLine b (line.Event event words) u = (e : Entry) × Happened b event words e u
 AcceptsLine b (line.Analyse subject workers) u = (r : ReportState) × WasAnalysed b subject r u
-AcceptsLine b (line.Look look) u = ⊥
-AcceptsLine b (line.Together sections) u = ⊥
+AcceptsLine b other u = ⊥
 
 -- the lines in order, each accepted
 abbrev pub AcceptsAll : CoreState → List Line → CoreState → Type 0
@@ -37,16 +36,14 @@ pub record Replays (bytes : List ℕ) (c : CoreState) : Type 0 where
 abbrev pub MayBeAccepted : CoreState → Line → Type 0
 MayBeAccepted b (line.Event event words) = MayHappen b.world.net (length b.world.journal) event
 MayBeAccepted b (line.Analyse subject workers) = AnalysisJudged b subject None
-MayBeAccepted b (line.Look look) = ⊥
-MayBeAccepted b (line.Together sections) = ⊥
+MayBeAccepted b other = ⊥
 
 -- the line is accepted, and what it prints is the line of the event's entry, or the line of the report
 abbrev pub PrintsAccepted : CoreState → Line → CoreState → List ℕ → Type 0
 PrintsAccepted b (line.Event event words) u text = (e : Entry) × Happened b event words e u × (text ≡ entry_line e)
 PrintsAccepted b (line.Analyse subject workers) u text =
     (r : ReportState) × WasAnalysed b subject r u × (text ≡ report_line r.moment r.cert r.graph r.members)
-PrintsAccepted b (line.Look look) u text = ⊥
-PrintsAccepted b (line.Together sections) u text = ⊥
+PrintsAccepted b other u text = ⊥
 
 -- the lines in order, each accepted, and what they print
 abbrev pub PrintsAllAccepted : CoreState → List Line → CoreState → List ℕ → Type 0
