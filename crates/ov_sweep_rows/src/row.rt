@@ -1,3 +1,5 @@
+ghost use Rattle.std.specs.Prelude.{◌≡◌, Some, slice_get};
+
 use crate::DeliveredShare;
 use ov_grow_options::GrowOptions;
 
@@ -27,8 +29,12 @@ pub struct Row {
 }
 
 impl Row {
+    ghost use Rattle.ov_sweep_rows.specs.Rows.{place_of};
+
     /// What the run came to after a phase.
-    pub fn after(&self, phase: Phase) -> &PhaseRow {
+    pub fn after(&self, phase: Phase) -> &PhaseRow
+        ensures { slice_get self.now.phases (place_of phase) ≡ Some result.now }
+    {
         match phase {
             Phase::Settle => &self.phases[0],
             Phase::Crash => &self.phases[1],
