@@ -1,0 +1,198 @@
+//! Rows of a sweep, written out by hand.
+use ov_grow_options::{Chance, Count, Crash, GrowOptions, NodeCount, Order, Pace};
+use ov_ids::Params;
+use ov_sweep_rows::{DeliveredShare, PhaseRow, Row, header_text, read_rows, row_text};
+use std::alloc::Global;
+use std::test::Fail;
+
+/// The line that rows begin with.
+pub(crate) const HEADER: &str = "\
+nodes,active,passive,arwl,prwl,ka,kp,ttl,loss_join,loss,repeat,order,pace,rounds,crash,heal,broadcasts,seed,\
+settle_nodes,settle_k,settle_least_degree,settle_links,settle_entries,settle_delivered,\
+crash_nodes,crash_k,crash_least_degree,crash_links,crash_entries,crash_delivered,\
+heal_nodes,heal_k,heal_least_degree,heal_links,heal_entries,heal_delivered\n";
+
+/// Two rows, the second with every option at its default.
+const ROWS: [&str; 2] = [
+    "60,4,20,5,2,1,2,3,1,5,0,oldest,7,3,cut,2,10,18446744073709551615,\
+     60,2,3,171,1834,0.9950,58,0,1,160,1836,0.0000,58,3,3,172,2100,1.0000\n",
+    "100,5,30,6,3,3,4,4,0,0,0,random,,3,0,2,0,0,100,0,0,200,2000,,100,0,0,200,2000,,100,1,1,210,3000,\n",
+];
+
+fn phase(nodes: u32, k: u32, least_degree: u32, links: u32, entries: u32) -> PhaseRow {
+    PhaseRow {
+        nodes,
+        k,
+        least_degree,
+        links,
+        entries,
+        delivered: None,
+    }
+}
+
+/// The phase with so many deliveries of ten broadcasts.
+fn delivered(row: PhaseRow, deliveries: u32) -> PhaseRow {
+    PhaseRow {
+        delivered: DeliveredShare::new(deliveries, 10, row.nodes),
+        ..row
+    }
+}
+
+/// The options of the first row. 597 of 600 deliveries are 0.995, and 1 of 580 is less than 0.002.
+fn first_options() -> Option<GrowOptions> {
+    Some(GrowOptions {
+        nodes: NodeCount::new(60)?,
+        params: Params::new(4, 20, 5, 2, 1, 2, 3).ok()?,
+        seed: u64::MAX,
+        loss_join: Chance::new(1)?,
+        loss: Chance::new(5)?,
+        order: Order::Oldest,
+        pace: Some(Pace::new(7)?),
+        crash: Crash::Cut,
+        broadcasts: Count::new(10)?,
+        ..GrowOptions::default()
+    })
+}
+
+fn first_row(options: GrowOptions) -> Row {
+    Row {
+        options,
+        phases: [
+            delivered(phase(60, 2, 3, 171, 1834), 597),
+            delivered(phase(58, 0, 1, 160, 1836), 0),
+            delivered(phase(58, 3, 3, 172, 2100), 580),
+        ],
+    }
+}
+
+fn second_row() -> Row {
+    Row {
+        options: GrowOptions::default(),
+        phases: [
+            phase(100, 0, 0, 200, 2000),
+            phase(100, 0, 0, 200, 2000),
+            phase(100, 1, 1, 210, 3000),
+        ],
+    }
+}
+
+/// The header and both rows.
+fn text(alloc: Global) -> Result<String, Fail> {
+    let [first, second] = ROWS;
+    Ok(format!(in alloc; "{HEADER}{first}{second}")?)
+}
+
+#[test]
+fn rows_are_written(rt: HostRuntime) -> Result<(), Fail> {
+    let alloc = rt.alloc();
+    let options = first_options().ok_or("options out of their limits")?;
+    let mut written = header_text(alloc)?;
+    written.extend_from_slice(&row_text(alloc, &first_row(options))?)?;
+    written.extend_from_slice(&row_text(alloc, &second_row())?)?;
+    let expected = text(alloc)?;
+    assert!(rt; written.as_slice() == expected.as_bytes());
+    Ok(())
+}
+
+#[test]
+fn rows_are_read(rt: HostRuntime) -> Result<(), Fail> {
+    let alloc = rt.alloc();
+    let options = first_options().ok_or("options out of their limits")?;
+    let text = text(alloc)?;
+    let expected = [first_row(options), second_row()];
+    let is_read = match read_rows(alloc, text.as_bytes()) {
+        Ok(rows) => rows.as_slice() == expected.as_slice(),
+        Err(_) => false,
+    };
+    assert!(rt; is_read);
+    Ok(())
+}
+
+#[test]
+fn shares_are_rounded_down(rt: HostRuntime) {
+    for (deliveries, nodes, parts) in [(0, 3, 0), (1, 3, 333), (29, 3, 9666), (30, 3, 10_000)] {
+        let share = DeliveredShare::new(deliveries, 10, nodes);
+        assert!(rt;
+            share == Some(DeliveredShare { parts }),
+            "{deliveries} of {nodes}"
+        );
+    }
+    assert!(rt; DeliveredShare::new(0, 0, 3).is_none());
+}
+
+/// What the second row is changed from and to, and why it is refused then.
+static REFUSED: [(&str, &str, &str); 9] = [
+    (
+        "100,5,",
+        "257,5,",
+        "line 3: nodes must be a number from 1 to 256",
+    ),
+    (
+        "100,5,",
+        ",5,",
+        "line 3: nodes must be a number from 1 to 256",
+    ),
+    (
+        ",4,4,0,0,0,",
+        ",4,0,0,0,0,",
+        "line 3: ttl must be a number from 1 to 15, after parameters within their limits",
+    ),
+    (
+        ",random,",
+        ",any,",
+        "line 3: order must be random or oldest",
+    ),
+    (
+        ",random,,",
+        ",random,all,",
+        "line 3: pace must be a number from 0 to 65536, or empty",
+    ),
+    (
+        ",3,0,2,0,0,",
+        ",3,100,2,0,0,",
+        "line 3: crash must be a number from 0 to 99, or cut",
+    ),
+    (
+        ",2000,,100,0,0,",
+        ",2000,1.0,100,0,0,",
+        "line 3: settle_delivered must be a number with four decimal digits, or empty",
+    ),
+    (
+        ",210,3000,",
+        ",-210,3000,",
+        "line 3: heal_links must be a number below 2 to the power of 32",
+    ),
+    (
+        ",210,3000,",
+        ",210,3000",
+        "line 3: the row has 35 fields and must have 36",
+    ),
+];
+
+/// Why a text of rows is refused.
+fn refused(alloc: Global, text: &str) -> Result<String, Fail> {
+    match read_rows(alloc, text.as_bytes()) {
+        Ok(_) => Ok(String::new(alloc)),
+        Err(fault) => Ok(format!(in alloc; "{fault}")?),
+    }
+}
+
+#[test]
+fn other_rows_are_refused(rt: HostRuntime) -> Result<(), Fail> {
+    let alloc = rt.alloc();
+    let [first, second] = ROWS;
+    for (from, to, reason) in &REFUSED {
+        let (before, behind) = second.split_once(*from).ok_or("no such field")?;
+        let text = format!(in alloc; "{HEADER}{first}{before}{to}{behind}")?;
+        let told = refused(alloc, text.as_str())?;
+        assert!(rt; told.as_str() == *reason, "{told}");
+    }
+    for text in ["", "nodes\n", first] {
+        let told = refused(alloc, text)?;
+        assert!(rt;
+            told.as_str().starts_with("line 1 must be the header"),
+            "{told}"
+        );
+    }
+    Ok(())
+}
