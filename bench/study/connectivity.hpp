@@ -45,26 +45,34 @@ struct Graph {
         return std::binary_search(neighbours[a].begin(), neighbours[a].end(), b);
     }
 
-    /// The sizes of the components, in the order of their first nodes.
-    std::vector<size_t> components() const {
-        std::vector<size_t> sizes;
-        std::vector<bool> seen(size());
+    /// For each node the number of its component, which are counted in the order of their first nodes.
+    std::vector<uint32_t> component_of_each() const {
+        std::vector<uint32_t> found(size(), UINT32_MAX);
+        uint32_t count = 0;
         for (uint32_t first = 0; first < size(); first++) {
-            if (seen[first]) continue;
+            if (found[first] != UINT32_MAX) continue;
             std::vector<uint32_t> waiting{first};
-            seen[first] = true;
-            size_t found = 0;
+            found[first] = count;
             while (!waiting.empty()) {
                 uint32_t node = waiting.back();
                 waiting.pop_back();
-                found++;
                 for (uint32_t other : neighbours[node])
-                    if (!seen[other]) {
-                        seen[other] = true;
+                    if (found[other] == UINT32_MAX) {
+                        found[other] = count;
                         waiting.push_back(other);
                     }
             }
-            sizes.push_back(found);
+            count++;
+        }
+        return found;
+    }
+
+    /// The sizes of the components, in the order of their first nodes.
+    std::vector<size_t> components() const {
+        std::vector<size_t> sizes;
+        for (uint32_t component : component_of_each()) {
+            sizes.resize(std::max<size_t>(sizes.size(), component + 1));
+            sizes[component]++;
         }
         return sizes;
     }

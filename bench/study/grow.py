@@ -4,9 +4,6 @@
 It is a second opinion: plain Python over the nodes, the world and the analysis of bench/fuzz, which share nothing with
 the Rattle code. With --csv it prints the row of `overlay sweep` for the same options instead, with its header. If a step
 is refused it prints the number of the refusal on standard error, and ends with status 1.
-
-Where docs/GROWING.md leaves something open, it is read thus: with --crash the whole random order of the live nodes is drawn,
-also for --crash 0; "while the overlay heals" is the whole last phase, with its broadcasts.
 """
 
 import argparse
@@ -164,15 +161,19 @@ class Growing:
             self.act(f"crash {node}", "crash", node)
         self.end_phase()
 
+    def untold(self):
+        """The first live node that has a crashed node in its active view, and the first such."""
+        pairs = ((node, other) for node in self.live() for other in sorted(self.world.nodes[node].active))
+        return next(((node, other) for node, other in pairs if not self.is_live(other)), None)
+
     def heal(self):
         """The last phase."""
         self.lines.append("# heal")
         self.is_healing = True
-        for node in self.live():
-            for other in sorted(self.world.nodes[node].active):
-                if not self.is_live(other):
-                    self.act(f"report {node} {other}", "report", node, other)
-        self.run_out()
+        while (untold := self.untold()) is not None:
+            node, crashed = untold
+            self.act(f"report {node} {crashed}", "report", node, crashed)
+            self.run_out()
         self.rounds(self.options.heal)
         self.end_phase()
 

@@ -18,7 +18,7 @@ struct Options {
     unsigned heal = 2, broadcasts = 0;
     // for the study alone, and no options of the tool
     Change change = Change::None;
-    bool reports_one_by_one = false;
+    bool reports_at_once = false;
 };
 
 /// How the overlay stands at the end of a phase.
@@ -61,6 +61,8 @@ class Growing {
     World world;
     std::string lines;
     std::vector<Phase> phases;
+    /// What is called after each birth, and the turns that follow it.
+    std::function<void()> watch_birth = [] {};
     /// What is called after each phase.
     std::function<void(const Phase&)> watch = [](const Phase&) {};
 
@@ -174,11 +176,13 @@ class Growing {
         line("boot", 1);
         for (Id id = 2; id <= options.nodes; id++) {
             turns(options.pace.value_or(MOST_TURNS));
+            watch_birth();
             Id contact = 1 + choices.one_of(id - 1);
             world.boot(id, contact);
             line(("boot " + std::to_string(id) + " by").c_str(), contact);
         }
         run_out();
+        watch_birth();
     }
 
     std::vector<Id> settle() {
@@ -203,15 +207,21 @@ class Growing {
         end_phase("crash");
     }
 
+    /// The first crashed node in the active view of a node.
+    Id first_crashed(Id node) {
+        const Ids& active = world.node(node).active;
+        auto found = std::find_if(active.begin(), active.end(), [&](Id other) { return !world.lives(other); });
+        return found == active.end() ? NOBODY : *found;
+    }
+
     void heal() {
         comment("heal");
         is_healing = true;
+        // No packet of a crashed node is on its way, so no node comes to hold one, and one walk through the nodes is enough.
         for (Id node : world.live()) {
-            Ids active = world.node(node).active;
-            for (Id other : active) {
-                if (world.lives(other) || !world.node(node).active.has(other)) continue;
-                report(node, other);
-                if (options.reports_one_by_one) run_out();
+            for (Id crashed; (crashed = first_crashed(node)) != NOBODY;) {
+                report(node, crashed);
+                if (!options.reports_at_once) run_out();
             }
         }
         run_out();

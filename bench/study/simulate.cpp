@@ -4,7 +4,7 @@
 // nodes it is held against the tool, step by step (compare.py); beyond that nothing vouches for it but the same code.
 //
 // build: g++ -std=c++17 -O2 -o simulate simulate.cpp
-#include <cmath>
+#include <cerrno>
 #include <cstdio>
 #include <cstdlib>
 #include <cstring>
@@ -14,7 +14,7 @@
 
 namespace {
 
-constexpr const char* HELP = R"(usage: simulate OPTIONS [--runs N] [--csv | --scenario | --fates | --degrees] [--exact N]
+constexpr const char* HELP = R"(usage: simulate OPTIONS [--runs N] [--csv | --scenario | --fates | --degrees | --alone | --splits] [--exact N]
 
 OPTIONS are those of docs/GROWING.md, with any number of nodes. Each but --seed takes a list, as --active 3,4,5: all settings
 are grown, that of the first option of the table varying slowest, each with N seeds from --seed on (1 without --runs).
@@ -22,15 +22,18 @@ are grown, that of the first option of the table varying slowest, each with N se
   (no mode)    three lines for each overlay, one for each phase, for people
   --csv        a row for each overlay, as `overlay sweep` has it, with a header
   --scenario   the scenario that `overlay grow` prints
-  --fates      a row for each overlay: what became of the nodes that are alone in the settled overlay
-  --degrees    a row for each overlay: how many nodes of the settled overlay have each number of links
+  --fates      a row for each overlay, of the settled one: components, and what became of the nodes that are alone
+  --degrees    a row for each overlay: how many nodes of the settled overlay have each number of links, for one active
+               size; and of those with one link, how many have a neighbour whose active view is full
   --alone      a line for each node that is alone in the settled overlay
+  --splits     a row for each part that a birth, and the turns after it, cut off the rest of its component while nodes
+               join; and one for each birth that made one component of several
   --exact N    up to N nodes the node connectivity is found exactly (512); beyond that only whether it is 0
 
 What no node of the profile does, to see what it would change:
   --change attempt-at-disconnect   a DISCONNECT of an active member starts an attempt, as its crash does
   --change attempt-when-alone      the same, but only if nobody is active any more
-  --reports-one-by-one             packets run out after each report when the overlay begins to heal
+  --reports-at-once                all reports come before a packet moves when the overlay begins to heal
 )";
 
 [[noreturn]] void refuse(const std::string& why) {
@@ -38,7 +41,7 @@ What no node of the profile does, to see what it would change:
     exit(2);
 }
 
-enum class Mode { People, Csv, Scenario, Fates, Degrees, Alone };
+enum class Mode { People, Csv, Scenario, Fates, Degrees, Alone, Splits };
 
 // Options as words: each option of the table, in its order, with the values that it may take.
 
@@ -189,26 +192,34 @@ void print_for_people(const Phase& phase, unsigned broadcasts) {
 }
 
 void print_degrees_header(unsigned most) {
-    printf("%s,nodes", field_names().c_str());
+    printf("%s,nodes,full_beside_one", field_names().c_str());
     for (unsigned degree = 0; degree <= most; degree++) printf(",degree_%u", degree);
     printf("\n");
 }
 
+/// How many nodes with one link have a neighbour whose active view is full.
+size_t full_beside_one(const Graph& graph, size_t active_size) {
+    return std::count_if(graph.neighbours.begin(), graph.neighbours.end(), [&](auto& row) {
+        return row.size() == 1 && graph.neighbours[row[0]].size() == active_size;
+    });
+}
+
 void print_degrees(const Setting& said, const Graph& graph, unsigned most) {
-    printf("%s,%zu", fields(said).c_str(), graph.size());
+    printf("%s,%zu,%zu", fields(said).c_str(), graph.size(), full_beside_one(graph, most));
     for (unsigned degree = 0; degree <= most; degree++) printf(",%zu", nodes_of_degree(graph, degree));
     printf("\n");
 }
 
 /// What became of the nodes that are alone at a moment, and of the views of all nodes then.
 struct Fates {
-    size_t components = 0, largest = 0, alone = 0, never_linked = 0, by_disconnect = 0, by_own_drop = 0, hold_somebody = 0,
-           have_passive = 0, are_passive = 0, half_links = 0, full = 0;
+    size_t components = 0, largest = 0, least_degree = 0, alone = 0, never_linked = 0, by_disconnect = 0, by_own_drop = 0,
+           hold_somebody = 0, have_passive = 0, are_passive = 0, half_links = 0;
 
     Fates(const Graph& graph, const std::vector<Node>& nodes) {
         auto sizes = graph.components();
         components = sizes.size();
         largest = *std::max_element(sizes.begin(), sizes.end());
+        least_degree = graph.least_degree();
         std::vector<bool> is_passive(nodes.size() + 1);
         for (const Node& node : nodes)
             for (Id other : node.passive) is_passive[other] = true;
@@ -228,13 +239,13 @@ struct Fates {
 };
 
 void print_fates_header() {
-    printf("%s,components,largest,alone,never_linked,by_disconnect,by_own_drop,hold_somebody,have_passive,are_passive,"
+    printf("%s,components,largest,least_degree,alone,never_linked,by_disconnect,by_own_drop,hold_somebody,have_passive,are_passive,"
            "half_links\n", field_names().c_str());
 }
 
 void print_fates(const Setting& said, const Fates& fates) {
-    printf("%s,%zu,%zu,%zu,%zu,%zu,%zu,%zu,%zu,%zu,%zu\n", fields(said).c_str(), fates.components, fates.largest,
-           fates.alone, fates.never_linked, fates.by_disconnect, fates.by_own_drop, fates.hold_somebody,
+    printf("%s,%zu,%zu,%zu,%zu,%zu,%zu,%zu,%zu,%zu,%zu,%zu\n", fields(said).c_str(), fates.components, fates.largest,
+           fates.least_degree, fates.alone, fates.never_linked, fates.by_disconnect, fates.by_own_drop, fates.hold_somebody,
            fates.have_passive, fates.are_passive, fates.half_links);
 }
 
@@ -248,6 +259,38 @@ void print_alone(const Graph& graph, const std::vector<Node>& nodes) {
     }
 }
 
+/// Follows the components of an overlay from birth to birth.
+class Splits {
+  public:
+    void look(const Setting& said, const Graph& graph) {
+        std::vector<uint32_t> now = graph.component_of_each();
+        std::map<uint32_t, std::map<uint32_t, size_t>> parts;  // of each component before, how many nodes are where now
+        std::map<uint32_t, std::map<uint32_t, size_t>> sources;
+        for (size_t node = 0; node < before.size(); node++) {
+            parts[before[node]][now[node]]++;
+            sources[now[node]][before[node]]++;
+        }
+        for (auto& [component, sizes] : parts) print_parts(said, sizes);
+        for (auto& [component, from] : sources)
+            if (from.size() > 1) printf("%s,%zu,joined,%zu\n", fields(said).c_str(), now.size(), from.size());
+        before = now;
+    }
+
+    static void print_header() { printf("%s,birth,what,size\n", field_names().c_str()); }
+
+  private:
+    /// All parts of a component but the largest were cut off.
+    void print_parts(const Setting& said, const std::map<uint32_t, size_t>& sizes) {
+        std::vector<size_t> ascending;
+        for (auto& [component, size] : sizes) ascending.push_back(size);
+        std::sort(ascending.begin(), ascending.end());
+        for (size_t part = 0; part + 1 < ascending.size(); part++)
+            printf("%s,%zu,cut off,%zu\n", fields(said).c_str(), before.size() + 1, ascending[part]);
+    }
+
+    std::vector<uint32_t> before;
+};
+
 // Runs.
 
 struct Request {
@@ -255,13 +298,13 @@ struct Request {
     uint64_t runs = 1, exact = 512;
     Mode mode = Mode::People;
     Change change = Change::None;
-    bool reports_one_by_one = false;
+    bool reports_at_once = false;
 };
 
 void run(const Request& request, const Setting& said) {
     Options options = options_of(said);
     options.change = request.change;
-    options.reports_one_by_one = request.reports_one_by_one;
+    options.reports_at_once = request.reports_at_once;
     Growing growing(options, request.exact, request.mode == Mode::Scenario);
     if (request.mode == Mode::People) printf("%s\n", heading(said).c_str());
     growing.watch = [&](const Phase& phase) {
@@ -271,6 +314,9 @@ void run(const Request& request, const Setting& said) {
         if (request.mode == Mode::Degrees && is_settled) print_degrees(said, phase.graph, options.params.active);
         if (request.mode == Mode::Alone && is_settled) print_alone(phase.graph, growing.world.nodes);
     };
+    Splits splits;
+    if (request.mode == Mode::Splits)
+        growing.watch_birth = [&] { splits.look(said, Graph(growing.world.nodes)); };
     growing.grow();
     if (request.mode == Mode::Csv) print_csv(said, options, growing);
     if (request.mode == Mode::Scenario) {
@@ -309,7 +355,8 @@ int run_all(const Request& request, Setting said, size_t option) {
 Request request_of(int count, char** words) {
     Request request;
     const std::map<std::string, Mode> modes = {{"csv", Mode::Csv}, {"scenario", Mode::Scenario}, {"fates", Mode::Fates},
-                                               {"degrees", Mode::Degrees}, {"alone", Mode::Alone}};
+                                               {"degrees", Mode::Degrees}, {"alone", Mode::Alone},
+                                               {"splits", Mode::Splits}};
     const std::map<std::string, Change> changes = {{"attempt-at-disconnect", Change::AttemptAtDisconnect},
                                                    {"attempt-when-alone", Change::AttemptWhenAlone}};
     for (int at = 1; at < count; at++) {
@@ -326,8 +373,8 @@ Request request_of(int count, char** words) {
             request.exact = number(name, next());
         } else if (modes.count(name)) {
             request.mode = modes.at(name);
-        } else if (name == "reports-one-by-one") {
-            request.reports_one_by_one = true;
+        } else if (name == "reports-at-once") {
+            request.reports_at_once = true;
         } else if (name == "change") {
             auto change = changes.find(next());
             if (change == changes.end()) refuse("no such change");
@@ -345,11 +392,11 @@ int main(int count, char** words) {
     Request request = request_of(count, words);
     if (request.mode == Mode::Csv) print_csv_header();
     if (request.mode == Mode::Fates) print_fates_header();
+    if (request.mode == Mode::Splits) Splits::print_header();
     if (request.mode == Mode::Degrees) {
         auto sizes = request.lists.count("active") ? request.lists["active"] : std::vector<std::string>{"5"};
-        unsigned most = 0;
-        for (auto& size : sizes) most = std::max(most, unsigned(std::stoul(size)));
-        print_degrees_header(most);
+        if (sizes.size() > 1) refuse("--degrees takes one active size");
+        print_degrees_header(std::stoul(sizes[0]));
     }
     return run_all(request, DEFAULTS, 0);
 }
