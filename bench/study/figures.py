@@ -10,15 +10,19 @@ LIGHT = ["#8c2d04", "#d94801", "#f16913", "#1b6ca8", "#2a9d8f", "#5b4b8a", "#333
 DARK = ["#ffb38a", "#ff9a52", "#fdbe85", "#74b9e8", "#6fd6c8", "#b9a8ee", "#e0e0e0", "#b0b0b0"]
 
 
+def scheme(paper, ink, grid, tones):
+    """The colours of one scheme."""
+    yield f".paper {{ fill: {paper} }} text {{ fill: {ink} }} .grid {{ stroke: {grid} }}"
+    for at, tone in enumerate(tones):
+        yield f".s{at}.line, .s{at}.bar {{ stroke: {tone} }} .s{at}.dot, .s{at}.said {{ fill: {tone} }}"
+
+
 def style():
-    """The colours, by the reader's scheme."""
-    light = "".join(f".s{at} {{ --tone: {tone} }} " for at, tone in enumerate(LIGHT))
-    dark = "".join(f".s{at} {{ --tone: {tone} }} " for at, tone in enumerate(DARK))
-    return ("<style>svg { --paper: #ffffff; --ink: #222222; --grid: #dddddd } " + light
-            + "@media (prefers-color-scheme: dark) { svg { --paper: #15181c; --ink: #e6e6e6; --grid: #3a3f46 } " + dark + "} "
-            ".paper { fill: var(--paper) } text { fill: var(--ink) } .grid { stroke: var(--grid) } "
-            ".line { fill: none; stroke: var(--tone); stroke-width: 2 } .bar { stroke: var(--tone); stroke-width: 1.5 } "
-            ".dot { fill: var(--tone); stroke: none } .said { fill: var(--tone) }</style>")
+    """The colours, by the reader's scheme. Plain rules: some drawing programs know no variables."""
+    light = "\n".join(scheme("#ffffff", "#222222", "#dddddd", LIGHT))
+    dark = "\n".join(scheme("#15181c", "#e6e6e6", "#3a3f46", DARK))
+    return (f"<style>\n.line {{ fill: none; stroke-width: 2 }} .bar {{ stroke-width: 1.5 }} .wide {{ stroke-width: 7 }}\n"
+            f"{light}\n@media (prefers-color-scheme: dark) {{\n{dark}\n}}\n</style>")
 
 
 class Panel:
@@ -63,11 +67,10 @@ class Panel:
         across, up = self.place(x, y)
         self.parts.append(f'<circle class="dot s{tone}" cx="{across:.1f}" cy="{up:.1f}" r="{radius}"/>')
 
-    def say(self, tone, x, y, said, shift=8, anchor="start"):
+    def say(self, tone, x, y, said, right=8, down=4):
         """Words beside a point."""
         across, up = self.place(x, y)
-        self.parts.append(f'<text class="said s{tone}" x="{across + shift:.1f}" y="{up + 4:.1f}" text-anchor="{anchor}">{said}'
-                          "</text>")
+        self.parts.append(f'<text class="said s{tone}" x="{across + right:.1f}" y="{up + down:.1f}">{said}</text>')
 
 
 class Axis:
@@ -116,14 +119,14 @@ def split_shares():
             low, high = wilson(split(some, "settle"), len(some))
             panel.bar(tone, int(nodes), 100 * low, 100 * high)
             panel.dot(tone, int(nodes), 100 * split(some, "settle") / len(some))
-        panel.say(tone, 203, 100 - 100 * math.exp(-by * 200), f"active size {size}")
+        panel.say(tone, 203, 100 - 100 * math.exp(-by * 200), f"active size {size}", down={"8": 0, "10": 9}.get(size, 4))
     return drawn(panel)
 
 
 def numbers_of_200():
     """k of 200 nodes for each active size: quartiles and the range of nine in ten, after each phase."""
     panel = Panel(80, 960, "k of 200 nodes: median, quartiles (thick), and 9 of 10 overlays (thin)", Axis(
-        "active size", 2, 13, whole_numbers(3, 4, 5, 6, 7, 8, 9, 10, 12)), Axis("k", 0, 9, whole_numbers(*range(0, 10))))
+        "active size", 2, 13, whole_numbers(3, 4, 5, 6, 7, 8, 9, 10, 12)), Axis("k", 0, 10, whole_numbers(*range(11))))
     panel.axes()
     found = grouped("active", "active", "nodes")
     for tone, shift, phase, said in ((3, -0.2, "settle", "settled"), (1, 0, "crash", "20 of 100 crashed"),
@@ -132,10 +135,10 @@ def numbers_of_200():
             some, x = numbers(found[size, "200"], f"{phase}_k"), int(size) + shift
             panel.bar(tone, x, quantile(some, 0.05), quantile(some, 0.95))
             low, high = (panel.place(x, quantile(some, part)) for part in (0.25, 0.75))
-            panel.parts.append(f'<line class="bar s{tone}" x1="{low[0]:.1f}" x2="{low[0]:.1f}" y1="{low[1]:.1f}" '
-                               f'y2="{high[1]:.1f}" style="stroke-width:7"/>')
+            panel.parts.append(f'<line class="bar wide s{tone}" x1="{low[0]:.1f}" x2="{low[0]:.1f}" y1="{low[1]:.1f}" '
+                               f'y2="{high[1]:.1f}"/>')
             panel.dot(tone, x, quantile(some, 0.5), 6)
-        panel.say(tone, 2.2, 8.9 - 0.5 * (shift + 0.2) / 0.2, said)
+        panel.say(tone, 2.2, 9.6 - 0.55 * (shift + 0.2) / 0.2, said)
     return drawn(panel)
 
 
@@ -147,12 +150,12 @@ def large_overlays():
     least = Panel(680, 420, "least degree, mean", nodes, Axis("links", 0, 7, whole_numbers(*range(8))))
     alone.axes()
     least.axes()
-    for tone, size in enumerate(("3", "4", "5", "6", "7", "8", "10")):
+    for tone, size in enumerate(("3", "4", "5", "6", "7", "8")):
         points = []
         for name in LARGE:
             some = grouped(name, "active")[size,]
             count = sum(numbers(some, "alone"))
-            if count >= 3:
+            if count >= 5:
                 points.append((int(some[0]["nodes"]), 1e5 * count / sum(numbers(some, "nodes"))))
         for point in points:
             alone.dot(tone, *point)
@@ -164,7 +167,7 @@ def large_overlays():
         for point in points:
             least.dot(tone, *point)
         least.line(tone, points)
-        least.say(tone, *points[0], f"active {size}", -8, "end")
+        least.say(tone, *points[0], f"active {size}", 12, -4)
     return drawn(alone, least)
 
 

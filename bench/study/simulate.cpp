@@ -14,7 +14,7 @@
 
 namespace {
 
-constexpr const char* HELP = R"(usage: simulate OPTIONS [--runs N] [--csv | --scenario | --fates | --degrees | --alone | --splits] [--exact N]
+constexpr const char* HELP = R"(usage: simulate OPTIONS [--runs N] [--csv | --scenario | --graph | --fates | --degrees | --alone | --splits] [--exact N]
 
 OPTIONS are those of docs/GROWING.md, with any number of nodes. Each but --seed takes a list, as --active 3,4,5: all settings
 are grown, that of the first option of the table varying slowest, each with N seeds from --seed on (1 without --runs).
@@ -22,6 +22,7 @@ are grown, that of the first option of the table varying slowest, each with N se
   (no mode)    three lines for each overlay, one for each phase, for people
   --csv        a row for each overlay, as `overlay sweep` has it, with a header
   --scenario   the scenario that `overlay grow` prints
+  --graph      the settled overlay, as a graph file for `overlay analyse`
   --fates      a row for each overlay, of the settled one: components, and what became of the nodes that are alone
   --degrees    a row for each overlay: how many nodes of the settled overlay have each number of links, for one active
                size; and of those with one link, how many have a neighbour whose active view is full
@@ -41,7 +42,7 @@ What no node of the profile does, to see what it would change:
     exit(2);
 }
 
-enum class Mode { People, Csv, Scenario, Fates, Degrees, Alone, Splits };
+enum class Mode { People, Csv, Scenario, Fates, Degrees, Alone, Splits, Graph };
 
 // Options as words: each option of the table, in its order, with the values that it may take.
 
@@ -249,6 +250,13 @@ void print_fates(const Setting& said, const Fates& fates) {
            fates.have_passive, fates.are_passive, fates.half_links);
 }
 
+void print_graph(const Graph& graph) {
+    for (Id node : graph.ids) printf("node %u\n", node);
+    for (uint32_t place = 0; place < graph.size(); place++)
+        for (uint32_t other : graph.neighbours[place])
+            if (place < other) printf("link %u %u\n", graph.ids[place], graph.ids[other]);
+}
+
 void print_alone(const Graph& graph, const std::vector<Node>& nodes) {
     for (size_t place = 0; place < graph.size(); place++) {
         const Node& node = nodes[graph.ids[place] - 1];
@@ -312,6 +320,7 @@ void run(const Request& request, const Setting& said) {
         if (request.mode == Mode::People) print_for_people(phase, options.broadcasts);
         if (request.mode == Mode::Fates && is_settled) print_fates(said, Fates(phase.graph, growing.world.nodes));
         if (request.mode == Mode::Degrees && is_settled) print_degrees(said, phase.graph, options.params.active);
+        if (request.mode == Mode::Graph && is_settled) print_graph(phase.graph);
         if (request.mode == Mode::Alone && is_settled) print_alone(phase.graph, growing.world.nodes);
     };
     Splits splits;
@@ -356,7 +365,7 @@ Request request_of(int count, char** words) {
     Request request;
     const std::map<std::string, Mode> modes = {{"csv", Mode::Csv}, {"scenario", Mode::Scenario}, {"fates", Mode::Fates},
                                                {"degrees", Mode::Degrees}, {"alone", Mode::Alone},
-                                               {"splits", Mode::Splits}};
+                                               {"splits", Mode::Splits}, {"graph", Mode::Graph}};
     const std::map<std::string, Change> changes = {{"attempt-at-disconnect", Change::AttemptAtDisconnect},
                                                    {"attempt-when-alone", Change::AttemptWhenAlone}};
     for (int at = 1; at < count; at++) {

@@ -73,10 +73,9 @@ class Overlay:
         for name in self.random.sample(self.live(), len(self.live()) * percent // 100):
             self.nodes[name] = None
         for name in self.live():
-            for other in sorted(self.nodes[name].active):
-                if self.nodes[other] is None:
-                    self.step(name, "on_report", other)
-        self.run_out(is_healing=True)
+            while crashed := [other for other in self.nodes[name].active if self.nodes[other] is None]:
+                self.step(name, "on_report", min(crashed))
+                self.run_out(is_healing=True)
         self.rounds(2, is_healing=True)
 
     def graph(self):
