@@ -1,6 +1,6 @@
 #!/usr/bin/env python3
-"""compare.py [--overlay PROGRAM] [--simulate PROGRAM] [--grows] [--count N] [--first SEED]: grows N overlays with options
-drawn at random, and holds others against grow.py:
+"""compare.py [--overlay PROGRAM] [--grows] [--simulate PROGRAM] [--count N] [--first SEED]: grows N overlays with
+options drawn at random, and holds others against grow.py:
 
   --overlay   the scenario, run by this program, prints event for event what growing saw, and no line is refused
   --grows     and its `overlay grow` prints the same scenario
@@ -24,8 +24,10 @@ from world import Refusal
 def drawn(seed):
     """Options, drawn at random: half of them with the default parameters, half without any loss."""
     draw = random.Random(seed)
-    options = Options(nodes=draw.choice([1, 2, 3, draw.randint(4, 20), *[draw.randint(20, 200) for _ in range(8)]]),
-                      seed=draw.getrandbits(draw.choice([8, 64])))
+    options = Options(
+        nodes=draw.choice([1, 2, 3, draw.randint(4, 20), *[draw.randint(20, 200) for _ in range(8)]]),
+        seed=draw.getrandbits(draw.choice([8, 64])),
+    )
     if draw.random() < 0.5:
         for name in ("active", "passive", "arwl", "ka", "kp", "ttl"):
             setattr(options, name, draw.randint(*LIMITS[name]))
@@ -45,7 +47,9 @@ def drawn(seed):
 
 def run(program, words, given=b""):
     """The status and the standard output of a program."""
-    done = subprocess.run([program, *words], input=given, stdout=subprocess.PIPE, stderr=subprocess.DEVNULL, check=False)
+    done = subprocess.run(
+        [program, *words], input=given, stdout=subprocess.PIPE, stderr=subprocess.DEVNULL, check=False
+    )
     return done.returncode, done.stdout.decode()
 
 

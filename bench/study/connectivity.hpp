@@ -1,5 +1,5 @@
-// The links of a moment, and their node connectivity by Even's test, as docs/CONNECTIVITY.md describes it: plain maximum
-// flow for each piece, one path more at a time.
+// The links of a moment, and their node connectivity by Even's test, as docs/CONNECTIVITY.md describes it: plain
+// maximum flow for each piece, one path more at a time.
 #pragma once
 #include <optional>
 #include <vector>
@@ -183,8 +183,8 @@ class Flow {
     // all nodes below `below` are targets, and those that are marked
     uint32_t source = 0, below = 0, flow_mark = 0, search_mark = 0;
     std::optional<uint32_t> avoided;
-    std::vector<Before> before;  // from which node a path comes to a node
-    std::vector<Came> came;      // from which place a search came to a place
+    std::vector<Before> before;           // from which node a path comes to a node
+    std::vector<Came> came;               // from which place a search came to a place
     std::vector<uint32_t> targets, ends;  // marked by the number of the flow that they are of
     std::vector<uint32_t> waiting;
 };

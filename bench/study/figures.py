@@ -21,8 +21,10 @@ def style():
     """The colours, by the reader's scheme. Plain rules: some drawing programs know no variables."""
     light = "\n".join(scheme("#ffffff", "#222222", "#dddddd", LIGHT))
     dark = "\n".join(scheme("#15181c", "#e6e6e6", "#3a3f46", DARK))
-    return (f"<style>\n.line {{ fill: none; stroke-width: 2 }} .bar {{ stroke-width: 1.5 }} .wide {{ stroke-width: 7 }}\n"
-            f"{light}\n@media (prefers-color-scheme: dark) {{\n{dark}\n}}\n</style>")
+    return (
+        f"<style>\n.line {{ fill: none; stroke-width: 2 }} .bar {{ stroke-width: 1.5 }} .wide {{ stroke-width: 7 }}\n"
+        f"{light}\n@media (prefers-color-scheme: dark) {{\n{dark}\n}}\n</style>"
+    )
 
 
 class Panel:
@@ -35,21 +37,30 @@ class Panel:
 
     def place(self, x, y):
         """Where a point is."""
-        return (self.left + self.width * self.across.part(x),
-                self.bottom - (self.bottom - self.top) * self.upward.part(y))
+        return (
+            self.left + self.width * self.across.part(x),
+            self.bottom - (self.bottom - self.top) * self.upward.part(y),
+        )
 
     def axes(self):
         """The grid, the marks and the names of both axes."""
         for mark, said in self.upward.marks:
             _, y = self.place(self.across.least, mark)
-            self.parts += [f'<line class="grid" x1="{self.left}" x2="{self.left + self.width}" y1="{y:.1f}" y2="{y:.1f}"/>',
-                           f'<text x="{self.left - 8}" y="{y + 4:.1f}" text-anchor="end">{said}</text>']
+            self.parts += [
+                f'<line class="grid" x1="{self.left}" x2="{self.left + self.width}" y1="{y:.1f}" y2="{y:.1f}"/>',
+                f'<text x="{self.left - 8}" y="{y + 4:.1f}" text-anchor="end">{said}</text>',
+            ]
         for mark, said in self.across.marks:
             x, y = self.place(mark, self.upward.least)
-            self.parts += [f'<line class="grid" x1="{x:.1f}" x2="{x:.1f}" y1="{self.bottom}" y2="{self.bottom + 5}"/>',
-                           f'<text x="{x:.1f}" y="{y + 20:.1f}" text-anchor="middle">{said}</text>']
-        self.parts += [f'<text x="{self.left + self.width / 2}" y="{HEIGHT - 14}" text-anchor="middle">{self.across.name}'
-                       "</text>", f'<text x="{self.left - 8}" y="{self.top - 12}">{self.upward.name}</text>']
+            self.parts += [
+                f'<line class="grid" x1="{x:.1f}" x2="{x:.1f}" y1="{self.bottom}" y2="{self.bottom + 5}"/>',
+                f'<text x="{x:.1f}" y="{y + 20:.1f}" text-anchor="middle">{said}</text>',
+            ]
+        self.parts += [
+            f'<text x="{self.left + self.width / 2}" y="{HEIGHT - 14}" text-anchor="middle">{self.across.name}'
+            "</text>",
+            f'<text x="{self.left - 8}" y="{self.top - 12}">{self.upward.name}</text>',
+        ]
 
     def line(self, tone, points):
         """A line through points."""
@@ -59,8 +70,9 @@ class Panel:
     def bar(self, tone, x, low, high):
         """An interval."""
         (across, upper), (_, lower) = self.place(x, high), self.place(x, low)
-        self.parts.append(f'<line class="bar s{tone}" x1="{across:.1f}" x2="{across:.1f}" y1="{upper:.1f}" '
-                          f'y2="{lower:.1f}"/>')
+        self.parts.append(
+            f'<line class="bar s{tone}" x1="{across:.1f}" x2="{across:.1f}" y1="{upper:.1f}" ' f'y2="{lower:.1f}"/>'
+        )
 
     def dot(self, tone, x, y, radius=4):
         """A point."""
@@ -89,9 +101,17 @@ class Axis:
 def drawn(*panels):
     """A figure."""
     parts = [part for panel in panels for part in panel.parts]
-    return "\n".join([f'<svg xmlns="http://www.w3.org/2000/svg" viewBox="0 0 {WIDTH} {HEIGHT}" font-family="sans-serif" '
-                      'font-size="14">', style(), f'<rect class="paper" width="{WIDTH}" height="{HEIGHT}"/>', *parts,
-                      "</svg>", ""])
+    return "\n".join(
+        [
+            f'<svg xmlns="http://www.w3.org/2000/svg" viewBox="0 0 {WIDTH} {HEIGHT}" font-family="sans-serif" '
+            'font-size="14">',
+            style(),
+            f'<rect class="paper" width="{WIDTH}" height="{HEIGHT}"/>',
+            *parts,
+            "</svg>",
+            "",
+        ]
+    )
 
 
 def whole_numbers(*values):
@@ -107,8 +127,13 @@ def rate(size):
 
 def split_shares():
     """How often an overlay is split, by its size, for active sizes: counted, and by the rate of large overlays."""
-    panel = Panel(80, 960, "overlays that are split, by their size: no loss, no crash", Axis(
-        "nodes", 0, 210, whole_numbers(0, 50, 100, 150, 200)), Axis("% split", 0, 100, whole_numbers(0, 25, 50, 75, 100)))
+    panel = Panel(
+        80,
+        960,
+        "overlays that are split, by their size: no loss, no crash",
+        Axis("nodes", 0, 210, whole_numbers(0, 50, 100, 150, 200)),
+        Axis("% split", 0, 100, whole_numbers(0, 25, 50, 75, 100)),
+    )
     panel.axes()
     found = grouped("active", "active", "nodes")
     for tone, size in enumerate(("3", "4", "5", "6", "7", "8", "10")):
@@ -119,24 +144,36 @@ def split_shares():
             low, high = wilson(split(some, "settle"), len(some))
             panel.bar(tone, int(nodes), 100 * low, 100 * high)
             panel.dot(tone, int(nodes), 100 * split(some, "settle") / len(some))
-        panel.say(tone, 203, 100 - 100 * math.exp(-by * 200), f"active size {size}", down={"8": 0, "10": 9}.get(size, 4))
+        panel.say(
+            tone, 203, 100 - 100 * math.exp(-by * 200), f"active size {size}", down={"8": 0, "10": 9}.get(size, 4)
+        )
     return drawn(panel)
 
 
 def numbers_of_200():
     """k of 200 nodes for each active size: quartiles and the range of nine in ten, after each phase."""
-    panel = Panel(80, 960, "k of 200 nodes: median, quartiles (thick), and 9 of 10 overlays (thin)", Axis(
-        "active size", 2, 13, whole_numbers(3, 4, 5, 6, 7, 8, 9, 10, 12)), Axis("k", 0, 10, whole_numbers(*range(11))))
+    panel = Panel(
+        80,
+        960,
+        "k of 200 nodes: median, quartiles (thick), and 9 of 10 overlays (thin)",
+        Axis("active size", 2, 13, whole_numbers(3, 4, 5, 6, 7, 8, 9, 10, 12)),
+        Axis("k", 0, 10, whole_numbers(*range(11))),
+    )
     panel.axes()
     found = grouped("active", "active", "nodes")
-    for tone, shift, phase, said in ((3, -0.2, "settle", "settled"), (1, 0, "crash", "20 of 100 crashed"),
-                                     (4, 0.2, "heal", "healed")):
+    for tone, shift, phase, said in (
+        (3, -0.2, "settle", "settled"),
+        (1, 0, "crash", "20 of 100 crashed"),
+        (4, 0.2, "heal", "healed"),
+    ):
         for size in ("3", "4", "5", "6", "7", "8", "9", "10", "12"):
             some, x = numbers(found[size, "200"], f"{phase}_k"), int(size) + shift
             panel.bar(tone, x, quantile(some, 0.05), quantile(some, 0.95))
             low, high = (panel.place(x, quantile(some, part)) for part in (0.25, 0.75))
-            panel.parts.append(f'<line class="bar wide s{tone}" x1="{low[0]:.1f}" x2="{low[0]:.1f}" y1="{low[1]:.1f}" '
-                               f'y2="{high[1]:.1f}"/>')
+            panel.parts.append(
+                f'<line class="bar wide s{tone}" x1="{low[0]:.1f}" x2="{low[0]:.1f}" y1="{low[1]:.1f}" '
+                f'y2="{high[1]:.1f}"/>'
+            )
             panel.dot(tone, x, quantile(some, 0.5), 6)
         panel.say(tone, 2.2, 9.6 - 0.55 * (shift + 0.2) / 0.2, said)
     return drawn(panel)
@@ -145,8 +182,13 @@ def numbers_of_200():
 def large_overlays():
     """Past 256 nodes: the share of nodes that are alone, and the least degrees."""
     nodes = Axis("nodes", 80, 130000, whole_numbers(100, 1000, 10000, 100000), is_log=True)
-    alone = Panel(90, 420, "nodes that are alone", nodes, Axis(
-        "of 100,000", 1, 4000, whole_numbers(1, 10, 100, 1000), is_log=True))
+    alone = Panel(
+        90,
+        420,
+        "nodes that are alone",
+        nodes,
+        Axis("of 100,000", 1, 4000, whole_numbers(1, 10, 100, 1000), is_log=True),
+    )
     least = Panel(680, 420, "least degree, mean", nodes, Axis("links", 0, 7, whole_numbers(*range(8))))
     alone.axes()
     least.axes()
@@ -162,8 +204,10 @@ def large_overlays():
         alone.line(tone, points)
         alone.say(tone, *points[-1], f"active {size}")
     for tone, size in ((2, "5"), (5, "8"), (6, "10"), (3, "12"), (4, "16")):
-        points = [(int(some[0]["nodes"]), mean(some, "least_degree")) for some in (
-            grouped(name, "active")[size,] for name in LARGE)]
+        points = [
+            (int(some[0]["nodes"]), mean(some, "least_degree"))
+            for some in (grouped(name, "active")[size,] for name in LARGE)
+        ]
         for point in points:
             least.dot(tone, *point)
         least.line(tone, points)
@@ -172,5 +216,8 @@ def large_overlays():
 
 
 # Each figure by its file, and the sweeps that it is made of.
-FIGURES = {"study-split.svg": (split_shares, ["active", *LARGE[2:]]), "study-k.svg": (numbers_of_200, ["active"]),
-           "study-large.svg": (large_overlays, list(LARGE))}
+FIGURES = {
+    "study-split.svg": (split_shares, ["active", *LARGE[2:]]),
+    "study-k.svg": (numbers_of_200, ["active"]),
+    "study-large.svg": (large_overlays, list(LARGE)),
+}

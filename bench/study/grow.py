@@ -1,9 +1,9 @@
 #!/usr/bin/env python3
-"""grow.py OPTIONS: grows an overlay by docs/GROWING.md alone, and prints the scenario that `overlay grow OPTIONS` prints.
+"""grow.py OPTIONS: grows an overlay by docs/GROWING.md alone, and prints the scenario that `overlay grow` prints.
 
 It is a second opinion: plain Python over the nodes, the world and the analysis of bench/fuzz, which share nothing with
-the Rattle code. With --csv it prints the row of `overlay sweep` for the same options instead, with its header. If a step
-is refused it prints the number of the refusal on standard error, and ends with status 1.
+the Rattle code. With --csv it prints the row of `overlay sweep` for the same options instead, with its header. If a
+step is refused it prints the number of the refusal on standard error, and ends with status 1.
 """
 
 import argparse
@@ -180,8 +180,11 @@ class Growing:
     def grow(self):
         """All phases: the scenario's lines."""
         options = self.options
-        self.lines += [f"# {options.heading()}", "params {} {} {} {} {} {} {}".format(*options.params()),
-                       f"seed {options.seed}"]
+        self.lines += [
+            f"# {options.heading()}",
+            "params {} {} {} {} {} {} {}".format(*options.params()),
+            f"seed {options.seed}",
+        ]
         self.join()
         self.crash(self.settle())
         self.heal()

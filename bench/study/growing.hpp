@@ -55,8 +55,11 @@ class Growing {
   public:
     /// `most_exact`: up to so many nodes the node connectivity is found exactly.
     Growing(const Options& options, uint32_t most_exact, bool keeps_lines)
-        : world(options.params, options.seed, options.nodes, options.change), options(options), choices(options.seed),
-          most_exact(most_exact), keeps_lines(keeps_lines) {}
+        : world(options.params, options.seed, options.nodes, options.change),
+          options(options),
+          choices(options.seed),
+          most_exact(most_exact),
+          keeps_lines(keeps_lines) {}
 
     World world;
     std::string lines;
@@ -217,7 +220,8 @@ class Growing {
     void heal() {
         comment("heal");
         is_healing = true;
-        // No packet of a crashed node is on its way, so no node comes to hold one, and one walk through the nodes is enough.
+        // No packet of a crashed node is on its way, so no node comes to hold one, and one walk through the nodes is
+        // enough.
         for (Id node : world.live()) {
             for (Id crashed; (crashed = first_crashed(node)) != NOBODY;) {
                 report(node, crashed);

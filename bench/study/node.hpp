@@ -44,7 +44,18 @@ class Ids {
 };
 
 enum class Kind : uint8_t {
-    Join, ForwardJoin, Joined, Neighbor, NeighborReply, Disconnect, Shuffle, ShuffleReply, Gossip, Ihave, Graft, Prune
+    Join,
+    ForwardJoin,
+    Joined,
+    Neighbor,
+    NeighborReply,
+    Disconnect,
+    Shuffle,
+    ShuffleReply,
+    Gossip,
+    Ihave,
+    Graft,
+    Prune
 };
 
 /// The ids that a shuffle trades: the node itself, and at most 8 of each view.
@@ -104,18 +115,30 @@ class Step {
     void receive(const Packet& packet) {
         if (packet.sender == node.me) return;
         switch (packet.kind) {
-            case Kind::Join: return on_join(packet.sender);
-            case Kind::ForwardJoin: return on_forward_join(packet.sender, packet.subject, packet.life);
-            case Kind::Joined: return add_active(packet.sender);
-            case Kind::Neighbor: return on_neighbor(packet.sender, packet.flag);
-            case Kind::NeighborReply: return on_neighbor_reply(packet.sender, packet.flag);
-            case Kind::Disconnect: return on_disconnect(packet.sender);
-            case Kind::Shuffle: return on_shuffle(packet);
-            case Kind::ShuffleReply: return integrate(packet.traded, node.sent);
-            case Kind::Gossip: return on_gossip(packet.sender, packet.subject);
-            case Kind::Ihave: return on_ihave(packet.sender, packet.subject);
-            case Kind::Graft: return on_graft(packet.sender, packet.subject);
-            case Kind::Prune: return make_lazy(packet.sender);
+            case Kind::Join:
+                return on_join(packet.sender);
+            case Kind::ForwardJoin:
+                return on_forward_join(packet.sender, packet.subject, packet.life);
+            case Kind::Joined:
+                return add_active(packet.sender);
+            case Kind::Neighbor:
+                return on_neighbor(packet.sender, packet.flag);
+            case Kind::NeighborReply:
+                return on_neighbor_reply(packet.sender, packet.flag);
+            case Kind::Disconnect:
+                return on_disconnect(packet.sender);
+            case Kind::Shuffle:
+                return on_shuffle(packet);
+            case Kind::ShuffleReply:
+                return integrate(packet.traded, node.sent);
+            case Kind::Gossip:
+                return on_gossip(packet.sender, packet.subject);
+            case Kind::Ihave:
+                return on_ihave(packet.sender, packet.subject);
+            case Kind::Graft:
+                return on_graft(packet.sender, packet.subject);
+            case Kind::Prune:
+                return make_lazy(packet.sender);
         }
     }
 
@@ -191,9 +214,7 @@ class Step {
 
     bool is_full() const { return node.active.size() >= params.active; }
 
-    bool is_known(Id other) const {
-        return other == node.me || node.active.has(other) || node.passive.has(other);
-    }
+    bool is_known(Id other) const { return other == node.me || node.active.has(other) || node.passive.has(other); }
 
     void up(Id other) {
         node.active.insert(other);
@@ -302,8 +323,8 @@ class Step {
         if (!node.active.has(sender)) return;
         down(sender, Loss::Disconnect);
         add_passive(sender);
-        bool begins = change == Change::AttemptAtDisconnect ||
-                      (change == Change::AttemptWhenAlone && node.active.empty());
+        bool begins =
+            change == Change::AttemptAtDisconnect || (change == Change::AttemptWhenAlone && node.active.empty());
         if (begins) {
             node.tried.clear();
             go_on();

@@ -50,18 +50,35 @@ class Options:
 
 
 # The least and the largest value of each option that is a number.
-LIMITS = {"nodes": (1, 256), "active": (1, LARGEST_ACTIVE), "passive": (1, LARGEST_PASSIVE), "arwl": (0, LONGEST_WALK),
-          "prwl": (0, LONGEST_WALK), "ka": (0, LARGEST_SAMPLE), "kp": (0, LARGEST_SAMPLE), "ttl": (1, LONGEST_SHUFFLE),
-          "seed": (0, SEEDS - 1), "loss_join": (0, 100), "loss": (0, 100), "repeat": (0, 99), "pace": (0, 65536),
-          "rounds": (0, 1000), "crash": (0, 99), "heal": (0, 1000), "broadcasts": (0, 1000)}
+LIMITS = {
+    "nodes": (1, 256),
+    "active": (1, LARGEST_ACTIVE),
+    "passive": (1, LARGEST_PASSIVE),
+    "arwl": (0, LONGEST_WALK),
+    "prwl": (0, LONGEST_WALK),
+    "ka": (0, LARGEST_SAMPLE),
+    "kp": (0, LARGEST_SAMPLE),
+    "ttl": (1, LONGEST_SHUFFLE),
+    "seed": (0, SEEDS - 1),
+    "loss_join": (0, 100),
+    "loss": (0, 100),
+    "repeat": (0, 99),
+    "pace": (0, 65536),
+    "rounds": (0, 1000),
+    "crash": (0, 99),
+    "heal": (0, 1000),
+    "broadcasts": (0, 1000),
+}
 
 
 def within(least, most):
     """What reads a number within limits."""
+
     def read(text):
         if not text.isdecimal() or not least <= int(text) <= most:
             raise argparse.ArgumentTypeError(f"{text!r} is no number from {least} to {most}")
         return int(text)
+
     return read
 
 

@@ -2,8 +2,26 @@
 
 from dataclasses import dataclass
 
-OPTIONS = ("nodes", "active", "passive", "arwl", "prwl", "ka", "kp", "ttl", "loss_join", "loss", "repeat", "order", "pace",
-           "rounds", "crash", "heal", "broadcasts", "seed")
+OPTIONS = (
+    "nodes",
+    "active",
+    "passive",
+    "arwl",
+    "prwl",
+    "ka",
+    "kp",
+    "ttl",
+    "loss_join",
+    "loss",
+    "repeat",
+    "order",
+    "pace",
+    "rounds",
+    "crash",
+    "heal",
+    "broadcasts",
+    "seed",
+)
 PHASES = ("settle", "crash", "heal")
 FIGURES = ("nodes", "k", "least_degree", "links", "entries", "delivered")
 # Delivered shares have four decimal digits.

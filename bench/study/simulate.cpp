@@ -1,7 +1,8 @@
 // simulate OPTIONS: grows overlays by docs/GROWING.md, also large ones.
 //
-// What is proved of the tool is not proved of this program: it is plain C++, written from the documents alone. Up to 256
-// nodes it is held against the tool, step by step (compare.py); beyond that nothing vouches for it but the same code.
+// What is proved of the tool is not proved of this program: it is plain C++, written from the documents alone. Up to
+// 256 nodes it is held against the tool, step by step (compare.py); beyond that nothing vouches for it but the same
+// code.
 //
 // build: g++ -std=c++17 -O2 -o simulate simulate.cpp
 #include <cerrno>
@@ -14,10 +15,12 @@
 
 namespace {
 
-constexpr const char* HELP = R"(usage: simulate OPTIONS [--runs N] [--csv | --scenario | --graph | --fates | --degrees | --alone | --splits] [--exact N]
+constexpr const char* HELP =
+    R"(usage: simulate OPTIONS [--runs N] [MODE] [--exact N]
 
-OPTIONS are those of docs/GROWING.md, with any number of nodes. Each but --seed takes a list, as --active 3,4,5: all settings
-are grown, that of the first option of the table varying slowest, each with N seeds from --seed on (1 without --runs).
+OPTIONS are those of docs/GROWING.md, with any number of nodes. Each but --seed takes a list, as --active 3,4,5: all
+settings are grown, that of the first option of the table varying slowest, each with N seeds from --seed on (1 without
+--runs). MODE is one of:
 
   (no mode)    three lines for each overlay, one for each phase, for people
   --csv        a row for each overlay, as `overlay sweep` has it, with a header
@@ -52,18 +55,18 @@ struct Limits {
 };
 
 constexpr uint64_t ANY = UINT64_MAX;
-constexpr Limits TABLE[] = {
-    {"nodes", 1, 100000000}, {"active", 1, 16}, {"passive", 1, 64}, {"arwl", 0, 15}, {"prwl", 0, 15}, {"ka", 0, 8},
-    {"kp", 0, 8}, {"ttl", 1, 15}, {"seed", 0, ANY}, {"loss-join", 0, 100}, {"loss", 0, 100}, {"repeat", 0, 99},
-    {"order", 0, 0}, {"pace", 0, 65536}, {"rounds", 0, 1000}, {"crash", 0, 99}, {"heal", 0, 1000},
-    {"broadcasts", 0, 1000}};
+constexpr Limits TABLE[] = {{"nodes", 1, 100000000}, {"active", 1, 16},      {"passive", 1, 64},  {"arwl", 0, 15},
+                            {"prwl", 0, 15},         {"ka", 0, 8},           {"kp", 0, 8},        {"ttl", 1, 15},
+                            {"seed", 0, ANY},        {"loss-join", 0, 100},  {"loss", 0, 100},    {"repeat", 0, 99},
+                            {"order", 0, 0},         {"pace", 0, 65536},     {"rounds", 0, 1000}, {"crash", 0, 99},
+                            {"heal", 0, 1000},       {"broadcasts", 0, 1000}};
 
 using Setting = std::map<std::string, std::string>;
 
-const Setting DEFAULTS = {{"nodes", "100"}, {"active", "5"}, {"passive", "30"}, {"arwl", "6"}, {"prwl", "3"}, {"ka", "3"},
-                          {"kp", "4"}, {"ttl", "4"}, {"seed", "0"}, {"loss-join", "0"}, {"loss", "0"}, {"repeat", "0"},
-                          {"order", "random"}, {"pace", ""}, {"rounds", "3"}, {"crash", "0"}, {"heal", "2"},
-                          {"broadcasts", "0"}};
+const Setting DEFAULTS = {{"nodes", "100"}, {"active", "5"}, {"passive", "30"},   {"arwl", "6"}, {"prwl", "3"},
+                          {"ka", "3"},      {"kp", "4"},     {"ttl", "4"},        {"seed", "0"}, {"loss-join", "0"},
+                          {"loss", "0"},    {"repeat", "0"}, {"order", "random"}, {"pace", ""},  {"rounds", "3"},
+                          {"crash", "0"},   {"heal", "2"},   {"broadcasts", "0"}};
 
 uint64_t number(const std::string& name, const std::string& text) {
     char* end;
@@ -101,7 +104,7 @@ Options options_of(Setting said) {
     Options options;
     options.nodes = as_number("nodes");
     options.params = {unsigned(as_number("active")), unsigned(as_number("passive")), unsigned(as_number("arwl")),
-                      unsigned(as_number("prwl")), unsigned(as_number("ka")), unsigned(as_number("kp")),
+                      unsigned(as_number("prwl")),   unsigned(as_number("ka")),      unsigned(as_number("kp")),
                       unsigned(as_number("ttl"))};
     if (options.params.prwl > options.params.arwl) refuse("--prwl is larger than --arwl");
     options.seed = as_number("seed");
@@ -164,9 +167,7 @@ std::string delivered(const Phase& phase, unsigned broadcasts) {
     return text;
 }
 
-std::string exact(const Phase& phase) {
-    return phase.connectivity ? std::to_string(phase.connectivity->k) : "";
-}
+std::string exact(const Phase& phase) { return phase.connectivity ? std::to_string(phase.connectivity->k) : ""; }
 
 void print_csv(const Setting& said, const Options& options, const Growing& grown) {
     printf("%s", fields(said).c_str());
@@ -200,9 +201,8 @@ void print_degrees_header(unsigned most) {
 
 /// How many nodes with one link have a neighbour whose active view is full.
 size_t full_beside_one(const Graph& graph, size_t active_size) {
-    return std::count_if(graph.neighbours.begin(), graph.neighbours.end(), [&](auto& row) {
-        return row.size() == 1 && graph.neighbours[row[0]].size() == active_size;
-    });
+    return std::count_if(graph.neighbours.begin(), graph.neighbours.end(),
+                         [&](auto& row) { return row.size() == 1 && graph.neighbours[row[0]].size() == active_size; });
 }
 
 void print_degrees(const Setting& said, const Graph& graph, unsigned most) {
@@ -213,8 +213,8 @@ void print_degrees(const Setting& said, const Graph& graph, unsigned most) {
 
 /// What became of the nodes that are alone at a moment, and of the views of all nodes then.
 struct Fates {
-    size_t components = 0, largest = 0, least_degree = 0, alone = 0, never_linked = 0, by_disconnect = 0, by_own_drop = 0,
-           hold_somebody = 0, have_passive = 0, are_passive = 0, half_links = 0;
+    size_t components = 0, largest = 0, least_degree = 0, alone = 0, never_linked = 0, by_disconnect = 0,
+           by_own_drop = 0, hold_somebody = 0, have_passive = 0, are_passive = 0, half_links = 0;
 
     Fates(const Graph& graph, const std::vector<Node>& nodes) {
         auto sizes = graph.components();
@@ -240,14 +240,17 @@ struct Fates {
 };
 
 void print_fates_header() {
-    printf("%s,components,largest,least_degree,alone,never_linked,by_disconnect,by_own_drop,hold_somebody,have_passive,are_passive,"
-           "half_links\n", field_names().c_str());
+    printf(
+        "%s,components,largest,least_degree,alone,never_linked,by_disconnect,by_own_drop,hold_somebody,have_passive,"
+        "are_passive,"
+        "half_links\n",
+        field_names().c_str());
 }
 
 void print_fates(const Setting& said, const Fates& fates) {
     printf("%s,%zu,%zu,%zu,%zu,%zu,%zu,%zu,%zu,%zu,%zu,%zu\n", fields(said).c_str(), fates.components, fates.largest,
-           fates.least_degree, fates.alone, fates.never_linked, fates.by_disconnect, fates.by_own_drop, fates.hold_somebody,
-           fates.have_passive, fates.are_passive, fates.half_links);
+           fates.least_degree, fates.alone, fates.never_linked, fates.by_disconnect, fates.by_own_drop,
+           fates.hold_somebody, fates.have_passive, fates.are_passive, fates.half_links);
 }
 
 void print_graph(const Graph& graph) {
@@ -261,8 +264,8 @@ void print_alone(const Graph& graph, const std::vector<Node>& nodes) {
     for (size_t place = 0; place < graph.size(); place++) {
         const Node& node = nodes[graph.ids[place] - 1];
         if (!graph.neighbours[place].empty()) continue;
-        printf("node %u was linked %u times, lost the last at entry %u by %s, holds %zu active and %zu passive\n", node.me,
-               node.ups, node.last_down, node.last_loss == Loss::Disconnect ? "DISCONNECT" : "another way",
+        printf("node %u was linked %u times, lost the last at entry %u by %s, holds %zu active and %zu passive\n",
+               node.me, node.ups, node.last_down, node.last_loss == Loss::Disconnect ? "DISCONNECT" : "another way",
                node.active.size(), node.passive.size());
     }
 }
@@ -324,14 +327,13 @@ void run(const Request& request, const Setting& said) {
         if (request.mode == Mode::Alone && is_settled) print_alone(phase.graph, growing.world.nodes);
     };
     Splits splits;
-    if (request.mode == Mode::Splits)
-        growing.watch_birth = [&] { splits.look(said, Graph(growing.world.nodes)); };
+    if (request.mode == Mode::Splits) growing.watch_birth = [&] { splits.look(said, Graph(growing.world.nodes)); };
     growing.grow();
     if (request.mode == Mode::Csv) print_csv(said, options, growing);
     if (request.mode == Mode::Scenario) {
         const Params& p = options.params;
-        printf("# %s\nparams %u %u %u %u %u %u %u\nseed %lu\n%s", heading(said).c_str(), p.active, p.passive, p.arwl, p.prwl,
-               p.ka, p.kp, p.ttl, options.seed, growing.lines.c_str());
+        printf("# %s\nparams %u %u %u %u %u %u %u\nseed %lu\n%s", heading(said).c_str(), p.active, p.passive, p.arwl,
+               p.prwl, p.ka, p.kp, p.ttl, options.seed, growing.lines.c_str());
     }
 }
 
@@ -363,9 +365,9 @@ int run_all(const Request& request, Setting said, size_t option) {
 
 Request request_of(int count, char** words) {
     Request request;
-    const std::map<std::string, Mode> modes = {{"csv", Mode::Csv}, {"scenario", Mode::Scenario}, {"fates", Mode::Fates},
-                                               {"degrees", Mode::Degrees}, {"alone", Mode::Alone},
-                                               {"splits", Mode::Splits}, {"graph", Mode::Graph}};
+    const std::map<std::string, Mode> modes = {
+        {"csv", Mode::Csv},     {"scenario", Mode::Scenario}, {"fates", Mode::Fates}, {"degrees", Mode::Degrees},
+        {"alone", Mode::Alone}, {"splits", Mode::Splits},     {"graph", Mode::Graph}};
     const std::map<std::string, Change> changes = {{"attempt-at-disconnect", Change::AttemptAtDisconnect},
                                                    {"attempt-when-alone", Change::AttemptWhenAlone}};
     for (int at = 1; at < count; at++) {

@@ -1,5 +1,6 @@
 #!/usr/bin/env python3
-"""story.py NODE OPTIONS: grows an overlay by grow.py, and tells event for event how a node came by its links and lost them.
+"""story.py NODE OPTIONS: grows an overlay by grow.py, and tells event for event how a node came by its links and lost
+them.
 
 Each line is an event that changed the active view of the node, or dropped it: the entry, the line of the scenario, who
 got which message of whom, and the changes of active views.

@@ -1,9 +1,10 @@
 #!/usr/bin/env python3
-"""study.py --simulate PROGRAM [--overlay PROGRAM] [--workers N] [NAME ..]: makes the rows of docs/DESIGN-STUDY.md into out/,
-and writes the document's tables and the figures of docs anew.
+"""study.py --simulate PROGRAM [--overlay PROGRAM] [--workers N] [NAME ..]: makes the rows of docs/DESIGN-STUDY.md into
+out/, and writes the document's tables and the figures of docs anew.
 
-Rows of overlays of up to 256 nodes come from `overlay sweep` if a program is named, and else from the simulation. Rows that
-are there stay: remove their files, or the folder, to make them anew. With names only these tables and figures are made.
+Rows of overlays of up to 256 nodes come from `overlay sweep` if a program is named, and else from the simulation. Rows
+that are there stay: remove their files, or the folder, to make them anew. With names only these tables and figures are
+made.
 """
 
 import argparse

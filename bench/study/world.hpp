@@ -1,5 +1,5 @@
-// A world of nodes, by docs/PROTOCOL.md ("A world"). Its limits hold for up to 256 nodes, as in the tool; a larger world
-// has none.
+// A world of nodes, by docs/PROTOCOL.md ("A world"). Its limits hold for up to 256 nodes, as in the tool; a larger
+// world has none.
 #pragma once
 #include <stdexcept>
 

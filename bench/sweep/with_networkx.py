@@ -1,11 +1,11 @@
 #!/usr/bin/env python3
-"""with_networkx.py [--nodes N] [--active A,B,..] [--crash P] [--runs R]: the study of `overlay sweep`, as one would do it by
-hand in Python: the nodes of bench/fuzz, the random numbers of Python, and the node connectivity of networkx.
+"""with_networkx.py [--nodes N] [--active A,B,..] [--crash P] [--runs R]: the study of `overlay sweep`, as one would do
+it by hand in Python: the nodes of bench/fuzz, the random numbers of Python, and the node connectivity of networkx.
 
-It grows overlays as docs/GROWING.md does without loss, but for the random numbers, so single overlays are others, and what is
-said of many should agree. For each active size it prints how many of R overlays are split, the quartiles of k and the least
-degrees, after settling and after healing, and where the time went. Nothing here can be run again line by line, and no
-certificate is made.
+It grows overlays as docs/GROWING.md does without loss, but for the random numbers, so single overlays are others, and
+what is said of many should agree. For each active size it prints how many of R overlays are split, the quartiles of k
+and the least degrees, after settling and after healing, and where the time went. Nothing here can be run again line by
+line, and no certificate is made.
 """
 
 import argparse
@@ -82,8 +82,12 @@ class Overlay:
         """The links that both ends hold."""
         graph = networkx.Graph()
         graph.add_nodes_from(self.live())
-        graph.add_edges_from((name, other) for name in self.live() for other in self.nodes[name].active
-                             if self.nodes[other] is not None and name in self.nodes[other].active)
+        graph.add_edges_from(
+            (name, other)
+            for name in self.live()
+            for other in self.nodes[name].active
+            if self.nodes[other] is not None and name in self.nodes[other].active
+        )
         return graph
 
 
@@ -112,8 +116,11 @@ def main():
             healed.append(overlay.graph())
         grown = time.process_time()
         before, after = ([networkx.node_connectivity(graph) for graph in graphs] for graphs in (settled, healed))
-        print(f"active {active}: settled: {said(settled, before)}; healed: {said(healed, after)}; "
-              f"{grown - begun:.1f} s to grow, {time.process_time() - grown:.1f} s for node_connectivity", flush=True)
+        print(
+            f"active {active}: settled: {said(settled, before)}; healed: {said(healed, after)}; "
+            f"{grown - begun:.1f} s to grow, {time.process_time() - grown:.1f} s for node_connectivity",
+            flush=True,
+        )
 
 
 if __name__ == "__main__":
