@@ -31,6 +31,10 @@ SIMULATED = {
     "whole": "--nodes 50,100,200 --active 5,8 --crash 20 --runs 500 --csv",
     "at-disconnect": "--nodes 50,100,200 --active 5,8 --crash 20 --runs 500 --csv --change attempt-at-disconnect",
     "when-alone": "--nodes 50,100,200 --active 5,8 --crash 20 --runs 500 --csv --change attempt-when-alone",
+    "large-when-alone": "--nodes 10000,100000 --active 5,8 --rounds 0 --heal 0 --runs 3 --fates"
+    " --change attempt-when-alone",
+    "large-at-disconnect": "--nodes 10000,100000 --active 5,8 --rounds 0 --heal 0 --runs 3 --fates"
+    " --change attempt-at-disconnect",
     "at-once": "--nodes 50,100,200 --active 5,8 --crash 20 --runs 500 --csv --reports-at-once",
 }
 LARGE = ("large-100", "large-1000", "large-10000", "large-100000")

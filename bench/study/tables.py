@@ -127,6 +127,7 @@ def changes():
                     size,
                     *(plain(split(it, "settle") / len(it)) for it in some),
                     median(some[-1], "settle"),
+                    f"{mean(some[-1], 'settle_entries'):,.0f}",
                     plain(split(some[-1], "heal") / len(some[-1])),
                     median(some[-1], "heal"),
                 ]
@@ -139,8 +140,45 @@ def changes():
             "100 nodes",
             "200 nodes",
             "median k of 200",
+            "events of 200 until settled",
             "% split after healing",
             "median k then",
+        ],
+        lines,
+    )
+
+
+def changes_large():
+    """What other rules would do past 256 nodes."""
+    lines = []
+    for name, said in (
+        ("large-when-alone", "a DISCONNECT that leaves a node alone starts one"),
+        ("large-at-disconnect", "each DISCONNECT of a neighbour starts one"),
+    ):
+        for (size, nodes), some in grouped(name, "active", "nodes").items():
+            parts = sum(numbers(some, "components")) - len(some)
+            lines.append(
+                [
+                    said,
+                    size,
+                    f"{int(nodes):,}",
+                    len(some),
+                    f"{sum(row['components'] != '1' for row in some)}",
+                    f"{1e5 * parts / (int(nodes) * len(some)):.1f}",
+                    sum(numbers(some, "alone")),
+                    f"{mean(some, 'least_degree'):.1f}",
+                ]
+            )
+    return table(
+        [
+            "what starts an attempt",
+            "active size",
+            "nodes",
+            "overlays",
+            "split",
+            "components but one, of 100,000",
+            "nodes alone in all",
+            "least degree, mean",
         ],
         lines,
     )
@@ -406,6 +444,7 @@ TABLES = {
     "fates": (fates, ["fates"]),
     "splits": (splits, ["splits"]),
     "changes": (changes, ["whole", "when-alone", "at-disconnect", "at-once"]),
+    "changes-large": (changes_large, ["large-when-alone", "large-at-disconnect"]),
     "crash": (crash, ["crash"]),
     "passive": (passive, ["passive"]),
     "loss": (loss, ["loss"]),
