@@ -1,0 +1,113 @@
+#!/usr/bin/env python3
+"""compare.py [--overlay PROGRAM] [--grows] [--simulate PROGRAM] [--count N] [--first SEED]: grows N overlays with
+options drawn at random, and holds others against grow.py:
+
+  --overlay   the scenario, run by this program, prints event for event what growing saw, and no line is refused
+  --grows     and its `overlay grow` prints the same scenario
+  --simulate  this simulation prints the same scenario, and the same row
+
+It ends with status 1 at the first difference. The same seeds give the same options.
+"""
+
+import argparse
+import random
+import subprocess
+import sys
+from collections import Counter
+
+from grow import Growing
+from options import LIMITS, Options
+from rows import row_of
+from world import Refusal
+
+
+def drawn(seed):
+    """Options, drawn at random: half of them with the default parameters, half without any loss."""
+    draw = random.Random(seed)
+    options = Options(
+        nodes=draw.choice([1, 2, 3, draw.randint(4, 20), *[draw.randint(20, 200) for _ in range(8)]]),
+        seed=draw.getrandbits(draw.choice([8, 64])),
+    )
+    if draw.random() < 0.5:
+        for name in ("active", "passive", "arwl", "ka", "kp", "ttl"):
+            setattr(options, name, draw.randint(*LIMITS[name]))
+        options.active = min(options.active, draw.randint(1, 16))
+        options.prwl = draw.randint(0, options.arwl)
+    else:
+        options.active = draw.choice([3, 4, 5, 6, 7])
+    if draw.random() < 0.5:
+        options.loss_join, options.loss, options.repeat = (draw.choice([0, draw.randint(0, 30)]) for _ in range(3))
+    options.order = draw.choice(["random", "oldest"])
+    options.pace = draw.choice([None, None, draw.randint(0, 30)])
+    options.rounds, options.heal = draw.randint(0, 4), draw.randint(0, 3)
+    options.crash, options.crash_cut = draw.choice([(0, False), (draw.randint(1, 60), False), (0, True)])
+    options.broadcasts = draw.choice([0, 1, draw.randint(1, 6), draw.choice([2, 200])])
+    return options
+
+
+def run(program, words, given=b""):
+    """The status and the standard output of a program."""
+    done = subprocess.run(
+        [program, *words], input=given, stdout=subprocess.PIPE, stderr=subprocess.DEVNULL, check=False
+    )
+    return done.returncode, done.stdout.decode()
+
+
+def first_difference(text, other):
+    """The first line in which two texts differ, in words, or None."""
+    if text == other:
+        return None
+    pairs = zip([*text.split("\n"), None], [*other.split("\n"), None])
+    return next((f"line {at}: {one!r} and {two!r}" for at, (one, two) in enumerate(pairs, 1) if one != two), "lengths")
+
+
+def refusals(given, words, fault):
+    """Who does not refuse what grow.py refused, each in words."""
+    said = f"it does not refuse as grow.py does: {fault}"
+    if given.overlay and given.grows:
+        yield "overlay grow, refused", None if run(given.overlay, ["grow", *words]) == (1, "") else said
+    if given.simulate:
+        yield "simulate, refused", None if run(given.simulate, [*words, "--scenario"]) == (1, "") else said
+
+
+def differences(given, options):
+    """What is compared, and how it differs, in words."""
+    growing, words = Growing(options), options.heading().split(" ")[2:]
+    try:
+        scenario = "\n".join([*growing.grow(), ""])
+    except Refusal as fault:
+        yield from refusals(given, words, fault)
+        return
+    if given.overlay:
+        printed = run(given.overlay, ["run"], scenario.encode())[1]
+        yield "overlay run", first_difference("\n".join([*growing.printed, ""]), printed)
+    if given.overlay and given.grows:
+        yield "overlay grow", first_difference(scenario, run(given.overlay, ["grow", *words])[1])
+    if given.simulate:
+        yield "simulate --scenario", first_difference(scenario, run(given.simulate, [*words, "--scenario"])[1])
+        row = row_of(options, growing.phases)
+        yield "simulate --csv", first_difference(row, run(given.simulate, [*words, "--csv"])[1].split("\n")[1])
+
+
+def main():
+    parser = argparse.ArgumentParser(description=__doc__, formatter_class=argparse.RawDescriptionHelpFormatter)
+    parser.add_argument("--overlay")
+    parser.add_argument("--simulate")
+    parser.add_argument("--grows", action="store_true")
+    parser.add_argument("--count", type=int, default=50)
+    parser.add_argument("--first", type=int, default=0)
+    given = parser.parse_args()
+    held = Counter()
+    for seed in range(given.first, given.first + given.count):
+        options = drawn(seed)
+        for where, difference in differences(given, options):
+            held[where] += 1
+            if difference:
+                print(f"{options.heading()}\n{where}: {difference}")
+                return 1
+    print(", ".join(f"{count} times {where}" for where, count in held.items()), "agreed")
+    return 0
+
+
+if __name__ == "__main__":
+    sys.exit(main())

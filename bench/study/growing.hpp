@@ -1,0 +1,252 @@
+// How an overlay is grown, by docs/GROWING.md.
+#pragma once
+#include <functional>
+#include <string>
+
+#include "connectivity.hpp"
+#include "world.hpp"
+
+struct Options {
+    uint32_t nodes = 100;
+    Params params;
+    uint64_t seed = 0;
+    unsigned loss_join = 0, loss = 0, repeat = 0;
+    bool is_oldest = false;
+    std::optional<uint32_t> pace;
+    unsigned rounds = 3, crash = 0;
+    bool crash_cut = false;
+    unsigned heal = 2, broadcasts = 0;
+    // for the study alone, and no options of the tool
+    Change change = Change::None;
+    bool reports_at_once = false;
+};
+
+/// How the overlay stands at the end of a phase.
+struct Phase {
+    std::string name;
+    Graph graph;
+    std::optional<Connectivity> connectivity;  // if it was asked for
+    uint32_t moment;
+    uint64_t deliveries = 0;
+};
+
+class Choices {
+  public:
+    explicit Choices(uint64_t seed) : generator(~seed) {}
+
+    uint64_t one_of(uint64_t count) { return generator.next() % count; }
+    bool chance(unsigned percent) { return percent > 0 && generator.next() % 100 < percent; }
+
+    std::vector<Id> order(std::vector<Id> left) {
+        std::vector<Id> found;
+        while (!left.empty()) {
+            auto at = left.begin() + one_of(left.size());
+            found.push_back(*at);
+            left.erase(at);
+        }
+        return found;
+    }
+
+  private:
+    Pcg64 generator;
+};
+
+class Growing {
+  public:
+    /// `most_exact`: up to so many nodes the node connectivity is found exactly.
+    Growing(const Options& options, uint32_t most_exact, bool keeps_lines)
+        : world(options.params, options.seed, options.nodes, options.change),
+          options(options),
+          choices(options.seed),
+          most_exact(most_exact),
+          keeps_lines(keeps_lines) {}
+
+    World world;
+    std::string lines;
+    std::vector<Phase> phases;
+    /// What is called after each birth, and the turns that follow it.
+    std::function<void()> watch_birth = [] {};
+    /// What is called after each phase.
+    std::function<void(const Phase&)> watch = [](const Phase&) {};
+
+    void grow() {
+        join();
+        crash(settle());
+        heal();
+    }
+
+  private:
+    template <class... Numbers>
+    void line(const char* name, Numbers... numbers) {
+        if (!keeps_lines) return;
+        lines += name;
+        ((lines += ' ' + std::to_string(numbers)), ...);
+        lines += '\n';
+    }
+
+    void comment(const char* said) {
+        if (keeps_lines) lines.append("# ").append(said).append("\n");
+    }
+
+    void turn() {
+        size_t place = options.is_oldest ? 0 : choices.one_of(world.packets.size());
+        if (choices.chance(loss)) {
+            world.lose(place);
+            return line("lose", place);
+        }
+        if (choices.chance(options.repeat)) {
+            world.repeat(place);
+            line("repeat", place);
+        }
+        Id receiver = world.packets[place].to, sender = world.packets[place].sender;
+        world.deliver(place);
+        line("deliver", place);
+        if (is_healing && !world.lives(receiver) && world.lives(sender)) report(sender, receiver);
+    }
+
+    void report(Id node, Id crashed) {
+        world.report(node, crashed);
+        line("report", node, crashed);
+    }
+
+    void run_out() {
+        while (world.packets.size() > 0) turn();
+    }
+
+    void turns(uint32_t most) {
+        for (; most > 0 && world.packets.size() > 0; most--) turn();
+    }
+
+    void rounds(unsigned count) {
+        for (; count > 0; count--) {
+            for (Id node : choices.order(world.live())) {
+                world.shuffle(node);
+                line("shuffle", node);
+            }
+            run_out();
+        }
+    }
+
+    bool fire() {
+        bool fired = false;
+        for (Id node : world.live())
+            for (size_t message = first; message < messages.size(); message++) {
+                const auto& kept = world.node(node).kept;
+                if (message >= kept.size() || !kept[message].timer) continue;
+                world.timer(node, message);
+                line("timer", node, messages[message].origin, messages[message].number);
+                fired = true;
+            }
+        return fired;
+    }
+
+    void broadcasts() {
+        first = messages.size();
+        std::vector<Id> live = world.live();
+        for (unsigned i = 0; i < options.broadcasts; i++) {
+            Id node = live[choices.one_of(live.size())];
+            messages.push_back({node, world.node(node).made});
+            world.broadcast(node, messages.size() - 1);
+            line("broadcast", node);
+        }
+        run_out();
+        while (fire()) run_out();
+    }
+
+    std::optional<Connectivity> connectivity(const Graph& graph) const {
+        if (graph.components().size() > 1) return Connectivity{};
+        if (graph.size() > most_exact) return std::nullopt;
+        return EvenTest(graph).answer();
+    }
+
+    void end_phase(const char* name) {
+        world.snapshot();
+        line("snapshot");
+        line("analyse", world.entries);
+        Graph graph(world.nodes);
+        auto found = connectivity(graph);
+        phases.push_back({name, std::move(graph), found, world.entries});
+        uint64_t before = world.deliveries;
+        broadcasts();
+        phases.back().deliveries = world.deliveries - before;
+        watch(phases.back());
+    }
+
+    void join() {
+        comment("join");
+        loss = options.loss_join;
+        world.boot(1, NOBODY);
+        line("boot", 1);
+        for (Id id = 2; id <= options.nodes; id++) {
+            turns(options.pace.value_or(MOST_TURNS));
+            watch_birth();
+            Id contact = 1 + choices.one_of(id - 1);
+            world.boot(id, contact);
+            line(("boot " + std::to_string(id) + " by").c_str(), contact);
+        }
+        run_out();
+        watch_birth();
+    }
+
+    std::vector<Id> settle() {
+        comment("settle");
+        loss = options.loss;
+        rounds(options.rounds);
+        end_phase("settle");
+        auto& found = phases.back().connectivity;
+        return found ? found->cut : std::vector<Id>{};
+    }
+
+    void crash(std::vector<Id> crashed) {
+        comment("crash");
+        if (!options.crash_cut) {
+            crashed = choices.order(world.live());
+            crashed.resize(crashed.size() * options.crash / 100);
+        }
+        for (Id node : crashed) {
+            world.crash(node);
+            line("crash", node);
+        }
+        end_phase("crash");
+    }
+
+    /// The first crashed node in the active view of a node.
+    Id first_crashed(Id node) {
+        const Ids& active = world.node(node).active;
+        auto found = std::find_if(active.begin(), active.end(), [&](Id other) { return !world.lives(other); });
+        return found == active.end() ? NOBODY : *found;
+    }
+
+    void heal() {
+        comment("heal");
+        is_healing = true;
+        // No packet of a crashed node is on its way, so no node comes to hold one, and one walk through the nodes is
+        // enough.
+        for (Id node : world.live()) {
+            for (Id crashed; (crashed = first_crashed(node)) != NOBODY;) {
+                report(node, crashed);
+                if (!options.reports_at_once) run_out();
+            }
+        }
+        run_out();
+        rounds(options.heal);
+        end_phase("heal");
+    }
+
+    /// Turns between two births, if the pace is not given.
+    static constexpr uint32_t MOST_TURNS = 1000;
+
+    /// A broadcast of the run: its origin, and its number there.
+    struct Message {
+        Id origin;
+        uint32_t number;
+    };
+
+    Options options;
+    Choices choices;
+    uint32_t most_exact;
+    bool keeps_lines, is_healing = false;
+    unsigned loss = 0;
+    std::vector<Message> messages;
+    size_t first = 0;  // the place of the first broadcast of this phase
+};

@@ -1,0 +1,50 @@
+#!/usr/bin/env python3
+"""study.py --simulate PROGRAM [--overlay PROGRAM] [--workers N] [NAME ..]: makes the rows of docs/DESIGN-STUDY.md into
+out/, and writes the document's tables and the figures of docs anew.
+
+Rows of overlays of up to 256 nodes come from `overlay sweep` if a program is named, and else from the simulation. Rows
+that are there stay: remove their files, or the folder, to make them anew. With names only these tables and figures are
+made.
+"""
+
+import argparse
+import pathlib
+import re
+import time
+
+from figures import FIGURES
+from sweeps import make
+from tables import TABLES, lines_of
+
+DOCS = pathlib.Path(__file__).resolve().parents[2] / "docs"
+STUDY = DOCS / "DESIGN-STUDY.md"
+
+
+def put(text, name):
+    """The document with a table in its place, between its marks."""
+    place = re.compile(rf"(<!-- table {name} -->\n).*?(<!-- end -->)", re.DOTALL)
+    lines = "\n".join(lines_of(name))
+    return place.sub(lambda found: f"{found[1]}{lines}\n{found[2]}", text)
+
+
+def main():
+    parser = argparse.ArgumentParser(description=__doc__, formatter_class=argparse.RawDescriptionHelpFormatter)
+    parser.add_argument("--simulate", required=True)
+    parser.add_argument("--overlay")
+    parser.add_argument("--workers", type=int, default=1)
+    parser.add_argument("names", nargs="*", choices=[*TABLES, *FIGURES, []])
+    given = parser.parse_args()
+    names = given.names or [*TABLES, *FIGURES]
+    for sweep in dict.fromkeys(sweep for name in names for sweep in (TABLES | FIGURES)[name][1]):
+        begun = time.monotonic()
+        make(sweep, given.simulate, given.overlay, given.workers)
+        print(f"{sweep}: {time.monotonic() - begun:.0f} s", flush=True)
+    for name in names:
+        if name in TABLES:
+            STUDY.write_text(put(STUDY.read_text(), name))
+        else:
+            (DOCS / name).write_text(FIGURES[name][0]())
+
+
+if __name__ == "__main__":
+    main()

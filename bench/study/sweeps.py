@@ -1,0 +1,101 @@
+"""The sweeps of docs/DESIGN-STUDY.md, each by its name, its command and its rows; and what tables take of rows."""
+
+import csv
+import math
+import pathlib
+import subprocess
+
+ROWS = pathlib.Path(__file__).resolve().parent / "out"
+
+# Rows of `overlay sweep`, which `simulate --csv` makes too.
+SWEEPS = {
+    "active": "--nodes 50,100,150,200 --active 3,4,5,6,7,8,9,10,12 --crash 20 --runs 500",
+    "crash": "--nodes 200 --active 5,6,8,10 --crash 0,10,20,30,50,cut --broadcasts 5 --runs 200",
+    "passive": "--nodes 200 --active 5,8 --passive 1,2,5,10,30,60 --crash 30 --runs 200",
+    "loss": "--nodes 200 --active 5,8,10 --loss 0,1,5,10,20 --crash 20 --broadcasts 5 --runs 200",
+    "loss-join": "--nodes 200 --active 5,8,10 --loss-join 0,1,2,5 --runs 200",
+    "walks": "--nodes 200 --active 5,8 --arwl 3,4,6,10,15 --runs 500",
+    "pace": "--nodes 200 --active 5,8 --pace 0,5,20,50,100 --runs 200",
+    "rounds": "--nodes 200 --active 5,8 --rounds 0,1,3,10 --crash 30 --heal 0,2 --runs 200",
+}
+# Rows of `simulate` alone.
+SIMULATED = {
+    "fates": "--nodes 50,100,150,200 --runs 500 --fates",
+    "splits": "--nodes 200 --rounds 0 --heal 0 --runs 500 --splits",
+    "large-100": "--nodes 100 --active 3,4,5,6,7,8,9,10,12,16 --rounds 0 --heal 0 --runs 1000 --fates",
+    "large-1000": "--nodes 1000 --active 3,4,5,6,7,8,9,10,12,16 --rounds 0 --heal 0 --runs 100 --fates",
+    "large-10000": "--nodes 10000 --active 3,4,5,6,7,8,9,10,12,16 --rounds 0 --heal 0 --runs 30 --fates",
+    "large-100000": "--nodes 100000 --active 3,4,5,6,7,8,9,10,12,16 --rounds 0 --heal 0 --runs 3 --fates",
+    "degrees-5": "--nodes 100000 --rounds 0 --heal 0 --runs 3 --degrees",
+    "degrees-8": "--nodes 100000 --active 8 --rounds 0 --heal 0 --runs 3 --degrees",
+    "whole": "--nodes 50,100,200 --active 5,8 --crash 20 --runs 500 --csv",
+    "at-disconnect": "--nodes 50,100,200 --active 5,8 --crash 20 --runs 500 --csv --change attempt-at-disconnect",
+    "when-alone": "--nodes 50,100,200 --active 5,8 --crash 20 --runs 500 --csv --change attempt-when-alone",
+    "large-when-alone": "--nodes 10000,100000 --active 5,8 --rounds 0 --heal 0 --runs 3 --fates"
+    " --change attempt-when-alone",
+    "large-at-disconnect": "--nodes 10000,100000 --active 5,8 --rounds 0 --heal 0 --runs 3 --fates"
+    " --change attempt-at-disconnect",
+    "at-once": "--nodes 50,100,200 --active 5,8 --crash 20 --runs 500 --csv --reports-at-once",
+}
+LARGE = ("large-100", "large-1000", "large-10000", "large-100000")
+
+
+def make(name, simulate, overlay, workers):
+    """Makes the rows of a sweep, unless they are there."""
+    path = ROWS / f"{name}.csv"
+    if path.exists():
+        return
+    ROWS.mkdir(exist_ok=True)
+    if name in SIMULATED:
+        words = [simulate, *SIMULATED[name].split()]
+    elif overlay:
+        words = [overlay, "sweep", *SWEEPS[name].split(), "--workers", str(workers)]
+    else:
+        words = [simulate, *SWEEPS[name].split(), "--csv"]
+    begun = path.with_suffix(".begun")
+    with open(begun, "wb") as file:
+        subprocess.run(words, stdout=file, check=True)
+    begun.rename(path)
+
+
+def rows(name):
+    """The rows of a sweep."""
+    with open(ROWS / f"{name}.csv", newline="") as file:
+        return list(csv.DictReader(file))
+
+
+def grouped(name, *keys):
+    """The rows of a sweep for each of its settings, by these options."""
+    found = {}
+    for row in rows(name):
+        found.setdefault(tuple(row[key] for key in keys), []).append(row)
+    return found
+
+
+def wilson(hits, count):
+    """The 95 % interval of a share."""
+    z = 1.96
+    share, wide = hits / count, z * z / count
+    middle = (share + wide / 2) / (1 + wide)
+    half = z * math.sqrt(share * (1 - share) / count + wide / (4 * count)) / (1 + wide)
+    return max(0, middle - half), min(1, middle + half)
+
+
+def split(some, phase):
+    """How many of some rows are split after a phase."""
+    return sum(row[f"{phase}_k"] == "0" for row in some)
+
+
+def numbers(some, column):
+    """A column of some rows, ascending."""
+    return sorted(int(row[column]) for row in some)
+
+
+def quantile(ascending, part):
+    """The value below which this part of the values is; of a few the nearest."""
+    return ascending[min(len(ascending) - 1, int(part * len(ascending)))]
+
+
+def mean(some, column):
+    """The mean of a column."""
+    return sum(float(row[column]) for row in some) / len(some)

@@ -1,0 +1,98 @@
+// A world of nodes, by docs/PROTOCOL.md ("A world"). Its limits hold for up to 256 nodes, as in the tool; a larger
+// world has none.
+#pragma once
+#include <stdexcept>
+
+#include "packets.hpp"
+
+/// A step that the tool's world would refuse, by its number (docs/FAULTS.md).
+struct Refusal : std::runtime_error {
+    int number;
+    explicit Refusal(int number) : std::runtime_error("refused " + std::to_string(number)), number(number) {}
+};
+
+constexpr uint32_t MOST_BORN = 256, MOST_ENTRIES = 65536, MOST_PACKETS = 65536, MOST_SENT = 64;
+constexpr int TOO_MANY_PACKETS = 15, TOO_MANY_ENTRIES = 16;
+
+class World {
+  public:
+    World(const Params& params, uint64_t seed, uint32_t most_nodes, Change change)
+        : params(params), change(change), words(seed), has_limits(most_nodes <= MOST_BORN) {
+        nodes.reserve(most_nodes);
+    }
+
+    std::vector<Node> nodes;  // the node of id N is at place N - 1
+    Packets packets;
+    uint32_t entries = 0;
+    uint64_t deliveries = 0;
+
+    Node& node(Id id) { return nodes[id - 1]; }
+    bool lives(Id id) const { return nodes[id - 1].lives; }
+
+    std::vector<Id> live() const {
+        std::vector<Id> found;
+        for (const Node& node : nodes)
+            if (node.lives) found.push_back(node.me);
+        return found;
+    }
+
+    void boot(Id id, Id contact) {
+        Pcg64 drawn = begin(true);
+        nodes.emplace_back().me = id;
+        act(id, drawn, [&](Step& step) { step.boot(contact); });
+    }
+    void deliver(size_t place) {
+        Pcg64 drawn = begin(true);
+        Packet packet = packets.take(place);
+        if (lives(packet.to)) act(packet.to, drawn, [&](Step& step) { step.receive(packet); });
+    }
+    void lose(size_t place) {
+        begin(false);
+        packets.take(place);
+    }
+    void repeat(size_t place) {
+        begin(true);
+        packets.push(Packet(packets[place]));
+    }
+    void crash(Id id) {
+        begin(false);
+        node(id).lives = false;
+    }
+    void report(Id id, Id crashed) {
+        act(id, begin(true), [&](Step& step) { step.on_report(crashed); });
+    }
+    void shuffle(Id id) {
+        act(id, begin(true), [](Step& step) { step.shuffle(); });
+    }
+    void broadcast(Id id, Id message) {
+        act(id, begin(true), [&](Step& step) { step.broadcast(message); });
+    }
+    void timer(Id id, Id message) {
+        act(id, begin(true), [&](Step& step) { step.fire(message); });
+    }
+    void snapshot() { begin(false); }
+
+  private:
+    /// Begins an event: its random words. All of them are drawn, whether they are used or not.
+    Pcg64 begin(bool needs_room) {
+        if (has_limits && entries >= MOST_ENTRIES) throw Refusal(TOO_MANY_ENTRIES);
+        if (has_limits && needs_room && MOST_PACKETS - packets.size() < MOST_SENT) throw Refusal(TOO_MANY_PACKETS);
+        entries++;
+        return words.of_next_event();
+    }
+
+    template <class Deed>
+    void act(Id id, Pcg64 drawn, Deed deed) {
+        sends.clear();
+        Step step(params, change, node(id), drawn, entries, sends);
+        deed(step);
+        deliveries += step.delivers;
+        for (const Packet& packet : sends) packets.push(packet);
+    }
+
+    Params params;
+    Change change;
+    EventWords words;
+    bool has_limits;
+    std::vector<Packet> sends;
+};
