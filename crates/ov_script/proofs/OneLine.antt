@@ -153,7 +153,8 @@ within_clean b = by ((b == 10) || (b == 13)) refl where
 
 all_within : (said : List ℕ) → list_all in_line (map within_line said) ≡ true
 all_within [] = refl
-all_within (b ∷ said) = and_from (in_line (within_line b)) (list_all in_line (map within_line said)) (within_clean b) (all_within said)
+all_within (b ∷ said) =
+    and_from (in_line (within_line b)) (list_all in_line (map within_line said)) (within_clean b) (all_within said)
 
 pub comment_clean : (said : List ℕ) → list_all in_line (comment_line said) ≡ true
 unfolding comment_line

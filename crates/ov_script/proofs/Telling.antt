@@ -164,7 +164,9 @@ left_more stream ((own, Some (says.Analyse subject workers)) ∷ lines) behind p
     left_more stream lines behind plain.1
 
 -- lines that need one driver do not add to those that others need
-pub drivers_more : (lines behind : List Line) → drivers_for behind ≡ 1 → drivers_for (lines ++ behind) ≡ drivers_for lines
+pub drivers_more :
+    (lines behind : List Line) → drivers_for behind ≡ 1
+    → drivers_for (lines ++ behind) ≡ drivers_for lines
 unfolding drivers_for
 drivers_more [] behind one = one
 drivers_more (line.Event event words ∷ lines) behind one = drivers_more lines behind one
