@@ -1,6 +1,6 @@
 -- What was appended to a text, piece by piece.
-use Rattle.std.proofs.Common.{◌≡◌, ◌∙◌, ◌<◌, ◌≤◌, ◌+◌, ℕ, List, [], ◌∷◌, ◌++◌, length, drop, map, codes, decimal, get_or}
-use Rattle.std.proofs.Common.{Some, None, refl, ap, sym, append_assoc}
+use Rattle.std.proofs.Common.{◌≡◌, ◌∙◌, ◌<◌, ◌≤◌, ◌+◌, ℕ, List, [], ◌∷◌, ◌++◌, length, drop, codes, decimal, get_or}
+use Rattle.std.proofs.Common.{Some, ap, sym, append_assoc}
 use Rattle.std.proofs.lemmas.List.{append-nil, drop_all, drop_more}
 use Rattle.ov_script.specs.Acts.{act_line}
 use Rattle.ov_script.specs.WrittenLines.{ended, line_of, numerals, spaced}
@@ -39,5 +39,5 @@ boot_by old text new node contact first second =
     ∙ ap (λ t. t ++ ended by) first
     ∙ append_assoc old (line_of (codes "boot") (numerals (node ∷ []))) (ended by)
     ∙ ap (λ t. old ++ (codes "boot" ++ 32 ∷ t)) (
-      ap (λ t. t ++ ended by) (append-nil (decimal node)) ∙ sym (append_assoc (decimal node) by (10 ∷ []))
+    ap (λ t. t ++ ended by) (append-nil (decimal node)) ∙ sym (append_assoc (decimal node) by (10 ∷ []))
     )

@@ -1,10 +1,9 @@
 -- What stands behind the words of a line of two words.
-use Rattle.std.proofs.Common.{◌≡◌, ◌∙◌, ◌<◌, ◌+◌, ◌&&◌, ℕ, suc, Bool, true, false, cond, not, nat_lt, nat_eq, List, []}
+use Rattle.std.proofs.Common.{◌≡◌, ◌∙◌, ◌+◌, ℕ, Bool, true, false, cond, not, nat_lt, List, []}
 use Rattle.std.proofs.Common.{◌∷◌, ◌++◌, length, drop, Some, None, unwrap_or, refl, ap, sym, arith, one-add}
 use Rattle.std.specs.List.{list_all, position_or_len}
 use Rattle.std.proofs.lemmas.Bool.{and_parts}
 use Rattle.std.proofs.lemmas.Bool.Decides.{nat_tests}
-use Rattle.std.proofs.lemmas.List.{append-nil}
 use Rattle.std.proofs.lemmas.List.Sums.{prefix_len-le-length}
 use Rattle.ov_lines.specs.Lines.{behind_word, is_no_space, is_space, place_or_end, without_spaces}
 use Rattle.ov_script.specs.WrittenLines.{spaced}
@@ -54,9 +53,9 @@ behind_first word rest is at =
 behind_space : (text : List ℕ) → behind_word (32 ∷ text) ≡ behind_word text
 behind_space text =
     ap (λ t. drop (place_or_end is_space t) t) (
-      ap (λ k. drop k (32 ∷ text)) (place_is is_no_space (32 ∷ text))
-          ∙ ap (λ k. drop k (32 ∷ text)) (one-add (position_or_len is_no_space text))
-          ∙ sym (ap (λ k. drop k text) (place_is is_no_space text))
+    ap (λ k. drop k (32 ∷ text)) (place_is is_no_space (32 ∷ text))
+    ∙ ap (λ k. drop k (32 ∷ text)) (one-add (position_or_len is_no_space text))
+    ∙ sym (ap (λ k. drop k text) (place_is is_no_space text))
     )
 
 -- nothing follows the second of two words

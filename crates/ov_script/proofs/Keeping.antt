@@ -1,10 +1,10 @@
 -- What a script keeps of its text, with one line more.
-use Rattle.std.proofs.Common.{◌≡◌, ◌∙◌, ◌<◌, ◌^◌, ◌+◌, inl, inr, ℕ, List, [], ◌∷◌, ◌++◌, length, map, Some, None, refl, ap, sym}
-use Rattle.std.proofs.Common.{subst, append_assoc}
-use Rattle.std.proofs.lemmas.List.{map-append, append-nil}
+use Rattle.std.proofs.Common.{◌≡◌, ◌∙◌, ◌<◌, ◌+◌, ℕ, List, [], ◌∷◌, ◌++◌, length, map, Some, None, refl, ap, sym}
+use Rattle.std.proofs.Common.{subst}
+use Rattle.std.proofs.lemmas.List.{map-append}
 use Rattle.rand_core.specs.Stream.{Stream}
 use Rattle.ov_ids.specs.Limits.{number_limit}
-use Rattle.ov_ids.specs.ParamsState.{AreWithinLimits, ParamsState}
+use Rattle.ov_ids.specs.ParamsState.{ParamsState}
 use Rattle.ov_words.specs.Stream.{AreOutputs, words_per_event}
 use Rattle.ov_net.specs.declared.event.Event.{Event}
 use Rattle.ov_lines.specs.Lines.{kept_lines}
@@ -12,22 +12,21 @@ use Rattle.std.specs.Str.Lines.{lines}
 use Rattle.ov_scenario.specs.Draws.{seeded}
 use Rattle.ov_scenario.specs.RunLines.{drivers_for, lines_that_run}
 use Rattle.ov_scenario.specs.Scenarios.{AreFaultless, AreParamsOf, IsScenario, IsSeedOf, stated_at, stated_lines}
-use Rattle.ov_scenario.specs.Statements.{Stated, ToldLine, statement_of, told}
-use Rattle.ov_scenario.specs.Code.RunnableLines.{later_words, next_words, outputs, to_run}
+use Rattle.ov_scenario.specs.Statements.{Stated, statement_of, told}
+use Rattle.ov_scenario.specs.Code.RunnableLines.{outputs, to_run}
 use Rattle.ov_scenario.specs.declared.scenario.Line.{Line}
 use Rattle.ov_scenario.specs.declared.scenario.Line.TheVariants as line
-use Rattle.ov_scenario.specs.declared.scenario_fault.LineFault.{LineFault}
 use Rattle.ov_scenario.specs.declared.statement.Statement.{Statement}
 use Rattle.ov_scenario.specs.declared.statement.Statement.TheVariants as says
 use Rattle.ov_scenario.proofs.Scenarios.Asked.{are_to_run}
 use Rattle.ov_scenario.proofs.Scenarios.Outputs.{outputs_drawn}
 use Rattle.ov_script.specs.Acts.{act_line, event_of}
 use Rattle.ov_script.specs.WrittenLines.{analysis_line, comment_line, ended}
-use Rattle.ov_script.specs.Code.Kept.{ArePlain, EndsLine, IsPlain, IsScript, IsTold, left_after, lines_of}
+use Rattle.ov_script.specs.Code.Kept.{ArePlain, EndsLine, IsScript, IsTold, left_after, lines_of}
 use Rattle.ov_script.specs.Code.Writing.{IsShort}
 use Rattle.ov_script.specs.declared.act.Act.{Act}
 use Rattle.ov_script.proofs.OneLine.{comment_clean, comment_skipped, ends_line, kept_last, kept_skipped}
-use Rattle.ov_script.proofs.Statements.{Says, act_said, analysis_said}
+use Rattle.ov_script.proofs.Statements.{act_said, analysis_said}
 use Rattle.ov_script.proofs.Telling.{analysis_right, drivers_more, event_right, faultless_more, left_more, params_more}
 use Rattle.ov_script.proofs.Telling.{plain_more, run_more, seed_more}
 

@@ -1,8 +1,8 @@
-mod Splitting
-mod OneLine
+pub mod Splitting
+pub mod OneLine
 mod Behind
-mod Statements
-mod Telling
+pub mod Statements
+pub mod Telling
 mod Keeping
 mod Opening
 mod Appending

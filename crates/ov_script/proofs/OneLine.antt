@@ -1,7 +1,7 @@
 -- A text with one line more.
-use Rattle.std.proofs.Common.{◌≡◌, ◌∙◌, ◌<◌, ◌+◌, ◌-◌, ◌==◌, ◌&&◌, ◌||◌, ◌⊎◌, inl, inr, ℕ, zero, suc, Bool, true, false}
-use Rattle.std.proofs.Common.{cond, not, nat_lt, nat_eq, if◌then◌else◌, List, [], ◌∷◌, ◌++◌, length, map, take, refl, ap, sym}
-use Rattle.std.proofs.Common.{subst, arith, slice_index, codes, append_assoc}
+use Rattle.std.proofs.Common.{◌≡◌, ◌∙◌, ◌<◌, ◌+◌, ◌-◌, ◌==◌, ◌&&◌, ◌||◌, inl, inr, ℕ, zero, suc, Bool, true, false}
+use Rattle.std.proofs.Common.{not, nat_lt, if◌then◌else◌, List, [], ◌∷◌, ◌++◌, length, map, take, refl, ap, sym}
+use Rattle.std.proofs.Common.{arith, slice_index, codes, append_assoc}
 use Rattle.std.specs.List.{list_all, slice_split, onto_first}
 use Rattle.std.specs.Str.Lines.{lines, lines_of_parts, strip_carriage_return}
 use Rattle.std.proofs.lemmas.Bool.{and_parts, and_from}
@@ -153,7 +153,8 @@ within_clean b = by ((b == 10) || (b == 13)) refl where
 
 all_within : (said : List ℕ) → list_all in_line (map within_line said) ≡ true
 all_within [] = refl
-all_within (b ∷ said) = and_from (in_line (within_line b)) (list_all in_line (map within_line said)) (within_clean b) (all_within said)
+all_within (b ∷ said) =
+    and_from (in_line (within_line b)) (list_all in_line (map within_line said)) (within_clean b) (all_within said)
 
 pub comment_clean : (said : List ℕ) → list_all in_line (comment_line said) ≡ true
 unfolding comment_line

@@ -1,5 +1,5 @@
 -- What a script keeps of the text with which it begins.
-use Rattle.std.proofs.Common.{◌≡◌, ◌∙◌, ◌<◌, ◌^◌, ◌+◌, ◌⊎◌, inl, inr, ℕ, List, [], ◌∷◌, ◌++◌, length, map, Some, None, refl}
+use Rattle.std.proofs.Common.{◌≡◌, ◌∙◌, ◌<◌, ◌^◌, ◌+◌, inl, inr, ℕ, List, [], ◌∷◌, ◌++◌, length, map, Some, refl}
 use Rattle.std.proofs.Common.{ap, sym, subst, append_assoc}
 use Rattle.std.specs.Str.Lines.{lines}
 use Rattle.rand_core.specs.Stream.{Stream}
@@ -12,9 +12,7 @@ use Rattle.ov_scenario.specs.Scenarios.{AreFaulty, AreFaultless, AreParamsOf, Is
 use Rattle.ov_scenario.specs.Sections.{open_from}
 use Rattle.ov_scenario.specs.Statements.{Stated, ToldLine, statement_of, told}
 use Rattle.ov_scenario.specs.Code.RunnableLines.{outputs, to_run}
-use Rattle.ov_scenario.specs.declared.scenario.Line.{Line}
 use Rattle.ov_scenario.specs.declared.scenario_fault.LineFault.{LineFault}
-use Rattle.ov_scenario.specs.declared.statement.Statement.{Statement}
 use Rattle.ov_scenario.specs.declared.statement.Statement.TheVariants as says
 use Rattle.ov_scenario.proofs.Scenarios.Outputs.{outputs_drawn}
 use Rattle.ov_script.specs.Scripts.{opening}
@@ -117,8 +115,10 @@ seed_right n p seed after f nothing = nothing
 right_two : (n m : ℕ) (p : ParamsState) (seed : ℕ) → AreWithinLimits p → AreFaultless (stated_two n m p seed)
 unfolding AreFaulty stated_two
 right_two n m p seed within =
-    inl ((λ f. params_right p (record { number = m; says = Some (says.Seed seed) } ∷ []) f within),
-    inl ((λ f. seed_right n p seed [] f), refl))
+    inl (
+      (λ f. params_right p (record { number = m; says = Some (says.Seed seed) } ∷ []) f within),
+      inl ((λ f. seed_right n p seed [] f), refl),
+    )
 
 params_two : (n m : ℕ) (p : ParamsState) (seed : ℕ) → AreWithinLimits p → AreParamsOf (stated_two n m p seed) p
 unfolding AreParamsOf stated_two

@@ -1,6 +1,6 @@
 -- What the lines of a script say, word by word.
-use Rattle.std.proofs.Common.{◌≡◌, ◌∙◌, ◌<◌, ◌^◌, ◌&&◌, ℕ, Bool, true, false, nat_lt, nat_eq, List, [], ◌∷◌, ◌++◌, length}
-use Rattle.std.proofs.Common.{map, codes, decimal, Option, Some, None, option_map, refl, ap, sym, arith}
+use Rattle.std.proofs.Common.{◌≡◌, ◌∙◌, ◌<◌, ◌^◌, ℕ, true, false, nat_lt, nat_eq, List, [], ◌∷◌, length}
+use Rattle.std.proofs.Common.{codes, decimal, Some, None, option_map, refl, ap, sym, arith}
 use Rattle.std.specs.List.{list_all, starts_with}
 use Rattle.std.specs.Char.{digit_value}
 use Rattle.std.specs.Str.Parse.{AllDigits}
@@ -121,9 +121,9 @@ boot_by_said n c low other =
     and_from (is_word (decimal n)) (list_all is_word (codes "by" ∷ decimal c ∷ [])) (numeral n (wide n low))
     (and_from true (list_all is_word (decimal c ∷ [])) refl (low_words (c ∷ []) (other, tt))) in
     written (codes "boot") words (happens (event.Boot n (Some c))) refl are refl (
-      ap (λ o. option_map says.Event (o >>= λ a. number_within short_bits (decimal c) >>= λ b.
-      Some (event.Boot a (Some b)))) (short_read n low)
-          ∙ ap (λ o. option_map says.Event (o >>= λ b. Some (event.Boot n (Some b)))) (short_read c other)
+    ap (λ o. option_map says.Event (o >>= λ a. number_within short_bits (decimal c) >>= λ b.
+    Some (event.Boot a (Some b)))) (short_read n low)
+    ∙ ap (λ o. option_map says.Event (o >>= λ b. Some (event.Boot n (Some b)))) (short_read c other)
     )
 
 deliver_said : (n : ℕ) → n < number_limit → Says (act_line (act.Deliver n)) (happens (event.Deliver n))
@@ -157,9 +157,9 @@ unfolding act_line
 report_said n c low other =
     written (codes "report") (numerals (n ∷ c ∷ [])) (happens (event.CrashReport n c)) refl
     (low_words (n ∷ c ∷ []) (low, (other, tt))) refl (
-      ap (λ o. option_map (λ p. says.Event (crash_report_of p)) (o >>= λ a. number_within short_bits (decimal c)
-      >>= λ b. Some (a, b))) (short_read n low)
-          ∙ ap (λ o. option_map (λ p. says.Event (crash_report_of p)) (o >>= λ b. Some (n, b))) (short_read c other)
+    ap (λ o. option_map (λ p. says.Event (crash_report_of p)) (o >>= λ a. number_within short_bits (decimal c)
+    >>= λ b. Some (a, b))) (short_read n low)
+    ∙ ap (λ o. option_map (λ p. says.Event (crash_report_of p)) (o >>= λ b. Some (n, b))) (short_read c other)
     )
 
 shuffle_said : (n : ℕ) → n < number_limit → Says (act_line (act.Shuffle n)) (happens (event.Shuffle n))
@@ -174,10 +174,10 @@ broadcast_said n low =
     let line : List ℕ = line_of (codes "broadcast") (numerals (n ∷ [])) in
     written (codes "broadcast") (numerals (n ∷ [])) (happens (event.Broadcast n [])) refl
     (low_words (n ∷ []) (low, tt)) refl (
-      ap (λ o. option_map says.Event (o >>= λ a. Some (event.Broadcast a (without_space (behind_word
-      (behind_word line)))))) (short_read n low)
-          ∙ ap (λ t. Some (says.Event (event.Broadcast n (without_space t))))
-          (behind_two (codes "broadcast") (decimal n) refl (numeral n (wide n low)))
+    ap (λ o. option_map says.Event (o >>= λ a. Some (event.Broadcast a (without_space (behind_word
+    (behind_word line)))))) (short_read n low)
+    ∙ ap (λ t. Some (says.Event (event.Broadcast n (without_space t))))
+    (behind_two (codes "broadcast") (decimal n) refl (numeral n (wide n low)))
     )
 
 timer_said :
@@ -188,12 +188,12 @@ timer_said n origin seq low other last =
     written (codes "timer") (numerals (n ∷ origin ∷ seq ∷ []))
     (happens (event.Timer n (record { origin = origin; seq = seq }))) refl
     (low_words (n ∷ origin ∷ seq ∷ []) (low, (other, (last, tt)))) refl (
-      ap (λ o. option_map (λ p. says.Event (timer_of p)) (o >>= λ a. two (numerals (origin ∷ seq ∷ []))
-      >>= λ b. Some (a, b))) (short_read n low)
-          ∙ ap (λ o. option_map (λ p. says.Event (timer_of p)) ((o >>= λ a. number_within short_bits (decimal seq)
-          >>= λ b. Some (a, b)) >>= λ b. Some (n, b))) (short_read origin other)
-          ∙ ap (λ o. option_map (λ p. says.Event (timer_of p)) ((o >>= λ b. Some (origin, b)) >>= λ b. Some (n, b)))
-          (short_read seq last)
+    ap (λ o. option_map (λ p. says.Event (timer_of p)) (o >>= λ a. two (numerals (origin ∷ seq ∷ []))
+    >>= λ b. Some (a, b))) (short_read n low)
+    ∙ ap (λ o. option_map (λ p. says.Event (timer_of p)) ((o >>= λ a. number_within short_bits (decimal seq)
+    >>= λ b. Some (a, b)) >>= λ b. Some (n, b))) (short_read origin other)
+    ∙ ap (λ o. option_map (λ p. says.Event (timer_of p)) ((o >>= λ b. Some (origin, b)) >>= λ b. Some (n, b)))
+    (short_read seq last)
     )
 
 snapshot_said : Says (act_line act.Snapshot) (happens event.Snapshot)
@@ -234,8 +234,16 @@ numbers_of p = p.active ∷ p.passive ∷ p.arwl ∷ p.prwl ∷ p.ka ∷ p.kp �
 limits_low : (p : ParamsState) → AreWithinLimits p → AreLow (numbers_of p)
 limits_low p w = (
   omega (arith, w.active_high),
-  (omega (arith, w.passive_high), (omega (arith, w.arwl_high), (omega (arith, w.prwl_high, w.arwl_high),
-  (omega (arith, w.ka_high), (omega (arith, w.kp_high), (omega (arith, w.shuffle_ttl_high), tt)))))),
+  (
+    omega (arith, w.passive_high),
+    (
+      omega (arith, w.arwl_high),
+      (
+        omega (arith, w.prwl_high, w.arwl_high),
+        (omega (arith, w.ka_high), (omega (arith, w.kp_high), (omega (arith, w.shuffle_ttl_high), tt))),
+      ),
+    ),
+  ),
 )
 
 pub params_said : (p : ParamsState) → AreWithinLimits p → Says (params_line p) (says.Params (numbers_of p))

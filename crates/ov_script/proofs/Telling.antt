@@ -1,5 +1,5 @@
 -- What lines of a script tell together, with one line more.
-use Rattle.std.proofs.Common.{◌≡◌, ◌∙◌, ◌⊎◌, inl, inr, ℕ, max, List, [], ◌∷◌, ◌++◌, length, Option, Some, None, refl, ap}
+use Rattle.std.proofs.Common.{◌≡◌, ◌⊎◌, inl, inr, ℕ, max, List, [], ◌∷◌, ◌++◌, length, Option, Some, None, refl, ap}
 use Rattle.std.proofs.Common.{sym, subst, append_assoc}
 use Rattle.std.proofs.lemmas.List.{append-nil}
 use Rattle.rand_core.specs.Stream.{Stream}
@@ -8,14 +8,13 @@ use Rattle.ov_ids.specs.ParamsState.{ParamsState}
 use Rattle.ov_ids.proofs.Members.{has_append_cases, has_append_left}
 use Rattle.ov_net.specs.declared.event.Event.{Event}
 use Rattle.ov_scenario.specs.RunLines.{drivers_for}
-use Rattle.ov_scenario.specs.Scenarios.{AreFaulty, AreFaultless, AreParamsOf, HasKind, IsSeedOf, IsWrong, before_of}
+use Rattle.ov_scenario.specs.Scenarios.{AreFaulty, AreParamsOf, HasKind, IsSeedOf, IsWrong, before_of}
 use Rattle.ov_scenario.specs.Statements.{Stated, ToldLine}
 use Rattle.ov_scenario.specs.Code.RunnableLines.{later_words, next_words, to_run}
 use Rattle.ov_scenario.specs.declared.line_judging.Before.{Before}
 use Rattle.ov_scenario.specs.declared.open_block.OpenBlock.{OpenBlock}
 use Rattle.ov_scenario.specs.declared.scenario.Line.{Line}
 use Rattle.ov_scenario.specs.declared.scenario.Line.TheVariants as line
-use Rattle.ov_scenario.specs.declared.scenario_fault.FaultyLine.{FaultyLine}
 use Rattle.ov_scenario.specs.declared.scenario_fault.LineFault.{LineFault}
 use Rattle.ov_scenario.specs.declared.statement.Statement.{Statement}
 use Rattle.ov_scenario.specs.declared.statement.Statement.TheVariants as says
@@ -165,7 +164,9 @@ left_more stream ((own, Some (says.Analyse subject workers)) ∷ lines) behind p
     left_more stream lines behind plain.1
 
 -- lines that need one driver do not add to those that others need
-pub drivers_more : (lines behind : List Line) → drivers_for behind ≡ 1 → drivers_for (lines ++ behind) ≡ drivers_for lines
+pub drivers_more :
+    (lines behind : List Line) → drivers_for behind ≡ 1
+    → drivers_for (lines ++ behind) ≡ drivers_for lines
 unfolding drivers_for
 drivers_more [] behind one = one
 drivers_more (line.Event event words ∷ lines) behind one = drivers_more lines behind one

@@ -1,5 +1,5 @@
--- How the lines of a script are written: words with one space between two, and a line feed behind the last. The form of
--- scenario files is chosen here.
+-- How the lines of a script are written: words with one space between two, and a line feed behind the last. That they
+-- are written in this way is chosen here.
 use Rattle.std.specs.Prelude.{ℕ, ◌==◌, ◌||◌, List, [], ◌∷◌, ◌++◌, map, codes, decimal, if◌then◌else◌}
 use Rattle.ov_ids.specs.ParamsState.{ParamsState}
 

@@ -5,8 +5,8 @@ use ov_ids::{MsgId, NodeId, Seq};
 use ov_net::Event;
 use std::alloc::Global;
 
-/// What a line of a script does: an event of a world, whose payload is empty if it is a broadcast. Places of packets are
-/// counted from 0, the oldest first. (Chosen here.)
+/// What a line of a script does: an event of a world, whose payload is empty if it is a broadcast. Places of packets
+/// are counted from 0, the oldest first. (Chosen here.)
 #[derive(Clone, Copy, Debug, PartialEq, Eq)]
 pub enum Act {
     /// A node is born, and joins by a contact if there is one.

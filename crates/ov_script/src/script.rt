@@ -54,8 +54,8 @@ impl Model for Script {
 }
 
 impl Script {
-    /// A script without a line to run: the heading as a comment, the parameters, and the seed of the random words of all
-    /// events. OutOfMemory (99) is returned if an allocation was refused.
+    /// A script without a line to run: the heading as a comment, the parameters, and the seed of the random words of
+    /// all events. OutOfMemory (99) is returned if an allocation was refused.
     pub fn new(
         alloc: Global,
         params: Params,

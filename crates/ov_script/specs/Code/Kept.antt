@@ -1,5 +1,5 @@
 -- What a script keeps of its text.
-use Rattle.std.specs.Prelude.{◌≡◌, ◌⊎◌, ℕ, List, [], ◌∷◌, ◌++◌, map, Option, Some, None}
+use Rattle.std.specs.Prelude.{◌≡◌, ◌⊎◌, ℕ, List, [], ◌∷◌, ◌++◌, map, Option, Some}
 use Rattle.rand_core.specs.Stream.{Stream}
 use Rattle.ov_ids.specs.ParamsState.{ParamsState}
 use Rattle.ov_lines.specs.Lines.{kept_lines}
@@ -7,7 +7,7 @@ use Rattle.ov_words.specs.Stream.{words_per_event}
 use Rattle.ov_scenario.specs.Draws.{seeded}
 use Rattle.ov_scenario.specs.RunLines.{drivers_for}
 use Rattle.ov_scenario.specs.Scenarios.{AreFaultless, AreParamsOf, IsSeedOf, stated_at}
-use Rattle.ov_scenario.specs.Statements.{Stated, ToldLine, told}
+use Rattle.ov_scenario.specs.Statements.{ToldLine, told}
 use Rattle.ov_scenario.specs.Code.RunnableLines.{later_words, outputs, to_run}
 use Rattle.ov_scenario.specs.declared.scenario.Line.{Line}
 use Rattle.ov_scenario.specs.declared.statement.Statement.{Statement}

@@ -16,10 +16,6 @@ room_of name numbers = length name + number_room * length numbers
 abbrev pub params_room : ℕ
 params_room = 160
 
--- how many bytes a script begins with at most, besides what its heading says
-abbrev pub opening_room : ℕ
-opening_room = 200
-
 -- each number of an act is below 2^32
 abbrev pub IsShort : Act → Type 0
 IsShort (act.Boot node None) = node < number_limit

@@ -1,5 +1,5 @@
 -- with the bytes that are left, the comment is whole; there is room for them
-use Rattle.std.proofs.Common.{◌≡◌, ◌≤◌, ◌+◌, ◌++◌, length, drop, map, codes}
+use Rattle.std.proofs.Common.{◌≡◌, ◌≤◌, ◌+◌, ◌++◌, drop, map, codes}
 use Rattle.ov_script.specs.WrittenLines.{within_line}
 use Rattle.ov_script.proofs.line_writing.write_comment.Given as goal
 

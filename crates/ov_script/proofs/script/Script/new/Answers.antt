@@ -1,6 +1,5 @@
 -- A script begins without a line to run.
-use Rattle.std.proofs.Common.{◌≡◌, ◌∙◌, ◌<◌, ◌^◌, ap, ◌++◌, ◌∷◌, [], arith, rules, append_assoc, sym}
-use Rattle.ov_words.specs.Stream.{AreOutputs}
+use Rattle.std.proofs.Common.{◌≡◌, ◌∙◌, ◌<◌, ◌^◌, ap, ◌++◌, arith, rules, append_assoc}
 use Rattle.ov_scenario.specs.Draws.{seeded}
 use Rattle.ov_script.specs.Scripts.{opening}
 use Rattle.ov_script.specs.WrittenLines.{comment_line, ended, params_line, seed_line}
@@ -14,7 +13,7 @@ returns-clause-text c =
     let first : c.write_comment.new.text.items ≡ heading = search rules in
     c.write_line.ensures.items
     ∙ ap (λ t. t ++ ended (seed_line c.args.seed)) (
-      c.write_params.ensures.items ∙ ap (λ t. t ++ ended (params_line c.args.params)) first
+    c.write_params.ensures.items ∙ ap (λ t. t ++ ended (params_line c.args.params)) first
     )
     ∙ append_assoc heading (ended (params_line c.args.params)) (ended (seed_line c.args.seed))
 

@@ -1,5 +1,5 @@
 -- An analysis is one line to run more.
-use Rattle.std.proofs.Common.{◌≡◌, ◌∙◌, ◌<◌, ap, ◌++◌, ◌∷◌, [], None, arith}
+use Rattle.std.proofs.Common.{◌∙◌, ◌<◌, ap, ◌++◌, ◌∷◌, [], None, arith}
 use Rattle.ov_ids.specs.Limits.{number_limit}
 use Rattle.ov_scenario.specs.declared.scenario.Line.TheVariants as line
 use Rattle.ov_script.specs.WrittenLines.{analysis_line, ended}
@@ -16,7 +16,8 @@ invariant_of-self c =
 
 pub returns-clause-text : goal.returns-clause-text
 unfolding analysis_line
-returns-clause-text c = c.write_line.ensures.items ∙ ap (λ v. v.text ++ ended (analysis_line c.args.moment)) c.self.view_is
+returns-clause-text c =
+    c.write_line.ensures.items ∙ ap (λ v. v.text ++ ended (analysis_line c.args.moment)) c.self.view_is
 
 pub returns-clause-lines : goal.returns-clause-lines
 unfolding analysis_line
