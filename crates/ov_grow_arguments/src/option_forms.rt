@@ -138,7 +138,7 @@ pub(crate) static OPTIONS: [OptionForm; 19] = [
         name: "pace",
         takes: Takes::Pace,
         usual: None,
-        help: "0 to 65536: turns between two births; without it, or with none, as many as packets, at most 1000",
+        help: "0 to 65536: turns between two births; without it, or with none, 1000 or until no packet is left",
     },
     OptionForm {
         name: "rounds",

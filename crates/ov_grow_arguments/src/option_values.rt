@@ -75,7 +75,7 @@ impl OptionValue for Order {
     }
 }
 
-/// The turns between two births; `none` if there are as many as there are packets.
+/// The turns between two births; `none` if they go on until no packet is left.
 impl OptionValue for Option<Pace> {
     fn read(_name: &str, text: &str) -> Option<Option<Pace>> {
         if text == "none" {
