@@ -1,0 +1,13 @@
+//! The options of growing an overlay, each within its limits, and the command that says them.
+#![tactic(auto)]
+
+mod command_line;
+mod node_count;
+mod options;
+mod percentages;
+mod repetitions;
+
+pub use node_count::NodeCount;
+pub use options::{Crash, GrowOptions, Order};
+pub use percentages::{Chance, Share};
+pub use repetitions::{Count, Pace};

@@ -1,0 +1,74 @@
+ghost use Rattle.std.specs.Prelude.{◌≡◌};
+ghost use Rattle.ov_grow_options.specs.Options.{default_options};
+
+use crate::{Chance, Count, NodeCount, Pace, Share};
+use ov_ids::Params;
+
+/// Whose turn is next.
+#[derive(Clone, Copy, Debug, PartialEq, Eq)]
+pub enum Order {
+    /// That of any packet that is on its way.
+    Random,
+    /// That of the packet that is on its way for longest.
+    Oldest,
+}
+
+/// Which nodes crash once the overlay has settled.
+#[derive(Clone, Copy, Debug, PartialEq, Eq)]
+pub enum Crash {
+    /// So many of 100 live nodes.
+    Share(Share),
+    /// Those that the settled overlay's report names as the cut.
+    Cut,
+}
+
+/// The options of growing. (Chosen here.)
+#[derive(Clone, Copy, Debug, PartialEq, Eq)]
+pub struct GrowOptions {
+    /// How many nodes join.
+    pub nodes: NodeCount,
+    /// The parameters of all nodes.
+    pub params: Params,
+    /// The seed of the events' random words, and of the choices of growing.
+    pub seed: u64,
+    /// The chance that a packet is lost when its turn comes while nodes join.
+    pub loss_join: Chance,
+    /// The same in the later phases.
+    pub loss: Chance,
+    /// Of 100 packets whose turn comes and that are not lost, how many are repeated first.
+    pub repeat: Share,
+    /// Whose turn is next.
+    pub order: Order,
+    /// How many turns there are between two births, if it is not as many as there are packets, 1,000 at most.
+    pub pace: Option<Pace>,
+    /// Rounds of shuffles while the overlay settles.
+    pub rounds: Count,
+    /// Which nodes crash.
+    pub crash: Crash,
+    /// Rounds of shuffles while the overlay heals.
+    pub heal: Count,
+    /// Broadcasts after each of the three snapshots.
+    pub broadcasts: Count,
+}
+
+impl Default for GrowOptions {
+    /// Each option at its default.
+    fn default() -> GrowOptions
+        ensures { result ≡ default_options }
+    {
+        GrowOptions {
+            nodes: NodeCount::DEFAULT,
+            params: Params::new(5, 30, 6, 3, 3, 4, 4).unwrap(),
+            seed: 0,
+            loss_join: Chance::ZERO,
+            loss: Chance::ZERO,
+            repeat: Share::ZERO,
+            order: Order::Random,
+            pace: None,
+            rounds: Count::ROUNDS,
+            crash: Crash::Share(Share::ZERO),
+            heal: Count::HEAL,
+            broadcasts: Count::ZERO,
+        }
+    }
+}
