@@ -1,0 +1,75 @@
+use crate::GrowArgumentsFault;
+use crate::commands::CommandName;
+use crate::option_values::{has_flag, long_walk, value};
+use crate::word_parsing::found_in;
+use clap::ArgMatches;
+use ov_grow_options::{Crash, GrowOptions, Pace};
+use ov_ids::Params;
+use std::alloc::Global;
+
+/// What the words after `overlay grow` ask for.
+#[derive(Clone, Copy, Debug, PartialEq, Eq)]
+pub struct GrowRequest {
+    /// The options of the overlay.
+    pub options: GrowOptions,
+}
+
+/// Reads the words after `overlay grow`: its options, each at most once, `--NAME VALUE` or `--NAME=VALUE`. An option
+/// that is not given has its default.
+///
+/// BadArguments (73): a word is no option or not what its option takes, --prwl is above --arwl, or help is asked for.
+/// OutOfMemory (99): an allocation was refused.
+pub fn read_grow_arguments(
+    alloc: Global,
+    words: &[String],
+) -> Result<GrowRequest, GrowArgumentsFault> {
+    let found = found_in(alloc, CommandName::Grow, words)?;
+    Ok(GrowRequest {
+        options: options_of(alloc, &found)?,
+    })
+}
+
+fn options_of(alloc: Global, found: &ArgMatches<'_>) -> Result<GrowOptions, GrowArgumentsFault> {
+    Ok(GrowOptions {
+        nodes: value(alloc, found, "nodes")?,
+        params: params_of(alloc, found)?,
+        seed: value(alloc, found, "seed")?,
+        loss_join: value(alloc, found, "loss-join")?,
+        loss: value(alloc, found, "loss")?,
+        repeat: value(alloc, found, "repeat")?,
+        order: value(alloc, found, "order")?,
+        pace: pace_of(alloc, found)?,
+        rounds: value(alloc, found, "rounds")?,
+        crash: crash_of(alloc, found)?,
+        heal: value(alloc, found, "heal")?,
+        broadcasts: value(alloc, found, "broadcasts")?,
+    })
+}
+
+fn params_of(alloc: Global, found: &ArgMatches<'_>) -> Result<Params, GrowArgumentsFault> {
+    let active = value(alloc, found, "active")?;
+    let passive = value(alloc, found, "passive")?;
+    let arwl = value(alloc, found, "arwl")?;
+    let prwl = value(alloc, found, "prwl")?;
+    let ka = value(alloc, found, "ka")?;
+    let kp = value(alloc, found, "kp")?;
+    let ttl = value(alloc, found, "ttl")?;
+    match Params::new(active, passive, arwl, prwl, ka, kp, ttl) {
+        Ok(params) => Ok(params),
+        Err(_) => Err(long_walk(alloc, arwl, prwl)?),
+    }
+}
+
+fn pace_of(alloc: Global, found: &ArgMatches<'_>) -> Result<Option<Pace>, GrowArgumentsFault> {
+    if !found.contains_id("pace") {
+        return Ok(None);
+    }
+    value(alloc, found, "pace")
+}
+
+fn crash_of(alloc: Global, found: &ArgMatches<'_>) -> Result<Crash, GrowArgumentsFault> {
+    if has_flag(found, "crash-cut") {
+        return Ok(Crash::Cut);
+    }
+    value(alloc, found, "crash")
+}

@@ -1,0 +1,203 @@
+use std::alloc::{AllocError, Global};
+use std::fmt::Write;
+
+/// An option of growing.
+#[derive(Clone, Copy)]
+pub(crate) struct OptionForm {
+    /// Its name, without the two hyphens before it.
+    pub(crate) name: &'static str,
+    /// What it takes.
+    pub(crate) takes: Takes,
+    /// The text that stands for it if it is not given.
+    pub(crate) usual: Option<&'static str>,
+    /// What help says of it.
+    pub(crate) help: &'static str,
+}
+
+/// What an option takes.
+#[derive(Clone, Copy)]
+pub(crate) enum Takes {
+    /// A number between two limits.
+    Number(u64, u64),
+    /// Whose turn is next.
+    Order,
+    /// The turns between two births, or `none`.
+    Pace,
+    /// How many nodes crash of 100, or `cut`.
+    Crash,
+    /// Nothing: it is there or not.
+    Nothing,
+}
+
+/// The words that `--order` takes.
+pub(crate) static ORDERS: [&str; 2] = ["random", "oldest"];
+
+/// The options that `overlay sweep` has besides, and that take a number.
+pub(crate) static SWEEP_OPTIONS: [OptionForm; 3] = [
+    OptionForm {
+        name: "runs",
+        takes: Takes::Number(1, 1_000_000),
+        usual: Some("30"),
+        help: "1 to 1000000: how many runs each setting has, with seeds that follow one another",
+    },
+    OptionForm {
+        name: "workers",
+        takes: Takes::Number(1, 64),
+        usual: Some("1"),
+        help: "1 to 64: how many runs go on at once",
+    },
+    OptionForm {
+        name: "list",
+        takes: Takes::Number(1, 1_000_000),
+        usual: None,
+        help: "Grows nothing, and prints commands in place of the rows, each of N runs at most",
+    },
+];
+
+/// The options of growing, in the order of their table.
+pub(crate) static OPTIONS: [OptionForm; 19] = [
+    OptionForm {
+        name: "nodes",
+        takes: Takes::Number(1, 256),
+        usual: Some("100"),
+        help: "1 to 256: how many nodes join",
+    },
+    OptionForm {
+        name: "active",
+        takes: Takes::Number(1, 16),
+        usual: Some("5"),
+        help: "1 to 16: how many members the active view of a node may have",
+    },
+    OptionForm {
+        name: "passive",
+        takes: Takes::Number(1, 64),
+        usual: Some("30"),
+        help: "1 to 64: how many members its passive view may have",
+    },
+    OptionForm {
+        name: "arwl",
+        takes: Takes::Number(0, 15),
+        usual: Some("6"),
+        help: "0 to 15: how far a FORWARDJOIN walks",
+    },
+    OptionForm {
+        name: "prwl",
+        takes: Takes::Number(0, 15),
+        usual: Some("3"),
+        help: "0 to --arwl: how long before its end a FORWARDJOIN makes its node a passive member",
+    },
+    OptionForm {
+        name: "ka",
+        takes: Takes::Number(0, 8),
+        usual: Some("3"),
+        help: "0 to 8: how many active members a shuffle carries",
+    },
+    OptionForm {
+        name: "kp",
+        takes: Takes::Number(0, 8),
+        usual: Some("4"),
+        help: "0 to 8: how many passive members a shuffle carries",
+    },
+    OptionForm {
+        name: "ttl",
+        takes: Takes::Number(1, 15),
+        usual: Some("4"),
+        help: "1 to 15: how far a SHUFFLE walks",
+    },
+    OptionForm {
+        name: "seed",
+        takes: Takes::Number(0, u64::MAX),
+        usual: Some("0"),
+        help: "64 bits: the seed of the nodes' random words and of all choices",
+    },
+    OptionForm {
+        name: "loss-join",
+        takes: Takes::Number(0, 100),
+        usual: Some("0"),
+        help: "0 to 100: of 100 packets, how many are lost while nodes join",
+    },
+    OptionForm {
+        name: "loss",
+        takes: Takes::Number(0, 100),
+        usual: Some("0"),
+        help: "0 to 100: of 100 packets, how many are lost later",
+    },
+    OptionForm {
+        name: "repeat",
+        takes: Takes::Number(0, 99),
+        usual: Some("0"),
+        help: "0 to 99: of 100 packets that are not lost, how many are repeated first",
+    },
+    OptionForm {
+        name: "order",
+        takes: Takes::Order,
+        usual: Some("random"),
+        help: "Whose turn is next: that of any packet, or of the oldest",
+    },
+    OptionForm {
+        name: "pace",
+        takes: Takes::Pace,
+        usual: None,
+        help: "0 to 65536: turns between two births; without it, or with none, as many as packets, at most 1000",
+    },
+    OptionForm {
+        name: "rounds",
+        takes: Takes::Number(0, 1000),
+        usual: Some("3"),
+        help: "0 to 1000: rounds of shuffles while the overlay settles",
+    },
+    OptionForm {
+        name: "crash",
+        takes: Takes::Crash,
+        usual: Some("0"),
+        help: "0 to 99: of 100 live nodes, how many crash; cut is --crash-cut",
+    },
+    OptionForm {
+        name: "crash-cut",
+        takes: Takes::Nothing,
+        usual: None,
+        help: "The nodes crash that the settled overlay's report names as the cut",
+    },
+    OptionForm {
+        name: "heal",
+        takes: Takes::Number(0, 1000),
+        usual: Some("2"),
+        help: "0 to 1000: rounds of shuffles while the overlay heals",
+    },
+    OptionForm {
+        name: "broadcasts",
+        takes: Takes::Number(0, 1000),
+        usual: Some("0"),
+        help: "0 to 1000: broadcasts after each of the three snapshots",
+    },
+];
+
+/// What the option of this name takes.
+fn taken_by(name: &str) -> Option<Takes> {
+    for option in OPTIONS.iter().chain(&SWEEP_OPTIONS) {
+        if option.name == name {
+            return Some(option.takes);
+        }
+    }
+    None
+}
+
+/// The limits of the option of this name, if it takes a number.
+pub(crate) fn limits_of(name: &str) -> Option<(u64, u64)> {
+    match taken_by(name)? {
+        Takes::Number(lowest, highest) => Some((lowest, highest)),
+        _ => None,
+    }
+}
+
+/// What the option of this name takes, in words.
+pub(crate) fn takes_text(alloc: Global, name: &str) -> Result<String, AllocError> {
+    match taken_by(name) {
+        Some(Takes::Number(lowest, highest)) => {
+            format!(in alloc; "it takes a number from {lowest} to {highest}")
+        }
+        Some(Takes::Pace) => String::from_str(alloc, "it takes a number from 0 to 65536, or none"),
+        Some(Takes::Crash) => String::from_str(alloc, "it takes a number from 0 to 99, or cut"),
+        _ => String::from_str(alloc, "it takes no such value"),
+    }
+}

@@ -1,0 +1,22 @@
+use std::fmt::{Display, Formatter, Result, Write};
+
+/// The fewest crashes that split an overlay. It is shown in words, with how many crashes the overlay survives.
+#[derive(Clone, Copy, Debug, PartialEq, Eq)]
+pub struct Survival {
+    /// The fewest crashes that split it, 0 if it is split.
+    pub k: u32,
+}
+
+impl Display for Survival {
+    fn fmt<W: Write>(&self, f: &mut Formatter<W>) -> Result {
+        match self.k {
+            0 => write!(f, "k 0: split already"),
+            1 => write!(f, "k 1: one crash may split it, so it survives none"),
+            2 => write!(f, "k 2: survives any 1 crash"),
+            k => {
+                let survived = k - 1;
+                write!(f, "k {k}: survives any {survived} crashes")
+            }
+        }
+    }
+}

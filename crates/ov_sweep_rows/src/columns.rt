@@ -1,0 +1,138 @@
+use crate::{DeliveredShare, PhaseRow};
+use ov_grow_options::{Crash, GrowOptions, Order, Pace};
+use std::fmt::{Display, Formatter, Result, Write};
+
+/// How many columns say the setting of a row, which is all its options but the seed. They come first.
+pub const SETTING_COLUMNS: usize = 17;
+
+/// The columns of a row: the setting, with the options in the order of their table; the seed; and six for each phase.
+pub const COLUMNS: [&str; 36] = [
+    "nodes",
+    "active",
+    "passive",
+    "arwl",
+    "prwl",
+    "ka",
+    "kp",
+    "ttl",
+    "loss_join",
+    "loss",
+    "repeat",
+    "order",
+    "pace",
+    "rounds",
+    "crash",
+    "heal",
+    "broadcasts",
+    "seed",
+    "settle_nodes",
+    "settle_k",
+    "settle_least_degree",
+    "settle_links",
+    "settle_entries",
+    "settle_delivered",
+    "crash_nodes",
+    "crash_k",
+    "crash_least_degree",
+    "crash_links",
+    "crash_entries",
+    "crash_delivered",
+    "heal_nodes",
+    "heal_k",
+    "heal_least_degree",
+    "heal_links",
+    "heal_entries",
+    "heal_delivered",
+];
+
+/// What stands in one column of a row.
+#[derive(Clone, Copy, Debug, PartialEq, Eq)]
+pub enum Cell {
+    /// Nothing: an option that was not given, or a share without broadcasts.
+    Empty,
+    /// A number, in decimal digits.
+    Number(u64),
+    /// A word.
+    Word(&'static str),
+    /// A share.
+    Share(DeliveredShare),
+}
+
+impl Display for Cell {
+    fn fmt<W: Write>(&self, f: &mut Formatter<W>) -> Result {
+        match self {
+            Cell::Empty => Ok(()),
+            Cell::Number(number) => write!(f, "{number}"),
+            Cell::Word(word) => write!(f, "{word}"),
+            Cell::Share(share) => write!(f, "{share}"),
+        }
+    }
+}
+
+/// The cells of the setting that these options are of, in the order of their columns.
+pub fn setting_cells(options: &GrowOptions) -> [Cell; 17] {
+    let params = options.params;
+    [
+        number(options.nodes.count()),
+        Cell::Number(params.active() as u64),
+        Cell::Number(params.passive() as u64),
+        Cell::Number(u64::from(params.arwl())),
+        Cell::Number(u64::from(params.prwl())),
+        Cell::Number(params.ka() as u64),
+        Cell::Number(params.kp() as u64),
+        Cell::Number(u64::from(params.shuffle_ttl())),
+        number(options.loss_join.of_hundred()),
+        number(options.loss.of_hundred()),
+        number(options.repeat.of_hundred()),
+        order_cell(options.order),
+        pace_cell(options.pace),
+        number(options.rounds.count()),
+        crash_cell(options.crash),
+        number(options.heal.count()),
+        number(options.broadcasts.count()),
+    ]
+}
+
+/// The cells of a phase, in the order of their columns.
+pub(crate) fn phase_cells(phase: &PhaseRow) -> [Cell; 6] {
+    [
+        number(phase.nodes),
+        number(phase.k),
+        number(phase.least_degree),
+        number(phase.links),
+        number(phase.entries),
+        share_cell(phase.delivered),
+    ]
+}
+
+fn number(value: u32) -> Cell {
+    Cell::Number(u64::from(value))
+}
+
+fn order_cell(order: Order) -> Cell {
+    match order {
+        Order::Random => Cell::Word("random"),
+        Order::Oldest => Cell::Word("oldest"),
+    }
+}
+
+fn pace_cell(pace: Option<Pace>) -> Cell {
+    match pace {
+        None => Cell::Empty,
+        Some(pace) => number(pace.turns()),
+    }
+}
+
+fn crash_cell(crash: Crash) -> Cell {
+    match crash {
+        Crash::Share(share) => number(share.of_hundred()),
+        Crash::Cut => Cell::Word("cut"),
+    }
+}
+
+fn share_cell(share: Option<DeliveredShare>) -> Cell {
+    match share {
+        None => Cell::Empty,
+        Some(share) => Cell::Share(share),
+    }
+}

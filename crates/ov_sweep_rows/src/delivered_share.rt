@@ -1,0 +1,54 @@
+ghost use Rattle.std.specs.Prelude.{◌≡◌, ◌≢◌, ◌*◌, ◌/◌, ◌<◌, IfSome, IfNone};
+
+use ov_lines::read_number;
+use std::fmt::{Display, Formatter, Result, Write};
+
+/// A delivered share, in parts of 10,000, rounded down. It is shown with four decimal digits, as `0.9312`.
+#[derive(Clone, Copy, Debug, PartialEq, Eq)]
+pub struct DeliveredShare {
+    /// How many parts of 10,000.
+    pub parts: u64,
+}
+
+impl DeliveredShare {
+    /// How many parts are the whole.
+    pub const WHOLE: u64 = 10_000;
+
+    /// The share of so many deliveries of so many broadcasts among so many live nodes. None is returned without
+    /// broadcasts, and without nodes.
+    pub fn new(deliveries: u32, broadcasts: u32, nodes: u32) -> Option<DeliveredShare>
+        ensures some { IfSome result (λ share. share.parts ≡ deliveries * 10000 / (broadcasts * nodes)) }
+        ensures none { IfNone result (broadcasts * nodes ≡ 0) }
+    {
+        let most = u64::from(broadcasts) * u64::from(nodes);
+        if most == 0 {
+            return None;
+        }
+        Some(DeliveredShare {
+            parts: u64::from(deliveries) * DeliveredShare::WHOLE / most,
+        })
+    }
+
+    /// The share that a text spells, a number with four decimal digits. None is returned if it spells none, or one past
+    /// 64 bits.
+    pub fn read(text: &[u8]) -> Option<DeliveredShare> {
+        let point = text.len().checked_sub(5)?;
+        let (whole, rest) = text.split_at(point);
+        if rest.first() != Some(&b'.') {
+            return None;
+        }
+        let whole = read_number(whole)?;
+        let rest = read_number(&rest[1..])?;
+        Some(DeliveredShare {
+            parts: whole.checked_mul(DeliveredShare::WHOLE)?.checked_add(rest)?,
+        })
+    }
+}
+
+impl Display for DeliveredShare {
+    fn fmt<W: Write>(&self, f: &mut Formatter<W>) -> Result {
+        let whole = self.parts / DeliveredShare::WHOLE;
+        let rest = self.parts % DeliveredShare::WHOLE;
+        write!(f, "{whole}.{rest:04}")
+    }
+}

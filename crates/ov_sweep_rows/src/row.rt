@@ -1,0 +1,61 @@
+ghost use Rattle.std.specs.Prelude.{◌≡◌, Some, slice_get};
+
+use crate::DeliveredShare;
+use ov_grow_options::GrowOptions;
+
+/// The phases after each of which a run is looked at.
+#[derive(Clone, Copy, Debug, PartialEq, Eq)]
+pub enum Phase {
+    /// The nodes have joined, and the overlay has settled.
+    Settle,
+    /// Some nodes have crashed, and none was told.
+    Crash,
+    /// The overlay has healed.
+    Heal,
+}
+
+impl Phase {
+    /// All phases, in their order.
+    pub const ALL: [Phase; 3] = [Phase::Settle, Phase::Crash, Phase::Heal];
+}
+
+/// One run of a sweep: the options that it was grown with, its seed among them, and what it came to after each phase.
+#[derive(Clone, Copy, Debug, PartialEq, Eq)]
+pub struct Row {
+    /// The options of the run.
+    pub options: GrowOptions,
+    /// What it came to after each phase, in the order of `Phase::ALL`.
+    pub phases: [PhaseRow; 3],
+}
+
+impl Row {
+    ghost use Rattle.ov_sweep_rows.specs.Rows.{place_of};
+
+    /// What the run came to after a phase.
+    pub fn after(&self, phase: Phase) -> &PhaseRow
+        ensures { slice_get self.now.phases (place_of phase) ≡ Some result.now }
+    {
+        match phase {
+            Phase::Settle => &self.phases[0],
+            Phase::Crash => &self.phases[1],
+            Phase::Heal => &self.phases[2],
+        }
+    }
+}
+
+/// What a run came to after one phase.
+#[derive(Clone, Copy, Debug, PartialEq, Eq)]
+pub struct PhaseRow {
+    /// How many nodes live.
+    pub nodes: u32,
+    /// How many crashes are the fewest that split the overlay, 0 if it is split.
+    pub k: u32,
+    /// How many links the node has that has the fewest.
+    pub least_degree: u32,
+    /// How many links there are.
+    pub links: u32,
+    /// The moment of the snapshot: how many entries the journal has.
+    pub entries: u32,
+    /// The delivered share, if there were broadcasts.
+    pub delivered: Option<DeliveredShare>,
+}

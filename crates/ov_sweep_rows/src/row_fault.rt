@@ -1,0 +1,125 @@
+ghost use Rattle.std.specs.Prelude.{◌≡◌};
+ghost use Rattle.ov_sweep_rows.specs.Rows.{number_of};
+
+use crate::COLUMNS;
+use csv::{Error as CsvError, ErrorKind};
+use std::alloc::{AllocError, AllocFailed};
+use std::fmt::{Display, Formatter, Result, Write};
+use thiserror::Error;
+
+/// Why a text of rows is refused. (The numbers are chosen here.)
+#[derive(Clone, Copy, Debug, PartialEq, Eq, Error)]
+pub enum RowFault {
+    /// The first line is not the header (70).
+    #[error("line 1 must be the header of the rows, nodes,active,passive and so on")]
+    Header,
+    /// The row at this line has so many fields, and not one for each column (70).
+    #[error("line {line}: the row has {fields} fields and must have 36")]
+    FieldCount { line: u64, fields: u64 },
+    /// A field of the row at this line is not what its column takes (70).
+    #[error("line {line}: {field}")]
+    Field { line: u64, field: FieldFault },
+    /// An allocation was refused (99).
+    #[error("out of memory")]
+    OutOfMemory,
+}
+
+impl RowFault {
+    /// The fault's number.
+    pub fn number(&self) -> u32
+        ensures { result ≡ number_of self.now }
+    {
+        match self {
+            RowFault::Header | RowFault::FieldCount { .. } | RowFault::Field { .. } => 70,
+            RowFault::OutOfMemory => 99,
+        }
+    }
+}
+
+/// A field that is not what its column takes.
+#[derive(Clone, Copy, Debug, PartialEq, Eq)]
+pub struct FieldFault {
+    /// The place of the column, counted from 0.
+    pub place: usize,
+    /// What it takes.
+    pub takes: FieldForm,
+}
+
+/// What a column takes.
+#[derive(Clone, Copy, Debug, PartialEq, Eq)]
+pub enum FieldForm {
+    /// A number of nodes to grow.
+    Nodes,
+    /// The last of parameters that are within their limits.
+    Params,
+    /// A chance of 100.
+    Chance,
+    /// A share of 100.
+    Share,
+    /// Whose turn is next.
+    Order,
+    /// Turns between two births, or nothing.
+    Pace,
+    /// Rounds or broadcasts.
+    Count,
+    /// Which nodes crash.
+    Crash,
+    /// A number of 64 bits.
+    Seed,
+    /// A number of 32 bits.
+    Number,
+    /// A delivered share, or nothing.
+    Delivered,
+}
+
+impl Display for FieldForm {
+    fn fmt<W: Write>(&self, f: &mut Formatter<W>) -> Result {
+        f.write_str(match self {
+            FieldForm::Nodes => "a number from 1 to 256",
+            FieldForm::Params => "a number from 1 to 15, after parameters within their limits",
+            FieldForm::Chance => "a number from 0 to 100",
+            FieldForm::Share => "a number from 0 to 99",
+            FieldForm::Order => "random or oldest",
+            FieldForm::Pace => "a number from 0 to 65536, or empty",
+            FieldForm::Count => "a number from 0 to 1000",
+            FieldForm::Crash => "a number from 0 to 99, or cut",
+            FieldForm::Seed => "a number below 2 to the power of 64",
+            FieldForm::Number => "a number below 2 to the power of 32",
+            FieldForm::Delivered => "a number with four decimal digits, or empty",
+        })
+    }
+}
+
+impl Display for FieldFault {
+    fn fmt<W: Write>(&self, f: &mut Formatter<W>) -> Result {
+        let name = COLUMNS.get(self.place).copied().unwrap_or("a column");
+        let takes = self.takes;
+        write!(f, "{name} must be {takes}")
+    }
+}
+
+impl From<AllocError> for RowFault {
+    fn from(_error: AllocError) -> RowFault {
+        RowFault::OutOfMemory
+    }
+}
+
+impl<T: Drop> From<AllocFailed<T>> for RowFault {
+    fn from(_error: AllocFailed<T>) -> RowFault {
+        RowFault::OutOfMemory
+    }
+}
+
+/// A text in memory can't be read as CSV for two reasons alone: a row has another number of fields than the header, or
+/// an allocation was refused.
+impl From<CsvError> for RowFault {
+    fn from(error: CsvError) -> RowFault {
+        match error.kind() {
+            ErrorKind::UnequalLengths { pos, len, .. } => RowFault::FieldCount {
+                line: pos.map_or(0, |at| at.line),
+                fields: *len,
+            },
+            _ => RowFault::OutOfMemory,
+        }
+    }
+}
