@@ -12,15 +12,22 @@ ghost use Rattle.ov_run.specs.Run.{IsRunOf};
 ghost use Rattle.overlay.specs.declared.program_outcome.ProgramFault.TheVariants.{Arguments, Run};
 
 mod fault_reasons;
+mod grow_command;
+mod growth_fault;
 mod program_outcome;
 mod progress;
 mod refusal_watcher;
+mod row_files;
+mod row_printing;
 mod run_news;
+mod sweep_command;
 
 use crate::fault_reasons::{analysis_reason, run_reason};
+use crate::grow_command::grow_command;
 use crate::program_outcome::{ProgramFault, exit_status};
 use crate::progress::PieceProgress;
 use crate::run_news::RunNews;
+use crate::sweep_command::sweep_command;
 use ov_arguments::{
     AnalysisRequest, ArgumentsFault, Request, RunRequest, argument_reasons, read_arguments,
 };
@@ -66,9 +73,30 @@ fn overlay<T: Threads + Wait + Sync>(rt: &HostRuntime, threads: &T) -> Result<u8
     ensures status { IfOk result (λ status. status ≡ 0) }
 {
     match command_line(rt) {
-        Ok(texts) => answer(rt, threads, behind_name(&texts)),
+        Ok(texts) => do_command(rt, threads, behind_name(&texts)),
         Err(fault) => Err(unread_arguments(rt, fault, &[])),
     }
+}
+
+/// Does what these arguments ask for. If the first is `grow` or `sweep`, those behind it are words of this command.
+fn do_command<T: Threads + Wait + Sync>(
+    rt: &HostRuntime,
+    threads: &T,
+    arguments: &[String],
+) -> Result<u8, ProgramFault>
+    ensures status { IfOk result (λ status. status ≡ 0) }
+{
+    if let Some((command, words)) = arguments.split_first() {
+        if command.as_str() == "grow" {
+            grow_command(rt, words)?;
+            return Ok(0);
+        }
+        if command.as_str() == "sweep" {
+            sweep_command(rt, threads, words)?;
+            return Ok(0);
+        }
+    }
+    answer(rt, threads, arguments)
 }
 
 /// Does what these arguments ask for.

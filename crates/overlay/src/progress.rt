@@ -25,15 +25,23 @@ impl<'a> PacedClock<'a> {
 
     /// Whether a line is due now, which is then printed.
     fn is_due(&mut self) -> bool {
+        self.passed_if_due().is_some()
+    }
+
+    /// The milliseconds since the beginning, if a line is due now, which is then printed.
+    fn passed_if_due(&mut self) -> Option<u64> {
         if !self.is_wanted {
-            return false;
+            return None;
         }
         let (Some(begun), Ok(now)) = (self.begun, Instant::now(self.rt)) else {
-            return false;
+            return None;
         };
-        let passed = now.duration_since(begun).as_millis();
-        self.pacing
-            .is_due(u64::try_from(passed).unwrap_or(u64::MAX))
+        let passed = u64::try_from(now.duration_since(begun).as_millis()).unwrap_or(u64::MAX);
+        if self.pacing.is_due(passed) {
+            Some(passed)
+        } else {
+            None
+        }
     }
 }
 
@@ -98,4 +106,41 @@ fn line_count(bytes: &[u8]) -> usize {
         None | Some(b'\n') => ended,
         Some(_) => ended.saturating_add(1),
     }
+}
+
+/// Says on standard error how many runs of a sweep are done, and how long the others will take, at the pace of `Pacing`.
+#[derive(Drop)]
+pub(crate) struct RunProgress<'a> {
+    clock: PacedClock<'a>,
+    done: u64,
+    /// How many runs the sweep has.
+    count: u64,
+}
+
+impl<'a> RunProgress<'a> {
+    /// The progress of a sweep of so many runs.
+    pub(crate) fn new(rt: &'a HostRuntime, is_asked: bool, count: u64) -> RunProgress<'a> {
+        RunProgress {
+            clock: PacedClock::new(rt, is_asked),
+            done: 0,
+            count,
+        }
+    }
+
+    /// So many more runs were done.
+    pub(crate) fn sees(&mut self, runs: usize) {
+        self.done = self.done.saturating_add(runs as u64);
+        let Some(passed) = self.clock.passed_if_due() else {
+            return;
+        };
+        let (done, count) = (self.done, self.count);
+        let left = seconds_left(passed, done, count);
+        let _ = eprintln!(self.clock.rt; "run {done} of {count}, {left} s left");
+    }
+}
+
+/// How many seconds the other runs take, if each takes as long as those that are done took.
+fn seconds_left(passed: u64, done: u64, count: u64) -> u64 {
+    let left = count.saturating_sub(done);
+    passed.saturating_mul(left) / done.max(1) / 1000
 }

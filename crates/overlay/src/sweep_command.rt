@@ -1,0 +1,135 @@
+use crate::grow_command::{told, unread_words};
+use crate::growth_fault::GrowthFault;
+use crate::row_files::rows_of_files;
+use crate::row_printing::RowPrinter;
+use ov_grow_arguments::{Printed, SweepRequest, read_sweep_arguments};
+use ov_io::Sink;
+use ov_sweep::{SweepFault, sweep};
+use ov_sweep_report::{settings_of, summary_text, svg_text};
+use ov_sweep_rows::{Row, header_text, row_text};
+use std::fmt::Write;
+use std::fs::File;
+use std::thread::Threads;
+
+/// Does what the words after `overlay sweep` ask for.
+pub(crate) fn sweep_command<T: Threads + Sync>(
+    rt: &HostRuntime,
+    threads: &T,
+    words: &[String],
+) -> Result<(), GrowthFault> {
+    let request = match read_sweep_arguments(rt.alloc(), words) {
+        Ok(request) => request,
+        Err(fault) => return Err(unread_words(rt, &fault)),
+    };
+    match request.printed {
+        Printed::List { block } => print_list(rt, &request, block),
+        Printed::Rows | Printed::Summary => print_sweep(rt, threads, &request),
+    }
+}
+
+/// Prints the commands of all blocks of runs.
+fn print_list(rt: &HostRuntime, request: &SweepRequest, most: u32) -> Result<(), GrowthFault> {
+    let mut sink = Sink::new(rt.stdout());
+    for block in request.blocks(most) {
+        let mut line = block.command(rt.alloc())?;
+        line.push('\n')?;
+        if let Err(fault) = sink.write_all(line.as_bytes()) {
+            return Err(told(rt, fault.into()));
+        }
+    }
+    Ok(())
+}
+
+/// Prints the rows of a sweep, or a summary of them, and writes the picture if one is asked for.
+fn print_sweep<T: Threads + Sync>(
+    rt: &HostRuntime,
+    threads: &T,
+    request: &SweepRequest,
+) -> Result<(), GrowthFault> {
+    let rows = match &request.read {
+        Some(files) => read_and_print(rt, request, files)?,
+        None => grow_and_print(rt, threads, request)?,
+    };
+    match print_report(rt, request, &rows) {
+        Ok(()) => Ok(()),
+        Err(fault) => Err(told(rt, fault)),
+    }
+}
+
+/// The rows of files, which are printed too unless a summary is asked for.
+fn read_and_print(
+    rt: &HostRuntime,
+    request: &SweepRequest,
+    files: &[String],
+) -> Result<Vec<Row>, GrowthFault> {
+    let rows = rows_of_files(rt, files)?;
+    if request.printed == Printed::Rows {
+        let mut printer = RowPrinter::new(rt, request);
+        match printer.print_all(&rows) {
+            Ok(()) => {}
+            Err(fault) => return Err(told(rt, fault.into())),
+        }
+    }
+    Ok(rows)
+}
+
+/// Grows the overlays of a sweep, and prints their rows, unless a summary is asked for. The rows are returned if a summary
+/// or a picture needs them.
+fn grow_and_print<T: Threads + Sync>(
+    rt: &HostRuntime,
+    threads: &T,
+    request: &SweepRequest,
+) -> Result<Vec<Row>, GrowthFault> {
+    let mut printer = RowPrinter::new(rt, request);
+    let done = match printer.print_header() {
+        Ok(()) => sweep(
+            threads,
+            rt.alloc(),
+            &mut request.runs(),
+            request.workers,
+            &mut printer,
+        ),
+        Err(fault) => Err(fault),
+    };
+    match done {
+        Ok(()) => Ok(printer.into_kept()),
+        Err(fault) => Err(ended(rt, fault)),
+    }
+}
+
+/// Ends a sweep. Prints why, and which run was refused.
+fn ended(rt: &HostRuntime, fault: SweepFault) -> GrowthFault {
+    match fault {
+        SweepFault::Run(refused) => {
+            let (options, why) = (refused.options, refused.fault);
+            let ended = GrowthFault::Grow(why);
+            let _ = eprintln!(rt; "{ended}\n{options}: {why}");
+            ended
+        }
+        SweepFault::Write | SweepFault::OutOfMemory => told(rt, fault.into()),
+    }
+}
+
+/// Prints the summary of these rows, and writes their picture, as far as they are asked for.
+fn print_report(rt: &HostRuntime, request: &SweepRequest, rows: &[Row]) -> Result<(), GrowthFault> {
+    let settings = settings_of(rt.alloc(), rows)?;
+    if request.printed == Printed::Summary {
+        let text = summary_text(rt.alloc(), &settings)?;
+        Sink::new(rt.stdout()).write_all(text.as_bytes())?;
+    }
+    match request.svg.as_deref() {
+        None => Ok(()),
+        Some(path) => {
+            let text = svg_text(rt.alloc(), &settings)?;
+            write_file(rt, path, text.as_bytes())
+        }
+    }
+}
+
+/// Writes a file.
+fn write_file(rt: &HostRuntime, path: &str, bytes: &[u8]) -> Result<(), GrowthFault> {
+    match File::create(rt, path) {
+        Ok(file) => Ok(Sink::new(file).write_all(bytes)?),
+        Err(_) => Err(GrowthFault::Write),
+    }
+}
