@@ -7,7 +7,7 @@ mod row_making;
 mod sweep_fault;
 mod sweeping;
 
-pub use batch::{Outcome, outcomes_of};
+pub use batch::{GrownBatch, RefusedRun, grow_batch};
 pub use row_making::row_of;
-pub use sweep_fault::{RefusedRun, SweepFault};
-pub use sweeping::{RowTaker, sweep};
+pub use sweep_fault::SweepFault;
+pub use sweeping::{RowTaker, Runs, sweep};

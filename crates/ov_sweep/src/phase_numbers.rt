@@ -1,3 +1,9 @@
+ghost use Rattle.std.specs.Prelude.{◌≡◌, ◌<◌, length};
+ghost use Rattle.ov_cert.specs.Valid.{k_of};
+ghost use Rattle.ov_graph.specs.Links.{HasNode};
+ghost use Rattle.ov_ids.specs.Members.{Has};
+ghost use Rattle.ov_sweep.specs.Rows.{AreNumbersOf, HasDegree, IsLeastDegree};
+
 use ov_cert::Cert;
 use ov_graph::Graph;
 use ov_grow::Phase;
@@ -6,7 +12,10 @@ use ov_snap::Report;
 use ov_sweep_rows::{DeliveredShare, PhaseRow};
 
 /// What a row says of a phase: the numbers of the report of its end, and how many of its broadcasts were delivered.
-pub(crate) fn phase_row(report: &Report, phase: Phase, broadcasts: u32) -> PhaseRow {
+pub(crate) fn phase_row(report: &Report, phase: Phase, broadcasts: u32) -> PhaseRow
+    requires { HasNode report.now.graph }
+    ensures { AreNumbersOf report.now broadcasts phase.deliveries result }
+{
     let graph = report.checked().graph();
     let nodes = graph.nodes().len() as u32;
     PhaseRow {
@@ -20,7 +29,9 @@ pub(crate) fn phase_row(report: &Report, phase: Phase, broadcasts: u32) -> Phase
 }
 
 /// How few crashes split the group of a certificate.
-fn number_of(cert: &Cert) -> u32 {
+fn number_of(cert: &Cert) -> u32
+    ensures { result ≡ k_of cert.now }
+{
     match cert {
         Cert::Linked { k } => *k,
         Cert::Split(split) => split.k,
@@ -28,28 +39,31 @@ fn number_of(cert: &Cert) -> u32 {
 }
 
 /// How many links a graph has.
-fn link_count(graph: &Graph) -> u32 {
-    let mut count = 0;
-    for _ in graph.links() {
-        count += 1;
-    }
-    count
+fn link_count(graph: &Graph) -> u32
+    ensures { result ≡ length graph.now.links }
+{
+    let _nodes = graph.nodes();
+    graph.links().count() as u32
 }
 
 /// How few neighbours a node of a graph has.
-fn least_degree(graph: &Graph) -> u32 {
-    let mut least = u32::MAX;
-    for node in graph.nodes() {
+fn least_degree(graph: &Graph) -> u32
+    requires { HasNode graph.now }
+    ensures { IsLeastDegree graph.now result }
+{
+    let nodes = graph.nodes();
+    let mut least = degree(graph, nodes[0]);
+    for node in nodes {
         least = least.min(degree(graph, *node));
     }
     least
 }
 
 /// How many neighbours a node has.
-fn degree(graph: &Graph, node: NodeId) -> u32 {
-    let mut count = 0;
-    for _ in graph.neighbours(node) {
-        count += 1;
-    }
-    count
+fn degree(graph: &Graph, node: NodeId) -> u32
+    requires { Has graph.now.nodes node }
+    ensures { HasDegree graph.now node result }
+{
+    let _nodes = graph.nodes();
+    graph.neighbours(node).count() as u32
 }

@@ -1,18 +1,8 @@
-use ov_grow::GrowFault;
-use ov_grow_options::GrowOptions;
+use crate::batch::RefusedRun;
 use ov_ids::OutOfMemory;
 use ov_io::WriteFault;
 use std::alloc::{AllocError, AllocFailed};
 use thiserror::Error;
-
-/// A run of a sweep that was refused.
-#[derive(Clone, Copy, Debug, PartialEq, Eq)]
-pub struct RefusedRun {
-    /// The options of the run.
-    pub options: GrowOptions,
-    /// Why growing was refused.
-    pub fault: GrowFault,
-}
 
 /// Why a sweep ended before its end.
 #[derive(Clone, Copy, Debug, PartialEq, Eq, Error)]

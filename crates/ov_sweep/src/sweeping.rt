@@ -1,5 +1,5 @@
-use crate::batch::{Outcome, outcomes_of};
-use crate::sweep_fault::{RefusedRun, SweepFault};
+use crate::batch::{GrownBatch, grow_batch};
+use crate::sweep_fault::SweepFault;
 use ov_claims::Workers;
 use ov_grow_options::GrowOptions;
 use ov_ids::OutOfMemory;
@@ -8,7 +8,16 @@ use std::alloc::Global;
 use std::thread::Threads;
 
 /// How many runs a batch has for each worker. (Chosen here.)
-const RUNS_OF_A_WORKER: usize = 16;
+const RUNS_OF_A_WORKER: u64 = 16;
+
+/// The runs of a sweep, by their places.
+pub trait Runs {
+    /// How many runs there are.
+    fn count(&self) -> u64;
+
+    /// The options of the run at a place, counted from 0. None is returned behind the last one.
+    fn options(&self, place: u64) -> Option<GrowOptions>;
+}
 
 /// Takes the rows of a sweep.
 pub trait RowTaker {
@@ -16,64 +25,44 @@ pub trait RowTaker {
     fn take(&mut self, rows: &[Row]) -> Result<(), SweepFault>;
 }
 
-/// Grows an overlay of each of these settings by these workers, batch by batch, and has the rows of each batch taken, in
-/// the order of the settings.
-pub fn sweep<R: Threads + Sync, I: Iterator<Item = GrowOptions>, T: RowTaker>(
+/// Grows an overlay with the options of each of these runs by these workers, batch by batch, and has the rows of each
+/// batch taken before the next one begins. The first run that is refused ends the sweep, after the rows before it were
+/// taken.
+///
+/// Run (see `GrowFault`): a run was refused. Write (72): the rows were not taken. OutOfMemory (99): an allocation was
+/// refused.
+pub fn sweep<R: Threads + Sync, S: Runs, T: RowTaker>(
     rt: &R,
     alloc: Global,
-    settings: &mut I,
+    runs: &S,
     workers: Workers,
     taker: &mut T,
 ) -> Result<(), SweepFault> {
-    let size = workers.count() as usize * RUNS_OF_A_WORKER;
-    loop {
-        let batch = next_batch(alloc, settings, size)?;
-        if batch.is_empty() {
-            return Ok(());
-        }
-        let outcomes = outcomes_of(rt, alloc, &batch, workers)?;
-        let (rows, refused) = rows_before_refusal(alloc, &batch, &outcomes)?;
+    let size = u64::from(workers.count()) * RUNS_OF_A_WORKER;
+    for first in (0..runs.count()).step_by(size as usize) {
+        let batch = batch_from(alloc, runs, first, size)?;
+        let GrownBatch { rows, refused } = grow_batch(rt, alloc, &batch, workers)?;
         taker.take(&rows)?;
         if let Some(refused) = refused {
             return Err(SweepFault::Run(refused));
         }
     }
+    Ok(())
 }
 
-/// The next settings, so many, or all that are left.
-fn next_batch<I: Iterator<Item = GrowOptions>>(
+/// The options of so many runs from a place on, or of all that are left.
+fn batch_from<S: Runs>(
     alloc: Global,
-    settings: &mut I,
-    size: usize,
+    runs: &S,
+    first: u64,
+    size: u64,
 ) -> Result<Vec<GrowOptions>, OutOfMemory> {
-    let mut batch = Vec::with_capacity(alloc, size)?;
-    for _ in 0..size {
-        match settings.next() {
+    let mut batch = Vec::new(alloc);
+    for place in first..first.saturating_add(size) {
+        match runs.options(place) {
             Some(options) => batch.push(options)?,
             None => return Ok(batch),
         }
     }
     Ok(batch)
-}
-
-/// The rows of the runs before the first that was refused, and that one, if there is one.
-fn rows_before_refusal(
-    alloc: Global,
-    batch: &[GrowOptions],
-    outcomes: &[Outcome],
-) -> Result<(Vec<Row>, Option<RefusedRun>), OutOfMemory> {
-    let mut rows = Vec::with_capacity(alloc, outcomes.len())?;
-    for (options, outcome) in batch.iter().zip(outcomes) {
-        match outcome {
-            Ok(row) => rows.push_reserved(*row),
-            Err(fault) => {
-                let refused = RefusedRun {
-                    options: *options,
-                    fault: *fault,
-                };
-                return Ok((rows, Some(refused)));
-            }
-        }
-    }
-    Ok((rows, None))
 }
