@@ -97,7 +97,8 @@ asked_same c d t u e f (Run file run) a = (
   (λ x. a.0 (sym e ∙ x)),
   ap file_asked (f (codes "file")) ∙ a.1,
   ap is_flagged (f (codes "explain")) ∙ a.2,
-  ap is_flagged (f (codes "progress")) ∙ a.3,
+  ap is_flagged (f (codes "strict")) ∙ a.3,
+  ap is_flagged (f (codes "progress")) ∙ a.4,
 )
 asked_same c d t u e f (Analyse file analysis) a = (
   e ∙ a.0,

@@ -27,11 +27,13 @@ option name = record (new_rule name) { long = Some name; action = Some Set }
 abbrev pub flag : List ℕ → Rule
 flag name = record (new_rule name) { long = Some name; action = Some SetTrue }
 
--- `run [FILE] [--explain] [--progress]`
+-- `run [FILE] [--explain] [--strict] [--progress]`
 abbrev pub run_command : App
 run_command =
     with_rule
+    (with_rule
     (with_rule (with_rule (new_app (codes "run")) (new_rule (codes "file"))) (flag (codes "explain")))
+    (flag (codes "strict")))
     (flag (codes "progress"))
 
 -- `analyse [FILE] [--group TEXT] [--workers TEXT] [--certificate] [--progress]`
@@ -93,6 +95,7 @@ IsAsked command text (Run file run) =
     (command ≢ Some (codes "analyse"))
     × (file_asked (text (codes "file")) ≡ option_map (λ f. string_bytes f) file)
     × (is_flagged (text (codes "explain")) ≡ run.explain)
+    × (is_flagged (text (codes "strict")) ≡ run.strict)
     × (is_flagged (text (codes "progress")) ≡ run.progress)
 IsAsked command text (Analyse file analysis) =
     (command ≡ Some (codes "analyse"))

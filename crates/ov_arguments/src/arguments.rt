@@ -41,6 +41,8 @@ pub enum Request {
 pub struct RunRequest {
     /// Whether to print why lines are refused.
     pub explain: bool,
+    /// Whether to end at the first refused line.
+    pub strict: bool,
     /// Whether to print how far the run has come.
     pub progress: bool,
 }
@@ -136,8 +138,8 @@ impl From<ClapError> for ArgumentsFault {
     }
 }
 
-/// Reads the arguments that follow the program's name: `run [FILE] [--explain] [--progress]` or `analyse [FILE] [--group
-/// IDS] [--workers N] [--certificate] [--progress]`. No argument asks for `run`. A file that is absent or `-` is
+/// Reads the arguments that follow the program's name: `run [FILE] [--explain] [--strict] [--progress]` or `analyse [FILE]
+/// [--group IDS] [--workers N] [--certificate] [--progress]`. No argument asks for `run`. A file that is absent or `-` is
 /// standard input. IDS are one or more ids of decimal digits and 32 bits, with commas between them. N is decimal
 /// digits, and from 1 to 64; without it there is one worker. No option may be given twice. After `--` an argument that
 /// begins with `-` is a file. All other arguments are refused with BadArguments (73), also those that ask for help.
@@ -155,6 +157,7 @@ pub fn read_arguments(alloc: Global, arguments: &[String]) -> Result<Request, Ar
             file: None,
             run: RunRequest {
                 explain: false,
+                strict: false,
                 progress: false,
             },
         }),
@@ -176,6 +179,7 @@ fn request_of(alloc: Global, command: &str, found: &ArgMatches) -> Result<Reques
         file: file_of(alloc, found)?,
         run: RunRequest {
             explain: has_flag(found, "explain"),
+            strict: has_flag(found, "strict"),
             progress: has_flag(found, "progress"),
         },
     })

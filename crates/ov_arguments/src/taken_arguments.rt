@@ -8,6 +8,13 @@ use std::alloc::{AllocError, Global};
 /// The program's name, which usage begins with, although it is none of the arguments.
 const NAME: &str = "overlay";
 
+/// What help of `overlay` begins with.
+const EXAMPLES: &str = "\
+Examples:
+  overlay run story.scenario --explain
+  overlay analyse net.graph --workers 4
+  overlay analyse net.graph --certificate";
+
 /// What help says of `overlay`.
 const ABOUT: &str = "Runs a scenario file of overlay nodes, or analyses a graph file.";
 
@@ -19,12 +26,33 @@ Bare overlay is overlay run. overlay --version prints the version.";
 /// What help says of `--progress` of both commands.
 const PROGRESS: &str = "Prints on standard error how far it has come";
 
+/// What help of `overlay run` begins with.
+const RUN_EXAMPLES: &str = "\
+Examples:
+  overlay run story.scenario
+  overlay run story.scenario --strict --progress
+  overlay run --explain < story.scenario";
+
 /// What help says of `overlay run`, and of its other options.
 const ABOUT_RUN: &str = "Runs the events of a scenario file, and prints what happens";
+
+/// What help says of refused lines, below the options.
+const BELOW_RUN: &str = "\
+A line that is refused as it runs prints `refused N`, changes nothing, and the run goes on.
+Its status is 0 all the same. With --strict the run ends there, with status 1.";
 
 const SCENARIO_FILE: &str = "The scenario file; standard input without it, or with -";
 
 const EXPLAIN: &str = "Prints on standard error why lines are refused, and counts the events";
+
+const STRICT: &str = "Ends at the first refused line, says why, and has status 1";
+
+/// What help of `overlay analyse` begins with.
+const ANALYSE_EXAMPLES: &str = "\
+Examples:
+  overlay analyse net.graph
+  overlay analyse net.graph --group 1,2,3 --workers 4
+  overlay analyse net.graph --certificate | tail -1 | overlay-check";
 
 /// What help says of `overlay analyse`, and of its other options.
 const ABOUT_ANALYSE: &str = "Reads a graph file, and prints how few crashes split it";
@@ -44,6 +72,7 @@ pub(crate) fn command<'a>(alloc: Global) -> Result<Command<'a>, AllocError>
     Command::new(alloc, NAME)
         .bin_name(NAME)?
         .no_binary_name(true)
+        .before_help(EXAMPLES)
         .about(ABOUT)
         .after_help(BELOW)
         .subcommand(run_command(alloc)?)?
@@ -55,9 +84,12 @@ fn run_command<'a>(alloc: Global) -> Result<Command<'a>, AllocError>
     ensures { IfOk result (λ c. app_of c ≡ run_command) }
 {
     Command::new(alloc, "run")
+        .before_help(RUN_EXAMPLES)
         .about(ABOUT_RUN)
+        .after_help(BELOW_RUN)
         .arg(file(alloc, SCENARIO_FILE))?
         .arg(flag(alloc, "explain", EXPLAIN))?
+        .arg(flag(alloc, "strict", STRICT))?
         .arg(flag(alloc, "progress", PROGRESS))
 }
 
@@ -66,6 +98,7 @@ fn analyse_command<'a>(alloc: Global) -> Result<Command<'a>, AllocError>
     ensures { IfOk result (λ c. app_of c ≡ analyse_command) }
 {
     Command::new(alloc, "analyse")
+        .before_help(ANALYSE_EXAMPLES)
         .about(ABOUT_ANALYSE)
         .arg(file(alloc, GRAPH_FILE))?
         .arg(option(alloc, "group", GROUP))?

@@ -1,5 +1,6 @@
 use crate::bad_group_texts::{first_stranger, push_unordered};
 use crate::event_texts::push_node;
+use crate::moment_texts::push_no_snapshot;
 use ov_ids::{NodeId, OutOfMemory};
 use ov_net::NetFault;
 use ov_scenario::Subject;
@@ -18,7 +19,7 @@ pub(crate) fn push_analysis_reason(
     match fault {
         CoreFault::BadGroup => push_bad_group(text, core, subject)?,
         CoreFault::NoNodes => write!(text, "nobody lived at moment {moment}")?,
-        CoreFault::NoSuchMoment => write!(text, "no snapshot was taken at moment {moment}")?,
+        CoreFault::NoSuchMoment => push_no_snapshot(text, core.world().journal(), "", moment)?,
         CoreFault::AlreadyFiled => push_report(text, "a report", subject)?,
         _ => write!(text, "{fault}")?,
     }
@@ -46,14 +47,18 @@ pub(crate) fn push_show_reason(
     }
 }
 
-/// Appends why the certificate of a subject is not printed.
+/// Appends why the certificate of a subject is not printed. The core is as the look found it.
 pub(crate) fn push_certificate_reason(
     text: &mut String,
+    core: &Core,
     subject: &Subject,
     fault: CoreFault,
 ) -> Result<(), AllocError> {
     match fault {
-        CoreFault::NoSuchMoment => push_report(text, "no report", subject),
+        CoreFault::NoSuchMoment => {
+            push_report(text, "no report", subject)?;
+            push_no_snapshot(text, core.world().journal(), "; ", subject.moment)
+        }
         _ => write!(text, "{fault}"),
     }
 }

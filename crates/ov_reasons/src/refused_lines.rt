@@ -44,7 +44,7 @@ pub fn core_refusal_reason(
             push_analysis_reason(&mut text, core, subject, fault)?
         }
         Some(Line::Look(Look::Certificate(subject))) => {
-            push_certificate_reason(&mut text, subject, fault)?
+            push_certificate_reason(&mut text, core, subject, fault)?
         }
         _ => write!(text, "{fault}")?,
     }

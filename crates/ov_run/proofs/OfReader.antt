@@ -9,6 +9,9 @@ use Rattle.ov_run.specs.Ending.{IsBegun, Begins, IsEnded, Ends}
 use Rattle.ov_run.specs.Faults.{IsScenarioFileFault, IsAnalysisFileFault, IsAnalysisFault, IsRunFault, read_faults}
 use Rattle.ov_run.specs.Run.{IsRunOf}
 use Rattle.ov_run.specs.Running.{IsOutput, PrintsScenario}
+use Rattle.ov_run.specs.Strict.{AcceptsScenario, IsAcceptedScenario, IsStoppedScenario, StopsScenario}
+use Rattle.ov_run.specs.declared.refusal.Refusal.{Refusal}
+use Rattle.ov_run.specs.declared.strictness.Strictness.{Strictness}
 use Rattle.ov_run.specs.declared.answered.Answered.{Answered}
 use Rattle.ov_run.specs.declared.run_fault.RunFault.{RunFault}
 use Rattle.ov_run.specs.declared.run_fault.RunFault.TheVariants as fault
@@ -58,15 +61,31 @@ run_fault reader bytes read (fault.Params n) had same is =
 run_fault reader bytes read (fault.Graph f line) had same is = is
 run_fault reader bytes read fault.Read had same is = tt
 run_fault reader bytes read fault.Write had same is = tt
+run_fault reader bytes read (fault.Refused n refusal) had same is = tt
 run_fault reader bytes read fault.OutOfMemory had same is = tt
+
+-- that each of its lines is accepted
+scenario_accepts :
+    (reader before after : Option (List ℕ)) (bytes read : List ℕ) → IfSome reader (λ xs. bytes ≡ xs) → read ≡ bytes
+    → AcceptsScenario (Some read) before after → AcceptsScenario reader before after
+scenario_accepts reader before after bytes read had same (own, text, is, accepted, went) =
+    (bytes, text, had, subst (λ bs. IsAcceptedScenario bs text) (is ∙ same) accepted, went)
+
+-- the refused line at which it ends
+scenario_stops :
+    (reader before after : Option (List ℕ)) (bytes read : List ℕ) (n : ℕ) (refusal : Refusal)
+    → IfSome reader (λ xs. bytes ≡ xs) → read ≡ bytes
+    → StopsScenario (Some read) n refusal before after → StopsScenario reader n refusal before after
+scenario_stops reader before after bytes read n refusal had same (own, text, is, stopped, went) =
+    (bytes, text, had, subst (λ bs. IsStoppedScenario bs n refusal text) (is ∙ same) stopped, went)
 
 -- its run
 pub run_of_reader :
-    {W : Type 0} (contents : W → Option (List ℕ)) (sink sink' : SinkState W) (reader : Option (List ℕ))
-    (bytes read : List ℕ) (result : Result ℕ RunFault)
-    → IfSome reader (λ xs. bytes ≡ xs) → read ≡ bytes → IsRunOf (Some read) contents sink sink' result
-    → IsRunOf reader contents sink sink' result
-run_of_reader contents sink sink' reader bytes read (Ok status) had same ran = record {
+    {W : Type 0} (strictness : Strictness) (contents : W → Option (List ℕ)) (sink sink' : SinkState W)
+    (reader : Option (List ℕ)) (bytes read : List ℕ) (result : Result ℕ RunFault)
+    → IfSome reader (λ xs. bytes ≡ xs) → read ≡ bytes → IsRunOf strictness (Some read) contents sink sink' result
+    → IsRunOf strictness reader contents sink sink' result
+run_of_reader strictness contents sink sink' reader bytes read (Ok status) had same ran = record {
   status = ran.status;
   prints = scenario_prints _ _ _ bytes read had same ran.prints;
   begun = scenario_begins sink sink' _ _ _ bytes read had same ran.begun;
@@ -74,8 +93,10 @@ run_of_reader contents sink sink' reader bytes read (Ok status) had same ran = r
   fault = tt;
   unread = tt;
   memory = λ e. absurd cc;
+  accepts = λ strict. scenario_accepts _ _ _ bytes read had same (ran.accepts strict);
+  stops = λ n refusal e. absurd cc;
 }
-run_of_reader contents sink sink' reader bytes read (Err f) had same ran = record {
+run_of_reader strictness contents sink sink' reader bytes read (Err f) had same ran = record {
   status = tt;
   prints = tt;
   begun = scenario_begins sink sink' _ _ _ bytes read had same ran.begun;
@@ -83,6 +104,9 @@ run_of_reader contents sink sink' reader bytes read (Err f) had same ran = recor
   fault = run_fault _ bytes read f had same ran.fault;
   unread = ran.unread;
   memory = λ e. scenario_ends sink sink' _ _ _ bytes read had same (ran.memory e);
+  accepts = λ strict. tt;
+  stops = λ n refusal e. let own = ran.stops n refusal e in
+      (own.0, scenario_stops _ _ _ bytes read n refusal had same own.1);
 }
 
 -- ---- a graph file
@@ -122,6 +146,7 @@ analysis_fault reader bytes read (fault.Graph f line) had same is =
     told (λ bs. IsAnalysisFileFault bs (fault.Graph f line)) reader bytes read had same is
 analysis_fault reader bytes read fault.Read had same is = tt
 analysis_fault reader bytes read fault.Write had same is = tt
+analysis_fault reader bytes read (fault.Refused n refusal) had same is = is
 analysis_fault reader bytes read fault.OutOfMemory had same is = tt
 
 -- its analysis
@@ -158,4 +183,5 @@ no_read_fault (Err (fault.Params line)) other n m reads = reads
 no_read_fault (Err (fault.Graph f line)) other n m reads = reads
 no_read_fault (Err fault.Read) other n m reads = absurd (other refl)
 no_read_fault (Err fault.Write) other n m reads = reads
+no_read_fault (Err (fault.Refused line refusal)) other n m reads = reads
 no_read_fault (Err fault.OutOfMemory) other n m reads = reads

@@ -4,4 +4,5 @@ pub mod HandedOn
 pub mod OneLine
 pub mod Outcomes
 pub mod Running
+pub mod Settling
 pub mod WholeRuns

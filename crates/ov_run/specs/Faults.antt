@@ -14,8 +14,9 @@ use Rattle.ov_scenario.specs.declared.scenario_fault.ScenarioFault.TheVariants a
 use Rattle.ov_graphfile.specs.GraphFiles.{IsGraphFileFault}
 use Rattle.ov_graphfile.specs.declared.fault.GraphFileFault.{GraphFileFault}
 use Rattle.ov_graphfile.specs.declared.fault.GraphFileFault.TheVariants as graph_file
+use Rattle.ov_run.specs.Refusals as refusals
 use Rattle.ov_run.specs.declared.run_fault.RunFault.{RunFault}
-use Rattle.ov_run.specs.declared.run_fault.RunFault.TheVariants.{Line, Params, Graph, Read, Write, OutOfMemory}
+use Rattle.ov_run.specs.declared.run_fault.RunFault.TheVariants.{Line, Params, Graph, Read, Write, Refused, OutOfMemory}
 
 -- ---- each fault
 
@@ -26,15 +27,22 @@ number_of (Params n) = 21
 number_of (Graph fault line) = graph.number_of fault
 number_of Read = device.read_failed
 number_of Write = device.write_failed
+number_of (Refused n refusal) = 74
 number_of OutOfMemory = 99
 
--- the number of the line that is printed, if one is: that of a line at fault
+-- the number that is printed of a fault: its own, or, of a line that was refused, that of the refusal
+abbrev pub printed_number_of : RunFault → ℕ
+printed_number_of (Refused n refusal) = refusals.number_of refusal
+printed_number_of other = number_of other
+
+-- the number of the line that is printed, if one is: that of a line at fault, or of one that was refused
 abbrev pub line_number_of : RunFault → Option ℕ
 line_number_of (Line n) = Some n
 line_number_of (Params n) = Some n
 line_number_of (Graph fault line) = None
 line_number_of Read = None
 line_number_of Write = None
+line_number_of (Refused n refusal) = Some n
 line_number_of OutOfMemory = None
 
 -- a refusal with this number, of this line if one is named: `line 3: refused 70`, or `refused 71`
@@ -44,7 +52,7 @@ line_refusal_text None number = refusal_text number
 
 -- the line that `overlay` prints of a fault on standard error, without its line feed
 unfoldable pub run_fault_text : RunFault → List ℕ
-run_fault_text fault = line_refusal_text (line_number_of fault) (number_of fault)
+run_fault_text fault = line_refusal_text (line_number_of fault) (printed_number_of fault)
 
 -- ---- which fault of a part is which fault of a run
 
@@ -78,22 +86,24 @@ abbrev pub IsAnalysisFileFault : List ℕ → RunFault → Type 0
 IsAnalysisFileFault bytes f = (own : GraphFileFault) × IsGraphFileFault bytes own × (f ≡ fault_of_graph_file own)
 
 -- what the fault of a run says of the bytes that the reader had: one of a line is that of their first line at fault. No
--- run returns a fault of a graph
+-- run returns a fault of a graph. What it says of a line that was refused is `StopsScenario`
 abbrev pub IsRunFault : Option (List ℕ) → RunFault → Type 0
 IsRunFault reader (Line n) = IfSome reader (λ bytes. IsScenarioFileFault bytes (Line n))
 IsRunFault reader (Params n) = IfSome reader (λ bytes. IsScenarioFileFault bytes (Params n))
 IsRunFault reader (Graph fault line) = ⊥
 IsRunFault reader Read = ⊤
 IsRunFault reader Write = ⊤
+IsRunFault reader (Refused n refusal) = ⊤
 IsRunFault reader OutOfMemory = ⊤
 
--- the same for an analysis of a graph file, which has no line of parameters
+-- the same for an analysis of a graph file, which has no line of parameters, and none that runs
 abbrev pub IsAnalysisFault : Option (List ℕ) → RunFault → Type 0
 IsAnalysisFault reader (Line n) = IfSome reader (λ bytes. IsAnalysisFileFault bytes (Line n))
 IsAnalysisFault reader (Params n) = ⊥
 IsAnalysisFault reader (Graph fault line) = IfSome reader (λ bytes. IsAnalysisFileFault bytes (Graph fault line))
 IsAnalysisFault reader Read = ⊤
 IsAnalysisFault reader Write = ⊤
+IsAnalysisFault reader (Refused n refusal) = ⊥
 IsAnalysisFault reader OutOfMemory = ⊤
 
 -- the fault was met before anything ran: the reader failed, or a line or the graph is at fault
@@ -103,6 +113,7 @@ IsOfReading (Params n) = ⊤
 IsOfReading (Graph fault line) = ⊤
 IsOfReading Read = ⊤
 IsOfReading Write = ⊥
+IsOfReading (Refused n refusal) = ⊥
 IsOfReading OutOfMemory = ⊥
 
 -- ---- counts of faults

@@ -1,3 +1,4 @@
+pub mod Accepting
 pub mod Analysing
 pub mod Ending
 pub mod Faults
@@ -8,5 +9,6 @@ pub mod Refusals
 pub mod Run
 pub mod Running
 pub mod Sections
+pub mod Strict
 pub mod Subjects
 pub mod Code

@@ -4,12 +4,16 @@ use Rattle.ov_io.specs.Device.{SourceState, SinkState, ReaderFailed}
 use Rattle.ov_run.specs.Ending.{Begins, Ends}
 use Rattle.ov_run.specs.Faults.{read_faults, write_faults, IsOfReading, IsRunFault}
 use Rattle.ov_run.specs.Running.{PrintsScenario}
+use Rattle.ov_run.specs.Strict.{AcceptsScenario, StopsScenario}
+use Rattle.ov_run.specs.declared.refusal.Refusal.{Refusal}
 use Rattle.ov_run.specs.declared.run_fault.RunFault.{RunFault}
-use Rattle.ov_run.specs.declared.run_fault.RunFault.TheVariants.{Read, OutOfMemory}
+use Rattle.ov_run.specs.declared.run_fault.RunFault.TheVariants.{Read, Refused, OutOfMemory}
+use Rattle.ov_run.specs.declared.strictness.Strictness.{Strictness}
+use Rattle.ov_run.specs.declared.strictness.Strictness.TheVariants.{Strict}
 
 -- A run of the scenario of a reader that had these bytes, if they are known, from a sink before it to what it is after
--- it. `contents` are the bytes that a writer holds, if they are known.
-pub record IsRunOf {W : Type 0} (reader : Option (List ℕ)) (contents : W → Option (List ℕ))
+-- it. `contents` are the bytes that a writer holds, if they are known. A run may be strict.
+pub record IsRunOf {W : Type 0} (strictness : Strictness) (reader : Option (List ℕ)) (contents : W → Option (List ℕ))
     (sink_before sink_after : SinkState W) (result : Result ℕ RunFault) : Type 0 where
   -- without fault, status 0 is returned
   pub status : IfOk result (λ status. status ≡ 0)
@@ -27,14 +31,22 @@ pub record IsRunOf {W : Type 0} (reader : Option (List ℕ)) (contents : W → O
   -- the run ends out of memory
   pub memory : IsErrOf result OutOfMemory
       → (sink_after ≡ sink_before) ⊎ Ends reader (contents sink_before.writer) (contents sink_after.writer)
+  -- without fault, no line was refused if the run is strict
+  pub accepts : strictness ≡ Strict
+      → OnOk result (AcceptsScenario reader (contents sink_before.writer) (contents sink_after.writer))
+  -- Refused is returned only if the run is strict: line n is the first that was refused, for this reason, and the writer
+  -- took what the lines before it print, and nothing else
+  pub stops : (n : ℕ) (refusal : Refusal) → IsErrOf result (Refused n refusal)
+      → (strictness ≡ Strict)
+      × StopsScenario reader n refusal (contents sink_before.writer) (contents sink_after.writer)
 
 -- A run, from a source and a sink before it to what they are after it. `remaining` are the bytes that a reader still
 -- has, if they are known.
-pub record IsRun {R W : Type 0} (remaining : R → Option (List ℕ)) (contents : W → Option (List ℕ))
-    (source_before : SourceState R) (sink_before : SinkState W) (source_after : SourceState R)
-    (sink_after : SinkState W) (result : Result ℕ RunFault) : Type 0 where
+pub record IsRun {R W : Type 0} (strictness : Strictness) (remaining : R → Option (List ℕ))
+    (contents : W → Option (List ℕ)) (source_before : SourceState R) (sink_before : SinkState W)
+    (source_after : SourceState R) (sink_after : SinkState W) (result : Result ℕ RunFault) : Type 0 where
   -- it is a run of the scenario of the source's reader
-  pub run : IsRunOf (remaining source_before.reader) contents sink_before sink_after result
+  pub run : IsRunOf strictness (remaining source_before.reader) contents sink_before sink_after result
   -- after Read the source counts one more fault, otherwise the same number as before
   pub source : source_after.faults ≡ source_before.faults + read_faults result
   -- Read is returned only if the reader failed in this run

@@ -3,14 +3,16 @@ ghost use Rattle.ov_io.specs.Device.{most_faults};
 ghost use Rattle.ov_run.specs.Code.Outcomes.{RanLines};
 ghost use Rattle.ov_run.specs.Code.Writing.{IsBeforeLines};
 ghost use Rattle.ov_run.specs.Run.{IsRun, IsRunOf};
-ghost use Rattle.ov_scenario.specs.RunLines.{drivers_for};
+ghost use Rattle.ov_scenario.specs.RunLines.{drivers_for, lines_that_run};
 ghost use Rattle.ov_scenario.specs.Scenarios.{IsScenario};
 ghost use Rattle.ov_snap.specs.CoreState.{opening_core};
+ghost use Rattle.ov_run.specs.declared.strictness.Strictness.TheVariants.{Lenient};
 
 use crate::hall_of_run::RunHall;
 use crate::line_running::run_lines;
 use crate::run_fault::RunFault;
 use crate::run_watcher::{RunWatcher, Unwatched};
+use crate::strictness::Strictness;
 use ov_hall::{HallName, Opening};
 use ov_ids::Params;
 use ov_io::{Sink, Source};
@@ -22,8 +24,8 @@ use std::sync::Wait;
 use std::thread::Threads;
 
 /// Reads a scenario to its end, runs its lines in order in a world in which nothing happened, and writes what each
-/// prints. Returns the program's status, 0. A refused event or analysis is a line of what is printed, and no fault. The
-/// workers of an analysis are threads. The line of its report is the same for any number of them.
+/// prints. Returns the program's status, 0. A refused event or analysis is a line of what is printed, and no fault
+/// (`run_watched` has strict runs, which end there). The workers of an analysis are threads. The line of its report is the same for any number of them.
 ///
 /// Line (70) or Params (21) is returned if the file says no scenario, and Read (71) if the reader failed in this call:
 /// then nothing ran and nothing was written. Write (72) is returned if the writer failed in this call. In each case
@@ -44,26 +46,32 @@ pub fn run<T: Threads + Wait + Sync, R: Read, W: Write>(
 ) -> Result<u8, RunFault>
     requires reads { source.old.faults < most_faults }
     requires writes { sink.old.faults < most_faults }
-    ensures run { IsRun R.remaining W.contents source.old sink.old source.new sink.new result }
+    ensures run { IsRun Lenient R.remaining W.contents source.old sink.old source.new sink.new result }
 {
-    run_watched(rt, alloc, source, sink, &mut Unwatched)
+    run_watched(rt, alloc, source, sink, Strictness::Lenient, &mut Unwatched)
 }
 
-/// Does what `run` does. The watcher sees what became of each line that ran, in order, after what the line prints was
-/// given to the writer.
+/// Does what `run` does, or if it is strict ends at the first line that is refused. The watcher sees what became of each
+/// line that ran, in order, after what the line prints was given to the writer.
+///
+/// Refused (74) is returned by a strict run alone. The first line that was refused is named, with its refusal; all lines
+/// before it were accepted, what they print was written, and nothing else was. A block of sections runs whole: its own
+/// line is not written if one of its lines was refused, and the first of these in the file's order is named. An event,
+/// an analysis or a certificate that is out of memory counts as refused.
 pub fn run_watched<T: Threads + Wait + Sync, R: Read, W: Write, V: RunWatcher>(
     rt: &T,
     alloc: Global,
     source: &mut Source<R>,
     sink: &mut Sink<W>,
+    strictness: Strictness,
     watcher: &mut V,
 ) -> Result<u8, RunFault>
     requires reads { source.old.faults < most_faults }
     requires writes { sink.old.faults < most_faults }
-    ensures run { IsRun R.remaining W.contents source.old sink.old source.new sink.new result }
+    ensures run { IsRun strictness R.remaining W.contents source.old sink.old source.new sink.new result }
 {
     let bytes = source.read_all(alloc)?;
-    run_bytes(rt, alloc, &bytes, sink, watcher)
+    run_bytes(rt, alloc, &bytes, sink, strictness, watcher)
 }
 
 /// Does what `run_watched` does with the scenario that these bytes say, which were read before.
@@ -73,10 +81,11 @@ pub fn run_bytes<T: Threads + Wait + Sync, W: Write, V: RunWatcher>(
     alloc: Global,
     bytes: &[u8],
     sink: &mut Sink<W>,
+    strictness: Strictness,
     watcher: &mut V,
 ) -> Result<u8, RunFault>
     requires writes { sink.old.faults < most_faults }
-    ensures run { IsRunOf (Some bytes.now) W.contents sink.old sink.new result }
+    ensures run { IsRunOf strictness (Some bytes.now) W.contents sink.old sink.new result }
     ensures read { result ≢ Err RunFault.Read }
 {
     let scenario = scenario_of(alloc, bytes)?;
@@ -88,6 +97,7 @@ pub fn run_bytes<T: Threads + Wait + Sync, W: Write, V: RunWatcher>(
         opening,
         scenario.lines,
         sink,
+        strictness,
         watcher,
     )?;
     Ok(0)
@@ -101,22 +111,25 @@ fn run_in_hall<N: HallName + Send + Sync, T: Threads + Wait + Sync, W: Write, V:
     opening: Opening,
     lines: LinesToRun<'_>,
     sink: &mut Sink<W>,
+    strictness: Strictness,
     watcher: &mut V,
 ) -> Result<(), RunFault>
     requires faults { sink.old.faults < most_faults }
     requires name { (opening.table ≡ N.table) × (opening.drivers ≡ N.drivers) }
     requires params { params ≡ N.params }
     requires drivers { drivers_for lines.items ≤ N.drivers }
-    ensures ran { RanLines W.contents (opening_core params) lines.entry.items sink.old sink.new result }
+    ensures ran { RanLines strictness W.contents (opening_core params) lines.entry.items lines.entry.file_lines sink.old
+        sink.new result }
 {
     let hall = RunHall::<N>::new(alloc, params, opening);
-    run_lines(rt, alloc, hall, lines, sink, watcher)
+    run_lines(rt, alloc, hall, lines, sink, strictness, watcher)
 }
 
 /// The scenario that these bytes say.
 #[tactic(auto, using(crate::proofs::Refused::of_scenario))]
 fn scenario_of<'a>(alloc: Global, bytes: &'a [u8]) -> Result<Scenario<'a>, RunFault>
     ensures scenario { IfOk result (λ s. IsScenario bytes.now s) }
+    ensures file_lines { IfOk result (λ s. s.lines.file_lines ≡ lines_that_run bytes.now) }
     ensures fault { IfErr result (IsBeforeLines bytes.now) }
 {
     match read_scenario(alloc, bytes) {

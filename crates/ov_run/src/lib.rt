@@ -18,6 +18,7 @@ mod run_watcher;
 mod section_running;
 mod sections_at_once;
 mod sink_writing;
+mod strictness;
 mod theorems;
 
 pub use answered::Answered;
@@ -30,4 +31,5 @@ pub use pacing::Pacing;
 pub use refusal::Refusal;
 pub use run_fault::RunFault;
 pub use run_watcher::{RanLine, RunWatcher};
+pub use strictness::Strictness;
 pub use theorems::every_printed_report_is_true;

@@ -1,17 +1,39 @@
 ghost use Rattle.std.specs.Prelude.{◌≡◌, ◌+◌, length};
 ghost use Rattle.ov_run.specs.Sections.{accepted_in, one_accepted, refused_in};
+ghost use Rattle.ov_run.specs.Code.Jobs.{joined};
+ghost use Rattle.ov_run.specs.Code.Outcomes.{first_refused, refusal_at, refused_of};
 
 use crate::refusal::Refusal;
 use crate::run_watcher::RanLine;
+use ov_ids::Seq;
 use std::marker::Model;
 
-/// What became of a line that ran.
+/// What became of a line that ran, and is no block.
 #[derive(Clone, Copy, Debug, PartialEq, Eq)]
 pub(crate) enum Outcome {
     /// Its event happened, its report was filed, or what it looks at was written.
     Accepted,
     /// It was refused, and changed nothing.
     Refused(Refusal),
+}
+
+/// What became of a line that ran.
+#[derive(Drop)]
+pub(crate) enum Came<'a> {
+    /// The line is no block. If it was accepted, what it prints was written; if it was refused, nothing was.
+    Alone(Outcome),
+    /// The line is a block, whose sections ran. Nothing was written yet.
+    Block(BlockTold<'a>),
+}
+
+/// What is told of a block whose sections ran: how many there are, the lines of each, and how many of all lines were
+/// accepted and how many refused.
+#[derive(Drop)]
+pub(crate) struct BlockTold<'a> {
+    pub sections: usize,
+    pub told: Seq<Seq<ToldLine<'a>>>,
+    pub accepted: u128,
+    pub refused: u128,
 }
 
 /// A line of a section that ran, and what became of it.
@@ -30,7 +52,54 @@ impl<'a> Model for ToldLine<'a> {
         record { number = t.line.number; text = t.line.text.now; is_event = t.line.is_event; outcome = t.outcome } };
 }
 
+impl<'a> Came<'a> {
+    /// The first line that was refused, of a line with this number or of the lines of its sections, and why.
+    pub(crate) fn refused(&self, number: usize) -> Option<(usize, Refusal)>
+        ensures { result ≡ refused_of number self.now }
+    {
+        match self {
+            Came::Alone(Outcome::Accepted) => None,
+            Came::Alone(Outcome::Refused(refusal)) => Some((number, *refusal)),
+            Came::Block(block) => first_refused(block.told.as_slice()),
+        }
+    }
+}
+
+/// The first of all these lines of sections that was refused, and why.
+fn first_refused(told: &[Seq<ToldLine<'_>>]) -> Option<(usize, Refusal)>
+    ensures { result ≡ first_refused (joined told.now) }
+{
+    for section in told {
+        if let Some(first) = first_in_section(section.as_slice()) {
+            return Some(first);
+        }
+    }
+    None
+}
+
+/// The first of these lines of one section that was refused, and why.
+fn first_in_section(told: &[ToldLine<'_>]) -> Option<(usize, Refusal)>
+    ensures { result ≡ first_refused told.now }
+{
+    for one in told {
+        if let Some(first) = one.refused() {
+            return Some(first);
+        }
+    }
+    None
+}
+
 impl<'a> ToldLine<'a> {
+    /// If it was refused, its number, and why.
+    fn refused(&self) -> Option<(usize, Refusal)>
+        ensures { result ≡ refusal_at self.now.number self.now.outcome }
+    {
+        match self.outcome {
+            Outcome::Accepted => None,
+            Outcome::Refused(refusal) => Some((self.line.number, refusal)),
+        }
+    }
+
     /// 1 if it was accepted, otherwise 0.
     fn one_accepted(&self) -> usize
         ensures { result ≡ one_accepted self.now.outcome }

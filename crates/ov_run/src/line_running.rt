@@ -1,19 +1,19 @@
-ghost use Rattle.std.specs.Prelude.{◌≡◌, ◌⊎◌, ◌<◌, ◌≤◌, ◌+◌, [], length, Ok, Err, IfOk, IfErr, OnOk, IsErrOf};
-ghost use Rattle.ov_io.specs.Device.{most_faults, write_faults as sink_faults, write_number};
+ghost use Rattle.std.specs.Prelude.{◌≡◌, ◌⊎◌, ◌<◌, ◌≤◌, ◌+◌, length, IfOk, IfErr, OnErr, IsErrOf};
+ghost use Rattle.ov_io.specs.Device.{AppendsPrefixOf, most_faults, write_faults as sink_faults, write_number};
 ghost use Rattle.ov_net.specs.declared.journal_entry_and_changes.Entry.{Entry};
 ghost use Rattle.ov_snap.specs.Run.{Happened};
+ghost use Rattle.ov_run.specs.Accepting.{DoesEvent, FilesReport, ShowsLook};
+ghost use Rattle.ov_run.specs.Accepting.{RefusesAnalysis, RefusesEvent, RefusesLook};
 ghost use Rattle.ov_run.specs.Ending.{BeginsLook, EndsLook};
 ghost use Rattle.ov_run.specs.Faults.{write_faults};
-ghost use Rattle.ov_run.specs.Running.{PrintsEvent, PrintsReportLine, PrintsLook};
-ghost use Rattle.ov_run.specs.Code.Outcomes.{DoesEvent, FilesReport, LineRan, RanLines, ShowsLook, WritesOutcome};
-ghost use Rattle.ov_run.specs.Code.Jobs.{HasDrivers, joined};
+ghost use Rattle.ov_run.specs.Code.Outcomes.{LineRan, RanAsBlock, RanLines, WritesOutcome, WritesRest, rest_of, stop_of};
+ghost use Rattle.ov_run.specs.Code.Jobs.{HasDrivers};
 ghost use Rattle.ov_run.specs.Code.Writing.{Writes, WritesPrefix, IsOfWriting};
 ghost use Rattle.ov_scenario.specs.RunLines.{drivers_for};
 ghost use Rattle.ov_scenario.specs.declared.scenario.Line.TheVariants as kind;
 
 use crate::hall_of_run::RunHall;
-use crate::line_outcome::{Outcome, ToldLine};
-use crate::line_texts::together_line;
+use crate::line_outcome::{BlockTold, Came, Outcome, ToldLine};
 use crate::recent_reports::RecentReports;
 use crate::refusal::Refusal;
 use crate::report_filing::file_analysis;
@@ -21,11 +21,12 @@ use crate::run_fault::RunFault;
 use crate::run_watcher::{RanLine, RunWatcher};
 use crate::sections_at_once::{BlockRan, run_together};
 use crate::sink_writing::{
-    write_certificate, write_done, write_entry, write_node, write_packets, write_refusal,
+    write_certificate, write_done, write_entry, write_node, write_packets, write_rest,
 };
+use crate::strictness::Strictness;
 use ov_claims::Workers;
 use ov_hall::HallName;
-use ov_ids::Seq;
+use ov_ids::{OutOfMemory, Seq};
 use ov_io::{Sink, WriteFault};
 use ov_net::Event;
 use ov_scenario::{Line, LineToRun, LinesToRun, Look, SectionLine, Subject};
@@ -36,8 +37,9 @@ use std::io::Write;
 use std::sync::Wait;
 use std::thread::Threads;
 
-/// Runs these lines in this hall, and writes what they print. The watcher sees what became of each, after that. The
-/// writer is then asked to hand on what it keeps back, unless it has failed.
+/// Runs these lines in this hall, and writes what they print. The watcher sees what became of each, after that. A strict
+/// run ends at the first line that is refused. The writer is then asked to hand on what it keeps back, unless it has
+/// failed.
 pub(crate) fn run_lines<
     N: HallName + Send + Sync,
     T: Threads + Wait + Sync,
@@ -49,13 +51,15 @@ pub(crate) fn run_lines<
     hall: RunHall<N>,
     lines: LinesToRun<'_>,
     sink: &mut Sink<W>,
+    strictness: Strictness,
     watcher: &mut V,
 ) -> Result<(), RunFault>
     requires faults { sink.old.faults < most_faults }
     requires drivers { drivers_for lines.items ≤ N.drivers }
-    ensures ran { RanLines W.contents hall lines.entry.items sink.old sink.new result }
+    ensures ran { RanLines strictness W.contents hall lines.entry.items lines.entry.file_lines sink.old sink.new
+        result }
 {
-    let ran = run_each(rt, alloc, hall, lines, sink, watcher);
+    let ran = run_each(rt, alloc, hall, lines, sink, strictness, watcher);
     if let Err(RunFault::Write) = ran {
         return ran;
     }
@@ -70,20 +74,25 @@ fn run_each<N: HallName + Send + Sync, T: Threads + Wait + Sync, W: Write, V: Ru
     mut hall: RunHall<N>,
     lines: LinesToRun<'_>,
     sink: &mut Sink<W>,
+    strictness: Strictness,
     watcher: &mut V,
 ) -> Result<(), RunFault>
     requires faults { sink.old.faults < most_faults }
     requires drivers { drivers_for lines.items ≤ N.drivers }
-    ensures ran { RanLines W.contents hall lines.entry.items sink.old sink.new result }
+    ensures ran { RanLines strictness W.contents hall lines.entry.items lines.entry.file_lines sink.old sink.new
+        result }
 {
     let mut recent = RecentReports::new(alloc);
     let mut left = lines;
     while let Some(next) = left.next_line(alloc)? {
         let ran = ran_line(&next);
-        let (outcome, after, told) = run_line(rt, alloc, hall, &mut recent, next.line, sink)?;
+        let (came, after) = run_line(rt, alloc, hall, &mut recent, next.line, sink)?;
         hall = after;
-        tell(watcher, hall.core(), &ran, outcome);
-        tell_sections(watcher, told);
+        let stop = settle(strictness, ran.number, &came, sink)?;
+        tell(watcher, hall.core(), &ran, came);
+        if let Some((line, refusal)) = stop {
+            return Err(RunFault::Refused { line, refusal });
+        }
     }
     Ok(())
 }
@@ -100,11 +109,40 @@ fn ran_line<'a>(next: &LineToRun<'a>) -> RanLine<'a>
     }
 }
 
+/// Writes what is still to be written of a line that ran and has this number. If a strict run ends at it, nothing is
+/// written, and the number of the line that was refused is returned, with its refusal.
+fn settle<W: Write>(
+    strictness: Strictness,
+    number: usize,
+    came: &Came<'_>,
+    sink: &mut Sink<W>,
+) -> Result<Option<(usize, Refusal)>, WriteFault>
+    requires faults { sink.old.faults < most_faults }
+    ensures stop { IfOk result (λ stop. stop ≡ stop_of strictness number came.now) }
+    ensures bytes { IfOk result (λ stop. WritesRest (W.contents sink.old.writer) (W.contents sink.new.writer) came.now
+        stop) }
+    ensures prefix { OnErr result
+        (AppendsPrefixOf (rest_of came.now) (W.contents sink.old.writer) (W.contents sink.new.writer)) }
+    ensures faults { sink.new.faults ≡ sink.old.faults + sink_faults write_number result }
+{
+    if let Strictness::Strict = strictness {
+        if let Some(stop) = came.refused(number) {
+            return Ok(Some(stop));
+        }
+    }
+    write_rest(came, sink)?;
+    Ok(None)
+}
+
 /// Shows a watcher what became of a line that ran.
-fn tell<V: RunWatcher>(watcher: &mut V, core: &Core, line: &RanLine<'_>, outcome: Outcome) {
-    match outcome {
-        Outcome::Accepted => watcher.accepted(line),
-        Outcome::Refused(refusal) => watcher.refused(core, line, refusal),
+fn tell<V: RunWatcher>(watcher: &mut V, core: &Core, line: &RanLine<'_>, came: Came<'_>) {
+    match came {
+        Came::Alone(Outcome::Accepted) => watcher.accepted(line),
+        Came::Alone(Outcome::Refused(refusal)) => watcher.refused(core, line, refusal),
+        Came::Block(block) => {
+            watcher.accepted(line);
+            tell_sections(watcher, block.told);
+        }
     }
 }
 
@@ -125,11 +163,11 @@ fn tell_section<V: RunWatcher>(watcher: &mut V, told: &[ToldLine<'_>]) {
     }
 }
 
-/// What became of a line, the hall after it, and if it is a block, what is told of the lines of its sections.
-type LineDone<'a, N> = (Outcome, RunHall<N>, Seq<Seq<ToldLine<'a>>>);
+/// What became of a line, and the hall after it.
+type LineDone<'a, N> = (Came<'a>, RunHall<N>);
 
-/// Runs one line, writes what it prints, and returns what became of it. Before an analysis or a block of sections,
-/// which may take long, the writer is asked to hand on what it keeps back.
+/// Runs one line, and returns what became of it. What an accepted line prints is written, unless it is a block. Before
+/// an analysis or a block of sections, which may take long, the writer is asked to hand on what it keeps back.
 fn run_line<'a, N: HallName + Send + Sync, T: Threads + Wait + Sync, W: Write>(
     rt: &T,
     alloc: Global,
@@ -140,58 +178,39 @@ fn run_line<'a, N: HallName + Send + Sync, T: Threads + Wait + Sync, W: Write>(
 ) -> Result<LineDone<'a, N>, RunFault>
     requires faults { sink.old.faults < most_faults }
     requires drivers { HasDrivers N.drivers line }
-    ensures ran { LineRan W.contents hall line.entry (λ r. r.0) (λ r. joined r.2) (λ r. r.1) sink.old sink.new
-        result }
+    ensures ran { LineRan W.contents hall line.entry (λ r. r.0) (λ r. r.1) sink.old sink.new result }
 {
     match line {
         Line::Event { event, words } => {
-            let outcome = run_event(alloc, &mut hall, event, &words, sink);
-            with_hall(alloc, outcome, hall)
+            let outcome = run_event(alloc, &mut hall, event, &words, sink)?;
+            Ok((Came::Alone(outcome), hall))
         }
         Line::Look(look) => {
-            let outcome = write_look(alloc, hall.core(), look, sink);
-            with_hall(alloc, outcome, hall)
+            let outcome = write_look(alloc, hall.core(), look, sink)?;
+            Ok((Came::Alone(outcome), hall))
         }
         Line::Analyse { subject, workers } => {
             sink.flush()?;
             let outcome = run_analysis(rt, alloc, &mut hall, recent, &subject, workers, sink)?;
-            Ok((outcome, hall, Seq::new(Vec::new(alloc))))
+            Ok((Came::Alone(outcome), hall))
         }
         Line::Together(sections) => {
             sink.flush()?;
-            run_block(rt, alloc, hall, sections, sink)
+            let (block, hall) = run_block(rt, alloc, hall, sections)?;
+            Ok((Came::Block(block), hall))
         }
     }
 }
 
-/// What became of a line that is no block, with the hall after it.
-fn with_hall<'a, N: HallName>(
-    alloc: Global,
-    outcome: Result<Outcome, RunFault>,
-    hall: RunHall<N>,
-) -> Result<LineDone<'a, N>, RunFault>
-    ensures ok { IfOk result (λ r. (outcome ≡ Ok r.0) × (r.1 ≡ hall) × (r.2 ≡ [])) }
-    ensures err { IfErr result (λ fault. outcome ≡ Err fault) }
-{
-    match outcome {
-        Ok(outcome) => Ok((outcome, hall, Seq::new(Vec::new(alloc)))),
-        Err(fault) => Err(fault),
-    }
-}
-
-/// Runs the sections of a block at once, each by a driver of its own, and writes the line of that after all of them
-/// ended. OutOfMemory is returned before anything is written.
-fn run_block<'a, N: HallName + Send + Sync, T: Threads + Wait + Sync, W: Write>(
+/// Runs the sections of a block at once, each by a driver of its own, and returns after all of them ended.
+fn run_block<'a, N: HallName + Send + Sync, T: Threads + Wait + Sync>(
     rt: &T,
     alloc: Global,
     hall: RunHall<N>,
     sections: Seq<Seq<SectionLine<'a>>>,
-    sink: &mut Sink<W>,
-) -> Result<LineDone<'a, N>, RunFault>
-    requires faults { sink.old.faults < most_faults }
+) -> Result<(BlockTold<'a>, RunHall<N>), OutOfMemory>
     requires drivers { length sections ≤ N.drivers }
-    ensures ran { LineRan W.contents hall (kind.Together sections.entry) (λ r. r.0) (λ r. joined r.2) (λ r. r.1)
-        sink.old sink.new result }
+    ensures ran { IfOk result (λ r. RanAsBlock hall (kind.Together sections.entry) r.1 r.0) }
 {
     let sections = sections.into_vec();
     let count = sections.len();
@@ -201,12 +220,16 @@ fn run_block<'a, N: HallName + Send + Sync, T: Threads + Wait + Sync, W: Write>(
         accepted,
         refused,
     } = run_together(rt, alloc, hall, sections)?;
-    let text = together_line(count, accepted, refused);
-    let outcome = write_done(text.as_str().as_bytes(), sink)?;
-    Ok((outcome, hall, told))
+    let block = BlockTold {
+        sections: count,
+        told,
+        accepted,
+        refused,
+    };
+    Ok((block, hall))
 }
 
-/// Does an event, or refuses it, and writes its line. An event that is out of memory is refused as any other:
+/// Does an event, and writes its line, or refuses it. An event that is out of memory is refused as any other:
 /// OutOfMemory is returned only if an event happened and its line can't be made.
 fn run_event<N: HallName, W: Write>(
     alloc: Global,
@@ -217,12 +240,10 @@ fn run_event<N: HallName, W: Write>(
 ) -> Result<Outcome, RunFault>
     requires faults { sink.old.faults < most_faults }
     ensures outcome { IfOk result (WritesOutcome (DoesEvent hall.old event words.now hall.new)
+        (λ refusal. RefusesEvent hall.old event refusal × (hall.new ≡ hall.old))
         (W.contents sink.old.writer) (W.contents sink.new.writer)) }
-    ensures unchanged { IfOk result (λ outcome. (outcome ≡ Outcome.Accepted) ⊎ (hall.new ≡ hall.old)) }
-    ensures prints { OnOk result (Writes (PrintsEvent hall.old event words.now hall.new)
+    ensures begun { OnErr result (WritesPrefix (DoesEvent hall.old event words.now hall.new)
         (W.contents sink.old.writer) (W.contents sink.new.writer)) }
-    ensures begun { WritesPrefix (PrintsEvent hall.old event words.now hall.new)
-        (W.contents sink.old.writer) (W.contents sink.new.writer) }
     ensures happened { IsErrOf result RunFault.OutOfMemory
         → (entry : Entry) × Happened hall.old event words.now entry hall.new }
     ensures nothing { IsErrOf result RunFault.OutOfMemory → sink.new ≡ sink.old }
@@ -231,12 +252,12 @@ fn run_event<N: HallName, W: Write>(
 {
     match hall.step(event, words) {
         Ok(entry) => write_entry(alloc, &entry, sink),
-        Err(fault) => Ok(write_refusal(Refusal::World(fault), sink)?),
+        Err(fault) => Ok(Outcome::Refused(Refusal::World(fault))),
     }
 }
 
-/// Analyses a subject by this number of workers and files the report, or refuses, and writes the line of that. Out of
-/// memory is a refusal, so that only the writer can fail.
+/// Analyses a subject by this number of workers, files the report and writes its line, or refuses. Out of memory is a
+/// refusal, so that only the writer can fail.
 fn run_analysis<N: HallName, T: Threads + Sync, W: Write>(
     rt: &T,
     alloc: Global,
@@ -248,21 +269,19 @@ fn run_analysis<N: HallName, T: Threads + Sync, W: Write>(
 ) -> Result<Outcome, WriteFault>
     requires faults { sink.old.faults < most_faults }
     ensures outcome { IfOk result (WritesOutcome (FilesReport hall.old subject.now hall.new)
+        (λ refusal. RefusesAnalysis hall.old subject.now refusal × (hall.new ≡ hall.old))
         (W.contents sink.old.writer) (W.contents sink.new.writer)) }
-    ensures unchanged { IfOk result (λ outcome. (outcome ≡ Outcome.Accepted) ⊎ (hall.new ≡ hall.old)) }
-    ensures prints { OnOk result (Writes (PrintsReportLine hall.old subject.now hall.new)
+    ensures begun { OnErr result (WritesPrefix (FilesReport hall.old subject.now hall.new)
         (W.contents sink.old.writer) (W.contents sink.new.writer)) }
-    ensures begun { WritesPrefix (PrintsReportLine hall.old subject.now hall.new)
-        (W.contents sink.old.writer) (W.contents sink.new.writer) }
     ensures faults { sink.new.faults ≡ sink.old.faults + sink_faults write_number result }
 {
     match file_analysis(rt, alloc, hall, recent, subject, workers) {
         Ok(line) => write_done(line.as_bytes(), sink),
-        Err(fault) => write_refusal(Refusal::Core(fault), sink),
+        Err(fault) => Ok(Outcome::Refused(Refusal::Core(fault))),
     }
 }
 
-/// Writes what is printed of what is looked at.
+/// Writes what is printed of what is looked at, or refuses.
 fn write_look<W: Write>(
     alloc: Global,
     core: &Core,
@@ -270,12 +289,10 @@ fn write_look<W: Write>(
     sink: &mut Sink<W>,
 ) -> Result<Outcome, RunFault>
     requires faults { sink.old.faults < most_faults }
-    ensures outcome { IfOk result (WritesOutcome (ShowsLook core.now look)
+    ensures outcome { IfOk result (WritesOutcome (ShowsLook core.now look) (RefusesLook core.now look)
         (W.contents sink.old.writer) (W.contents sink.new.writer)) }
-    ensures prints { OnOk result (Writes (PrintsLook core.now look)
+    ensures begun { OnErr result (WritesPrefix (λ text. BeginsLook core.now look text ⊎ ShowsLook core.now look text)
         (W.contents sink.old.writer) (W.contents sink.new.writer)) }
-    ensures begun { WritesPrefix (λ text. BeginsLook core.now look text ⊎ PrintsLook core.now look text)
-        (W.contents sink.old.writer) (W.contents sink.new.writer) }
     ensures memory { IsErrOf result RunFault.OutOfMemory → Writes (EndsLook core.now look)
         (W.contents sink.old.writer) (W.contents sink.new.writer) }
     ensures faults { sink.new.faults ≡ sink.old.faults + write_faults result }

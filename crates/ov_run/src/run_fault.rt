@@ -1,9 +1,10 @@
 ghost use Rattle.std.specs.Prelude.{◌≡◌};
-ghost use Rattle.ov_run.specs.Faults.{number_of, line_number_of, fault_of_read, fault_of_graph_file};
+ghost use Rattle.ov_run.specs.Faults.{number_of, line_number_of, printed_number_of, fault_of_read, fault_of_graph_file};
 ghost use Rattle.ov_run.specs.Faults.{fault_of_scenario};
 ghost use Rattle.ov_run.specs.declared.run_fault.RunFault.TheVariants.{OutOfMemory as out_of_memory};
 ghost use Rattle.ov_run.specs.declared.run_fault.RunFault.TheVariants.{Write as not_written};
 
+use crate::refusal::Refusal;
 use ov_graph::GraphFault;
 use ov_graphfile::{GraphFileFault, UnreadLine};
 use ov_ids::OutOfMemory;
@@ -29,6 +30,9 @@ pub enum RunFault {
     Read,
     /// The writer failed (72).
     Write,
+    /// The run is strict, and this line of the scenario file, counted from 1, is the first that was refused as it ran
+    /// (74). It is shown with the number of its refusal.
+    Refused { line: usize, refusal: Refusal },
     /// An allocation was refused (99).
     OutOfMemory,
 }
@@ -44,7 +48,23 @@ impl RunFault {
             RunFault::Graph { fault, .. } => fault.number(),
             RunFault::Read => 71,
             RunFault::Write => 72,
+            RunFault::Refused { .. } => 74,
             RunFault::OutOfMemory => 99,
+        }
+    }
+
+    /// The number that the fault is printed with: its own, or, of a line that was refused, that of the refusal.
+    pub fn printed_number(&self) -> u32
+        ensures { result ≡ printed_number_of self.now }
+    {
+        match self {
+            RunFault::Refused { refusal, .. } => refusal.number(),
+            RunFault::Line(_)
+            | RunFault::Params(_)
+            | RunFault::Graph { .. }
+            | RunFault::Read
+            | RunFault::Write
+            | RunFault::OutOfMemory => self.number(),
         }
     }
 
@@ -54,6 +74,7 @@ impl RunFault {
     {
         match self {
             RunFault::Line(line) | RunFault::Params(line) => Some(*line),
+            RunFault::Refused { line, .. } => Some(*line),
             RunFault::Graph { .. } | RunFault::Read | RunFault::Write | RunFault::OutOfMemory =>
                 None,
         }
@@ -102,7 +123,7 @@ impl Display for RunFault {
 
     #[tactic(auto, unfolding(crate::specs::Faults::run_fault_text))]
     fn fmt<W: Write>(&self, f: &mut Formatter<W>) -> Result {
-        let number = self.number();
+        let number = self.printed_number();
         match self.line() {
             Some(line) => write!(f, "line {line}: refused {number}"),
             None => write!(f, "refused {number}"),

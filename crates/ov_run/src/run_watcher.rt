@@ -12,14 +12,16 @@ pub struct RanLine<'a> {
     pub is_event: bool,
 }
 
-/// Sees what became of each line that ran. It changes neither the run nor what is printed. A block of sections is told as
-/// one line, which is always done, after its own line was given to the writer; then each line of its sections is told,
-/// section by section, and those of one section in order.
+/// Sees what became of each line that ran, after what the line prints was given to the writer. It changes neither the run
+/// nor what is printed. A block of sections is told as one line, which is always done; then each line of its sections is
+/// told, section by section, and those of one section in order. Where a strict run ends, nothing is printed of the line
+/// that was refused, nor of a block that has it, and they are told all the same.
 pub trait RunWatcher {
-    /// This line was done: its event happened, its report was filed, or what it looks at was given to the writer.
+    /// This line was done: its event happened, its report was filed, what it looks at was given to the writer, or the
+    /// sections of its block ran.
     fn accepted(&mut self, line: &RanLine<'_>);
 
-    /// This line was refused, and the line of that was given to the writer. The core is as the line found it.
+    /// This line was refused. The core is as the line found it.
     fn refused(&mut self, core: &Core, line: &RanLine<'_>, refusal: Refusal);
 
     /// This line of a section was refused. The core that refused it has been stepped since, so it is not at hand.

@@ -1,4 +1,4 @@
-ghost use Rattle.std.specs.Prelude.{◌≡◌, ◌≤◌, ◌<◌, ◌+◌, IfOk, IfErr, OnOk, IsErrOf, length, string_bytes};
+ghost use Rattle.std.specs.Prelude.{◌≡◌, ◌≤◌, ◌<◌, ◌+◌, IfOk, IfErr, OnOk, OnErr, IsErrOf, length, string_bytes};
 ghost use Rattle.std.specs.Io.KnownBytes.{Appends};
 ghost use Rattle.ov_io.specs.Device.{AppendsPrefixOf, most_faults, write_faults as sink_faults, write_number};
 ghost use Rattle.ov_certfile.specs.Forms.{last_moment};
@@ -7,14 +7,14 @@ ghost use Rattle.ov_net.specs.Net.{LivesAs};
 ghost use Rattle.ov_peer.specs.PeerState.{PeerState};
 ghost use Rattle.ov_run.specs.Ending.{BeginsPackets};
 ghost use Rattle.ov_run.specs.Faults.{write_faults};
-ghost use Rattle.ov_run.specs.Printed.{entry_line, file_text, node_line, refused_line};
-ghost use Rattle.ov_run.specs.Refusals.{number_of};
-ghost use Rattle.ov_run.specs.Running.{PrintsNode, PrintsPackets, PrintsCertificate};
-ghost use Rattle.ov_run.specs.Code.Outcomes.{ShowsCertificate, ShowsNode, WritesOutcome};
+ghost use Rattle.ov_run.specs.Accepting.{HidesCertificate, HidesNode, ShowsCertificate, ShowsNode};
+ghost use Rattle.ov_run.specs.Printed.{entry_line, file_text, node_line};
+ghost use Rattle.ov_run.specs.Running.{PrintsPackets};
+ghost use Rattle.ov_run.specs.Code.Outcomes.{WritesOutcome, rest_of};
 ghost use Rattle.ov_run.specs.Code.Writing.{Writes, WritesPrefix, IsOfWriting};
 
-use crate::line_outcome::Outcome;
-use crate::line_texts::{entry_line, node_line, packet_line, refused_line};
+use crate::line_outcome::{Came, Outcome};
+use crate::line_texts::{entry_line, node_line, packet_line, refused_line, together_line};
 use crate::refusal::Refusal;
 use crate::report_filing::filed_report;
 use crate::run_fault::RunFault;
@@ -41,22 +41,25 @@ pub(crate) fn write_done<W: Write>(text: &[u8], sink: &mut Sink<W>) -> Result<Ou
     Ok(Outcome::Accepted)
 }
 
-/// Writes the line of a refusal. Nothing is allocated, so only the writer can fail.
-pub(crate) fn write_refusal<W: Write>(
-    refusal: Refusal,
-    sink: &mut Sink<W>,
-) -> Result<Outcome, WriteFault>
+/// Writes what is still to be written of a line that ran: the number of its refusal, or the line of a block. Nothing is
+/// allocated, so only the writer can fail.
+pub(crate) fn write_rest<W: Write>(came: &Came<'_>, sink: &mut Sink<W>) -> Result<(), WriteFault>
     requires faults { sink.old.faults < most_faults }
-    ensures outcome { IfOk result (λ outcome. outcome ≡ Outcome.Refused refusal) }
     ensures bytes { OnOk result
-        (Appends (W.contents sink.old.writer) (W.contents sink.new.writer) (refused_line (number_of refusal))) }
-    ensures prefix { AppendsPrefixOf (refused_line (number_of refusal))
-        (W.contents sink.old.writer) (W.contents sink.new.writer) }
+        (Appends (W.contents sink.old.writer) (W.contents sink.new.writer) (rest_of came.now)) }
+    ensures prefix { AppendsPrefixOf (rest_of came.now) (W.contents sink.old.writer) (W.contents sink.new.writer) }
     ensures faults { sink.new.faults ≡ sink.old.faults + sink_faults write_number result }
 {
-    let line = refused_line(refusal.number());
-    sink.write_all(line.as_str().as_bytes())?;
-    Ok(Outcome::Refused(refusal))
+    match came {
+        Came::Alone(Outcome::Accepted) => Ok(()),
+        Came::Alone(Outcome::Refused(refusal)) => {
+            sink.write_all(refused_line(refusal.number()).as_str().as_bytes())
+        }
+        Came::Block(block) => {
+            let line = together_line(block.sections, block.accepted, block.refused);
+            sink.write_all(line.as_str().as_bytes())
+        }
+    }
 }
 
 /// Writes the line of an accepted event.
@@ -79,7 +82,8 @@ pub(crate) fn write_entry<W: Write>(
     Ok(write_done(line.as_bytes(), sink)?)
 }
 
-/// Writes what is printed of a node. OutOfMemory is returned only if the node lives and its line can't be made.
+/// Writes what is printed of a node, or refuses. OutOfMemory is returned only if the node lives and its line can't be
+/// made.
 pub(crate) fn write_node<W: Write>(
     alloc: Global,
     world: &World,
@@ -87,12 +91,10 @@ pub(crate) fn write_node<W: Write>(
     sink: &mut Sink<W>,
 ) -> Result<Outcome, RunFault>
     requires faults { sink.old.faults < most_faults }
-    ensures outcome { IfOk result (WritesOutcome (ShowsNode world.now.net id)
+    ensures outcome { IfOk result (WritesOutcome (ShowsNode world.now.net id) (HidesNode world.now.net id)
         (W.contents sink.old.writer) (W.contents sink.new.writer)) }
-    ensures prints { OnOk result (Writes (PrintsNode world.now.net id)
+    ensures begun { OnErr result (WritesPrefix (ShowsNode world.now.net id)
         (W.contents sink.old.writer) (W.contents sink.new.writer)) }
-    ensures begun { WritesPrefix (PrintsNode world.now.net id)
-        (W.contents sink.old.writer) (W.contents sink.new.writer) }
     ensures lives { IsErrOf result RunFault.OutOfMemory → (peer : PeerState) × LivesAs world.now.net id peer }
     ensures nothing { IsErrOf result RunFault.OutOfMemory → sink.new ≡ sink.old }
     ensures faults { sink.new.faults ≡ sink.old.faults + write_faults result }
@@ -100,8 +102,8 @@ pub(crate) fn write_node<W: Write>(
 {
     match world.peer(id) {
         Some(peer) => write_peer(alloc, id, peer, sink),
-        None if world.born(id) => Ok(write_refusal(Refusal::World(NetFault::CrashedNode), sink)?),
-        None => Ok(write_refusal(Refusal::World(NetFault::UnknownNode), sink)?),
+        None if world.born(id) => Ok(Outcome::Refused(Refusal::World(NetFault::CrashedNode))),
+        None => Ok(Outcome::Refused(Refusal::World(NetFault::UnknownNode))),
     }
 }
 
@@ -126,8 +128,8 @@ fn write_peer<W: Write>(
     Ok(write_done(line.as_bytes(), sink)?)
 }
 
-/// Writes the certificate file of the report that is filed for a subject, or the refusal if there is none. Out of
-/// memory is a refusal, so that only the writer can fail.
+/// Writes the certificate file of the report that is filed for a subject, or refuses if there is none. Out of memory is
+/// a refusal, so that only the writer can fail.
 pub(crate) fn write_certificate<W: Write>(
     alloc: Global,
     core: &Core,
@@ -136,20 +138,18 @@ pub(crate) fn write_certificate<W: Write>(
 ) -> Result<Outcome, WriteFault>
     requires faults { sink.old.faults < most_faults }
     ensures outcome { IfOk result (WritesOutcome (ShowsCertificate core.now subject.now)
+        (HidesCertificate core.now subject.now) (W.contents sink.old.writer) (W.contents sink.new.writer)) }
+    ensures begun { OnErr result (WritesPrefix (ShowsCertificate core.now subject.now)
         (W.contents sink.old.writer) (W.contents sink.new.writer)) }
-    ensures prints { OnOk result (Writes (PrintsCertificate core.now subject.now)
-        (W.contents sink.old.writer) (W.contents sink.new.writer)) }
-    ensures begun { WritesPrefix (PrintsCertificate core.now subject.now)
-        (W.contents sink.old.writer) (W.contents sink.new.writer) }
     ensures faults { sink.new.faults ≡ sink.old.faults + sink_faults write_number result }
 {
     let Some(report) = filed_report(core, subject) else {
-        return write_refusal(Refusal::Core(CoreFault::NoSuchMoment), sink);
+        return Ok(Outcome::Refused(Refusal::Core(CoreFault::NoSuchMoment)));
     };
     prove!(core.world().journal().len() <= MOST_ENTRIES);
     match file_text(alloc, report) {
         Ok(text) => write_done(text.as_bytes(), sink),
-        Err(OutOfMemory) => write_refusal(Refusal::Core(CoreFault::OutOfMemory), sink),
+        Err(OutOfMemory) => Ok(Outcome::Refused(Refusal::Core(CoreFault::OutOfMemory))),
     }
 }
 

@@ -14,4 +14,6 @@ mod pieces;
 #[cfg(test)]
 mod refusals;
 #[cfg(test)]
+mod strict;
+#[cfg(test)]
 mod watched;

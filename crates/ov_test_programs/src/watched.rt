@@ -1,6 +1,6 @@
 //! What the watcher of a run is told of each line, and when the writer of a run is asked to hand on what it keeps back.
 use ov_io::{Sink, Source};
-use ov_run::{RanLine, Refusal, RunFault, RunWatcher, run, run_watched};
+use ov_run::{RanLine, Refusal, RunFault, RunWatcher, Strictness, run, run_watched};
 use ov_snap::Core;
 use std::io::{self, BufWriter, ErrorKind, Write};
 use std::sync::Wait;
@@ -137,7 +137,14 @@ fn tells(rt: &(impl AllocGlobal + Threads + Wait + Sync), file: &str, told: &[To
     };
     let mut source = Source::new(file.as_bytes());
     let mut sink = Sink::new(Vec::new(rt.alloc()));
-    let answer = run_watched(rt, rt.alloc(), &mut source, &mut sink, &mut listener);
+    let answer = run_watched(
+        rt,
+        rt.alloc(),
+        &mut source,
+        &mut sink,
+        Strictness::Lenient,
+        &mut listener,
+    );
     let watched = (answer, sink.into_writer());
     watched == printed(rt, file) && listener.told.as_slice() == told
 }
@@ -156,7 +163,14 @@ fn a_watcher_is_given_the_text_of_each_line(rt: HostRuntime) {
     };
     let mut source = Source::new(MIXED.as_bytes());
     let mut sink = Sink::new(Vec::new(rt.alloc()));
-    let answer = run_watched(&rt, rt.alloc(), &mut source, &mut sink, &mut listener);
+    let answer = run_watched(
+        &rt,
+        rt.alloc(),
+        &mut source,
+        &mut sink,
+        Strictness::Lenient,
+        &mut listener,
+    );
     assert_eq!(rt; answer, Ok(0));
     assert_eq!(rt; listener.texts.as_slice(), THAT_RUN.as_bytes());
 }

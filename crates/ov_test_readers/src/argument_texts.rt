@@ -184,6 +184,11 @@ fn words_that_are_no_text_are_told(rt: HostRuntime) -> Result<(), Fail> {
 }
 
 const HELP: &str = "\
+Examples:
+  overlay run story.scenario --explain
+  overlay analyse net.graph --workers 4
+  overlay analyse net.graph --certificate
+
 Runs a scenario file of overlay nodes, or analyses a graph file.
 
 Usage: overlay [COMMAND]
@@ -201,6 +206,11 @@ Bare overlay is overlay run. overlay --version prints the version.
 ";
 
 const HELP_OF_RUN: &str = "\
+Examples:
+  overlay run story.scenario
+  overlay run story.scenario --strict --progress
+  overlay run --explain < story.scenario
+
 Runs the events of a scenario file, and prints what happens
 
 Usage: overlay run [OPTIONS] [file]
@@ -210,11 +220,20 @@ Arguments:
 
 Options:
       --explain   Prints on standard error why lines are refused, and counts the events
+      --strict    Ends at the first refused line, says why, and has status 1
       --progress  Prints on standard error how far it has come
   -h, --help      Print help
+
+A line that is refused as it runs prints `refused N`, changes nothing, and the run goes on.
+Its status is 0 all the same. With --strict the run ends there, with status 1.
 ";
 
 const HELP_OF_ANALYSE: &str = "\
+Examples:
+  overlay analyse net.graph
+  overlay analyse net.graph --group 1,2,3 --workers 4
+  overlay analyse net.graph --certificate | tail -1 | overlay-check
+
 Reads a graph file, and prints how few crashes split it
 
 Usage: overlay analyse [OPTIONS] [file]

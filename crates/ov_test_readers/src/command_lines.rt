@@ -40,37 +40,77 @@ fn asks(alloc: Global, line: &str, expected: &Request) -> Result<bool, Fail> {
     })
 }
 
-/// Arguments that ask for a run of standard input, and whether it is to be explained, and to tell how far it has come.
-static RUNS: [(&str, bool, bool); 11] = [
-    ("", false, false),
-    ("--", false, false),
-    ("run", false, false),
-    ("run -", false, false),
-    ("run --", false, false),
-    ("run -- -", false, false),
-    ("run --explain", true, false),
-    ("run - --explain", true, false),
-    ("run --progress", false, true),
-    ("run --progress -", false, true),
-    ("run --progress --explain", true, true),
+const PLAIN: RunRequest = RunRequest {
+    explain: false,
+    strict: false,
+    progress: false,
+};
+
+const EXPLAINED: RunRequest = RunRequest {
+    explain: true,
+    strict: false,
+    progress: false,
+};
+
+const STRICT: RunRequest = RunRequest {
+    explain: false,
+    strict: true,
+    progress: false,
+};
+
+const TOLD: RunRequest = RunRequest {
+    explain: false,
+    strict: false,
+    progress: true,
+};
+
+const EXPLAINED_AND_TOLD: RunRequest = RunRequest {
+    explain: true,
+    strict: false,
+    progress: true,
+};
+
+const ALL: RunRequest = RunRequest {
+    explain: true,
+    strict: true,
+    progress: true,
+};
+
+/// Arguments that ask for a run of standard input, and the run.
+static RUNS: [(&str, RunRequest); 13] = [
+    ("", PLAIN),
+    ("--", PLAIN),
+    ("run", PLAIN),
+    ("run -", PLAIN),
+    ("run --", PLAIN),
+    ("run -- -", PLAIN),
+    ("run --explain", EXPLAINED),
+    ("run - --explain", EXPLAINED),
+    ("run --strict", STRICT),
+    ("run --progress", TOLD),
+    ("run --progress -", TOLD),
+    ("run --progress --explain", EXPLAINED_AND_TOLD),
+    ("run --progress --strict --explain", ALL),
 ];
 
-/// Arguments that ask for a run of a file: its name, and the same.
-static FILE_RUNS: [(&str, &str, bool, bool); 14] = [
-    ("run g", "g", false, false),
-    ("run -- g", "g", false, false),
-    ("run -- -g", "-g", false, false),
-    ("run -- --explain", "--explain", false, false),
-    ("run --explain -- --", "--", true, false),
-    ("run g --explain", "g", true, false),
-    ("run --explain g", "g", true, false),
-    ("run g --progress", "g", false, true),
-    ("run --explain g --progress", "g", true, true),
-    ("run --explain -- --progress", "--progress", true, false),
-    ("run run", "run", false, false),
-    ("run analyse", "analyse", false, false),
-    ("run help", "help", false, false),
-    ("run \u{e4}/g.txt", "\u{e4}/g.txt", false, false),
+/// Arguments that ask for a run of a file: its name, and the run.
+static FILE_RUNS: [(&str, &str, RunRequest); 16] = [
+    ("run g", "g", PLAIN),
+    ("run -- g", "g", PLAIN),
+    ("run -- -g", "-g", PLAIN),
+    ("run -- --explain", "--explain", PLAIN),
+    ("run -- --strict", "--strict", PLAIN),
+    ("run --explain -- --", "--", EXPLAINED),
+    ("run g --explain", "g", EXPLAINED),
+    ("run --explain g", "g", EXPLAINED),
+    ("run g --strict", "g", STRICT),
+    ("run g --progress", "g", TOLD),
+    ("run --explain g --progress", "g", EXPLAINED_AND_TOLD),
+    ("run --explain -- --progress", "--progress", EXPLAINED),
+    ("run run", "run", PLAIN),
+    ("run analyse", "analyse", PLAIN),
+    ("run help", "help", PLAIN),
+    ("run \u{e4}/g.txt", "\u{e4}/g.txt", PLAIN),
 ];
 
 /// The line asks for this run of this file.
@@ -86,20 +126,12 @@ fn asks_for_run(
 #[test]
 fn arguments_that_ask_for_a_run(rt: HostRuntime) -> Result<(), Fail> {
     let alloc = rt.alloc();
-    for (line, explain, progress) in &RUNS {
-        let run = RunRequest {
-            explain: *explain,
-            progress: *progress,
-        };
-        assert!(rt; asks_for_run(alloc, line, None, run)?, "at {line}");
+    for (line, run) in &RUNS {
+        assert!(rt; asks_for_run(alloc, line, None, *run)?, "at {line}");
     }
-    for (line, name, explain, progress) in &FILE_RUNS {
-        let run = RunRequest {
-            explain: *explain,
-            progress: *progress,
-        };
+    for (line, name, run) in &FILE_RUNS {
         let file = file(alloc, name)?;
-        assert!(rt; asks_for_run(alloc, line, file, run)?, "at {line}");
+        assert!(rt; asks_for_run(alloc, line, file, *run)?, "at {line}");
     }
     Ok(())
 }
@@ -367,7 +399,7 @@ fn refused_arguments_alone_are_explained(rt: HostRuntime) -> Result<(), Fail> {
     for line in &REFUSED {
         assert!(rt; is_explained(rt.alloc(), line)?, "at {line}");
     }
-    for (line, _, _, _) in &FILE_RUNS {
+    for (line, _, _) in &FILE_RUNS {
         assert!(rt; !is_explained(rt.alloc(), line)?, "at {line}");
     }
     for (line, _) in &BY_WORKERS {

@@ -176,12 +176,30 @@ fn core_after(alloc: Global, file: &[u8]) -> Result<Core, Fail> {
 }
 
 /// The events of a scenario, a line after them, a fault of the core, and what is told of it. The line is not run.
-static OF_CORE: [(&[u8], &[u8], CoreFault, &str); 12] = [
+static OF_CORE: [(&[u8], &[u8], CoreFault, &str); 16] = [
     (
         b"",
         b"analyse 3",
         CoreFault::NoSuchMoment,
-        "no snapshot was taken at moment 3",
+        "no snapshot was taken at moment 3, and none at another one",
+    ),
+    (
+        b"boot 1\nsnapshot\n",
+        b"analyse 9",
+        CoreFault::NoSuchMoment,
+        "no snapshot was taken at moment 9; the only one is at 2; none is after it",
+    ),
+    (
+        b"snapshot\nboot 1\nsnapshot\n",
+        b"analyse 2 group 1",
+        CoreFault::NoSuchMoment,
+        "no snapshot was taken at moment 2; there are 2, the nearest at 1, 3; 3 is the next after it",
+    ),
+    (
+        b"snapshot\nsnapshot\nsnapshot\nboot 1\nsnapshot\nsnapshot\nsnapshot\n",
+        b"analyse 4",
+        CoreFault::NoSuchMoment,
+        "no snapshot was taken at moment 4; there are 6, the nearest at 2, 3, 5, 6; 5 is the next after it",
     ),
     (
         b"snapshot\n",
@@ -223,13 +241,19 @@ static OF_CORE: [(&[u8], &[u8], CoreFault, &str); 12] = [
         b"",
         b"certificate 3",
         CoreFault::NoSuchMoment,
-        "no report is filed of moment 3 and all nodes",
+        "no report is filed of moment 3 and all nodes; no snapshot was taken at moment 3, and none at another one",
     ),
     (
-        b"",
+        b"boot 1\nsnapshot\n",
+        b"certificate 2",
+        CoreFault::NoSuchMoment,
+        "no report is filed of moment 2 and all nodes",
+    ),
+    (
+        b"snapshot\n",
         b"certificate 3 group 1",
         CoreFault::NoSuchMoment,
-        "no report is filed of moment 3 and this group",
+        "no report is filed of moment 3 and this group; no snapshot was taken at moment 3; the only one is at 1; none is after it",
     ),
     (b"", b"analyse 3", CoreFault::OutOfMemory, "out of memory"),
     (

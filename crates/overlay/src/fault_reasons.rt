@@ -6,7 +6,8 @@ use ov_reasons::{
 use ov_run::RunFault;
 use std::alloc::Global;
 
-/// Why the run of a scenario file of these bytes ended with this fault, in words. The text ends with a line feed.
+/// Why the run of a scenario file of these bytes ended with this fault, in words. The text ends with a line feed. It is
+/// empty if the run ended at a refused line: why that was refused is told by the watcher of the run.
 ///
 /// `OutOfMemory` (99): an allocation was refused.
 pub(crate) fn run_reason(
@@ -38,7 +39,10 @@ pub(crate) fn analysis_reason(
 /// What is said of a fault that is no line's and no graph's.
 fn device_reason(fault: &RunFault) -> &'static str {
     match fault {
-        RunFault::Line(_) | RunFault::Params(_) | RunFault::Graph { .. } => "",
+        RunFault::Line(_)
+        | RunFault::Params(_)
+        | RunFault::Graph { .. }
+        | RunFault::Refused { .. } => "",
         RunFault::Read => READING_FAILED,
         RunFault::Write => WRITING_FAILED,
         RunFault::OutOfMemory => OUT_OF_MEMORY,

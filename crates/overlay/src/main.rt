@@ -9,6 +9,7 @@ ghost use Rattle.ov_arguments.specs.declared.arguments.ArgumentsFault.TheVariant
 ghost use Rattle.ov_io.specs.Device.{most_faults};
 ghost use Rattle.ov_run.specs.Analysing.{IsAnalysisOf};
 ghost use Rattle.ov_run.specs.Run.{IsRunOf};
+ghost use Rattle.ov_run.specs.Strict.{strictness_of};
 ghost use Rattle.overlay.specs.declared.program_outcome.ProgramFault.TheVariants.{Arguments, Run};
 
 mod fault_reasons;
@@ -34,7 +35,7 @@ use ov_arguments::{
 use ov_ids::{NodeId, OutOfMemory};
 use ov_io::{Sink, Source, unopened_text, unread_text};
 use ov_reasons::group_reason;
-use ov_run::{Answered, RunFault, analyse_bytes, run_bytes};
+use ov_run::{Answered, RunFault, Strictness, analyse_bytes, run_bytes};
 use std::env;
 use std::fs::File;
 use std::io::{self, BufWriter, IsTerminal, Read, Write};
@@ -273,14 +274,15 @@ fn run_from<T: Threads + Wait + Sync, R: Read + Drop, W: Write>(
     run: RunRequest,
 ) -> Result<u8, RunFault>
     requires { sink.old.faults < most_faults }
-    ensures run { IsRunOf (R.remaining reader) W.contents sink.old sink.new result }
+    ensures run { IsRunOf (strictness_of run.strict) (R.remaining reader) W.contents sink.old sink.new result }
 {
     let bytes = bytes_of(rt, reader, name)?;
     run_told(rt, threads, &bytes, sink, run)
 }
 
 /// Runs the scenario of these bytes. Prints its fault, if there is one, and why. Prints what else is asked for: how far
-/// the run has come; why lines are refused, and at the end how many events happened and how many were refused.
+/// the run has come; why lines are refused, and at the end how many events happened and how many were refused. Why a
+/// line is refused at which a strict run ends is printed below its fault.
 fn run_told<T: Threads + Wait + Sync, W: Write>(
     rt: &HostRuntime,
     threads: &T,
@@ -289,13 +291,14 @@ fn run_told<T: Threads + Wait + Sync, W: Write>(
     run: RunRequest,
 ) -> Result<u8, RunFault>
     requires { sink.old.faults < most_faults }
-    ensures run { IsRunOf (Some bytes.now) W.contents sink.old sink.new result }
+    ensures run { IsRunOf (strictness_of run.strict) (Some bytes.now) W.contents sink.old sink.new result }
 {
     let mut news = RunNews::new(rt, run, bytes);
-    let answer = run_bytes(threads, rt.alloc(), bytes, sink, &mut news);
+    let strictness = Strictness::of(run.strict);
+    let answer = run_bytes(threads, rt.alloc(), bytes, sink, strictness, &mut news);
     tell_fault(rt, bytes, &answer);
     if has_run(&answer) {
-        news.tell_count();
+        news.tell_end();
     }
     answer
 }

@@ -15,14 +15,15 @@ impl<'a> RunNews<'a> {
     /// A watcher of a run of a file of these bytes.
     pub(crate) fn new(rt: &'a HostRuntime, run: RunRequest, bytes: &[u8]) -> RunNews<'a> {
         RunNews {
-            explaining: Explaining::new(rt, run.explain),
+            explaining: Explaining::new(rt, run),
             progress: LineProgress::new(rt, run.progress, bytes),
         }
     }
 
-    /// Prints how many events happened, and how many were refused, if the run is explained.
-    pub(crate) fn tell_count(&self) {
-        self.explaining.tell_count();
+    /// Prints what is still to be said at the end: why lines were refused at which a strict run ended; and if the run is
+    /// explained, how many events happened, and how many were refused.
+    pub(crate) fn tell_end(&self) {
+        self.explaining.tell_end();
     }
 }
 

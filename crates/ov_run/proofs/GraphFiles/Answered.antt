@@ -111,6 +111,7 @@ refused bytes contents sink group certificate (fault.Graph g line) is = record {
 }
 refused bytes contents sink group certificate fault.Read is = absurd is
 refused bytes contents sink group certificate fault.Write is = absurd is
+refused bytes contents sink group certificate (fault.Refused n refusal) is = absurd is
 refused bytes contents sink group certificate fault.OutOfMemory is = record {
   prints = tt;
   begun = inl refl;

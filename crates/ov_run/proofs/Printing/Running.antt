@@ -12,6 +12,8 @@ use Rattle.ov_snap.specs.CoreState.{CoreState}
 use Rattle.ov_run.specs.Ending.{BeginsLines, BeginsPackets, EndsLines}
 use Rattle.ov_run.specs.Printed.{packet_line}
 use Rattle.ov_run.specs.Running.{PrintsLine, PrintsLines, PrintsPackets}
+use Rattle.ov_run.specs.Strict.{AcceptsLine, AcceptsLines, StopsLines}
+use Rattle.ov_run.specs.declared.refusal.Refusal.{Refusal}
 use Rattle.ov_scenario.specs.RunLines.{FirstNeedsMemory}
 use Rattle.ov_scenario.specs.declared.scenario.Line.{Line}
 
@@ -43,6 +45,39 @@ more b all now next line lines text own so_far prints = record {
 pub ended : (b : CoreState) (all : List Line) (now : CoreState) (text : List ℕ) → SoFar b all now [] text
     → PrintsLines b all now text
 ended b all now text so_far = subst (λ t. PrintsLines b all now t) (append-nil text) (so_far.whole now [] (refl, refl))
+
+-- all lines so far were accepted: this text was printed of them, and these are left, with the lines of the file that
+-- ask for them
+pub record AcceptedSoFar (b : CoreState) (all : List Line) (all_asked : List (ℕ × List ℕ)) (now : CoreState)
+    (lines : List Line) (asked : List (ℕ × List ℕ)) (text : List ℕ) : Type 0 where
+  pub whole : (u : CoreState) (later : List ℕ) → AcceptsLines now lines u later → AcceptsLines b all u (text ++ later)
+  pub stops : (n : ℕ) (refusal : Refusal) (later : List ℕ) → StopsLines now lines asked n refusal later
+      → StopsLines b all all_asked n refusal (text ++ later)
+
+pub accepted_begun : (b : CoreState) (lines : List Line) (asked : List (ℕ × List ℕ))
+    → AcceptedSoFar b lines asked b lines asked []
+accepted_begun b lines asked =
+    record { whole = λ u later accepts. accepts; stops = λ n refusal later stops. stops }
+
+pub accepted_more :
+    (b : CoreState) (all : List Line) (all_asked : List (ℕ × List ℕ)) (now next : CoreState) (line : Line)
+    (lines : List Line) (own_asked : ℕ × List ℕ) (asked : List (ℕ × List ℕ)) (text own : List ℕ)
+    → AcceptedSoFar b all all_asked now (line ∷ lines) (own_asked ∷ asked) text → AcceptsLine now line next own
+    → AcceptedSoFar b all all_asked next lines asked (text ++ own)
+accepted_more b all all_asked now next line lines own_asked asked text own so_far accepts = record {
+  whole = λ u later others.
+      subst (λ t. AcceptsLines b all u t) (sym (append_assoc text own later))
+      (so_far.whole u (own ++ later) (next, own, later, accepts, others, refl));
+  stops = λ n refusal later others.
+      subst (λ t. StopsLines b all all_asked n refusal t) (sym (append_assoc text own later))
+      (so_far.stops n refusal (own ++ later) (inr (next, own, later, accepts, others, refl)));
+}
+
+pub accepted_ended : (b : CoreState) (all : List Line) (all_asked : List (ℕ × List ℕ)) (now : CoreState)
+    (asked : List (ℕ × List ℕ)) (text : List ℕ) → AcceptedSoFar b all all_asked now [] asked text
+    → AcceptsLines b all now text
+accepted_ended b all all_asked now asked text so_far =
+    subst (λ t. AcceptsLines b all now t) (append-nil text) (so_far.whole now [] (refl, refl))
 
 -- memory is lacking to read the first line
 pub unread : (b : CoreState) (lines : List Line) → FirstNeedsMemory lines → EndsLines b lines []

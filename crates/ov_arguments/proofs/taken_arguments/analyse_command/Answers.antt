@@ -10,7 +10,9 @@ use Rattle.ov_arguments.proofs.taken_arguments.analyse_command.Goals as goal
 pub returns : goal.returns
 returns c =
     let bare : app_of c.new.result ≡ new_app (codes "analyse") = search rules in
-    let none : app_of c.about.result ≡ new_app (codes "analyse") = ap app_of_fields c.about.ensures ∙ bare in
+    let before : app_of c.before_help.result ≡ new_app (codes "analyse") =
+    ap app_of_fields c.before_help.ensures ∙ bare in
+    let none : app_of c.about.result ≡ new_app (codes "analyse") = ap app_of_fields c.about.ensures ∙ before in
     let file : rule_of c.file.result ≡ new_rule (codes "file") = search rules in
     let group : rule_of c.option.result ≡ option (codes "group") = search rules in
     let workers : rule_of c.option-2.result ≡ option (codes "workers") = search rules in

@@ -16,7 +16,8 @@ returns c =
     ≡ on_top (λ (s : Shape). record s { no_binary_name = true }) (new_app (codes "overlay")) =
     ap app_of_fields c.no_binary_name.ensures
     ∙ ap (on_top (λ (s : Shape). record s { no_binary_name = true })) none in
-    let told = ap app_of_fields c.after_help.ensures ∙ ap app_of_fields c.about.ensures ∙ unnamed in
+    let told = ap app_of_fields c.after_help.ensures ∙ ap app_of_fields c.about.ensures
+    ∙ ap app_of_fields c.before_help.ensures ∙ unnamed in
     let one = with_subcommand_more _ _ _ _ _ c.in_ok-subcommand.ensures told c.in_ok-run_command.ensures refl in
     IfOk-weaker c.subcommand-2.result (AddsSubcommand c.in_ok-subcommand.field-0 c.in_ok-analyse_command.field-0)
     (λ r. app_of r ≡ overlay_command)

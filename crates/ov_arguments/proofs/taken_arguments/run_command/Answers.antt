@@ -10,11 +10,15 @@ use Rattle.ov_arguments.proofs.taken_arguments.run_command.Goals as goal
 pub returns : goal.returns
 returns c =
     let bare : app_of c.new.result ≡ new_app (codes "run") = search rules in
-    let none : app_of c.about.result ≡ new_app (codes "run") = ap app_of_fields c.about.ensures ∙ bare in
+    let before : app_of c.before_help.result ≡ new_app (codes "run") = ap app_of_fields c.before_help.ensures ∙ bare in
+    let told : app_of c.about.result ≡ new_app (codes "run") = ap app_of_fields c.about.ensures ∙ before in
+    let none : app_of c.after_help.result ≡ new_app (codes "run") = ap app_of_fields c.after_help.ensures ∙ told in
     let file : rule_of c.file.result ≡ new_rule (codes "file") = search rules in
     let explain : rule_of c.flag.result ≡ flag (codes "explain") = search rules in
-    let progress : rule_of c.flag-2.result ≡ flag (codes "progress") = search rules in
+    let strict : rule_of c.flag-2.result ≡ flag (codes "strict") = search rules in
+    let progress : rule_of c.flag-3.result ≡ flag (codes "progress") = search rules in
     let one = with_one_more _ _ _ _ _ c.in_ok-arg.ensures c.file.ensures.local none file in
     let two = with_one_more _ _ _ _ _ c.in_ok-arg-2.ensures c.flag.ensures.local one explain in
-    IfOk-weaker c.arg-3.result (AddsArg c.in_ok-arg-2.field-0 c.flag-2.result) (λ r. app_of r ≡ run_command)
-    (λ r adds. with_one_more _ _ _ _ _ adds c.flag-2.ensures.local two progress) c.arg-3.ensures
+    let three = with_one_more _ _ _ _ _ c.in_ok-arg-3.ensures c.flag-2.ensures.local two strict in
+    IfOk-weaker c.arg-4.result (AddsArg c.in_ok-arg-3.field-0 c.flag-3.result) (λ r. app_of r ≡ run_command)
+    (λ r adds. with_one_more _ _ _ _ _ adds c.flag-3.ensures.local three progress) c.arg-4.ensures

@@ -1,5 +1,7 @@
 -- What was read is a scenario, and what it prints was written; if the run ended early, a prefix of it.
-use Rattle.std.proofs.Common.{rules, Err, ap, arith, refl}
+use Rattle.std.proofs.Common.{rules, Err, ap, arith, refl, subst}
+use Rattle.ov_snap.specs.CoreState.{opening_core}
+use Rattle.ov_run.specs.Strict.{StopsLines}
 use Rattle.ov_run.proofs.Printing.WholeRuns.{finished, stopped, without_room}
 use Rattle.ov_run.proofs.engine.run_bytes.Goals as goal
 
@@ -9,7 +11,7 @@ returns g c =
     let printed = c.in_ok-run_in_hall.ensures.ran.prints in
     record {
       read = λ e. absurd cc;
-      run = finished c.args.bytes.now g.W.Write.contents c.args.sink.now c.run_in_hall.new.sink (
+      run = finished c.args.strictness c.args.bytes.now g.W.Write.contents c.args.sink.now c.run_in_hall.new.sink (
         c.args.bytes.now,
         printed.1.0,
         refl,
@@ -20,13 +22,24 @@ returns g c =
           lines = printed.1.1;
         },
         printed.1.2,
-      ) c.in_ok-run_in_hall.ensures.ran.faults;
+      ) (λ strict. let own = c.in_ok-run_in_hall.ensures.ran.accepts strict in (
+        c.args.bytes.now,
+        own.1.0,
+        refl,
+        record {
+          scenario = said.scenario;
+          says = said.ensures.scenario;
+          core = own.0;
+          lines = own.1.1;
+        },
+        own.1.2,
+      )) c.in_ok-run_in_hall.ensures.ran.faults;
     }
 
 pub returns-in_err-opening : goal.returns-in_err-opening
 returns-in_err-opening g c = record {
   read = search rules;
-  run = without_room c.args.bytes.now g.W.Write.contents c.args.sink.now c.from_residual-in_err-opening.result
+  run = without_room c.args.strictness c.args.bytes.now g.W.Write.contents c.args.sink.now c.from_residual-in_err-opening.result
       c.from_residual-in_err-opening.ensures.1;
 }
 
@@ -37,7 +50,7 @@ returns-in_err-run_in_hall g c =
     let failed = c.from_residual-in_err-run_in_hall in
     record {
       read = search rules;
-      run = stopped c.args.bytes.now g.W.Write.contents c.args.sink.now c.run_in_hall.new.sink failed.result
+      run = stopped c.args.strictness c.args.bytes.now g.W.Write.contents c.args.sink.now c.run_in_hall.new.sink failed.result
           c.in_err-run_in_hall.field-0.0 failed.ensures.1 (
             c.args.bytes.now,
             ran.begun.0,
@@ -50,6 +63,20 @@ returns-in_err-run_in_hall g c =
             refl,
             record { scenario = file.scenario; says = file.ensures.scenario; lines = ended.1 },
             ended.2,
+          )) (λ n refusal is. let own = ran.stops n refusal (ap Err is) in (
+            own.0,
+            (
+              c.args.bytes.now,
+              own.1.0,
+              refl,
+              record {
+                scenario = file.scenario;
+                says = file.ensures.scenario;
+                lines = subst (λ ls. StopsLines (opening_core file.scenario.params) file.scenario.lines.items ls n refusal
+                    own.1.0) file.ensures.file_lines own.1.1;
+              },
+              own.1.2,
+            ),
           ));
     }
 

@@ -7,7 +7,7 @@ returns g c =
     let read = c.in_ok-bytes in
     record {
       run = record {
-        run = run_of_reader g.W.Write.contents c.args.sink.now c.run_bytes.new.sink
+        run = run_of_reader c.args.strictness g.W.Write.contents c.args.sink.now c.run_bytes.new.sink
             (g.R.Read.remaining c.args.source.now.reader) read.bytes.items c.deref.result.now c.run_bytes.result
             read.ensures.bytes c.deref.ensures.value c.run_bytes.ensures.run;
         source = no_read_fault c.run_bytes.result c.run_bytes.ensures.read _ _ read.ensures.faults;

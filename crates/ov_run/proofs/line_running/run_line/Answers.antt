@@ -1,74 +1,162 @@
 -- Each kind of line, with the hall after it.
-use Rattle.std.proofs.Common.{◌≡◌, ◌∙◌, Ok, [], refl, sym, subst, arith}
+use Rattle.std.proofs.Common.{◌≡◌, inl, refl, sym, subst, arith, ap}
+use Rattle.std.proofs.Common.{Err}
 use Rattle.ov_snap.specs.CoreState.{CoreState}
 use Rattle.ov_scenario.specs.declared.scenario.Line.{Line}
 use Rattle.ov_scenario.specs.declared.scenario.Line.TheVariants as line
+use Rattle.ov_run.specs.Accepting.{FilesReport, RefusesAnalysis}
 use Rattle.ov_run.specs.Code.Jobs.{HasDrivers}
-use Rattle.ov_run.proofs.Printing.Ending.{whole}
-use Rattle.ov_run.proofs.Printing.OneLine.{RanTo, RanWith, analysis_ran, at_a_write, event_ran, handed_on_before}
-use Rattle.ov_run.proofs.Printing.OneLine.{look_ran, not_handed_on, with_hall}
+use Rattle.ov_run.specs.Code.Outcomes.{LineCame}
+use Rattle.ov_run.specs.declared.line_outcome.Came.TheVariants.{Alone, Block}
+use Rattle.ov_run.proofs.Printing.Ending.{kept_prefix, whole}
+use Rattle.ov_run.proofs.Printing.OneLine.{RanWith, at_a_write, block_came, block_ended, ended_by, event_ended}
+use Rattle.ov_run.proofs.Printing.OneLine.{look_begun, look_came, not_handed_on, ran_as}
+use Rattle.ov_run.proofs.Printing.Outcomes.{kept_outcome}
 use Rattle.ov_run.proofs.line_running.run_line.Goals as goal
 
-pub returns-in-Event : goal.returns-in-Event
-returns-in-Event g c =
-    let contents = g.W.Write.contents in
-    let own = c.run_event-outcome.ensures in
-    let ran = event_ran contents c.args.hall c.run_event-outcome.new.hall c.args.sink.now c.run_event-outcome.new.sink
-    c.run_event-outcome.result own.faults own.kind c.in-Event.event c.in-Event.words own.outcome own.unchanged
-    own.prints own.begun own.happened own.nothing in
-    let all = subst (λ (l : Line). RanTo contents c.args.hall l c.run_event-outcome.new.hall c.args.sink.now
-    c.run_event-outcome.new.sink c.run_event-outcome.result) (sym c.in-Event.is) ran in
-    record {
-      ran = with_hall contents c.args.hall c.args.line c.run_event-outcome.new.hall c.args.sink.now
-          c.run_event-outcome.new.sink c.run_event-outcome.result c.with_hall.result c.with_hall.ensures.ok
-          c.with_hall.ensures.err all;
-    }
+-- ---- an event
 
-pub returns-in-Look : goal.returns-in-Look
-returns-in-Look g c =
-    let contents = g.W.Write.contents in
-    let own = c.write_look-outcome.ensures in
-    let ran = look_ran contents c.core.result.now c.args.sink.now c.write_look-outcome.new.sink
-    c.write_look-outcome.result c.in-Look.look own.outcome own.prints own.begun own.memory own.faults own.kind in
-    let here = subst (λ (b : CoreState). RanTo contents b (line.Look c.in-Look.look) b c.args.sink.now
-    c.write_look-outcome.new.sink c.write_look-outcome.result) c.core.ensures ran in
-    let all = subst (λ (l : Line). RanTo contents c.args.hall l c.args.hall c.args.sink.now
-    c.write_look-outcome.new.sink c.write_look-outcome.result) (sym c.in-Look.is) here in
-    record {
-      ran = with_hall contents c.args.hall c.args.line c.args.hall c.args.sink.now c.write_look-outcome.new.sink
-          c.write_look-outcome.result
-          c.with_hall-in-Look.result c.with_hall-in-Look.ensures.ok c.with_hall-in-Look.ensures.err all;
-    }
-
-pub run_event-outcome-requires : goal.run_event-outcome-requires
-run_event-outcome-requires g c = record { faults = c.requires.faults }
-
-pub write_look-outcome-requires : goal.write_look-outcome-requires
-write_look-outcome-requires g c = record { faults = c.requires.faults }
-
-pub flush-requires : goal.flush-requires
-flush-requires g c = c.requires.faults
-
-pub flush-requires-in-Together : goal.flush-requires-in-Together
-flush-requires-in-Together g c = c.requires.faults
+pub run_event-requires : goal.run_event-requires
+run_event-requires g c = record { faults = c.requires.faults }
 
 pub same-hall : goal.same-hall
 same-hall g c = refl
 
+pub returns-in_ok-outcome-in-Event : goal.returns-in_ok-outcome-in-Event
+returns-in_ok-outcome-in-Event g c =
+    let contents = g.W.Write.contents in
+    let before = c.args.sink.now in
+    let after = c.run_event.new.sink in
+    let u = c.run_event.new.hall in
+    let came = Alone c.in_ok-outcome-in-Event.outcome in
+    let own = c.in_ok-outcome-in-Event.ensures in
+    let is = subst (λ (l : Line). LineCame c.args.hall l u (contents before.writer) (contents after.writer) came)
+    (sym c.in-Event.is) own.outcome in
+    record { ran = ran_as contents c.args.hall c.args.line before after came u is own.faults }
+
+pub returns-in_err-outcome-in-Event : goal.returns-in_err-outcome-in-Event
+returns-in_err-outcome-in-Event g c =
+    let contents = g.W.Write.contents in
+    let before = c.args.sink.now in
+    let after = c.run_event.new.sink in
+    let result = c.from_residual.result in
+    let own = c.in_err-outcome-in-Event.ensures in
+    let ended = event_ended contents c.args.hall before after result c.in-Event.event c.in-Event.words
+    c.run_event.new.hall c.in_err-outcome-in-Event.field-0.0 c.from_residual.ensures.1 own.begun
+    (λ is. own.happened (ap Err is)) (λ is. own.nothing (ap Err is)) own.faults own.kind in
+    record {
+      ran = subst (λ (l : Line). RanWith contents c.args.hall l before after result) (sym c.in-Event.is) ended;
+    }
+
+-- ---- a look
+
+pub write_look-requires : goal.write_look-requires
+write_look-requires g c = record { faults = c.requires.faults }
+
+pub same-hall-in-Look : goal.same-hall-in-Look
+same-hall-in-Look g c = refl
+
+pub returns-in_ok-outcome-in-Look : goal.returns-in_ok-outcome-in-Look
+returns-in_ok-outcome-in-Look g c =
+    let contents = g.W.Write.contents in
+    let before = c.args.sink.now in
+    let after = c.write_look.new.sink in
+    let look = c.in-Look.look in
+    let came = Alone c.in_ok-outcome-in-Look.outcome in
+    let own = c.in_ok-outcome-in-Look.ensures in
+    let here = subst (λ (b : CoreState). LineCame b (line.Look look) b (contents before.writer) (contents after.writer)
+    came) c.core.ensures (look_came c.core.result.now look _ _ c.in_ok-outcome-in-Look.outcome own.outcome) in
+    let is = subst (λ (l : Line). LineCame c.args.hall l c.args.hall (contents before.writer) (contents after.writer)
+    came) (sym c.in-Look.is) here in
+    record { ran = ran_as contents c.args.hall c.args.line before after came c.args.hall is own.faults }
+
+pub returns-in_err-outcome-in-Look : goal.returns-in_err-outcome-in-Look
+returns-in_err-outcome-in-Look g c =
+    let contents = g.W.Write.contents in
+    let before = c.args.sink.now in
+    let after = c.write_look.new.sink in
+    let look = c.in-Look.look in
+    let failed = c.from_residual-in_err-outcome-in-Look in
+    let own = c.in_err-outcome-in-Look.ensures in
+    let ended = ended_by contents c.core.result.now (line.Look look) before after failed.result
+    c.in_err-outcome-in-Look.field-0.0 failed.ensures.1 (look_begun c.core.result.now look _ _ own.begun)
+    (λ is. own.memory (ap Err is)) own.faults own.kind in
+    let here = subst (λ (b : CoreState). RanWith contents b (line.Look look) before after failed.result) c.core.ensures
+    ended in
+    record {
+      ran = subst (λ (l : Line). RanWith contents c.args.hall l before after failed.result) (sym c.in-Look.is) here;
+    }
+
+-- ---- an analysis
+
+pub flush-requires : goal.flush-requires
+flush-requires g c = c.requires.faults
+
 pub same-hall-in-Analyse : goal.same-hall-in-Analyse
 same-hall-in-Analyse g c = refl
+
+pub same-hall-in-Analyse-2 : goal.same-hall-in-Analyse-2
+same-hall-in-Analyse-2 g c = refl
+
+pub returns-in_err-flush-in-Analyse : goal.returns-in_err-flush-in-Analyse
+returns-in_err-flush-in-Analyse g c =
+    let failed = c.from_residual-in_err-flush-in-Analyse in
+    record {
+      ran = not_handed_on g.W.Write.contents c.args.hall c.args.line c.args.sink.now c.flush.new.self failed.result
+          failed.ensures.1 c.flush.ensures.bytes c.in_err-flush-in-Analyse.ensures.faults;
+    }
+
+pub run_analysis-requires-clause-faults : goal.run_analysis-requires-clause-faults
+run_analysis-requires-clause-faults g c κs within =
+    let few = c.requires.faults in let none = c.in_ok-flush-in-Analyse.ensures.faults in omega (arith, few, none)
+
+pub returns-in_err-outcome-in-Analyse : goal.returns-in_err-outcome-in-Analyse
+returns-in_err-outcome-in-Analyse g c =
+    let contents = g.W.Write.contents in
+    let asked = line.Analyse c.in-Analyse.subject c.in-Analyse.workers in
+    let after = c.run_analysis.new.sink in
+    let failed = c.from_residual-in_err-outcome-in-Analyse in
+    let own = c.in_err-outcome-in-Analyse.ensures in
+    let none = c.in_ok-flush-in-Analyse.ensures.faults in
+    let counted = own.faults in
+    let ended = at_a_write contents c.args.hall asked c.args.sink.now after failed.result failed.ensures.1 (
+      own.begun.0,
+      whole c.args.hall asked c.run_analysis.new.hall own.begun.0 (inl own.begun.1),
+      kept_prefix _ _ _ own.begun.0 c.flush.ensures.bytes own.begun.2,
+    ) (omega (arith, none, counted)) in
+    record {
+      ran = subst (λ (l : Line). RanWith contents c.args.hall l c.args.sink.now after failed.result)
+          (sym c.in-Analyse.is) ended;
+    }
+
+pub returns-in_ok-outcome-in-Analyse : goal.returns-in_ok-outcome-in-Analyse
+returns-in_ok-outcome-in-Analyse g c =
+    let contents = g.W.Write.contents in
+    let subject = c.in-Analyse.subject in
+    let before = c.args.sink.now in
+    let after = c.run_analysis.new.sink in
+    let u = c.run_analysis.new.hall in
+    let came = Alone c.in_ok-outcome-in-Analyse.outcome in
+    let own = c.in_ok-outcome-in-Analyse.ensures in
+    let none = c.in_ok-flush-in-Analyse.ensures.faults in
+    let counted = own.faults in
+    let whole_one = kept_outcome (FilesReport c.args.hall subject u)
+    (λ refusal. RefusesAnalysis c.args.hall subject refusal × (u ≡ c.args.hall)) _ _ _
+    c.in_ok-outcome-in-Analyse.outcome c.flush.ensures.bytes own.outcome in
+    let is = subst (λ (l : Line). LineCame c.args.hall l u (contents before.writer) (contents after.writer) came)
+    (sym c.in-Analyse.is) whole_one in
+    record { ran = ran_as contents c.args.hall c.args.line before after came u is (omega (arith, none, counted)) }
+
+-- ---- a block of sections
+
+pub flush-requires-in-Together : goal.flush-requires-in-Together
+flush-requires-in-Together g c = c.requires.faults
 
 pub same-hall-in-Together : goal.same-hall-in-Together
 same-hall-in-Together g c = refl
 
 pub same-sections : goal.same-sections
 same-sections g c = refl
-
-pub returns-in_err-flush-in-Analyse : goal.returns-in_err-flush-in-Analyse
-returns-in_err-flush-in-Analyse g c = record {
-  ran = not_handed_on g.W.Write.contents c.args.hall c.args.line c.args.sink.now c.flush.new.self
-      c.from_residual.result c.from_residual.ensures.1 c.flush.ensures.bytes c.in_err-flush-in-Analyse.ensures.faults;
-}
 
 pub returns-in_err-flush-in-Together : goal.returns-in_err-flush-in-Together
 returns-in_err-flush-in-Together g c =
@@ -79,66 +167,36 @@ returns-in_err-flush-in-Together g c =
           c.in_err-flush-in-Together.ensures.faults;
     }
 
-pub run_analysis-requires-clause-faults : goal.run_analysis-requires-clause-faults
-run_analysis-requires-clause-faults g c κs within =
-    let few = c.requires.faults in let none = c.in_ok-flush-in-Analyse.ensures.faults in omega (arith, few, none)
-
-pub run_block-requires-clause-faults : goal.run_block-requires-clause-faults
-run_block-requires-clause-faults g c κs within =
-    let few = c.requires.faults in let none = c.in_ok-flush-in-Together.ensures.faults in omega (arith, few, none)
-
 pub run_block-requires-clause-drivers : goal.run_block-requires-clause-drivers
 run_block-requires-clause-drivers g c κs within =
     subst (λ (l : Line). HasDrivers g.N.HallName.drivers l) c.in-Together.is c.requires.drivers
 
-pub returns-in_err-outcome-in-Analyse : goal.returns-in_err-outcome-in-Analyse
-returns-in_err-outcome-in-Analyse g c =
+pub returns-in_err-block-in-Together : goal.returns-in_err-block-in-Together
+returns-in_err-block-in-Together g c =
     let contents = g.W.Write.contents in
-    let subject = c.in-Analyse.subject in
-    let asked = line.Analyse subject c.in-Analyse.workers in
-    let mid = c.flush.new.self in
-    let after = c.run_analysis.new.sink in
-    let failed = c.from_residual-in_err-outcome-in-Analyse in
-    let own = c.in_err-outcome-in-Analyse.ensures in
-    let ran = at_a_write contents c.args.hall asked mid after failed.result failed.ensures.1 (
-      own.begun.0,
-      whole c.args.hall asked c.run_analysis.new.hall own.begun.0 own.begun.1,
-      own.begun.2,
-    ) own.faults in
-    let all = subst (λ (l : Line). RanWith contents c.args.hall l mid after failed.result) (sym c.in-Analyse.is) ran in
+    let before = c.args.sink.now in
+    let after = c.flush-in-Together.new.self in
+    let failed = c.from_residual-in_err-block-in-Together in
+    let ended = block_ended contents c.args.hall before after failed.result c.in-Together.sections failed.ensures.1
+    c.flush-in-Together.ensures.bytes c.in_ok-flush-in-Together.ensures.faults in
     record {
-      ran = handed_on_before contents c.args.hall c.args.line c.args.sink.now mid after failed.result
-          c.flush.ensures.bytes c.in_ok-flush-in-Analyse.ensures.faults all;
+      ran = subst (λ (l : Line). RanWith contents c.args.hall l before after failed.result) (sym c.in-Together.is)
+          ended;
     }
 
-pub returns-in_ok-outcome-in-Analyse : goal.returns-in_ok-outcome-in-Analyse
-returns-in_ok-outcome-in-Analyse g c =
+pub returns-in_ok-block-in-Together : goal.returns-in_ok-block-in-Together
+returns-in_ok-block-in-Together g c =
     let contents = g.W.Write.contents in
-    let subject = c.in-Analyse.subject in
-    let workers = c.in-Analyse.workers in
-    let mid = c.flush.new.self in
-    let after = c.run_analysis.new.sink in
-    let u = c.run_analysis.new.hall in
-    let o = c.in_ok-outcome-in-Analyse.outcome in
-    let own = c.in_ok-outcome-in-Analyse.ensures in
-    let none : c.new-in-Analyse.result ≡ [] = c.new-in-Analyse.ensures ∙ c.new.ensures.items in
-    let ran = analysis_ran contents c.args.hall u mid after subject workers o c.new-in-Analyse.result none own.outcome
-    own.unchanged own.prints own.faults in
-    let all = subst (λ (l : Line). RanWith contents c.args.hall l mid after (Ok (o, u, c.new-in-Analyse.result))) (sym c.in-Analyse.is) ran in
+    let before = c.args.sink.now in
+    let after = c.flush-in-Together.new.self in
+    let block = c.in_ok-block-in-Together.block in
+    let u = c.in_ok-block-in-Together.hall in
+    let here = block_came c.args.hall u (line.Together c.in-Together.sections) block _ _
+    c.flush-in-Together.ensures.bytes c.in_ok-block-in-Together.ensures.ran in
+    let is = subst
+    (λ (l : Line). LineCame c.args.hall l u (contents before.writer) (contents after.writer) (Block block))
+    (sym c.in-Together.is) here in
     record {
-      ran = handed_on_before contents c.args.hall c.args.line c.args.sink.now mid after (Ok (o, u, c.new-in-Analyse.result))
-          c.flush.ensures.bytes c.in_ok-flush-in-Analyse.ensures.faults all;
-    }
-
-pub returns-in_ok-flush-in-Together : goal.returns-in_ok-flush-in-Together
-returns-in_ok-flush-in-Together g c =
-    let contents = g.W.Write.contents in
-    let mid = c.flush-in-Together.new.self in
-    let after = c.run_block.new.sink in
-    let result = c.run_block.result in
-    let all = subst (λ (l : Line). RanWith contents c.args.hall l mid after result) (sym c.in-Together.is)
-    c.run_block.ensures.ran in
-    record {
-      ran = handed_on_before contents c.args.hall c.args.line c.args.sink.now mid after result
-          c.flush-in-Together.ensures.bytes c.in_ok-flush-in-Together.ensures.faults all;
+      ran = ran_as contents c.args.hall c.args.line before after (Block block) u is
+          c.in_ok-flush-in-Together.ensures.faults;
     }
