@@ -3,6 +3,9 @@ use ov_run::{Pacing, RanLine};
 use std::io::IsTerminal;
 use std::time::Instant;
 
+/// How many milliseconds a second has.
+const MILLISECONDS: u64 = 1000;
+
 /// Says when lines of progress are due by the clock, if they are wanted. If the clock can't be read, none is.
 #[derive(Drop)]
 struct PacedClock<'a> {
@@ -142,5 +145,5 @@ impl<'a> RunProgress<'a> {
 /// How many seconds the other runs take, if each takes as long as those that are done took.
 fn seconds_left(passed: u64, done: u64, count: u64) -> u64 {
     let left = count.saturating_sub(done);
-    passed.saturating_mul(left) / done.max(1) / 1000
+    passed.saturating_mul(left) / done.max(1) / MILLISECONDS
 }

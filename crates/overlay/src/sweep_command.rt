@@ -1,13 +1,13 @@
-use crate::grow_command::{told, unread_words};
+use crate::grow_command::{print_refusal, told, unread_words};
 use crate::growth_fault::GrowthFault;
 use crate::row_files::rows_of_files;
 use crate::row_printing::RowPrinter;
+use ov_grow_options::GrowOptions;
 use ov_grow_arguments::{Printed, SweepRequest, read_sweep_arguments};
 use ov_io::Sink;
-use ov_sweep::{SweepFault, sweep};
+use ov_sweep::{RefusedRun, Runs, SweepFault, sweep};
 use ov_sweep_report::{settings_of, summary_text, svg_text};
-use ov_sweep_rows::{Row, header_text, row_text};
-use std::fmt::Write;
+use ov_sweep_rows::Row;
 use std::fs::File;
 use std::thread::Threads;
 
@@ -27,14 +27,27 @@ pub(crate) fn sweep_command<T: Threads + Sync>(
     }
 }
 
+/// The runs that words ask for.
+struct RequestedRuns<'a>(&'a SweepRequest);
+
+impl<'a> Runs for RequestedRuns<'a> {
+    fn count(&self) -> u64 {
+        self.0.len()
+    }
+
+    fn options(&self, place: u64) -> Option<GrowOptions> {
+        self.0.get(place)
+    }
+}
+
 /// Prints the commands of all blocks of runs.
 fn print_list(rt: &HostRuntime, request: &SweepRequest, most: u32) -> Result<(), GrowthFault> {
     let mut sink = Sink::new(rt.stdout());
     for block in request.blocks(most) {
         let mut line = block.command(rt.alloc())?;
         line.push('\n')?;
-        if let Err(fault) = sink.write_all(line.as_bytes()) {
-            return Err(told(rt, fault.into()));
+        if sink.write_all(line.as_bytes()).is_err() {
+            return Err(told(rt, GrowthFault::Write));
         }
     }
     Ok(())
@@ -65,9 +78,8 @@ fn read_and_print(
     let rows = rows_of_files(rt, files)?;
     if request.printed == Printed::Rows {
         let mut printer = RowPrinter::new(rt, request);
-        match printer.print_all(&rows) {
-            Ok(()) => {}
-            Err(fault) => return Err(told(rt, fault.into())),
+        if let Err(fault) = printer.print_all(&rows) {
+            return Err(ended(rt, fault));
         }
     }
     Ok(rows)
@@ -85,7 +97,7 @@ fn grow_and_print<T: Threads + Sync>(
         Ok(()) => sweep(
             threads,
             rt.alloc(),
-            &mut request.runs(),
+            &RequestedRuns(request),
             request.workers,
             &mut printer,
         ),
@@ -97,17 +109,22 @@ fn grow_and_print<T: Threads + Sync>(
     }
 }
 
-/// Ends a sweep. Prints why, and which run was refused.
+/// Ends a sweep. Prints why.
 fn ended(rt: &HostRuntime, fault: SweepFault) -> GrowthFault {
     match fault {
-        SweepFault::Run(refused) => {
-            let (options, why) = (refused.options, refused.fault);
-            let ended = GrowthFault::Grow(why);
-            let _ = eprintln!(rt; "{ended}\n{options}: {why}");
-            ended
-        }
-        SweepFault::Write | SweepFault::OutOfMemory => told(rt, fault.into()),
+        SweepFault::Run(refused) => refused_run(rt, &refused),
+        SweepFault::Write => told(rt, GrowthFault::Write),
+        SweepFault::OutOfMemory => told(rt, GrowthFault::OutOfMemory),
     }
+}
+
+/// Ends a sweep at a run that was refused. Prints the command of the run, and why.
+fn refused_run(rt: &HostRuntime, refused: &RefusedRun) -> GrowthFault {
+    let (options, fault) = (refused.options, refused.fault);
+    let ended = GrowthFault::from(fault);
+    let _ = eprintln!(rt; "{ended}\n{options}");
+    print_refusal(rt, &fault);
+    ended
 }
 
 /// Prints the summary of these rows, and writes their picture, as far as they are asked for.
