@@ -1,21 +1,22 @@
-use crate::grow_command::{told, unread_words};
+use crate::scenario_growing::{print_refusal, told, unread_words};
 use crate::growth_fault::GrowthFault;
 use crate::row_files::rows_of_files;
-use crate::row_printing::RowPrinter;
+use crate::row_printing::{RowPrinter, RunWatcher, rows_text};
+use ov_grow_options::GrowOptions;
 use ov_grow_arguments::{Printed, SweepRequest, read_sweep_arguments};
 use ov_io::Sink;
-use ov_sweep::{SweepFault, sweep};
+use ov_sweep::{RefusedRun, Runs, SweepFault, sweep};
 use ov_sweep_report::{settings_of, summary_text, svg_text};
-use ov_sweep_rows::{Row, header_text, row_text};
-use std::fmt::Write;
+use ov_sweep_rows::{Row, header_text};
 use std::fs::File;
 use std::thread::Threads;
 
 /// Does what the words after `overlay sweep` ask for.
-pub(crate) fn sweep_command<T: Threads + Sync>(
+pub fn sweep_command<T: Threads + Sync, V: RunWatcher>(
     rt: &HostRuntime,
     threads: &T,
     words: &[String],
+    watcher: &mut V,
 ) -> Result<(), GrowthFault> {
     let request = match read_sweep_arguments(rt.alloc(), words) {
         Ok(request) => request,
@@ -23,7 +24,21 @@ pub(crate) fn sweep_command<T: Threads + Sync>(
     };
     match request.printed {
         Printed::List { block } => print_list(rt, &request, block),
-        Printed::Rows | Printed::Summary => print_sweep(rt, threads, &request),
+        Printed::Rows | Printed::Summary => print_sweep(rt, threads, &request, watcher),
+    }
+}
+
+/// The runs that words ask for.
+#[derive(Clone, Copy)]
+struct RequestedRuns<'a>(&'a SweepRequest);
+
+impl<'a> Runs for RequestedRuns<'a> {
+    fn count(&self) -> u64 {
+        self.0.len()
+    }
+
+    fn options(&self, place: u64) -> Option<GrowOptions> {
+        self.0.get(place)
     }
 }
 
@@ -33,22 +48,23 @@ fn print_list(rt: &HostRuntime, request: &SweepRequest, most: u32) -> Result<(),
     for block in request.blocks(most) {
         let mut line = block.command(rt.alloc())?;
         line.push('\n')?;
-        if let Err(fault) = sink.write_all(line.as_bytes()) {
-            return Err(told(rt, fault.into()));
+        if sink.write_all(line.as_bytes()).is_err() {
+            return Err(told(rt, GrowthFault::Write));
         }
     }
     Ok(())
 }
 
 /// Prints the rows of a sweep, or a summary of them, and writes the picture if one is asked for.
-fn print_sweep<T: Threads + Sync>(
+fn print_sweep<T: Threads + Sync, V: RunWatcher>(
     rt: &HostRuntime,
     threads: &T,
     request: &SweepRequest,
+    watcher: &mut V,
 ) -> Result<(), GrowthFault> {
     let rows = match &request.read {
         Some(files) => read_and_print(rt, request, files)?,
-        None => grow_and_print(rt, threads, request)?,
+        None => grow_and_print(rt, threads, request, watcher)?,
     };
     match print_report(rt, request, &rows) {
         Ok(()) => Ok(()),
@@ -64,28 +80,36 @@ fn read_and_print(
 ) -> Result<Vec<Row>, GrowthFault> {
     let rows = rows_of_files(rt, files)?;
     if request.printed == Printed::Rows {
-        let mut printer = RowPrinter::new(rt, request);
-        match printer.print_all(&rows) {
-            Ok(()) => {}
-            Err(fault) => return Err(told(rt, fault.into())),
+        if let Err(fault) = print_rows(rt, &rows) {
+            return Err(told(rt, fault));
         }
     }
     Ok(rows)
 }
 
+/// Prints the header, and these rows.
+fn print_rows(rt: &HostRuntime, rows: &[Row]) -> Result<(), GrowthFault> {
+    let mut sink = Sink::new(rt.stdout());
+    let header = header_text(rt.alloc())?;
+    sink.write_all(&header)?;
+    let text = rows_text(rt.alloc(), rows)?;
+    Ok(sink.write_all(&text)?)
+}
+
 /// Grows the overlays of a sweep, and prints their rows, unless a summary is asked for. The rows are returned if a summary
 /// or a picture needs them.
-fn grow_and_print<T: Threads + Sync>(
+fn grow_and_print<T: Threads + Sync, V: RunWatcher>(
     rt: &HostRuntime,
     threads: &T,
     request: &SweepRequest,
+    watcher: &mut V,
 ) -> Result<Vec<Row>, GrowthFault> {
-    let mut printer = RowPrinter::new(rt, request);
+    let mut printer = RowPrinter::new(rt, request, watcher);
     let done = match printer.print_header() {
         Ok(()) => sweep(
             threads,
             rt.alloc(),
-            &mut request.runs(),
+            &RequestedRuns(request),
             request.workers,
             &mut printer,
         ),
@@ -97,17 +121,22 @@ fn grow_and_print<T: Threads + Sync>(
     }
 }
 
-/// Ends a sweep. Prints why, and which run was refused.
+/// Ends a sweep. Prints why.
 fn ended(rt: &HostRuntime, fault: SweepFault) -> GrowthFault {
     match fault {
-        SweepFault::Run(refused) => {
-            let (options, why) = (refused.options, refused.fault);
-            let ended = GrowthFault::Grow(why);
-            let _ = eprintln!(rt; "{ended}\n{options}: {why}");
-            ended
-        }
-        SweepFault::Write | SweepFault::OutOfMemory => told(rt, fault.into()),
+        SweepFault::Run(refused) => refused_run(rt, &refused),
+        SweepFault::Write => told(rt, GrowthFault::Write),
+        SweepFault::OutOfMemory => told(rt, GrowthFault::OutOfMemory),
     }
+}
+
+/// Ends a sweep at a run that was refused. Prints the command of the run, and why.
+fn refused_run(rt: &HostRuntime, refused: &RefusedRun) -> GrowthFault {
+    let (options, fault) = (refused.options, refused.fault);
+    let ended = GrowthFault::from(fault);
+    let _ = eprintln!(rt; "{ended}\n{options}");
+    print_refusal(rt, &fault);
+    ended
 }
 
 /// Prints the summary of these rows, and writes their picture, as far as they are asked for.

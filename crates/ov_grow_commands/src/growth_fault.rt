@@ -1,22 +1,25 @@
+ghost use Rattle.std.specs.Prelude.{◌≡◌};
+ghost use Rattle.ov_grow_commands.specs.Faults.{growth_number};
+ghost use Rattle.ov_grow_commands.specs.declared.growth_fault.GrowthFault.TheVariants.{OutOfMemory as out_of_memory, Write as write_failed};
+
 use ov_grow::GrowFault;
 use ov_ids::OutOfMemory;
 use ov_io::WriteFault;
-use ov_sweep::SweepFault;
 use std::alloc::{AllocError, AllocFailed};
 use std::fmt::{Display, Formatter, Result as Printed, Write};
 
 /// Why `overlay grow` or `overlay sweep` ended before its end. It is shown as the line that is printed on standard
 /// error.
 #[derive(Clone, Copy, Debug, PartialEq, Eq)]
-pub(crate) enum GrowthFault {
+pub enum GrowthFault {
     /// The words after the command can't be read.
     Arguments,
-    /// Growing was refused.
-    Grow(GrowFault),
+    /// Growing was refused, with this number.
+    Growing { number: u32 },
+    /// A file of rows has a line that is none.
+    Row,
     /// A file of rows can't be read.
     Read,
-    /// A file that is read has a line that is no row.
-    Row,
     /// Something can't be written.
     Write,
     /// An allocation was refused.
@@ -25,12 +28,14 @@ pub(crate) enum GrowthFault {
 
 impl GrowthFault {
     /// The fault's number.
-    pub(crate) fn number(&self) -> u32 {
+    pub fn number(&self) -> u32
+        ensures { result ≡ growth_number self.now }
+    {
         match self {
             GrowthFault::Arguments => 73,
-            GrowthFault::Grow(fault) => fault.number(),
-            GrowthFault::Read => 71,
+            GrowthFault::Growing { number } => *number,
             GrowthFault::Row => 70,
+            GrowthFault::Read => 71,
             GrowthFault::Write => 72,
             GrowthFault::OutOfMemory => 99,
         }
@@ -38,41 +43,53 @@ impl GrowthFault {
 }
 
 impl Display for GrowthFault {
+    ghost use Rattle.std.specs.Prelude.{Some};
+    ghost use Rattle.ov_io.specs.Refusal.{refusal_text};
+    ghost use Rattle.ov_grow_commands.specs.Faults.{growth_number};
+
+    ghost output = { λ fault. Some (refusal_text (growth_number fault)) };
+
     fn fmt<W: Write>(&self, f: &mut Formatter<W>) -> Printed {
         let number = self.number();
         write!(f, "refused {number}")
     }
 }
 
-impl From<SweepFault> for GrowthFault {
-    fn from(fault: SweepFault) -> GrowthFault {
-        match fault {
-            SweepFault::Run(refused) => GrowthFault::Grow(refused.fault),
-            SweepFault::Write => GrowthFault::Write,
-            SweepFault::OutOfMemory => GrowthFault::OutOfMemory,
+impl From<GrowFault> for GrowthFault {
+    fn from(fault: GrowFault) -> GrowthFault {
+        GrowthFault::Growing {
+            number: fault.number(),
         }
     }
 }
 
 impl From<WriteFault> for GrowthFault {
+    ghost from_gives = { λ _ e. e ≡ write_failed };
+
     fn from(_fault: WriteFault) -> GrowthFault {
         GrowthFault::Write
     }
 }
 
 impl From<OutOfMemory> for GrowthFault {
+    ghost from_gives = { λ _ e. e ≡ out_of_memory };
+
     fn from(_fault: OutOfMemory) -> GrowthFault {
         GrowthFault::OutOfMemory
     }
 }
 
 impl From<AllocError> for GrowthFault {
+    ghost from_gives = { λ _ e. e ≡ out_of_memory };
+
     fn from(_error: AllocError) -> GrowthFault {
         GrowthFault::OutOfMemory
     }
 }
 
 impl<T: Drop> From<AllocFailed<T>> for GrowthFault {
+    ghost from_gives = { λ _ e. e ≡ out_of_memory };
+
     fn from(_error: AllocFailed<T>) -> GrowthFault {
         GrowthFault::OutOfMemory
     }
