@@ -7,7 +7,7 @@ mod row_printing;
 mod scenario_growing;
 mod sweep_printing;
 
-pub use scenario_growing::grow_command;
 pub use growth_fault::GrowthFault;
 pub use row_printing::RunWatcher;
+pub use scenario_growing::grow_command;
 pub use sweep_printing::sweep_command;

@@ -4,7 +4,6 @@ use ov_io::Sink;
 use ov_sweep::{RowTaker, SweepFault};
 use ov_sweep_rows::{Row, header_text, row_text};
 use std::alloc::Global;
-use std::io::Stdout;
 
 /// Is told how far a sweep has come.
 pub trait RunWatcher {
@@ -15,9 +14,8 @@ pub trait RunWatcher {
 /// Prints the rows of a sweep as they come, unless a summary is asked for, and keeps those that are needed at the end.
 #[derive(Drop)]
 pub(crate) struct RowPrinter<'a, V> {
-    alloc: Global,
+    rt: &'a HostRuntime,
     request: &'a SweepRequest,
-    sink: Sink<Stdout>,
     kept: Vec<Row>,
     watcher: &'a mut V,
     done: u64,
@@ -26,14 +24,13 @@ pub(crate) struct RowPrinter<'a, V> {
 impl<'a, V: RunWatcher> RowPrinter<'a, V> {
     /// A printer to which no row was given.
     pub(crate) fn new(
-        rt: &HostRuntime,
+        rt: &'a HostRuntime,
         request: &'a SweepRequest,
         watcher: &'a mut V,
     ) -> RowPrinter<'a, V> {
         RowPrinter {
-            alloc: rt.alloc(),
+            rt,
             request,
-            sink: Sink::new(rt.stdout()),
             kept: Vec::new(rt.alloc()),
             watcher,
             done: 0,
@@ -45,8 +42,8 @@ impl<'a, V: RunWatcher> RowPrinter<'a, V> {
         if self.request.printed != Printed::Rows {
             return Ok(());
         }
-        let text = header_text(self.alloc)?;
-        Ok(self.sink.write_all(&text)?)
+        let text = header_text(self.rt.alloc())?;
+        Ok(Sink::new(self.rt.stdout()).write_all(&text)?)
     }
 
     /// Prints rows at once, if they are asked for.
@@ -54,8 +51,8 @@ impl<'a, V: RunWatcher> RowPrinter<'a, V> {
         if self.request.printed != Printed::Rows {
             return Ok(());
         }
-        let text = rows_text(self.alloc, rows)?;
-        Ok(self.sink.write_all(&text)?)
+        let text = rows_text(self.rt.alloc(), rows)?;
+        Ok(Sink::new(self.rt.stdout()).write_all(&text)?)
     }
 
     /// Keeps rows, if a summary or a picture needs them.
@@ -69,9 +66,8 @@ impl<'a, V: RunWatcher> RowPrinter<'a, V> {
     /// The rows that were kept.
     pub(crate) fn into_kept(self) -> Vec<Row> {
         let RowPrinter {
-            alloc: _,
+            rt: _,
             request: _,
-            sink: _,
             kept,
             watcher: _,
             done: _,

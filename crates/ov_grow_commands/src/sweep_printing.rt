@@ -1,9 +1,9 @@
-use crate::scenario_growing::{print_refusal, told, unread_words};
 use crate::growth_fault::GrowthFault;
 use crate::row_files::rows_of_files;
 use crate::row_printing::{RowPrinter, RunWatcher, rows_text};
-use ov_grow_options::GrowOptions;
+use crate::scenario_growing::{print_refusal, told, unread_words};
 use ov_grow_arguments::{Printed, SweepRequest, read_sweep_arguments};
+use ov_grow_options::GrowOptions;
 use ov_io::Sink;
 use ov_sweep::{RefusedRun, Runs, SweepFault, sweep};
 use ov_sweep_report::{settings_of, summary_text, svg_text};
@@ -44,11 +44,11 @@ impl<'a> Runs for RequestedRuns<'a> {
 
 /// Prints the commands of all blocks of runs.
 fn print_list(rt: &HostRuntime, request: &SweepRequest, most: u32) -> Result<(), GrowthFault> {
-    let mut sink = Sink::new(rt.stdout());
     for block in request.blocks(most) {
         let mut line = block.command(rt.alloc())?;
         line.push('\n')?;
-        if sink.write_all(line.as_bytes()).is_err() {
+        let written = Sink::new(rt.stdout()).write_all(line.as_bytes());
+        if written.is_err() {
             return Err(told(rt, GrowthFault::Write));
         }
     }
@@ -89,11 +89,9 @@ fn read_and_print(
 
 /// Prints the header, and these rows.
 fn print_rows(rt: &HostRuntime, rows: &[Row]) -> Result<(), GrowthFault> {
-    let mut sink = Sink::new(rt.stdout());
-    let header = header_text(rt.alloc())?;
-    sink.write_all(&header)?;
-    let text = rows_text(rt.alloc(), rows)?;
-    Ok(sink.write_all(&text)?)
+    let mut text = header_text(rt.alloc())?;
+    text.extend_from_slice(&rows_text(rt.alloc(), rows)?)?;
+    Ok(Sink::new(rt.stdout()).write_all(&text)?)
 }
 
 /// Grows the overlays of a sweep, and prints their rows, unless a summary is asked for. The rows are returned if a summary
