@@ -3,21 +3,12 @@ use Rattle.std.specs.Prelude.{ℕ, List, Result, Ok, Err}
 use Rattle.ov_io.specs.Refusal.{refusal_text}
 use Rattle.ov_arguments.specs.Arguments.{number_of}
 use Rattle.ov_run.specs.Faults.{run_fault_text}
+use Rattle.ov_grow_commands.specs.Faults.{growth_number}
 use Rattle.ov_arguments.specs.declared.arguments.ArgumentsFault.TheVariants.{BadArguments, OutOfMemory}
-use Rattle.overlay.specs.declared.growth_fault.GrowthFault.{GrowthFault}
-use Rattle.overlay.specs.declared.growth_fault.GrowthFault.TheVariants as growth
+use Rattle.ov_grow_commands.specs.declared.growth_fault.GrowthFault.{GrowthFault}
+use Rattle.ov_grow_commands.specs.declared.growth_fault.GrowthFault.TheVariants as growth
 use Rattle.overlay.specs.declared.program_outcome.ProgramFault.{ProgramFault}
 use Rattle.overlay.specs.declared.program_outcome.ProgramFault.TheVariants.{Arguments, Growth, Run}
-
--- the number of a fault of `overlay grow` and `overlay sweep`: that of growing, or one of those that are chosen for all
--- programs
-abbrev pub growth_number : GrowthFault → ℕ
-growth_number growth.Arguments = 73
-growth_number (growth.Growing number) = number
-growth_number growth.Row = 70
-growth_number growth.Read = 71
-growth_number growth.Write = 72
-growth_number growth.OutOfMemory = 99
 
 -- what is printed of a fault on standard error, without its line feed
 abbrev pub program_fault_text : ProgramFault → List ℕ

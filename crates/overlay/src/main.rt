@@ -13,25 +13,19 @@ ghost use Rattle.ov_run.specs.Strict.{strictness_of};
 ghost use Rattle.overlay.specs.declared.program_outcome.ProgramFault.TheVariants.{Arguments, Run};
 
 mod fault_reasons;
-mod grow_command;
-mod growth_fault;
 mod program_outcome;
 mod progress;
 mod refusal_watcher;
-mod row_files;
-mod row_printing;
 mod run_news;
-mod sweep_command;
 
 use crate::fault_reasons::{analysis_reason, run_reason};
-use crate::grow_command::grow_command;
 use crate::program_outcome::{ProgramFault, exit_status};
-use crate::progress::PieceProgress;
+use crate::progress::{PieceProgress, RunProgress};
 use crate::run_news::RunNews;
-use crate::sweep_command::sweep_command;
 use ov_arguments::{
     AnalysisRequest, ArgumentsFault, Request, RunRequest, argument_reasons, read_arguments,
 };
+use ov_grow_commands::{grow_command, sweep_command};
 use ov_ids::{NodeId, OutOfMemory};
 use ov_io::{Sink, Source, unopened_text, unread_text};
 use ov_reasons::group_reason;
@@ -93,7 +87,7 @@ fn do_command<T: Threads + Wait + Sync>(
             return Ok(0);
         }
         if command.as_str() == "sweep" {
-            sweep_command(rt, threads, words)?;
+            sweep_command(rt, threads, words, &mut RunProgress::new(rt))?;
             return Ok(0);
         }
     }

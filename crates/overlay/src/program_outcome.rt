@@ -2,8 +2,8 @@ ghost use Rattle.std.specs.Prelude.{◌≡◌};
 ghost use Rattle.overlay.specs.Program.{exit_status};
 ghost use Rattle.overlay.specs.declared.program_outcome.ProgramFault.TheVariants.{Arguments, Growth, Run};
 
-use crate::growth_fault::GrowthFault;
 use ov_arguments::ArgumentsFault;
+use ov_grow_commands::GrowthFault;
 use ov_run::RunFault;
 use std::error::Error;
 use std::fmt::{Display, Formatter, Result as Printed, Write};

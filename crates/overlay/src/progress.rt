@@ -1,4 +1,5 @@
 use ov_even::Watcher;
+use ov_grow_commands::RunWatcher;
 use ov_run::{Pacing, RanLine};
 use std::io::IsTerminal;
 use std::time::Instant;
@@ -115,28 +116,23 @@ fn line_count(bytes: &[u8]) -> usize {
 #[derive(Drop)]
 pub(crate) struct RunProgress<'a> {
     clock: PacedClock<'a>,
-    done: u64,
-    /// How many runs the sweep has.
-    count: u64,
 }
 
 impl<'a> RunProgress<'a> {
-    /// The progress of a sweep of so many runs.
-    pub(crate) fn new(rt: &'a HostRuntime, is_asked: bool, count: u64) -> RunProgress<'a> {
+    /// The progress of a sweep that begins now. Lines are wanted on a terminal, and if they are asked for later.
+    pub(crate) fn new(rt: &'a HostRuntime) -> RunProgress<'a> {
         RunProgress {
-            clock: PacedClock::new(rt, is_asked),
-            done: 0,
-            count,
+            clock: PacedClock::new(rt, false),
         }
     }
+}
 
-    /// So many more runs were done.
-    pub(crate) fn sees(&mut self, runs: usize) {
-        self.done = self.done.saturating_add(runs as u64);
+impl<'a> RunWatcher for RunProgress<'a> {
+    fn sees(&mut self, done: u64, count: u64, is_asked: bool) {
+        self.clock.is_wanted = self.clock.is_wanted || is_asked;
         let Some(passed) = self.clock.passed_if_due() else {
             return;
         };
-        let (done, count) = (self.done, self.count);
         let left = seconds_left(passed, done, count);
         let _ = eprintln!(self.clock.rt; "run {done} of {count}, {left} s left");
     }

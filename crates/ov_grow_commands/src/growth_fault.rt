@@ -1,6 +1,6 @@
 ghost use Rattle.std.specs.Prelude.{◌≡◌};
-ghost use Rattle.overlay.specs.Program.{growth_number};
-ghost use Rattle.overlay.specs.declared.growth_fault.GrowthFault.TheVariants.{OutOfMemory as out_of_memory, Write as write_failed};
+ghost use Rattle.ov_grow_commands.specs.Faults.{growth_number};
+ghost use Rattle.ov_grow_commands.specs.declared.growth_fault.GrowthFault.TheVariants.{OutOfMemory as out_of_memory, Write as write_failed};
 
 use ov_grow::GrowFault;
 use ov_ids::OutOfMemory;
@@ -11,7 +11,7 @@ use std::fmt::{Display, Formatter, Result as Printed, Write};
 /// Why `overlay grow` or `overlay sweep` ended before its end. It is shown as the line that is printed on standard
 /// error.
 #[derive(Clone, Copy, Debug, PartialEq, Eq)]
-pub(crate) enum GrowthFault {
+pub enum GrowthFault {
     /// The words after the command can't be read.
     Arguments,
     /// Growing was refused, with this number.
@@ -28,7 +28,7 @@ pub(crate) enum GrowthFault {
 
 impl GrowthFault {
     /// The fault's number.
-    pub(crate) fn number(&self) -> u32
+    pub fn number(&self) -> u32
         ensures { result ≡ growth_number self.now }
     {
         match self {
@@ -45,7 +45,7 @@ impl GrowthFault {
 impl Display for GrowthFault {
     ghost use Rattle.std.specs.Prelude.{Some};
     ghost use Rattle.ov_io.specs.Refusal.{refusal_text};
-    ghost use Rattle.overlay.specs.Program.{growth_number};
+    ghost use Rattle.ov_grow_commands.specs.Faults.{growth_number};
 
     ghost output = { λ fault. Some (refusal_text (growth_number fault)) };
 

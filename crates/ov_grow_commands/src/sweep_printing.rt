@@ -1,21 +1,22 @@
-use crate::grow_command::{print_refusal, told, unread_words};
 use crate::growth_fault::GrowthFault;
 use crate::row_files::rows_of_files;
-use crate::row_printing::RowPrinter;
-use ov_grow_options::GrowOptions;
+use crate::row_printing::{RowPrinter, RunWatcher, rows_text};
+use crate::scenario_growing::{print_refusal, told, unread_words};
 use ov_grow_arguments::{Printed, SweepRequest, read_sweep_arguments};
+use ov_grow_options::GrowOptions;
 use ov_io::Sink;
 use ov_sweep::{RefusedRun, Runs, SweepFault, sweep};
 use ov_sweep_report::{settings_of, summary_text, svg_text};
-use ov_sweep_rows::Row;
+use ov_sweep_rows::{Row, header_text};
 use std::fs::File;
 use std::thread::Threads;
 
 /// Does what the words after `overlay sweep` ask for.
-pub(crate) fn sweep_command<T: Threads + Sync>(
+pub fn sweep_command<T: Threads + Sync, V: RunWatcher>(
     rt: &HostRuntime,
     threads: &T,
     words: &[String],
+    watcher: &mut V,
 ) -> Result<(), GrowthFault> {
     let request = match read_sweep_arguments(rt.alloc(), words) {
         Ok(request) => request,
@@ -23,11 +24,12 @@ pub(crate) fn sweep_command<T: Threads + Sync>(
     };
     match request.printed {
         Printed::List { block } => print_list(rt, &request, block),
-        Printed::Rows | Printed::Summary => print_sweep(rt, threads, &request),
+        Printed::Rows | Printed::Summary => print_sweep(rt, threads, &request, watcher),
     }
 }
 
 /// The runs that words ask for.
+#[derive(Clone, Copy)]
 struct RequestedRuns<'a>(&'a SweepRequest);
 
 impl<'a> Runs for RequestedRuns<'a> {
@@ -42,11 +44,11 @@ impl<'a> Runs for RequestedRuns<'a> {
 
 /// Prints the commands of all blocks of runs.
 fn print_list(rt: &HostRuntime, request: &SweepRequest, most: u32) -> Result<(), GrowthFault> {
-    let mut sink = Sink::new(rt.stdout());
     for block in request.blocks(most) {
         let mut line = block.command(rt.alloc())?;
         line.push('\n')?;
-        if sink.write_all(line.as_bytes()).is_err() {
+        let written = Sink::new(rt.stdout()).write_all(line.as_bytes());
+        if written.is_err() {
             return Err(told(rt, GrowthFault::Write));
         }
     }
@@ -54,14 +56,15 @@ fn print_list(rt: &HostRuntime, request: &SweepRequest, most: u32) -> Result<(),
 }
 
 /// Prints the rows of a sweep, or a summary of them, and writes the picture if one is asked for.
-fn print_sweep<T: Threads + Sync>(
+fn print_sweep<T: Threads + Sync, V: RunWatcher>(
     rt: &HostRuntime,
     threads: &T,
     request: &SweepRequest,
+    watcher: &mut V,
 ) -> Result<(), GrowthFault> {
     let rows = match &request.read {
         Some(files) => read_and_print(rt, request, files)?,
-        None => grow_and_print(rt, threads, request)?,
+        None => grow_and_print(rt, threads, request, watcher)?,
     };
     match print_report(rt, request, &rows) {
         Ok(()) => Ok(()),
@@ -77,22 +80,29 @@ fn read_and_print(
 ) -> Result<Vec<Row>, GrowthFault> {
     let rows = rows_of_files(rt, files)?;
     if request.printed == Printed::Rows {
-        let mut printer = RowPrinter::new(rt, request);
-        if let Err(fault) = printer.print_all(&rows) {
-            return Err(ended(rt, fault));
+        if let Err(fault) = print_rows(rt, &rows) {
+            return Err(told(rt, fault));
         }
     }
     Ok(rows)
 }
 
+/// Prints the header, and these rows.
+fn print_rows(rt: &HostRuntime, rows: &[Row]) -> Result<(), GrowthFault> {
+    let mut text = header_text(rt.alloc())?;
+    text.extend_from_slice(&rows_text(rt.alloc(), rows)?)?;
+    Ok(Sink::new(rt.stdout()).write_all(&text)?)
+}
+
 /// Grows the overlays of a sweep, and prints their rows, unless a summary is asked for. The rows are returned if a summary
 /// or a picture needs them.
-fn grow_and_print<T: Threads + Sync>(
+fn grow_and_print<T: Threads + Sync, V: RunWatcher>(
     rt: &HostRuntime,
     threads: &T,
     request: &SweepRequest,
+    watcher: &mut V,
 ) -> Result<Vec<Row>, GrowthFault> {
-    let mut printer = RowPrinter::new(rt, request);
+    let mut printer = RowPrinter::new(rt, request, watcher);
     let done = match printer.print_header() {
         Ok(()) => sweep(
             threads,

@@ -6,8 +6,8 @@ use Rattle.ov_grow.specs.Growing.{Grows}
 use Rattle.ov_grow.specs.declared.phase.Phase.{Phase}
 use Rattle.ov_io.specs.Device.{AppendsPrefixOf}
 use Rattle.ov_net.specs.World.{WorldState}
-use Rattle.overlay.specs.declared.growth_fault.GrowthFault.{GrowthFault}
-use Rattle.overlay.specs.declared.growth_fault.GrowthFault.TheVariants as growth
+use Rattle.ov_grow_commands.specs.declared.growth_fault.GrowthFault.{GrowthFault}
+use Rattle.ov_grow_commands.specs.declared.growth_fault.GrowthFault.TheVariants as growth
 
 -- with these options an overlay is grown by the scenario of this text
 pub record IsGrownBy (o : GrowOptions) (text : List ℕ) : Type 0 where

@@ -1,7 +1,7 @@
 ghost use Rattle.std.specs.Prelude.{◌≡◌, ℕ, ◌<◌};
 ghost use Rattle.ov_io.specs.Device.{most_faults};
-ghost use Rattle.overlay.specs.Growing.{WasPrinted};
-ghost use Rattle.overlay.specs.declared.growth_fault.GrowthFault.TheVariants.{Growing};
+ghost use Rattle.ov_grow_commands.specs.Growing.{WasPrinted};
+ghost use Rattle.ov_grow_commands.specs.declared.growth_fault.GrowthFault.TheVariants.{Growing};
 
 use crate::growth_fault::GrowthFault;
 use ov_grow::{GrowFault, grow};
@@ -12,7 +12,7 @@ use std::io::Write;
 
 /// Grows an overlay as the words after `overlay grow` ask, and prints its scenario. Prints nothing if growing is refused,
 /// but why on standard error.
-pub(crate) fn grow_command(rt: &HostRuntime, words: &[String]) -> Result<(), GrowthFault> {
+pub fn grow_command(rt: &HostRuntime, words: &[String]) -> Result<(), GrowthFault> {
     let request = match read_grow_arguments(rt.alloc(), words) {
         Ok(request) => request,
         Err(fault) => return Err(unread_words(rt, &fault)),
