@@ -20,11 +20,12 @@ mod run_news;
 
 use crate::fault_reasons::{analysis_reason, run_reason};
 use crate::program_outcome::{ProgramFault, exit_status};
-use crate::progress::PieceProgress;
+use crate::progress::{PieceProgress, RunProgress};
 use crate::run_news::RunNews;
 use ov_arguments::{
     AnalysisRequest, ArgumentsFault, Request, RunRequest, argument_reasons, read_arguments,
 };
+use ov_grow_commands::{grow_command, sweep_command};
 use ov_ids::{NodeId, OutOfMemory};
 use ov_io::{Sink, Source, unopened_text, unread_text};
 use ov_reasons::group_reason;
@@ -67,9 +68,30 @@ fn overlay<T: Threads + Wait + Sync>(rt: &HostRuntime, threads: &T) -> Result<u8
     ensures status { IfOk result (λ status. status ≡ 0) }
 {
     match command_line(rt) {
-        Ok(texts) => answer(rt, threads, behind_name(&texts)),
+        Ok(texts) => do_command(rt, threads, behind_name(&texts)),
         Err(fault) => Err(unread_arguments(rt, fault, &[])),
     }
+}
+
+/// Does what these arguments ask for. If the first is `grow` or `sweep`, those behind it are words of this command.
+fn do_command<T: Threads + Wait + Sync>(
+    rt: &HostRuntime,
+    threads: &T,
+    arguments: &[String],
+) -> Result<u8, ProgramFault>
+    ensures status { IfOk result (λ status. status ≡ 0) }
+{
+    if let Some((command, words)) = arguments.split_first() {
+        if command.as_str() == "grow" {
+            grow_command(rt, words)?;
+            return Ok(0);
+        }
+        if command.as_str() == "sweep" {
+            sweep_command(rt, threads, words, &mut RunProgress::new(rt))?;
+            return Ok(0);
+        }
+    }
+    answer(rt, threads, arguments)
 }
 
 /// Does what these arguments ask for.

@@ -1,8 +1,9 @@
 ghost use Rattle.std.specs.Prelude.{◌≡◌};
 ghost use Rattle.overlay.specs.Program.{exit_status};
-ghost use Rattle.overlay.specs.declared.program_outcome.ProgramFault.TheVariants.{Arguments, Run};
+ghost use Rattle.overlay.specs.declared.program_outcome.ProgramFault.TheVariants.{Arguments, Growth, Run};
 
 use ov_arguments::ArgumentsFault;
+use ov_grow_commands::GrowthFault;
 use ov_run::RunFault;
 use std::error::Error;
 use std::fmt::{Display, Formatter, Result as Printed, Write};
@@ -14,6 +15,8 @@ pub(crate) enum ProgramFault {
     Arguments(ArgumentsFault),
     /// A run or an analysis ended before its end.
     Run(RunFault),
+    /// `overlay grow` or `overlay sweep` ended before its end.
+    Growth(GrowthFault),
 }
 
 impl From<ArgumentsFault> for ProgramFault {
@@ -32,6 +35,14 @@ impl From<RunFault> for ProgramFault {
     }
 }
 
+impl From<GrowthFault> for ProgramFault {
+    ghost from_gives = { λ fault e. e ≡ Growth fault };
+
+    fn from(fault: GrowthFault) -> ProgramFault {
+        ProgramFault::Growth(fault)
+    }
+}
+
 impl Display for ProgramFault {
     ghost use Rattle.std.specs.Prelude.{Some};
     ghost use Rattle.overlay.specs.Program.{program_fault_text};
@@ -42,6 +53,7 @@ impl Display for ProgramFault {
         match self {
             ProgramFault::Arguments(fault) => write!(f, "{fault}"),
             ProgramFault::Run(fault) => write!(f, "{fault}"),
+            ProgramFault::Growth(fault) => write!(f, "{fault}"),
         }
     }
 }
@@ -56,6 +68,7 @@ pub(crate) fn exit_status(answer: &Result<u8, ProgramFault>) -> u8
     match answer {
         Ok(status) => *status,
         Err(ProgramFault::Arguments(ArgumentsFault::BadArguments)) => 2,
+        Err(ProgramFault::Growth(GrowthFault::Arguments)) => 2,
         Err(_) => 1,
     }
 }

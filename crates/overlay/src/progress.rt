@@ -1,7 +1,11 @@
 use ov_even::Watcher;
+use ov_grow_commands::RunWatcher;
 use ov_run::{Pacing, RanLine};
 use std::io::IsTerminal;
 use std::time::Instant;
+
+/// How many milliseconds a second has.
+const MILLISECONDS: u64 = 1000;
 
 /// Says when lines of progress are due by the clock, if they are wanted. If the clock can't be read, none is.
 #[derive(Drop)]
@@ -25,15 +29,23 @@ impl<'a> PacedClock<'a> {
 
     /// Whether a line is due now, which is then printed.
     fn is_due(&mut self) -> bool {
+        self.passed_if_due().is_some()
+    }
+
+    /// The milliseconds since the beginning, if a line is due now, which is then printed.
+    fn passed_if_due(&mut self) -> Option<u64> {
         if !self.is_wanted {
-            return false;
+            return None;
         }
         let (Some(begun), Ok(now)) = (self.begun, Instant::now(self.rt)) else {
-            return false;
+            return None;
         };
-        let passed = now.duration_since(begun).as_millis();
-        self.pacing
-            .is_due(u64::try_from(passed).unwrap_or(u64::MAX))
+        let passed = u64::try_from(now.duration_since(begun).as_millis()).unwrap_or(u64::MAX);
+        if self.pacing.is_due(passed) {
+            Some(passed)
+        } else {
+            None
+        }
     }
 }
 
@@ -98,4 +110,36 @@ fn line_count(bytes: &[u8]) -> usize {
         None | Some(b'\n') => ended,
         Some(_) => ended.saturating_add(1),
     }
+}
+
+/// Says on standard error how many runs of a sweep are done, and how long the others will take, at the pace of `Pacing`.
+#[derive(Drop)]
+pub(crate) struct RunProgress<'a> {
+    clock: PacedClock<'a>,
+}
+
+impl<'a> RunProgress<'a> {
+    /// The progress of a sweep that begins now. Lines are wanted on a terminal, and if they are asked for later.
+    pub(crate) fn new(rt: &'a HostRuntime) -> RunProgress<'a> {
+        RunProgress {
+            clock: PacedClock::new(rt, false),
+        }
+    }
+}
+
+impl<'a> RunWatcher for RunProgress<'a> {
+    fn sees(&mut self, done: u64, count: u64, is_asked: bool) {
+        self.clock.is_wanted = self.clock.is_wanted || is_asked;
+        let Some(passed) = self.clock.passed_if_due() else {
+            return;
+        };
+        let left = seconds_left(passed, done, count);
+        let _ = eprintln!(self.clock.rt; "run {done} of {count}, {left} s left");
+    }
+}
+
+/// How many seconds the other runs take, if each takes as long as those that are done took.
+fn seconds_left(passed: u64, done: u64, count: u64) -> u64 {
+    let left = count.saturating_sub(done);
+    passed.saturating_mul(left) / done.max(1) / MILLISECONDS
 }

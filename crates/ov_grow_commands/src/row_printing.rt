@@ -1,0 +1,97 @@
+use ov_grow_arguments::{Printed, SweepRequest};
+use ov_ids::OutOfMemory;
+use ov_io::Sink;
+use ov_sweep::{RowTaker, SweepFault};
+use ov_sweep_rows::{Row, header_text, row_text};
+use std::alloc::Global;
+
+/// Is told how far a sweep has come.
+pub trait RunWatcher {
+    /// So many of all runs are done. Lines that tell it may have been asked for.
+    fn sees(&mut self, done: u64, count: u64, is_asked: bool);
+}
+
+/// Prints the rows of a sweep as they come, unless a summary is asked for, and keeps those that are needed at the end.
+#[derive(Drop)]
+pub(crate) struct RowPrinter<'a, V> {
+    rt: &'a HostRuntime,
+    request: &'a SweepRequest,
+    kept: Vec<Row>,
+    watcher: &'a mut V,
+    done: u64,
+}
+
+impl<'a, V: RunWatcher> RowPrinter<'a, V> {
+    /// A printer to which no row was given.
+    pub(crate) fn new(
+        rt: &'a HostRuntime,
+        request: &'a SweepRequest,
+        watcher: &'a mut V,
+    ) -> RowPrinter<'a, V> {
+        RowPrinter {
+            rt,
+            request,
+            kept: Vec::new(rt.alloc()),
+            watcher,
+            done: 0,
+        }
+    }
+
+    /// Prints the header of the rows, if rows are asked for.
+    pub(crate) fn print_header(&mut self) -> Result<(), SweepFault> {
+        if self.request.printed != Printed::Rows {
+            return Ok(());
+        }
+        let text = header_text(self.rt.alloc())?;
+        Ok(Sink::new(self.rt.stdout()).write_all(&text)?)
+    }
+
+    /// Prints rows at once, if they are asked for.
+    fn print(&mut self, rows: &[Row]) -> Result<(), SweepFault> {
+        if self.request.printed != Printed::Rows {
+            return Ok(());
+        }
+        let text = rows_text(self.rt.alloc(), rows)?;
+        Ok(Sink::new(self.rt.stdout()).write_all(&text)?)
+    }
+
+    /// Keeps rows, if a summary or a picture needs them.
+    fn keep(&mut self, rows: &[Row]) -> Result<(), SweepFault> {
+        if self.request.printed == Printed::Summary || self.request.svg.is_some() {
+            self.kept.extend_from_slice(rows)?;
+        }
+        Ok(())
+    }
+
+    /// The rows that were kept.
+    pub(crate) fn into_kept(self) -> Vec<Row> {
+        let RowPrinter {
+            rt: _,
+            request: _,
+            kept,
+            watcher: _,
+            done: _,
+        } = self;
+        kept
+    }
+}
+
+impl<'a, V: RunWatcher> RowTaker for RowPrinter<'a, V> {
+    fn take(&mut self, rows: &[Row]) -> Result<(), SweepFault> {
+        self.print(rows)?;
+        self.keep(rows)?;
+        self.done = self.done.saturating_add(rows.len() as u64);
+        self.watcher
+            .sees(self.done, self.request.len(), self.request.progress);
+        Ok(())
+    }
+}
+
+/// The text of rows.
+pub(crate) fn rows_text(alloc: Global, rows: &[Row]) -> Result<Vec<u8>, OutOfMemory> {
+    let mut text = Vec::new(alloc);
+    for row in rows {
+        text.extend_from_slice(&row_text(alloc, row)?)?;
+    }
+    Ok(text)
+}

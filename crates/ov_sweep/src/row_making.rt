@@ -1,0 +1,39 @@
+ghost use Rattle.std.specs.Prelude.{IfOk};
+ghost use Rattle.ov_snap.specs.CoreState.{HasReportOfAll};
+ghost use Rattle.ov_snap.specs.ReportState.{ReportState};
+ghost use Rattle.ov_sweep.specs.Rows.{IsRowOf, IsToldOf};
+
+use crate::phase_numbers::phase_row;
+use ov_grow::{GrowFault, Phase, grow};
+use ov_grow_options::GrowOptions;
+use ov_snap::Core;
+use ov_sweep_rows::{PhaseRow, Row};
+use std::alloc::Global;
+
+/// The row of the overlay that is grown with these options: its numbers are those of the reports that growing files.
+///
+/// The faults are those of growing (see `GrowFault`).
+pub fn row_of(alloc: Global, options: &GrowOptions) -> Result<Row, GrowFault>
+    ensures { IfOk result (λ row. IsRowOf options.now row) }
+{
+    let grown = grow(alloc, options)?;
+    let broadcasts = options.broadcasts.count();
+    let settle = row_after(&grown.core, grown.settled, broadcasts);
+    let crash = row_after(&grown.core, grown.crashed, broadcasts);
+    let heal = row_after(&grown.core, grown.healed, broadcasts);
+    Ok(Row {
+        options: *options,
+        phases: [settle, crash, heal],
+    })
+}
+
+/// What a row says of a phase, at whose end a report was filed.
+fn row_after(core: &Core, phase: Phase, broadcasts: u32) -> PhaseRow
+    requires { (r : ReportState) × HasReportOfAll core.now phase.moment r }
+    ensures { IsToldOf core.now phase broadcasts result }
+{
+    match core.report(phase.moment) {
+        Some(report) => phase_row(report, phase, broadcasts),
+        None => unreachable!(),
+    }
+}

@@ -1,0 +1,54 @@
+use crate::batch::RefusedRun;
+use ov_ids::OutOfMemory;
+use ov_io::WriteFault;
+use std::alloc::{AllocError, AllocFailed};
+use thiserror::Error;
+
+/// Why a sweep ended before its end.
+#[derive(Clone, Copy, Debug, PartialEq, Eq, Error)]
+pub enum SweepFault {
+    /// A run was refused. All rows before it were taken.
+    #[error("a run was refused")]
+    Run(RefusedRun),
+    /// Rows could not be written.
+    #[error("the writer failed")]
+    Write,
+    /// An allocation was refused.
+    #[error("out of memory")]
+    OutOfMemory,
+}
+
+impl SweepFault {
+    /// The fault's number.
+    pub fn number(&self) -> u32 {
+        match self {
+            SweepFault::Run(refused) => refused.fault.number(),
+            SweepFault::Write => 72,
+            SweepFault::OutOfMemory => 99,
+        }
+    }
+}
+
+impl From<WriteFault> for SweepFault {
+    fn from(_fault: WriteFault) -> SweepFault {
+        SweepFault::Write
+    }
+}
+
+impl From<OutOfMemory> for SweepFault {
+    fn from(_fault: OutOfMemory) -> SweepFault {
+        SweepFault::OutOfMemory
+    }
+}
+
+impl From<AllocError> for SweepFault {
+    fn from(_error: AllocError) -> SweepFault {
+        SweepFault::OutOfMemory
+    }
+}
+
+impl<T: Drop> From<AllocFailed<T>> for SweepFault {
+    fn from(_error: AllocFailed<T>) -> SweepFault {
+        SweepFault::OutOfMemory
+    }
+}
