@@ -1,0 +1,4 @@
+pub mod SameSteps
+pub mod Replaying
+pub mod Making
+pub mod Reporting

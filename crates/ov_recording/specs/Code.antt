@@ -1,0 +1,2 @@
+-- What only views and invariants of types use. A reader of the public contracts need not rely on it.
+pub mod Kept

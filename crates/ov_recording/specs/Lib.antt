@@ -1,0 +1,5 @@
+pub mod Replay
+pub mod Alike
+pub mod Recordings
+pub mod Theorems
+pub mod Code

@@ -1,0 +1,43 @@
+-- How the lines of a script are written: words with one space between two, and a line feed behind the last. The form of
+-- scenario files is chosen here.
+use Rattle.std.specs.Prelude.{ℕ, ◌==◌, ◌||◌, List, [], ◌∷◌, ◌++◌, map, codes, decimal, if◌then◌else◌}
+use Rattle.ov_ids.specs.ParamsState.{ParamsState}
+
+-- each of these words, with a space before it
+unfoldable pub spaced : List (List ℕ) → List ℕ
+spaced [] = []
+spaced (word ∷ more) = 32 ∷ word ++ spaced more
+
+-- a line that begins with this name, and has these words after it
+abbrev pub line_of : List ℕ → List (List ℕ) → List ℕ
+line_of name words = name ++ spaced words
+
+-- a line with its line feed
+abbrev pub ended : List ℕ → List ℕ
+ended line = line ++ 10 ∷ []
+
+-- the words of these numbers
+abbrev pub numerals : List ℕ → List (List ℕ)
+numerals numbers = map decimal numbers
+
+-- the line of these parameters
+unfoldable pub params_line : ParamsState → List ℕ
+params_line p =
+    line_of (codes "params")
+    (numerals (p.active ∷ p.passive ∷ p.arwl ∷ p.prwl ∷ p.ka ∷ p.kp ∷ p.shuffle_ttl ∷ []))
+
+-- the line of this seed
+unfoldable pub seed_line : ℕ → List ℕ
+seed_line seed = line_of (codes "seed") (numerals (seed ∷ []))
+
+-- the line that analyses a moment, for all nodes and by one worker
+unfoldable pub analysis_line : ℕ → List ℕ
+analysis_line moment = line_of (codes "analyse") (numerals (moment ∷ []))
+
+-- a space for a line feed and for a carriage return, and the same byte for any other
+abbrev pub within_line : ℕ → ℕ
+within_line b = if (b == 10) || (b == 13) then 32 else b
+
+-- the comment that says this, on one line
+unfoldable pub comment_line : List ℕ → List ℕ
+comment_line said = codes "# " ++ map within_line said
