@@ -1,5 +1,5 @@
 -- Broadcasts and timers.
-use Rattle.std.proofs.Common.{◌≡◌, ◌<◌, ◌+◌, ℕ, zero, suc, Bool, true, false, ◌||◌, IsTrue, List, [], ◌∷◌, ◌++◌, length, drop, get_or, refl, sym, subst, ap, arith, ◌∙◌, inl, inr, ◌⊎◌}
+use Rattle.std.proofs.Common.{◌≡◌, ◌<◌, ◌≤◌, ◌+◌, ℕ, zero, suc, Bool, true, false, ◌||◌, IsTrue, List, [], ◌∷◌, ◌++◌, length, drop, get_or, refl, sym, subst, ap, arith, ◌∙◌, inl, inr, ◌⊎◌}
 use Rattle.std.proofs.lemmas.Option.{slice_get_read}
 use Rattle.std.proofs.Math.Seq.{drop-cons}
 use Rattle.std.specs.Prelude.{slice_get, Some}
@@ -11,6 +11,8 @@ use Rattle.ov_grow.specs.Growth.{Growth, Does, Chooses, AreLive}
 use Rattle.ov_grow.specs.Turns.{RunOut}
 use Rattle.ov_grow.specs.Broadcasts.{BroadcastBy, BroadcastsBegin, Fire, FireAt, FireAtEach, FireTimes, FiresIfItRuns, TimersFire}
 use Rattle.ov_grow.specs.declared.turn_rules.TurnRules.{TurnRules}
+use Rattle.ov_ids.specs.Members.{Has}
+use Rattle.ov_grow.proofs.Rounding.{drop_past}
 use Rattle.ov_grow.proofs.Turning.{Longer, AsLong, as_long_by, longer_by, does_longer}
 
 -- the next broadcast
@@ -60,11 +62,11 @@ pub timers_end : (rules : TurnRules) (ids : List MsgId) (s u : Growth) → Fire 
 timers_end rules ids s u none = (0, none)
 
 -- the journal is longer if a timer fired
-abbrev LongerIf : Bool → Growth → Growth → Type 0
+abbrev pub LongerIf : Bool → Growth → Growth → Type 0
 LongerIf true s u = Longer s u
 LongerIf false s u = AsLong s u
 
-as_long_if : (fired : Bool) (s u : Growth) → LongerIf fired s u → AsLong s u
+pub as_long_if : (fired : Bool) (s u : Growth) → LongerIf fired s u → AsLong s u
 as_long_if true s u longer = inr longer
 as_long_if false s u as_long = as_long
 
@@ -92,6 +94,32 @@ fire_each_longer (node ∷ nodes) ids s u fired (first, others, t, fires, more, 
     subst (λ b. LongerIf b s u) (sym is)
     (or_longer first others s t u (fire_at_longer node ids s t first fires) (fire_each_longer nodes ids t u others more))
 
+pub fire_longer_if : (ids : List MsgId) (s u : Growth) (fired : Bool) → Fire ids s fired u → LongerIf fired s u
+fire_longer_if ids s u fired (live, are, each) = fire_each_longer live ids s u fired each
+
 pub fire_longer : (ids : List MsgId) (s u : Growth) (fired : Bool) → fired ≡ true → Fire ids s fired u → Longer s u
 fire_longer ids s u fired holds (live, are, each) =
     subst (λ b. LongerIf b s u) holds (fire_each_longer live ids s u fired each)
+
+-- no message is left
+pub fire_at_end : (node : ℕ) (ids : List MsgId) (i : ℕ) (s : Growth) → length ids ≤ i
+    → FireAt node (drop i ids) s false s
+fire_at_end node ids i s past = subst (λ xs. FireAt node xs s false s) (sym (drop_past ids i past)) (refl, refl)
+
+-- no node is left
+pub fire_each_end : (nodes : List ℕ) (ids : List MsgId) (i : ℕ) (s : Growth) → length nodes ≤ i
+    → FireAtEach (drop i nodes) ids s false s
+fire_each_end nodes ids i s past = subst (λ xs. FireAtEach xs ids s false s) (sym (drop_past nodes i past)) (refl, refl)
+
+pub or_assoc : (a b c : Bool) → (a || (b || c)) ≡ ((a || b) || c)
+or_assoc true b c = refl
+or_assoc false b c = refl
+
+pub or_none : (a : Bool) → (a || false) ≡ a
+or_none true = refl
+or_none false = refl
+
+-- who has a member has some
+pub has_some : (xs : List ℕ) (a : ℕ) → Has xs a → 0 < length xs
+has_some [] a has = absurd has
+has_some (x ∷ xs) a has = omega arith

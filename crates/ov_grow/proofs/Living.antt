@@ -1,7 +1,10 @@
 -- Which nodes live, and which crashed.
 use Rattle.std.proofs.Common.{◌≡◌, ◌≢◌, ◌<◌, ℕ, Bool, true, false, IsTrue, ◌↔◌, List, [], ◌∷◌, length, Option, Some, None, refl, sym, subst, ap, ◌∙◌, inl, inr, arith}
-use Rattle.std.specs.Prelude.{not}
+use Rattle.std.specs.Prelude.{not, IfSome}
 use Rattle.std.specs.FinMap as map
+use Rattle.std.specs.FinSet as set
+use Rattle.ov_ids.specs.declared.id.MsgId.{MsgId}
+use Rattle.ov_grow.specs.Broadcasts.{TimerRuns}
 use Rattle.ov_ids.specs.Members.{Has, Ascends}
 use Rattle.ov_graph.specs.Links.{LinkGraph}
 use Rattle.ov_peer.specs.PeerState.{PeerState}
@@ -12,6 +15,10 @@ use Rattle.ov_net.specs.World.{Stands, WorldState}
 use Rattle.ov_net.specs.declared.member.Member.{Member}
 use Rattle.ov_net.specs.declared.member.Member.TheVariants.{Live, Gone}
 use Rattle.ov_grow.specs.Growth.{Growth, AreLive, IsLive}
+
+-- a node has one state
+pub one_state : (p q : PeerState) → Some (Live p) ≡ Some (Live q) → p ≡ q
+one_state p q same = cc
 
 -- the nodes of the graph of now are those that live
 pub live_nodes : (s : Growth) (g : LinkGraph) (ids : List ℕ) → Stands s.world
@@ -40,3 +47,23 @@ has_crashed w a born live holds is tested = crashed_or_not w a (map.get w.nodes 
 -- who has crashed does not live
 pub gone_not_live : (w : Net) (a : ℕ) → IsGone w a → ¬ ((p : PeerState) × LivesAs w a p)
 gone_not_live w a gone (p, lives) = let e = sym gone ∙ lives in cc
+
+-- whether a timer runs at a node whose state is p
+pub timer_tested : (s : Growth) (node : ℕ) (id : MsgId) (p : PeerState) (runs : Bool) → LivesAs s.world.net node p
+    → runs ≡ set.contains p.tree.running id → IsTrue runs ↔ TimerRuns s node id
+timer_tested s node id p runs lives is = (
+  λ holds. (p, lives, subst (λ b. IsTrue b) is holds),
+  λ (q, live, running). subst (λ b. IsTrue b) (sym is)
+      (subst (λ x. IsTrue (set.contains x.tree.running id)) (one_state q p (sym live ∙ lives)) running),
+)
+
+-- a sender that does not live
+pub not_live : (s : Growth) (sender from : ℕ) (live : Bool) → live ≡ false → (IsTrue live ↔ IsLive s sender)
+    → sender ≡ from → IsLive s from → ⊥
+not_live s sender from live off tested is lives =
+    let on = tested.1 (subst (λ a. IsLive s a) (sym is) lives) in cc
+
+-- what follows of what there is, if there is something
+pub some_weaker : {X : Type 0} (o : Option X) (P Q : X → Type 0) → ((x : X) → P x → Q x) → IfSome o P → IfSome o Q
+some_weaker None P Q put has = has
+some_weaker (Some x) P Q put has = put x has

@@ -47,7 +47,7 @@ one_last text a b (scenario, earlier, says, is) (other, before, also, equally) =
 same_words : (what : Event) (words also : List ℕ) → line.Event what words ≡ line.Event what also → words ≡ also
 same_words what words also same = cc
 
-same_growth : (s u v : Growth) → u.text ≡ v.text → u.world ≡ v.world → u.choices ≡ v.choices → u ≡ v
+pub same_growth : (s u v : Growth) → u.text ≡ v.text → u.world ≡ v.world → u.choices ≡ v.choices → u ≡ v
 same_growth s u v text world choices =
     ap (λ t. record { text = t; world = u.world; choices = u.choices }) text
     ∙ (ap (λ w. record { text = v.text; world = w; choices = u.choices }) world

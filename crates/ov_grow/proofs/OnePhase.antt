@@ -1,5 +1,5 @@
 -- Rounds, broadcasts and phases have one outcome each.
-use Rattle.std.proofs.Common.{◌≡◌, ℕ, zero, suc, ◌+◌, ◌-◌, ◌*◌, ◌/◌, Bool, true, false, ◌||◌, List, [], ◌∷◌, ◌++◌, length, take, drop, Option, Some, None, refl, sym, ap, ap₂, subst, ◌∙◌, inl, inr, ◌⊎◌}
+use Rattle.std.proofs.Common.{arith, ◌≤◌, ◌≡◌, ℕ, zero, suc, ◌+◌, ◌-◌, ◌*◌, ◌/◌, Bool, true, false, ◌||◌, List, [], ◌∷◌, ◌++◌, length, take, drop, Option, Some, None, refl, sym, ap, ap₂, subst, ◌∙◌, inl, inr, ◌⊎◌}
 use Rattle.std.specs.Prelude.{slice_get, codes}
 use Rattle.std.proofs.lemmas.Option.{same_Some}
 use Rattle.rand_pcg.specs.Lcg.{Lcg}
@@ -27,8 +27,8 @@ use Rattle.ov_grow.specs.Growth.{Growth, AreLive, Chooses, Does, Writes}
 use Rattle.ov_grow.specs.Turns.{RunOut, TurnsUpTo}
 use Rattle.ov_grow.specs.Rounds.{AreLiveInOrder, DoesEach, Round, Rounds}
 use Rattle.ov_grow.specs.Broadcasts.{BroadcastBy, Broadcasts, BroadcastsBegin, Fire, FireAt, FireAtEach, FireTimes, FiresIfItRuns, TimersFire}
-use Rattle.ov_grow.specs.Phases.{AreCrashedNeighbours, AreToCrash, Births, CrashNodes, EndsPhase, Heal, IsAnalysedAt, IsCutAt, Join}
-use Rattle.ov_grow.specs.Phases.{ReportCrashes, ReportCrashesToLive, Settle, cut_of, deliveries_in, healing, joining, settling}
+use Rattle.ov_grow.specs.Phases.{AreFirst, AreToCrash, Births, CrashNodes, EndsPhase, Heal, IsAnalysedAt, IsCutAt, Join}
+use Rattle.ov_grow.specs.Phases.{HasNone, IsCrashedNeighbour, ReportCrashes, ReportTimes, Settle, cut_of, deliveries_in, healing, joining, settling}
 use Rattle.ov_grow.specs.Phases.{turns_between}
 use Rattle.ov_grow.specs.Growing.{Grows, OneGrowth, beginning}
 use Rattle.ov_grow.specs.declared.phase.Phase.{Phase}
@@ -210,28 +210,37 @@ one_crash o m s u v p q (nodes, t, w, z, says, are, each, ends) (also, x, y, r, 
     one_ending (settling o) o.broadcasts z u v p q ends
     (subst (λ g. EndsPhase (settling o) o.broadcasts g q v) next end)
 
-one_crashed : (s : Growth) (node : ℕ) (xs ys : List ℕ) → AreCrashedNeighbours s node xs → AreCrashedNeighbours s node ys
-    → xs ≡ ys
-one_crashed s node xs ys a b =
-    same_ascending xs ys a.ascend b.ascend (λ x has. b.each x (a.crashed x has)) (λ x has. a.each x (b.crashed x has))
+-- whom the next report is for, and of whom
+one_first : (s : Growth) (node crashed other gone : ℕ) → AreFirst s node crashed → AreFirst s other gone
+    → (node ≡ other) × (crashed ≡ gone)
+one_first s node crashed other gone a b =
+    let below : node ≤ other = a.first_node other gone b.has in
+    let above : other ≤ node = b.first_node node crashed a.has in
+    let same : node ≡ other = omega (arith, below, above) in
+    let low : crashed ≤ gone = a.first_crashed gone (subst (λ n. IsCrashedNeighbour s n gone) (sym same) b.has) in
+    let high : gone ≤ crashed = b.first_crashed crashed (subst (λ n. IsCrashedNeighbour s n crashed) same a.has) in
+    (same, omega (arith, low, high))
 
-one_report : (nodes : List ℕ) (s u v : Growth) → ReportCrashes nodes s u → ReportCrashes nodes s v → u ≡ v
-one_report [] s u v a b = a ∙ sym b
-one_report (node ∷ more) s u v (crashed, t, are, each, rest) (also, x, those, all, others) =
-    let same : x ≡ t = one_each (act.CrashReport node) crashed s x t
-    (subst (λ xs. DoesEach (act.CrashReport node) xs s x) (one_crashed s node also crashed those are) all) each in
-    one_report more t u v rest (subst (λ g. ReportCrashes more g v) same others)
-
-one_reporting : (s u v : Growth) → ReportCrashesToLive s u → ReportCrashesToLive s v → u ≡ v
-one_reporting s u v (live, are, reports) (those, lives, also) =
-    one_report live s u v reports (subst (λ xs. ReportCrashes xs s v) (one_live s those live lives are) also)
+one_reports : (rules : TurnRules) (n m : ℕ) (s u v : Growth) → ReportTimes rules n s u → ReportTimes rules m s v → u ≡ v
+one_reports rules zero zero s u v a b = a.1 ∙ sym b.1
+one_reports rules zero (suc m) s u v a (node, crashed, x, y, first, did, out, more) = absurd (a.0 node crashed first.has)
+one_reports rules (suc n) zero s u v (node, crashed, t, w, first, did, out, more) b = absurd (b.0 node crashed first.has)
+one_reports rules (suc n) (suc m) s u v (node, crashed, t, w, first, did, out, more)
+    (other, gone, x, y, is, does, ends, others) =
+    let who = one_first s other gone node crashed is first in
+    let next : x ≡ t = one_act s x t (act.CrashReport node crashed)
+    (subst (λ b. Does s (act.CrashReport node b) x) who.1
+    (subst (λ a. Does s (act.CrashReport a gone) x) who.0 does)) did in
+    let then : y ≡ w = one_run_out rules t y w (subst (λ g. RunOut rules g y) next ends) out in
+    one_reports rules n m w u v more (subst (λ g. ReportTimes rules m g v) then others)
 
 pub one_healing : (o : GrowOptions) (s u v : Growth) (p q : Phase) → Heal o s p u → Heal o s q v → (p ≡ q) × (u ≡ v)
-one_healing o s u v p q (t, w, z, k, says, reports, out, rounds, ends) (x, y, r, l, said, also, runs, others, end) =
+one_healing o s u v p q (t, w, k, says, (n, reports), rounds, ends) (x, y, l, said, (m, also), others, end) =
     let first : x ≡ t = one_write s x t (comment_line (codes "heal")) said says in
-    let then : y ≡ w = one_reporting t y w (subst (λ g. ReportCrashesToLive g y) first also) reports in
-    let next : r ≡ z = one_run_out (healing o) w r z (subst (λ g. RunOut (healing o) g r) then runs) out in
-    let last : l ≡ k = one_rounds (healing o) o.heal z l k (subst (λ g. Rounds (healing o) o.heal g l) next others) rounds in
+    let then : y ≡ w =
+    one_reports (healing o) m n t y w (subst (λ g. ReportTimes (healing o) m g y) first also) reports in
+    let last : l ≡ k =
+    one_rounds (healing o) o.heal w l k (subst (λ g. Rounds (healing o) o.heal g l) then others) rounds in
     one_ending (healing o) o.broadcasts k u v p q ends
     (subst (λ g. EndsPhase (healing o) o.broadcasts g q v) last end)
 

@@ -1,5 +1,5 @@
 -- Rounds of shuffles, and one act for each of several nodes.
-use Rattle.std.proofs.Common.{◌≡◌, ◌<◌, ◌+◌, ◌-◌, ℕ, suc, List, [], ◌∷◌, length, drop, get_or, refl, sym, subst, arith, drop-cons, ◌∙◌, ap}
+use Rattle.std.proofs.Common.{◌≡◌, ◌<◌, ◌≤◌, ◌+◌, ◌-◌, ℕ, zero, suc, List, [], ◌∷◌, length, drop, get_or, refl, sym, subst, arith, drop-cons, ◌∙◌, ap}
 use Rattle.ov_script.specs.declared.act.Act.{Act}
 use Rattle.ov_grow.specs.Growth.{Growth, Does}
 use Rattle.ov_grow.specs.Rounds.{DoesEach, Round, Rounds}
@@ -21,3 +21,15 @@ rounds_more rules n m s t u one round rounds = subst (λ k. Rounds rules k s u) 
 
 pub rounds_end : (rules : TurnRules) (n : ℕ) (s : Growth) → n ≡ 0 → Rounds rules n s s
 rounds_end rules n s none = subst (λ k. Rounds rules k s s) (sym none) refl
+
+-- nothing is left of a list past its end
+pub drop_past : {X : Type 0} (xs : List X) (i : ℕ) → length xs ≤ i → drop i xs ≡ []
+drop_past [] zero past = refl
+drop_past [] (suc i) past = refl
+drop_past (x ∷ xs) zero past = absurd (omega (arith, past))
+drop_past (x ∷ xs) (suc i) past = drop_past xs i (omega (arith, past))
+
+-- no node is left
+pub each_end : (what : ℕ → Act) (nodes : List ℕ) (i : ℕ) (s : Growth) → length nodes ≤ i
+    → DoesEach what (drop i nodes) s s
+each_end what nodes i s past = subst (λ xs. DoesEach what xs s s) (sym (drop_past nodes i past)) refl

@@ -5,3 +5,4 @@ pub mod Rounds
 pub mod Broadcasts
 pub mod Phases
 pub mod Growing
+pub mod Code

@@ -1,6 +1,6 @@
 -- The phases of growing. s is before, and u after. Chosen here.
-use Rattle.std.specs.Prelude.{◌≡◌, ◌↔◌, ℕ, zero, suc, ◌+◌, ◌-◌, ◌*◌, ◌/◌, List, [], ◌∷◌, length, take, drop, Option, Some, None, codes, count_by, is_some, true, false}
-use Rattle.ov_ids.specs.Members.{Has, Ascends}
+use Rattle.std.specs.Prelude.{◌≡◌, ◌↔◌, ℕ, zero, suc, ◌+◌, ◌-◌, ◌*◌, ◌/◌, ◌≤◌, List, [], ◌∷◌, length, take, drop, Option, Some, None, codes, count_by, is_some, true, false}
+use Rattle.ov_ids.specs.Members.{Has}
 use Rattle.ov_graph.specs.Links.{LinkGraph}
 use Rattle.ov_peer.specs.PeerState.{PeerState}
 use Rattle.ov_cert.specs.declared.cert.Cert.{Cert}
@@ -94,11 +94,14 @@ abbrev pub IsCutAt : List Entry → ℕ → List ℕ → Type 0
 IsCutAt journal m cut =
     (g : LinkGraph) × (c : Cert) × AreLinks journal m g × IsAnswer g g.nodes c × (cut ≡ cut_of c)
 
--- these nodes are to crash, in this order: of n live ones in a random order the first n times P over 100, rounded down;
--- or those of the cut at the moment `settled`
-abbrev pub AreToCrash : Crash → ℕ → Growth → List ℕ → Growth → Type 0
-AreToCrash (Share share) settled s nodes u =
+-- of n live nodes in a random order the first n times P over 100, rounded down
+abbrev pub AreShareOfLive : ℕ → Growth → List ℕ → Growth → Type 0
+AreShareOfLive share s nodes u =
     (order : List ℕ) × AreLiveInOrder s order u × (nodes ≡ take (length order * share / 100) order)
+
+-- these nodes are to crash, in this order: a share of the live ones, or those of the cut at the moment `settled`
+abbrev pub AreToCrash : Crash → ℕ → Growth → List ℕ → Growth → Type 0
+AreToCrash (Share share) settled s nodes u = AreShareOfLive share s nodes u
 AreToCrash Cut settled s nodes u = IsCutAt s.world.journal settled nodes × (u ≡ s)
 
 -- nodes crash
@@ -110,36 +113,41 @@ CrashNodes o settled s phase u =
     × DoesEach act.Crash nodes v w
     × EndsPhase (settling o) o.broadcasts w phase u
 
--- the node a crashed and is in the active view of this node
+-- the node a crashed, and is in the active view of this live node
 abbrev pub IsCrashedNeighbour : Growth → ℕ → ℕ → Type 0
 IsCrashedNeighbour s node a =
     (p : PeerState) × LivesAs s.world.net node p × Has p.hyparview.views.active a × IsGone s.world.net a
 
--- these are the nodes that crashed and are in the active view of this node, by ascending ids
-pub record AreCrashedNeighbours (s : Growth) (node : ℕ) (ids : List ℕ) : Type 0 where
-  pub ascend : Ascends ids
-  pub crashed : (a : ℕ) → Has ids a → IsCrashedNeighbour s node a
-  pub each : (a : ℕ) → IsCrashedNeighbour s node a → Has ids a
+-- the first live node, by ascending ids, that has a crashed node in its active view, and the first such
+pub record AreFirst (s : Growth) (node crashed : ℕ) : Type 0 where
+  pub has : IsCrashedNeighbour s node crashed
+  pub first_node : (a b : ℕ) → IsCrashedNeighbour s a b → node ≤ a
+  pub first_crashed : (b : ℕ) → IsCrashedNeighbour s node b → crashed ≤ b
 
--- each of these nodes gets the crash report of every node that crashed and is in its active view
-abbrev pub ReportCrashes : List ℕ → Growth → Growth → Type 0
-ReportCrashes [] s u = u ≡ s
-ReportCrashes (node ∷ more) s u =
-    (crashed : List ℕ) × (t : Growth)
-    × AreCrashedNeighbours s node crashed
-    × DoesEach (act.CrashReport node) crashed s t
-    × ReportCrashes more t u
+-- no live node has a crashed node in its active view
+abbrev pub HasNone : Growth → Type 0
+HasNone s = (a b : ℕ) → ¬ IsCrashedNeighbour s a b
 
--- every live node, by ascending ids, gets them
-abbrev pub ReportCrashesToLive : Growth → Growth → Type 0
-ReportCrashesToLive s u = (live : List ℕ) × AreLive s live × ReportCrashes live s u
+-- so many crash reports, one after the other, and then no live node has a crashed node in its active view: the first live
+-- node that has one gets the report of the first such, and then packets run out
+abbrev pub ReportTimes : TurnRules → ℕ → Growth → Growth → Type 0
+ReportTimes rules zero s u = HasNone s × (u ≡ s)
+ReportTimes rules (suc n) s u =
+    (node : ℕ) × (crashed : ℕ) × (t : Growth) × (v : Growth)
+    × AreFirst s node crashed
+    × Does s (act.CrashReport node crashed) t
+    × RunOut rules t v
+    × ReportTimes rules n v u
+
+-- crash reports, again and again, until no live node has a crashed node in its active view
+abbrev pub ReportCrashes : TurnRules → Growth → Growth → Type 0
+ReportCrashes rules s u = (n : ℕ) × ReportTimes rules n s u
 
 -- the overlay heals
 abbrev pub Heal : GrowOptions → Growth → Phase → Growth → Type 0
 Heal o s phase u =
-    (t : Growth) × (v : Growth) × (w : Growth) × (x : Growth)
+    (t : Growth) × (v : Growth) × (w : Growth)
     × Writes s (comment_line (codes "heal")) t
-    × ReportCrashesToLive t v
-    × RunOut (healing o) v w
-    × Rounds (healing o) o.heal w x
-    × EndsPhase (healing o) o.broadcasts x phase u
+    × ReportCrashes (healing o) t v
+    × Rounds (healing o) o.heal v w
+    × EndsPhase (healing o) o.broadcasts w phase u
