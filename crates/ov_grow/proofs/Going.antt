@@ -21,7 +21,8 @@ pub goes_nowhere : (b : Growing) → Goes (λ s u. u ≡ s) b b
 goes_nowhere b = record { way = refl; kept = kept_same b.recording.core b.recording.core refl }
 
 -- the same way, under another name
-pub goes_as : (P Q : Growth → Growth → Type 0) (b u : Growing) → (P (growth_of b) (growth_of u) → Q (growth_of b) (growth_of u))
+pub goes_as : (P Q : Growth → Growth → Type 0) (b u : Growing) → (P (growth_of b) (growth_of u) → Q (growth_of b)
+    (growth_of u))
     → Goes P b u → Goes Q b u
 goes_as P Q b u put gone = record { way = put gone.way; kept = gone.kept }
 

@@ -1,5 +1,6 @@
 -- Which nodes live, and which crashed.
-use Rattle.std.proofs.Common.{◌≡◌, ◌≢◌, ◌<◌, ℕ, Bool, true, false, IsTrue, ◌↔◌, List, [], ◌∷◌, length, Option, Some, None, refl, sym, subst, ap, ◌∙◌, inl, inr, arith}
+use Rattle.std.proofs.Common.{◌≡◌, ◌≢◌, ◌<◌, ℕ, Bool, true, false, IsTrue, ◌↔◌, List, [], ◌∷◌, length, Option, Some}
+use Rattle.std.proofs.Common.{None, refl, sym, subst, ap, ◌∙◌, inl, inr, arith}
 use Rattle.std.specs.Prelude.{not, IfSome}
 use Rattle.std.specs.FinMap as map
 use Rattle.std.specs.FinSet as set
@@ -34,7 +35,8 @@ crashed_or_not : (w : Net) (a : ℕ) (m : Option Member) (live : Bool) → map.g
     → (IsTrue live ↔ ((p : PeerState) × LivesAs w a p))
     → IsTrue (not live) ↔ IsGone w a
 crashed_or_not w a None live is born tested = absurd (born refl)
-crashed_or_not w a (Some (Live p)) true is born tested = ((λ fails. absurd (cc fails)), λ gone. absurd (let e = sym is ∙ gone in cc))
+crashed_or_not w a (Some (Live p)) true is born tested =
+    ((λ fails. absurd (cc fails)), λ gone. absurd (let e = sym is ∙ gone in cc))
 crashed_or_not w a (Some (Live p)) false is born tested = absurd (let holds = tested.1 (p, is) in cc)
 crashed_or_not w a (Some Gone) true is born tested =
     let lives = tested.0 refl in absurd (let e = sym is ∙ lives.1 in cc)

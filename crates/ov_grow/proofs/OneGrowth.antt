@@ -1,5 +1,6 @@
 -- The options alone decide what is grown.
-use Rattle.std.proofs.Common.{◌≡◌, ℕ, zero, suc, Bool, true, false, ◌||◌, List, [], ◌∷◌, ◌++◌, length, Option, Some, None, refl, sym, ap, ap₂, subst, ◌∙◌, inl, inr, ◌⊎◌}
+use Rattle.std.proofs.Common.{◌≡◌, ℕ, zero, suc, Bool, true, false, ◌||◌, List, [], ◌∷◌, ◌++◌, length, Option, Some}
+use Rattle.std.proofs.Common.{None, refl, sym, ap, ap₂, subst, ◌∙◌, inl, inr, ◌⊎◌}
 use Rattle.std.specs.Prelude.{MatchBool, slice_get}
 use Rattle.std.specs.Prelude.{remove}
 use Rattle.std.proofs.lemmas.Option.{same_Some, none-some}
@@ -19,7 +20,8 @@ use Rattle.ov_script.specs.declared.act.Act.{Act}
 use Rattle.ov_script.specs.declared.act.Act.TheVariants as act
 use Rattle.ov_grow.specs.Choices.{IsRandomOrder, one_of, later}
 use Rattle.ov_grow.specs.Growth.{Growth, AsksLast, AreLive, Chooses, Does, Tries, Writes}
-use Rattle.ov_grow.specs.Turns.{Arrives, HasFailed, HasNoPackets, IsDelivered, IsTurnOf, MayBeRepeated, RunOut, SenderIsTold, Turn, TurnsUpTo}
+use Rattle.ov_grow.specs.Turns.{Arrives, HasFailed, HasNoPackets, IsDelivered, IsTurnOf, MayBeRepeated, RunOut}
+use Rattle.ov_grow.specs.Turns.{SenderIsTold, Turn, TurnsUpTo}
 use Rattle.ov_grow.specs.declared.turn_rules.TurnRules.{TurnRules}
 use Rattle.ov_grow_options.specs.declared.options.Order.{Order}
 use Rattle.ov_grow_options.specs.declared.options.Order.TheVariants.{Random, Oldest}
@@ -68,14 +70,17 @@ one_act s u v what d e =
 pub one_write : (s u v : Growth) (written : List ℕ) → Writes s written u → Writes s written v → u ≡ v
 one_write s u v written a b = a ∙ sym b
 
-pub one_choice : (n place also : ℕ) (s u v : Growth) → Chooses n s place u → Chooses n s also v → (place ≡ also) × (u ≡ v)
+pub one_choice : (n place also : ℕ) (s u v : Growth) → Chooses n s place u → Chooses n s also v
+    → (place ≡ also) × (u ≡ v)
 one_choice n place also s u v a b = (a.0 ∙ sym b.0, a.1 ∙ sym b.1)
 
-pub one_try : (p : ℕ) (comes also : Bool) (s u v : Growth) → Tries p s comes u → Tries p s also v → (comes ≡ also) × (u ≡ v)
+pub one_try : (p : ℕ) (comes also : Bool) (s u v : Growth) → Tries p s comes u → Tries p s also v
+    → (comes ≡ also) × (u ≡ v)
 one_try p comes also s u v a b = (a.0 ∙ sym b.0, a.1 ∙ sym b.1)
 
 pub one_live : (s : Growth) (xs ys : List ℕ) → AreLive s xs → AreLive s ys → xs ≡ ys
-one_live s xs ys a b = same_ascending xs ys a.ascend b.ascend (λ x has. b.each x (a.live x has)) (λ x has. a.each x (b.live x has))
+one_live s xs ys a b =
+    same_ascending xs ys a.ascend b.ascend (λ x has. b.each x (a.live x has)) (λ x has. a.each x (b.live x has))
 
 -- nothing is in the empty list
 none_at : (ids : List ℕ) (n x : ℕ) → ids ≡ [] → slice_get ids n ≡ Some x → ⊥
@@ -105,8 +110,10 @@ one_way true P Q u v p q a b = p a b
 one_way false P Q u v p q a b = q a b
 
 told_once : (before s u v : Growth) (packet : ℕ × Message)
-    → (HasFailed before packet × Does s (act.CrashReport packet.1.from packet.0) u) ⊎ ((¬ HasFailed before packet) × (u ≡ s))
-    → (HasFailed before packet × Does s (act.CrashReport packet.1.from packet.0) v) ⊎ ((¬ HasFailed before packet) × (v ≡ s))
+    → (HasFailed before packet × Does s (act.CrashReport packet.1.from packet.0) u) ⊎ ((¬ HasFailed before packet)
+    × (u ≡ s))
+    → (HasFailed before packet × Does s (act.CrashReport packet.1.from packet.0) v) ⊎ ((¬ HasFailed before packet)
+    × (v ≡ s))
     → u ≡ v
 told_once before s u v packet (inl a) (inl b) = one_act s u v (act.CrashReport packet.1.from packet.0) a.1 b.1
 told_once before s u v packet (inl a) (inr b) = absurd (b.0 a.0)
@@ -135,7 +142,8 @@ one_repetition rules place s u v (again, t, tries, ways) (once, x, tried, also) 
     (subst (λ y. MatchBool again (Does y (act.Repeat place) v) (v ≡ y)) same.1
     (subst (λ b. MatchBool b (Does x (act.Repeat place) v) (v ≡ x)) same.0 also))
 
-one_arrival : (rules : TurnRules) (place : ℕ) (s u v : Growth) → Arrives rules place s u → Arrives rules place s v → u ≡ v
+one_arrival : (rules : TurnRules) (place : ℕ) (s u v : Growth) → Arrives rules place s u → Arrives rules place s v
+    → u ≡ v
 one_arrival rules place s u v (t, again, arrived) (x, also, came) =
     one_delivery rules place t u v arrived
     (subst (λ y. IsDelivered rules place y v) (one_repetition rules place s x t also again) came)

@@ -1,5 +1,7 @@
 -- Rounds, broadcasts and phases have one outcome each.
-use Rattle.std.proofs.Common.{arith, ◌≤◌, ◌≡◌, ℕ, zero, suc, ◌+◌, ◌-◌, ◌*◌, ◌/◌, Bool, true, false, ◌||◌, List, [], ◌∷◌, ◌++◌, length, take, drop, Option, Some, None, refl, sym, ap, ap₂, subst, ◌∙◌, inl, inr, ◌⊎◌}
+use Rattle.std.proofs.Common.{arith, ◌≤◌, ◌≡◌, ℕ, zero, suc, ◌+◌, ◌-◌, ◌*◌, ◌/◌, Bool, true, false, ◌||◌, List, []}
+use Rattle.std.proofs.Common.{◌∷◌, ◌++◌, length, take, drop, Option, Some, None, refl, sym, ap, ap₂, subst, ◌∙◌, inl}
+use Rattle.std.proofs.Common.{inr, ◌⊎◌}
 use Rattle.std.specs.Prelude.{slice_get, codes}
 use Rattle.std.proofs.lemmas.Option.{same_Some}
 use Rattle.rand_pcg.specs.Lcg.{Lcg}
@@ -26,16 +28,19 @@ use Rattle.ov_grow.specs.Choices.{IsRandomOrder}
 use Rattle.ov_grow.specs.Growth.{Growth, AreLive, Chooses, Does, Writes}
 use Rattle.ov_grow.specs.Turns.{RunOut, TurnsUpTo}
 use Rattle.ov_grow.specs.Rounds.{AreLiveInOrder, DoesEach, Round, Rounds}
-use Rattle.ov_grow.specs.Broadcasts.{BroadcastBy, Broadcasts, BroadcastsBegin, Fire, FireAt, FireAtEach, FireTimes, FiresIfItRuns, TimersFire}
+use Rattle.ov_grow.specs.Broadcasts.{BroadcastBy, Broadcasts, BroadcastsBegin, Fire, FireAt, FireAtEach, FireTimes}
+use Rattle.ov_grow.specs.Broadcasts.{FiresIfItRuns, TimersFire}
 use Rattle.ov_grow.specs.Phases.{AreFirst, AreToCrash, Births, CrashNodes, EndsPhase, Heal, IsAnalysedAt, IsCutAt, Join}
-use Rattle.ov_grow.specs.Phases.{HasNone, IsCrashedNeighbour, ReportCrashes, ReportTimes, Settle, cut_of, deliveries_in, healing, joining, settling}
+use Rattle.ov_grow.specs.Phases.{HasNone, IsCrashedNeighbour, ReportCrashes, ReportTimes, Settle, cut_of}
+use Rattle.ov_grow.specs.Phases.{deliveries_in, healing, joining, settling}
 use Rattle.ov_grow.specs.Phases.{turns_between}
 use Rattle.ov_grow.specs.Growing.{Grows, OneGrowth, beginning}
 use Rattle.ov_grow.specs.declared.phase.Phase.{Phase}
 use Rattle.ov_grow.specs.declared.turn_rules.TurnRules.{TurnRules}
 use Rattle.ov_grow.proofs.OneGrowth.{one_act, one_choice, one_live, one_order, one_run_out, one_turns, one_write}
 
-pub one_each : (what : ℕ → Act) (nodes : List ℕ) (s u v : Growth) → DoesEach what nodes s u → DoesEach what nodes s v → u ≡ v
+pub one_each : (what : ℕ → Act) (nodes : List ℕ) (s u v : Growth) → DoesEach what nodes s u
+    → DoesEach what nodes s v → u ≡ v
 one_each what [] s u v a b = a ∙ sym b
 one_each what (node ∷ more) s u v (t, did, rest) (x, also, others) =
     one_each what more t u v rest (subst (λ g. DoesEach what more g v) (one_act s x t (what node) also did) others)
@@ -84,7 +89,8 @@ one_beginning nodes (suc n) s u v ids also (place, node, id, later, t, w, choose
     (subst (λ g. BroadcastsBegin nodes n g rest v) first.1 others) in
     (is ∙ (ap₂ (λ a b. a ∷ b) (sym first.0) last.0 ∙ sym same), last.1)
 
-one_timer : (node : ℕ) (id : MsgId) (s u v : Growth) (a b : Bool) → FiresIfItRuns node id s a u → FiresIfItRuns node id s b v
+one_timer : (node : ℕ) (id : MsgId) (s u v : Growth) (a b : Bool) → FiresIfItRuns node id s a u
+    → FiresIfItRuns node id s b v
     → (a ≡ b) × (u ≡ v)
 one_timer node id s u v a b (inl (runs, did, holds)) (inl (run, does, also)) =
     (holds ∙ sym also, one_act s u v (act.Timer node id) did does)
@@ -92,7 +98,8 @@ one_timer node id s u v a b (inl (runs, did, holds)) (inr (not_runs, same, fails
 one_timer node id s u v a b (inr (not_runs, same, fails)) (inl (runs, did, holds)) = absurd (not_runs runs)
 one_timer node id s u v a b (inr (not_runs, same, fails)) (inr (not_run, is, none)) = (fails ∙ sym none, same ∙ sym is)
 
-one_fire_at : (node : ℕ) (ids : List MsgId) (s u v : Growth) (a b : Bool) → FireAt node ids s a u → FireAt node ids s b v
+one_fire_at : (node : ℕ) (ids : List MsgId) (s u v : Growth) (a b : Bool) → FireAt node ids s a u
+    → FireAt node ids s b v
     → (a ≡ b) × (u ≡ v)
 one_fire_at node [] s u v a b (is, fails) (same, none) = (fails ∙ sym none, is ∙ sym same)
 one_fire_at node (id ∷ ids) s u v a b (first, others, t, fires, more, is) (one, rest, x, fire, mores, same) =
@@ -105,7 +112,8 @@ one_fire_each : (nodes : List ℕ) (ids : List MsgId) (s u v : Growth) (a b : Bo
 one_fire_each [] ids s u v a b (is, fails) (same, none) = (fails ∙ sym none, is ∙ sym same)
 one_fire_each (node ∷ nodes) ids s u v a b (first, others, t, fires, more, is) (one, rest, x, fire, mores, same) =
     let head = one_fire_at node ids s x t one first fire fires in
-    let tail = one_fire_each nodes ids t u v others rest more (subst (λ g. FireAtEach nodes ids g rest v) head.1 mores) in
+    let tail = one_fire_each nodes ids t u v others rest more (subst (λ g. FireAtEach nodes ids g rest v) head.1
+    mores) in
     (is ∙ (ap₂ (λ p q. p || q) (sym head.0) tail.0 ∙ sym same), tail.1)
 
 one_fire : (ids : List MsgId) (s u v : Growth) (a b : Bool) → Fire ids s a u → Fire ids s b v → (a ≡ b) × (u ≡ v)
@@ -115,15 +123,27 @@ one_fire ids s u v a b (live, are, each) (those, lives, all) =
 one_times : (rules : TurnRules) (ids : List MsgId) (n m : ℕ) (s u v : Growth) → FireTimes rules ids n s u
     → FireTimes rules ids m s v → u ≡ v
 one_times rules ids zero zero s u v a b = (one_fire ids s u v false false a b).1
-one_times rules ids zero (suc m) s u v a (x, y, fires, out, more) = absurd (let fails = (one_fire ids s u x false true a fires).0 in cc)
-one_times rules ids (suc n) zero s u v (x, y, fires, out, more) b = absurd (let fails = (one_fire ids s v x false true b fires).0 in cc)
+one_times rules ids zero (suc m) s u v a (x, y, fires, out, more) =
+    absurd (let fails = (one_fire ids s u x false true a fires).0 in cc)
+one_times rules ids (suc n) zero s u v (x, y, fires, out, more) b =
+    absurd (let fails = (one_fire ids s v x false true b fires).0 in cc)
 one_times rules ids (suc n) (suc m) s u v (t, w, fires, out, more) (x, y, fire, ends, others) =
     let first : x ≡ t = (one_fire ids s x t true true fire fires).1 in
     let then : y ≡ w = one_run_out rules t y w (subst (λ g. RunOut rules g y) first ends) out in
     one_times rules ids n m w u v more (subst (λ g. FireTimes rules ids m g v) then others)
 
-pub one_broadcasts : (rules : TurnRules) (n : ℕ) (s u v : Growth) → Broadcasts rules n s u → Broadcasts rules n s v → u ≡ v
-one_broadcasts rules n s u v (live, ids, t, w, are, begin, out, (k, times)) (those, also, x, y, lives, begins, ends, (m, fires)) =
+pub one_broadcasts : (rules : TurnRules) (n : ℕ) (s u v : Growth) → Broadcasts rules n s u → Broadcasts rules n s v
+    → u ≡ v
+one_broadcasts rules n s u v (live, ids, t, w, are, begin, out, (k, times)) (
+  those,
+  also,
+  x,
+  y,
+  lives,
+  begins,
+  ends,
+  (m, fires),
+) =
     let first = one_beginning live n s x t also ids
     (subst (λ xs. BroadcastsBegin xs n s also x) (one_live s those live lives are) begins) begin in
     let then : y ≡ w = one_run_out rules t y w (subst (λ g. RunOut rules g y) first.1 ends) out in
@@ -137,7 +157,8 @@ one_cut_of (Split c) (Split d) same = same.cut
 one_cut_of (Linked k) (Split d) same = absurd same
 one_cut_of (Split c) (Linked l) same = absurd same
 
-one_cut : (journal : List Entry) (m : ℕ) (cut also : List ℕ) → IsCutAt journal m cut → IsCutAt journal m also → cut ≡ also
+one_cut : (journal : List Entry) (m : ℕ) (cut also : List ℕ) → IsCutAt journal m cut → IsCutAt journal m also
+    → cut ≡ also
 one_cut journal m cut also (g, c, links, answer, is) (h, d, other, another, same) =
     let graph : h ≡ g = links_one journal m h g other links in
     is ∙ (one_cut_of c d (one_answer g g.nodes c d links.graph answer
@@ -158,13 +179,15 @@ one_analysis moment also s u v (t, did, is, writes) (x, does, same, wrote) =
     let at : moment ≡ also = is ∙ (ap (λ g. length g.world.journal) (sym one) ∙ sym same) in (
       at,
       one_write t u v (analysis_line moment) writes
-          (subst (λ g. Writes g (analysis_line moment) v) one (subst (λ m. Writes x (analysis_line m) v) (sym at) wrote)),
+          (subst (λ g. Writes g (analysis_line moment) v) one (subst (λ m. Writes x (analysis_line m) v) (sym at)
+          wrote)),
     )
 
 same_phase : (p q : Phase) → p.moment ≡ q.moment → p.deliveries ≡ q.deliveries → p ≡ q
 same_phase p q moment deliveries = ap₂ (λ m d. record { moment = m; deliveries = d }) moment deliveries
 
-one_ending : (rules : TurnRules) (n : ℕ) (s u v : Growth) (p q : Phase) → EndsPhase rules n s p u → EndsPhase rules n s q v
+one_ending : (rules : TurnRules) (n : ℕ) (s u v : Growth) (p q : Phase) → EndsPhase rules n s p u
+    → EndsPhase rules n s q v
     → (p ≡ q) × (u ≡ v)
 one_ending rules n s u v p q (t, analysed, broadcasts, count) (x, also, others, counts) =
     let first = one_analysis q.moment p.moment s x t also analysed in
@@ -174,10 +197,20 @@ one_ending rules n s u v p q (t, analysed, broadcasts, count) (x, also, others, 
       last,
     )
 
-one_birth : (rules : TurnRules) (pace id n : ℕ) (s u v : Growth) → Births rules pace id n s u → Births rules pace id n s v
+one_birth : (rules : TurnRules) (pace id n : ℕ) (s u v : Growth) → Births rules pace id n s u
+    → Births rules pace id n s v
     → u ≡ v
 one_birth rules pace id zero s u v a b = a ∙ sym b
-one_birth rules pace id (suc n) s u v (place, t, w, z, turns, chooses, did, more) (spot, x, y, r, also, chose, does, others) =
+one_birth rules pace id (suc n) s u v (place, t, w, z, turns, chooses, did, more) (
+  spot,
+  x,
+  y,
+  r,
+  also,
+  chose,
+  does,
+  others,
+) =
     let first : x ≡ t = one_turns rules pace s x t also turns in
     let then = one_choice (id - 1) spot place t y w (subst (λ g. Chooses (id - 1) g spot y) first chose) chooses in
     let last : r ≡ z = one_act w r z (act.Boot id (Some (1 + place)))
@@ -193,10 +226,12 @@ one_join o s u v (t, w, z, says, did, births, out) (x, y, r, said, does, born, e
     (subst (λ g. Births (joining o) (turns_between o.pace) 2 (o.nodes - 1) g r) then born) births in
     one_run_out (joining o) z u v out (subst (λ g. RunOut (joining o) g v) next ends)
 
-pub one_settling : (o : GrowOptions) (s u v : Growth) (p q : Phase) → Settle o s p u → Settle o s q v → (p ≡ q) × (u ≡ v)
+pub one_settling : (o : GrowOptions) (s u v : Growth) (p q : Phase) → Settle o s p u → Settle o s q v
+    → (p ≡ q) × (u ≡ v)
 one_settling o s u v p q (t, w, says, rounds, ends) (x, y, said, also, end) =
     let first : x ≡ t = one_write s x t (comment_line (codes "settle")) said says in
-    let then : y ≡ w = one_rounds (settling o) o.rounds t y w (subst (λ g. Rounds (settling o) o.rounds g y) first also) rounds in
+    let then : y ≡ w = one_rounds (settling o) o.rounds t y w (subst (λ g. Rounds (settling o) o.rounds g y) first
+    also) rounds in
     one_ending (settling o) o.broadcasts w u v p q ends
     (subst (λ g. EndsPhase (settling o) o.broadcasts g q v) then end)
 
@@ -223,8 +258,10 @@ one_first s node crashed other gone a b =
 
 one_reports : (rules : TurnRules) (n m : ℕ) (s u v : Growth) → ReportTimes rules n s u → ReportTimes rules m s v → u ≡ v
 one_reports rules zero zero s u v a b = a.1 ∙ sym b.1
-one_reports rules zero (suc m) s u v a (node, crashed, x, y, first, did, out, more) = absurd (a.0 node crashed first.has)
-one_reports rules (suc n) zero s u v (node, crashed, t, w, first, did, out, more) b = absurd (b.0 node crashed first.has)
+one_reports rules zero (suc m) s u v a (node, crashed, x, y, first, did, out, more) =
+    absurd (a.0 node crashed first.has)
+one_reports rules (suc n) zero s u v (node, crashed, t, w, first, did, out, more) b =
+    absurd (b.0 node crashed first.has)
 one_reports rules (suc n) (suc m) s u v (node, crashed, t, w, first, did, out, more)
     (other, gone, x, y, is, does, ends, others) =
     let who = one_first s other gone node crashed is first in
@@ -247,7 +284,8 @@ one_healing o s u v p q (t, w, k, says, (n, reports), rounds, ends) (x, y, l, sa
 pub one_growth : OneGrowth
 one_growth o text other world beside settled crashed healed settles crashes heals g h =
     let first : h.s ≡ g.s = one_join o (beginning o) h.s g.s h.join g.join in
-    let second = one_settling o g.s h.t g.t settles settled (subst (λ x. Settle o x settles h.t) first h.settle) g.settle in
+    let second = one_settling o g.s h.t g.t settles settled (subst (λ x. Settle o x settles h.t) first h.settle)
+    g.settle in
     let third = one_crash o settled.moment g.t h.v g.v crashes crashed
     (subst (λ x. CrashNodes o settled.moment x crashes h.v) second.1
     (subst (λ p. CrashNodes o p.moment h.t crashes h.v) second.0 h.crash)) g.crash in

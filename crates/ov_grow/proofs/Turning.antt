@@ -1,5 +1,6 @@
 -- Turns of packets.
-use Rattle.std.proofs.Common.{◌≡◌, ◌<◌, ◌≤◌, ◌+◌, ℕ, zero, suc, Bool, true, false, List, [], ◌∷◌, ◌++◌, length, Option, Some, None, refl, sym, ap, subst, ◌∙◌, inl, inr, ◌⊎◌, arith, length-append}
+use Rattle.std.proofs.Common.{◌≡◌, ◌<◌, ◌≤◌, ◌+◌, ℕ, zero, suc, Bool, true, false, List, [], ◌∷◌, ◌++◌, length}
+use Rattle.std.proofs.Common.{Option, Some, None, refl, sym, ap, subst, ◌∙◌, inl, inr, ◌⊎◌, arith, length-append}
 use Rattle.std.specs.Prelude.{MatchBool, slice_get}
 use Rattle.std.proofs.lemmas.Option.{none-some, slice_get_cases}
 use Rattle.ov_ids.proofs.Stepping.{step_none}
@@ -13,7 +14,8 @@ use Rattle.ov_script.specs.declared.act.Act.TheVariants as act
 use Rattle.ov_grow_options.specs.declared.options.Order.{Order}
 use Rattle.ov_grow_options.specs.declared.options.Order.TheVariants.{Random, Oldest}
 use Rattle.ov_grow.specs.Growth.{Growth, Does, Tries}
-use Rattle.ov_grow.specs.Turns.{Arrives, HasFailed, HasNoPackets, IsDelivered, IsTurnOf, MayBeRepeated, RunOut, SenderIsTold, Turn, TurnsUpTo}
+use Rattle.ov_grow.specs.Turns.{Arrives, HasFailed, HasNoPackets, IsDelivered, IsTurnOf, MayBeRepeated, RunOut}
+use Rattle.ov_grow.specs.Turns.{SenderIsTold, Turn, TurnsUpTo}
 use Rattle.ov_grow.specs.declared.turn_rules.TurnRules.{TurnRules}
 
 -- how many entries the journal has
@@ -52,10 +54,12 @@ pub longer_from : (s t u : Growth) → t.world ≡ s.world → Longer t u → Lo
 longer_from s t u same a = record { more = subst (λ w. length w.journal < entries u) same a.more; most = a.most }
 
 pub told_as_long : (b s u : Growth) (place : ℕ) → SenderIsTold b place s u → AsLong s u
-told_as_long b s u place (packet, at, inl (failed, did)) = inr (does_longer s u (act.CrashReport packet.1.from packet.0) did)
+told_as_long b s u place (packet, at, inl (failed, did)) =
+    inr (does_longer s u (act.CrashReport packet.1.from packet.0) did)
 told_as_long b s u place (packet, at, inr (fine, same)) = inl same
 
-told_or_not : (b s u : Growth) (place : ℕ) (tells : Bool) → MatchBool tells (SenderIsTold b place s u) (u ≡ s) → AsLong s u
+told_or_not : (b s u : Growth) (place : ℕ) (tells : Bool) → MatchBool tells (SenderIsTold b place s u) (u ≡ s)
+    → AsLong s u
 told_or_not b s u place true told = told_as_long b s u place told
 told_or_not b s u place false same = inl same
 
@@ -63,7 +67,8 @@ delivered_longer : (rules : TurnRules) (place : ℕ) (s u : Growth) → IsDelive
 delivered_longer rules place s u (t, did, told) =
     longer_by s t u (does_longer s t (act.Deliver place) did) (told_or_not s t u place rules.tells_crashes told)
 
-repeated_longer : (rules : TurnRules) (place : ℕ) (s u w : Growth) → MayBeRepeated rules place s u → Longer u w → Longer s w
+repeated_longer : (rules : TurnRules) (place : ℕ) (s u w : Growth) → MayBeRepeated rules place s u → Longer u w
+    → Longer s w
 repeated_longer rules place s u w (true, t, tries, did) more =
     longer_from s t w (ap (λ g. g.world) tries.1) (longer_trans t u w (does_longer t u (act.Repeat place) did) more)
 repeated_longer rules place s u w (false, t, tries, same) more =
@@ -82,7 +87,8 @@ whose_same Oldest place s t whose = ap (λ g. g.world) whose.1
 
 pub turn_longer : (rules : TurnRules) (s u : Growth) → Turn rules s u → Longer s u
 turn_longer rules s u (place, lost, t, v, whose, tries, rest) =
-    longer_from s v u (ap (λ g. g.world) tries.1 ∙ whose_same rules.order place s t whose) (lost_or_not rules place v u lost rest)
+    longer_from s v u (ap (λ g. g.world) tries.1 ∙ whose_same rules.order place s t whose) (lost_or_not rules place
+    v u lost rest)
 
 pub turns_as_long : (rules : TurnRules) (n : ℕ) (s u : Growth) → TurnsUpTo rules n s u → AsLong s u
 turns_as_long rules zero s u same = inl same

@@ -1,5 +1,6 @@
 -- What calls in turn give.
-use Rattle.std.proofs.Common.{◌≡◌, ◌<◌, ◌≤◌, ◌+◌, ◌-◌, ℕ, zero, suc, Bool, true, false, List, [], ◌∷◌, length, drop, get_or, Option, Some, None, refl, sym, ap, subst, ◌∙◌, inl, inr, arith}
+use Rattle.std.proofs.Common.{◌≡◌, ◌<◌, ◌≤◌, ◌+◌, ◌-◌, ℕ, zero, suc, Bool, true, false, List, [], ◌∷◌, length, drop}
+use Rattle.std.proofs.Common.{get_or, Option, Some, None, refl, sym, ap, subst, ◌∙◌, inl, inr, arith}
 use Rattle.std.specs.Prelude.{codes}
 use Rattle.rand_pcg.specs.Lcg.{Lcg}
 use Rattle.ov_ids.specs.declared.id.MsgId.{MsgId}
@@ -21,7 +22,8 @@ use Rattle.ov_grow.specs.declared.growing.Growing.{Growing}
 use Rattle.ov_grow.specs.declared.phase.Phase.{Phase}
 use Rattle.ov_grow.specs.declared.turn_rules.TurnRules.{TurnRules}
 use Rattle.ov_grow.proofs.Going.{chosen, goes_as, goes_on, goes_still, kept_trans, tried}
-use Rattle.ov_grow.proofs.Turning.{AsLong, Longer, as_long_by, delivered, does_longer, entries, longer_by, not_repeated, repeated}
+use Rattle.ov_grow.proofs.Turning.{AsLong, Longer, as_long_by, delivered, does_longer, entries, longer_by}
+use Rattle.ov_grow.proofs.Turning.{not_repeated, repeated}
 use Rattle.ov_grow.proofs.Turning.{run_out_as_long, run_out_more, turn_arrives, turn_lost}
 use Rattle.ov_grow.proofs.Telling.{delivered_and_told}
 use Rattle.ov_grow.proofs.Broadcasting.{LongerIf, broadcasts_more, as_long_if, fire_longer, fire_longer_if, timers_more}
@@ -43,7 +45,8 @@ pub arrives_goes : (rules : TurnRules) (place n : ℕ) (lost : Bool) (b t u : Gr
     → n ≡ rules.loss → lost ≡ comes_true n t.choices → left ≡ after_chance n t.choices → lost ≡ false
     → Goes (Arrives rules place) (record t { choices = left }) u → Goes (Turn rules) b u
 arrives_goes rules place n lost b t u left whose same value rest fails gone = record {
-  way = turn_arrives rules place lost (growth_of b) (growth_of t) (growth_of (record t { choices = left })) (growth_of u)
+  way = turn_arrives rules place lost (growth_of b) (growth_of t) (growth_of (record t { choices = left }))
+      (growth_of u)
       fails whose.way (tried t rules.loss n lost left same value rest).way gone.way;
   kept = kept_trans b.recording.core t.recording.core u.recording.core whose.kept gone.kept;
 }
@@ -136,7 +139,8 @@ broadcasts_goes rules n live nodes ids messages b t v u are same names begin out
       (kept_trans t.recording.core v.recording.core u.recording.core out.kept fires.kept);
 }
 
-begin_as_long : (nodes : List ℕ) (n : ℕ) (s u : Growth) (ids : List MsgId) → BroadcastsBegin nodes n s ids u → AsLong s u
+begin_as_long : (nodes : List ℕ) (n : ℕ) (s u : Growth) (ids : List MsgId) → BroadcastsBegin nodes n s ids u
+    → AsLong s u
 begin_as_long nodes zero s u ids (none, same) = inl same
 begin_as_long nodes (suc n) s u ids (place, node, id, later, t, v, chooses, at, (p, lives, is, did), names, more) =
     let first : Longer t v = does_longer t v (act.Broadcast node) did in
@@ -241,7 +245,8 @@ settle_goes o rules n k phase b t v u by many each says rounds ends = record {
 -- nodes crash
 pub crash_goes : (o : GrowOptions) (settled : ℕ) (rules : TurnRules) (k : ℕ) (nodes those : List ℕ) (phase : Phase)
     (b t v w u : Growing) → rules ≡ settling o → k ≡ o.broadcasts → those ≡ nodes
-    → Goes (λ s x. Writes s (comment_line (codes "crash")) x) b t → Goes (λ s x. AreToCrash o.crash settled s nodes x) t v
+    → Goes (λ s x. Writes s (comment_line (codes "crash")) x) b t → Goes (λ s x. AreToCrash o.crash settled s nodes
+    x) t v
     → Goes (DoesEach act.Crash those) v w → Goes (λ s x. EndsPhase rules k s phase x) w u
     → Goes (λ s x. CrashNodes o settled s phase x) b u
 crash_goes o settled rules k nodes those phase b t v w u by each same says are all ends = record {
@@ -263,7 +268,8 @@ crash_goes o settled rules k nodes those phase b t v w u by each same says are a
 
 -- one crash report more
 pub reports_goes : (rules : TurnRules) (node crashed : ℕ) (b t v u : Growing) → AreFirst (growth_of b) node crashed
-    → Goes (λ s x. Does s (act.CrashReport node crashed) x) b t → Goes (RunOut rules) t v → Goes (ReportCrashes rules) v u
+    → Goes (λ s x. Does s (act.CrashReport node crashed) x) b t → Goes (RunOut rules) t v → Goes (ReportCrashes
+    rules) v u
     → Goes (ReportCrashes rules) b u
 reports_goes rules node crashed b t v u first did out more = record {
   way = (suc more.way.0, (node, crashed, growth_of t, growth_of v, first, did.way, out.way, more.way.1));

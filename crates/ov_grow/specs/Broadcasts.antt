@@ -1,5 +1,6 @@
 -- Broadcasts, and the timers of their messages. s is before, and u after. Chosen here.
-use Rattle.std.specs.Prelude.{◌≡◌, ◌⊎◌, ℕ, zero, suc, Bool, true, false, ◌||◌, IsTrue, List, [], ◌∷◌, length, slice_get, Some}
+use Rattle.std.specs.Prelude.{◌≡◌, ◌⊎◌, ℕ, zero, suc, Bool, true, false, ◌||◌, IsTrue, List, [], ◌∷◌, length}
+use Rattle.std.specs.Prelude.{slice_get, Some}
 use Rattle.std.specs.FinSet as set
 use Rattle.ov_ids.specs.declared.id.MsgId.{MsgId}
 use Rattle.ov_peer.specs.PeerState.{PeerState}

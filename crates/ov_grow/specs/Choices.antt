@@ -1,5 +1,7 @@
--- The choices of growing. They are drawn from a generator of their own, so they are no choices of the nodes. Chosen here.
-use Rattle.std.specs.Prelude.{◌≡◌, ℕ, ◌%◌, ◌-◌, ◌^◌, Bool, false, ◌==◌, if◌then◌else◌, List, [], ◌∷◌, length, slice_get, Some, nat_lt}
+-- The choices of growing. They are drawn from a generator of their own, so they are no choices of the nodes. Chosen
+-- here.
+use Rattle.std.specs.Prelude.{◌≡◌, ℕ, ◌%◌, ◌-◌, ◌^◌, Bool, false, ◌==◌, if◌then◌else◌, List, [], ◌∷◌, length}
+use Rattle.std.specs.Prelude.{slice_get, Some, nat_lt}
 use Rattle.std.specs.List.{remove}
 use Rattle.rand_core.specs.Pcg32Seed.{pcg32_seed}
 use Rattle.rand_pcg.specs.Lcg.{Lcg}
@@ -30,7 +32,8 @@ comes_true p choices = if p == 0 then false else nat_lt (next_number choices % 1
 abbrev pub after_chance : ℕ → Lcg → Lcg
 after_chance p choices = if p == 0 then choices else later choices
 
--- a random order of a list: again and again one of those that are left is chosen, which keep their order. `after` are the
+-- a random order of a list: again and again one of those that are left is chosen, which keep their order. `after` are
+-- the
 -- choices that are left
 abbrev pub IsRandomOrder : List ℕ → List ℕ → Lcg → Lcg → Type 0
 IsRandomOrder ids [] before after = (ids ≡ []) × (after ≡ before)

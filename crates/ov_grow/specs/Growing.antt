@@ -9,7 +9,8 @@ use Rattle.ov_grow.specs.Growth.{Growth}
 use Rattle.ov_grow.specs.Phases.{Join, Settle, CrashNodes, Heal}
 use Rattle.ov_grow.specs.declared.phase.Phase.{Phase}
 
--- where growing begins: with the command as a comment, the parameters and the seed, and a world in which nothing happened
+-- where growing begins: with the command as a comment, the parameters and the seed, and a world in which nothing
+-- happened
 abbrev pub beginning : GrowOptions → Growth
 beginning o = record {
   text = opening (command_line o) o.params o.seed;

@@ -1,5 +1,6 @@
 -- The phases of growing. s is before, and u after. Chosen here.
-use Rattle.std.specs.Prelude.{◌≡◌, ◌↔◌, ℕ, zero, suc, ◌+◌, ◌-◌, ◌*◌, ◌/◌, ◌≤◌, List, [], ◌∷◌, length, take, drop, Option, Some, None, codes, count_by, is_some, true, false}
+use Rattle.std.specs.Prelude.{◌≡◌, ◌↔◌, ℕ, zero, suc, ◌+◌, ◌-◌, ◌*◌, ◌/◌, ◌≤◌, List, [], ◌∷◌, length, take, drop}
+use Rattle.std.specs.Prelude.{Option, Some, None, codes, count_by, is_some, true, false}
 use Rattle.ov_ids.specs.Members.{Has}
 use Rattle.ov_graph.specs.Links.{LinkGraph}
 use Rattle.ov_peer.specs.PeerState.{PeerState}
@@ -30,7 +31,8 @@ abbrev pub IsAnalysedAt : ℕ → Growth → Growth → Type 0
 IsAnalysedAt moment s u =
     (t : Growth) × Does s act.Snapshot t × (moment ≡ length t.world.journal) × Writes t (analysis_line moment) u
 
--- a phase ends: a snapshot is taken and analysed, and there are so many broadcasts. The deliveries of the phase are those
+-- a phase ends: a snapshot is taken and analysed, and there are so many broadcasts. The deliveries of the phase are
+-- those
 -- after the snapshot
 abbrev pub EndsPhase : TurnRules → ℕ → Growth → Phase → Growth → Type 0
 EndsPhase rules broadcasts s phase u =
@@ -56,7 +58,8 @@ abbrev pub turns_between : Option ℕ → ℕ
 turns_between None = 1000
 turns_between (Some pace) = pace
 
--- so many nodes are born, the first of them with this id. There are turns before each birth, and its contact is one of the
+-- so many nodes are born, the first of them with this id. There are turns before each birth, and its contact is one
+-- of the
 -- nodes before it
 abbrev pub Births : TurnRules → ℕ → ℕ → ℕ → Growth → Growth → Type 0
 Births rules pace id zero s u = u ≡ s
@@ -128,7 +131,8 @@ pub record AreFirst (s : Growth) (node crashed : ℕ) : Type 0 where
 abbrev pub HasNone : Growth → Type 0
 HasNone s = (a b : ℕ) → ¬ IsCrashedNeighbour s a b
 
--- so many crash reports, one after the other, and then no live node has a crashed node in its active view: the first live
+-- so many crash reports, one after the other, and then no live node has a crashed node in its active view: the first
+-- live
 -- node that has one gets the report of the first such, and then packets run out
 abbrev pub ReportTimes : TurnRules → ℕ → Growth → Growth → Type 0
 ReportTimes rules zero s u = HasNone s × (u ≡ s)

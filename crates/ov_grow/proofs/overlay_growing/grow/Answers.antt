@@ -20,12 +20,14 @@ returns-clause-grows c = record {
 }
 
 pub returns-clause-settled : goal.returns-clause-settled
-returns-clause-settled c = reported c.heal.new.self.recording.core _ c.in_ok-settled.settled.moment c.finish-text.ensures.core
+returns-clause-settled c =
+    reported c.heal.new.self.recording.core _ c.in_ok-settled.settled.moment c.finish-text.ensures.core
     (answered_kept c.crash.new.self.recording.core c.heal.new.self.recording.core _ c.in_ok-healed.ensures.goes.kept
     (answered_kept c.settle.new.self.recording.core c.crash.new.self.recording.core _ c.in_ok-crashed.ensures.goes.kept
     c.in_ok-settled.ensures.answered))
 
 pub returns-clause-crashed : goal.returns-clause-crashed
-returns-clause-crashed c = reported c.heal.new.self.recording.core _ c.in_ok-crashed.crashed.moment c.finish-text.ensures.core
+returns-clause-crashed c =
+    reported c.heal.new.self.recording.core _ c.in_ok-crashed.crashed.moment c.finish-text.ensures.core
     (answered_kept c.crash.new.self.recording.core c.heal.new.self.recording.core _ c.in_ok-healed.ensures.goes.kept
     c.in_ok-crashed.ensures.answered)

@@ -4,7 +4,8 @@ use Rattle.ov_grow.proofs.Analysing.{analysis_answered, analysis_goes, somebody_
 use Rattle.ov_grow.proofs.growing.Growing.analyse.Goals as goal
 
 pub returns-clause-answered : goal.returns-clause-answered
-returns-clause-answered c = analysis_answered _ _ _ c.in_ok-analyse.ensures.analysed.0 c.in_ok-analyse.ensures.analysed.1
+returns-clause-answered c =
+    analysis_answered _ _ _ c.in_ok-analyse.ensures.analysed.0 c.in_ok-analyse.ensures.analysed.1
 
 pub returns-clause-goes : goal.returns-clause-goes
 returns-clause-goes c =

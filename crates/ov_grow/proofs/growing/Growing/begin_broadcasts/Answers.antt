@@ -23,7 +23,8 @@ loop-broadcast-preserved c = λ rest u more.
 pub returns : goal.returns
 returns c =
     let none : c.args.count - c.loop-broadcast._broadcast ≡ 0 = omega arith in
-    subst (λ xs. Goes (λ s v. BroadcastsBegin c.args.nodes.now c.args.count s xs v) c.args.self.now c.loop-broadcast.self)
+    subst (λ xs. Goes (λ s v. BroadcastsBegin c.args.nodes.now c.args.count s xs v) c.args.self.now
+    c.loop-broadcast.self)
     (append-nil c.loop-broadcast.messages.items)
     (c.loop-broadcast.invariant [] c.loop-broadcast.self
     (goes_still _ _ (broadcasts_end c.args.nodes.now _ (growth_of c.loop-broadcast.self) none)))

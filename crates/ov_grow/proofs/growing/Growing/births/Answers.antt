@@ -10,7 +10,8 @@ loop-id-preserved c = λ u more.
     let contact : c.new-in-loop-id.result ≡ 1 + c.one_of.result = c.new-in-loop-id.ensures in
     c.loop-id.invariant u (births_more c.args.rules.now c.args.pace c.loop-id.id (c.args.nodes + 1 - c.loop-id.id)
     (c.args.nodes + 1 - (c.loop-id.id + 1)) c.one_of.result c.new.result c.new-in-loop-id.result c.loop-id.self
-    c.turns.new.self (record c.turns.new.self { choices = c.one_of.new.self }) c.act.new.self u one c.in_ok-turns.ensures
+    c.turns.new.self (record c.turns.new.self { choices = c.one_of.new.self }) c.act.new.self u one
+    c.in_ok-turns.ensures
     (chosen c.turns.new.self (c.loop-id.id - 1) (c.loop-id.id - 1) c.one_of.result c.one_of.new.self refl
     c.one_of.ensures.value c.one_of.ensures.left) refl c.new.ensures contact c.in_ok-act.ensures more)
 
@@ -18,4 +19,5 @@ pub returns : goal.returns
 returns c =
     let none : c.args.nodes + 1 - c.loop-id.id ≡ 0 = omega arith in
     c.loop-id.invariant c.loop-id.self (goes_still _ _
-    (births_end c.args.rules.now c.args.pace c.loop-id.id (c.args.nodes + 1 - c.loop-id.id) (growth_of c.loop-id.self) none))
+    (births_end c.args.rules.now c.args.pace c.loop-id.id (c.args.nodes + 1 - c.loop-id.id) (growth_of
+    c.loop-id.self) none))

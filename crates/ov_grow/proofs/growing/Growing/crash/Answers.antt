@@ -11,7 +11,8 @@ to_crash-requires c = answered_kept c.args.self.now.recording.core c.comment.new
 
 pub returns-clause-goes : goal.returns-clause-goes
 returns-clause-goes c = IfOk-weaker c.end_phase.result
-    (λ phase. Goes (λ s u. EndsPhase c.settling-rules.result c.count.result s phase u) c.crash_each.new.self c.end_phase.new.self)
+    (λ phase. Goes (λ s u. EndsPhase c.settling-rules.result c.count.result s phase u) c.crash_each.new.self
+    c.end_phase.new.self)
     (λ phase. Goes (λ s u. CrashNodes c.args.options.now c.args.settled s phase u) c.args.self.now c.end_phase.new.self)
     (λ phase ends. crash_goes c.args.options.now c.args.settled c.settling-rules.result c.count.result
     c.in_ok-nodes.nodes.items c.deref.result.now phase c.args.self.now c.comment.new.self c.to_crash.new.self

@@ -21,7 +21,8 @@ returns c = λ within. (
   (
     subst (λ a. IsGone c.args.self.now.recording.core.world.net a) c.to-receiver.ensures
         (c.has_crashed.ensures.0 c.if-not-has_crashed.false),
-    subst (λ a. IsLive (growth_of c.args.self.now) a) c.in_ok-sender.ensures (c.is_live.ensures.0 c.if-not-is_live.false),
+    subst (λ a. IsLive (growth_of c.args.self.now) a) c.in_ok-sender.ensures (c.is_live.ensures.0
+        c.if-not-is_live.false),
   ),
   c.in_ok-sender.ensures,
   c.to-receiver.ensures,

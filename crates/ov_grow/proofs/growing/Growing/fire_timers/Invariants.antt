@@ -7,7 +7,8 @@ use Rattle.ov_grow.specs.Broadcasts.{TimersFire}
 
 abbrev pub invariant-loop-self : goal.invariant-loop-self
 invariant-loop-self l =
-    (u : Growing) → Goes (TimersFire l.rules l.messages) l.self u → Goes (TimersFire l.rules l.messages) l.initial.self u
+    (u : Growing) → Goes (TimersFire l.rules l.messages) l.self u → Goes (TimersFire l.rules l.messages)
+    l.initial.self u
 
 abbrev pub decreases-loop-self : goal.decreases-loop-self
 decreases-loop-self l = most_entries - length l.self.recording.core.world.journal

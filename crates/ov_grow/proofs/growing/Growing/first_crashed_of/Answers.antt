@@ -5,7 +5,8 @@ use Rattle.ov_grow.proofs.growing.Growing.first_crashed_of.Goals as goal
 pub returns-then-has_crashed-clause-some : goal.returns-then-has_crashed-clause-some
 returns-then-has_crashed-clause-some c =
     let within : c.loop-node.node-index < length c.args.nodes.now = omega arith in
-    first_found _ _ _ _ within (is_item _ _ _ within c.node-item.is) c.requires c.loop-node.invariant (c.has_crashed.ensures.0 c.if-has_crashed.true)
+    first_found _ _ _ _ within (is_item _ _ _ within c.node-item.is) c.requires c.loop-node.invariant
+    (c.has_crashed.ensures.0 c.if-has_crashed.true)
 
 pub loop-node-preserved : goal.loop-node-preserved
 loop-node-preserved c =

@@ -17,7 +17,8 @@ loop-turn-preserved c = λ u more.
     let some : 0 < c.packets.result = omega (arith, c.if-packets-eq0.false) in
     let one : c.args.most - c.loop-turn._turn ≡ suc (c.args.most - (c.loop-turn._turn + 1)) = omega arith in
     c.loop-turn.invariant u (goes_on _ _ _ _ _ _
-    (λ turn rest. turns_more c.args.rules.now _ _ (growth_of c.loop-turn.self) (growth_of c.turn.new.self) (growth_of u) one
+    (λ turn rest. turns_more c.args.rules.now _ _ (growth_of c.loop-turn.self) (growth_of c.turn.new.self)
+    (growth_of u) one
     (some_left c.packets.result (growth_of c.loop-turn.self) c.packets.ensures.value some) turn rest)
     c.in_ok-turn.ensures more)
 

@@ -6,4 +6,5 @@ use Rattle.ov_grow.specs.Turns.{TurnsUpTo}
 
 abbrev pub invariant-loop-turn : goal.invariant-loop-turn
 invariant-loop-turn l =
-    (u : Growing) → Goes (TurnsUpTo l.rules (l.most - l._turn)) l.self u → Goes (TurnsUpTo l.rules l.most) l.initial.self u
+    (u : Growing) → Goes (TurnsUpTo l.rules (l.most - l._turn)) l.self u → Goes (TurnsUpTo l.rules l.most)
+    l.initial.self u
