@@ -1,0 +1,145 @@
+-- Broadcasts and timers.
+use Rattle.std.proofs.Common.{◌≡◌, ◌<◌, ◌≤◌, ◌+◌, ℕ, zero, suc, Bool, true, false, ◌||◌, IsTrue, List, [], ◌∷◌, ◌++◌}
+use Rattle.std.proofs.Common.{length, drop, get_or, refl, sym, subst, ap, arith, ◌∙◌, inl, inr, ◌⊎◌}
+use Rattle.std.proofs.lemmas.Option.{slice_get_read}
+use Rattle.std.proofs.Math.Seq.{drop-cons}
+use Rattle.std.specs.Prelude.{slice_get, Some}
+use Rattle.ov_ids.specs.declared.id.MsgId.{MsgId}
+use Rattle.ov_net.specs.Net.{LivesAs}
+use Rattle.ov_peer.specs.PeerState.{PeerState}
+use Rattle.ov_script.specs.declared.act.Act.TheVariants as act
+use Rattle.ov_grow.specs.Growth.{Growth, Does, Chooses, AreLive}
+use Rattle.ov_grow.specs.Turns.{RunOut}
+use Rattle.ov_grow.specs.Broadcasts.{BroadcastBy, BroadcastsBegin, Fire, FireAt, FireAtEach, FireTimes, FiresIfItRuns}
+use Rattle.ov_grow.specs.Broadcasts.{TimersFire}
+use Rattle.ov_grow.specs.declared.turn_rules.TurnRules.{TurnRules}
+use Rattle.ov_ids.specs.Members.{Has}
+use Rattle.ov_grow.proofs.Rounding.{drop_past}
+use Rattle.ov_grow.proofs.Turning.{Longer, AsLong, as_long_by, longer_by, does_longer}
+
+-- the next broadcast
+pub broadcasts_more : (nodes : List ℕ) (n m place node : ℕ) (id : MsgId) (later : List MsgId) (s t v u : Growth)
+    → n ≡ suc m → Chooses (length nodes) s place t → place < length nodes → node ≡ get_or nodes place node
+    → BroadcastBy node t id v → BroadcastsBegin nodes m v later u
+    → BroadcastsBegin nodes n s (id ∷ later) u
+broadcasts_more nodes n m place node id later s t v u one chooses within is by more =
+    subst (λ k. BroadcastsBegin nodes k s (id ∷ later) u) (sym one) (
+      place,
+      node,
+      id,
+      later,
+      t,
+      v,
+      chooses,
+      slice_get_read nodes (length nodes) place node refl within is,
+      by,
+      refl,
+      more,
+    )
+
+pub broadcasts_end : (nodes : List ℕ) (n : ℕ) (s : Growth) → n ≡ 0 → BroadcastsBegin nodes n s [] s
+broadcasts_end nodes n s none = subst (λ k. BroadcastsBegin nodes k s [] s) (sym none) (refl, refl)
+
+-- a node that broadcasts lives, and the message has its next number
+pub broadcast_by : (node made : ℕ) (s u : Growth) → ((p : PeerState) → LivesAs s.world.net node p → made ≡ p.tree.made)
+    → Does s (act.Broadcast node) u → BroadcastBy node s (record { origin = node; seq = made }) u
+broadcast_by node made s u number did =
+    let takes = did.step.step.2 in
+    (takes.0, takes.1, ap (λ n. record { origin = node; seq = n }) (number takes.0 takes.1), did)
+
+-- timers of the next message
+pub fire_at_more : (node : ℕ) (ids : List MsgId) (i : ℕ) (id : MsgId) (first others : Bool) (s t u : Growth)
+    → i < length ids → id ≡ get_or ids i id → FiresIfItRuns node id s first t → FireAt node (drop (i + 1) ids) t
+    others u
+    → FireAt node (drop i ids) s (first || others) u
+fire_at_more node ids i id first others s t u within is fires more =
+    let after : i + 1 ≡ suc i = omega arith in
+    subst (λ xs. FireAt node xs s (first || others) u) (sym (drop-cons ids i id within ∙ ap (λ x. x ∷ drop (suc i)
+    ids) (sym is)))
+    (first, others, t, fires, subst (λ k. FireAt node (drop k ids) t others u) after more, refl)
+
+-- timers at the next node
+pub fire_each_more : (nodes : List ℕ) (ids : List MsgId) (i node : ℕ) (first others : Bool) (s t u : Growth)
+    → i < length nodes → node ≡ get_or nodes i node → FireAt node ids s first t
+    → FireAtEach (drop (i + 1) nodes) ids t others u
+    → FireAtEach (drop i nodes) ids s (first || others) u
+fire_each_more nodes ids i node first others s t u within is fires more =
+    let after : i + 1 ≡ suc i = omega arith in
+    subst (λ xs. FireAtEach xs ids s (first || others) u) (sym (drop-cons nodes i node within ∙ ap (λ x. x ∷ drop
+    (suc i) nodes) (sym is)))
+    (first, others, t, fires, subst (λ k. FireAtEach (drop k nodes) ids t others u) after more, refl)
+
+-- timers fired, and packets ran out
+pub timers_more : (rules : TurnRules) (ids : List MsgId) (s t v u : Growth) → Fire ids s true t → RunOut rules t v
+    → TimersFire rules ids v u → TimersFire rules ids s u
+timers_more rules ids s t v u fires out (n, times) = (suc n, (t, v, fires, out, times))
+
+pub timers_end : (rules : TurnRules) (ids : List MsgId) (s u : Growth) → Fire ids s false u → TimersFire rules ids s u
+timers_end rules ids s u none = (0, none)
+
+-- the journal is longer if a timer fired
+abbrev pub LongerIf : Bool → Growth → Growth → Type 0
+LongerIf true s u = Longer s u
+LongerIf false s u = AsLong s u
+
+pub as_long_if : (fired : Bool) (s u : Growth) → LongerIf fired s u → AsLong s u
+as_long_if true s u longer = inr longer
+as_long_if false s u as_long = as_long
+
+or_longer : (first others : Bool) (s t u : Growth) → LongerIf first s t → LongerIf others t u
+    → LongerIf (first || others) s u
+or_longer true others s t u one two = longer_by s t u one (as_long_if others t u two)
+or_longer false true s t u (inl same) two = subst (λ x. Longer x u) same two
+or_longer false true s t u (inr one) two = longer_by s t u one (inr two)
+or_longer false false s t u one two = as_long_by s t u one two
+
+fires_longer : (node : ℕ) (id : MsgId) (s u : Growth) (fired : Bool) → FiresIfItRuns node id s fired u
+    → LongerIf fired s u
+fires_longer node id s u fired (inl (runs, did, holds)) =
+    subst (λ b. LongerIf b s u) (sym holds) (does_longer s u (act.Timer node id) did)
+fires_longer node id s u fired (inr (not_runs, same, fails)) = subst (λ b. LongerIf b s u) (sym fails) (inl same)
+
+fire_at_longer : (node : ℕ) (ids : List MsgId) (s u : Growth) (fired : Bool) → FireAt node ids s fired u
+    → LongerIf fired s u
+fire_at_longer node [] s u fired (same, fails) = subst (λ b. LongerIf b s u) (sym fails) (inl same)
+fire_at_longer node (id ∷ ids) s u fired (first, others, t, fires, more, is) =
+    subst (λ b. LongerIf b s u) (sym is)
+    (or_longer first others s t u (fires_longer node id s t first fires) (fire_at_longer node ids t u others more))
+
+fire_each_longer : (nodes : List ℕ) (ids : List MsgId) (s u : Growth) (fired : Bool) → FireAtEach nodes ids s fired u
+    → LongerIf fired s u
+fire_each_longer [] ids s u fired (same, fails) = subst (λ b. LongerIf b s u) (sym fails) (inl same)
+fire_each_longer (node ∷ nodes) ids s u fired (first, others, t, fires, more, is) =
+    subst (λ b. LongerIf b s u) (sym is)
+    (or_longer first others s t u (fire_at_longer node ids s t first fires) (fire_each_longer nodes ids t u others
+    more))
+
+pub fire_longer_if : (ids : List MsgId) (s u : Growth) (fired : Bool) → Fire ids s fired u → LongerIf fired s u
+fire_longer_if ids s u fired (live, are, each) = fire_each_longer live ids s u fired each
+
+pub fire_longer : (ids : List MsgId) (s u : Growth) (fired : Bool) → fired ≡ true → Fire ids s fired u → Longer s u
+fire_longer ids s u fired holds (live, are, each) =
+    subst (λ b. LongerIf b s u) holds (fire_each_longer live ids s u fired each)
+
+-- no message is left
+pub fire_at_end : (node : ℕ) (ids : List MsgId) (i : ℕ) (s : Growth) → length ids ≤ i
+    → FireAt node (drop i ids) s false s
+fire_at_end node ids i s past = subst (λ xs. FireAt node xs s false s) (sym (drop_past ids i past)) (refl, refl)
+
+-- no node is left
+pub fire_each_end : (nodes : List ℕ) (ids : List MsgId) (i : ℕ) (s : Growth) → length nodes ≤ i
+    → FireAtEach (drop i nodes) ids s false s
+fire_each_end nodes ids i s past = subst (λ xs. FireAtEach xs ids s false s) (sym (drop_past nodes i past)) (refl, refl)
+
+pub or_assoc : (a b c : Bool) → (a || (b || c)) ≡ ((a || b) || c)
+or_assoc true b c = refl
+or_assoc false b c = refl
+
+pub or_none : (a : Bool) → (a || false) ≡ a
+or_none true = refl
+or_none false = refl
+
+-- who has a member has some
+pub has_some : (xs : List ℕ) (a : ℕ) → Has xs a → 0 < length xs
+has_some [] a has = absurd has
+has_some (x ∷ xs) a has = omega arith

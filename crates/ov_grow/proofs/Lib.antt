@@ -1,0 +1,13 @@
+pub mod Ordering
+pub mod Turning
+pub mod Rounding
+pub mod Broadcasting
+pub mod Living
+pub mod Healing
+pub mod Going
+pub mod Telling
+pub mod Acting
+pub mod Analysing
+pub mod Ways
+pub mod OneGrowth
+pub mod OnePhase

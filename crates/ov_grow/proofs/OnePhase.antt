@@ -1,0 +1,298 @@
+-- Rounds, broadcasts and phases have one outcome each.
+use Rattle.std.proofs.Common.{arith, ◌≤◌, ◌≡◌, ℕ, zero, suc, ◌+◌, ◌-◌, ◌*◌, ◌/◌, Bool, true, false, ◌||◌, List, []}
+use Rattle.std.proofs.Common.{◌∷◌, ◌++◌, length, take, drop, Option, Some, None, refl, sym, ap, ap₂, subst, ◌∙◌, inl}
+use Rattle.std.proofs.Common.{inr, ◌⊎◌}
+use Rattle.std.specs.Prelude.{slice_get, codes}
+use Rattle.std.proofs.lemmas.Option.{same_Some}
+use Rattle.rand_pcg.specs.Lcg.{Lcg}
+use Rattle.ov_ids.proofs.Members.{same_ascending}
+use Rattle.ov_ids.specs.declared.id.MsgId.{MsgId}
+use Rattle.ov_graph.specs.Links.{LinkGraph}
+use Rattle.ov_cert.specs.declared.cert.Cert.{Cert}
+use Rattle.ov_cert.specs.declared.cert.Cert.TheVariants.{Linked, Split}
+use Rattle.ov_even.proofs.EvenTest.Answering.{one_answer}
+use Rattle.ov_even.specs.Answer.{IsAnswer}
+use Rattle.ov_even.specs.Theorems.{AreAlike}
+use Rattle.ov_peer.specs.PeerState.{PeerState}
+use Rattle.ov_net.specs.declared.member.Member.TheVariants.{Live}
+use Rattle.ov_net.proofs.Links.OneGraph.{links_one}
+use Rattle.ov_net.specs.Journal.{AreLinks}
+use Rattle.ov_net.specs.declared.journal_entry_and_changes.Entry.{Entry}
+use Rattle.ov_grow_options.specs.declared.options.Crash.{Crash}
+use Rattle.ov_grow_options.specs.declared.options.Crash.TheVariants.{Share, Cut}
+use Rattle.ov_grow_options.specs.declared.options.GrowOptions.{GrowOptions}
+use Rattle.ov_script.specs.declared.act.Act.{Act}
+use Rattle.ov_script.specs.declared.act.Act.TheVariants as act
+use Rattle.ov_script.specs.WrittenLines.{analysis_line, comment_line}
+use Rattle.ov_grow.specs.Choices.{IsRandomOrder}
+use Rattle.ov_grow.specs.Growth.{Growth, AreLive, Chooses, Does, Writes}
+use Rattle.ov_grow.specs.Turns.{RunOut, TurnsUpTo}
+use Rattle.ov_grow.specs.Rounds.{AreLiveInOrder, DoesEach, Round, Rounds}
+use Rattle.ov_grow.specs.Broadcasts.{BroadcastBy, Broadcasts, BroadcastsBegin, Fire, FireAt, FireAtEach, FireTimes}
+use Rattle.ov_grow.specs.Broadcasts.{FiresIfItRuns, TimersFire}
+use Rattle.ov_grow.specs.Phases.{AreFirst, AreToCrash, Births, CrashNodes, EndsPhase, Heal, IsAnalysedAt, IsCutAt, Join}
+use Rattle.ov_grow.specs.Phases.{HasNone, IsCrashedNeighbour, ReportCrashes, ReportTimes, Settle, cut_of}
+use Rattle.ov_grow.specs.Phases.{deliveries_in, healing, joining, settling}
+use Rattle.ov_grow.specs.Phases.{turns_between}
+use Rattle.ov_grow.specs.Growing.{Grows, OneGrowth, beginning}
+use Rattle.ov_grow.specs.declared.phase.Phase.{Phase}
+use Rattle.ov_grow.specs.declared.turn_rules.TurnRules.{TurnRules}
+use Rattle.ov_grow.proofs.OneGrowth.{one_act, one_choice, one_live, one_order, one_run_out, one_turns, one_write}
+
+pub one_each : (what : ℕ → Act) (nodes : List ℕ) (s u v : Growth) → DoesEach what nodes s u
+    → DoesEach what nodes s v → u ≡ v
+one_each what [] s u v a b = a ∙ sym b
+one_each what (node ∷ more) s u v (t, did, rest) (x, also, others) =
+    one_each what more t u v rest (subst (λ g. DoesEach what more g v) (one_act s x t (what node) also did) others)
+
+pub one_live_order : (s u v : Growth) (order also : List ℕ) → AreLiveInOrder s order u → AreLiveInOrder s also v
+    → (order ≡ also) × (u ≡ v)
+one_live_order s u v order also (live, after, are, orders, is) (those, left, lives, puts, same) =
+    let one = one_order live order also s.choices after left orders
+    (subst (λ xs. IsRandomOrder xs also s.choices left) (one_live s those live lives are) puts) in
+    (one.0, is ∙ (ap (λ c. record s { choices = c }) one.1 ∙ sym same))
+
+pub one_round : (rules : TurnRules) (s u v : Growth) → Round rules s u → Round rules s v → u ≡ v
+one_round rules s u v (order, t, w, lives, each, out) (also, x, y, those, all, ends) =
+    let one = one_live_order s x t also order those lives in
+    let same : y ≡ w = one_each act.Shuffle order t y w
+    (subst (λ g. DoesEach act.Shuffle order g y) one.1 (subst (λ xs. DoesEach act.Shuffle xs x y) one.0 all)) each in
+    one_run_out rules w u v out (subst (λ g. RunOut rules g v) same ends)
+
+pub one_rounds : (rules : TurnRules) (n : ℕ) (s u v : Growth) → Rounds rules n s u → Rounds rules n s v → u ≡ v
+one_rounds rules zero s u v a b = a ∙ sym b
+one_rounds rules (suc n) s u v (t, round, more) (x, also, others) =
+    one_rounds rules n t u v more (subst (λ g. Rounds rules n g v) (one_round rules s x t also round) others)
+
+-- a node has one state
+one_node : (p q : PeerState) → Some (Live p) ≡ Some (Live q) → p ≡ q
+one_node p q same = cc
+
+one_broadcast : (node : ℕ) (s u v : Growth) (id also : MsgId) → BroadcastBy node s id u → BroadcastBy node s also v
+    → (id ≡ also) × (u ≡ v)
+one_broadcast node s u v id also (p, lives, is, did) (q, live, same, does) = (
+  is ∙ (ap (λ m. record { origin = node; seq = m.tree.made }) (one_node p q (sym lives ∙ live)) ∙ sym same),
+  one_act s u v (act.Broadcast node) did does,
+)
+
+one_beginning : (nodes : List ℕ) (n : ℕ) (s u v : Growth) (ids also : List MsgId) → BroadcastsBegin nodes n s ids u
+    → BroadcastsBegin nodes n s also v → (ids ≡ also) × (u ≡ v)
+one_beginning nodes zero s u v ids also (none, is) (empty, same) = (none ∙ sym empty, is ∙ sym same)
+one_beginning nodes (suc n) s u v ids also (place, node, id, later, t, w, chooses, at, by, is, more)
+    (spot, other, one, rest, x, y, chose, there, bys, same, others) =
+    let choice = one_choice (length nodes) spot place s x t chose chooses in
+    let who : other ≡ node =
+    same_Some other node (sym there ∙ (ap (λ i. slice_get nodes i) choice.0 ∙ at)) in
+    let first = one_broadcast node t y w one id
+    (subst (λ g. BroadcastBy node g one y) choice.1 (subst (λ a. BroadcastBy a x one y) who bys)) by in
+    let last = one_beginning nodes n w u v later rest more
+    (subst (λ g. BroadcastsBegin nodes n g rest v) first.1 others) in
+    (is ∙ (ap₂ (λ a b. a ∷ b) (sym first.0) last.0 ∙ sym same), last.1)
+
+one_timer : (node : ℕ) (id : MsgId) (s u v : Growth) (a b : Bool) → FiresIfItRuns node id s a u
+    → FiresIfItRuns node id s b v
+    → (a ≡ b) × (u ≡ v)
+one_timer node id s u v a b (inl (runs, did, holds)) (inl (run, does, also)) =
+    (holds ∙ sym also, one_act s u v (act.Timer node id) did does)
+one_timer node id s u v a b (inl (runs, did, holds)) (inr (not_runs, same, fails)) = absurd (not_runs runs)
+one_timer node id s u v a b (inr (not_runs, same, fails)) (inl (runs, did, holds)) = absurd (not_runs runs)
+one_timer node id s u v a b (inr (not_runs, same, fails)) (inr (not_run, is, none)) = (fails ∙ sym none, same ∙ sym is)
+
+one_fire_at : (node : ℕ) (ids : List MsgId) (s u v : Growth) (a b : Bool) → FireAt node ids s a u
+    → FireAt node ids s b v
+    → (a ≡ b) × (u ≡ v)
+one_fire_at node [] s u v a b (is, fails) (same, none) = (fails ∙ sym none, is ∙ sym same)
+one_fire_at node (id ∷ ids) s u v a b (first, others, t, fires, more, is) (one, rest, x, fire, mores, same) =
+    let head = one_timer node id s x t one first fire fires in
+    let tail = one_fire_at node ids t u v others rest more (subst (λ g. FireAt node ids g rest v) head.1 mores) in
+    (is ∙ (ap₂ (λ p q. p || q) (sym head.0) tail.0 ∙ sym same), tail.1)
+
+one_fire_each : (nodes : List ℕ) (ids : List MsgId) (s u v : Growth) (a b : Bool) → FireAtEach nodes ids s a u
+    → FireAtEach nodes ids s b v → (a ≡ b) × (u ≡ v)
+one_fire_each [] ids s u v a b (is, fails) (same, none) = (fails ∙ sym none, is ∙ sym same)
+one_fire_each (node ∷ nodes) ids s u v a b (first, others, t, fires, more, is) (one, rest, x, fire, mores, same) =
+    let head = one_fire_at node ids s x t one first fire fires in
+    let tail = one_fire_each nodes ids t u v others rest more (subst (λ g. FireAtEach nodes ids g rest v) head.1
+    mores) in
+    (is ∙ (ap₂ (λ p q. p || q) (sym head.0) tail.0 ∙ sym same), tail.1)
+
+one_fire : (ids : List MsgId) (s u v : Growth) (a b : Bool) → Fire ids s a u → Fire ids s b v → (a ≡ b) × (u ≡ v)
+one_fire ids s u v a b (live, are, each) (those, lives, all) =
+    one_fire_each live ids s u v a b each (subst (λ xs. FireAtEach xs ids s b v) (one_live s those live lives are) all)
+
+one_times : (rules : TurnRules) (ids : List MsgId) (n m : ℕ) (s u v : Growth) → FireTimes rules ids n s u
+    → FireTimes rules ids m s v → u ≡ v
+one_times rules ids zero zero s u v a b = (one_fire ids s u v false false a b).1
+one_times rules ids zero (suc m) s u v a (x, y, fires, out, more) =
+    absurd (let fails = (one_fire ids s u x false true a fires).0 in cc)
+one_times rules ids (suc n) zero s u v (x, y, fires, out, more) b =
+    absurd (let fails = (one_fire ids s v x false true b fires).0 in cc)
+one_times rules ids (suc n) (suc m) s u v (t, w, fires, out, more) (x, y, fire, ends, others) =
+    let first : x ≡ t = (one_fire ids s x t true true fire fires).1 in
+    let then : y ≡ w = one_run_out rules t y w (subst (λ g. RunOut rules g y) first ends) out in
+    one_times rules ids n m w u v more (subst (λ g. FireTimes rules ids m g v) then others)
+
+pub one_broadcasts : (rules : TurnRules) (n : ℕ) (s u v : Growth) → Broadcasts rules n s u → Broadcasts rules n s v
+    → u ≡ v
+one_broadcasts rules n s u v (live, ids, t, w, are, begin, out, (k, times)) (
+  those,
+  also,
+  x,
+  y,
+  lives,
+  begins,
+  ends,
+  (m, fires),
+) =
+    let first = one_beginning live n s x t also ids
+    (subst (λ xs. BroadcastsBegin xs n s also x) (one_live s those live lives are) begins) begin in
+    let then : y ≡ w = one_run_out rules t y w (subst (λ g. RunOut rules g y) first.1 ends) out in
+    one_times rules ids k m w u v times
+    (subst (λ xs. FireTimes rules xs m w v) first.0 (subst (λ g. FireTimes rules also m g v) then fires))
+
+-- two certificates that agree name one cut
+one_cut_of : (c d : Cert) → AreAlike c d → cut_of c ≡ cut_of d
+one_cut_of (Linked k) (Linked l) same = refl
+one_cut_of (Split c) (Split d) same = same.cut
+one_cut_of (Linked k) (Split d) same = absurd same
+one_cut_of (Split c) (Linked l) same = absurd same
+
+one_cut : (journal : List Entry) (m : ℕ) (cut also : List ℕ) → IsCutAt journal m cut → IsCutAt journal m also
+    → cut ≡ also
+one_cut journal m cut also (g, c, links, answer, is) (h, d, other, another, same) =
+    let graph : h ≡ g = links_one journal m h g other links in
+    is ∙ (one_cut_of c d (one_answer g g.nodes c d links.graph answer
+    (subst (λ x. IsAnswer x x.nodes d) graph another)) ∙ sym same)
+
+one_to_crash : (crash : Crash) (m : ℕ) (s u v : Growth) (nodes also : List ℕ) → AreToCrash crash m s nodes u
+    → AreToCrash crash m s also v → (nodes ≡ also) × (u ≡ v)
+one_to_crash (Share share) m s u v nodes also (order, lives, is) (other, live, same) =
+    let one = one_live_order s u v order other lives live in
+    (is ∙ (ap (λ xs. take (length xs * share / 100) xs) one.0 ∙ sym same), one.1)
+one_to_crash Cut m s u v nodes also (cut, is) (other, same) =
+    (one_cut s.world.journal m nodes also cut other, is ∙ sym same)
+
+one_analysis : (moment also : ℕ) (s u v : Growth) → IsAnalysedAt moment s u → IsAnalysedAt also s v
+    → (moment ≡ also) × (u ≡ v)
+one_analysis moment also s u v (t, did, is, writes) (x, does, same, wrote) =
+    let one : x ≡ t = one_act s x t act.Snapshot does did in
+    let at : moment ≡ also = is ∙ (ap (λ g. length g.world.journal) (sym one) ∙ sym same) in (
+      at,
+      one_write t u v (analysis_line moment) writes
+          (subst (λ g. Writes g (analysis_line moment) v) one (subst (λ m. Writes x (analysis_line m) v) (sym at)
+          wrote)),
+    )
+
+same_phase : (p q : Phase) → p.moment ≡ q.moment → p.deliveries ≡ q.deliveries → p ≡ q
+same_phase p q moment deliveries = ap₂ (λ m d. record { moment = m; deliveries = d }) moment deliveries
+
+one_ending : (rules : TurnRules) (n : ℕ) (s u v : Growth) (p q : Phase) → EndsPhase rules n s p u
+    → EndsPhase rules n s q v
+    → (p ≡ q) × (u ≡ v)
+one_ending rules n s u v p q (t, analysed, broadcasts, count) (x, also, others, counts) =
+    let first = one_analysis q.moment p.moment s x t also analysed in
+    let last : u ≡ v = one_broadcasts rules n t u v broadcasts (subst (λ g. Broadcasts rules n g v) first.1 others) in (
+      same_phase p q (sym first.0)
+          (count ∙ (ap₂ (λ m g. deliveries_in (drop m g.world.journal)) (sym first.0) last ∙ sym counts)),
+      last,
+    )
+
+one_birth : (rules : TurnRules) (pace id n : ℕ) (s u v : Growth) → Births rules pace id n s u
+    → Births rules pace id n s v
+    → u ≡ v
+one_birth rules pace id zero s u v a b = a ∙ sym b
+one_birth rules pace id (suc n) s u v (place, t, w, z, turns, chooses, did, more) (
+  spot,
+  x,
+  y,
+  r,
+  also,
+  chose,
+  does,
+  others,
+) =
+    let first : x ≡ t = one_turns rules pace s x t also turns in
+    let then = one_choice (id - 1) spot place t y w (subst (λ g. Chooses (id - 1) g spot y) first chose) chooses in
+    let last : r ≡ z = one_act w r z (act.Boot id (Some (1 + place)))
+    (subst (λ g. Does g (act.Boot id (Some (1 + place))) r) then.1
+    (subst (λ i. Does y (act.Boot id (Some (1 + i))) r) then.0 does)) did in
+    one_birth rules pace (id + 1) n z u v more (subst (λ g. Births rules pace (id + 1) n g v) last others)
+
+pub one_join : (o : GrowOptions) (s u v : Growth) → Join o s u → Join o s v → u ≡ v
+one_join o s u v (t, w, z, says, did, births, out) (x, y, r, said, does, born, ends) =
+    let first : x ≡ t = one_write s x t (comment_line (codes "join")) said says in
+    let then : y ≡ w = one_act t y w (act.Boot 1 None) (subst (λ g. Does g (act.Boot 1 None) y) first does) did in
+    let next : r ≡ z = one_birth (joining o) (turns_between o.pace) 2 (o.nodes - 1) w r z
+    (subst (λ g. Births (joining o) (turns_between o.pace) 2 (o.nodes - 1) g r) then born) births in
+    one_run_out (joining o) z u v out (subst (λ g. RunOut (joining o) g v) next ends)
+
+pub one_settling : (o : GrowOptions) (s u v : Growth) (p q : Phase) → Settle o s p u → Settle o s q v
+    → (p ≡ q) × (u ≡ v)
+one_settling o s u v p q (t, w, says, rounds, ends) (x, y, said, also, end) =
+    let first : x ≡ t = one_write s x t (comment_line (codes "settle")) said says in
+    let then : y ≡ w = one_rounds (settling o) o.rounds t y w (subst (λ g. Rounds (settling o) o.rounds g y) first
+    also) rounds in
+    one_ending (settling o) o.broadcasts w u v p q ends
+    (subst (λ g. EndsPhase (settling o) o.broadcasts g q v) then end)
+
+pub one_crash : (o : GrowOptions) (m : ℕ) (s u v : Growth) (p q : Phase) → CrashNodes o m s p u → CrashNodes o m s q v
+    → (p ≡ q) × (u ≡ v)
+one_crash o m s u v p q (nodes, t, w, z, says, are, each, ends) (also, x, y, r, said, those, all, end) =
+    let first : x ≡ t = one_write s x t (comment_line (codes "crash")) said says in
+    let then = one_to_crash o.crash m t y w also nodes (subst (λ g. AreToCrash o.crash m g also y) first those) are in
+    let next : r ≡ z = one_each act.Crash nodes w r z
+    (subst (λ g. DoesEach act.Crash nodes g r) then.1 (subst (λ xs. DoesEach act.Crash xs y r) then.0 all)) each in
+    one_ending (settling o) o.broadcasts z u v p q ends
+    (subst (λ g. EndsPhase (settling o) o.broadcasts g q v) next end)
+
+-- whom the next report is for, and of whom
+one_first : (s : Growth) (node crashed other gone : ℕ) → AreFirst s node crashed → AreFirst s other gone
+    → (node ≡ other) × (crashed ≡ gone)
+one_first s node crashed other gone a b =
+    let below : node ≤ other = a.first_node other gone b.has in
+    let above : other ≤ node = b.first_node node crashed a.has in
+    let same : node ≡ other = omega (arith, below, above) in
+    let low : crashed ≤ gone = a.first_crashed gone (subst (λ n. IsCrashedNeighbour s n gone) (sym same) b.has) in
+    let high : gone ≤ crashed = b.first_crashed crashed (subst (λ n. IsCrashedNeighbour s n crashed) same a.has) in
+    (same, omega (arith, low, high))
+
+one_reports : (rules : TurnRules) (n m : ℕ) (s u v : Growth) → ReportTimes rules n s u → ReportTimes rules m s v → u ≡ v
+one_reports rules zero zero s u v a b = a.1 ∙ sym b.1
+one_reports rules zero (suc m) s u v a (node, crashed, x, y, first, did, out, more) =
+    absurd (a.0 node crashed first.has)
+one_reports rules (suc n) zero s u v (node, crashed, t, w, first, did, out, more) b =
+    absurd (b.0 node crashed first.has)
+one_reports rules (suc n) (suc m) s u v (node, crashed, t, w, first, did, out, more)
+    (other, gone, x, y, is, does, ends, others) =
+    let who = one_first s other gone node crashed is first in
+    let next : x ≡ t = one_act s x t (act.CrashReport node crashed)
+    (subst (λ b. Does s (act.CrashReport node b) x) who.1
+    (subst (λ a. Does s (act.CrashReport a gone) x) who.0 does)) did in
+    let then : y ≡ w = one_run_out rules t y w (subst (λ g. RunOut rules g y) next ends) out in
+    one_reports rules n m w u v more (subst (λ g. ReportTimes rules m g v) then others)
+
+pub one_healing : (o : GrowOptions) (s u v : Growth) (p q : Phase) → Heal o s p u → Heal o s q v → (p ≡ q) × (u ≡ v)
+one_healing o s u v p q (t, w, k, says, (n, reports), rounds, ends) (x, y, l, said, (m, also), others, end) =
+    let first : x ≡ t = one_write s x t (comment_line (codes "heal")) said says in
+    let then : y ≡ w =
+    one_reports (healing o) m n t y w (subst (λ g. ReportTimes (healing o) m g y) first also) reports in
+    let last : l ≡ k =
+    one_rounds (healing o) o.heal w l k (subst (λ g. Rounds (healing o) o.heal g l) then others) rounds in
+    one_ending (healing o) o.broadcasts k u v p q ends
+    (subst (λ g. EndsPhase (healing o) o.broadcasts g q v) last end)
+
+pub one_growth : OneGrowth
+one_growth o text other world beside settled crashed healed settles crashes heals g h =
+    let first : h.s ≡ g.s = one_join o (beginning o) h.s g.s h.join g.join in
+    let second = one_settling o g.s h.t g.t settles settled (subst (λ x. Settle o x settles h.t) first h.settle)
+    g.settle in
+    let third = one_crash o settled.moment g.t h.v g.v crashes crashed
+    (subst (λ x. CrashNodes o settled.moment x crashes h.v) second.1
+    (subst (λ p. CrashNodes o p.moment h.t crashes h.v) second.0 h.crash)) g.crash in
+    let fourth = one_healing o g.v h.u g.u heals healed (subst (λ x. Heal o x heals h.u) third.1 h.heal) g.heal in (
+      g.text_is ∙ (ap (λ x. x.text) (sym fourth.1) ∙ sym h.text_is),
+      g.world_is ∙ (ap (λ x. x.world) (sym fourth.1) ∙ sym h.world_is),
+      sym second.0,
+      sym third.0,
+      sym fourth.0,
+    )

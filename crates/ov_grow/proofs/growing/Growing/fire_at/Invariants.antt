@@ -1,0 +1,10 @@
+use Rattle.std.proofs.Common.{◌≡◌, ℕ, ◌+◌, ◌-◌, Bool, ◌||◌, List, ◌++◌, length, drop, take}
+use Rattle.ov_grow.specs.Code.Standing.{Goes, HaveNone}
+use Rattle.ov_grow.specs.declared.growing.Growing.{Growing}
+use Rattle.ov_grow.proofs.growing.Growing.fire_at.Given as goal
+use Rattle.ov_grow.specs.Broadcasts.{FireAt}
+
+abbrev pub invariant-loop-id : goal.invariant-loop-id
+invariant-loop-id l =
+    (others : Bool) (u : Growing) → Goes (λ s v. FireAt l.node (drop l.id-index l.messages) s others v) l.self u
+    → Goes (λ s v. FireAt l.node l.messages s (l.fired || others) v) l.initial.self u

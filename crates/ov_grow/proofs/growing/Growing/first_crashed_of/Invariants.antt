@@ -1,0 +1,8 @@
+use Rattle.std.proofs.Common.{◌≡◌, ℕ, ◌+◌, ◌-◌, Bool, ◌||◌, List, ◌++◌, length, drop, take}
+use Rattle.ov_grow.specs.Code.Standing.{Goes, HaveNone}
+use Rattle.ov_grow.specs.declared.growing.Growing.{Growing}
+use Rattle.ov_grow.proofs.growing.Growing.first_crashed_of.Given as goal
+use Rattle.ov_net.specs.Net.{IsGone}
+
+abbrev pub invariant-loop-node : goal.invariant-loop-node
+invariant-loop-node l = HaveNone (IsGone l.self.recording.core.world.net) (take l.node-index l.nodes)

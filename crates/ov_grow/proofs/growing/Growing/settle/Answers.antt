@@ -1,0 +1,15 @@
+use Rattle.std.proofs.lemmas.Result.{IfOk-weaker}
+use Rattle.ov_grow.specs.Phases.{EndsPhase, Settle}
+use Rattle.ov_grow.specs.Code.Standing.{Goes}
+use Rattle.ov_grow.proofs.Ways.{settle_goes}
+use Rattle.ov_grow.proofs.growing.Growing.settle.Goals as goal
+
+pub returns-clause-goes : goal.returns-clause-goes
+returns-clause-goes c = IfOk-weaker c.end_phase.result
+    (λ phase. Goes (λ s u. EndsPhase c.settling-rules.result c.count-2.result s phase u) c.rounds.new.self
+    c.end_phase.new.self)
+    (λ phase. Goes (λ s u. Settle c.args.options.now s phase u) c.args.self.now c.end_phase.new.self)
+    (λ phase ends. settle_goes c.args.options.now c.settling-rules.result c.count.result c.count-2.result phase
+    c.args.self.now c.comment.new.self c.rounds.new.self c.end_phase.new.self c.settling-rules.ensures
+    c.count.ensures.value c.count-2.ensures.value c.in_ok-comment.ensures c.in_ok-rounds.ensures ends)
+    c.end_phase.ensures.ends

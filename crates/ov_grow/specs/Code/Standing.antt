@@ -1,0 +1,48 @@
+-- Where growing stands, of the parts that the code keeps.
+use Rattle.std.specs.Prelude.{◌≡◌, ℕ, ◌≤◌, List, Option, Some, None, slice_get}
+use Rattle.ov_wire.specs.declared.message.Message.{Message}
+use Rattle.ov_ids.specs.Members.{Has}
+use Rattle.ov_even.specs.Answer.{IsAnswer}
+use Rattle.ov_snap.specs.CoreState.{CoreState, HasReportOfAll, KeepsReports}
+use Rattle.ov_snap.specs.ReportState.{ReportState}
+use Rattle.ov_script.specs.declared.act.Act.TheVariants as act
+use Rattle.ov_grow.specs.Growth.{Growth, Does}
+use Rattle.ov_grow.specs.Turns.{HasFailed}
+use Rattle.ov_grow.specs.declared.growing.Growing.{Growing}
+
+-- where growing stands
+abbrev pub growth_of : Growing → Growth
+growth_of g =
+    record { text = g.recording.script.text; world = g.recording.core.world; choices = g.choices }
+
+-- growing goes on in this way, and keeps the reports that are filed
+pub record Goes (Way : Growth → Growth → Type 0) (b u : Growing) : Type 0 where
+  pub way : Way (growth_of b) (growth_of u)
+  pub kept : KeepsReports b.recording.core u.recording.core
+
+-- a sender and a receiver of which the sender is told that the receiver crashed, or none
+abbrev pub IsTold : Option (ℕ × ℕ) → Growth → Growth → Type 0
+IsTold (Some (sender, receiver)) s u = Does s (act.CrashReport sender receiver) u
+IsTold None s u = u ≡ s
+
+-- the sender and the receiver of the packet at this place, if its connection fails
+abbrev pub Fails : Growth → ℕ → Option (ℕ × ℕ) → Type 0
+Fails s place (Some (sender, receiver)) =
+    (packet : ℕ × Message) × (slice_get s.world.net.packets place ≡ Some packet)
+    × HasFailed s packet × (sender ≡ packet.1.from) × (receiver ≡ packet.0)
+Fails s place None =
+    (packet : ℕ × Message) × (slice_get s.world.net.packets place ≡ Some packet) × (¬ HasFailed s packet)
+
+-- a report of all nodes of this moment is filed, and it has the answer of an analysis
+abbrev pub IsAnswered : CoreState → ℕ → Type 0
+IsAnswered b m = (r : ReportState) × HasReportOfAll b m r × IsAnswer r.graph r.members r.cert
+
+-- of these ids, which ascend, this is the first that has a property
+pub record IsFirstOf (P : ℕ → Type 0) (ids : List ℕ) (first : ℕ) : Type 0 where
+  pub has : Has ids first
+  pub holds : P first
+  pub least : (a : ℕ) → Has ids a → P a → first ≤ a
+
+-- none of these ids has a property
+abbrev pub HaveNone : (ℕ → Type 0) → List ℕ → Type 0
+HaveNone P ids = (a : ℕ) → Has ids a → ¬ P a

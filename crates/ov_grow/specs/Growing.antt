@@ -1,0 +1,41 @@
+-- How an overlay is grown, and that its options alone decide what is written. Chosen here.
+use Rattle.std.specs.Prelude.{◌≡◌, ℕ, List}
+use Rattle.ov_net.specs.World.{WorldState, opening_world}
+use Rattle.ov_script.specs.Scripts.{opening}
+use Rattle.ov_grow_options.specs.CommandLine.{command_line}
+use Rattle.ov_grow_options.specs.declared.options.GrowOptions.{GrowOptions}
+use Rattle.ov_grow.specs.Choices.{choices_of}
+use Rattle.ov_grow.specs.Growth.{Growth}
+use Rattle.ov_grow.specs.Phases.{Join, Settle, CrashNodes, Heal}
+use Rattle.ov_grow.specs.declared.phase.Phase.{Phase}
+
+-- where growing begins: with the command as a comment, the parameters and the seed, and a world in which nothing
+-- happened
+abbrev pub beginning : GrowOptions → Growth
+beginning o = record {
+  text = opening (command_line o) o.params o.seed;
+  world = opening_world o.params;
+  choices = choices_of o.seed;
+}
+
+-- with these options an overlay is grown by the scenario of this text, which makes this world: nodes join, the overlay
+-- settles, nodes crash, and the overlay heals
+pub record Grows (o : GrowOptions) (text : List ℕ) (world : WorldState) (settled crashed healed : Phase) : Type 0 where
+  pub s : Growth
+  pub t : Growth
+  pub v : Growth
+  pub u : Growth
+  pub join : Join o (beginning o) s
+  pub settle : Settle o s settled t
+  pub crash : CrashNodes o settled.moment t crashed v
+  pub heal : Heal o v healed u
+  pub text_is : text ≡ u.text
+  pub world_is : world ≡ u.world
+
+-- the options decide the text, the world and the phases: whatever two overlays are grown with them are the same
+abbrev pub OneGrowth : Type 0
+OneGrowth =
+    (o : GrowOptions) (text other : List ℕ) (world beside : WorldState)
+    (settled crashed healed settles crashes heals : Phase)
+    → Grows o text world settled crashed healed → Grows o other beside settles crashes heals
+    → (text ≡ other) × (world ≡ beside) × (settled ≡ settles) × (crashed ≡ crashes) × (healed ≡ heals)

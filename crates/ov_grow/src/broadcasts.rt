@@ -1,0 +1,121 @@
+ghost use Rattle.std.specs.Prelude.{◌≡◌, ◌<◌, ◌↔◌, ℕ, length, OnOk, IfOk, IsTrue};
+ghost use Rattle.ov_net.specs.Net.{LivesAs};
+ghost use Rattle.ov_peer.specs.PeerState.{PeerState};
+ghost use Rattle.ov_grow.specs.Broadcasts.{BroadcastBy, Broadcasts, BroadcastsBegin, Fire, FireAt, FireAtEach};
+ghost use Rattle.ov_grow.specs.Broadcasts.{FiresIfItRuns, TimerRuns, TimersFire};
+ghost use Rattle.ov_grow.specs.Growth.{IsLive};
+ghost use Rattle.ov_grow.specs.Code.Standing.{Goes, growth_of};
+
+use crate::fault::GrowFault;
+use crate::growing::Growing;
+use crate::turn_rules::TurnRules;
+use ov_ids::{MsgId, NodeId};
+use ov_script::Act;
+
+impl Growing {
+    /// So many broadcasts, until no packet is on its way and no timer of their messages runs. Some node must live.
+    pub(crate) fn broadcasts(&mut self, count: u32, rules: &TurnRules) -> Result<(), GrowFault>
+        requires { (a : ℕ) × IsLive (growth_of self.old) a }
+        ensures { OnOk result (Goes (Broadcasts rules.now count) self.old self.new) }
+    {
+        let live = self.live()?;
+        let messages = self.begin_broadcasts(&live, count)?;
+        self.run_out(rules)?;
+        self.fire_timers(&messages, rules)
+    }
+
+    /// So many times one of these nodes broadcasts. The messages are returned in order.
+    fn begin_broadcasts(&mut self, nodes: &[NodeId], count: u32) -> Result<Vec<MsgId>, GrowFault>
+        requires { 0 < length nodes.now }
+        ensures { IfOk result (λ ids. Goes (λ s u. BroadcastsBegin nodes.now count s ids.items u) self.old self.new) }
+    {
+        let mut messages = Vec::with_capacity(self.alloc, count as usize)?;
+        for _broadcast in 0..count {
+            let place = self.choices.one_of(nodes.len());
+            messages.push(self.broadcast(nodes[place])?)?;
+        }
+        Ok(messages)
+    }
+
+    /// A node broadcasts. The id of the message is returned.
+    fn broadcast(&mut self, node: NodeId) -> Result<MsgId, GrowFault>
+        ensures { IfOk result (λ id. Goes (λ s u. BroadcastBy node s id u) self.old self.new) }
+    {
+        let seq = self.made_by(node);
+        self.act(Act::Broadcast(node))?;
+        Ok(MsgId { origin: node, seq })
+    }
+
+    /// How many broadcasts a live node has made.
+    fn made_by(&self, node: NodeId) -> u32
+        ensures { (p : PeerState) → LivesAs self.now.recording.core.world.net node p → result ≡ p.tree.made }
+    {
+        match self.world().peer(node) {
+            Some(peer) => peer.made(),
+            None => 0,
+        }
+    }
+
+    /// Timers of these messages fire, again and again, until none runs.
+    fn fire_timers(&mut self, messages: &[MsgId], rules: &TurnRules) -> Result<(), GrowFault>
+        ensures { OnOk result (Goes (TimersFire rules.now messages.now) self.old self.new) }
+    {
+        while self.fire(messages)? {
+            self.run_out(rules)?;
+        }
+        Ok(())
+    }
+
+    /// Timers of these messages fire once. Whether one did.
+    fn fire(&mut self, messages: &[MsgId]) -> Result<bool, GrowFault>
+        ensures { IfOk result (λ fired. Goes (λ s u. Fire messages.now s fired u) self.old self.new) }
+    {
+        let live = self.live()?;
+        self.fire_at_each(&live, messages)
+    }
+
+    /// Timers of these messages fire once at each of these nodes. Whether one did.
+    fn fire_at_each(&mut self, nodes: &[NodeId], messages: &[MsgId]) -> Result<bool, GrowFault>
+        ensures { IfOk result (λ fired. Goes (λ s u. FireAtEach nodes.now messages.now s fired u) self.old self.new) }
+    {
+        let mut fired = false;
+        for node in nodes {
+            let more = self.fire_at(*node, messages)?;
+            fired |= more;
+        }
+        Ok(fired)
+    }
+
+    /// Timers of these messages fire once at a node. Whether one did.
+    fn fire_at(&mut self, node: NodeId, messages: &[MsgId]) -> Result<bool, GrowFault>
+        ensures { IfOk result (λ fired. Goes (λ s u. FireAt node messages.now s fired u) self.old self.new) }
+    {
+        let mut fired = false;
+        for id in messages {
+            let more = self.fire_if_it_runs(node, id)?;
+            fired |= more;
+        }
+        Ok(fired)
+    }
+
+    /// The timer of a message fires at a node if it runs. Whether it did.
+    fn fire_if_it_runs(&mut self, node: NodeId, id: &MsgId) -> Result<bool, GrowFault>
+        ensures { IfOk result (λ fired. Goes (λ s u. FiresIfItRuns node id.now s fired u) self.old self.new) }
+    {
+        if !self.timer_runs(node, id) {
+            return Ok(false);
+        }
+        self.act(Act::Timer(node, *id))?;
+        Ok(true)
+    }
+
+    /// Whether the timer of a message runs at a node.
+    fn timer_runs(&self, node: NodeId, id: &MsgId) -> bool
+        ensures { IsTrue result ↔ TimerRuns (growth_of self.now) node id.now }
+    {
+        match self.world().peer(node) {
+            Some(peer) => peer.has_timer(*id),
+            None => false,
+        }
+    }
+}

@@ -1,0 +1,112 @@
+ghost use Rattle.std.specs.Prelude.{◌≡◌, ◌≢◌, ◌<◌, ◌≤◌, ◌↔◌, length, IfOk, IfSome, IfNone, OnOk, IsTrue};
+ghost use Rattle.ov_net.specs.Limits.{most_packets};
+ghost use Rattle.ov_net.specs.Net.{IsGone};
+ghost use Rattle.ov_recording.specs.Replay.{Replays};
+ghost use Rattle.ov_script.specs.WrittenLines.{comment_line};
+ghost use Rattle.ov_grow.specs.Growth.{AreLive, Does, IsLive, Writes};
+ghost use Rattle.ov_grow.specs.Growing.{beginning};
+ghost use Rattle.ov_grow.specs.Code.Standing.{Goes, growth_of};
+
+use crate::choices::Choices;
+use crate::fault::GrowFault;
+use ov_grow_options::GrowOptions;
+use ov_ids::{NodeId, OutOfMemory};
+use ov_net::World;
+use ov_recording::{Recorded, Recording};
+use ov_script::Act;
+use std::alloc::Global;
+
+/// An overlay that grows: the recording of its steps so far, and the choices that are left.
+#[derive(Drop)]
+pub(crate) struct Growing {
+    pub(crate) alloc: Global,
+    pub(crate) recording: Recording,
+    pub(crate) choices: Choices,
+}
+
+impl Growing {
+    /// Nothing has happened. OutOfMemory (99) is returned if an allocation was refused.
+    pub(crate) fn new(alloc: Global, options: &GrowOptions) -> Result<Growing, OutOfMemory>
+        ensures begins { IfOk result (λ g. growth_of g ≡ beginning options.now) }
+    {
+        let heading = options.to_string(alloc)?;
+        let recording = Recording::new(alloc, options.params, options.seed, heading.as_str())?;
+        let choices = Choices::new(options.seed);
+        Ok(Growing {
+            alloc,
+            recording,
+            choices,
+        })
+    }
+
+    /// The world so far.
+    pub(crate) fn world(&self) -> &World
+        ensures { result.now ≡ self.now.recording.core.world }
+    {
+        self.recording.core().world()
+    }
+
+    /// How many packets are on their way.
+    pub(crate) fn packets(&self) -> usize
+        ensures value { result ≡ length self.now.recording.core.world.net.packets }
+        ensures few { result ≤ most_packets }
+    {
+        self.world().packets().len()
+    }
+
+    /// The live nodes, by ascending ids. OutOfMemory (99) is returned if an allocation was refused.
+    pub(crate) fn live(&self) -> Result<Vec<NodeId>, OutOfMemory>
+        ensures { IfOk result (λ ids. AreLive (growth_of self.now) ids.items) }
+    {
+        let _journal = self.world().journal();
+        Ok(self.world().graph().nodes().to_vec(self.alloc)?)
+    }
+
+    /// Whether a node lives.
+    pub(crate) fn is_live(&self, node: NodeId) -> bool
+        ensures { IsTrue result ↔ IsLive (growth_of self.now) node }
+    {
+        match self.world().peer(node) {
+            Some(_) => true,
+            None => false,
+        }
+    }
+
+    /// Whether a node was born and crashed.
+    pub(crate) fn has_crashed(&self, node: NodeId) -> bool
+        ensures { IsTrue result ↔ IsGone self.now.recording.core.world.net node }
+    {
+        self.world().born(node) && !self.is_live(node)
+    }
+
+    /// Does an act, and writes its line.
+    pub(crate) fn act(&mut self, act: Act) -> Result<(), GrowFault>
+        ensures { OnOk result (Goes (λ s u. Does s act u) self.old self.new) }
+    {
+        self.recording.act(act)?;
+        let _text = self.recording.text();
+        Ok(())
+    }
+
+    /// Writes a comment.
+    pub(crate) fn comment(&mut self, said: &str) -> Result<(), GrowFault>
+        ensures { OnOk result (Goes (λ s u. Writes s (comment_line said.now) u) self.old self.new) }
+    {
+        self.recording.comment(said)?;
+        Ok(())
+    }
+
+    /// The scenario of what happened, and the core that it makes.
+    pub(crate) fn finish(self) -> Recorded
+        ensures text { result.text.items ≡ self.recording.script.text }
+        ensures core { result.core ≡ self.recording.core }
+        ensures replays { Replays result.text.items result.core }
+    {
+        let Growing {
+            alloc: _,
+            recording,
+            choices: _,
+        } = self;
+        recording.finish()
+    }
+}

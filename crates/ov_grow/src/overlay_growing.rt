@@ -1,0 +1,67 @@
+ghost use Rattle.std.specs.Prelude.{◌≡◌, IfOk};
+ghost use Rattle.ov_snap.specs.CoreState.{HasReportOfAll};
+ghost use Rattle.ov_snap.specs.ReportState.{ReportState};
+ghost use Rattle.ov_recording.specs.Replay.{Replays};
+ghost use Rattle.ov_grow.specs.Growing.{Grows};
+
+use crate::fault::GrowFault;
+use crate::growing::Growing;
+use crate::phase::Phase;
+use ov_grow_options::GrowOptions;
+use ov_recording::Recorded;
+use ov_snap::Core;
+use std::alloc::Global;
+
+/// A grown overlay.
+pub struct Grown {
+    /// The scenario that makes it.
+    pub text: Vec<u8>,
+    /// The core that the scenario makes.
+    pub core: Core,
+    /// How the phase ended in which the overlay settled.
+    pub settled: Phase,
+    /// How the phase ended in which nodes crashed.
+    pub crashed: Phase,
+    /// How the phase ended in which the overlay healed.
+    pub healed: Phase,
+}
+
+impl Drop for Grown {
+    /// Drops the parts. It is written by hand since a call is proved faster than the same drops at each exit.
+    fn drop(self) {
+        let Grown {
+            text: _,
+            core: _,
+            settled: _,
+            crashed: _,
+            healed: _,
+        } = self;
+    }
+}
+
+/// Grows an overlay with these options: nodes join, the overlay settles, nodes crash, and the overlay heals. The text is
+/// a scenario that begins with the options' parameters and seed, and the core is the one that it makes, each line
+/// accepted. For the moment at the end of each phase a report of all nodes is filed. A fault (see `GrowFault`) ends
+/// growing, and nothing is returned. How an overlay is grown is chosen here.
+pub fn grow(alloc: Global, options: &GrowOptions) -> Result<Grown, GrowFault>
+    ensures grows { IfOk result
+        (λ g. Grows options.now g.text.items g.core.world g.settled g.crashed g.healed) }
+    ensures replays { IfOk result (λ g. Replays g.text.items g.core) }
+    ensures settled { IfOk result (λ g. (r : ReportState) × HasReportOfAll g.core g.settled.moment r) }
+    ensures crashed { IfOk result (λ g. (r : ReportState) × HasReportOfAll g.core g.crashed.moment r) }
+    ensures healed { IfOk result (λ g. (r : ReportState) × HasReportOfAll g.core g.healed.moment r) }
+{
+    let mut growing = Growing::new(alloc, options)?;
+    growing.join(options)?;
+    let settled = growing.settle(options)?;
+    let crashed = growing.crash(settled.moment, options)?;
+    let healed = growing.heal(options)?;
+    let Recorded { text, core } = growing.finish();
+    Ok(Grown {
+        text,
+        core,
+        settled,
+        crashed,
+        healed,
+    })
+}

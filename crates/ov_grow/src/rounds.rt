@@ -1,0 +1,49 @@
+ghost use Rattle.std.specs.Prelude.{OnOk, IfOk};
+ghost use Rattle.ov_script.specs.declared.act.Act.TheVariants as act;
+ghost use Rattle.ov_grow.specs.Rounds.{AreLiveInOrder, DoesEach, Round, Rounds};
+ghost use Rattle.ov_grow.specs.Code.Standing.{Goes};
+
+use crate::fault::GrowFault;
+use crate::growing::Growing;
+use crate::turn_rules::TurnRules;
+use ov_ids::{NodeId, OutOfMemory};
+use ov_script::Act;
+
+impl Growing {
+    /// So many rounds of shuffles.
+    pub(crate) fn rounds(&mut self, count: u32, rules: &TurnRules) -> Result<(), GrowFault>
+        ensures { OnOk result (Goes (Rounds rules.now count) self.old self.new) }
+    {
+        for _round in 0..count {
+            self.round(rules)?;
+        }
+        Ok(())
+    }
+
+    /// A round of shuffles.
+    fn round(&mut self, rules: &TurnRules) -> Result<(), GrowFault>
+        ensures { OnOk result (Goes (Round rules.now) self.old self.new) }
+    {
+        let order = self.live_in_order()?;
+        self.shuffle(&order)?;
+        self.run_out(rules)
+    }
+
+    /// The live nodes in a random order. OutOfMemory (99) is returned if an allocation was refused.
+    pub(crate) fn live_in_order(&mut self) -> Result<Vec<NodeId>, OutOfMemory>
+        ensures { IfOk result (λ order. Goes (λ s u. AreLiveInOrder s order.items u) self.old self.new) }
+    {
+        let live = self.live()?;
+        self.choices.order(self.alloc, &live)
+    }
+
+    /// Each of these nodes starts a shuffle.
+    fn shuffle(&mut self, nodes: &[NodeId]) -> Result<(), GrowFault>
+        ensures { OnOk result (Goes (DoesEach act.Shuffle nodes.now) self.old self.new) }
+    {
+        for node in nodes {
+            self.act(Act::Shuffle(*node))?;
+        }
+        Ok(())
+    }
+}
