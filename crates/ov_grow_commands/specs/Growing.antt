@@ -5,17 +5,19 @@ use Rattle.ov_grow_options.specs.declared.options.GrowOptions.{GrowOptions}
 use Rattle.ov_grow.specs.Growing.{Grows}
 use Rattle.ov_grow.specs.declared.phase.Phase.{Phase}
 use Rattle.ov_io.specs.Device.{AppendsPrefixOf}
-use Rattle.ov_net.specs.World.{WorldState}
+use Rattle.ov_recording.specs.Replay.{Replays}
+use Rattle.ov_snap.specs.CoreState.{CoreState}
 use Rattle.ov_grow_commands.specs.declared.growth_fault.GrowthFault.{GrowthFault}
 use Rattle.ov_grow_commands.specs.declared.growth_fault.GrowthFault.TheVariants as growth
 
--- with these options an overlay is grown by the scenario of this text
+-- with these options an overlay is grown by the scenario of this text, which replays its core
 pub record IsGrownBy (o : GrowOptions) (text : List ℕ) : Type 0 where
-  pub world : WorldState
+  pub core : CoreState
   pub settled : Phase
   pub crashed : Phase
   pub healed : Phase
-  pub grows : Grows o text world settled crashed healed
+  pub grows : Grows o text core.world settled crashed healed
+  pub replays : Replays text core
 
 -- what a writer took: all of such a text; a prefix of it, if writing failed; and nothing, if growing was refused
 abbrev pub WasPrinted : {W : Type 0} → GrowOptions → (W → Option (List ℕ)) → W → W → Result (Unit {0}) GrowthFault → Type 0

@@ -8,6 +8,7 @@ use Rattle.ov_snap.specs.ReportState.{ReportState, IsTrueReport}
 use Rattle.ov_grow_options.specs.declared.options.GrowOptions.{GrowOptions}
 use Rattle.ov_grow.specs.Growing.{Grows}
 use Rattle.ov_grow.specs.declared.phase.Phase.{Phase as GrownPhase}
+use Rattle.ov_recording.specs.Replay.{Replays}
 use Rattle.ov_sweep_rows.specs.Rows.{place_of}
 use Rattle.ov_sweep_rows.specs.declared.delivered_share.DeliveredShare.{DeliveredShare}
 use Rattle.ov_sweep_rows.specs.declared.row.Phase.{Phase}
@@ -53,8 +54,8 @@ pub record IsToldOf (c : CoreState) (ended : GrownPhase) (broadcasts : ℕ) (p :
 abbrev pub SaysOf : Row → Phase → PhaseRow → Type 0
 SaysOf row phase p = slice_get row.phases (place_of phase) ≡ Some p
 
--- the row of the overlay that is grown with the options o: there is a text by which it is grown, with its core, and what
--- the row says of each phase are the numbers of its report
+-- the row of the overlay that is grown with the options o: there is a text by which it is grown, which replays its core;
+-- and what the row says of each phase are the numbers of the report that the core files for it
 pub record IsRowOf (o : GrowOptions) (row : Row) : Type 0 where
   pub options : row.options ≡ o
   pub text : List ℕ
@@ -63,6 +64,7 @@ pub record IsRowOf (o : GrowOptions) (row : Row) : Type 0 where
   pub crashed : GrownPhase
   pub healed : GrownPhase
   pub grows : Grows o text core.world settled crashed healed
+  pub replays : Replays text core
   pub settle : (p : PhaseRow) × SaysOf row Settle p × IsToldOf core settled o.broadcasts p
   pub crash : (p : PhaseRow) × SaysOf row Crash p × IsToldOf core crashed o.broadcasts p
   pub heal : (p : PhaseRow) × SaysOf row Heal p × IsToldOf core healed o.broadcasts p

@@ -12,11 +12,12 @@ returns-in-Ok-write_all g c =
     let grown = c.in-Ok.grown in (
       grown.text.items,
       record {
-        world = grown.core.world;
+        core = grown.core;
         settled = grown.settled;
         crashed = grown.crashed;
         healed = grown.healed;
         grows = c.in-Ok.ensures.grows;
+        replays = c.in-Ok.ensures.replays;
       },
       subst (λ (text : List ℕ). Appends (g.W.Write.contents c.args.sink.now.writer) (g.W.Write.contents
           c.write_all.new.self.writer) text) c.deref.ensures.value c.in-Ok-write_all.ensures.bytes,
@@ -29,11 +30,12 @@ returns-in-Ok g c =
     c.write_all.new.self.writer (Err fault)) (sym c.told.ensures) (
       grown.text.items,
       record {
-        world = grown.core.world;
+        core = grown.core;
         settled = grown.settled;
         crashed = grown.crashed;
         healed = grown.healed;
         grows = c.in-Ok.ensures.grows;
+        replays = c.in-Ok.ensures.replays;
       },
       subst (λ (text : List ℕ). AppendsPrefixOf text (g.W.Write.contents c.args.sink.now.writer) (g.W.Write.contents
           c.write_all.new.self.writer)) c.deref.ensures.value c.write_all.ensures.prefix,

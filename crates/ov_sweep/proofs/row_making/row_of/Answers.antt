@@ -15,6 +15,7 @@ returns c =
       crashed = grown.crashed;
       healed = grown.healed;
       grows = c.in_ok-grown.ensures.grows;
+      replays = c.in_ok-grown.ensures.replays;
       settle = (
         c.row_after-settle.result,
         refl,
