@@ -102,7 +102,7 @@ def row(target, folder, seconds, runs, differing):
     last = ["git", "log", "-1", "--format=%h", "--abbrev=8", "--", HERE.parent.parent / "crates"]
     commit = subprocess.run(last, cwd=HERE, capture_output=True, text=True)
     crashes, hangs = said.get("saved_crashes", "0"), said.get("saved_hangs", "0")
-    rate = f"{seconds / 3600:.2f} | {runs:,} | {runs / seconds:,.0f}"
+    rate = f"{seconds / 3600:.3f} | {runs:,} | {runs / seconds:,.0f}"
     findings = f"{crashes} crashes, {hangs} hangs, {differing} differences"
     return f"| {date} | {commit.stdout.strip()} | {target} | {rate} | {said['corpus_count']} | {findings} |"
 
