@@ -9,7 +9,7 @@ from scenario_lines import MOST_WORKERS, Unreadable, ids, number
 
 # The options of each command, and what reads the value of those that have one.
 OPTIONS = {
-    "run": {"explain": None},
+    "run": {"explain": None, "progress": None},
     "analyse": {"group": ids, "workers": lambda word: workers(word), "certificate": None, "progress": None},
 }
 

@@ -1,14 +1,15 @@
 #!/usr/bin/env python3
 """fuzz.py --seconds N --overlay PROGRAM --overlay-check PROGRAM [--room FOLDER] [--loops FOLDER] [--processor P]
-TARGET..: one sitting.
+[--longest-run MS] TARGET..: one sitting.
 
 Fuzzes each target for N seconds, one after the other on one processor, beginning with the kept corpus, the examples and
 random inputs, and judges by judge.py what is found: afl-fuzz's queue, crashes and hangs. PROGRAM is a real program. The
 processor is the last one that may be used, or P: afl-fuzz and the program that it runs wait for each other, and are
-faster on one.
+faster on one. An input may take 2,000 milliseconds by the clock, or MS: where other work has the processor, take more.
 The programs that are fuzzed are built by `build` into FOLDER/loops if they are not there, or are those of --loops. All
 is laid into the room, `out` beside this script without --room; a target's queue of an earlier sitting there is gone on
-with. A line for the table of README.md is printed for each target. The status is 1 if an input differs.
+with, and what judge.py passed of it is not judged again. A line for the table of README.md is printed for each target.
+The status is 1 if an input differs.
 """
 
 import argparse
@@ -55,13 +56,13 @@ def used():
     return usage.ru_utime + usage.ru_stime
 
 
-def fuzz(target, program, room, seconds):
+def fuzz(target, program, room, seconds, longest_run):
     """Runs afl-fuzz for so long, and answers its folder."""
     beginning = room / "seeds" / target
     shutil.rmtree(beginning, ignore_errors=True)
     seeds.lay(target, beginning)
     found = room / target
-    command = ["afl-fuzz", "-i", beginning, "-o", found, "-V", str(seconds), "-t", str(LONGEST_RUN), "-m", "none",
+    command = ["afl-fuzz", "-i", beginning, "-o", found, "-V", str(seconds), "-t", str(longest_run), "-m", "none",
                "-G", str(seeds.LONGEST[target]), "-x", HERE / "words" / f"{target}.dict", "--", program, target]
     log = room / f"{target}.log"
     with open(log, "w") as told:
@@ -88,7 +89,7 @@ def judged(target, folder, given):
     """How many inputs differ, which judge.py prints."""
     paths = [it for it in (folder / "queue", folder / "crashes", folder / "hangs") if it.is_dir() and any(it.iterdir())]
     command = [HERE / "judge.py", "--overlay", given.overlay, "--overlay-check", given.overlay_check,
-               "--kept", given.room / "found", target, *paths]
+               "--kept", given.room / "found", "--passed", given.room / "passed", target, *paths]
     run = subprocess.run(command, capture_output=True, text=True)
     print(run.stdout, run.stderr, sep="", end="", flush=True)
     return sum(not line.startswith((" ", f"{target}: ")) for line in run.stdout.splitlines())
@@ -101,7 +102,7 @@ def row(target, folder, seconds, runs, differing):
     last = ["git", "log", "-1", "--format=%h", "--abbrev=8", "--", HERE.parent.parent / "crates"]
     commit = subprocess.run(last, cwd=HERE, capture_output=True, text=True)
     crashes, hangs = said.get("saved_crashes", "0"), said.get("saved_hangs", "0")
-    rate = f"{seconds / 3600:.2f} | {runs:,} | {runs / seconds:,.0f}"
+    rate = f"{seconds / 3600:.3f} | {runs:,} | {runs / seconds:,.0f}"
     findings = f"{crashes} crashes, {hangs} hangs, {differing} differences"
     return f"| {date} | {commit.stdout.strip()} | {target} | {rate} | {said['corpus_count']} | {findings} |"
 
@@ -110,7 +111,7 @@ def sit(target, given):
     """Fuzzes one target, and judges what is found: the line of the table, and how many inputs differ."""
     loop = loop_of(CRATES[target], given.loops or given.room / "loops")
     runs, seconds = runs_of(target, given.room), used()
-    folder = fuzz(target, loop, given.room, given.seconds)
+    folder = fuzz(target, loop, given.room, given.seconds, given.longest_run)
     runs, seconds = runs_of(target, given.room) - runs, used() - seconds
     differing = judged(target, folder, given)
     return row(target, folder, seconds, runs, differing), differing
@@ -124,6 +125,7 @@ def main():
     parser.add_argument("--room", type=pathlib.Path, default=HERE / "out", metavar="FOLDER")
     parser.add_argument("--loops", type=pathlib.Path, metavar="FOLDER")
     parser.add_argument("--processor", type=int, metavar="P")
+    parser.add_argument("--longest-run", type=int, default=LONGEST_RUN, metavar="MS")
     parser.add_argument("targets", choices=CASES, nargs="+", metavar="TARGET")
     given = parser.parse_args()
     os.sched_setaffinity(0, {max(os.sched_getaffinity(0)) if given.processor is None else given.processor})

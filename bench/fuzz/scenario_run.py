@@ -54,7 +54,7 @@ class State:
     """How far one run of a scenario has come.
 
     `printed` has what standard output gets, line by line. `refused` has the places in the file of the lines that were
-    refused, and `events` how many events were accepted and how many refused, both outside sections.
+    refused, in the order in which they are explained, and `events` how many events were accepted and how many refused.
     """
 
     def __init__(self, params):
@@ -81,6 +81,16 @@ class State:
             is_refused = True
         if kind in IS_EVENT:
             self.events[is_refused] += 1
+
+    def end_block(self, sections, done):
+        """Tells what came of the lines of a block with so many sections. The sections stand one behind the other in the
+        file, so that its refused lines are explained by their places."""
+        refused = sorted(line.place for line in done if line.is_refused)
+        self.printed.append(f"together {sections} accepted {len(done) - len(refused)} refused {len(refused)}")
+        self.refused += refused
+        for line in done:
+            if line.is_event:
+                self.events[line.is_refused] += 1
 
     def event(self, kind, given, words):
         """What the line of an accepted event prints."""
@@ -131,10 +141,14 @@ class State:
 
 
 def steps_of(lines):
-    """The steps of a section's lines: one of an event, and two of an analysis, which begins and is filed."""
+    """The steps of a section's lines, each with the line's place in the file: one of an event, and two of an analysis,
+    which begins and is filed."""
     steps = []
-    for said, words, _ in lines:
-        steps += [("begin", said[1]), ("file", said[1])] if said[0] == "analyse" else [(said[0], said[1:], words)]
+    for (kind, *given), words, place in lines:
+        if kind == "analyse":
+            steps += [(place, "begin", given[0]), (place, "file", given[0])]
+        else:
+            steps.append((place, kind, given, words))
     return tuple(steps)
 
 
@@ -146,33 +160,40 @@ def number_of_orders(sections):
     return count
 
 
+class Done:
+    """What came of a line of a section: its place in the file, whether it is an event, and whether it was refused."""
+
+    def __init__(self, place, is_event, is_refused):
+        self.place, self.is_event, self.is_refused = place, is_event, is_refused
+
+
 def take(state, steps):
-    """Takes the first step of a section: the steps that are left, and how many lines were accepted and refused."""
-    (kind, *given), *rest = steps
+    """Takes the first step of a section: the steps that are left, and the lines that are done by it, at most one."""
+    (place, kind, *given), *rest = steps
+    is_event = kind in IS_EVENT
     try:
         if kind == "begin":
             state.begin(*given)
-            return tuple(rest), 0, 0
-        if kind == "file":
-            state.file(*given, tuple(state.graph_of(*given).nodes))
-        else:
+            return tuple(rest), ()
+        if is_event:
             state.event(kind, *given)
+        else:
+            state.file(*given, tuple(state.graph_of(*given).nodes))
     except Refusal:
         # the analysis that could not begin is not filed
-        return tuple(rest[1:] if kind == "begin" else rest), 0, 1
-    return tuple(rest), 1, 0
+        return tuple(rest[1:] if kind == "begin" else rest), (Done(place, is_event, True),)
+    return tuple(rest), (Done(place, is_event, False),)
 
 
-def orders(state, sections, accepted=0, refused=0):
-    """Each state that an order of the sections' steps leads to, with how many lines were accepted and refused."""
+def orders(state, sections, done=()):
+    """Each state that an order of the sections' steps leads to, with what came of each line."""
     filled = [at for at, steps in enumerate(sections) if steps]
     if not filled:
-        yield state, accepted, refused
+        yield state, done
     for at in filled:
         branch = state if len(filled) == 1 else state.copy()
-        rest, more_accepted, more_refused = take(branch, sections[at])
-        left = [*sections[:at], rest, *sections[at + 1 :]]
-        yield from orders(branch, left, accepted + more_accepted, refused + more_refused)
+        rest, more = take(branch, sections[at])
+        yield from orders(branch, [*sections[:at], rest, *sections[at + 1 :]], (*done, *more))
 
 
 class Run:
@@ -217,9 +238,9 @@ class Run:
                 state.printed.append(SectionsLine(len(sections), count))
             return
         found = [it for state in self.states for it in orders(state, steps)]
-        for state, accepted, refused in found:
-            state.printed.append(f"together {len(sections)} accepted {accepted} refused {refused}")
-        self.states = [state for state, _, _ in found]
+        for state, done in found:
+            state.end_block(len(sections), done)
+        self.states = [state for state, _ in found]
 
 
 def guess(kind):

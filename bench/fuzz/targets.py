@@ -113,16 +113,22 @@ def certificate_cases(data):
     yield Case("overlay_check", [], data, Answer([line], status=status), one_line if status else nothing)
 
 
+def unlike_explained(lines, asked):
+    """What is wrong with the lines on standard error if they are to begin so, or None."""
+    if len(lines) != len(asked):
+        return f"standard error has {len(lines)} lines, and should have {len(asked)}"
+    told = next((pair for pair in zip(lines, asked) if not pair[0].startswith(pair[1])), None)
+    return told and f"standard error has {told[0]!r}, and should have {told[1]!r}"
+
+
 def explained(answer):
-    """What is wrong with the explanations on standard error, as a function of its bytes."""
+    """What is wrong with the explanations on standard error, as a function of its bytes. If several outputs are right,
+    they may be those of any."""
     def more(err):
         lines = err.decode(errors="backslashreplace").split("\n")[:-1]
-        asked = answer.explained
-        if len(lines) != len(asked):
-            return f"standard error has {len(lines)} lines, and should have {len(asked)}"
-        told = next((pair for pair in zip(lines, asked) if not pair[0].startswith(pair[1])), None)
-        return told and f"standard error has {told[0]!r}, and should have {told[1]!r}"
-    return None if answer.explained is None or answer.others else more
+        said = [unlike_explained(lines, it.explained) for it in (answer, *answer.others)]
+        return None if None in said else said[0]
+    return None if answer.explained is None else more
 
 
 def scenario_cases(data):
