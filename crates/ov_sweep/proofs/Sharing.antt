@@ -1,5 +1,6 @@
 -- The shares of workers, and what comes at a place of the batch.
-use Rattle.std.proofs.Common.{◌≡◌, ◌∙◌, ◌<◌, ◌≤◌, ◌+◌, ◌*◌, ◌++◌, ◌/◌, ◌%◌, ℕ, zero, suc, List, [], ◌∷◌, length, slice_get, get_or, Some, inl, inr, refl, sym, ap, subst, arith}
+use Rattle.std.proofs.Common.{◌≡◌, ◌∙◌, ◌<◌, ◌≤◌, ◌+◌, ◌*◌, ◌++◌, ◌/◌, ◌%◌, ℕ, zero, suc, List, [], ◌∷◌, length}
+use Rattle.std.proofs.Common.{slice_get, get_or, Some, inl, inr, refl, sym, ap, subst, arith}
 use Rattle.std.specs.Prelude.{Ok, IfOk, Vec, ◌⊎◌}
 use Rattle.std.proofs.Math.Nat.{mod-add-div, mod-lt}
 use Rattle.std.proofs.lemmas.Bool.{cases_lt}
