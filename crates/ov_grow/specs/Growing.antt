@@ -1,5 +1,5 @@
 -- How an overlay is grown, and that its options alone decide what is written. Chosen here.
-use Rattle.std.specs.Prelude.{◌≡◌, ℕ, List}
+use Rattle.std.specs.Prelude.{◌≡◌, ◌⊎◌, ℕ, List}
 use Rattle.ov_net.specs.World.{WorldState, opening_world}
 use Rattle.ov_script.specs.Scripts.{opening}
 use Rattle.ov_grow_options.specs.CommandLine.{command_line}
@@ -7,6 +7,8 @@ use Rattle.ov_grow_options.specs.declared.options.GrowOptions.{GrowOptions}
 use Rattle.ov_grow.specs.Choices.{choices_of}
 use Rattle.ov_grow.specs.Growth.{Growth}
 use Rattle.ov_grow.specs.Phases.{Join, Settle, CrashNodes, Heal}
+use Rattle.ov_grow.specs.declared.fault.GrowFault.{GrowFault}
+use Rattle.ov_grow.specs.declared.fault.GrowFault.TheVariants.{OutOfMemory}
 use Rattle.ov_grow.specs.declared.phase.Phase.{Phase}
 
 -- where growing begins: with the command as a comment, the parameters and the seed, and a world in which nothing
@@ -31,6 +33,15 @@ pub record Grows (o : GrowOptions) (text : List ℕ) (world : WorldState) (settl
   pub heal : Heal o v healed u
   pub text_is : text ≡ u.text
   pub world_is : world ≡ u.world
+
+-- with these options no overlay is grown by any scenario: at some step the event that comes next is refused
+abbrev pub CantBeGrown : GrowOptions → Type 0
+CantBeGrown o =
+    (text : List ℕ) (world : WorldState) (settled crashed healed : Phase) → ¬ Grows o text world settled crashed healed
+
+-- growing with these options is refused: memory ran out, or with these options no overlay can be grown
+abbrev pub IsGrowRefusal : GrowOptions → GrowFault → Type 0
+IsGrowRefusal o fault = (fault ≡ OutOfMemory) ⊎ CantBeGrown o
 
 -- the options decide the text, the world and the phases: whatever two overlays are grown with them are the same
 abbrev pub OneGrowth : Type 0

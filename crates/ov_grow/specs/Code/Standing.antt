@@ -1,5 +1,5 @@
 -- Where growing stands, of the parts that the code keeps.
-use Rattle.std.specs.Prelude.{◌≡◌, ℕ, ◌≤◌, List, Option, Some, None, slice_get}
+use Rattle.std.specs.Prelude.{◌≡◌, ◌⊎◌, ℕ, ◌≤◌, List, Option, Some, None, slice_get}
 use Rattle.ov_wire.specs.declared.message.Message.{Message}
 use Rattle.ov_ids.specs.Members.{Has}
 use Rattle.ov_even.specs.Answer.{IsAnswer}
@@ -8,6 +8,8 @@ use Rattle.ov_snap.specs.ReportState.{ReportState}
 use Rattle.ov_script.specs.declared.act.Act.TheVariants as act
 use Rattle.ov_grow.specs.Growth.{Growth, Does}
 use Rattle.ov_grow.specs.Turns.{HasFailed}
+use Rattle.ov_grow.specs.declared.fault.GrowFault.{GrowFault}
+use Rattle.ov_grow.specs.declared.fault.GrowFault.TheVariants.{OutOfMemory}
 use Rattle.ov_grow.specs.declared.growing.Growing.{Growing}
 
 -- where growing stands
@@ -19,6 +21,10 @@ growth_of g =
 pub record Goes (Way : Growth → Growth → Type 0) (b u : Growing) : Type 0 where
   pub way : Way (growth_of b) (growth_of u)
   pub kept : KeepsReports b.recording.core u.recording.core
+
+-- growing can't go on in this way: memory ran out, or this way leads nowhere from here
+abbrev pub IsNoWay : (Growth → Growth → Type 0) → Growing → GrowFault → Type 0
+IsNoWay Way b fault = (fault ≡ OutOfMemory) ⊎ ((u : Growth) → ¬ Way (growth_of b) u)
 
 -- a sender and a receiver of which the sender is told that the receiver crashed, or none
 abbrev pub IsTold : Option (ℕ × ℕ) → Growth → Growth → Type 0
