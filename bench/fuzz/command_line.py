@@ -1,21 +1,18 @@
-"""Reads the arguments of `overlay`, by docs/FORMATS.md.
+"""Reads the arguments of `overlay`, by docs/FORMATS.md; those of `grow` and `sweep` are read in growing_words.py.
 
 That page leaves some things to `clap`, and so does this reader, from what is commonly known of it: refused are an
 option that occurs twice, a value after `=` of an option without one, and a value that begins with `-`. That `--` alone
 is bare `overlay` was taken from the program, when the page did not say it.
 """
 
+from growing_words import BadArguments, read_grow, read_sweep
 from scenario_lines import MOST_WORKERS, Unreadable, ids, number
 
 # The options of each command, and what reads the value of those that have one.
 OPTIONS = {
-    "run": {"explain": None, "progress": None},
+    "run": {"explain": None, "progress": None, "strict": None},
     "analyse": {"group": ids, "workers": lambda word: workers(word), "certificate": None, "progress": None},
 }
-
-
-class BadArguments(Exception):
-    """The arguments are unknown to the command, ask for help, or are not UTF-8."""
 
 
 def workers(word):
@@ -24,6 +21,8 @@ def workers(word):
     if not 1 <= found <= MOST_WORKERS:
         raise Unreadable
     return found
+# What reads the words of the commands that grow overlays.
+GROWING = {"grow": read_grow, "sweep": read_sweep}
 
 
 class Request:
@@ -63,6 +62,10 @@ def read_arguments(words):
     if texts in ([], ["--"]):
         return Request("run")
     command, *texts = texts
+    if command in GROWING:
+        request = Request(command)
+        request.options = GROWING[command](texts)
+        return request
     if command not in OPTIONS:
         raise BadArguments
     request, files, has_options, rest = Request(command), [], True, iter(texts)

@@ -8,7 +8,7 @@
  *   certificate  the input is what overlay-check reads
  *   scenario     the input is what `overlay run --explain` reads
  *   graph        the input is what `overlay analyse` reads; its first line may give arguments (see options_of_graph)
- *   arguments    each line of the input is an argument of overlay, which reads nothing
+ *   arguments    each line of the input is an argument of overlay, which reads nothing; a sweep that grows is not run
  *
  * The program's own main is renamed to program_main, and its calls of read, write, open and _exit are sent to the
  * functions below (ld --wrap). rattle_arg and rattle_arg_count stand in for those of the kit, which return the
@@ -174,6 +174,16 @@ static void arguments_of_lines(const unsigned char *bytes, size_t size) {
     }
 }
 
+/* Whether the arguments ask to grow many overlays, which may take hours: a sweep that lists and reads nothing. */
+static int is_long(void) {
+    if (argument_count < 2 || lengths[1] != 5 || memcmp(arguments[1], "sweep", 5) != 0)
+        return 0;
+    for (size_t at = 2; at < argument_count; at++)
+        if (lengths[at] >= 6 && (memcmp(arguments[at], "--list", 6) == 0 || memcmp(arguments[at], "--read", 6) == 0))
+            return 0;
+    return 1;
+}
+
 static void run(const char *target, const unsigned char *bytes, size_t size) {
     input = bytes;
     input_left = size;
@@ -188,6 +198,8 @@ static void run(const char *target, const unsigned char *bytes, size_t size) {
     } else if (strcmp(target, "arguments") == 0) {
         arguments_of_lines(bytes, size);
         input_left = 0;
+        if (is_long())
+            return;
     }
     memset(counters, 0, counter_count);
     is_running = 1;

@@ -63,6 +63,13 @@ def answer_run(data):
     return answer
 
 
+def strict_of(answer):
+    """What a strict run should print, if this is the answer of a run of a scenario without sections: all before the
+    first line that is refused, and which line that is."""
+    at = next((at for at, line in enumerate(answer.lines) if line.startswith("refused ")), None)
+    return answer if at is None else Answer(answer.lines[:at], answer.explained[0] + answer.lines[at], 1)
+
+
 def answer_analyse(data, group=None, has_certificate=False):
     """What `overlay analyse` should print for the bytes of a graph file, and a group of ids if one is given."""
     try:

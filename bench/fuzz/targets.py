@@ -8,7 +8,8 @@ import tempfile
 
 from command_line import BadArguments, read_arguments
 import second_opinion
-from second_opinion import Answer, answer_analyse, answer_run, check
+from growing_words import Open, answer_grow, answer_sweep
+from second_opinion import Answer, answer_analyse, answer_run, check, strict_of
 
 SECONDS = 60
 DEEPEST = 127
@@ -132,10 +133,12 @@ def explained(answer):
 
 
 def scenario_cases(data):
-    """A scenario, run with and without explanations."""
+    """A scenario, run with and without explanations, and strictly if it has no sections."""
     answer = answer_run(data)
     yield Case("overlay", ["run"], data, answer, None if answer.fault else nothing)
     yield Case("overlay", ["run", "--explain"], data, answer, explained(answer))
+    if b"together" not in data:
+        yield Case("overlay", ["run", "--strict"], data, strict_of(answer))
 
 
 def words_of_graph(data):
@@ -152,6 +155,10 @@ def asked(words, data):
         request = read_arguments(words)
     except BadArguments:
         return Answer([], "refused 73", 2)
+    if request.command == "grow":
+        return answer_grow(request.options)
+    if request.command == "sweep":
+        return answer_sweep(request.options)
     if request.file is not None:
         return Answer([], "refused 71", 1)
     if request.command == "run":
@@ -174,11 +181,15 @@ def is_there(word):
 
 
 def arguments_cases(data):
-    """A command line, an argument a line. None is judged by which a file or a folder could be opened."""
+    """A command line, an argument a line. None is judged by which a file or a folder could be opened, and none that
+    asks for more growing than the second opinion has time for."""
     lines = data.split(b"\n")
     words = [line.partition(b"\0")[0] for line in (lines if lines[-1] else lines[:-1])]
     if not any(word and is_there(word) for word in words):
-        yield Case("overlay", words, b"", asked(words, b""))
+        try:
+            yield Case("overlay", words, b"", asked(words, b""))
+        except Open:
+            return
 
 
 CASES = {"certificate": certificate_cases, "scenario": scenario_cases, "graph": graph_cases,

@@ -1,0 +1,210 @@
+"""Reads the words after `overlay grow` and `overlay sweep`, and says what these print, by docs/GROWING.md, by their help,
+and by ../study/grow.py, which grows overlays by that page alone.
+
+That a number may begin with `+`, as Rust reads numbers, was taken from the program. What `clap` decides is as in
+command_line.py. A summary, a picture and what `--progress` prints are not said.
+"""
+
+import dataclasses
+import functools
+import itertools
+import pathlib
+import sys
+
+sys.path.insert(0, str(pathlib.Path(__file__).resolve().parent.parent / "study"))
+from grow import Growing  # noqa: E402
+from options import LIMITS, SEEDS, Options  # noqa: E402
+from rows import header, row_of  # noqa: E402
+from second_opinion import Answer  # noqa: E402
+from world import Refusal  # noqa: E402
+
+MOST_RUNS = 1_000_000
+NUMBERS = LIMITS | {"runs": (1, MOST_RUNS), "workers": (1, 64), "list": (1, MOST_RUNS)}
+FLAGS = {"grow": {"crash_cut"}, "sweep": {"crash_cut", "summary", "progress"}}
+TEXTS = {"grow": {"order"}, "sweep": {"order", "svg", "read"}}
+# Options of a sweep that take one value; all others take a list.
+SINGLE = {"seed", "runs", "workers", "list", "svg"}
+OPTIONS = [field.name for field in dataclasses.fields(Options)]
+SWEEP_ONLY = ("runs", "workers", "list")
+# About how many steps of nodes are grown for one command line.
+MOST_STEPS = 15000
+
+
+class BadArguments(Exception):
+    """The arguments are unknown to the command, ask for help, or are not UTF-8."""
+
+
+class Open(Exception):
+    """What is printed is not said here, or growing it would take long."""
+
+
+def number(name, word):
+    """A number within the limits of an option."""
+    digits = word.removeprefix("+")
+    least, most = NUMBERS[name]
+    if not (digits.isascii() and digits.isdigit()) or not least <= int(digits) <= most:
+        raise BadArguments
+    return int(digits)
+
+
+def value(name, word):
+    """What a word says as the value of an option."""
+    if name == "order" and word not in ("random", "oldest"):
+        raise BadArguments
+    if name == "order" or (name, word) in (("pace", "none"), ("crash", "cut")):
+        return word
+    return number(name, word)
+
+
+def named(command, words):
+    """The words of each option that is there, by its name."""
+    found, rest = {}, list(words)
+    while rest:
+        word = rest.pop(0)
+        name, equals, text = word.removeprefix("--").partition("=")
+        name = name.replace("-", "_") if "_" not in name else ""
+        if word == "--" and not rest:
+            break
+        if not word.startswith("--") or name in found:
+            raise BadArguments
+        if name in FLAGS[command]:
+            if equals:
+                raise BadArguments
+            found[name] = []
+        elif name in TEXTS[command] or (name in NUMBERS and (command == "sweep" or name in OPTIONS)):
+            if not equals and (not rest or rest[0].startswith("-")):
+                raise Open if rest and rest[0] == "-" else BadArguments
+            found[name] = [text if equals else rest.pop(0)]
+            while name == "read" and rest and not rest[0].startswith("-"):
+                found[name].append(rest.pop(0))
+        else:
+            raise BadArguments
+    return found
+
+
+def read_grow(words):
+    """The options of `overlay grow`."""
+    found = named("grow", words)
+    if "crash_cut" in found and "crash" in found:
+        raise BadArguments
+    given = {name: True if name in FLAGS["grow"] else value(name, said[0]) for name, said in found.items()}
+    if given.get("crash") == "cut":
+        given["crash"], given["crash_cut"] = 0, True
+    if given.get("pace") == "none":
+        given["pace"] = None
+    options = Options(**given)
+    if options.prwl > options.arwl:
+        raise BadArguments
+    return options
+
+
+def judge_pairs(found):
+    """Refuses options of a sweep that don't go together."""
+    if "list" in found and ("summary" in found or "svg" in found):
+        raise BadArguments
+    if "read" in found and any(name in found for name in ("progress", *OPTIONS, *SWEEP_ONLY)):
+        raise BadArguments
+
+
+def list_of(name, found):
+    """The values of an option of a sweep, none of them twice."""
+    if name not in found:
+        return [getattr(Options, name)]
+    values = [value(name, word) for word in found[name][0].split(",")]
+    if len(set(values)) != len(values):
+        raise BadArguments
+    return [None if name == "pace" and it == "none" else it for it in values]
+
+
+def crashes(found):
+    """The shares that crash, and `cut`."""
+    if "crash_cut" not in found:
+        return list_of("crash", found)
+    shares = list_of("crash", found) if "crash" in found else []
+    if "cut" in shares:
+        raise BadArguments
+    return [*shares, "cut"]
+
+
+def setting(names, values):
+    """The options of a setting."""
+    given = dict(zip(names, values))
+    if given["crash"] == "cut":
+        given["crash"], given["crash_cut"] = 0, True
+    return Options(**given)
+
+
+class Sweep:
+    """What a sweep asks for: its settings, how many runs each has, and what is printed."""
+
+    def __init__(self, found):
+        judge_pairs(found)
+        names = [name for name in OPTIONS if name not in ("seed", "crash_cut")]
+        lists = [crashes(found) if name == "crash" else list_of(name, found) for name in names]
+        one = {name: number(name, found[name][0]) for name in ("seed", *SWEEP_ONLY) if name in found}
+        self.seed, self.runs, self.block = one.get("seed", 0), one.get("runs", 30), one.get("list")
+        if max(lists[names.index("prwl")]) > min(lists[names.index("arwl")]):
+            raise BadArguments
+        self.count = functools.reduce(lambda product, values: product * len(values), lists, self.runs)
+        if self.count > MOST_RUNS:
+            raise BadArguments
+        self.settings = (setting(names, values) for values in itertools.product(*lists))
+        self.reads, self.is_open = "read" in found, bool({"summary", "svg", "progress"} & found.keys())
+
+
+def read_sweep(words):
+    """What the words after `overlay sweep` ask for."""
+    return Sweep(named("sweep", words))
+
+
+def steps(options):
+    """About how many steps of nodes growing takes."""
+    rounds = 20 + options.rounds + options.heal + 6 * options.broadcasts
+    return options.nodes * rounds
+
+
+def answer_grow(options):
+    """What `overlay grow` should print."""
+    if steps(options) > MOST_STEPS:
+        raise Open
+    try:
+        return Answer(Growing(options).grow())
+    except Refusal as fault:
+        return Answer([], f"refused {fault}", 1)
+
+
+def command_of(options, runs):
+    """The command of a block of runs."""
+    return options.heading().replace("overlay grow", "overlay sweep", 1) + f" --runs {runs}"
+
+
+def blocks(sweep):
+    """The commands of all blocks."""
+    for options in sweep.settings:
+        for first in range(0, sweep.runs, sweep.block):
+            options.seed = (sweep.seed + first) % SEEDS
+            yield command_of(options, min(sweep.block, sweep.runs - first))
+
+
+def answer_sweep(sweep):
+    """What `overlay sweep` should print."""
+    if sweep.reads:
+        return Answer([], "refused 71", 1)
+    if sweep.is_open or sweep.count > MOST_STEPS:
+        raise Open
+    if sweep.block:
+        return Answer(list(blocks(sweep)))
+    lines, left = [header()], MOST_STEPS
+    for options in sweep.settings:
+        for run in range(sweep.runs):
+            options.seed = (sweep.seed + run) % SEEDS
+            left -= steps(options)
+            if left < 0:
+                raise Open
+            growing = Growing(options)
+            try:
+                growing.grow()
+            except Refusal as fault:
+                return Answer(lines, f"refused {fault}", 1)
+            lines.append(row_of(options, growing.phases))
+    return Answer(lines)
