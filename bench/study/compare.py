@@ -2,8 +2,8 @@
 """compare.py [--overlay PROGRAM] [--grows] [--simulate PROGRAM] [--count N] [--first SEED]: grows N overlays with
 options drawn at random, and holds others against grow.py:
 
-  --overlay   the scenario, run by this program, prints event for event what growing saw, and no line is refused
-  --grows     and its `overlay grow` prints the same scenario
+  --overlay   the scenario, run strictly by this program, prints event for event what growing saw, and no line is refused
+  --grows     and its `overlay grow` prints the same scenario, and its `overlay sweep` the same row
   --simulate  this simulation prints the same scenario, and the same row
 
 It ends with status 1 at the first difference. The same seeds give the same options.
@@ -17,7 +17,7 @@ from collections import Counter
 
 from grow import Growing
 from options import LIMITS, Options
-from rows import row_of
+from rows import header, row_of
 from world import Refusal
 
 
@@ -79,13 +79,16 @@ def differences(given, options):
         yield from refusals(given, words, fault)
         return
     if given.overlay:
-        printed = run(given.overlay, ["run"], scenario.encode())[1]
-        yield "overlay run", first_difference("\n".join([*growing.printed, ""]), printed)
+        status, printed = run(given.overlay, ["run", "--strict"], scenario.encode())
+        seen = "\n".join([*growing.printed, ""])
+        yield "overlay run", first_difference(seen, printed) or (f"the status is {status}" if status else None)
+    row = row_of(options, growing.phases)
     if given.overlay and given.grows:
         yield "overlay grow", first_difference(scenario, run(given.overlay, ["grow", *words])[1])
+        rows = run(given.overlay, ["sweep", *words, "--runs", "1"])[1]
+        yield "overlay sweep", first_difference("\n".join([header(), row, ""]), rows)
     if given.simulate:
         yield "simulate --scenario", first_difference(scenario, run(given.simulate, [*words, "--scenario"])[1])
-        row = row_of(options, growing.phases)
         yield "simulate --csv", first_difference(row, run(given.simulate, [*words, "--csv"])[1].split("\n")[1])
 
 
