@@ -73,12 +73,12 @@ def amid_analysis(lab):
             yield " ".join(["analyse", *more]), text, f"ended by {number.name}, prints nothing, at once"
 
 
-def has_printed(file):
-    """Waits until a program has written something into a file."""
+def has_printed(file, size=1):
+    """Waits until a program has written so many bytes into a file."""
 
     def ready(process):
         end = time.monotonic() + 30
-        while not os.fstat(file.fileno()).st_size:
+        while os.fstat(file.fileno()).st_size < size:
             if state_of(process)[0] in "ZX" or time.monotonic() > end:
                 raise Differs("prints nothing")
             time.sleep(0.001)
@@ -103,6 +103,23 @@ def amid_run(lab):
             note = f"{len(seen.out)} bytes"
             yield command.name, text, f"ended by {number.name}, a prefix of the right output, at once", note
     os.remove(path)
+
+
+@case("signals", "a signal amid a sweep", "SIGINT, SIGTERM, SIGHUP once the header and a batch of rows of 1,000 overlays "
+      "are printed", ENDS + "; what it has printed are whole rows, the first ones of all")
+def amid_sweep(lab):
+    words = [lab.words(RUN)[0], "sweep", "--nodes", "60"]
+    right = lab.run([*words, "--runs", "100"]).out
+    for number in SIGNALS:
+        for workers in ("1", "2"):
+            with tempfile.TemporaryFile(dir=lab.room) as out:
+                blow = Blow(number, has_printed(out, 1000))
+                seen = lab.run([*words, "--runs", "1000", "--workers", workers], stdout=out, during=blow)
+                rows = read_again(out)
+            begins = right.startswith(rows) or rows.startswith(right)
+            part = "whole rows" if begins and rows.endswith(b"\n") else f"other output: {rows[-80:]!r}"
+            text = f"{told(seen)}, {blow.told()}, {part}".replace("prints nothing, ", "")
+            yield f"sweep --workers {workers}", text, f"ended by {number.name}, at once, whole rows", f"{len(rows)} bytes"
 
 
 def waits_for_input(process):
