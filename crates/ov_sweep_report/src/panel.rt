@@ -77,7 +77,7 @@ fn push_axes(text: &mut String, panel: Panel<'_>, columns: f64) -> Result<(), Al
         "<text class=\"middle\" transform=\"translate(20 {middle:.1}) rotate(-90)\">{AXIS}</text>\n"
     )?;
     let split = panel.top + 12.0;
-    push_name(text, split, "runs split")
+    push_name(text, split, "runs split, %")
 }
 
 /// Appends the two axes.
@@ -182,11 +182,11 @@ fn push_share(
 /// Appends a share in whole percent. One that is neither nothing nor all is not rounded to that.
 fn push_percent(text: &mut String, share: f64) -> Result<(), AllocError> {
     if share > 0.0 && share < 1.0 {
-        text.push_str("&lt;1 %")
+        text.push_str("&lt;1")
     } else if share > 99.0 && share < 100.0 {
-        text.push_str("&gt;99 %")
+        text.push_str("&gt;99")
     } else {
-        write!(text, "{share:.0} %")
+        write!(text, "{share:.0}")
     }
 }
 

@@ -76,8 +76,8 @@ fn four_rows_are_drawn(rt: HostRuntime) -> Result<(), Fail> {
     for part in [
         "width=\"1200\"",
         "prefers-color-scheme:dark",
-        ">33 %<",
-        ">100 %<",
+        ">33<",
+        ">100<",
         "</svg>\n",
     ] {
         assert!(rt; picture.as_str().contains(part), "{part}");
