@@ -11,7 +11,7 @@ Examples:
 const GROW_ABOUT: &str = "Grows an overlay, and prints the scenario that grows it again.";
 
 const GROW_BELOW: &str = "\
-A lost JOIN is never sent again, so with --loss-join some nodes never come in.
+A lost JOIN is never sent again, so with --loss-join some nodes may never come in.
 The scenario is what `overlay run` reads.";
 
 /// What help of `overlay sweep` says, with examples first.
@@ -26,7 +26,7 @@ Grows many overlays, and prints a row of each: how few crashes split it, after i
 after it has healed. An option takes values with one comma between two, and every combination is one setting.";
 
 const SWEEP_BELOW: &str = "\
-A lost JOIN is never sent again, so with --loss-join some nodes never come in.
+A lost JOIN is never sent again, so with --loss-join some nodes may never come in.
 A row can be run again by `overlay grow OPTIONS --seed S | overlay run`.";
 
 /// What help says of the options that only `overlay sweep` has.

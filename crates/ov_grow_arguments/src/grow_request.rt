@@ -17,8 +17,8 @@ pub struct GrowRequest {
 /// Reads the words after `overlay grow`: its options, each at most once, `--NAME VALUE` or `--NAME=VALUE`. An option
 /// that is not given has its default.
 ///
-/// BadArguments (73): a word is no option or not what its option takes, --prwl is above --arwl, or help is asked for.
-/// OutOfMemory (99): an allocation was refused.
+/// BadArguments (73): a word is no option or not what its option takes, an option is given twice, --crash and
+/// --crash-cut are given, --prwl is above --arwl, or help is asked for. OutOfMemory (99): an allocation was refused.
 pub fn read_grow_arguments(
     alloc: Global,
     words: &[String],

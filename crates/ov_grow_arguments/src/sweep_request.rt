@@ -87,12 +87,13 @@ impl SweepRequest {
 }
 
 /// Reads the words after `overlay sweep`: each option at most once, `--NAME VALUE` or `--NAME=VALUE`. Every option of
-/// `overlay grow` but --seed takes a list, with one comma between two values. An option that is not given has its
-/// default alone.
+/// `overlay grow` but --seed and --crash-cut takes a list, with one comma between two values. An option that is not
+/// given has its default alone.
 ///
-/// BadArguments (73): a word is no option or not what its option takes, a value stands in its list twice, some --prwl is
-/// above some --arwl, there are more than 1,000,000 runs, or help is asked for. OutOfMemory (99): an allocation was
-/// refused.
+/// BadArguments (73): a word is no option or not what its option takes, an option is given twice, two options exclude
+/// each other (--list and --summary or --svg, --read and what grows or --progress), a value stands in its list twice,
+/// some --prwl is above some --arwl, there are more than 1,000,000 runs, or help is asked for. OutOfMemory (99): an
+/// allocation was refused.
 pub fn read_sweep_arguments(
     alloc: Global,
     words: &[String],

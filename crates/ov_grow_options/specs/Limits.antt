@@ -1,11 +1,11 @@
 -- The limits of the options of growing. All of them are chosen here.
 use Rattle.std.specs.Prelude.{ℕ, ◌≤◌}
 
--- an overlay can be grown with so many nodes
+-- so many nodes may join
 abbrev pub MayBeGrown : ℕ → Type 0
 MayBeGrown nodes = (1 ≤ nodes) × (nodes ≤ 256)
 
--- a chance is given in parts of 100
+-- the largest chance, of 100
 abbrev pub most_of_hundred : ℕ
 most_of_hundred = 100
 

@@ -35,11 +35,11 @@ pub struct GrowOptions {
     pub loss_join: Chance,
     /// The same in the later phases.
     pub loss: Chance,
-    /// Of 100 packets whose turn comes and that are not lost, how many are repeated first.
+    /// The chance that a packet is repeated first when its turn comes and it is not lost, below 100.
     pub repeat: Share,
     /// Whose turn is next.
     pub order: Order,
-    /// How many turns there are between two births, if it is not as many as there are packets, 1,000 at most.
+    /// How many turns there are between two births at most; without it 1,000. They end when no packet is left.
     pub pace: Option<Pace>,
     /// Rounds of shuffles while the overlay settles.
     pub rounds: Count,

@@ -4,8 +4,8 @@ use Rattle.ov_even.specs.Theorems.{AreAlike}
 use Rattle.ov_snap.specs.CoreState.{CoreState}
 use Rattle.ov_snap.specs.ReportState.{ReportState}
 
--- two reports are about the same moment, graph and group, and their certificates agree in everything but their paths:
--- in the number, and in the cut
+-- two reports are about the same moment, graph and group, and their certificates have the same number, cut, near, far
+-- and side: only their paths may differ
 pub record SayTheSame (r s : ReportState) : Type 0 where
   pub moment : r.moment ≡ s.moment
   pub graph : r.graph ≡ s.graph

@@ -1,4 +1,4 @@
--- THE MAIN THEOREM: a scenario whose lines were all accepted once is run without a refusal.
+-- THE MAIN THEOREM: a scenario whose lines were all accepted once is run without a refusal, unless memory runs out.
 use Rattle.std.specs.Prelude.{◌≡◌, ◌⊎◌, ℕ, List, ◌∷◌, ◌++◌}
 use Rattle.ov_snap.specs.CoreState.{CoreState, opening_core}
 use Rattle.ov_snap.specs.Refusals.{number_of}

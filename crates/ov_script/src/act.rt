@@ -15,7 +15,7 @@ pub enum Act {
     Deliver(u32),
     /// The packet at this place is lost.
     Lose(u32),
-    /// An equal packet to that at this place goes last.
+    /// A copy of the packet at this place goes last.
     Repeat(u32),
     /// A node crashes, for good.
     Crash(NodeId),

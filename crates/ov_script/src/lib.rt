@@ -1,4 +1,4 @@
-//! A scenario that is written line by line while the same events happen in a world.
+//! Scenarios that are written line by line: the text, and the lines to run that it asks for.
 #![tactic(auto)]
 
 mod act;

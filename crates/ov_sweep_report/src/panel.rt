@@ -1,12 +1,12 @@
 use crate::Setting;
 use crate::dots::push_dots;
-use crate::phase_summary::{ascending_ks, count};
+use crate::phase_summary::{ascending_ks, count, split_count};
 use crate::picture_layout::{ABOVE, LABEL, LEFT, Layout, PHASE, PLOT};
 use crate::picture_style::tone;
 use crate::setting_names::SETTING_NAMES;
 use crate::settings::{cell_at, number, shown_cell};
 use crate::summary::percent;
-use ov_sweep_rows::Phase;
+use ov_sweep_rows::{Phase, Row};
 use std::alloc::{AllocError, Global};
 use std::fmt::Write;
 
@@ -154,7 +154,7 @@ fn push_column(
     ] {
         let ks = ascending_ks(alloc, &setting.runs, phase)?;
         push_dots(text, panel.layout, phase, &ks, x, panel.zero())?;
-        push_share(text, panel, phase, &ks, x)?;
+        push_share(text, panel, phase, &setting.runs, x)?;
     }
     Ok(())
 }
@@ -164,13 +164,12 @@ fn push_share(
     text: &mut String,
     panel: Panel<'_>,
     phase: Phase,
-    ks: &[u32],
+    runs: &[&Row],
     x: f64,
 ) -> Result<(), AllocError> {
     let class = tone(phase);
     let y = panel.top + 12.0;
-    let split = count(ks.iter().filter(|k| **k == 0).count());
-    let share = percent(split, count(ks.len()));
+    let share = percent(split_count(runs, phase), count(runs.len()));
     write!(
         text,
         "<text class=\"small middle {class}\" x=\"{x:.1}\" y=\"{y:.1}\">"

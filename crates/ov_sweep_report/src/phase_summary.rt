@@ -26,11 +26,16 @@ pub(crate) fn phase_summary(
     let (least_degree, mean_least_degree) = least_degrees(runs, phase);
     Ok(PhaseSummary {
         runs: count(runs.len()),
-        split: count(ks.iter().filter(|k| **k == 0).count()),
+        split: split_count(runs, phase),
         quartiles: [quartile(&ks, 1), quartile(&ks, 2), quartile(&ks, 3)],
         least_degree,
         mean_least_degree,
     })
+}
+
+/// After how many of these runs the overlay is split.
+pub(crate) fn split_count(runs: &[&Row], phase: Phase) -> u32 {
+    count(runs.iter().filter(|run| run.after(phase).is_split()).count())
 }
 
 /// The k of each run after a phase, in ascending order.

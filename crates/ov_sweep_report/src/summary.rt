@@ -25,8 +25,8 @@ const HEADS: [&str; 10] = [
 /// What the columns mean.
 const MEANING: &str = "
 split: after how many runs the overlay is split, with their share of all runs, and Wilson's interval for it.
-k: how few crashes split the overlay, 0 if it is split. k 25 %: a quarter of the runs have this k at most; so half of
-them have k 50 % at most, the median, and the last column says what such an overlay survives.
+k: how few crashes split the overlay, 0 if it is split or has a single node. k 25 %: a quarter of the runs have this k
+at most; so half of them have k 50 % at most, the median, and the last column says what such an overlay survives.
 least degree: the fewest links of a node, the least of all runs and their mean.
 ";
 
@@ -166,6 +166,7 @@ fn push_rest(
     line.push(format!(in alloc; "{mean_least_degree:.2}")?)?;
     let survival = Survival {
         k: summary.quartiles[1],
+        is_split: summary.split > 0,
     };
     line.push(format!(in alloc; "{survival}")?)?;
     Ok(())

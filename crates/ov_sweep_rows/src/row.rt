@@ -1,4 +1,4 @@
-ghost use Rattle.std.specs.Prelude.{◌≡◌, Some, slice_get};
+ghost use Rattle.std.specs.Prelude.{◌≡◌, ◌<◌, ◌↔◌, IsTrue, Some, slice_get};
 
 use crate::DeliveredShare;
 use ov_grow_options::GrowOptions;
@@ -48,7 +48,8 @@ impl Row {
 pub struct PhaseRow {
     /// How many nodes live.
     pub nodes: u32,
-    /// How many crashes are the fewest that split the overlay, 0 if it is split.
+    /// The number of the report: the fewest crashes that split the overlay, 0 if it is split; if every two nodes are
+    /// linked, one less than their number.
     pub k: u32,
     /// How many links the node has that has the fewest.
     pub least_degree: u32,
@@ -58,4 +59,13 @@ pub struct PhaseRow {
     pub entries: u32,
     /// The delivered share, if there were broadcasts.
     pub delivered: Option<DeliveredShare>,
+}
+
+impl PhaseRow {
+    /// Whether the overlay is split: its k is 0, and more than one node lives.
+    pub fn is_split(&self) -> bool
+        ensures { IsTrue result ↔ ((self.now.k ≡ 0) × (1 < self.now.nodes)) }
+    {
+        self.k == 0 && self.nodes > 1
+    }
 }
