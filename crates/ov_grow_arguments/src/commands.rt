@@ -34,7 +34,7 @@ const SUMMARY: &str = "Prints a summary for people in place of the rows";
 
 const SVG: &str = "Writes a picture of all runs into this file too";
 
-const READ: &str = "Reads rows from these files in place of growing";
+const READ: &str = "Reads rows from these files in place of growing; - is standard input";
 
 const PROGRESS: &str = "Prints on standard error how far it has come";
 

@@ -3,6 +3,7 @@ use crate::scenario_growing::told;
 use ov_io::{ReadFault, Source, shown_name, unopened_text, unread_text};
 use ov_sweep_rows::{Row, RowFault, read_rows};
 use std::fs::File;
+use std::io::Read;
 
 /// The rows of files, one file after the other. Prints why, if a file can't be read or has a line that is no row.
 pub(crate) fn rows_of_files(rt: &HostRuntime, files: &[String]) -> Result<Vec<Row>, GrowthFault> {
@@ -17,20 +18,34 @@ pub(crate) fn rows_of_files(rt: &HostRuntime, files: &[String]) -> Result<Vec<Ro
     Ok(rows)
 }
 
-/// All bytes of a file.
+/// The name that stands for standard input.
+const STANDARD_INPUT: &str = "-";
+
+/// All bytes of a file, or of standard input.
 fn bytes_of_file(rt: &HostRuntime, name: &str) -> Result<Vec<u8>, GrowthFault> {
-    let file = match File::open(rt, name) {
-        Ok(file) => file,
+    if name == STANDARD_INPUT {
+        return all_bytes(rt, name, rt.stdin());
+    }
+    match File::open(rt, name) {
+        Ok(file) => all_bytes(rt, name, file),
         Err(error) => {
             let ended = GrowthFault::Read;
             let _ = eprintln!(rt; "{ended}");
             if let Ok(text) = unopened_text(rt.alloc(), name, &error) {
                 let _ = eprintln!(rt; "{text}");
             }
-            return Err(ended);
+            Err(ended)
         }
-    };
-    match Source::new(file).read_all(rt.alloc()) {
+    }
+}
+
+/// All bytes of a reader that has this name.
+fn all_bytes<R: Read + Drop>(
+    rt: &HostRuntime,
+    name: &str,
+    reader: R,
+) -> Result<Vec<u8>, GrowthFault> {
+    match Source::new(reader).read_all(rt.alloc()) {
         Ok(bytes) => Ok(bytes),
         Err(ReadFault::OutOfMemory) => Err(told(rt, GrowthFault::OutOfMemory)),
         Err(ReadFault::Read) => {

@@ -1,38 +1,41 @@
 use crate::row_fields::{FieldCursor, short_number};
 use crate::{COLUMNS, DeliveredShare, FieldForm, PhaseRow, Row, RowFault};
-use csv::{ByteRecord, Reader, ReaderBuilder};
+use csv::{ByteRecord, ReaderBuilder};
 use ov_grow_options::{Chance, Count, Crash, GrowOptions, NodeCount, Order, Pace, Share};
 use ov_ids::Params;
 use ov_lines::read_number;
 use std::alloc::Global;
 
-/// Reads the rows of a text: the header, and one row a line, as `header_text` and `row_text` write them. A row that is
-/// not of this form is refused with its line, counted from 1.
+/// Reads the rows of a text: the header, and one row a line, as `header_text` and `row_text` write them. A header that
+/// stands between rows is skipped, so that files of rows may be put together. A row that is not of this form is refused
+/// with its line, counted from 1.
 ///
 /// `Header` (70): the text does not begin with the header. `FieldCount`, `Field` (70): the first row that is not of the
 /// form.
 /// `OutOfMemory` (99): an allocation was refused.
 pub fn read_rows(alloc: Global, text: &[u8]) -> Result<Vec<Row>, RowFault> {
     let mut reader = ReaderBuilder::new().from_reader(alloc, text);
-    read_header(&mut reader)?;
+    if !is_header(reader.byte_headers()?) {
+        return Err(RowFault::Header);
+    }
     reader
         .into_byte_records()
+        .filter(|record| !record.as_ref().is_ok_and(is_header))
         .map(|record| row_of(&record?))
         .try_collect(alloc)
 }
 
-/// Reads the header, and refuses another one.
-fn read_header(reader: &mut Reader<&[u8]>) -> Result<(), RowFault> {
-    let names = reader.byte_headers()?;
+/// Whether a record is the header.
+fn is_header(names: &ByteRecord) -> bool {
     if names.len() != COLUMNS.len() {
-        return Err(RowFault::Header);
+        return false;
     }
     for (place, name) in COLUMNS.iter().enumerate() {
         if names.get(place) != Some(name.as_bytes()) {
-            return Err(RowFault::Header);
+            return false;
         }
     }
-    Ok(())
+    true
 }
 
 /// The row that a record says.
