@@ -11,3 +11,5 @@ pub mod Analysing
 pub mod Ways
 pub mod OneGrowth
 pub mod OnePhase
+pub mod NoTurn
+pub mod NoJoin

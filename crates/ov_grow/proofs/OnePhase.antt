@@ -39,11 +39,17 @@ use Rattle.ov_grow.specs.declared.phase.Phase.{Phase}
 use Rattle.ov_grow.specs.declared.turn_rules.TurnRules.{TurnRules}
 use Rattle.ov_grow.proofs.OneGrowth.{one_act, one_choice, one_live, one_order, one_run_out, one_turns, one_write}
 
+-- what follows the act for the first of these nodes
+pub each_rest : (what : ℕ → Act) (node : ℕ) (more : List ℕ) (s t u : Growth) → Does s (what node) t
+    → DoesEach what (node ∷ more) s u → DoesEach what more t u
+each_rest what node more s t u did (x, also, others) =
+    subst (λ g. DoesEach what more g u) (one_act s x t (what node) also did) others
+
 pub one_each : (what : ℕ → Act) (nodes : List ℕ) (s u v : Growth) → DoesEach what nodes s u
     → DoesEach what nodes s v → u ≡ v
 one_each what [] s u v a b = a ∙ sym b
-one_each what (node ∷ more) s u v (t, did, rest) (x, also, others) =
-    one_each what more t u v rest (subst (λ g. DoesEach what more g v) (one_act s x t (what node) also did) others)
+one_each what (node ∷ more) s u v (t, did, rest) other =
+    one_each what more t u v rest (each_rest what node more s t v did other)
 
 pub one_live_order : (s u v : Growth) (order also : List ℕ) → AreLiveInOrder s order u → AreLiveInOrder s also v
     → (order ≡ also) × (u ≡ v)
@@ -52,17 +58,37 @@ one_live_order s u v order also (live, after, are, orders, is) (those, left, liv
     (subst (λ xs. IsRandomOrder xs also s.choices left) (one_live s those live lives are) puts) in
     (one.0, is ∙ (ap (λ c. record s { choices = c }) one.1 ∙ sym same))
 
+-- the nodes that live start their shuffles in the one order
+pub round_shuffles : (rules : TurnRules) (order : List ℕ) (s t u : Growth) → AreLiveInOrder s order t → Round rules s u
+    → (v : Growth) × DoesEach act.Shuffle order t v × RunOut rules v u
+round_shuffles rules order s t u lives (also, x, v, those, all, ends) =
+    let one = one_live_order s x t also order those lives in (
+      v,
+      subst (λ g. DoesEach act.Shuffle order g v) one.1 (subst (λ xs. DoesEach act.Shuffle xs x v) one.0 all),
+      ends,
+    )
+
+-- after the shuffles packets run out
+pub round_rest : (rules : TurnRules) (order : List ℕ) (s t v u : Growth) → AreLiveInOrder s order t
+    → DoesEach act.Shuffle order t v → Round rules s u → RunOut rules v u
+round_rest rules order s t v u lives each round =
+    let (w, all, ends) = round_shuffles rules order s t u lives round in
+    subst (λ g. RunOut rules g u) (one_each act.Shuffle order t w v all each) ends
+
 pub one_round : (rules : TurnRules) (s u v : Growth) → Round rules s u → Round rules s v → u ≡ v
-one_round rules s u v (order, t, w, lives, each, out) (also, x, y, those, all, ends) =
-    let one = one_live_order s x t also order those lives in
-    let same : y ≡ w = one_each act.Shuffle order t y w
-    (subst (λ g. DoesEach act.Shuffle order g y) one.1 (subst (λ xs. DoesEach act.Shuffle xs x y) one.0 all)) each in
-    one_run_out rules w u v out (subst (λ g. RunOut rules g v) same ends)
+one_round rules s u v (order, t, w, lives, each, out) other =
+    one_run_out rules w u v out (round_rest rules order s t w v lives each other)
+
+-- what follows a round
+pub rounds_rest : (rules : TurnRules) (n : ℕ) (s t u : Growth) → Round rules s t → Rounds rules (suc n) s u
+    → Rounds rules n t u
+rounds_rest rules n s t u round (x, also, others) =
+    subst (λ g. Rounds rules n g u) (one_round rules s x t also round) others
 
 pub one_rounds : (rules : TurnRules) (n : ℕ) (s u v : Growth) → Rounds rules n s u → Rounds rules n s v → u ≡ v
 one_rounds rules zero s u v a b = a ∙ sym b
-one_rounds rules (suc n) s u v (t, round, more) (x, also, others) =
-    one_rounds rules n t u v more (subst (λ g. Rounds rules n g v) (one_round rules s x t also round) others)
+one_rounds rules (suc n) s u v (t, round, more) other =
+    one_rounds rules n t u v more (rounds_rest rules n s t v round other)
 
 -- a node has one state
 one_node : (p q : PeerState) → Some (Live p) ≡ Some (Live q) → p ≡ q
@@ -197,34 +223,68 @@ one_ending rules n s u v p q (t, analysed, broadcasts, count) (x, also, others, 
       last,
     )
 
+-- after the turns before a birth, the node is born with the chosen contact, and then the next ones are
+pub birth_follows : (rules : TurnRules) (pace id n place : ℕ) (s t v u : Growth) → TurnsUpTo rules pace s t
+    → Chooses (id - 1) t place v → Births rules pace id (suc n) s u
+    → (w : Growth) × Does v (act.Boot id (Some (1 + place))) w × Births rules pace (id + 1) n w u
+birth_follows rules pace id n place s t v u turns chooses (spot, x, y, w, also, chose, does, others) =
+    let first : x ≡ t = one_turns rules pace s x t also turns in
+    let then = one_choice (id - 1) spot place t y v (subst (λ g. Chooses (id - 1) g spot y) first chose) chooses in (
+      w,
+      subst (λ g. Does g (act.Boot id (Some (1 + place))) w) then.1
+          (subst (λ i. Does y (act.Boot id (Some (1 + i))) w) then.0 does),
+      others,
+    )
+
+-- what follows a birth
+pub births_rest : (rules : TurnRules) (pace id n place : ℕ) (s t v w u : Growth) → TurnsUpTo rules pace s t
+    → Chooses (id - 1) t place v → Does v (act.Boot id (Some (1 + place))) w → Births rules pace id (suc n) s u
+    → Births rules pace (id + 1) n w u
+births_rest rules pace id n place s t v w u turns chooses did births =
+    let (x, also, others) = birth_follows rules pace id n place s t v u turns chooses births in
+    subst (λ g. Births rules pace (id + 1) n g u) (one_act v x w (act.Boot id (Some (1 + place))) also did) others
+
 one_birth : (rules : TurnRules) (pace id n : ℕ) (s u v : Growth) → Births rules pace id n s u
     → Births rules pace id n s v
     → u ≡ v
 one_birth rules pace id zero s u v a b = a ∙ sym b
-one_birth rules pace id (suc n) s u v (place, t, w, z, turns, chooses, did, more) (
-  spot,
-  x,
-  y,
-  r,
-  also,
-  chose,
-  does,
-  others,
-) =
-    let first : x ≡ t = one_turns rules pace s x t also turns in
-    let then = one_choice (id - 1) spot place t y w (subst (λ g. Chooses (id - 1) g spot y) first chose) chooses in
-    let last : r ≡ z = one_act w r z (act.Boot id (Some (1 + place)))
-    (subst (λ g. Does g (act.Boot id (Some (1 + place))) r) then.1
-    (subst (λ i. Does y (act.Boot id (Some (1 + i))) r) then.0 does)) did in
-    one_birth rules pace (id + 1) n z u v more (subst (λ g. Births rules pace (id + 1) n g v) last others)
+one_birth rules pace id (suc n) s u v (place, t, w, z, turns, chooses, did, more) other =
+    one_birth rules pace (id + 1) n z u v more
+    (births_rest rules pace id n place s t w z v turns chooses did other)
+
+-- after the comment the first node is born
+pub join_follows : (o : GrowOptions) (s t u : Growth) → Writes s (comment_line (codes "join")) t → Join o s u
+    → (v : Growth) × (w : Growth) × Does t (act.Boot 1 None) v
+    × Births (joining o) (turns_between o.pace) 2 (o.nodes - 1) v w × RunOut (joining o) w u
+join_follows o s t u says (x, v, w, said, did, births, out) = (
+  v,
+  w,
+  subst (λ g. Does g (act.Boot 1 None) v) (one_write s x t (comment_line (codes "join")) said says) did,
+  births,
+  out,
+)
+
+-- after the first birth the other nodes are born, and packets run out
+pub births_follow : (o : GrowOptions) (s t v u : Growth) → Writes s (comment_line (codes "join")) t
+    → Does t (act.Boot 1 None) v → Join o s u
+    → (w : Growth) × Births (joining o) (turns_between o.pace) 2 (o.nodes - 1) v w × RunOut (joining o) w u
+births_follow o s t v u says did join =
+    let (x, w, also, births, out) = join_follows o s t u says join in
+    let first : x ≡ v = one_act t x v (act.Boot 1 None) also did in
+    (w, subst (λ g. Births (joining o) (turns_between o.pace) 2 (o.nodes - 1) g w) first births, out)
+
+-- after all births packets run out
+pub join_rest : (o : GrowOptions) (s t v w u : Growth) → Writes s (comment_line (codes "join")) t
+    → Does t (act.Boot 1 None) v → Births (joining o) (turns_between o.pace) 2 (o.nodes - 1) v w → Join o s u
+    → RunOut (joining o) w u
+join_rest o s t v w u says did births join =
+    let (x, also, out) = births_follow o s t v u says did join in
+    subst (λ g. RunOut (joining o) g u)
+    (one_birth (joining o) (turns_between o.pace) 2 (o.nodes - 1) v x w also births) out
 
 pub one_join : (o : GrowOptions) (s u v : Growth) → Join o s u → Join o s v → u ≡ v
-one_join o s u v (t, w, z, says, did, births, out) (x, y, r, said, does, born, ends) =
-    let first : x ≡ t = one_write s x t (comment_line (codes "join")) said says in
-    let then : y ≡ w = one_act t y w (act.Boot 1 None) (subst (λ g. Does g (act.Boot 1 None) y) first does) did in
-    let next : r ≡ z = one_birth (joining o) (turns_between o.pace) 2 (o.nodes - 1) w r z
-    (subst (λ g. Births (joining o) (turns_between o.pace) 2 (o.nodes - 1) g r) then born) births in
-    one_run_out (joining o) z u v out (subst (λ g. RunOut (joining o) g v) next ends)
+one_join o s u v (t, w, z, says, did, births, out) other =
+    one_run_out (joining o) z u v out (join_rest o s t w z v says did births other)
 
 pub one_settling : (o : GrowOptions) (s u v : Growth) (p q : Phase) → Settle o s p u → Settle o s q v
     → (p ≡ q) × (u ≡ v)

@@ -15,6 +15,15 @@ each_more what nodes i node s t u within is did more =
     subst (λ xs. DoesEach what xs s u) (sym (drop-cons nodes i 0 within))
     (t, subst (λ a. Does s (what a) t) is did, subst (λ k. DoesEach what (drop k nodes) t u) after more)
 
+-- the next of these nodes is the first of what is left
+pub each_next : (what : ℕ → Act) (nodes : List ℕ) (i node : ℕ) (s u : Growth) → i < length nodes
+    → node ≡ get_or nodes i 0 → DoesEach what (drop i nodes) s u → DoesEach what (node ∷ drop (i + 1) nodes) s u
+each_next what nodes i node s u within is each =
+    let after : suc i ≡ i + 1 = omega arith in
+    subst (λ k. DoesEach what (node ∷ drop k nodes) s u) after
+    (subst (λ a. DoesEach what (a ∷ drop (suc i) nodes) s u) (sym is)
+    (subst (λ xs. DoesEach what xs s u) (drop-cons nodes i 0 within) each))
+
 -- a round more
 pub rounds_more : (rules : TurnRules) (n m : ℕ) (s t u : Growth) → n ≡ suc m → Round rules s t → Rounds rules m t u
     → Rounds rules n s u
