@@ -11,7 +11,7 @@ returns-clause-grows c = record {
   v = growth_of c.crash.new.self;
   u = growth_of c.heal.new.self;
   join = subst (λ g. Join c.args.options.now g (growth_of c.join.new.self)) c.in_ok-growing.ensures.begins
-      c.in_ok-join.ensures.way;
+      c.in_ok-join.ensures.goes.way;
   settle = c.in_ok-settled.ensures.goes.way;
   crash = c.in_ok-crashed.ensures.goes.way;
   heal = c.in_ok-healed.ensures.goes.way;

@@ -12,4 +12,4 @@ pub returns : goal.returns
 returns c = on_ok_weaker _ (λ fires. broadcasts_goes c.args.rules.now c.args.count c.in_ok-live.live.items
     c.deref.result.now c.in_ok-messages.messages.items c.deref-2.result.now c.args.self.now c.begin_broadcasts.new.self
     c.run_out.new.self c.fire_timers.new.self c.in_ok-live.ensures c.deref.ensures.value c.deref-2.ensures.value
-    c.in_ok-messages.ensures c.in_ok-run_out.ensures fires) c.fire_timers.ensures
+    c.in_ok-messages.ensures c.in_ok-run_out.ensures.goes fires) c.fire_timers.ensures

@@ -7,7 +7,7 @@ use Rattle.ov_grow.proofs.growing.Growing.crash.Goals as goal
 
 pub to_crash-requires : goal.to_crash-requires
 to_crash-requires c = answered_kept c.args.self.now.recording.core c.comment.new.self.recording.core c.args.settled
-    c.in_ok-comment.ensures.kept c.requires
+    c.in_ok-comment.ensures.goes.kept c.requires
 
 pub returns-clause-goes : goal.returns-clause-goes
 returns-clause-goes c = IfOk-weaker c.end_phase.result
@@ -17,5 +17,5 @@ returns-clause-goes c = IfOk-weaker c.end_phase.result
     (λ phase ends. crash_goes c.args.options.now c.args.settled c.settling-rules.result c.count.result
     c.in_ok-nodes.nodes.items c.deref.result.now phase c.args.self.now c.comment.new.self c.to_crash.new.self
     c.crash_each.new.self c.end_phase.new.self c.settling-rules.ensures c.count.ensures.value c.deref.ensures.value
-    c.in_ok-comment.ensures c.in_ok-nodes.ensures c.in_ok-crash_each.ensures ends)
+    c.in_ok-comment.ensures.goes c.in_ok-nodes.ensures c.in_ok-crash_each.ensures ends)
     c.end_phase.ensures.ends

@@ -10,7 +10,7 @@ loop-node-preserved c = λ u more.
     let within : c.loop-node.node-index < length c.args.nodes.now = omega arith in
     c.loop-node.invariant u (goes_on _ _ _ _ _ _
     (λ did rest. each_more act.Crash _ _ _ _ _ _ within (is_item _ _ _ within c.node-item.is) did rest)
-    c.in_ok-act.ensures more)
+    c.in_ok-act.ensures.goes more)
 
 pub returns : goal.returns
 returns c =

@@ -11,13 +11,13 @@ loop-self-smaller c =
     c.in_ok-fire.field-0 c.if-branch.true c.in_ok-fire.ensures.way in
     let all = longer_by (growth_of c.loop-self.self) (growth_of c.fire.new.self) (growth_of c.run_out.new.self) first
     (run_out_as_long c.args.rules.now (growth_of c.fire.new.self) (growth_of c.run_out.new.self)
-    c.in_ok-run_out.ensures.way) in
+    c.in_ok-run_out.ensures.goes.way) in
     omega (arith, all.more, all.most)
 
 pub loop-self-preserved : goal.loop-self-preserved
 loop-self-preserved c = λ u more. c.loop-self.invariant u (timers_goes c.args.rules.now c.args.messages.now
     c.in_ok-fire.field-0 c.loop-self.self c.fire.new.self c.run_out.new.self u c.if-branch.true c.in_ok-fire.ensures
-    c.in_ok-run_out.ensures more)
+    c.in_ok-run_out.ensures.goes more)
 
 pub returns : goal.returns
 returns c = c.loop-self.invariant c.fire.new.self (timers_rest c.args.rules.now c.args.messages.now c.in_ok-fire.field-0

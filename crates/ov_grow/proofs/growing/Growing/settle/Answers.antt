@@ -11,5 +11,5 @@ returns-clause-goes c = IfOk-weaker c.end_phase.result
     (λ phase. Goes (λ s u. Settle c.args.options.now s phase u) c.args.self.now c.end_phase.new.self)
     (λ phase ends. settle_goes c.args.options.now c.settling-rules.result c.count.result c.count-2.result phase
     c.args.self.now c.comment.new.self c.rounds.new.self c.end_phase.new.self c.settling-rules.ensures
-    c.count.ensures.value c.count-2.ensures.value c.in_ok-comment.ensures c.in_ok-rounds.ensures ends)
+    c.count.ensures.value c.count-2.ensures.value c.in_ok-comment.ensures.goes c.in_ok-rounds.ensures.goes ends)
     c.end_phase.ensures.ends
