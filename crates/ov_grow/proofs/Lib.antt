@@ -13,3 +13,6 @@ pub mod OneGrowth
 pub mod OnePhase
 pub mod NoTurn
 pub mod NoJoin
+pub mod NoBroadcast
+pub mod NoPhase
+pub mod NoGrowth

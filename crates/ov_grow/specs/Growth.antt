@@ -56,6 +56,10 @@ Tries p s comes u = (comes ≡ comes_true p s.choices) × (u ≡ record s { choi
 abbrev pub IsLive : Growth → ℕ → Type 0
 IsLive s a = (p : PeerState) × LivesAs s.world.net a p
 
+-- some node lives
+abbrev pub SomebodyLives : Growth → Type 0
+SomebodyLives s = (a : ℕ) × IsLive s a
+
 -- these are the nodes that live, by ascending ids
 pub record AreLive (s : Growth) (ids : List ℕ) : Type 0 where
   pub ascend : Ascends ids

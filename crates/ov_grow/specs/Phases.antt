@@ -15,7 +15,7 @@ use Rattle.ov_grow_options.specs.declared.options.Crash.TheVariants.{Share, Cut}
 use Rattle.ov_grow_options.specs.declared.options.GrowOptions.{GrowOptions}
 use Rattle.ov_script.specs.WrittenLines.{analysis_line, comment_line}
 use Rattle.ov_script.specs.declared.act.Act.TheVariants as act
-use Rattle.ov_grow.specs.Growth.{Growth, Does, Writes, Chooses, AreLive}
+use Rattle.ov_grow.specs.Growth.{Growth, Does, Writes, Chooses, AreLive, SomebodyLives}
 use Rattle.ov_grow.specs.Turns.{TurnsUpTo, RunOut}
 use Rattle.ov_grow.specs.Rounds.{AreLiveInOrder, DoesEach, Rounds}
 use Rattle.ov_grow.specs.Broadcasts.{Broadcasts}
@@ -26,10 +26,14 @@ use Rattle.ov_grow.specs.declared.turn_rules.TurnRules.{TurnRules}
 abbrev pub deliveries_in : List Entry → ℕ
 deliveries_in entries = count_by (λ e. is_some e.delivery) entries
 
--- a snapshot is taken and analysed. Its moment is the number of its entry
+-- a snapshot is taken, some node lives, and the snapshot is analysed. Its moment is the number of its entry
 abbrev pub IsAnalysedAt : ℕ → Growth → Growth → Type 0
 IsAnalysedAt moment s u =
-    (t : Growth) × Does s act.Snapshot t × (moment ≡ length t.world.journal) × Writes t (analysis_line moment) u
+    (t : Growth)
+    × Does s act.Snapshot t
+    × SomebodyLives t
+    × (moment ≡ length t.world.journal)
+    × Writes t (analysis_line moment) u
 
 -- a phase ends: a snapshot is taken and analysed, and there are so many broadcasts. The deliveries of the phase are
 -- those
