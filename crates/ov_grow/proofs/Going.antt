@@ -1,5 +1,5 @@
 -- Growing goes on: steps put together, and what single calls give.
-use Rattle.std.proofs.Common.{◌≡◌, ℕ, Bool, List, [], ◌++◌, refl, sym, ap, subst, append_assoc}
+use Rattle.std.proofs.Common.{◌≡◌, ℕ, Bool, [], ◌++◌, refl, sym, ap, subst, append_assoc}
 use Rattle.std.proofs.Common.{append-nil, ◌∙◌, inl, inr}
 use Rattle.std.specs.Prelude.{Result, IfErr, IsErrAnd}
 use Rattle.std.proofs.lemmas.Result.{err_from_is_err_and}

@@ -1,5 +1,5 @@
 -- Why nodes can't join, and why they can't start a round of shuffles.
-use Rattle.std.proofs.Common.{◌≡◌, ℕ, suc, ◌+◌, ◌-◌, List, Option, Some, None, sym, subst}
+use Rattle.std.proofs.Common.{◌≡◌, ℕ, suc, ◌+◌, ◌-◌, List, Some, None, sym, subst}
 use Rattle.std.specs.Prelude.{codes}
 use Rattle.ov_grow_options.specs.declared.options.GrowOptions.{GrowOptions}
 use Rattle.ov_script.specs.WrittenLines.{comment_line}
@@ -74,12 +74,15 @@ pub no_way_joined : (o : GrowOptions) (rules : TurnRules) (pace nodes who : ℕ)
     → Goes (Births rules pace 2 (nodes - 1)) v w → IsNoWay (RunOut rules) w fault → IsNoWay (Join o) b fault
 no_way_joined o rules pace nodes who b t v w fault by at all one says did births none =
     no_way_by (RunOut rules) (Join o) w b fault
-    (λ u join. (u, subst (λ r. RunOut r (growth_of w) u) (sym by)
-    (join_rest o (growth_of b) (growth_of t) (growth_of v) (growth_of w) u says.way
-    (subst (λ x. Does (growth_of t) (act.Boot x None) (growth_of v)) one did.way)
-    (subst (λ r. Births r (turns_between o.pace) 2 (o.nodes - 1) (growth_of v) (growth_of w)) by
-    (subst (λ p. Births rules p 2 (o.nodes - 1) (growth_of v) (growth_of w)) at
-    (subst (λ n. Births rules pace 2 (n - 1) (growth_of v) (growth_of w)) all births.way))) join))) none
+    (λ u join. (
+      u,
+      subst (λ r. RunOut r (growth_of w) u) (sym by)
+          (join_rest o (growth_of b) (growth_of t) (growth_of v) (growth_of w) u says.way
+          (subst (λ x. Does (growth_of t) (act.Boot x None) (growth_of v)) one did.way)
+          (subst (λ r. Births r (turns_between o.pace) 2 (o.nodes - 1) (growth_of v) (growth_of w)) by
+          (subst (λ p. Births rules p 2 (o.nodes - 1) (growth_of v) (growth_of w)) at
+          (subst (λ n. Births rules pace 2 (n - 1) (growth_of v) (growth_of w)) all births.way))) join),
+    )) none
 
 -- nodes can't start their shuffles
 pub no_way_shuffles : (rules : TurnRules) (order nodes : List ℕ) (b t : Growing) (fault : GrowFault) → nodes ≡ order
@@ -96,5 +99,8 @@ pub no_way_shuffled : (rules : TurnRules) (order nodes : List ℕ) (b t v : Grow
     → IsNoWay (RunOut rules) v fault → IsNoWay (Round rules) b fault
 no_way_shuffled rules order nodes b t v fault same lives each none =
     no_way_by (RunOut rules) (Round rules) v b fault
-    (λ u round. (u, round_rest rules order (growth_of b) (growth_of t) (growth_of v) u lives.way
-    (subst (λ xs. DoesEach act.Shuffle xs (growth_of t) (growth_of v)) same each.way) round)) none
+    (λ u round. (
+      u,
+      round_rest rules order (growth_of b) (growth_of t) (growth_of v) u lives.way
+          (subst (λ xs. DoesEach act.Shuffle xs (growth_of t) (growth_of v)) same each.way) round,
+    )) none

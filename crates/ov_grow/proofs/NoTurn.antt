@@ -1,5 +1,5 @@
 -- Why growing can't go on: an act is refused, or a part of a way leads nowhere.
-use Rattle.std.proofs.Common.{◌≡◌, ◌≢◌, ◌<◌, ◌+◌, ℕ, suc, Bool, true, false, List, length, drop, get_or, Option, Some}
+use Rattle.std.proofs.Common.{◌≡◌, ◌<◌, ℕ, Bool, true, false, length, Option, Some}
 use Rattle.std.proofs.Common.{None, refl, sym, subst, ◌∙◌, inl, inr, ◌⊎◌}
 use Rattle.std.specs.Prelude.{MatchBool}
 use Rattle.std.proofs.lemmas.Option.{same_Some}
@@ -22,7 +22,7 @@ use Rattle.ov_grow.specs.declared.fault.GrowFault.TheVariants.{OutOfMemory}
 use Rattle.ov_grow.specs.declared.growing.Growing.{Growing}
 use Rattle.ov_grow.specs.declared.turn_rules.TurnRules.{TurnRules}
 use Rattle.ov_grow.proofs.Going.{no_way_by, tried}
-use Rattle.ov_grow.proofs.OneGrowth.{arrival_rest, delivery_rest, repetition_rest, turn_rest}
+use Rattle.ov_grow.proofs.OneGrowth.{delivery_rest, repetition_rest, turn_rest}
 use Rattle.ov_grow.proofs.Turning.{was_there}
 
 -- a refusal of the world is for memory, or another one
@@ -36,9 +36,9 @@ pub act_refused : (b : Growing) (what : Act) (f : NetFault) (fault : GrowFault) 
     → IsNoWay (λ s u. Does s what u) b fault
 act_refused b what f fault is refused =
     elim (memory_or_not f) [
-      inl memory ↦ inl (is ∙ memory)
-    | inr other ↦ inr (λ u did. other (refused_for_memory b.recording.core.world.net
-        (length b.recording.core.world.journal) (event_of what) f did.judged refused))
+      | inl memory ↦ inl (is ∙ memory)
+      | inr other ↦ inr (λ u did. other (refused_for_memory b.recording.core.world.net
+          (length b.recording.core.world.journal) (event_of what) f did.judged refused))
     ]
 
 -- a choice of two ways was made
@@ -58,9 +58,12 @@ pub no_way_lost : (rules : TurnRules) (place n : ℕ) (lost : Bool) (b t : Growi
 no_way_lost rules place n lost b t left fault whose same value rest holds none =
     let v : Growing = record t { choices = left } in
     no_way_by (λ s w. Does s (act.Lose place) w) (Turn rules) v b fault
-    (λ u turn. (u, first_way lost (Does (growth_of v) (act.Lose place) u) (Arrives rules place (growth_of v) u) holds
-    (turn_rest rules place lost (growth_of b) (growth_of t) (growth_of v) u whose.way
-    (tried t rules.loss n lost left same value rest).way turn))) none
+    (λ u turn. (
+      u,
+      first_way lost (Does (growth_of v) (act.Lose place) u) (Arrives rules place (growth_of v) u) holds
+          (turn_rest rules place lost (growth_of b) (growth_of t) (growth_of v) u whose.way
+          (tried t rules.loss n lost left same value rest).way turn),
+    )) none
 
 -- a packet whose turn it is, and that is not lost, can't arrive
 pub no_way_arrives : (rules : TurnRules) (place n : ℕ) (lost : Bool) (b t : Growing) (left : Lcg) (fault : GrowFault)
@@ -70,9 +73,12 @@ pub no_way_arrives : (rules : TurnRules) (place n : ℕ) (lost : Bool) (b t : Gr
 no_way_arrives rules place n lost b t left fault whose same value rest fails none =
     let v : Growing = record t { choices = left } in
     no_way_by (Arrives rules place) (Turn rules) v b fault
-    (λ u turn. (u, second_way lost (Does (growth_of v) (act.Lose place) u) (Arrives rules place (growth_of v) u) fails
-    (turn_rest rules place lost (growth_of b) (growth_of t) (growth_of v) u whose.way
-    (tried t rules.loss n lost left same value rest).way turn))) none
+    (λ u turn. (
+      u,
+      second_way lost (Does (growth_of v) (act.Lose place) u) (Arrives rules place (growth_of v) u) fails
+          (turn_rest rules place lost (growth_of b) (growth_of t) (growth_of v) u whose.way
+          (tried t rules.loss n lost left same value rest).way turn),
+    )) none
 
 -- a packet can't be repeated
 pub no_way_repeated : (rules : TurnRules) (place n : ℕ) (again : Bool) (b : Growing) (left : Lcg) (fault : GrowFault)
@@ -82,9 +88,12 @@ pub no_way_repeated : (rules : TurnRules) (place n : ℕ) (again : Bool) (b : Gr
 no_way_repeated rules place n again b left fault same value rest holds none =
     let v : Growing = record b { choices = left } in
     no_way_by (λ s w. Does s (act.Repeat place) w) (MayBeRepeated rules place) v b fault
-    (λ u may. (u, first_way again (Does (growth_of v) (act.Repeat place) u) (u ≡ growth_of v) holds
-    (repetition_rest rules place again (growth_of b) (growth_of v) u
-    (tried b rules.repeat n again left same value rest).way may))) none
+    (λ u may. (
+      u,
+      first_way again (Does (growth_of v) (act.Repeat place) u) (u ≡ growth_of v) holds
+          (repetition_rest rules place again (growth_of b) (growth_of v) u
+          (tried b rules.repeat n again left same value rest).way may),
+    )) none
 
 -- a packet can't be delivered
 pub no_way_delivered : (rules : TurnRules) (place : ℕ) (b : Growing) (fault : GrowFault)
@@ -115,7 +124,10 @@ pub no_way_told : (rules : TurnRules) (place : ℕ) (failed : Option (ℕ × ℕ
     → IsNoWay (IsDelivered rules place) b fault
 no_way_told rules place failed b t fault holds fails did none =
     no_way_by (IsTold failed) (IsDelivered rules place) t b fault
-    (λ u delivered. (u, told_of (growth_of b) (growth_of t) u place failed
-    (fails (was_there (growth_of b) (growth_of t) place did.way))
-    (first_way rules.tells_crashes (SenderIsTold (growth_of b) place (growth_of t) u) (u ≡ growth_of t) holds
-    (delivery_rest rules place (growth_of b) (growth_of t) u did.way delivered)))) none
+    (λ u delivered. (
+      u,
+      told_of (growth_of b) (growth_of t) u place failed
+          (fails (was_there (growth_of b) (growth_of t) place did.way))
+          (first_way rules.tells_crashes (SenderIsTold (growth_of b) place (growth_of t) u) (u ≡ growth_of t) holds
+          (delivery_rest rules place (growth_of b) (growth_of t) u did.way delivered)),
+    )) none

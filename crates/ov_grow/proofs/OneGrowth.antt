@@ -1,6 +1,6 @@
 -- The options alone decide what is grown.
-use Rattle.std.proofs.Common.{◌≡◌, ℕ, zero, suc, Bool, true, false, ◌||◌, List, [], ◌∷◌, ◌++◌, length, Option, Some}
-use Rattle.std.proofs.Common.{None, refl, sym, ap, ap₂, subst, ◌∙◌, inl, inr, ◌⊎◌}
+use Rattle.std.proofs.Common.{◌≡◌, ℕ, zero, suc, Bool, true, false, List, [], ◌∷◌, ◌++◌, length, Some}
+use Rattle.std.proofs.Common.{refl, sym, ap, ap₂, subst, ◌∙◌, inl, inr, ◌⊎◌}
 use Rattle.std.specs.Prelude.{MatchBool, slice_get}
 use Rattle.std.specs.Prelude.{remove}
 use Rattle.std.proofs.lemmas.Option.{same_Some, none-some}
@@ -9,13 +9,11 @@ use Rattle.ov_net.specs.Theorems.{WorldStep}
 use Rattle.ov_net.specs.declared.event.Event.{Event}
 use Rattle.rand_pcg.specs.Lcg.{Lcg}
 use Rattle.ov_ids.proofs.Members.{same_ascending}
-use Rattle.ov_ids.specs.declared.id.MsgId.{MsgId}
 use Rattle.ov_net.proofs.OneStep.OfWorld.{one_step}
 use Rattle.ov_scenario.proofs.Scenarios.OneScenario.{one_scenario}
 use Rattle.ov_scenario.specs.declared.scenario.Line.{Line}
 use Rattle.ov_scenario.specs.declared.scenario.Line.TheVariants as line
-use Rattle.ov_script.specs.Acts.{act_line, event_of}
-use Rattle.ov_script.specs.WrittenLines.{ended}
+use Rattle.ov_script.specs.Acts.{event_of}
 use Rattle.ov_script.specs.declared.act.Act.{Act}
 use Rattle.ov_script.specs.declared.act.Act.TheVariants as act
 use Rattle.ov_grow.specs.Choices.{IsRandomOrder, one_of, later}

@@ -1,4 +1,4 @@
-use Rattle.std.proofs.Common.{inl, refl}
+use Rattle.std.proofs.Common.{inl}
 use Rattle.std.proofs.lemmas.Result.{IfErr-weaker, on_ok_weaker}
 use Rattle.ov_grow.specs.Phases.{Join}
 use Rattle.ov_grow.specs.Code.Standing.{IsNoWay}

@@ -1,4 +1,4 @@
-use Rattle.std.proofs.Common.{ℕ, ◌-◌, length}
+use Rattle.std.proofs.Common.{◌-◌, length}
 use Rattle.ov_net.specs.Limits.{most_entries}
 use Rattle.ov_grow.specs.Turns.{RunOut}
 use Rattle.ov_grow.proofs.Going.{IsOn}

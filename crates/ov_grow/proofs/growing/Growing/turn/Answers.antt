@@ -1,8 +1,4 @@
 use Rattle.std.proofs.lemmas.Result.{IfErr-weaker, on_ok_weaker}
-use Rattle.ov_script.specs.declared.act.Act.TheVariants as act
-use Rattle.ov_grow.specs.Growth.{Does}
-use Rattle.ov_grow.specs.Turns.{Arrives, Turn}
-use Rattle.ov_grow.specs.Code.Standing.{IsNoWay}
 use Rattle.ov_grow.proofs.NoTurn.{no_way_arrives, no_way_lost}
 use Rattle.ov_grow.proofs.Ways.{arrives_goes, lost_goes}
 use Rattle.ov_grow.proofs.growing.Growing.turn.Goals as goal

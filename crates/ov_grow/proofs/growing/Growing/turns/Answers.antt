@@ -1,4 +1,4 @@
-use Rattle.std.proofs.Common.{◌≡◌, ◌≢◌, ◌<◌, ◌+◌, ◌-◌, suc, length, arith, subst, sym}
+use Rattle.std.proofs.Common.{◌≡◌, ◌<◌, ◌+◌, ◌-◌, suc, length, arith, subst, sym}
 use Rattle.ov_grow.specs.Turns.{HasNoPackets, Turn, TurnsUpTo}
 use Rattle.ov_grow.specs.Code.Standing.{IsNoWay, growth_of}
 use Rattle.ov_grow.proofs.Going.{IsOn, on_all, on_begun, on_more, on_nowhere, passes_on}
