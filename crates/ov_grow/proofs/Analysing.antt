@@ -1,11 +1,10 @@
 -- What an analysis is to growing.
-use Rattle.std.proofs.Common.{◌≡◌, ℕ, List, [], ◌∷◌, ◌++◌, length, Option, Some, None, refl, sym, ap, ap₂, subst, ◌∙◌}
-use Rattle.std.proofs.Common.{inl, inr}
+use Rattle.std.proofs.Common.{◌≡◌, ℕ, List, [], ◌∷◌, ◌++◌, length, refl, sym, ap, ap₂, subst, ◌∙◌}
+use Rattle.std.proofs.Common.{inl}
 use Rattle.ov_ids.specs.Members.{Has}
 use Rattle.ov_ids.specs.FaultOrder.{HoldsThen, Passed}
 use Rattle.ov_ids.proofs.Members.{has_append_left, has_append_right}
 use Rattle.ov_ids.proofs.Stepping.{step_none}
-use Rattle.ov_cert.specs.declared.cert.Cert.{Cert}
 use Rattle.ov_even.specs.Answer.{IsAnswer}
 use Rattle.ov_net.specs.Journal.{AreLinks, Live}
 use Rattle.ov_net.proofs.Links.OneGraph.{links_one}

@@ -1,16 +1,15 @@
 -- Broadcasts and timers.
-use Rattle.std.proofs.Common.{◌≡◌, ◌<◌, ◌≤◌, ◌+◌, ℕ, zero, suc, Bool, true, false, ◌||◌, IsTrue, List, [], ◌∷◌, ◌++◌}
-use Rattle.std.proofs.Common.{length, drop, get_or, refl, sym, subst, ap, arith, ◌∙◌, inl, inr, ◌⊎◌}
+use Rattle.std.proofs.Common.{◌≡◌, ◌<◌, ◌≤◌, ◌+◌, ℕ, suc, Bool, true, false, ◌||◌, List, [], ◌∷◌}
+use Rattle.std.proofs.Common.{length, drop, get_or, refl, sym, subst, ap, arith, ◌∙◌, inl, inr}
 use Rattle.std.proofs.lemmas.Option.{slice_get_read}
 use Rattle.std.proofs.Math.Seq.{drop-cons}
-use Rattle.std.specs.Prelude.{slice_get, Some}
 use Rattle.ov_ids.specs.declared.id.MsgId.{MsgId}
 use Rattle.ov_net.specs.Net.{LivesAs}
 use Rattle.ov_peer.specs.PeerState.{PeerState}
 use Rattle.ov_script.specs.declared.act.Act.TheVariants as act
-use Rattle.ov_grow.specs.Growth.{Growth, Does, Chooses, AreLive}
+use Rattle.ov_grow.specs.Growth.{Growth, Does, Chooses}
 use Rattle.ov_grow.specs.Turns.{RunOut}
-use Rattle.ov_grow.specs.Broadcasts.{BroadcastBy, BroadcastsBegin, Fire, FireAt, FireAtEach, FireTimes, FiresIfItRuns}
+use Rattle.ov_grow.specs.Broadcasts.{BroadcastBy, BroadcastsBegin, Fire, FireAt, FireAtEach, FiresIfItRuns}
 use Rattle.ov_grow.specs.Broadcasts.{TimersFire}
 use Rattle.ov_grow.specs.declared.turn_rules.TurnRules.{TurnRules}
 use Rattle.ov_ids.specs.Members.{Has}

@@ -67,7 +67,7 @@ left_next nodes count n m place node id b t v left so one value rest within is b
     (subst (λ k. BroadcastsBegin nodes k (growth_of t) others u) one more) in
     (later, last)
 
--- a timer that runs fires if whether it fired is known
+-- a timer that runs fires
 timer_fires : (node : ℕ) (id : MsgId) (s u : Growth) (fired : Bool) → TimerRuns s node id
     → FiresIfItRuns node id s fired u → Does s (act.Timer node id) u
 timer_fires node id s u fired runs (inl (run, did, holds)) = did
@@ -215,7 +215,9 @@ pub no_way_broadcasts : (rules : TurnRules) (n : ℕ) (live nodes : List ℕ) (i
     → IsNoWay (TimersFire rules messages) v fault → IsNoWay (Broadcasts rules n) b fault
 no_way_broadcasts rules n live nodes ids messages b t v fault are same names begin out none =
     no_way_by (TimersFire rules ids) (Broadcasts rules n) v b fault
-    (λ u broadcasts.
-    (u, broadcasts_rest rules n live ids (growth_of b) (growth_of t) (growth_of v) u are
-    (subst (λ xs. BroadcastsBegin xs n (growth_of b) ids (growth_of t)) same begin.way) out.way broadcasts))
+    (λ u broadcasts. (
+      u,
+      broadcasts_rest rules n live ids (growth_of b) (growth_of t) (growth_of v) u are
+          (subst (λ xs. BroadcastsBegin xs n (growth_of b) ids (growth_of t)) same begin.way) out.way broadcasts,
+    ))
     (subst (λ ms. IsNoWay (TimersFire rules ms) v fault) names none)

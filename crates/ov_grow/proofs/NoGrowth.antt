@@ -2,7 +2,6 @@
 use Rattle.std.proofs.Common.{◌≡◌, ℕ, List, sym, subst, inl, inr}
 use Rattle.ov_net.specs.World.{WorldState}
 use Rattle.ov_grow_options.specs.declared.options.GrowOptions.{GrowOptions}
-use Rattle.ov_grow.specs.Growth.{Growth}
 use Rattle.ov_grow.specs.Phases.{CrashNodes, Heal, Join, Settle}
 use Rattle.ov_grow.specs.Growing.{Grows, IsGrowRefusal, beginning}
 use Rattle.ov_grow.specs.Code.Standing.{Goes, IsNoWay, growth_of}
@@ -51,8 +50,11 @@ pub no_way_settling : (o : GrowOptions) (b s : Growing) (fault : GrowFault) → 
     → Goes (Join o) b s → IsNoWay (λ g u. (phase : Phase) × Settle o g phase u) s fault → IsGrowRefusal o fault
 no_way_settling o b s fault begins joins (inl memory) = inl memory
 no_way_settling o b s fault begins joins (inr none) = inr (λ text world settled crashed healed grows.
-    none grows.t (settled, subst (λ g. Settle o g settled grows.t)
-    (same_joined o b s text world settled crashed healed begins joins grows) grows.settle))
+    none grows.t (
+      settled,
+      subst (λ g. Settle o g settled grows.t)
+          (same_joined o b s text world settled crashed healed begins joins grows) grows.settle,
+    ))
 
 -- nodes can't crash
 pub no_way_crashing : (o : GrowOptions) (b s t : Growing) (p : Phase) (fault : GrowFault) → growth_of b ≡ beginning o
@@ -61,8 +63,11 @@ pub no_way_crashing : (o : GrowOptions) (b s t : Growing) (p : Phase) (fault : G
 no_way_crashing o b s t p fault begins joins settles (inl memory) = inl memory
 no_way_crashing o b s t p fault begins joins settles (inr none) = inr (λ text world settled crashed healed grows.
     let one = same_settled o b s t p text world settled crashed healed begins joins settles grows in
-    none grows.v (crashed, subst (λ x. CrashNodes o x.moment (growth_of t) crashed grows.v) one.0
-    (subst (λ g. CrashNodes o settled.moment g crashed grows.v) one.1 grows.crash)))
+    none grows.v (
+      crashed,
+      subst (λ x. CrashNodes o x.moment (growth_of t) crashed grows.v) one.0
+          (subst (λ g. CrashNodes o settled.moment g crashed grows.v) one.1 grows.crash),
+    ))
 
 -- the overlay can't heal
 pub no_way_healing : (o : GrowOptions) (b s t v : Growing) (p q : Phase) (fault : GrowFault) → growth_of b ≡ beginning o
@@ -70,5 +75,8 @@ pub no_way_healing : (o : GrowOptions) (b s t v : Growing) (p q : Phase) (fault 
     → IsNoWay (λ g u. (phase : Phase) × Heal o g phase u) v fault → IsGrowRefusal o fault
 no_way_healing o b s t v p q fault begins joins settles crashes (inl memory) = inl memory
 no_way_healing o b s t v p q fault begins joins settles crashes (inr none) = inr (λ text world settled crashed healed grows.
-    none grows.u (healed, subst (λ g. Heal o g healed grows.u)
-    (same_crashed o b s t v p q text world settled crashed healed begins joins settles crashes grows) grows.heal))
+    none grows.u (
+      healed,
+      subst (λ g. Heal o g healed grows.u)
+          (same_crashed o b s t v p q text world settled crashed healed begins joins settles crashes grows) grows.heal,
+    ))

@@ -1,5 +1,5 @@
 -- Why a phase can't be gone through.
-use Rattle.std.proofs.Common.{◌≡◌, ◌≤◌, ◌+◌, ℕ, List, [], ◌∷◌, length, Some, None, sym, ap, subst, ◌∙◌, inl, inr, ◌⊎◌}
+use Rattle.std.proofs.Common.{◌≡◌, ◌+◌, ℕ, List, [], ◌∷◌, length, Some, None, sym, ap, subst, ◌∙◌, inl, inr, ◌⊎◌}
 use Rattle.std.proofs.Common.{arith, length-append}
 use Rattle.std.specs.Prelude.{codes}
 use Rattle.ov_ids.specs.Members.{Has}
@@ -67,7 +67,7 @@ analysis_refused b fault stands fresh (inl judged) =
     elim (step_passes (IsMoment core.world.journal now) NoSuchMoment
     (HoldsThen ((a : ℕ) × Live core.world.journal now a) NoNodes After) (Some fault) fresh.0 judged) [
       | inl lived ↦ absurd (let none : Some fault ≡ None =
-      step_passes (¬ IsReported core (all_of now)) AlreadyFiled Passed (Some fault) fresh.1 lived.1 in cc)
+          step_passes (¬ IsReported core (all_of now)) AlreadyFiled Passed (Some fault) fresh.1 lived.1 in cc)
       | inr nobody ↦ inr (λ (a, lives). nobody.0 (a, (stands.tells.live a).1 lives))
     ]
 
@@ -147,8 +147,14 @@ pub no_way_settled : (o : GrowOptions) (rules : TurnRules) (n k : ℕ) (b t v : 
 no_way_settled o rules n k b t v fault by many each says rounds none =
     no_way_by (λ s u. (phase : Phase) × EndsPhase (settling o) o.broadcasts s phase u)
     (λ s u. (phase : Phase) × Settle o s phase u) v b fault
-    (λ u (phase, settle). (u, (phase, settle_rest o (growth_of b) (growth_of t) (growth_of v) u phase says.way
-    (rounds_by rules (settling o) n o.rounds (growth_of t) (growth_of v) by many rounds.way) settle)))
+    (λ u (phase, settle). (
+      u,
+      (
+        phase,
+        settle_rest o (growth_of b) (growth_of t) (growth_of v) u phase says.way
+            (rounds_by rules (settling o) n o.rounds (growth_of t) (growth_of v) by many rounds.way) settle,
+      ),
+    ))
     (ends_by rules (settling o) k o.broadcasts v fault by each none)
 
 -- one of the nodes that are to crash can't
@@ -173,8 +179,14 @@ pub no_way_crashed : (o : GrowOptions) (m : ℕ) (rules : TurnRules) (k : ℕ) (
 no_way_crashed o m rules k nodes those b t v w fault by each same says are all none =
     no_way_by (λ s u. (phase : Phase) × EndsPhase (settling o) o.broadcasts s phase u)
     (λ s u. (phase : Phase) × CrashNodes o m s phase u) w b fault
-    (λ u (phase, crash). (u, (phase, crash_rest o m nodes (growth_of b) (growth_of t) (growth_of v) (growth_of w) u
-    phase says.way are.way (subst (λ xs. DoesEach act.Crash xs (growth_of v) (growth_of w)) same all.way) crash)))
+    (λ u (phase, crash). (
+      u,
+      (
+        phase,
+        crash_rest o m nodes (growth_of b) (growth_of t) (growth_of v) (growth_of w) u
+            phase says.way are.way (subst (λ xs. DoesEach act.Crash xs (growth_of v) (growth_of w)) same all.way) crash,
+      ),
+    ))
     (ends_by rules (settling o) k o.broadcasts w fault by each none)
 
 -- the next crash report can't be given
@@ -239,7 +251,13 @@ pub no_way_healed : (o : GrowOptions) (rules : TurnRules) (n k : ℕ) (b t v w :
 no_way_healed o rules n k b t v w fault by many each says reports rounds none =
     no_way_by (λ s u. (phase : Phase) × EndsPhase (healing o) o.broadcasts s phase u)
     (λ s u. (phase : Phase) × Heal o s phase u) w b fault
-    (λ u (phase, heal). (u, (phase, heal_rest o (growth_of b) (growth_of t) (growth_of v) (growth_of w) u phase
-    says.way (subst (λ r. ReportCrashes r (growth_of t) (growth_of v)) by reports.way)
-    (rounds_by rules (healing o) n o.heal (growth_of v) (growth_of w) by many rounds.way) heal)))
+    (λ u (phase, heal). (
+      u,
+      (
+        phase,
+        heal_rest o (growth_of b) (growth_of t) (growth_of v) (growth_of w) u phase
+            says.way (subst (λ r. ReportCrashes r (growth_of t) (growth_of v)) by reports.way)
+            (rounds_by rules (healing o) n o.heal (growth_of v) (growth_of w) by many rounds.way) heal,
+      ),
+    ))
     (ends_by rules (healing o) k o.broadcasts w fault by each none)

@@ -1,13 +1,10 @@
 -- Rounds, broadcasts and phases have one outcome each.
 use Rattle.std.proofs.Common.{arith, ◌≤◌, ◌≡◌, ℕ, zero, suc, ◌+◌, ◌-◌, ◌*◌, ◌/◌, Bool, true, false, ◌||◌, List, []}
-use Rattle.std.proofs.Common.{◌∷◌, ◌++◌, length, take, drop, Option, Some, None, refl, sym, ap, ap₂, subst, ◌∙◌, inl}
-use Rattle.std.proofs.Common.{inr, ◌⊎◌}
+use Rattle.std.proofs.Common.{◌∷◌, length, take, drop, Some, None, refl, sym, ap, ap₂, subst, ◌∙◌, inl}
+use Rattle.std.proofs.Common.{inr}
 use Rattle.std.specs.Prelude.{slice_get, codes}
 use Rattle.std.proofs.lemmas.Option.{same_Some}
-use Rattle.rand_pcg.specs.Lcg.{Lcg}
-use Rattle.ov_ids.proofs.Members.{same_ascending}
 use Rattle.ov_ids.specs.declared.id.MsgId.{MsgId}
-use Rattle.ov_graph.specs.Links.{LinkGraph}
 use Rattle.ov_cert.specs.declared.cert.Cert.{Cert}
 use Rattle.ov_cert.specs.declared.cert.Cert.TheVariants.{Linked, Split}
 use Rattle.ov_even.proofs.EvenTest.Answering.{one_answer}
@@ -16,7 +13,6 @@ use Rattle.ov_even.specs.Theorems.{AreAlike}
 use Rattle.ov_peer.specs.PeerState.{PeerState}
 use Rattle.ov_net.specs.declared.member.Member.TheVariants.{Live}
 use Rattle.ov_net.proofs.Links.OneGraph.{links_one}
-use Rattle.ov_net.specs.Journal.{AreLinks}
 use Rattle.ov_net.specs.declared.journal_entry_and_changes.Entry.{Entry}
 use Rattle.ov_grow_options.specs.declared.options.Crash.{Crash}
 use Rattle.ov_grow_options.specs.declared.options.Crash.TheVariants.{Share, Cut}
@@ -31,10 +27,10 @@ use Rattle.ov_grow.specs.Rounds.{AreLiveInOrder, DoesEach, Round, Rounds}
 use Rattle.ov_grow.specs.Broadcasts.{BroadcastBy, Broadcasts, BroadcastsBegin, Fire, FireAt, FireAtEach, FireTimes}
 use Rattle.ov_grow.specs.Broadcasts.{FiresIfItRuns, TimersFire}
 use Rattle.ov_grow.specs.Phases.{AreFirst, AreToCrash, Births, CrashNodes, EndsPhase, Heal, IsAnalysedAt, IsCutAt, Join}
-use Rattle.ov_grow.specs.Phases.{HasNone, IsCrashedNeighbour, ReportCrashes, ReportTimes, Settle, cut_of}
+use Rattle.ov_grow.specs.Phases.{IsCrashedNeighbour, ReportCrashes, ReportTimes, Settle, cut_of}
 use Rattle.ov_grow.specs.Phases.{deliveries_in, healing, joining, settling}
 use Rattle.ov_grow.specs.Phases.{turns_between}
-use Rattle.ov_grow.specs.Growing.{Grows, OneGrowth, beginning}
+use Rattle.ov_grow.specs.Growing.{OneGrowth, beginning}
 use Rattle.ov_grow.specs.declared.phase.Phase.{Phase}
 use Rattle.ov_grow.specs.declared.turn_rules.TurnRules.{TurnRules}
 use Rattle.ov_grow.proofs.OneGrowth.{one_act, one_choice, one_live, one_order, one_run_out, one_turns, one_write}
@@ -284,7 +280,7 @@ one_ending rules n s u v p q (t, analysed, broadcasts, count) other =
     let rest = ending_rest rules n p.moment s t v q analysed other in
     let last : u ≡ v = one_broadcasts rules n t u v broadcasts rest.1 in (
       same_phase p q rest.0 (count ∙ (ap₂ (λ m g. deliveries_in (drop m g.world.journal)) rest.0 last
-      ∙ sym other.3)),
+          ∙ sym other.3)),
       last,
     )
 
@@ -412,9 +408,14 @@ pub reports_follow : (rules : TurnRules) (node crashed : ℕ) (s u : Growth) →
     × Does s (act.CrashReport node crashed) t × RunOut rules t v × ReportCrashes rules v u
 reports_follow rules node crashed s u first (zero, (none, same)) = absurd (none node crashed first.has)
 reports_follow rules node crashed s u first (suc n, (other, gone, t, v, is, did, out, more)) =
-    let who = one_first s other gone node crashed is first in
-    (t, v, subst (λ b. Does s (act.CrashReport node b) t) who.1
-    (subst (λ a. Does s (act.CrashReport a gone) t) who.0 did), out, (n, more))
+    let who = one_first s other gone node crashed is first in (
+      t,
+      v,
+      subst (λ b. Does s (act.CrashReport node b) t) who.1
+          (subst (λ a. Does s (act.CrashReport a gone) t) who.0 did),
+      out,
+      (n, more),
+    )
 
 -- after the report packets run out
 pub report_follows : (rules : TurnRules) (node crashed : ℕ) (s t u : Growth) → AreFirst s node crashed

@@ -13,7 +13,7 @@ use Rattle.ov_scenario.specs.declared.scenario.Line.{Line}
 use Rattle.ov_scenario.specs.declared.scenario.Line.TheVariants as line
 use Rattle.ov_scenario.specs.declared.scenario.Scenario.{Scenario}
 use Rattle.ov_script.specs.Acts.{act_line, event_of}
-use Rattle.ov_script.specs.WrittenLines.{comment_line, ended}
+use Rattle.ov_script.specs.WrittenLines.{ended}
 use Rattle.ov_script.specs.declared.act.Act.{Act}
 use Rattle.ov_grow.specs.Choices.{one_of, comes_true, after_chance, later}
 

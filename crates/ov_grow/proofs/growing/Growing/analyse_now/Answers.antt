@@ -25,6 +25,12 @@ returns-in_err-analyse-clause-refused c =
 pub returns-clause-goes : goal.returns-clause-goes
 returns-clause-goes c =
     goes_on _ _ _ _ _ _
-    (λ did writes. (_, did, lived_before (growth_of c.take_snapshot.new.self) (growth_of c.analyse.new.self)
-    (analysis_line c.entries-moment.result) writes c.in_ok-analyse.ensures.live, c.entries-moment.ensures, writes))
+    (λ did writes. (
+      _,
+      did,
+      lived_before (growth_of c.take_snapshot.new.self) (growth_of c.analyse.new.self)
+          (analysis_line c.entries-moment.result) writes c.in_ok-analyse.ensures.live,
+      c.entries-moment.ensures,
+      writes,
+    ))
     c.in_ok-take_snapshot.ensures.goes c.in_ok-analyse.ensures.goes

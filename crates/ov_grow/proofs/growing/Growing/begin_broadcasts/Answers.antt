@@ -1,9 +1,8 @@
-use Rattle.std.proofs.Common.{◌≡◌, ◌+◌, ◌-◌, ◌++◌, ◌∷◌, List, [], ◌∙◌, suc, refl, sym, ap, subst, append_assoc}
-use Rattle.std.proofs.Common.{append-nil, arith, inl}
+use Rattle.std.proofs.Common.{◌≡◌, ◌+◌, ◌-◌, ◌++◌, ◌∷◌, List, [], ◌∙◌, suc, sym, ap, subst, append_assoc}
+use Rattle.std.proofs.Common.{append-nil, arith}
 use Rattle.ov_ids.specs.declared.id.MsgId.{MsgId}
 use Rattle.ov_grow.specs.Broadcasts.{BroadcastsBegin}
 use Rattle.ov_grow.specs.Code.Standing.{Goes, IsNoWay, growth_of}
-use Rattle.ov_grow.specs.declared.fault.GrowFault.TheVariants.{OutOfMemory}
 use Rattle.ov_grow.proofs.Going.{goes_still, passes_on}
 use Rattle.ov_grow.proofs.Broadcasting.{broadcasts_end}
 use Rattle.ov_grow.proofs.NoBroadcast.{left_next, no_way_next}

@@ -1,5 +1,4 @@
-use Rattle.std.proofs.Common.{subst}
-use Rattle.std.proofs.lemmas.Result.{IfErr-weaker, IfOk-weaker}
+use Rattle.std.proofs.lemmas.Result.{IfErr-weaker}
 use Rattle.ov_grow.proofs.NoBroadcast.{no_way_fire}
 use Rattle.ov_grow.proofs.growing.Growing.fire.Goals as goal
 
