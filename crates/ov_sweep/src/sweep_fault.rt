@@ -1,3 +1,6 @@
+ghost use Rattle.std.specs.Prelude.{◌≡◌};
+ghost use Rattle.ov_sweep.specs.declared.sweep_fault.SweepFault.TheVariants.{OutOfMemory as out_of_memory, Write as write_failed};
+
 use crate::batch::RefusedRun;
 use ov_ids::OutOfMemory;
 use ov_io::WriteFault;
@@ -30,24 +33,32 @@ impl SweepFault {
 }
 
 impl From<WriteFault> for SweepFault {
+    ghost from_gives = { λ _ e. e ≡ write_failed };
+
     fn from(_fault: WriteFault) -> SweepFault {
         SweepFault::Write
     }
 }
 
 impl From<OutOfMemory> for SweepFault {
+    ghost from_gives = { λ _ e. e ≡ out_of_memory };
+
     fn from(_fault: OutOfMemory) -> SweepFault {
         SweepFault::OutOfMemory
     }
 }
 
 impl From<AllocError> for SweepFault {
+    ghost from_gives = { λ _ e. e ≡ out_of_memory };
+
     fn from(_error: AllocError) -> SweepFault {
         SweepFault::OutOfMemory
     }
 }
 
 impl<T: Drop> From<AllocFailed<T>> for SweepFault {
+    ghost from_gives = { λ _ e. e ≡ out_of_memory };
+
     fn from(_error: AllocFailed<T>) -> SweepFault {
         SweepFault::OutOfMemory
     }

@@ -1,8 +1,5 @@
 -- One row more.
-use Rattle.std.proofs.Common.{◌≡◌, ◌∙◌, ◌+◌, ◌++◌, ◌∷◌, [], ℕ, List, length, slice_get, Some, sym, subst, arith, length-append, rules}
-use Rattle.ov_sweep_rows.specs.declared.row.Row.{Row}
-use Rattle.std.specs.Prelude.{Ok}
-use Rattle.ov_sweep.specs.Sweeps.{IsOutcomeAt}
+use Rattle.std.proofs.Common.{◌∷◌, [], arith, length-append, rules}
 use Rattle.ov_sweep.proofs.Sharing.{row_more}
 use Rattle.ov_sweep.proofs.batch.put_together.Goals as goal
 

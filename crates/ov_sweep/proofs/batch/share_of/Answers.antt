@@ -1,6 +1,6 @@
 -- One run more of a share.
-use Rattle.std.proofs.Common.{◌≡◌, ◌∙◌, ◌+◌, ◌*◌, ◌<◌, ◌++◌, ◌∷◌, [], ℕ, List, length, slice_get, Some, refl, sym, subst, arith, length-append, rules}
-use Rattle.ov_sweep.proofs.Sharing.{apart_more, whole}
+use Rattle.std.proofs.Common.{◌≡◌, ◌+◌, ◌*◌, ◌++◌, ◌∷◌, [], length, refl, arith, length-append}
+use Rattle.ov_sweep.proofs.Sharing.{apart_more}
 use Rattle.std.proofs.lemmas.Option.{slice_get_read}
 use Rattle.ov_sweep.proofs.batch.share_of.Goals as goal
 

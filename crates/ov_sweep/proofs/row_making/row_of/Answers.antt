@@ -1,5 +1,5 @@
 -- The row of what was grown.
-use Rattle.std.proofs.Common.{◌≡◌, ℕ, refl, subst}
+use Rattle.std.proofs.Common.{ℕ, refl, subst}
 use Rattle.ov_sweep.specs.Rows.{IsToldOf}
 use Rattle.ov_sweep.proofs.row_making.row_of.Goals as goal
 
@@ -9,6 +9,7 @@ returns c =
     let b = c.count-broadcasts.ensures.value in
     record {
       options = refl;
+      three = refl;
       text = grown.text.items;
       core = grown.core;
       settled = grown.settled;
