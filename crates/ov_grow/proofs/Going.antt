@@ -1,10 +1,14 @@
 -- Growing goes on: steps put together, and what single calls give.
-use Rattle.std.proofs.Common.{◌≡◌, ℕ, Bool, List, [], ◌++◌, refl, sym, ap, append_assoc, append-nil, ◌∙◌}
+use Rattle.std.proofs.Common.{◌≡◌, ℕ, Bool, [], ◌++◌, refl, sym, ap, subst, append_assoc}
+use Rattle.std.proofs.Common.{append-nil, ◌∙◌, inl, inr}
+use Rattle.std.specs.Prelude.{Result, IfErr, IsErrAnd}
+use Rattle.std.proofs.lemmas.Result.{err_from_is_err_and}
 use Rattle.rand_pcg.specs.Lcg.{Lcg}
 use Rattle.ov_snap.specs.CoreState.{CoreState, KeepsReports}
 use Rattle.ov_grow.specs.Choices.{one_of, comes_true, after_chance, later}
 use Rattle.ov_grow.specs.Growth.{Growth, Chooses, Tries}
-use Rattle.ov_grow.specs.Code.Standing.{Goes, growth_of}
+use Rattle.ov_grow.specs.Code.Standing.{Goes, IsNoWay, growth_of}
+use Rattle.ov_grow.specs.declared.fault.GrowFault.{GrowFault}
 use Rattle.ov_grow.specs.declared.growing.Growing.{Growing}
 
 -- the same reports are kept
@@ -70,3 +74,49 @@ goes_on P Q R b t u put first second = record {
   way = put first.way second.way;
   kept = kept_trans b.recording.core t.recording.core u.recording.core first.kept second.kept;
 }
+
+-- a fault is passed on as it is
+pub passes_on : {X : Type 0} (Q : GrowFault → Type 0) (result : Result X GrowFault) (fault : GrowFault)
+    → IsErrAnd result (λ e. e ≡ fault) → Q fault → IfErr result Q
+passes_on Q result fault err holds =
+    let p = err_from_is_err_and result err in
+    subst (λ r. IfErr r Q) (sym p.1) (subst Q (sym p.2) holds)
+
+-- a way leads nowhere if a part of it leads nowhere
+pub no_way_by : (Part Way : Growth → Growth → Type 0) (t b : Growing) (fault : GrowFault)
+    → ((u : Growth) → Way (growth_of b) u → (v : Growth) × Part (growth_of t) v)
+    → IsNoWay Part t fault → IsNoWay Way b fault
+no_way_by Part Way t b fault part (inl memory) = inl memory
+no_way_by Part Way t b fault part (inr none) = inr (λ u way. let found = part u way in none found.0 found.1)
+
+-- growing has come from b to t on this way, and what is left of the way is known: who goes the rest has gone the whole
+-- way, and wherever the whole way leads, the rest leads
+pub record IsOn (Way Left : Growth → Growth → Type 0) (b t : Growing) : Type 0 where
+  pub goes : (u : Growing) → Goes Left t u → Goes Way b u
+  pub leads : (u : Growth) → Way (growth_of b) u → Left (growth_of t) u
+
+-- nothing was done of the way
+pub on_begun : (Way : Growth → Growth → Type 0) (b : Growing) → IsOn Way Way b b
+on_begun Way b = record { goes = λ u gone. gone; leads = λ u way. way }
+
+-- a step more on the way
+pub on_more : (Way Left Step Rest : Growth → Growth → Type 0) (b t v : Growing) → IsOn Way Left b t
+    → ((u : Growth) → Step (growth_of t) (growth_of v) → Rest (growth_of v) u → Left (growth_of t) u)
+    → ((u : Growth) → Step (growth_of t) (growth_of v) → Left (growth_of t) u → Rest (growth_of v) u)
+    → Goes Step t v → IsOn Way Rest b v
+on_more Way Left Step Rest b t v so put rest did = record {
+  goes = λ u gone. so.goes u (goes_on Step Rest Left t v u (λ step left. put (growth_of u) step left) did gone);
+  leads = λ u way. rest u did.way (so.leads u way);
+}
+
+-- nothing is left of the way
+pub on_all : (Way Left : Growth → Growth → Type 0) (b t : Growing) → IsOn Way Left b t
+    → Left (growth_of t) (growth_of t) → Goes Way b t
+on_all Way Left b t so end = so.goes t (goes_still Left t end)
+
+-- what is left of the way leads nowhere
+pub on_nowhere : (Way Left Part : Growth → Growth → Type 0) (b t : Growing) (fault : GrowFault) → IsOn Way Left b t
+    → ((u : Growth) → Left (growth_of t) u → (v : Growth) × Part (growth_of t) v)
+    → IsNoWay Part t fault → IsNoWay Way b fault
+on_nowhere Way Left Part b t fault so part none =
+    no_way_by Part Way t b fault (λ u way. part u (so.leads u way)) none

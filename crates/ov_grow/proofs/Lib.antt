@@ -11,3 +11,8 @@ pub mod Analysing
 pub mod Ways
 pub mod OneGrowth
 pub mod OnePhase
+pub mod NoTurn
+pub mod NoJoin
+pub mod NoBroadcast
+pub mod NoPhase
+pub mod NoGrowth

@@ -1,6 +1,6 @@
 -- Rounds of shuffles, and one act for each of several nodes.
-use Rattle.std.proofs.Common.{◌≡◌, ◌<◌, ◌≤◌, ◌+◌, ◌-◌, ℕ, zero, suc, List, [], ◌∷◌, length, drop, get_or, refl, sym}
-use Rattle.std.proofs.Common.{subst, arith, drop-cons, ◌∙◌, ap}
+use Rattle.std.proofs.Common.{◌≡◌, ◌<◌, ◌≤◌, ◌+◌, ℕ, zero, suc, List, [], ◌∷◌, length, drop, get_or, refl, sym}
+use Rattle.std.proofs.Common.{subst, arith, drop-cons}
 use Rattle.ov_script.specs.declared.act.Act.{Act}
 use Rattle.ov_grow.specs.Growth.{Growth, Does}
 use Rattle.ov_grow.specs.Rounds.{DoesEach, Round, Rounds}
@@ -15,10 +15,31 @@ each_more what nodes i node s t u within is did more =
     subst (λ xs. DoesEach what xs s u) (sym (drop-cons nodes i 0 within))
     (t, subst (λ a. Does s (what a) t) is did, subst (λ k. DoesEach what (drop k nodes) t u) after more)
 
+-- the next of these nodes is the first of what is left
+pub each_next : (what : ℕ → Act) (nodes : List ℕ) (i node : ℕ) (s u : Growth) → i < length nodes
+    → node ≡ get_or nodes i 0 → DoesEach what (drop i nodes) s u → DoesEach what (node ∷ drop (i + 1) nodes) s u
+each_next what nodes i node s u within is each =
+    let after : suc i ≡ i + 1 = omega arith in
+    subst (λ k. DoesEach what (node ∷ drop k nodes) s u) after
+    (subst (λ a. DoesEach what (a ∷ drop (suc i) nodes) s u) (sym is)
+    (subst (λ xs. DoesEach what xs s u) (drop-cons nodes i 0 within) each))
+
+-- what is left begins with the act of the next of these nodes
+pub each_begins : (what : ℕ → Act) (nodes : List ℕ) (i node : ℕ) (s u : Growth) → i < length nodes
+    → node ≡ get_or nodes i 0 → DoesEach what (drop i nodes) s u → (t : Growth) × Does s (what node) t
+each_begins what nodes i node s u within is each =
+    let (t, did, more) = each_next what nodes i node s u within is each in (t, did)
+
 -- a round more
 pub rounds_more : (rules : TurnRules) (n m : ℕ) (s t u : Growth) → n ≡ suc m → Round rules s t → Rounds rules m t u
     → Rounds rules n s u
 rounds_more rules n m s t u one round rounds = subst (λ k. Rounds rules k s u) (sym one) (t, round, rounds)
+
+-- rounds begin with a round
+pub rounds_begin : (rules : TurnRules) (n m : ℕ) (s u : Growth) → n ≡ suc m → Rounds rules n s u
+    → (t : Growth) × Round rules s t
+rounds_begin rules n m s u one rounds =
+    let (t, round, more) = subst (λ k. Rounds rules k s u) one rounds in (t, round)
 
 pub rounds_end : (rules : TurnRules) (n : ℕ) (s : Growth) → n ≡ 0 → Rounds rules n s s
 rounds_end rules n s none = subst (λ k. Rounds rules k s s) (sym none) refl

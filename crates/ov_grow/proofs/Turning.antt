@@ -1,10 +1,9 @@
 -- Turns of packets.
-use Rattle.std.proofs.Common.{◌≡◌, ◌<◌, ◌≤◌, ◌+◌, ℕ, zero, suc, Bool, true, false, List, [], ◌∷◌, ◌++◌, length}
-use Rattle.std.proofs.Common.{Option, Some, None, refl, sym, ap, subst, ◌∙◌, inl, inr, ◌⊎◌, arith, length-append}
+use Rattle.std.proofs.Common.{◌≡◌, ◌<◌, ◌≤◌, ◌+◌, ℕ, zero, suc, Bool, true, false, List, [], ◌∷◌, length}
+use Rattle.std.proofs.Common.{Some, refl, sym, ap, subst, ◌∙◌, inl, inr, ◌⊎◌, arith, length-append}
 use Rattle.std.specs.Prelude.{MatchBool, slice_get}
 use Rattle.std.proofs.lemmas.Option.{none-some, slice_get_cases}
 use Rattle.ov_ids.proofs.Stepping.{step_none}
-use Rattle.ov_wire.specs.declared.message.Message.{Message}
 use Rattle.ov_net.specs.Limits.{most_entries}
 use Rattle.ov_net.specs.Refusals.{EventJudged}
 use Rattle.ov_net.specs.declared.fault.NetFault.TheVariants.{TooManyEntries}
@@ -14,7 +13,7 @@ use Rattle.ov_script.specs.declared.act.Act.TheVariants as act
 use Rattle.ov_grow_options.specs.declared.options.Order.{Order}
 use Rattle.ov_grow_options.specs.declared.options.Order.TheVariants.{Random, Oldest}
 use Rattle.ov_grow.specs.Growth.{Growth, Does, Tries}
-use Rattle.ov_grow.specs.Turns.{Arrives, HasFailed, HasNoPackets, IsDelivered, IsTurnOf, MayBeRepeated, RunOut}
+use Rattle.ov_grow.specs.Turns.{Arrives, HasNoPackets, IsDelivered, IsTurnOf, MayBeRepeated, RunOut}
 use Rattle.ov_grow.specs.Turns.{SenderIsTold, Turn, TurnsUpTo}
 use Rattle.ov_grow.specs.declared.turn_rules.TurnRules.{TurnRules}
 

@@ -1,11 +1,12 @@
-ghost use Rattle.std.specs.Prelude.{◌≡◌, ◌≢◌, ◌<◌, ◌≤◌, ◌↔◌, length, IfOk, IfSome, IfNone, OnOk, IsTrue};
+ghost use Rattle.std.specs.Prelude.{◌≡◌, ◌≢◌, ◌<◌, ◌≤◌, ◌↔◌, length, IfErr, IfOk, IfSome, IfNone, OnOk, IsTrue};
 ghost use Rattle.ov_net.specs.Limits.{most_packets};
 ghost use Rattle.ov_net.specs.Net.{IsGone};
 ghost use Rattle.ov_recording.specs.Replay.{Replays};
 ghost use Rattle.ov_script.specs.WrittenLines.{comment_line};
 ghost use Rattle.ov_grow.specs.Growth.{AreLive, Does, IsLive, Writes};
 ghost use Rattle.ov_grow.specs.Growing.{beginning};
-ghost use Rattle.ov_grow.specs.Code.Standing.{Goes, growth_of};
+ghost use Rattle.ov_grow.specs.Code.Standing.{Goes, IsNoWay, growth_of};
+ghost use Rattle.ov_grow.specs.declared.fault.GrowFault.TheVariants.{OutOfMemory as out_of_memory};
 
 use crate::choices::Choices;
 use crate::fault::GrowFault;
@@ -79,18 +80,20 @@ impl Growing {
         self.world().born(node) && !self.is_live(node)
     }
 
-    /// Does an act, and writes its line.
+    /// Does an act, and writes its line. A fault means that the world refuses the act, or that memory ran out.
     pub(crate) fn act(&mut self, act: Act) -> Result<(), GrowFault>
-        ensures { OnOk result (Goes (λ s u. Does s act u) self.old self.new) }
+        ensures goes { OnOk result (Goes (λ s u. Does s act u) self.old self.new) }
+        ensures refused { IfErr result (IsNoWay (λ s u. Does s act u) self.old) }
     {
         self.recording.act(act)?;
         let _text = self.recording.text();
         Ok(())
     }
 
-    /// Writes a comment.
+    /// Writes a comment. OutOfMemory (99) is returned if an allocation was refused.
     pub(crate) fn comment(&mut self, said: &str) -> Result<(), GrowFault>
-        ensures { OnOk result (Goes (λ s u. Writes s (comment_line said.now) u) self.old self.new) }
+        ensures goes { OnOk result (Goes (λ s u. Writes s (comment_line said.now) u) self.old self.new) }
+        ensures refused { IfErr result (λ fault. fault ≡ out_of_memory) }
     {
         self.recording.comment(said)?;
         Ok(())

@@ -1,7 +1,7 @@
-ghost use Rattle.std.specs.Prelude.{◌≡◌, ◌≤◌, ◌-◌, OnOk};
+ghost use Rattle.std.specs.Prelude.{◌≡◌, ◌≤◌, ◌-◌, IfErr, OnOk};
 ghost use Rattle.ov_grow_options.specs.Limits.{MayBeGrown};
 ghost use Rattle.ov_grow.specs.Phases.{Births, Join, joining, turns_between};
-ghost use Rattle.ov_grow.specs.Code.Standing.{Goes};
+ghost use Rattle.ov_grow.specs.Code.Standing.{Goes, IsNoWay};
 
 use crate::fault::GrowFault;
 use crate::growing::Growing;
@@ -16,7 +16,8 @@ const MOST_TURNS: u32 = 1000;
 impl Growing {
     /// Nodes join.
     pub(crate) fn join(&mut self, options: &GrowOptions) -> Result<(), GrowFault>
-        ensures { OnOk result (Goes (Join options.now) self.old self.new) }
+        ensures goes { OnOk result (Goes (Join options.now) self.old self.new) }
+        ensures refused { IfErr result (IsNoWay (Join options.now) self.old) }
     {
         let rules = TurnRules::joining(options);
         self.comment("join")?;
@@ -28,7 +29,8 @@ impl Growing {
     /// The nodes from 2 on are born, and there are turns before each birth.
     fn births(&mut self, nodes: u32, pace: u32, rules: &TurnRules) -> Result<(), GrowFault>
         requires { MayBeGrown nodes }
-        ensures { OnOk result (Goes (Births rules.now pace 2 (nodes - 1)) self.old self.new) }
+        ensures goes { OnOk result (Goes (Births rules.now pace 2 (nodes - 1)) self.old self.new) }
+        ensures refused { IfErr result (IsNoWay (Births rules.now pace 2 (nodes - 1)) self.old) }
     {
         for id in 2..nodes + 1 {
             self.turns(pace, rules)?;

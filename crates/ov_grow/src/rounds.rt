@@ -1,7 +1,7 @@
-ghost use Rattle.std.specs.Prelude.{OnOk, IfOk};
+ghost use Rattle.std.specs.Prelude.{IfErr, IfOk, OnOk};
 ghost use Rattle.ov_script.specs.declared.act.Act.TheVariants as act;
 ghost use Rattle.ov_grow.specs.Rounds.{AreLiveInOrder, DoesEach, Round, Rounds};
-ghost use Rattle.ov_grow.specs.Code.Standing.{Goes};
+ghost use Rattle.ov_grow.specs.Code.Standing.{Goes, IsNoWay};
 
 use crate::fault::GrowFault;
 use crate::growing::Growing;
@@ -12,7 +12,8 @@ use ov_script::Act;
 impl Growing {
     /// So many rounds of shuffles.
     pub(crate) fn rounds(&mut self, count: u32, rules: &TurnRules) -> Result<(), GrowFault>
-        ensures { OnOk result (Goes (Rounds rules.now count) self.old self.new) }
+        ensures goes { OnOk result (Goes (Rounds rules.now count) self.old self.new) }
+        ensures refused { IfErr result (IsNoWay (Rounds rules.now count) self.old) }
     {
         for _round in 0..count {
             self.round(rules)?;
@@ -22,7 +23,8 @@ impl Growing {
 
     /// A round of shuffles.
     fn round(&mut self, rules: &TurnRules) -> Result<(), GrowFault>
-        ensures { OnOk result (Goes (Round rules.now) self.old self.new) }
+        ensures goes { OnOk result (Goes (Round rules.now) self.old self.new) }
+        ensures refused { IfErr result (IsNoWay (Round rules.now) self.old) }
     {
         let order = self.live_in_order()?;
         self.shuffle(&order)?;
@@ -39,7 +41,8 @@ impl Growing {
 
     /// Each of these nodes starts a shuffle.
     fn shuffle(&mut self, nodes: &[NodeId]) -> Result<(), GrowFault>
-        ensures { OnOk result (Goes (DoesEach act.Shuffle nodes.now) self.old self.new) }
+        ensures goes { OnOk result (Goes (DoesEach act.Shuffle nodes.now) self.old self.new) }
+        ensures refused { IfErr result (IsNoWay (DoesEach act.Shuffle nodes.now) self.old) }
     {
         for node in nodes {
             self.act(Act::Shuffle(*node))?;

@@ -1,6 +1,6 @@
-ghost use Rattle.std.specs.Prelude.{◌≡◌, ◌≢◌, ◌<◌, [], length, slice_get, IfOk, OnOk, MatchOption, Some};
+ghost use Rattle.std.specs.Prelude.{◌≡◌, ◌≢◌, ◌<◌, [], length, slice_get, IfErr, IfOk, OnOk, MatchOption, Some};
 ghost use Rattle.ov_grow.specs.Turns.{Arrives, HasNoPackets, IsDelivered, IsTurnOf, MayBeRepeated, RunOut, Turn, TurnsUpTo};
-ghost use Rattle.ov_grow.specs.Code.Standing.{Fails, Goes, IsTold, growth_of};
+ghost use Rattle.ov_grow.specs.Code.Standing.{Fails, Goes, IsNoWay, IsTold, growth_of};
 
 use crate::fault::GrowFault;
 use crate::growing::Growing;
@@ -15,7 +15,8 @@ impl Growing {
     /// A turn of a packet.
     pub(crate) fn turn(&mut self, rules: &TurnRules) -> Result<(), GrowFault>
         requires { ¬ HasNoPackets (growth_of self.old) }
-        ensures { OnOk result (Goes (Turn rules.now) self.old self.new) }
+        ensures goes { OnOk result (Goes (Turn rules.now) self.old self.new) }
+        ensures refused { IfErr result (IsNoWay (Turn rules.now) self.old) }
     {
         let place = self.next_place(rules.order);
         if self.choices.comes_true(rules.loss.of_hundred()) {
@@ -40,7 +41,8 @@ impl Growing {
 
     /// Delivers a packet that is not lost. It may be repeated first.
     fn arrive(&mut self, place: u32, rules: &TurnRules) -> Result<(), GrowFault>
-        ensures { OnOk result (Goes (Arrives rules.now place) self.old self.new) }
+        ensures goes { OnOk result (Goes (Arrives rules.now place) self.old self.new) }
+        ensures refused { IfErr result (IsNoWay (Arrives rules.now place) self.old) }
     {
         self.may_repeat(place, rules)?;
         self.deliver(place, rules)
@@ -48,7 +50,8 @@ impl Growing {
 
     /// Repeats a packet with the chance of a repetition.
     fn may_repeat(&mut self, place: u32, rules: &TurnRules) -> Result<(), GrowFault>
-        ensures { OnOk result (Goes (MayBeRepeated rules.now place) self.old self.new) }
+        ensures goes { OnOk result (Goes (MayBeRepeated rules.now place) self.old self.new) }
+        ensures refused { IfErr result (IsNoWay (MayBeRepeated rules.now place) self.old) }
     {
         if self.choices.comes_true(rules.repeat.of_hundred()) {
             return self.act(Act::Repeat(place));
@@ -58,7 +61,8 @@ impl Growing {
 
     /// Delivers a packet. Its sender may be told that this failed.
     fn deliver(&mut self, place: u32, rules: &TurnRules) -> Result<(), GrowFault>
-        ensures { OnOk result (Goes (IsDelivered rules.now place) self.old self.new) }
+        ensures goes { OnOk result (Goes (IsDelivered rules.now place) self.old self.new) }
+        ensures refused { IfErr result (IsNoWay (IsDelivered rules.now place) self.old) }
     {
         if !rules.tells_crashes {
             return self.act(Act::Deliver(place));
@@ -70,7 +74,8 @@ impl Growing {
 
     /// Tells a sender that the receiver of its packet crashed, if there is one to be told.
     fn tell(&mut self, failed: Option<(NodeId, NodeId)>) -> Result<(), GrowFault>
-        ensures { OnOk result (Goes (IsTold failed) self.old self.new) }
+        ensures goes { OnOk result (Goes (IsTold failed) self.old self.new) }
+        ensures refused { IfErr result (IsNoWay (IsTold failed) self.old) }
     {
         match failed {
             Some((sender, receiver)) => self.act(Act::CrashReport(sender, receiver)),
@@ -100,7 +105,8 @@ impl Growing {
 
     /// Packets run out.
     pub(crate) fn run_out(&mut self, rules: &TurnRules) -> Result<(), GrowFault>
-        ensures { OnOk result (Goes (RunOut rules.now) self.old self.new) }
+        ensures goes { OnOk result (Goes (RunOut rules.now) self.old self.new) }
+        ensures refused { IfErr result (IsNoWay (RunOut rules.now) self.old) }
     {
         while self.packets() > 0 {
             self.turn(rules)?;
@@ -110,7 +116,8 @@ impl Growing {
 
     /// So many turns, or fewer if no packet is left.
     pub(crate) fn turns(&mut self, most: u32, rules: &TurnRules) -> Result<(), GrowFault>
-        ensures { OnOk result (Goes (TurnsUpTo rules.now most) self.old self.new) }
+        ensures goes { OnOk result (Goes (TurnsUpTo rules.now most) self.old self.new) }
+        ensures refused { IfErr result (IsNoWay (TurnsUpTo rules.now most) self.old) }
     {
         for _turn in 0..most {
             if self.packets() == 0 {

@@ -1,10 +1,13 @@
 -- Where growing stands, of the parts that the code keeps.
-use Rattle.std.specs.Prelude.{◌≡◌, ◌⊎◌, ℕ, ◌≤◌, List, Option, Some, None, slice_get}
+use Rattle.std.specs.Prelude.{◌≡◌, ◌⊎◌, ℕ, ◌≤◌, List, length, Option, Some, None, slice_get}
 use Rattle.ov_wire.specs.declared.message.Message.{Message}
 use Rattle.ov_ids.specs.Members.{Has}
 use Rattle.ov_even.specs.Answer.{IsAnswer}
 use Rattle.ov_snap.specs.CoreState.{CoreState, HasReportOfAll, KeepsReports}
 use Rattle.ov_snap.specs.ReportState.{ReportState}
+use Rattle.ov_snap.specs.Snapshots.{IsMoment}
+use Rattle.ov_run.specs.Subjects.{IsReported}
+use Rattle.ov_recording.specs.Recordings.{all_of}
 use Rattle.ov_script.specs.declared.act.Act.TheVariants as act
 use Rattle.ov_grow.specs.Growth.{Growth, Does}
 use Rattle.ov_grow.specs.Turns.{HasFailed}
@@ -25,6 +28,10 @@ pub record Goes (Way : Growth → Growth → Type 0) (b u : Growing) : Type 0 wh
 -- growing can't go on in this way: memory ran out, or this way leads nowhere from here
 abbrev pub IsNoWay : (Growth → Growth → Type 0) → Growing → GrowFault → Type 0
 IsNoWay Way b fault = (fault ≡ OutOfMemory) ⊎ ((u : Growth) → ¬ Way (growth_of b) u)
+
+-- the last entry is of a snapshot, and no report of all nodes of that moment is filed
+abbrev pub IsFresh : CoreState → Type 0
+IsFresh b = IsMoment b.world.journal (length b.world.journal) × ¬ IsReported b (all_of (length b.world.journal))
 
 -- a sender and a receiver of which the sender is told that the receiver crashed, or none
 abbrev pub IsTold : Option (ℕ × ℕ) → Growth → Growth → Type 0

@@ -1,10 +1,8 @@
-use Rattle.std.proofs.Common.{◌≡◌, ℕ, ◌+◌, ◌-◌, Bool, ◌||◌, List, ◌++◌, length, drop, take}
-use Rattle.ov_grow.specs.Code.Standing.{Goes, HaveNone}
-use Rattle.ov_grow.specs.declared.growing.Growing.{Growing}
-use Rattle.ov_grow.proofs.growing.Growing.births.Given as goal
+use Rattle.std.proofs.Common.{◌+◌, ◌-◌}
 use Rattle.ov_grow.specs.Phases.{Births}
+use Rattle.ov_grow.proofs.Going.{IsOn}
+use Rattle.ov_grow.proofs.growing.Growing.births.Given as goal
 
 abbrev pub invariant-loop-id : goal.invariant-loop-id
 invariant-loop-id l =
-    (u : Growing) → Goes (Births l.rules l.pace l.id (l.nodes + 1 - l.id)) l.self u
-    → Goes (Births l.rules l.pace 2 (l.nodes - 1)) l.initial.self u
+    IsOn (Births l.rules l.pace 2 (l.nodes - 1)) (Births l.rules l.pace l.id (l.nodes + 1 - l.id)) l.initial.self l.self
