@@ -22,7 +22,7 @@ kept_all false also rows kept is taken = absurd (let e : false ≡ true = is in 
 named : (runs : List GrowOptions) (rows : List Row) → AreRowsOf runs rows None → AreGrown rows
 named runs rows are row has =
     let place = at_has rows row has in
-    let (o, at, is) = are.each place.0 row place.1 in
+    let (o, at, is, none) = are.each place.0 row place.1 in
     subst (λ (x : GrowOptions). IsRowOf x row) (sym is.options) is
 
 -- after a whole sweep each row that was kept is that of the options that it names

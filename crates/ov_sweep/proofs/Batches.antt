@@ -20,12 +20,12 @@ use Rattle.ov_sweep.specs.declared.sweep_fault.SweepFault.TheVariants.{Run, Writ
 -- what came of a run, if more runs stand behind it
 outcome_before : (runs later : List GrowOptions) (i : ℕ) (x : Result Row GrowFault) → IsOutcomeAt runs i x
     → IsOutcomeAt (runs ++ later) i x
-outcome_before runs later i x (o, read, is) = (o, at_prefix runs later i o read, is)
+outcome_before runs later i x (o, read, is, refused) = (o, at_prefix runs later i o read, is, refused)
 
 -- and if more runs stand before it
 outcome_behind : (earlier runs : List GrowOptions) (i j : ℕ) (x : Result Row GrowFault) → i ≡ length earlier + j
     → IsOutcomeAt runs j x → IsOutcomeAt (earlier ++ runs) i x
-outcome_behind earlier runs i j x at (o, read, is) = (o, at_right earlier runs i j at ∙ read, is)
+outcome_behind earlier runs i j x at (o, read, is, refused) = (o, at_right earlier runs i j at ∙ read, is, refused)
 
 -- the rows of some first runs are so if more runs stand behind these
 pub rows_before : (runs later : List GrowOptions) (rows : List Row) → AreFirstRowsOf runs rows
@@ -47,9 +47,11 @@ ends_more : (runs later : List GrowOptions) (rows more : List Row) (refused : Op
     → length rows ≡ length runs → EndsAt later more refused → EndsAt (runs ++ later) (rows ++ more) refused
 ends_more runs later rows more None count ends =
     length-append rows more ∙ (ap₂ (λ a b. a + b) count ends ∙ sym (length-append runs later))
-ends_more runs later rows more (Some refused) count ends =
-    at_right runs later (length (rows ++ more)) (length more)
-    (length-append rows more ∙ ap (λ n. n + length more) count) ∙ ends
+ends_more runs later rows more (Some refused) count (at, is) = (
+  at_right runs later (length (rows ++ more)) (length more)
+      (length-append rows more ∙ ap (λ n. n + length more) count) ∙ at,
+  is,
+)
 
 -- no rows were taken yet
 taken_none : (old : Option (List Row)) → WereTaken [] old old

@@ -1,8 +1,9 @@
 -- Sweeps: what comes of many runs, in the order of their options. Chosen here.
-use Rattle.std.specs.Prelude.{◌≡◌, ℕ, List, length, slice_get, take, ◌++◌, Option, Some, None, Result, Ok, Err, IfOk}
+use Rattle.std.specs.Prelude.{◌≡◌, ℕ, List, length, slice_get, take, ◌++◌, Option, Some, None, Result, Ok, Err, IfErr, IfOk}
 use Rattle.std.specs.Prelude.{MatchResult, ⊤}
 use Rattle.std.specs.Iterator.{Drains, Yields}
 use Rattle.ov_grow_options.specs.declared.options.GrowOptions.{GrowOptions}
+use Rattle.ov_grow.specs.Growing.{IsGrowRefusal}
 use Rattle.ov_grow.specs.declared.fault.GrowFault.{GrowFault}
 use Rattle.ov_sweep_rows.specs.declared.row.Row.{Row}
 use Rattle.ov_sweep.specs.Rows.{IsRowOf}
@@ -10,18 +11,20 @@ use Rattle.ov_sweep.specs.declared.batch.RefusedRun.{RefusedRun}
 use Rattle.ov_sweep.specs.declared.sweep_fault.SweepFault.{SweepFault}
 use Rattle.ov_sweep.specs.declared.sweep_fault.SweepFault.TheVariants.{Run}
 
--- the run at this place of the batch came to this: a row of its options, or growing was refused
+-- the run at this place of the batch came to this: a row of its options, or growing with them was refused
 abbrev pub IsOutcomeAt : List GrowOptions → ℕ → Result Row GrowFault → Type 0
-IsOutcomeAt batch i x = (o : GrowOptions) × (slice_get batch i ≡ Some o) × IfOk x (λ row. IsRowOf o row)
+IsOutcomeAt batch i x =
+    (o : GrowOptions) × (slice_get batch i ≡ Some o) × IfOk x (λ row. IsRowOf o row) × IfErr x (IsGrowRefusal o)
 
 -- each of these rows is that of the options at its place
 abbrev pub AreFirstRowsOf : List GrowOptions → List Row → Type 0
 AreFirstRowsOf batch rows = (i : ℕ) (row : Row) → slice_get rows i ≡ Some row → IsOutcomeAt batch i (Ok row)
 
--- these rows are all that the batch has, or the run behind them was refused
+-- these rows are all that the batch has, or growing with the options behind them was refused
 abbrev pub EndsAt : List GrowOptions → List Row → Option RefusedRun → Type 0
 EndsAt batch rows None = length rows ≡ length batch
-EndsAt batch rows (Some refused) = slice_get batch (length rows) ≡ Some refused.options
+EndsAt batch rows (Some refused) =
+    (slice_get batch (length rows) ≡ Some refused.options) × IsGrowRefusal refused.options refused.fault
 
 -- the rows of a batch: each is that of the options at its place, and they end before a run that was refused
 pub record AreRowsOf (batch : List GrowOptions) (rows : List Row) (refused : Option RefusedRun) : Type 0 where

@@ -1,4 +1,5 @@
 ghost use Rattle.std.specs.Prelude.{◌≡◌};
+ghost use Rattle.ov_sweep.specs.Faults.{number_of};
 ghost use Rattle.ov_sweep.specs.declared.sweep_fault.SweepFault.TheVariants.{OutOfMemory as out_of_memory, Write as write_failed};
 
 use crate::batch::RefusedRun;
@@ -22,8 +23,10 @@ pub enum SweepFault {
 }
 
 impl SweepFault {
-    /// The fault's number.
-    pub fn number(&self) -> u32 {
+    /// The fault's number: that of the run, 72 for the writer, and 99 for out of memory.
+    pub fn number(&self) -> u32
+        ensures { result ≡ number_of self.now }
+    {
         match self {
             SweepFault::Run(refused) => refused.fault.number(),
             SweepFault::Write => 72,

@@ -22,5 +22,5 @@ loop-place-preserved c =
       each = rw pushed (apart_more c.args.batch.now c.args.first c.args.apart c.loop-place.place old x
           c.index-batch-place.result i.each i.place
           (slice_get_read c.args.batch.now (length c.args.batch.now) c.loop-place.place c.index-batch-place.result refl
-          c.loop-place-test.true c.index-batch-place.is) c.row_of.ensures);
+          c.loop-place-test.true c.index-batch-place.is) c.row_of.ensures.row c.row_of.ensures.refused);
     }

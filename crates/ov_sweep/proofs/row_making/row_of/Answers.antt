@@ -3,8 +3,8 @@ use Rattle.std.proofs.Common.{ℕ, refl, subst}
 use Rattle.ov_sweep.specs.Rows.{IsToldOf}
 use Rattle.ov_sweep.proofs.row_making.row_of.Goals as goal
 
-pub returns : goal.returns
-returns c =
+pub returns-clause-row : goal.returns-clause-row
+returns-clause-row c =
     let grown = c.in_ok-grown.grown in
     let b = c.count-broadcasts.ensures.value in
     record {
