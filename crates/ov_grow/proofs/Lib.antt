@@ -13,3 +13,4 @@ pub mod OneGrowth
 pub mod OnePhase
 pub mod NoTurn
 pub mod NoJoin
+pub mod Full
