@@ -16,3 +16,4 @@ pub mod NoJoin
 pub mod NoBroadcast
 pub mod NoPhase
 pub mod NoGrowth
+pub mod Full

@@ -74,8 +74,8 @@ pub no_way_healing : (o : GrowOptions) (b s t v : Growing) (p q : Phase) (fault 
     → Goes (Join o) b s → Goes (λ g u. Settle o g p u) s t → Goes (λ g u. CrashNodes o p.moment g q u) t v
     → IsNoWay (λ g u. (phase : Phase) × Heal o g phase u) v fault → IsGrowRefusal o fault
 no_way_healing o b s t v p q fault begins joins settles crashes (inl memory) = inl memory
-no_way_healing o b s t v p q fault begins joins settles crashes (inr none) = inr (λ text world settled crashed healed grows.
-    none grows.u (
+no_way_healing o b s t v p q fault begins joins settles crashes (inr none) =
+    inr (λ text world settled crashed healed grows. none grows.u (
       healed,
       subst (λ g. Heal o g healed grows.u)
           (same_crashed o b s t v p q text world settled crashed healed begins joins settles crashes grows) grows.heal,

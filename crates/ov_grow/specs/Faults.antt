@@ -1,5 +1,5 @@
 -- The faults of growing, and their numbers. Out of memory is one fault, whoever ran out of it.
-use Rattle.std.specs.Prelude.{ℕ}
+use Rattle.std.specs.Prelude.{◌≡◌, ◌⊎◌, ℕ}
 use Rattle.ov_net.specs.Refusals as net
 use Rattle.ov_net.specs.declared.fault.NetFault.{NetFault}
 use Rattle.ov_net.specs.declared.fault.NetFault.TheVariants as net_fault
@@ -24,3 +24,8 @@ of_event fault = Event fault
 abbrev pub of_analysis : CoreFault → GrowFault
 of_analysis core_fault.OutOfMemory = OutOfMemory
 of_analysis fault = Analysis fault
+
+-- the journal is full, or too few places for packets are free, or memory ran out
+abbrev pub IsFull : GrowFault → Type 0
+IsFull fault =
+    (fault ≡ Event net_fault.TooManyEntries) ⊎ ((fault ≡ Event net_fault.TooManyPackets) ⊎ (fault ≡ OutOfMemory))

@@ -35,8 +35,8 @@ IsAnalysedAt moment s u =
     × (moment ≡ length t.world.journal)
     × Writes t (analysis_line moment) u
 
--- a phase ends: a snapshot is taken and analysed, and there are so many broadcasts. The deliveries of the phase are those
--- after the snapshot
+-- a phase ends: a snapshot is taken and analysed, and there are so many broadcasts. The deliveries of the phase are
+-- those after the snapshot
 abbrev pub EndsPhase : TurnRules → ℕ → Growth → Phase → Growth → Type 0
 EndsPhase rules broadcasts s phase u =
     (t : Growth)
@@ -133,8 +133,8 @@ pub record AreFirst (s : Growth) (node crashed : ℕ) : Type 0 where
 abbrev pub HasNone : Growth → Type 0
 HasNone s = (a b : ℕ) → ¬ IsCrashedNeighbour s a b
 
--- so many crash reports, one after the other, and then no live node has a crashed node in its active view: the first live
--- node that has one gets the report of the first such, and then packets run out
+-- so many crash reports, one after the other, and then no live node has a crashed node in its active view: the first
+-- live node that has one gets the report of the first such, and then packets run out
 abbrev pub ReportTimes : TurnRules → ℕ → Growth → Growth → Type 0
 ReportTimes rules zero s u = HasNone s × (u ≡ s)
 ReportTimes rules (suc n) s u =

@@ -62,7 +62,8 @@ impl Growing {
         Ok(order)
     }
 
-    /// The cut that the report of a moment names, or no node. OutOfMemory (99) is returned if an allocation was refused.
+    /// The cut that the report of a moment names, or no node. OutOfMemory (99) is returned if an allocation was
+    /// refused.
     fn cut_at(&self, moment: u32) -> Result<Vec<NodeId>, OutOfMemory>
         requires { IsAnswered self.now.recording.core moment }
         ensures { IfOk result (λ cut. IsCutAt self.now.recording.core.world.journal moment cut.items) }

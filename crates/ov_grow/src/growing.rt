@@ -5,7 +5,7 @@ ghost use Rattle.ov_recording.specs.Replay.{Replays};
 ghost use Rattle.ov_script.specs.WrittenLines.{comment_line};
 ghost use Rattle.ov_grow.specs.Growth.{AreLive, Does, IsLive, Writes};
 ghost use Rattle.ov_grow.specs.Growing.{beginning};
-ghost use Rattle.ov_grow.specs.Code.Standing.{Goes, IsNoWay, growth_of};
+ghost use Rattle.ov_grow.specs.Code.Standing.{Goes, IsNoWay, IsRefusedAct, growth_of};
 ghost use Rattle.ov_grow.specs.declared.fault.GrowFault.TheVariants.{OutOfMemory as out_of_memory};
 
 use crate::choices::Choices;
@@ -84,6 +84,7 @@ impl Growing {
     pub(crate) fn act(&mut self, act: Act) -> Result<(), GrowFault>
         ensures goes { OnOk result (Goes (λ s u. Does s act u) self.old self.new) }
         ensures refused { IfErr result (IsNoWay (λ s u. Does s act u) self.old) }
+        ensures judged { IfErr result (IsRefusedAct act self.old) }
     {
         self.recording.act(act)?;
         let _text = self.recording.text();

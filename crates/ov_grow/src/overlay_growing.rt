@@ -39,14 +39,14 @@ impl Drop for Grown {
     }
 }
 
-/// Grows an overlay with these options: nodes join, the overlay settles, nodes crash, and the overlay heals. The text is
-/// a scenario that begins with the options' parameters and seed, and the core is the one that it makes, each line
+/// Grows an overlay with these options: nodes join, the overlay settles, nodes crash, and the overlay heals. The text
+/// is a scenario that begins with the options' parameters and seed, and the core is the one that it makes, each line
 /// accepted. For the moment at the end of each phase a report of all nodes is filed. How an overlay is grown is chosen
 /// here.
 ///
-/// A fault (see `GrowFault`) ends growing, and nothing is returned. It means that memory ran out (99), or that with these
-/// options nothing can be grown, by whatever scenario: the event that comes next is refused at some step, or no node
-/// lives when a snapshot is taken.
+/// A fault (see `GrowFault`) ends growing, and nothing is returned. It means that memory ran out (99), or that with
+/// these options nothing can be grown, by whatever scenario: the event that comes next is refused at some step, or no
+/// node lives when a snapshot is taken.
 pub fn grow(alloc: Global, options: &GrowOptions) -> Result<Grown, GrowFault>
     ensures grows { IfOk result
         (λ g. Grows options.now g.text.items g.core.world g.settled g.crashed g.healed) }

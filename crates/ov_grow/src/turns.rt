@@ -1,6 +1,7 @@
 ghost use Rattle.std.specs.Prelude.{◌≡◌, ◌≢◌, ◌<◌, [], length, slice_get, IfErr, IfOk, OnOk, MatchOption, Some};
+ghost use Rattle.ov_grow.specs.Faults.{IsFull};
 ghost use Rattle.ov_grow.specs.Turns.{Arrives, HasNoPackets, IsDelivered, IsTurnOf, MayBeRepeated, RunOut, Turn, TurnsUpTo};
-ghost use Rattle.ov_grow.specs.Code.Standing.{Fails, Goes, IsNoWay, IsTold, growth_of};
+ghost use Rattle.ov_grow.specs.Code.Standing.{Fails, Goes, IsNoWay, IsTold, MayBeTold, growth_of};
 
 use crate::fault::GrowFault;
 use crate::growing::Growing;
@@ -12,11 +13,13 @@ use ov_script::Act;
 use std::alloc::Global;
 
 impl Growing {
-    /// A turn of a packet.
+    /// A turn of a packet. It is refused only if the journal is full (16), too few places for packets are free (15), or
+    /// memory ran out (99).
     pub(crate) fn turn(&mut self, rules: &TurnRules) -> Result<(), GrowFault>
         requires { ¬ HasNoPackets (growth_of self.old) }
         ensures goes { OnOk result (Goes (Turn rules.now) self.old self.new) }
         ensures refused { IfErr result (IsNoWay (Turn rules.now) self.old) }
+        ensures full { IfErr result IsFull }
     {
         let place = self.next_place(rules.order);
         if self.choices.comes_true(rules.loss.of_hundred()) {
@@ -28,7 +31,8 @@ impl Growing {
     /// The place of the packet whose turn it is.
     fn next_place(&mut self, order: Order) -> u32
         requires { ¬ HasNoPackets (growth_of self.old) }
-        ensures { Goes (λ s u. IsTurnOf order s result u) self.old self.new }
+        ensures goes { Goes (λ s u. IsTurnOf order s result u) self.old self.new }
+        ensures within { result < length self.new.recording.core.world.net.packets }
     {
         match order {
             Order::Oldest => 0,
@@ -41,8 +45,10 @@ impl Growing {
 
     /// Delivers a packet that is not lost. It may be repeated first.
     fn arrive(&mut self, place: u32, rules: &TurnRules) -> Result<(), GrowFault>
+        requires { place < length self.old.recording.core.world.net.packets }
         ensures goes { OnOk result (Goes (Arrives rules.now place) self.old self.new) }
         ensures refused { IfErr result (IsNoWay (Arrives rules.now place) self.old) }
+        ensures full { IfErr result IsFull }
     {
         self.may_repeat(place, rules)?;
         self.deliver(place, rules)
@@ -50,8 +56,10 @@ impl Growing {
 
     /// Repeats a packet with the chance of a repetition.
     fn may_repeat(&mut self, place: u32, rules: &TurnRules) -> Result<(), GrowFault>
+        requires { place < length self.old.recording.core.world.net.packets }
         ensures goes { OnOk result (Goes (MayBeRepeated rules.now place) self.old self.new) }
         ensures refused { IfErr result (IsNoWay (MayBeRepeated rules.now place) self.old) }
+        ensures full { IfErr result IsFull }
     {
         if self.choices.comes_true(rules.repeat.of_hundred()) {
             return self.act(Act::Repeat(place));
@@ -61,8 +69,10 @@ impl Growing {
 
     /// Delivers a packet. Its sender may be told that this failed.
     fn deliver(&mut self, place: u32, rules: &TurnRules) -> Result<(), GrowFault>
+        requires { place < length self.old.recording.core.world.net.packets }
         ensures goes { OnOk result (Goes (IsDelivered rules.now place) self.old self.new) }
         ensures refused { IfErr result (IsNoWay (IsDelivered rules.now place) self.old) }
+        ensures full { IfErr result IsFull }
     {
         if !rules.tells_crashes {
             return self.act(Act::Deliver(place));
@@ -74,8 +84,10 @@ impl Growing {
 
     /// Tells a sender that the receiver of its packet crashed, if there is one to be told.
     fn tell(&mut self, failed: Option<(NodeId, NodeId)>) -> Result<(), GrowFault>
+        requires { MayBeTold failed (growth_of self.old) }
         ensures goes { OnOk result (Goes (IsTold failed) self.old self.new) }
         ensures refused { IfErr result (IsNoWay (IsTold failed) self.old) }
+        ensures full { IfErr result IsFull }
     {
         match failed {
             Some((sender, receiver)) => self.act(Act::CrashReport(sender, receiver)),
@@ -107,6 +119,7 @@ impl Growing {
     pub(crate) fn run_out(&mut self, rules: &TurnRules) -> Result<(), GrowFault>
         ensures goes { OnOk result (Goes (RunOut rules.now) self.old self.new) }
         ensures refused { IfErr result (IsNoWay (RunOut rules.now) self.old) }
+        ensures full { IfErr result IsFull }
     {
         while self.packets() > 0 {
             self.turn(rules)?;
@@ -118,6 +131,7 @@ impl Growing {
     pub(crate) fn turns(&mut self, most: u32, rules: &TurnRules) -> Result<(), GrowFault>
         ensures goes { OnOk result (Goes (TurnsUpTo rules.now most) self.old self.new) }
         ensures refused { IfErr result (IsNoWay (TurnsUpTo rules.now most) self.old) }
+        ensures full { IfErr result IsFull }
     {
         for _turn in 0..most {
             if self.packets() == 0 {

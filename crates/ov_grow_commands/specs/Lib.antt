@@ -1,2 +1,4 @@
 pub mod Faults
 pub mod Growing
+pub mod KeptRows
+pub mod Code

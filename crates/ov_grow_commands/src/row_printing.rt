@@ -1,3 +1,8 @@
+ghost use Rattle.std.specs.Prelude.{◌≡◌, [], IfErr};
+ghost use Rattle.ov_sweep.specs.Sweeps.{WereGiven};
+ghost use Rattle.ov_grow_commands.specs.KeptRows.{needs_rows};
+ghost use Rattle.ov_grow_commands.specs.Code.Keeping.{IsOfNoRun, kept_rows};
+
 use ov_grow_arguments::{Printed, SweepRequest};
 use ov_ids::OutOfMemory;
 use ov_io::Sink;
@@ -21,13 +26,25 @@ pub(crate) struct RowPrinter<'a, V> {
     done: u64,
 }
 
+/// Whether the rows are needed at the end, for a summary or a picture.
+fn needs_rows(request: &SweepRequest) -> bool
+    ensures { result ≡ needs_rows request.now }
+{
+    match request.printed {
+        Printed::Summary => true,
+        Printed::Rows | Printed::List { .. } => request.svg.is_some(),
+    }
+}
+
 impl<'a, V: RunWatcher> RowPrinter<'a, V> {
     /// A printer to which no row was given.
     pub(crate) fn new(
         rt: &'a HostRuntime,
         request: &'a SweepRequest,
         watcher: &'a mut V,
-    ) -> RowPrinter<'a, V> {
+    ) -> RowPrinter<'a, V>
+        ensures { kept_rows result.request.now result.kept.items ≡ kept_rows request.now [] }
+    {
         RowPrinter {
             rt,
             request,
@@ -38,7 +55,7 @@ impl<'a, V: RunWatcher> RowPrinter<'a, V> {
     }
 
     /// Prints the header of the rows, if rows are asked for.
-    pub(crate) fn print_header(&mut self) -> Result<(), SweepFault> {
+    pub(crate) fn print_header(&self) -> Result<(), SweepFault> {
         if self.request.printed != Printed::Rows {
             return Ok(());
         }
@@ -47,7 +64,9 @@ impl<'a, V: RunWatcher> RowPrinter<'a, V> {
     }
 
     /// Prints rows at once, if they are asked for.
-    fn print(&mut self, rows: &[Row]) -> Result<(), SweepFault> {
+    fn print(&self, rows: &[Row]) -> Result<(), SweepFault>
+        ensures { IfErr result IsOfNoRun }
+    {
         if self.request.printed != Printed::Rows {
             return Ok(());
         }
@@ -56,15 +75,20 @@ impl<'a, V: RunWatcher> RowPrinter<'a, V> {
     }
 
     /// Keeps rows, if a summary or a picture needs them.
-    fn keep(&mut self, rows: &[Row]) -> Result<(), SweepFault> {
-        if self.request.printed == Printed::Summary || self.request.svg.is_some() {
+    fn keep(&mut self, rows: &[Row]) -> Result<(), SweepFault>
+        ensures { WereGiven rows.now (kept_rows self.old.request.now self.old.kept.items)
+            (kept_rows self.new.request.now self.new.kept.items) result }
+    {
+        if needs_rows(self.request) {
             self.kept.extend_from_slice(rows)?;
         }
         Ok(())
     }
 
     /// The rows that were kept.
-    pub(crate) fn into_kept(self) -> Vec<Row> {
+    pub(crate) fn into_kept(self) -> Vec<Row>
+        ensures { result ≡ self.entry.kept }
+    {
         let RowPrinter {
             rt: _,
             request: _,
@@ -77,6 +101,10 @@ impl<'a, V: RunWatcher> RowPrinter<'a, V> {
 }
 
 impl<'a, V: RunWatcher> RowTaker for RowPrinter<'a, V> {
+    ghost use Rattle.ov_grow_commands.specs.Code.Keeping.{kept_rows};
+
+    ghost taken = { λ printer. kept_rows printer.request.now printer.kept.items };
+
     fn take(&mut self, rows: &[Row]) -> Result<(), SweepFault> {
         self.print(rows)?;
         self.keep(rows)?;

@@ -1,4 +1,5 @@
-ghost use Rattle.std.specs.Prelude.{◌≡◌, ℕ, ◌<◌};
+ghost use Rattle.std.specs.Prelude.{◌≡◌, ◌<◌};
+ghost use Rattle.ov_grow.specs.Faults.{number_of};
 ghost use Rattle.ov_io.specs.Device.{most_faults};
 ghost use Rattle.ov_grow_commands.specs.Growing.{WasPrinted};
 ghost use Rattle.ov_grow_commands.specs.declared.growth_fault.GrowthFault.TheVariants.{Growing};
@@ -42,7 +43,7 @@ fn print_scenario<W: Write>(
 
 /// Ends if growing was refused. Prints why.
 fn not_grown(rt: &HostRuntime, fault: GrowFault) -> GrowthFault
-    ensures { (number : ℕ) × (result ≡ Growing number) }
+    ensures { result ≡ Growing (number_of fault) }
 {
     let number = fault.number();
     let ended = GrowthFault::Growing { number };

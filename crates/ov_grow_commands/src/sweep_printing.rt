@@ -1,11 +1,13 @@
+ghost use Rattle.std.specs.Prelude.{IfOk, IsTrue};
+ghost use Rattle.ov_grow_commands.specs.KeptRows.{AreGrown, needs_rows};
+
 use crate::growth_fault::GrowthFault;
 use crate::row_files::rows_of_files;
 use crate::row_printing::{RowPrinter, RunWatcher, rows_text};
 use crate::scenario_growing::{print_refusal, told, unread_words};
 use ov_grow_arguments::{Printed, SweepRequest, read_sweep_arguments};
-use ov_grow_options::GrowOptions;
 use ov_io::Sink;
-use ov_sweep::{RefusedRun, Runs, SweepFault, sweep};
+use ov_sweep::{RefusedRun, SweepFault, sweep};
 use ov_sweep_report::{settings_of, summary_text, svg_text};
 use ov_sweep_rows::{Row, header_text};
 use std::fs::File;
@@ -25,20 +27,6 @@ pub fn sweep_command<T: Threads + Sync, V: RunWatcher>(
     match request.printed {
         Printed::List { block } => print_list(rt, &request, block),
         Printed::Rows | Printed::Summary => print_sweep(rt, threads, &request, watcher),
-    }
-}
-
-/// The runs that words ask for.
-#[derive(Clone, Copy)]
-struct RequestedRuns<'a>(&'a SweepRequest);
-
-impl<'a> Runs for RequestedRuns<'a> {
-    fn count(&self) -> u64 {
-        self.0.len()
-    }
-
-    fn options(&self, place: u64) -> Option<GrowOptions> {
-        self.0.get(place)
     }
 }
 
@@ -95,28 +83,41 @@ fn print_rows(rt: &HostRuntime, rows: &[Row]) -> Result<(), GrowthFault> {
 }
 
 /// Grows the overlays of a sweep, and prints their rows, unless a summary is asked for. The rows are returned if a summary
-/// or a picture needs them.
+/// or a picture needs them. Prints why it ended before its end.
 fn grow_and_print<T: Threads + Sync, V: RunWatcher>(
     rt: &HostRuntime,
     threads: &T,
     request: &SweepRequest,
     watcher: &mut V,
-) -> Result<Vec<Row>, GrowthFault> {
-    let mut printer = RowPrinter::new(rt, request, watcher);
-    let done = match printer.print_header() {
-        Ok(()) => sweep(
-            threads,
-            rt.alloc(),
-            &RequestedRuns(request),
-            request.workers,
-            &mut printer,
-        ),
-        Err(fault) => Err(fault),
-    };
-    match done {
-        Ok(()) => Ok(printer.into_kept()),
+) -> Result<Vec<Row>, GrowthFault>
+    ensures { IfOk result (λ rows. IsTrue (needs_rows request.now) → AreGrown rows.items) }
+{
+    match grown_rows(rt, threads, request, watcher) {
+        Ok(rows) => Ok(rows),
         Err(fault) => Err(ended(rt, fault)),
     }
+}
+
+/// Grows the overlays of a sweep, and prints their rows, unless a summary is asked for. The rows are returned if a summary
+/// or a picture needs them.
+fn grown_rows<T: Threads + Sync, V: RunWatcher>(
+    rt: &HostRuntime,
+    threads: &T,
+    request: &SweepRequest,
+    watcher: &mut V,
+) -> Result<Vec<Row>, SweepFault>
+    ensures { IfOk result (λ rows. IsTrue (needs_rows request.now) → AreGrown rows.items) }
+{
+    let mut printer = RowPrinter::new(rt, request, watcher);
+    printer.print_header()?;
+    sweep(
+        threads,
+        rt.alloc(),
+        request.runs(),
+        request.workers,
+        &mut printer,
+    )?;
+    Ok(printer.into_kept())
 }
 
 /// Ends a sweep. Prints why.

@@ -1,6 +1,6 @@
 -- A list in a strict order, of which each member is in another list, is no longer than that one. So few links fit
 -- between few nodes.
-use Rattle.std.proofs.Common.{◌≡◌, ◌<◌, ◌≤◌, ◌+◌, ◌*◌, ◌++◌, ℕ, suc, List, [], ◌∷◌, length, length-append, sym, ap, subst, arith, ◌^◌, ◌∙◌, refl, inl, inr}
+use Rattle.std.proofs.Common.{◌≡◌, ◌<◌, ◌≤◌, ◌*◌, ◌++◌, ℕ, suc, List, [], ◌∷◌, length, length-append, sym, ap, subst, arith, ◌^◌, ◌∙◌, refl, inl, inr}
 use Rattle.ov_ids.specs.Members.{Has, Ordered}
 use Rattle.ov_ids.proofs.Members.{all_member, has_append_left, has_append_right}
 use Rattle.ov_graph.specs.Links.{LinkGraph, IsGraph, IsWithinLimit, Precedes, most_nodes}

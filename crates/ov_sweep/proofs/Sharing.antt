@@ -1,12 +1,14 @@
 -- The shares of workers, and what comes at a place of the batch.
 use Rattle.std.proofs.Common.{◌≡◌, ◌∙◌, ◌<◌, ◌≤◌, ◌+◌, ◌*◌, ◌++◌, ◌/◌, ◌%◌, ℕ, zero, suc, List, [], ◌∷◌, length}
 use Rattle.std.proofs.Common.{slice_get, get_or, Some, inl, inr, refl, sym, ap, subst, arith}
-use Rattle.std.specs.Prelude.{Ok, IfOk, Vec, ◌⊎◌}
+use Rattle.std.specs.Prelude.{Err, Ok, IfErr, IfOk, Vec, ◌⊎◌}
 use Rattle.std.proofs.Math.Nat.{mod-add-div, mod-lt}
 use Rattle.std.proofs.lemmas.Bool.{cases_lt}
 use Rattle.std.proofs.lemmas.Option.{same_Some, slice_get-get_or}
 use Rattle.std.proofs.lemmas.Nat.{mul-le}
 use Rattle.std.specs.Global.{Global}
+use Rattle.ov_grow.specs.Growing.{IsGrowRefusal}
+use Rattle.ov_grow.specs.declared.fault.GrowFault.{GrowFault}
 use Rattle.ov_grow_options.specs.declared.options.GrowOptions.{GrowOptions}
 use Rattle.ov_sweep_rows.specs.declared.row.Row.{Row}
 use Rattle.ov_sweep.specs.Rows.{IsRowOf}
@@ -24,11 +26,11 @@ snoc_cases (z ∷ xs) x y (suc i) e = elim (snoc_cases xs x y i e) [ inl k ↦ i
 -- one run more was done
 pub apart_more : (batch : List GrowOptions) (first apart place : ℕ) (share : List Outcome) (x : Outcome) (o : GrowOptions)
     → AreApart batch first apart share → place ≡ first + length share * apart → slice_get batch place ≡ Some o
-    → IfOk x (λ row. IsRowOf o row) → AreApart batch first apart (share ++ x ∷ [])
-apart_more batch first apart place share x o are at read is j y e = elim (snoc_cases share x y j e) [
+    → IfOk x (λ row. IsRowOf o row) → IfErr x (IsGrowRefusal o) → AreApart batch first apart (share ++ x ∷ [])
+apart_more batch first apart place share x o are at read is refused j y e = elim (snoc_cases share x y j e) [
   | inl k ↦ are j y k
   | inr p ↦ subst (λ (n : ℕ). IsOutcomeAt batch n y) (at ∙ ap (λ (n : ℕ). first + n * apart) (sym p.0))
-      (subst (λ (z : Outcome). IsOutcomeAt batch place z) p.1 (o, read, is))
+      (subst (λ (z : Outcome). IsOutcomeAt batch place z) p.1 (o, read, is, refused))
 ]
 
 -- a share that came to the end of the batch is whole
@@ -76,3 +78,9 @@ row_more batch rows row place count are is i r e = elim (snoc_cases rows row r i
   | inr p ↦ subst (λ (n : ℕ). IsOutcomeAt batch n (Ok r)) (sym count ∙ sym p.0)
       (subst (λ (z : Row). IsOutcomeAt batch place (Ok z)) p.1 is)
 ]
+
+-- the options at the place of a refusal are those that were refused
+pub refused_here : (batch : List GrowOptions) (place : ℕ) (o : GrowOptions) (fault : GrowFault)
+    → slice_get batch place ≡ Some o → IsOutcomeAt batch place (Err fault) → IsGrowRefusal o fault
+refused_here batch place o fault at (options, read, is, refused) =
+    subst (λ (x : GrowOptions). IsGrowRefusal x fault) (same_Some options o (sym read ∙ at)) refused

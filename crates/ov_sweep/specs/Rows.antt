@@ -1,5 +1,5 @@
 -- What the row of a run says: numbers of the reports that growing files. Chosen here.
-use Rattle.std.specs.Prelude.{◌≡◌, ℕ, ◌*◌, ◌/◌, ◌≤◌, List, length, slice_get, Option, Some, None}
+use Rattle.std.specs.Prelude.{◌≡◌, ◌≢◌, ℕ, ◌*◌, ◌/◌, ◌≤◌, List, length, slice_get, Option, Some, None}
 use Rattle.ov_ids.specs.Members.{Has}
 use Rattle.ov_graph.specs.Links.{LinkGraph, AreNeighbours}
 use Rattle.ov_cert.specs.Valid.{k_of}
@@ -28,10 +28,11 @@ pub record IsLeastDegree (g : LinkGraph) (n : ℕ) : Type 0 where
   pub least : (a m : ℕ) → Has g.nodes a → HasDegree g a m → n ≤ m
 
 -- the delivered share in parts of 10,000, rounded down: of so many broadcasts among so many nodes there were so many
--- deliveries. There is none without broadcasts
+-- deliveries. There is none exactly if there were no broadcasts or no nodes
 abbrev pub IsShare : ℕ → ℕ → ℕ → Option DeliveredShare → Type 0
 IsShare deliveries broadcasts nodes None = broadcasts * nodes ≡ 0
-IsShare deliveries broadcasts nodes (Some share) = share.parts ≡ deliveries * 10000 / (broadcasts * nodes)
+IsShare deliveries broadcasts nodes (Some share) =
+    (broadcasts * nodes ≢ 0) × (share.parts ≡ deliveries * 10000 / (broadcasts * nodes))
 
 -- these numbers are those of the report r, and of so many deliveries of so many broadcasts after it
 pub record AreNumbersOf (r : ReportState) (broadcasts deliveries : ℕ) (p : PhaseRow) : Type 0 where
@@ -55,9 +56,10 @@ abbrev pub SaysOf : Row → Phase → PhaseRow → Type 0
 SaysOf row phase p = slice_get row.phases (place_of phase) ≡ Some p
 
 -- the row of the overlay that is grown with the options o: there is a text by which it is grown, which replays its core;
--- and what the row says of each phase are the numbers of the report that the core files for it
+-- and what the row says of each of the three phases are the numbers of the report that the core files for it
 pub record IsRowOf (o : GrowOptions) (row : Row) : Type 0 where
   pub options : row.options ≡ o
+  pub three : length row.phases ≡ 3
   pub text : List ℕ
   pub core : CoreState
   pub settled : GrownPhase
@@ -68,3 +70,7 @@ pub record IsRowOf (o : GrowOptions) (row : Row) : Type 0 where
   pub settle : (p : PhaseRow) × SaysOf row Settle p × IsToldOf core settled o.broadcasts p
   pub crash : (p : PhaseRow) × SaysOf row Crash p × IsToldOf core crashed o.broadcasts p
   pub heal : (p : PhaseRow) × SaysOf row Heal p × IsToldOf core healed o.broadcasts p
+
+-- the options decide the row: whatever two rows are those of the same options are the same
+abbrev pub OneRow : Type 0
+OneRow = (o : GrowOptions) (row other : Row) → IsRowOf o row → IsRowOf o other → row ≡ other

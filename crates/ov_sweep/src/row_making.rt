@@ -1,6 +1,7 @@
-ghost use Rattle.std.specs.Prelude.{IfOk};
+ghost use Rattle.std.specs.Prelude.{IfErr, IfOk};
 ghost use Rattle.ov_snap.specs.CoreState.{HasReportOfAll};
 ghost use Rattle.ov_snap.specs.ReportState.{ReportState};
+ghost use Rattle.ov_grow.specs.Growing.{IsGrowRefusal};
 ghost use Rattle.ov_sweep.specs.Rows.{IsRowOf, IsToldOf};
 
 use crate::phase_numbers::phase_row;
@@ -12,9 +13,10 @@ use std::alloc::Global;
 
 /// The row of the overlay that is grown with these options: its numbers are those of the reports that growing files.
 ///
-/// The faults are those of growing (see `GrowFault`).
+/// A fault of growing (see `GrowFault`) means that memory ran out, or that with these options nothing can be grown.
 pub fn row_of(alloc: Global, options: &GrowOptions) -> Result<Row, GrowFault>
-    ensures { IfOk result (λ row. IsRowOf options.now row) }
+    ensures row { IfOk result (λ row. IsRowOf options.now row) }
+    ensures refused { IfErr result (IsGrowRefusal options.now) }
 {
     let grown = grow(alloc, options)?;
     let broadcasts = options.broadcasts.count();

@@ -1,3 +1,7 @@
+ghost use Rattle.std.specs.Prelude.{◌≡◌};
+ghost use Rattle.ov_sweep.specs.Faults.{number_of};
+ghost use Rattle.ov_sweep.specs.declared.sweep_fault.SweepFault.TheVariants.{OutOfMemory as out_of_memory, Write as write_failed};
+
 use crate::batch::RefusedRun;
 use ov_ids::OutOfMemory;
 use ov_io::WriteFault;
@@ -19,8 +23,10 @@ pub enum SweepFault {
 }
 
 impl SweepFault {
-    /// The fault's number.
-    pub fn number(&self) -> u32 {
+    /// The fault's number: that of the run, 72 for the writer, and 99 for out of memory.
+    pub fn number(&self) -> u32
+        ensures { result ≡ number_of self.now }
+    {
         match self {
             SweepFault::Run(refused) => refused.fault.number(),
             SweepFault::Write => 72,
@@ -30,24 +36,32 @@ impl SweepFault {
 }
 
 impl From<WriteFault> for SweepFault {
+    ghost from_gives = { λ _ e. e ≡ write_failed };
+
     fn from(_fault: WriteFault) -> SweepFault {
         SweepFault::Write
     }
 }
 
 impl From<OutOfMemory> for SweepFault {
+    ghost from_gives = { λ _ e. e ≡ out_of_memory };
+
     fn from(_fault: OutOfMemory) -> SweepFault {
         SweepFault::OutOfMemory
     }
 }
 
 impl From<AllocError> for SweepFault {
+    ghost from_gives = { λ _ e. e ≡ out_of_memory };
+
     fn from(_error: AllocError) -> SweepFault {
         SweepFault::OutOfMemory
     }
 }
 
 impl<T: Drop> From<AllocFailed<T>> for SweepFault {
+    ghost from_gives = { λ _ e. e ≡ out_of_memory };
+
     fn from(_error: AllocFailed<T>) -> SweepFault {
         SweepFault::OutOfMemory
     }

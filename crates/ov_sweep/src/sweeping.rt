@@ -1,28 +1,29 @@
+ghost use Rattle.std.specs.Prelude.{◌≡◌};
+ghost use Rattle.std.specs.Iterator.{IsFinite};
+ghost use Rattle.ov_sweep.specs.Sweeps.{AreSwept, IsSweepOf};
+
 use crate::batch::{GrownBatch, grow_batch};
 use crate::sweep_fault::SweepFault;
 use ov_claims::Workers;
 use ov_grow_options::GrowOptions;
-use ov_ids::OutOfMemory;
 use ov_sweep_rows::Row;
 use std::alloc::Global;
 use std::thread::Threads;
 
 /// How many runs a batch has for each worker. (Chosen here.)
-const RUNS_OF_A_WORKER: u64 = 16;
+const RUNS_OF_A_WORKER: usize = 16;
 
-/// The runs of a sweep, by their places.
-pub trait Runs {
-    /// How many runs there are.
-    fn count(&self) -> u64;
-
-    /// The options of the run at a place, counted from 0. None is returned behind the last one.
-    fn options(&self, place: u64) -> Option<GrowOptions>;
-}
-
-/// Takes the rows of a sweep.
+/// Takes the rows of a sweep. `taken` are the rows that it has taken so far, if its value says them.
 pub trait RowTaker {
-    /// Takes the rows of the next runs, in the order of the runs.
-    fn take(&mut self, rows: &[Row]) -> Result<(), SweepFault>;
+    ghost use Rattle.std.specs.Prelude.{List, Option};
+    ghost use Rattle.ov_sweep.specs.Sweeps.{WereGiven};
+    ghost use Rattle.ov_sweep_rows.specs.declared.row.Row.{Row};
+
+    ghost taken: { Self → Option (List Row) };
+
+    /// Takes the rows of the next runs, in the order of the runs, or the first ones of them if it ends with a fault.
+    fn take(&mut self, rows: &[Row]) -> Result<(), SweepFault>
+        ensures { WereGiven rows.now (taken self.old) (taken self.new) result };
 }
 
 /// Grows an overlay with the options of each of these runs by these workers, batch by batch, and has the rows of each
@@ -31,38 +32,46 @@ pub trait RowTaker {
 ///
 /// Run (see `GrowFault`): a run was refused. Write (72): the rows were not taken. OutOfMemory (99): an allocation was
 /// refused.
-pub fn sweep<R: Threads + Sync, S: Runs, T: RowTaker>(
+pub fn sweep<R: Threads + Sync, I: Iterator<Item = GrowOptions> + Drop, T: RowTaker>(
     rt: &R,
     alloc: Global,
-    runs: &S,
+    runs: I,
     workers: Workers,
     taker: &mut T,
-) -> Result<(), SweepFault> {
-    let size = u64::from(workers.count()) * RUNS_OF_A_WORKER;
-    for first in (0..runs.count()).step_by(size as usize) {
-        let batch = batch_from(alloc, runs, first, size)?;
-        let GrownBatch { rows, refused } = grow_batch(rt, alloc, &batch, workers)?;
-        taker.take(&rows)?;
-        if let Some(refused) = refused {
-            return Err(SweepFault::Run(refused));
+) -> Result<(), SweepFault>
+    requires can { I.can_next runs }
+    requires ends { IsFinite (I.remaining runs) }
+    ensures { IsSweepOf I.next_gives runs (T.taken taker.old) (T.taken taker.new) result }
+{
+    let size = workers.count() as usize * RUNS_OF_A_WORKER;
+    let mut batch = Vec::new(alloc);
+    for options in runs {
+        batch.push(options)?;
+        if batch.len() >= size {
+            sweep_batch(rt, alloc, &batch, workers, taker)?;
+            batch.clear();
         }
     }
-    Ok(())
+    if batch.is_empty() {
+        return Ok(());
+    }
+    sweep_batch(rt, alloc, &batch, workers, taker)
 }
 
-/// The options of so many runs from a place on, or of all that are left.
-fn batch_from<S: Runs>(
+/// Grows an overlay with each of these options, and has their rows taken.
+fn sweep_batch<R: Threads + Sync, T: RowTaker>(
+    rt: &R,
     alloc: Global,
-    runs: &S,
-    first: u64,
-    size: u64,
-) -> Result<Vec<GrowOptions>, OutOfMemory> {
-    let mut batch = Vec::new(alloc);
-    for place in first..first.saturating_add(size) {
-        match runs.options(place) {
-            Some(options) => batch.push(options)?,
-            None => return Ok(batch),
-        }
+    batch: &[GrowOptions],
+    workers: Workers,
+    taker: &mut T,
+) -> Result<(), SweepFault>
+    ensures { AreSwept batch.now (T.taken taker.old) (T.taken taker.new) result }
+{
+    let GrownBatch { rows, refused } = grow_batch(rt, alloc, batch, workers)?;
+    taker.take(&rows)?;
+    match refused {
+        Some(refused) => Err(SweepFault::Run(refused)),
+        None => Ok(()),
     }
-    Ok(batch)
 }

@@ -17,7 +17,8 @@ impl DeliveredShare {
     /// The share of so many deliveries of so many broadcasts among so many live nodes. None is returned without
     /// broadcasts, and without nodes.
     pub fn new(deliveries: u32, broadcasts: u32, nodes: u32) -> Option<DeliveredShare>
-        ensures some { IfSome result (λ share. share.parts ≡ deliveries * 10000 / (broadcasts * nodes)) }
+        ensures some { IfSome result (λ share. (broadcasts * nodes ≢ 0)
+            × (share.parts ≡ deliveries * 10000 / (broadcasts * nodes))) }
         ensures none { IfNone result (broadcasts * nodes ≡ 0) }
     {
         let most = u64::from(broadcasts) * u64::from(nodes);

@@ -1,15 +1,21 @@
 -- Where growing stands, of the parts that the code keeps.
-use Rattle.std.specs.Prelude.{◌≡◌, ◌⊎◌, ℕ, ◌≤◌, List, length, Option, Some, None, slice_get}
+use Rattle.std.specs.Prelude.{◌≡◌, ◌⊎◌, ℕ, ◌≤◌, ⊤, List, length, Option, Some, None, slice_get}
 use Rattle.ov_wire.specs.declared.message.Message.{Message}
 use Rattle.ov_ids.specs.Members.{Has}
 use Rattle.ov_even.specs.Answer.{IsAnswer}
+use Rattle.ov_net.specs.Net.{IsGone}
+use Rattle.ov_net.specs.Refusals.{IsRefusal}
+use Rattle.ov_net.specs.declared.fault.NetFault.{NetFault}
 use Rattle.ov_snap.specs.CoreState.{CoreState, HasReportOfAll, KeepsReports}
 use Rattle.ov_snap.specs.ReportState.{ReportState}
 use Rattle.ov_snap.specs.Snapshots.{IsMoment}
 use Rattle.ov_run.specs.Subjects.{IsReported}
 use Rattle.ov_recording.specs.Recordings.{all_of}
+use Rattle.ov_script.specs.Acts.{event_of}
+use Rattle.ov_script.specs.declared.act.Act.{Act}
 use Rattle.ov_script.specs.declared.act.Act.TheVariants as act
-use Rattle.ov_grow.specs.Growth.{Growth, Does}
+use Rattle.ov_grow.specs.Faults.{of_event}
+use Rattle.ov_grow.specs.Growth.{Growth, Does, IsLive}
 use Rattle.ov_grow.specs.Turns.{HasFailed}
 use Rattle.ov_grow.specs.declared.fault.GrowFault.{GrowFault}
 use Rattle.ov_grow.specs.declared.fault.GrowFault.TheVariants.{OutOfMemory}
@@ -33,10 +39,21 @@ IsNoWay Way b fault = (fault ≡ OutOfMemory) ⊎ ((u : Growth) → ¬ Way (grow
 abbrev pub IsFresh : CoreState → Type 0
 IsFresh b = IsMoment b.world.journal (length b.world.journal) × ¬ IsReported b (all_of (length b.world.journal))
 
+-- the world refuses an act, and growing ends in this fault
+abbrev pub IsRefusedAct : Act → Growing → GrowFault → Type 0
+IsRefusedAct what b fault =
+    (refusal : NetFault) × (fault ≡ of_event refusal)
+    × IsRefusal b.recording.core.world.net (length b.recording.core.world.journal) (event_of what) refusal
+
 -- a sender and a receiver of which the sender is told that the receiver crashed, or none
 abbrev pub IsTold : Option (ℕ × ℕ) → Growth → Growth → Type 0
 IsTold (Some (sender, receiver)) s u = Does s (act.CrashReport sender receiver) u
 IsTold None s u = u ≡ s
+
+-- the sender lives, and the receiver crashed
+abbrev pub MayBeTold : Option (ℕ × ℕ) → Growth → Type 0
+MayBeTold (Some (sender, receiver)) s = IsLive s sender × IsGone s.world.net receiver
+MayBeTold None s = ⊤
 
 -- the sender and the receiver of the packet at this place, if its connection fails
 abbrev pub Fails : Growth → ℕ → Option (ℕ × ℕ) → Type 0

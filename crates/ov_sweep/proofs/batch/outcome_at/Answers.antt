@@ -1,5 +1,5 @@
 -- The outcome at a place is in the share of one worker.
-use Rattle.std.proofs.Common.{◌≡◌, ◌∙◌, ◌<◌, ◌/◌, ◌%◌, ℕ, length, refl, arith, sym, rules}
+use Rattle.std.proofs.Common.{◌/◌, length, refl, arith, rules}
 use Rattle.std.proofs.lemmas.Option.{slice_get_read}
 use Rattle.ov_sweep.proofs.Sharing.{has_outcome, outcome_there, outcome_is}
 use Rattle.ov_sweep.proofs.batch.outcome_at.Goals as goal

@@ -1,6 +1,6 @@
 -- One run more of a share.
-use Rattle.std.proofs.Common.{◌≡◌, ◌∙◌, ◌+◌, ◌*◌, ◌<◌, ◌++◌, ◌∷◌, [], ℕ, List, length, slice_get, Some, refl, sym, subst, arith, length-append, rules}
-use Rattle.ov_sweep.proofs.Sharing.{apart_more, whole}
+use Rattle.std.proofs.Common.{◌≡◌, ◌+◌, ◌*◌, ◌++◌, ◌∷◌, [], length, refl, arith, length-append}
+use Rattle.ov_sweep.proofs.Sharing.{apart_more}
 use Rattle.std.proofs.lemmas.Option.{slice_get_read}
 use Rattle.ov_sweep.proofs.batch.share_of.Goals as goal
 
@@ -22,5 +22,5 @@ loop-place-preserved c =
       each = rw pushed (apart_more c.args.batch.now c.args.first c.args.apart c.loop-place.place old x
           c.index-batch-place.result i.each i.place
           (slice_get_read c.args.batch.now (length c.args.batch.now) c.loop-place.place c.index-batch-place.result refl
-          c.loop-place-test.true c.index-batch-place.is) c.row_of.ensures);
+          c.loop-place-test.true c.index-batch-place.is) c.row_of.ensures.row c.row_of.ensures.refused);
     }

@@ -1,5 +1,5 @@
 -- The outcomes so far are those of the first runs of the share.
-use Rattle.std.proofs.Common.{◌≡◌, ◌+◌, ◌-◌, ◌*◌, ℕ, length}
+use Rattle.std.proofs.Common.{◌≡◌, ◌+◌, ◌-◌, ◌*◌, length}
 use Rattle.ov_sweep.specs.Code.Shares.{AreApart}
 use Rattle.ov_sweep.proofs.batch.share_of.Given as goal
 

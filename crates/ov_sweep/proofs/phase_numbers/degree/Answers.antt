@@ -1,5 +1,5 @@
 -- A node has few neighbours.
-use Rattle.std.proofs.Common.{◌≡◌, ◌<◌, ℕ, length, inl, arith}
+use Rattle.std.proofs.Common.{inl, arith}
 use Rattle.ov_sweep.proofs.Degrees.{few_neighbours}
 use Rattle.ov_sweep.proofs.phase_numbers.degree.Goals as goal
 

@@ -1,5 +1,5 @@
 -- One node more, and all of them.
-use Rattle.std.proofs.Common.{◌≡◌, ◌<◌, ◌≤◌, ℕ, List, length, get_or, subst, ap, arith}
+use Rattle.std.proofs.Common.{◌≡◌, ◌<◌, ◌≤◌, ℕ, List, length, get_or, subst}
 use Rattle.ov_cert.proofs.EntryOrder.Looping.{has_at}
 use Rattle.ov_sweep.proofs.Degrees.{least_more, least_all}
 use Rattle.ov_sweep.proofs.phase_numbers.least_degree.Goals as goal

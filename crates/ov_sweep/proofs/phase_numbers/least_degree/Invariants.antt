@@ -1,5 +1,5 @@
 -- Some node has as many neighbours as the least so far, and no node so far has fewer.
-use Rattle.std.proofs.Common.{◌≡◌, ◌<◌, ◌≤◌, ℕ, get_or}
+use Rattle.std.proofs.Common.{◌<◌, ◌≤◌, ℕ, get_or}
 use Rattle.ov_ids.specs.Members.{Has}
 use Rattle.ov_sweep.specs.Rows.{HasDegree}
 use Rattle.ov_sweep.proofs.phase_numbers.least_degree.Given as goal

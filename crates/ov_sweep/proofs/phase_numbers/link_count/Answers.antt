@@ -1,5 +1,5 @@
 -- A graph has few links.
-use Rattle.std.proofs.Common.{◌≡◌, ◌<◌, ℕ, List, ap, length, inl, arith}
+use Rattle.std.proofs.Common.{ℕ, List, ap, length, inl, arith}
 use Rattle.ov_sweep.proofs.Fitting.{links_counted}
 use Rattle.ov_sweep.proofs.phase_numbers.link_count.Goals as goal
 

@@ -1,14 +1,15 @@
 -- The row of what was grown.
-use Rattle.std.proofs.Common.{◌≡◌, ℕ, refl, subst}
+use Rattle.std.proofs.Common.{ℕ, refl, subst}
 use Rattle.ov_sweep.specs.Rows.{IsToldOf}
 use Rattle.ov_sweep.proofs.row_making.row_of.Goals as goal
 
-pub returns : goal.returns
-returns c =
+pub returns-clause-row : goal.returns-clause-row
+returns-clause-row c =
     let grown = c.in_ok-grown.grown in
     let b = c.count-broadcasts.ensures.value in
     record {
       options = refl;
+      three = refl;
       text = grown.text.items;
       core = grown.core;
       settled = grown.settled;

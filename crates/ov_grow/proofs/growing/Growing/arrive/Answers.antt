@@ -3,6 +3,8 @@ use Rattle.ov_grow.specs.Turns.{Arrives, IsDelivered, MayBeRepeated}
 use Rattle.ov_grow.specs.Code.Standing.{IsNoWay, growth_of}
 use Rattle.ov_grow.proofs.Going.{goes_on, no_way_by, passes_on}
 use Rattle.ov_grow.proofs.OneGrowth.{arrival_rest}
+use Rattle.ov_grow.specs.Faults.{IsFull}
+use Rattle.ov_grow.proofs.Full.{still_there}
 use Rattle.ov_grow.proofs.growing.Growing.arrive.Goals as goal
 
 pub returns-in_err-may_repeat-clause-refused : goal.returns-in_err-may_repeat-clause-refused
@@ -27,3 +29,7 @@ returns-clause-refused c =
     IfErr-weaker _ _ _ (λ fault none. no_way_by (IsDelivered r c.args.place) (Arrives r c.args.place) t b fault
     (λ u way. (u, arrival_rest r c.args.place (growth_of b) (growth_of t) u c.in_ok-may_repeat.ensures.goes.way way))
     none) c.deliver.ensures.refused
+
+pub deliver-requires : goal.deliver-requires
+deliver-requires c = still_there c.args.rules.now c.args.place (growth_of c.args.self.now)
+    (growth_of c.may_repeat.new.self) c.in_ok-may_repeat.ensures.goes.way c.requires

@@ -1,6 +1,7 @@
 use Rattle.std.proofs.lemmas.Result.{IfErr-weaker, on_ok_weaker}
 use Rattle.ov_grow.proofs.NoTurn.{no_way_repeated}
 use Rattle.ov_grow.proofs.Ways.{not_repeated_goes, repeated_goes}
+use Rattle.ov_grow.proofs.Full.{repeated_full}
 use Rattle.ov_grow.proofs.growing.Growing.may_repeat.Goals as goal
 
 pub returns-then-comes_true-clause-goes : goal.returns-then-comes_true-clause-goes
@@ -20,3 +21,8 @@ returns-clause-goes c = not_repeated_goes c.args.rules.now c.args.place c.of_hun
     c.args.self.now
     c.comes_true.new.self c.of_hundred.ensures.value c.comes_true.ensures.value c.comes_true.ensures.left
     c.if-comes_true.false
+
+pub returns-then-comes_true-clause-full : goal.returns-then-comes_true-clause-full
+returns-then-comes_true-clause-full c = IfErr-weaker _ _ _ (λ fault judged. repeated_full
+    (record c.args.self.now { choices = c.comes_true.new.self }) c.args.place fault c.requires judged)
+    c.act.ensures.judged

@@ -35,7 +35,8 @@ returns-in_err-run_out-clause-refused c =
 
 pub loop-node-preserved : goal.loop-node-preserved
 loop-node-preserved c = left_reports c.args.rules.now _ _ c.args.self.now c.loop-node.self c.act.new.self
-    c.run_out.new.self c.loop-node.invariant c.in-Some.ensures.some c.in_ok-act.ensures.goes c.in_ok-run_out.ensures.goes
+    c.run_out.new.self c.loop-node.invariant c.in-Some.ensures.some c.in_ok-act.ensures.goes
+    c.in_ok-run_out.ensures.goes
 
 pub returns-clause-goes : goal.returns-clause-goes
 returns-clause-goes c = on_all (ReportCrashes c.args.rules.now) (ReportCrashes c.args.rules.now) c.args.self.now
