@@ -1,13 +1,12 @@
 -- The rows that are kept are those of the runs that were swept.
-use Rattle.std.proofs.Common.{◌≡◌, ◌∙◌, Bool, true, false, List, [], ◌++◌, Option, Some, None, slice_get, sym, subst, if◌then◌else◌}
+use Rattle.std.proofs.Common.{◌≡◌, Bool, true, false, List, [], Option, Some, None, sym, subst, if◌then◌else◌}
 use Rattle.std.specs.Prelude.{IsTrue, Ok}
 use Rattle.ov_grow_arguments.specs.declared.sweep_request.SweepRequest.{SweepRequest}
 use Rattle.ov_grow_options.specs.declared.options.GrowOptions.{GrowOptions}
-use Rattle.ov_ids.specs.Members.{Has}
 use Rattle.ov_net.proofs.Steps.Places.{at_has}
 use Rattle.ov_sweep_rows.specs.declared.row.Row.{Row}
 use Rattle.ov_sweep.specs.Rows.{IsRowOf}
-use Rattle.ov_sweep.specs.Sweeps.{AreRowsOf, AreSwept, IsSweepOf, WereTaken}
+use Rattle.ov_sweep.specs.Sweeps.{AreRowsOf, IsSweepOf, WereTaken}
 use Rattle.ov_grow_commands.specs.KeptRows.{AreGrown, needs_rows}
 use Rattle.ov_grow_commands.specs.Code.Keeping.{kept_rows}
 

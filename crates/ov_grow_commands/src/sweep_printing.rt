@@ -82,8 +82,8 @@ fn print_rows(rt: &HostRuntime, rows: &[Row]) -> Result<(), GrowthFault> {
     Ok(Sink::new(rt.stdout()).write_all(&text)?)
 }
 
-/// Grows the overlays of a sweep, and prints their rows, unless a summary is asked for. The rows are returned if a summary
-/// or a picture needs them. Prints why it ended before its end.
+/// Grows the overlays of a sweep, and prints their rows, unless a summary is asked for. The rows are returned if they are
+/// needed for a summary or a picture. Prints why it ended before its end.
 fn grow_and_print<T: Threads + Sync, V: RunWatcher>(
     rt: &HostRuntime,
     threads: &T,
@@ -98,8 +98,8 @@ fn grow_and_print<T: Threads + Sync, V: RunWatcher>(
     }
 }
 
-/// Grows the overlays of a sweep, and prints their rows, unless a summary is asked for. The rows are returned if a summary
-/// or a picture needs them.
+/// Grows the overlays of a sweep, and prints their rows, unless a summary is asked for. The rows are returned if they are
+/// needed for a summary or a picture.
 fn grown_rows<T: Threads + Sync, V: RunWatcher>(
     rt: &HostRuntime,
     threads: &T,

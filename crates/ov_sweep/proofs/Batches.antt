@@ -1,6 +1,7 @@
 -- Batches of runs, one after the other, are one sweep.
 use Rattle.std.proofs.Common.{◌≡◌, ◌∙◌, ◌+◌, ◌-◌, ℕ, List, [], ◌∷◌, ◌++◌, length, take, drop, slice_get}
-use Rattle.std.proofs.Common.{Option, Some, None, inl, inr, refl, sym, ap, ap₂, subst, arith, length-append, append_assoc}
+use Rattle.std.proofs.Common.{Option, Some, None, inl, inr, refl, sym, ap, ap₂, subst, arith, length-append}
+use Rattle.std.proofs.Common.{append_assoc}
 use Rattle.std.specs.Prelude.{Result, Ok, Err, IsErrAnd}
 use Rattle.std.specs.Iterator.{Yields}
 use Rattle.std.proofs.lemmas.Bool.{cases_lt}
@@ -33,8 +34,8 @@ pub rows_before : (runs later : List GrowOptions) (rows : List Row) → AreFirst
 rows_before runs later rows are i row at = outcome_before runs later i (Ok row) (are i row at)
 
 -- the rows of runs, and then those of the runs behind them
-rows_more : (runs later : List GrowOptions) (rows more : List Row) → length rows ≡ length runs → AreFirstRowsOf runs rows
-    → AreFirstRowsOf later more → AreFirstRowsOf (runs ++ later) (rows ++ more)
+rows_more : (runs later : List GrowOptions) (rows more : List Row) → length rows ≡ length runs
+    → AreFirstRowsOf runs rows → AreFirstRowsOf later more → AreFirstRowsOf (runs ++ later) (rows ++ more)
 rows_more runs later rows more count are behind i row at = elim (cases_lt i (length rows)) [
   | inl low ↦ outcome_before runs later i (Ok row) (are i row (sym (at_left rows more i low) ∙ at))
   | inr high ↦
@@ -119,7 +120,8 @@ rows_first runs rows n are i row at =
 
 -- the rows of a batch were not all taken
 swept_until : (runs : List GrowOptions) (rows : List Row) (refused : Option RefusedRun) (old new : Option (List Row))
-    (fault : SweepFault) → AreRowsOf runs rows refused → WereGiven rows old new (Err fault) → AreSwept runs old new (Err fault)
+    (fault : SweepFault) → AreRowsOf runs rows refused → WereGiven rows old new (Err fault)
+    → AreSwept runs old new (Err fault)
 swept_until runs rows refused old new (Run run) are given = absurd given
 swept_until runs rows refused old new Write are (n, taken) = (take n rows, rows_first runs rows n are.each, taken)
 swept_until runs rows refused old new OutOfMemory are (n, taken) = (take n rows, rows_first runs rows n are.each, taken)

@@ -55,8 +55,8 @@ pub record IsToldOf (c : CoreState) (ended : GrownPhase) (broadcasts : ℕ) (p :
 abbrev pub SaysOf : Row → Phase → PhaseRow → Type 0
 SaysOf row phase p = slice_get row.phases (place_of phase) ≡ Some p
 
--- the row of the overlay that is grown with the options o: there is a text by which it is grown, which replays its core;
--- and what the row says of each of the three phases are the numbers of the report that the core files for it
+-- the row of the overlay that is grown with the options o: there is a text by which it is grown, which replays its
+-- core; and what the row says of each of the three phases are the numbers of the report that the core files for it
 pub record IsRowOf (o : GrowOptions) (row : Row) : Type 0 where
   pub options : row.options ≡ o
   pub three : length row.phases ≡ 3

@@ -1,6 +1,6 @@
 -- Sweeps: what comes of many runs, in the order of their options. Chosen here.
-use Rattle.std.specs.Prelude.{◌≡◌, ℕ, List, length, slice_get, take, ◌++◌, Option, Some, None, Result, Ok, Err, IfErr, IfOk}
-use Rattle.std.specs.Prelude.{MatchResult, ⊤}
+use Rattle.std.specs.Prelude.{◌≡◌, ℕ, List, length, slice_get, take, ◌++◌, Option, Some, None, Result, Ok, Err}
+use Rattle.std.specs.Prelude.{IfErr, IfOk, MatchResult, ⊤}
 use Rattle.std.specs.Iterator.{Drains, Yields}
 use Rattle.ov_grow_options.specs.declared.options.GrowOptions.{GrowOptions}
 use Rattle.ov_grow.specs.Growing.{IsGrowRefusal}
@@ -44,8 +44,8 @@ WereGiven rows old new (Ok done) = WereTaken rows old new
 WereGiven rows old new (Err (Run refused)) = ⊥
 WereGiven rows old new (Err other) = (n : ℕ) × WereTaken (take n rows) old new
 
--- how a sweep of these runs ended, and that these rows are those that were to be taken until then: of all runs; of those
--- before the first that was refused; or of some first ones
+-- how a sweep of these runs ended, and that these rows are those that were to be taken until then: of all runs; of
+-- those before the first that was refused; or of some first ones
 abbrev pub EndsWith : List GrowOptions → List Row → Result (Unit {0}) SweepFault → Type 0
 EndsWith runs rows (Ok done) = AreRowsOf runs rows None
 EndsWith runs rows (Err (Run refused)) = AreRowsOf runs rows (Some refused)

@@ -1,5 +1,5 @@
 -- The rows that were kept are those of the runs.
-use Rattle.std.proofs.Common.{◌≡◌, List, sym, subst}
+use Rattle.std.proofs.Common.{sym, subst}
 use Rattle.std.specs.Global.{Global}
 use Rattle.std.specs.Prelude.{Vec}
 use Rattle.ov_sweep_rows.specs.declared.row.Row.{Row}

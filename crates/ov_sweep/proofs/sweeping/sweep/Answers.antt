@@ -20,8 +20,9 @@ returns-in_err-push g c =
     let runs = c.loop-options.yielded in
     let old = g.T.RowTaker.taken c.args.taker.now in
     let new = g.T.RowTaker.taken c.loop-options.taker in
-    ended g.I.Iterator.next_gives c.args.runs c.into_iter-options-iterator.result c.loop-options.options-iterator runs old
-    new c.from_residual.result OutOfMemory c.into_iter-options-iterator.ensures.into_iter_gives c.loop-options.yielded_by
+    ended g.I.Iterator.next_gives c.args.runs c.into_iter-options-iterator.result c.loop-options.options-iterator runs
+    old new c.from_residual.result OutOfMemory c.into_iter-options-iterator.ensures.into_iter_gives
+    c.loop-options.yielded_by
     (swept_short i.0 c.loop-options.batch.items runs old new i.1 i.2) c.from_residual.ensures.1
 
 pub returns-in_err-sweep_batch : goal.returns-in_err-sweep_batch
@@ -33,12 +34,12 @@ returns-in_err-sweep_batch g c =
     let mid = g.T.RowTaker.taken c.loop-options.taker in
     let new = g.T.RowTaker.taken c.sweep_batch.new.taker in
     let fault = c.in_err-sweep_batch.field-0.0 in
-    let got = Yields-more g.I.Iterator.next_gives c.into_iter-options-iterator.result runs c.loop-options.options-iterator o
-    c.next.new.self c.loop-options.yielded_by c.in-Some.ensures.steps in
+    let got = Yields-more g.I.Iterator.next_gives c.into_iter-options-iterator.result runs
+    c.loop-options.options-iterator o c.next.new.self c.loop-options.yielded_by c.in-Some.ensures.steps in
     let parts = one_more i.0 c.loop-options.batch.items c.push.new.self.items c.deref.result.now runs o i.1
     c.in_ok-push.ensures.items c.deref.ensures.value in
-    ended g.I.Iterator.next_gives c.args.runs c.into_iter-options-iterator.result c.next.new.self (runs ++ o ∷ []) old new
-    c.from_residual-in_err-sweep_batch.result fault c.into_iter-options-iterator.ensures.into_iter_gives got
+    ended g.I.Iterator.next_gives c.args.runs c.into_iter-options-iterator.result c.next.new.self (runs ++ o ∷ []) old
+    new c.from_residual-in_err-sweep_batch.result fault c.into_iter-options-iterator.ensures.into_iter_gives got
     (swept_more i.0 c.deref.result.now (runs ++ o ∷ []) old mid new (Err fault) parts i.2 c.in_err-sweep_batch.ensures)
     c.from_residual-in_err-sweep_batch.ensures.1
 
