@@ -1,9 +1,6 @@
-//! A script with every act, an analysis and comments. Its text, and the lines that are read from it, were written by
-//! hand from the form of scenario files.
+//! A script with every act, an analysis and comments. Its text was written by hand from the form of scenario files.
 use ov_ids::{BadParams, MsgId, NodeId, OutOfMemory, Params};
-use ov_scenario::{Line, draw, read_scenario};
 use ov_script::{Act, Script};
-use ov_words::Words;
 use std::alloc::Global;
 use std::test::Fail;
 
@@ -56,25 +53,6 @@ analyse 65536
 timer 4 7 900
 ";
 
-/// The lines to run that are read from it: which event it is, if it is one, counted from 0, and what it does.
-static LINES: [(Option<usize>, &str); 12] = [
-    (Some(0), "Boot(NodeId(1), None)"),
-    (Some(1), "Boot(NodeId(4294967295), Some(NodeId(1)))"),
-    (Some(2), "Deliver(0)"),
-    (Some(3), "Lose(9)"),
-    (Some(4), "Repeat(10)"),
-    (Some(5), "Crash(NodeId(2))"),
-    (Some(6), "CrashReport(NodeId(1), NodeId(4294967295))"),
-    (Some(7), "Shuffle(NodeId(1))"),
-    (Some(8), "Broadcast(NodeId(1), Seq([]))"),
-    (Some(9), "Snapshot"),
-    (None, "Subject { moment: 65536, group: None } Workers(1)"),
-    (
-        Some(10),
-        "Timer(NodeId(4), MsgId { origin: NodeId(7), seq: 900 })",
-    ),
-];
-
 /// The parameters of the script.
 fn params() -> Result<Params, BadParams> {
     Params::new(5, 30, 6, 3, 3, 4, 4)
@@ -101,53 +79,11 @@ fn written(alloc: Global) -> Result<Script, Fail> {
     Ok(script)
 }
 
-/// What a line to run does, without its random words.
-fn told(alloc: Global, line: &Line) -> Result<String, OutOfMemory> {
-    Ok(match line {
-        Line::Event { event, words: _ } => format!(in alloc; "{event:?}")?,
-        Line::Analyse { subject, workers } => format!(in alloc; "{subject:?} {workers:?}")?,
-        _ => String::new(alloc),
-    })
-}
-
-/// A line to run is an event with these random words, or no event if there are none.
-fn has_words(line: &Line, wanted: Option<&Words>) -> bool {
-    match line {
-        Line::Event { event: _, words } => Some(words) == wanted,
-        _ => wanted.is_none(),
-    }
-}
-
-/// The random words of the event with this number, if there is one.
-fn words_of(draws: &[Words], event: Option<usize>) -> Option<&Words> {
-    draws.get(event?)
-}
-
 #[test]
 fn every_act_is_written(rt: HostRuntime) -> Result<(), Fail> {
     let script = written(rt.alloc())?;
     assert!(rt; script.text() == TEXT);
     let text = script.into_text();
     assert!(rt; text.as_slice() == TEXT);
-    Ok(())
-}
-
-#[test]
-fn every_line_is_read_back(rt: HostRuntime) -> Result<(), Fail> {
-    let alloc = rt.alloc();
-    let script = written(alloc)?;
-    let draws = draw(alloc, SEED, 12)?;
-    assert_eq!(rt; Some(script.next_words()), draws.get(11));
-    let mut scenario = read_scenario(alloc, script.text())?;
-    assert_eq!(rt; scenario.params, params()?);
-    assert_eq!(rt; scenario.seed, SEED);
-    for (event, does) in LINES {
-        let Some(next) = scenario.lines.next_line(alloc)? else {
-            return Err("a line to run is missing".into());
-        };
-        assert!(rt; has_words(&next.line, words_of(&draws, event)));
-        assert_eq!(rt; told(alloc, &next.line)?.as_str(), does);
-    }
-    assert!(rt; scenario.lines.next_line(alloc)?.is_none());
     Ok(())
 }
