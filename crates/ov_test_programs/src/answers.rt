@@ -46,28 +46,18 @@ fn answered_by(text: &str) -> Answered {
     }
 }
 
-/// The analysis of this file for this group by one worker prints this text, and says so.
+/// The analysis of this file for this group by so many workers prints this text, and says so.
 pub(crate) fn prints(
-    rt: &(impl AllocGlobal + Threads + Sync),
-    file: &str,
-    group: Option<&[NodeId]>,
-    text: &str,
-) -> bool {
-    let (told, written) = analysed(rt, file.as_bytes(), group, Workers::ONE, false);
-    told == Ok(answered_by(text)) && written.as_slice() == text.as_bytes()
-}
-
-/// The analysis of this file by so many workers prints the line of its answer, as one worker does.
-fn prints_by_workers(
     rt: &(impl AllocGlobal + Threads + Sync),
     count: u32,
     file: &str,
+    group: Option<&[NodeId]>,
     text: &str,
 ) -> bool {
     let Some(workers) = Workers::new(count) else {
         return false;
     };
-    let (told, written) = analysed(rt, file.as_bytes(), None, workers, false);
+    let (told, written) = analysed(rt, file.as_bytes(), group, workers, false);
     told == Ok(answered_by(text)) && written.as_slice() == text.as_bytes()
 }
 
@@ -105,7 +95,7 @@ fn any_number_of_workers_prints_one_text(rt: HostRuntime) {
     for (file, text) in &WHOLE {
         for count in [1, 2, 5, 64] {
             assert!(rt;
-                prints_by_workers(&rt, count, file, text),
+                prints(&rt, count, file, None, text),
                 "{count} workers, at {text}"
             );
         }
@@ -151,10 +141,12 @@ static GROUPS: [(&str, &[u32], &str); 11] = [
 fn groups_print_their_answers(rt: HostRuntime) -> Result<(), Fail> {
     for (file, group, text) in &GROUPS {
         let group = ids(rt.alloc(), group)?;
-        assert!(rt;
-            prints(&rt, file, Some(group.as_slice()), text),
-            "at {text}"
-        );
+        for count in [1, 5] {
+            assert!(rt;
+                prints(&rt, count, file, Some(group.as_slice()), text),
+                "{count} workers, at {text}"
+            );
+        }
     }
     Ok(())
 }

@@ -30,7 +30,7 @@ fn is_refused(rt: &(impl AllocGlobal + Threads + Sync), count: u32) -> Result<bo
 fn a_star_has_1024_nodes_at_most(rt: HostRuntime) -> Result<(), Fail> {
     for count in [3, 1_023, 1_024] {
         let file = star(rt.alloc(), count)?;
-        assert!(rt; prints(&rt, file.as_str(), None, STAR), "{count} nodes");
+        assert!(rt; prints(&rt, 1, file.as_str(), None, STAR), "{count} nodes");
     }
     assert!(rt; is_refused(&rt, 1_025)?);
     Ok(())
