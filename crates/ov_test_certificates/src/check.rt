@@ -6,25 +6,13 @@ use std::alloc::{AllocError, Global};
 use std::test::Fail;
 use std::thread::Threads;
 
-/// Each file, and the rows of its changes.
-static TABLES: [(&str, &str); 5] = [
+/// Each file, and the rows of its changes. The later ones are of groups.
+static TABLES: [(&str, &str); 12] = [
     (TWO_LINKED, rows::TWO_LINKED),
     (files::TWO_UNLINKED, rows::TWO_UNLINKED),
     (SQUARE, rows::SQUARE),
     (files::FIVE_BUT_ONE, rows::FIVE_BUT_ONE),
     (files::TWO_TRIANGLES, rows::TWO_TRIANGLES),
-];
-
-#[test]
-fn files_have_their_lines(rt: HostRuntime) -> Result<(), Fail> {
-    for (file, rows) in &TABLES {
-        have_lines(&rt, file, rows)?;
-    }
-    Ok(())
-}
-
-/// Each file of a group, and the rows of its changes.
-static TABLES_OF_GROUPS: [(&str, &str); 7] = [
     (files::SQUARE_GROUP, rows::SQUARE_GROUP),
     (TWO_LINKED_GROUP, rows::TWO_LINKED_GROUP),
     (files::FIVE_LINKED_GROUP, rows::FIVE_LINKED_GROUP),
@@ -35,8 +23,8 @@ static TABLES_OF_GROUPS: [(&str, &str); 7] = [
 ];
 
 #[test]
-fn files_of_groups_have_their_lines(rt: HostRuntime) -> Result<(), Fail> {
-    for (file, rows) in &TABLES_OF_GROUPS {
+fn files_have_their_lines(rt: HostRuntime) -> Result<(), Fail> {
+    for (file, rows) in &TABLES {
         have_lines(&rt, file, rows)?;
     }
     Ok(())
