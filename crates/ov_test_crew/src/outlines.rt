@@ -1,13 +1,10 @@
 //! Answers without paths, by workers in threads.
-use crate::crews::{PETERSEN, RING, Row, TWO_SIDES, crew_of, gives};
+use crate::crews::{TWO_SIDES, crew_of, gives};
 use crate::gates::{Meeting, Opening};
 use crate::graphs::of_size;
 use ov_cert::Cert;
-use ov_crew::{OpenGate, outline_group_watched};
-use ov_even::Unwatched;
-use std::alloc::Global;
+use ov_crew::outline_group_watched;
 use std::test::Fail;
-use std::thread::Threads;
 
 /// Whether a certificate has no entries.
 fn has_no_paths(cert: &Cert) -> bool {
