@@ -5,7 +5,7 @@ use crate::drawn::{
 };
 use crate::wanted::Ask::{Fan, Pair};
 use crate::wanted::Want::{Cut, Linked, Paths, PathsOff};
-use crate::wanted::{Row, other_alone, other_in_turn, other_of_group};
+use crate::wanted::{Row, other_of_group};
 use ov_test_kit::ids;
 use std::alloc::Global;
 use std::test::Fail;
@@ -60,33 +60,6 @@ pub(crate) const ALL: [(Drawn, &[Row<'_>]); 6] = [
         ],
     ),
 ];
-
-fn alone(alloc: Global, drawn: Drawn, rows: &[Row<'_>]) -> Result<Option<usize>, Fail> {
-    let graph = graph(alloc, drawn)?;
-    other_alone(alloc, &graph, rows)
-}
-
-#[test]
-fn pieces_of_all_nodes(rt: HostRuntime) -> Result<(), Fail> {
-    for (i, (drawn, rows)) in ALL.iter().enumerate() {
-        assert_eq!(rt; alone(rt.alloc(), *drawn, rows)?, None, "in graph {i}");
-    }
-    Ok(())
-}
-
-fn in_turn(alloc: Global, drawn: Drawn, rows: &[Row<'_>]) -> Result<Option<usize>, Fail> {
-    let graph = graph(alloc, drawn)?;
-    other_in_turn(alloc, &graph, rows)
-}
-
-/// A settler from which memory was withheld settles the same piece when it is asked once more, and those after it.
-#[test]
-fn one_settler_finds_the_same_in_turn(rt: HostRuntime) -> Result<(), Fail> {
-    for (i, (drawn, rows)) in ALL.iter().enumerate() {
-        assert_eq!(rt; in_turn(rt.alloc(), *drawn, rows)?, None, "in graph {i}");
-    }
-    Ok(())
-}
 
 /// Graphs, members, and pieces of the group of these.
 pub(crate) const GROUPS: [(Drawn, &[u32], &[Row<'_>]); 9] = [

@@ -137,19 +137,6 @@ pub(crate) fn comes_to(
     }
 }
 
-/// Settles a piece by `settle`. Its result is the wanted one, and it is a piece.
-fn is_right_of_all(alloc: Global, graph: &Graph, row: &Row<'_>) -> Result<bool, OutOfMemory>
-    requires { IsGroup graph.now graph.now.nodes }
-{
-    let (ask, want) = *row;
-    let piece = piece_of(ask);
-    if !is_piece(graph, graph.nodes(), piece) {
-        return Ok(false);
-    }
-    let settled = settle(alloc, graph, piece)?;
-    comes_to(alloc, graph, graph.nodes(), &settled, want)
-}
-
 /// What `settle_group` answers, the second time where memory was wanted the first time.
 fn settled_in_group(
     alloc: Global,
@@ -171,7 +158,7 @@ fn settled_in_group(
     }
 }
 
-/// The same of a piece that `settle_group` settles.
+/// Settles a piece by `settle_group`. Its result is the wanted one, and it is a piece.
 fn is_right_of_group(
     alloc: Global,
     graph: &Graph,
@@ -226,24 +213,7 @@ fn is_right_by(
     Ok(comes_to(alloc, graph, group, &settled, want)?)
 }
 
-/// The first row whose piece, of the group of all nodes and settled alone, comes to something else, or is none.
-pub(crate) fn other_alone(
-    alloc: Global,
-    graph: &Graph,
-    rows: &[Row<'_>],
-) -> Result<Option<usize>, Fail> {
-    if !graph.is_group(graph.nodes()) {
-        return Ok(Some(0));
-    }
-    for (i, row) in rows.iter().enumerate() {
-        if !is_right_of_all(alloc, graph, row)? {
-            return Ok(Some(i));
-        }
-    }
-    Ok(None)
-}
-
-/// The same of the pieces of a group.
+/// The first row whose piece of the group comes to something else, or is none.
 pub(crate) fn other_of_group(
     alloc: Global,
     graph: &Graph,

@@ -1,12 +1,10 @@
-//! Certificate files: what is written and read, and the faults of a text.
+//! Certificate files that are written.
 use crate::drawn::{Drawn, SQUARE, Said, TWO_LINKED, TWO_UNLINKED, graph, split};
 use crate::files;
-use crate::told::has_line;
 use ov_cert::Cert;
-use ov_certfile::{Filed, from_text, to_text, to_text_group};
+use ov_certfile::{to_text, to_text_group};
 use ov_graph::Graph;
 use ov_ids::{NodeId, OutOfMemory};
-use ov_test_kit::ids;
 use std::alloc::Global;
 use std::test::Fail;
 
@@ -96,76 +94,5 @@ fn certificates_are_written_as_their_files(rt: HostRuntime) -> Result<(), Fail> 
         assert!(rt; is_written(rt.alloc(), *row)?, "in row {i}");
     }
     assert!(rt; is_group_written(rt.alloc())?);
-    Ok(())
-}
-
-/// The group descends, and has an id that is no node.
-const STRANGERS: &str =
-    r#"{"group":[9,1],"k":1,"links":[[1,2]],"moment":6,"nodes":[1,2],"verdict":"linked","version":2}"#;
-
-/// A file, the group that it is read with, and the file that is then written.
-static READ: [(&str, &[u32], &str); 7] = [
-    (files::TWO_LINKED, &[1, 2], files::TWO_LINKED),
-    (files::TWO_UNLINKED, &[1, 2], files::TWO_UNLINKED),
-    (files::SQUARE, &[1, 2, 3, 4], files::SQUARE),
-    (files::FIVE_BUT_ONE, &[1, 2, 3, 4, 5], files::FIVE_BUT_ONE),
-    (files::SQUARE_GROUP, &[1, 2, 3], files::SQUARE_GROUP),
-    (files::TWO_LINKED_GROUP, &[1, 2], files::TWO_LINKED),
-    (STRANGERS, &[9, 1], STRANGERS),
-];
-
-/// The file is of this group.
-fn is_of_group(alloc: Global, filed: &Filed, members: &[u32]) -> Result<bool, OutOfMemory> {
-    let group = ids(alloc, members)?;
-    Ok(filed.group.as_slice() == group.as_slice())
-}
-
-/// The file is written as this text.
-fn is_written_as(alloc: Global, filed: &Filed, text: &str) -> Result<bool, OutOfMemory> {
-    if filed.moment > 65_536 {
-        return Ok(false);
-    }
-    let group = filed.group.as_slice();
-    let written = to_text_group(alloc, &filed.cert, &filed.graph, group, filed.moment)?;
-    Ok(written.as_str() == text)
-}
-
-fn is_read(alloc: Global, text: &str, members: &[u32], again: &str) -> Result<bool, Fail> {
-    let filed = from_text(alloc, text)?;
-    Ok(is_of_group(alloc, &filed, members)? && is_written_as(alloc, &filed, again)?)
-}
-
-#[test]
-fn files_are_read_and_written_again(rt: HostRuntime) -> Result<(), Fail> {
-    for (i, (text, members, again)) in READ.iter().enumerate() {
-        assert!(rt; is_read(rt.alloc(), text, members, again)?, "in row {i}");
-    }
-    Ok(())
-}
-
-static FAULTS: [(&str, &str); 7] = [
-    ("{", "refused 60"),
-    ("[]", "refused 63"),
-    ("{}", "refused 61"),
-    ("{\"version\":1.0}", "refused 64"),
-    (
-        "{\"k\":1,\"links\":[],\"moment\":65537,\"nodes\":[],\"verdict\":\"linked\",\"version\":1}",
-        "refused 63",
-    ),
-    (
-        "{\"k\":1,\"links\":[],\"moment\":1,\"nodes\":[2,1],\"verdict\":\"linked\",\"version\":1}",
-        "refused 32",
-    ),
-    (
-        "{\"k\":1,\"links\":[],\"moment\":1,\"nodes\":[],\"side\":[],\"verdict\":\"linked\",\"version\":1}",
-        "refused 62",
-    ),
-];
-
-#[test]
-fn faults_have_their_numbers(rt: HostRuntime) -> Result<(), Fail> {
-    for (text, line) in &FAULTS {
-        assert!(rt; has_line(&rt, text, line)?, "at {text}");
-    }
     Ok(())
 }

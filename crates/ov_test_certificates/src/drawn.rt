@@ -26,11 +26,6 @@ pub(crate) struct Said {
     pub(crate) fans: &'static [(u32, Lists)],
 }
 
-pub(crate) const NO_NODES: Drawn = Drawn {
-    nodes: &[],
-    links: &[],
-};
-
 pub(crate) const TWO_LINKED: Drawn = Drawn {
     nodes: &[1, 2],
     links: &[(1, 2)],
@@ -39,12 +34,6 @@ pub(crate) const TWO_LINKED: Drawn = Drawn {
 pub(crate) const TWO_UNLINKED: Drawn = Drawn {
     nodes: &[1, 2],
     links: &[],
-};
-
-/// Five nodes in a ring, and one more that is linked to 2.
-pub(crate) const RING_WITH_TAIL: Drawn = Drawn {
-    nodes: &[1, 2, 3, 4, 5, 6],
-    links: &[(1, 2), (1, 5), (2, 3), (2, 6), (3, 4), (4, 5)],
 };
 
 /// Four nodes in a ring.

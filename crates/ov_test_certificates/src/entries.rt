@@ -1,10 +1,10 @@
-//! The entries that are expected of a certificate, and the verdict on each of them.
+//! The verdict on each of the entries that are expected of a certificate.
 ghost use Rattle.std.specs.Prelude.{◌<◌, length};
 ghost use Rattle.ov_cert.specs.Entries.{AreExpected};
 ghost use Rattle.ov_cert.specs.Verdict.{PassesFrame};
 ghost use Rattle.ov_cert.specs.declared.cert.Cert.TheVariants as cert;
 
-use crate::files::{FIVE_BUT_ONE, RING_GROUP, SQUARE, SQUARE_GROUP, TWO_UNLINKED};
+use crate::files::{FIVE_BUT_ONE, RING_GROUP, SQUARE, TWO_UNLINKED};
 use crate::told::{Verdict, changed, put_verdict};
 use ov_cert::{
     Cert, Expected, Split, check_frame, check_group_frame, expected, expected_group, judge_entry,
@@ -15,45 +15,6 @@ use ov_graph::Graph;
 use ov_ids::NodeId;
 use std::alloc::{AllocError, Global};
 use std::test::Fail;
-
-/// Appends the kind of an entry, its place and its nodes.
-fn put_name(told: &mut String, entry: Expected) -> Result<(), AllocError> {
-    match entry {
-        Expected::Pair { at, i, j } => {
-            let (i, j) = (i.number(), j.number());
-            write!(told, " (pair {at} of {i} {j})")
-        }
-        Expected::Fan { at, j } => {
-            let j = j.number();
-            write!(told, " (fan {at} of {j})")
-        }
-    }
-}
-
-/// The entries that are expected of a certificate for all nodes, or for a group.
-fn entries_of(alloc: Global, filed: &Filed, split: &Split) -> Result<Vec<Expected>, Fail> {
-    let graph = &filed.graph;
-    let group = filed.group.as_slice();
-    if group == graph.nodes() {
-        return Ok(expected(alloc, graph, split)?);
-    }
-    if !graph.is_group(group) {
-        return Err("the ids are no group".into());
-    }
-    Ok(expected_group(alloc, graph, group, split)?)
-}
-
-/// Appends the names of the entries that are expected.
-fn put_names(alloc: Global, told: &mut String, filed: &Filed) -> Result<(), Fail> {
-    let Cert::Split(split) = &filed.cert else {
-        return Err("no split".into());
-    };
-    let entries = entries_of(alloc, filed, split)?;
-    for entry in &entries {
-        put_name(told, *entry)?;
-    }
-    Ok(())
-}
 
 /// The verdict on the entry at a place.
 fn verdict_at(graph: &Graph, split: &Split, entries: &[Expected], place: usize) -> Verdict
@@ -158,78 +119,19 @@ fn put_verdicts(alloc: Global, told: &mut String, filed: &Filed) -> Result<(), F
     put_of_group(alloc, told, &filed.graph, group, &filed.cert)
 }
 
-/// The names of the entries that are expected, or the verdicts on them.
-fn told_of(alloc: Global, filed: &Filed, names: bool) -> Result<String, Fail> {
+/// The verdicts on the entries that are expected.
+fn told_of(alloc: Global, filed: &Filed) -> Result<String, Fail> {
     let mut told = String::from_str(alloc, "entries")?;
-    if names {
-        put_names(alloc, &mut told, filed)?;
-    } else {
-        put_verdicts(alloc, &mut told, filed)?;
-    }
+    put_verdicts(alloc, &mut told, filed)?;
     Ok(told)
 }
 
-fn is_told(alloc: Global, filed: &Filed, names: bool, expected: &str) -> Result<bool, Fail> {
-    let told = told_of(alloc, filed, names)?;
-    Ok(told.as_str() == expected)
-}
-
-/// The file that the row changes has the entries of the row.
-fn has_entries(alloc: Global, file: &str, names: bool, row: &str) -> Result<bool, Fail> {
+/// The entries of the file that the row changes have the verdicts of the row.
+fn has_verdicts(alloc: Global, file: &str, row: &str) -> Result<bool, Fail> {
     let (text, expected) = changed(alloc, file, row)?;
     let filed = from_text(alloc, text.as_str())?;
-    is_told(alloc, &filed, names, expected)
-}
-
-/// A file, and one of its changes with the entries that are then expected. Each entry has its place among its kind.
-static EXPECTED: [(&str, &str); 12] = [
-    (
-        SQUARE,
-        r#""k":2 => "k":2 => entries (fan 0 of 3) (fan 1 of 4)"#,
-    ),
-    (SQUARE, r#""k":2 => "k":0 => entries"#),
-    (
-        SQUARE,
-        r#""k":2 => "k":9 => entries (pair 0 of 1 3) (pair 1 of 2 4)"#,
-    ),
-    (
-        SQUARE,
-        r#""k":2 => "k":4294967295 => entries (pair 0 of 1 3) (pair 1 of 2 4)"#,
-    ),
-    (
-        FIVE_BUT_ONE,
-        r#""k":3 => "k":3 => entries (pair 0 of 1 2) (fan 0 of 4) (fan 1 of 5)"#,
-    ),
-    (
-        SQUARE,
-        r#""k":2,"links":[[1,2],[1,4],[2,3],[3,4]],"moment":0,"near":1,"nodes":[1,2,3,4] => "k":4,"links":[[1,2],[1,3],[2,4],[3,4],[4,5]],"moment":0,"near":1,"nodes":[1,2,3,4,5] => entries (pair 0 of 2 3) (pair 1 of 1 4) (fan 0 of 5)"#,
-    ),
-    (
-        TWO_UNLINKED,
-        r#""k":0,"links":[],"moment":4,"near":2,"nodes":[1,2] => "k":3,"links":[],"moment":4,"near":2,"nodes":[] => entries"#,
-    ),
-    (SQUARE_GROUP, r#""k":2 => "k":2 => entries (fan 0 of 3)"#),
-    (SQUARE_GROUP, r#""k":2 => "k":0 => entries"#),
-    (
-        SQUARE_GROUP,
-        r#""group":[1,2,3] => "group":[1,3] => entries (pair 0 of 1 3)"#,
-    ),
-    (
-        SQUARE_GROUP,
-        r#""group":[1,2,3] => "group":[2,3,4] => entries (fan 0 of 4)"#,
-    ),
-    (
-        SQUARE_GROUP,
-        r#""group":[1,2,3],"k":2 => "group":[2,3,4],"k":3 => entries (pair 0 of 2 4)"#,
-    ),
-];
-
-#[test]
-fn pairs_and_then_fans_are_expected(rt: HostRuntime) -> Result<(), Fail> {
-    for (file, row) in &EXPECTED {
-        assert!(rt; has_entries(rt.alloc(), file, true, row)?, "at {row}");
-    }
-    Ok(())
+    let told = told_of(alloc, &filed)?;
+    Ok(told.as_str() == expected)
 }
 
 /// A file, and one of its changes with the verdicts on the entries that are expected.
@@ -266,7 +168,7 @@ static JUDGED: [(&str, &str); 9] = [
 #[test]
 fn entries_are_judged_one_by_one(rt: HostRuntime) -> Result<(), Fail> {
     for (file, row) in &JUDGED {
-        assert!(rt; has_entries(rt.alloc(), file, false, row)?, "at {row}");
+        assert!(rt; has_verdicts(rt.alloc(), file, row)?, "at {row}");
     }
     Ok(())
 }

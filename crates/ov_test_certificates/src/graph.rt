@@ -1,17 +1,9 @@
-//! Graphs at their limits, and what is read back from one.
+//! Graphs at their limits, and the first fault of nodes and links.
 use crate::drawn::{Drawn, graph};
 use ov_graph::{Graph, GraphFault};
 use ov_ids::NodeId;
 use std::alloc::{AllocError, Global};
 use std::test::Fail;
-
-const NODES: [NodeId; 4] = [NodeId(1), NodeId(2), NodeId(3), NodeId(9)];
-
-const LINKS: [(NodeId, NodeId); 3] = [
-    (NodeId(1), NodeId(3)),
-    (NodeId(1), NodeId(9)),
-    (NodeId(2), NodeId(3)),
-];
 
 /// The number of the fault; 0 where there is none.
 fn number_of(graph: &Result<Graph, GraphFault>) -> u32 {
@@ -40,13 +32,14 @@ static MANY: [(u32, bool, u32); 5] = [
     (1_025, false, 31),
 ];
 
-#[test]
-fn a_graph_has_at_most_1024_nodes(rt: HostRuntime) -> Result<(), Fail> {
+/// So many nodes have these faults.
+fn have_faults(alloc: Global) -> Result<bool, AllocError> {
     for (count, ascend, number) in &MANY {
-        let fault = fault_of_many(rt.alloc(), *count, *ascend)?;
-        assert!(rt; fault == *number, "{count} nodes, ascending {ascend}");
+        if fault_of_many(alloc, *count, *ascend)? != *number {
+            return Ok(false);
+        }
     }
-    Ok(())
+    Ok(true)
 }
 
 /// Nodes, links, and the number of their fault; 0 where there is none.
@@ -67,63 +60,11 @@ static FAULTS: [FaultRow; 11] = [
 ];
 
 #[test]
-fn the_first_fault_is_told(rt: HostRuntime) {
+fn a_graph_has_at_most_1024_nodes_and_its_first_fault(rt: HostRuntime) -> Result<(), Fail> {
+    assert!(rt; have_faults(rt.alloc())?);
     for (i, (nodes, links, number)) in FAULTS.iter().enumerate() {
         let fault = number_of(&graph(rt.alloc(), Drawn { nodes, links }));
         assert_eq!(rt; fault, *number, "in row {i}");
     }
-}
-
-/// Two ids, and whether they are linked.
-static LINKED: [(u32, u32, bool); 6] = [
-    (1, 9, true),
-    (9, 1, true),
-    (1, 2, false),
-    (1, 1, false),
-    (1, 4, false),
-    (4, 1, false),
-];
-
-/// An id, and its place where it is a node.
-static PLACES: [(u32, Option<usize>); 4] = [(1, Some(0)), (9, Some(3)), (4, None), (10, None)];
-
-fn are_linked_so(graph: &Graph) -> bool {
-    for (a, b, is_linked) in &LINKED {
-        if graph.linked(NodeId(*a), NodeId(*b)) != *is_linked {
-            return false;
-        }
-    }
-    true
-}
-
-fn stand_so(graph: &Graph) -> bool {
-    for (node, place) in &PLACES {
-        if graph.place(NodeId(*node)) != *place {
-            return false;
-        }
-    }
-    true
-}
-
-/// The links, from the first one to the last.
-fn links_of(alloc: Global, graph: &Graph) -> Result<Vec<(NodeId, NodeId)>, AllocError> {
-    let mut links = Vec::new(alloc);
-    for link in graph.links() {
-        links.push(link)?;
-    }
-    Ok(links)
-}
-
-/// A copy of the graph has its nodes and its links.
-fn comes_back(alloc: Global, graph: &Graph) -> Result<bool, Fail> {
-    let copy = graph.copy()?;
-    let links = links_of(alloc, &copy)?;
-    Ok(copy.nodes() == NODES.as_slice() && links.as_slice() == LINKS.as_slice())
-}
-
-#[test]
-fn nodes_and_links_are_read_back(rt: HostRuntime) -> Result<(), Fail> {
-    let graph = Graph::new(rt.alloc(), &NODES, &LINKS)?;
-    assert!(rt; are_linked_so(&graph) && stand_so(&graph) && comes_back(rt.alloc(), &graph)?);
     Ok(())
 }

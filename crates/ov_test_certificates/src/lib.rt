@@ -6,13 +6,7 @@ mod altered_files;
 #[cfg(test)]
 mod certfile;
 #[cfg(test)]
-mod changes;
-#[cfg(test)]
 mod check;
-#[cfg(test)]
-mod checked;
-#[cfg(test)]
-mod devices;
 #[cfg(test)]
 mod drawn;
 #[cfg(test)]
@@ -23,8 +17,6 @@ mod failing_calls;
 mod files;
 #[cfg(test)]
 mod graph;
-#[cfg(test)]
-mod program;
 #[cfg(test)]
 mod rows;
 #[cfg(test)]

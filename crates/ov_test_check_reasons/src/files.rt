@@ -33,7 +33,7 @@ fn no_json_has_its_place(rt: HostRuntime) -> Result<(), Fail> {
 }
 
 /// Files of two linked nodes whose keys or values are wrong.
-static LINKED: [(&str, &str); 27] = [
+pub(crate) static LINKED: [(&str, &str); 27] = [
     (
         "[1]",
         "a value has another form: expected an object, found a list",
@@ -138,14 +138,6 @@ static LINKED: [(&str, &str); 27] = [
         "a value has another form, nodes[1]: expected an id, found true",
     ),
 ];
-
-#[test]
-fn a_key_or_a_value_is_named(rt: HostRuntime) -> Result<(), Fail> {
-    for (text, told) in &LINKED {
-        assert!(rt; is_told(rt.alloc(), text.as_bytes(), told)?, "{told}");
-    }
-    Ok(())
-}
 
 /// What stands in the place of the parts of a split file: the cut, near, far, the side, the pairs, the fans.
 static SPLIT: [([&str; 6], &str); 13] = [
@@ -254,73 +246,5 @@ fn a_value_is_named_by_its_path(rt: HostRuntime) -> Result<(), Fail> {
         let told = told.as_str();
         assert!(rt; is_told(alloc, text.as_bytes(), told)?, "{told}");
     }
-    Ok(())
-}
-
-/// The nodes and links of a file, and why they are no graph.
-static GRAPHS: [(&str, &str, &str); 8] = [
-    (
-        "[2,1]",
-        "[]",
-        "the nodes or the links do not ascend: nodes[1] is 1, not above 2",
-    ),
-    (
-        "[1,1]",
-        "[]",
-        "the nodes or the links do not ascend: nodes[1] is 1, not above 1",
-    ),
-    (
-        "[1,2,3]",
-        "[[1,3],[1,2]]",
-        "the nodes or the links do not ascend: links[1] is [1,2], not above the link before it",
-    ),
-    (
-        "[1,2,3]",
-        "[[1,2],[2,3],[2,3]]",
-        "the nodes or the links do not ascend: links[2] is [2,3], not above the link before it",
-    ),
-    (
-        "[1,2,3]",
-        "[[1,3],[1,2],[1,9]]",
-        "the nodes or the links do not ascend: links[1] is [1,2], not above the link before it",
-    ),
-    (
-        "[1,2]",
-        "[[2,2]]",
-        "a link does not join a node to a higher one: links[0] is [2,2]",
-    ),
-    (
-        "[1,2,3]",
-        "[[1,2],[3,2]]",
-        "a link does not join a node to a higher one: links[1] is [3,2]",
-    ),
-    (
-        "[1,2]",
-        "[[1,9]]",
-        "a link does not join a node to a higher one: links[0] is [1,9], and 9 is no node",
-    ),
-];
-
-#[test]
-fn a_node_or_a_link_is_named(rt: HostRuntime) -> Result<(), Fail> {
-    let alloc = rt.alloc();
-    for (nodes, links, told) in &GRAPHS {
-        let mut text = format!(in alloc; r#"{{"k":1,"links":{links},"nodes":{nodes},"#)?;
-        text.push_str(r#""moment":0,"verdict":"linked","version":1}"#)?;
-        assert!(rt; is_told(alloc, text.as_bytes(), told)?, "{told}");
-    }
-    Ok(())
-}
-
-#[test]
-fn too_many_nodes_are_counted(rt: HostRuntime) -> Result<(), Fail> {
-    let alloc = rt.alloc();
-    let mut text = String::from_str(alloc, r#"{"k":1,"links":[],"nodes":[0"#)?;
-    for node in 1..257u32 {
-        write!(text, ",{node}")?;
-    }
-    text.push_str(r#"],"moment":0,"verdict":"linked","version":1}"#)?;
-    let told = "the graph has too many nodes: it has 257, and this version allows 256";
-    assert!(rt; is_told(alloc, text.as_bytes(), told)?);
     Ok(())
 }

@@ -1,5 +1,6 @@
-//! Keys that are almost those of a file, and links of which one end is no node.
+//! Keys that are almost those of a file, links of which one end is no node, and the whole files of other modules.
 use crate::shared::is_told;
+use crate::{files, statements};
 use std::test::Fail;
 
 /// Files of two linked nodes in which a key is missing or unknown. A key is offered if it differs in one place, by two
@@ -72,7 +73,13 @@ static LINKS: [(&str, &str); 2] = [
 
 #[test]
 fn what_is_almost_right_is_named(rt: HostRuntime) -> Result<(), Fail> {
-    for rows in [LINKED.as_slice(), &SPLIT, &LINKS] {
+    for rows in [
+        LINKED.as_slice(),
+        &SPLIT,
+        &LINKS,
+        &files::LINKED,
+        &statements::LINKED,
+    ] {
         for (text, told) in rows {
             assert!(rt; is_told(rt.alloc(), text.as_bytes(), told)?, "{told}");
         }

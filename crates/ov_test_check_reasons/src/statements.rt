@@ -162,9 +162,94 @@ static CHANGED: [(&str, &str, &str); 31] = [
     ("\"moment\":0", "\"moment\":7", ""),
 ];
 
-/// With one part of the square in place of another, which it has once, a person is told this.
-fn is_told_changed(alloc: Global, old: &str, new: &str, told: &str) -> Result<bool, OutOfMemory> {
-    let Some((front, back)) = SQUARE.split_once(old) else {
+const FIVE_BUT_ONE: &str =
+    r#"{"cut":[3,4,5],"fans":[{"j":4,"paths":[[4,1],[4,2],[4,3]]},{"j":5,"paths":[[5,1],[5,2],[5,3]]}],"far":2,"k":3,"links":[[1,3],[1,4],[1,5],[2,3],[2,4],[2,5],[3,4],[3,5],[4,5]],"moment":0,"near":1,"nodes":[1,2,3,4,5],"pairs":PAIRS,"side":[1],"verdict":"split","version":1}"#;
+
+/// What stands in the place of the pairs, and what is told.
+static PAIRS: [(&str, &str, &str); 5] = [
+    (
+        "PAIRS",
+        "[]",
+        "the paths from 1 to 2 do not hold: pairs[0] is missing",
+    ),
+    (
+        "PAIRS",
+        r#"[{"i":1,"j":3,"paths":[[1,3,2],[1,4,2],[1,5,2]]}]"#,
+        "the paths from 1 to 2 do not hold: pairs[0] has i 1 and j 3",
+    ),
+    (
+        "PAIRS",
+        r#"[{"i":1,"j":2,"paths":[[1,3,2],[1,4,2],[1,5,4]]}]"#,
+        "the paths from 1 to 2 do not hold: pairs[0].paths[2] ends at 4, not at 2",
+    ),
+    (
+        "PAIRS",
+        r#"[{"i":1,"j":2,"paths":[[1,3,2],[1,4,2],[1,4,2]]}]"#,
+        "the paths from 1 to 2 do not hold: pairs[0].paths[2] meets node 4 of paths[1]",
+    ),
+    (
+        "PAIRS",
+        r#"[{"i":1,"j":2,"paths":[[1,2],[1,4,2],[1,5,2]]}]"#,
+        "the paths from 1 to 2 do not hold: pairs[0].paths[0] goes from 1 to 2, and there is no such link",
+    ),
+];
+
+/// A file without nodes and links.
+const EMPTY: &str = r#"{"k":1,"links":[],"nodes":[],"moment":0,"verdict":"linked","version":1}"#;
+
+/// What stands in the place of the links and nodes, and why they are no graph.
+static GRAPHS: [(&str, &str, &str); 8] = [
+    (
+        r#""links":[],"nodes":[]"#,
+        r#""links":[],"nodes":[2,1]"#,
+        "the nodes or the links do not ascend: nodes[1] is 1, not above 2",
+    ),
+    (
+        r#""links":[],"nodes":[]"#,
+        r#""links":[],"nodes":[1,1]"#,
+        "the nodes or the links do not ascend: nodes[1] is 1, not above 1",
+    ),
+    (
+        r#""links":[],"nodes":[]"#,
+        r#""links":[[1,3],[1,2]],"nodes":[1,2,3]"#,
+        "the nodes or the links do not ascend: links[1] is [1,2], not above the link before it",
+    ),
+    (
+        r#""links":[],"nodes":[]"#,
+        r#""links":[[1,2],[2,3],[2,3]],"nodes":[1,2,3]"#,
+        "the nodes or the links do not ascend: links[2] is [2,3], not above the link before it",
+    ),
+    (
+        r#""links":[],"nodes":[]"#,
+        r#""links":[[1,3],[1,2],[1,9]],"nodes":[1,2,3]"#,
+        "the nodes or the links do not ascend: links[1] is [1,2], not above the link before it",
+    ),
+    (
+        r#""links":[],"nodes":[]"#,
+        r#""links":[[2,2]],"nodes":[1,2]"#,
+        "a link does not join a node to a higher one: links[0] is [2,2]",
+    ),
+    (
+        r#""links":[],"nodes":[]"#,
+        r#""links":[[1,2],[3,2]],"nodes":[1,2,3]"#,
+        "a link does not join a node to a higher one: links[1] is [3,2]",
+    ),
+    (
+        r#""links":[],"nodes":[]"#,
+        r#""links":[[1,9]],"nodes":[1,2]"#,
+        "a link does not join a node to a higher one: links[0] is [1,9], and 9 is no node",
+    ),
+];
+
+/// With one part of the file in place of another, which it has once, a person is told this.
+fn is_told_changed(
+    alloc: Global,
+    file: &str,
+    old: &str,
+    new: &str,
+    told: &str,
+) -> Result<bool, OutOfMemory> {
+    let Some((front, back)) = file.split_once(old) else {
         return Ok(false);
     };
     let text = format!(in alloc; "{front}{new}{back}")?;
@@ -173,58 +258,24 @@ fn is_told_changed(alloc: Global, old: &str, new: &str, told: &str) -> Result<bo
 
 #[test]
 fn the_part_that_does_not_hold_is_named(rt: HostRuntime) -> Result<(), Fail> {
-    for (old, new, told) in &CHANGED {
-        assert!(rt;
-            is_told_changed(rt.alloc(), old, new, told)?,
-            "{new} for {old}: {told}"
-        );
-    }
-    Ok(())
-}
-
-const FIVE_BUT_ONE: &str =
-    r#"{"cut":[3,4,5],"fans":[{"j":4,"paths":[[4,1],[4,2],[4,3]]},{"j":5,"paths":[[5,1],[5,2],[5,3]]}],"far":2,"k":3,"links":[[1,3],[1,4],[1,5],[2,3],[2,4],[2,5],[3,4],[3,5],[4,5]],"moment":0,"near":1,"nodes":[1,2,3,4,5],"pairs":PAIRS,"side":[1],"verdict":"split","version":1}"#;
-
-/// What stands in the place of the pairs, and what is told.
-static PAIRS: [(&str, &str); 5] = [
-    ("[]", "pairs[0] is missing"),
-    (
-        r#"[{"i":1,"j":3,"paths":[[1,3,2],[1,4,2],[1,5,2]]}]"#,
-        "pairs[0] has i 1 and j 3",
-    ),
-    (
-        r#"[{"i":1,"j":2,"paths":[[1,3,2],[1,4,2],[1,5,4]]}]"#,
-        "pairs[0].paths[2] ends at 4, not at 2",
-    ),
-    (
-        r#"[{"i":1,"j":2,"paths":[[1,3,2],[1,4,2],[1,4,2]]}]"#,
-        "pairs[0].paths[2] meets node 4 of paths[1]",
-    ),
-    (
-        r#"[{"i":1,"j":2,"paths":[[1,2],[1,4,2],[1,5,2]]}]"#,
-        "pairs[0].paths[0] goes from 1 to 2, and there is no such link",
-    ),
-];
-
-fn is_told_pairs(alloc: Global, pairs: &str, told: &str) -> Result<bool, OutOfMemory> {
-    let Some((front, back)) = FIVE_BUT_ONE.split_once("PAIRS") else {
-        return Ok(false);
-    };
-    let text = format!(in alloc; "{front}{pairs}{back}")?;
-    let told = format!(in alloc; "the paths from 1 to 2 do not hold: {told}")?;
-    is_told(alloc, text.as_bytes(), told.as_str())
-}
-
-#[test]
-fn the_path_that_does_not_hold_is_named(rt: HostRuntime) -> Result<(), Fail> {
-    for (pairs, told) in &PAIRS {
-        assert!(rt; is_told_pairs(rt.alloc(), pairs, told)?, "{pairs}: {told}");
+    let tables: [(&str, &[(&str, &str, &str)]); 3] = [
+        (SQUARE, &CHANGED),
+        (FIVE_BUT_ONE, &PAIRS),
+        (EMPTY, &GRAPHS),
+    ];
+    for (file, rows) in tables {
+        for (old, new, told) in rows {
+            assert!(rt;
+                is_told_changed(rt.alloc(), file, old, new, told)?,
+                "{new} for {old}: {told}"
+            );
+        }
     }
     Ok(())
 }
 
 /// Files that say linked.
-static LINKED: [(&str, &str); 3] = [
+pub(crate) static LINKED: [(&str, &str); 3] = [
     (
         r#"{"k":2,"links":[[1,2]],"moment":6,"nodes":[1,2],"verdict":"linked","version":1}"#,
         "the count is wrong: k is 2, and the number of members is 2",
@@ -238,11 +289,3 @@ static LINKED: [(&str, &str); 3] = [
         "the graph has no node",
     ),
 ];
-
-#[test]
-fn members_that_are_not_linked_are_named(rt: HostRuntime) -> Result<(), Fail> {
-    for (text, told) in &LINKED {
-        assert!(rt; is_told(rt.alloc(), text.as_bytes(), told)?, "{told}");
-    }
-    Ok(())
-}

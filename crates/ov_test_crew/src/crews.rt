@@ -4,9 +4,8 @@ use crate::graphs::{Family, of_size};
 use ov_board::Board;
 use ov_cert::Cert;
 use ov_claims::Workers;
-use ov_crew::{Gate, OpenGate, analyse, analyse_group, analyse_group_watched, work};
-use ov_even::{AnalyseFault, Watcher, analyse_alone, total};
-use ov_graph::Graph;
+use ov_crew::{Gate, OpenGate, analyse, analyse_group_watched};
+use ov_even::{Watcher, analyse_alone};
 use ov_ids::{NodeId, OutOfMemory};
 use std::alloc::Global;
 use std::test::Fail;
@@ -203,32 +202,6 @@ fn a_level_that_pays_gets_two_workers(rt: HostRuntime) -> Result<(), Fail> {
     Ok(())
 }
 
-/// The pieces of the Petersen graph before the one that decides: 9 of level 1, 9 of level 2, 10 of level 3, and of
-/// level 4 the pair of nodes 1 and 2, which are linked. Nodes 1 and 3 are not, and have 3 paths.
-const BEFORE_THE_CUT: u64 = 29;
-
-/// One worker at a board of all pieces settles those before the cut, and the one with the cut, and ends.
-fn works_up_to_the_cut(alloc: Global) -> Result<bool, Fail> {
-    let graph = of_size(alloc, PETERSEN.family, PETERSEN.nodes)?;
-    if graph.nodes().is_empty() {
-        return Ok(false);
-    }
-    let (board, mut seats) = Board::new(alloc, total(graph.nodes().len()), Workers::ONE)?;
-    let Some(seat) = seats.pop() else {
-        return Ok(false);
-    };
-    let (haul, seat) = work(alloc, &board, &graph, seat, &OpenGate);
-    let settled = haul?.pieces.len() as u64;
-    seats.push(seat)?;
-    Ok(settled == BEFORE_THE_CUT + 1 && board.close(seats) == BEFORE_THE_CUT)
-}
-
-#[test]
-fn a_worker_ends_at_the_cut(rt: HostRuntime) -> Result<(), Fail> {
-    assert!(rt; works_up_to_the_cut(rt.alloc())?);
-    Ok(())
-}
-
 #[test]
 fn one_thread_without_a_board(rt: HostRuntime) -> Result<(), Fail> {
     for row in [&PETERSEN, &RING, &LINKED] {
@@ -255,33 +228,5 @@ fn a_board_without_numbers(rt: HostRuntime) -> Result<(), Fail> {
     let gate = Counting::new();
     let is_done = ends_at_once(rt.alloc())? && find(&rt, rt.alloc(), &LINKED, 2, &gate)?;
     assert!(rt; is_done && gate.count() == 0);
-    Ok(())
-}
-
-/// Two workers refuse a group of the nodes up to the last for this fault.
-fn refuse<R: Threads + Sync>(
-    rt: &R,
-    alloc: Global,
-    last: u32,
-    group: &[NodeId],
-    fault: AnalyseFault,
-) -> Result<bool, Fail> {
-    let graph = of_size(alloc, Family::All, last)?;
-    let refused = analyse_group(rt, alloc, &graph, group, crew_of(2)?, &OpenGate);
-    Ok(refused.err() == Some(fault))
-}
-
-#[test]
-fn graphs_and_groups_are_refused(rt: HostRuntime) -> Result<(), Fail> {
-    let unordered = [NodeId(2), NodeId(1)];
-    let beyond = [NodeId(1), NodeId(4)];
-    for (last, group, fault) in [
-        (0, &unordered[..], AnalyseFault::NoNodes),
-        (3, &unordered[..], AnalyseFault::BadGroup),
-        (3, &beyond[..], AnalyseFault::BadGroup),
-        (3, &beyond[..0], AnalyseFault::BadGroup),
-    ] {
-        assert!(rt; refuse(&rt, rt.alloc(), last, group, fault)?);
-    }
     Ok(())
 }

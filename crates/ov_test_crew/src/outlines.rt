@@ -1,35 +1,10 @@
 //! Answers without paths, by workers in threads.
-use crate::crews::{PETERSEN, RING, Row, TWO_SIDES, crew_of, gives};
+use crate::crews::{TWO_SIDES, crew_of, gives};
 use crate::gates::{Meeting, Opening};
 use crate::graphs::of_size;
 use ov_cert::Cert;
-use ov_crew::{OpenGate, outline_group_watched};
-use ov_even::Unwatched;
-use std::alloc::Global;
+use ov_crew::outline_group_watched;
 use std::test::Fail;
-use std::thread::Threads;
-
-/// Whether this number of workers finds the answer of a row, without paths.
-fn is_outlined<R: Threads + Sync>(
-    rt: &R,
-    alloc: Global,
-    row: &Row,
-    count: u32,
-) -> Result<bool, Fail> {
-    let graph = of_size(alloc, row.family, row.nodes)?;
-    let group = graph.nodes();
-    let workers = crew_of(count)?;
-    let outline = outline_group_watched(
-        rt,
-        alloc,
-        &graph,
-        group,
-        workers,
-        &OpenGate,
-        &mut Unwatched,
-    )?;
-    Ok(gives(&outline, row) && has_no_paths(&outline))
-}
 
 /// Whether a certificate has no entries.
 fn has_no_paths(cert: &Cert) -> bool {
@@ -37,16 +12,6 @@ fn has_no_paths(cert: &Cert) -> bool {
         Cert::Linked { .. } => true,
         Cert::Split(split) => split.pairs.as_slice().is_empty() && split.fans.as_slice().is_empty(),
     }
-}
-
-#[test]
-fn the_same_without_paths(rt: HostRuntime) -> Result<(), Fail> {
-    for count in [1, 2, 4] {
-        for row in [&PETERSEN, &RING, &TWO_SIDES] {
-            assert!(rt; is_outlined(&rt, rt.alloc(), row, count)?);
-        }
-    }
-    Ok(())
 }
 
 /// The levels that pay get two workers, which meet.
@@ -65,6 +30,6 @@ fn a_level_that_pays_gets_two_workers_without_paths(rt: HostRuntime) -> Result<(
         &meeting,
         &mut opening,
     )?;
-    assert!(rt; gives(&outline, &TWO_SIDES) && meeting.saw_both());
+    assert!(rt; gives(&outline, &TWO_SIDES) && has_no_paths(&outline) && meeting.saw_both());
     Ok(())
 }

@@ -4,8 +4,6 @@
 #[cfg(test)]
 mod analyses_beside;
 #[cfg(test)]
-mod group_reports;
-#[cfg(test)]
 mod halls;
 #[cfg(test)]
 mod many_drivers;

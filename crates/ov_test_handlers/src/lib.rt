@@ -1,10 +1,8 @@
-//! Tests of lists in blocks, of ids, words, messages and views, and of HyParView's handlers.
+//! Tests of lists in blocks, of parameters, messages and views, and of HyParView's handlers.
 #![tactic(auto)]
 
 #[cfg(test)]
 mod blocks;
-#[cfg(test)]
-mod ids;
 #[cfg(test)]
 mod join;
 #[cfg(test)]
@@ -17,5 +15,3 @@ mod shuffle;
 mod views;
 #[cfg(test)]
 mod wire;
-#[cfg(test)]
-mod words;

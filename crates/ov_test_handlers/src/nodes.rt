@@ -1,7 +1,7 @@
 //! What the tests of several handlers share.
 use ov_ids::{NodeId, Params};
 use ov_test_kit::is_spelt;
-use ov_views::{ViewChange, Views};
+use ov_views::{Moves, ViewChange, Views};
 use ov_wire::{Message, WireFault};
 use ov_words::{Draws, Words};
 use std::alloc::Global;
@@ -58,7 +58,7 @@ pub fn numbered(change: ViewChange) -> Change {
 pub type Spelt = &'static [(u32, &'static [u8])];
 
 /// The sends are these bytes to these nodes.
-pub fn are_spelt(
+fn are_spelt(
     alloc: Global,
     sends: &[(NodeId, Message)],
     expected: Spelt,
@@ -69,4 +69,26 @@ pub fn are_spelt(
         }
     }
     Ok(sends.len() == expected.len())
+}
+
+fn are_changes(changes: &[ViewChange], expected: &[Change]) -> bool {
+    for (change, expected) in changes.iter().zip(expected) {
+        if numbered(*change) != *expected {
+            return false;
+        }
+    }
+    changes.len() == expected.len()
+}
+
+/// The moves are these changes, and these bytes to these nodes.
+pub fn are_moves(
+    alloc: Global,
+    moves: &Moves,
+    changes: &[Change],
+    sends: Spelt,
+) -> Result<bool, WireFault> {
+    if !are_changes(&moves.changes, changes) {
+        return Ok(false);
+    }
+    are_spelt(alloc, &moves.sends, sends)
 }

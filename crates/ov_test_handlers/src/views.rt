@@ -1,78 +1,14 @@
 ghost use Rattle.std.specs.Prelude.{◌≤◌, length};
 
-use crate::ids::is_refused;
 use crate::nodes::{Change, are, has, numbered, views_with};
 use ov_ids::{BadParams, NodeId, Params};
 use ov_test_kit::{sized, words};
 use ov_views::{Changes, View, Views};
 use ov_words::Draws;
-use std::process::Abort;
 use std::test::Fail;
 
-/// A call of the views, mostly with a node's number.
-#[derive(Clone, Copy, Drop)]
-enum Call {
-    AddActive(u32),
-    AddPassive(u32),
-    DropRandom,
-    RemoveActive(u32),
-    Forget(u32),
-}
-
-/// A call and the changes that it tells, then the active and the passive members after it, and how many words are left.
-type Step = (
-    Call,
-    &'static [Change],
-    &'static [u32],
-    &'static [u32],
-    usize,
-);
-
-/// Views of node 1 with these sizes.
-fn views(active: u32, passive: u32) -> Result<Views, BadParams> {
-    Ok(Views::new(NodeId(1), sized(active, passive)?))
-}
-
-fn take(views: &mut Views, draws: &mut Draws<'_>, call: Call) -> Option<Changes>
-    requires { 2 ≤ length draws.old }
-{
-    match call {
-        Call::AddActive(id) => Some(views.add_active(NodeId(id), draws)),
-        Call::AddPassive(id) => {
-            views.add_passive(NodeId(id), draws);
-            None
-        }
-        Call::DropRandom => Some(views.drop_random(draws)),
-        Call::RemoveActive(id) => Some(views.remove_active(NodeId(id))),
-        Call::Forget(id) => Some(views.forget(NodeId(id))),
-    }
-}
-
-/// The changes are these, and no other follows.
-fn are_told(changes: Option<Changes>, expected: &[Change]) -> bool {
-    let Some(mut changes) = changes else {
-        return expected.is_empty();
-    };
-    for change in expected {
-        let Some(told) = changes.next() else {
-            return false;
-        };
-        if numbered(told) != *change {
-            return false;
-        }
-    }
-    changes.next().is_none()
-}
-
-/// The views do as each step says, one after another.
-fn go(rt: &impl Abort, views: &mut Views, draws: &mut Draws<'_>, steps: &[Step]) {
-    for (call, changes, active, passive, left) in steps {
-        assert!(rt; draws.left() >= 2);
-        let told = take(views, draws, *call);
-        assert!(rt;
-            are_told(told, *changes) && has(views, *active, *passive) && draws.left() == *left
-        );
-    }
+fn is_refused(p: [u32; 7]) -> bool {
+    Params::new(p[0], p[1], p[2], p[3], p[4], p[5], p[6]) == Err(BadParams)
 }
 
 #[test]
@@ -87,93 +23,29 @@ fn parameters_have_limits(rt: HostRuntime) {
     }
 }
 
-/// Of two members number 5 mod 2 is dropped.
-static FULL: [Step; 3] = [
-    (Call::AddActive(3), &[Change::Up(3)], &[3], &[], 64),
-    (Call::AddActive(7), &[Change::Up(7)], &[3, 7], &[], 64),
-    (
-        Call::AddActive(9),
-        &[Change::Down(7), Change::Up(9)],
-        &[3, 9],
-        &[7],
-        63,
-    ),
-];
+/// The changes are these, and no other follows.
+fn are_told(changes: Changes, expected: &[Change]) -> bool {
+    let mut changes = changes;
+    for change in expected {
+        let Some(told) = changes.next() else {
+            return false;
+        };
+        if numbered(told) != *change {
+            return false;
+        }
+    }
+    changes.next().is_none()
+}
 
+/// Of two members number 5 mod 2 is dropped.
 #[test]
 fn a_full_active_view_drops_a_random_member(rt: HostRuntime) -> Result<(), Fail> {
-    let mut views = views(2, 30)?;
     let words = words(&[5]);
-    go(&rt, &mut views, &mut Draws::new(&words), &FULL);
-    Ok(())
-}
-
-/// The node itself and active members do not become passive.
-static ONE_ACTIVE: [Step; 5] = [
-    (Call::AddActive(3), &[Change::Up(3)], &[3], &[], 64),
-    (Call::AddPassive(4), &[], &[3], &[4], 64),
-    (Call::AddPassive(6), &[], &[3], &[4, 6], 64),
-    (Call::AddPassive(1), &[], &[3], &[4, 6], 64),
-    (Call::AddPassive(3), &[], &[3], &[4, 6], 64),
-];
-
-/// The first word drops 3, and the next takes 6 out.
-static DROPPED: [Step; 1] = [(
-    Call::AddActive(9),
-    &[Change::Down(3), Change::Up(9)],
-    &[9],
-    &[3, 4],
-    62,
-)];
-
-#[test]
-fn a_dropped_member_takes_a_passive_place(rt: HostRuntime) -> Result<(), Fail> {
-    let mut views = views(1, 2)?;
-    let words = words(&[8, 1]);
+    let mut views = views_with(1, sized(2, 30)?, &[3, 7], &[], &words);
     let mut draws = Draws::new(&words);
-    go(&rt, &mut views, &mut draws, &ONE_ACTIVE);
-    let before = views.copy();
-    go(&rt, &mut views, &mut draws, &DROPPED);
-    assert!(rt; has(&before, &[3], &[4, 6]));
-    Ok(())
-}
-
-static ENTERS: [Step; 3] = [
-    (Call::AddActive(3), &[Change::Up(3)], &[3], &[], 64),
-    (Call::AddPassive(4), &[], &[3], &[4], 64),
-    (
-        Call::AddActive(4),
-        &[Change::Down(3), Change::Up(4)],
-        &[4],
-        &[3],
-        63,
-    ),
-];
-
-#[test]
-fn who_enters_has_left_the_passive_view(rt: HostRuntime) -> Result<(), Fail> {
-    let mut views = views(1, 1)?;
-    let words = words(&[]);
-    go(&rt, &mut views, &mut Draws::new(&words), &ENTERS);
-    Ok(())
-}
-
-static GOES: [Step; 8] = [
-    (Call::DropRandom, &[], &[], &[], 64),
-    (Call::AddActive(3), &[Change::Up(3)], &[3], &[], 64),
-    (Call::AddActive(5), &[Change::Up(5)], &[3, 5], &[], 64),
-    (Call::AddPassive(4), &[], &[3, 5], &[4], 64),
-    (Call::RemoveActive(4), &[], &[3, 5], &[4], 64),
-    (Call::RemoveActive(3), &[Change::Down(3)], &[5], &[4], 64),
-    (Call::Forget(4), &[], &[5], &[], 64),
-    (Call::Forget(5), &[Change::Down(5)], &[], &[], 64),
-];
-
-#[test]
-fn who_goes_is_told_where_it_was_active(rt: HostRuntime) -> Result<(), Fail> {
-    let mut views = views(2, 2)?;
-    let words = words(&[]);
-    go(&rt, &mut views, &mut Draws::new(&words), &GOES);
+    let changes = views.add_active(NodeId(9), &mut draws);
+    assert!(rt; are_told(changes, &[Change::Down(7), Change::Up(9)]));
+    assert!(rt; has(&views, &[3, 9], &[7]) && draws.left() == 63);
     Ok(())
 }
 

@@ -167,11 +167,11 @@ fn plain() -> [(Message, &'static [u8]); 10] {
     ]
 }
 
-#[test]
-fn the_bytes_of_each_kind(rt: HostRuntime) -> Result<(), Fail> {
+/// Both ways for each of these.
+fn plain_both_ways(rt: &impl Abort, alloc: Global) -> Result<(), Fail> {
     let rows = plain();
     for (message, bytes) in &rows {
-        both_ways(&rt, rt.alloc(), message, *bytes)?;
+        both_ways(rt, alloc, message, *bytes)?;
     }
     Ok(())
 }
@@ -206,58 +206,12 @@ fn refuses_1025(alloc: Global) -> bool {
     fault(alloc, &bytes) == 4 && fault(alloc, &bytes[..18]) == 4
 }
 
-#[test]
-fn the_bytes_of_lists(rt: HostRuntime) -> Result<(), Fail> {
-    let alloc = rt.alloc();
-    list_both_ways(&rt, alloc, reply(alloc, &[5, 9])?, &OF_REPLY)?;
-    list_both_ways(&rt, alloc, gossip(alloc, 0, b"hi")?, &OF_GOSSIP)?;
+/// Both ways for messages with a list or a payload.
+fn lists_both_ways(rt: &impl Abort, alloc: Global) -> Result<(), Fail> {
+    list_both_ways(rt, alloc, reply(alloc, &[5, 9])?, &OF_REPLY)?;
+    list_both_ways(rt, alloc, gossip(alloc, 0, b"hi")?, &OF_GOSSIP)?;
     let long = gossip(alloc, 0x0203, &[7; 1024])?;
-    list_both_ways(&rt, alloc, long, &long_gossip(0))?;
-    assert!(&rt; refuses_1025(alloc));
-    Ok(())
-}
-
-/// The byte as a version, alone and before another byte, and as a kind, alone and before half a sender.
-fn heads_are_judged(alloc: Global, byte: u8) -> bool {
-    let version = if byte == 1 { 1 } else { 2 };
-    let before_another = if byte == 1 { 3 } else { 2 };
-    let kind = if byte >= 1 && byte <= 12 { 1 } else { 3 };
-    fault(alloc, &[byte]) == version
-        && fault(alloc, &[byte, 0]) == before_another
-        && fault(alloc, &[1, byte]) == kind
-        && fault(alloc, &[1, byte, 0, 0, 0]) == kind
-}
-
-#[test]
-fn a_byte_that_is_no_version_or_kind(rt: HostRuntime) {
-    for byte in 0..=255 {
-        assert!(rt; heads_are_judged(rt.alloc(), byte), "at {byte}");
-    }
-}
-
-/// The byte as a time to live of FORWARDJOIN and SHUFFLE, a flag of NEIGHBOR and NEIGHBORREPLY, and a count.
-fn fields_are_judged(alloc: Global, byte: u8) -> bool {
-    let ttl = if byte <= 15 { 0 } else { 4 };
-    let flag = if byte <= 1 { 0 } else { 4 };
-    let count = if byte == 0 {
-        0
-    } else if byte <= 17 {
-        1
-    } else {
-        4
-    };
-    fault(alloc, &[1, 2, 0, 0, 0, 1, 0, 0, 0, 9, byte]) == ttl
-        && fault(alloc, &[1, 7, 0, 0, 0, 1, 0, 0, 0, 9, byte, 0]) == ttl
-        && fault(alloc, &[1, 4, 0, 0, 0, 1, byte]) == flag
-        && fault(alloc, &[1, 5, 0, 0, 0, 1, byte]) == flag
-        && fault(alloc, &[1, 8, 0, 0, 0, 1, byte]) == count
-}
-
-#[test]
-fn a_field_out_of_its_range(rt: HostRuntime) {
-    for byte in 0..=255 {
-        assert!(rt; fields_are_judged(rt.alloc(), byte), "at {byte}");
-    }
+    list_both_ways(rt, alloc, long, &long_gossip(0))
 }
 
 /// A time to live out of range stands before a count out of range, and both before what is missing or follows.
@@ -275,11 +229,10 @@ static FIRST_FAULTS: [Judged; 10] = [
 ];
 
 #[test]
-fn the_first_fault_decides(rt: HostRuntime) {
+fn the_bytes_of_each_kind(rt: HostRuntime) -> Result<(), Fail> {
+    plain_both_ways(&rt, rt.alloc())?;
+    lists_both_ways(&rt, rt.alloc())?;
     are_judged(&rt, rt.alloc(), &FIRST_FAULTS);
-}
-
-#[test]
-fn the_numbers_of_the_faults(rt: HostRuntime) {
-    assert!(rt; WireFault::OutOfMemory.number() == 99 && WireFault::BadField.number() == 4);
+    assert!(&rt; refuses_1025(rt.alloc()));
+    Ok(())
 }

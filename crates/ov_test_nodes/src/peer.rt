@@ -407,103 +407,11 @@ fn a_node_and_its_copy_go_their_own_ways(rt: HostRuntime) -> Result<(), Fail> {
     both_go(&rt, rt.alloc(), &mut peer)
 }
 
-/// Node 1 with two active places, 3 and 7. The last note of a message goes with its sender, who disconnects or
-/// crashes; a boot asks for nothing.
-static WHOLE: [(Given<'static>, &'static str); 15] = [
-    (
-        Given::Hears(&[1, 3, 0, 0, 0, 3]),
-        "active 3 passive - eager 3 lazy - made 0; up 3",
-    ),
-    (
-        Given::Hears(&[1, 3, 0, 0, 0, 7]),
-        "active 3,7 passive - eager 3,7 lazy - made 0; up 7",
-    ),
-    (
-        Given::Hears(&[1, 1, 0, 0, 0, 9]),
-        "active 3,9 passive 7 eager 3,9 lazy - made 0; down 7; up 9; to 7: 01 06 00000001; to 9: 01 03 00000001; \
-         to 3: 01 02 00000001 00000009 06",
-    ),
-    (
-        Given::Hears(&[1, 12, 0, 0, 0, 3]),
-        "active 3,9 passive 7 eager 9 lazy 3 made 0",
-    ),
-    (
-        Given::Hears(&[1, 10, 0, 0, 0, 3, 0, 0, 0, 7, 0, 0, 0, 0]),
-        "active 3,9 passive 7 eager 9 lazy 3 made 0 timer",
-    ),
-    (
-        Given::Hears(&[1, 6, 0, 0, 0, 3]),
-        "active 9 passive 3,7 eager 9 lazy - made 0 timer; down 3",
-    ),
-    (
-        Given::Timer(7, 0),
-        "active 9 passive 3,7 eager 9 lazy - made 0",
-    ),
-    (
-        Given::Timer(7, 0),
-        "active 9 passive 3,7 eager 9 lazy - made 0; refused 18",
-    ),
-    (
-        Given::Broadcast(b"hi"),
-        "active 9 passive 3,7 eager 9 lazy - made 1; to 9: 01 09 00000001 00000001 00000000 0000 0002 6869; \
-         1 delivers (1, 0) 6869",
-    ),
-    (
-        Given::Broadcast(&[0; 1025]),
-        "active 9 passive 3,7 eager 9 lazy - made 1; refused 19",
-    ),
-    (
-        Given::Hears(&[1, 11, 0, 0, 0, 9, 0, 0, 0, 1, 0, 0, 0, 0]),
-        "active 9 passive 3,7 eager 9 lazy - made 1; to 9: 01 09 00000001 00000001 00000000 0000 0002 6869",
-    ),
-    (
-        Given::Hears(&[1, 10, 0, 0, 0, 9, 0, 0, 0, 7, 0, 0, 0, 0]),
-        "active 9 passive 3,7 eager 9 lazy - made 1 timer",
-    ),
-    (
-        Given::Crash(9),
-        "active - passive 3,7 eager - lazy - made 1 timer; down 9; to 7: 01 04 00000001 01",
-    ),
-    (
-        Given::Timer(7, 0),
-        "active - passive 3,7 eager - lazy - made 1",
-    ),
-    (
-        Given::BootBy(1),
-        "active - passive 3,7 eager - lazy - made 1; to 1: 01 01 00000001",
-    ),
-];
-
-/// The note of a member that is dropped for another goes too.
-static DROPPED: [(Given<'static>, &'static str); 5] = [
-    (
-        Given::Hears(&[1, 3, 0, 0, 0, 3]),
-        "active 3 passive - eager 3 lazy - made 0; up 3",
-    ),
-    (
-        Given::Hears(&[1, 3, 0, 0, 0, 7]),
-        "active 3,7 passive - eager 3,7 lazy - made 0; up 7",
-    ),
-    (
-        Given::Hears(&[1, 10, 0, 0, 0, 7, 0, 0, 0, 7, 0, 0, 0, 0]),
-        "active 3,7 passive - eager 3,7 lazy - made 0 timer",
-    ),
-    (
-        Given::Hears(&[1, 1, 0, 0, 0, 9]),
-        "active 3,9 passive 7 eager 3,9 lazy - made 0 timer; down 7; up 9; to 7: 01 06 00000001; \
-         to 9: 01 03 00000001; to 3: 01 02 00000001 00000009 06",
-    ),
-    (
-        Given::Timer(7, 0),
-        "active 3,9 passive 7 eager 3,9 lazy - made 0",
-    ),
-];
-
-#[test]
-fn notes_go_with_their_senders(rt: HostRuntime) -> Result<(), Fail> {
-    small_node_goes(&rt, rt.alloc(), &WHOLE, Way::PlumPlan)?;
-    small_node_goes(&rt, rt.alloc(), &DROPPED, Way::AtOnce)
-}
+/// Node 3 becomes a neighbour.
+static MET: [(Given<'static>, &'static str); 1] = [(
+    Given::Hears(&[1, 3, 0, 0, 0, 3]),
+    "active 3 passive - eager 3 lazy - made 0; up 3",
+)];
 
 /// As many bytes as a payload may have.
 static MOST: [u8; 1024] = [7; 1024];
@@ -541,101 +449,15 @@ fn sends_most(
     }
 }
 
-/// A GOSSIP of `MOST` comes from node 3, and is handed on.
-fn hands_on(rt: &impl Abort, alloc: Global, peer: &mut Peer) -> Result<bool, Fail> {
-    let from_three = [1, 9, 0, 0, 0, 3, 0, 0, 0, 7, 0, 0, 0, 0, 0, 0, 4, 0];
-    let mut gossip = Vec::from_slice(alloc, &from_three)?;
-    gossip.extend_from_slice(most())?;
-    let sent_on = [1, 9, 0, 0, 0, 1, 0, 0, 0, 7, 0, 0, 0, 0, 0, 1, 4, 0];
-    sends_most(rt, alloc, peer, Given::Hears(&gossip), &sent_on)
-}
-
-fn hands_most_on(rt: &impl Abort, alloc: Global, peer: &mut Peer) -> Result<(), Fail> {
-    goes(rt, alloc, peer, &DROPPED[..2], Way::AtOnce)?;
-    assert!(rt; hands_on(rt, alloc, peer)?);
-    Ok(())
-}
-
 fn broadcasts_most(rt: &impl Abort, alloc: Global, peer: &mut Peer) -> Result<(), Fail> {
-    goes(rt, alloc, peer, &DROPPED[..1], Way::AtOnce)?;
+    goes(rt, alloc, peer, &MET, Way::AtOnce)?;
     let sent = [1, 9, 0, 0, 0, 1, 0, 0, 0, 1, 0, 0, 0, 0, 0, 0, 4, 0];
     assert!(rt; sends_most(rt, alloc, peer, Given::Broadcast(most()), &sent)?);
     Ok(())
 }
 
 #[test]
-fn a_gossip_of_1024_bytes(rt: HostRuntime) -> Result<(), Fail> {
-    let mut peer = node(rt.alloc(), 1, 2)?;
-    hands_most_on(&rt, rt.alloc(), &mut peer)
-}
-
-#[test]
 fn a_broadcast_of_1024_bytes(rt: HostRuntime) -> Result<(), Fail> {
     let mut peer = node(rt.alloc(), 1, 2)?;
     broadcasts_most(&rt, rt.alloc(), &mut peer)
-}
-
-/// A node that has made all its broadcasts.
-static SPENT: [(Given<'static>, &'static str); 2] = [
-    (
-        Given::Broadcast(b"hi"),
-        "active - passive - eager - lazy - made 4096; refused 20",
-    ),
-    (
-        Given::Broadcast(&[7; 1025]),
-        "active - passive - eager - lazy - made 4096; refused 19",
-    ),
-];
-
-/// The output delivers the broadcast of node 1 with this number.
-fn is_made(output: &Output, made: u32) -> bool {
-    match &output.delivered {
-        Some(delivery) => delivery.id == message_id(1, made),
-        None => false,
-    }
-}
-
-/// Node 1 makes a broadcast of no bytes, with this number of its own.
-fn broadcasts(rt: &impl Abort, alloc: Global, peer: &mut Peer, made: u32) -> Result<bool, Fail> {
-    match take(rt, alloc, peer, Given::Broadcast(&[]), Way::AtOnce)? {
-        Ok(output) => Ok(is_made(&output, made)),
-        Err(_) => Ok(false),
-    }
-}
-
-fn spends_all(rt: &impl Abort, alloc: Global, peer: &mut Peer) -> Result<(), Fail> {
-    for made in 0..4096_u32 {
-        assert!(rt; broadcasts(rt, alloc, peer, made)?);
-    }
-    goes(rt, alloc, peer, &SPENT, Way::PlumPlan)
-}
-
-#[test]
-fn a_node_makes_4096_broadcasts(rt: HostRuntime) -> Result<(), Fail> {
-    let mut peer = node(rt.alloc(), 1, 2)?;
-    spends_all(&rt, rt.alloc(), &mut peer)
-}
-
-static FAULTS: [(PeerFault, u32, &'static str); 4] = [
-    (PeerFault::NoTimer, 18, "the timer is not set"),
-    (PeerFault::PayloadTooLong, 19, "the payload is too long"),
-    (
-        PeerFault::TooManyMessages,
-        20,
-        "the node has made too many broadcasts",
-    ),
-    (PeerFault::OutOfMemory, 99, "out of memory"),
-];
-
-fn is_shown(alloc: Global, fault: PeerFault, number: u32, text: &str) -> Result<bool, AllocError> {
-    let shown = fault.to_string(alloc)?;
-    Ok(fault.number() == number && shown.as_str() == text)
-}
-
-#[test]
-fn faults_have_their_numbers(rt: HostRuntime) -> Result<(), Fail> {
-    for (fault, number, text) in &FAULTS {
-        assert!(&rt; is_shown(rt.alloc(), *fault, *number, *text)?, "{text}");
-    }
-    Ok(())
 }

@@ -11,36 +11,25 @@ use std::thread::Threads;
 /// length of the journal unless the line stands in a section.
 type Told = (usize, bool, Option<(u32, Option<usize>)>);
 
-/// Keeps what it is told, and the texts of the lines, each with a line feed.
+/// Keeps what it is told.
 #[derive(Drop)]
 struct Listener {
     told: Vec<Told>,
-    texts: Vec<u8>,
-}
-
-impl Listener {
-    fn keep_text(&mut self, text: &[u8]) {
-        let _ = self.texts.extend_from_slice(text);
-        let _ = self.texts.push(b'\n');
-    }
 }
 
 impl RunWatcher for Listener {
     fn accepted(&mut self, line: &RanLine<'_>) {
         let _ = self.told.push((line.number, line.is_event, None));
-        self.keep_text(line.text);
     }
 
     fn refused(&mut self, core: &Core, line: &RanLine<'_>, refusal: Refusal) {
         let refused = (refusal.number(), Some(core.world().journal().len()));
         let _ = self.told.push((line.number, line.is_event, Some(refused)));
-        self.keep_text(line.text);
     }
 
     fn refused_in_section(&mut self, line: &RanLine<'_>, refusal: Refusal) {
         let refused = (refusal.number(), None);
         let _ = self.told.push((line.number, line.is_event, Some(refused)));
-        self.keep_text(line.text);
     }
 }
 
@@ -133,7 +122,6 @@ fn printed(
 fn tells(rt: &(impl AllocGlobal + Threads + Wait + Sync), file: &str, told: &[Told]) -> bool {
     let mut listener = Listener {
         told: Vec::new(rt.alloc()),
-        texts: Vec::new(rt.alloc()),
     };
     let mut source = Source::new(file.as_bytes());
     let mut sink = Sink::new(Vec::new(rt.alloc()));
@@ -147,32 +135,6 @@ fn tells(rt: &(impl AllocGlobal + Threads + Wait + Sync), file: &str, told: &[To
     );
     let watched = (answer, sink.into_writer());
     watched == printed(rt, file) && listener.told.as_slice() == told
-}
-
-/// A scenario with lines that do not run, and the texts of those that do.
-const MIXED: &str =
-    "# nobody\nseed 7\nsnapshot\n\ndeliver 0\r\nshow 3\ntogether\n# four\n boot 4\r\nalso\nboot 4 by 5\nend\n";
-
-const THAT_RUN: &str = "snapshot\ndeliver 0\nshow 3\ntogether\n boot 4\nboot 4 by 5\n";
-
-#[test]
-fn a_watcher_is_given_the_text_of_each_line(rt: HostRuntime) {
-    let mut listener = Listener {
-        told: Vec::new(rt.alloc()),
-        texts: Vec::new(rt.alloc()),
-    };
-    let mut source = Source::new(MIXED.as_bytes());
-    let mut sink = Sink::new(Vec::new(rt.alloc()));
-    let answer = run_watched(
-        &rt,
-        rt.alloc(),
-        &mut source,
-        &mut sink,
-        Strictness::Lenient,
-        &mut listener,
-    );
-    assert_eq!(rt; answer, Ok(0));
-    assert_eq!(rt; listener.texts.as_slice(), THAT_RUN.as_bytes());
 }
 
 #[test]

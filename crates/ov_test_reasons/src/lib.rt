@@ -1,10 +1,9 @@
-//! What a person is told of what `overlay` refuses. The texts were written by hand from the forms of the files.
+//! What a person is told of what `overlay` refuses. The texts were written by hand from the forms of the files. More of
+//! them are examples.
 #![tactic(auto)]
 
 #[cfg(test)]
 mod agreement;
-#[cfg(test)]
-mod group_refusals;
 #[cfg(test)]
 mod long_lines;
 #[cfg(test)]

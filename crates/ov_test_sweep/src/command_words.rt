@@ -49,12 +49,6 @@ fn reason_of(alloc: Global, fault: GrowArgumentsFault) -> Result<String, Fail> {
     }
 }
 
-#[test]
-fn without_words_all_is_at_its_default(rt: HostRuntime) {
-    let found = read_grow_arguments(rt.alloc(), &[]);
-    assert!(rt; matches!(&found, Ok(request) if request.options == GrowOptions::default()));
-}
-
 /// Words after `overlay grow`, and the command that says the options, or why they are refused.
 static GROWN: [(&str, &str); 13] = [
     (
@@ -231,7 +225,9 @@ fn is_of_files(request: &SweepRequest) -> bool {
 }
 
 #[test]
-fn what_else_a_sweep_asks_for(rt: HostRuntime) {
+fn without_words_and_of_files(rt: HostRuntime) {
+    let grown = read_grow_arguments(rt.alloc(), &[]);
+    assert!(rt; matches!(&grown, Ok(request) if request.options == GrowOptions::default()));
     let bare = read_sweep_arguments(rt.alloc(), &[]);
     let files = sweep(rt.alloc(), "--read a b --svg p.svg --summary");
     assert!(rt; matches!(&bare, Ok(request) if is_bare(request)));

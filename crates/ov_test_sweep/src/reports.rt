@@ -60,13 +60,6 @@ pub(crate) fn is_summary(text: &str) -> bool {
     text.starts_with(SUMMARY)
 }
 
-#[test]
-fn four_rows_are_summed_up(rt: HostRuntime) -> Result<(), Fail> {
-    let (summary, _) = report(rt.alloc()).ok().ok_or("no report")?;
-    assert!(rt; is_summary(summary.as_str()), "{summary}");
-    Ok(())
-}
-
 /// There is a dot for each of four runs after each of three phases, and one for each phase in the legend.
 #[test]
 fn four_rows_are_drawn(rt: HostRuntime) -> Result<(), Fail> {

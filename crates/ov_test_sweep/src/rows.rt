@@ -1,7 +1,7 @@
 //! Rows of a sweep, written out by hand.
 use ov_grow_options::{Chance, Count, Crash, GrowOptions, NodeCount, Order, Pace};
 use ov_ids::Params;
-use ov_sweep_rows::{DeliveredShare, PhaseRow, Row, header_text, read_rows, row_text};
+use ov_sweep_rows::{DeliveredShare, PhaseRow, Row, read_rows};
 use std::alloc::Global;
 use std::test::Fail;
 
@@ -83,18 +83,6 @@ fn text(alloc: Global) -> Result<String, Fail> {
 }
 
 #[test]
-fn rows_are_written(rt: HostRuntime) -> Result<(), Fail> {
-    let alloc = rt.alloc();
-    let options = first_options().ok_or("options out of their limits")?;
-    let mut written = header_text(alloc)?;
-    written.extend_from_slice(&row_text(alloc, &first_row(options))?)?;
-    written.extend_from_slice(&row_text(alloc, &second_row())?)?;
-    let expected = text(alloc)?;
-    assert!(rt; written.as_slice() == expected.as_bytes());
-    Ok(())
-}
-
-#[test]
 fn rows_are_read(rt: HostRuntime) -> Result<(), Fail> {
     let alloc = rt.alloc();
     let options = first_options().ok_or("options out of their limits")?;
@@ -106,18 +94,6 @@ fn rows_are_read(rt: HostRuntime) -> Result<(), Fail> {
     };
     assert!(rt; is_read);
     Ok(())
-}
-
-#[test]
-fn shares_are_rounded_down(rt: HostRuntime) {
-    for (deliveries, nodes, parts) in [(0, 3, 0), (1, 3, 333), (29, 3, 9666), (30, 3, 10_000)] {
-        let share = DeliveredShare::new(deliveries, 10, nodes);
-        assert!(rt;
-            share == Some(DeliveredShare { parts }),
-            "{deliveries} of {nodes}"
-        );
-    }
-    assert!(rt; DeliveredShare::new(0, 0, 3).is_none());
 }
 
 /// What the second row is changed from and to, and why it is refused then.

@@ -8,7 +8,6 @@ use std::test::Fail;
 
 mod full;
 mod memory;
-mod refusals;
 mod rows;
 
 /// A line of a run: an event, or a look at the world.
@@ -271,75 +270,6 @@ fn all_go(
     let mut world = world(alloc, active)?;
     for lines in parts {
         goes(rt, alloc, &mut world, lines)?;
-    }
-    Ok(())
-}
-
-/// The copy of a broadcast's entry.
-fn copied_broadcast(alloc: Global, world: &mut World) -> Result<Entry, Fail> {
-    step(world, Event::Boot(NodeId(1), None))?;
-    let payload = payload(alloc, b"hi")?;
-    let entry = step(world, Event::Broadcast(NodeId(1), payload))?;
-    Ok(entry.copy(alloc)?)
-}
-
-/// It is the second entry, in which node 1 broadcasts and delivers `hi`.
-fn is_broadcast(entry: &Entry) -> bool {
-    let Event::Broadcast(node, payload) = &entry.event else {
-        return false;
-    };
-    let Some(delivery) = &entry.delivery else {
-        return false;
-    };
-    entry.number == 2
-        && *node == NodeId(1)
-        && payload.as_slice() == b"hi".as_slice()
-        && entry.words.as_slice() == words(&[5]).as_slice()
-        && delivery.payload.as_slice() == b"hi".as_slice()
-}
-
-#[test]
-fn a_copied_entry_tells_the_same(rt: HostRuntime) -> Result<(), Fail> {
-    let copy = copied_broadcast(rt.alloc(), &mut world(rt.alloc(), 5)?)?;
-    assert!(rt; is_broadcast(&copy));
-    Ok(())
-}
-
-static FAULTS: [(NetFault, u32, &str); 12] = [
-    (NetFault::UnknownNode, 10, "no node of this id was born"),
-    (NetFault::UsedId, 11, "the id was used"),
-    (NetFault::CrashedNode, 12, "the node crashed"),
-    (NetFault::TooManyNodes, 13, "too many nodes were born"),
-    (
-        NetFault::NoSuchPacket,
-        14,
-        "there is no packet at this place",
-    ),
-    (
-        NetFault::TooManyPackets,
-        15,
-        "too few places for packets are free",
-    ),
-    (NetFault::TooManyEntries, 16, "the journal is full"),
-    (NetFault::NotCrashed, 17, "the node did not crash"),
-    (NetFault::NoTimer, 18, "the timer is not set"),
-    (NetFault::PayloadTooLong, 19, "the payload is too long"),
-    (
-        NetFault::TooManyMessages,
-        20,
-        "the node has made too many broadcasts",
-    ),
-    (NetFault::OutOfMemory, 99, "out of memory"),
-];
-
-#[test]
-fn faults_have_their_numbers(rt: HostRuntime) -> Result<(), Fail> {
-    for (fault, number, text) in &FAULTS {
-        let shown = fault.to_string(rt.alloc())?;
-        assert!(rt;
-            fault.number() == *number && shown.as_str() == *text,
-            "{text}"
-        );
     }
     Ok(())
 }

@@ -5,5 +5,4 @@ mod failing_calls;
 mod full_world;
 mod lost_and_repeated;
 mod memory;
-mod printed;
 mod runs;

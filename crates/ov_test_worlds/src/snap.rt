@@ -6,7 +6,7 @@ use ov_cert::{Cert, Checked, Split};
 use ov_graph::Graph;
 use ov_ids::{NodeId, Seq};
 use ov_net::{Entry, Event, NetFault};
-use ov_snap::{Core, CoreFault, CoreStep, Report, run_core};
+use ov_snap::{Core, CoreFault, Report};
 use ov_test_kit::{sized, words};
 use std::alloc::Global;
 use std::process::Abort;
@@ -128,40 +128,9 @@ fn a_report_is_filed_once_for_its_own_moment(rt: HostRuntime) -> Result<(), Fail
     files(&rt, rt.alloc(), &mut new_core(rt.alloc())?)
 }
 
-/// Two nodes join, one crashes, and a last snapshot is taken: its moment.
-fn crashes(core: &mut Core) -> Result<u32, NetFault> {
-    join(core)?;
-    step(core, Event::Crash(NodeId(2)))?;
-    core.snapshot()
-}
-
-/// An analysis of this moment has so many nodes, and 1 and 2 are linked or not.
-fn begins(core: &Core, moment: u32, nodes: usize, is_linked: bool) -> Result<bool, CoreFault> {
-    let snapshot = core.begin(moment)?;
-    Ok(
-        snapshot.moment == moment
-            && snapshot.graph.nodes().len() == nodes
-            && snapshot.graph.linked(NodeId(1), NodeId(2)) == is_linked,
-    )
-}
-
 /// The fault of an analysis of this moment.
 fn fault_of(core: &Core, moment: u32) -> Option<CoreFault> {
     core.begin(moment).err()
-}
-
-fn analyses(rt: &impl Abort, core: &mut Core) -> Result<(), Fail> {
-    assert_eq!(rt; crashes(core)?, 8);
-    for (moment, nodes, is_linked) in [(4, 2, false), (6, 2, true), (8, 1, false)] {
-        assert!(rt; begins(core, moment, nodes, is_linked)?, "moment {moment}");
-    }
-    assert!(rt; fault_of(core, 7) == Some(CoreFault::NoSuchMoment));
-    Ok(())
-}
-
-#[test]
-fn an_analysis_begins_with_the_links_of_its_moment(rt: HostRuntime) -> Result<(), Fail> {
-    analyses(&rt, &mut new_core(rt.alloc())?)
 }
 
 fn has_nobody(rt: &impl Abort, core: &mut Core) -> Result<(), Fail> {
@@ -174,88 +143,4 @@ fn has_nobody(rt: &impl Abort, core: &mut Core) -> Result<(), Fail> {
 #[test]
 fn nobody_lives_in_an_empty_world(rt: HostRuntime) -> Result<(), Fail> {
     has_nobody(&rt, &mut new_core(rt.alloc())?)
-}
-
-/// One node is born, and shuffles until there is room for one entry more.
-fn fill(core: &mut Core) -> Result<(), NetFault> {
-    step(core, Event::Boot(NodeId(1), None))?;
-    for _ in 0..65_534 {
-        step(core, Event::Shuffle(NodeId(1)))?;
-    }
-    Ok(())
-}
-
-/// No snapshot is taken, neither by itself nor as an event, and the journal stays as long.
-fn takes_none(core: &mut Core) -> bool {
-    let by_itself = core.snapshot().err();
-    let as_event = step(core, Event::Snapshot).err();
-    let full = Some(NetFault::TooManyEntries);
-    by_itself == full && as_event == full && core.world().journal().len() == 65_536
-}
-
-fn is_full(rt: &impl Abort, core: &mut Core) -> Result<(), Fail> {
-    fill(core)?;
-    assert_eq!(rt; core.snapshot()?, 65_536);
-    assert!(rt; takes_none(core));
-    assert!(rt; begins(core, 65_536, 1, false)?);
-    assert!(rt; fault_of(core, 65_537) == Some(CoreFault::NoSuchMoment));
-    Ok(())
-}
-
-#[test]
-fn a_full_journal_takes_no_snapshot(rt: HostRuntime) -> Result<(), Fail> {
-    is_full(&rt, &mut new_core(rt.alloc())?)
-}
-
-/// Two nodes join, one boots again and is refused, and reports are filed, of which the first is refused.
-fn steps(alloc: Global) -> Result<Vec<CoreStep>, Fail> {
-    let mut steps = Vec::with_capacity(alloc, 10)?;
-    for event in two_join() {
-        steps.push(CoreStep::Net(event, words(&[])))?;
-    }
-    steps.push(CoreStep::Net(Event::Boot(NodeId(1), None), words(&[])))?;
-    for (moment, is_linked) in [(4, true), (4, false), (6, true)] {
-        steps.push(CoreStep::File(report(alloc, moment, is_linked)?))?;
-    }
-    Ok(steps)
-}
-
-/// Where memory is wanted there is no core, and the same steps make it when they are run once more.
-fn run_twice(alloc: Global) -> Result<Core, Fail> {
-    for _ in 0..2 {
-        if let Ok(core) = run_core(alloc, sized(5, 30)?, steps(alloc)?) {
-            return Ok(core);
-        }
-    }
-    Err("memory was wanted twice".into())
-}
-
-/// Six entries, and a report for each of the moments 4 and 6 and for no other.
-fn is_filed(core: &Core) -> bool {
-    core.world().journal().len() == 6
-        && core.report(4).is_some()
-        && core.report(5).is_none()
-        && core.report(6).is_some()
-}
-
-#[test]
-fn a_run_files_what_its_steps_file(rt: HostRuntime) -> Result<(), Fail> {
-    let core = run_twice(rt.alloc())?;
-    assert!(rt; is_filed(&core));
-    Ok(())
-}
-
-static NUMBERS: [(CoreFault, u32); 5] = [
-    (CoreFault::NoSuchMoment, 50),
-    (CoreFault::NoNodes, 30),
-    (CoreFault::OtherGraph, 51),
-    (CoreFault::AlreadyFiled, 52),
-    (CoreFault::OutOfMemory, 99),
-];
-
-#[test]
-fn each_fault_has_its_number(rt: HostRuntime) {
-    for (fault, number) in &NUMBERS {
-        assert_eq!(rt; fault.number(), *number, "{fault}");
-    }
 }

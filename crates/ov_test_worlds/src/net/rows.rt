@@ -2,8 +2,7 @@ use super::Line::{
     Boot, BootBy, Broadcast, Crash, Deliver, Links, Lose, Packets, Repeat, Report, Show, Shuffle,
     Snapshot, Timer,
 };
-use super::{Line, all_go, goes, world};
-use ov_net::World;
+use super::{Line, all_go};
 use std::test::Fail;
 
 /// Node 1 has two active places. At its third join the word 5 picks the second of two members.
@@ -38,106 +37,6 @@ pub(super) static BROADCAST_REPEAT: [(Line, &str); 12] = [
     (Show(1), "node 1 active 2 passive - eager - lazy 2"),
     (Packets, ""),
 ];
-
-/// Two moments of a join. There is a link once both ends hold it.
-static TWO_JOIN: [(Line, &str); 8] = [
-    (Boot(1), "entry 1 born 1"),
-    (BootBy(2, 1), "entry 2 born 2"),
-    (Deliver(0), "entry 3 up 1 2"),
-    (Links, "nodes 1,2 links"),
-    (Snapshot, "entry 4"),
-    (Deliver(0), "entry 5 up 2 1"),
-    (Links, "nodes 1,2 links 1-2"),
-    (Snapshot, "entry 6"),
-];
-
-/// An answer that comes twice, and a crash that nobody hears of.
-static REPEAT_AND_CRASH: [(Line, &str); 13] = [
-    (Boot(1), "entry 1 born 1"),
-    (BootBy(2, 1), "entry 2 born 2"),
-    (Deliver(0), "entry 3 up 1 2"),
-    (Repeat(0), "entry 4"),
-    (Links, "nodes 1,2 links"),
-    (Deliver(0), "entry 5 up 2 1"),
-    (Deliver(0), "entry 6"),
-    (Links, "nodes 1,2 links 1-2"),
-    (Crash(1), "entry 7 gone 1"),
-    (Links, "nodes 2 links"),
-    (Snapshot, "entry 8"),
-    (Show(1), "refused 12"),
-    (Show(2), "node 2 active 1 passive - eager 1 lazy -"),
-];
-
-/// The first refusals of a world.
-static REFUSALS: [(Line, &str); 8] = [
-    (Snapshot, "entry 1"),
-    (Deliver(0), "refused 14"),
-    (Boot(1), "entry 2 born 1"),
-    (Boot(1), "refused 11"),
-    (Crash(2), "refused 10"),
-    (Report(1, 1), "refused 17"),
-    (Timer(1, 1, 0), "refused 18"),
-    (Snapshot, "entry 3"),
-];
-
-/// A moment of a world in which nothing happened.
-static EMPTY_WORLD: [(Line, &str); 3] = [
-    (Snapshot, "entry 1"),
-    (Packets, ""),
-    (Show(1), "refused 10"),
-];
-
-/// A packet comes to a node that crashed.
-static NOBODY_HEARS: [(Line, &str); 6] = [
-    (Boot(1), "entry 1 born 1"),
-    (BootBy(2, 1), "entry 2 born 2"),
-    (Packets, "packet 0 to 1 010100000002; "),
-    (Crash(1), "entry 3 gone 1"),
-    (Deliver(0), "entry 4"),
-    (Packets, ""),
-];
-
-#[test]
-fn full_view(rt: HostRuntime) -> Result<(), Fail> {
-    all_go(&rt, rt.alloc(), 2, &[&FULL_VIEW])
-}
-
-#[test]
-fn small_worlds(rt: HostRuntime) -> Result<(), Fail> {
-    let stories: [&[(Line, &str)]; 5] = [
-        &TWO_JOIN,
-        &REPEAT_AND_CRASH,
-        &REFUSALS,
-        &EMPTY_WORLD,
-        &NOBODY_HEARS,
-    ];
-    for lines in stories {
-        all_go(&rt, rt.alloc(), 5, &[lines])?;
-    }
-    Ok(())
-}
-
-/// How many entries deliver `hi`; none where one delivers something else.
-fn deliveries(world: &World) -> Option<u32> {
-    let mut count = 0_u32;
-    for entry in world.journal() {
-        if let Some(delivery) = &entry.delivery {
-            if delivery.payload.as_slice() != b"hi".as_slice() {
-                return None;
-            }
-            count = count.saturating_add(1);
-        }
-    }
-    Some(count)
-}
-
-#[test]
-fn a_broadcast_is_delivered_once(rt: HostRuntime) -> Result<(), Fail> {
-    let mut world = world(rt.alloc(), 5)?;
-    goes(&rt, rt.alloc(), &mut world, &BROADCAST_REPEAT)?;
-    assert_eq!(rt; deliveries(&world), Some(2));
-    Ok(())
-}
 
 /// Nodes 1, 3 and 7 come to hold each other.
 pub(super) static TRIANGLE: [(Line, &str); 14] = [
@@ -195,7 +94,7 @@ pub(super) static MISSED: [(Line, &str); 5] = [
 ];
 
 /// It asks for it and gets it; node 3 crashes, which node 1 hears, and node 1 shuffles.
-static ASKED: [(Line, &str); 20] = [
+static ASKED: [(Line, &str); 21] = [
     (Timer(7, 1, 1), "entry 23"),
     (Show(7), "node 7 active 1,3 passive - eager 1,3 lazy -"),
     (Packets, "packet 0 to 3 010b000000070000000100000001; "),
@@ -212,6 +111,7 @@ static ASKED: [(Line, &str); 20] = [
     (Report(1, 3), "entry 28 down 1 3"),
     (Shuffle(1), "entry 29"),
     (Snapshot, "entry 30"),
+    (Links, "nodes 1,7 links 1-7"),
     (Show(1), "node 1 active 7 passive - eager - lazy 7"),
     (
         Packets,

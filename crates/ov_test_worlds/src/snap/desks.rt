@@ -88,33 +88,6 @@ fn workers_take_turns_at_a_desk(rt: HostRuntime) -> Result<(), Fail> {
     Ok(())
 }
 
-/// Three nodes that nobody links have four pieces. Piece 0 fails, so both workers skip what they have.
-static SKIPS: [(Turn, Result<u64, CoreFault>); 10] = [
-    (Turn::Claim(0, 0), Ok(0)),
-    (Turn::Claim(0, 1), Ok(1)),
-    (Turn::Look(0, 0), Ok(4)),
-    (Turn::Settle(0, 0), Ok(0)),
-    (Turn::Look(0, 1), Ok(0)),
-    (Turn::Claim(0, 1), Err(CoreFault::WrongTurn)),
-    (Turn::File(0), Err(CoreFault::NotEnded)),
-    (Turn::Claim(0, 0), Ok(2)),
-    (Turn::Look(0, 0), Ok(0)),
-    (Turn::File(0), Ok(0)),
-];
-
-#[test]
-fn workers_skip_what_is_above_a_failed_piece(rt: HostRuntime) -> Result<(), Fail> {
-    let mut core = new_core(rt.alloc())?;
-    for node in 1..4 {
-        step(&mut core, Event::Boot(NodeId(node), None))?;
-    }
-    let moment = core.snapshot()?;
-    work(&rt, &mut core, moment, &SKIPS);
-    assert_eq!(rt; least_and_total(&core), Some((0, 4)));
-    assert!(rt; is_split(&core, moment, 0, 2, 1));
-    Ok(())
-}
-
 /// Nodes 1 and 2, and then 2 and 3 take each other in. Word of node 3 for node 1 is lost, so these two are not linked.
 pub(super) fn path_of_three(core: &mut Core) -> Result<u32, NetFault> {
     let events = [
@@ -152,68 +125,6 @@ pub(super) static SHARES: [(Turn, Result<u64, CoreFault>); 15] = [
     (Turn::File(0), Ok(0)),
 ];
 
-#[test]
-fn two_workers_settle_the_pieces_of_a_path(rt: HostRuntime) -> Result<(), Fail> {
-    let mut core = new_core(rt.alloc())?;
-    let moment = path_of_three(&mut core)?;
-    work(&rt, &mut core, moment, &SHARES);
-    assert_eq!(rt; least_and_total(&core), Some((3, 4)));
-    assert!(rt; is_split(&core, moment, 1, 3, 1));
-    Ok(())
-}
-
-/// Who opens a desk: the moment, the group if one is named, and the workers; and what that answers.
-static OPENINGS: [(u32, &[u32], u32, Result<u32, CoreFault>); 10] = [
-    (5, &[], 0, Err(CoreFault::NoSuchMoment)),
-    (4, &[], 0, Err(CoreFault::NoSuchWorker)),
-    (4, &[], 65, Err(CoreFault::NoSuchWorker)),
-    (5, &[2, 1], 0, Err(CoreFault::NoSuchMoment)),
-    (4, &[2, 1], 0, Err(CoreFault::BadGroup)),
-    (4, &[3], 1, Err(CoreFault::BadGroup)),
-    (4, &[1], 0, Err(CoreFault::NoSuchWorker)),
-    (4, &[1], 1, Ok(0)),
-    (4, &[1, 2], 64, Ok(1)),
-    (6, &[], 64, Ok(2)),
-];
-
-/// Opens a desk of all nodes where no group is named.
-fn opens(
-    alloc: Global,
-    core: &mut Core,
-    moment: u32,
-    group: &[u32],
-    workers: u32,
-) -> Result<Result<u32, CoreFault>, Fail> {
-    if group.is_empty() {
-        return Ok(core.open_desk(moment, workers));
-    }
-    let group = ids(alloc, group)?.into_vec();
-    Ok(core.open_group_desk(moment, group, workers))
-}
-
-#[test]
-fn desks_are_opened_or_refused(rt: HostRuntime) -> Result<(), Fail> {
-    let alloc = rt.alloc();
-    let mut core = new_core(alloc)?;
-    join(&mut core)?;
-    for (moment, group, workers, answer) in &OPENINGS {
-        let told = opens(alloc, &mut core, *moment, group, *workers)?;
-        assert_eq!(rt; told, *answer, "moment {moment} workers {workers}");
-    }
-    Ok(())
-}
-
-#[test]
-fn nobody_works_where_nobody_lived(rt: HostRuntime) -> Result<(), Fail> {
-    let alloc = rt.alloc();
-    let mut core = new_core(alloc)?;
-    let moment = core.snapshot()?;
-    let told = opens(alloc, &mut core, moment, &[2, 1], 0)?;
-    assert_eq!(rt; told, Err(CoreFault::NoNodes));
-    assert_eq!(rt; core.open_desk(moment, 0), Err(CoreFault::NoNodes));
-    Ok(())
-}
-
 /// A report is filed for node 1 alone, which nothing splits, and none for all nodes.
 fn is_of_one(core: &Core) -> bool {
     let Some(report) = core.group_report(4, &[NodeId(1)]) else {
@@ -227,8 +138,8 @@ fn a_group_of_one_shares_out_nothing(rt: HostRuntime) -> Result<(), Fail> {
     let alloc = rt.alloc();
     let mut core = new_core(alloc)?;
     join(&mut core)?;
-    let told = opens(alloc, &mut core, 4, &[1], 1)?;
-    assert_eq!(rt; told, Ok(0));
+    let members = ids(alloc, &[1])?.into_vec();
+    assert_eq!(rt; core.open_group_desk(4, members, 1), Ok(0));
     assert_eq!(rt; least_and_total(&core), Some((0, 0)));
     assert_eq!(rt; core.claim(0, 0), Ok(0));
     assert_eq!(rt; core.file_desk(0), Ok(()));
