@@ -4,8 +4,8 @@ use crate::graphs::{Family, of_size};
 use ov_board::Board;
 use ov_cert::Cert;
 use ov_claims::Workers;
-use ov_crew::{Gate, OpenGate, analyse, analyse_group_watched};
-use ov_even::{Watcher, analyse_alone};
+use ov_crew::{Gate, OpenGate, analyse, analyse_group, analyse_group_watched, work};
+use ov_even::{Watcher, analyse_alone, analyse_group_alone, total};
 use ov_ids::{NodeId, OutOfMemory};
 use std::alloc::Global;
 use std::test::Fail;
@@ -199,6 +199,45 @@ fn a_level_that_pays_gets_two_workers(rt: HostRuntime) -> Result<(), Fail> {
         &mut opening,
     )?;
     assert!(rt; gives(checked.cert(), &TWO_SIDES) && meeting.saw_both());
+    Ok(())
+}
+
+/// The pieces of the Petersen graph before the one that decides: 9 of level 1, 9 of level 2, 10 of level 3, and of
+/// level 4 the pair of nodes 1 and 2, which are linked. Nodes 1 and 3 are not, and have 3 paths.
+const BEFORE_THE_CUT: u64 = 29;
+
+/// One worker at a board of all pieces settles those before the cut, and the one with the cut, and ends.
+fn works_up_to_the_cut(alloc: Global) -> Result<bool, Fail> {
+    let graph = of_size(alloc, PETERSEN.family, PETERSEN.nodes)?;
+    if graph.nodes().is_empty() {
+        return Ok(false);
+    }
+    let (board, mut seats) = Board::new(alloc, total(graph.nodes().len()), Workers::ONE)?;
+    let Some(seat) = seats.pop() else {
+        return Ok(false);
+    };
+    let (haul, seat) = work(alloc, &board, &graph, seat, &OpenGate);
+    let settled = haul?.pieces.len() as u64;
+    seats.push(seat)?;
+    Ok(settled == BEFORE_THE_CUT + 1 && board.close(seats) == BEFORE_THE_CUT)
+}
+
+#[test]
+fn a_worker_ends_at_the_cut(rt: HostRuntime) -> Result<(), Fail> {
+    assert!(rt; works_up_to_the_cut(rt.alloc())?);
+    Ok(())
+}
+
+/// Of the Petersen graph the cut for nodes 1 and 3 is that for all: the neighbours of node 1. Two workers find it, and
+/// one thread.
+#[test]
+fn two_nodes_are_a_group(rt: HostRuntime) -> Result<(), Fail> {
+    let graph = of_size(rt.alloc(), PETERSEN.family, PETERSEN.nodes)?;
+    let group = [NodeId(1), NodeId(3)];
+    let checked = analyse_group(&rt, rt.alloc(), &graph, &group, crew_of(2)?, &OpenGate)?;
+    assert!(&rt; gives(checked.cert(), &PETERSEN));
+    let alone = analyse_group_alone(rt.alloc(), &graph, &group)?;
+    assert!(&rt; gives(alone.cert(), &PETERSEN));
     Ok(())
 }
 

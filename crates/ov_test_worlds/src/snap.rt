@@ -6,7 +6,7 @@ use ov_cert::{Cert, Checked, Split};
 use ov_graph::Graph;
 use ov_ids::{NodeId, Seq};
 use ov_net::{Entry, Event, NetFault};
-use ov_snap::{Core, CoreFault, Report};
+use ov_snap::{Core, CoreFault, CoreStep, Report, run_core};
 use ov_test_kit::{sized, words};
 use std::alloc::Global;
 use std::process::Abort;
@@ -143,4 +143,42 @@ fn has_nobody(rt: &impl Abort, core: &mut Core) -> Result<(), Fail> {
 #[test]
 fn nobody_lives_in_an_empty_world(rt: HostRuntime) -> Result<(), Fail> {
     has_nobody(&rt, &mut new_core(rt.alloc())?)
+}
+
+/// Two nodes join, one boots again and is refused, and reports are filed, of which the first is refused.
+fn steps(alloc: Global) -> Result<Vec<CoreStep>, Fail> {
+    let mut steps = Vec::with_capacity(alloc, 10)?;
+    for event in two_join() {
+        steps.push(CoreStep::Net(event, words(&[])))?;
+    }
+    steps.push(CoreStep::Net(Event::Boot(NodeId(1), None), words(&[])))?;
+    for (moment, is_linked) in [(4, true), (4, false), (6, true)] {
+        steps.push(CoreStep::File(report(alloc, moment, is_linked)?))?;
+    }
+    Ok(steps)
+}
+
+/// Where memory is wanted there is no core, and the same steps make it when they are run once more.
+fn run_twice(alloc: Global) -> Result<Core, Fail> {
+    for _ in 0..2 {
+        if let Ok(core) = run_core(alloc, sized(5, 30)?, steps(alloc)?) {
+            return Ok(core);
+        }
+    }
+    Err("memory was wanted twice".into())
+}
+
+/// Six entries, and a report for each of the moments 4 and 6 and for no other.
+fn is_filed(core: &Core) -> bool {
+    core.world().journal().len() == 6
+        && core.report(4).is_some()
+        && core.report(5).is_none()
+        && core.report(6).is_some()
+}
+
+#[test]
+fn a_run_files_what_its_steps_file(rt: HostRuntime) -> Result<(), Fail> {
+    let core = run_twice(rt.alloc())?;
+    assert!(rt; is_filed(&core));
+    Ok(())
 }
