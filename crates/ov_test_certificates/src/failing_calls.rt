@@ -1,99 +1,17 @@
 //! Devices of which one call fails and no other one: what a judge answers to that call, and what it does when it is
 //! called once more.
-ghost use Rattle.std.specs.Prelude.{◌≡◌, ◌<◌, IfOk};
+ghost use Rattle.std.specs.Prelude.{◌<◌};
 ghost use Rattle.ov_io.specs.Device.{most_faults};
 
 use crate::files::SQUARE;
 use ov_check::{JudgeFault, judge, judge_parallel};
 use ov_io::{Sink, Source};
-use std::alloc::Global;
-use std::io::{Error, ErrorKind, Read, Write};
+use ov_test_kit::FailsOnce;
+use std::io::{ErrorKind, Read, Write};
 use std::thread::Threads;
 
 /// The line of the square.
 const LINE: &str = "holds 0 split k 2 cut 2,4 near 1 far 3 side 1\n";
-
-/// A device that gives or takes one byte a call. The call after `calls_left` others fails, and no other one: with this
-/// error, or as one that takes nothing.
-#[derive(Drop)]
-struct FailsOnce<'a> {
-    rest: &'a [u8],
-    taken: Vec<u8>,
-    calls_left: usize,
-    error: Option<ErrorKind>,
-}
-
-impl<'a> FailsOnce<'a> {
-    fn new(
-        alloc: Global,
-        rest: &'a [u8],
-        calls_left: usize,
-        error: Option<ErrorKind>,
-    ) -> FailsOnce<'a> {
-        FailsOnce {
-            rest,
-            taken: Vec::new(alloc),
-            calls_left,
-            error,
-        }
-    }
-
-    /// Whether this is the call that fails.
-    fn fails(&mut self) -> bool {
-        if self.calls_left == 0 {
-            self.calls_left = usize::MAX;
-            return true;
-        }
-        self.calls_left -= 1;
-        false
-    }
-
-    /// The answer of the call that fails.
-    fn failure(&self) -> std::io::Result<usize>
-        ensures { IfOk result (λ count. count ≡ 0) }
-    {
-        match self.error {
-            Some(kind) => Err(Error::from(kind)),
-            None => Ok(0),
-        }
-    }
-}
-
-impl<'a> Read for FailsOnce<'a> {
-    fn read(&mut self, buf: &mut [u8]) -> std::io::Result<usize> {
-        if self.fails() {
-            return self.failure();
-        }
-        let Some((first, rest)) = self.rest.split_first() else {
-            return Ok(0);
-        };
-        let Some(place) = buf.first_mut() else {
-            return Ok(0);
-        };
-        *place = *first;
-        self.rest = rest;
-        Ok(1)
-    }
-}
-
-impl<'a> Write for FailsOnce<'a> {
-    fn write(&mut self, buf: &[u8]) -> std::io::Result<usize> {
-        if self.fails() {
-            return self.failure();
-        }
-        let Some(first) = buf.first() else {
-            return Ok(0);
-        };
-        match self.taken.push(*first) {
-            Ok(()) => Ok(1),
-            Err(_) => Err(Error::from(ErrorKind::OutOfMemory)),
-        }
-    }
-
-    fn flush(&mut self) -> std::io::Result<()> {
-        Ok(())
-    }
-}
 
 /// What one thread answers, or what many do.
 fn judged<R: Read, W: Write>(
