@@ -14,3 +14,4 @@ pub mod OnePhase
 pub mod NoTurn
 pub mod NoJoin
 pub mod Full
+pub mod Keeping

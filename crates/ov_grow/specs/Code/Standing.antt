@@ -1,11 +1,16 @@
 -- Where growing stands, of the parts that the code keeps.
-use Rattle.std.specs.Prelude.{◌≡◌, ◌⊎◌, ℕ, ◌≤◌, ⊤, List, length, Option, Some, None, slice_get}
+use Rattle.std.specs.Prelude.{◌≡◌, ◌≢◌, ◌⊎◌, ℕ, ◌≤◌, ⊤, List, length, Option, Some, None, slice_get}
 use Rattle.ov_wire.specs.declared.message.Message.{Message}
+use Rattle.std.specs.Ordering.{nat_cmp}
+use Rattle.std.specs.FinMap as map
 use Rattle.ov_ids.specs.Members.{Has}
+use Rattle.ov_peer.specs.PeerState.{PeerState}
 use Rattle.ov_even.specs.Answer.{IsAnswer}
 use Rattle.ov_net.specs.Net.{IsGone}
 use Rattle.ov_net.specs.Refusals.{IsRefusal}
 use Rattle.ov_net.specs.declared.fault.NetFault.{NetFault}
+use Rattle.ov_net.specs.declared.member.Member.{Member}
+use Rattle.ov_net.specs.declared.member.Member.TheVariants.{Live}
 use Rattle.ov_snap.specs.CoreState.{CoreState, HasReportOfAll, KeepsReports}
 use Rattle.ov_snap.specs.ReportState.{ReportState}
 use Rattle.ov_script.specs.Acts.{event_of}
@@ -55,6 +60,19 @@ Fails s place (Some (sender, receiver)) =
     × HasFailed s packet × (sender ≡ packet.1.from) × (receiver ≡ packet.0)
 Fails s place None =
     (packet : ℕ × Message) × (slice_get s.world.net.packets place ≡ Some packet) × (¬ HasFailed s packet)
+
+-- all these nodes live
+abbrev pub AllLive : List ℕ → Growth → Type 0
+AllLive nodes s = (a : ℕ) → Has nodes a → IsLive s a
+
+-- so many nodes were born, with the ids 1, 2, 3 and so on, and all of them live
+pub record BornIn (n : ℕ) (nodes : map.FinMap nat_cmp Member) : Type 0 where
+  pub live : (a : ℕ) → 1 ≤ a → a ≤ n → (p : PeerState) × (map.get nodes a ≡ Some (Live p))
+  pub born : (a : ℕ) → map.get nodes a ≢ None → a ≤ n
+  pub count : map.len nodes ≡ n
+
+abbrev pub AreBorn : ℕ → Growth → Type 0
+AreBorn n s = BornIn n s.world.net.nodes
 
 -- a report of all nodes of this moment is filed, and it has the answer of an analysis
 abbrev pub IsAnswered : CoreState → ℕ → Type 0
