@@ -1,5 +1,5 @@
 -- What an act and a comment of a recording are to growing.
-use Rattle.std.proofs.Common.{◌≡◌, ℕ, List, [], ◌∷◌, ◌++◌, refl, sym, ap, ap₂, subst, ◌∙◌}
+use Rattle.std.proofs.Common.{◌≡◌, ℕ, List, ◌++◌, ap, ap₂, subst}
 use Rattle.ov_net.specs.declared.journal_entry_and_changes.Entry.{Entry}
 use Rattle.ov_snap.specs.Run.{Happened}
 use Rattle.ov_scenario.specs.Scenarios.{IsScenario}
@@ -10,7 +10,7 @@ use Rattle.ov_script.specs.WrittenLines.{comment_line, ended}
 use Rattle.ov_script.specs.declared.act.Act.{Act}
 use Rattle.ov_recording.specs.Recordings.{HasOneLineMore}
 use Rattle.ov_grow.specs.Growth.{Does, Writes}
-use Rattle.ov_grow.specs.Code.Standing.{Goes, growth_of}
+use Rattle.ov_grow.specs.Code.Standing.{Goes}
 use Rattle.ov_grow.specs.declared.growing.Growing.{Growing}
 use Rattle.ov_grow.proofs.Going.{kept_same}
 

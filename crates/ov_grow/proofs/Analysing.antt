@@ -1,11 +1,10 @@
 -- What an analysis is to growing.
-use Rattle.std.proofs.Common.{◌≡◌, ℕ, List, [], ◌∷◌, ◌++◌, length, Option, Some, None, refl, sym, ap, ap₂, subst, ◌∙◌}
-use Rattle.std.proofs.Common.{inl, inr}
+use Rattle.std.proofs.Common.{◌≡◌, ℕ, List, [], ◌∷◌, ◌++◌, length, refl, sym, ap, ap₂, subst, ◌∙◌}
+use Rattle.std.proofs.Common.{inl}
 use Rattle.ov_ids.specs.Members.{Has}
 use Rattle.ov_ids.specs.FaultOrder.{HoldsThen, Passed}
 use Rattle.ov_ids.proofs.Members.{has_append_left, has_append_right}
 use Rattle.ov_ids.proofs.Stepping.{step_none}
-use Rattle.ov_cert.specs.declared.cert.Cert.{Cert}
 use Rattle.ov_even.specs.Answer.{IsAnswer}
 use Rattle.ov_net.specs.Journal.{AreLinks, Live}
 use Rattle.ov_net.proofs.Links.OneGraph.{links_one}
@@ -20,7 +19,7 @@ use Rattle.ov_peer.specs.PeerState.{PeerState}
 use Rattle.ov_net.specs.Net.{LivesAs}
 use Rattle.ov_script.specs.WrittenLines.{analysis_line, ended}
 use Rattle.ov_recording.specs.Recordings.{HasOneLineMore, all_of}
-use Rattle.ov_grow.specs.Growth.{IsLive, Writes}
+use Rattle.ov_grow.specs.Growth.{Growth, SomebodyLives, Writes}
 use Rattle.ov_grow.specs.Phases.{IsCutAt, cut_of}
 use Rattle.ov_grow.specs.Code.Standing.{Goes, IsAnswered, growth_of}
 use Rattle.ov_grow.specs.declared.growing.Growing.{Growing}
@@ -75,7 +74,7 @@ analysis_live b u m r analysed =
 -- so somebody lives now, if that is the moment of now
 pub somebody_lives : (b u : Growing) (m : ℕ) (r : ReportState) → Stands b.recording.core.world
     → m ≡ length b.recording.core.world.journal
-    → WasAnalysed b.recording.core (all_of m) r u.recording.core → (a : ℕ) × IsLive (growth_of u) a
+    → WasAnalysed b.recording.core (all_of m) r u.recording.core → SomebodyLives (growth_of u)
 somebody_lives b u m r stands now analysed =
     let lived = analysis_live b.recording.core u.recording.core m r analysed in
     let lives = (stands.tells.live lived.0).0
@@ -84,6 +83,11 @@ somebody_lives b u m r stands now analysed =
       subst (λ w. (p : PeerState) × LivesAs w.net lived.0 p)
           (sym (ap (λ x. x.world) analysed.filed.reports)) lives,
     )
+
+-- who lives after a line was written lived before
+pub lived_before : (s u : Growth) (written : List ℕ) → Writes s written u → SomebodyLives u → SomebodyLives s
+lived_before s u written writes (a, (p, lives)) =
+    (a, (p, subst (λ w. LivesAs w.net a p) (ap (λ g. g.world) writes) lives))
 
 -- the report that is filed for a moment names the cut of that moment
 pub cut_named : (b : CoreState) (m : ℕ) (r : ReportState) (cut : List ℕ) → IsSound b → IsAnswered b m

@@ -1,16 +1,15 @@
 -- Broadcasts and timers.
-use Rattle.std.proofs.Common.{◌≡◌, ◌<◌, ◌≤◌, ◌+◌, ℕ, zero, suc, Bool, true, false, ◌||◌, IsTrue, List, [], ◌∷◌, ◌++◌}
-use Rattle.std.proofs.Common.{length, drop, get_or, refl, sym, subst, ap, arith, ◌∙◌, inl, inr, ◌⊎◌}
+use Rattle.std.proofs.Common.{◌≡◌, ◌<◌, ◌≤◌, ◌+◌, ℕ, suc, Bool, true, false, ◌||◌, List, [], ◌∷◌}
+use Rattle.std.proofs.Common.{length, drop, get_or, refl, sym, subst, ap, arith, ◌∙◌, inl, inr}
 use Rattle.std.proofs.lemmas.Option.{slice_get_read}
 use Rattle.std.proofs.Math.Seq.{drop-cons}
-use Rattle.std.specs.Prelude.{slice_get, Some}
 use Rattle.ov_ids.specs.declared.id.MsgId.{MsgId}
 use Rattle.ov_net.specs.Net.{LivesAs}
 use Rattle.ov_peer.specs.PeerState.{PeerState}
 use Rattle.ov_script.specs.declared.act.Act.TheVariants as act
-use Rattle.ov_grow.specs.Growth.{Growth, Does, Chooses, AreLive}
+use Rattle.ov_grow.specs.Growth.{Growth, Does, Chooses}
 use Rattle.ov_grow.specs.Turns.{RunOut}
-use Rattle.ov_grow.specs.Broadcasts.{BroadcastBy, BroadcastsBegin, Fire, FireAt, FireAtEach, FireTimes, FiresIfItRuns}
+use Rattle.ov_grow.specs.Broadcasts.{BroadcastBy, BroadcastsBegin, Fire, FireAt, FireAtEach, FiresIfItRuns}
 use Rattle.ov_grow.specs.Broadcasts.{TimersFire}
 use Rattle.ov_grow.specs.declared.turn_rules.TurnRules.{TurnRules}
 use Rattle.ov_ids.specs.Members.{Has}
@@ -58,6 +57,14 @@ fire_at_more node ids i id first others s t u within is fires more =
     ids) (sym is)))
     (first, others, t, fires, subst (λ k. FireAt node (drop k ids) t others u) after more, refl)
 
+-- the next message is the first of what is left
+pub fire_at_next : (node : ℕ) (ids : List MsgId) (i : ℕ) (id : MsgId) (others : Bool) (s u : Growth) → i < length ids
+    → id ≡ get_or ids i id → FireAt node (drop i ids) s others u → FireAt node (id ∷ drop (i + 1) ids) s others u
+fire_at_next node ids i id others s u within is fires =
+    let after : suc i ≡ i + 1 = omega arith in
+    subst (λ k. FireAt node (id ∷ drop k ids) s others u) after (subst (λ xs. FireAt node xs s others u)
+    (drop-cons ids i id within ∙ ap (λ x. x ∷ drop (suc i) ids) (sym is)) fires)
+
 -- timers at the next node
 pub fire_each_more : (nodes : List ℕ) (ids : List MsgId) (i node : ℕ) (first others : Bool) (s t u : Growth)
     → i < length nodes → node ≡ get_or nodes i node → FireAt node ids s first t
@@ -68,6 +75,15 @@ fire_each_more nodes ids i node first others s t u within is fires more =
     subst (λ xs. FireAtEach xs ids s (first || others) u) (sym (drop-cons nodes i node within ∙ ap (λ x. x ∷ drop
     (suc i) nodes) (sym is)))
     (first, others, t, fires, subst (λ k. FireAtEach (drop k nodes) ids t others u) after more, refl)
+
+-- the next node is the first of what is left
+pub fire_each_next : (nodes : List ℕ) (ids : List MsgId) (i node : ℕ) (others : Bool) (s u : Growth)
+    → i < length nodes → node ≡ get_or nodes i node → FireAtEach (drop i nodes) ids s others u
+    → FireAtEach (node ∷ drop (i + 1) nodes) ids s others u
+fire_each_next nodes ids i node others s u within is fires =
+    let after : suc i ≡ i + 1 = omega arith in
+    subst (λ k. FireAtEach (node ∷ drop k nodes) ids s others u) after (subst (λ xs. FireAtEach xs ids s others u)
+    (drop-cons nodes i node within ∙ ap (λ x. x ∷ drop (suc i) nodes) (sym is)) fires)
 
 -- timers fired, and packets ran out
 pub timers_more : (rules : TurnRules) (ids : List MsgId) (s t v u : Growth) → Fire ids s true t → RunOut rules t v

@@ -1,6 +1,6 @@
 -- Which reports come next while the overlay heals.
 use Rattle.std.proofs.Common.{◌≡◌, ◌<◌, ◌≤◌, ◌+◌, ℕ, zero, suc, List, [], ◌∷◌, length, take, get_or, refl, sym, subst}
-use Rattle.std.proofs.Common.{ap, ◌∙◌, inl, inr, arith, ◌⊎◌}
+use Rattle.std.proofs.Common.{◌∙◌, inl, inr, arith}
 use Rattle.ov_ids.specs.Members.{Ascends, Has}
 use Rattle.ov_ids.proofs.Members.{all_member}
 use Rattle.ov_grow.specs.Growth.{Growth, AreLive}

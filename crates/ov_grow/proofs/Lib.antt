@@ -13,5 +13,8 @@ pub mod OneGrowth
 pub mod OnePhase
 pub mod NoTurn
 pub mod NoJoin
+pub mod NoBroadcast
+pub mod NoPhase
+pub mod NoGrowth
 pub mod Full
 pub mod Keeping

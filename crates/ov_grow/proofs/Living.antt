@@ -1,6 +1,6 @@
 -- Which nodes live, and which crashed.
-use Rattle.std.proofs.Common.{◌≡◌, ◌≢◌, ◌<◌, ℕ, Bool, true, false, IsTrue, ◌↔◌, List, [], ◌∷◌, length, Option, Some}
-use Rattle.std.proofs.Common.{None, refl, sym, subst, ap, ◌∙◌, inl, inr, arith}
+use Rattle.std.proofs.Common.{◌≡◌, ◌≢◌, ℕ, Bool, true, false, IsTrue, ◌↔◌, List, length, Option, Some}
+use Rattle.std.proofs.Common.{None, refl, sym, subst, ◌∙◌}
 use Rattle.std.specs.Prelude.{not, IfSome}
 use Rattle.std.specs.FinMap as map
 use Rattle.std.specs.FinSet as set
@@ -12,7 +12,7 @@ use Rattle.ov_peer.specs.PeerState.{PeerState}
 use Rattle.ov_net.specs.Journal.{AreLinks}
 use Rattle.ov_net.specs.Net.{Net, LivesAs, IsGone}
 use Rattle.ov_net.specs.Refusals.{IsBorn}
-use Rattle.ov_net.specs.World.{Stands, WorldState}
+use Rattle.ov_net.specs.World.{Stands}
 use Rattle.ov_net.specs.declared.member.Member.{Member}
 use Rattle.ov_net.specs.declared.member.Member.TheVariants.{Live, Gone}
 use Rattle.ov_grow.specs.Growth.{Growth, AreLive, IsLive}

@@ -1,13 +1,10 @@
 -- Rounds, broadcasts and phases have one outcome each.
 use Rattle.std.proofs.Common.{arith, ◌≤◌, ◌≡◌, ℕ, zero, suc, ◌+◌, ◌-◌, ◌*◌, ◌/◌, Bool, true, false, ◌||◌, List, []}
-use Rattle.std.proofs.Common.{◌∷◌, ◌++◌, length, take, drop, Option, Some, None, refl, sym, ap, ap₂, subst, ◌∙◌, inl}
-use Rattle.std.proofs.Common.{inr, ◌⊎◌}
+use Rattle.std.proofs.Common.{◌∷◌, length, take, drop, Some, None, refl, sym, ap, ap₂, subst, ◌∙◌, inl}
+use Rattle.std.proofs.Common.{inr}
 use Rattle.std.specs.Prelude.{slice_get, codes}
 use Rattle.std.proofs.lemmas.Option.{same_Some}
-use Rattle.rand_pcg.specs.Lcg.{Lcg}
-use Rattle.ov_ids.proofs.Members.{same_ascending}
 use Rattle.ov_ids.specs.declared.id.MsgId.{MsgId}
-use Rattle.ov_graph.specs.Links.{LinkGraph}
 use Rattle.ov_cert.specs.declared.cert.Cert.{Cert}
 use Rattle.ov_cert.specs.declared.cert.Cert.TheVariants.{Linked, Split}
 use Rattle.ov_even.proofs.EvenTest.Answering.{one_answer}
@@ -16,7 +13,6 @@ use Rattle.ov_even.specs.Theorems.{AreAlike}
 use Rattle.ov_peer.specs.PeerState.{PeerState}
 use Rattle.ov_net.specs.declared.member.Member.TheVariants.{Live}
 use Rattle.ov_net.proofs.Links.OneGraph.{links_one}
-use Rattle.ov_net.specs.Journal.{AreLinks}
 use Rattle.ov_net.specs.declared.journal_entry_and_changes.Entry.{Entry}
 use Rattle.ov_grow_options.specs.declared.options.Crash.{Crash}
 use Rattle.ov_grow_options.specs.declared.options.Crash.TheVariants.{Share, Cut}
@@ -31,10 +27,10 @@ use Rattle.ov_grow.specs.Rounds.{AreLiveInOrder, DoesEach, Round, Rounds}
 use Rattle.ov_grow.specs.Broadcasts.{BroadcastBy, Broadcasts, BroadcastsBegin, Fire, FireAt, FireAtEach, FireTimes}
 use Rattle.ov_grow.specs.Broadcasts.{FiresIfItRuns, TimersFire}
 use Rattle.ov_grow.specs.Phases.{AreFirst, AreToCrash, Births, CrashNodes, EndsPhase, Heal, IsAnalysedAt, IsCutAt, Join}
-use Rattle.ov_grow.specs.Phases.{HasNone, IsCrashedNeighbour, ReportCrashes, ReportTimes, Settle, cut_of}
+use Rattle.ov_grow.specs.Phases.{IsCrashedNeighbour, ReportCrashes, ReportTimes, Settle, cut_of}
 use Rattle.ov_grow.specs.Phases.{deliveries_in, healing, joining, settling}
 use Rattle.ov_grow.specs.Phases.{turns_between}
-use Rattle.ov_grow.specs.Growing.{Grows, OneGrowth, beginning}
+use Rattle.ov_grow.specs.Growing.{OneGrowth, beginning}
 use Rattle.ov_grow.specs.declared.phase.Phase.{Phase}
 use Rattle.ov_grow.specs.declared.turn_rules.TurnRules.{TurnRules}
 use Rattle.ov_grow.proofs.OneGrowth.{one_act, one_choice, one_live, one_order, one_run_out, one_turns, one_write}
@@ -101,19 +97,33 @@ one_broadcast node s u v id also (p, lives, is, did) (q, live, same, does) = (
   one_act s u v (act.Broadcast node) did does,
 )
 
+-- the chosen node broadcasts first, and then the others
+pub begin_follows : (nodes : List ℕ) (n place node : ℕ) (ids : List MsgId) (s t u : Growth)
+    → Chooses (length nodes) s place t → slice_get nodes place ≡ Some node → BroadcastsBegin nodes (suc n) s ids u
+    → (id : MsgId) × (later : List MsgId) × (v : Growth)
+    × BroadcastBy node t id v × (ids ≡ id ∷ later) × BroadcastsBegin nodes n v later u
+begin_follows nodes n place node ids s t u chooses at (spot, other, id, later, x, v, chose, there, by, is, more) =
+    let choice = one_choice (length nodes) spot place s x t chose chooses in
+    let who : other ≡ node = same_Some other node (sym there ∙ (ap (λ i. slice_get nodes i) choice.0 ∙ at)) in
+    (id, later, v, subst (λ a. BroadcastBy a t id v) who (subst (λ g. BroadcastBy other g id v) choice.1 by), is, more)
+
+-- what follows the first of these broadcasts
+pub begin_rest : (nodes : List ℕ) (n place node : ℕ) (id : MsgId) (ids : List MsgId) (s t v u : Growth)
+    → Chooses (length nodes) s place t → slice_get nodes place ≡ Some node → BroadcastBy node t id v
+    → BroadcastsBegin nodes (suc n) s ids u
+    → (later : List MsgId) × (ids ≡ id ∷ later) × BroadcastsBegin nodes n v later u
+begin_rest nodes n place node id ids s t v u chooses at by begin =
+    let (also, later, w, bys, is, more) = begin_follows nodes n place node ids s t u chooses at begin in
+    let one = one_broadcast node t w v also id bys by in
+    (later, is ∙ ap (λ m. m ∷ later) one.0, subst (λ g. BroadcastsBegin nodes n g later u) one.1 more)
+
 one_beginning : (nodes : List ℕ) (n : ℕ) (s u v : Growth) (ids also : List MsgId) → BroadcastsBegin nodes n s ids u
     → BroadcastsBegin nodes n s also v → (ids ≡ also) × (u ≡ v)
 one_beginning nodes zero s u v ids also (none, is) (empty, same) = (none ∙ sym empty, is ∙ sym same)
-one_beginning nodes (suc n) s u v ids also (place, node, id, later, t, w, chooses, at, by, is, more)
-    (spot, other, one, rest, x, y, chose, there, bys, same, others) =
-    let choice = one_choice (length nodes) spot place s x t chose chooses in
-    let who : other ≡ node =
-    same_Some other node (sym there ∙ (ap (λ i. slice_get nodes i) choice.0 ∙ at)) in
-    let first = one_broadcast node t y w one id
-    (subst (λ g. BroadcastBy node g one y) choice.1 (subst (λ a. BroadcastBy a x one y) who bys)) by in
-    let last = one_beginning nodes n w u v later rest more
-    (subst (λ g. BroadcastsBegin nodes n g rest v) first.1 others) in
-    (is ∙ (ap₂ (λ a b. a ∷ b) (sym first.0) last.0 ∙ sym same), last.1)
+one_beginning nodes (suc n) s u v ids also (place, node, id, later, t, w, chooses, at, by, is, more) other =
+    let (rest, same, others) = begin_rest nodes n place node id also s t w v chooses at by other in
+    let last = one_beginning nodes n w u v later rest more others in
+    (is ∙ (ap (λ xs. id ∷ xs) last.0 ∙ sym same), last.1)
 
 one_timer : (node : ℕ) (id : MsgId) (s u v : Growth) (a b : Bool) → FiresIfItRuns node id s a u
     → FiresIfItRuns node id s b v
@@ -124,57 +134,101 @@ one_timer node id s u v a b (inl (runs, did, holds)) (inr (not_runs, same, fails
 one_timer node id s u v a b (inr (not_runs, same, fails)) (inl (runs, did, holds)) = absurd (not_runs runs)
 one_timer node id s u v a b (inr (not_runs, same, fails)) (inr (not_run, is, none)) = (fails ∙ sym none, same ∙ sym is)
 
+-- what follows the first of these messages
+pub fire_at_rest : (node : ℕ) (id : MsgId) (ids : List MsgId) (first b : Bool) (s t u : Growth)
+    → FiresIfItRuns node id s first t → FireAt node (id ∷ ids) s b u
+    → (later : Bool) × (b ≡ (first || later)) × FireAt node ids t later u
+fire_at_rest node id ids first b s t u fires (one, later, x, fire, more, is) =
+    let head = one_timer node id s x t one first fire fires in
+    (later, is ∙ ap (λ p. p || later) head.0, subst (λ g. FireAt node ids g later u) head.1 more)
+
 one_fire_at : (node : ℕ) (ids : List MsgId) (s u v : Growth) (a b : Bool) → FireAt node ids s a u
     → FireAt node ids s b v
     → (a ≡ b) × (u ≡ v)
 one_fire_at node [] s u v a b (is, fails) (same, none) = (fails ∙ sym none, is ∙ sym same)
-one_fire_at node (id ∷ ids) s u v a b (first, others, t, fires, more, is) (one, rest, x, fire, mores, same) =
-    let head = one_timer node id s x t one first fire fires in
-    let tail = one_fire_at node ids t u v others rest more (subst (λ g. FireAt node ids g rest v) head.1 mores) in
-    (is ∙ (ap₂ (λ p q. p || q) (sym head.0) tail.0 ∙ sym same), tail.1)
+one_fire_at node (id ∷ ids) s u v a b (first, others, t, fires, more, is) other =
+    let (later, same, mores) = fire_at_rest node id ids first b s t v fires other in
+    let tail = one_fire_at node ids t u v others later more mores in
+    (is ∙ (ap (λ q. first || q) tail.0 ∙ sym same), tail.1)
+
+-- what follows the first of these nodes
+pub fire_each_rest : (node : ℕ) (nodes : List ℕ) (ids : List MsgId) (first b : Bool) (s t u : Growth)
+    → FireAt node ids s first t → FireAtEach (node ∷ nodes) ids s b u
+    → (later : Bool) × (b ≡ (first || later)) × FireAtEach nodes ids t later u
+fire_each_rest node nodes ids first b s t u fires (one, later, x, fire, more, is) =
+    let head = one_fire_at node ids s x t one first fire fires in
+    (later, is ∙ ap (λ p. p || later) head.0, subst (λ g. FireAtEach nodes ids g later u) head.1 more)
 
 one_fire_each : (nodes : List ℕ) (ids : List MsgId) (s u v : Growth) (a b : Bool) → FireAtEach nodes ids s a u
     → FireAtEach nodes ids s b v → (a ≡ b) × (u ≡ v)
 one_fire_each [] ids s u v a b (is, fails) (same, none) = (fails ∙ sym none, is ∙ sym same)
-one_fire_each (node ∷ nodes) ids s u v a b (first, others, t, fires, more, is) (one, rest, x, fire, mores, same) =
-    let head = one_fire_at node ids s x t one first fire fires in
-    let tail = one_fire_each nodes ids t u v others rest more (subst (λ g. FireAtEach nodes ids g rest v) head.1
-    mores) in
-    (is ∙ (ap₂ (λ p q. p || q) (sym head.0) tail.0 ∙ sym same), tail.1)
+one_fire_each (node ∷ nodes) ids s u v a b (first, others, t, fires, more, is) other =
+    let (later, same, mores) = fire_each_rest node nodes ids first b s t v fires other in
+    let tail = one_fire_each nodes ids t u v others later more mores in
+    (is ∙ (ap (λ q. first || q) tail.0 ∙ sym same), tail.1)
+
+-- timers fire at these live nodes
+pub fire_follows : (ids : List MsgId) (live : List ℕ) (s u : Growth) (fired : Bool) → AreLive s live
+    → Fire ids s fired u → FireAtEach live ids s fired u
+fire_follows ids live s u fired are (those, lives, each) =
+    subst (λ xs. FireAtEach xs ids s fired u) (one_live s those live lives are) each
 
 one_fire : (ids : List MsgId) (s u v : Growth) (a b : Bool) → Fire ids s a u → Fire ids s b v → (a ≡ b) × (u ≡ v)
-one_fire ids s u v a b (live, are, each) (those, lives, all) =
-    one_fire_each live ids s u v a b each (subst (λ xs. FireAtEach xs ids s b v) (one_live s those live lives are) all)
+one_fire ids s u v a b (live, are, each) other =
+    one_fire_each live ids s u v a b each (fire_follows ids live s v b are other)
 
-one_times : (rules : TurnRules) (ids : List MsgId) (n m : ℕ) (s u v : Growth) → FireTimes rules ids n s u
-    → FireTimes rules ids m s v → u ≡ v
-one_times rules ids zero zero s u v a b = (one_fire ids s u v false false a b).1
-one_times rules ids zero (suc m) s u v a (x, y, fires, out, more) =
+-- after a timer has fired packets run out
+pub fired_follows : (rules : TurnRules) (ids : List MsgId) (s t u : Growth) → Fire ids s true t
+    → TimersFire rules ids s u → (v : Growth) × RunOut rules t v × TimersFire rules ids v u
+fired_follows rules ids s t u fires (zero, none) =
+    absurd (let fails = (one_fire ids s t u true false fires none).0 in cc)
+fired_follows rules ids s t u fires (suc n, (x, v, fire, out, more)) =
+    (v, subst (λ g. RunOut rules g v) (one_fire ids s x t true true fire fires).1 out, (n, more))
+
+-- what follows when packets have run out
+pub timers_rest : (rules : TurnRules) (ids : List MsgId) (s t v u : Growth) → Fire ids s true t → RunOut rules t v
+    → TimersFire rules ids s u → TimersFire rules ids v u
+timers_rest rules ids s t v u fires out timers =
+    let (w, ends, more) = fired_follows rules ids s t u fires timers in
+    subst (λ g. TimersFire rules ids g u) (one_run_out rules t w v ends out) more
+
+one_times : (rules : TurnRules) (ids : List MsgId) (n : ℕ) (s u v : Growth) → FireTimes rules ids n s u
+    → TimersFire rules ids s v → u ≡ v
+one_times rules ids zero s u v a (zero, b) = (one_fire ids s u v false false a b).1
+one_times rules ids zero s u v a (suc m, (x, y, fires, out, more)) =
     absurd (let fails = (one_fire ids s u x false true a fires).0 in cc)
-one_times rules ids (suc n) zero s u v (x, y, fires, out, more) b =
-    absurd (let fails = (one_fire ids s v x false true b fires).0 in cc)
-one_times rules ids (suc n) (suc m) s u v (t, w, fires, out, more) (x, y, fire, ends, others) =
-    let first : x ≡ t = (one_fire ids s x t true true fire fires).1 in
-    let then : y ≡ w = one_run_out rules t y w (subst (λ g. RunOut rules g y) first ends) out in
-    one_times rules ids n m w u v more (subst (λ g. FireTimes rules ids m g v) then others)
+one_times rules ids (suc n) s u v (t, w, fires, out, more) other =
+    one_times rules ids n w u v more (timers_rest rules ids s t w v fires out other)
+
+-- broadcasts begin at these live nodes
+pub broadcasts_follow : (rules : TurnRules) (n : ℕ) (live : List ℕ) (s u : Growth) → AreLive s live
+    → Broadcasts rules n s u
+    → (ids : List MsgId) × (t : Growth) × (v : Growth)
+    × BroadcastsBegin live n s ids t × RunOut rules t v × TimersFire rules ids v u
+broadcasts_follow rules n live s u are (those, ids, t, v, lives, begins, out, fires) =
+    (ids, t, v, subst (λ xs. BroadcastsBegin xs n s ids t) (one_live s those live lives are) begins, out, fires)
+
+-- when they have begun packets run out
+pub begun_follows : (rules : TurnRules) (n : ℕ) (live : List ℕ) (ids : List MsgId) (s t u : Growth) → AreLive s live
+    → BroadcastsBegin live n s ids t → Broadcasts rules n s u
+    → (v : Growth) × RunOut rules t v × TimersFire rules ids v u
+begun_follows rules n live ids s t u are begin broadcasts =
+    let (also, x, v, begins, out, fires) = broadcasts_follow rules n live s u are broadcasts in
+    let one = one_beginning live n s x t also ids begins begin in
+    (v, subst (λ g. RunOut rules g v) one.1 out, subst (λ ms. TimersFire rules ms v u) one.0 fires)
+
+-- when packets have run out timers fire
+pub broadcasts_rest : (rules : TurnRules) (n : ℕ) (live : List ℕ) (ids : List MsgId) (s t v u : Growth)
+    → AreLive s live → BroadcastsBegin live n s ids t → RunOut rules t v → Broadcasts rules n s u
+    → TimersFire rules ids v u
+broadcasts_rest rules n live ids s t v u are begin out broadcasts =
+    let (w, ends, fires) = begun_follows rules n live ids s t u are begin broadcasts in
+    subst (λ g. TimersFire rules ids g u) (one_run_out rules t w v ends out) fires
 
 pub one_broadcasts : (rules : TurnRules) (n : ℕ) (s u v : Growth) → Broadcasts rules n s u → Broadcasts rules n s v
     → u ≡ v
-one_broadcasts rules n s u v (live, ids, t, w, are, begin, out, (k, times)) (
-  those,
-  also,
-  x,
-  y,
-  lives,
-  begins,
-  ends,
-  (m, fires),
-) =
-    let first = one_beginning live n s x t also ids
-    (subst (λ xs. BroadcastsBegin xs n s also x) (one_live s those live lives are) begins) begin in
-    let then : y ≡ w = one_run_out rules t y w (subst (λ g. RunOut rules g y) first.1 ends) out in
-    one_times rules ids k m w u v times
-    (subst (λ xs. FireTimes rules xs m w v) first.0 (subst (λ g. FireTimes rules also m g v) then fires))
+one_broadcasts rules n s u v (live, ids, t, w, are, begin, out, (k, times)) other =
+    one_times rules ids k w u v times (broadcasts_rest rules n live ids s t w v are begin out other)
 
 -- two certificates that agree name one cut
 one_cut_of : (c d : Cert) → AreAlike c d → cut_of c ≡ cut_of d
@@ -200,7 +254,7 @@ one_to_crash Cut m s u v nodes also (cut, is) (other, same) =
 
 one_analysis : (moment also : ℕ) (s u v : Growth) → IsAnalysedAt moment s u → IsAnalysedAt also s v
     → (moment ≡ also) × (u ≡ v)
-one_analysis moment also s u v (t, did, is, writes) (x, does, same, wrote) =
+one_analysis moment also s u v (t, did, live, is, writes) (x, does, lives, same, wrote) =
     let one : x ≡ t = one_act s x t act.Snapshot does did in
     let at : moment ≡ also = is ∙ (ap (λ g. length g.world.journal) (sym one) ∙ sym same) in (
       at,
@@ -212,14 +266,21 @@ one_analysis moment also s u v (t, did, is, writes) (x, does, same, wrote) =
 same_phase : (p q : Phase) → p.moment ≡ q.moment → p.deliveries ≡ q.deliveries → p ≡ q
 same_phase p q moment deliveries = ap₂ (λ m d. record { moment = m; deliveries = d }) moment deliveries
 
+-- after the analysis there are broadcasts
+pub ending_rest : (rules : TurnRules) (n m : ℕ) (s t u : Growth) (q : Phase) → IsAnalysedAt m s t
+    → EndsPhase rules n s q u → (m ≡ q.moment) × Broadcasts rules n t u
+ending_rest rules n m s t u q analysed (x, also, others, counts) =
+    let first = one_analysis m q.moment s t x analysed also in
+    (first.0, subst (λ g. Broadcasts rules n g u) (sym first.1) others)
+
 one_ending : (rules : TurnRules) (n : ℕ) (s u v : Growth) (p q : Phase) → EndsPhase rules n s p u
     → EndsPhase rules n s q v
     → (p ≡ q) × (u ≡ v)
-one_ending rules n s u v p q (t, analysed, broadcasts, count) (x, also, others, counts) =
-    let first = one_analysis q.moment p.moment s x t also analysed in
-    let last : u ≡ v = one_broadcasts rules n t u v broadcasts (subst (λ g. Broadcasts rules n g v) first.1 others) in (
-      same_phase p q (sym first.0)
-          (count ∙ (ap₂ (λ m g. deliveries_in (drop m g.world.journal)) (sym first.0) last ∙ sym counts)),
+one_ending rules n s u v p q (t, analysed, broadcasts, count) other =
+    let rest = ending_rest rules n p.moment s t v q analysed other in
+    let last : u ≡ v = one_broadcasts rules n t u v broadcasts rest.1 in (
+      same_phase p q rest.0 (count ∙ (ap₂ (λ m g. deliveries_in (drop m g.world.journal)) rest.0 last
+          ∙ sym other.3)),
       last,
     )
 
@@ -286,24 +347,48 @@ pub one_join : (o : GrowOptions) (s u v : Growth) → Join o s u → Join o s v 
 one_join o s u v (t, w, z, says, did, births, out) other =
     one_run_out (joining o) z u v out (join_rest o s t w z v says did births other)
 
+-- after the comment there are rounds
+pub settle_follows : (o : GrowOptions) (s t u : Growth) (q : Phase) → Writes s (comment_line (codes "settle")) t
+    → Settle o s q u
+    → (v : Growth) × Rounds (settling o) o.rounds t v × EndsPhase (settling o) o.broadcasts v q u
+settle_follows o s t u q says (x, v, said, rounds, ends) =
+    let first = one_write s x t (comment_line (codes "settle")) said says in
+    (v, subst (λ g. Rounds (settling o) o.rounds g v) first rounds, ends)
+
+-- after the rounds the phase ends
+pub settle_rest : (o : GrowOptions) (s t v u : Growth) (q : Phase) → Writes s (comment_line (codes "settle")) t
+    → Rounds (settling o) o.rounds t v → Settle o s q u → EndsPhase (settling o) o.broadcasts v q u
+settle_rest o s t v u q says rounds settle =
+    let (w, also, ends) = settle_follows o s t u q says settle in
+    subst (λ g. EndsPhase (settling o) o.broadcasts g q u)
+    (one_rounds (settling o) o.rounds t w v also rounds) ends
+
 pub one_settling : (o : GrowOptions) (s u v : Growth) (p q : Phase) → Settle o s p u → Settle o s q v
     → (p ≡ q) × (u ≡ v)
-one_settling o s u v p q (t, w, says, rounds, ends) (x, y, said, also, end) =
-    let first : x ≡ t = one_write s x t (comment_line (codes "settle")) said says in
-    let then : y ≡ w = one_rounds (settling o) o.rounds t y w (subst (λ g. Rounds (settling o) o.rounds g y) first
-    also) rounds in
-    one_ending (settling o) o.broadcasts w u v p q ends
-    (subst (λ g. EndsPhase (settling o) o.broadcasts g q v) then end)
+one_settling o s u v p q (t, w, says, rounds, ends) other =
+    one_ending (settling o) o.broadcasts w u v p q ends (settle_rest o s t w v q says rounds other)
+
+-- when it is known which nodes are to crash, each of them does
+pub crash_follows : (o : GrowOptions) (m : ℕ) (nodes : List ℕ) (s t v u : Growth) (q : Phase)
+    → Writes s (comment_line (codes "crash")) t → AreToCrash o.crash m t nodes v → CrashNodes o m s q u
+    → (w : Growth) × DoesEach act.Crash nodes v w × EndsPhase (settling o) o.broadcasts w q u
+crash_follows o m nodes s t v u q says are (those, x, y, w, said, also, each, ends) =
+    let first = one_write s x t (comment_line (codes "crash")) said says in
+    let one = one_to_crash o.crash m t y v those nodes (subst (λ g. AreToCrash o.crash m g those y) first also) are in
+    (w, subst (λ g. DoesEach act.Crash nodes g w) one.1 (subst (λ xs. DoesEach act.Crash xs y w) one.0 each), ends)
+
+-- after the crashes the phase ends
+pub crash_rest : (o : GrowOptions) (m : ℕ) (nodes : List ℕ) (s t v w u : Growth) (q : Phase)
+    → Writes s (comment_line (codes "crash")) t → AreToCrash o.crash m t nodes v → DoesEach act.Crash nodes v w
+    → CrashNodes o m s q u → EndsPhase (settling o) o.broadcasts w q u
+crash_rest o m nodes s t v w u q says are each crash =
+    let (x, all, ends) = crash_follows o m nodes s t v u q says are crash in
+    subst (λ g. EndsPhase (settling o) o.broadcasts g q u) (one_each act.Crash nodes v x w all each) ends
 
 pub one_crash : (o : GrowOptions) (m : ℕ) (s u v : Growth) (p q : Phase) → CrashNodes o m s p u → CrashNodes o m s q v
     → (p ≡ q) × (u ≡ v)
-one_crash o m s u v p q (nodes, t, w, z, says, are, each, ends) (also, x, y, r, said, those, all, end) =
-    let first : x ≡ t = one_write s x t (comment_line (codes "crash")) said says in
-    let then = one_to_crash o.crash m t y w also nodes (subst (λ g. AreToCrash o.crash m g also y) first those) are in
-    let next : r ≡ z = one_each act.Crash nodes w r z
-    (subst (λ g. DoesEach act.Crash nodes g r) then.1 (subst (λ xs. DoesEach act.Crash xs y r) then.0 all)) each in
-    one_ending (settling o) o.broadcasts z u v p q ends
-    (subst (λ g. EndsPhase (settling o) o.broadcasts g q v) next end)
+one_crash o m s u v p q (nodes, t, w, z, says, are, each, ends) other =
+    one_ending (settling o) o.broadcasts z u v p q ends (crash_rest o m nodes s t w z v q says are each other)
 
 -- whom the next report is for, and of whom
 one_first : (s : Growth) (node crashed other gone : ℕ) → AreFirst s node crashed → AreFirst s other gone
@@ -316,30 +401,73 @@ one_first s node crashed other gone a b =
     let high : gone ≤ crashed = b.first_crashed crashed (subst (λ n. IsCrashedNeighbour s n crashed) same a.has) in
     (same, omega (arith, low, high))
 
-one_reports : (rules : TurnRules) (n m : ℕ) (s u v : Growth) → ReportTimes rules n s u → ReportTimes rules m s v → u ≡ v
-one_reports rules zero zero s u v a b = a.1 ∙ sym b.1
-one_reports rules zero (suc m) s u v a (node, crashed, x, y, first, did, out, more) =
+-- the next report is the one for this node, and then packets run out
+pub reports_follow : (rules : TurnRules) (node crashed : ℕ) (s u : Growth) → AreFirst s node crashed
+    → ReportCrashes rules s u
+    → (t : Growth) × (v : Growth)
+    × Does s (act.CrashReport node crashed) t × RunOut rules t v × ReportCrashes rules v u
+reports_follow rules node crashed s u first (zero, (none, same)) = absurd (none node crashed first.has)
+reports_follow rules node crashed s u first (suc n, (other, gone, t, v, is, did, out, more)) =
+    let who = one_first s other gone node crashed is first in (
+      t,
+      v,
+      subst (λ b. Does s (act.CrashReport node b) t) who.1
+          (subst (λ a. Does s (act.CrashReport a gone) t) who.0 did),
+      out,
+      (n, more),
+    )
+
+-- after the report packets run out
+pub report_follows : (rules : TurnRules) (node crashed : ℕ) (s t u : Growth) → AreFirst s node crashed
+    → Does s (act.CrashReport node crashed) t → ReportCrashes rules s u
+    → (v : Growth) × RunOut rules t v × ReportCrashes rules v u
+report_follows rules node crashed s t u first did reports =
+    let (x, v, does, out, more) = reports_follow rules node crashed s u first reports in
+    (v, subst (λ g. RunOut rules g v) (one_act s x t (act.CrashReport node crashed) does did) out, more)
+
+-- what follows when packets have run out
+pub reports_rest : (rules : TurnRules) (node crashed : ℕ) (s t v u : Growth) → AreFirst s node crashed
+    → Does s (act.CrashReport node crashed) t → RunOut rules t v → ReportCrashes rules s u → ReportCrashes rules v u
+reports_rest rules node crashed s t v u first did out reports =
+    let (w, ends, more) = report_follows rules node crashed s t u first did reports in
+    subst (λ g. ReportCrashes rules g u) (one_run_out rules t w v ends out) more
+
+one_reports : (rules : TurnRules) (n : ℕ) (s u v : Growth) → ReportTimes rules n s u → ReportCrashes rules s v → u ≡ v
+one_reports rules zero s u v a (zero, b) = a.1 ∙ sym b.1
+one_reports rules zero s u v a (suc m, (node, crashed, x, y, first, did, out, more)) =
     absurd (a.0 node crashed first.has)
-one_reports rules (suc n) zero s u v (node, crashed, t, w, first, did, out, more) b =
-    absurd (b.0 node crashed first.has)
-one_reports rules (suc n) (suc m) s u v (node, crashed, t, w, first, did, out, more)
-    (other, gone, x, y, is, does, ends, others) =
-    let who = one_first s other gone node crashed is first in
-    let next : x ≡ t = one_act s x t (act.CrashReport node crashed)
-    (subst (λ b. Does s (act.CrashReport node b) x) who.1
-    (subst (λ a. Does s (act.CrashReport a gone) x) who.0 does)) did in
-    let then : y ≡ w = one_run_out rules t y w (subst (λ g. RunOut rules g y) next ends) out in
-    one_reports rules n m w u v more (subst (λ g. ReportTimes rules m g v) then others)
+one_reports rules (suc n) s u v (node, crashed, t, w, first, did, out, more) other =
+    one_reports rules n w u v more (reports_rest rules node crashed s t w v first did out other)
+
+-- after the comment there are crash reports
+pub heal_follows : (o : GrowOptions) (s t u : Growth) (q : Phase) → Writes s (comment_line (codes "heal")) t
+    → Heal o s q u
+    → (v : Growth) × (w : Growth)
+    × ReportCrashes (healing o) t v × Rounds (healing o) o.heal v w × EndsPhase (healing o) o.broadcasts w q u
+heal_follows o s t u q says (x, v, w, said, reports, rounds, ends) =
+    let first = one_write s x t (comment_line (codes "heal")) said says in
+    (v, w, subst (λ g. ReportCrashes (healing o) g v) first reports, rounds, ends)
+
+-- after the crash reports there are rounds
+pub reported_follows : (o : GrowOptions) (s t v u : Growth) (q : Phase) → Writes s (comment_line (codes "heal")) t
+    → ReportCrashes (healing o) t v → Heal o s q u
+    → (w : Growth) × Rounds (healing o) o.heal v w × EndsPhase (healing o) o.broadcasts w q u
+reported_follows o s t v u q says (n, reports) heal =
+    let (x, w, also, rounds, ends) = heal_follows o s t u q says heal in
+    let one : v ≡ x = one_reports (healing o) n t v x reports also in
+    (w, subst (λ g. Rounds (healing o) o.heal g w) (sym one) rounds, ends)
+
+-- after the rounds the phase ends
+pub heal_rest : (o : GrowOptions) (s t v w u : Growth) (q : Phase) → Writes s (comment_line (codes "heal")) t
+    → ReportCrashes (healing o) t v → Rounds (healing o) o.heal v w → Heal o s q u
+    → EndsPhase (healing o) o.broadcasts w q u
+heal_rest o s t v w u q says reports rounds heal =
+    let (x, also, ends) = reported_follows o s t v u q says reports heal in
+    subst (λ g. EndsPhase (healing o) o.broadcasts g q u) (one_rounds (healing o) o.heal v x w also rounds) ends
 
 pub one_healing : (o : GrowOptions) (s u v : Growth) (p q : Phase) → Heal o s p u → Heal o s q v → (p ≡ q) × (u ≡ v)
-one_healing o s u v p q (t, w, k, says, (n, reports), rounds, ends) (x, y, l, said, (m, also), others, end) =
-    let first : x ≡ t = one_write s x t (comment_line (codes "heal")) said says in
-    let then : y ≡ w =
-    one_reports (healing o) m n t y w (subst (λ g. ReportTimes (healing o) m g y) first also) reports in
-    let last : l ≡ k =
-    one_rounds (healing o) o.heal w l k (subst (λ g. Rounds (healing o) o.heal g l) then others) rounds in
-    one_ending (healing o) o.broadcasts k u v p q ends
-    (subst (λ g. EndsPhase (healing o) o.broadcasts g q v) last end)
+one_healing o s u v p q (t, w, k, says, reports, rounds, ends) other =
+    one_ending (healing o) o.broadcasts k u v p q ends (heal_rest o s t w k v q says reports rounds other)
 
 pub one_growth : OneGrowth
 one_growth o text other world beside settled crashed healed settles crashes heals g h =

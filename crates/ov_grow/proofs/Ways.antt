@@ -1,32 +1,30 @@
 -- What calls in turn give.
-use Rattle.std.proofs.Common.{◌≡◌, ◌<◌, ◌≤◌, ◌+◌, ◌-◌, ℕ, zero, suc, Bool, true, false, List, [], ◌∷◌, length, drop}
-use Rattle.std.proofs.Common.{get_or, Option, Some, None, refl, sym, ap, subst, ◌∙◌, inl, inr, arith}
+use Rattle.std.proofs.Common.{◌≡◌, ◌<◌, ◌≤◌, ◌+◌, ◌-◌, ℕ, zero, suc, Bool, true, false, List, ◌∷◌, length, drop}
+use Rattle.std.proofs.Common.{get_or, Some, None, refl, sym, subst, inl, inr, arith}
 use Rattle.std.specs.Prelude.{codes}
 use Rattle.rand_pcg.specs.Lcg.{Lcg}
 use Rattle.ov_ids.specs.declared.id.MsgId.{MsgId}
 use Rattle.ov_snap.specs.CoreState.{KeepsReports}
-use Rattle.ov_grow_options.specs.declared.options.Crash.{Crash}
 use Rattle.ov_grow_options.specs.declared.options.GrowOptions.{GrowOptions}
 use Rattle.ov_script.specs.WrittenLines.{comment_line}
 use Rattle.ov_script.specs.declared.act.Act.TheVariants as act
 use Rattle.ov_grow.specs.Choices.{after_chance, comes_true, one_of}
 use Rattle.ov_grow.specs.Choices.{later as later_choices}
-use Rattle.ov_grow.specs.Growth.{Growth, AreLive, Chooses, Does, Tries, Writes}
-use Rattle.ov_grow.specs.Turns.{Arrives, HasNoPackets, IsDelivered, IsTurnOf, MayBeRepeated, RunOut, Turn, TurnsUpTo}
+use Rattle.ov_grow.specs.Growth.{Growth, AreLive, Chooses, Does, Writes}
+use Rattle.ov_grow.specs.Turns.{Arrives, IsTurnOf, MayBeRepeated, RunOut, Turn, TurnsUpTo}
 use Rattle.ov_grow.specs.Rounds.{AreLiveInOrder, DoesEach, Round, Rounds}
 use Rattle.ov_grow.specs.Broadcasts.{BroadcastBy, Broadcasts, BroadcastsBegin, Fire, FireTimes, TimersFire}
-use Rattle.ov_grow.specs.Phases.{AreFirst, AreToCrash, Births, CrashNodes, EndsPhase, HasNone, Heal, IsAnalysedAt, Join}
+use Rattle.ov_grow.specs.Phases.{AreFirst, AreToCrash, Births, CrashNodes, EndsPhase, Heal, IsAnalysedAt, Join}
 use Rattle.ov_grow.specs.Phases.{ReportCrashes, Settle, deliveries_in, healing, joining, settling, turns_between}
-use Rattle.ov_grow.specs.Code.Standing.{Fails, Goes, IsTold, growth_of}
+use Rattle.ov_grow.specs.Code.Standing.{Goes, growth_of}
 use Rattle.ov_grow.specs.declared.growing.Growing.{Growing}
 use Rattle.ov_grow.specs.declared.phase.Phase.{Phase}
 use Rattle.ov_grow.specs.declared.turn_rules.TurnRules.{TurnRules}
-use Rattle.ov_grow.proofs.Going.{chosen, goes_as, goes_on, goes_still, kept_trans, tried}
-use Rattle.ov_grow.proofs.Turning.{AsLong, Longer, as_long_by, delivered, does_longer, entries, longer_by}
+use Rattle.ov_grow.proofs.Going.{chosen, kept_trans, tried}
+use Rattle.ov_grow.proofs.Turning.{AsLong, Longer, as_long_by, does_longer, entries, longer_by}
 use Rattle.ov_grow.proofs.Turning.{not_repeated, repeated}
-use Rattle.ov_grow.proofs.Turning.{run_out_as_long, run_out_more, turn_arrives, turn_lost}
-use Rattle.ov_grow.proofs.Telling.{delivered_and_told}
-use Rattle.ov_grow.proofs.Broadcasting.{LongerIf, broadcasts_more, as_long_if, fire_longer, fire_longer_if, timers_more}
+use Rattle.ov_grow.proofs.Turning.{run_out_as_long, turn_arrives, turn_lost}
+use Rattle.ov_grow.proofs.Broadcasting.{broadcasts_more, as_long_if, fire_longer, fire_longer_if, timers_more}
 
 -- a packet is lost in its turn
 pub lost_goes : (rules : TurnRules) (place n : ℕ) (lost : Bool) (b t u : Growing) (left : Lcg)

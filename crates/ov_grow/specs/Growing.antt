@@ -34,7 +34,8 @@ pub record Grows (o : GrowOptions) (text : List ℕ) (world : WorldState) (settl
   pub text_is : text ≡ u.text
   pub world_is : world ≡ u.world
 
--- with these options no overlay is grown by any scenario: at some step the event that comes next is refused
+-- with these options no overlay is grown by any scenario: at some step the event that comes next is refused, or no node
+-- lives when a snapshot is taken
 abbrev pub CantBeGrown : GrowOptions → Type 0
 CantBeGrown o =
     (text : List ℕ) (world : WorldState) (settled crashed healed : Phase) → ¬ Grows o text world settled crashed healed

@@ -13,7 +13,7 @@ use Rattle.ov_scenario.specs.declared.scenario.Line.{Line}
 use Rattle.ov_scenario.specs.declared.scenario.Line.TheVariants as line
 use Rattle.ov_scenario.specs.declared.scenario.Scenario.{Scenario}
 use Rattle.ov_script.specs.Acts.{act_line, event_of}
-use Rattle.ov_script.specs.WrittenLines.{comment_line, ended}
+use Rattle.ov_script.specs.WrittenLines.{ended}
 use Rattle.ov_script.specs.declared.act.Act.{Act}
 use Rattle.ov_grow.specs.Choices.{one_of, comes_true, after_chance, later}
 
@@ -55,6 +55,10 @@ Tries p s comes u = (comes ≡ comes_true p s.choices) × (u ≡ record s { choi
 -- a node lives
 abbrev pub IsLive : Growth → ℕ → Type 0
 IsLive s a = (p : PeerState) × LivesAs s.world.net a p
+
+-- some node lives
+abbrev pub SomebodyLives : Growth → Type 0
+SomebodyLives s = (a : ℕ) × IsLive s a
 
 -- these are the nodes that live, by ascending ids
 pub record AreLive (s : Growth) (ids : List ℕ) : Type 0 where

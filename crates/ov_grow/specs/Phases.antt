@@ -1,5 +1,5 @@
 -- The phases of growing. s is before, and u after. Chosen here.
-use Rattle.std.specs.Prelude.{◌≡◌, ◌↔◌, ℕ, zero, suc, ◌+◌, ◌-◌, ◌*◌, ◌/◌, ◌≤◌, List, [], ◌∷◌, length, take, drop}
+use Rattle.std.specs.Prelude.{◌≡◌, ℕ, zero, suc, ◌+◌, ◌-◌, ◌*◌, ◌/◌, ◌≤◌, List, [], length, take, drop}
 use Rattle.std.specs.Prelude.{Option, Some, None, codes, count_by, is_some, true, false}
 use Rattle.ov_ids.specs.Members.{Has}
 use Rattle.ov_graph.specs.Links.{LinkGraph}
@@ -15,7 +15,7 @@ use Rattle.ov_grow_options.specs.declared.options.Crash.TheVariants.{Share, Cut}
 use Rattle.ov_grow_options.specs.declared.options.GrowOptions.{GrowOptions}
 use Rattle.ov_script.specs.WrittenLines.{analysis_line, comment_line}
 use Rattle.ov_script.specs.declared.act.Act.TheVariants as act
-use Rattle.ov_grow.specs.Growth.{Growth, Does, Writes, Chooses, AreLive}
+use Rattle.ov_grow.specs.Growth.{Growth, Does, Writes, Chooses, SomebodyLives}
 use Rattle.ov_grow.specs.Turns.{TurnsUpTo, RunOut}
 use Rattle.ov_grow.specs.Rounds.{AreLiveInOrder, DoesEach, Rounds}
 use Rattle.ov_grow.specs.Broadcasts.{Broadcasts}
@@ -26,14 +26,17 @@ use Rattle.ov_grow.specs.declared.turn_rules.TurnRules.{TurnRules}
 abbrev pub deliveries_in : List Entry → ℕ
 deliveries_in entries = count_by (λ e. is_some e.delivery) entries
 
--- a snapshot is taken and analysed. Its moment is the number of its entry
+-- a snapshot is taken, some node lives, and the snapshot is analysed. Its moment is the number of its entry
 abbrev pub IsAnalysedAt : ℕ → Growth → Growth → Type 0
 IsAnalysedAt moment s u =
-    (t : Growth) × Does s act.Snapshot t × (moment ≡ length t.world.journal) × Writes t (analysis_line moment) u
+    (t : Growth)
+    × Does s act.Snapshot t
+    × SomebodyLives t
+    × (moment ≡ length t.world.journal)
+    × Writes t (analysis_line moment) u
 
 -- a phase ends: a snapshot is taken and analysed, and there are so many broadcasts. The deliveries of the phase are
--- those
--- after the snapshot
+-- those after the snapshot
 abbrev pub EndsPhase : TurnRules → ℕ → Growth → Phase → Growth → Type 0
 EndsPhase rules broadcasts s phase u =
     (t : Growth)
@@ -58,9 +61,8 @@ abbrev pub turns_between : Option ℕ → ℕ
 turns_between None = 1000
 turns_between (Some pace) = pace
 
--- so many nodes are born, the first of them with this id. There are turns before each birth, and its contact is one
--- of the
--- nodes before it
+-- so many nodes are born, the first of them with this id. There are turns before each birth, and its contact is one of
+-- the nodes before it
 abbrev pub Births : TurnRules → ℕ → ℕ → ℕ → Growth → Growth → Type 0
 Births rules pace id zero s u = u ≡ s
 Births rules pace id (suc n) s u =
@@ -132,8 +134,7 @@ abbrev pub HasNone : Growth → Type 0
 HasNone s = (a b : ℕ) → ¬ IsCrashedNeighbour s a b
 
 -- so many crash reports, one after the other, and then no live node has a crashed node in its active view: the first
--- live
--- node that has one gets the report of the first such, and then packets run out
+-- live node that has one gets the report of the first such, and then packets run out
 abbrev pub ReportTimes : TurnRules → ℕ → Growth → Growth → Type 0
 ReportTimes rules zero s u = HasNone s × (u ≡ s)
 ReportTimes rules (suc n) s u =

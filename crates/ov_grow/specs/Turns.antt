@@ -1,5 +1,5 @@
 -- Turns of packets: what becomes of each packet that is on its way. s is before, and u after. Chosen here.
-use Rattle.std.specs.Prelude.{◌≡◌, ◌≢◌, ◌⊎◌, ℕ, zero, suc, Bool, MatchBool, [], length, slice_get, Some}
+use Rattle.std.specs.Prelude.{◌≡◌, ◌⊎◌, ℕ, zero, suc, Bool, MatchBool, [], length, slice_get, Some}
 use Rattle.ov_grow_options.specs.declared.options.Order.{Order}
 use Rattle.ov_grow_options.specs.declared.options.Order.TheVariants.{Random, Oldest}
 use Rattle.ov_wire.specs.declared.message.Message.{Message}

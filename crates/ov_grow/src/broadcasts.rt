@@ -1,10 +1,10 @@
-ghost use Rattle.std.specs.Prelude.{◌≡◌, ◌<◌, ◌↔◌, ℕ, length, OnOk, IfOk, IsTrue};
+ghost use Rattle.std.specs.Prelude.{◌≡◌, ◌<◌, ◌↔◌, Bool, List, length, OnOk, IfErr, IfOk, IsTrue};
 ghost use Rattle.ov_net.specs.Net.{LivesAs};
 ghost use Rattle.ov_peer.specs.PeerState.{PeerState};
 ghost use Rattle.ov_grow.specs.Broadcasts.{BroadcastBy, Broadcasts, BroadcastsBegin, Fire, FireAt, FireAtEach};
 ghost use Rattle.ov_grow.specs.Broadcasts.{FiresIfItRuns, TimerRuns, TimersFire};
-ghost use Rattle.ov_grow.specs.Growth.{IsLive};
-ghost use Rattle.ov_grow.specs.Code.Standing.{Goes, growth_of};
+ghost use Rattle.ov_grow.specs.Growth.{SomebodyLives};
+ghost use Rattle.ov_grow.specs.Code.Standing.{Goes, IsNoWay, growth_of};
 
 use crate::fault::GrowFault;
 use crate::growing::Growing;
@@ -15,8 +15,9 @@ use ov_script::Act;
 impl Growing {
     /// So many broadcasts, until no packet is on its way and no timer of their messages runs. Some node must live.
     pub(crate) fn broadcasts(&mut self, count: u32, rules: &TurnRules) -> Result<(), GrowFault>
-        requires { (a : ℕ) × IsLive (growth_of self.old) a }
-        ensures { OnOk result (Goes (Broadcasts rules.now count) self.old self.new) }
+        requires { SomebodyLives (growth_of self.old) }
+        ensures goes { OnOk result (Goes (Broadcasts rules.now count) self.old self.new) }
+        ensures refused { IfErr result (IsNoWay (Broadcasts rules.now count) self.old) }
     {
         let live = self.live()?;
         let messages = self.begin_broadcasts(&live, count)?;
@@ -27,7 +28,10 @@ impl Growing {
     /// So many times one of these nodes broadcasts. The messages are returned in order.
     fn begin_broadcasts(&mut self, nodes: &[NodeId], count: u32) -> Result<Vec<MsgId>, GrowFault>
         requires { 0 < length nodes.now }
-        ensures { IfOk result (λ ids. Goes (λ s u. BroadcastsBegin nodes.now count s ids.items u) self.old self.new) }
+        ensures goes { IfOk result
+            (λ ids. Goes (λ s u. BroadcastsBegin nodes.now count s ids.items u) self.old self.new) }
+        ensures refused { IfErr result
+            (IsNoWay (λ s u. (ids : List MsgId) × BroadcastsBegin nodes.now count s ids u) self.old) }
     {
         let mut messages = Vec::with_capacity(self.alloc, count as usize)?;
         for _broadcast in 0..count {
@@ -39,7 +43,8 @@ impl Growing {
 
     /// A node broadcasts. The id of the message is returned.
     fn broadcast(&mut self, node: NodeId) -> Result<MsgId, GrowFault>
-        ensures { IfOk result (λ id. Goes (λ s u. BroadcastBy node s id u) self.old self.new) }
+        ensures goes { IfOk result (λ id. Goes (λ s u. BroadcastBy node s id u) self.old self.new) }
+        ensures refused { IfErr result (IsNoWay (λ s u. (id : MsgId) × BroadcastBy node s id u) self.old) }
     {
         let seq = self.made_by(node);
         self.act(Act::Broadcast(node))?;
@@ -58,7 +63,8 @@ impl Growing {
 
     /// Timers of these messages fire, again and again, until none runs.
     fn fire_timers(&mut self, messages: &[MsgId], rules: &TurnRules) -> Result<(), GrowFault>
-        ensures { OnOk result (Goes (TimersFire rules.now messages.now) self.old self.new) }
+        ensures goes { OnOk result (Goes (TimersFire rules.now messages.now) self.old self.new) }
+        ensures refused { IfErr result (IsNoWay (TimersFire rules.now messages.now) self.old) }
     {
         while self.fire(messages)? {
             self.run_out(rules)?;
@@ -68,7 +74,8 @@ impl Growing {
 
     /// Timers of these messages fire once. Whether one did.
     fn fire(&mut self, messages: &[MsgId]) -> Result<bool, GrowFault>
-        ensures { IfOk result (λ fired. Goes (λ s u. Fire messages.now s fired u) self.old self.new) }
+        ensures goes { IfOk result (λ fired. Goes (λ s u. Fire messages.now s fired u) self.old self.new) }
+        ensures refused { IfErr result (IsNoWay (λ s u. (fired : Bool) × Fire messages.now s fired u) self.old) }
     {
         let live = self.live()?;
         self.fire_at_each(&live, messages)
@@ -76,7 +83,10 @@ impl Growing {
 
     /// Timers of these messages fire once at each of these nodes. Whether one did.
     fn fire_at_each(&mut self, nodes: &[NodeId], messages: &[MsgId]) -> Result<bool, GrowFault>
-        ensures { IfOk result (λ fired. Goes (λ s u. FireAtEach nodes.now messages.now s fired u) self.old self.new) }
+        ensures goes { IfOk result
+            (λ fired. Goes (λ s u. FireAtEach nodes.now messages.now s fired u) self.old self.new) }
+        ensures refused { IfErr result
+            (IsNoWay (λ s u. (fired : Bool) × FireAtEach nodes.now messages.now s fired u) self.old) }
     {
         let mut fired = false;
         for node in nodes {
@@ -88,7 +98,8 @@ impl Growing {
 
     /// Timers of these messages fire once at a node. Whether one did.
     fn fire_at(&mut self, node: NodeId, messages: &[MsgId]) -> Result<bool, GrowFault>
-        ensures { IfOk result (λ fired. Goes (λ s u. FireAt node messages.now s fired u) self.old self.new) }
+        ensures goes { IfOk result (λ fired. Goes (λ s u. FireAt node messages.now s fired u) self.old self.new) }
+        ensures refused { IfErr result (IsNoWay (λ s u. (fired : Bool) × FireAt node messages.now s fired u) self.old) }
     {
         let mut fired = false;
         for id in messages {
@@ -100,7 +111,9 @@ impl Growing {
 
     /// The timer of a message fires at a node if it runs. Whether it did.
     fn fire_if_it_runs(&mut self, node: NodeId, id: &MsgId) -> Result<bool, GrowFault>
-        ensures { IfOk result (λ fired. Goes (λ s u. FiresIfItRuns node id.now s fired u) self.old self.new) }
+        ensures goes { IfOk result (λ fired. Goes (λ s u. FiresIfItRuns node id.now s fired u) self.old self.new) }
+        ensures refused { IfErr result
+            (IsNoWay (λ s u. (fired : Bool) × FiresIfItRuns node id.now s fired u) self.old) }
     {
         if !self.timer_runs(node, id) {
             return Ok(false);

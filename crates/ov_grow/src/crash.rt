@@ -1,8 +1,8 @@
-ghost use Rattle.std.specs.Prelude.{IfOk, OnOk};
+ghost use Rattle.std.specs.Prelude.{IfErr, IfOk, OnOk};
 ghost use Rattle.ov_script.specs.declared.act.Act.TheVariants as act;
 ghost use Rattle.ov_grow.specs.Phases.{AreShareOfLive, AreToCrash, CrashNodes, IsCutAt, Settle};
 ghost use Rattle.ov_grow.specs.Rounds.{DoesEach};
-ghost use Rattle.ov_grow.specs.Code.Standing.{Goes, IsAnswered};
+ghost use Rattle.ov_grow.specs.Code.Standing.{Goes, IsAnswered, IsNoWay};
 
 use crate::fault::GrowFault;
 use crate::growing::Growing;
@@ -18,6 +18,7 @@ impl Growing {
     pub(crate) fn settle(&mut self, options: &GrowOptions) -> Result<Phase, GrowFault>
         ensures goes { IfOk result (λ phase. Goes (λ s u. Settle options.now s phase u) self.old self.new) }
         ensures answered { IfOk result (λ phase. IsAnswered self.new.recording.core phase.moment) }
+        ensures refused { IfErr result (IsNoWay (λ s u. (phase : Phase) × Settle options.now s phase u) self.old) }
     {
         let rules = TurnRules::settling(options);
         self.comment("settle")?;
@@ -30,6 +31,8 @@ impl Growing {
         requires { IsAnswered self.old.recording.core settled }
         ensures goes { IfOk result (λ phase. Goes (λ s u. CrashNodes options.now settled s phase u) self.old self.new) }
         ensures answered { IfOk result (λ phase. IsAnswered self.new.recording.core phase.moment) }
+        ensures refused { IfErr result
+            (IsNoWay (λ s u. (phase : Phase) × CrashNodes options.now settled s phase u) self.old) }
     {
         let rules = TurnRules::settling(options);
         self.comment("crash")?;
@@ -59,7 +62,8 @@ impl Growing {
         Ok(order)
     }
 
-    /// The cut that the report of a moment names, or no node. OutOfMemory (99) is returned if an allocation was refused.
+    /// The cut that the report of a moment names, or no node. OutOfMemory (99) is returned if an allocation was
+    /// refused.
     fn cut_at(&self, moment: u32) -> Result<Vec<NodeId>, OutOfMemory>
         requires { IsAnswered self.now.recording.core moment }
         ensures { IfOk result (λ cut. IsCutAt self.now.recording.core.world.journal moment cut.items) }
@@ -77,7 +81,8 @@ impl Growing {
 
     /// Each of these nodes crashes.
     fn crash_each(&mut self, nodes: &[NodeId]) -> Result<(), GrowFault>
-        ensures { OnOk result (Goes (DoesEach act.Crash nodes.now) self.old self.new) }
+        ensures goes { OnOk result (Goes (DoesEach act.Crash nodes.now) self.old self.new) }
+        ensures refused { IfErr result (IsNoWay (DoesEach act.Crash nodes.now) self.old) }
     {
         for node in nodes {
             self.act(Act::Crash(*node))?;

@@ -1,8 +1,8 @@
-ghost use Rattle.std.specs.Prelude.{◌≤◌, ℕ, IfNone, IfOk, IfSome, OnOk};
+ghost use Rattle.std.specs.Prelude.{◌≤◌, ℕ, IfErr, IfNone, IfOk, IfSome, OnOk};
 ghost use Rattle.ov_ids.specs.Members.{Ascends};
 ghost use Rattle.ov_net.specs.Net.{IsGone};
 ghost use Rattle.ov_grow.specs.Phases.{AreFirst, HasNone, Heal, IsCrashedNeighbour, ReportCrashes};
-ghost use Rattle.ov_grow.specs.Code.Standing.{Goes, HaveNone, IsAnswered, IsFirstOf, growth_of};
+ghost use Rattle.ov_grow.specs.Code.Standing.{Goes, HaveNone, IsAnswered, IsFirstOf, IsNoWay, growth_of};
 
 use crate::fault::GrowFault;
 use crate::growing::Growing;
@@ -17,6 +17,7 @@ impl Growing {
     pub(crate) fn heal(&mut self, options: &GrowOptions) -> Result<Phase, GrowFault>
         ensures goes { IfOk result (λ phase. Goes (λ s u. Heal options.now s phase u) self.old self.new) }
         ensures answered { IfOk result (λ phase. IsAnswered self.new.recording.core phase.moment) }
+        ensures refused { IfErr result (IsNoWay (λ s u. (phase : Phase) × Heal options.now s phase u) self.old) }
     {
         let rules = TurnRules::healing(options);
         self.comment("heal")?;
@@ -27,7 +28,8 @@ impl Growing {
 
     /// Crash reports, one after the other, until no live node has a crashed node in its active view.
     fn report_crashes(&mut self, rules: &TurnRules) -> Result<(), GrowFault>
-        ensures { OnOk result (Goes (ReportCrashes rules.now) self.old self.new) }
+        ensures goes { OnOk result (Goes (ReportCrashes rules.now) self.old self.new) }
+        ensures refused { IfErr result (IsNoWay (ReportCrashes rules.now) self.old) }
     {
         while let Some((node, crashed)) = self.first_with_crashed() {
             self.act(Act::CrashReport(node, crashed))?;

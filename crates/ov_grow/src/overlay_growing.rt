@@ -1,8 +1,8 @@
-ghost use Rattle.std.specs.Prelude.{◌≡◌, IfOk};
+ghost use Rattle.std.specs.Prelude.{◌≡◌, IfErr, IfOk};
 ghost use Rattle.ov_snap.specs.CoreState.{HasReportOfAll};
 ghost use Rattle.ov_snap.specs.ReportState.{ReportState};
 ghost use Rattle.ov_recording.specs.Replay.{Replays};
-ghost use Rattle.ov_grow.specs.Growing.{Grows};
+ghost use Rattle.ov_grow.specs.Growing.{Grows, IsGrowRefusal};
 
 use crate::fault::GrowFault;
 use crate::growing::Growing;
@@ -39,10 +39,14 @@ impl Drop for Grown {
     }
 }
 
-/// Grows an overlay with these options: nodes join, the overlay settles, nodes crash, and the overlay heals. The text is
-/// a scenario that begins with the options' parameters and seed, and the core is the one that it makes, each line
-/// accepted. For the moment at the end of each phase a report of all nodes is filed. A fault (see `GrowFault`) ends
-/// growing, and nothing is returned. How an overlay is grown is chosen here.
+/// Grows an overlay with these options: nodes join, the overlay settles, nodes crash, and the overlay heals. The text
+/// is a scenario that begins with the options' parameters and seed, and the core is the one that it makes, each line
+/// accepted. For the moment at the end of each phase a report of all nodes is filed. How an overlay is grown is chosen
+/// here.
+///
+/// A fault (see `GrowFault`) ends growing, and nothing is returned. It means that memory ran out (99), or that with
+/// these options nothing can be grown, by whatever scenario: the event that comes next is refused at some step, or no
+/// node lives when a snapshot is taken.
 pub fn grow(alloc: Global, options: &GrowOptions) -> Result<Grown, GrowFault>
     ensures grows { IfOk result
         (λ g. Grows options.now g.text.items g.core.world g.settled g.crashed g.healed) }
@@ -50,6 +54,7 @@ pub fn grow(alloc: Global, options: &GrowOptions) -> Result<Grown, GrowFault>
     ensures settled { IfOk result (λ g. (r : ReportState) × HasReportOfAll g.core g.settled.moment r) }
     ensures crashed { IfOk result (λ g. (r : ReportState) × HasReportOfAll g.core g.crashed.moment r) }
     ensures healed { IfOk result (λ g. (r : ReportState) × HasReportOfAll g.core g.healed.moment r) }
+    ensures refused { IfErr result (IsGrowRefusal options.now) }
 {
     let mut growing = Growing::new(alloc, options)?;
     growing.join(options)?;

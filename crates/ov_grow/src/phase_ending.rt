@@ -1,9 +1,11 @@
-ghost use Rattle.std.specs.Prelude.{◌≡◌, ◌≤◌, ℕ, drop, length, IfOk, OnOk};
+ghost use Rattle.std.specs.Prelude.{◌≡◌, ◌≤◌, ◌⊎◌, ℕ, drop, length, IfErr, IfOk, OnOk};
 ghost use Rattle.ov_net.specs.Limits.{most_entries};
 ghost use Rattle.ov_script.specs.WrittenLines.{analysis_line};
-ghost use Rattle.ov_grow.specs.Growth.{IsLive, Writes};
+ghost use Rattle.ov_script.specs.declared.act.Act.TheVariants as act;
+ghost use Rattle.ov_grow.specs.Growth.{Does, SomebodyLives, Writes};
 ghost use Rattle.ov_grow.specs.Phases.{EndsPhase, IsAnalysedAt, deliveries_in};
-ghost use Rattle.ov_grow.specs.Code.Standing.{Goes, IsAnswered, growth_of};
+ghost use Rattle.ov_grow.specs.Code.Standing.{Goes, IsAnswered, IsFresh, IsNoWay, growth_of};
+ghost use Rattle.ov_grow.specs.declared.fault.GrowFault.TheVariants.{OutOfMemory as out_of_memory};
 
 use crate::fault::GrowFault;
 use crate::growing::Growing;
@@ -20,6 +22,8 @@ impl Growing {
     ) -> Result<Phase, GrowFault>
         ensures ends { IfOk result (λ phase. Goes (λ s u. EndsPhase rules.now broadcasts s phase u) self.old self.new) }
         ensures answered { IfOk result (λ phase. IsAnswered self.new.recording.core phase.moment) }
+        ensures refused { IfErr result
+            (IsNoWay (λ s u. (phase : Phase) × EndsPhase rules.now broadcasts s phase u) self.old) }
     {
         let moment = self.analyse_now()?;
         self.broadcasts(broadcasts, rules)?;
@@ -31,21 +35,36 @@ impl Growing {
     fn analyse_now(&mut self) -> Result<u32, GrowFault>
         ensures goes { IfOk result (λ m. Goes (λ s u. IsAnalysedAt m s u) self.old self.new) }
         ensures answered { IfOk result (λ m. IsAnswered self.new.recording.core m) }
-        ensures live { OnOk result ((a : ℕ) × IsLive (growth_of self.new) a) }
+        ensures live { OnOk result (SomebodyLives (growth_of self.new)) }
         ensures within { IfOk result (λ m. m ≤ length self.new.recording.core.world.journal) }
+        ensures refused { IfErr result (IsNoWay (λ s u. (m : ℕ) × IsAnalysedAt m s u) self.old) }
     {
-        self.act(Act::Snapshot)?;
+        self.take_snapshot()?;
         let moment = self.entries();
         self.analyse(moment)?;
         Ok(moment)
     }
 
-    /// Analyses the links of now, of which the last entry is a snapshot.
+    /// Takes a snapshot.
+    fn take_snapshot(&mut self) -> Result<(), GrowFault>
+        ensures goes { OnOk result (Goes (λ s u. Does s act.Snapshot u) self.old self.new) }
+        ensures fresh { OnOk result (IsFresh self.new.recording.core) }
+        ensures refused { IfErr result (IsNoWay (λ s u. Does s act.Snapshot u) self.old) }
+    {
+        let _world = self.recording.core().world();
+        self.recording.act(Act::Snapshot)?;
+        let _text = self.recording.text();
+        Ok(())
+    }
+
+    /// Analyses the links of now, of which a snapshot was just taken.
     fn analyse(&mut self, moment: u32) -> Result<(), GrowFault>
-        requires { moment ≡ length self.old.recording.core.world.journal }
+        requires now { moment ≡ length self.old.recording.core.world.journal }
+        requires fresh { IsFresh self.old.recording.core }
         ensures goes { OnOk result (Goes (λ s u. Writes s (analysis_line moment) u) self.old self.new) }
         ensures answered { OnOk result (IsAnswered self.new.recording.core moment) }
-        ensures live { OnOk result ((a : ℕ) × IsLive (growth_of self.new) a) }
+        ensures live { OnOk result (SomebodyLives (growth_of self.new)) }
+        ensures refused { IfErr result (λ f. (f ≡ out_of_memory) ⊎ ¬ SomebodyLives (growth_of self.old)) }
     {
         let _journal = self.world().journal();
         self.recording.analyse(moment)?;

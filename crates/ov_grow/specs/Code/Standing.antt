@@ -13,6 +13,9 @@ use Rattle.ov_net.specs.declared.member.Member.{Member}
 use Rattle.ov_net.specs.declared.member.Member.TheVariants.{Live}
 use Rattle.ov_snap.specs.CoreState.{CoreState, HasReportOfAll, KeepsReports}
 use Rattle.ov_snap.specs.ReportState.{ReportState}
+use Rattle.ov_snap.specs.Snapshots.{IsMoment}
+use Rattle.ov_run.specs.Subjects.{IsReported}
+use Rattle.ov_recording.specs.Recordings.{all_of}
 use Rattle.ov_script.specs.Acts.{event_of}
 use Rattle.ov_script.specs.declared.act.Act.{Act}
 use Rattle.ov_script.specs.declared.act.Act.TheVariants as act
@@ -36,6 +39,10 @@ pub record Goes (Way : Growth → Growth → Type 0) (b u : Growing) : Type 0 wh
 -- growing can't go on in this way: memory ran out, or this way leads nowhere from here
 abbrev pub IsNoWay : (Growth → Growth → Type 0) → Growing → GrowFault → Type 0
 IsNoWay Way b fault = (fault ≡ OutOfMemory) ⊎ ((u : Growth) → ¬ Way (growth_of b) u)
+
+-- the last entry is of a snapshot, and no report of all nodes of that moment is filed
+abbrev pub IsFresh : CoreState → Type 0
+IsFresh b = IsMoment b.world.journal (length b.world.journal) × ¬ IsReported b (all_of (length b.world.journal))
 
 -- the world refuses an act, and growing ends in this fault
 abbrev pub IsRefusedAct : Act → Growing → GrowFault → Type 0

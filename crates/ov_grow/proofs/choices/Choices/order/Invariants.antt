@@ -1,4 +1,4 @@
-use Rattle.std.proofs.Common.{◌≡◌, ℕ, List, ◌++◌, length}
+use Rattle.std.proofs.Common.{ℕ, List, ◌++◌, length}
 use Rattle.rand_pcg.specs.Lcg.{Lcg}
 use Rattle.ov_grow.specs.Choices.{IsRandomOrder}
 use Rattle.ov_grow.proofs.choices.Choices.order.Given as goal

@@ -1,7 +1,36 @@
-use Rattle.ov_grow.proofs.Going.{goes_on}
+use Rattle.std.proofs.Common.{ℕ}
+use Rattle.ov_script.specs.WrittenLines.{analysis_line}
+use Rattle.ov_grow.specs.Phases.{IsAnalysedAt}
+use Rattle.ov_grow.specs.Code.Standing.{IsNoWay, growth_of}
+use Rattle.ov_grow.proofs.Analysing.{lived_before}
+use Rattle.ov_grow.proofs.Going.{goes_on, passes_on}
+use Rattle.ov_grow.proofs.NoPhase.{no_way_analysis, no_way_snapshot}
 use Rattle.ov_grow.proofs.growing.Growing.analyse_now.Goals as goal
+
+pub returns-in_err-take_snapshot-clause-refused : goal.returns-in_err-take_snapshot-clause-refused
+returns-in_err-take_snapshot-clause-refused c =
+    let fault = c.in_err-take_snapshot.field-0.0 in
+    passes_on (IsNoWay (λ s u. (m : ℕ) × IsAnalysedAt m s u) c.args.self.now)
+    c.from_residual.result fault c.from_residual.ensures.1
+    (no_way_snapshot c.args.self.now fault c.in_err-take_snapshot.ensures.refused)
+
+pub returns-in_err-analyse-clause-refused : goal.returns-in_err-analyse-clause-refused
+returns-in_err-analyse-clause-refused c =
+    let fault = c.in_err-analyse.field-0.0 in
+    passes_on (IsNoWay (λ s u. (m : ℕ) × IsAnalysedAt m s u) c.args.self.now)
+    c.from_residual-in_err-analyse.result fault c.from_residual-in_err-analyse.ensures.1
+    (no_way_analysis c.args.self.now c.take_snapshot.new.self fault c.in_ok-take_snapshot.ensures.goes
+    c.in_err-analyse.ensures.refused)
 
 pub returns-clause-goes : goal.returns-clause-goes
 returns-clause-goes c =
-    goes_on _ _ _ _ _ _ (λ did writes. (_, did, c.entries-moment.ensures, writes)) c.in_ok-act.ensures.goes
-    c.in_ok-analyse.ensures.goes
+    goes_on _ _ _ _ _ _
+    (λ did writes. (
+      _,
+      did,
+      lived_before (growth_of c.take_snapshot.new.self) (growth_of c.analyse.new.self)
+          (analysis_line c.entries-moment.result) writes c.in_ok-analyse.ensures.live,
+      c.entries-moment.ensures,
+      writes,
+    ))
+    c.in_ok-take_snapshot.ensures.goes c.in_ok-analyse.ensures.goes

@@ -1,30 +1,64 @@
-use Rattle.std.proofs.Common.{◌≡◌, ◌+◌, ◌-◌, ◌++◌, ◌∷◌, [], ◌∙◌, suc, sym, ap, subst, append_assoc, append-nil, arith}
+use Rattle.std.proofs.Common.{◌≡◌, ◌+◌, ◌-◌, ◌++◌, ◌∷◌, List, [], ◌∙◌, suc, sym, ap, subst, append_assoc}
+use Rattle.std.proofs.Common.{append-nil, arith}
+use Rattle.ov_ids.specs.declared.id.MsgId.{MsgId}
 use Rattle.ov_grow.specs.Broadcasts.{BroadcastsBegin}
-use Rattle.ov_grow.specs.Code.Standing.{Goes, growth_of}
-use Rattle.ov_grow.proofs.Going.{goes_still}
+use Rattle.ov_grow.specs.Code.Standing.{Goes, IsNoWay, growth_of}
+use Rattle.ov_grow.proofs.Going.{goes_still, passes_on}
 use Rattle.ov_grow.proofs.Broadcasting.{broadcasts_end}
+use Rattle.ov_grow.proofs.NoBroadcast.{left_next, no_way_next}
 use Rattle.ov_grow.proofs.Ways.{begin_goes}
 use Rattle.ov_grow.proofs.growing.Growing.begin_broadcasts.Goals as goal
 
-pub loop-broadcast-preserved : goal.loop-broadcast-preserved
-loop-broadcast-preserved c = λ rest u more.
-    let one : c.args.count - c.loop-broadcast._broadcast ≡ suc (c.args.count - (c.loop-broadcast._broadcast + 1)) =
-    omega arith in
-    subst (λ xs. Goes (λ s v. BroadcastsBegin c.args.nodes.now c.args.count s xs v) c.args.self.now u)
-    (sym (ap (λ m. m ++ rest) c.in_ok-push.ensures.items
-    ∙ append_assoc c.loop-broadcast.messages.items (c.in_ok-broadcast.field-0 ∷ []) rest))
-    (c.loop-broadcast.invariant (c.in_ok-broadcast.field-0 ∷ rest) u
-    (begin_goes c.args.nodes.now (c.args.count - c.loop-broadcast._broadcast)
-    (c.args.count - (c.loop-broadcast._broadcast + 1)) c.one_of-place.result c.index-nodes-place.result
-    c.in_ok-broadcast.field-0 rest c.loop-broadcast.self c.broadcast.new.self u c.one_of-place.new.self one
-    c.one_of-place.ensures.value c.one_of-place.ensures.left c.one_of-place.ensures.below c.index-nodes-place.is
-    c.in_ok-broadcast.ensures more))
+pub loop-broadcast-init : goal.loop-broadcast-init
+loop-broadcast-init c =
+    let b = c.args.self.now in
+    let xs = c.args.nodes.now in
+    let n = c.args.count in
+    let all : n - 0 ≡ n = omega arith in (
+      (λ rest u more. subst (λ ids. Goes (λ s v. BroadcastsBegin xs n s (ids ++ rest) v) b u)
+          (sym c.in_ok-messages.ensures.items)
+          (subst (λ k. Goes (λ s v. BroadcastsBegin xs k s rest v) b u) all more)),
+      (λ ids u begin. (ids, subst (λ k. BroadcastsBegin xs k (growth_of b) ids u) (sym all) begin)),
+    )
 
-pub returns : goal.returns
-returns c =
+pub returns-in_err-broadcast-clause-refused : goal.returns-in_err-broadcast-clause-refused
+returns-in_err-broadcast-clause-refused c =
+    let n = c.args.count - c.loop-broadcast._broadcast in
+    let m = c.args.count - (c.loop-broadcast._broadcast + 1) in
+    let one : n ≡ suc m = omega arith in
+    let fault = c.in_err-broadcast.field-0.0 in
+    passes_on (IsNoWay (λ s u. (ids : List MsgId) × BroadcastsBegin c.args.nodes.now c.args.count s ids u)
+    c.args.self.now) c.from_residual-in_err-broadcast.result fault c.from_residual-in_err-broadcast.ensures.1
+    (no_way_next c.args.nodes.now c.args.count n m c.one_of-place.result c.index-nodes-place.result c.args.self.now
+    c.loop-broadcast.self c.one_of-place.new.self fault c.loop-broadcast.invariant.1 one c.one_of-place.ensures.value
+    c.one_of-place.ensures.left c.one_of-place.ensures.below c.index-nodes-place.is c.in_err-broadcast.ensures.refused)
+
+pub loop-broadcast-preserved : goal.loop-broadcast-preserved
+loop-broadcast-preserved c =
+    let n = c.args.count - c.loop-broadcast._broadcast in
+    let m = c.args.count - (c.loop-broadcast._broadcast + 1) in
+    let id = c.in_ok-broadcast.field-0 in
+    let one : n ≡ suc m = omega arith in (
+      (λ rest u more.
+          subst (λ xs. Goes (λ s v. BroadcastsBegin c.args.nodes.now c.args.count s xs v) c.args.self.now u)
+          (sym (ap (λ m. m ++ rest) c.in_ok-push.ensures.items
+          ∙ append_assoc c.loop-broadcast.messages.items (id ∷ []) rest))
+          (c.loop-broadcast.invariant.0 (id ∷ rest) u
+          (begin_goes c.args.nodes.now n m c.one_of-place.result c.index-nodes-place.result
+          id rest c.loop-broadcast.self c.broadcast.new.self u c.one_of-place.new.self one
+          c.one_of-place.ensures.value c.one_of-place.ensures.left c.one_of-place.ensures.below c.index-nodes-place.is
+          c.in_ok-broadcast.ensures.goes more))),
+      left_next c.args.nodes.now c.args.count n m c.one_of-place.result c.index-nodes-place.result id
+          c.args.self.now c.loop-broadcast.self c.broadcast.new.self c.one_of-place.new.self
+          c.loop-broadcast.invariant.1 one c.one_of-place.ensures.value c.one_of-place.ensures.left
+          c.one_of-place.ensures.below c.index-nodes-place.is c.in_ok-broadcast.ensures.goes,
+    )
+
+pub returns-clause-goes : goal.returns-clause-goes
+returns-clause-goes c =
     let none : c.args.count - c.loop-broadcast._broadcast ≡ 0 = omega arith in
     subst (λ xs. Goes (λ s v. BroadcastsBegin c.args.nodes.now c.args.count s xs v) c.args.self.now
     c.loop-broadcast.self)
     (append-nil c.loop-broadcast.messages.items)
-    (c.loop-broadcast.invariant [] c.loop-broadcast.self
+    (c.loop-broadcast.invariant.0 [] c.loop-broadcast.self
     (goes_still _ _ (broadcasts_end c.args.nodes.now _ (growth_of c.loop-broadcast.self) none)))

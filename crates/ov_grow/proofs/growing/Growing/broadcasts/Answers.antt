@@ -1,6 +1,11 @@
-use Rattle.std.proofs.Common.{◌<◌, length, subst, sym}
-use Rattle.std.proofs.lemmas.Result.{on_ok_weaker}
+use Rattle.std.proofs.Common.{◌<◌, length, refl, subst, sym, inl}
+use Rattle.std.proofs.lemmas.Result.{IfErr-weaker, on_ok_weaker}
+use Rattle.ov_grow.specs.Broadcasts.{Broadcasts}
+use Rattle.ov_grow.specs.Code.Standing.{IsNoWay}
+use Rattle.ov_grow.specs.declared.fault.GrowFault.TheVariants.{OutOfMemory}
+use Rattle.ov_grow.proofs.Going.{passes_on}
 use Rattle.ov_grow.proofs.Broadcasting.{has_some}
+use Rattle.ov_grow.proofs.NoBroadcast.{no_way_begin, no_way_begun, no_way_broadcasts}
 use Rattle.ov_grow.proofs.Ways.{broadcasts_goes}
 use Rattle.ov_grow.proofs.growing.Growing.broadcasts.Goals as goal
 
@@ -8,8 +13,37 @@ pub begin_broadcasts-requires : goal.begin_broadcasts-requires
 begin_broadcasts-requires c = subst (λ xs. 0 < length xs) (sym c.deref.ensures.value)
     (has_some c.in_ok-live.live.items c.requires.0 (c.in_ok-live.ensures.each c.requires.0 c.requires.1))
 
-pub returns : goal.returns
-returns c = on_ok_weaker _ (λ fires. broadcasts_goes c.args.rules.now c.args.count c.in_ok-live.live.items
-    c.deref.result.now c.in_ok-messages.messages.items c.deref-2.result.now c.args.self.now c.begin_broadcasts.new.self
-    c.run_out.new.self c.fire_timers.new.self c.in_ok-live.ensures c.deref.ensures.value c.deref-2.ensures.value
-    c.in_ok-messages.ensures c.in_ok-run_out.ensures.goes fires) c.fire_timers.ensures
+pub returns-in_err-live-clause-refused : goal.returns-in_err-live-clause-refused
+returns-in_err-live-clause-refused c =
+    passes_on (IsNoWay (Broadcasts c.args.rules.now c.args.count) c.args.self.now) c.from_residual.result OutOfMemory
+    c.from_residual.ensures.1 (inl refl)
+
+pub returns-in_err-messages-clause-refused : goal.returns-in_err-messages-clause-refused
+returns-in_err-messages-clause-refused c =
+    let fault = c.in_err-messages.field-0.0 in
+    passes_on (IsNoWay (Broadcasts c.args.rules.now c.args.count) c.args.self.now)
+    c.from_residual-in_err-messages.result fault c.from_residual-in_err-messages.ensures.1
+    (no_way_begin c.args.rules.now c.args.count c.in_ok-live.live.items c.deref.result.now c.args.self.now fault
+    c.in_ok-live.ensures c.deref.ensures.value c.in_err-messages.ensures.refused)
+
+pub returns-in_err-run_out-clause-refused : goal.returns-in_err-run_out-clause-refused
+returns-in_err-run_out-clause-refused c =
+    let fault = c.in_err-run_out.field-0.0 in
+    passes_on (IsNoWay (Broadcasts c.args.rules.now c.args.count) c.args.self.now)
+    c.from_residual-in_err-run_out.result fault c.from_residual-in_err-run_out.ensures.1
+    (no_way_begun c.args.rules.now c.args.count c.in_ok-live.live.items c.deref.result.now
+    c.in_ok-messages.messages.items c.args.self.now c.begin_broadcasts.new.self fault c.in_ok-live.ensures
+    c.deref.ensures.value c.in_ok-messages.ensures.goes c.in_err-run_out.ensures.refused)
+
+pub returns-clause-goes : goal.returns-clause-goes
+returns-clause-goes c = on_ok_weaker _ (λ fires. broadcasts_goes c.args.rules.now c.args.count
+    c.in_ok-live.live.items c.deref.result.now c.in_ok-messages.messages.items c.deref-2.result.now c.args.self.now
+    c.begin_broadcasts.new.self c.run_out.new.self c.fire_timers.new.self c.in_ok-live.ensures c.deref.ensures.value
+    c.deref-2.ensures.value c.in_ok-messages.ensures.goes c.in_ok-run_out.ensures.goes fires) c.fire_timers.ensures.goes
+
+pub returns-clause-refused : goal.returns-clause-refused
+returns-clause-refused c = IfErr-weaker _ _ _ (λ fault none. no_way_broadcasts c.args.rules.now c.args.count
+    c.in_ok-live.live.items c.deref.result.now c.in_ok-messages.messages.items c.deref-2.result.now c.args.self.now
+    c.begin_broadcasts.new.self c.run_out.new.self fault c.in_ok-live.ensures c.deref.ensures.value
+    c.deref-2.ensures.value c.in_ok-messages.ensures.goes c.in_ok-run_out.ensures.goes none)
+    c.fire_timers.ensures.refused

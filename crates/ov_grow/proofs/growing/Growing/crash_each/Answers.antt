@@ -1,18 +1,52 @@
-use Rattle.std.proofs.Common.{◌<◌, ◌≤◌, length, arith}
+use Rattle.std.proofs.Common.{◌≡◌, ◌<◌, ◌≤◌, ◌+◌, length, drop, get_or, arith}
 use Rattle.ov_script.specs.declared.act.Act.TheVariants as act
-use Rattle.ov_grow.proofs.Going.{goes_on, goes_still}
+use Rattle.ov_grow.specs.Growth.{Does}
+use Rattle.ov_grow.specs.Rounds.{DoesEach}
+use Rattle.ov_grow.specs.Code.Standing.{IsNoWay, growth_of}
+use Rattle.ov_grow.proofs.Going.{on_all, on_begun, on_more, on_nowhere, passes_on}
 use Rattle.ov_grow.proofs.Healing.{is_item}
-use Rattle.ov_grow.proofs.Rounding.{each_end, each_more}
+use Rattle.ov_grow.proofs.OnePhase.{each_rest}
+use Rattle.ov_grow.proofs.Rounding.{each_begins, each_end, each_more, each_next}
 use Rattle.ov_grow.proofs.growing.Growing.crash_each.Goals as goal
 
-pub loop-node-preserved : goal.loop-node-preserved
-loop-node-preserved c = λ u more.
-    let within : c.loop-node.node-index < length c.args.nodes.now = omega arith in
-    c.loop-node.invariant u (goes_on _ _ _ _ _ _
-    (λ did rest. each_more act.Crash _ _ _ _ _ _ within (is_item _ _ _ within c.node-item.is) did rest)
-    c.in_ok-act.ensures.goes more)
+pub loop-node-init : goal.loop-node-init
+loop-node-init c = on_begun (DoesEach act.Crash c.args.nodes.now) c.args.self.now
 
-pub returns : goal.returns
-returns c =
-    let past : length c.args.nodes.now ≤ c.loop-node.node-index = omega arith in
-    c.loop-node.invariant c.loop-node.self (goes_still _ _ (each_end act.Crash _ _ _ past))
+pub returns-in_err-act-clause-refused : goal.returns-in_err-act-clause-refused
+returns-in_err-act-clause-refused c =
+    let xs = c.args.nodes.now in
+    let i = c.loop-node.node-index in
+    let x = c.node-item.result in
+    let b = c.args.self.now in
+    let t = c.loop-node.self in
+    let fault = c.in_err-act.field-0.0 in
+    let within : i < length xs = omega arith in
+    let is : x ≡ get_or xs i 0 = is_item xs i x within c.node-item.is in
+    passes_on (IsNoWay (DoesEach act.Crash xs) b) c.from_residual.result fault c.from_residual.ensures.1
+    (on_nowhere (DoesEach act.Crash xs) (DoesEach act.Crash (drop i xs)) (λ s u. Does s (act.Crash x) u) b t fault
+    c.loop-node.invariant
+    (λ u each. each_begins act.Crash xs i x (growth_of t) u within is each)
+    c.in_err-act.ensures.refused)
+
+pub loop-node-preserved : goal.loop-node-preserved
+loop-node-preserved c =
+    let xs = c.args.nodes.now in
+    let i = c.loop-node.node-index in
+    let x = c.node-item.result in
+    let t = c.loop-node.self in
+    let v = c.act.new.self in
+    let within : i < length xs = omega arith in
+    let is : x ≡ get_or xs i 0 = is_item xs i x within c.node-item.is in
+    on_more (DoesEach act.Crash xs) (DoesEach act.Crash (drop i xs)) (λ s u. Does s (act.Crash x) u)
+    (DoesEach act.Crash (drop (i + 1) xs)) c.args.self.now t v c.loop-node.invariant
+    (λ u did rest. each_more act.Crash xs i x (growth_of t) (growth_of v) u within is did rest)
+    (λ u did each. each_rest act.Crash x (drop (i + 1) xs) (growth_of t) (growth_of v) u did
+    (each_next act.Crash xs i x (growth_of t) u within is each)) c.in_ok-act.ensures.goes
+
+pub returns-clause-goes : goal.returns-clause-goes
+returns-clause-goes c =
+    let xs = c.args.nodes.now in
+    let i = c.loop-node.node-index in
+    let past : length xs ≤ i = omega arith in
+    on_all (DoesEach act.Crash xs) (DoesEach act.Crash (drop i xs)) c.args.self.now c.loop-node.self
+    c.loop-node.invariant (each_end act.Crash xs i (growth_of c.loop-node.self) past)

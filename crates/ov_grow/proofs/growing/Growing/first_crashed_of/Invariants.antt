@@ -1,6 +1,5 @@
-use Rattle.std.proofs.Common.{◌≡◌, ℕ, ◌+◌, ◌-◌, Bool, ◌||◌, List, ◌++◌, length, drop, take}
-use Rattle.ov_grow.specs.Code.Standing.{Goes, HaveNone}
-use Rattle.ov_grow.specs.declared.growing.Growing.{Growing}
+use Rattle.std.proofs.Common.{take}
+use Rattle.ov_grow.specs.Code.Standing.{HaveNone}
 use Rattle.ov_grow.proofs.growing.Growing.first_crashed_of.Given as goal
 use Rattle.ov_net.specs.Net.{IsGone}
 

@@ -1,8 +1,35 @@
-use Rattle.std.proofs.lemmas.Result.{IfOk-weaker}
+use Rattle.std.proofs.Common.{inl}
+use Rattle.std.proofs.lemmas.Result.{IfErr-weaker, IfOk-weaker}
 use Rattle.ov_grow.specs.Phases.{EndsPhase, Heal}
-use Rattle.ov_grow.specs.Code.Standing.{Goes}
+use Rattle.ov_grow.specs.Code.Standing.{Goes, IsNoWay}
+use Rattle.ov_grow.specs.declared.phase.Phase.{Phase}
+use Rattle.ov_grow.proofs.Going.{passes_on}
+use Rattle.ov_grow.proofs.NoPhase.{no_way_heal, no_way_healed, no_way_mended}
 use Rattle.ov_grow.proofs.Ways.{heal_goes}
 use Rattle.ov_grow.proofs.growing.Growing.heal.Goals as goal
+
+pub returns-in_err-comment-clause-refused : goal.returns-in_err-comment-clause-refused
+returns-in_err-comment-clause-refused c =
+    passes_on (IsNoWay (λ s u. (phase : Phase) × Heal c.args.options.now s phase u) c.args.self.now)
+    c.from_residual.result c.in_err-comment.field-0.0 c.from_residual.ensures.1
+    (inl c.in_err-comment.ensures.refused)
+
+pub returns-in_err-report_crashes-clause-refused : goal.returns-in_err-report_crashes-clause-refused
+returns-in_err-report_crashes-clause-refused c =
+    let fault = c.in_err-report_crashes.field-0.0 in
+    passes_on (IsNoWay (λ s u. (phase : Phase) × Heal c.args.options.now s phase u) c.args.self.now)
+    c.from_residual-in_err-report_crashes.result fault c.from_residual-in_err-report_crashes.ensures.1
+    (no_way_heal c.args.options.now c.healing-rules.result c.args.self.now c.comment.new.self fault
+    c.healing-rules.ensures c.in_ok-comment.ensures.goes c.in_err-report_crashes.ensures.refused)
+
+pub returns-in_err-rounds-clause-refused : goal.returns-in_err-rounds-clause-refused
+returns-in_err-rounds-clause-refused c =
+    let fault = c.in_err-rounds.field-0.0 in
+    passes_on (IsNoWay (λ s u. (phase : Phase) × Heal c.args.options.now s phase u) c.args.self.now)
+    c.from_residual-in_err-rounds.result fault c.from_residual-in_err-rounds.ensures.1
+    (no_way_mended c.args.options.now c.healing-rules.result c.count.result c.args.self.now c.comment.new.self
+    c.report_crashes.new.self fault c.healing-rules.ensures c.count.ensures.value c.in_ok-comment.ensures.goes
+    c.in_ok-report_crashes.ensures.goes c.in_err-rounds.ensures.refused)
 
 pub returns-clause-goes : goal.returns-clause-goes
 returns-clause-goes c = IfOk-weaker c.end_phase.result
@@ -12,5 +39,11 @@ returns-clause-goes c = IfOk-weaker c.end_phase.result
     (λ phase ends. heal_goes c.args.options.now c.healing-rules.result c.count.result c.count-2.result phase
     c.args.self.now c.comment.new.self c.report_crashes.new.self c.rounds.new.self c.end_phase.new.self
     c.healing-rules.ensures c.count.ensures.value c.count-2.ensures.value c.in_ok-comment.ensures.goes
-    c.in_ok-report_crashes.ensures c.in_ok-rounds.ensures.goes ends)
+    c.in_ok-report_crashes.ensures.goes c.in_ok-rounds.ensures.goes ends)
     c.end_phase.ensures.ends
+
+pub returns-clause-refused : goal.returns-clause-refused
+returns-clause-refused c = IfErr-weaker _ _ _ (λ fault none. no_way_healed c.args.options.now c.healing-rules.result
+    c.count.result c.count-2.result c.args.self.now c.comment.new.self c.report_crashes.new.self c.rounds.new.self
+    fault c.healing-rules.ensures c.count.ensures.value c.count-2.ensures.value c.in_ok-comment.ensures.goes
+    c.in_ok-report_crashes.ensures.goes c.in_ok-rounds.ensures.goes none) c.end_phase.ensures.refused

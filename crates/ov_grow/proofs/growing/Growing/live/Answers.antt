@@ -1,4 +1,4 @@
-use Rattle.std.proofs.Common.{◌≡◌, rules, subst, length, ◌∙◌}
+use Rattle.std.proofs.Common.{◌≡◌, rules, subst, length}
 use Rattle.ov_net.specs.Journal.{AreLinks}
 use Rattle.ov_net.specs.World.{Stands}
 use Rattle.ov_grow.specs.Code.Standing.{growth_of}
