@@ -17,3 +17,7 @@ pub mod NoBroadcast
 pub mod NoPhase
 pub mod NoGrowth
 pub mod Full
+pub mod Keeping
+pub mod Made
+pub mod Making
+pub mod Crashing

@@ -80,7 +80,7 @@ lost_or_not rules place s u false (t, again, arrived) =
     repeated_longer rules place s t u again (delivered_longer rules place t u arrived)
 
 -- whose turn it is draws only choices
-whose_same : (order : Order) (place : ℕ) (s t : Growth) → IsTurnOf order s place t → t.world ≡ s.world
+pub whose_same : (order : Order) (place : ℕ) (s t : Growth) → IsTurnOf order s place t → t.world ≡ s.world
 whose_same Random place s t whose = ap (λ g. g.world) whose.1
 whose_same Oldest place s t whose = ap (λ g. g.world) whose.1
 

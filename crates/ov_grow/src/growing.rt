@@ -1,4 +1,5 @@
 ghost use Rattle.std.specs.Prelude.{◌≡◌, ◌≢◌, ◌<◌, ◌≤◌, ◌↔◌, length, IfErr, IfOk, IfSome, IfNone, OnOk, IsTrue};
+ghost use Rattle.std.specs.FinMap.{empty};
 ghost use Rattle.ov_net.specs.Limits.{most_packets};
 ghost use Rattle.ov_net.specs.Net.{IsGone};
 ghost use Rattle.ov_recording.specs.Replay.{Replays};
@@ -29,6 +30,7 @@ impl Growing {
     /// Nothing has happened. OutOfMemory (99) is returned if an allocation was refused.
     pub(crate) fn new(alloc: Global, options: &GrowOptions) -> Result<Growing, OutOfMemory>
         ensures begins { IfOk result (λ g. growth_of g ≡ beginning options.now) }
+        ensures unborn { IfOk result (λ g. g.recording.core.world.net.nodes ≡ empty) }
     {
         let heading = options.to_string(alloc)?;
         let recording = Recording::new(alloc, options.params, options.seed, heading.as_str())?;

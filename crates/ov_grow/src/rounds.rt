@@ -1,7 +1,8 @@
 ghost use Rattle.std.specs.Prelude.{IfErr, IfOk, OnOk};
 ghost use Rattle.ov_script.specs.declared.act.Act.TheVariants as act;
+ghost use Rattle.ov_grow.specs.Faults.{IsFull};
 ghost use Rattle.ov_grow.specs.Rounds.{AreLiveInOrder, DoesEach, Round, Rounds};
-ghost use Rattle.ov_grow.specs.Code.Standing.{Goes, IsNoWay};
+ghost use Rattle.ov_grow.specs.Code.Standing.{AllLive, Goes, IsNoWay, growth_of};
 
 use crate::fault::GrowFault;
 use crate::growing::Growing;
@@ -14,6 +15,7 @@ impl Growing {
     pub(crate) fn rounds(&mut self, count: u32, rules: &TurnRules) -> Result<(), GrowFault>
         ensures goes { OnOk result (Goes (Rounds rules.now count) self.old self.new) }
         ensures refused { IfErr result (IsNoWay (Rounds rules.now count) self.old) }
+        ensures full { IfErr result IsFull }
     {
         for _round in 0..count {
             self.round(rules)?;
@@ -25,6 +27,7 @@ impl Growing {
     fn round(&mut self, rules: &TurnRules) -> Result<(), GrowFault>
         ensures goes { OnOk result (Goes (Round rules.now) self.old self.new) }
         ensures refused { IfErr result (IsNoWay (Round rules.now) self.old) }
+        ensures full { IfErr result IsFull }
     {
         let order = self.live_in_order()?;
         self.shuffle(&order)?;
@@ -39,10 +42,12 @@ impl Growing {
         self.choices.order(self.alloc, &live)
     }
 
-    /// Each of these nodes starts a shuffle.
+    /// Each of these nodes starts a shuffle. All of them must live.
     fn shuffle(&mut self, nodes: &[NodeId]) -> Result<(), GrowFault>
+        requires { AllLive nodes.now (growth_of self.old) }
         ensures goes { OnOk result (Goes (DoesEach act.Shuffle nodes.now) self.old self.new) }
         ensures refused { IfErr result (IsNoWay (DoesEach act.Shuffle nodes.now) self.old) }
+        ensures full { IfErr result IsFull }
     {
         for node in nodes {
             self.act(Act::Shuffle(*node))?;
