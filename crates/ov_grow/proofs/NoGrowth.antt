@@ -3,8 +3,8 @@ use Rattle.std.proofs.Common.{◌≡◌, ℕ, List, sym, subst, inl, inr}
 use Rattle.ov_net.specs.World.{WorldState}
 use Rattle.ov_grow_options.specs.declared.options.GrowOptions.{GrowOptions}
 use Rattle.ov_grow.specs.Phases.{CrashNodes, Heal, Join, Settle}
-use Rattle.ov_grow.specs.Growing.{Grows, IsGrowRefusal, beginning}
-use Rattle.ov_grow.specs.Code.Standing.{Goes, IsNoWay, growth_of}
+use Rattle.ov_grow.specs.Growing.{Grows, beginning}
+use Rattle.ov_grow.specs.Code.Standing.{EndsGrowing, Goes, IsNoWay, growth_of}
 use Rattle.ov_grow.specs.declared.fault.GrowFault.{GrowFault}
 use Rattle.ov_grow.specs.declared.growing.Growing.{Growing}
 use Rattle.ov_grow.specs.declared.phase.Phase.{Phase}
@@ -40,14 +40,14 @@ same_crashed o b s t v p q text world settled crashed healed begins joins settle
 
 -- nodes can't join
 pub no_way_join : (o : GrowOptions) (b : Growing) (fault : GrowFault) → growth_of b ≡ beginning o
-    → IsNoWay (Join o) b fault → IsGrowRefusal o fault
+    → IsNoWay (Join o) b fault → EndsGrowing o fault
 no_way_join o b fault begins (inl memory) = inl memory
 no_way_join o b fault begins (inr none) = inr (λ text world settled crashed healed grows.
     none grows.s (subst (λ g. Join o g grows.s) (sym begins) grows.join))
 
 -- the overlay can't settle
 pub no_way_settling : (o : GrowOptions) (b s : Growing) (fault : GrowFault) → growth_of b ≡ beginning o
-    → Goes (Join o) b s → IsNoWay (λ g u. (phase : Phase) × Settle o g phase u) s fault → IsGrowRefusal o fault
+    → Goes (Join o) b s → IsNoWay (λ g u. (phase : Phase) × Settle o g phase u) s fault → EndsGrowing o fault
 no_way_settling o b s fault begins joins (inl memory) = inl memory
 no_way_settling o b s fault begins joins (inr none) = inr (λ text world settled crashed healed grows.
     none grows.t (
@@ -59,7 +59,7 @@ no_way_settling o b s fault begins joins (inr none) = inr (λ text world settled
 -- nodes can't crash
 pub no_way_crashing : (o : GrowOptions) (b s t : Growing) (p : Phase) (fault : GrowFault) → growth_of b ≡ beginning o
     → Goes (Join o) b s → Goes (λ g u. Settle o g p u) s t
-    → IsNoWay (λ g u. (phase : Phase) × CrashNodes o p.moment g phase u) t fault → IsGrowRefusal o fault
+    → IsNoWay (λ g u. (phase : Phase) × CrashNodes o p.moment g phase u) t fault → EndsGrowing o fault
 no_way_crashing o b s t p fault begins joins settles (inl memory) = inl memory
 no_way_crashing o b s t p fault begins joins settles (inr none) = inr (λ text world settled crashed healed grows.
     let one = same_settled o b s t p text world settled crashed healed begins joins settles grows in
@@ -72,7 +72,7 @@ no_way_crashing o b s t p fault begins joins settles (inr none) = inr (λ text w
 -- the overlay can't heal
 pub no_way_healing : (o : GrowOptions) (b s t v : Growing) (p q : Phase) (fault : GrowFault) → growth_of b ≡ beginning o
     → Goes (Join o) b s → Goes (λ g u. Settle o g p u) s t → Goes (λ g u. CrashNodes o p.moment g q u) t v
-    → IsNoWay (λ g u. (phase : Phase) × Heal o g phase u) v fault → IsGrowRefusal o fault
+    → IsNoWay (λ g u. (phase : Phase) × Heal o g phase u) v fault → EndsGrowing o fault
 no_way_healing o b s t v p q fault begins joins settles crashes (inl memory) = inl memory
 no_way_healing o b s t v p q fault begins joins settles crashes (inr none) =
     inr (λ text world settled crashed healed grows. none grows.u (

@@ -5,6 +5,7 @@ use Rattle.ov_script.specs.Scripts.{opening}
 use Rattle.ov_grow_options.specs.CommandLine.{command_line}
 use Rattle.ov_grow_options.specs.declared.options.GrowOptions.{GrowOptions}
 use Rattle.ov_grow.specs.Choices.{choices_of}
+use Rattle.ov_grow.specs.Faults.{IsFull}
 use Rattle.ov_grow.specs.Growth.{Growth}
 use Rattle.ov_grow.specs.Phases.{Join, Settle, CrashNodes, Heal}
 use Rattle.ov_grow.specs.declared.fault.GrowFault.{GrowFault}
@@ -40,9 +41,11 @@ abbrev pub CantBeGrown : GrowOptions → Type 0
 CantBeGrown o =
     (text : List ℕ) (world : WorldState) (settled crashed healed : Phase) → ¬ Grows o text world settled crashed healed
 
--- growing with these options is refused: memory ran out, or with these options no overlay can be grown
-abbrev pub IsGrowRefusal : GrowOptions → GrowFault → Type 0
-IsGrowRefusal o fault = (fault ≡ OutOfMemory) ⊎ CantBeGrown o
+-- growing with these options is refused: the journal is full, too few places for packets are free, or memory ran out;
+-- and unless memory ran out, no overlay can be grown with these options
+pub record IsGrowRefusal (o : GrowOptions) (fault : GrowFault) : Type 0 where
+  pub full : IsFull fault
+  pub reason : (fault ≡ OutOfMemory) ⊎ CantBeGrown o
 
 -- the options decide the text, the world and the phases: whatever two overlays are grown with them are the same
 abbrev pub OneGrowth : Type 0

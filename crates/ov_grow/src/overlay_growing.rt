@@ -2,7 +2,6 @@ ghost use Rattle.std.specs.Prelude.{◌≡◌, IfErr, IfOk};
 ghost use Rattle.ov_snap.specs.CoreState.{HasReportOfAll};
 ghost use Rattle.ov_snap.specs.ReportState.{ReportState};
 ghost use Rattle.ov_recording.specs.Replay.{Replays};
-ghost use Rattle.ov_grow.specs.Faults.{IsFull};
 ghost use Rattle.ov_grow.specs.Growing.{Grows, IsGrowRefusal};
 
 use crate::fault::GrowFault;
@@ -45,9 +44,9 @@ impl Drop for Grown {
 /// accepted. For the moment at the end of each phase a report of all nodes is filed. How an overlay is grown is chosen
 /// here.
 ///
-/// A fault (see `GrowFault`) ends growing, and nothing is returned. It means that memory ran out (99), or that with
-/// these options nothing can be grown, by whatever scenario: the event that comes next is refused at some step, or no
-/// node lives when a snapshot is taken.
+/// A fault ends growing, and nothing is returned: an event is refused since the journal is full (16) or too few places
+/// for packets are free (15), or memory ran out (99). No other fault comes. After 15 and 16 no overlay can be grown with
+/// these options, by whatever scenario.
 pub fn grow(alloc: Global, options: &GrowOptions) -> Result<Grown, GrowFault>
     ensures grows { IfOk result
         (λ g. Grows options.now g.text.items g.core.world g.settled g.crashed g.healed) }
@@ -56,7 +55,6 @@ pub fn grow(alloc: Global, options: &GrowOptions) -> Result<Grown, GrowFault>
     ensures crashed { IfOk result (λ g. (r : ReportState) × HasReportOfAll g.core g.crashed.moment r) }
     ensures healed { IfOk result (λ g. (r : ReportState) × HasReportOfAll g.core g.healed.moment r) }
     ensures refused { IfErr result (IsGrowRefusal options.now) }
-    ensures full { IfErr result IsFull }
 {
     let mut growing = Growing::new(alloc, options)?;
     growing.join(options)?;
