@@ -4,6 +4,13 @@ use Rattle.std.proofs.Common.{refl, sym, ap, subst, ◌∙◌, inl, inr, ◌⊎�
 use Rattle.std.specs.Prelude.{MatchBool, remove, slice_get}
 use Rattle.std.specs.FinMap as map
 use Rattle.std.proofs.lemmas.Option.{same_Some}
+use Rattle.std.specs.Prelude.{IsTrue}
+use Rattle.std.specs.FinSet as set
+use Rattle.ov_ids.specs.declared.id.MsgId.{MsgId}
+use Rattle.ov_wire.specs.Messages.{most_payload}
+use Rattle.ov_plum.specs.PlumState.{most_broadcasts}
+use Rattle.ov_grow.specs.Broadcasts.{TimerRuns}
+use Rattle.ov_grow.proofs.Living.{one_state}
 use Rattle.ov_ids.specs.FaultOrder.{HoldsThen, Passed}
 use Rattle.ov_ids.proofs.Stepping.{step_passes}
 use Rattle.ov_wire.specs.declared.message.Message.{Message}
@@ -12,22 +19,25 @@ use Rattle.ov_peer.specs.declared.input.Delivery.{Delivery}
 use Rattle.ov_net.specs.Limits.{most_entries, most_world_nodes}
 use Rattle.ov_net.specs.Net.{Net, LivesAs, IsGone}
 use Rattle.ov_net.specs.NetStep.{Received}
-use Rattle.ov_net.specs.Refusals.{BirthLast, ContactThen, EventJudged, HasPlaces, IsBorn, IsRefusal, LiveThen}
+use Rattle.ov_net.specs.Refusals.{BirthLast, ContactThen, EventJudged, HasPlaces, HasTimer, IsBorn, IsRefusal, LiveThen}
+use Rattle.ov_net.specs.Refusals.{MayBroadcast}
 use Rattle.ov_net.specs.Refusals.{PlacesLast}
 use Rattle.ov_net.specs.declared.event.Event.{Event}
 use Rattle.ov_net.specs.declared.event.Event.TheVariants as event
 use Rattle.ov_net.specs.declared.fault.NetFault.{NetFault}
 use Rattle.ov_net.specs.declared.fault.NetFault.TheVariants.{UnknownNode, CrashedNode, NoSuchPacket, NotCrashed}
 use Rattle.ov_net.specs.declared.fault.NetFault.TheVariants.{TooManyEntries, TooManyNodes, TooManyPackets, UsedId}
+use Rattle.ov_net.specs.declared.fault.NetFault.TheVariants.{NoTimer, PayloadTooLong, TooManyMessages}
 use Rattle.ov_net.specs.declared.fault.NetFault.TheVariants as net_fault
 use Rattle.ov_net.specs.declared.journal_entry_and_changes.Change.{Change}
 use Rattle.ov_net.specs.declared.member.Member.{Member}
 use Rattle.ov_net.specs.declared.member.Member.TheVariants.{Live, Gone}
 use Rattle.ov_script.specs.declared.act.Act.TheVariants as act
 use Rattle.ov_grow.specs.Faults.{IsFull, of_event}
-use Rattle.ov_grow.specs.Growth.{Growth, Does, IsLive}
+use Rattle.ov_grow.specs.Growth.{Growth, Does, IsLive, SomebodyLives}
+use Rattle.ov_grow.specs.declared.fault.GrowFault.TheVariants.{OutOfMemory}
 use Rattle.ov_grow.specs.Turns.{MayBeRepeated}
-use Rattle.ov_grow.specs.Code.Standing.{AreBorn, Fails, IsRefusedAct, MayBeTold, growth_of}
+use Rattle.ov_grow.specs.Code.Standing.{AreBorn, Fails, IsRefusedAct, MayBeTold, MayMake, growth_of}
 use Rattle.ov_grow.specs.declared.fault.GrowFault.{GrowFault}
 use Rattle.ov_grow.specs.declared.growing.Growing.{Growing}
 use Rattle.ov_grow.specs.declared.turn_rules.TurnRules.{TurnRules}
@@ -225,3 +235,62 @@ shuffled_full b node fault (p, lives) (f, is, refused) =
     let w = b.recording.core.world in
     subst IsFull (sym is) (refused_full w.net (length w.journal) (event.Shuffle node) f
     (shuffle_judged w.net node p f lives) refused)
+
+-- a live node may broadcast, if it has made fewer broadcasts than it may
+broadcast_judged : (w : Net) (a : ℕ) (p : PeerState) (f : NetFault) → LivesAs w a p → MayBroadcast w a
+    → EventJudged w (event.Broadcast a []) (Some f) → f ≡ TooManyPackets
+broadcast_judged w a p f lives may judged =
+    let nothing : List ℕ = [] in
+    let Made : Option NetFault → Type 0 = HoldsThen (MayBroadcast w a) TooManyMessages (PlacesLast w) in
+    let short : length nothing ≤ most_payload = omega arith in
+    failed_some (HasPlaces w) TooManyPackets f
+    (step_passes (MayBroadcast w a) TooManyMessages (PlacesLast w) (Some f) may
+    (step_passes (length nothing ≤ most_payload) PayloadTooLong Made (Some f) short
+    (live_passes w a p (HoldsThen (length nothing ≤ most_payload) PayloadTooLong Made) f lives judged)))
+
+pub broadcast_full : (b : Growing) (node : ℕ) (fault : GrowFault) → IsLive (growth_of b) node
+    → MayMake 1 (growth_of b) → IsRefusedAct (act.Broadcast node) b fault → IsFull fault
+broadcast_full b node fault (p, lives) (k, most, few) (f, is, refused) =
+    let w = b.recording.core.world in
+    subst IsFull (sym is) (refused_full w.net (length w.journal) (event.Broadcast node []) f
+    (broadcast_judged w.net node p f lives
+    (λ q living. let least = most node q living in omega (arith, least, few))) refused)
+
+-- a timer that runs may fire
+timer_judged : (w : Net) (a : ℕ) (id : MsgId) (p : PeerState) (f : NetFault) → LivesAs w a p → HasTimer w a id
+    → EventJudged w (event.Timer a id) (Some f) → f ≡ TooManyPackets
+timer_judged w a id p f lives runs judged =
+    failed_some (HasPlaces w) TooManyPackets f
+    (step_passes (HasTimer w a id) NoTimer (PlacesLast w) (Some f) runs
+    (live_passes w a p (HoldsThen (HasTimer w a id) NoTimer (PlacesLast w)) f lives judged))
+
+pub timer_full : (b : Growing) (node : ℕ) (id : MsgId) (fault : GrowFault) → TimerRuns (growth_of b) node id
+    → IsRefusedAct (act.Timer node id) b fault → IsFull fault
+timer_full b node id fault (p, lives, runs) (f, is, refused) =
+    let w = b.recording.core.world in
+    subst IsFull (sym is) (refused_full w.net (length w.journal) (event.Timer node id) f
+    (timer_judged w.net node id p f lives
+    (λ q living. subst (λ (x : PeerState). IsTrue (set.contains x.tree.running id))
+    (one_state p q (sym lives ∙ living)) runs)) refused)
+
+-- a snapshot may always be taken
+pub snapshot_full : (b : Growing) (f : NetFault)
+    → IsRefusal b.recording.core.world.net (length b.recording.core.world.journal) event.Snapshot f
+    → IsFull (of_event f)
+snapshot_full b f refused =
+    let w = b.recording.core.world in
+    refused_full w.net (length w.journal) event.Snapshot f (λ judged. absurd (passed_some f judged)) refused
+
+-- a live node may crash
+pub crash_full : (b : Growing) (node : ℕ) (fault : GrowFault) → IsLive (growth_of b) node
+    → IsRefusedAct (act.Crash node) b fault → IsFull fault
+crash_full b node fault (p, lives) (f, is, refused) =
+    let w = b.recording.core.world in
+    subst IsFull (sym is) (refused_full w.net (length w.journal) (event.Crash node) f
+    (λ judged. absurd (passed_some f (live_passes w.net node p Passed f lives judged))) refused)
+
+-- where some node lives, an analysis is refused for memory alone
+pub analysis_full : (s : Growth) (fault : GrowFault) → (fault ≡ OutOfMemory) ⊎ (¬ SomebodyLives s) → SomebodyLives s
+    → IsFull fault
+analysis_full s fault (inl memory) lives = inr (inr memory)
+analysis_full s fault (inr none) lives = absurd (none lives)

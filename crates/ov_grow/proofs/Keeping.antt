@@ -1,4 +1,4 @@
--- What turns and shuffles leave of the nodes: who lives goes on living, and nobody is born.
+-- What acts leave of the nodes: who lives goes on living, nobody is born, and nobody has made a broadcast more.
 use Rattle.std.proofs.Common.{◌≡◌, ◌≢◌, ℕ, zero, suc, ◌+◌, Bool, true, false, cond, List, Option, Some, None, refl, sym}
 use Rattle.std.proofs.Common.{[], ◌∷◌, ◌≤◌, ap, subst, ◌∙◌, inl, inr, arith, length}
 use Rattle.std.proofs.lemmas.Bool.{cases_eq}
@@ -11,13 +11,19 @@ use Rattle.ov_wire.specs.declared.message.Message.{Message}
 use Rattle.ov_peer.specs.PeerState.{PeerState}
 use Rattle.ov_peer.specs.declared.input.Delivery.{Delivery}
 use Rattle.ov_peer.specs.declared.input.Input.{Input}
+use Rattle.ov_peer.specs.declared.input.Input.TheVariants as input
+use Rattle.ov_ids.specs.declared.id.MsgId.{MsgId}
 use Rattle.ov_net.specs.Net.{Net, LivesAs}
 use Rattle.ov_net.specs.NetStep.{LiveTakesInput, Received, TakesInput}
 use Rattle.ov_net.specs.declared.journal_entry_and_changes.Change.{Change}
+use Rattle.ov_net.specs.declared.journal_entry_and_changes.Entry.{Entry}
+use Rattle.ov_script.specs.declared.act.Act.{Act}
+use Rattle.std.proofs.Common.{◌++◌, append_assoc, append-nil}
 use Rattle.ov_net.specs.declared.member.Member.{Member}
 use Rattle.ov_net.specs.declared.member.Member.TheVariants.{Live, Gone}
 use Rattle.rand_pcg.specs.Lcg.{Lcg}
 use Rattle.ov_ids.specs.Members.{Has}
+use Rattle.ov_net.proofs.Journal.Outcomes.{same_live}
 use Rattle.ov_net.proofs.Steps.Places.{has_at, has_remove, inserted_cases, inserted_here}
 use Rattle.ov_script.specs.declared.act.Act.TheVariants as act
 use Rattle.ov_grow.specs.Choices.{IsRandomOrder, later, one_of}
@@ -26,22 +32,29 @@ use Rattle.ov_grow.specs.Rounds.{AreLiveInOrder}
 use Rattle.ov_grow.specs.Turns.{Arrives, IsDelivered, IsTurnOf, MayBeRepeated, SenderIsTold, Turn, TurnsUpTo}
 use Rattle.ov_grow.specs.Code.Standing.{AllLive, AreBorn, BornIn}
 use Rattle.ov_grow.specs.declared.turn_rules.TurnRules.{TurnRules}
+use Rattle.ov_grow.proofs.Made.{MakesNone, none_made, one_made}
 use Rattle.ov_grow.proofs.Turning.{whose_same}
 
--- who lives goes on living, nobody is born, and as many were born
+-- who lives goes on living, nobody is born, as many were born, and nobody has made a broadcast more
 pub record KeepsNodes (m n : map.FinMap nat_cmp Member) : Type 0 where
   pub live : (a : ℕ) (p : PeerState) → map.get m a ≡ Some (Live p) → (q : PeerState) × (map.get n a ≡ Some (Live q))
   pub born : (a : ℕ) → map.get n a ≢ None → map.get m a ≢ None
   pub count : map.len n ≡ map.len m
+  pub made : (a : ℕ) (q : PeerState) → map.get n a ≡ Some (Live q)
+      → (p : PeerState) × (map.get m a ≡ Some (Live p)) × (q.tree.made ≤ p.tree.made)
 
-abbrev pub Keeps : Growth → Growth → Type 0
-Keeps s u = KeepsNodes s.world.net.nodes u.world.net.nodes
+-- the same of where growing stands, and the journal has more entries
+pub record Keeps (s u : Growth) : Type 0 where
+  pub nodes : KeepsNodes s.world.net.nodes u.world.net.nodes
+  pub more : List Entry
+  pub journal : u.world.journal ≡ s.world.journal ++ more
 
 same_nodes : (m n : map.FinMap nat_cmp Member) → n ≡ m → KeepsNodes m n
 same_nodes m n same = record {
   live = λ a p lives. (p, subst (λ x. map.get x a ≡ Some (Live p)) (sym same) lives);
   born = λ a born. subst (λ x. map.get x a ≢ None) same born;
   count = ap (λ x. map.len x) same;
+  made = λ a q lives. (q, subst (λ x. map.get x a ≡ Some (Live q)) same lives, omega arith);
 }
 
 nodes_trans : (m n k : map.FinMap nat_cmp Member) → KeepsNodes m n → KeepsNodes n k → KeepsNodes m k
@@ -49,15 +62,29 @@ nodes_trans m n k one two = record {
   live = λ a p lives. let (q, then) = one.live a p lives in two.live a q then;
   born = λ a born. one.born a (two.born a born);
   count = two.count ∙ one.count;
+  made = λ a q lives. let (p, then, fewer) = two.made a q lives in
+      let (x, first, less) = one.made a p then in (x, first, omega (arith, fewer, less));
 }
 
-keeps_same : (s u : Growth) → u.world ≡ s.world → Keeps s u
-keeps_same s u same = same_nodes s.world.net.nodes u.world.net.nodes (ap (λ w. w.net.nodes) same)
+pub keeps_same : (s u : Growth) → u.world ≡ s.world → Keeps s u
+keeps_same s u same = record {
+  nodes = same_nodes s.world.net.nodes u.world.net.nodes (ap (λ w. w.net.nodes) same);
+  more = [];
+  journal = ap (λ w. w.journal) same ∙ sym (append-nil s.world.journal);
+}
 
-keeps_trans : (s t u : Growth) → Keeps s t → Keeps t u → Keeps s u
-keeps_trans s t u = nodes_trans s.world.net.nodes t.world.net.nodes u.world.net.nodes
+pub keeps_trans : (s t u : Growth) → Keeps s t → Keeps t u → Keeps s u
+keeps_trans s t u one two = record {
+  nodes = nodes_trans s.world.net.nodes t.world.net.nodes u.world.net.nodes one.nodes two.nodes;
+  more = one.more ++ two.more;
+  journal = two.journal
+      ∙ (ap (λ xs. xs ++ two.more) one.journal ∙ append_assoc s.world.journal one.more two.more);
+}
 
-lives_still : (here : Bool) (p q : PeerState) (o : Option Member) → o ≡ Some (Live p)
+did_keeps : (s u : Growth) (what : Act) → Does s what u → KeepsNodes s.world.net.nodes u.world.net.nodes → Keeps s u
+did_keeps s u what did nodes = record { nodes = nodes; more = did.entry ∷ []; journal = did.step.journal }
+
+pub lives_still : (here : Bool) (p q : PeerState) (o : Option Member) → o ≡ Some (Live p)
     → (x : PeerState) × (cond here (Some (Live q)) o ≡ Some (Live x))
 lives_still true p q o lives = (q, refl)
 lives_still false p q o lives = (p, lives)
@@ -69,10 +96,10 @@ is_there (Some x) born = (x, refl)
 not_none : (o : Option Member) (x : Member) → o ≡ Some x → o ≢ None
 not_none o x is none = absurd cc
 
--- a live node has a new state
+-- a live node has a new state, and has made no broadcast more
 new_state : (m : map.FinMap nat_cmp Member) (a : ℕ) (p q : PeerState) → map.get m a ≡ Some (Live p)
-    → KeepsNodes m (map.insert m a (Live q))
-new_state m a p q lives = record {
+    → q.tree.made ≤ p.tree.made → KeepsNodes m (map.insert m a (Live q))
+new_state m a p q lives fewer = record {
   live = λ b x living. let (y, is) = lives_still (eq_by_cmp nat_cmp b a) x q (map.get m b) living in
       (y, get-insert nat_cmp_total m a (Live q) b ∙ is);
   born = λ b born. let (x, is) = is_there (map.get (map.insert m a (Live q)) b) born in
@@ -82,23 +109,34 @@ new_state m a p q lives = record {
       ];
   count = len-insert nat_cmp_total m a (Live q)
       ∙ ap (λ b. cond b (map.len m) (map.len m + 1)) (ap (λ o. is_some o) lives);
+  made = λ b x is. elim (inserted_cases nat_cmp_total nat_cmp-IsAntisymmetric m a (Live q) b (Live x) is) [
+    | inl here ↦ (
+        p,
+        subst (λ i. map.get m i ≡ Some (Live p)) here.0 lives,
+        subst (λ (y : PeerState). y.tree.made ≤ p.tree.made) (same_live q x here.1) fewer,
+      )
+    | inr there ↦ (x, there.1, omega arith)
+  ];
 }
 
 takes_keeps : (w u : Net) (a : ℕ) (p : PeerState) (i : Input) (words : List ℕ) (changes : List Change)
-    (delivery : Option Delivery) → LivesAs w a p → TakesInput w a p i words u changes delivery
+    (delivery : Option Delivery) → MakesNone i → LivesAs w a p → TakesInput w a p i words u changes delivery
     → KeepsNodes w.nodes u.nodes
-takes_keeps w u a p i words changes delivery lives (q, sends, views, drawn, same, is) =
-    subst (λ n. KeepsNodes w.nodes n) (sym (ap (λ (x : Net). x.nodes) same)) (new_state w.nodes a p q lives)
+takes_keeps w u a p i words changes delivery none lives (q, sends, views, (left, enough, (cs, are, step)), same, is) =
+    let made : q.tree.made ≡ p.tree.made = none_made p i cs q sends views delivery none step in
+    subst (λ n. KeepsNodes w.nodes n) (sym (ap (λ (x : Net). x.nodes) same))
+    (new_state w.nodes a p q lives (omega (arith, made)))
 
 live_keeps : (w u : Net) (a : ℕ) (i : Input) (words : List ℕ) (changes : List Change) (delivery : Option Delivery)
-    → LiveTakesInput w a i words u changes delivery → KeepsNodes w.nodes u.nodes
-live_keeps w u a i words changes delivery (p, lives, takes) = takes_keeps w u a p i words changes delivery lives takes
+    → MakesNone i → LiveTakesInput w a i words u changes delivery → KeepsNodes w.nodes u.nodes
+live_keeps w u a i words changes delivery none (p, lives, takes) =
+    takes_keeps w u a p i words changes delivery none lives takes
 
 received_keeps : (w u : Net) (a : ℕ) (m : Message) (o : Option Member) (words : List ℕ) (changes : List Change)
     (delivery : Option Delivery) → map.get w.nodes a ≡ o → Received w a m o words u changes delivery
     → KeepsNodes w.nodes u.nodes
 received_keeps w u a m (Some (Live p)) words changes delivery is takes =
-    takes_keeps w u a p _ words changes delivery is takes
+    takes_keeps w u a p (input.Receive m) words changes delivery tt is takes
 received_keeps w u a m (Some Gone) words changes delivery is only =
     same_nodes w.nodes u.nodes (ap (λ (x : Net). x.nodes) only.0)
 received_keeps w u a m None words changes delivery is only =
@@ -107,27 +145,45 @@ received_keeps w u a m None words changes delivery is only =
 lose_keeps : (s u : Growth) (place : ℕ) → Does s (act.Lose place) u → Keeps s u
 lose_keeps s u place did =
     let (packet, at, only) = did.step.step.2 in
-    same_nodes s.world.net.nodes u.world.net.nodes (ap (λ (x : Net). x.nodes) only.0)
+    did_keeps s u (act.Lose place) did
+    (same_nodes s.world.net.nodes u.world.net.nodes (ap (λ (x : Net). x.nodes) only.0))
 
 repeat_keeps : (s u : Growth) (place : ℕ) → Does s (act.Repeat place) u → Keeps s u
 repeat_keeps s u place did =
     let (packet, at, only) = did.step.step.2 in
-    same_nodes s.world.net.nodes u.world.net.nodes (ap (λ (x : Net). x.nodes) only.0)
+    did_keeps s u (act.Repeat place) did
+    (same_nodes s.world.net.nodes u.world.net.nodes (ap (λ (x : Net). x.nodes) only.0))
 
 deliver_keeps : (s u : Growth) (place : ℕ) → Does s (act.Deliver place) u → Keeps s u
 deliver_keeps s u place did =
     let (packet, at, received) = did.step.step.2 in
-    received_keeps _ u.world.net packet.0 packet.1 (map.get s.world.net.nodes packet.0) did.words did.entry.changes
-    did.entry.delivery refl received
+    did_keeps s u (act.Deliver place) did
+    (received_keeps _ u.world.net packet.0 packet.1 (map.get s.world.net.nodes packet.0) did.words did.entry.changes
+    did.entry.delivery refl received)
 
-report_keeps : (s u : Growth) (node crashed : ℕ) → Does s (act.CrashReport node crashed) u → Keeps s u
+pub report_keeps : (s u : Growth) (node crashed : ℕ) → Does s (act.CrashReport node crashed) u → Keeps s u
 report_keeps s u node crashed did =
     let (gone, takes) = did.step.step.2 in
-    live_keeps s.world.net u.world.net node _ did.words did.entry.changes did.entry.delivery takes
+    did_keeps s u (act.CrashReport node crashed) did
+    (live_keeps s.world.net u.world.net node (input.CrashReport crashed) did.words did.entry.changes did.entry.delivery tt
+    takes)
 
 pub shuffle_keeps : (s u : Growth) (node : ℕ) → Does s (act.Shuffle node) u → Keeps s u
 shuffle_keeps s u node did =
-    live_keeps s.world.net u.world.net node _ did.words did.entry.changes did.entry.delivery did.step.step.2
+    did_keeps s u (act.Shuffle node) did
+    (live_keeps s.world.net u.world.net node input.Shuffle did.words did.entry.changes did.entry.delivery tt
+    did.step.step.2)
+
+pub timer_keeps : (s u : Growth) (node : ℕ) (id : MsgId) → Does s (act.Timer node id) u → Keeps s u
+timer_keeps s u node id did =
+    did_keeps s u (act.Timer node id) did
+    (live_keeps s.world.net u.world.net node (input.Timer id) did.words did.entry.changes did.entry.delivery tt
+    did.step.step.2)
+
+pub snapshot_keeps : (s u : Growth) → Does s act.Snapshot u → Keeps s u
+snapshot_keeps s u did =
+    did_keeps s u act.Snapshot did
+    (same_nodes s.world.net.nodes u.world.net.nodes (ap (λ (x : Net). x.nodes) did.step.step.2.0))
 
 told_keeps : (b s u : Growth) (place : ℕ) (tells : Bool) → MatchBool tells (SenderIsTold b place s u) (u ≡ s)
     → Keeps s u
@@ -168,10 +224,10 @@ turns_keep rules (suc n) s u (inr (some, t, turn, more)) =
 pub shuffles_live : (nodes : List ℕ) (s u : Growth) (node : ℕ) → AllLive nodes s → Does s (act.Shuffle node) u
     → AllLive nodes u
 shuffles_live nodes s u node all did = λ a has.
-    let (p, lives) = all a has in (shuffle_keeps s u node did).live a p lives
+    let (p, lives) = all a has in (shuffle_keeps s u node did).nodes.live a p lives
 
 -- who is in a random order of the live nodes lives
-order_has : (ids order : List ℕ) (before after : Lcg) (a : ℕ) → IsRandomOrder ids order before after → Has order a
+pub order_has : (ids order : List ℕ) (before after : Lcg) (a : ℕ) → IsRandomOrder ids order before after → Has order a
     → Has ids a
 order_has ids [] before after a none has = absurd has
 order_has ids (first ∷ order) before after a (at, rest) (inl same) =
@@ -187,9 +243,9 @@ order_lives s u order (live, after, are, orders, same) = λ a has.
 -- turns leave those that were born
 pub born_keeps : (n : ℕ) (s u : Growth) → Keeps s u → AreBorn n s → AreBorn n u
 born_keeps n s u keeps born = record {
-  live = λ a least most. let (p, lives) = born.live a least most in keeps.live a p lives;
-  born = λ a has. born.born a (keeps.born a has);
-  count = keeps.count ∙ born.count;
+  live = λ a least most. let (p, lives) = born.live a least most in keeps.nodes.live a p lives;
+  born = λ a has. born.born a (keeps.nodes.born a has);
+  count = keeps.nodes.count ∙ born.count;
 }
 
 pub born_turns : (rules : TurnRules) (pace n : ℕ) (s u : Growth) → TurnsUpTo rules pace s u → AreBorn n s → AreBorn n u

@@ -18,3 +18,6 @@ pub mod NoPhase
 pub mod NoGrowth
 pub mod Full
 pub mod Keeping
+pub mod Made
+pub mod Making
+pub mod Crashing

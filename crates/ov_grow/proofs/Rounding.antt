@@ -1,6 +1,6 @@
 -- Rounds of shuffles, and one act for each of several nodes.
 use Rattle.std.proofs.Common.{◌≡◌, ◌<◌, ◌≤◌, ◌+◌, ℕ, zero, suc, List, [], ◌∷◌, length, drop, get_or, refl, sym}
-use Rattle.std.proofs.Common.{subst, arith, drop-cons}
+use Rattle.std.proofs.Common.{subst, arith, drop-cons, ◌∙◌, ap}
 use Rattle.ov_script.specs.declared.act.Act.{Act}
 use Rattle.ov_grow.specs.Growth.{Growth, Does}
 use Rattle.ov_grow.specs.Rounds.{DoesEach, Round, Rounds}
@@ -15,14 +15,18 @@ each_more what nodes i node s t u within is did more =
     subst (λ xs. DoesEach what xs s u) (sym (drop-cons nodes i 0 within))
     (t, subst (λ a. Does s (what a) t) is did, subst (λ k. DoesEach what (drop k nodes) t u) after more)
 
+-- what is left begins with the next of these nodes
+pub next_of : (nodes : List ℕ) (i node : ℕ) → i < length nodes → node ≡ get_or nodes i 0
+    → drop i nodes ≡ node ∷ drop (i + 1) nodes
+next_of nodes i node within is =
+    let after : suc i ≡ i + 1 = omega arith in
+    drop-cons nodes i 0 within ∙ (ap (λ a. a ∷ drop (suc i) nodes) (sym is) ∙ ap (λ k. node ∷ drop k nodes) after)
+
 -- the next of these nodes is the first of what is left
 pub each_next : (what : ℕ → Act) (nodes : List ℕ) (i node : ℕ) (s u : Growth) → i < length nodes
     → node ≡ get_or nodes i 0 → DoesEach what (drop i nodes) s u → DoesEach what (node ∷ drop (i + 1) nodes) s u
 each_next what nodes i node s u within is each =
-    let after : suc i ≡ i + 1 = omega arith in
-    subst (λ k. DoesEach what (node ∷ drop k nodes) s u) after
-    (subst (λ a. DoesEach what (a ∷ drop (suc i) nodes) s u) (sym is)
-    (subst (λ xs. DoesEach what xs s u) (drop-cons nodes i 0 within) each))
+    subst (λ xs. DoesEach what xs s u) (next_of nodes i node within is) each
 
 -- what is left begins with the act of the next of these nodes
 pub each_begins : (what : ℕ → Act) (nodes : List ℕ) (i node : ℕ) (s u : Growth) → i < length nodes

@@ -3,8 +3,9 @@ ghost use Rattle.ov_net.specs.Net.{LivesAs};
 ghost use Rattle.ov_peer.specs.PeerState.{PeerState};
 ghost use Rattle.ov_grow.specs.Broadcasts.{BroadcastBy, Broadcasts, BroadcastsBegin, Fire, FireAt, FireAtEach};
 ghost use Rattle.ov_grow.specs.Broadcasts.{FiresIfItRuns, TimerRuns, TimersFire};
-ghost use Rattle.ov_grow.specs.Growth.{SomebodyLives};
-ghost use Rattle.ov_grow.specs.Code.Standing.{Goes, IsNoWay, growth_of};
+ghost use Rattle.ov_grow.specs.Faults.{IsFull};
+ghost use Rattle.ov_grow.specs.Growth.{IsLive, SomebodyLives};
+ghost use Rattle.ov_grow.specs.Code.Standing.{AllLive, Goes, IsNoWay, MayMake, growth_of};
 
 use crate::fault::GrowFault;
 use crate::growing::Growing;
@@ -15,9 +16,11 @@ use ov_script::Act;
 impl Growing {
     /// So many broadcasts, until no packet is on its way and no timer of their messages runs. Some node must live.
     pub(crate) fn broadcasts(&mut self, count: u32, rules: &TurnRules) -> Result<(), GrowFault>
-        requires { SomebodyLives (growth_of self.old) }
+        requires live { SomebodyLives (growth_of self.old) }
+        requires made { MayMake count (growth_of self.old) }
         ensures goes { OnOk result (Goes (Broadcasts rules.now count) self.old self.new) }
         ensures refused { IfErr result (IsNoWay (Broadcasts rules.now count) self.old) }
+        ensures full { IfErr result IsFull }
     {
         let live = self.live()?;
         let messages = self.begin_broadcasts(&live, count)?;
@@ -27,11 +30,14 @@ impl Growing {
 
     /// So many times one of these nodes broadcasts. The messages are returned in order.
     fn begin_broadcasts(&mut self, nodes: &[NodeId], count: u32) -> Result<Vec<MsgId>, GrowFault>
-        requires { 0 < length nodes.now }
+        requires some { 0 < length nodes.now }
+        requires live { AllLive nodes.now (growth_of self.old) }
+        requires made { MayMake count (growth_of self.old) }
         ensures goes { IfOk result
             (λ ids. Goes (λ s u. BroadcastsBegin nodes.now count s ids.items u) self.old self.new) }
         ensures refused { IfErr result
             (IsNoWay (λ s u. (ids : List MsgId) × BroadcastsBegin nodes.now count s ids u) self.old) }
+        ensures full { IfErr result IsFull }
     {
         let mut messages = Vec::with_capacity(self.alloc, count as usize)?;
         for _broadcast in 0..count {
@@ -43,8 +49,11 @@ impl Growing {
 
     /// A node broadcasts. The id of the message is returned.
     fn broadcast(&mut self, node: NodeId) -> Result<MsgId, GrowFault>
+        requires live { IsLive (growth_of self.old) node }
+        requires made { MayMake 1 (growth_of self.old) }
         ensures goes { IfOk result (λ id. Goes (λ s u. BroadcastBy node s id u) self.old self.new) }
         ensures refused { IfErr result (IsNoWay (λ s u. (id : MsgId) × BroadcastBy node s id u) self.old) }
+        ensures full { IfErr result IsFull }
     {
         let seq = self.made_by(node);
         self.act(Act::Broadcast(node))?;
@@ -65,6 +74,7 @@ impl Growing {
     fn fire_timers(&mut self, messages: &[MsgId], rules: &TurnRules) -> Result<(), GrowFault>
         ensures goes { OnOk result (Goes (TimersFire rules.now messages.now) self.old self.new) }
         ensures refused { IfErr result (IsNoWay (TimersFire rules.now messages.now) self.old) }
+        ensures full { IfErr result IsFull }
     {
         while self.fire(messages)? {
             self.run_out(rules)?;
@@ -76,6 +86,7 @@ impl Growing {
     fn fire(&mut self, messages: &[MsgId]) -> Result<bool, GrowFault>
         ensures goes { IfOk result (λ fired. Goes (λ s u. Fire messages.now s fired u) self.old self.new) }
         ensures refused { IfErr result (IsNoWay (λ s u. (fired : Bool) × Fire messages.now s fired u) self.old) }
+        ensures full { IfErr result IsFull }
     {
         let live = self.live()?;
         self.fire_at_each(&live, messages)
@@ -87,6 +98,7 @@ impl Growing {
             (λ fired. Goes (λ s u. FireAtEach nodes.now messages.now s fired u) self.old self.new) }
         ensures refused { IfErr result
             (IsNoWay (λ s u. (fired : Bool) × FireAtEach nodes.now messages.now s fired u) self.old) }
+        ensures full { IfErr result IsFull }
     {
         let mut fired = false;
         for node in nodes {
@@ -100,6 +112,7 @@ impl Growing {
     fn fire_at(&mut self, node: NodeId, messages: &[MsgId]) -> Result<bool, GrowFault>
         ensures goes { IfOk result (λ fired. Goes (λ s u. FireAt node messages.now s fired u) self.old self.new) }
         ensures refused { IfErr result (IsNoWay (λ s u. (fired : Bool) × FireAt node messages.now s fired u) self.old) }
+        ensures full { IfErr result IsFull }
     {
         let mut fired = false;
         for id in messages {
@@ -114,6 +127,7 @@ impl Growing {
         ensures goes { IfOk result (λ fired. Goes (λ s u. FiresIfItRuns node id.now s fired u) self.old self.new) }
         ensures refused { IfErr result
             (IsNoWay (λ s u. (fired : Bool) × FiresIfItRuns node id.now s fired u) self.old) }
+        ensures full { IfErr result IsFull }
     {
         if !self.timer_runs(node, id) {
             return Ok(false);

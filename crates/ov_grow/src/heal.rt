@@ -1,8 +1,11 @@
-ghost use Rattle.std.specs.Prelude.{◌≤◌, ℕ, IfErr, IfNone, IfOk, IfSome, OnOk};
+ghost use Rattle.std.specs.Prelude.{◌+◌, ◌≤◌, ℕ, IfErr, IfNone, IfOk, IfSome, OnOk};
 ghost use Rattle.ov_ids.specs.Members.{Ascends};
 ghost use Rattle.ov_net.specs.Net.{IsGone};
+ghost use Rattle.ov_grow_options.specs.Limits.{most_rounds};
+ghost use Rattle.ov_grow.specs.Faults.{IsFull};
+ghost use Rattle.ov_grow.specs.Growth.{SomebodyLives};
 ghost use Rattle.ov_grow.specs.Phases.{AreFirst, HasNone, Heal, IsCrashedNeighbour, ReportCrashes};
-ghost use Rattle.ov_grow.specs.Code.Standing.{Goes, HaveNone, IsAnswered, IsFirstOf, IsNoWay, growth_of};
+ghost use Rattle.ov_grow.specs.Code.Standing.{Goes, HaveMade, HaveNone, IsAnswered, IsFirstOf, IsNoWay, growth_of};
 
 use crate::fault::GrowFault;
 use crate::growing::Growing;
@@ -13,11 +16,14 @@ use ov_ids::NodeId;
 use ov_script::Act;
 
 impl Growing {
-    /// The overlay heals.
+    /// The overlay heals. Some node must live.
     pub(crate) fn heal(&mut self, options: &GrowOptions) -> Result<Phase, GrowFault>
+        requires live { SomebodyLives (growth_of self.old) }
+        requires made { HaveMade (most_rounds + most_rounds) (growth_of self.old) }
         ensures goes { IfOk result (λ phase. Goes (λ s u. Heal options.now s phase u) self.old self.new) }
         ensures answered { IfOk result (λ phase. IsAnswered self.new.recording.core phase.moment) }
         ensures refused { IfErr result (IsNoWay (λ s u. (phase : Phase) × Heal options.now s phase u) self.old) }
+        ensures full { IfErr result IsFull }
     {
         let rules = TurnRules::healing(options);
         self.comment("heal")?;
@@ -30,6 +36,7 @@ impl Growing {
     fn report_crashes(&mut self, rules: &TurnRules) -> Result<(), GrowFault>
         ensures goes { OnOk result (Goes (ReportCrashes rules.now) self.old self.new) }
         ensures refused { IfErr result (IsNoWay (ReportCrashes rules.now) self.old) }
+        ensures full { IfErr result IsFull }
     {
         while let Some((node, crashed)) = self.first_with_crashed() {
             self.act(Act::CrashReport(node, crashed))?;

@@ -2,6 +2,7 @@ ghost use Rattle.std.specs.Prelude.{◌≡◌, IfErr, IfOk};
 ghost use Rattle.ov_snap.specs.CoreState.{HasReportOfAll};
 ghost use Rattle.ov_snap.specs.ReportState.{ReportState};
 ghost use Rattle.ov_recording.specs.Replay.{Replays};
+ghost use Rattle.ov_grow.specs.Faults.{IsFull};
 ghost use Rattle.ov_grow.specs.Growing.{Grows, IsGrowRefusal};
 
 use crate::fault::GrowFault;
@@ -55,6 +56,7 @@ pub fn grow(alloc: Global, options: &GrowOptions) -> Result<Grown, GrowFault>
     ensures crashed { IfOk result (λ g. (r : ReportState) × HasReportOfAll g.core g.crashed.moment r) }
     ensures healed { IfOk result (λ g. (r : ReportState) × HasReportOfAll g.core g.healed.moment r) }
     ensures refused { IfErr result (IsGrowRefusal options.now) }
+    ensures full { IfErr result IsFull }
 {
     let mut growing = Growing::new(alloc, options)?;
     growing.join(options)?;

@@ -2,9 +2,10 @@ ghost use Rattle.std.specs.Prelude.{◌≡◌, ◌≤◌, ◌⊎◌, ℕ, drop, 
 ghost use Rattle.ov_net.specs.Limits.{most_entries};
 ghost use Rattle.ov_script.specs.WrittenLines.{analysis_line};
 ghost use Rattle.ov_script.specs.declared.act.Act.TheVariants as act;
+ghost use Rattle.ov_grow.specs.Faults.{IsFull};
 ghost use Rattle.ov_grow.specs.Growth.{Does, SomebodyLives, Writes};
 ghost use Rattle.ov_grow.specs.Phases.{EndsPhase, IsAnalysedAt, deliveries_in};
-ghost use Rattle.ov_grow.specs.Code.Standing.{Goes, IsAnswered, IsFresh, IsNoWay, growth_of};
+ghost use Rattle.ov_grow.specs.Code.Standing.{Goes, IsAnswered, IsFresh, IsNoWay, MayMake, StillLive, growth_of};
 ghost use Rattle.ov_grow.specs.declared.fault.GrowFault.TheVariants.{OutOfMemory as out_of_memory};
 
 use crate::fault::GrowFault;
@@ -14,16 +15,20 @@ use crate::turn_rules::TurnRules;
 use ov_script::Act;
 
 impl Growing {
-    /// A phase ends: a snapshot is taken and analysed, and then there are so many broadcasts.
+    /// A phase ends: a snapshot is taken and analysed, and then there are so many broadcasts. Some node must live.
     pub(crate) fn end_phase(
         &mut self,
         broadcasts: u32,
         rules: &TurnRules,
     ) -> Result<Phase, GrowFault>
+        requires live { SomebodyLives (growth_of self.old) }
+        requires made { MayMake broadcasts (growth_of self.old) }
         ensures ends { IfOk result (λ phase. Goes (λ s u. EndsPhase rules.now broadcasts s phase u) self.old self.new) }
         ensures answered { IfOk result (λ phase. IsAnswered self.new.recording.core phase.moment) }
+        ensures lasting { IfOk result (λ phase. StillLive phase.moment (growth_of self.new)) }
         ensures refused { IfErr result
             (IsNoWay (λ s u. (phase : Phase) × EndsPhase rules.now broadcasts s phase u) self.old) }
+        ensures full { IfErr result IsFull }
     {
         let moment = self.analyse_now()?;
         self.broadcasts(broadcasts, rules)?;
@@ -31,17 +36,21 @@ impl Growing {
         Ok(Phase { moment, deliveries })
     }
 
-    /// Takes a snapshot and analyses it. The moment is returned.
+    /// Takes a snapshot and analyses it. The moment is returned. Some node must live.
     fn analyse_now(&mut self) -> Result<u32, GrowFault>
+        requires { SomebodyLives (growth_of self.old) }
         ensures goes { IfOk result (λ m. Goes (λ s u. IsAnalysedAt m s u) self.old self.new) }
         ensures answered { IfOk result (λ m. IsAnswered self.new.recording.core m) }
         ensures live { OnOk result (SomebodyLives (growth_of self.new)) }
         ensures within { IfOk result (λ m. m ≤ length self.new.recording.core.world.journal) }
+        ensures lasting { IfOk result (λ m. StillLive m (growth_of self.new)) }
         ensures refused { IfErr result (IsNoWay (λ s u. (m : ℕ) × IsAnalysedAt m s u) self.old) }
+        ensures full { IfErr result IsFull }
     {
         self.take_snapshot()?;
         let moment = self.entries();
         self.analyse(moment)?;
+        let _journal = self.world().journal();
         Ok(moment)
     }
 
@@ -50,6 +59,7 @@ impl Growing {
         ensures goes { OnOk result (Goes (λ s u. Does s act.Snapshot u) self.old self.new) }
         ensures fresh { OnOk result (IsFresh self.new.recording.core) }
         ensures refused { IfErr result (IsNoWay (λ s u. Does s act.Snapshot u) self.old) }
+        ensures full { IfErr result IsFull }
     {
         let _world = self.recording.core().world();
         self.recording.act(Act::Snapshot)?;

@@ -1,12 +1,14 @@
 -- Where growing stands, of the parts that the code keeps.
-use Rattle.std.specs.Prelude.{◌≡◌, ◌≢◌, ◌⊎◌, ℕ, ◌≤◌, ⊤, List, length, Option, Some, None, slice_get}
+use Rattle.std.specs.Prelude.{◌≡◌, ◌≢◌, ◌⊎◌, ◌+◌, ℕ, ◌≤◌, ⊤, List, length, Option, Some, None, slice_get}
 use Rattle.ov_wire.specs.declared.message.Message.{Message}
 use Rattle.std.specs.Ordering.{nat_cmp}
 use Rattle.std.specs.FinMap as map
-use Rattle.ov_ids.specs.Members.{Has}
+use Rattle.ov_ids.specs.Members.{Has, IsDistinct}
 use Rattle.ov_peer.specs.PeerState.{PeerState}
 use Rattle.ov_even.specs.Answer.{IsAnswer}
-use Rattle.ov_net.specs.Net.{IsGone}
+use Rattle.ov_plum.specs.PlumState.{most_broadcasts}
+use Rattle.ov_net.specs.Journal as journal
+use Rattle.ov_net.specs.Net.{IsGone, LivesAs}
 use Rattle.ov_net.specs.Refusals.{IsRefusal}
 use Rattle.ov_net.specs.declared.fault.NetFault.{NetFault}
 use Rattle.ov_net.specs.declared.member.Member.{Member}
@@ -80,6 +82,26 @@ pub record BornIn (n : ℕ) (nodes : map.FinMap nat_cmp Member) : Type 0 where
 
 abbrev pub AreBorn : ℕ → Growth → Type 0
 AreBorn n s = BornIn n s.world.net.nodes
+
+-- no node has made more broadcasts than so many
+abbrev pub HaveMade : ℕ → Growth → Type 0
+HaveMade k s = (a : ℕ) (p : PeerState) → LivesAs s.world.net a p → p.tree.made ≤ k
+
+-- each node may make so many broadcasts more
+abbrev pub MayMake : ℕ → Growth → Type 0
+MayMake n s = (k : ℕ) × HaveMade k s × (k + n ≤ most_broadcasts)
+
+-- who lived at this moment lives
+abbrev pub StillLive : ℕ → Growth → Type 0
+StillLive m s = (a : ℕ) → journal.Live s.world.journal m a → IsLive s a
+
+-- these nodes live, none of them stands twice, and some other node lives
+pub record MayCrash (nodes : List ℕ) (s : Growth) : Type 0 where
+  pub live : AllLive nodes s
+  pub once : IsDistinct nodes
+  pub spared : ℕ
+  pub spared_lives : IsLive s spared
+  pub not_among : ¬ Has nodes spared
 
 -- a report of all nodes of this moment is filed, and it has the answer of an analysis
 abbrev pub IsAnswered : CoreState → ℕ → Type 0

@@ -6,6 +6,9 @@ use Rattle.ov_grow.specs.declared.fault.GrowFault.TheVariants.{OutOfMemory}
 use Rattle.ov_grow.proofs.Analysing.{answered_kept, reported}
 use Rattle.ov_grow.proofs.Going.{passes_on}
 use Rattle.ov_grow.proofs.NoGrowth.{no_way_crashing, no_way_healing, no_way_join, no_way_settling}
+use Rattle.std.proofs.Common.{inr}
+use Rattle.ov_grow.specs.Faults.{IsFull}
+use Rattle.ov_grow.proofs.Crashing.{join_lives, join_made}
 use Rattle.ov_grow.proofs.overlay_growing.grow.Goals as goal
 
 pub returns-in_err-growing-clause-refused : goal.returns-in_err-growing-clause-refused
@@ -73,3 +76,15 @@ returns-clause-crashed c =
     reported c.heal.new.self.recording.core _ c.in_ok-crashed.crashed.moment c.finish-text.ensures.core
     (answered_kept c.crash.new.self.recording.core c.heal.new.self.recording.core _ c.in_ok-healed.ensures.goes.kept
     c.in_ok-crashed.ensures.answered)
+
+pub settle-requires-clause-live : goal.settle-requires-clause-live
+settle-requires-clause-live c = join_lives c.args.options.now (growth_of c.in_ok-growing.growing)
+    (growth_of c.join.new.self) c.in_ok-join.ensures.goes.way
+
+pub settle-requires-clause-made : goal.settle-requires-clause-made
+settle-requires-clause-made c = join_made c.args.options.now (growth_of c.in_ok-growing.growing)
+    (growth_of c.join.new.self) c.in_ok-join.ensures.goes.way c.in_ok-growing.ensures.unborn
+
+pub returns-in_err-growing-clause-full : goal.returns-in_err-growing-clause-full
+returns-in_err-growing-clause-full c =
+    passes_on IsFull c.from_residual.result OutOfMemory c.from_residual.ensures.1 (inr (inr refl))

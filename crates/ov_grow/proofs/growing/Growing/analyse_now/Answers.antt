@@ -5,6 +5,12 @@ use Rattle.ov_grow.specs.Code.Standing.{IsNoWay, growth_of}
 use Rattle.ov_grow.proofs.Analysing.{lived_before}
 use Rattle.ov_grow.proofs.Going.{goes_on, passes_on}
 use Rattle.ov_grow.proofs.NoPhase.{no_way_analysis, no_way_snapshot}
+use Rattle.std.proofs.Common.{◌≡◌, ◌∙◌, ap, length, subst, sym}
+use Rattle.ov_net.specs.World.{Stands}
+use Rattle.ov_grow.specs.Faults.{IsFull}
+use Rattle.ov_grow.proofs.Full.{analysis_full}
+use Rattle.ov_grow.proofs.Keeping.{snapshot_keeps}
+use Rattle.ov_grow.proofs.Making.{lives_keeps, still_now}
 use Rattle.ov_grow.proofs.growing.Growing.analyse_now.Goals as goal
 
 pub returns-in_err-take_snapshot-clause-refused : goal.returns-in_err-take_snapshot-clause-refused
@@ -34,3 +40,20 @@ returns-clause-goes c =
       writes,
     ))
     c.in_ok-take_snapshot.ensures.goes c.in_ok-analyse.ensures.goes
+
+pub returns-in_err-analyse-clause-full : goal.returns-in_err-analyse-clause-full
+returns-in_err-analyse-clause-full c =
+    let fault = c.in_err-analyse.field-0.0 in
+    let s = growth_of c.args.self.now in
+    let t = growth_of c.take_snapshot.new.self in
+    passes_on IsFull c.from_residual-in_err-analyse.result fault c.from_residual-in_err-analyse.ensures.1
+    (analysis_full t fault c.in_err-analyse.ensures.refused
+    (lives_keeps s t (snapshot_keeps s t c.in_ok-take_snapshot.ensures.goes.way) c.requires))
+
+pub returns-clause-lasting : goal.returns-clause-lasting
+returns-clause-lasting c =
+    let u = growth_of c.analyse.new.self in
+    let same : length u.world.journal ≡ length (growth_of c.take_snapshot.new.self).world.journal =
+    ap (λ g. length g.world.journal) c.in_ok-analyse.ensures.goes.way in
+    still_now c.entries-moment.result u (subst (λ w. Stands w) c.world.ensures c.journal-journal.ensures.stands)
+    (c.entries-moment.ensures ∙ sym same)

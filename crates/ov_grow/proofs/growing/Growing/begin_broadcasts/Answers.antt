@@ -7,6 +7,12 @@ use Rattle.ov_grow.proofs.Going.{goes_still, passes_on}
 use Rattle.ov_grow.proofs.Broadcasting.{broadcasts_end}
 use Rattle.ov_grow.proofs.NoBroadcast.{left_next, no_way_next}
 use Rattle.ov_grow.proofs.Ways.{begin_goes}
+use Rattle.std.proofs.Common.{◌<◌, get_or, length, refl}
+use Rattle.ov_ids.specs.Members.{Has}
+use Rattle.ov_ids.proofs.Members.{has_place}
+use Rattle.ov_grow.specs.declared.growing.Growing.{Growing}
+use Rattle.ov_grow.proofs.Healing.{is_item}
+use Rattle.ov_grow.proofs.Making.{broadcast_lives, room_begins, room_more, room_next}
 use Rattle.ov_grow.proofs.growing.Growing.begin_broadcasts.Goals as goal
 
 pub loop-broadcast-init : goal.loop-broadcast-init
@@ -19,6 +25,8 @@ loop-broadcast-init c =
           (sym c.in_ok-messages.ensures.items)
           (subst (λ k. Goes (λ s v. BroadcastsBegin xs k s rest v) b u) all more)),
       (λ ids u begin. (ids, subst (λ k. BroadcastsBegin xs k (growth_of b) ids u) (sym all) begin)),
+      c.requires.live,
+      room_begins n (growth_of b) c.requires.made,
     )
 
 pub returns-in_err-broadcast-clause-refused : goal.returns-in_err-broadcast-clause-refused
@@ -38,6 +46,7 @@ loop-broadcast-preserved c =
     let n = c.args.count - c.loop-broadcast._broadcast in
     let m = c.args.count - (c.loop-broadcast._broadcast + 1) in
     let id = c.in_ok-broadcast.field-0 in
+    let t : Growing = record c.loop-broadcast.self { choices = c.one_of-place.new.self } in
     let one : n ≡ suc m = omega arith in (
       (λ rest u more.
           subst (λ xs. Goes (λ s v. BroadcastsBegin c.args.nodes.now c.args.count s xs v) c.args.self.now u)
@@ -52,6 +61,10 @@ loop-broadcast-preserved c =
           c.args.self.now c.loop-broadcast.self c.broadcast.new.self c.one_of-place.new.self
           c.loop-broadcast.invariant.1 one c.one_of-place.ensures.value c.one_of-place.ensures.left
           c.one_of-place.ensures.below c.index-nodes-place.is c.in_ok-broadcast.ensures.goes,
+      broadcast_lives c.args.nodes.now _ (growth_of c.loop-broadcast.self) (growth_of t) (growth_of
+          c.broadcast.new.self) id refl c.in_ok-broadcast.ensures.goes.way c.loop-broadcast.invariant.2,
+      room_more c.args.count c.loop-broadcast._broadcast _ (growth_of c.loop-broadcast.self) (growth_of t)
+          (growth_of c.broadcast.new.self) id refl c.in_ok-broadcast.ensures.goes.way c.loop-broadcast.invariant.3,
     )
 
 pub returns-clause-goes : goal.returns-clause-goes
@@ -62,3 +75,17 @@ returns-clause-goes c =
     (append-nil c.loop-broadcast.messages.items)
     (c.loop-broadcast.invariant.0 [] c.loop-broadcast.self
     (goes_still _ _ (broadcasts_end c.args.nodes.now _ (growth_of c.loop-broadcast.self) none)))
+
+pub broadcast-requires-clause-live : goal.broadcast-requires-clause-live
+broadcast-requires-clause-live c =
+    let xs = c.args.nodes.now in
+    let i = c.one_of-place.result in
+    let x = c.index-nodes-place.result in
+    let is : x ≡ get_or xs i 0 = is_item xs i x c.one_of-place.ensures.below c.index-nodes-place.is in
+    c.loop-broadcast.invariant.2 x (subst (λ a. Has xs a) (sym is) (has_place xs i 0 c.one_of-place.ensures.below))
+
+pub broadcast-requires-clause-made : goal.broadcast-requires-clause-made
+broadcast-requires-clause-made c =
+    let less : c.loop-broadcast._broadcast < c.args.count = omega arith in
+    room_next c.args.count c.loop-broadcast._broadcast (growth_of c.loop-broadcast.self) less
+    c.loop-broadcast.invariant.3

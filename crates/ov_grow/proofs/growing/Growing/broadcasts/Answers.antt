@@ -1,17 +1,23 @@
-use Rattle.std.proofs.Common.{◌<◌, length, refl, subst, sym, inl}
+use Rattle.std.proofs.Common.{◌<◌, length, refl, subst, sym, inl, inr}
 use Rattle.std.proofs.lemmas.Result.{IfErr-weaker, on_ok_weaker}
 use Rattle.ov_grow.specs.Broadcasts.{Broadcasts}
-use Rattle.ov_grow.specs.Code.Standing.{IsNoWay}
+use Rattle.ov_grow.specs.Code.Standing.{AllLive, IsNoWay, growth_of}
 use Rattle.ov_grow.specs.declared.fault.GrowFault.TheVariants.{OutOfMemory}
 use Rattle.ov_grow.proofs.Going.{passes_on}
 use Rattle.ov_grow.proofs.Broadcasting.{has_some}
 use Rattle.ov_grow.proofs.NoBroadcast.{no_way_begin, no_way_begun, no_way_broadcasts}
 use Rattle.ov_grow.proofs.Ways.{broadcasts_goes}
+use Rattle.ov_grow.specs.Faults.{IsFull}
 use Rattle.ov_grow.proofs.growing.Growing.broadcasts.Goals as goal
 
-pub begin_broadcasts-requires : goal.begin_broadcasts-requires
-begin_broadcasts-requires c = subst (λ xs. 0 < length xs) (sym c.deref.ensures.value)
-    (has_some c.in_ok-live.live.items c.requires.0 (c.in_ok-live.ensures.each c.requires.0 c.requires.1))
+pub begin_broadcasts-requires-clause-some : goal.begin_broadcasts-requires-clause-some
+begin_broadcasts-requires-clause-some c = subst (λ xs. 0 < length xs) (sym c.deref.ensures.value)
+    (has_some c.in_ok-live.live.items c.requires.live.0
+    (c.in_ok-live.ensures.each c.requires.live.0 c.requires.live.1))
+
+pub begin_broadcasts-requires-clause-live : goal.begin_broadcasts-requires-clause-live
+begin_broadcasts-requires-clause-live c = subst (λ xs. AllLive xs (growth_of c.args.self.now))
+    (sym c.deref.ensures.value) c.in_ok-live.ensures.live
 
 pub returns-in_err-live-clause-refused : goal.returns-in_err-live-clause-refused
 returns-in_err-live-clause-refused c =
@@ -47,3 +53,7 @@ returns-clause-refused c = IfErr-weaker _ _ _ (λ fault none. no_way_broadcasts 
     c.begin_broadcasts.new.self c.run_out.new.self fault c.in_ok-live.ensures c.deref.ensures.value
     c.deref-2.ensures.value c.in_ok-messages.ensures.goes c.in_ok-run_out.ensures.goes none)
     c.fire_timers.ensures.refused
+
+pub returns-in_err-live-clause-full : goal.returns-in_err-live-clause-full
+returns-in_err-live-clause-full c =
+    passes_on IsFull c.from_residual.result OutOfMemory c.from_residual.ensures.1 (inr (inr refl))

@@ -6,6 +6,8 @@ use Rattle.ov_grow.proofs.Analysing.{answered_kept}
 use Rattle.ov_grow.proofs.Going.{passes_on}
 use Rattle.ov_grow.proofs.NoPhase.{no_way_analysed, no_way_ending}
 use Rattle.ov_grow.proofs.Ways.{as_long_least, broadcasts_as_long, ends_goes}
+use Rattle.ov_grow.proofs.Crashing.{still_live}
+use Rattle.ov_grow.proofs.Making.{analysed_keeps, broadcasts_made, may_make_keeps}
 use Rattle.ov_grow.proofs.growing.Growing.end_phase.Goals as goal
 
 pub deliveries_after-deliveries-requires : goal.deliveries_after-deliveries-requires
@@ -38,3 +40,18 @@ returns-clause-ends c = ends_goes c.args.rules.now c.args.broadcasts c.in_ok-mom
 pub returns-clause-answered : goal.returns-clause-answered
 returns-clause-answered c = answered_kept c.analyse_now.new.self.recording.core c.broadcasts.new.self.recording.core
     c.in_ok-moment.moment c.in_ok-broadcasts.ensures.goes.kept c.in_ok-moment.ensures.answered
+
+pub broadcasts-requires-clause-made : goal.broadcasts-requires-clause-made
+broadcasts-requires-clause-made c =
+    let s = growth_of c.args.self.now in
+    let t = growth_of c.analyse_now.new.self in
+    may_make_keeps c.args.broadcasts s t
+    (analysed_keeps c.in_ok-moment.moment s t c.in_ok-moment.ensures.goes.way) c.requires.made
+
+pub returns-clause-lasting : goal.returns-clause-lasting
+returns-clause-lasting c =
+    let t = growth_of c.analyse_now.new.self in
+    let u = growth_of c.broadcasts.new.self in
+    still_live c.in_ok-moment.moment c.args.broadcasts t u c.in_ok-moment.ensures.within
+    (broadcasts_made c.args.rules.now c.args.broadcasts t u c.in_ok-broadcasts.ensures.goes.way)
+    c.in_ok-moment.ensures.lasting

@@ -1,11 +1,17 @@
 use Rattle.std.proofs.Common.{inl}
 use Rattle.std.proofs.lemmas.Result.{IfErr-weaker, IfOk-weaker}
 use Rattle.ov_grow.specs.Phases.{EndsPhase, Heal}
-use Rattle.ov_grow.specs.Code.Standing.{Goes, IsNoWay}
+use Rattle.ov_grow.specs.Code.Standing.{Goes, IsNoWay, growth_of}
 use Rattle.ov_grow.specs.declared.phase.Phase.{Phase}
 use Rattle.ov_grow.proofs.Going.{passes_on}
 use Rattle.ov_grow.proofs.NoPhase.{no_way_heal, no_way_healed, no_way_mended}
 use Rattle.ov_grow.proofs.Ways.{heal_goes}
+use Rattle.std.proofs.Common.{◌+◌, ◌≤◌, ap, arith, inr}
+use Rattle.ov_plum.specs.PlumState.{most_broadcasts}
+use Rattle.ov_grow_options.specs.Limits.{most_rounds}
+use Rattle.ov_grow.specs.Faults.{IsFull}
+use Rattle.ov_grow.proofs.Keeping.{keeps_same, keeps_trans}
+use Rattle.ov_grow.proofs.Making.{lives_keeps, made_keeps, reports_keep, rounds_keep}
 use Rattle.ov_grow.proofs.growing.Growing.heal.Goals as goal
 
 pub returns-in_err-comment-clause-refused : goal.returns-in_err-comment-clause-refused
@@ -47,3 +53,32 @@ returns-clause-refused c = IfErr-weaker _ _ _ (λ fault none. no_way_healed c.ar
     c.count.result c.count-2.result c.args.self.now c.comment.new.self c.report_crashes.new.self c.rounds.new.self
     fault c.healing-rules.ensures c.count.ensures.value c.count-2.ensures.value c.in_ok-comment.ensures.goes
     c.in_ok-report_crashes.ensures.goes c.in_ok-rounds.ensures.goes none) c.end_phase.ensures.refused
+
+pub end_phase-requires-clause-live : goal.end_phase-requires-clause-live
+end_phase-requires-clause-live c =
+    let s = growth_of c.args.self.now in
+    let t = growth_of c.comment.new.self in
+    let v = growth_of c.report_crashes.new.self in
+    let w = growth_of c.rounds.new.self in
+    let keeps = keeps_trans s t w (keeps_same s t (ap (λ g. g.world) c.in_ok-comment.ensures.goes.way))
+    (keeps_trans t v w (reports_keep c.healing-rules.result t v c.in_ok-report_crashes.ensures.goes.way)
+    (rounds_keep c.healing-rules.result c.count.result v w c.in_ok-rounds.ensures.goes.way)) in
+    lives_keeps s w keeps c.requires.live
+
+pub end_phase-requires-clause-made : goal.end_phase-requires-clause-made
+end_phase-requires-clause-made c =
+    let s = growth_of c.args.self.now in
+    let t = growth_of c.comment.new.self in
+    let v = growth_of c.report_crashes.new.self in
+    let w = growth_of c.rounds.new.self in
+    let keeps = keeps_trans s t w (keeps_same s t (ap (λ g. g.world) c.in_ok-comment.ensures.goes.way))
+    (keeps_trans t v w (reports_keep c.healing-rules.result t v c.in_ok-report_crashes.ensures.goes.way)
+    (rounds_keep c.healing-rules.result c.count.result v w c.in_ok-rounds.ensures.goes.way)) in
+    let few : most_rounds + most_rounds + c.count-2.result ≤ most_broadcasts =
+    omega (arith, c.count-2.ensures.limit) in
+    (most_rounds + most_rounds, made_keeps (most_rounds + most_rounds) s w keeps c.requires.made, few)
+
+pub returns-in_err-comment-clause-full : goal.returns-in_err-comment-clause-full
+returns-in_err-comment-clause-full c =
+    passes_on IsFull c.from_residual.result c.in_err-comment.field-0.0 c.from_residual.ensures.1
+    (inr (inr c.in_err-comment.ensures.refused))

@@ -4,6 +4,8 @@ use Rattle.ov_grow.specs.Code.Standing.{IsNoWay, growth_of}
 use Rattle.ov_grow.proofs.Going.{on_all, on_begun, passes_on}
 use Rattle.ov_grow.proofs.NoPhase.{left_reports, no_way_report, no_way_reported}
 use Rattle.ov_grow.proofs.Turning.{does_longer, longer_by, run_out_as_long}
+use Rattle.ov_grow.specs.Faults.{IsFull}
+use Rattle.ov_grow.proofs.Full.{told_full}
 use Rattle.ov_grow.proofs.growing.Growing.report_crashes.Goals as goal
 
 pub loop-node-init : goal.loop-node-init
@@ -41,3 +43,10 @@ loop-node-preserved c = left_reports c.args.rules.now _ _ c.args.self.now c.loop
 pub returns-clause-goes : goal.returns-clause-goes
 returns-clause-goes c = on_all (ReportCrashes c.args.rules.now) (ReportCrashes c.args.rules.now) c.args.self.now
     c.loop-node.self c.loop-node.invariant (0, (c.in_default.ensures.none, refl))
+
+pub returns-in_err-act-clause-full : goal.returns-in_err-act-clause-full
+returns-in_err-act-clause-full c =
+    let fault = c.in_err-act.field-0.0 in
+    let (p, lives, has, gone) = c.in-Some.ensures.some.has in
+    passes_on IsFull c.from_residual.result fault c.from_residual.ensures.1
+    (told_full c.loop-node.self _ _ fault (p, lives) gone c.in_err-act.ensures.judged)

@@ -8,6 +8,8 @@ use Rattle.ov_grow.proofs.Acting.{act_goes}
 use Rattle.ov_grow.proofs.Going.{passes_on}
 use Rattle.ov_grow.proofs.NoPhase.{snapshot_fresh}
 use Rattle.ov_grow.proofs.NoTurn.{act_refused}
+use Rattle.ov_grow.specs.Faults.{IsFull}
+use Rattle.ov_grow.proofs.Full.{snapshot_full}
 use Rattle.ov_grow.proofs.growing.Growing.take_snapshot.Goals as goal
 
 pub returns-in_err-act-clause-refused : goal.returns-in_err-act-clause-refused
@@ -24,3 +26,9 @@ returns-clause-goes c = act_goes _ _ _ _ _ refl c.in_ok-act.ensures.happened c.i
 pub returns-clause-fresh : goal.returns-clause-fresh
 returns-clause-fresh c = snapshot_fresh _ _ _ _ (subst (λ b. IsSound b) c.core.ensures c.world-world.ensures.sound)
     c.in_ok-act.ensures.happened
+
+pub returns-in_err-act-clause-full : goal.returns-in_err-act-clause-full
+returns-in_err-act-clause-full c =
+    let f = c.in_err-act.field-0.0 in
+    passes_on IsFull c.from_residual.result (of_event f) c.from_residual.ensures.1
+    (snapshot_full c.args.self.now f c.in_err-act.ensures.refused)
