@@ -46,8 +46,8 @@ impl Drop for Grown {
 /// here.
 ///
 /// A fault (see `GrowFault`) ends growing, and nothing is returned. It means that memory ran out (99), or that with
-/// these options nothing can be grown, by whatever scenario: the event that comes next is refused at some step, or no
-/// node lives when a snapshot is taken.
+/// these options nothing can be grown, by whatever scenario: at some step the journal is full (16), or too few places
+/// for packets are free (15). No other fault occurs.
 pub fn grow(alloc: Global, options: &GrowOptions) -> Result<Grown, GrowFault>
     ensures grows { IfOk result
         (λ g. Grows options.now g.text.items g.core.world g.settled g.crashed g.healed) }
