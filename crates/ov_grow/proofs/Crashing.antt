@@ -1,6 +1,6 @@
 -- Which nodes may crash, and what crashes leave of the nodes.
 use Rattle.std.proofs.Common.{◌≡◌, ◌≢◌, ◌<◌, ◌≤◌, ◌+◌, ◌*◌, ◌/◌, ℕ, zero, suc, Bool, true, false, cond, List, [], ◌∷◌, length}
-use Rattle.std.proofs.Common.{◌++◌, take, drop, get_or, Option, Some, None, refl, sym, ap, subst, ◌∙◌, inl, inr, arith}
+use Rattle.std.proofs.Common.{take, Option, Some, None, refl, sym, ap, subst, ◌∙◌, inl, inr, arith}
 use Rattle.std.proofs.Common.{◌-◌}
 use Rattle.std.specs.Prelude.{remove, slice_get}
 use Rattle.std.specs.declared.cmp.Ordering.{Ordering}
@@ -11,11 +11,11 @@ use Rattle.std.specs.FinMap as map
 use Rattle.std.specs.FinMap.{get-empty, get-insert, nat_cmp-IsAntisymmetric}
 use Rattle.std.proofs.lemmas.Option.{none-some, same_Some}
 use Rattle.rand_pcg.specs.Lcg.{Lcg}
-use Rattle.ov_ids.specs.Members.{Has, IsDistinct, Ascends}
+use Rattle.ov_ids.specs.Members.{Has, IsDistinct}
 use Rattle.ov_ids.proofs.Members.{ascends_distinct}
 use Rattle.ov_peer.specs.PeerState.{PeerState}
 use Rattle.ov_peer.specs.declared.input.Input.TheVariants as input
-use Rattle.ov_net.specs.Net.{Net, LivesAs}
+use Rattle.ov_net.specs.Net.{Net}
 use Rattle.ov_net.specs.declared.member.Member.{Member}
 use Rattle.ov_net.specs.declared.member.Member.TheVariants.{Live, Gone}
 use Rattle.ov_net.proofs.Journal.Outcomes.{gone_dead, same_live}
@@ -33,17 +33,16 @@ use Rattle.ov_grow_options.specs.Limits.{most_share}
 use Rattle.ov_grow_options.specs.declared.options.GrowOptions.{GrowOptions}
 use Rattle.ov_script.specs.declared.act.Act.TheVariants as act
 use Rattle.ov_grow.specs.Choices.{IsRandomOrder, later, one_of}
-use Rattle.ov_grow.specs.Growth.{Growth, AreLive, Does, IsLive, SomebodyLives}
-use Rattle.ov_grow.specs.Rounds.{AreLiveInOrder, DoesEach}
+use Rattle.ov_grow.specs.Growth.{Growth, Does, IsLive, SomebodyLives}
+use Rattle.ov_grow.specs.Rounds.{DoesEach}
 use Rattle.ov_grow_options.specs.declared.options.Crash.{Crash}
 use Rattle.ov_grow_options.specs.declared.options.Crash.TheVariants.{Share, Cut}
-use Rattle.ov_grow.specs.Phases.{AreShareOfLive, AreToCrash, IsCutAt, cut_of, Births, CrashNodes, Join, joining, settling}
+use Rattle.ov_grow.specs.Phases.{AreShareOfLive, AreToCrash, IsCutAt, cut_of, Births, Join, joining}
 use Rattle.ov_grow.specs.Code.Standing.{AllLive, HaveMade, MayCrash, StillLive}
-use Rattle.ov_grow.specs.declared.phase.Phase.{Phase}
 use Rattle.ov_grow.specs.declared.turn_rules.TurnRules.{TurnRules}
 use Rattle.ov_grow.proofs.Keeping.{keeps_same, lives_still, order_has, order_lives, turns_keep}
 use Rattle.ov_grow.proofs.Made.{none_made}
-use Rattle.ov_grow.proofs.Making.{MakesMost, ending_made, makes_none, makes_then, run_out_keeps}
+use Rattle.ov_grow.proofs.Making.{MakesMost, makes_none, makes_then, run_out_keeps}
 
 -- a birth: nobody else changes, and the new node has made no broadcast
 boot_made : (s u : Growth) (id : ℕ) (contact : Option ℕ) → Does s (act.Boot id contact) u → MakesMost 0 s u
@@ -57,9 +56,9 @@ boot_made s u id contact did =
           (x, ap (λ n. map.get n a) nodes ∙ (get-insert nat_cmp_total m id (Live q) a ∙ still));
       made = λ k most a x living. elim (inserted_cases nat_cmp_total nat_cmp-IsAntisymmetric m id (Live q) a (Live x)
           (subst (λ n. map.get n a ≡ Some (Live x)) nodes living)) [
-        | inl here ↦ subst (λ (y : PeerState). y.tree.made ≤ k + 0) (same_live q x here.1) (omega (arith, none))
-        | inr there ↦ let least = most a x there.1 in omega (arith, least)
-      ];
+            | inl here ↦ subst (λ (y : PeerState). y.tree.made ≤ k + 0) (same_live q x here.1) (omega (arith, none))
+            | inr there ↦ let least = most a x there.1 in omega (arith, least)
+          ];
       more = did.entry ∷ [];
       journal = did.step.journal;
     }

@@ -1,14 +1,13 @@
 -- Of the world's refusals only that of a full journal and that of too few places for packets end turns, rounds and births.
-use Rattle.std.proofs.Common.{◌≡◌, ◌≢◌, ◌<◌, ◌≤◌, ◌+◌, ℕ, Bool, true, false, List, [], ◌∷◌, ◌++◌, length, Option, Some, None}
+use Rattle.std.proofs.Common.{◌≡◌, ◌≢◌, ◌<◌, ◌≤◌, ◌+◌, ℕ, true, false, List, [], ◌∷◌, length, Option, Some, None}
 use Rattle.std.proofs.Common.{refl, sym, ap, subst, ◌∙◌, inl, inr, ◌⊎◌, arith, length-append}
-use Rattle.std.specs.Prelude.{MatchBool, remove, slice_get}
+use Rattle.std.specs.Prelude.{remove}
 use Rattle.std.specs.FinMap as map
 use Rattle.std.proofs.lemmas.Option.{same_Some}
 use Rattle.std.specs.Prelude.{IsTrue}
 use Rattle.std.specs.FinSet as set
 use Rattle.ov_ids.specs.declared.id.MsgId.{MsgId}
 use Rattle.ov_wire.specs.Messages.{most_payload}
-use Rattle.ov_plum.specs.PlumState.{most_broadcasts}
 use Rattle.ov_grow.specs.Broadcasts.{TimerRuns}
 use Rattle.ov_grow.proofs.Living.{one_state}
 use Rattle.ov_ids.specs.FaultOrder.{HoldsThen, Passed}
@@ -16,7 +15,7 @@ use Rattle.ov_ids.proofs.Stepping.{step_passes}
 use Rattle.ov_wire.specs.declared.message.Message.{Message}
 use Rattle.ov_peer.specs.PeerState.{PeerState}
 use Rattle.ov_peer.specs.declared.input.Delivery.{Delivery}
-use Rattle.ov_net.specs.Limits.{most_entries, most_world_nodes}
+use Rattle.ov_net.specs.Limits.{most_world_nodes}
 use Rattle.ov_net.specs.Net.{Net, LivesAs, IsGone}
 use Rattle.ov_net.specs.NetStep.{Received}
 use Rattle.ov_net.specs.Refusals.{BirthLast, ContactThen, EventJudged, HasPlaces, HasTimer, IsBorn, IsRefusal, LiveThen}
@@ -28,7 +27,6 @@ use Rattle.ov_net.specs.declared.fault.NetFault.{NetFault}
 use Rattle.ov_net.specs.declared.fault.NetFault.TheVariants.{UnknownNode, CrashedNode, NoSuchPacket, NotCrashed}
 use Rattle.ov_net.specs.declared.fault.NetFault.TheVariants.{TooManyEntries, TooManyNodes, TooManyPackets, UsedId}
 use Rattle.ov_net.specs.declared.fault.NetFault.TheVariants.{NoTimer, PayloadTooLong, TooManyMessages}
-use Rattle.ov_net.specs.declared.fault.NetFault.TheVariants as net_fault
 use Rattle.ov_net.specs.declared.journal_entry_and_changes.Change.{Change}
 use Rattle.ov_net.specs.declared.member.Member.{Member}
 use Rattle.ov_net.specs.declared.member.Member.TheVariants.{Live, Gone}

@@ -2,7 +2,7 @@
 use Rattle.std.proofs.Common.{◌≡◌, ◌≢◌, ℕ, zero, suc, ◌+◌, Bool, true, false, cond, List, Option, Some, None, refl, sym}
 use Rattle.std.proofs.Common.{[], ◌∷◌, ◌≤◌, ap, subst, ◌∙◌, inl, inr, arith, length}
 use Rattle.std.proofs.lemmas.Bool.{cases_eq}
-use Rattle.std.specs.Prelude.{MatchBool, is_some, remove, slice_get}
+use Rattle.std.specs.Prelude.{MatchBool, is_some, remove}
 use Rattle.std.specs.Ordering.{eq_by_cmp, nat_cmp}
 use Rattle.std.specs.FinMap as map
 use Rattle.std.specs.Cmp.{nat_cmp_total}
@@ -27,12 +27,12 @@ use Rattle.ov_net.proofs.Journal.Outcomes.{same_live}
 use Rattle.ov_net.proofs.Steps.Places.{has_at, has_remove, inserted_cases, inserted_here}
 use Rattle.ov_script.specs.declared.act.Act.TheVariants as act
 use Rattle.ov_grow.specs.Choices.{IsRandomOrder, later, one_of}
-use Rattle.ov_grow.specs.Growth.{Growth, Does, IsLive, Tries}
+use Rattle.ov_grow.specs.Growth.{Growth, Does, IsLive}
 use Rattle.ov_grow.specs.Rounds.{AreLiveInOrder}
-use Rattle.ov_grow.specs.Turns.{Arrives, IsDelivered, IsTurnOf, MayBeRepeated, SenderIsTold, Turn, TurnsUpTo}
+use Rattle.ov_grow.specs.Turns.{Arrives, IsDelivered, MayBeRepeated, SenderIsTold, Turn, TurnsUpTo}
 use Rattle.ov_grow.specs.Code.Standing.{AllLive, AreBorn, BornIn}
 use Rattle.ov_grow.specs.declared.turn_rules.TurnRules.{TurnRules}
-use Rattle.ov_grow.proofs.Made.{MakesNone, none_made, one_made}
+use Rattle.ov_grow.proofs.Made.{MakesNone, none_made}
 use Rattle.ov_grow.proofs.Turning.{whose_same}
 
 -- who lives goes on living, nobody is born, as many were born, and nobody has made a broadcast more
@@ -111,10 +111,10 @@ new_state m a p q lives fewer = record {
       ∙ ap (λ b. cond b (map.len m) (map.len m + 1)) (ap (λ o. is_some o) lives);
   made = λ b x is. elim (inserted_cases nat_cmp_total nat_cmp-IsAntisymmetric m a (Live q) b (Live x) is) [
     | inl here ↦ (
-        p,
-        subst (λ i. map.get m i ≡ Some (Live p)) here.0 lives,
-        subst (λ (y : PeerState). y.tree.made ≤ p.tree.made) (same_live q x here.1) fewer,
-      )
+      p,
+      subst (λ i. map.get m i ≡ Some (Live p)) here.0 lives,
+      subst (λ (y : PeerState). y.tree.made ≤ p.tree.made) (same_live q x here.1) fewer,
+    )
     | inr there ↦ (x, there.1, omega arith)
   ];
 }
@@ -268,8 +268,11 @@ one_born n id contact s u born is did =
     let nodes : u.world.net.nodes ≡ map.insert m id (Live q) = ap (λ (x : Net). x.nodes) same in
     subst (λ (x : map.FinMap nat_cmp Member). BornIn (n + 1) x) (sym nodes) (record {
       live = λ a least most. elim (cases_eq a id) [
-        | inl here ↦ (q, subst (λ i. map.get (map.insert m id (Live q)) i ≡ Some (Live q)) (sym here)
-            (inserted_here nat_cmp_total m id (Live q)))
+        | inl here ↦ (
+          q,
+          subst (λ i. map.get (map.insert m id (Live q)) i ≡ Some (Live q)) (sym here)
+              (inserted_here nat_cmp_total m id (Live q)),
+        )
         | inr other ↦ let (p, lives) = born.live a least (omega (arith, most, is, other)) in
             let (x, living) = lives_still (eq_by_cmp nat_cmp a id) p q (map.get m a) lives in
             (x, get-insert nat_cmp_total m id (Live q) a ∙ living)

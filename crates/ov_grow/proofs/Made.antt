@@ -1,8 +1,7 @@
 -- How many broadcasts a node has made: only a broadcast of its own is one more.
-use Rattle.std.proofs.Common.{◌≡◌, ℕ, ◌+◌, ◌||◌, Bool, List, [], ◌∷◌, Option, ap, ◌∙◌, eqb, not}
+use Rattle.std.proofs.Common.{◌≡◌, ℕ, ◌+◌, ◌||◌, List, [], ◌∷◌, Option, ap, ◌∙◌, eqb, not}
 use Rattle.std.specs.Prelude.{⊤}
 use Rattle.std.specs.FinMap as map
-use Rattle.ov_ids.specs.declared.id.MsgId.{MsgId}
 use Rattle.ov_ids.proofs.Cases.{either_way}
 use Rattle.ov_wire.specs.declared.message.Message.{Message}
 use Rattle.ov_wire.specs.declared.message.Body.{Body}

@@ -1,5 +1,5 @@
 -- What longer ways leave of the nodes: who lives, and how many broadcasts each has made.
-use Rattle.std.proofs.Common.{◌≡◌, ◌≢◌, ◌≤◌, ◌+◌, ℕ, zero, suc, Bool, true, false, List, [], ◌∷◌, Option, Some, None, refl}
+use Rattle.std.proofs.Common.{◌≡◌, ◌≤◌, ◌+◌, ℕ, zero, suc, Bool, true, false, List, [], ◌∷◌, Some}
 use Rattle.std.proofs.Common.{sym, ap, subst, ◌∙◌, inl, inr, arith}
 use Rattle.std.specs.Ordering.{eq_by_cmp, nat_cmp}
 use Rattle.std.specs.Cmp.{nat_cmp_total}
@@ -13,7 +13,6 @@ use Rattle.ov_net.specs.declared.journal_entry_and_changes.Entry.{Entry}
 use Rattle.ov_net.proofs.Journal.Outcomes.{same_live}
 use Rattle.ov_net.proofs.Steps.Places.{inserted_cases}
 use Rattle.std.proofs.Common.{◌++◌, ◌<◌, append_assoc, length}
-use Rattle.ov_ids.specs.Members.{Has}
 use Rattle.ov_plum.specs.PlumState.{most_broadcasts}
 use Rattle.ov_net.specs.Journal as journal
 use Rattle.ov_net.specs.World.{Stands}
@@ -21,9 +20,9 @@ use Rattle.ov_grow_options.specs.declared.options.GrowOptions.{GrowOptions}
 use Rattle.ov_script.specs.declared.act.Act.TheVariants as act
 use Rattle.ov_grow.specs.Growth.{Growth, Does, IsLive, SomebodyLives}
 use Rattle.ov_grow.specs.Turns.{RunOut}
-use Rattle.ov_grow.specs.Rounds.{AreLiveInOrder, DoesEach, Round, Rounds}
-use Rattle.ov_grow.specs.Broadcasts.{BroadcastBy, Broadcasts, BroadcastsBegin, Fire, FireAt, FireAtEach, FireTimes}
-use Rattle.ov_grow.specs.Broadcasts.{FiresIfItRuns, TimersFire}
+use Rattle.ov_grow.specs.Rounds.{DoesEach, Round, Rounds}
+use Rattle.ov_grow.specs.Broadcasts.{BroadcastBy, Broadcasts, BroadcastsBegin, FireAt, FireAtEach, FireTimes}
+use Rattle.ov_grow.specs.Broadcasts.{FiresIfItRuns}
 use Rattle.ov_grow.specs.Phases.{EndsPhase, IsAnalysedAt, ReportCrashes, ReportTimes, Settle, settling}
 use Rattle.ov_grow.specs.Code.Standing.{AllLive, HaveMade, MayMake, StillLive}
 use Rattle.ov_grow.specs.declared.phase.Phase.{Phase}
@@ -70,10 +69,10 @@ broadcast_made s u node did =
           (x, ap (λ n. map.get n a) nodes ∙ (get-insert nat_cmp_total m node (Live q) a ∙ still));
       made = λ k most a x living. elim (inserted_cases nat_cmp_total nat_cmp-IsAntisymmetric m node (Live q) a (Live x)
           (subst (λ n. map.get n a ≡ Some (Live x)) nodes living)) [
-        | inl here ↦ let least = most node p lives in
-            subst (λ (y : PeerState). y.tree.made ≤ k + 1) (same_live q x here.1) (omega (arith, one, least))
-        | inr there ↦ let least = most a x there.1 in omega (arith, least)
-      ];
+            | inl here ↦ let least = most node p lives in
+                subst (λ (y : PeerState). y.tree.made ≤ k + 1) (same_live q x here.1) (omega (arith, one, least))
+            | inr there ↦ let least = most a x there.1 in omega (arith, least)
+          ];
       more = did.entry ∷ [];
       journal = did.step.journal;
     }
@@ -131,9 +130,11 @@ ending_made rules n s u phase (t, analysed, broadcasts, count) =
 pub ending_live : (rules : TurnRules) (n : ℕ) (s u : Growth) (phase : Phase) → EndsPhase rules n s phase u
     → SomebodyLives u
 ending_live rules n s u phase (t, (v, did, (a, lives), is, writes), broadcasts, count) =
-    let same : t.world ≡ v.world = ap (λ g. g.world) writes in
-    (a, (broadcasts_made rules n t u broadcasts).live a
-    (subst (λ w. (p : PeerState) × LivesAs w.net a p) (sym same) lives))
+    let same : t.world ≡ v.world = ap (λ g. g.world) writes in (
+      a,
+      (broadcasts_made rules n t u broadcasts).live a
+          (subst (λ w. (p : PeerState) × LivesAs w.net a p) (sym same) lives),
+    )
 
 each_keeps : (nodes : List ℕ) (s u : Growth) → DoesEach act.Shuffle nodes s u → Keeps s u
 each_keeps [] s u same = keeps_same s u (ap (λ g. g.world) same)

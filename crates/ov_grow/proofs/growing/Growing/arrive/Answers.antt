@@ -3,7 +3,6 @@ use Rattle.ov_grow.specs.Turns.{Arrives, IsDelivered, MayBeRepeated}
 use Rattle.ov_grow.specs.Code.Standing.{IsNoWay, growth_of}
 use Rattle.ov_grow.proofs.Going.{goes_on, no_way_by, passes_on}
 use Rattle.ov_grow.proofs.OneGrowth.{arrival_rest}
-use Rattle.ov_grow.specs.Faults.{IsFull}
 use Rattle.ov_grow.proofs.Full.{still_there}
 use Rattle.ov_grow.proofs.growing.Growing.arrive.Goals as goal
 

@@ -7,7 +7,7 @@ use Rattle.ov_grow.proofs.Going.{goes_still, passes_on}
 use Rattle.ov_grow.proofs.Broadcasting.{broadcasts_end}
 use Rattle.ov_grow.proofs.NoBroadcast.{left_next, no_way_next}
 use Rattle.ov_grow.proofs.Ways.{begin_goes}
-use Rattle.std.proofs.Common.{◌<◌, get_or, length, refl}
+use Rattle.std.proofs.Common.{◌<◌, get_or, refl}
 use Rattle.ov_ids.specs.Members.{Has}
 use Rattle.ov_ids.proofs.Members.{has_place}
 use Rattle.ov_grow.specs.declared.growing.Growing.{Growing}

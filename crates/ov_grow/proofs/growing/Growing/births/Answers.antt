@@ -19,8 +19,7 @@ loop-id-init c =
     let r = c.args.rules.now in
     let p = c.args.pace in
     let b = c.args.self.now in
-    let all : c.args.nodes + 1 - 2 ≡ c.args.nodes - 1 = omega arith in
-    (
+    let all : c.args.nodes + 1 - 2 ≡ c.args.nodes - 1 = omega arith in (
       subst (λ k. IsOn (Births r p 2 (c.args.nodes - 1)) (Births r p 2 k) b b) (sym all)
           (on_begun (Births r p 2 (c.args.nodes - 1)) b),
       c.requires.born,
@@ -82,8 +81,7 @@ loop-id-preserved c =
     let before : id ≡ id - 1 + 1 = omega arith in
     let after : id - 1 + 1 ≡ id + 1 - 1 = omega arith in
     let born = born_turns r p (id - 1) (growth_of s) (growth_of t) c.in_ok-turns.ensures.goes.way
-    c.loop-id.invariant.1 in
-    (
+    c.loop-id.invariant.1 in (
       record {
         goes = λ u more. c.loop-id.invariant.0.goes u (births_more r p id n m c.one_of.result c.new.result
             c.new-in-loop-id.result s t v w u one c.in_ok-turns.ensures.goes chooses refl c.new.ensures contact

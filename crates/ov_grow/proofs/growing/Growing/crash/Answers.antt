@@ -13,7 +13,7 @@ use Rattle.ov_plum.specs.PlumState.{most_broadcasts}
 use Rattle.ov_grow_options.specs.Limits.{most_rounds}
 use Rattle.ov_grow.specs.Faults.{IsFull}
 use Rattle.ov_grow.specs.Growth.{SomebodyLives}
-use Rattle.ov_grow.proofs.Crashing.{crashes_made, spared_lives_on, still_live, to_crash_same}
+use Rattle.ov_grow.proofs.Crashing.{crashes_made, spared_lives_on, to_crash_same}
 use Rattle.ov_grow.proofs.Keeping.{keeps_same, keeps_trans}
 use Rattle.ov_grow.proofs.Making.{ending_live, ending_made, have_more, lives_keeps, made_keeps}
 use Rattle.ov_grow.proofs.growing.Growing.crash.Goals as goal

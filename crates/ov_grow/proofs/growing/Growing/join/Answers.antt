@@ -1,4 +1,4 @@
-use Rattle.std.proofs.Common.{None, ap, ◌∙◌, inl, inr, refl}
+use Rattle.std.proofs.Common.{None, ap, ◌∙◌, inl, inr}
 use Rattle.std.proofs.lemmas.Result.{IfErr-weaker, on_ok_weaker}
 use Rattle.ov_grow.specs.Faults.{IsFull}
 use Rattle.ov_grow.specs.Phases.{Join}

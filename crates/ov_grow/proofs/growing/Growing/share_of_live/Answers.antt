@@ -1,4 +1,4 @@
-use Rattle.std.proofs.Common.{rules, ◌≡◌, ◌≤◌, ◌*◌, ◌/◌, arith, length, subst, take}
+use Rattle.std.proofs.Common.{rules, ◌≡◌, ◌≤◌, ◌*◌, ◌/◌, length, subst, take}
 use Rattle.ov_grow_options.specs.Limits.{most_share}
 use Rattle.ov_grow.specs.Code.Standing.{growth_of}
 use Rattle.ov_grow.proofs.Crashing.{share_may_crash}

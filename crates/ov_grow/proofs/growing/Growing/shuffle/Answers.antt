@@ -41,8 +41,7 @@ loop-node-preserved c =
     let t = c.loop-node.self in
     let v = c.act.new.self in
     let within : i < length xs = omega arith in
-    let is : x ≡ get_or xs i 0 = is_item xs i x within c.node-item.is in
-    (
+    let is : x ≡ get_or xs i 0 = is_item xs i x within c.node-item.is in (
       on_more (DoesEach act.Shuffle xs) (DoesEach act.Shuffle (drop i xs)) (λ s u. Does s (act.Shuffle x) u)
           (DoesEach act.Shuffle (drop (i + 1) xs)) c.args.self.now t v c.loop-node.invariant.0
           (λ u did rest. each_more act.Shuffle xs i x (growth_of t) (growth_of v) u within is did rest)
