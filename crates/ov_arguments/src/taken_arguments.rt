@@ -13,13 +13,16 @@ const EXAMPLES: &str = "\
 Examples:
   overlay run story.scenario --explain
   overlay analyse net.graph --workers 4
-  overlay analyse net.graph --certificate";
+  overlay analyse net.graph --certificate
+  overlay grow --nodes 60 --crash 10 | overlay run
+  overlay sweep --active 3,5,8 --summary";
 
 /// What help says of `overlay`.
-const ABOUT: &str = "Runs a scenario file of overlay nodes, or analyses a graph file.";
+const ABOUT: &str = "Runs a scenario file of overlay nodes, analyses a graph file, or grows overlays.";
 
 /// What help says below the commands.
 const BELOW: &str = "\
+Two more commands: grow grows an overlay, and sweep many; see overlay help grow and overlay help sweep.
 Without a file, or with -, a command reads standard input.
 Bare overlay is overlay run. overlay --version prints the version.";
 

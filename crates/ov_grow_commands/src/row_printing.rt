@@ -4,11 +4,9 @@ ghost use Rattle.ov_grow_commands.specs.KeptRows.{needs_rows};
 ghost use Rattle.ov_grow_commands.specs.Code.Keeping.{IsOfNoRun, kept_rows};
 
 use ov_grow_arguments::{Printed, SweepRequest};
-use ov_ids::OutOfMemory;
 use ov_io::Sink;
 use ov_sweep::{RowTaker, SweepFault};
 use ov_sweep_rows::{Row, header_text, row_text};
-use std::alloc::Global;
 
 /// Is told how far a sweep has come.
 pub trait RunWatcher {
@@ -63,15 +61,14 @@ impl<'a, V: RunWatcher> RowPrinter<'a, V> {
         Ok(Sink::new(self.rt.stdout()).write_all(&text)?)
     }
 
-    /// Prints rows at once, if they are asked for.
+    /// Prints rows, if they are asked for. Each is written by itself, so that a signal leaves whole rows.
     fn print(&self, rows: &[Row]) -> Result<(), SweepFault>
         ensures { IfErr result IsOfNoRun }
     {
         if self.request.printed != Printed::Rows {
             return Ok(());
         }
-        let text = rows_text(self.rt.alloc(), rows)?;
-        Ok(Sink::new(self.rt.stdout()).write_all(&text)?)
+        write_rows(self.rt, rows)
     }
 
     /// Keeps rows, if a summary or a picture needs them.
@@ -109,17 +106,21 @@ impl<'a, V: RunWatcher> RowTaker for RowPrinter<'a, V> {
         self.print(rows)?;
         self.keep(rows)?;
         self.done = self.done.saturating_add(rows.len() as u64);
-        self.watcher
-            .sees(self.done, self.request.len(), self.request.progress);
+        if self.done > 0 {
+            self.watcher
+                .sees(self.done, self.request.len(), self.request.progress);
+        }
         Ok(())
     }
 }
 
-/// The text of rows.
-pub(crate) fn rows_text(alloc: Global, rows: &[Row]) -> Result<Vec<u8>, OutOfMemory> {
-    let mut text = Vec::new(alloc);
+/// Writes rows to standard output, one after the other.
+pub(crate) fn write_rows(rt: &HostRuntime, rows: &[Row]) -> Result<(), SweepFault>
+    ensures { IfErr result IsOfNoRun }
+{
     for row in rows {
-        text.extend_from_slice(&row_text(alloc, row)?)?;
+        let text = row_text(rt.alloc(), row)?;
+        Sink::new(rt.stdout()).write_all(&text)?;
     }
-    Ok(text)
+    Ok(())
 }

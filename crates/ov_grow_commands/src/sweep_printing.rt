@@ -1,12 +1,13 @@
-ghost use Rattle.std.specs.Prelude.{IfOk, IsTrue};
+ghost use Rattle.std.specs.Prelude.{IsTrue};
 ghost use Rattle.ov_grow_commands.specs.KeptRows.{AreGrown, needs_rows};
 
 use crate::growth_fault::GrowthFault;
 use crate::row_files::rows_of_files;
-use crate::row_printing::{RowPrinter, RunWatcher, rows_text};
+use crate::row_printing::{RowPrinter, RunWatcher, write_rows};
 use crate::scenario_growing::{print_refusal, told, unread_words};
 use ov_grow_arguments::{Printed, SweepRequest, read_sweep_arguments};
-use ov_io::Sink;
+use ov_ids::OutOfMemory;
+use ov_io::{Sink, unopened_text};
 use ov_sweep::{RefusedRun, SweepFault, sweep};
 use ov_sweep_report::{settings_of, summary_text, svg_text};
 use ov_sweep_rows::{Row, header_text};
@@ -50,13 +51,12 @@ fn print_sweep<T: Threads + Sync, V: RunWatcher>(
     request: &SweepRequest,
     watcher: &mut V,
 ) -> Result<(), GrowthFault> {
-    let rows = match &request.read {
-        Some(files) => read_and_print(rt, request, files)?,
-        None => grow_and_print(rt, threads, request, watcher)?,
-    };
-    match print_report(rt, request, &rows) {
-        Ok(()) => Ok(()),
-        Err(fault) => Err(told(rt, fault)),
+    match &request.read {
+        Some(files) => {
+            let rows = read_and_print(rt, request, files)?;
+            print_report(rt, request, &rows)
+        }
+        None => grow_and_print(rt, threads, request, watcher),
     }
 }
 
@@ -77,55 +77,70 @@ fn read_and_print(
 
 /// Prints the header, and these rows.
 fn print_rows(rt: &HostRuntime, rows: &[Row]) -> Result<(), GrowthFault> {
-    let mut text = header_text(rt.alloc())?;
-    text.extend_from_slice(&rows_text(rt.alloc(), rows)?)?;
-    Ok(Sink::new(rt.stdout()).write_all(&text)?)
+    let header = header_text(rt.alloc())?;
+    Sink::new(rt.stdout()).write_all(&header)?;
+    match write_rows(rt, rows) {
+        Ok(()) => Ok(()),
+        Err(SweepFault::OutOfMemory) => Err(GrowthFault::OutOfMemory),
+        Err(_) => Err(GrowthFault::Write),
+    }
 }
 
-/// Grows the overlays of a sweep, and prints their rows, unless a summary is asked for. The rows are returned if they are
-/// needed for a summary or a picture. Prints why it ended before its end.
+/// Grows the overlays of a sweep, and prints their rows, or a summary of them, and writes the picture if one is asked
+/// for. If a run is refused, the summary and the picture are of the runs before it. Prints why it ended before its end.
 fn grow_and_print<T: Threads + Sync, V: RunWatcher>(
     rt: &HostRuntime,
     threads: &T,
     request: &SweepRequest,
     watcher: &mut V,
-) -> Result<Vec<Row>, GrowthFault>
-    ensures { IfOk result (λ rows. IsTrue (needs_rows request.now) → AreGrown rows.items) }
-{
-    match grown_rows(rt, threads, request, watcher) {
-        Ok(rows) => Ok(rows),
-        Err(fault) => Err(ended(rt, fault)),
+) -> Result<(), GrowthFault> {
+    let Swept { rows, done } = swept(rt, threads, request, watcher);
+    match done {
+        Ok(()) => print_report(rt, request, &rows),
+        Err(SweepFault::Run(refused)) => {
+            if !rows.is_empty() {
+                print_report(rt, request, &rows)?;
+            }
+            Err(refused_run(rt, &refused))
+        }
+        Err(SweepFault::Write) => Err(told(rt, GrowthFault::Write)),
+        Err(SweepFault::OutOfMemory) => Err(told(rt, GrowthFault::OutOfMemory)),
     }
 }
 
-/// Grows the overlays of a sweep, and prints their rows, unless a summary is asked for. The rows are returned if they are
-/// needed for a summary or a picture.
-fn grown_rows<T: Threads + Sync, V: RunWatcher>(
+/// What came of a sweep.
+#[derive(Drop)]
+struct Swept {
+    /// The rows, if they are needed for a summary or a picture.
+    rows: Vec<Row>,
+    /// How it ended.
+    done: Result<(), SweepFault>,
+}
+
+/// Grows the overlays of a sweep, and prints their rows, unless a summary is asked for. The rows are returned if a summary
+/// or a picture needs them.
+fn swept<T: Threads + Sync, V: RunWatcher>(
     rt: &HostRuntime,
     threads: &T,
     request: &SweepRequest,
     watcher: &mut V,
-) -> Result<Vec<Row>, SweepFault>
-    ensures { IfOk result (λ rows. IsTrue (needs_rows request.now) → AreGrown rows.items) }
+) -> Swept
+    ensures { IsTrue (needs_rows request.now) → AreGrown result.rows.items }
 {
     let mut printer = RowPrinter::new(rt, request, watcher);
-    printer.print_header()?;
-    sweep(
-        threads,
-        rt.alloc(),
-        request.runs(),
-        request.workers,
-        &mut printer,
-    )?;
-    Ok(printer.into_kept())
-}
-
-/// Ends a sweep. Prints why.
-fn ended(rt: &HostRuntime, fault: SweepFault) -> GrowthFault {
-    match fault {
-        SweepFault::Run(refused) => refused_run(rt, &refused),
-        SweepFault::Write => told(rt, GrowthFault::Write),
-        SweepFault::OutOfMemory => told(rt, GrowthFault::OutOfMemory),
+    let done = match printer.print_header() {
+        Ok(()) => sweep(
+            threads,
+            rt.alloc(),
+            request.runs(),
+            request.workers,
+            &mut printer,
+        ),
+        Err(fault) => Err(fault),
+    };
+    Swept {
+        rows: printer.into_kept(),
+        done,
     }
 }
 
@@ -138,26 +153,51 @@ fn refused_run(rt: &HostRuntime, refused: &RefusedRun) -> GrowthFault {
     ended
 }
 
-/// Prints the summary of these rows, and writes their picture, as far as they are asked for.
+/// Prints the summary of these rows, and writes their picture, as far as they are asked for. Prints why it ended before
+/// its end.
 fn print_report(rt: &HostRuntime, request: &SweepRequest, rows: &[Row]) -> Result<(), GrowthFault> {
-    let settings = settings_of(rt.alloc(), rows)?;
     if request.printed == Printed::Summary {
-        let text = summary_text(rt.alloc(), &settings)?;
-        Sink::new(rt.stdout()).write_all(text.as_bytes())?;
+        if let Err(fault) = print_summary(rt, rows) {
+            return Err(told(rt, fault));
+        }
     }
     match request.svg.as_deref() {
         None => Ok(()),
-        Some(path) => {
-            let text = svg_text(rt.alloc(), &settings)?;
-            write_file(rt, path, text.as_bytes())
+        Some(path) => write_picture(rt, path, rows),
+    }
+}
+
+/// Prints the summary of these rows.
+fn print_summary(rt: &HostRuntime, rows: &[Row]) -> Result<(), GrowthFault> {
+    let settings = settings_of(rt.alloc(), rows)?;
+    let text = summary_text(rt.alloc(), &settings)?;
+    Ok(Sink::new(rt.stdout()).write_all(text.as_bytes())?)
+}
+
+/// Writes the picture of these rows into a file. Prints why, if it can't be written.
+fn write_picture(rt: &HostRuntime, path: &str, rows: &[Row]) -> Result<(), GrowthFault> {
+    let text = match picture_of(rt, rows) {
+        Ok(text) => text,
+        Err(OutOfMemory) => return Err(told(rt, GrowthFault::OutOfMemory)),
+    };
+    match File::create(rt, path) {
+        Ok(file) => match Sink::new(file).write_all(text.as_bytes()) {
+            Ok(()) => Ok(()),
+            Err(_) => Err(told(rt, GrowthFault::Write)),
+        },
+        Err(error) => {
+            let ended = GrowthFault::Write;
+            let _ = eprintln!(rt; "{ended}");
+            if let Ok(text) = unopened_text(rt.alloc(), path, &error) {
+                let _ = eprintln!(rt; "{text}");
+            }
+            Err(ended)
         }
     }
 }
 
-/// Writes a file.
-fn write_file(rt: &HostRuntime, path: &str, bytes: &[u8]) -> Result<(), GrowthFault> {
-    match File::create(rt, path) {
-        Ok(file) => Ok(Sink::new(file).write_all(bytes)?),
-        Err(_) => Err(GrowthFault::Write),
-    }
+/// The picture of these rows.
+fn picture_of(rt: &HostRuntime, rows: &[Row]) -> Result<String, OutOfMemory> {
+    let settings = settings_of(rt.alloc(), rows)?;
+    svg_text(rt.alloc(), &settings)
 }

@@ -11,7 +11,7 @@ use std::alloc::Global;
 use std::thread::Threads;
 
 /// How many runs a batch has for each worker. (Chosen here.)
-const RUNS_OF_A_WORKER: usize = 16;
+const RUNS_OF_A_WORKER: usize = 8;
 
 /// Takes the rows of a sweep. `taken` are the rows that it has taken so far, if its value says them.
 pub trait RowTaker {

@@ -64,14 +64,15 @@ fn push_heading(
     write!(
         text,
         "<text class=\"heading\" x=\"20\" y=\"34\">{TITLE}</text>\n\
-         <text x=\"20\" y=\"58\">{command}; one dot is one run, "
+         <text x=\"20\" y=\"58\">{command}</text>\n"
     )?;
+    push_legend(text)?;
+    text.push_str("<text x=\"390\" y=\"84.5\">one dot is one run, ")?;
     if fewest == most {
-        write!(text, "{most} runs of each setting</text>\n")?;
+        write!(text, "{most} runs of each setting</text>\n")
     } else {
-        write!(text, "{fewest} to {most} runs of a setting</text>\n")?;
+        write!(text, "{fewest} to {most} runs of a setting</text>\n")
     }
-    push_legend(text)
 }
 
 /// Appends a dot and its meaning for each phase.

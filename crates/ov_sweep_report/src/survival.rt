@@ -12,7 +12,7 @@ pub struct Survival {
 impl Display for Survival {
     fn fmt<W: Write>(&self, f: &mut Formatter<W>) -> Result {
         match self.k {
-            0 if self.is_split => write!(f, "k 0: split already"),
+            0 if self.is_split => write!(f, "k 0: split already, so it survives none"),
             0 => write!(f, "k 0: a single node"),
             1 => write!(f, "k 1: one crash may split it, so it survives none"),
             2 => write!(f, "k 2: survives any 1 crash"),

@@ -27,8 +27,8 @@ k 1: one crash may split it, so it survives none
 
 After the crash
 active  runs  split    share    95 % interval  k 25 %  k 50 %  k 75 %  least degree  mean  at k 50 %
-     4     1      1  100.0 %  20.7 to 100.0 %       0       0       0             0  0.00  k 0: split already
-     3     3      3  100.0 %  43.9 to 100.0 %       0       0       0             0  0.00  k 0: split already
+     4     1      1  100.0 %  20.7 to 100.0 %       0       0       0             0  0.00  k 0: split already, so it survives none
+     3     3      3  100.0 %  43.9 to 100.0 %       0       0       0             0  0.00  k 0: split already, so it survives none
 
 After healing
 active  runs  split  share  95 % interval  k 25 %  k 50 %  k 75 %  least degree  mean  at k 50 %

@@ -1,5 +1,5 @@
 //! Runs a scenario of overlay nodes, and prints what happens; or analyses a graph file, and prints how many crashes of
-//! nodes split it.
+//! nodes split it; or grows overlays, and prints their scenario or what they survive.
 #![tactic(auto)]
 
 ghost use Rattle.std.specs.Prelude.{◌≡◌, ◌≢◌, ◌⊎◌, ◌<◌, drop, map, option_map, string_bytes};
@@ -73,7 +73,8 @@ fn overlay<T: Threads + Wait + Sync>(rt: &HostRuntime, threads: &T) -> Result<u8
     }
 }
 
-/// Does what these arguments ask for. If the first is `grow` or `sweep`, those behind it are words of this command.
+/// Does what these arguments ask for. If the first is `grow` or `sweep`, those behind it are words of this command; `help`
+/// before one of these asks for its help.
 fn do_command<T: Threads + Wait + Sync>(
     rt: &HostRuntime,
     threads: &T,
@@ -90,8 +91,35 @@ fn do_command<T: Threads + Wait + Sync>(
             sweep_command(rt, threads, words, &mut RunProgress::new(rt))?;
             return Ok(0);
         }
+        if command.as_str() == "help" {
+            help_of(rt, threads, words)?;
+        }
     }
     answer(rt, threads, arguments)
+}
+
+/// If the first of these words is `grow` or `sweep`, ends with the help of this command.
+fn help_of<T: Threads + Wait + Sync>(
+    rt: &HostRuntime,
+    threads: &T,
+    words: &[String],
+) -> Result<(), ProgramFault> {
+    let Some(command) = words.first() else {
+        return Ok(());
+    };
+    let asked = help_words(rt)?;
+    if command.as_str() == "grow" {
+        grow_command(rt, &asked)?;
+    }
+    if command.as_str() == "sweep" {
+        sweep_command(rt, threads, &asked, &mut RunProgress::new(rt))?;
+    }
+    Ok(())
+}
+
+/// The words that ask a command for its help.
+fn help_words(rt: &HostRuntime) -> Result<[String; 1], ArgumentsFault> {
+    Ok([String::from_str(rt.alloc(), "--help")?])
 }
 
 /// Does what these arguments ask for.
