@@ -94,7 +94,7 @@ fn grow_and_print<T: Threads + Sync, V: RunWatcher>(
     request: &SweepRequest,
     watcher: &mut V,
 ) -> Result<(), GrowthFault> {
-    let Swept { rows, done } = swept(rt, threads, request, watcher);
+    let Swept { rows, done } = rows_swept(rt, threads, request, watcher);
     match done {
         Ok(()) => print_report(rt, request, &rows),
         Err(SweepFault::Run(refused)) => {
@@ -119,7 +119,7 @@ struct Swept {
 
 /// Grows the overlays of a sweep, and prints their rows, unless a summary is asked for. The rows are returned if a summary
 /// or a picture needs them.
-fn swept<T: Threads + Sync, V: RunWatcher>(
+fn rows_swept<T: Threads + Sync, V: RunWatcher>(
     rt: &HostRuntime,
     threads: &T,
     request: &SweepRequest,

@@ -5,7 +5,7 @@ use Rattle.std.specs.Prelude.{Vec}
 use Rattle.ov_sweep_rows.specs.declared.row.Row.{Row}
 use Rattle.ov_grow_commands.specs.KeptRows.{AreGrown}
 use Rattle.ov_grow_commands.proofs.KeptRows.{kept_grown}
-use Rattle.ov_grow_commands.proofs.sweep_printing.swept.Goals as goal
+use Rattle.ov_grow_commands.proofs.sweep_printing.rows_swept.Goals as goal
 
 pub returns : goal.returns
 returns g c = λ needed.
