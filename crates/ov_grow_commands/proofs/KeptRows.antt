@@ -42,15 +42,3 @@ kept_grown gives it before after kept opening done needed same (runs, gave, (row
     subst AreGrown (sym (kept_all (needs_rows before) (needs_rows after) rows kept needed
     (subst (λ (o : Option (List Row)). WereTaken rows o (kept_rows after kept)) same taken)))
     (named runs rows (first_rows runs rows done are))
-
--- nothing was kept yet
-none_yet : (needed also : Bool) (kept : List Row) → IsTrue needed
-    → (if also then Some kept else None) ≡ (if needed then Some [] else None) → kept ≡ []
-none_yet true true kept is same = cc
-none_yet true false kept is same = absurd (cc same)
-none_yet false also kept is same = absurd (let e : false ≡ true = is in cc)
-
-pub kept_none : (before after : SweepRequest) (kept : List Row) → IsTrue (needs_rows before)
-    → kept_rows after kept ≡ kept_rows before [] → AreGrown kept
-kept_none before after kept needed same =
-    subst AreGrown (sym (none_yet (needs_rows before) (needs_rows after) kept needed same)) (λ row has. absurd has)

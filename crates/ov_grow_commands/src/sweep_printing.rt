@@ -128,16 +128,19 @@ fn rows_swept<T: Threads + Sync, V: RunWatcher>(
     ensures { IsTrue (needs_rows request.now) → AreGrown result.rows.items }
 {
     let mut printer = RowPrinter::new(rt, request, watcher);
-    let done = match printer.print_header() {
-        Ok(()) => sweep(
-            threads,
-            rt.alloc(),
-            request.runs(),
-            request.workers,
-            &mut printer,
-        ),
-        Err(fault) => Err(fault),
-    };
+    if let Err(fault) = printer.print_header() {
+        return Swept {
+            rows: Vec::new(rt.alloc()),
+            done: Err(fault),
+        };
+    }
+    let done = sweep(
+        threads,
+        rt.alloc(),
+        request.runs(),
+        request.workers,
+        &mut printer,
+    );
     Swept {
         rows: printer.into_kept(),
         done,

@@ -10,5 +10,5 @@ use Rattle.ov_grow_commands.proofs.sweep_printing.rows_swept.Goals as goal
 pub returns : goal.returns
 returns g c = λ needed.
     subst (λ (v : Vec Row Global). AreGrown v.items) (sym c.into_kept.ensures)
-    (kept_grown (λ s r t. Unit {0}) c.runs.result c.args.request.now c.sweep.new.taker.request.now
-    c.sweep.new.taker.kept.items _ needed c.new-printer.ensures c.in_ok-sweep.ensures)
+    (kept_grown (λ s r t. Unit {0}) c.runs.result c.args.request.now c.sweep-done.new.taker.request.now
+    c.sweep-done.new.taker.kept.items _ _ needed c.new-printer.ensures c.sweep-done.ensures)
