@@ -28,7 +28,7 @@ impl Growing {
         self.fire_timers(&messages, rules)
     }
 
-    /// So many times one of these nodes broadcasts. The messages are returned in order.
+    /// So many times one of these nodes broadcasts. The messages are returned in order. All of the nodes must live.
     fn begin_broadcasts(&mut self, nodes: &[NodeId], count: u32) -> Result<Vec<MsgId>, GrowFault>
         requires some { 0 < length nodes.now }
         requires live { AllLive nodes.now (growth_of self.old) }
@@ -47,7 +47,7 @@ impl Growing {
         Ok(messages)
     }
 
-    /// A node broadcasts. The id of the message is returned.
+    /// A node that lives broadcasts. The id of the message is returned.
     fn broadcast(&mut self, node: NodeId) -> Result<MsgId, GrowFault>
         requires live { IsLive (growth_of self.old) node }
         requires made { MayMake 1 (growth_of self.old) }

@@ -99,7 +99,7 @@ impl Growing {
         }
     }
 
-    /// Each of these nodes crashes.
+    /// Each of these nodes crashes. All of them must live, none may stand twice, and some other node must live.
     fn crash_each(&mut self, nodes: &[NodeId]) -> Result<(), GrowFault>
         requires { MayCrash nodes.now (growth_of self.old) }
         ensures goes { OnOk result (Goes (DoesEach act.Crash nodes.now) self.old self.new) }

@@ -86,6 +86,7 @@ pub record BornIn (n : ℕ) (nodes : map.FinMap nat_cmp Member) : Type 0 where
   pub born : (a : ℕ) → map.get nodes a ≢ None → a ≤ n
   pub count : map.len nodes ≡ n
 
+-- the same of where growing stands
 abbrev pub AreBorn : ℕ → Growth → Type 0
 AreBorn n s = BornIn n s.world.net.nodes
 
