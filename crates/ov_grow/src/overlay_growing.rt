@@ -45,9 +45,9 @@ impl Drop for Grown {
 /// accepted. For the moment at the end of each phase a report of all nodes is filed. How an overlay is grown is chosen
 /// here.
 ///
-/// A fault ends growing, and nothing is returned. It comes if the journal is full (16), if too few places for packets
-/// are free (15), or if memory runs out (99), and no other comes. If it is not 99, with these options nothing can be
-/// grown, by whatever scenario.
+/// A fault (see `GrowFault`) ends growing, and nothing is returned. It means that memory ran out (99), or that with
+/// these options nothing can be grown, by whatever scenario: at some step the journal is full (16), or too few places
+/// for packets are free (15). No other fault occurs.
 pub fn grow(alloc: Global, options: &GrowOptions) -> Result<Grown, GrowFault>
     ensures grows { IfOk result
         (λ g. Grows options.now g.text.items g.core.world g.settled g.crashed g.healed) }
