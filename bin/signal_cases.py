@@ -105,21 +105,40 @@ def amid_run(lab):
     os.remove(path)
 
 
-@case("signals", "a signal amid a sweep", "SIGINT, SIGTERM, SIGHUP once the header and a batch of rows of 1,000 overlays "
-      "are printed", ENDS + "; what it has printed are whole rows, the first ones of all")
+def is_stuck(process):
+    """Waits until a program that has worked for a while uses no more of a processor, as if a pipe is full."""
+    after_work(process, 0.1)
+    end, before = time.monotonic() + 20, None
+    while time.monotonic() < end and (now := state_of(process)[11:13]) != before:
+        before = now
+        time.sleep(0.5)
+
+
+@case("signals", "a signal amid a sweep", "SIGINT, SIGTERM, SIGHUP once some rows of 2,000 overlays are printed into a "
+      "file, or fill a pipe that nobody reads", ENDS + "; what it has printed are whole rows, the first ones of all")
 def amid_sweep(lab):
-    words = [lab.words(RUN)[0], "sweep", "--nodes", "60"]
-    right = lab.run([*words, "--runs", "100"]).out
+    words = [lab.words(RUN)[0], "sweep", "--nodes", "8", "--runs", "2000", "--workers"]
+    right = lab.run([*words, "4"]).out
     for number in SIGNALS:
-        for workers in ("1", "2"):
+        for workers in ("1", "64"):
             with tempfile.TemporaryFile(dir=lab.room) as out:
                 blow = Blow(number, has_printed(out, 1000))
-                seen = lab.run([*words, "--runs", "1000", "--workers", workers], stdout=out, during=blow)
-                rows = read_again(out)
-            begins = right.startswith(rows) or rows.startswith(right)
-            part = "whole rows" if begins and rows.endswith(b"\n") else f"other output: {rows[-80:]!r}"
-            text = f"{told(seen)}, {blow.told()}, {part}".replace("prints nothing, ", "")
-            yield f"sweep --workers {workers}", text, f"ended by {number.name}, at once, whole rows", f"{len(rows)} bytes"
+                seen = lab.run([*words, workers], stdout=out, during=blow)
+                yield rows_left(f"--workers {workers}", number, blow, seen, read_again(out), right)
+            reader, writer = os.pipe()
+            blow = Blow(number, is_stuck)
+            seen = lab.run([*words, workers], stdout=writer, during=blow)
+            os.close(writer)
+            with open(reader, "rb") as pipe:
+                yield rows_left(f"--workers {workers} into a pipe", number, blow, seen, pipe.read(), right)
+
+
+def rows_left(name, number, blow, seen, rows, right):
+    """What a sweep has printed when a signal ended it."""
+    are_whole = right.startswith(rows) and rows.endswith(b"\n")
+    part = "whole rows" if are_whole else f"other output: {rows[-80:]!r}"
+    text = f"{told(seen)}, {blow.told()}, {part}".replace("prints nothing, ", "")
+    return f"sweep {name}", text, f"ended by {number.name}, at once, whole rows", f"{len(rows)} bytes"
 
 
 def waits_for_input(process):
