@@ -1,0 +1,3 @@
+mod FrontLine
+mod Words
+mod Sayings
