@@ -3,8 +3,9 @@ use Rattle.std.proofs.Common.{◌≡◌, ◌∙◌, ◌<◌, ◌+◌, ◌-◌, �
 use Rattle.std.proofs.Common.{if◌then◌else◌, List, [], ◌∷◌, ◌++◌, length, take, refl, ap, arith, slice_index}
 use Rattle.std.specs.List.{list_all, slice_split}
 use Rattle.std.specs.Str.Lines.{lines, lines_of_parts, strip_carriage_return}
-use Rattle.std.proofs.lemmas.Bool.{and_parts}
+use Rattle.std.proofs.lemmas.Bool.{and_from, and_parts}
 use Rattle.std.proofs.lemmas.Bool.Decides.{nat_tests}
+use Rattle.std.proofs.lemmas.List.Folds.{list_all-append}
 use Rattle.std.proofs.lemmas.List.Sums.{AllPass-from_list_all}
 use Rattle.std.proofs.lemmas.List.Splits.{slice_split_at, length-slice_split}
 use Rattle.ov_lines.specs.Lines.{is_skipped, kept_from}
@@ -16,6 +17,13 @@ in_line b = not (b == 10) && not (b == 13)
 -- the byte of a line feed
 abbrev is_feed : ℕ → Bool
 is_feed b = b == 10
+
+-- a test passes for two texts put together
+pub all_joined :
+    (p : ℕ → Bool) (front back : List ℕ) → list_all p front ≡ true → list_all p back ≡ true
+    → list_all p (front ++ back) ≡ true
+all_joined p front back first second =
+    list_all-append p front back ∙ and_from (list_all p front) (list_all p back) first second
 
 no_feed : (b : ℕ) → in_line b ≡ true → is_feed b ≡ false
 no_feed b clean =

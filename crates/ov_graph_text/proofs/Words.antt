@@ -1,5 +1,5 @@
 -- Words with a space between two, and numbers as words.
-use Rattle.std.proofs.Common.{◌≡◌, ◌∙◌, ◌<◌, ◌^◌, ◌&&◌, ℕ, Bool, true, false, cond, nat_lt, List, [], ◌∷◌, ◌++◌}
+use Rattle.std.proofs.Common.{◌≡◌, ◌∙◌, ◌<◌, ◌&&◌, ℕ, Bool, true, false, cond, nat_lt, List, [], ◌∷◌, ◌++◌}
 use Rattle.std.proofs.Common.{length, decimal, Some, ap, sym, refl, arith}
 use Rattle.std.specs.List.{filter, list_all}
 use Rattle.std.specs.Char.{digit_value}
@@ -13,6 +13,7 @@ use Rattle.std.proofs.lemmas.List.Splits.{slice_split_at, slice_split_none}
 use Rattle.ov_ids.specs.Limits.{number_limit}
 use Rattle.ov_lines.specs.Lines.{is_space, number_within, short_bits, words_of}
 use Rattle.ov_lines.proofs.Lines.Numerals.{numbered}
+use Rattle.ov_graph_text.proofs.FrontLine.{in_line}
 
 -- a byte above the space, which is one of a word
 abbrev pub in_word : ℕ → Bool
@@ -47,11 +48,13 @@ words_alone word is =
     (slice_split_none is_space word (λ k d within. no_space _ (all k d within)))
     ∙ ap (λ t. cond t (word ∷ []) []) some
 
+digit_solid : (c : ℕ) → digit_value c < 10 → in_word c ≡ true
+digit_solid c digit = let range = digit_from_value c digit in lt-ltb 32 c (omega (arith, range.0))
+
 digits_solid : (ds : List ℕ) → AllDigits 10 ds → list_all in_word ds ≡ true
 digits_solid [] digits = refl
 digits_solid (c ∷ ds) digits =
-    let range = digit_from_value c digits.0 in
-    and_from (in_word c) (list_all in_word ds) (lt-ltb 32 c (omega (arith, range.0))) (digits_solid ds digits.1)
+    and_from (in_word c) (list_all in_word ds) (digit_solid c digits.0) (digits_solid ds digits.1)
 
 -- a number of 32 bits is a word
 pub id_word : (n : ℕ) → n < number_limit → is_word (decimal n) ≡ true
@@ -60,7 +63,19 @@ id_word n low =
     and_from (nat_lt 0 (length (decimal n))) (list_all in_word (decimal n)) (lt-ltb 0 (length (decimal n)) is.0)
     (digits_solid (decimal n) is.1)
 
--- and is read back
+-- it stands on one line
+line_byte : (b : ℕ) → in_word b ≡ true → in_line b ≡ true
+line_byte b in_it = grind (arith, nat_tests)
+
+digits_clean : (ds : List ℕ) → AllDigits 10 ds → list_all in_line ds ≡ true
+digits_clean [] digits = refl
+digits_clean (c ∷ ds) digits =
+    and_from (in_line c) (list_all in_line ds) (line_byte c (digit_solid c digits.0)) (digits_clean ds digits.1)
+
+pub id_clean : (n : ℕ) → n < number_limit → list_all in_line (decimal n) ≡ true
+id_clean n low = digits_clean (decimal n) (decimal_is_IsNumeral n (omega (arith, low))).0.1
+
+-- and it is read back
 pub id_read : (n : ℕ) → n < number_limit → number_within short_bits (decimal n) ≡ Some n
 id_read n low =
     let is = decimal_is_IsNumeral n (omega (arith, low)) in
