@@ -173,7 +173,6 @@ file_of text g is within says =
 
 -- the text of a graph is a file of it
 pub text_says : (g : LinkGraph) → IsGraph g → IsWithinLimit g → AreIds g.nodes → IsGraphFile (graph_text g) g
-unfolding graph_text
 text_says g is within ids =
     file_of (graph_text g) g is within
     (nodes_first g.nodes (flat_map link_line g.links) g.links ids (links_alone g.links (link_ids g is ids)))

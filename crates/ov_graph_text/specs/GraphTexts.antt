@@ -12,5 +12,5 @@ abbrev pub link_line : ℕ × ℕ → List ℕ
 link_line l = codes "link " ++ (decimal l.0 ++ 32 ∷ (decimal l.1 ++ 10 ∷ []))
 
 -- a line for each node, ascending, and then a line for each link, ascending
-unfoldable pub graph_text : LinkGraph → List ℕ
+abbrev pub graph_text : LinkGraph → List ℕ
 graph_text g = flat_map node_line g.nodes ++ flat_map link_line g.links

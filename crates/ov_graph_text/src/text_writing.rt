@@ -11,6 +11,7 @@ use std::alloc::{AllocError, Global};
 
 /// The graph file that says this graph: a line `node N` for each node, ascending, and then a line `link A B` for each
 /// link, ascending. (The order is chosen here.) OutOfMemory (99) is returned if an allocation was refused.
+#[tactic(auto, using(crate::proofs::Sayings::text_says))]
 pub fn graph_text(alloc: Global, graph: &Graph) -> Result<Vec<u8>, OutOfMemory>
     ensures text { IfOk result (λ t. t.items ≡ graph_text graph.now) }
     ensures says { IfOk result (λ t. IsGraphFile t.items graph.now) }
