@@ -1,3 +1,4 @@
 mod FrontLine
 mod Words
 mod Sayings
+mod Naming

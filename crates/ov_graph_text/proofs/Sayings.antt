@@ -111,7 +111,7 @@ line_more line rest own nodes joins links is says =
     }
 
 -- the line of a node in front
-node_more :
+pub node_more :
     (n : ℕ) (rest nodes : List ℕ) (links : List (ℕ × ℕ)) → n < number_limit → Says rest nodes links
     → Says (node_line n ++ rest) (n ∷ nodes) links
 node_more n rest nodes links low says =
@@ -134,7 +134,7 @@ link_more l rest nodes links low high says =
 -- ---- all lines
 
 -- the lines of links alone
-links_alone :
+pub links_alone :
     (links : List (ℕ × ℕ)) → ((l : ℕ × ℕ) → Has links l → (l.0 < number_limit) × (l.1 < number_limit))
     → Says (flat_map link_line links) [] links
 links_alone [] low = none_said
@@ -152,7 +152,7 @@ nodes_first (n ∷ nodes) rest links low says =
     (node_more n (flat_map node_line nodes ++ rest) nodes links low.0 (nodes_first nodes rest links low.1 says))
 
 -- the ends of each link are ids
-link_ids :
+pub link_ids :
     (g : LinkGraph) → IsGraph g → AreIds g.nodes → (l : ℕ × ℕ) → Has g.links l
     → (l.0 < number_limit) × (l.1 < number_limit)
 link_ids g is ids l has =
@@ -160,7 +160,7 @@ link_ids g is ids l has =
     (all_member (λ n. n < number_limit) g.nodes l.0 ids joins.1, all_member (λ n. n < number_limit) g.nodes l.1 ids joins.2)
 
 -- a text that says the nodes and the links of a graph is a file of it
-file_of : (text : List ℕ) (g : LinkGraph) → IsGraph g → IsWithinLimit g → Says text g.nodes g.links → IsGraphFile text g
+pub file_of : (text : List ℕ) (g : LinkGraph) → IsGraph g → IsWithinLimit g → Says text g.nodes g.links → IsGraphFile text g
 unfolding graph_lines kept_lines
 file_of text g is within says =
     record {

@@ -4,4 +4,4 @@
 mod line_writing;
 mod text_writing;
 
-pub use text_writing::graph_text;
+pub use text_writing::{graph_text, named_graph_text};

@@ -1,6 +1,6 @@
 ghost use Rattle.std.specs.Prelude.{◌≡◌, ◌<◌, ◌++◌, ◌∷◌, decimal, OnOk};
 ghost use Rattle.ov_ids.specs.Limits.{number_limit};
-ghost use Rattle.ov_graph_text.specs.GraphTexts.{link_line, node_line};
+ghost use Rattle.ov_graph_text.specs.GraphTexts.{link_line, named_node_line, node_line};
 
 use itoa::Buffer;
 use ov_ids::NodeId;
@@ -24,6 +24,24 @@ pub(crate) fn write_node(text: &mut Vec<u8>, node: NodeId) -> Result<(), AllocEr
     text.extend_from_slice(b"node ")?;
     write_id(text, node)?;
     text.push(b'\n')?;
+    Ok(())
+}
+
+/// Appends a comment that says a node and its name, and the line of the node.
+pub(crate) fn write_named_node(
+    text: &mut Vec<u8>,
+    node: NodeId,
+    name: &str,
+) -> Result<(), AllocError>
+    ensures items { OnOk result (text.new.items ≡ text.old.items ++ named_node_line (node, name.now)) }
+    ensures low { OnOk result (node < number_limit) }
+{
+    text.extend_from_slice(b"# ")?;
+    write_id(text, node)?;
+    text.push(b' ')?;
+    text.extend_from_slice(name.as_bytes())?;
+    text.push(b'\n')?;
+    write_node(text, node)?;
     Ok(())
 }
 

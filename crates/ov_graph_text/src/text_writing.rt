@@ -1,10 +1,11 @@
-ghost use Rattle.std.specs.Prelude.{◌≡◌, ◌++◌, IfOk, OnOk};
-ghost use Rattle.std.specs.List.{flat_map};
+ghost use Rattle.std.specs.Prelude.{◌≡◌, ◌++◌, length, map, string_bytes, IfOk, OnOk};
+ghost use Rattle.std.specs.List.{AllByRecursion, flat_map, zip};
 ghost use Rattle.ov_graphfile.specs.GraphFiles.{IsGraphFile};
-ghost use Rattle.ov_graph_text.specs.GraphTexts.{graph_text, link_line, node_line};
+ghost use Rattle.ov_graph_text.specs.GraphTexts.{IsOnOneLine, graph_text, link_line, named_graph_text};
+ghost use Rattle.ov_graph_text.specs.GraphTexts.{named_node_line, node_line};
 ghost use Rattle.ov_graph_text.specs.Code.Ids.{AreIds};
 
-use crate::line_writing::{write_link, write_node};
+use crate::line_writing::{write_link, write_named_node, write_node};
 use ov_graph::Graph;
 use ov_ids::{NodeId, OutOfMemory};
 use std::alloc::{AllocError, Global};
@@ -20,6 +21,42 @@ pub fn graph_text(alloc: Global, graph: &Graph) -> Result<Vec<u8>, OutOfMemory>
     write_nodes(&mut text, graph.nodes())?;
     write_links(&mut text, graph)?;
     Ok(text)
+}
+
+/// The graph file that says this graph, as `graph_text`, with a comment `# N NAME` before the line of each node. The names
+/// stand in the order of the nodes. OutOfMemory (99) is returned if an allocation was refused.
+pub fn named_graph_text(
+    alloc: Global,
+    graph: &Graph,
+    names: &[String],
+) -> Result<Vec<u8>, OutOfMemory>
+    requires each { length names.now ≡ length graph.now.nodes }
+    requires lines { AllByRecursion (λ name. IsOnOneLine (string_bytes name)) names.now }
+    ensures text { IfOk result
+        (λ t. t.items ≡ named_graph_text graph.now (map (λ name. string_bytes name) names.now)) }
+    ensures says { IfOk result (λ t. IsGraphFile t.items graph.now) }
+{
+    let mut text = Vec::new(alloc);
+    write_named_nodes(&mut text, graph.nodes(), names)?;
+    write_links(&mut text, graph)?;
+    Ok(text)
+}
+
+/// Appends a line for each node, behind a comment with its name.
+fn write_named_nodes(
+    text: &mut Vec<u8>,
+    nodes: &[NodeId],
+    names: &[String],
+) -> Result<(), AllocError>
+    requires each { length names.now ≡ length nodes.now }
+    ensures items { OnOk result (text.new.items ≡ text.old.items
+        ++ flat_map named_node_line (zip nodes.now (map (λ name. string_bytes name) names.now))) }
+    ensures ids { OnOk result (AreIds nodes.now) }
+{
+    for (node, name) in nodes.iter().zip(names) {
+        write_named_node(text, *node, name.as_str())?;
+    }
+    Ok(())
 }
 
 /// Appends a line for each node.
