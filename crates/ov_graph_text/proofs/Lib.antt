@@ -1,4 +1,2 @@
-mod FrontLine
-mod Words
 mod Sayings
 mod Naming

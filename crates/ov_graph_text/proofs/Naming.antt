@@ -12,9 +12,9 @@ use Rattle.ov_graphfile.specs.GraphFiles.{IsGraphFile, graph_line_at, links_said
 use Rattle.ov_graphfile.proofs.GraphFiles.Numbers.{left_where}
 use Rattle.ov_graph_text.specs.GraphTexts.{IsOnOneLine, link_line, named_graph_text, named_node_line, node_line}
 use Rattle.ov_graph_text.specs.Code.Ids.{AreIds}
-use Rattle.ov_graph_text.proofs.FrontLine.{all_joined, in_line, skipped_first}
+use Rattle.ov_lines.proofs.Lines.Front.{all_joined, in_line, skipped_first}
 use Rattle.ov_graph_text.proofs.Sayings.{Says, file_of, link_ids, links_alone, node_more}
-use Rattle.ov_graph_text.proofs.Words.{id_clean, words_next}
+use Rattle.ov_lines.proofs.Lines.Written.{id_word, word_clean, words_next}
 
 -- a skipped line in front
 skipped_more :
@@ -52,7 +52,7 @@ named_more n name rest nodes links low alone says =
     ∙ ap (λ t. t ++ rest) (append_assoc (decimal n) (32 ∷ name) (10 ∷ node_line n)) in
     let clean : list_all in_line (codes "# " ++ said) ≡ true =
     all_joined in_line (codes "# ") said refl
-    (all_joined in_line (decimal n) (32 ∷ name) (id_clean n low) (name_clean name alone)) in
+    (all_joined in_line (decimal n) (32 ∷ name) (word_clean (decimal n) (id_word n low)) (name_clean name alone)) in
     subst (λ t. Says (codes "# " ++ t) (n ∷ nodes) links) split
     (skipped_more (codes "# " ++ said) (node_line n ++ rest) (n ∷ nodes) links clean
     (ap skips (words_next (codes "#") said refl)) (node_more n rest nodes links low says))

@@ -14,8 +14,8 @@ use Rattle.ov_graphfile.proofs.GraphFiles.Numbers.{left_where, other}
 use Rattle.ov_ids.proofs.Members.{all_member}
 use Rattle.ov_graph_text.specs.GraphTexts.{graph_text, link_line, node_line}
 use Rattle.ov_graph_text.specs.Code.Ids.{AreIds}
-use Rattle.ov_graph_text.proofs.FrontLine.{all_joined, in_line, kept_first}
-use Rattle.ov_graph_text.proofs.Words.{id_clean, id_read, id_word, words_alone, words_next}
+use Rattle.ov_lines.proofs.Lines.Front.{all_joined, in_line, kept_first}
+use Rattle.ov_lines.proofs.Lines.Written.{id_read, id_word, word_clean, words_alone, words_next}
 
 -- each line of a text can be read, and these are the nodes and the links that they say; whatever the number of the first
 pub record Says (text nodes : List ℕ) (links : List (ℕ × ℕ)) : Type 0 where
@@ -45,7 +45,7 @@ node_line_says n low =
     words_next (codes "node") (decimal n) refl ∙ ap (λ ws. codes "node" ∷ ws) (words_alone (decimal n) (id_word n low)) in
     let id = number_within short_bits (decimal n) in
     record {
-      clean = all_joined in_line (codes "node ") (decimal n) refl (id_clean n low);
+      clean = all_joined in_line (codes "node ") (decimal n) refl (word_clean (decimal n) (id_word n low));
       kept = ap skips words;
       readable = ap (λ ws. is_none (graph_line_of ws)) words ∙ id_said _ is_none id n (id_read n low);
       node = ap (λ ws. node_said (graph_line_of ws)) words ∙ id_said _ node_said id n (id_read n low);
@@ -78,7 +78,7 @@ link_line_says l low high =
     record {
       clean =
           all_joined in_line (codes "link ") (ids_text l) refl
-          (all_joined in_line (decimal l.0) (32 ∷ decimal l.1) (id_clean l.0 low) (id_clean l.1 high));
+          (all_joined in_line (decimal l.0) (32 ∷ decimal l.1) (word_clean (decimal l.0) (id_word l.0 low)) (word_clean (decimal l.1) (id_word l.1 high)));
       kept = ap skips words;
       readable = ap is_none reads;
       node = ap node_said reads;

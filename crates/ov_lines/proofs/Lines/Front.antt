@@ -48,7 +48,7 @@ line_part part [] some = absurd (omega arith)
 line_part part (next ∷ parts) some = refl
 
 -- the first line, and the lines behind it
-first_line :
+pub first_line :
     (line rest : List ℕ) → list_all in_line line ≡ true
     → lines (line ++ 10 ∷ rest) ≡ line ∷ lines rest
 first_line line rest clean =
