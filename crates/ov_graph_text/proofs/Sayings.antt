@@ -1,6 +1,6 @@
 -- What the lines of a text say, line by line.
-use Rattle.std.proofs.Common.{◌≡◌, ◌∙◌, ◌<◌, ◌+◌, ℕ, true, false, List, [], ◌∷◌, ◌++◌, map, codes, decimal, Option, Some}
-use Rattle.std.proofs.Common.{inl, inr, is_none, option_map, refl, ap, ap₂, sym, subst, append_assoc}
+use Rattle.std.proofs.Common.{◌≡◌, ◌∙◌, ◌<◌, ◌+◌, ℕ, true, false, List, [], ◌∷◌, ◌++◌, map, codes, decimal}
+use Rattle.std.proofs.Common.{Option, Some, inl, inr, is_none, option_map, refl, ap, ap₂, sym, subst, append_assoc}
 use Rattle.std.specs.List.{flat_map, list_all}
 use Rattle.std.specs.Str.Lines.{lines}
 use Rattle.ov_ids.specs.Limits.{number_limit}
@@ -17,7 +17,8 @@ use Rattle.ov_graph_text.specs.Code.Ids.{AreIds}
 use Rattle.ov_lines.proofs.Lines.Front.{all_joined, in_line, kept_first}
 use Rattle.ov_lines.proofs.Lines.Written.{id_read, id_word, word_clean, words_alone, words_next}
 
--- each line of a text can be read, and these are the nodes and the links that they say; whatever the number of the first
+-- each line of a text can be read, and these are the nodes and the links that they say, whatever the number of the
+-- first line
 pub record Says (text nodes : List ℕ) (links : List (ℕ × ℕ)) : Type 0 where
   pub readable : (k : ℕ) → left_where is_none (kept_from k (lines text)) ≡ []
   pub has_nodes : (k : ℕ) → nodes_said (map graph_line_at (kept_from k (lines text))) ≡ nodes
@@ -42,7 +43,8 @@ id_said line said o n is = ap (λ p. said (option_map line p)) is
 node_line_says : (n : ℕ) → n < number_limit → SaysLine (codes "node " ++ decimal n) (n ∷ []) []
 node_line_says n low =
     let words : words_of (codes "node " ++ decimal n) ≡ codes "node" ∷ decimal n ∷ [] =
-    words_next (codes "node") (decimal n) refl ∙ ap (λ ws. codes "node" ∷ ws) (words_alone (decimal n) (id_word n low)) in
+    words_next (codes "node") (decimal n) refl
+    ∙ ap (λ ws. codes "node" ∷ ws) (words_alone (decimal n) (id_word n low)) in
     let id = number_within short_bits (decimal n) in
     record {
       clean = all_joined in_line (codes "node ") (decimal n) refl (word_clean (decimal n) (id_word n low));
@@ -70,15 +72,19 @@ link_words l low high =
     (id_read l.0 low)
     ∙ ap (λ o. option_map link_of (o >>= λ b. Some (l.0, b))) (id_read l.1 high)
 
-link_line_says : (l : ℕ × ℕ) → l.0 < number_limit → l.1 < number_limit → SaysLine (codes "link " ++ ids_text l) [] (l ∷ [])
+link_line_says :
+    (l : ℕ × ℕ) → l.0 < number_limit → l.1 < number_limit
+    → SaysLine (codes "link " ++ ids_text l) [] (l ∷ [])
 unfolding ids_text
 link_line_says l low high =
     let reads = link_words l low high in
     let words = words_next (codes "link") (ids_text l) refl in
+    let from : list_all in_line (decimal l.0) ≡ true = word_clean (decimal l.0) (id_word l.0 low) in
+    let to : list_all in_line (decimal l.1) ≡ true = word_clean (decimal l.1) (id_word l.1 high) in
     record {
       clean =
           all_joined in_line (codes "link ") (ids_text l) refl
-          (all_joined in_line (decimal l.0) (32 ∷ decimal l.1) (word_clean (decimal l.0) (id_word l.0 low)) (word_clean (decimal l.1) (id_word l.1 high)));
+          (all_joined in_line (decimal l.0) (32 ∷ decimal l.1) from to);
       kept = ap skips words;
       readable = ap is_none reads;
       node = ap node_said reads;
@@ -101,7 +107,9 @@ line_more line rest own nodes joins links is says =
     let first : (k : ℕ) → kept_from k (lines (line ++ 10 ∷ rest)) ≡ (k, line) ∷ kept_from (k + 1) (lines rest) =
     λ k. kept_first k line rest is.clean is.kept in
     record {
-      readable = λ k. other is_none _ (kept_from (k + 1) (lines rest)) k line (first k) is.readable ∙ says.readable (k + 1);
+      readable =
+          λ k. other is_none _ (kept_from (k + 1) (lines rest)) k line (first k) is.readable
+          ∙ says.readable (k + 1);
       has_nodes =
           λ k. ap (λ ls. nodes_said (map graph_line_at ls)) (first k)
           ∙ ap₂ (λ one later. one ++ later) is.node (says.has_nodes (k + 1));
@@ -157,10 +165,13 @@ pub link_ids :
     → (l.0 < number_limit) × (l.1 < number_limit)
 link_ids g is ids l has =
     let joins = is.joins l has in
-    (all_member (λ n. n < number_limit) g.nodes l.0 ids joins.1, all_member (λ n. n < number_limit) g.nodes l.1 ids joins.2)
+    let low = all_member (λ n. n < number_limit) g.nodes in
+    (low l.0 ids joins.1, low l.1 ids joins.2)
 
 -- a text that says the nodes and the links of a graph is a file of it
-pub file_of : (text : List ℕ) (g : LinkGraph) → IsGraph g → IsWithinLimit g → Says text g.nodes g.links → IsGraphFile text g
+pub file_of :
+    (text : List ℕ) (g : LinkGraph) → IsGraph g → IsWithinLimit g → Says text g.nodes g.links
+    → IsGraphFile text g
 unfolding graph_lines kept_lines
 file_of text g is within says =
     record {

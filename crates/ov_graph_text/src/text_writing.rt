@@ -23,8 +23,8 @@ pub fn graph_text(alloc: Global, graph: &Graph) -> Result<Vec<u8>, OutOfMemory>
     Ok(text)
 }
 
-/// The graph file that says this graph, as `graph_text`, with a comment `# N NAME` before the line of each node. The names
-/// stand in the order of the nodes. OutOfMemory (99) is returned if an allocation was refused.
+/// The same as `graph_text`, with a comment `# N NAME` before the line of each node, which names it. The names stand in
+/// the order of the nodes. OutOfMemory (99) is returned if an allocation was refused.
 pub fn named_graph_text(
     alloc: Global,
     graph: &Graph,

@@ -41,7 +41,7 @@ not_returned (b ∷ line) (suc k) clean =
     not_returned line k (and_parts (in_line b) (list_all in_line line) clean).1
 
 -- a part before others is a line
-line_part :
+pub line_part :
     (part : List ℕ) (parts : List (List ℕ)) → 0 < length parts
     → lines_of_parts (part ∷ parts) ≡ strip_carriage_return part ∷ lines_of_parts parts
 line_part part [] some = absurd (omega arith)
@@ -56,7 +56,8 @@ first_line line rest clean =
     let some : 0 < length (slice_split is_feed rest) = omega (arith, length-slice_split is_feed rest) in
     ap lines_of_parts (slice_split_at is_feed line 10 rest (λ k d within. no_feed _ (all k d within)) refl)
     ∙ line_part line (slice_split is_feed rest) some
-    ∙ ap (λ t. (if t then take (length line - 1) line else line) ∷ lines rest) (not_returned line (length line - 1) clean)
+    ∙ ap (λ t. (if t then take (length line - 1) line else line) ∷ lines rest)
+    (not_returned line (length line - 1) clean)
 
 -- a line that is not skipped
 pub kept_first :
