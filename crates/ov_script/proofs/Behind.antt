@@ -6,8 +6,8 @@ use Rattle.std.proofs.lemmas.Bool.{and_parts}
 use Rattle.std.proofs.lemmas.Bool.Decides.{nat_tests}
 use Rattle.std.proofs.lemmas.List.Sums.{prefix_len-le-length}
 use Rattle.ov_lines.specs.Lines.{behind_word, is_no_space, is_space, place_or_end, without_spaces}
+use Rattle.ov_lines.proofs.Lines.Written.{in_word, is_word}
 use Rattle.ov_script.specs.WrittenLines.{spaced}
-use Rattle.ov_script.proofs.Splitting.{in_word, is_word}
 
 -- a place is where the first byte that passes stands, or the length
 place_is : (p : ℕ → Bool) (text : List ℕ) → place_or_end p text ≡ position_or_len p text

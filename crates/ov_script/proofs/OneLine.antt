@@ -1,7 +1,7 @@
 -- A text with one line more.
-use Rattle.std.proofs.Common.{◌≡◌, ◌∙◌, ◌<◌, ◌+◌, ◌-◌, ◌==◌, ◌&&◌, ◌||◌, inl, inr, ℕ, zero, suc, Bool, true, false}
-use Rattle.std.proofs.Common.{not, nat_lt, if◌then◌else◌, List, [], ◌∷◌, ◌++◌, length, map, take, refl, ap, sym}
-use Rattle.std.proofs.Common.{arith, slice_index, codes, append_assoc}
+use Rattle.std.proofs.Common.{◌≡◌, ◌∙◌, ◌<◌, ◌+◌, ◌==◌, ◌||◌, inl, inr, ℕ, suc, Bool, true, false}
+use Rattle.std.proofs.Common.{if◌then◌else◌, List, [], ◌∷◌, ◌++◌, length, map, refl, ap, sym}
+use Rattle.std.proofs.Common.{arith, codes, append_assoc}
 use Rattle.std.specs.List.{list_all, slice_split, onto_first}
 use Rattle.std.specs.Str.Lines.{lines, lines_of_parts, strip_carriage_return}
 use Rattle.std.proofs.lemmas.Bool.{and_parts, and_from}
@@ -9,17 +9,14 @@ use Rattle.std.proofs.lemmas.Bool.Decides.{nat_tests}
 use Rattle.std.proofs.lemmas.List.{append-nil, length-append}
 use Rattle.std.proofs.lemmas.List.Splits.{slice_split-cons_yes, slice_split-cons_no, length-slice_split}
 use Rattle.ov_lines.specs.Lines.{is_skipped, kept_from, kept_lines, skips}
+use Rattle.ov_lines.proofs.Lines.Front.{all_joined, first_line, in_line, line_part}
+use Rattle.ov_lines.proofs.Lines.Written.{is_word, word_clean, words_next}
 use Rattle.ov_script.specs.WrittenLines.{comment_line, ended, spaced, within_line}
 use Rattle.ov_script.specs.Code.Kept.{EndsLine}
-use Rattle.ov_script.proofs.Splitting.{all_joined, all_weaker, in_word, is_word, split_first, words_next}
 
 -- the byte of a line feed
 abbrev is_feed : ℕ → Bool
 is_feed b = b == 10
-
--- a byte that may stand in a line: no line feed and no carriage return
-abbrev pub in_line : ℕ → Bool
-in_line b = not (b == 10) && not (b == 13)
 
 onto_joined :
     (x : ℕ) (front back : List (List ℕ)) → 0 < length front
@@ -43,13 +40,6 @@ split_joined p (x ∷ front) c back at = by (p x) refl (split_joined p front c b
       slice_split-cons_no p x (front ++ c ∷ back) e ∙ ap (onto_first x) before
       ∙ onto_joined x (slice_split p front) (slice_split p back) some
       ∙ sym (ap (λ ps. ps ++ slice_split p back) (slice_split-cons_no p x front e))
-
--- a part before others is a line
-line_part :
-    (part : List ℕ) (parts : List (List ℕ)) → 0 < length parts
-    → lines_of_parts (part ∷ parts) ≡ strip_carriage_return part ∷ lines_of_parts parts
-line_part part [] some = absurd (omega arith)
-line_part part (next ∷ parts) some = refl
 
 parts_joined :
     (front back : List (List ℕ)) → 0 < length back
@@ -77,28 +67,6 @@ lines_more text more (inl none) =
 lines_more text more (inr (before, ends)) =
     ap (λ t. lines (t ++ more)) ends ∙ lines_behind before more ∙ sym (ap (λ t. lines t ++ lines more) ends)
 
--- no byte of a line is a carriage return, the last one neither
-not_returned :
-    (line : List ℕ) (k : ℕ) → list_all in_line line ≡ true
-    → (slice_index line k == 13) ≡ false
-not_returned [] k clean = refl
-not_returned (b ∷ line) zero clean =
-    let here = (and_parts (in_line b) (list_all in_line line) clean).0 in
-    let other = (and_parts (not (b == 10)) (not (b == 13)) here).1 in
-    grind (arith, nat_tests)
-not_returned (b ∷ line) (suc k) clean =
-    not_returned line k (and_parts (in_line b) (list_all in_line line) clean).1
-
-no_feed : (b : ℕ) → in_line b ≡ true → not (is_feed b) ≡ true
-no_feed b clean = (and_parts (not (b == 10)) (not (b == 13)) clean).0
-
--- a line with its line feed is one line
-one_line : (line : List ℕ) → list_all in_line line ≡ true → lines (ended line) ≡ line ∷ []
-one_line line clean =
-    ap lines_of_parts
-    (split_first is_feed line 10 [] (all_weaker in_line (λ b. not (is_feed b)) no_feed line clean) refl)
-    ∙ ap (λ t. (if t then take (length line - 1) line else line) ∷ []) (not_returned line (length line - 1) clean)
-
 -- the lines that are not skipped, after others
 kept_joined :
     (n : ℕ) (front back : List (List ℕ))
@@ -118,7 +86,7 @@ kept_more :
     ≡ kept_lines text ++ (if is_skipped line then [] else (1 + length (lines text), line) ∷ [])
 unfolding kept_lines kept_from
 kept_more text line ends clean =
-    ap (kept_from 1) (lines_more text (ended line) ends ∙ ap (λ ls. lines text ++ ls) (one_line line clean))
+    ap (kept_from 1) (lines_more text (ended line) ends ∙ ap (λ ls. lines text ++ ls) (first_line line [] clean))
     ∙ kept_joined 1 (lines text) (line ∷ [])
     ∙ ap (λ ls. kept_from 1 (lines text) ++ ls)
     (append-nil (if is_skipped line then [] else (1 + length (lines text), line) ∷ []))
@@ -166,14 +134,9 @@ unfolding comment_line
 comment_skipped said = ap skips (words_next (codes "#") (map within_line said) refl)
 
 -- words with one space between two stand on one line
-pub word_clean : (b : ℕ) → in_word b ≡ true → in_line b ≡ true
-word_clean b in_it = grind (arith, nat_tests)
-
 pub spaced_clean : (words : List (List ℕ)) → list_all is_word words ≡ true → list_all in_line (spaced words) ≡ true
 unfolding spaced
 spaced_clean [] are = refl
 spaced_clean (word ∷ words) are =
     let (here, later) = and_parts (is_word word) (list_all is_word words) are in
-    let solid = (and_parts (nat_lt 0 (length word)) (list_all in_word word) here).1 in
-    all_joined in_line word (spaced words) (all_weaker in_word in_line word_clean word solid)
-    (spaced_clean words later)
+    all_joined in_line word (spaced words) (word_clean word here) (spaced_clean words later)

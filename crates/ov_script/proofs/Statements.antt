@@ -1,12 +1,8 @@
 -- What the lines of a script say, word by word.
-use Rattle.std.proofs.Common.{◌≡◌, ◌∙◌, ◌<◌, ◌^◌, ℕ, true, false, nat_lt, nat_eq, List, [], ◌∷◌, length}
-use Rattle.std.proofs.Common.{codes, decimal, Some, None, option_map, refl, ap, sym, arith}
+use Rattle.std.proofs.Common.{◌≡◌, ◌∙◌, ◌<◌, ◌^◌, ℕ, true, false, nat_eq, List, [], ◌∷◌}
+use Rattle.std.proofs.Common.{codes, decimal, Some, None, option_map, refl, ap, arith}
 use Rattle.std.specs.List.{list_all, starts_with}
-use Rattle.std.specs.Char.{digit_value}
-use Rattle.std.specs.Str.Parse.{AllDigits}
-use Rattle.std.proofs.lemmas.Bool.{and_from, and_parts, lt-ltb}
-use Rattle.std.proofs.lemmas.Fmt.{decimal_is_IsNumeral}
-use Rattle.std.proofs.lemmas.Str.Parse.{digit_from_value}
+use Rattle.std.proofs.lemmas.Bool.{and_from}
 use Rattle.ov_net.specs.declared.event.Event.{Event}
 use Rattle.ov_net.specs.declared.event.Event.TheVariants as event
 use Rattle.ov_ids.specs.Limits.{number_limit}
@@ -14,7 +10,8 @@ use Rattle.ov_ids.specs.ParamsState.{ParamsState, AreWithinLimits}
 use Rattle.ov_ids.specs.Options.{◌>>=◌}
 use Rattle.ov_lines.specs.Lines.{behind_word, each_number, is_skipped, long_bits, number_within, short_bits, skips, two}
 use Rattle.ov_lines.specs.Lines.{without_space}
-use Rattle.ov_lines.proofs.Lines.Numerals.{numbered}
+use Rattle.ov_lines.proofs.Lines.Front.{all_joined, in_line}
+use Rattle.ov_lines.proofs.Lines.Written.{id_read, id_word, is_word, numeral_read, numeral_word, word_clean}
 use Rattle.ov_scenario.specs.Statements.{crash_report_of, seven, stated, statement_of, subject_at, timer_of}
 use Rattle.ov_scenario.specs.Statements.{workers_named}
 use Rattle.ov_scenario.specs.declared.statement.Statement.{Statement}
@@ -25,8 +22,8 @@ use Rattle.ov_script.specs.Code.Writing.{IsShort}
 use Rattle.ov_script.specs.declared.act.Act.{Act}
 use Rattle.ov_script.specs.declared.act.Act.TheVariants as act
 use Rattle.ov_script.proofs.Behind.{behind_two}
-use Rattle.ov_script.proofs.OneLine.{in_line, spaced_clean, word_clean}
-use Rattle.ov_script.proofs.Splitting.{all_joined, all_weaker, in_word, is_word, words_spaced}
+use Rattle.ov_script.proofs.OneLine.{spaced_clean}
+use Rattle.ov_script.proofs.Splitting.{words_spaced}
 
 -- a line says this: it stands on one line, is not skipped, and is read so
 pub record Says (line : List ℕ) (x : Statement) : Type 0 where
@@ -35,33 +32,6 @@ pub record Says (line : List ℕ) (x : Statement) : Type 0 where
   pub says : statement_of line ≡ Some x
 
 -- ---- numbers
-
-digit_solid : (c : ℕ) → digit_value c < 10 → in_word c ≡ true
-digit_solid c digit = let range = digit_from_value c digit in lt-ltb 32 c (omega (arith, range.0))
-
-digits_solid : (ds : List ℕ) → AllDigits 10 ds → list_all in_word ds ≡ true
-digits_solid [] digits = refl
-digits_solid (c ∷ ds) digits =
-    and_from (in_word c) (list_all in_word ds) (digit_solid c digits.0) (digits_solid ds digits.1)
-
--- a number is a word
-numeral : (n : ℕ) → n < 2 ^ 64 → is_word (decimal n) ≡ true
-numeral n low =
-    let is = (decimal_is_IsNumeral n low).0 in
-    and_from (nat_lt 0 (length (decimal n))) (list_all in_word (decimal n)) (lt-ltb 0 (length (decimal n)) is.0)
-    (digits_solid (decimal n) is.1)
-
--- and is read back
-read_back : (bits n : ℕ) → n < 2 ^ 64 → n < 2 ^ bits → number_within bits (decimal n) ≡ Some n
-read_back bits n low fits =
-    let is = decimal_is_IsNumeral n low in
-    numbered bits n (decimal n) is.0 (sym is.1) fits
-
-wide : (n : ℕ) → n < number_limit → n < 2 ^ 64
-wide n short = omega (arith, short)
-
-short_read : (n : ℕ) → n < number_limit → number_within short_bits (decimal n) ≡ Some n
-short_read n short = read_back short_bits n (wide n short) (omega (arith, short))
 
 -- numbers below 2^32
 abbrev pub AreLow : List ℕ → Type 0
@@ -72,14 +42,14 @@ AreLow (n ∷ numbers) = (n < number_limit) × AreLow numbers
 low_words : (numbers : List ℕ) → AreLow numbers → list_all is_word (numerals numbers) ≡ true
 low_words [] low = refl
 low_words (n ∷ numbers) low =
-    and_from (is_word (decimal n)) (list_all is_word (numerals numbers)) (numeral n (wide n low.0))
+    and_from (is_word (decimal n)) (list_all is_word (numerals numbers)) (id_word n low.0)
     (low_words numbers low.1)
 
 -- and are read back
 low_read : (numbers : List ℕ) → AreLow numbers → each_number short_bits (numerals numbers) ≡ Some numbers
 low_read [] low = refl
 low_read (n ∷ numbers) low =
-    ap (λ o. o >>= λ k. each_number short_bits (numerals numbers) >>= λ ks. Some (k ∷ ks)) (short_read n low.0)
+    ap (λ o. o >>= λ k. each_number short_bits (numerals numbers) >>= λ ks. Some (k ∷ ks)) (id_read n low.0)
     ∙ ap (λ o. o >>= λ ks. Some (n ∷ ks)) (low_read numbers low.1)
 
 -- ---- lines
@@ -90,11 +60,8 @@ written :
     → starts_with nat_eq name (codes "#") ≡ false → stated (line_of name words) (name ∷ words) ≡ Some x
     → Says (line_of name words) x
 written name words x is are no_comment states =
-    let solid = (and_parts (nat_lt 0 (length name)) (list_all in_word name) is).1 in
     record {
-      clean =
-          all_joined in_line name (spaced words) (all_weaker in_word in_line word_clean name solid)
-          (spaced_clean words are);
+      clean = all_joined in_line name (spaced words) (word_clean name is) (spaced_clean words are);
       kept = ap skips (words_spaced name words is are) ∙ no_comment;
       says = ap (stated (line_of name words)) (words_spaced name words is are) ∙ states;
     }
@@ -109,7 +76,7 @@ boot_said : (n : ℕ) → n < number_limit → Says (act_line (act.Boot n None))
 unfolding act_line
 boot_said n low =
     written (codes "boot") (numerals (n ∷ [])) (happens (event.Boot n None)) refl (low_words (n ∷ []) (low, tt)) refl
-    (ap (λ o. option_map says.Event (o >>= λ a. Some (event.Boot a None))) (short_read n low))
+    (ap (λ o. option_map says.Event (o >>= λ a. Some (event.Boot a None))) (id_read n low))
 
 boot_by_said :
     (n c : ℕ) → n < number_limit → c < number_limit
@@ -118,37 +85,37 @@ unfolding act_line
 boot_by_said n c low other =
     let words : List (List ℕ) = decimal n ∷ codes "by" ∷ decimal c ∷ [] in
     let are : list_all is_word words ≡ true =
-    and_from (is_word (decimal n)) (list_all is_word (codes "by" ∷ decimal c ∷ [])) (numeral n (wide n low))
+    and_from (is_word (decimal n)) (list_all is_word (codes "by" ∷ decimal c ∷ [])) (id_word n low)
     (and_from true (list_all is_word (decimal c ∷ [])) refl (low_words (c ∷ []) (other, tt))) in
     written (codes "boot") words (happens (event.Boot n (Some c))) refl are refl (
     ap (λ o. option_map says.Event (o >>= λ a. number_within short_bits (decimal c) >>= λ b.
-    Some (event.Boot a (Some b)))) (short_read n low)
-    ∙ ap (λ o. option_map says.Event (o >>= λ b. Some (event.Boot n (Some b)))) (short_read c other)
+    Some (event.Boot a (Some b)))) (id_read n low)
+    ∙ ap (λ o. option_map says.Event (o >>= λ b. Some (event.Boot n (Some b)))) (id_read c other)
     )
 
 deliver_said : (n : ℕ) → n < number_limit → Says (act_line (act.Deliver n)) (happens (event.Deliver n))
 unfolding act_line
 deliver_said n low =
     written (codes "deliver") (numerals (n ∷ [])) (happens (event.Deliver n)) refl (low_words (n ∷ []) (low, tt)) refl
-    (ap (option_map (λ k. says.Event (event.Deliver k))) (short_read n low))
+    (ap (option_map (λ k. says.Event (event.Deliver k))) (id_read n low))
 
 lose_said : (n : ℕ) → n < number_limit → Says (act_line (act.Lose n)) (happens (event.Lose n))
 unfolding act_line
 lose_said n low =
     written (codes "lose") (numerals (n ∷ [])) (happens (event.Lose n)) refl (low_words (n ∷ []) (low, tt)) refl
-    (ap (option_map (λ k. says.Event (event.Lose k))) (short_read n low))
+    (ap (option_map (λ k. says.Event (event.Lose k))) (id_read n low))
 
 repeat_said : (n : ℕ) → n < number_limit → Says (act_line (act.Repeat n)) (happens (event.Repeat n))
 unfolding act_line
 repeat_said n low =
     written (codes "repeat") (numerals (n ∷ [])) (happens (event.Repeat n)) refl (low_words (n ∷ []) (low, tt)) refl
-    (ap (option_map (λ k. says.Event (event.Repeat k))) (short_read n low))
+    (ap (option_map (λ k. says.Event (event.Repeat k))) (id_read n low))
 
 crash_said : (n : ℕ) → n < number_limit → Says (act_line (act.Crash n)) (happens (event.Crash n))
 unfolding act_line
 crash_said n low =
     written (codes "crash") (numerals (n ∷ [])) (happens (event.Crash n)) refl (low_words (n ∷ []) (low, tt)) refl
-    (ap (option_map (λ k. says.Event (event.Crash k))) (short_read n low))
+    (ap (option_map (λ k. says.Event (event.Crash k))) (id_read n low))
 
 report_said :
     (n c : ℕ) → n < number_limit → c < number_limit
@@ -158,15 +125,15 @@ report_said n c low other =
     written (codes "report") (numerals (n ∷ c ∷ [])) (happens (event.CrashReport n c)) refl
     (low_words (n ∷ c ∷ []) (low, (other, tt))) refl (
     ap (λ o. option_map (λ p. says.Event (crash_report_of p)) (o >>= λ a. number_within short_bits (decimal c)
-    >>= λ b. Some (a, b))) (short_read n low)
-    ∙ ap (λ o. option_map (λ p. says.Event (crash_report_of p)) (o >>= λ b. Some (n, b))) (short_read c other)
+    >>= λ b. Some (a, b))) (id_read n low)
+    ∙ ap (λ o. option_map (λ p. says.Event (crash_report_of p)) (o >>= λ b. Some (n, b))) (id_read c other)
     )
 
 shuffle_said : (n : ℕ) → n < number_limit → Says (act_line (act.Shuffle n)) (happens (event.Shuffle n))
 unfolding act_line
 shuffle_said n low =
     written (codes "shuffle") (numerals (n ∷ [])) (happens (event.Shuffle n)) refl (low_words (n ∷ []) (low, tt)) refl
-    (ap (option_map (λ k. says.Event (event.Shuffle k))) (short_read n low))
+    (ap (option_map (λ k. says.Event (event.Shuffle k))) (id_read n low))
 
 broadcast_said : (n : ℕ) → n < number_limit → Says (act_line (act.Broadcast n)) (happens (event.Broadcast n []))
 unfolding act_line
@@ -175,9 +142,9 @@ broadcast_said n low =
     written (codes "broadcast") (numerals (n ∷ [])) (happens (event.Broadcast n [])) refl
     (low_words (n ∷ []) (low, tt)) refl (
     ap (λ o. option_map says.Event (o >>= λ a. Some (event.Broadcast a (without_space (behind_word
-    (behind_word line)))))) (short_read n low)
+    (behind_word line)))))) (id_read n low)
     ∙ ap (λ t. Some (says.Event (event.Broadcast n (without_space t))))
-    (behind_two (codes "broadcast") (decimal n) refl (numeral n (wide n low)))
+    (behind_two (codes "broadcast") (decimal n) refl (id_word n low))
     )
 
 timer_said :
@@ -189,11 +156,11 @@ timer_said n origin seq low other last =
     (happens (event.Timer n (record { origin = origin; seq = seq }))) refl
     (low_words (n ∷ origin ∷ seq ∷ []) (low, (other, (last, tt)))) refl (
     ap (λ o. option_map (λ p. says.Event (timer_of p)) (o >>= λ a. two (numerals (origin ∷ seq ∷ []))
-    >>= λ b. Some (a, b))) (short_read n low)
+    >>= λ b. Some (a, b))) (id_read n low)
     ∙ ap (λ o. option_map (λ p. says.Event (timer_of p)) ((o >>= λ a. number_within short_bits (decimal seq)
-    >>= λ b. Some (a, b)) >>= λ b. Some (n, b))) (short_read origin other)
+    >>= λ b. Some (a, b)) >>= λ b. Some (n, b))) (id_read origin other)
     ∙ ap (λ o. option_map (λ p. says.Event (timer_of p)) ((o >>= λ b. Some (origin, b)) >>= λ b. Some (n, b)))
-    (short_read seq last)
+    (id_read seq last)
     )
 
 snapshot_said : Says (act_line act.Snapshot) (happens event.Snapshot)
@@ -225,7 +192,7 @@ analysis_said moment low =
     written (codes "analyse") (numerals (moment ∷ []))
     (says.Analyse (record { moment = moment; group = None }) None) refl (low_words (moment ∷ []) (low, tt)) refl
     (ap (λ o. o >>= λ a. workers_named [] >>= λ p. option_map (λ s. says.Analyse s p.0) (subject_at a p.1))
-    (short_read moment low))
+    (id_read moment low))
 
 -- the numbers of parameters
 abbrev pub numbers_of : ParamsState → List ℕ
@@ -258,5 +225,5 @@ pub seed_said : (seed : ℕ) → seed < 2 ^ 64 → Says (seed_line seed) (says.S
 unfolding seed_line
 seed_said seed fits =
     written (codes "seed") (numerals (seed ∷ [])) (says.Seed seed) refl
-    (and_from (is_word (decimal seed)) true (numeral seed fits) refl) refl
-    (ap (option_map says.Seed) (read_back long_bits seed fits fits))
+    (and_from (is_word (decimal seed)) true (numeral_word seed fits) refl) refl
+    (ap (option_map says.Seed) (numeral_read long_bits seed fits fits))

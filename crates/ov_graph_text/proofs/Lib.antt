@@ -1,0 +1,2 @@
+mod Sayings
+mod Naming

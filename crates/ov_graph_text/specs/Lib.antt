@@ -1,0 +1,2 @@
+pub mod GraphTexts
+pub mod Code
