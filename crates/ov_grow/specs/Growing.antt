@@ -35,8 +35,7 @@ pub record Grows (o : GrowOptions) (text : List ℕ) (world : WorldState) (settl
   pub text_is : text ≡ u.text
   pub world_is : world ≡ u.world
 
--- with these options no overlay is grown by any scenario: at some step the event that comes next is refused, or no node
--- lives when a snapshot is taken
+-- no scenario grows an overlay with these options
 abbrev pub CantBeGrown : GrowOptions → Type 0
 CantBeGrown o =
     (text : List ℕ) (world : WorldState) (settled crashed healed : Phase) → ¬ Grows o text world settled crashed healed

@@ -1,8 +1,8 @@
-ghost use Rattle.std.specs.Prelude.{◌≡◌, ◌<◌};
+ghost use Rattle.std.specs.Prelude.{◌≡◌, ◌<◌, ◌+◌, IfErr};
 ghost use Rattle.ov_grow.specs.Faults.{number_of};
 ghost use Rattle.ov_io.specs.Device.{most_faults};
 ghost use Rattle.ov_grow_commands.specs.Growing.{WasPrinted};
-ghost use Rattle.ov_grow_commands.specs.declared.growth_fault.GrowthFault.TheVariants.{Growing};
+ghost use Rattle.ov_grow_commands.specs.declared.growth_fault.GrowthFault.TheVariants.{Growing, Write as write_failed};
 
 use crate::growth_fault::GrowthFault;
 use ov_grow::{GrowFault, grow};
@@ -30,7 +30,8 @@ fn print_scenario<W: Write>(
     sink: &mut Sink<W>,
 ) -> Result<(), GrowthFault>
     requires { sink.old.faults < most_faults }
-    ensures { WasPrinted options.now W.contents sink.old.writer sink.new.writer result }
+    ensures printed { WasPrinted options.now W.contents sink.old.writer sink.new.writer result }
+    ensures failed { IfErr result (λ fault. fault ≡ write_failed → sink.new.faults ≡ sink.old.faults + 1) }
 {
     match grow(rt.alloc(), options) {
         Ok(grown) => match sink.write_all(&grown.text) {

@@ -7,8 +7,8 @@ use Rattle.ov_grow_commands.specs.Growing.{WasPrinted}
 use Rattle.ov_grow_commands.specs.declared.growth_fault.GrowthFault.{GrowthFault}
 use Rattle.ov_grow_commands.proofs.scenario_growing.print_scenario.Goals as goal
 
-pub returns-in-Ok-write_all : goal.returns-in-Ok-write_all
-returns-in-Ok-write_all g c =
+pub returns-in-Ok-write_all-clause-printed : goal.returns-in-Ok-write_all-clause-printed
+returns-in-Ok-write_all-clause-printed g c =
     let grown = c.in-Ok.grown in (
       grown.text.items,
       record {
@@ -23,8 +23,8 @@ returns-in-Ok-write_all g c =
           c.write_all.new.self.writer) text) c.deref.ensures.value c.in-Ok-write_all.ensures.bytes,
     )
 
-pub returns-in-Ok : goal.returns-in-Ok
-returns-in-Ok g c =
+pub returns-in-Ok-clause-printed : goal.returns-in-Ok-clause-printed
+returns-in-Ok-clause-printed g c =
     let grown = c.in-Ok.grown in
     subst (λ (fault : GrowthFault). WasPrinted c.args.options.now g.W.Write.contents c.args.sink.now.writer
     c.write_all.new.self.writer (Err fault)) (sym c.told.ensures) (
