@@ -35,7 +35,11 @@ pub(crate) fn phase_summary(
 
 /// After how many of these runs the overlay is split.
 pub(crate) fn split_count(runs: &[&Row], phase: Phase) -> u32 {
-    count(runs.iter().filter(|run| run.after(phase).is_split()).count())
+    count(
+        runs.iter()
+            .filter(|run| run.after(phase).is_split())
+            .count(),
+    )
 }
 
 /// The k of each run after a phase, in ascending order.
