@@ -149,7 +149,8 @@ class Sweep:
         if self.count > MOST_RUNS:
             raise BadArguments
         self.settings = (setting(names, values) for values in itertools.product(*lists))
-        self.reads, self.is_open = "read" in found, bool({"summary", "svg", "progress"} & found.keys())
+        self.reads = found.get("read", [])
+        self.is_open = bool({"summary", "svg", "progress"} & found.keys()) or "-" in self.reads
 
 
 def read_sweep(words):
@@ -188,7 +189,7 @@ def blocks(sweep):
 
 def answer_sweep(sweep):
     """What `overlay sweep` should print."""
-    if sweep.reads:
+    if "-" not in sweep.reads and sweep.reads:
         return Answer([], "refused 71", 1)
     if sweep.is_open or sweep.count > MOST_STEPS:
         raise Open
