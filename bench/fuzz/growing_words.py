@@ -56,6 +56,11 @@ def value(name, word):
     return number(name, word)
 
 
+def is_value(words):
+    """Whether there is a word, and it may be the value of an option: it is `-`, or does not begin so."""
+    return any(word == "-" or not word.startswith("-") for word in words)
+
+
 def named(command, words):
     """The words of each option that is there, by its name."""
     found, rest = {}, list(words)
@@ -72,10 +77,10 @@ def named(command, words):
                 raise BadArguments
             found[name] = []
         elif name in TEXTS[command] or (name in NUMBERS and (command == "sweep" or name in OPTIONS)):
-            if not equals and (not rest or rest[0].startswith("-")):
-                raise Open if rest and rest[0] == "-" else BadArguments
+            if not equals and not is_value(rest[:1]):
+                raise BadArguments
             found[name] = [text if equals else rest.pop(0)]
-            while name == "read" and rest and not rest[0].startswith("-"):
+            while name == "read" and is_value(rest[:1]):
                 found[name].append(rest.pop(0))
         else:
             raise BadArguments
