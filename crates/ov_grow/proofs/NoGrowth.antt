@@ -3,8 +3,8 @@ use Rattle.std.proofs.Common.{◌≡◌, ℕ, List, sym, subst, inl, inr}
 use Rattle.ov_net.specs.World.{WorldState}
 use Rattle.ov_grow_options.specs.declared.options.GrowOptions.{GrowOptions}
 use Rattle.ov_grow.specs.Phases.{CrashNodes, Heal, Join, Settle}
-use Rattle.ov_grow.specs.Growing.{Grows, beginning}
-use Rattle.ov_grow.specs.Code.Standing.{EndsGrowing, Goes, IsNoWay, growth_of}
+use Rattle.ov_grow.specs.Growing.{EndsGrowing, Grows, beginning}
+use Rattle.ov_grow.specs.Code.Standing.{Goes, IsNoWay, growth_of}
 use Rattle.ov_grow.specs.declared.fault.GrowFault.{GrowFault}
 use Rattle.ov_grow.specs.declared.growing.Growing.{Growing}
 use Rattle.ov_grow.specs.declared.phase.Phase.{Phase}

@@ -40,11 +40,15 @@ abbrev pub CantBeGrown : GrowOptions → Type 0
 CantBeGrown o =
     (text : List ℕ) (world : WorldState) (settled crashed healed : Phase) → ¬ Grows o text world settled crashed healed
 
+-- growing with these options ends in this fault: memory ran out, or no overlay can be grown with them
+abbrev pub EndsGrowing : GrowOptions → GrowFault → Type 0
+EndsGrowing o fault = (fault ≡ OutOfMemory) ⊎ CantBeGrown o
+
 -- growing with these options is refused: the journal is full, too few places for packets are free, or memory ran out;
 -- and unless memory ran out, no overlay can be grown with these options
 pub record IsGrowRefusal (o : GrowOptions) (fault : GrowFault) : Type 0 where
   pub full : IsFull fault
-  pub reason : (fault ≡ OutOfMemory) ⊎ CantBeGrown o
+  pub reason : EndsGrowing o fault
 
 -- the options decide the text, the world and the phases: whatever two overlays are grown with them are the same
 abbrev pub OneGrowth : Type 0

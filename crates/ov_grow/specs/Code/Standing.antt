@@ -21,9 +21,7 @@ use Rattle.ov_recording.specs.Recordings.{all_of}
 use Rattle.ov_script.specs.Acts.{event_of}
 use Rattle.ov_script.specs.declared.act.Act.{Act}
 use Rattle.ov_script.specs.declared.act.Act.TheVariants as act
-use Rattle.ov_grow_options.specs.declared.options.GrowOptions.{GrowOptions}
 use Rattle.ov_grow.specs.Faults.{of_event}
-use Rattle.ov_grow.specs.Growing.{CantBeGrown}
 use Rattle.ov_grow.specs.Growth.{Growth, Does, IsLive}
 use Rattle.ov_grow.specs.Turns.{HasFailed}
 use Rattle.ov_grow.specs.declared.fault.GrowFault.{GrowFault}
@@ -39,10 +37,6 @@ growth_of g =
 pub record Goes (Way : Growth → Growth → Type 0) (b u : Growing) : Type 0 where
   pub way : Way (growth_of b) (growth_of u)
   pub kept : KeepsReports b.recording.core u.recording.core
-
--- growing with these options ends in this fault: memory ran out, or no overlay can be grown with them
-abbrev pub EndsGrowing : GrowOptions → GrowFault → Type 0
-EndsGrowing o fault = (fault ≡ OutOfMemory) ⊎ CantBeGrown o
 
 -- growing can't go on in this way: memory ran out, or this way leads nowhere from here
 abbrev pub IsNoWay : (Growth → Growth → Type 0) → Growing → GrowFault → Type 0
