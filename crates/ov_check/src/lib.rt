@@ -15,5 +15,5 @@ pub use arguments_and_exit_status::{
 pub use check_or_memory_fault::ParallelFault;
 pub use device_fault::JudgeFault;
 pub use engine::{judge, judge_kept, judge_parallel};
-pub use outcome::{Outcome, Refusal, outcome_of};
+pub use outcome::{Outcome, Refusal, filed_in, outcome_of};
 pub use parallel::{check_group_parallel, check_parallel};

@@ -76,8 +76,9 @@ pub(crate) fn outcome_parallel(
     }
 }
 
-/// The certificate file in these bytes.
-fn filed_in(alloc: Global, bytes: &[u8]) -> Result<Filed, Refusal>
+/// The certificate file in these bytes. Whether its certificate holds is not asked. A refusal has the first fault:
+/// those of `from_text` of `ov_certfile`, and NotJson (60) for bytes that are no UTF-8.
+pub fn filed_in(alloc: Global, bytes: &[u8]) -> Result<Filed, Refusal>
     ensures { MatchResult result (λ filed. BytesSay bytes.now (Ok filed))
         (λ refusal. refusal.fault ≢ FileFault.OutOfMemory → IsRefused bytes.now refusal) }
 {
