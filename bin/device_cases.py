@@ -335,23 +335,35 @@ def fifo(lab):
         yield command.name, told(seen, lab.right(command), command.explains), RIGHT
 
 
-def told_of_progress(seen):
-    """Whether lines of progress have their form and come as seldom as is promised, in words."""
+# A line of progress, and after how many seconds even several workers have begun a level to tell of: that promise begins
+# after one second.
+PIECE = re.compile(rb"level \d+: piece (\d+) of (\d+)")
+SURE = 3
+
+
+def told_of_progress(seen, workers):
+    """Whether there are lines of progress, which have their form and come as seldom as is promised, in words."""
     lines = seen.err.splitlines()
-    if not all(re.fullmatch(rb"level \d+: piece \d+ of \d+", line) for line in lines):
+    found = [PIECE.fullmatch(line) for line in lines]
+    if not all(found):
         return f"other lines: {seen.err[:80]!r}"
+    pieces = [(int(it[1]), int(it[2])) for it in found]
+    if not all(1 <= piece <= (1 if workers > 1 else size) for piece, size in pieces):
+        return f"other pieces: {seen.err[:80]!r}"
+    if not lines and (workers == 1 or seen.seconds > SURE):
+        return "no line"
     return "lines in this form, as seldom" if len(lines) <= 2 * max(0, seen.seconds - 1) + 1 else "too many lines"
 
 
-@case("devices", "progress", "`analyse --progress` of a ring of 512 nodes, each linked with the 40 next on each side, "
+@case("devices", "progress", "`analyse --progress` of a ring of 768 nodes, each linked with the 60 next on each side, "
       "by 1 worker and by 4, and the same `2>/dev/full`",
       "lines `level L: piece P of S`, none in the first second, at most two a second; the answer (FORMATS.md)")
 def progress(lab):
     right = lab.right(PROGRESS, lab.large("small-ring"))
-    for workers in ("1", "4"):
-        words = [*lab.words(PROGRESS), "--workers", workers, lab.large("small-ring")]
+    for workers in (1, 4):
+        words = [*lab.words(PROGRESS), "--workers", str(workers), lab.large("small-ring")]
         seen = lab.run(words)
-        text = f"{told(seen, right, explains=True)}, {told_of_progress(seen)}"
+        text = f"{told(seen, right, explains=True)}, {told_of_progress(seen, workers)}"
         note = f"{seen.err.count(10)} lines in {seen.seconds:.1f} s"
         yield f"--workers {workers}", text, f"{RIGHT}, lines in this form, as seldom", note
         with open("/dev/full", "wb", buffering=0) as full:

@@ -7,5 +7,3 @@ mod analyses_beside;
 mod halls;
 #[cfg(test)]
 mod many_drivers;
-#[cfg(test)]
-mod memory;

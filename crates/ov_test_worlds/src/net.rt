@@ -7,7 +7,6 @@ use std::process::Abort;
 use std::test::Fail;
 
 mod full;
-mod memory;
 mod rows;
 
 /// A line of a run: an event, or a look at the world.

@@ -1,6 +1,5 @@
 //! Snapshots of a world, and the reports that are filed for them.
 mod desks;
-mod memory;
 
 use ov_cert::{Cert, Checked, Split};
 use ov_graph::Graph;

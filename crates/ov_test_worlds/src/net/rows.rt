@@ -5,39 +5,6 @@ use super::Line::{
 use super::{Line, all_go};
 use std::test::Fail;
 
-/// Node 1 has two active places. At its third join the word 5 picks the second of two members.
-pub(super) static FULL_VIEW: [(Line, &str); 9] = [
-    (Boot(1), "entry 1 born 1"),
-    (BootBy(3, 1), "entry 2 born 3"),
-    (Deliver(0), "entry 3 up 1 3"),
-    (BootBy(7, 1), "entry 4 born 7"),
-    (Deliver(1), "entry 5 up 1 7"),
-    (BootBy(9, 1), "entry 6 born 9"),
-    (Deliver(3), "entry 7 down 1 7 up 1 9"),
-    (Show(1), "node 1 active 3,9 passive 7 eager 3,9 lazy -"),
-    (
-        Packets,
-        "packet 0 to 3 010300000001; packet 1 to 7 010300000001; packet 2 to 3 0102000000010000000706; \
-         packet 3 to 7 010600000001; packet 4 to 9 010300000001; packet 5 to 3 0102000000010000000906; ",
-    ),
-];
-
-/// A broadcast that reaches its receiver twice.
-pub(super) static BROADCAST_REPEAT: [(Line, &str); 12] = [
-    (Boot(1), "entry 1 born 1"),
-    (BootBy(2, 1), "entry 2 born 2"),
-    (Deliver(0), "entry 3 up 1 2"),
-    (Deliver(0), "entry 4 up 2 1"),
-    (Broadcast(1, b"hi"), "entry 5 delivered 1 1 0"),
-    (Repeat(0), "entry 6"),
-    (Deliver(0), "entry 7 delivered 2 1 0"),
-    (Deliver(0), "entry 8"),
-    (Packets, "packet 0 to 1 010c00000002; "),
-    (Deliver(0), "entry 9"),
-    (Show(1), "node 1 active 2 passive - eager - lazy 2"),
-    (Packets, ""),
-];
-
 /// Nodes 1, 3 and 7 come to hold each other.
 pub(super) static TRIANGLE: [(Line, &str); 14] = [
     (Boot(1), "entry 1 born 1"),

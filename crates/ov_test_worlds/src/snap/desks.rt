@@ -1,8 +1,7 @@
 //! Desks at which workers share out the pieces of a snapshot's overlay. The answers were worked out by hand.
-use super::{join, new_core, step, two_join};
+use super::{join, new_core, two_join};
 use ov_cert::Cert;
 use ov_ids::NodeId;
-use ov_net::{Event, NetFault};
 use ov_snap::{Core, CoreFault, CoreStep, run_core};
 use ov_test_kit::{ids, sized, words};
 use std::alloc::Global;
@@ -11,7 +10,7 @@ use std::test::Fail;
 
 /// What happens at desk 0 or 1, by the number of the desk and of the worker.
 #[derive(Clone, Copy, Debug)]
-pub(super) enum Turn {
+enum Turn {
     Claim(u32, u32),
     Look(u32, u32),
     Settle(u32, u32),
@@ -19,7 +18,7 @@ pub(super) enum Turn {
 }
 
 /// What the turn answers; 0 where it answers nothing.
-pub(super) fn takes(core: &mut Core, turn: Turn) -> Result<u64, CoreFault> {
+fn takes(core: &mut Core, turn: Turn) -> Result<u64, CoreFault> {
     match turn {
         Turn::Claim(desk, worker) => core.claim(desk, worker),
         Turn::Look(desk, worker) => core.look(desk, worker),
@@ -54,7 +53,7 @@ static TURNS: [(Turn, Result<u64, CoreFault>); 14] = [
 ];
 
 /// The report of this moment says that so many crashes split the overlay, and part these two nodes.
-pub(super) fn is_split(core: &Core, moment: u32, k: u32, near: u32, far: u32) -> bool {
+fn is_split(core: &Core, moment: u32, k: u32, near: u32, far: u32) -> bool {
     let Some(report) = core.report(moment) else {
         return false;
     };
@@ -87,43 +86,6 @@ fn workers_take_turns_at_a_desk(rt: HostRuntime) -> Result<(), Fail> {
     assert!(rt; is_split(&core, 4, 0, 2, 1));
     Ok(())
 }
-
-/// Nodes 1 and 2, and then 2 and 3 take each other in. Word of node 3 for node 1 is lost, so these two are not linked.
-pub(super) fn path_of_three(core: &mut Core) -> Result<u32, NetFault> {
-    let events = [
-        Event::Boot(NodeId(1), None),
-        Event::Boot(NodeId(2), Some(NodeId(1))),
-        Event::Deliver(0),
-        Event::Deliver(0),
-        Event::Boot(NodeId(3), Some(NodeId(2))),
-        Event::Deliver(0),
-        Event::Lose(1),
-        Event::Deliver(0),
-    ];
-    for event in events {
-        step(core, event)?;
-    }
-    core.snapshot()
-}
-
-/// The four pieces of the path 1, 2, 3: three are good, and the last, the fan of 3 at level 2, comes to the cut 2.
-pub(super) static SHARES: [(Turn, Result<u64, CoreFault>); 15] = [
-    (Turn::Claim(0, 0), Ok(0)),
-    (Turn::Claim(0, 1), Ok(1)),
-    (Turn::Look(0, 0), Ok(4)),
-    (Turn::Settle(0, 0), Ok(0)),
-    (Turn::Claim(0, 0), Ok(2)),
-    (Turn::Look(0, 1), Ok(4)),
-    (Turn::Settle(0, 1), Ok(0)),
-    (Turn::Claim(0, 1), Ok(3)),
-    (Turn::Look(0, 1), Ok(4)),
-    (Turn::Settle(0, 1), Ok(0)),
-    (Turn::Look(0, 0), Ok(3)),
-    (Turn::Settle(0, 0), Ok(0)),
-    (Turn::Claim(0, 0), Ok(4)),
-    (Turn::Claim(0, 1), Ok(5)),
-    (Turn::File(0), Ok(0)),
-];
 
 /// A report is filed for node 1 alone, which nothing splits, and none for all nodes.
 fn is_of_one(core: &Core) -> bool {

@@ -1,17 +1,21 @@
-//! A hall in which an allocation is refused. `bin/refuse-allocations` refuses each in turn.
+//! Calls of a hall.
 ghost use Rattle.std.specs.Prelude.{◌≡◌};
 
-use Answer::{Begun, Filed, Happened, NoEntry, Refused};
+use crate::cores::Answer::{self, Begun, Done, Happened, Numbered, Refused};
+use crate::cores::begun;
+use crate::events::Line::{self, Boot, BootBy, Deliver};
+use crate::events::{Tells, tells};
+use crate::told::core_told;
 use Call::{Analyse, Begin, BeginForOne, Read, Snapshot, Step};
 use ov_cert::Cert;
 use ov_claims::Workers;
 use ov_crew::{OpenGate, analyse};
 use ov_hall::{Hall, HallName, Opening, Pass, Whole};
 use ov_ids::{NodeId, Params};
-use ov_net::Event;
-use ov_snap::{Core, CoreFault, Report};
+use ov_net::{Entry, Event};
+use ov_snap::{Core, Report};
 use ov_test_kit::{sized, words};
-use std::alloc::Global;
+use std::alloc::{AllocError, Global};
 use std::marker::Brand;
 use std::process::Abort;
 use std::sync::Wait;
@@ -21,8 +25,7 @@ use std::thread::Threads;
 /// A call of a hall.
 #[derive(Clone, Copy, Drop)]
 enum Call {
-    /// The event at this place of `event_at`.
-    Step(u32),
+    Step(Line),
     Snapshot,
     /// The entry of this number.
     Read(u32),
@@ -37,135 +40,83 @@ impl Call {
     /// The name of the call.
     fn name(self) -> &'static str {
         match self {
-            Step(_) => "step",
-            Snapshot => "snapshot",
+            Step(_) => "step of a hall",
+            Snapshot => "snapshot of a hall",
             Read(_) => "entry",
-            Begin(_) => "begin",
-            BeginForOne(_) => "begin_group",
+            Begin(_) => "begin of a hall",
+            BeginForOne(_) => "begin_group of a hall",
             Analyse(_) => "begin, analyse and file",
         }
     }
 }
 
-/// What a call answers.
-#[derive(Clone, Copy, PartialEq, Eq)]
-enum Answer {
-    /// The number of an entry, or the moment of a snapshot.
-    Happened(u32),
-    NoEntry,
-    /// How many nodes the graph has, and whether 1 and 2 are linked.
-    Begun(usize, bool),
-    Filed,
-    Refused(u32),
-}
-
-/// Two nodes join. Entry 4 is a snapshot when only one of them holds the other.
-fn event_at(place: u32) -> Event {
-    match place {
-        0 => Event::Boot(NodeId(1), None),
-        1 => Event::Boot(NodeId(2), Some(NodeId(1))),
-        3 => Event::Snapshot,
-        _ => Event::Deliver(0),
-    }
-}
-
 /// Two nodes join, and both snapshots are analysed.
 static ROWS: [(Call, Answer); 14] = [
-    (Step(0), Happened(1)),
-    (Step(1), Happened(2)),
-    (Step(2), Happened(3)),
-    (Step(3), Happened(4)),
-    (Step(4), Happened(5)),
-    (Snapshot, Happened(6)),
-    (Read(3), Happened(3)),
-    (Read(7), NoEntry),
+    (Step(Boot(1)), Happened(1, Some(Tells::Born(1)))),
+    (Step(BootBy(2, 1)), Happened(2, Some(Tells::Born(2)))),
+    (Step(Deliver(0)), Happened(3, Some(Tells::Up(1, 2)))),
+    (Step(Line::Snapshot), Happened(4, Some(Tells::Nothing))),
+    (Step(Deliver(0)), Happened(5, Some(Tells::Up(2, 1)))),
+    (Snapshot, Numbered(6)),
+    (Read(3), Happened(3, Some(Tells::Up(1, 2)))),
+    (Read(7), Done),
     (Begin(4), Begun(2, false)),
     (Begin(5), Refused(50)),
     (BeginForOne(6), Begun(2, true)),
-    (Analyse(4), Filed),
+    (Analyse(4), Done),
     (Analyse(4), Refused(52)),
-    (Analyse(6), Filed),
+    (Analyse(6), Done),
 ];
 
-/// What is seen of a hall: of its nodes 1 and 2, and of the moments 4 and 6.
-#[derive(Clone, Copy, PartialEq, Eq)]
-struct Seen {
-    entries: usize,
-    packets: usize,
-    first_holds: Option<NodeId>,
-    second_holds: Option<NodeId>,
-    reports: [Option<SeenReport>; 2],
+/// Moment 4 has a report that a cut of nobody parts node 2 from node 1, and moment 6 one that nothing splits its nodes.
+fn has_reports(core: &Core) -> bool {
+    let (Some(apart), Some(linked)) = (core.report(4), core.report(6)) else {
+        return false;
+    };
+    matches!(apart.checked().cert(), Cert::Split(split) if split.k == 0 && split.near == NodeId(2))
+        && matches!(linked.checked().cert(), Cert::Linked { k: 1 })
 }
 
-/// What a report says: whether all nodes are linked, how many must crash, and which two nodes that parts.
-#[derive(Clone, Copy, PartialEq, Eq)]
-enum SeenReport {
-    Linked(u32),
-    Split(u32, NodeId, NodeId),
-}
-
-/// The hall after all rows: each node holds the other, and node 2 was not linked to node 1 at moment 4.
-fn last() -> Seen {
-    let (one, two) = (NodeId(1), NodeId(2));
-    Seen {
-        entries: 6,
-        packets: 0,
-        first_holds: Some(two),
-        second_holds: Some(one),
-        reports: [
-            Some(SeenReport::Split(0, two, one)),
-            Some(SeenReport::Linked(1)),
-        ],
-    }
-}
-
-fn held_by(core: &Core, node: u32) -> Option<NodeId> {
-    core.world().peer(NodeId(node))?.active().first().copied()
-}
-
-fn report_of(core: &Core, moment: u32) -> Option<SeenReport> {
-    let report = core.report(moment)?;
-    match report.checked().cert() {
-        Cert::Linked { k } => Some(SeenReport::Linked(*k)),
-        Cert::Split(split) => Some(SeenReport::Split(split.k, split.near, split.far)),
-    }
-}
-
-fn seen_in(core: &Core) -> Seen {
-    Seen {
-        entries: core.world().journal().len(),
-        packets: core.world().packets().len(),
-        first_holds: held_by(core, 1),
-        second_holds: held_by(core, 2),
-        reports: [report_of(core, 4), report_of(core, 6)],
-    }
-}
-
-fn look<N: HallName>(rt: &impl Wait, hall: &Hall<N>, pass: Pass<N>) -> (Seen, Pass<N>) {
-    hall.look_at(rt, pass, |core: &Core| -> Seen { seen_in(core) })
+/// What is seen of a hall.
+fn look<N: HallName>(
+    rt: &impl Wait,
+    alloc: Global,
+    hall: &Hall<N>,
+    pass: Pass<N>,
+) -> (Result<String, AllocError>, Pass<N>) {
+    hall.look_at(
+        rt,
+        pass,
+        |core: &Core| -> Result<String, AllocError> { core_told(alloc, core) },
+    )
 }
 
 fn stepped<N: HallName>(
     rt: &impl Wait,
     hall: &Hall<N>,
     pass: Pass<N>,
-    place: u32,
+    event: Event,
 ) -> (Answer, Pass<N>) {
-    let (answer, pass) = hall.step(rt, pass, event_at(place), &words(&[]));
+    let (answer, pass) = hall.step(rt, pass, event, &words(&[]));
     match answer {
-        Ok(entry) => (Happened(entry.number), pass),
+        Ok(entry) => (happened(&entry), pass),
         Err(fault) => (Refused(fault.number()), pass),
     }
+}
+
+fn happened(entry: &Entry) -> Answer {
+    Happened(entry.number, tells(entry))
 }
 
 fn snapshot_taken<N: HallName>(rt: &impl Wait, hall: &Hall<N>, pass: Pass<N>) -> (Answer, Pass<N>) {
     let (answer, pass) = hall.snapshot(rt, pass);
     match answer {
-        Ok(moment) => (Happened(moment), pass),
+        Ok(moment) => (Numbered(u64::from(moment)), pass),
         Err(fault) => (Refused(fault.number()), pass),
     }
 }
 
+/// The entry of this number, or Done if there is none.
 fn read<N: HallName>(
     rt: &impl Wait,
     alloc: Global,
@@ -175,19 +126,9 @@ fn read<N: HallName>(
 ) -> (Answer, Pass<N>) {
     let (answer, pass) = hall.entry(rt, alloc, pass, number);
     match answer {
-        Ok(Some(entry)) => (Happened(entry.number), pass),
-        Ok(None) => (NoEntry, pass),
+        Ok(Some(entry)) => (happened(&entry), pass),
+        Ok(None) => (Done, pass),
         Err(_) => (Refused(99), pass),
-    }
-}
-
-fn begun(answer: Result<ov_snap::Snapshot, CoreFault>) -> Answer {
-    match answer {
-        Ok(snapshot) => {
-            let is_linked = snapshot.graph.linked(NodeId(1), NodeId(2));
-            Begun(snapshot.graph.nodes().len(), is_linked)
-        }
-        Err(fault) => Refused(fault.number()),
     }
 }
 
@@ -214,11 +155,12 @@ fn analysed<N: HallName, R: Threads + Wait + Sync>(
     };
     let (filed, pass) = hall.file(rt, pass, report);
     match filed {
-        Ok(()) => (Filed, pass),
+        Ok(()) => (Done, pass),
         Err(fault) => (Refused(fault.number()), pass),
     }
 }
 
+/// What a call answers. The events of a hall's story allocate nothing before their step.
 fn made<N: HallName, R: Threads + Wait + Sync>(
     rt: &R,
     alloc: Global,
@@ -227,7 +169,10 @@ fn made<N: HallName, R: Threads + Wait + Sync>(
     call: Call,
 ) -> (Answer, Pass<N>) {
     match call {
-        Step(place) => stepped(rt, hall, pass, place),
+        Step(line) => match line.event(alloc) {
+            Ok(event) => stepped(rt, hall, pass, event),
+            Err(_) => (Refused(99), pass),
+        },
         Snapshot => snapshot_taken(rt, hall, pass),
         Read(number) => read(rt, alloc, hall, pass, number),
         Begin(moment) => {
@@ -250,20 +195,22 @@ fn answers<N: HallName, R: Threads + Wait + Abort + Print + Sync>(
     pass: Pass<N>,
     call: Call,
     expected: Answer,
-) -> Pass<N> {
-    let (before, pass) = look(rt, hall, pass);
+) -> Result<Pass<N>, Fail> {
+    let (before, pass) = look(rt, alloc, hall, pass);
+    let before = before?;
     let (first, pass) = made(rt, alloc, hall, pass, call);
     if first != Refused(99) {
         assert!(rt; first == expected);
-        return pass;
+        return Ok(pass);
     }
-    let (after, pass) = look(rt, hall, pass);
-    assert!(rt; after == before);
+    let (after, pass) = look(rt, alloc, hall, pass);
+    let after = after?;
+    assert!(rt; after.as_str() == before.as_str());
     let (second, pass) = made(rt, alloc, hall, pass, call);
     assert!(rt; second == expected);
     let name = call.name();
     let _ = println!(rt; "seen: {name}: refused 99, all as before, then the row's answer");
-    pass
+    Ok(pass)
 }
 
 /// The hall and its passes, the second time if memory is refused the first time.
@@ -296,10 +243,10 @@ fn all_answer<N: HallName, R: Threads + Wait + Abort + Print + Sync>(
     let (hall, mut passes) = parted(rt, alloc, Whole::<N>::new(alloc, params, opening))?;
     let mut pass = passes.pop().ok_or("no pass")?;
     for (call, expected) in &ROWS {
-        pass = answers(rt, alloc, &hall, pass, *call, *expected);
+        pass = answers(rt, alloc, &hall, pass, *call, *expected)?;
     }
-    let (seen, _) = look(rt, &hall, pass);
-    assert!(rt; seen == last());
+    let (has_reports, _) = hall.look_at(rt, pass, |core: &Core| -> bool { has_reports(core) });
+    assert!(rt; has_reports);
     Ok(())
 }
 

@@ -1,0 +1,19 @@
+//! Stories of worlds, cores, desks, analyses and halls. `bin/refuse-allocations` refuses each of their allocations in turn.
+#![tactic(auto)]
+
+#[cfg(test)]
+mod analyses;
+#[cfg(test)]
+mod cores;
+#[cfg(test)]
+mod desks;
+#[cfg(test)]
+mod events;
+#[cfg(test)]
+mod halls;
+#[cfg(test)]
+mod square;
+#[cfg(test)]
+mod told;
+#[cfg(test)]
+mod worlds;
