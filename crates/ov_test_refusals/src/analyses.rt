@@ -62,18 +62,26 @@ fn is_refused_once<R: Threads + Sync>(
     }
 }
 
-/// If an allocation of an analysis is refused, it is out of memory. The same call, made again, gives the answer.
-#[test]
-fn out_of_memory_ends_an_analysis(rt: HostRuntime) -> Result<(), Fail> {
-    for group in [&ALL_NODES, &THREE_NODES] {
-        let name = group.name();
-        for count in [1, 2] {
-            if is_refused_once(&rt, rt.alloc(), group, count)? {
-                let _ = println!(rt; "seen: {name} by {count}: refused 99, then the row's answer");
-            }
+/// One worker finds the whole certificate, and then two do.
+fn are_analysed<R: Threads + Print + Sync>(
+    rt: &R,
+    alloc: Global,
+    group: &Group,
+) -> Result<(), Fail> {
+    let name = group.name();
+    for count in [1, 2] {
+        if is_refused_once(rt, alloc, group, count)? {
+            let _ = println!(rt; "seen: {name} by {count}: refused 99, then the row's answer");
         }
     }
     Ok(())
+}
+
+/// If an allocation of an analysis is refused, it is out of memory. The same call, made again, gives the answer.
+#[test]
+fn out_of_memory_ends_an_analysis(rt: HostRuntime) -> Result<(), Fail> {
+    are_analysed(&rt, rt.alloc(), &ALL_NODES)?;
+    are_analysed(&rt, rt.alloc(), &THREE_NODES)
 }
 
 /// A gate that counts the numbers that workers pass with.
@@ -91,8 +99,7 @@ impl Gate for Counting {
 /// How many pieces the second worker settles, if the first one passed the gate with so many numbers, and then gave up
 /// the last of them or had ended.
 fn left_after(group: &Group, passed: u64) -> u64 {
-    let to_the_cut = group.before + 1;
-    match to_the_cut.checked_sub(passed) {
+    match group.to_the_cut().checked_sub(passed) {
         Some(0) => group.behind,
         Some(left) => left,
         None => 0,
@@ -124,7 +131,7 @@ fn who_worked(
 ) -> Option<Worked> {
     let rest_is_settled = second == Some(left_after(group, passed));
     match first {
-        Some(settled) if settled != group.before + 1 => None,
+        Some(settled) if settled != group.to_the_cut() => None,
         Some(_) if rest_is_settled => Some(Worked::Both),
         Some(_) if second.is_none() => Some(Worked::First),
         None if rest_is_settled => Some(Worked::Second),
@@ -138,8 +145,11 @@ fn work_in_turn(alloc: Global, group: &Group) -> Result<Worked, Fail> {
     let graph = square(alloc)?;
     let members = group.ids(alloc)?;
     let members = members.as_slice();
-    if members.len() > graph.nodes().len() || !graph.is_group(members) {
-        return Err("a group of the square".into());
+    if members.len() > graph.nodes().len() {
+        return Err("a group of more nodes".into());
+    }
+    if !graph.is_group(members) {
+        return Err("no group".into());
     }
     worked_by_two(alloc, group, &graph, members)
 }

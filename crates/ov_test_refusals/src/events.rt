@@ -51,8 +51,8 @@ pub(crate) enum Tells {
     Nothing,
     Born(u32),
     Up(u32, u32),
-    /// The first node dropped the second one, and took the third one in.
-    Swapped(u32, u32, u32),
+    /// A node dropped another one, and then a node took another one in.
+    DownUp([u32; 2], [u32; 2]),
     /// A node delivered a message of node 1 with this number.
     Delivered(u32, u32),
 }
@@ -66,8 +66,8 @@ fn changes_tell(changes: &[Change]) -> Option<Tells> {
     match (*first, second) {
         (Change::Born(node), None) => Some(Tells::Born(node.0)),
         (Change::Up(node, other), None) => Some(Tells::Up(node.0, other.0)),
-        (Change::Down(node, old), Some(Change::Up(same, new))) if node == same => {
-            Some(Tells::Swapped(node.0, old.0, new.0))
+        (Change::Down(node, old), Some(Change::Up(other, new))) => {
+            Some(Tells::DownUp([node.0, old.0], [other.0, new.0]))
         }
         _ => None,
     }

@@ -245,8 +245,8 @@ fn all_answer<N: HallName, R: Threads + Wait + Abort + Print + Sync>(
     for (call, expected) in &ROWS {
         pass = answers(rt, alloc, &hall, pass, *call, *expected)?;
     }
-    let (has_reports, _) = hall.look_at(rt, pass, |core: &Core| -> bool { has_reports(core) });
-    assert!(rt; has_reports);
+    let (is_filed, _) = hall.look_at(rt, pass, |core: &Core| -> bool { has_reports(core) });
+    assert!(rt; is_filed);
     Ok(())
 }
 

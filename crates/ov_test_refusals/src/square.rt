@@ -42,6 +42,11 @@ impl Group {
         if self.members.is_some() { "analyse_group" } else { "analyse" }
     }
 
+    /// How many pieces there are up to the one that decides.
+    pub(crate) fn to_the_cut(&self) -> u64 {
+        self.before.saturating_add(1)
+    }
+
     /// The members of the group by their ids, ascending.
     pub(crate) fn ids(&self, alloc: Global) -> Result<Seq<NodeId>, OutOfMemory> {
         ids(alloc, self.members.unwrap_or(&[1, 2, 3, 4]))

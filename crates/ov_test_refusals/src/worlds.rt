@@ -1,6 +1,6 @@
 //! Events of worlds of nodes.
 use crate::events::Line::{Boot, BootBy, Broadcast, Deliver, Repeat};
-use crate::events::Tells::{Born, Delivered, Nothing, Swapped, Up};
+use crate::events::Tells::{Born, Delivered, DownUp, Nothing, Up};
 use crate::events::{Line, Tells, tells};
 use crate::told::world_told;
 use ov_net::{NetFault, World};
@@ -17,7 +17,7 @@ static FULL_VIEW: [(Line, Tells); 7] = [
     (BootBy(7, 1), Born(7)),
     (Deliver(1), Up(1, 7)),
     (BootBy(9, 1), Born(9)),
-    (Deliver(3), Swapped(1, 7, 9)),
+    (Deliver(3), DownUp([1, 7], [1, 9])),
 ];
 
 /// A broadcast that reaches its receiver twice.
