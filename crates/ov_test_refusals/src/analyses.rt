@@ -33,14 +33,7 @@ fn analysed<R: Threads + Sync>(
         return Ok(analyse(rt, alloc, &graph, workers, &OpenGate));
     }
     let members = group.ids(alloc)?;
-    Ok(analyse_group(
-        rt,
-        alloc,
-        &graph,
-        members.as_slice(),
-        workers,
-        &OpenGate,
-    ))
+    Ok(analyse_group(rt, alloc, &graph, members.as_slice(), workers, &OpenGate))
 }
 
 /// So many workers find the whole certificate, the second time if memory is refused the first time. Tells whether it was

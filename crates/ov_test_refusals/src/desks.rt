@@ -121,7 +121,9 @@ fn is_cut_at_2(report: Option<&Report>, near: u32, far: u32) -> bool {
     let Cert::Split(split) = report.checked().cert() else {
         return false;
     };
-    split.cut.as_slice() == [NodeId(2)].as_slice() && split.near == NodeId(near) && split.far == NodeId(far)
+    split.cut.as_slice() == [NodeId(2)].as_slice()
+        && split.near == NodeId(near)
+        && split.far == NodeId(far)
 }
 
 /// Two workers settle the pieces of all nodes, and then those of a group, and certificates are made of them. A refused
@@ -131,7 +133,10 @@ fn out_of_memory_changes_no_desk(rt: HostRuntime) -> Result<(), Fail> {
     let mut core = path_of_three(rt.alloc())?;
     all_answer(&rt, rt.alloc(), &mut core, &ALL_NODES)?;
     all_answer(&rt, rt.alloc(), &mut core, &ENDS)?;
-    let (all, ends) = (core.report(9), core.group_report(9, &[NodeId(1), NodeId(3)]));
+    let (all, ends) = (
+        core.report(9),
+        core.group_report(9, &[NodeId(1), NodeId(3)]),
+    );
     assert!(rt; is_cut_at_2(all, 3, 1) && is_cut_at_2(ends, 1, 3));
     Ok(())
 }

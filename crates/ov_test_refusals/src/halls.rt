@@ -84,11 +84,9 @@ fn look<N: HallName>(
     hall: &Hall<N>,
     pass: Pass<N>,
 ) -> (Result<String, AllocError>, Pass<N>) {
-    hall.look_at(
-        rt,
-        pass,
-        |core: &Core| -> Result<String, AllocError> { core_told(alloc, core) },
-    )
+    hall.look_at(rt, pass, |core: &Core| -> Result<String, AllocError> {
+        core_told(alloc, core)
+    })
 }
 
 fn stepped<N: HallName>(

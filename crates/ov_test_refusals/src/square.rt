@@ -39,7 +39,11 @@ pub(crate) static THREE_NODES: Group = Group {
 impl Group {
     /// What the story of an analysis of it is called.
     pub(crate) fn name(&self) -> &'static str {
-        if self.members.is_some() { "analyse_group" } else { "analyse" }
+        if self.members.is_some() {
+            "analyse_group"
+        } else {
+            "analyse"
+        }
     }
 
     /// How many pieces there are up to the one that decides.
