@@ -31,14 +31,26 @@ fn put_node(told: &mut String, world: &World, node: u32) -> Result<(), AllocErro
     put_ids(told, " lazy ", peer.lazy())
 }
 
-/// Appends the journal, the packets on their way, and the nodes.
-fn put_world(told: &mut String, world: &World) -> Result<(), AllocError> {
+/// Appends the entries of the journal, whole.
+fn put_journal(told: &mut String, world: &World) -> Result<(), AllocError> {
     for entry in world.journal() {
         write!(told, "\n{entry:?}")?;
     }
+    Ok(())
+}
+
+/// Appends the packets on their way, with their bytes.
+fn put_packets(told: &mut String, world: &World) -> Result<(), AllocError> {
     for packet in world.packets().iter() {
         write!(told, "\n{packet:?}")?;
     }
+    Ok(())
+}
+
+/// Appends the journal, the packets, and the nodes.
+fn put_world(told: &mut String, world: &World) -> Result<(), AllocError> {
+    put_journal(told, world)?;
+    put_packets(told, world)?;
     for node in 0..NODES {
         put_node(told, world, node)?;
     }
@@ -106,6 +118,14 @@ fn put_desk(told: &mut String, core: &Core, place: u32) -> Result<(), AllocError
     Ok(())
 }
 
+/// Appends what is kept of all moments.
+fn put_moments(told: &mut String, core: &Core) -> Result<(), AllocError> {
+    for moment in 0..MOMENTS {
+        put_moment(told, core, moment)?;
+    }
+    Ok(())
+}
+
 /// What is seen of a world.
 pub(crate) fn world_told(alloc: Global, world: &World) -> Result<String, AllocError> {
     let mut told = String::with_capacity(alloc, ROOM)?;
@@ -117,9 +137,7 @@ pub(crate) fn world_told(alloc: Global, world: &World) -> Result<String, AllocEr
 pub(crate) fn core_told(alloc: Global, core: &Core) -> Result<String, AllocError> {
     let mut told = String::with_capacity(alloc, ROOM)?;
     put_world(&mut told, core.world())?;
-    for moment in 0..MOMENTS {
-        put_moment(&mut told, core, moment)?;
-    }
+    put_moments(&mut told, core)?;
     for place in 0..DESKS_AND_WORKERS {
         put_desk(&mut told, core, place)?;
     }
