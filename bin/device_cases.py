@@ -335,9 +335,9 @@ def fifo(lab):
         yield command.name, told(seen, lab.right(command), command.explains), RIGHT
 
 
-# A line of progress, and after how many seconds even several workers have begun a level to tell of: that promise begins
-# after one second.
 PIECE = re.compile(rb"level \d+: piece (\d+) of (\d+)")
+# Several workers tell only the beginning of a level. The last of the ring's levels takes a small part of the time, so it
+# begins after the first second if all take so many.
 SURE = 3
 
 
@@ -355,7 +355,7 @@ def told_of_progress(seen, workers):
     return "lines in this form, as seldom" if len(lines) <= 2 * max(0, seen.seconds - 1) + 1 else "too many lines"
 
 
-@case("devices", "progress", "`analyse --progress` of a ring of 768 nodes, each linked with the 60 next on each side, "
+@case("devices", "progress", "`analyse --progress` of a ring of 640 nodes, each linked with the 50 next on each side, "
       "by 1 worker and by 4, and the same `2>/dev/full`",
       "lines `level L: piece P of S`, none in the first second, at most two a second; the answer (FORMATS.md)")
 def progress(lab):
@@ -368,7 +368,6 @@ def progress(lab):
         yield f"--workers {workers}", text, f"{RIGHT}, lines in this form, as seldom", note
         with open("/dev/full", "wb", buffering=0) as full:
             yield f"--workers {workers} 2>/dev/full", told(lab.run(words, stderr=full), right), RIGHT
-
 
 
 # Names

@@ -243,7 +243,7 @@ LINES = 30_000
 CLIQUE, SHARED = 70, 20
 SHARED_IDS = ",".join(str(it) for it in range(CLIQUE - SHARED + 1, CLIQUE + 1))
 # Rings of so many nodes, each linked with the next ones on each side: twice as many crashes split them, and no fewer.
-RING, SMALL_RING = (1024, 78), (768, 60)
+RING, SMALL_RING = (1024, 78), (640, 50)
 
 
 def make_scenario(lab, path):
