@@ -2,7 +2,7 @@
 ghost use Rattle.std.specs.Prelude.{length, ◌≤◌};
 ghost use Rattle.ov_graph.specs.Links.{IsGroup};
 
-use crate::square::{ALL_NODES, Group, THREE_NODES, square};
+use crate::square_groups::{ALL_NODES, Group, THREE_NODES, square};
 use ov_board::{Board, Seat};
 use ov_cert::Checked;
 use ov_claims::Workers;

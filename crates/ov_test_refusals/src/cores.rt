@@ -1,7 +1,7 @@
 //! Calls of cores.
 use crate::desks::{Turn, takes};
 use crate::events::Line::{Boot, BootBy, Deliver};
-use crate::events::{Line, Tells, tells};
+use crate::events::{Line, Tells, told_in};
 use crate::told::core_told;
 use Answer::{Begun, Done, Happened, Numbered, Refused};
 use Call::{Begin, BeginFor, File, Open, OpenFor, Snapshot, Step, Take};
@@ -102,7 +102,7 @@ pub(crate) fn new_core(alloc: Global) -> Result<Core, Fail> {
 /// The entry of an event with words that are all zero.
 fn stepped(core: &mut Core, event: Event) -> Answer {
     match core.step(event, &words(&[])) {
-        Ok(entry) => Happened(entry.number, tells(&entry)),
+        Ok(entry) => Happened(entry.number, told_in(&entry)),
         Err(fault) => Refused(fault.number()),
     }
 }

@@ -74,7 +74,7 @@ fn changes_tell(changes: &[Change]) -> Option<Tells> {
 }
 
 /// What an entry tells, or None if that is nothing of a story.
-pub(crate) fn tells(entry: &Entry) -> Option<Tells> {
+pub(crate) fn told_in(entry: &Entry) -> Option<Tells> {
     let told = changes_tell(entry.changes.as_slice())?;
     let Some(delivery) = &entry.delivery else {
         return Some(told);

@@ -4,7 +4,7 @@ ghost use Rattle.std.specs.Prelude.{◌≡◌};
 use crate::cores::Answer::{self, Begun, Done, Happened, Numbered, Refused};
 use crate::cores::begun;
 use crate::events::Line::{self, Boot, BootBy, Deliver};
-use crate::events::{Tells, tells};
+use crate::events::{Tells, told_in};
 use crate::told::core_told;
 use Call::{Analyse, Begin, BeginForOne, Read, Snapshot, Step};
 use ov_cert::Cert;
@@ -103,7 +103,7 @@ fn stepped<N: HallName>(
 }
 
 fn happened(entry: &Entry) -> Answer {
-    Happened(entry.number, tells(entry))
+    Happened(entry.number, told_in(entry))
 }
 
 fn snapshot_taken<N: HallName>(rt: &impl Wait, hall: &Hall<N>, pass: Pass<N>) -> (Answer, Pass<N>) {

@@ -12,7 +12,7 @@ mod events;
 #[cfg(test)]
 mod halls;
 #[cfg(test)]
-mod square;
+mod square_groups;
 #[cfg(test)]
 mod told;
 #[cfg(test)]

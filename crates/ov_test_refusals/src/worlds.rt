@@ -1,7 +1,7 @@
 //! Events of worlds of nodes.
 use crate::events::Line::{Boot, BootBy, Broadcast, Deliver, Repeat};
 use crate::events::Tells::{Born, Delivered, DownUp, Nothing, Up};
-use crate::events::{Line, Tells, tells};
+use crate::events::{Line, Tells, told_in};
 use crate::told::world_told;
 use ov_net::{NetFault, World};
 use ov_test_kit::{sized, words};
@@ -39,7 +39,7 @@ fn made(alloc: Global, world: &mut World, line: Line) -> Result<Option<Tells>, F
     match world.step(event, &words(&[5])) {
         Err(NetFault::OutOfMemory) => Ok(None),
         Err(_) => Err("an event is refused".into()),
-        Ok(entry) => Ok(Some(tells(&entry).ok_or("an entry of no story")?)),
+        Ok(entry) => Ok(Some(told_in(&entry).ok_or("an entry of no story")?)),
     }
 }
 
