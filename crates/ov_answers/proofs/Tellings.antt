@@ -1,0 +1,194 @@
+-- What is told of an answer, and of the file that it is for.
+use Rattle.std.proofs.Common.{◌≡◌, ◌∙◌, ◌⊎◌, ◌+◌, ℕ, Bool, true, false, List, [], ◌++◌, Option, Some, Result, Ok, Err, inl}
+use Rattle.std.proofs.Common.{inr, refl, sym, ap, subst, arith, append-nil, append_assoc}
+use Rattle.ov_graph.specs.Links.{LinkGraph}
+use Rattle.ov_graphfile.specs.GraphFiles.{IsGraphFile}
+use Rattle.ov_cert.specs.State.{CheckedState}
+use Rattle.ov_cert.specs.Valid.{IsValidForGroup}
+use Rattle.ov_cert.specs.declared.cert.Cert.{Cert}
+use Rattle.ov_cert.specs.declared.cert.Cert.TheVariants as cert
+use Rattle.ov_io.specs.Device.{SinkState}
+use Rattle.ov_even.specs.Answer.{IsCheckedAnswer}
+use Rattle.ov_even.specs.Outlines.{IsOutline}
+use Rattle.ov_even.specs.Theorems.{AreAlike}
+use Rattle.ov_names.specs.NamesState.{NamesState}
+use Rattle.ov_names.specs.NameLines.{AreNamesOf}
+use Rattle.ov_run.specs.Analysing.{answer_text, PrintsAnswer, IsAnalysis, BeginsAnalysis, IsAnalysisOf}
+use Rattle.ov_run.specs.Faults.{write_faults}
+use Rattle.ov_run.specs.Code.Writing.{IsTextFault}
+use Rattle.ov_run.specs.Printed.{report_line, file_text}
+use Rattle.ov_run.specs.Subjects.{members_of}
+use Rattle.ov_run.specs.declared.answered.Answered.{Answered}
+use Rattle.ov_run.specs.declared.answered.Answered.TheVariants.{Report, NoNodes, BadGroup}
+use Rattle.ov_run.specs.declared.run_fault.RunFault.{RunFault}
+use Rattle.ov_run.specs.declared.run_fault.RunFault.TheVariants as fault
+use Rattle.ov_run.proofs.GraphFiles.Lines.{same_line}
+use Rattle.ov_answers.specs.Telling.{AreLinesBetween, TellsReport, TellsAnswer, IsTelling, IsToldOf}
+use Rattle.ov_answers.specs.Telling.{answered_of}
+use Rattle.ov_answers.specs.declared.request.Told.{Told}
+
+-- certificates that agree in everything but their paths have the same lines
+alike_lines : (c d : Cert) (names : NamesState) (named : Bool) (lines : List ℕ) → AreAlike c d
+    → AreLinesBetween named d names lines → AreLinesBetween named c names lines
+alike_lines c d names false lines same are = are
+alike_lines (cert.Linked k) (cert.Linked l) names true lines same are = are
+alike_lines (cert.Split c) (cert.Split d) names true lines same are = rw (same.cut, same.near, same.far) are
+alike_lines (cert.Linked k) (cert.Split d) names true lines same are = absurd same
+alike_lines (cert.Split c) (cert.Linked l) names true lines same are = absurd same
+
+-- the line of an outline, and the lines behind it, are those of a valid answer
+pub outlined : (g : LinkGraph) (q : List ℕ) (c : Cert) (names : NamesState) (named : Bool) (lines text : List ℕ)
+    → IsOutline g q c → AreLinesBetween named c names lines → text ≡ report_line 0 c g q ++ lines
+    → TellsReport g q names false named text
+outlined g q c names named lines text outline are is =
+    let full = outline.full.1 in
+    let line = same_line 0 g q outline.full.0 c full.alike in (
+      outline.full.0,
+      lines,
+      full.answer,
+      full.valid,
+      alike_lines outline.full.0 c names named lines full.alike are,
+      is ∙ ap (λ (t : List ℕ). t ++ lines) (sym line)
+          ∙ ap (λ (t : List ℕ). report_line 0 outline.full.0 g q ++ t) (sym (append-nil lines)),
+    )
+
+-- a valid answer for this graph and this group, with its certificate file
+pub checked : (g : LinkGraph) (q : List ℕ) (c : CheckedState) (names : NamesState) (named : Bool) (lines text : List ℕ)
+    → IsCheckedAnswer g q c → IsValidForGroup c.graph c.members c.cert → AreLinesBetween named c.cert names lines
+    → text ≡ report_line 0 c.cert c.graph c.members ++ (lines ++ file_text c.cert c.graph c.members 0)
+    → TellsReport g q names true named text
+checked g q c names named lines text answer valid are is =
+    let here =
+    subst (λ r. IsValidForGroup g r c.cert) answer.members
+    (subst (λ f. IsValidForGroup f c.members c.cert) answer.graph valid) in
+    let line : text ≡ report_line 0 c.cert g q ++ (lines ++ file_text c.cert g q 0) =
+    subst (λ r. text ≡ report_line 0 c.cert g r ++ (lines ++ file_text c.cert g r 0)) answer.members
+    (subst (λ f. text ≡ report_line 0 c.cert f c.members ++ (lines ++ file_text c.cert f c.members 0)) answer.graph is)
+    in
+    (c.cert, lines, answer.answer, here, are, line)
+
+-- the line of an answer and the lines behind it, with the certificate file behind them
+pub with_file : (c : CheckedState) (cert : Cert) (g : LinkGraph) (q : List ℕ) (names : NamesState) (named : Bool)
+    (text new : List ℕ) → cert ≡ c.cert → g ≡ c.graph → q ≡ c.members
+    → ((lines : List ℕ) × AreLinesBetween named cert names lines × (text ≡ report_line 0 cert g q ++ lines))
+    → new ≡ text ++ file_text c.cert c.graph c.members 0
+    → (lines : List ℕ) × AreLinesBetween named c.cert names lines
+    × (new ≡ report_line 0 c.cert c.graph c.members ++ (lines ++ file_text c.cert c.graph c.members 0))
+with_file c cert g q names named text new is_cert is_graph is_members b e =
+    let line = subst (λ (r : List ℕ). text ≡ report_line 0 c.cert c.graph r ++ b.0) is_members
+    (subst (λ (h : LinkGraph). text ≡ report_line 0 c.cert h q ++ b.0) is_graph
+    (subst (λ (d : Cert). text ≡ report_line 0 d g q ++ b.0) is_cert b.2)) in (
+      b.0,
+      subst (λ (d : Cert). AreLinesBetween named d names b.0) is_cert b.1,
+      e ∙ ap (λ (t : List ℕ). t ++ file_text c.cert c.graph c.members 0) line
+          ∙ append_assoc (report_line 0 c.cert c.graph c.members) b.0 (file_text c.cert c.graph c.members 0),
+    )
+
+-- with the file that says the graph and keeps the names it is what is told of the file
+pub told : (bytes text : List ℕ) (group : Option (List ℕ)) (certificate named : Bool) (answered : Answered)
+    (g : LinkGraph) (q : List ℕ) (names : NamesState) → IsGraphFile bytes g → AreNamesOf bytes g names
+    → q ≡ members_of group g → TellsAnswer g q names certificate named answered text
+    → IsTelling bytes group certificate named answered text
+told bytes text group certificate named answered g q names says keeps members tells = record {
+  graph = g;
+  says = says;
+  names = names;
+  keeps = keeps;
+  tells = subst (λ r. TellsAnswer g r names certificate named answered text) members tells;
+}
+
+same : (m : ℕ) → m ≡ m + 0
+same m = omega arith
+
+-- nothing was written of a file that was refused
+pub refused : {W : Type 0} (bytes : List ℕ) (contents : W → Option (List ℕ)) (sink : SinkState W)
+    (group : Option (List ℕ)) (certificate named : Bool) (f : RunFault) → IsTextFault bytes f
+    → IsToldOf bytes contents sink group certificate named sink (Err f)
+refused bytes contents sink group certificate named (fault.Line n) is = record {
+  tells = tt;
+  begun = inl refl;
+  sink = same sink.faults;
+  unwritten = λ other. refl;
+  fault = is;
+}
+refused bytes contents sink group certificate named (fault.Params n) is = absurd is
+refused bytes contents sink group certificate named (fault.Graph g line) is = record {
+  tells = tt;
+  begun = inl refl;
+  sink = same sink.faults;
+  unwritten = λ other. refl;
+  fault = is;
+}
+refused bytes contents sink group certificate named fault.Read is = absurd is
+refused bytes contents sink group certificate named fault.Write is = absurd is
+refused bytes contents sink group certificate named (fault.Refused n refusal) is = absurd is
+refused bytes contents sink group certificate named fault.OutOfMemory is = record {
+  tells = tt;
+  begun = inl refl;
+  sink = same sink.faults;
+  unwritten = λ other. refl;
+  fault = tt;
+}
+
+-- ---- without names it is the analysis
+
+plain_text : (line file lines : List ℕ) → lines ≡ [] → line ++ (lines ++ file) ≡ line ++ file
+plain_text line file lines none = ap (λ (t : List ℕ). line ++ (t ++ file)) none
+
+plain_answer : (g : LinkGraph) (q : List ℕ) (names : NamesState) (certificate : Bool) (answered : Answered)
+    (text : List ℕ) → TellsAnswer g q names certificate false answered text
+    → PrintsAnswer g q certificate answered text
+unfolding answer_text
+plain_answer g q names true Report text t =
+    (t.0, t.2, t.3, t.5 ∙ plain_text (report_line 0 t.0 g q) (file_text t.0 g q 0) t.1 t.4)
+plain_answer g q names false Report text t =
+    (t.0, t.2, t.3, t.5 ∙ plain_text (report_line 0 t.0 g q) [] t.1 t.4 ∙ append-nil (report_line 0 t.0 g q))
+plain_answer g q names certificate NoNodes text t = t
+plain_answer g q names certificate BadGroup text t = t
+
+plain_file : (bytes : List ℕ) (group : Option (List ℕ)) (certificate : Bool) (answered : Answered) (text : List ℕ)
+    → IsTelling bytes group certificate false answered text → IsAnalysis bytes group certificate answered text
+plain_file bytes group certificate answered text t = record {
+  graph = t.graph;
+  says = t.says;
+  prints = plain_answer t.graph (members_of group t.graph) t.names certificate answered text t.tells;
+}
+
+same_faults : (f : RunFault) → write_faults {A = Told} (Err f) ≡ write_faults {A = Answered} (Err f)
+same_faults (fault.Line n) = refl
+same_faults (fault.Params n) = refl
+same_faults (fault.Graph g line) = refl
+same_faults fault.Read = refl
+same_faults fault.Write = refl
+same_faults (fault.Refused n refusal) = refl
+same_faults fault.OutOfMemory = refl
+
+plain_begun : {W : Type 0} (bytes : List ℕ) (contents : W → Option (List ℕ)) (before after : SinkState W)
+    (group : Option (List ℕ)) (certificate : Bool) (result : Result Told RunFault)
+    → IsToldOf bytes contents before group certificate false after result
+    → (after ≡ before)
+    ⊎ BeginsAnalysis (Some bytes) group certificate (contents before.writer) (contents after.writer)
+plain_begun bytes contents before after group certificate result t = elim t.begun [
+  | inl e ↦ inl e
+  | inr b ↦ inr (bytes, b.0, b.1, refl, plain_file bytes group certificate b.0 b.1 b.2, b.3)
+]
+
+pub plain : {W : Type 0} (bytes : List ℕ) (contents : W → Option (List ℕ)) (before after : SinkState W)
+    (group : Option (List ℕ)) (certificate : Bool) (result : Result Told RunFault)
+    → IsToldOf bytes contents before group certificate false after result
+    → IsAnalysisOf (Some bytes) contents before group certificate after (answered_of result)
+plain bytes contents before after group certificate (Ok told) t = record {
+  prints = let p = t.tells in
+      (bytes, p.0, refl, plain_file bytes group certificate told.answered p.0 p.1, p.2);
+  begun = plain_begun bytes contents before after group certificate (Ok told) t;
+  sink = t.sink;
+  unwritten = tt;
+  fault = tt;
+}
+plain bytes contents before after group certificate (Err f) t = record {
+  prints = tt;
+  begun = plain_begun bytes contents before after group certificate (Err f) t;
+  sink = t.sink ∙ ap (λ n. before.faults + n) (same_faults f);
+  unwritten = t.unwritten;
+  fault = t.fault;
+}

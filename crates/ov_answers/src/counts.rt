@@ -1,0 +1,83 @@
+//! What sentences count: members of pieces, and links of nodes.
+ghost use Rattle.std.specs.Prelude.{◌<◌, length};
+
+use crate::text_pieces::piece_at;
+use ov_graph::Graph;
+use ov_graph::row::WORDS;
+use ov_ids::{NodeId, OutOfMemory};
+use ov_pieces::Pieces;
+use std::alloc::Global;
+
+/// The members of the group that are in the piece with this node, ascending.
+pub(crate) fn members_beside(
+    alloc: Global,
+    pieces: &Pieces,
+    group: &[NodeId],
+    node: NodeId,
+) -> Result<Vec<NodeId>, OutOfMemory> {
+    let mut members = Vec::new(alloc);
+    for place in 0..pieces.len() {
+        let piece = piece_at(pieces, place);
+        if is_among(piece, node) {
+            for id in piece {
+                if is_among(group, *id) {
+                    members.push(*id)?;
+                }
+            }
+        }
+    }
+    Ok(members)
+}
+
+/// How many members of the group are not in the cut.
+pub(crate) fn survivors_of(group: &[NodeId], cut: &[NodeId]) -> usize {
+    let mut left = group.len();
+    for id in cut {
+        if is_among(group, *id) {
+            left = left.saturating_sub(1);
+        }
+    }
+    left
+}
+
+/// The least number of links that a member of the group has, and the members that have it, ascending.
+pub(crate) fn least_linked(
+    alloc: Global,
+    graph: &Graph,
+    group: &[NodeId],
+) -> Result<(usize, Vec<NodeId>), OutOfMemory> {
+    let mut members = Vec::new(alloc);
+    let nodes = graph.nodes();
+    let mut least = nodes.len();
+    for place in 0..nodes.len() {
+        let id = nodes[place];
+        if is_among(group, id) {
+            let degree = degree_at(graph, place);
+            if degree < least {
+                members.clear();
+                least = degree;
+            }
+            if degree == least {
+                members.push(id)?;
+            }
+        }
+    }
+    Ok((least, members))
+}
+
+/// Whether an id is among ascending ids, by binary search.
+fn is_among(ids: &[NodeId], id: NodeId) -> bool {
+    ids.binary_search(&id).is_ok()
+}
+
+/// How many links the node at a place has.
+fn degree_at(graph: &Graph, place: usize) -> usize
+    requires { place < length graph.now.nodes }
+{
+    let row = graph.row_at(place);
+    let mut degree = 0;
+    for word in 0..WORDS {
+        degree += row[word].count_ones() as usize;
+    }
+    degree
+}

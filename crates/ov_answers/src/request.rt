@@ -1,0 +1,26 @@
+use ov_claims::Workers;
+use ov_ids::NodeId;
+use ov_run::Answered;
+
+/// What an analysis of a graph file is asked for.
+#[derive(Clone, Copy)]
+pub struct Request<'a> {
+    /// The members of the group, ascending. Without them, all nodes are the group.
+    pub group: Option<&'a [NodeId]>,
+    /// How many workers share the analysis.
+    pub workers: Workers,
+    /// The certificate file follows the answer.
+    pub certificate: bool,
+    /// Lines that name the nodes of the cut and of the pieces follow the line of the answer.
+    pub names: bool,
+    /// The answer is explained in sentences.
+    pub explain: bool,
+}
+
+/// What an analysis of a graph file printed, and what is to be said of it.
+#[derive(Drop)]
+pub struct Told {
+    pub answered: Answered,
+    /// The answer in sentences, if that was asked for and there is one.
+    pub explanation: Option<String>,
+}

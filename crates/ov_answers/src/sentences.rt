@@ -1,0 +1,218 @@
+//! The answer of an analysis in sentences. No contract says their words; examples and tests do.
+use crate::counts::{least_linked, members_beside, survivors_of};
+use ov_cert::{Cert, Split};
+use ov_graph::Graph;
+use ov_ids::{NodeId, OutOfMemory};
+use ov_names::Names;
+use ov_pieces::pieces_without;
+use std::alloc::{AllocError, Global};
+use std::fmt::Write;
+
+/// How many nodes a sentence names at most. (Chosen here.)
+const MOST_NAMED: usize = 10;
+
+/// Whom the sentences are about.
+#[derive(Clone, Copy)]
+enum Whom {
+    /// All nodes of the graph.
+    Nodes,
+    /// The members of a group.
+    Members,
+}
+
+/// The answer in sentences, a line each: which crash parts whom from how many others, which crashes it survives, and who
+/// has the fewest links. A node is told by its name with its id in brackets, and by its id alone if it has no name, or
+/// one that is no UTF-8. At most ten nodes of a list are told, and the others counted. OutOfMemory (99) if an allocation
+/// is refused.
+pub fn explanation(
+    alloc: Global,
+    graph: &Graph,
+    group: &[NodeId],
+    cert: &Cert,
+    names: &Names<'_>,
+) -> Result<String, OutOfMemory> {
+    let mut text = String::new(alloc);
+    let whom = if group == graph.nodes() {
+        Whom::Nodes
+    } else {
+        Whom::Members
+    };
+    match cert {
+        Cert::Linked { .. } => push_linked(&mut text, whom, group.len())?,
+        Cert::Split(split) => push_split(alloc, &mut text, graph, group, whom, split, names)?,
+    }
+    push_least(alloc, &mut text, graph, group, whom, names)?;
+    Ok(text)
+}
+
+/// Appends that every two members are linked.
+fn push_linked(text: &mut String, whom: Whom, count: usize) -> Result<(), AllocError> {
+    let many = many_of(whom);
+    if count == 1 {
+        let one = one_of(whom);
+        return write!(text, "there is one {one}: no crash parts two survivors\n");
+    }
+    write!(
+        text,
+        "every two of the {count} {many} are linked: no crash parts two survivors\n"
+    )
+}
+
+/// Appends which crash parts whom.
+fn push_split(
+    alloc: Global,
+    text: &mut String,
+    graph: &Graph,
+    group: &[NodeId],
+    whom: Whom,
+    split: &Split,
+    names: &Names<'_>,
+) -> Result<(), OutOfMemory> {
+    let cut = split.cut.as_slice();
+    let pieces = pieces_without(alloc, graph, cut)?;
+    let near = members_beside(alloc, &pieces, group, split.near)?;
+    let far = members_beside(alloc, &pieces, group, split.far)?;
+    let fewer = if near.len() <= far.len() {
+        near.as_slice()
+    } else {
+        far.as_slice()
+    };
+    let others = survivors_of(group, cut).saturating_sub(fewer.len());
+    push_crash(text, graph, cut, names)?;
+    push_parted(text, whom, fewer, cut.is_empty(), others, names)?;
+    Ok(push_fewer(text, cut.len())?)
+}
+
+/// Appends the crash.
+fn push_crash(
+    text: &mut String,
+    graph: &Graph,
+    cut: &[NodeId],
+    names: &Names<'_>,
+) -> Result<(), AllocError> {
+    let all = graph.nodes().len();
+    let count = cut.len();
+    if count == 0 {
+        return text.push_str("the graph is split already: ");
+    }
+    if count == 1 {
+        text.push_str("crashing node ")?;
+        push_list(text, cut, names)?;
+        return write!(text, " of {all} parts ");
+    }
+    write!(text, "crashing {count} of {all} nodes, ")?;
+    push_list(text, cut, names)?;
+    text.push_str(", parts ")
+}
+
+/// Appends who is parted from how many others.
+fn push_parted(
+    text: &mut String,
+    whom: Whom,
+    parted: &[NodeId],
+    already: bool,
+    others: usize,
+    names: &Names<'_>,
+) -> Result<(), AllocError> {
+    let noun = if parted.len() == 1 {
+        one_of(whom)
+    } else {
+        many_of(whom)
+    };
+    write!(text, "{noun} ")?;
+    push_list(text, parted, names)?;
+    if already {
+        text.push_str(if parted.len() == 1 {
+            " is parted"
+        } else {
+            " are parted"
+        })?;
+    }
+    let other = if others == 1 { "other" } else { "others" };
+    write!(text, " from {others} {other}")
+}
+
+/// Appends which crashes part nobody. `count` crashes are the fewest that do.
+fn push_fewer(text: &mut String, count: usize) -> Result<(), AllocError> {
+    let fewer = count.saturating_sub(1);
+    if fewer == 0 {
+        return text.push_str("\n");
+    }
+    if fewer == 1 {
+        return text.push_str("; no single crash does\nit survives any 1 crash\n");
+    }
+    write!(
+        text,
+        "; no {fewer} crashes do\nit survives any {fewer} crashes\n"
+    )
+}
+
+/// Appends who has the fewest links.
+fn push_least(
+    alloc: Global,
+    text: &mut String,
+    graph: &Graph,
+    group: &[NodeId],
+    whom: Whom,
+    names: &Names<'_>,
+) -> Result<(), OutOfMemory> {
+    let (least, members) = least_linked(alloc, graph, group)?;
+    let noun = if members.len() == 1 {
+        one_of(whom)
+    } else {
+        many_of(whom)
+    };
+    write!(text, "least degree {least}: {noun} ")?;
+    push_list(text, &members, names)?;
+    Ok(text.push_str("\n")?)
+}
+
+/// Appends the first ten of these nodes, and how many more there are.
+fn push_list(text: &mut String, ids: &[NodeId], names: &Names<'_>) -> Result<(), AllocError> {
+    let more = ids.len().saturating_sub(MOST_NAMED);
+    let told = ids.len().min(MOST_NAMED);
+    for place in 0..told {
+        let last = place + 1 == ids.len();
+        text.push_str(joint(place, last))?;
+        push_node(text, ids[place], names)?;
+    }
+    if more > 0 {
+        return write!(text, " and {more} more");
+    }
+    Ok(())
+}
+
+/// What stands before the node at a place of a list.
+fn joint(place: usize, last: bool) -> &'static str {
+    if place == 0 {
+        return "";
+    }
+    if last { " and " } else { ", " }
+}
+
+/// Appends a node by its name and its id, or by its id alone.
+fn push_node(text: &mut String, id: NodeId, names: &Names<'_>) -> Result<(), AllocError> {
+    let number = id.number();
+    if let Some(name) = names.name(id)
+        && let Ok(name) = str::from_utf8(name)
+    {
+        return write!(text, "{name} ({number})");
+    }
+    write!(text, "{number}")
+}
+
+/// The word for one of them.
+fn one_of(whom: Whom) -> &'static str {
+    match whom {
+        Whom::Nodes => "node",
+        Whom::Members => "member",
+    }
+}
+
+/// The word for many of them.
+fn many_of(whom: Whom) -> &'static str {
+    match whom {
+        Whom::Nodes => "nodes",
+        Whom::Members => "members",
+    }
+}

@@ -1,0 +1,4 @@
+pub mod Stepping
+pub mod Entries
+pub mod Parsing
+pub mod Refusing

@@ -1,0 +1,10 @@
+pub mod FaultNumbers
+pub mod Faults
+pub mod Diagram
+pub mod Reasons
+pub mod Statements
+pub mod Names
+pub mod Dumps
+pub mod Readings
+pub mod Grammar
+pub mod Code

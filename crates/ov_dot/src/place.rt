@@ -1,0 +1,309 @@
+ghost use Rattle.std.specs.Prelude.{◌≡◌};
+ghost use Rattle.ov_dot.specs.Diagram.{attribute, beginning, behind_attribute, behind_first, behind_list, behind_name};
+ghost use Rattle.ov_dot.specs.Diagram.{behind_node, behind_port, behind_value, follows, heading, list_opening, name_to};
+ghost use Rattle.ov_dot.specs.Diagram.{opening, statement, title_to, value};
+ghost use Rattle.ov_dot.specs.Reasons.{lacking, no_end, no_statement, not_wanted, why_not};
+
+use crate::fault::Why;
+use ov_dot_tokens::Kind;
+
+/// A place in the grammar of DOT: what was read last, and so what may come next.
+#[derive(Clone, Copy, PartialEq, Eq)]
+pub(crate) enum Place {
+    /// The beginning of the text.
+    Beginning,
+    /// Behind `strict`.
+    BehindStrict,
+    /// Behind `graph` or `digraph`.
+    BehindKind,
+    /// Behind the name of the graph.
+    BehindTitle,
+    /// Behind a brace, a semicolon or an assignment: a statement may begin.
+    Body,
+    /// Behind the name with which a statement begins.
+    Named,
+    /// Behind another name of an edge.
+    Member,
+    /// Behind a name and a colon.
+    PortNext,
+    /// Behind a name and its port.
+    Ported,
+    /// Behind a name, its port and a colon.
+    CompassNext,
+    /// Behind a name, its port and the side of that.
+    Directed,
+    /// Behind `--` or `->`.
+    EndNext,
+    /// Behind `graph`, `node` or `edge` where a statement begins.
+    ListNext,
+    /// In a list of attributes, where one may begin.
+    InList,
+    /// Behind the name of an attribute.
+    Attribute,
+    /// Behind the name of an attribute and `=`.
+    ValueNext,
+    /// Behind the value of an attribute.
+    Valued,
+    /// Behind a list of attributes.
+    Listed,
+    /// Behind a name and `=`.
+    AssignedNext,
+    /// Behind `subgraph`.
+    SubgraphNext,
+    /// Behind `subgraph` and its name.
+    SubgraphTitled,
+    /// Behind the last brace.
+    Over,
+}
+
+/// The place behind one token more. None is returned if no token of this kind may stand there.
+pub(crate) fn follows(place: Place, kind: Kind) -> Option<Place>
+    ensures { result ≡ follows place kind }
+{
+    match place {
+        Place::Beginning => beginning(kind),
+        Place::BehindStrict => heading(kind),
+        Place::BehindKind => title_to(Place::BehindTitle, kind),
+        Place::SubgraphNext => title_to(Place::SubgraphTitled, kind),
+        Place::BehindTitle | Place::SubgraphTitled => opening(kind),
+        Place::Body => statement(kind),
+        Place::Named => behind_first(kind),
+        Place::Member => behind_name(kind),
+        Place::Ported => behind_port(kind),
+        Place::Directed => behind_node(kind),
+        Place::PortNext => name_to(Place::Ported, kind),
+        Place::CompassNext => name_to(Place::Directed, kind),
+        Place::EndNext => name_to(Place::Member, kind),
+        Place::AssignedNext => name_to(Place::Body, kind),
+        Place::ListNext => list_opening(kind),
+        Place::InList => attribute(kind),
+        Place::Attribute => behind_attribute(kind),
+        Place::ValueNext => value(kind),
+        Place::Valued => behind_value(kind),
+        Place::Listed => behind_list(kind),
+        Place::Over => None,
+    }
+}
+
+/// The place to which a name leads.
+fn name_to(place: Place, kind: Kind) -> Option<Place>
+    ensures { result ≡ name_to place kind }
+{
+    match kind {
+        Kind::Bare | Kind::Quoted => Some(place),
+        _ => None,
+    }
+}
+
+/// Where a file begins.
+fn beginning(kind: Kind) -> Option<Place>
+    ensures { result ≡ beginning kind }
+{
+    match kind {
+        Kind::Strict => Some(Place::BehindStrict),
+        _ => heading(kind),
+    }
+}
+
+/// Where a file begins, behind `strict` or without it.
+fn heading(kind: Kind) -> Option<Place>
+    ensures { result ≡ heading kind }
+{
+    match kind {
+        Kind::Graph | Kind::Digraph => Some(Place::BehindKind),
+        _ => None,
+    }
+}
+
+/// Where statements are to begin.
+fn opening(kind: Kind) -> Option<Place>
+    ensures { result ≡ opening kind }
+{
+    match kind {
+        Kind::OpenBrace => Some(Place::Body),
+        _ => None,
+    }
+}
+
+/// Where statements are to begin, or a name before them, which leads to this place.
+fn title_to(place: Place, kind: Kind) -> Option<Place>
+    ensures { result ≡ title_to place kind }
+{
+    match kind {
+        Kind::OpenBrace => Some(Place::Body),
+        _ => name_to(place, kind),
+    }
+}
+
+/// Where a statement may begin.
+fn statement(kind: Kind) -> Option<Place>
+    ensures { result ≡ statement kind }
+{
+    match kind {
+        Kind::Graph | Kind::Node | Kind::Edge => Some(Place::ListNext),
+        Kind::Subgraph => Some(Place::SubgraphNext),
+        Kind::OpenBrace | Kind::CloseBrace | Kind::Semicolon => Some(Place::Body),
+        _ => name_to(Place::Named, kind),
+    }
+}
+
+/// Where a list of attributes is to begin.
+fn list_opening(kind: Kind) -> Option<Place>
+    ensures { result ≡ list_opening kind }
+{
+    match kind {
+        Kind::OpenBracket => Some(Place::InList),
+        _ => None,
+    }
+}
+
+/// Behind a list of attributes.
+fn behind_list(kind: Kind) -> Option<Place>
+    ensures { result ≡ behind_list kind }
+{
+    match kind {
+        Kind::OpenBracket => Some(Place::InList),
+        _ => statement(kind),
+    }
+}
+
+/// Behind a node.
+fn behind_node(kind: Kind) -> Option<Place>
+    ensures { result ≡ behind_node kind }
+{
+    match kind {
+        Kind::Line | Kind::Arrow => Some(Place::EndNext),
+        _ => behind_list(kind),
+    }
+}
+
+/// Behind a node without a port.
+fn behind_name(kind: Kind) -> Option<Place>
+    ensures { result ≡ behind_name kind }
+{
+    match kind {
+        Kind::Colon => Some(Place::PortNext),
+        _ => behind_node(kind),
+    }
+}
+
+/// Behind the name with which a statement begins.
+fn behind_first(kind: Kind) -> Option<Place>
+    ensures { result ≡ behind_first kind }
+{
+    match kind {
+        Kind::Equals => Some(Place::AssignedNext),
+        _ => behind_name(kind),
+    }
+}
+
+/// Behind a node and its port.
+fn behind_port(kind: Kind) -> Option<Place>
+    ensures { result ≡ behind_port kind }
+{
+    match kind {
+        Kind::Colon => Some(Place::CompassNext),
+        _ => behind_node(kind),
+    }
+}
+
+/// Where an attribute may begin.
+fn attribute(kind: Kind) -> Option<Place>
+    ensures { result ≡ attribute kind }
+{
+    match kind {
+        Kind::CloseBracket => Some(Place::Listed),
+        _ => name_to(Place::Attribute, kind),
+    }
+}
+
+/// Behind an attribute.
+fn behind_value(kind: Kind) -> Option<Place>
+    ensures { result ≡ behind_value kind }
+{
+    match kind {
+        Kind::Comma | Kind::Semicolon => Some(Place::InList),
+        _ => attribute(kind),
+    }
+}
+
+/// Behind the name of an attribute.
+fn behind_attribute(kind: Kind) -> Option<Place>
+    ensures { result ≡ behind_attribute kind }
+{
+    match kind {
+        Kind::Equals => Some(Place::ValueNext),
+        _ => behind_value(kind),
+    }
+}
+
+/// The value of an attribute.
+fn value(kind: Kind) -> Option<Place>
+    ensures { result ≡ value kind }
+{
+    match kind {
+        Kind::Html => Some(Place::Valued),
+        _ => name_to(Place::Valued, kind),
+    }
+}
+
+/// Why a token of this kind can't stand at a place.
+pub(crate) fn why_not(place: Place, kind: Kind) -> Why
+    ensures { result ≡ why_not place kind }
+{
+    match place {
+        Place::EndNext => no_end(kind),
+        Place::Body => no_statement(kind),
+        Place::Over => Why::BehindGraph,
+        _ => not_wanted(lacking(place), kind),
+    }
+}
+
+/// Why a token can't stand at the end of an edge.
+fn no_end(kind: Kind) -> Why
+    ensures { result ≡ no_end kind }
+{
+    match kind {
+        Kind::Subgraph | Kind::OpenBrace => Why::SubgraphAsEnd,
+        Kind::Html => Why::HtmlText,
+        _ => Why::NoName,
+    }
+}
+
+/// Why a token can't begin a statement.
+fn no_statement(kind: Kind) -> Why
+    ensures { result ≡ no_statement kind }
+{
+    match kind {
+        Kind::Line | Kind::Arrow => Why::SubgraphAsEnd,
+        Kind::Html => Why::HtmlText,
+        _ => Why::NoStatement,
+    }
+}
+
+/// Why a token can't stand where something else was wanted.
+fn not_wanted(why: Why, kind: Kind) -> Why
+    ensures { result ≡ not_wanted why kind }
+{
+    match kind {
+        Kind::Html => Why::HtmlText,
+        _ => why,
+    }
+}
+
+/// What is lacking if a token can't stand at a place.
+fn lacking(place: Place) -> Why
+    ensures { result ≡ lacking place }
+{
+    match place {
+        Place::Beginning | Place::BehindStrict => Why::NoGraph,
+        Place::BehindKind | Place::BehindTitle | Place::SubgraphNext | Place::SubgraphTitled =>
+            Why::NoBrace,
+        Place::PortNext | Place::CompassNext | Place::EndNext | Place::AssignedNext => Why::NoName,
+        Place::ListNext | Place::InList | Place::Attribute | Place::ValueNext | Place::Valued =>
+            Why::BadAttributes,
+        Place::Body | Place::Named | Place::Member => Why::NoStatement,
+        Place::Ported | Place::Directed | Place::Listed => Why::NoStatement,
+        Place::Over => Why::BehindGraph,
+    }
+}

@@ -1,0 +1,5 @@
+pub mod Accepted
+pub mod Scanned
+pub mod Cutting
+pub mod Depth
+pub mod OneCut

@@ -1,0 +1,25 @@
+-- how the loop begins, and that it counts no more line feeds than there are bytes
+use Rattle.std.proofs.Common.{◌≡◌, ◌∙◌, ◌-◌, [], length, take, drop, ap, sym, subst, arith}
+use Rattle.std.proofs.lemmas.List.{length-drop}
+use Rattle.std.proofs.Math.Seq.{take-length}
+use Rattle.ov_dot_tokens.specs.Tokens.{lexemes}
+use Rattle.ov_dot_tokens.proofs.Cutting.{SoFar, begun, feeds_le}
+use Rattle.ov_dot_tokens.proofs.token_reading.read_tokens.Goals as goal
+
+pub loop-rest-init : goal.loop-rest-init
+loop-rest-init c =
+    let text = c.args.text.now in
+    let len = c.comment_len.result in
+    let whole : take (length text - len) (drop len text) ≡ drop len text =
+    ap (λ k. take k (drop len text)) (sym (length-drop len text)) ∙ take-length (drop len text) in
+    subst (λ ts. SoFar text (lexemes ts) 0 (take (length text - len) (drop len text))) (sym c.new-tokens.ensures.items)
+    (subst (λ r. SoFar text [] 0 r) (sym whole) (begun text len c.comment_len.ensures))
+
+pub overflow_add-feeds-in-loop-rest : goal.overflow_add-feeds-in-loop-rest
+overflow_add-feeds-in-loop-rest c =
+    let few = feeds_le c.split_at.result.0.now in
+    let room = c.loop-rest.invariant.room in
+    let counted = c.count_feeds-feeds.ensures in
+    let front = c.split_at.ensures.front_len in
+    let within = c.in-Some.ensures.within in
+    omega arith

@@ -1,0 +1,4 @@
+pub mod Pieces
+pub mod Tokens
+pub mod Faults
+pub mod Code

@@ -1,0 +1,102 @@
+-- The tokens of a DOT text, and the lines in which they stand.
+use Rattle.std.specs.Prelude.{◌≡◌, ℕ, ◌+◌, ◌<◌, Bool, ◌==◌, ◌||◌, nat_eq, List, [], ◌∷◌, ◌++◌, map, codes, Option, Some}
+use Rattle.std.specs.Prelude.{None}
+use Rattle.std.specs.Prelude.{length, if◌then◌else◌}
+use Rattle.std.specs.Cmp.Lexicographic.{pointwise}
+use Rattle.std.specs.Char.{to_ascii_lowercase}
+use Rattle.ov_dot_tokens.specs.declared.token.Kind.{Kind}
+use Rattle.ov_dot_tokens.specs.declared.token.Kind.TheVariants.{Strict, Graph, Digraph, Node, Edge, Subgraph, Bare}
+use Rattle.ov_dot_tokens.specs.declared.token.Kind.TheVariants.{Quoted}
+use Rattle.ov_dot_tokens.specs.declared.token.Kind.TheVariants.{Html, OpenBrace, CloseBrace, OpenBracket, CloseBracket}
+use Rattle.ov_dot_tokens.specs.declared.token.Kind.TheVariants.{Semicolon, Comma, Equals, Colon, Line, Arrow}
+use Rattle.ov_dot_tokens.specs.declared.token.Token.{Token}
+use Rattle.ov_dot_tokens.specs.Pieces.{line_feed, is_blank, IsCut, HasNoFront, is_piece}
+
+-- a token without where it lies in memory: the line where it begins, its kind, and its bytes
+pub record Lexeme : Type 0 where
+  pub line : ℕ
+  pub kind : Kind
+  pub text : List ℕ
+
+-- what a token of the code says
+abbrev pub lexeme : Token → Lexeme
+lexeme t = record { line = t.line; kind = t.kind; text = t.text.now }
+
+-- what tokens of the code say
+abbrev pub lexemes : List Token → List Lexeme
+lexemes ts = map lexeme ts
+
+-- a word is this keyword, in any case
+abbrev pub is_keyword : List ℕ → List ℕ → Bool
+is_keyword keyword word = pointwise nat_eq (map to_ascii_lowercase word) keyword
+
+-- an identifier is a keyword, or else a bare text
+abbrev pub word_kind : List ℕ → Kind
+word_kind word =
+    if is_keyword (codes "node") word then Node
+    else (if is_keyword (codes "edge") word then Edge
+    else (if is_keyword (codes "graph") word then Graph
+    else (if is_keyword (codes "digraph") word then Digraph
+    else (if is_keyword (codes "subgraph") word then Subgraph
+    else (if is_keyword (codes "strict") word then Strict
+    else Bare)))))
+
+-- the kind of a token behind `-`: one of `--` and `->`, or a numeral, which is a bare text
+abbrev pub dash_kind : List ℕ → Kind
+dash_kind [] = Bare
+dash_kind (b ∷ bs) = if b == 45 then Line else (if b == 62 then Arrow else Bare)
+
+-- the kind of the token that a piece is; None if it stands between tokens, as white space and comments do
+abbrev pub kind_of : List ℕ → Option Kind
+kind_of [] = None
+kind_of (b ∷ bs) =
+    if is_blank b || (b == line_feed || b == 47) then None
+    else (if b == 123 then Some OpenBrace
+    else (if b == 125 then Some CloseBrace
+    else (if b == 91 then Some OpenBracket
+    else (if b == 93 then Some CloseBracket
+    else (if b == 59 then Some Semicolon
+    else (if b == 44 then Some Comma
+    else (if b == 61 then Some Equals
+    else (if b == 58 then Some Colon
+    else (if b == 34 then Some Quoted
+    else (if b == 60 then Some Html
+    else (if b == 45 then Some (dash_kind bs)
+    else Some (word_kind (b ∷ bs)))))))))))))
+
+-- how many line feeds these bytes have
+abbrev pub feeds : List ℕ → ℕ
+feeds [] = 0
+feeds (b ∷ bs) = if b == line_feed then 1 + feeds bs else feeds bs
+
+-- the token that a piece is, in a line
+abbrev pub token_at : ℕ → List ℕ → Option Kind → List Lexeme
+token_at line piece None = []
+token_at line piece (Some kind) = record { line = line; kind = kind; text = piece } ∷ []
+
+-- the tokens among pieces, of which the first begins in this line
+unfoldable pub tokens_from : ℕ → List (List ℕ) → List Lexeme
+tokens_from line [] = []
+tokens_from line (piece ∷ pieces) = token_at line piece (kind_of piece) ++ tokens_from (line + feeds piece) pieces
+
+-- the line behind pieces, of which the first begins in this line
+unfoldable pub line_behind : ℕ → List (List ℕ) → ℕ
+line_behind line [] = line
+line_behind line (piece ∷ pieces) = line_behind (line + feeds piece) pieces
+
+-- a text as it is cut: behind a line feed in line 0. So its lines are counted from 1, and a `#` in front begins a line
+abbrev pub behind_feed : List ℕ → List ℕ
+behind_feed text = line_feed ∷ text
+
+-- a text has these tokens: it is cut into pieces, each as long as it can be, and these are the tokens among them
+abbrev pub HasTokens : List ℕ → List Lexeme → Type 0
+HasTokens text tokens =
+    (pieces : List (List ℕ)) × IsCut pieces (behind_feed text) [] × (tokens ≡ tokens_from 0 pieces)
+
+-- a text has no tokens from this line on: behind its first pieces, in this line, some bytes are left, and no front of
+-- them is a piece
+abbrev pub HasNoTokensFrom : List ℕ → ℕ → Type 0
+HasNoTokensFrom text line =
+    (pieces : List (List ℕ)) × (rest : List ℕ)
+    × IsCut pieces (behind_feed text) rest × (0 < length rest) × HasNoFront is_piece rest
+    × (line ≡ line_behind 0 pieces)

@@ -1,0 +1,14 @@
+ghost use Rattle.std.specs.Prelude.{◌≡◌, ℕ, List};
+ghost use Rattle.ov_dot_tokens.specs.Tokens.{Lexeme, HasTokens, HasNoTokensFrom};
+
+/// A text has one list of tokens.
+pub fn one_reading()
+    ensures { (text : List ℕ) (tokens others : List Lexeme) →
+        HasTokens text tokens → HasTokens text others → tokens ≡ others }
+{}
+
+/// A text for which NoToken is returned has no list of tokens.
+pub fn no_reading()
+    ensures { (text : List ℕ) (line : ℕ) (tokens : List Lexeme) →
+        HasNoTokensFrom text line → HasTokens text tokens → ⊥ }
+{}

@@ -1,0 +1,193 @@
+-- The nodes of names.
+use Rattle.std.proofs.Common.{◌≡◌, ◌≢◌, ◌∙◌, ◌↔◌, ◌⊎◌, ◌+◌, ◌≤◌, ◌<◌, inl, inr, List, [], ◌∷◌, ◌++◌, ℕ, zero, suc}
+use Rattle.std.proofs.Common.{sym, ap, ap₂, subst, refl, length, get_or, slice_get, Some, unwrap_or, arith, map, pred, eq-or-lt_of_le}
+use Rattle.std.proofs.Common.{nat_cmp, is_eq, is_lt, Less, Equal, Greater, true, false, T}
+use Rattle.std.proofs.lemmas.Bool.{both_ways}
+use Rattle.std.proofs.lemmas.Cmp.{nat_list_cmp_total}
+use Rattle.std.proofs.lemmas.List.Sorted.{searchable_from_sorted}
+use Rattle.std.specs.Cmp.Lexicographic.{slice_cmp}
+use Rattle.std.specs.List.{HoldsAt}
+use Rattle.std.specs.List.Sorted.{IsNonDecreasingBy, IsPartitionPoint}
+use Rattle.std.specs.Ordering.{ordering_index, ordering_reverse}
+use Rattle.ov_ids.specs.Members.{Has, Ordered}
+use Rattle.ov_ids.proofs.Members.{all_member, has_append_cases, has_append_left, has_append_right, ordered_at}
+use Rattle.ov_dump.specs.Code.Numbering.{NodeLists}
+use Rattle.ov_dump.specs.Dumps.{IsNameOf, ends_of, numbers}
+use Rattle.ov_dump.specs.Faults.{AreSoundListings, IsSoundListing}
+use Rattle.ov_dump.specs.Names.{ComesBefore}
+use Rattle.ov_dump.specs.declared.dump_values.Listing.{Listing}
+use Rattle.ov_dump.proofs.NameLists.{one_way, tie, ties}
+use Rattle.ov_dump.proofs.Places.{cases_lt, member_at, place_of, within}
+
+-- ---- the nodes 1 to n
+
+pub in_numbers : (n i : ℕ) → 0 < i → i ≤ n → Has (numbers n) i
+in_numbers zero i low high = absurd (omega (arith, low, high))
+in_numbers (suc n) i low high = elim (eq-or-lt_of_le high) [
+  | inl e ↦ has_append_right (numbers n) (suc n ∷ []) i (inl (sym e))
+  | inr l ↦ has_append_left (numbers n) (suc n ∷ []) i (in_numbers n i low (omega (arith, l)))
+]
+
+-- ---- the search
+
+-- the item that a search found
+pub found_at : (names : List (List ℕ)) (p : ℕ) (name : List ℕ) → p < length names
+    → HoldsAt (λ y. slice_cmp nat_cmp y name ≡ Equal) names p → slice_get names p ≡ Some name
+found_at [] p name l h = absurd (omega arith)
+found_at (n ∷ names) zero name l h = ap Some (tie n name (ap is_eq (h n)))
+found_at (n ∷ names) (suc p) name l h = found_at names p name (omega arith) h
+
+-- names in order can be searched
+pub rising : (names : List (List ℕ)) (name : List ℕ) → Ordered ComesBefore names
+    → IsNonDecreasingBy (λ y. ordering_index (slice_cmp nat_cmp y name)) names
+rising names name up =
+    searchable_from_sorted nat_list_cmp_total (λ n. n) names name
+    (λ k d low high. ap is_lt (nat_list_cmp_total.antisymm (get_or names (k + 1) d) (get_or names k d)
+    ∙ ap ordering_reverse (ordered_at ComesBefore names k (k + 1) d up (omega arith) high)))
+
+item_at : (names : List (List ℕ)) (p : ℕ) (name : List ℕ) → slice_get names p ≡ Some name → get_or names p [] ≡ name
+item_at [] p name e = absurd (cc)
+item_at (n ∷ names) zero name e = ap (λ o. unwrap_or o name) e
+item_at (n ∷ names) (suc p) name e = item_at names p name e
+
+-- a name that a search did not find is none of them
+pub not_there : (names : List (List ℕ)) (i : ℕ) (name : List ℕ) → Ordered ComesBefore names
+    → (IsNonDecreasingBy (λ y. ordering_index (slice_cmp nat_cmp y name)) names
+    → IsPartitionPoint (λ y. slice_cmp nat_cmp y name ≡ Less) (λ y. slice_cmp nat_cmp y name ≡ Greater) names i)
+    → ¬ Has names name
+not_there names i name up searched h =
+    let parts = searched (rising names name up) in
+    let r = place_of names name h in
+    let low = within names r.0 name r.1 in
+    let same : is_eq (slice_cmp nat_cmp (get_or names r.0 []) name) ≡ true =
+    subst (λ (n : List ℕ). is_eq (slice_cmp nat_cmp n name) ≡ true) (sym (item_at names r.0 name r.1)) (ties name) in
+    elim (cases_lt r.0 i) [
+      | inl l ↦ let less = ap is_eq (parts.0 r.0 [] (omega arith) l) in both_ways _ less same
+      | inr l ↦ let more = ap is_eq (parts.1 r.0 [] l low) in both_ways _ more same
+    ]
+
+-- ---- which node has a name
+
+-- a node has one name
+pub name_one : (names : List (List ℕ)) (i : ℕ) (a b : List ℕ) → IsNameOf names i a → IsNameOf names i b → a ≡ b
+name_one names i a b (p, e, s) (q, f, t) =
+    let same : p ≡ q = ap pred (sym e ∙ f) in
+    ap (λ o. unwrap_or o a) (sym s ∙ ap (slice_get names) same ∙ t)
+
+place_one : (names : List (List ℕ)) (p q : ℕ) (a : List ℕ) → Ordered ComesBefore names → slice_get names p ≡ Some a
+    → slice_get names q ≡ Some a → p ≡ q
+place_one [] p q a up s t = absurd (cc)
+place_one (n ∷ names) zero zero a up s t = refl
+place_one (n ∷ names) zero (suc q) a up s t =
+    let e : n ≡ a = ap (λ o. unwrap_or o a) s in
+    let r : ComesBefore n a = all_member (ComesBefore n) names a up.0 (member_at names q a t) in
+    let twice : ComesBefore a a = subst (λ (x : List ℕ). ComesBefore x a) e r in absurd (one_way a a twice twice)
+place_one (n ∷ names) (suc p) zero a up s t =
+    let e : n ≡ a = ap (λ o. unwrap_or o a) t in
+    let r : ComesBefore n a = all_member (ComesBefore n) names a up.0 (member_at names p a s) in
+    let twice : ComesBefore a a = subst (λ (x : List ℕ). ComesBefore x a) e r in absurd (one_way a a twice twice)
+place_one (n ∷ names) (suc p) (suc q) a up s t = ap suc (place_one names p q a up.1 s t)
+
+-- a name is that of one node
+pub node_one : (names : List (List ℕ)) (i j : ℕ) (a : List ℕ) → Ordered ComesBefore names → IsNameOf names i a
+    → IsNameOf names j a → i ≡ j
+node_one names i j a up (p, e, s) (q, f, t) = e ∙ ap suc (place_one names p q a up s t) ∙ sym f
+
+-- a node with a name is one of the numbers
+pub named_node : (names : List (List ℕ)) (i : ℕ) (a : List ℕ) → IsNameOf names i a
+    → Has (numbers (length names)) i
+named_node names i a (p, e, s) =
+    let l = within names p a s in in_numbers (length names) i (omega (arith, e)) (omega (arith, e, l))
+
+pub name_is : (names : List (List ℕ)) (i : ℕ) (a : List ℕ) → IsNameOf names i a → Has names a
+name_is names i a (p, e, s) = member_at names p a s
+
+-- ---- one listing
+
+ends_from : (l : Listing) (a b : List ℕ) → Has (ends_of (l ∷ [])) (a, b) → (l.from ≡ a) × (l.to ≡ b)
+ends_from l a b h = elim h [
+  | inl e ↦ (ap (λ (p : List ℕ × List ℕ). p.0) e, ap (λ (p : List ℕ × List ℕ). p.1) e)
+  | inr none ↦ absurd none
+]
+
+-- who lists whom, by one listing of two nodes
+pub one_lists : (names : List (List ℕ)) (l : Listing) (from to : ℕ) → Ordered ComesBefore names
+    → IsNameOf names from l.from → IsNameOf names to l.to
+    → (i j : ℕ) → NodeLists names (l ∷ []) i j ↔ ((i ≡ from) × (j ≡ to))
+one_lists names l from to up f t i j = (
+  (λ h. let e = ends_from l h.0 h.1 h.4 in (
+    node_one names i from l.from up (subst (IsNameOf names i) (sym e.0) h.2) f,
+    node_one names j to l.to up (subst (IsNameOf names j) (sym e.1) h.3) t,
+  )),
+  (λ h. (
+    l.from,
+    l.to,
+    subst (λ (x : ℕ). IsNameOf names x l.from) (sym h.0) f,
+    subst (λ (x : ℕ). IsNameOf names x l.to) (sym h.1) t,
+    inl refl,
+  )),
+)
+
+pub from_stranger : (names : List (List ℕ)) (l : Listing) (i j : ℕ) → ¬ Has names l.from
+    → NodeLists names (l ∷ []) i j → ⊥
+from_stranger names l i j none (a, b, p, q, k) =
+    none (subst (Has names) (sym (ends_from l a b k).0) (name_is names i a p))
+
+pub to_stranger : (names : List (List ℕ)) (l : Listing) (i j : ℕ) → ¬ Has names l.to
+    → NodeLists names (l ∷ []) i j → ⊥
+to_stranger names l i j none (a, b, p, q, k) =
+    none (subst (Has names) (sym (ends_from l a b k).1) (name_is names j b q))
+
+-- the two nodes of a sound listing differ
+pub nodes_differ : (names : List (List ℕ)) (l : Listing) (from to : ℕ) → IsSoundListing l
+    → IsNameOf names from l.from → IsNameOf names to l.to → from ≢ to
+nodes_differ names l from to sound f t same =
+    sound.differ (name_one names to l.from l.to (subst (λ (x : ℕ). IsNameOf names x l.from) same f) t)
+
+-- ---- several listings
+
+ends_append : (xs ys : List Listing) → ends_of (xs ++ ys) ≡ ends_of xs ++ ends_of ys
+ends_append [] ys = refl
+ends_append (x ∷ xs) ys = ap (λ es. (x.from, x.to) ∷ es) (ends_append xs ys)
+
+pub lists_more : (names : List (List ℕ)) (before : List Listing) (l : Listing) (i j : ℕ)
+    → NodeLists names (before ++ l ∷ []) i j ↔ (NodeLists names (l ∷ []) i j ⊎ NodeLists names before i j)
+lists_more names before l i j =
+    let e = ends_append before (l ∷ []) in (
+      (λ h. elim (has_append_cases (ends_of before) (ends_of (l ∷ [])) (h.0, h.1)
+          (subst (λ (es : List (List ℕ × List ℕ)). Has es (h.0, h.1)) e h.4)) [
+            | inl m ↦ inr (h.0, h.1, h.2, h.3, m)
+            | inr m ↦ inl (h.0, h.1, h.2, h.3, m)
+          ]),
+      (λ h. elim h [
+        | inl r ↦ (
+          r.0,
+          r.1,
+          r.2,
+          r.3,
+          subst (λ (es : List (List ℕ × List ℕ)). Has es (r.0, r.1)) (sym e)
+              (has_append_right (ends_of before) (ends_of (l ∷ [])) (r.0, r.1) r.4),
+        )
+        | inr r ↦ (
+          r.0,
+          r.1,
+          r.2,
+          r.3,
+          subst (λ (es : List (List ℕ × List ℕ)). Has es (r.0, r.1)) (sym e)
+              (has_append_left (ends_of before) (ends_of (l ∷ [])) (r.0, r.1) r.4),
+        )
+      ]),
+    )
+
+pub none_lists : (names : List (List ℕ)) (i j : ℕ) → NodeLists names [] i j → ⊥
+none_lists names i j (a, b, p, q, k) = k
+
+-- names of which one lists the other in sound listings differ
+pub sound_differ : (listings : List Listing) (a b : List ℕ) → AreSoundListings listings
+    → Has (ends_of listings) (a, b) → a ≢ b
+sound_differ [] a b sound h = absurd h
+sound_differ (l ∷ listings) a b sound h = elim h [
+  | inl e ↦ λ same. (sound l (inl refl)).differ
+      (ap (λ (p : List ℕ × List ℕ). p.0) e ∙ same ∙ sym (ap (λ (p : List ℕ × List ℕ). p.1) e))
+  | inr k ↦ sound_differ listings a b (λ x m. sound x (inr m)) k
+]

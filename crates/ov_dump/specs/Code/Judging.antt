@@ -1,0 +1,21 @@
+-- One entry after those whose names were seen, and one listing.
+use Rattle.std.specs.Prelude.{◌≡◌, ◌≢◌, ◌⊎◌, ⊤, ℕ, List, []}
+use Rattle.ov_ids.specs.Members.{Has}
+use Rattle.ov_dump.specs.declared.dump_values.Entry.{Entry}
+use Rattle.ov_dump.specs.declared.dump_values.Listing.{Listing}
+use Rattle.ov_dump.specs.declared.fault.DumpFault.{DumpFault}
+use Rattle.ov_dump.specs.declared.fault.DumpFault.TheVariants.{NameTwice, ListsItself, EmptyName, OutOfMemory}
+
+-- what is wrong with an entry behind these names
+abbrev pub EntryFails : List (List ℕ) → Entry → DumpFault → Type 0
+EntryFails seen e (EmptyName at) = (at ≡ e.at) × (e.name ≡ [])
+EntryFails seen e (NameTwice at name) = (at ≡ e.at) × (name ≡ e.name) × Has seen e.name
+EntryFails seen e OutOfMemory = ⊤
+EntryFails seen e other = ⊥
+
+-- what is wrong with a listing
+abbrev pub ListingFails : Listing → DumpFault → Type 0
+ListingFails l (EmptyName at) = (at ≡ l.at) × ((l.from ≡ []) ⊎ (l.to ≡ []))
+ListingFails l (ListsItself at name) = (at ≡ l.at) × (name ≡ l.from) × (l.from ≡ l.to) × (l.from ≢ [])
+ListingFails l OutOfMemory = ⊤
+ListingFails l other = ⊥

@@ -1,0 +1,84 @@
+-- What a dump says of the views of nodes, by the names of their hosts, and the graph that follows from it.
+use Rattle.std.specs.Prelude.{◌≡◌, ◌≢◌, ◌↔◌, ◌⊎◌, ℕ, zero, suc, List, [], ◌∷◌, ◌++◌, map, length, take, slice_get}
+use Rattle.std.specs.Prelude.{Some, MatchBool}
+use Rattle.ov_ids.specs.Members.{Has, Ordered, Ascends}
+use Rattle.ov_graph.specs.Links.{LinkGraph, IsGraph, Linked}
+use Rattle.ov_dump.specs.Names.{ComesBefore}
+use Rattle.ov_dump.specs.declared.dump_values.Choice.{Choice}
+use Rattle.ov_dump.specs.declared.dump_values.Dump.{Dump}
+use Rattle.ov_dump.specs.declared.dump_values.Entry.{Entry}
+use Rattle.ov_dump.specs.declared.dump_values.Listing.{Listing}
+
+-- ---- what a dump says
+
+-- the names of these entries, in order
+abbrev pub names_of : List Entry → List (List ℕ)
+names_of entries = map (λ e. e.name) entries
+
+-- who lists whom, in order
+abbrev pub ends_of : List Listing → List (List ℕ × List ℕ)
+ends_of listings = map (λ l. (l.from, l.to)) listings
+
+-- the name has an entry of its own
+abbrev pub HasEntry : Dump → List ℕ → Type 0
+HasEntry d n = Has (names_of d.entries) n
+
+-- a lists b as its peer
+abbrev pub Lists : Dump → List ℕ → List ℕ → Type 0
+Lists d a b = Has (ends_of d.listings) (a, b)
+
+-- some name lists b
+abbrev pub IsListed : Dump → List ℕ → Type 0
+IsListed d b = (a : List ℕ) × Lists d a b
+
+-- the dump names n: n has an entry, lists a name, or is listed
+abbrev pub IsNamed : Dump → List ℕ → Type 0
+IsNamed d n = HasEntry d n ⊎ (((b : List ℕ) × Lists d n b) ⊎ IsListed d n)
+
+-- ---- the graph that follows
+
+-- n is a name of a node: one with an entry if only these are taken, and else any that the dump names
+abbrev pub IsTaken : Choice → Dump → List ℕ → Type 0
+IsTaken choice d n = MatchBool choice.entries_only (HasEntry d n) (IsNamed d n)
+
+-- two names are linked: each lists the other; or, if that is enough, one lists the other
+abbrev pub AreLinked : Choice → Dump → List ℕ → List ℕ → Type 0
+AreLinked choice d a b = MatchBool choice.either (Lists d a b ⊎ Lists d b a) (Lists d a b × Lists d b a)
+
+-- the numbers 1 to n, ascending
+abbrev pub numbers : ℕ → List ℕ
+numbers zero = []
+numbers (suc n) = numbers n ++ suc n ∷ []
+
+-- node i has the name a. The first name is that of node 1
+abbrev pub IsNameOf : List (List ℕ) → ℕ → List ℕ → Type 0
+IsNameOf names i a = (p : ℕ) × (i ≡ suc p) × (slice_get names p ≡ Some a)
+
+-- g and its names follow from the dump. The names strictly ascend, and are exactly those that are taken. The nodes are
+-- 1, 2 and so on, one for each name. Two nodes are linked exactly if they have different names that are linked
+pub record IsGraphOf (choice : Choice) (d : Dump) (g : LinkGraph) (names : List (List ℕ)) : Type 0 where
+  pub ascend : Ordered ComesBefore names
+  pub taken : (n : List ℕ) → Has names n ↔ IsTaken choice d n
+  pub graph : IsGraph g
+  pub nodes : g.nodes ≡ numbers (length names)
+  pub links : (i j : ℕ) → Linked g i j
+      ↔ ((a b : List ℕ) × IsNameOf names i a × IsNameOf names j b × (a ≢ b) × AreLinked choice d a b)
+
+-- ---- what an operator should look at
+
+-- names are the names that are listed and have no entry, as those of nodes that crashed or were not asked. They
+-- strictly ascend
+pub record AreWithoutEntry (d : Dump) (names : List (List ℕ)) : Type 0 where
+  pub ascend : Ordered ComesBefore names
+  pub each : (n : List ℕ) → Has names n ↔ (IsListed d n × ¬ HasEntry d n)
+
+-- of these listings, the one at place p, counted from 0, is not answered: the name that it lists does not list the
+-- other. No listing before it has the same two names in this order
+abbrev pub IsUnanswered : List Listing → ℕ → Type 0
+IsUnanswered listings p = (l : Listing) × (slice_get listings p ≡ Some l)
+    × (¬ Has (ends_of listings) (l.to, l.from)) × (¬ Has (ends_of (take p listings)) (l.from, l.to))
+
+-- places are those of the listings that are not answered, ascending
+pub record AreUnanswered (d : Dump) (places : List ℕ) : Type 0 where
+  pub ascend : Ascends places
+  pub each : (p : ℕ) → Has places p ↔ IsUnanswered d.listings p

@@ -1,0 +1,116 @@
+-- Why no graph follows from a dump. The entries of a dump come first in its order, and then its listings.
+use Rattle.std.specs.Prelude.{◌≡◌, ◌≢◌, ◌↔◌, ◌⊎◌, ⊤, ℕ, ◌≤◌, List, [], ◌∷◌, ◌++◌, map, length}
+use Rattle.std.specs.Prelude.{if◌then◌else◌}
+use Rattle.std.specs.List.{flat_map}
+use Rattle.ov_ids.specs.Members.{Has, Ordered}
+use Rattle.ov_graph.specs.Links.{most_nodes}
+use Rattle.ov_dump.specs.Dumps.{names_of}
+use Rattle.ov_dump.specs.Names.{ComesBefore}
+use Rattle.ov_dump.specs.declared.dump_values.Choice.{Choice}
+use Rattle.ov_dump.specs.declared.dump_values.Dump.{Dump}
+use Rattle.ov_dump.specs.declared.dump_values.Entry.{Entry}
+use Rattle.ov_dump.specs.declared.dump_values.Listing.{Listing}
+use Rattle.ov_dump.specs.declared.fault.DumpFault.{DumpFault}
+use Rattle.ov_dump.specs.declared.fault.DumpFault.TheVariants.{NameTwice, ListsItself, EmptyName, TooManyNodes}
+use Rattle.ov_dump.specs.declared.fault.DumpFault.TheVariants.{OutOfMemory}
+
+-- the number of each fault. 80 to 82 are chosen here
+abbrev pub number_of : DumpFault → ℕ
+number_of (NameTwice at name) = 80
+number_of (ListsItself at name) = 81
+number_of (EmptyName at) = 82
+number_of (TooManyNodes at name) = 31
+number_of OutOfMemory = 99
+
+-- ---- a dump without fault
+
+-- entries are sound: no name is empty, and no two are the same
+pub record AreSoundEntries (entries : List Entry) : Type 0 where
+  pub named : (e : Entry) → Has entries e → e.name ≢ []
+  pub differ : Ordered (λ m n. m ≢ n) (names_of entries)
+
+-- a listing is sound: no name is empty, and the names differ
+pub record IsSoundListing (l : Listing) : Type 0 where
+  pub lists : l.from ≢ []
+  pub listed : l.to ≢ []
+  pub differ : l.from ≢ l.to
+
+-- each of these listings is sound
+abbrev pub AreSoundListings : List Listing → Type 0
+AreSoundListings listings = (l : Listing) → Has listings l → IsSoundListing l
+
+-- the dump is sound: its entries and its listings are
+abbrev pub IsSound : Dump → Type 0
+IsSound d = AreSoundEntries d.entries × AreSoundListings d.listings
+
+-- ---- the first that is not sound
+
+-- e is an entry, and those before it are sound
+abbrev pub IsNextEntry : List Entry → List Entry → Entry → Type 0
+IsNextEntry entries before e = (after : List Entry) × (entries ≡ before ++ e ∷ after) × AreSoundEntries before
+
+-- l is a listing, and those before it are sound
+abbrev pub IsNextListing : List Listing → Listing → Type 0
+IsNextListing listings l = (before after : List Listing) × (listings ≡ before ++ l ∷ after) × AreSoundListings before
+
+-- what is wrong with the first entry that is not sound
+abbrev pub IsEntryFlaw : List Entry → DumpFault → Type 0
+IsEntryFlaw entries (EmptyName at) =
+    (before : List Entry) × (e : Entry) × IsNextEntry entries before e × (at ≡ e.at) × (e.name ≡ [])
+IsEntryFlaw entries (NameTwice at name) =
+    (before : List Entry) × (e : Entry) × IsNextEntry entries before e × (at ≡ e.at) × (name ≡ e.name)
+    × Has (names_of before) name
+IsEntryFlaw entries other = ⊥
+
+-- what is wrong with the first listing that is not sound. An empty name comes before a name that lists itself
+abbrev pub IsListingFlaw : List Listing → DumpFault → Type 0
+IsListingFlaw listings (EmptyName at) =
+    (l : Listing) × IsNextListing listings l × (at ≡ l.at) × ((l.from ≡ []) ⊎ (l.to ≡ []))
+IsListingFlaw listings (ListsItself at name) =
+    (l : Listing) × IsNextListing listings l × (at ≡ l.at) × (name ≡ l.from) × (l.from ≡ l.to) × (l.from ≢ [])
+IsListingFlaw listings other = ⊥
+
+-- what is wrong with the first entry or listing of a dump that is not sound
+abbrev pub IsFlaw : Dump → DumpFault → Type 0
+IsFlaw d fault = IsEntryFlaw d.entries fault ⊎ (AreSoundEntries d.entries × IsListingFlaw d.listings fault)
+
+-- ---- too many names
+
+-- a name, and the place that it has in the dump
+abbrev pub Naming : Type 0
+Naming = ℕ × List ℕ
+
+-- the names that entries have
+abbrev pub entry_namings : List Entry → List Naming
+entry_namings entries = map (λ e. (e.at, e.name)) entries
+
+-- the names that a listing has
+abbrev pub listing_namings : Listing → List Naming
+listing_namings l = (l.at, l.from) ∷ (l.at, l.to) ∷ []
+
+-- the names that are taken from a dump, in its order: one for each time that it is named
+abbrev pub namings : Choice → Dump → List Naming
+namings choice d =
+    entry_namings d.entries ++ (if choice.entries_only then [] else flat_map listing_namings d.listings)
+
+-- with these names taken, the next one is one too many for a graph: `kept` are the different ones among them, as many as
+-- a graph may have, and the next one is another
+pub record IsOneTooMany (before : List Naming) (name : List ℕ) (kept : List (List ℕ)) : Type 0 where
+  pub ascend : Ordered ComesBefore kept
+  pub each : (n : List ℕ) → Has kept n ↔ Has (map (λ m. m.1) before) n
+  pub full : length kept ≡ most_nodes
+  pub another : ¬ Has kept name
+
+-- the first of these names that is one too many for a graph
+abbrev pub IsBeyond : List Naming → Naming → Type 0
+IsBeyond all next = (before after : List Naming) × (all ≡ before ++ next ∷ after)
+    × (kept : List (List ℕ)) × IsOneTooMany before next.1 kept
+
+-- ---- the fault
+
+-- no graph follows from the dump, and this is why: what is wrong with the first entry or listing that is not sound; if
+-- all are sound, the first name too many; or out of memory
+abbrev pub IsDumpFault : Choice → Dump → DumpFault → Type 0
+IsDumpFault choice d (TooManyNodes at name) = IsSound d × IsBeyond (namings choice d) (at, name)
+IsDumpFault choice d OutOfMemory = ⊤
+IsDumpFault choice d other = IsFlaw d other

@@ -1,0 +1,5 @@
+pub mod Names
+pub mod Dumps
+pub mod Faults
+pub mod Theorems
+pub mod Code

@@ -1,0 +1,3 @@
+pub mod Viewing
+pub mod Lines
+pub mod Edging

@@ -1,0 +1,61 @@
+-- Dumps as lines of two names, each of which lists the other.
+use Rattle.std.specs.Prelude.{◌≡◌, ◌⊎◌, ⊤, ℕ, List, [], ◌∷◌, map}
+use Rattle.std.specs.List.{flat_map}
+use Rattle.ov_ids.specs.Members.{Has}
+use Rattle.ov_lines.specs.Lines.{kept_lines}
+use Rattle.ov_dump.specs.declared.dump_values.Dump.{Dump}
+use Rattle.ov_dump.specs.declared.dump_values.Entry.{Entry}
+use Rattle.ov_dump.specs.declared.dump_values.Listing.{Listing}
+use Rattle.ov_dump_reading.specs.EdgeLines.{IsBlankLine, IsEdge, IsReadable}
+use Rattle.ov_dump_reading.specs.declared.reading_fault.ReadingFault.{ReadingFault}
+use Rattle.ov_dump_reading.specs.declared.reading_fault.ReadingFault.TheVariants.{NotJson, NotViews, NoView, UnreadLine}
+use Rattle.ov_dump_reading.specs.declared.reading_fault.ReadingFault.TheVariants.{OutOfMemory}
+
+-- two names, and the number of their line
+pub record Edge : Type 0 where
+  pub line : ℕ
+  pub a : List ℕ
+  pub b : List ℕ
+
+-- these lines, each with its number, say these edges, in order
+abbrev pub SayEdges : List (ℕ × List ℕ) → List Edge → Type 0
+SayEdges [] edges = edges ≡ []
+SayEdges (line ∷ more) edges =
+    (IsBlankLine line.1 × SayEdges more edges)
+    ⊎ ((a b : List ℕ) × (rest : List Edge) × IsEdge line.1 a b
+    × (edges ≡ record { line = line.0; a = a; b = b } ∷ rest) × SayEdges more rest)
+
+-- each end lists the other
+abbrev pub listings_of : Edge → List Listing
+listings_of e = record { at = e.line; from = e.a; to = e.b } ∷ record { at = e.line; from = e.b; to = e.a } ∷ []
+
+-- the ends, each as an entry on the line of the edge
+abbrev pub ends_of : Edge → List Entry
+ends_of e = record { at = e.line; name = e.a } ∷ record { at = e.line; name = e.b } ∷ []
+
+-- `entries` are those of `all` that are the first of their name, in order; the names that were seen before are not
+-- among them
+abbrev pub AreFirsts : List (List ℕ) → List Entry → List Entry → Type 0
+AreFirsts seen [] entries = entries ≡ []
+AreFirsts seen (e ∷ all) entries =
+    (Has seen e.name × AreFirsts seen all entries)
+    ⊎ ((rest : List Entry) × (¬ Has seen e.name) × (entries ≡ e ∷ rest) × AreFirsts (e.name ∷ seen) all rest)
+
+-- a file of these bytes says this dump: each end of an edge has one entry, at its first line, and each end lists the
+-- other
+pub record SaysEdges (bytes : List ℕ) (d : Dump) : Type 0 where
+  pub edges : List Edge
+  pub said : SayEdges (kept_lines bytes) edges
+  pub entries : AreFirsts [] (flat_map ends_of edges) d.entries
+  pub listings : d.listings ≡ flat_map listings_of edges
+
+-- the first of these lines that can't be read has this number
+abbrev pub IsUnreadAt : List (ℕ × List ℕ) → ℕ → Type 0
+IsUnreadAt [] n = ⊥
+IsUnreadAt (line ∷ more) n = ((¬ IsReadable line.1) × (n ≡ line.0)) ⊎ (IsReadable line.1 × IsUnreadAt more n)
+
+-- why a file of these bytes says no dump
+abbrev pub IsEdgesFault : List ℕ → ReadingFault → Type 0
+IsEdgesFault bytes (UnreadLine line) = IsUnreadAt (kept_lines bytes) line
+IsEdgesFault bytes OutOfMemory = ⊤
+IsEdgesFault bytes other = ⊥

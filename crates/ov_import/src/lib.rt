@@ -1,0 +1,10 @@
+//! The import of a dump: the graph file that is written, and what an operator should know of the dump.
+#![tactic(auto)]
+
+mod dump_importing;
+mod import_fault;
+mod note_texts;
+
+pub use dump_importing::import_dump;
+pub use import_fault::ImportFault;
+pub use note_texts::import_notes;

@@ -1,0 +1,4 @@
+pub mod Tables
+pub mod Readings
+pub mod Meanings
+pub mod Sole

@@ -1,0 +1,5 @@
+pub mod NameLines
+pub mod NamesState
+pub mod Groups
+pub mod Theorems
+pub mod Code

@@ -1,0 +1,3 @@
+pub mod Along
+pub mod Tabled
+pub mod Parted

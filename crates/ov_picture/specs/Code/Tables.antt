@@ -1,0 +1,28 @@
+-- What is drawn of a node and of a link by the tables that code looks them up in.
+use Rattle.std.specs.Prelude.{ℕ}
+use Rattle.std.specs.Option.{unwrap_or}
+use Rattle.std.specs.Ordering.{nat_cmp}
+use Rattle.std.specs.BTreeMap.{BTreeMap, get}
+use Rattle.ov_picture.specs.declared.classes.NodeClass.{NodeClass}
+use Rattle.ov_picture.specs.declared.drawing.DrawnNode.{DrawnNode}
+use Rattle.ov_picture.specs.declared.drawing.DrawnLink.{DrawnLink}
+use Rattle.ov_picture.specs.declared.node_classes.Classes.{Classes}
+use Rattle.ov_picture.specs.Classes.{band_of, link_class}
+use Rattle.ov_picture.specs.Code.PathTests.{link_cmp}
+
+-- the class of a node
+abbrev pub class_in : Classes → ℕ → NodeClass
+class_in classes n = unwrap_or (get nat_cmp classes.named n) classes.other
+
+-- a node as it is drawn
+abbrev pub node_by : Classes → ℕ → DrawnNode
+node_by classes n = record { id = n; class = class_in classes n }
+
+-- a link as it is drawn
+abbrev pub link_by : Classes → BTreeMap (ℕ × ℕ) ℕ → ℕ × ℕ → DrawnLink
+link_by classes numbers l = record {
+  from = l.0;
+  to = l.1;
+  class = link_class (band_of (class_in classes l.0)) (band_of (class_in classes l.1));
+  path = get link_cmp numbers l;
+}

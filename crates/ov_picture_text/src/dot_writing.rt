@@ -1,0 +1,113 @@
+use crate::class_names::{link_class_name, node_class_name};
+use crate::escaped_texts::push_dot;
+use crate::labels::Labels;
+use crate::layout::{Layout, layout_of};
+use crate::path_colours::light_colour;
+use crate::sentences::sentence_of;
+use ov_ids::OutOfMemory;
+use ov_picture::{Drawing, DrawnLink, DrawnNode, LinkClass, NodeClass};
+use std::alloc::{AllocError, Global};
+use std::fmt::Write;
+
+/// A drawing in DOT, the language of Graphviz: each node by its id with its class, its label and a colour, each link
+/// with its class, and with the number of the path that goes along it, from 1. The places (`pos`) are those of the
+/// picture as SVG, for `neato -n`. `names` are the labels of the nodes, in their order; a node without one is labelled
+/// by its id. OutOfMemory (99): an allocation was refused.
+pub fn dot(
+    alloc: Global,
+    drawing: &Drawing,
+    names: &[Option<&str>],
+) -> Result<String, OutOfMemory> {
+    let labels = Labels::new(alloc, drawing, names)?;
+    let layout = layout_of(alloc, drawing, &labels, 0.0)?;
+    let sentence = sentence_of(alloc, drawing)?;
+    let mut text = String::new(alloc);
+    write!(
+        text,
+        "graph overlay {{\n  graph [label=\"{sentence}\", outputorder=edgesfirst];\n  node [style=filled];\n"
+    )?;
+    push_nodes(&mut text, drawing, &layout, &labels)?;
+    for link in drawing.links.as_slice() {
+        push_link(&mut text, *link)?;
+    }
+    text.push_str("}\n")?;
+    Ok(text)
+}
+
+/// Appends the nodes, each with its place.
+fn push_nodes(
+    text: &mut String,
+    drawing: &Drawing,
+    layout: &Layout,
+    labels: &Labels,
+) -> Result<(), AllocError> {
+    for (at, node) in drawing.nodes.as_slice().iter().enumerate() {
+        if let (Some(place), Some(name)) = (layout.places.get(at), labels.names.get(at)) {
+            let right = place.x;
+            let up = layout.bottom - place.y;
+            push_node(text, *node)?;
+            push_dot(text, name.as_str())?;
+            write!(text, "\", pos=\"{right:.1},{up:.1}\"];\n")?;
+        }
+    }
+    Ok(())
+}
+
+/// Appends a node up to its label.
+fn push_node(text: &mut String, node: DrawnNode) -> Result<(), AllocError> {
+    let id = node.id.number();
+    let class = node_class_name(node.class);
+    let colour = node_colour(node.class);
+    let shape = if node.class == NodeClass::Cut {
+        "box"
+    } else {
+        "ellipse"
+    };
+    write!(
+        text,
+        "  {id} [class=\"{class}\", fillcolor=\"{colour}\", shape={shape}, label=\""
+    )
+}
+
+/// Appends a link.
+fn push_link(text: &mut String, link: DrawnLink) -> Result<(), AllocError> {
+    let from = link.from.number();
+    let to = link.to.number();
+    let class = link_class_name(link.class);
+    if let Some(path) = link.path {
+        let colour = light_colour(path);
+        let number = path.saturating_add(1);
+        return write!(
+            text,
+            "  {from} -- {to} [class=\"{class}\", color=\"{colour}\", penwidth=3, path={number}];\n"
+        );
+    }
+    let colour = link_colour(link.class);
+    write!(
+        text,
+        "  {from} -- {to} [class=\"{class}\", color=\"{colour}\"];\n"
+    )
+}
+
+/// The colour of a node of this class, light enough for a label in black.
+fn node_colour(class: NodeClass) -> &'static str {
+    match class {
+        NodeClass::Unparted => "#c4ccd2",
+        NodeClass::Near => "#56b4e9",
+        NodeClass::NearSide => "#bfe3ff",
+        NodeClass::Cut => "#ff8c42",
+        NodeClass::Far => "#3ddbb0",
+        NodeClass::FarSide => "#c8f7e6",
+    }
+}
+
+/// The colour of a link of this class.
+fn link_colour(class: LinkClass) -> &'static str {
+    match class {
+        LinkClass::Unparted => "#5b6770",
+        LinkClass::WithinSide => "#0072b2",
+        LinkClass::SideToCut | LinkClass::WithinCut | LinkClass::CutToFar => "#e08a4b",
+        LinkClass::WithinFar => "#00845f",
+        LinkClass::Across => "#c2185b",
+    }
+}

@@ -1,0 +1,160 @@
+use crate::class_names::link_class_name;
+use crate::geometry::Place;
+use crate::layout::Layout;
+use crate::path_colours::{colour_of, dashes_of};
+use ov_picture::{Drawing, DrawnLink, DrawnNode, LinkClass};
+use std::alloc::AllocError;
+use std::fmt::Write;
+
+/// How wide links are and how much of the ground they hide, up to so many links. More links are like the last of these.
+const WIDTHS: [(usize, f64, f64); 5] = [
+    (80, 1.7, 0.8),
+    (400, 1.2, 0.6),
+    (2_500, 0.9, 0.4),
+    (20_000, 0.7, 0.18),
+    (usize::MAX, 0.5, 0.06),
+];
+
+/// How much of the ground links hide at most beside paths.
+const FAINT: f64 = 0.16;
+
+/// How wide paths are.
+const PATH_WIDTH: f64 = 3.2;
+
+/// Which links are drawn alike.
+#[derive(Clone, Copy, PartialEq, Eq)]
+pub(crate) enum Layer {
+    /// Links between survivors of one part, which outlast the crash.
+    Lasting,
+    /// Links that end in the cut or lead across.
+    Parting,
+}
+
+/// Appends a line for each link of a layer that no path goes along.
+pub(crate) fn push_plain_links(
+    text: &mut String,
+    drawing: &Drawing,
+    layout: &Layout,
+    layer: Layer,
+) -> Result<(), AllocError> {
+    let links = drawing.links.as_slice();
+    let (width, strength) = width_of(links_in(links, layer));
+    let opacity = if drawing.entry.is_some() {
+        strength.min(FAINT)
+    } else {
+        strength
+    };
+    write!(
+        text,
+        "<g class=\"links\" stroke-width=\"{width}\" stroke-opacity=\"{opacity}\">\n"
+    )?;
+    for link in links {
+        if link.path.is_none() && layer_of(link.class) == layer {
+            let class = link_class_name(link.class);
+            write!(text, "<path class=\"{class}\" d=\"")?;
+            push_line(text, drawing.nodes.as_slice(), layout, link)?;
+        }
+    }
+    text.push_str("</g>\n")
+}
+
+/// How many links are in a layer.
+fn links_in(links: &[DrawnLink], layer: Layer) -> usize {
+    links
+        .iter()
+        .filter(|link| layer_of(link.class) == layer)
+        .count()
+}
+
+/// The layer of a class.
+fn layer_of(class: LinkClass) -> Layer {
+    match class {
+        LinkClass::Unparted | LinkClass::WithinSide | LinkClass::WithinFar => Layer::Lasting,
+        LinkClass::SideToCut | LinkClass::WithinCut | LinkClass::CutToFar | LinkClass::Across => {
+            Layer::Parting
+        }
+    }
+}
+
+/// Appends a line for each link that a path goes along.
+pub(crate) fn push_path_links(
+    text: &mut String,
+    drawing: &Drawing,
+    layout: &Layout,
+) -> Result<(), AllocError> {
+    write!(text, "<g class=\"paths\" stroke-width=\"{PATH_WIDTH}\">\n")?;
+    for link in drawing.links.as_slice() {
+        push_path_link(text, drawing.nodes.as_slice(), layout, link)?;
+    }
+    text.push_str("</g>\n")
+}
+
+/// Appends a link that a path goes along, if one does.
+fn push_path_link(
+    text: &mut String,
+    nodes: &[DrawnNode],
+    layout: &Layout,
+    link: &DrawnLink,
+) -> Result<(), AllocError> {
+    let Some(path) = link.path else {
+        return Ok(());
+    };
+    let colour = colour_of(path);
+    let dashes = dashes_of(path);
+    write!(
+        text,
+        "<path class=\"p{colour}\" stroke-dasharray=\"{dashes}\" d=\""
+    )?;
+    push_line(text, nodes, layout, link)
+}
+
+/// Appends the line of a link, and ends its element.
+fn push_line(
+    text: &mut String,
+    nodes: &[DrawnNode],
+    layout: &Layout,
+    link: &DrawnLink,
+) -> Result<(), AllocError> {
+    let from = place_of(nodes, layout, link.from.0);
+    let to = place_of(nodes, layout, link.to.0);
+    let Place { x, y, .. } = from;
+    let Place {
+        x: end,
+        y: height,
+        ..
+    } = to;
+    let swing = if link.class == LinkClass::WithinCut {
+        layout.cut.swing(from, to)
+    } else {
+        0.0
+    };
+    if swing == 0.0 {
+        return write!(text, "M{x:.1} {y:.1}L{end:.1} {height:.1}\"/>\n");
+    }
+    let beside = (x + end) / 2.0 + swing;
+    let middle = (y + height) / 2.0;
+    write!(
+        text,
+        "M{x:.1} {y:.1}Q{beside:.1} {middle:.1} {end:.1} {height:.1}\"/>\n"
+    )
+}
+
+/// Where the node with this number stands.
+fn place_of(nodes: &[DrawnNode], layout: &Layout, id: u32) -> Place {
+    let at = nodes
+        .binary_search_by_key(&id, |node| node.id.0)
+        .unwrap_or(0);
+    layout.places.get(at).copied().unwrap_or(Place {
+        x: 0.0,
+        y: 0.0,
+        outward: 0.0,
+    })
+}
+
+/// How wide so many links are, and how much they hide.
+fn width_of(links: usize) -> (f64, f64) {
+    WIDTHS
+        .iter()
+        .find(|(most, _, _)| links <= *most)
+        .map_or((0.5, 0.06), |(_, width, strength)| (*width, *strength))
+}

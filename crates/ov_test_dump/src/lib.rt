@@ -1,0 +1,7 @@
+//! Tests of dumps: their two forms, what is written of them, and what is said of them.
+#![tactic(auto)]
+
+#[cfg(test)]
+mod imported;
+#[cfg(test)]
+mod told;
