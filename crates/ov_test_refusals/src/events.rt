@@ -62,8 +62,7 @@ fn changes_tell(changes: &[Change]) -> Option<Tells> {
     let Some((first, rest)) = changes.split_first() else {
         return Some(Tells::Nothing);
     };
-    let second = rest.first().copied();
-    match (*first, second) {
+    match (first, rest.first()) {
         (Change::Born(node), None) => Some(Tells::Born(node.0)),
         (Change::Up(node, other), None) => Some(Tells::Up(node.0, other.0)),
         (Change::Down(node, old), Some(Change::Up(other, new))) => {

@@ -1,0 +1,5 @@
+//! What analyses of graph files with names print, and how they are explained.
+#![tactic(auto)]
+
+#[cfg(test)]
+mod named;
