@@ -1,0 +1,43 @@
+//! Analyses a network of routers: how many of them may fail before two offices lose each other.
+#![tactic(auto)]
+
+mod failures;
+mod routers;
+
+use crate::failures::{analysis, withstands};
+use crate::routers::{Names, OFFICES, network};
+use anyhow::Result;
+use ov_cert::{Cert, Checked};
+use ov_ids::NodeId;
+
+/// The highest number of failures that the program asks about.
+const MOST_FAILURES: u32 = 3;
+
+fn main(rt: HostRuntime) -> Result<()> {
+    let network = network(rt.alloc())?;
+    let offices = OFFICES.map(|place| NodeId(place));
+    let checked = analysis(&rt, rt.alloc(), &network, &offices)?;
+    print_cut(&rt, &checked)?;
+    for failures in 0..=MOST_FAILURES {
+        let holds = withstands(&checked, failures);
+        println!(rt;
+            "after any {failures} failures all offices that are left stay joined: {holds}"
+        )?;
+    }
+    Ok(())
+}
+
+/// Prints which routers must fail to part two offices, and which two that parts.
+fn print_cut(rt: &impl Print, checked: &Checked) -> Result<()> {
+    match checked.cert() {
+        Cert::Linked { .. } => println!(rt; "each two offices have a cable")?,
+        Cert::Split(split) => {
+            let cut = Names(split.cut.as_slice());
+            println!(rt; "without{cut}")?;
+            let near = [split.near];
+            let far = [split.far];
+            println!(rt; "no way leads from{} to{}", Names(&near), Names(&far))?;
+        }
+    }
+    Ok(())
+}
