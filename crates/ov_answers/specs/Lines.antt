@@ -17,8 +17,8 @@ AreNodeLines words names (n ∷ ns) text =
     (line : List ℕ) × (rest : List ℕ) × IsNodeLine words names n line × AreNodeLines words names ns rest
     × (text ≡ line ++ rest)
 
--- the lines that name the nodes of an answer: none of a linked one; of a split, a line `cut N NAME` for each node of the
--- cut, a line `near N NAME` and a line `far N NAME`, and then lines that tell the pieces that the crash of the cut
+-- the lines that name the nodes of an answer: none of a linked one; of a split, a line `cut N NAME` for each node of
+-- the cut, a line `near N NAME` and a line `far N NAME`, and then lines that tell the pieces that the crash of the cut
 -- leaves, whose text is not said here
 abbrev pub AreNameLines : Cert → NamesState → List ℕ → Type 0
 AreNameLines (cert.Linked k) names text = text ≡ []

@@ -58,9 +58,9 @@ pub record IsTelling (bytes : List ℕ) (group : Option (List ℕ)) (certificate
   pub keeps : AreNamesOf bytes graph names
   pub tells : TellsAnswer graph (members_of group graph) names certificate named answered text
 
--- An analysis of the graph file of these bytes that tells more, from a sink before it to what it is after it. `contents`
--- are the bytes that a writer holds, if they are known. The analysis is of this group, or of all nodes without it,
--- `certificate` asks for the certificate file too, and `named` for the lines with names.
+-- An analysis of the graph file of these bytes that tells more, from a sink before it to what it is after it.
+-- `contents` are the bytes that a writer holds, if they are known. The analysis is of this group, or of all nodes
+-- without it, `certificate` asks for the certificate file too, and `named` for the lines with names.
 pub record IsToldOf {W : Type 0} (bytes : List ℕ) (contents : W → Option (List ℕ)) (sink_before : SinkState W)
     (group : Option (List ℕ)) (certificate named : Bool) (sink_after : SinkState W) (result : Result Told RunFault)
     : Type 0 where

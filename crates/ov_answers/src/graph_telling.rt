@@ -1,4 +1,5 @@
-ghost use Rattle.std.specs.Prelude.{◌≡◌, ◌⊎◌, ◌<◌, ◌++◌, ℕ, List, true, false, option_map, string_bytes, Some, IfOk, IfErr, OnOk};
+ghost use Rattle.std.specs.Prelude.{◌≡◌, ◌⊎◌, ◌<◌, ◌++◌, ℕ, List, true, false, option_map, string_bytes, Some};
+ghost use Rattle.std.specs.Prelude.{IfOk, IfErr, OnOk};
 ghost use Rattle.ov_io.specs.Device.{most_faults};
 ghost use Rattle.ov_cert.specs.Valid.{IsValidForGroup};
 ghost use Rattle.ov_even.specs.Faults.{GroupJudged};
@@ -35,9 +36,9 @@ use std::thread::Threads;
 const FILE_MOMENT: u32 = 0;
 
 /// Does what `analyse_bytes` of `ov_run` does with the graph file of these bytes, and tells more if that is asked for.
-/// With names, lines that name the nodes of the cut, and the members of the pieces that the crash of the cut leaves, stand
-/// between the line of the answer and the certificate file; a linked answer and a refusal have none. Without names, what
-/// is written is the same as there. The faults are the same as there, in the same order.
+/// With names, lines that name the nodes of the cut, and the members of the pieces that the crash of the cut leaves,
+/// stand between the line of the answer and the certificate file; a linked answer and a refusal have none. Without
+/// names, what is written is the same as there. The faults are the same as there, in the same order.
 pub fn analyse_told<T: Threads + Sync, W: Write, P: Watcher>(
     rt: &T,
     alloc: Global,

@@ -20,10 +20,10 @@ enum Whom {
     Members,
 }
 
-/// The answer in sentences, a line each: which crash parts whom from how many others, which crashes it survives, and who
-/// has the fewest links. A node is told by its name with its id in brackets, and by its id alone if it has no name, or
-/// one that is no UTF-8. At most ten nodes of a list are told, and the others counted. OutOfMemory (99) if an allocation
-/// is refused.
+/// The answer in sentences, a line each: which crash parts whom from how many others, which crashes it survives, and
+/// who has the fewest links. A node is told by its name with its id in brackets, and by its id alone if it has no name,
+/// or one that is no UTF-8. At most ten nodes of a list are told, and the others counted. OutOfMemory (99) if an
+/// allocation is refused.
 pub fn explanation(
     alloc: Global,
     graph: &Graph,

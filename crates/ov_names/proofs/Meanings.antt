@@ -162,7 +162,8 @@ all_marked names parts row done graph marked all = record {
         let below : q < length names.graph.nodes = at.1 in
         let node : node_at names.graph q ≡ n = at.2 in
         let l = h.1.0 in
-        let bit = (marked.bits q).1 (below, (h.0, omega (arith, l, all), subst (MeansAt names parts h.0) (sym node) h.1)) in
+        let means = subst (MeansAt names parts h.0) (sym node) h.1 in
+        let bit = (marked.bits q).1 (below, (h.0, omega (arith, l, all), means)) in
         subst (Has (picked row 0 names.graph.nodes)) node
         (in_picked row 0 names.graph.nodes q below (bit_moved row q (0 + q) (omega arith) bit))),
   );

@@ -1,6 +1,7 @@
 -- Tables of names, by the places of nodes.
 use Rattle.std.proofs.Common.{◌≡◌, ◌≢◌, ◌∙◌, ℕ, zero, suc, ◌<◌, List, [], ◌∷◌, ◌++◌, length, map, get_or, Option}
-use Rattle.std.proofs.Common.{Bor, Some, None, IfNone, inl, inr, refl, sym, ap, subst, arith, get_or-set_same, get_or-set_other}
+use Rattle.std.proofs.Common.{Bor, Some, None, IfNone, inl, inr, refl, sym, ap, subst, arith}
+use Rattle.std.proofs.Common.{get_or-set_same, get_or-set_other}
 use Rattle.std.proofs.Math.ListN.{set}
 use Rattle.std.proofs.lemmas.Bool.{cases_eq}
 use Rattle.ov_ids.specs.Members.{Has}

@@ -4,8 +4,8 @@ use ov_graph::Graph;
 use ov_ids::NodeId;
 use std::marker::Model;
 
-/// The names of the nodes of a graph. Contracts see the graph, and for each of its nodes, in order, the name if there is
-/// one.
+/// The names of the nodes of a graph. Contracts see the graph, and for each of its nodes, in order, the name if there
+/// is one.
 #[derive(Drop)]
 pub struct Names<'a> {
     graph: &'a Graph,
@@ -44,7 +44,8 @@ impl<'a> Names<'a> {
         self.graph
     }
 
-    /// The name of a node, if it has one: some bytes, one at least, without a line feed. An id that is no node has none.
+    /// The name of a node, if it has one: some bytes, one at least, without a line feed. An id that is no node has
+    /// none.
     pub fn name(&self, id: NodeId) -> Option<&'a [u8]>
         ensures some { IfSome result (λ name. IsNamed self.now id name.now) }
         ensures none { IfNone result ((name : List ℕ) → ¬ IsNamed self.now id name) }

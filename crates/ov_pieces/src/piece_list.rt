@@ -42,7 +42,8 @@ impl Pieces {
 
     /// The piece at a place, counted from 0. None behind the last one.
     pub fn get(&self, place: usize) -> Option<&[NodeId]>
-        ensures { MatchOption result (slice_get self.now place ≡ None) (λ piece. slice_get self.now place ≡ Some piece.now) }
+        ensures { MatchOption result (slice_get self.now place ≡ None)
+            (λ piece. slice_get self.now place ≡ Some piece.now) }
     {
         self.lists.get(place)
     }

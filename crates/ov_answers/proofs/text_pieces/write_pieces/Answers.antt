@@ -6,8 +6,8 @@ pub loop-place-init : goal.loop-place-init
 loop-place-init c =
     let old = c.args.text.now.items in
     let count = c.write_count.new.text.items in
-    grows_on old count c.write_sizes.new.text.items (grows_by old old count _ (grows_not old) c.in_ok-write_count.ensures)
-    c.in_ok-write_sizes.ensures
+    grows_on old count c.write_sizes.new.text.items
+    (grows_by old old count _ (grows_not old) c.in_ok-write_count.ensures) c.in_ok-write_sizes.ensures
 
 pub loop-place-preserved : goal.loop-place-preserved
 loop-place-preserved c =
