@@ -2,10 +2,8 @@
 use ov_answers::{Request, Told, analyse_told};
 use ov_claims::Workers;
 use ov_even::Unwatched;
-use ov_graphfile::read_graph;
 use ov_ids::NodeId;
 use ov_io::Sink;
-use ov_names::{GroupFault, ids_of_group, read_names};
 use ov_run::RunFault;
 use ov_test_kit::ids;
 use std::alloc::Global;
@@ -137,27 +135,4 @@ fn a_certificate_follows_the_names(rt: HostRuntime) {
     assert!(rt; plain.starts_with(line) && named.starts_with(line));
     let file = &plain[line.len().min(plain.len())..];
     assert!(rt; named.ends_with(file) && file.ends_with(b"}\n"));
-}
-
-#[test]
-fn groups_are_read_by_names(rt: HostRuntime) -> Result<(), Fail> {
-    let graph = read_graph(rt.alloc(), TRIANGLES.as_bytes())?;
-    let names = read_names(rt.alloc(), &graph, TRIANGLES.as_bytes())?;
-    let group = ids_of_group(rt.alloc(), &names, b"hub of all,5,west")?;
-    assert_eq!(rt; group.as_slice(), ids(rt.alloc(), &[1, 3, 5])?.as_slice());
-    let fault = |text| ids_of_group(rt.alloc(), &names, text).err();
-    assert_eq!(rt;
-        fault(b"west,east".as_slice()),
-        Some(GroupFault::SharedName(1))
-    );
-    assert_eq!(rt;
-        fault(b"west,,2".as_slice()),
-        Some(GroupFault::NoSuchName(1))
-    );
-    assert_eq!(rt;
-        fault(b"1,west".as_slice()),
-        Some(GroupFault::NamedTwice(NodeId(1)))
-    );
-    assert_eq!(rt; fault(b"6".as_slice()), Some(GroupFault::NoSuchName(0)));
-    Ok(())
 }
