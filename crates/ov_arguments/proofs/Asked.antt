@@ -1,6 +1,6 @@
 -- What the arguments give is what a parse of them finds.
 use Rattle.std.proofs.Common.{◌≡◌, ◌∙◌, ℕ, List, [], Option, Some, None, true, false, option_map, codes, refl, ap, ap₂}
-use Rattle.std.proofs.Common.{◌⊎◌, sym, subst, inl, inr, Result, IsErrAnd, IsErrOf}
+use Rattle.std.proofs.Common.{◌⊎◌, sym, subst, inl, inr, Result, IsErrAnd, IsErrOf, arith, slice_index}
 use Rattle.std.specs.Box.{box_value}
 use Rattle.ov_ids.specs.Options.{◌>>=◌}
 use Rattle.clap.proofs.OnLiterals.{clap_on_literals}
@@ -18,11 +18,13 @@ use Rattle.clap.specs.declared.error.kind.ErrorKind.TheVariants.{OutOfMemory as 
 use Rattle.clap.specs.declared.parser.matches.ArgMatches.{ArgMatches}
 use Rattle.clap.specs.declared.parser.matches.ArgMatches.TheViews.{out-ArgMatches, out-SubCommand}
 use Rattle.clap.specs.declared.parser.matches.Found.{Found}
-use Rattle.ov_arguments.specs.Arguments.{AreReadableFor, IsAsked, IsOfGiven, command_given, fault_of_parse, file_asked}
-use Rattle.ov_arguments.specs.Arguments.{group_asked, is_flagged, overlay_command, text_given, workers_asked}
+use Rattle.ov_arguments.specs.Arguments.{AreReadableFor, IsAsked, IsOfGiven, command_given, entry_asked, entry_of}
+use Rattle.ov_arguments.specs.Arguments.{fault_of_parse, file_asked, format_of}
+use Rattle.ov_arguments.specs.Arguments.{group_asked, group_names_asked, is_flagged, overlay_command, text_given}
+use Rattle.ov_arguments.specs.Arguments.{workers_asked}
 use Rattle.ov_arguments.specs.declared.arguments.ArgumentsFault.TheVariants.{OutOfMemory}
 use Rattle.ov_arguments.specs.declared.arguments.Request.{Request}
-use Rattle.ov_arguments.specs.declared.arguments.Request.TheVariants.{Run, Analyse}
+use Rattle.ov_arguments.specs.declared.arguments.Request.TheVariants.{Run, Analyse, Import, Picture, Graph}
 
 -- `clap` says what this command finds
 is_told : is_simple overlay_command ≡ true
@@ -86,15 +88,72 @@ command_found command arguments m name is has named =
     (has (ap is_simple is ∙ is_told)).1 ∙ ap (λ c. subcommand_of c arguments) is in
     ap (option_map (λ p. p.0)) (sym same) ∙ names m ∙ sym named
 
+-- an option is not both None and Some
+none_some : {A P : Type 0} (o : Option A) (a : A) → o ≡ None → o ≡ Some a → P
+none_some o a none some =
+    let bad : None ≡ Some a = sym none ∙ some in
+    absurd cc
+
+mapped_none : {A B : Type 0} (f : A → B) (o : Option A) → option_map f o ≡ None → o ≡ None
+mapped_none f None is = refl
+mapped_none f (Some a) is = none_some (Some (f a)) (f a) is refl
+
+-- if the matches have no subcommand, the arguments give none
+pub none_found : (command : App) (arguments : List (List ℕ)) (m : ArgMatches) → command ≡ overlay_command
+    → HasMatchesOf command arguments m → None ≡ subcommand_name_of m
+    → subcommand_of overlay_command arguments ≡ None
+none_found command arguments m is has none =
+    let same : subcommand_rows_of m ≡ subcommand_of overlay_command arguments =
+    (has (ap is_simple is ∙ is_told)).1 ∙ ap (λ c. subcommand_of c arguments) is in
+    sym same ∙ mapped_none (λ p. p.0) (subcommand_rows_of m) (names m ∙ sym none)
+
+-- arguments that give no subcommand ask for a run of standard input, without an option
+pub run_given : (arguments : List (List ℕ)) → subcommand_of overlay_command arguments ≡ None
+    → IsOfGiven arguments (Run None (record { explain = false; strict = false; progress = false }))
+run_given arguments none =
+    let command : command_given arguments ≡ None = ap (option_map (λ found. found.0)) none in
+    let text : (n : List ℕ) → text_given arguments n ≡ None = λ n. ap (λ f. f >>= λ found. first_of n found.1) none in
+    (
+      ((λ x. none_some _ _ command x), (λ x. none_some _ _ command x), (λ x. none_some _ _ command x),
+        (λ x. none_some _ _ command x)),
+      ap file_asked (text (codes "file")),
+      ap is_flagged (text (codes "explain")),
+      ap is_flagged (text (codes "strict")),
+      ap is_flagged (text (codes "progress")),
+    )
+
+-- and need no reading
+pub none_readable : (arguments : List (List ℕ)) → subcommand_of overlay_command arguments ≡ None
+    → AreReadableFor (command_given arguments) (text_given arguments)
+none_readable arguments none =
+    let command : command_given arguments ≡ None = ap (option_map (λ found. found.0)) none in
+    record {
+      analysis = λ is. none_some _ _ command is;
+      dump = λ is. none_some _ _ command is;
+      picture = λ is. none_some _ _ command is;
+    }
+
 -- the fault of a failure is of the kind that all its faults are
 pub err_of : {T E : Type 0} (Is : E → Type 0) (r : Result T E) (f : E) → IsErrAnd r Is → IsErrOf r f → Is f
 err_of Is r f all is = subst (λ q. IsErrAnd q Is) is all
+
+-- equal texts ask for the same form of a dump
+format_same : (t u : List ℕ → Option (List ℕ)) → ((n : List ℕ) → t n ≡ u n) → format_of t ≡ format_of u
+format_same t u f =
+    let views = ap is_flagged (f (codes "views")) in
+    let edges = ap is_flagged (f (codes "edges")) in
+    let dot = ap is_flagged (f (codes "dot")) in
+    rw (views, edges, dot) refl
+
+-- and for the same entry
+entry_same : (t u : List ℕ → Option (List ℕ)) → ((n : List ℕ) → t n ≡ u n) → entry_of t ≡ entry_of u
+entry_same t u f = ap₂ entry_asked (f (codes "pair")) (f (codes "fan"))
 
 -- what equal names and texts ask for is the same
 asked_same : (c d : Option (List ℕ)) (t u : List ℕ → Option (List ℕ)) → c ≡ d → ((n : List ℕ) → t n ≡ u n)
     → (r : Request) → IsAsked d u r → IsAsked c t r
 asked_same c d t u e f (Run file run) a = (
-  (λ x. a.0 (sym e ∙ x)),
+  ((λ x. a.0.0 (sym e ∙ x)), (λ x. a.0.1 (sym e ∙ x)), (λ x. a.0.2 (sym e ∙ x)), (λ x. a.0.3 (sym e ∙ x))),
   ap file_asked (f (codes "file")) ∙ a.1,
   ap is_flagged (f (codes "explain")) ∙ a.2,
   ap is_flagged (f (codes "strict")) ∙ a.3,
@@ -103,27 +162,89 @@ asked_same c d t u e f (Run file run) a = (
 asked_same c d t u e f (Analyse file analysis) a = (
   e ∙ a.0,
   ap file_asked (f (codes "file")) ∙ a.1,
-  ap group_asked (f (codes "group")) ∙ a.2,
-  ap workers_asked (f (codes "workers")) ∙ a.3,
-  ap is_flagged (f (codes "certificate")) ∙ a.4,
-  ap is_flagged (f (codes "progress")) ∙ a.5,
+  ap₂ group_asked (ap is_flagged (f (codes "names"))) (f (codes "group")) ∙ a.2,
+  ap₂ group_names_asked (ap is_flagged (f (codes "names"))) (f (codes "group")) ∙ a.3,
+  ap workers_asked (f (codes "workers")) ∙ a.4,
+  ap is_flagged (f (codes "certificate")) ∙ a.5,
+  ap is_flagged (f (codes "names")) ∙ a.6,
+  ap is_flagged (f (codes "explain")) ∙ a.7,
+  ap is_flagged (f (codes "progress")) ∙ a.8,
+)
+asked_same c d t u e f (Import file dump) a = (
+  e ∙ a.0,
+  ap file_asked (f (codes "file")) ∙ a.1,
+  format_same t u f ∙ a.2,
+  ap is_flagged (f (codes "either")) ∙ a.3,
+  ap is_flagged (f (codes "entries")) ∙ a.4,
+)
+asked_same c d t u e f (Picture file picture) a = (
+  e ∙ a.0,
+  ap file_asked (f (codes "file")) ∙ a.1,
+  f (codes "names") ∙ a.2,
+  entry_same t u f ∙ a.3,
+  ap is_flagged (f (codes "dot")) ∙ a.4,
+)
+asked_same c d t u e f (Graph file) a = (
+  e ∙ a.0,
+  ap file_asked (f (codes "file")) ∙ a.1,
 )
 
 -- texts that are equal to readable ones are readable
 readable_same : (c d : Option (List ℕ)) (t u : List ℕ → Option (List ℕ)) → c ≡ d → ((n : List ℕ) → t n ≡ u n)
     → AreReadableFor c t → AreReadableFor d u
-readable_same c d t u e f r is = record {
-  group = λ x. (r (e ∙ is)).group (ap group_asked (f (codes "group")) ∙ x);
-  workers = λ x. (r (e ∙ is)).workers (ap workers_asked (f (codes "workers")) ∙ x);
+readable_same c d t u e f r = record {
+  analysis = λ is. record {
+    group = λ x. (r.analysis (e ∙ is)).group
+        (ap₂ group_asked (ap is_flagged (f (codes "names"))) (f (codes "group")) ∙ x);
+    workers = λ x. (r.analysis (e ∙ is)).workers (ap workers_asked (f (codes "workers")) ∙ x);
+  };
+  dump = λ is none. r.dump (e ∙ is) (format_same t u f ∙ none);
+  picture = λ is none. r.picture (e ∙ is) (entry_same t u f ∙ none);
 }
+
+-- two names of commands that differ in their first letter are not both given
+other_name : (command : Option (List ℕ)) (a b : List ℕ) {P : Type 0} → command ≡ Some a → command ≡ Some b
+    → (slice_index a 0 ≡ slice_index b 0 → P) → P
+other_name command a b is other differ =
+    let same : a ≡ b = cc in
+    differ (ap (λ n. slice_index n 0) same)
 
 -- the texts that ask for something can be read
 pub asked_readable : (command : Option (List ℕ)) (text : List ℕ → Option (List ℕ)) (r : Request)
     → IsAsked command text r → AreReadableFor command text
-asked_readable command text (Run file run) a is = absurd (a.0 is)
-asked_readable command text (Analyse file analysis) a is = record {
-  group = λ none. cc;
-  workers = λ none. cc;
+asked_readable command text (Run file run) a = record {
+  analysis = λ is. absurd (a.0.0 is);
+  dump = λ is. absurd (a.0.1 is);
+  picture = λ is. absurd (a.0.2 is);
+}
+asked_readable command text (Analyse file analysis) a = record {
+  analysis = λ is. record { group = λ none. cc; workers = λ none. cc };
+  dump = λ is. other_name command (codes "analyse") (codes "import") a.0 is
+      (λ e. let bad : 97 ≡ 105 = e in absurd (omega arith));
+  picture = λ is. other_name command (codes "analyse") (codes "picture") a.0 is
+      (λ e. let bad : 97 ≡ 112 = e in absurd (omega arith));
+}
+asked_readable command text (Import file dump) a = record {
+  analysis = λ is. other_name command (codes "import") (codes "analyse") a.0 is
+      (λ e. let bad : 105 ≡ 97 = e in absurd (omega arith));
+  dump = λ is none. cc;
+  picture = λ is. other_name command (codes "import") (codes "picture") a.0 is
+      (λ e. let bad : 105 ≡ 112 = e in absurd (omega arith));
+}
+asked_readable command text (Picture file picture) a = record {
+  analysis = λ is. other_name command (codes "picture") (codes "analyse") a.0 is
+      (λ e. let bad : 112 ≡ 97 = e in absurd (omega arith));
+  dump = λ is. other_name command (codes "picture") (codes "import") a.0 is
+      (λ e. let bad : 112 ≡ 105 = e in absurd (omega arith));
+  picture = λ is none. cc;
+}
+asked_readable command text (Graph file) a = record {
+  analysis = λ is. other_name command (codes "graph") (codes "analyse") a.0 is
+      (λ e. let bad : 103 ≡ 97 = e in absurd (omega arith));
+  dump = λ is. other_name command (codes "graph") (codes "import") a.0 is
+      (λ e. let bad : 103 ≡ 105 = e in absurd (omega arith));
+  picture = λ is. other_name command (codes "graph") (codes "picture") a.0 is
+      (λ e. let bad : 103 ≡ 112 = e in absurd (omega arith));
 }
 
 -- what the matches of the subcommand ask for is what the arguments give

@@ -1,5 +1,5 @@
 -- What the arguments of a command line ask for, and why they can't be read. Chosen here.
-use Rattle.std.specs.Prelude.{◌≡◌, ◌≢◌, ℕ, Bool, true, false, ◌<◌, ⊤, List, [], length, Option, Some, None}
+use Rattle.std.specs.Prelude.{◌≡◌, ◌≢◌, ℕ, Bool, true, false, ◌<◌, ⊤, List, [], ◌∷◌, length, Option, Some, None}
 use Rattle.std.specs.Prelude.{IfSome, codes, option_map, string_bytes, if◌then◌else◌}
 use Rattle.std.specs.Str.{bytes_eq}
 use Rattle.std.specs.declared.io.ErrorKind.{ErrorKind}
@@ -13,7 +13,11 @@ use Rattle.clap.specs.declared.error.kind.ErrorKind.TheVariants as parse_error
 use Rattle.ov_ids.specs.Options.{◌>>=◌}
 use Rattle.ov_lines.specs.Lines.{ids_of, workers_of}
 use Rattle.ov_arguments.specs.declared.arguments.Request.{Request}
-use Rattle.ov_arguments.specs.declared.arguments.Request.TheVariants.{Run, Analyse}
+use Rattle.ov_arguments.specs.declared.arguments.Request.TheVariants.{Run, Analyse, Import, Picture, Graph}
+use Rattle.ov_arguments.specs.declared.file_requests.AskedEntry.{AskedEntry}
+use Rattle.ov_arguments.specs.declared.file_requests.AskedEntry.TheVariants.{Pair, Fan}
+use Rattle.ov_arguments.specs.declared.file_requests.DumpFormat.{DumpFormat}
+use Rattle.ov_arguments.specs.declared.file_requests.DumpFormat.TheVariants.{Views, Edges, Dot}
 use Rattle.ov_arguments.specs.declared.arguments.ArgumentsFault.{ArgumentsFault}
 use Rattle.ov_arguments.specs.declared.arguments.ArgumentsFault.TheVariants.{BadArguments, OutOfMemory}
 
@@ -36,23 +40,61 @@ run_command =
     (flag (codes "strict")))
     (flag (codes "progress"))
 
--- `analyse [FILE] [--group TEXT] [--workers TEXT] [--certificate] [--progress]`
+-- `analyse [FILE] [--group TEXT] [--workers TEXT] [--certificate] [--names] [--explain] [--progress]`
 abbrev pub analyse_command : App
 analyse_command =
     with_rule
     (with_rule
     (with_rule
+    (with_rule
+    (with_rule
     (with_rule (with_rule (new_app (codes "analyse")) (new_rule (codes "file"))) (option (codes "group")))
     (option (codes "workers")))
     (flag (codes "certificate")))
+    (flag (codes "names")))
+    (flag (codes "explain")))
     (flag (codes "progress"))
 
--- `overlay` with these two; its own name is none of the arguments
+-- `import [FILE] [--views] [--edges] [--dot] [--either] [--entries]`
+abbrev pub import_command : App
+import_command =
+    with_rule
+    (with_rule
+    (with_rule
+    (with_rule
+    (with_rule (with_rule (new_app (codes "import")) (new_rule (codes "file"))) (flag (codes "views")))
+    (flag (codes "edges")))
+    (flag (codes "dot")))
+    (flag (codes "either")))
+    (flag (codes "entries"))
+
+-- `picture [FILE] [--names TEXT] [--pair TEXT] [--fan TEXT] [--dot]`
+abbrev pub picture_command : App
+picture_command =
+    with_rule
+    (with_rule
+    (with_rule
+    (with_rule (with_rule (new_app (codes "picture")) (new_rule (codes "file"))) (option (codes "names")))
+    (option (codes "pair")))
+    (option (codes "fan")))
+    (flag (codes "dot"))
+
+-- `graph [FILE]`
+abbrev pub graph_command : App
+graph_command = with_rule (new_app (codes "graph")) (new_rule (codes "file"))
+
+-- `overlay` with these five; its own name is none of the arguments
 abbrev pub overlay_command : App
 overlay_command =
     with_subcommand
+    (with_subcommand
+    (with_subcommand
+    (with_subcommand
     (with_subcommand (on_top (λ s. record s { no_binary_name = true }) (new_app (codes "overlay"))) run_command.top)
-    analyse_command.top
+    analyse_command.top)
+    import_command.top)
+    picture_command.top)
+    graph_command.top
 
 -- the name of the command that the arguments give, if they give one
 abbrev pub command_given : List (List ℕ) → Option (List ℕ)
@@ -66,13 +108,20 @@ text_given arguments name = subcommand_of overlay_command arguments >>= λ found
 
 -- if an analysis for a group is asked for, the group has one or more ids
 abbrev pub HasGroupOfIds : Request → Type 0
-HasGroupOfIds (Run file run) = ⊤
 HasGroupOfIds (Analyse file analysis) = IfSome analysis.group (λ ids. 0 < length ids.items)
+HasGroupOfIds other = ⊤
 
--- the group that the text of `--group` asks for, and no group, for all nodes, if it is not there
-abbrev pub group_asked : Option (List ℕ) → Option (Option (List ℕ))
-group_asked None = Some None
-group_asked (Some text) = option_map Some (ids_of text)
+-- the group of ids that the text of `--group` asks for, and none if it is not there. Beside `--names` it asks for
+-- names, and for no ids
+abbrev pub group_asked : Bool → Option (List ℕ) → Option (Option (List ℕ))
+group_asked true text = Some None
+group_asked false None = Some None
+group_asked false (Some text) = option_map Some (ids_of text)
+
+-- the text of names that `--group` asks for: its own text beside `--names`, and none without it
+abbrev pub group_names_asked : Bool → Option (List ℕ) → Option (List ℕ)
+group_names_asked true text = text
+group_names_asked false text = None
 
 -- the number of workers that the text of `--workers` asks for, and one if it is not there
 abbrev pub workers_asked : Option (List ℕ) → Option ℕ
@@ -89,10 +138,52 @@ abbrev pub is_flagged : Option (List ℕ) → Bool
 is_flagged None = false
 is_flagged (Some text) = bytes_eq text (codes "true")
 
+-- the form of a dump that the flags of `import` ask for: that of the one that is there. None of them asks for the form
+-- that the dump itself suggests, and two for nothing
+abbrev pub format_asked : Bool → Bool → Bool → Option (Option DumpFormat)
+format_asked false false false = Some None
+format_asked true false false = Some (Some Views)
+format_asked false true false = Some (Some Edges)
+format_asked false false true = Some (Some Dot)
+format_asked views edges dot = None
+
+-- the entry of a pair of ids, and that of one id
+abbrev pub pair_asked : Option (List ℕ) → Option AskedEntry
+pair_asked (Some (i ∷ j ∷ [])) = Some (Pair i j)
+pair_asked other = None
+
+abbrev pub fan_asked : Option (List ℕ) → Option AskedEntry
+fan_asked (Some (j ∷ [])) = Some (Fan j)
+fan_asked other = None
+
+-- the entry of a certificate that the texts of `--pair` and `--fan` ask for: two ids with a comma, or one id. Without
+-- them it is no entry, and both together ask for nothing
+abbrev pub entry_asked : Option (List ℕ) → Option (List ℕ) → Option (Option AskedEntry)
+entry_asked None None = Some None
+entry_asked (Some pair) None = option_map Some (pair_asked (ids_of pair))
+entry_asked None (Some fan) = option_map Some (fan_asked (ids_of fan))
+entry_asked (Some pair) (Some fan) = None
+
+-- the form of a dump that these texts of flags ask for
+abbrev pub format_of : (List ℕ → Option (List ℕ)) → Option (Option DumpFormat)
+format_of text =
+    format_asked (is_flagged (text (codes "views"))) (is_flagged (text (codes "edges")))
+    (is_flagged (text (codes "dot")))
+
+-- the entry of a certificate that these texts of options ask for
+abbrev pub entry_of : (List ℕ → Option (List ℕ)) → Option (Option AskedEntry)
+entry_of text = entry_asked (text (codes "pair")) (text (codes "fan"))
+
+-- the name is none of those that ask for something other than a run
+abbrev pub IsOfRun : Option (List ℕ) → Type 0
+IsOfRun command =
+    (command ≢ Some (codes "analyse")) × (command ≢ Some (codes "import")) × (command ≢ Some (codes "picture"))
+    × (command ≢ Some (codes "graph"))
+
 -- what is asked for is what the command's name and these texts of its file and its options ask for
 abbrev pub IsAsked : Option (List ℕ) → (List ℕ → Option (List ℕ)) → Request → Type 0
 IsAsked command text (Run file run) =
-    (command ≢ Some (codes "analyse"))
+    IsOfRun command
     × (file_asked (text (codes "file")) ≡ option_map (λ f. string_bytes f) file)
     × (is_flagged (text (codes "explain")) ≡ run.explain)
     × (is_flagged (text (codes "strict")) ≡ run.strict)
@@ -100,26 +191,49 @@ IsAsked command text (Run file run) =
 IsAsked command text (Analyse file analysis) =
     (command ≡ Some (codes "analyse"))
     × (file_asked (text (codes "file")) ≡ option_map (λ f. string_bytes f) file)
-    × (group_asked (text (codes "group")) ≡ Some (option_map (λ ids. ids.items) analysis.group))
+    × (group_asked (is_flagged (text (codes "names"))) (text (codes "group"))
+    ≡ Some (option_map (λ ids. ids.items) analysis.group))
+    × (group_names_asked (is_flagged (text (codes "names"))) (text (codes "group"))
+    ≡ option_map (λ names. string_bytes names) analysis.group_names)
     × (workers_asked (text (codes "workers")) ≡ Some analysis.workers)
     × (is_flagged (text (codes "certificate")) ≡ analysis.certificate)
+    × (is_flagged (text (codes "names")) ≡ analysis.names)
+    × (is_flagged (text (codes "explain")) ≡ analysis.explain)
     × (is_flagged (text (codes "progress")) ≡ analysis.progress)
+IsAsked command text (Import file dump) =
+    (command ≡ Some (codes "import"))
+    × (file_asked (text (codes "file")) ≡ option_map (λ f. string_bytes f) file)
+    × (format_of text ≡ Some dump.format)
+    × (is_flagged (text (codes "either")) ≡ dump.either)
+    × (is_flagged (text (codes "entries")) ≡ dump.entries)
+IsAsked command text (Picture file picture) =
+    (command ≡ Some (codes "picture"))
+    × (file_asked (text (codes "file")) ≡ option_map (λ f. string_bytes f) file)
+    × (text (codes "names") ≡ option_map (λ f. string_bytes f) picture.names)
+    × (entry_of text ≡ Some picture.entry)
+    × (is_flagged (text (codes "dot")) ≡ picture.dot)
+IsAsked command text (Graph file) =
+    (command ≡ Some (codes "graph"))
+    × (file_asked (text (codes "file")) ≡ option_map (λ f. string_bytes f) file)
 
 -- the group and the number of workers that these texts ask for can be read
 pub record AreReadable (text : List ℕ → Option (List ℕ)) : Type 0 where
-  pub group : group_asked (text (codes "group")) ≢ None
+  pub group : group_asked (is_flagged (text (codes "names"))) (text (codes "group")) ≢ None
   pub workers : workers_asked (text (codes "workers")) ≢ None
 
--- the texts of `analyse` can be read; the texts of another command need no reading
-abbrev pub AreReadableFor : Option (List ℕ) → (List ℕ → Option (List ℕ)) → Type 0
-AreReadableFor command text = (command ≡ Some (codes "analyse")) → AreReadable text
+-- the texts of a command of this name can be read: of `analyse` the group and the workers, of `import` the form of the
+-- dump, of `picture` the entry. The texts of another command need no reading
+pub record AreReadableFor (command : Option (List ℕ)) (text : List ℕ → Option (List ℕ)) : Type 0 where
+  pub analysis : command ≡ Some (codes "analyse") → AreReadable text
+  pub dump : command ≡ Some (codes "import") → format_of text ≢ None
+  pub picture : command ≡ Some (codes "picture") → entry_of text ≢ None
 
 -- what is asked for is what these arguments give: the command, the file, the group, the number of workers and the flags
 abbrev pub IsOfGiven : List (List ℕ) → Request → Type 0
 IsOfGiven arguments request = IsAsked (command_given arguments) (text_given arguments) request
 
--- These arguments ask for something: `clap` finds no fault in them, so no request for help either, and the group and
--- the number of workers that they give to `analyse` can be read.
+-- These arguments ask for something: `clap` finds no fault in them, so no request for help either, and what they give
+-- to their command can be read.
 abbrev pub AreTaken : List (List ℕ) → Type 0
 AreTaken arguments =
     (fault_of overlay_command arguments ≡ []) × AreReadableFor (command_given arguments) (text_given arguments)

@@ -4,11 +4,12 @@ ghost use Rattle.std.specs.IoError.{error_kind};
 ghost use Rattle.clap.specs.Words.{found_of, first_value};
 ghost use Rattle.ov_arguments.specs.Arguments.{AreReadable, AreReadableFor, AreTaken, HasGroupOfIds, IsAsked};
 ghost use Rattle.ov_arguments.specs.Arguments.{IsOfGiven};
-ghost use Rattle.ov_arguments.specs.Arguments.{file_asked, group_asked, is_flagged, workers_asked};
+ghost use Rattle.ov_arguments.specs.Arguments.{file_asked, group_asked, group_names_asked, is_flagged, workers_asked};
 ghost use Rattle.ov_arguments.specs.Arguments.{fault_of_parse, fault_of_text, number_of};
 ghost use Rattle.ov_arguments.specs.declared.arguments.ArgumentsFault.TheVariants.{BadArguments};
 ghost use Rattle.ov_arguments.specs.declared.arguments.ArgumentsFault.TheVariants.{OutOfMemory as out_of_memory};
 
+use crate::file_requests::{ImportRequest, PictureRequest, import_of, picture_of};
 use crate::taken_arguments::command;
 use clap::error::ErrorKind;
 use clap::{ArgMatches, Error as ClapError};
@@ -34,6 +35,20 @@ pub enum Request {
         file: Option<String>,
         analysis: AnalysisRequest,
     },
+    /// To make a graph file of a dump.
+    Import {
+        file: Option<String>,
+        dump: ImportRequest,
+    },
+    /// To draw the graph of a certificate file.
+    Picture {
+        file: Option<String>,
+        picture: PictureRequest,
+    },
+    /// To write the graph of a certificate file as a graph file.
+    Graph {
+        file: Option<String>,
+    },
 }
 
 /// What is asked of a run, besides its file.
@@ -50,12 +65,18 @@ pub struct RunRequest {
 /// What is asked of an analysis, besides its file.
 #[derive(Debug, PartialEq, Eq, Drop)]
 pub struct AnalysisRequest {
-    /// The members of the group. Without it, all nodes are the group.
+    /// The members of the group. Without it, all nodes are the group, unless names of members are given.
     pub group: Option<Vec<NodeId>>,
+    /// The names of the members of the group, with a comma between two. They are given beside `names` alone.
+    pub group_names: Option<String>,
     /// How many workers share out the analysis.
     pub workers: Workers,
     /// Whether the certificate file is asked for too.
     pub certificate: bool,
+    /// Whether to print the answer in the names that the graph file gives too.
+    pub names: bool,
+    /// Whether to say the answer in words too.
+    pub explain: bool,
     /// Whether to print how far the analysis has come.
     pub progress: bool,
 }
@@ -138,12 +159,19 @@ impl From<ClapError> for ArgumentsFault {
     }
 }
 
-/// Reads the arguments that follow the program's name: `run [FILE] [--explain] [--strict] [--progress]` or `analyse [FILE]
-/// [--group IDS] [--workers N] [--certificate] [--progress]`. No argument asks for `run`. A file that is absent or `-` is
-/// standard input. IDS are one or more ids of decimal digits and 32 bits, with commas between them. N is decimal
-/// digits, and from 1 to 64; without it there is one worker. No option may be given twice. After `--` an argument that
-/// begins with `-` is a file. All other arguments are refused with BadArguments (73), also those that ask for help.
-/// OutOfMemory (99) is returned if an allocation was refused. The arguments and the numbers are chosen here.
+/// Reads the arguments that follow the program's name:
+///
+/// - `run [FILE] [--explain] [--strict] [--progress]`, which no argument asks for too;
+/// - `analyse [FILE] [--group IDS] [--workers N] [--certificate] [--names] [--explain] [--progress]`. IDS are one or more
+///   ids of decimal digits and 32 bits, with commas between them; beside `--names` they may be any text, which is not
+///   read here. N is decimal digits, and from 1 to 64; without it there is one worker;
+/// - `import [FILE] [--views] [--edges] [--dot] [--either] [--entries]`, with one of the first three flags at most;
+/// - `picture [FILE] [--names GRAPHFILE] [--pair I,J] [--fan J] [--dot]`, with ids, and with `--pair` or `--fan` at most;
+/// - `graph [FILE]`.
+///
+/// A file that is absent or `-` is standard input. No option may be given twice. After `--` an argument that begins
+/// with `-` is a file. All other arguments are refused with BadArguments (73), also those that ask for help. OutOfMemory
+/// (99) is returned if an allocation was refused. The arguments and the numbers are chosen here.
 pub fn read_arguments(alloc: Global, arguments: &[String]) -> Result<Request, ArgumentsFault>
     ensures group { IfOk result HasGroupOfIds }
     ensures given { IfOk result (IsOfGiven (map (λ argument. string_bytes argument) arguments.now)) }
@@ -175,6 +203,20 @@ fn request_of(alloc: Global, command: &str, found: &ArgMatches) -> Result<Reques
     if command == "analyse" {
         return analysis_of(alloc, found);
     }
+    if command == "import" {
+        let dump = import_of(found)?;
+        let file = file_of(alloc, found)?;
+        return Ok(Request::Import { file, dump });
+    }
+    if command == "picture" {
+        let picture = picture_of(alloc, found)?;
+        let file = file_of(alloc, found)?;
+        return Ok(Request::Picture { file, picture });
+    }
+    if command == "graph" {
+        let file = file_of(alloc, found)?;
+        return Ok(Request::Graph { file });
+    }
     Ok(Request::Run {
         file: file_of(alloc, found)?,
         run: RunRequest {
@@ -191,14 +233,18 @@ fn analysis_of(alloc: Global, found: &ArgMatches) -> Result<Request, ArgumentsFa
     ensures asked { IfOk result (IsAsked (Some (codes "analyse")) (first_value (found_of found.now))) }
     ensures readable { AreReadable (first_value (found_of found.now)) → (result ≢ Err BadArguments) }
 {
-    let group = group_of(alloc, found)?;
+    let names = has_flag(found, "names");
+    let group = group_of(alloc, found, names)?;
     let workers = workers_of(found)?;
     Ok(Request::Analyse {
         file: file_of(alloc, found)?,
         analysis: AnalysisRequest {
             group,
+            group_names: group_names_of(alloc, found, names)?,
             workers,
             certificate: has_flag(found, "certificate"),
+            names,
+            explain: has_flag(found, "explain"),
             progress: has_flag(found, "progress"),
         },
     })
@@ -219,7 +265,7 @@ fn file_of(alloc: Global, matches: &ArgMatches) -> Result<Option<String>, AllocE
 }
 
 /// Whether a flag is there.
-fn has_flag(matches: &ArgMatches, name: &str) -> bool
+pub(crate) fn has_flag(matches: &ArgMatches, name: &str) -> bool
     ensures { result ≡ is_flagged (first_value (found_of matches.now) name.now) }
 {
     let Some(text) = matches.get_str(name) else {
@@ -228,15 +274,22 @@ fn has_flag(matches: &ArgMatches, name: &str) -> bool
     text == "true"
 }
 
-/// The ids of the group that is given, or nothing.
+/// The ids of the group that is given, or nothing. Names are asked for by their text.
 #[tactic(auto, using(ov_lines::proofs::Lines::Spelling::some_id))]
-fn group_of(alloc: Global, matches: &ArgMatches) -> Result<Option<Vec<NodeId>>, ArgumentsFault>
-    ensures given { IfOk result (λ group. group_asked (first_value (found_of matches.now) (codes "group"))
+fn group_of(
+    alloc: Global,
+    matches: &ArgMatches,
+    names: bool,
+) -> Result<Option<Vec<NodeId>>, ArgumentsFault>
+    ensures given { IfOk result (λ group. group_asked names (first_value (found_of matches.now) (codes "group"))
         ≡ Some (option_map (λ ids. ids.items) group)) }
     ensures some { IfOk result (λ group. IfSome group (λ ids. 0 < length ids.items)) }
     ensures bad { IsErrOf result BadArguments
-        → (group_asked (first_value (found_of matches.now) (codes "group")) ≡ None) }
+        → (group_asked names (first_value (found_of matches.now) (codes "group")) ≡ None) }
 {
+    if names {
+        return Ok(None);
+    }
     let Some(text) = matches.get_str("group") else {
         return Ok(None);
     };
@@ -244,6 +297,24 @@ fn group_of(alloc: Global, matches: &ArgMatches) -> Result<Option<Vec<NodeId>>, 
         Some(ids) => Ok(Some(ids)),
         None => Err(ArgumentsFault::BadArguments),
     }
+}
+
+/// The text of the names of the group that are given, or nothing.
+fn group_names_of(
+    alloc: Global,
+    matches: &ArgMatches,
+    names: bool,
+) -> Result<Option<String>, AllocError>
+    ensures { IfOk result (λ text. group_names_asked names (first_value (found_of matches.now) (codes "group"))
+        ≡ option_map string_bytes text) }
+{
+    if !names {
+        return Ok(None);
+    }
+    let Some(text) = matches.get_str("group") else {
+        return Ok(None);
+    };
+    Ok(Some(String::from_str(alloc, text)?))
 }
 
 /// The number of workers that is given, or one.

@@ -1,6 +1,8 @@
+use crate::certificate_tip::certificate_tip;
 use crate::taken_arguments::command;
 use clap::ArgMatches;
 use clap::error::ErrorKind;
+use ov_hints::comma_hint;
 use ov_ids::OutOfMemory;
 use ov_io::shown_name;
 use ov_lines::{read_ids, read_workers};
@@ -18,10 +20,23 @@ const GROUP: &str = "ids from 0 to 4294967295, with one comma between two";
 
 const WORKERS: &str = "a number from 1 to 64";
 
+/// What the texts of `--pair` and `--fan` must be.
+const PAIR: &str = "two ids with one comma between them";
+
+const FAN: &str = "one id";
+
+/// What is printed if two of three flags are given, or two of two options.
+const FORMATS: &str = "error: only one of '--views', '--edges' and '--dot' can be given\n\n\
+                       For more information, try '--help'.\n";
+
+const ENTRIES: &str = "error: only one of '--pair' and '--fan' can be given\n\n\
+                       For more information, try '--help'.\n";
+
 /// What is said of arguments that `overlay` refuses: help, the version, or what is wrong with them. They are the
 /// arguments after the program's name. An empty list means that an argument is no UTF-8. The text ends with a line
 /// feed; it is empty if nothing is wrong. `clap` makes it, from the arguments that `overlay` takes, except for the
-/// version and for a bad text of `--group` or `--workers`. OutOfMemory (99) if an allocation is refused.
+/// version and for a bad text of an option. A line `tip: ..` below it may say what is meant. OutOfMemory (99) if an
+/// allocation is refused.
 pub fn argument_reasons(alloc: Global, arguments: &[String]) -> Result<String, OutOfMemory> {
     match arguments.first() {
         None => Ok(String::from_str(alloc, NO_TEXT)?),
@@ -41,7 +56,11 @@ fn reasons(alloc: Global, arguments: &[String]) -> Result<String, OutOfMemory> {
     match command(alloc)?.try_get_matches_from(&shown) {
         Ok(matches) => text_reason(alloc, &matches),
         Err(error) if error.kind() == ErrorKind::OutOfMemory => Err(OutOfMemory),
-        Err(error) => Ok(format!(in alloc; "{error}")?),
+        Err(error) => {
+            let mut reason = format!(in alloc; "{error}")?;
+            reason.push_str(certificate_tip(alloc, &shown)?.as_str())?;
+            Ok(reason)
+        }
     }
 }
 
@@ -55,13 +74,23 @@ fn shown(alloc: Global, arguments: &[String]) -> Result<Vec<String>, AllocError>
     Ok(shown)
 }
 
-/// What is wrong with the text of `--group` or of `--workers`, if one of them can't be read.
+/// What is wrong with the texts that a command was given, if they ask for nothing.
 fn text_reason(alloc: Global, matches: &ArgMatches) -> Result<String, OutOfMemory> {
-    let mut reason = String::new(alloc);
-    let Some((_, found)) = matches.subcommand() else {
-        return Ok(reason);
+    let Some((command, found)) = matches.subcommand() else {
+        return Ok(String::new(alloc));
     };
-    if let Some(text) = found.get_str("group") {
+    match command {
+        "analyse" => analysis_reason(alloc, found),
+        "import" => Ok(String::from_str(alloc, FORMATS)?),
+        "picture" => picture_reason(alloc, found),
+        _ => Ok(String::new(alloc)),
+    }
+}
+
+/// What is wrong with the text of `--group` or of `--workers`.
+fn analysis_reason(alloc: Global, found: &ArgMatches) -> Result<String, OutOfMemory> {
+    let mut reason = String::new(alloc);
+    if let Some(text) = ids_asked(found) {
         if read_ids(alloc, text.as_bytes())?.is_none() {
             push_bad_text(&mut reason, "group", text, GROUP)?;
             return Ok(reason);
@@ -75,7 +104,28 @@ fn text_reason(alloc: Global, matches: &ArgMatches) -> Result<String, OutOfMemor
     Ok(reason)
 }
 
-/// Appends that an option takes something other than this text, in the form of `clap`.
+/// What is wrong with the texts of `--pair` and `--fan`.
+fn picture_reason(alloc: Global, found: &ArgMatches) -> Result<String, OutOfMemory> {
+    let mut reason = String::new(alloc);
+    match (found.get_str("pair"), found.get_str("fan")) {
+        (Some(_), Some(_)) => reason.push_str(ENTRIES)?,
+        (Some(text), None) => push_bad_text(&mut reason, "pair", text, PAIR)?,
+        (None, Some(text)) => push_bad_text(&mut reason, "fan", text, FAN)?,
+        (None, None) => {}
+    }
+    Ok(reason)
+}
+
+/// The text of the ids of a group. Beside `--names` there is none, since names may be any text.
+fn ids_asked<'a>(found: &'a ArgMatches<'_>) -> Option<&'a str> {
+    if found.get_str("names") == Some("true") {
+        return None;
+    }
+    found.get_str("group")
+}
+
+/// Appends that an option takes something other than this text, in the form of `clap`, and which comma of it is one too
+/// many.
 fn push_bad_text(
     reason: &mut String,
     option: &str,
@@ -86,5 +136,9 @@ fn push_bad_text(
         reason,
         "error: invalid value '{text}' for '--{option} <{option}>': it takes {wanted}\n\n\
          For more information, try '--help'.\n"
-    )
+    )?;
+    match comma_hint(text.as_bytes()) {
+        Some(hint) => write!(reason, "tip: '{text}' {hint}\n"),
+        None => Ok(()),
+    }
 }

@@ -1,6 +1,7 @@
 ghost use Rattle.std.specs.Prelude.{◌≡◌, codes, false, IfOk};
 ghost use Rattle.clap.specs.Words.{app_of, new_rule, rule_of};
-ghost use Rattle.ov_arguments.specs.Arguments.{analyse_command, flag, option, overlay_command, run_command};
+ghost use Rattle.ov_arguments.specs.Arguments.{analyse_command, flag, graph_command, import_command, option};
+ghost use Rattle.ov_arguments.specs.Arguments.{overlay_command, picture_command, run_command};
 
 use clap::{Arg, ArgAction, Command};
 use std::alloc::{AllocError, Global};
@@ -14,12 +15,14 @@ Examples:
   overlay run story.scenario --explain
   overlay analyse net.graph --workers 4
   overlay analyse net.graph --certificate
+  overlay import views.json > net.graph
+  overlay picture net.json > net.svg
   overlay grow --nodes 60 --crash 10 | overlay run
   overlay sweep --active 3,5,8 --summary";
 
 /// What help says of `overlay`.
 const ABOUT: &str =
-    "Runs a scenario file of overlay nodes, analyses a graph file, or grows overlays.";
+    "Runs a scenario file of overlay nodes, analyses a graph file, or grows overlays. Imports dumps, draws certificates.";
 
 /// What help says below the commands.
 const BELOW: &str = "\
@@ -56,6 +59,7 @@ const ANALYSE_EXAMPLES: &str = "\
 Examples:
   overlay analyse net.graph
   overlay analyse net.graph --group 1,2,3 --workers 4
+  overlay analyse net.graph --names --explain
   overlay analyse net.graph --certificate | tail -1 | overlay-check";
 
 /// What help says of `overlay analyse`, and of its other options.
@@ -63,11 +67,69 @@ const ABOUT_ANALYSE: &str = "Reads a graph file, and prints how few crashes spli
 
 const GRAPH_FILE: &str = "The graph file; standard input without it, or with -";
 
-const GROUP: &str = "For these nodes alone: ids with one comma between two";
+const GROUP: &str = "For these nodes alone: ids, or names, with one comma between two";
 
 const WORKERS: &str = "With 1 to 64 workers, and with one without it";
 
 const CERTIFICATE: &str = "Prints the certificate file too";
+
+const NAMES: &str = "Prints the answer in the names that the graph file gives too";
+
+const EXPLAIN_ANSWER: &str = "Says the answer in words on standard error";
+
+/// What help of `overlay import` begins with.
+const IMPORT_EXAMPLES: &str = "\
+Examples:
+  overlay import views.json > net.graph
+  overlay import --edges net.edges | overlay analyse --names
+  overlay import --dot net.dot --either > net.graph";
+
+/// What help of `overlay import` says, and of its options.
+const ABOUT_IMPORT: &str =
+    "Makes a graph file of what a cluster says of its links, by names, and keeps the names as comments";
+
+const BELOW_IMPORT: &str = "\
+Without --views, --edges or --dot the first byte says which: { begins views, graph or digraph DOT.
+What only one of two lists, and who is listed without an entry, is counted on standard error.";
+
+const DUMP_FILE: &str = "The dump; standard input without it, or with -";
+
+const VIEWS: &str = "Reads a JSON object: each name with the list of its peers";
+
+const EDGES: &str = "Reads lines of two names, with a space, a tab or a comma between them";
+
+const DOT: &str = "Reads Graphviz's language DOT";
+
+const EITHER: &str = "Links two that do not both list each other, too";
+
+const ENTRIES: &str = "Leaves out names that have no entry";
+
+/// What help of `overlay picture` begins with.
+const PICTURE_EXAMPLES: &str = "\
+Examples:
+  overlay analyse net.graph --certificate | tail -1 > net.json
+  overlay picture net.json --names net.graph > net.svg
+  overlay picture net.json --pair 1,3 > paths.svg";
+
+/// What help of `overlay picture` says, and of its options.
+const ABOUT_PICTURE: &str = "Draws the graph of a certificate file, with its cut in the middle";
+
+const CERTIFICATE_FILE: &str = "The certificate file; standard input without it, or with -";
+
+const NAMES_FILE: &str = "A graph file whose comments name the nodes";
+
+const PAIR: &str = "Draws the paths between these two members: I,J";
+
+const FAN: &str = "Draws the paths from this member to members below it";
+
+const DOT_PICTURE: &str = "Prints Graphviz's language DOT in place of SVG";
+
+/// What help of `overlay graph` begins with, and what it says.
+const GRAPH_EXAMPLES: &str = "\
+Example:
+  overlay graph net.json | cmp - net.graph";
+
+const ABOUT_GRAPH: &str = "Prints the graph of a certificate file as a graph file";
 
 /// The arguments that `overlay` takes.
 pub(crate) fn command<'a>(alloc: Global) -> Result<Command<'a>, AllocError>
@@ -80,7 +142,10 @@ pub(crate) fn command<'a>(alloc: Global) -> Result<Command<'a>, AllocError>
         .about(ABOUT)
         .after_help(BELOW)
         .subcommand(run_command(alloc)?)?
-        .subcommand(analyse_command(alloc)?)
+        .subcommand(analyse_command(alloc)?)?
+        .subcommand(import_command(alloc)?)?
+        .subcommand(picture_command(alloc)?)?
+        .subcommand(graph_command(alloc)?)
 }
 
 /// The arguments after `run`.
@@ -108,7 +173,49 @@ fn analyse_command<'a>(alloc: Global) -> Result<Command<'a>, AllocError>
         .arg(option(alloc, "group", GROUP))?
         .arg(option(alloc, "workers", WORKERS))?
         .arg(flag(alloc, "certificate", CERTIFICATE))?
+        .arg(flag(alloc, "names", NAMES))?
+        .arg(flag(alloc, "explain", EXPLAIN_ANSWER))?
         .arg(flag(alloc, "progress", PROGRESS))
+}
+
+/// The arguments after `import`.
+fn import_command<'a>(alloc: Global) -> Result<Command<'a>, AllocError>
+    ensures { IfOk result (λ c. app_of c ≡ import_command) }
+{
+    Command::new(alloc, "import")
+        .before_help(IMPORT_EXAMPLES)
+        .about(ABOUT_IMPORT)
+        .after_help(BELOW_IMPORT)
+        .arg(file(alloc, DUMP_FILE))?
+        .arg(flag(alloc, "views", VIEWS))?
+        .arg(flag(alloc, "edges", EDGES))?
+        .arg(flag(alloc, "dot", DOT))?
+        .arg(flag(alloc, "either", EITHER))?
+        .arg(flag(alloc, "entries", ENTRIES))
+}
+
+/// The arguments after `picture`.
+fn picture_command<'a>(alloc: Global) -> Result<Command<'a>, AllocError>
+    ensures { IfOk result (λ c. app_of c ≡ picture_command) }
+{
+    Command::new(alloc, "picture")
+        .before_help(PICTURE_EXAMPLES)
+        .about(ABOUT_PICTURE)
+        .arg(file(alloc, CERTIFICATE_FILE))?
+        .arg(option(alloc, "names", NAMES_FILE))?
+        .arg(option(alloc, "pair", PAIR))?
+        .arg(option(alloc, "fan", FAN))?
+        .arg(flag(alloc, "dot", DOT_PICTURE))
+}
+
+/// The arguments after `graph`.
+fn graph_command<'a>(alloc: Global) -> Result<Command<'a>, AllocError>
+    ensures { IfOk result (λ c. app_of c ≡ graph_command) }
+{
+    Command::new(alloc, "graph")
+        .before_help(GRAPH_EXAMPLES)
+        .about(ABOUT_GRAPH)
+        .arg(file(alloc, CERTIFICATE_FILE))
 }
 
 /// A file, of which help says this.

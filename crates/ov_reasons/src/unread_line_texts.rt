@@ -1,5 +1,6 @@
 use crate::line_and_mark::push_marked;
 use crate::unknown_line_name_texts::push_no_line_name;
+use ov_hints::comma_hint;
 use ov_lines::{KeptLine, Kind, LineCursor, Unread, read_number};
 use std::alloc::{AllocError, Global};
 use std::fmt::Write;
@@ -67,18 +68,30 @@ fn text_of(kind: &Kind) -> &'static str {
 
 /// Appends what may help at a word, if a word of this kind is expected in its place.
 fn push_hint(text: &mut String, word: &[u8], kind: &Kind) -> Result<(), AllocError> {
-    match bytes_hint(word) {
-        Some(hint) => write!(text, "; {hint}"),
-        None => push_limits(text, word, kind),
+    match (bytes_hint(word), kind) {
+        (Some(hint), _) => write!(text, "; {hint}"),
+        (None, Kind::Ids) => push_ids_hint(text, word),
+        (None, _) => push_limits(text, kind),
     }
 }
 
-/// Appends the limits of a number of this kind if the text of the kind does not say them, or of each id of a list whose
-/// ids are all written as numbers.
-fn push_limits(text: &mut String, word: &[u8], kind: &Kind) -> Result<(), AllocError> {
+/// Appends which comma of a list of ids is one too many, or the limits of each id of a list whose ids are all written
+/// as numbers.
+fn push_ids_hint(text: &mut String, word: &[u8]) -> Result<(), AllocError> {
+    if let Some(hint) = comma_hint(word) {
+        return write!(text, "; this word {hint}");
+    }
+    if are_numerals(word) {
+        let short = u32::MAX;
+        return write!(text, "; each is a number from 0 to {short}");
+    }
+    Ok(())
+}
+
+/// Appends the limits of a number of this kind if the text of the kind does not say them.
+fn push_limits(text: &mut String, kind: &Kind) -> Result<(), AllocError> {
     let (short, long) = (u32::MAX, u64::MAX);
     match kind {
-        Kind::Ids if are_numerals(word) => write!(text, "; each is a number from 0 to {short}"),
         Kind::Short(_) => write!(text, "; it is a number from 0 to {short}"),
         Kind::Long(_) | Kind::RandomWord | Kind::FurtherWord => {
             write!(text, "; it is a number from 0 to {long}")

@@ -50,8 +50,11 @@ fn asks_for_g(alloc: Global, line: &str, count: u32, certificate: bool) -> Resul
         file: file(alloc, "g")?,
         analysis: AnalysisRequest {
             group: None,
+            group_names: None,
             workers: Workers::new(count).ok_or("a number of workers")?,
             certificate,
+            names: false,
+            explain: false,
             progress: false,
         },
     };

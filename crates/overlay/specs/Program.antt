@@ -1,5 +1,5 @@
 -- What the program overlay prints of a fault, and its status.
-use Rattle.std.specs.Prelude.{ℕ, List, Result, Ok, Err}
+use Rattle.std.specs.Prelude.{ℕ, ⊤, List, Result, Ok, Err}
 use Rattle.ov_io.specs.Refusal.{refusal_text}
 use Rattle.ov_arguments.specs.Arguments.{number_of}
 use Rattle.ov_run.specs.Faults.{run_fault_text}
@@ -8,13 +8,21 @@ use Rattle.ov_arguments.specs.declared.arguments.ArgumentsFault.TheVariants.{Bad
 use Rattle.ov_grow_commands.specs.declared.growth_fault.GrowthFault.{GrowthFault}
 use Rattle.ov_grow_commands.specs.declared.growth_fault.GrowthFault.TheVariants as growth
 use Rattle.overlay.specs.declared.program_outcome.ProgramFault.{ProgramFault}
-use Rattle.overlay.specs.declared.program_outcome.ProgramFault.TheVariants.{Arguments, Growth, Run}
+use Rattle.ov_file_commands.specs.Faults as file
+use Rattle.overlay.specs.declared.program_outcome.ProgramFault.TheVariants.{Arguments, Growth, OfFile, Run}
 
 -- what is printed of a fault on standard error, without its line feed
 abbrev pub program_fault_text : ProgramFault → List ℕ
 program_fault_text (Arguments fault) = refusal_text (number_of fault)
 program_fault_text (Run fault) = run_fault_text fault
 program_fault_text (Growth fault) = refusal_text (growth_number fault)
+program_fault_text (OfFile fault) = refusal_text (file.command_number fault)
+
+-- the fault is one of what was asked for, and not of the arguments
+abbrev pub IsOfRequest : ProgramFault → Type 0
+IsOfRequest (Run fault) = ⊤
+IsOfRequest (OfFile fault) = ⊤
+IsOfRequest other = ⊥
 
 -- the program's status: that of the run or the analysis, 2 if the arguments are refused, and 1 after another fault
 abbrev pub exit_status : Result ℕ ProgramFault → ℕ
@@ -22,6 +30,7 @@ exit_status (Ok status) = status
 exit_status (Err (Arguments BadArguments)) = 2
 exit_status (Err (Arguments OutOfMemory)) = 1
 exit_status (Err (Run fault)) = 1
+exit_status (Err (OfFile fault)) = 1
 exit_status (Err (Growth growth.Arguments)) = 2
 exit_status (Err (Growth (growth.Growing number))) = 1
 exit_status (Err (Growth growth.Row)) = 1

@@ -10,22 +10,30 @@ ghost use Rattle.ov_io.specs.Device.{most_faults};
 ghost use Rattle.ov_run.specs.Analysing.{IsAnalysisOf};
 ghost use Rattle.ov_run.specs.Run.{IsRunOf};
 ghost use Rattle.ov_run.specs.Strict.{strictness_of};
+ghost use Rattle.overlay.specs.Program.{IsOfRequest};
 ghost use Rattle.overlay.specs.declared.program_outcome.ProgramFault.TheVariants.{Arguments, Run};
 
 mod fault_reasons;
+mod file_commands;
+mod named_analysis;
 mod program_outcome;
 mod progress;
 mod refusal_watcher;
 mod run_news;
+mod tips;
 
 use crate::fault_reasons::{analysis_reason, run_reason};
+use crate::file_commands::{graph_asked, import_asked, picture_asked};
+use crate::named_analysis::analyse_in_words;
 use crate::program_outcome::{ProgramFault, exit_status};
 use crate::progress::{PieceProgress, RunProgress};
 use crate::run_news::RunNews;
+use crate::tips::{print_command_tip, print_file_tip, print_folder_tip};
 use ov_arguments::{
     AnalysisRequest, ArgumentsFault, Request, RunRequest, argument_reasons, read_arguments,
 };
 use ov_grow_commands::{grow_command, sweep_command};
+use ov_hints::{FileKind, is_folder};
 use ov_ids::{NodeId, OutOfMemory};
 use ov_io::{Sink, Source, unopened_text, unread_text};
 use ov_reasons::group_reason;
@@ -164,6 +172,7 @@ fn unread_arguments(rt: &HostRuntime, fault: ArgumentsFault, arguments: &[String
     match fault {
         ArgumentsFault::BadArguments => {
             print_reason(rt, argument_reasons(rt.alloc(), arguments));
+            print_command_tip(rt, arguments);
         }
         ArgumentsFault::OutOfMemory => {
             let _ = eprintln!(rt; "out of memory");
@@ -179,11 +188,14 @@ fn do_asked<T: Threads + Wait + Sync>(
     request: Request,
 ) -> Result<u8, ProgramFault>
     ensures status { IfOk result (λ status. status ≡ 0) }
-    ensures fault { IfErr result (λ e. (fault : RunFault) × (e ≡ Run fault)) }
+    ensures fault { IfErr result IsOfRequest }
 {
     match request {
         Request::Run { file, run } => run_asked(rt, threads, file, run),
         Request::Analyse { file, analysis } => analyse_asked(rt, threads, file, &analysis),
+        Request::Import { file, dump } => import_asked(rt, file, dump),
+        Request::Picture { file, picture } => picture_asked(rt, file, picture),
+        Request::Graph { file } => graph_asked(rt, file),
     }
 }
 
@@ -212,14 +224,26 @@ fn not_read(rt: &HostRuntime, name: &str, fault: RunFault) -> RunFault
     ended
 }
 
-/// Opens a file. If that fails, prints why.
+/// Opens a file. If that fails, or a folder has this name, prints why.
 fn opened(rt: &HostRuntime, path: &str) -> Result<File, RunFault>
     ensures { IfErr result (λ fault. fault ≡ RunFault.Read) }
 {
     match File::open(rt, path) {
-        Ok(file) => Ok(file),
+        Ok(file) => no_folder(rt, path, file),
         Err(error) => Err(not_opened(rt, path, error)),
     }
+}
+
+/// The file that was opened, unless a folder has its name.
+fn no_folder(rt: &HostRuntime, path: &str, file: File) -> Result<File, RunFault>
+    ensures { IfErr result (λ fault. fault ≡ RunFault.Read) }
+{
+    if !is_folder(rt, path) {
+        return Ok(file);
+    }
+    let ended = not_read(rt, path, RunFault::Read);
+    print_folder_tip(rt, path);
+    Err(ended)
 }
 
 /// All bytes of a reader. If it can't be read, prints that, with its name.
@@ -236,6 +260,21 @@ fn bytes_of<R: Read + Drop>(rt: &HostRuntime, reader: R, name: &str) -> Result<V
     }
 }
 
+/// All bytes of the file of this name, or of standard input. If it can't be read, prints why.
+///
+/// `Read` (71): the file can't be opened, or the reader failed. `OutOfMemory` (99): an allocation was refused.
+fn bytes_asked(rt: &HostRuntime, file: Option<String>) -> Result<Vec<u8>, RunFault> {
+    match file.as_deref() {
+        None => bytes_of(rt, rt.stdin(), STANDARD_INPUT),
+        Some(path) => bytes_of_file(rt, path),
+    }
+}
+
+/// All bytes of the file of this name. The faults are those of `bytes_asked`.
+fn bytes_of_file(rt: &HostRuntime, path: &str) -> Result<Vec<u8>, RunFault> {
+    bytes_of(rt, opened(rt, path)?, path)
+}
+
 /// Runs the scenario of a file, or of standard input. If it is to be explained, prints why lines are refused. What is
 /// printed is written line by line then, and on a terminal, so that it stands beside these reasons; else in blocks.
 fn run_asked<T: Threads + Wait + Sync>(
@@ -245,7 +284,7 @@ fn run_asked<T: Threads + Wait + Sync>(
     run: RunRequest,
 ) -> Result<u8, ProgramFault>
     ensures status { IfOk result (λ status. status ≡ 0) }
-    ensures fault { IfErr result (λ e. (fault : RunFault) × (e ≡ Run fault)) }
+    ensures fault { IfErr result IsOfRequest }
 {
     if file.is_none() && rt.stdin().is_terminal() {
         let _ = eprintln!(rt; "reading a scenario from standard input");
@@ -277,39 +316,41 @@ fn run_into<T: Threads + Wait + Sync, W: Write + Drop>(
     run: RunRequest,
 ) -> Result<u8, ProgramFault>
     ensures status { IfOk result (λ status. status ≡ 0) }
-    ensures fault { IfErr result (λ e. (fault : RunFault) × (e ≡ Run fault)) }
+    ensures fault { IfErr result IsOfRequest }
 {
     let mut sink = Sink::new(writer);
     match file.as_deref() {
-        None => Ok(run_from(rt, threads, rt.stdin(), &mut sink, STANDARD_INPUT, run)?),
-        Some(path) => Ok(run_from(rt, threads, opened(rt, path)?, &mut sink, path, run)?),
+        None => Ok(run_from(rt, threads, rt.stdin(), &mut sink, None, run)?),
+        Some(path) => Ok(run_from(rt, threads, opened(rt, path)?, &mut sink, Some(path), run)?),
     }
 }
 
-/// Runs the scenario of a reader that has this name.
+/// Runs the scenario of a reader: of the file of this name, or of standard input.
 fn run_from<T: Threads + Wait + Sync, R: Read + Drop, W: Write>(
     rt: &HostRuntime,
     threads: &T,
     reader: R,
     sink: &mut Sink<W>,
-    name: &str,
+    file: Option<&str>,
     run: RunRequest,
 ) -> Result<u8, RunFault>
     requires { sink.old.faults < most_faults }
     ensures run { IsRunOf (strictness_of run.strict) (R.remaining reader) W.contents sink.old sink.new result }
 {
-    let bytes = bytes_of(rt, reader, name)?;
-    run_told(rt, threads, &bytes, sink, run)
+    let bytes = bytes_of(rt, reader, file.unwrap_or(STANDARD_INPUT))?;
+    run_told(rt, threads, &bytes, sink, file, run)
 }
 
-/// Runs the scenario of these bytes. Prints its fault, if there is one, and why. Prints what else is asked for: how far
-/// the run has come; why lines are refused, and at the end how many events happened and how many were refused. Why a
-/// line is refused at which a strict run ends is printed below its fault.
+/// Runs the scenario of these bytes, of the file of this name or of standard input. Prints its fault, if there is one,
+/// and why. Prints what else is asked for: how far the run has come; why lines are refused, and at the end how many
+/// events happened and how many were refused. Why a line is refused at which a strict run ends is printed below its
+/// fault.
 fn run_told<T: Threads + Wait + Sync, W: Write>(
     rt: &HostRuntime,
     threads: &T,
     bytes: &[u8],
     sink: &mut Sink<W>,
+    file: Option<&str>,
     run: RunRequest,
 ) -> Result<u8, RunFault>
     requires { sink.old.faults < most_faults }
@@ -318,7 +359,7 @@ fn run_told<T: Threads + Wait + Sync, W: Write>(
     let mut news = RunNews::new(rt, run, bytes);
     let strictness = Strictness::of(run.strict);
     let answer = run_bytes(threads, rt.alloc(), bytes, sink, strictness, &mut news);
-    tell_fault(rt, bytes, &answer);
+    tell_fault(rt, bytes, file, &answer);
     if has_run(&answer) {
         news.tell_end();
     }
@@ -331,10 +372,24 @@ fn has_run(answer: &Result<u8, RunFault>) -> bool {
 }
 
 /// Prints the line of the fault of a run of these bytes, if it has one, and why there is one.
-fn tell_fault(rt: &HostRuntime, bytes: &[u8], answer: &Result<u8, RunFault>) {
+fn tell_fault(rt: &HostRuntime, bytes: &[u8], file: Option<&str>, answer: &Result<u8, RunFault>) {
     if let Err(fault) = answer {
         print_fault(rt, *fault);
         print_reason(rt, run_reason(rt.alloc(), bytes, fault));
+        tell_kind(rt, bytes, file, fault, FileKind::Scenario);
+    }
+}
+
+/// Prints which command reads these bytes, if a line of them can't be read and they do not look like this kind of file.
+fn tell_kind(
+    rt: &HostRuntime,
+    bytes: &[u8],
+    file: Option<&str>,
+    fault: &RunFault,
+    wanted: FileKind,
+) {
+    if let RunFault::Line(_) = fault {
+        print_file_tip(rt, bytes, file, wanted);
     }
 }
 
@@ -346,39 +401,54 @@ fn analyse_asked<T: Threads + Sync>(
     analysis: &AnalysisRequest,
 ) -> Result<u8, ProgramFault>
     ensures status { IfOk result (λ status. status ≡ 0) }
-    ensures fault { IfErr result (λ e. (fault : RunFault) × (e ≡ Run fault)) }
+    ensures fault { IfErr result IsOfRequest }
 {
     let mut sink = Sink::new(rt.stdout());
+    if analysis.names || analysis.explain {
+        let bytes = bytes_asked(rt, file)?;
+        return analyse_in_words(rt, threads, &bytes, &mut sink, analysis);
+    }
     match file.as_deref() {
-        None => analyse_from(rt, threads, rt.stdin(), &mut sink, STANDARD_INPUT, analysis)?,
-        Some(path) => analyse_from(rt, threads, opened(rt, path)?, &mut sink, path, analysis)?,
+        None => analyse_from(rt, threads, rt.stdin(), &mut sink, None, analysis)?,
+        Some(path) => {
+            analyse_from(
+                rt,
+                threads,
+                opened(rt, path)?,
+                &mut sink,
+                Some(path),
+                analysis,
+            )?
+        }
     };
     Ok(0)
 }
 
-/// Analyses the graph of a reader that has this name.
+/// Analyses the graph of a reader: of the file of this name, or of standard input.
 fn analyse_from<T: Threads + Sync, R: Read + Drop, W: Write>(
     rt: &HostRuntime,
     threads: &T,
     reader: R,
     sink: &mut Sink<W>,
-    name: &str,
+    file: Option<&str>,
     analysis: &AnalysisRequest,
 ) -> Result<Answered, RunFault>
     requires { sink.old.faults < most_faults }
     ensures analysis { IsAnalysisOf (R.remaining reader) W.contents sink.old
         (option_map (λ ids. ids.items) analysis.now.group) analysis.now.certificate sink.new result }
 {
-    let bytes = bytes_of(rt, reader, name)?;
-    analyse_told(rt, threads, &bytes, sink, analysis)
+    let bytes = bytes_of(rt, reader, file.unwrap_or(STANDARD_INPUT))?;
+    analyse_told(rt, threads, &bytes, sink, file, analysis)
 }
 
-/// Analyses the graph file of these bytes. Prints a fault or a refusal of it, and why.
+/// Analyses the graph file of these bytes, of the file of this name or of standard input. Prints a fault or a refusal of
+/// it, and why.
 fn analyse_told<T: Threads + Sync, W: Write>(
     rt: &HostRuntime,
     threads: &T,
     bytes: &[u8],
     sink: &mut Sink<W>,
+    file: Option<&str>,
     analysis: &AnalysisRequest,
 ) -> Result<Answered, RunFault>
     requires { sink.old.faults < most_faults }
@@ -404,6 +474,7 @@ fn analyse_told<T: Threads + Sync, W: Write>(
         Err(fault) => {
             print_fault(rt, *fault);
             print_reason(rt, analysis_reason(rt.alloc(), bytes, fault));
+            tell_kind(rt, bytes, file, fault, FileKind::Graph);
         }
     }
     answer

@@ -1,8 +1,9 @@
 ghost use Rattle.std.specs.Prelude.{◌≡◌};
 ghost use Rattle.overlay.specs.Program.{exit_status};
-ghost use Rattle.overlay.specs.declared.program_outcome.ProgramFault.TheVariants.{Arguments, Growth, Run};
+ghost use Rattle.overlay.specs.declared.program_outcome.ProgramFault.TheVariants.{Arguments, Growth, OfFile, Run};
 
 use ov_arguments::ArgumentsFault;
+use ov_file_commands::FileCommandFault;
 use ov_grow_commands::GrowthFault;
 use ov_run::RunFault;
 use std::error::Error;
@@ -17,6 +18,8 @@ pub(crate) enum ProgramFault {
     Run(RunFault),
     /// `overlay grow` or `overlay sweep` ended before its end.
     Growth(GrowthFault),
+    /// `overlay import`, `overlay picture` or `overlay graph` ended before its end.
+    OfFile(FileCommandFault),
 }
 
 impl From<ArgumentsFault> for ProgramFault {
@@ -43,6 +46,14 @@ impl From<GrowthFault> for ProgramFault {
     }
 }
 
+impl From<FileCommandFault> for ProgramFault {
+    ghost from_gives = { λ fault e. e ≡ OfFile fault };
+
+    fn from(fault: FileCommandFault) -> ProgramFault {
+        ProgramFault::OfFile(fault)
+    }
+}
+
 impl Display for ProgramFault {
     ghost use Rattle.std.specs.Prelude.{Some};
     ghost use Rattle.overlay.specs.Program.{program_fault_text};
@@ -54,6 +65,7 @@ impl Display for ProgramFault {
             ProgramFault::Arguments(fault) => write!(f, "{fault}"),
             ProgramFault::Run(fault) => write!(f, "{fault}"),
             ProgramFault::Growth(fault) => write!(f, "{fault}"),
+            ProgramFault::OfFile(fault) => write!(f, "{fault}"),
         }
     }
 }

@@ -12,7 +12,9 @@ use ov_check::{
     why_no_input,
 };
 use ov_check_reasons::reasons;
+use ov_hints::{FileKind, file_tip, folder_tip, is_folder, kind_of_file};
 use ov_io::{Sink, Source, unopened_text};
+use std::alloc::AllocError;
 use std::env::FillError;
 use std::fs::File;
 use std::io;
@@ -20,6 +22,9 @@ use std::io::{Read, Write};
 use std::process::ExitCode;
 use std::rt::{Env, Files, Runtime};
 use std::thread::Threads;
+
+/// The name of what is read if no file is named.
+const STANDARD_INPUT: &str = "standard input";
 
 /// The length in bytes of the longest path that the system opens, or more.
 const LONGEST_PATH: usize = 4096;
@@ -36,7 +41,7 @@ fn run<R: Runtime + AllocGlobal + Threads + Sync>(rt: &R) -> Result<u8, ProgramF
     match input_named(length, &room, has_argument(rt, 2)) {
         Ok(None) => {
             let mut sink = Sink::new(io::writer(rt));
-            Ok(judge_from(rt, rt.reader(), &mut sink, "standard input")?)
+            Ok(judge_from(rt, rt.reader(), &mut sink, None)?)
         }
         Ok(Some(path)) => Ok(judge_file(rt, path)?),
         Err(fault) => {
@@ -69,7 +74,7 @@ fn judge_file<R: Runtime + AllocGlobal + Threads + Sync>(
     match File::open(rt, path) {
         Ok(file) => {
             let mut sink = Sink::new(io::writer(rt));
-            judge_from(rt, file, &mut sink, path)
+            judge_from(rt, file, &mut sink, Some(path))
         }
         Err(error) => {
             let ended = print_fault(rt, JudgeFault::Read);
@@ -81,13 +86,14 @@ fn judge_file<R: Runtime + AllocGlobal + Threads + Sync>(
     }
 }
 
-/// Judges what a reader gives, and writes the line of the outcome. Ok: the status of the outcome, which is 0 only if
-/// the bytes that were read say an exact number. Not Ok: the fault is printed, and the name of what can't be read.
+/// Judges what a reader gives, the file of this name or standard input, and writes the line of the outcome. Ok: the
+/// status of the outcome, which is 0 only if the bytes that were read say an exact number. Not Ok: the fault is
+/// printed, and the name of what can't be read.
 fn judge_from<R: Runtime + AllocGlobal + Threads + Sync, I: Read + Drop, W: Write>(
     rt: &R,
     reader: I,
     sink: &mut Sink<W>,
-    name: &str,
+    file: Option<&str>,
 ) -> Result<u8, JudgeFault>
     requires { sink.old.faults < most_faults }
     ensures prints { IfOk result
@@ -98,31 +104,64 @@ fn judge_from<R: Runtime + AllocGlobal + Threads + Sync, I: Read + Drop, W: Writ
 {
     let mut source = Source::new(reader);
     match judge_kept(rt, &mut source, sink) {
-        Ok(outcome) => Ok(explained(rt, outcome)),
+        Ok(outcome) => Ok(explained(rt, outcome, file)),
         Err(fault) => {
             let ended = print_fault(rt, fault);
-            if let Ok(text) = failure_text(rt.alloc(), fault, name) {
-                let _ = eprintln!(rt; "{text}");
-            }
+            explain_failure(rt, fault, file);
             Err(ended)
         }
     }
 }
 
+/// Prints what failed, and the name of what can't be read. If this is the name of a folder, it says so.
+fn explain_failure<R: Runtime + AllocGlobal>(rt: &R, fault: JudgeFault, file: Option<&str>) {
+    if let Ok(text) = failure_text(rt.alloc(), fault, file.unwrap_or(STANDARD_INPUT)) {
+        let _ = eprintln!(rt; "{text}");
+    }
+    let Some(path) = file else {
+        return;
+    };
+    if fault == JudgeFault::Read && is_folder(rt, path) {
+        print_tip(rt, folder_tip(rt.alloc(), path));
+    }
+}
+
 /// The status of an outcome. If it is not 0, standard error says why the certificate does not hold, or why the file is
 /// refused.
-fn explained<R: Runtime + AllocGlobal>(rt: &R, outcome: Outcome) -> u8
+fn explained<R: Runtime + AllocGlobal>(rt: &R, outcome: Outcome, file: Option<&str>) -> u8
     ensures { result ≡ status_of outcome }
 {
     let status = outcome.status();
     if status != 0 {
-        explain(rt, &outcome);
+        explain(rt, &outcome, file);
     }
     status
 }
 
-fn explain<R: Runtime + AllocGlobal>(rt: &R, outcome: &Outcome) {
+/// Prints why an outcome is not that a certificate holds. Of a file that looks like one of another kind, it says which
+/// command reads it.
+fn explain<R: Runtime + AllocGlobal>(rt: &R, outcome: &Outcome, file: Option<&str>) {
     if let Ok(text) = reasons(rt.alloc(), outcome) {
         let _ = eprintln!(rt; "{text}");
+    }
+    if let (Outcome::Refused(_), Some(path)) = (outcome, file) {
+        tell_kind(rt, path);
+    }
+}
+
+/// Prints which command reads the file of this name, if it does not look like a certificate file.
+fn tell_kind<R: Runtime + AllocGlobal>(rt: &R, path: &str) {
+    let Some(kind) = kind_of_file(rt, path) else {
+        return;
+    };
+    if kind != FileKind::Certificate {
+        print_tip(rt, file_tip(rt.alloc(), kind, Some(path)));
+    }
+}
+
+/// Prints the line of a tip. Prints nothing if an allocation for it was refused.
+fn print_tip(rt: &impl Runtime, tip: Result<String, AllocError>) {
+    if let Ok(tip) = tip {
+        let _ = eprint!(rt; "{tip}");
     }
 }

@@ -5,7 +5,7 @@ use Rattle.clap.specs.Words.{app_of, found_of, first_value}
 use Rattle.ov_arguments.specs.Arguments.{AreTaken, IsAsked, IsOfGiven, command_given, text_given}
 use Rattle.ov_arguments.specs.declared.arguments.ArgumentsFault.TheVariants.{BadArguments, OutOfMemory}
 use Rattle.ov_arguments.proofs.Asked.{asked_given, asked_readable, err_of, fails_for_memory, no_fault_found}
-use Rattle.ov_arguments.proofs.Asked.{readable_given}
+use Rattle.ov_arguments.proofs.Asked.{none_found, none_readable, readable_given, run_given}
 use Rattle.ov_arguments.proofs.arguments.read_arguments.Goals as goal
 
 pub returns-clause-given : goal.returns-clause-given
@@ -45,3 +45,19 @@ returns-in_err-matches-clause-taken c taken bad =
     let same : BadArguments ≡ OutOfMemory =
     err_of _ c.from_residual-in_err-matches.result BadArguments c.from_residual-in_err-matches.ensures.1 bad ∙ memory in
     absurd cc
+
+pub returns-in-None-clause-given : goal.returns-in-None-clause-given
+returns-in-None-clause-given c =
+    let arguments = map (λ argument. string_bytes argument) c.args.arguments.now in
+    run_given arguments (none_found (app_of c.in_ok-command.field-0) arguments c.in_ok-matches.matches
+    c.in_ok-command.ensures c.in_ok-matches.ensures.matches c.in-None.ensures.name)
+
+pub returns-in-None-clause-only : goal.returns-in-None-clause-only
+returns-in-None-clause-only c =
+    let arguments = map (λ argument. string_bytes argument) c.args.arguments.now in
+    let app = app_of c.in_ok-command.field-0 in
+    (
+      no_fault_found app arguments c.in_ok-command.ensures c.in_ok-matches.ensures.kinds,
+      none_readable arguments (none_found app arguments c.in_ok-matches.matches c.in_ok-command.ensures
+      c.in_ok-matches.ensures.matches c.in-None.ensures.name),
+    )

@@ -17,10 +17,14 @@ returns c =
     let group : rule_of c.option.result ≡ option (codes "group") = search rules in
     let workers : rule_of c.option-2.result ≡ option (codes "workers") = search rules in
     let certificate : rule_of c.flag.result ≡ flag (codes "certificate") = search rules in
-    let progress : rule_of c.flag-2.result ≡ flag (codes "progress") = search rules in
+    let names : rule_of c.flag-2.result ≡ flag (codes "names") = search rules in
+    let explain : rule_of c.flag-3.result ≡ flag (codes "explain") = search rules in
+    let progress : rule_of c.flag-4.result ≡ flag (codes "progress") = search rules in
     let one = with_one_more _ _ _ _ _ c.in_ok-arg.ensures c.file.ensures.local none file in
     let two = with_one_more _ _ _ _ _ c.in_ok-arg-2.ensures c.option.ensures.local one group in
     let three = with_one_more _ _ _ _ _ c.in_ok-arg-3.ensures c.option-2.ensures.local two workers in
     let four = with_one_more _ _ _ _ _ c.in_ok-arg-4.ensures c.flag.ensures.local three certificate in
-    IfOk-weaker c.arg-5.result (AddsArg c.in_ok-arg-4.field-0 c.flag-2.result) (λ r. app_of r ≡ analyse_command)
-    (λ r adds. with_one_more _ _ _ _ _ adds c.flag-2.ensures.local four progress) c.arg-5.ensures
+    let five = with_one_more _ _ _ _ _ c.in_ok-arg-5.ensures c.flag-2.ensures.local four names in
+    let six = with_one_more _ _ _ _ _ c.in_ok-arg-6.ensures c.flag-3.ensures.local five explain in
+    IfOk-weaker c.arg-7.result (AddsArg c.in_ok-arg-6.field-0 c.flag-4.result) (λ r. app_of r ≡ analyse_command)
+    (λ r adds. with_one_more _ _ _ _ _ adds c.flag-4.ensures.local six progress) c.arg-7.ensures

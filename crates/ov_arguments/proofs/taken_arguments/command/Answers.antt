@@ -1,4 +1,4 @@
--- The two commands below it. Help and the name in usage do not matter to them.
+-- The five commands below it. Help and the name in usage do not matter to them.
 use Rattle.std.proofs.Common.{rules, ◌≡◌, ◌∙◌, codes, true, ap, refl}
 use Rattle.std.proofs.lemmas.Result.{IfOk-weaker}
 use Rattle.clap.specs.Simple.{app_of_fields, on_top}
@@ -19,6 +19,9 @@ returns c =
     let told = ap app_of_fields c.after_help.ensures ∙ ap app_of_fields c.about.ensures
     ∙ ap app_of_fields c.before_help.ensures ∙ unnamed in
     let one = with_subcommand_more _ _ _ _ _ c.in_ok-subcommand.ensures told c.in_ok-run_command.ensures refl in
-    IfOk-weaker c.subcommand-2.result (AddsSubcommand c.in_ok-subcommand.field-0 c.in_ok-analyse_command.field-0)
+    let two = with_subcommand_more _ _ _ _ _ c.in_ok-subcommand-2.ensures one c.in_ok-analyse_command.ensures refl in
+    let three = with_subcommand_more _ _ _ _ _ c.in_ok-subcommand-3.ensures two c.in_ok-import_command.ensures refl in
+    let four = with_subcommand_more _ _ _ _ _ c.in_ok-subcommand-4.ensures three c.in_ok-picture_command.ensures refl in
+    IfOk-weaker c.subcommand-5.result (AddsSubcommand c.in_ok-subcommand-4.field-0 c.in_ok-graph_command.field-0)
     (λ r. app_of r ≡ overlay_command)
-    (λ r adds. with_subcommand_more _ _ _ _ _ adds one c.in_ok-analyse_command.ensures refl) c.subcommand-2.ensures
+    (λ r adds. with_subcommand_more _ _ _ _ _ adds four c.in_ok-graph_command.ensures refl) c.subcommand-5.ensures

@@ -1,0 +1,121 @@
+//! Analyses whose answer is told in names, or in words.
+ghost use Rattle.std.specs.Prelude.{◌≡◌, ◌<◌, IfOk, IfErr};
+ghost use Rattle.ov_io.specs.Device.{most_faults};
+ghost use Rattle.overlay.specs.Program.{IsOfRequest};
+
+use crate::fault_reasons::analysis_reason;
+use crate::program_outcome::ProgramFault;
+use crate::progress::PieceProgress;
+use crate::{print_fault, print_reason, print_refusal, without_memory};
+use ov_answers::{Request, Told, analyse_told};
+use ov_arguments::AnalysisRequest;
+use ov_file_commands::FileCommandFault;
+use ov_graphfile::read_graph;
+use ov_ids::NodeId;
+use ov_io::{Sink, shown_name};
+use ov_names::{GroupFault, ids_of_group, read_names};
+use ov_run::Answered;
+use std::io::Write;
+use std::thread::Threads;
+
+/// Analyses the graph file of these bytes. Prints the answer in the names that the file gives, and says it in words, as
+/// far as this is asked for. Prints a fault or a refusal, and why.
+pub(crate) fn analyse_in_words<T: Threads + Sync, W: Write>(
+    rt: &HostRuntime,
+    threads: &T,
+    bytes: &[u8],
+    sink: &mut Sink<W>,
+    analysis: &AnalysisRequest,
+) -> Result<u8, ProgramFault>
+    requires { sink.old.faults < most_faults }
+    ensures status { IfOk result (λ status. status ≡ 0) }
+    ensures fault { IfErr result IsOfRequest }
+{
+    let named = named_group(rt, bytes, analysis)?;
+    let group = match &named {
+        Some(ids) => Some(ids.as_slice()),
+        None => analysis.group.as_deref(),
+    };
+    let request = Request {
+        group,
+        workers: analysis.workers,
+        certificate: analysis.certificate,
+        names: analysis.names,
+        explain: analysis.explain,
+    };
+    let mut progress = PieceProgress::new(rt, analysis.progress);
+    match analyse_told(threads, rt.alloc(), bytes, sink, &request, &mut progress) {
+        Ok(told) => {
+            explain(rt, bytes, group, &told);
+            Ok(0)
+        }
+        Err(fault) => {
+            print_fault(rt, fault);
+            print_reason(rt, analysis_reason(rt.alloc(), bytes, &fault));
+            Err(fault.into())
+        }
+    }
+}
+
+/// Says an answer in words, if that is asked for, or why there is none.
+fn explain(rt: &HostRuntime, bytes: &[u8], group: Option<&[NodeId]>, told: &Told) {
+    match told.answered {
+        Answered::Report => {
+            if let Some(text) = &told.explanation {
+                let _ = eprint!(rt; "{text}");
+            }
+        }
+        Answered::NoNodes | Answered::BadGroup => print_refusal(rt, bytes, group),
+    }
+}
+
+/// The group whose members are named, if they are. A file that is no graph names none: its analysis says why.
+fn named_group(
+    rt: &HostRuntime,
+    bytes: &[u8],
+    analysis: &AnalysisRequest,
+) -> Result<Option<Vec<NodeId>>, ProgramFault>
+    ensures fault { IfErr result IsOfRequest }
+{
+    let Some(text) = &analysis.group_names else {
+        return Ok(None);
+    };
+    let Ok(graph) = read_graph(rt.alloc(), bytes) else {
+        return Ok(None);
+    };
+    let Ok(names) = read_names(rt.alloc(), &graph, bytes) else {
+        return Err(without_memory(rt).into());
+    };
+    match ids_of_group(rt.alloc(), &names, text.as_bytes()) {
+        Ok(ids) => Ok(Some(ids)),
+        Err(GroupFault::OutOfMemory) => Err(without_memory(rt).into()),
+        Err(fault) => Err(no_group(rt, text.as_str(), fault).into()),
+    }
+}
+
+/// Ends since a text names no group. Prints why.
+fn no_group(rt: &HostRuntime, text: &str, fault: GroupFault) -> FileCommandFault {
+    let number = fault.number();
+    let ended = FileCommandFault::Refused { number };
+    let _ = eprintln!(rt; "{ended}");
+    match fault {
+        GroupFault::NoSuchName(place) => tell_part(rt, text, place, "is the name of no node, nor an id"),
+        GroupFault::SharedName(place) => tell_part(rt, text, place, "is the name of two nodes"),
+        GroupFault::NamedTwice(node) => {
+            let id = node.number();
+            let _ = eprintln!(rt; "node {id} is in the group twice");
+        }
+        GroupFault::OutOfMemory => {}
+    }
+    ended
+}
+
+/// Prints what is wrong with a part of the text of a group. Prints nothing if an allocation for it is refused.
+fn tell_part(rt: &HostRuntime, text: &str, place: usize, wrong: &str) {
+    let Some(part) = text.split(',').nth(place) else {
+        return;
+    };
+    if let Ok(shown) = shown_name(rt.alloc(), part) {
+        let _ = eprintln!(rt; "--group: `{shown}` {wrong}");
+    }
+}

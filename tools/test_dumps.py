@@ -1,0 +1,135 @@
+#!/usr/bin/env python3
+"""test_dumps.py: tests of `overlay import`, `overlay graph` and `overlay picture --dot`, on dumps that are made here.
+
+TAGZIRK_OVERLAY names the program overlay. What is printed is held against a reading of the dumps of a few lines, which
+is written here. With networkx, dumps that it writes are read too; with pydot or pygraphviz besides, it reads what
+`overlay picture --dot` prints.
+"""
+
+import json
+import os
+import random
+import subprocess
+import sys
+import unittest
+
+try:
+    import networkx
+except ImportError:
+    networkx = None
+
+OVERLAY = os.environ.get("TAGZIRK_OVERLAY")
+
+
+def overlay(*words, given=""):
+    """What the program prints on standard output and standard error, and its status."""
+    given = given if isinstance(given, bytes) else given.encode()
+    run = subprocess.run([OVERLAY, *words], input=given, capture_output=True, timeout=60)
+    return run.stdout.decode(), run.stderr.decode(), run.returncode
+
+
+def graph_file(names, links):
+    """The graph file of these names and pairs of names: ids in the order of the bytes of names, from 1."""
+    names = sorted(names, key=str.encode)
+    ids = {name: at for at, name in enumerate(names, 1)}
+    pairs = sorted({tuple(sorted((ids[a], ids[b]))) for a, b in links})
+    nodes = (f"# {at} {name}\nnode {at}\n" for name, at in ids.items())
+    return "".join([*nodes, *(f"link {a} {b}\n" for a, b in pairs)])
+
+
+def some_overlay(count, links, seed):
+    """Names of hosts, and some pairs of them in which each name stands."""
+    chance = random.Random(seed)
+    names = [f"node-{chance.randrange(10**6)}-{at}.rack{at % 7}.example.org" for at in range(count)]
+    ring = [(names[at], names[at - 1]) for at in range(count)]
+    return names, ring + [tuple(chance.sample(names, 2)) for _ in range(links)]
+
+
+def views_of(names, links):
+    """The views of nodes in which both ends of a link list each other, as JSON."""
+    views = {name: set() for name in names}
+    for a, b in links:
+        views[a].add(b)
+        views[b].add(a)
+    return json.dumps({name: sorted(peers) for name, peers in views.items()}, indent=1)
+
+
+def edges_of(links, seed):
+    """Lines of two names, with every separator and with comments."""
+    chance = random.Random(seed)
+    lines = ["# links of a cluster"]
+    for a, b in links:
+        between = chance.choice([" ", "\t", ",", ", ", "  ", " , "])
+        lines.append(f"{a}{between}{b}" + chance.choice(["", " # seen", "  "]))
+    return "\n".join([*lines, ""])
+
+
+def dot_of(names, links):
+    """The graph in the language of Graphviz."""
+    nodes = [f'  "{name}" [label="{name}", pos="1,2"];' for name in names]
+    return "\n".join(["strict graph {", "  node [shape=box];", *nodes, *(f'  "{a}" -- "{b}";' for a, b in links), "}", ""])
+
+
+@unittest.skipUnless(OVERLAY, "TAGZIRK_OVERLAY names no program")
+class Dumps(unittest.TestCase):
+    def test_each_format_gives_the_same_graph(self):
+        for count, links in (3, 1), (200, 700), (800, 4000):
+            names, pairs = some_overlay(count, links, count)
+            wanted = graph_file(names, pairs)
+            dumps = {"--views": views_of(names, pairs), "--edges": edges_of(pairs, count), "--dot": dot_of(names, pairs)}
+            for form, dump in dumps.items():
+                for words in ("import", form), ("import", form, "-"), ("import",):
+                    with self.subTest(count=count, words=words):
+                        self.assertEqual(overlay(*words, given=dump), (wanted, "", 0))
+
+    def test_names_come_back(self):
+        names, pairs = some_overlay(50, 60, 1)
+        text, _, _ = overlay("import", given=views_of(names, pairs))
+        printed, _, status = overlay("analyse", "--names", given=text)
+        self.assertEqual(status, 0)
+        report, *told = printed.splitlines()
+        cut = report.split(" cut ")[1].split()[0].split(",")
+        ids = dict(line[2:].split(" ", 1) for line in text.splitlines() if line.startswith("# "))
+        self.assertEqual([line for line in told if line.startswith("cut ")], [f"cut {it} {ids[it]}" for it in cut])
+
+    def test_the_graph_of_a_certificate_is_the_one_analysed(self):
+        names, pairs = some_overlay(40, 60, 2)
+        text, _, _ = overlay("import", "--edges", given=edges_of(pairs, 2))
+        printed, _, _ = overlay("analyse", "--certificate", given=text)
+        certificate = printed.splitlines()[-1]
+        bare = "".join(line for line in text.splitlines(True) if not line.startswith("#"))
+        self.assertEqual(overlay("graph", given=certificate), (bare, "", 0))
+        drawn, _, status = overlay("picture", "--dot", given=certificate)
+        self.assertEqual(status, 0)
+        again, _, status = overlay("import", "--dot", given=drawn)
+        self.assertEqual(status, 0)
+        wanted = graph_file([str(it) for it in range(1, 41)], [line.split()[1:] for line in bare.splitlines() if "link" in line])
+        self.assertEqual(again, wanted)
+
+
+@unittest.skipUnless(OVERLAY and networkx, "TAGZIRK_OVERLAY names no program, or there is no networkx")
+class Networkx(unittest.TestCase):
+    def test_edges_that_networkx_writes(self):
+        graph = networkx.random_regular_graph(4, 60, seed=3)
+        graph = networkx.relabel_nodes(graph, {it: f"host-{it}" for it in graph})
+        for data in True, False:
+            lines = "\n".join(networkx.generate_edgelist(graph, data=data)) + "\n"
+            self.assertEqual(overlay("import", given=lines), (graph_file(graph, graph.edges), "", 0))
+
+    def test_networkx_reads_the_picture(self):
+        try:
+            from networkx.drawing.nx_pydot import read_dot
+            import io
+            import pydot  # noqa: F401
+        except ImportError:
+            self.skipTest("there is no pydot")
+        graph = networkx.petersen_graph()
+        text = graph_file(map(str, graph), [(str(a), str(b)) for a, b in graph.edges])
+        printed, _, _ = overlay("analyse", "--certificate", given=text)
+        drawn, _, _ = overlay("picture", "--dot", given=printed.splitlines()[-1])
+        again = networkx.Graph(read_dot(io.StringIO(drawn)))
+        self.assertTrue(networkx.is_isomorphic(graph, again.subgraph([it for it in again if it.isdigit()])))
+
+
+if __name__ == "__main__":
+    unittest.main(argv=[sys.argv[0], *sys.argv[1:]])
