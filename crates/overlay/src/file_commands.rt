@@ -17,7 +17,7 @@ pub(crate) fn import_asked(
     ensures status { IfOk result (λ status. status ≡ 0) }
     ensures fault { IfErr result IsOfRequest }
 {
-    let bytes = bytes_asked(rt, file)?;
+    let bytes = bytes_asked(rt, file.as_deref())?;
     let mut sink = Sink::new(rt.stdout());
     print_dump(rt, &bytes, dump, &mut sink)?;
     Ok(0)
@@ -32,7 +32,7 @@ pub(crate) fn picture_asked(
     ensures status { IfOk result (λ status. status ≡ 0) }
     ensures fault { IfErr result IsOfRequest }
 {
-    let bytes = bytes_asked(rt, file)?;
+    let bytes = bytes_asked(rt, file.as_deref())?;
     let mut sink = Sink::new(rt.stdout());
     match &picture.names {
         None => print_picture(rt, &bytes, None, &picture, &mut sink)?,
@@ -49,7 +49,7 @@ pub(crate) fn graph_asked(rt: &HostRuntime, file: Option<String>) -> Result<u8, 
     ensures status { IfOk result (λ status. status ≡ 0) }
     ensures fault { IfErr result IsOfRequest }
 {
-    let bytes = bytes_asked(rt, file)?;
+    let bytes = bytes_asked(rt, file.as_deref())?;
     let mut sink = Sink::new(rt.stdout());
     print_graph(rt, &bytes, &mut sink)?;
     Ok(0)
