@@ -80,6 +80,18 @@ def names_in(graph):
     return {int(at): name for at, name in re.findall(r"(?m)^# (\d+) (.*)\nnode \1$", graph)}
 
 
+def sentence_of(said):
+    """What stands above a picture."""
+    if said["verdict"] == "linked":
+        return "Every two members are linked: no crash separates survivors"
+    near, far, cut = f"node {said['near']}", f"node {said['far']}", [str(it) for it in said["cut"]]
+    if not cut:
+        return f"N{near[1:]} is separated from {far} without any crash"
+    shown = [*cut[:6], f"{len(cut) - 6} more"] if len(cut) > 6 else cut
+    listed = " and ".join(filter(None, [", ".join(shown[:-1]), shown[-1]]))
+    return f"Crashing node{'s' * (len(cut) > 1)} {listed} separates {near} from {far}"
+
+
 # ---- what a picture shows
 
 
@@ -161,6 +173,7 @@ class Pictures(unittest.TestCase):
     def judge(self, text, said, names=None, paths=()):
         """A picture as SVG shows the certificate."""
         picture, names = Picture(text), names or {}
+        self.assertEqual(picture.top.find(f"{SVG}title").text, sentence_of(said))
         self.judge_nodes(picture, said, names)
         self.judge_sides(picture, said)
         self.judge_links(picture, said, paths)
