@@ -80,11 +80,12 @@ def names_in(graph):
     return {int(at): name for at, name in re.findall(r"(?m)^# (\d+) (.*)\nnode \1$", graph)}
 
 
-def sentence_of(said):
-    """What stands above a picture."""
+def sentence_of(said, names):
+    """What stands above a picture whose names are short."""
     if said["verdict"] == "linked":
         return "Every two members are linked: no crash separates survivors"
-    near, far, cut = f"node {said['near']}", f"node {said['far']}", [str(it) for it in said["cut"]]
+    near, far, *cut = (names.get(it, str(it)) for it in (said["near"], said["far"], *said["cut"]))
+    near, far = f"node {near}", f"node {far}"
     if not cut:
         return f"N{near[1:]} is separated from {far} without any crash"
     shown = [*cut[:6], f"{len(cut) - 6} more"] if len(cut) > 6 else cut
@@ -173,7 +174,7 @@ class Pictures(unittest.TestCase):
     def judge(self, text, said, names=None, paths=()):
         """A picture as SVG shows the certificate."""
         picture, names = Picture(text), names or {}
-        self.assertEqual(picture.top.find(f"{SVG}title").text, sentence_of(said))
+        self.assertEqual(picture.top.find(f"{SVG}title").text, sentence_of(said, names))
         self.judge_nodes(picture, said, names)
         self.judge_sides(picture, said)
         self.judge_links(picture, said, paths)
