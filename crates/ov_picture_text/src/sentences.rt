@@ -116,11 +116,7 @@ pub(crate) fn paths_of(
 }
 
 /// What the first node of a class is called.
-fn name_of_class<'a>(
-    nodes: &[DrawnNode],
-    labels: &'a Labels,
-    class: NodeClass,
-) -> Option<&'a str> {
+fn name_of_class<'a>(nodes: &[DrawnNode], labels: &'a Labels, class: NodeClass) -> Option<&'a str> {
     match nodes.iter().position(|node| node.class == class) {
         Some(at) => Some(labels.called(at)),
         None => None,

@@ -1,5 +1,5 @@
-use crate::geometry::number;
 use crate::escaped_texts::push_xml;
+use crate::geometry::number;
 use crate::labels::Labels;
 use crate::layout::{Layout, layout_of};
 use crate::sentences::{counts_of, first_of, paths_of, sentence_of};
@@ -101,7 +101,10 @@ fn push_head(
         "<rect class=\"ground\" width=\"100%\" height=\"100%\"/>\n<text class=\"heading\" x=\"{EDGE}\" y=\"36\">"
     )?;
     push_xml(text, sentence.as_str())?;
-    write!(text, "</text>\n<text x=\"{EDGE}\" y=\"60\">{counts}</text>\n")?;
+    write!(
+        text,
+        "</text>\n<text x=\"{EDGE}\" y=\"60\">{counts}</text>\n"
+    )?;
     push_paths(text, paths.as_deref())
 }
 
