@@ -6,9 +6,7 @@ ghost use Rattle.ov_even.specs.Faults.{GroupJudged};
 ghost use Rattle.ov_even.specs.declared.fault.AnalyseFault.TheVariants.{OutOfMemory as out_of_memory};
 ghost use Rattle.ov_graphfile.specs.GraphFiles.{IsGraphFile};
 ghost use Rattle.ov_run.specs.Code.Writing.{IsTextFault};
-ghost use Rattle.ov_run.specs.Faults.{fault_of_graph_file};
 ghost use Rattle.ov_run.specs.Printed.{file_text, refused_line, report_line};
-ghost use Rattle.ov_run.specs.Subjects.{members_of};
 ghost use Rattle.ov_run.specs.declared.answered.Answered.TheVariants as answered;
 ghost use Rattle.ov_answers.specs.Telling.{IsToldOf, IsTelling, TellsAnswer, TellsReport, AreLinesBetween};
 ghost use Rattle.ov_answers.specs.Telling.{answered_of};
@@ -19,15 +17,15 @@ use crate::name_lines::write_lines;
 use crate::request::{Request, Told};
 use crate::sentences::explanation;
 use ov_cert::{Cert, Checked};
-use ov_certfile::{CertText, to_text_group};
+use ov_certfile::to_text_group;
 use ov_crew::{OpenGate, analyse_group_watched, outline_group_watched};
 use ov_even::{AnalyseFault, Watcher};
 use ov_graph::Graph;
-use ov_graphfile::{GraphFileFault, UnreadLine, read_graph};
+use ov_graphfile::read_graph;
 use ov_ids::{NodeId, OutOfMemory};
 use ov_io::Sink;
 use ov_names::{Names, read_names};
-use ov_run::{Answered, RunFault, refused_line};
+use ov_run::{Answered, RunFault, cert_line, members_of, refused_line};
 use std::alloc::Global;
 use std::io::Write;
 use std::thread::Threads;
@@ -108,31 +106,7 @@ fn graph_of(alloc: Global, bytes: &[u8]) -> Result<Graph, RunFault>
 {
     match read_graph(alloc, bytes) {
         Ok(graph) => Ok(graph),
-        Err(fault) => Err(run_fault(&fault)),
-    }
-}
-
-/// The fault of an analysis by the fault of its graph file.
-fn run_fault(fault: &GraphFileFault) -> RunFault
-    ensures { result ≡ fault_of_graph_file fault.now }
-{
-    match fault {
-        GraphFileFault::Line(UnreadLine { line, .. }) => RunFault::Line(*line),
-        GraphFileFault::Graph { fault, line } => RunFault::Graph {
-            fault: *fault,
-            line: *line,
-        },
-        GraphFileFault::OutOfMemory => RunFault::OutOfMemory,
-    }
-}
-
-/// The group that is asked for, or all nodes of the graph.
-fn members_of<'a>(group: Option<&'a [NodeId]>, graph: &'a Graph) -> &'a [NodeId]
-    ensures { result.now ≡ members_of (option_map (λ ids. ids.now) group.entry) graph.now }
-{
-    match group {
-        Some(ids) => ids,
-        None => graph.nodes(),
+        Err(fault) => Err(RunFault::of_graph_file(&fault)),
     }
 }
 
@@ -297,21 +271,6 @@ fn asked_explanation(
         return Ok(Some(explanation(alloc, graph, group, cert, names)?));
     }
     Ok(None)
-}
-
-/// The line of a report of this moment and this certificate.
-#[tactic(auto, unfolding(ov_run::specs::Printed::report_line))]
-fn cert_line(
-    alloc: Global,
-    moment: u32,
-    cert: &Cert,
-    graph: &Graph,
-    group: &[NodeId],
-) -> Result<String, OutOfMemory>
-    ensures { IfOk result (λ line. string_bytes line ≡ report_line moment cert.now graph.now group.now) }
-{
-    let claim = CertText { cert, graph, group };
-    Ok(format!(in alloc; "report {moment} {claim}\n")?)
 }
 
 /// What is told of an analysis of this graph and this group, which ended with this report or this refusal.

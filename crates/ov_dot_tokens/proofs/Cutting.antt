@@ -101,7 +101,7 @@ pub some_bytes : (n : ℕ) (text : List ℕ) → IsLongest is_piece n text → 0
 some_bytes zero text it = let whole : false ≡ true = it.passes in absurd cc
 some_bytes (suc n) text it = omega arith
 
--- the longest front that is a piece is the first piece
+-- the longest prefix that is a piece is the first piece
 first_piece : (n : ℕ) (text : List ℕ) → IsLongest is_piece n text → IsFirstPiece (take n text) text (drop n text)
 first_piece n text it = record {
   parts = sym (take-append-drop n text);

@@ -4,11 +4,11 @@ use Rattle.std.proofs.Common.{length, take, drop}
 use Rattle.std.proofs.Common.{refl, sym, ap, subst, arith, length-append, ⊎_elim}
 use Rattle.std.proofs.Math.Seq.{take-append_seam, drop-append_seam}
 use Rattle.std.proofs.str.Laws.{order}
-use Rattle.ov_dot_tokens.specs.Pieces.{is_piece, HasNoFront, IsFirstPiece, IsCut}
+use Rattle.ov_dot_tokens.specs.Pieces.{is_piece, HasNoPrefix, IsFirstPiece, IsCut}
 use Rattle.ov_dot_tokens.specs.Tokens.{Lexeme, HasTokens, HasNoTokensFrom, tokens_from, behind_feed}
 
-front : (p text b : List ℕ) → IsFirstPiece p text b → take (length p) text ≡ p
-front p text b it = ap (take (length p)) it.parts ∙ take-append_seam p b
+prefix : (p text b : List ℕ) → IsFirstPiece p text b → take (length p) text ≡ p
+prefix p text b it = ap (take (length p)) it.parts ∙ take-append_seam p b
 
 back : (p text b : List ℕ) → IsFirstPiece p text b → drop (length p) text ≡ b
 back p text b it = ap (drop (length p)) it.parts ∙ drop-append_seam p b
@@ -16,16 +16,16 @@ back p text b it = ap (drop (length p)) it.parts ∙ drop-append_seam p b
 fits : (p text b : List ℕ) → IsFirstPiece p text b → length p ≤ length text
 fits p text b it = omega (arith, ap length it.parts, length-append p b)
 
-no_first : (q text b : List ℕ) → IsFirstPiece q text b → HasNoFront is_piece text → ⊥
+no_first : (q text b : List ℕ) → IsFirstPiece q text b → HasNoPrefix is_piece text → ⊥
 no_first q text b it none =
-    let both : true ≡ false = sym it.whole ∙ ap is_piece (sym (front q text b it))
+    let both : true ≡ false = sym it.whole ∙ ap is_piece (sym (prefix q text b it))
     ∙ none (length q) (fits q text b it) in
     cc
 
 not_shorter : (p q text b d : List ℕ) → IsFirstPiece p text b → IsFirstPiece q text d → length p < length q → ⊥
 not_shorter p q text b d first other less =
     let both : true ≡ false =
-    sym other.whole ∙ ap is_piece (sym (front q text d other))
+    sym other.whole ∙ ap is_piece (sym (prefix q text d other))
     ∙ first.longest (length q) less (fits q text d other) in
     cc
 
@@ -38,7 +38,7 @@ same_length p q text b d first other =
 
 same_piece : (p q text b d : List ℕ) → IsFirstPiece p text b → IsFirstPiece q text d → p ≡ q
 same_piece p q text b d first other =
-    sym (front p text b first) ∙ ap (λ n. take n text) (same_length p q text b d first other) ∙ front q text d other
+    sym (prefix p text b first) ∙ ap (λ n. take n text) (same_length p q text b d first other) ∙ prefix q text d other
 
 same_rest : (p q text b d : List ℕ) → IsFirstPiece p text b → IsFirstPiece q text d → b ≡ d
 same_rest p q text b d first other =
@@ -46,21 +46,21 @@ same_rest p q text b d first other =
 
 -- two ways to cut a text, each up to a rest that begins with no piece
 one_cut :
-    (ps qs : List (List ℕ)) (text r s : List ℕ) → IsCut ps text r → IsCut qs text s → HasNoFront is_piece r
-    → HasNoFront is_piece s
+    (ps qs : List (List ℕ)) (text r s : List ℕ) → IsCut ps text r → IsCut qs text s → HasNoPrefix is_piece r
+    → HasNoPrefix is_piece s
     → (ps ≡ qs) × (r ≡ s)
 one_cut [] [] text r s cut other none nor = (refl, sym cut ∙ other)
 one_cut [] (q ∷ qs) text r s cut other none nor =
-    absurd (no_first q text other.0 other.1 (subst (HasNoFront is_piece) (sym cut) none))
+    absurd (no_first q text other.0 other.1 (subst (HasNoPrefix is_piece) (sym cut) none))
 one_cut (p ∷ ps) [] text r s cut other none nor =
-    absurd (no_first p text cut.0 cut.1 (subst (HasNoFront is_piece) (sym other) nor))
+    absurd (no_first p text cut.0 cut.1 (subst (HasNoPrefix is_piece) (sym other) nor))
 one_cut (p ∷ ps) (q ∷ qs) text r s cut other none nor =
     let first = same_piece p q text cut.0 other.0 cut.1 other.1 in
     let rest = same_rest p q text cut.0 other.0 cut.1 other.1 in
     let later = one_cut ps qs other.0 r s (subst (λ t. IsCut ps t r) rest cut.2) other.2 none nor in
     ((λ i. first i ∷ later.0 i), later.1)
 
-none_left : HasNoFront is_piece []
+none_left : HasNoPrefix is_piece []
 none_left zero within = refl
 none_left (suc k) within = absurd (omega arith)
 

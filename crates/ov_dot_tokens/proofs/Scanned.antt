@@ -1,40 +1,40 @@
--- What a scan finds is the longest front that is a piece, or there is none.
+-- What a scan finds is the longest prefix that is a piece, or there is none.
 use Rattle.std.proofs.Common.{◌≡◌, ◌∙◌, ◌+◌, ◌<◌, ◌≤◌, ℕ, zero, suc, Bool, true, false, List, [], ◌∷◌, Option, Some}
 use Rattle.std.proofs.Common.{None, ◌⊎◌}
 use Rattle.std.proofs.Common.{length, take, inl, inr, refl, sym, ap, subst, arith, add-zero}
 use Rattle.std.specs.Prelude.{if◌then◌else◌, MatchOption, unwrap_or}
 use Rattle.ov_dot_tokens.specs.declared.piece_scanning.Place.{Place}
 use Rattle.ov_dot_tokens.specs.declared.piece_scanning.Place.TheVariants.{Start, LineFeed}
-use Rattle.ov_dot_tokens.specs.Pieces.{HasNoFront, IsLongest, is_piece, is_feed_rest}
+use Rattle.ov_dot_tokens.specs.Pieces.{HasNoPrefix, IsLongest, is_piece, is_feed_rest}
 use Rattle.ov_dot_tokens.specs.Code.Scanning.{accepts, after, is_whole, marked, longest_from}
 use Rattle.ov_dot_tokens.proofs.Accepted.{in_piece, behind_feed}
 
 -- what a scan from a place answers, where it had this one before
 abbrev Found : ℕ → Option Place → List ℕ → Option ℕ → Option ℕ → Type 0
 Found n place bs so_far answer =
-    (HasNoFront (accepts place) bs × (answer ≡ so_far))
+    (HasNoPrefix (accepts place) bs × (answer ≡ so_far))
     ⊎ ((m : ℕ) × IsLongest (accepts place) m bs × (answer ≡ Some (n + m)))
 
--- no front of nothing passes
-none_empty : (test : List ℕ → Bool) → test [] ≡ false → HasNoFront test []
+-- no prefix of nothing passes
+none_empty : (test : List ℕ → Bool) → test [] ≡ false → HasNoPrefix test []
 none_empty test fails zero within = fails
 none_empty test fails (suc k) within = absurd (omega arith)
 
--- no front passes from a place at which no piece ends
+-- no prefix passes from a place at which no piece ends
 none_more :
-    (place : Place) (b : ℕ) (bs : List ℕ) → is_whole place ≡ false → HasNoFront (accepts (after place b)) bs
-    → HasNoFront (accepts (Some place)) (b ∷ bs)
+    (place : Place) (b : ℕ) (bs : List ℕ) → is_whole place ≡ false → HasNoPrefix (accepts (after place b)) bs
+    → HasNoPrefix (accepts (Some place)) (b ∷ bs)
 none_more place b bs unended none zero within = unended
 none_more place b bs unended none (suc k) within = none k (omega arith)
 
--- only the empty front passes
+-- only the empty prefix passes
 only_empty :
-    (place : Place) (b : ℕ) (bs : List ℕ) → HasNoFront (accepts (after place b)) bs
+    (place : Place) (b : ℕ) (bs : List ℕ) → HasNoPrefix (accepts (after place b)) bs
     → (k : ℕ) → 0 < k → k ≤ length (b ∷ bs) → accepts (Some place) (take k (b ∷ bs)) ≡ false
 only_empty place b bs none zero more within = absurd (omega arith)
 only_empty place b bs none (suc k) more within = none k (omega arith)
 
--- a front with one byte more before it
+-- a prefix with one byte more before it
 longer :
     (place : Place) (b : ℕ) (bs : List ℕ) (m : ℕ) → IsLongest (accepts (after place b)) m bs
     → (k : ℕ) → suc m < k → k ≤ length (b ∷ bs) → accepts (Some place) (take k (b ∷ bs)) ≡ false
@@ -92,7 +92,7 @@ found n (Some place) (b ∷ bs) so_far =
 
 -- two tests that answer alike
 none_alike :
-    (p q : List ℕ → Bool) (text : List ℕ) → ((bs : List ℕ) → p bs ≡ q bs) → HasNoFront p text → HasNoFront q text
+    (p q : List ℕ → Bool) (text : List ℕ) → ((bs : List ℕ) → p bs ≡ q bs) → HasNoPrefix p text → HasNoPrefix q text
 none_alike p q text alike none k within = sym (alike (take k text)) ∙ none k within
 
 longest_alike :
@@ -107,7 +107,7 @@ longest_alike p q n text alike it = record {
 from_found :
     (p : List ℕ → Bool) (place : Option Place) (text : List ℕ) (answer : Option ℕ) → ((bs : List ℕ)
     → accepts place bs ≡ p bs)
-    → Found 0 place text None answer → MatchOption answer (HasNoFront p text) (λ n. IsLongest p n text)
+    → Found 0 place text None answer → MatchOption answer (HasNoPrefix p text) (λ n. IsLongest p n text)
 from_found p place text None alike (inl (none, is)) = none_alike (accepts place) p text alike none
 from_found p place text None alike (inr (m, it, is)) = absurd cc
 from_found p place text (Some n) alike (inl (none, is)) = absurd cc
@@ -119,7 +119,7 @@ from_found p place text (Some n) alike (inr (m, it, is)) =
 -- the first piece of a text
 pub piece_found :
     (text : List ℕ) (answer : Option ℕ) → answer ≡ longest_from 0 (Some Start) text None
-    → MatchOption answer (HasNoFront is_piece text) (λ n. IsLongest is_piece n text)
+    → MatchOption answer (HasNoPrefix is_piece text) (λ n. IsLongest is_piece n text)
 piece_found text answer is =
     from_found is_piece (Some Start) text answer in_piece (subst (Found 0 (Some Start) text None) (sym is) (found 0
     (Some Start) text None))

@@ -107,15 +107,15 @@ is_piece (b ∷ bs) =
     else (if is_letter b then list_all is_word_byte bs
     else is_decimal (b ∷ bs))))))))
 
--- the front of this length is the longest one that passes the test
+-- the prefix of this length is the longest one that passes the test
 pub record IsLongest (test : List ℕ → Bool) (n : ℕ) (text : List ℕ) : Type 0 where
   pub within : n ≤ length text
   pub passes : test (take n text) ≡ true
   pub longer_fail : (k : ℕ) → n < k → k ≤ length text → test (take k text) ≡ false
 
--- no front passes the test
-abbrev pub HasNoFront : (List ℕ → Bool) → List ℕ → Type 0
-HasNoFront test text = (k : ℕ) → k ≤ length text → test (take k text) ≡ false
+-- no prefix passes the test
+abbrev pub HasNoPrefix : (List ℕ → Bool) → List ℕ → Type 0
+HasNoPrefix test text = (k : ℕ) → k ≤ length text → test (take k text) ≡ false
 
 -- a text begins with a piece, as long as it can be, and then comes what is behind it
 pub record IsFirstPiece (piece text behind : List ℕ) : Type 0 where

@@ -10,7 +10,7 @@ use Rattle.ov_dot_tokens.specs.declared.token.Kind.TheVariants.{Quoted}
 use Rattle.ov_dot_tokens.specs.declared.token.Kind.TheVariants.{Html, OpenBrace, CloseBrace, OpenBracket, CloseBracket}
 use Rattle.ov_dot_tokens.specs.declared.token.Kind.TheVariants.{Semicolon, Comma, Equals, Colon, Line, Arrow}
 use Rattle.ov_dot_tokens.specs.declared.token.Token.{Token}
-use Rattle.ov_dot_tokens.specs.Pieces.{line_feed, is_blank, IsCut, HasNoFront, is_piece}
+use Rattle.ov_dot_tokens.specs.Pieces.{line_feed, is_blank, IsCut, HasNoPrefix, is_piece}
 
 -- a token without where it lies in memory: the line where it begins, its kind, and its bytes
 pub record Lexeme : Type 0 where
@@ -93,10 +93,10 @@ abbrev pub HasTokens : List ℕ → List Lexeme → Type 0
 HasTokens text tokens =
     (pieces : List (List ℕ)) × IsCut pieces (behind_feed text) [] × (tokens ≡ tokens_from 0 pieces)
 
--- a text has no tokens from this line on: behind its first pieces, in this line, some bytes are left, and no front of
+-- a text has no tokens from this line on: behind its first pieces, in this line, some bytes are left, and no prefix of
 -- them is a piece
 abbrev pub HasNoTokensFrom : List ℕ → ℕ → Type 0
 HasNoTokensFrom text line =
     (pieces : List (List ℕ)) × (rest : List ℕ)
-    × IsCut pieces (behind_feed text) rest × (0 < length rest) × HasNoFront is_piece rest
+    × IsCut pieces (behind_feed text) rest × (0 < length rest) × HasNoPrefix is_piece rest
     × (line ≡ line_behind 0 pieces)

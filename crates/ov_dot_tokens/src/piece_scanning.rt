@@ -1,6 +1,6 @@
 ghost use Rattle.std.specs.Prelude.{◌≡◌, ◌-◌, ◌<◌, ◌^◌, MatchOption};
 ghost use Rattle.ov_dot_tokens.specs.Pieces.{is_letter, is_word_byte, is_feed_rest, is_piece};
-ghost use Rattle.ov_dot_tokens.specs.Pieces.{HasNoFront, IsLongest};
+ghost use Rattle.ov_dot_tokens.specs.Pieces.{HasNoPrefix, IsLongest};
 ghost use Rattle.ov_dot_tokens.specs.Code.Scanning.{after, first_place, decimal_place, is_whole, marked, open_at};
 ghost use Rattle.ov_dot_tokens.specs.Code.Scanning.{longest_from};
 
@@ -204,7 +204,7 @@ fn is_word_byte(byte: u8) -> bool
 /// How many bytes the longest piece has with which a text begins. None is returned if it begins with no piece.
 #[tactic(auto, using(crate::proofs::Scanned::piece_found))]
 pub(crate) fn piece_len(text: &[u8]) -> Option<usize>
-    ensures { MatchOption result (HasNoFront is_piece text.now) (λ n. IsLongest is_piece n text.now) }
+    ensures { MatchOption result (HasNoPrefix is_piece text.now) (λ n. IsLongest is_piece n text.now) }
 {
     longest_from(Place::Start, text)
 }
@@ -217,7 +217,7 @@ pub(crate) fn comment_len(text: &[u8]) -> usize
     longest_from(Place::LineFeed, text).unwrap_or(0)
 }
 
-/// The length of the longest front of a text by which a piece goes on from a place, and may end.
+/// The length of the longest prefix of a text by which a piece goes on from a place, and may end.
 #[tactic(auto, unfolding(crate::specs::Code::Scanning::longest_from))]
 fn longest_from(start: Place, text: &[u8]) -> Option<usize>
     requires { open_at start ≡ 0 }

@@ -1,3 +1,5 @@
 pub mod Faults
 pub mod Printing
+pub mod Pictures
 pub mod Dumps
+pub mod Code

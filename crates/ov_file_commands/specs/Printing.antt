@@ -1,7 +1,6 @@
 -- What the commands print that turn one file into another.
 use Rattle.std.specs.Prelude.{◌≡◌, ℕ, List, Option, Result, Ok, Err}
 use Rattle.std.specs.Io.KnownBytes.{Appends}
-use Rattle.ov_cert.specs.Valid.{IsValidForGroup}
 use Rattle.ov_certfile.specs.Number.{number_of}
 use Rattle.ov_certfile.specs.declared.fault.FileFault.{FileFault}
 use Rattle.ov_certfile.specs.declared.reading.Filed.{Filed}
@@ -10,10 +9,6 @@ use Rattle.ov_graph_text.specs.GraphTexts.{graph_text}
 use Rattle.ov_io.specs.Device.{AppendsPrefixOf}
 use Rattle.ov_file_commands.specs.declared.file_command_fault.FileCommandFault.{FileCommandFault}
 use Rattle.ov_file_commands.specs.declared.file_command_fault.FileCommandFault.TheVariants.{Refused, Write, OutOfMemory}
-
--- these bytes are this certificate file, and its certificate is valid for its group
-abbrev pub IsHeld : List ℕ → Filed → Type 0
-IsHeld bytes f = BytesSay bytes (Ok f) × IsValidForGroup f.graph f.group f.cert
 
 -- these bytes are a certificate file, and this is the text of its graph as a graph file
 abbrev pub IsGraphTextOf : List ℕ → List ℕ → Type 0

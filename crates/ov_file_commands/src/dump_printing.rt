@@ -149,7 +149,9 @@ fn tell_refusal(rt: &HostRuntime, refusal: &DumpFault, place: &str) {
         DumpFault::ListsItself { at, name } => eprintln!(rt; "{place} {at}: {name} lists itself"),
         DumpFault::EmptyName { at } => eprintln!(rt; "{place} {at}: a name is empty"),
         DumpFault::TooManyNodes { at, name } => {
-            eprintln!(rt; "{place} {at}: {name} is one name too many, since a graph may have 1024 nodes at most")
+            eprintln!(rt;
+                "{place} {at}: {name} is one name too many, since a graph may have 1024 nodes at most"
+            )
         }
         DumpFault::OutOfMemory => eprintln!(rt; "out of memory"),
     };

@@ -1,9 +1,9 @@
-ghost use Rattle.std.specs.Prelude.{◌≡◌, ◌≢◌, ◌<◌, ◌⊎◌, Ok, Err, IfOk, IfErr, MatchResult};
+ghost use Rattle.std.specs.Prelude.{◌≡◌, ◌≢◌, ◌<◌};
 ghost use Rattle.ov_certfile.specs.Number.{number_of};
 ghost use Rattle.ov_certfile.specs.declared.fault.FileFault.TheVariants.{OutOfMemory as no_memory};
-ghost use Rattle.ov_check.specs.Outcome.{BytesSay, IsRefused};
 ghost use Rattle.ov_io.specs.Device.{most_faults};
 ghost use Rattle.ov_file_commands.specs.Printing.{WasGraphPrinted};
+ghost use Rattle.ov_file_commands.specs.Code.Endings.{WasWritten};
 ghost use Rattle.ov_file_commands.specs.declared.file_command_fault.FileCommandFault.TheVariants.{OutOfMemory as out_of_memory, Refused};
 
 use crate::file_command_fault::FileCommandFault;
@@ -29,18 +29,30 @@ pub fn print_graph<W: Write>(
 {
     match filed_in(rt.alloc(), bytes) {
         Ok(filed) => match graph_text(rt.alloc(), &filed.graph) {
-            Ok(text) => match sink.write_all(&text) {
-                Ok(()) => Ok(()),
-                Err(_) => Err(told(rt, FileCommandFault::Write)),
-            },
+            Ok(text) => written(rt, &text, sink),
             Err(_) => Err(told(rt, FileCommandFault::OutOfMemory)),
         },
         Err(refusal) => Err(no_certificate_file(rt, refusal)),
     }
 }
 
+/// Writes a text. If that fails, prints it.
+pub(crate) fn written<W: Write>(
+    rt: &HostRuntime,
+    text: &[u8],
+    sink: &mut Sink<W>,
+) -> Result<(), FileCommandFault>
+    requires { sink.old.faults < most_faults }
+    ensures { WasWritten text.now W.contents sink.old.writer sink.new.writer result }
+{
+    match sink.write_all(text) {
+        Ok(()) => Ok(()),
+        Err(_) => Err(told(rt, FileCommandFault::Write)),
+    }
+}
+
 /// Ends since bytes are no certificate file. Prints why.
-pub(crate) fn no_certificate_file(rt: &HostRuntime, refusal: Refusal) -> FileCommandFault
+fn no_certificate_file(rt: &HostRuntime, refusal: Refusal) -> FileCommandFault
     ensures memory { refusal.fault ≡ no_memory → result ≡ out_of_memory }
     ensures number { refusal.fault ≢ no_memory → result ≡ Refused (number_of refusal.fault) }
 {

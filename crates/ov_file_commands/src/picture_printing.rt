@@ -1,19 +1,22 @@
-ghost use Rattle.std.specs.Prelude.{◌≡◌, ◌<◌, IfOk, OnOk};
-ghost use Rattle.ov_check.specs.Outcome.{BytesSay, SaysExactNumber};
+ghost use Rattle.std.specs.Prelude.{◌≡◌, ◌<◌, option_map, Some, MatchResult, OnOk};
+ghost use Rattle.ov_check.specs.Outcome.{SaysExactNumber, IsOutcome};
+ghost use Rattle.ov_check.specs.declared.outcome.Outcome.TheVariants.{Holds};
 ghost use Rattle.ov_io.specs.Device.{most_faults};
-ghost use Rattle.ov_file_commands.specs.Printing.{IsHeld};
+ghost use Rattle.ov_file_commands.specs.Pictures.{WasPicturePrinted, NamesGraph, chosen_entry, outcome_number};
+ghost use Rattle.ov_file_commands.specs.Code.Endings.{IsNotHeld, IsNotNamed};
+ghost use Rattle.ov_file_commands.specs.declared.file_command_fault.FileCommandFault.TheVariants as ended;
 
 use crate::file_command_fault::FileCommandFault;
-use crate::graph_printing::told;
+use crate::graph_printing::{told, written};
 use ov_arguments::{AskedEntry, PictureRequest};
 use ov_certfile::Filed;
 use ov_check::{Outcome, outcome_of};
 use ov_check_reasons::reasons;
 use ov_graph::Graph;
-use ov_graphfile::read_graph;
+use ov_graphfile::{GraphFileFault, read_graph};
 use ov_ids::OutOfMemory;
 use ov_io::Sink;
-use ov_names::{Names, read_names};
+use ov_names::read_names;
 use ov_picture::{ChosenEntry, Drawing, PictureFault, draw};
 use ov_picture_text::{dot, svg};
 use std::alloc::Global;
@@ -27,8 +30,8 @@ const OTHER_GRAPH: u32 = 87;
 /// why.
 ///
 /// `Refused` has the number of the first fault of the bytes as a certificate file (60 to 64, 31 to 33) or of its
-/// certificate (40 to 49), that of the graph file with the names (70, 31 to 33, or 87 if it says another graph), or that
-/// of an entry that the certificate does not have (86). `Write` (72): the writer failed. `OutOfMemory` (99): an
+/// certificate (40 to 49), that of an entry that the certificate does not have (86), or that of the graph file with the
+/// names (70, 31 to 33, or 87 if it says another graph). `Write` (72): the writer failed. `OutOfMemory` (99): an
 /// allocation was refused.
 pub fn print_picture<W: Write>(
     rt: &HostRuntime,
@@ -39,28 +42,29 @@ pub fn print_picture<W: Write>(
 ) -> Result<(), FileCommandFault>
     requires { sink.old.faults < most_faults }
     ensures holds { OnOk result (SaysExactNumber bytes.now) }
+    ensures printed { WasPicturePrinted bytes.now (option_map (λ file. file.now) names.entry) (chosen_entry request.now.entry)
+        W.contents sink.old.writer sink.new.writer result }
 {
     let filed = held(rt, bytes)?;
-    let drawing = match draw(rt.alloc(), &filed.graph, &filed.cert, chosen(request.entry)) {
+    let drawing = match draw(
+        rt.alloc(),
+        &filed.graph,
+        &filed.cert,
+        chosen(&request.entry),
+    ) {
         Ok(drawing) => drawing,
         Err(fault) => return Err(not_drawn(rt, fault)),
     };
-    let text = match names {
-        None => text_of(rt.alloc(), &drawing, &[], request.dot),
-        Some(file) => named_text(rt, &filed.graph, &drawing, file, request.dot)?,
-    };
-    let Ok(text) = text else {
-        return Err(told(rt, FileCommandFault::OutOfMemory));
-    };
-    match sink.write_all(text.as_bytes()) {
-        Ok(()) => Ok(()),
-        Err(_) => Err(told(rt, FileCommandFault::Write)),
+    match picture_text(rt, &filed.graph, &drawing, names, request.dot) {
+        Ok(text) => written(rt, text.as_bytes(), sink),
+        Err(fault) => Err(fault),
     }
 }
 
 /// The certificate file in these bytes, if its certificate holds. Else prints why not.
 fn held(rt: &HostRuntime, bytes: &[u8]) -> Result<Filed, FileCommandFault>
-    ensures { IfOk result (λ filed. IsHeld bytes.now filed) }
+    ensures held { MatchResult result (λ filed. IsOutcome bytes.now (Holds filed)) (IsNotHeld bytes.now) }
+    ensures exact { OnOk result (SaysExactNumber bytes.now) }
 {
     match outcome_of(rt.alloc(), bytes) {
         Ok(Outcome::Holds(filed)) => Ok(filed),
@@ -70,7 +74,9 @@ fn held(rt: &HostRuntime, bytes: &[u8]) -> Result<Filed, FileCommandFault>
 }
 
 /// Ends since no certificate holds. Prints the line of the outcome, as `overlay-check` does, and why.
-fn not_held(rt: &HostRuntime, outcome: &Outcome) -> FileCommandFault {
+fn not_held(rt: &HostRuntime, outcome: &Outcome) -> FileCommandFault
+    ensures { result ≡ ended.Refused (outcome_number outcome.now) }
+{
     let number = match outcome {
         Outcome::Holds(_) => 0,
         Outcome::Fails { fault, .. } => fault.number(),
@@ -84,59 +90,94 @@ fn not_held(rt: &HostRuntime, outcome: &Outcome) -> FileCommandFault {
 }
 
 /// The entry whose paths are drawn.
-fn chosen(entry: Option<AskedEntry>) -> Option<ChosenEntry> {
+fn chosen(entry: &Option<AskedEntry>) -> Option<ChosenEntry>
+    ensures { result ≡ chosen_entry entry.now }
+{
     match entry {
         None => None,
-        Some(AskedEntry::Pair { i, j }) => Some(ChosenEntry::Pair { i, j }),
-        Some(AskedEntry::Fan { j }) => Some(ChosenEntry::Fan { j }),
+        Some(AskedEntry::Pair { i, j }) => Some(ChosenEntry::Pair { i: *i, j: *j }),
+        Some(AskedEntry::Fan { j }) => Some(ChosenEntry::Fan { j: *j }),
     }
 }
 
 /// Ends since nothing is drawn. Prints why.
-fn not_drawn(rt: &HostRuntime, fault: PictureFault) -> FileCommandFault {
+fn not_drawn(rt: &HostRuntime, fault: PictureFault) -> FileCommandFault
+    ensures memory { fault ≡ PictureFault.OutOfMemory → result ≡ ended.OutOfMemory }
+    ensures entry { fault ≡ PictureFault.NoSuchEntry → result ≡ ended.Refused 86 }
+{
     match fault {
         PictureFault::OutOfMemory => told(rt, FileCommandFault::OutOfMemory),
-        PictureFault::NoSuchEntry => refused(rt, fault.number(), "the certificate has no such entry"),
+        PictureFault::NoSuchEntry => refused(
+            rt,
+            fault.number(),
+            "the certificate has no such entry",
+        ),
     }
 }
 
 /// Ends with this number. Prints it, and why.
-fn refused(rt: &HostRuntime, number: u32, why: &str) -> FileCommandFault {
+fn refused(rt: &HostRuntime, number: u32, why: &str) -> FileCommandFault
+    ensures { result ≡ ended.Refused number }
+{
     let ended = FileCommandFault::Refused { number };
     let _ = eprintln!(rt; "{ended}\n{why}");
     ended
 }
 
-/// The picture, with the names that a graph file gives the nodes.
-fn named_text(
+/// The text of the picture, with the names that a graph file gives the nodes, if there is one.
+fn picture_text(
     rt: &HostRuntime,
+    graph: &Graph,
+    drawing: &Drawing,
+    names: Option<&[u8]>,
+    is_dot: bool,
+) -> Result<String, FileCommandFault>
+    ensures { MatchResult result (λ text. NamesGraph (option_map (λ file. file.now) names.entry) graph.now)
+        (IsNotNamed (option_map (λ file. file.now) names.entry) graph.now) }
+{
+    let text = match names {
+        None => text_of(rt.alloc(), drawing, &[], is_dot),
+        Some(file) => {
+            same_graph(rt, graph, file)?;
+            named_text(rt.alloc(), graph, drawing, file, is_dot)
+        }
+    };
+    match text {
+        Ok(text) => Ok(text),
+        Err(_) => Err(told(rt, FileCommandFault::OutOfMemory)),
+    }
+}
+
+/// Ends if a file with names is no graph file, or says another graph. Prints why.
+fn same_graph(rt: &HostRuntime, graph: &Graph, file: &[u8]) -> Result<(), FileCommandFault>
+    ensures { MatchResult result (λ _. NamesGraph (Some file.now) graph.now) (IsNotNamed (Some file.now) graph.now) }
+{
+    match read_graph(rt.alloc(), file) {
+        Ok(other) => {
+            if other.is_same(graph) {
+                return Ok(());
+            }
+            let why = "the graph file with the names says another graph than the certificate";
+            Err(refused(rt, OTHER_GRAPH, why))
+        }
+        Err(GraphFileFault::OutOfMemory) => Err(told(rt, FileCommandFault::OutOfMemory)),
+        Err(fault) => Err(refused(
+            rt,
+            fault.number(),
+            "the file with the names is no graph file",
+        )),
+    }
+}
+
+/// The picture, with the names that this graph file gives the nodes. A name that is no UTF-8 is left out.
+fn named_text(
+    alloc: Global,
     graph: &Graph,
     drawing: &Drawing,
     file: &[u8],
     is_dot: bool,
-) -> Result<Result<String, OutOfMemory>, FileCommandFault> {
-    match read_graph(rt.alloc(), file) {
-        Ok(other) if other.is_same(graph) => {}
-        Ok(_) => {
-            let why = "the graph file with the names says another graph than the certificate";
-            return Err(refused(rt, OTHER_GRAPH, why));
-        }
-        Err(fault) => return Err(refused(rt, fault.number(), "the file with the names is no graph file")),
-    }
-    Ok(match read_names(rt.alloc(), graph, file) {
-        Ok(names) => text_with_names(rt.alloc(), graph, drawing, &names, is_dot),
-        Err(_) => Err(OutOfMemory),
-    })
-}
-
-/// The picture, with these names. A name that is no UTF-8 is left out.
-fn text_with_names(
-    alloc: Global,
-    graph: &Graph,
-    drawing: &Drawing,
-    names: &Names<'_>,
-    is_dot: bool,
 ) -> Result<String, OutOfMemory> {
+    let names = read_names(alloc, graph, file)?;
     let mut labels = Vec::new(alloc);
     for node in graph.nodes() {
         labels.push(match names.name(*node) {

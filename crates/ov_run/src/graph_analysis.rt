@@ -125,7 +125,7 @@ fn graph_of(alloc: Global, bytes: &[u8]) -> Result<Graph, RunFault>
 }
 
 /// The group that is asked for, or all nodes of the graph.
-pub(crate) fn members_of<'a>(group: Option<&'a [NodeId]>, graph: &'a Graph) -> &'a [NodeId]
+pub fn members_of<'a>(group: Option<&'a [NodeId]>, graph: &'a Graph) -> &'a [NodeId]
     ensures { result.now ≡ members_of (option_map (λ ids. ids.now) group.entry) graph.now }
 {
     match group {

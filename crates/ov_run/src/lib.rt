@@ -23,9 +23,9 @@ mod theorems;
 
 pub use answered::Answered;
 pub use engine::{run, run_bytes, run_watched};
-pub use graph_analysis::{analyse_bytes, analyse_file};
+pub use graph_analysis::{analyse_bytes, analyse_file, members_of};
 pub use line_texts::{
-    entry_line, node_line, packet_line, refused_line, report_line, together_line,
+    cert_line, entry_line, node_line, packet_line, refused_line, report_line, together_line,
 };
 pub use pacing::Pacing;
 pub use refusal::Refusal;

@@ -72,7 +72,7 @@ pub fn report_line(alloc: Global, moment: u32, checked: &Checked) -> Result<Stri
 /// Makes the line of a report of this moment and this certificate, whose paths it does not look at. OutOfMemory (99) if
 /// an allocation is refused.
 #[tactic(auto, unfolding(crate::specs::Printed::report_line))]
-pub(crate) fn cert_line(
+pub fn cert_line(
     alloc: Global,
     moment: u32,
     cert: &Cert,

@@ -101,7 +101,7 @@ impl RunFault {
     }
 
     /// The fault of an analysis by the fault of its graph file.
-    pub(crate) fn of_graph_file(fault: &GraphFileFault) -> RunFault
+    pub fn of_graph_file(fault: &GraphFileFault) -> RunFault
         ensures { result ≡ fault_of_graph_file fault.now }
     {
         match fault {

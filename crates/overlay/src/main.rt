@@ -263,8 +263,8 @@ fn bytes_of<R: Read + Drop>(rt: &HostRuntime, reader: R, name: &str) -> Result<V
 /// All bytes of the file of this name, or of standard input. If it can't be read, prints why.
 ///
 /// `Read` (71): the file can't be opened, or the reader failed. `OutOfMemory` (99): an allocation was refused.
-fn bytes_asked(rt: &HostRuntime, file: Option<String>) -> Result<Vec<u8>, RunFault> {
-    match file.as_deref() {
+fn bytes_asked(rt: &HostRuntime, file: Option<&str>) -> Result<Vec<u8>, RunFault> {
+    match file {
         None => bytes_of(rt, rt.stdin(), STANDARD_INPUT),
         Some(path) => bytes_of_file(rt, path),
     }
@@ -405,8 +405,8 @@ fn analyse_asked<T: Threads + Sync>(
 {
     let mut sink = Sink::new(rt.stdout());
     if analysis.names || analysis.explain {
-        let bytes = bytes_asked(rt, file)?;
-        return analyse_in_words(rt, threads, &bytes, &mut sink, analysis);
+        let bytes = bytes_asked(rt, file.as_deref())?;
+        return analyse_in_words(rt, threads, &bytes, &mut sink, file.as_deref(), analysis);
     }
     match file.as_deref() {
         None => analyse_from(rt, threads, rt.stdin(), &mut sink, None, analysis)?,

@@ -1,16 +1,20 @@
 //! Analyses whose answer is told in names, or in words.
-ghost use Rattle.std.specs.Prelude.{◌≡◌, ◌<◌, IfOk, IfErr};
+ghost use Rattle.std.specs.Prelude.{◌≡◌, ◌<◌, option_map, string_bytes, IfOk, IfErr};
+ghost use Rattle.ov_file_commands.specs.declared.file_command_fault.FileCommandFault.TheVariants.{Refused};
 ghost use Rattle.ov_io.specs.Device.{most_faults};
-ghost use Rattle.overlay.specs.Program.{IsOfRequest};
+ghost use Rattle.ov_names.specs.Groups.{number_of};
+ghost use Rattle.overlay.specs.Naming.{WasTold};
+ghost use Rattle.overlay.specs.Code.Named.{IsFound, IsNotFound};
 
 use crate::fault_reasons::analysis_reason;
 use crate::program_outcome::ProgramFault;
 use crate::progress::PieceProgress;
-use crate::{print_fault, print_reason, print_refusal, without_memory};
+use crate::{print_fault, print_reason, print_refusal, tell_kind, without_memory};
 use ov_answers::{Request, Told, analyse_told};
 use ov_arguments::AnalysisRequest;
 use ov_file_commands::FileCommandFault;
-use ov_graphfile::read_graph;
+use ov_graphfile::{GraphFileFault, read_graph};
+use ov_hints::FileKind;
 use ov_ids::NodeId;
 use ov_io::{Sink, shown_name};
 use ov_names::{GroupFault, ids_of_group, read_names};
@@ -18,18 +22,20 @@ use ov_run::Answered;
 use std::io::Write;
 use std::thread::Threads;
 
-/// Analyses the graph file of these bytes. Prints the answer in the names that the file gives, and says it in words, as
-/// far as this is asked for. Prints a fault or a refusal, and why.
+/// Analyses the graph file of these bytes, of the file of this name or of standard input. Prints the answer in the names
+/// that the file gives, and says it in words, as far as this is asked for. Prints a fault or a refusal, and why.
 pub(crate) fn analyse_in_words<T: Threads + Sync, W: Write>(
     rt: &HostRuntime,
     threads: &T,
     bytes: &[u8],
     sink: &mut Sink<W>,
+    file: Option<&str>,
     analysis: &AnalysisRequest,
 ) -> Result<u8, ProgramFault>
     requires { sink.old.faults < most_faults }
-    ensures status { IfOk result (λ status. status ≡ 0) }
-    ensures fault { IfErr result IsOfRequest }
+    ensures { WasTold bytes.now (option_map (λ ids. ids.items) analysis.now.group)
+        (option_map string_bytes analysis.now.group_names) W.contents sink.old analysis.now.certificate
+        analysis.now.names sink.new result }
 {
     let named = named_group(rt, bytes, analysis)?;
     let group = match &named {
@@ -52,6 +58,7 @@ pub(crate) fn analyse_in_words<T: Threads + Sync, W: Write>(
         Err(fault) => {
             print_fault(rt, fault);
             print_reason(rt, analysis_reason(rt.alloc(), bytes, &fault));
+            tell_kind(rt, bytes, file, &fault, FileKind::Graph);
             Err(fault.into())
         }
     }
@@ -69,19 +76,23 @@ fn explain(rt: &HostRuntime, bytes: &[u8], group: Option<&[NodeId]>, told: &Told
     }
 }
 
-/// The group whose members are named, if they are. A file that is no graph names none: its analysis says why.
+/// The group whose members are named, if they are. A file that is no graph file names none: its analysis says why.
 fn named_group(
     rt: &HostRuntime,
     bytes: &[u8],
     analysis: &AnalysisRequest,
 ) -> Result<Option<Vec<NodeId>>, ProgramFault>
-    ensures fault { IfErr result IsOfRequest }
+    ensures found { IfOk result (λ named. IsFound bytes.now (option_map string_bytes analysis.now.group_names)
+        (option_map (λ ids. ids.items) named)) }
+    ensures fault { IfErr result (IsNotFound bytes.now (option_map string_bytes analysis.now.group_names)) }
 {
     let Some(text) = &analysis.group_names else {
         return Ok(None);
     };
-    let Ok(graph) = read_graph(rt.alloc(), bytes) else {
-        return Ok(None);
+    let graph = match read_graph(rt.alloc(), bytes) {
+        Ok(graph) => graph,
+        Err(GraphFileFault::OutOfMemory) => return Err(without_memory(rt).into()),
+        Err(_) => return Ok(None),
     };
     let Ok(names) = read_names(rt.alloc(), &graph, bytes) else {
         return Err(without_memory(rt).into());
@@ -94,12 +105,19 @@ fn named_group(
 }
 
 /// Ends since a text names no group. Prints why.
-fn no_group(rt: &HostRuntime, text: &str, fault: GroupFault) -> FileCommandFault {
+fn no_group(rt: &HostRuntime, text: &str, fault: GroupFault) -> FileCommandFault
+    ensures { result ≡ Refused (number_of fault) }
+{
     let number = fault.number();
     let ended = FileCommandFault::Refused { number };
     let _ = eprintln!(rt; "{ended}");
     match fault {
-        GroupFault::NoSuchName(place) => tell_part(rt, text, place, "is the name of no node, nor an id"),
+        GroupFault::NoSuchName(place) => tell_part(
+            rt,
+            text,
+            place,
+            "is the name of no node, nor an id",
+        ),
         GroupFault::SharedName(place) => tell_part(rt, text, place, "is the name of two nodes"),
         GroupFault::NamedTwice(node) => {
             let id = node.number();

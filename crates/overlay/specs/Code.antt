@@ -1,0 +1,2 @@
+-- What only the contracts of private functions and the proofs use.
+pub mod Named

@@ -1,0 +1,55 @@
+-- What `overlay analyse` prints with `--names` or `--explain`, where a group may be asked for by names too.
+use Rattle.std.specs.Prelude.{◌≡◌, ◌≢◌, ◌⊎◌, ℕ, Bool, List, Option, Some, None, Result, Ok, Err}
+use Rattle.ov_graph.specs.Links.{LinkGraph}
+use Rattle.ov_graphfile.specs.GraphFiles.{IsGraphFile, IsGraphFileFault}
+use Rattle.ov_graphfile.specs.declared.fault.GraphFileFault.{GraphFileFault}
+use Rattle.ov_graphfile.specs.declared.fault.GraphFileFault.TheVariants as graph_file
+use Rattle.ov_names.specs.NamesState.{NamesState}
+use Rattle.ov_names.specs.NameLines.{AreNamesOf}
+use Rattle.ov_names.specs.Groups.{IsGroupNamed, IsGroupFault, parts_of, number_of}
+use Rattle.ov_names.specs.declared.group_fault.GroupFault.{GroupFault}
+use Rattle.ov_io.specs.Device.{SinkState}
+use Rattle.ov_answers.specs.Telling.{IsToldOf}
+use Rattle.ov_answers.specs.declared.request.Told.{Told}
+use Rattle.ov_run.specs.declared.run_fault.RunFault.TheVariants as run
+use Rattle.ov_file_commands.specs.declared.file_command_fault.FileCommandFault.TheVariants.{Refused}
+use Rattle.overlay.specs.declared.program_outcome.ProgramFault.{ProgramFault}
+use Rattle.overlay.specs.declared.program_outcome.ProgramFault.TheVariants.{Run, OfFile}
+
+-- these are the names that the graph file of these bytes keeps of its nodes
+abbrev pub KeepsNames : List ℕ → NamesState → Type 0
+KeepsNames bytes names = (g : LinkGraph) × IsGraphFile bytes g × AreNamesOf bytes g names
+
+-- the bytes are no graph file
+abbrev pub IsNoGraphFile : List ℕ → Type 0
+IsNoGraphFile bytes = (fault : GraphFileFault) × (fault ≢ graph_file.OutOfMemory) × IsGraphFileFault bytes fault
+
+-- a group is asked for: that of these ids, if none is named; or that of the nodes which a text names, by the names that
+-- the graph file of these bytes keeps. In bytes that are no graph file nothing is named
+abbrev pub IsGroupAsked : List ℕ → Option (List ℕ) → Option (List ℕ) → Option (List ℕ) → Type 0
+IsGroupAsked bytes ids None group = group ≡ ids
+IsGroupAsked bytes ids (Some text) group =
+    ((names : NamesState) × (members : List ℕ) × KeepsNames bytes names × IsGroupNamed names (parts_of text) members
+    × (group ≡ Some members)) ⊎ (IsNoGraphFile bytes × (group ≡ ids))
+
+-- a text names no group, by the names that the graph file of these bytes keeps, and this is the number of the fault
+abbrev pub NamesNoGroup : List ℕ → Option (List ℕ) → ℕ → Type 0
+NamesNoGroup bytes None number = ⊥
+NamesNoGroup bytes (Some text) number =
+    (names : NamesState) × (fault : GroupFault) × KeepsNames bytes names × IsGroupFault names (parts_of text) fault
+    × (number ≡ number_of fault)
+
+-- What came of an analysis of the graph file of these bytes, from a sink before it to what it is after it: it is told of
+-- the group that is asked for, by `IsToldOf`; or nothing is written, since the group is refused or memory ran out.
+abbrev pub WasTold : {W : Type 0} → List ℕ → Option (List ℕ) → Option (List ℕ) → (W → Option (List ℕ)) → SinkState W
+    → Bool → Bool → SinkState W → Result ℕ ProgramFault → Type 0
+WasTold bytes ids text contents old certificate named new (Ok status) =
+    (status ≡ 0) × ((group : Option (List ℕ)) × (told : Told) × IsGroupAsked bytes ids text group
+    × IsToldOf bytes contents old group certificate named new (Ok told))
+WasTold bytes ids text contents old certificate named new (Err (Run fault)) =
+    ((group : Option (List ℕ)) × IsGroupAsked bytes ids text group
+    × IsToldOf bytes contents old group certificate named new (Err fault))
+    ⊎ ((fault ≡ run.OutOfMemory) × (new ≡ old))
+WasTold bytes ids text contents old certificate named new (Err (OfFile (Refused number))) =
+    NamesNoGroup bytes text number × (new ≡ old)
+WasTold bytes ids text contents old certificate named new (Err other) = ⊥
