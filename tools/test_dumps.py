@@ -2,21 +2,26 @@
 """test_dumps.py: tests of `overlay import`, `overlay graph` and `overlay picture --dot`, on dumps that are made here.
 
 TAGZIRK_OVERLAY names the program overlay. What is printed is held against a reading of the dumps of a few lines, which
-is written here. With networkx, dumps that it writes are read too; with pydot or pygraphviz besides, it reads what
-`overlay picture --dot` prints.
+is written here. With networkx, dumps that it writes are read too; with pydot besides, also those in DOT, and networkx
+reads what `overlay picture --dot` prints. Debian has both as python3-networkx and python3-pydot.
 """
 
+import io
 import json
 import os
 import random
 import subprocess
-import sys
 import unittest
+import warnings
 
 try:
     import networkx
 except ImportError:
     networkx = None
+try:
+    import pydot
+except ImportError:
+    pydot = None
 
 OVERLAY = os.environ.get("TAGZIRK_OVERLAY")
 
@@ -54,6 +59,39 @@ def views_of(names, links):
     return json.dumps({name: sorted(peers) for name, peers in views.items()}, indent=1)
 
 
+def some_views(chance):
+    """Views of nodes some of which have crashed or list whom lists them not: a dict from name to the names listed."""
+    names = [f"{chance.choice('xyz')}{at}" for at in range(chance.randint(1, 14))]
+    entries = [name for name in names if chance.random() < 0.8]
+    return {name: [it for it in names if it != name and chance.random() < 0.4] for name in entries}
+
+
+def graph_of_views(views, either, entries):
+    """The graph file that follows from views."""
+    listings = [(name, peer) for name, peers in views.items() for peer in peers]
+    names = set(views) if entries else set(views) | {peer for _, peer in listings}
+    links = [(a, b) for a, b in listings if {a, b} <= names and (either or (b, a) in listings)]
+    return graph_file(names, links)
+
+
+def notes_of_views(views):
+    """What is told of views on standard error."""
+    listings = [(name, peer) for name, peers in views.items() for peer in peers]
+    alone = [(a, b) for a, b in listings if (b, a) not in listings]
+    missing = sorted({peer for _, peer in listings} - set(views), key=str.encode)
+    told = [f"listed by one end only: {len(alone)}"] if alone else []
+    told += [f"{a} lists {b}, and {b} does not list {a}" for a, b in alone[:10]]
+    told += [f"listed without an entry: {len(missing)}"] if missing else []
+    told += [f"{name} is listed and has no entry" for name in missing[:10]]
+    return "".join(f"{line}\n" for line in told)
+
+
+def arrows_of(views):
+    """The same views in DOT."""
+    lines = [f'"{name}"; {"".join(f"{name} -> {peer}; " for peer in peers)}' for name, peers in views.items()]
+    return "\n".join(["digraph {", *lines, "}"])
+
+
 def edges_of(links, seed):
     """Lines of two names, with every separator and with comments."""
     chance = random.Random(seed)
@@ -81,6 +119,16 @@ class Dumps(unittest.TestCase):
                 for words in ("import", form), ("import", form, "-"), ("import",):
                     with self.subTest(count=count, words=words):
                         self.assertEqual(overlay(*words, given=dump), (wanted, "", 0))
+
+    def test_views_that_differ(self):
+        chance = random.Random(4)
+        for _ in range(60):
+            views = some_views(chance)
+            for form, dump in ("--views", json.dumps(views)), ("--dot", arrows_of(views)):
+                for either in (), ("--either",):
+                    for entries in (), ("--entries",):
+                        wanted = graph_of_views(views, either, entries), notes_of_views(views), 0
+                        self.assertEqual(overlay("import", form, *either, *entries, given=dump), wanted, views)
 
     def test_names_come_back(self):
         names, pairs = some_overlay(50, 60, 1)
@@ -116,20 +164,26 @@ class Networkx(unittest.TestCase):
             lines = "\n".join(networkx.generate_edgelist(graph, data=data)) + "\n"
             self.assertEqual(overlay("import", given=lines), (graph_file(graph, graph.edges), "", 0))
 
+    @unittest.skipUnless(pydot, "there is no pydot")
+    def test_dot_that_networkx_writes(self):
+        graph = networkx.random_regular_graph(4, 60, seed=3)
+        graph = networkx.relabel_nodes(graph, {it: f"host {it}" for it in graph})
+        with warnings.catch_warnings():
+            warnings.simplefilter("ignore")
+            text = networkx.nx_pydot.to_pydot(graph).to_string()
+        self.assertEqual(overlay("import", given=text), (graph_file(graph, graph.edges), "", 0))
+
+    @unittest.skipUnless(pydot, "there is no pydot")
     def test_networkx_reads_the_picture(self):
-        try:
-            from networkx.drawing.nx_pydot import read_dot
-            import io
-            import pydot  # noqa: F401
-        except ImportError:
-            self.skipTest("there is no pydot")
         graph = networkx.petersen_graph()
         text = graph_file(map(str, graph), [(str(a), str(b)) for a, b in graph.edges])
         printed, _, _ = overlay("analyse", "--certificate", given=text)
         drawn, _, _ = overlay("picture", "--dot", given=printed.splitlines()[-1])
-        again = networkx.Graph(read_dot(io.StringIO(drawn)))
+        with warnings.catch_warnings():
+            warnings.simplefilter("ignore")
+            again = networkx.Graph(networkx.nx_pydot.read_dot(io.StringIO(drawn)))
         self.assertTrue(networkx.is_isomorphic(graph, again.subgraph([it for it in again if it.isdigit()])))
 
 
 if __name__ == "__main__":
-    unittest.main(argv=[sys.argv[0], *sys.argv[1:]])
+    unittest.main()

@@ -1,18 +1,15 @@
 """Reads the arguments of `overlay`, by docs/FORMATS.md; those of `grow` and `sweep` are read in growing_words.py.
 
 That page leaves some things to `clap`, and so does this reader, from what is commonly known of it: refused are an
-option that occurs twice, a value after `=` of an option without one, and a value that begins with `-`. That `--` alone
-is bare `overlay` was taken from the program, when the page did not say it.
+option that occurs twice, a value after `=` of an option without one, and a value that begins with `-` and is not `-`
+alone. That `--` alone is bare `overlay` was taken from the program, when the page did not say it.
 """
 
-from growing_words import BadArguments, read_grow, read_sweep
+from growing_words import BadArguments, is_value, read_grow, read_sweep
 from scenario_lines import MOST_WORKERS, Unreadable, ids, number
 
-# The options of each command, and what reads the value of those that have one.
-OPTIONS = {
-    "run": {"explain": None, "progress": None, "strict": None},
-    "analyse": {"group": ids, "workers": lambda word: workers(word), "certificate": None, "progress": None},
-}
+# What reads the words of the commands that grow overlays.
+GROWING = {"grow": read_grow, "sweep": read_sweep}
 
 
 def workers(word):
@@ -21,8 +18,34 @@ def workers(word):
     if not 1 <= found <= MOST_WORKERS:
         raise Unreadable
     return found
-# What reads the words of the commands that grow overlays.
-GROWING = {"grow": read_grow, "sweep": read_sweep}
+
+
+def text(word):
+    """Any text."""
+    return word
+
+
+def so_many_ids(count):
+    """What reads so many ids with commas between them."""
+    def read(word):
+        found = ids(word)
+        if len(found) != count:
+            raise Unreadable
+        return found
+    return read
+
+
+# The options of each command, and what reads the value of those that have one.
+OPTIONS = {
+    "run": {"explain": None, "progress": None, "strict": None},
+    "analyse": {"group": text, "workers": workers, "certificate": None, "names": None, "explain": None,
+                "progress": None},
+    "import": {"views": None, "edges": None, "dot": None, "either": None, "entries": None},
+    "picture": {"names": text, "pair": so_many_ids(2), "fan": so_many_ids(1), "dot": None},
+    "graph": {},
+}
+# Options of which a command takes one at most.
+ONE_OF = {"import": {"views", "edges", "dot"}, "picture": {"pair", "fan"}}
 
 
 class Request:
@@ -45,12 +68,23 @@ def option(request, word, rest):
         return
     if not equals:
         value = next(rest, None)
-        if value is None or value.startswith("-"):
+        if value is None or not is_value([value]):
             raise BadArguments
     try:
         request.options[name] = known[name](value.encode())
     except Unreadable:
         raise BadArguments from None
+
+
+def judge_together(request):
+    """Refuses options that don't go together, and a group that is to have ids and has none."""
+    if len(ONE_OF.get(request.command, set()) & request.options.keys()) > 1:
+        raise BadArguments
+    if "group" in request.options and "names" not in request.options:
+        try:
+            request.options["group"] = ids(request.options["group"])
+        except Unreadable:
+            raise BadArguments from None
 
 
 def read_arguments(words):
@@ -78,5 +112,6 @@ def read_arguments(words):
             files.append(word)
     if len(files) > 1:
         raise BadArguments
+    judge_together(request)
     request.file = next((word for word in files if word != "-"), None)
     return request

@@ -2,8 +2,8 @@
 """compare_random.py PROGRAM [NUMBER [SEED]]: holds a program `overlay` against the second opinion.
 
 The examples' scenarios and graph files are compared first, then files that reach the limits of a world and of a graph,
-and then so many random scenarios of each of two kinds, and so many random graph files (300 without a number). An input
-on which the two differ is kept in `out/found`, and named. The status is 1 then.
+and then so many random scenarios of each of two kinds, and so many random graph files without and with names (300
+without a number). An input on which the two differ is kept in `out/found`, and named. The status is 1 then.
 """
 
 import pathlib
@@ -13,6 +13,7 @@ import sys
 
 import random_inputs
 import second_opinion
+from named_answers import answer_named
 
 HERE = pathlib.Path(__file__).resolve().parent
 EXAMPLES = HERE.parent.parent / "examples"
@@ -41,23 +42,31 @@ def inputs(number, seed):
         yield f"random-{seed}-{at}.scenario", "run", random_inputs.scenario(source), None
         yield f"guided-{seed}-{at}.scenario", "run", random_inputs.guided(source), None
         yield f"random-{seed}-{at}.graph", "analyse", *random_inputs.graph(source)
+        yield f"named-{seed}-{at}.graph", "names", *random_inputs.named_graph(source)
+
+
+def asked(command, data, group):
+    """The arguments of a program, and the answer that is asked for them."""
+    if command == "run":
+        return ["run"], second_opinion.answer_run(data)
+    if command == "names":
+        chosen = [b"--group=" + group] if group else []
+        return ["analyse", "--names", "--certificate", *chosen], answer_named(data, group, True)
+    chosen = ["--group", ",".join(map(str, group))] if group else []
+    return ["analyse", "--certificate", *chosen], second_opinion.answer_analyse(data, group, True)
 
 
 def main(program, number="300", seed="1"):
     count, found = 0, 0
     for name, command, data, group in inputs(int(number), seed):
         count += 1
-        if command == "run":
-            words, answer = ["run"], second_opinion.answer_run(data)
-        else:
-            chosen = ["--group", ",".join(map(str, group))] if group else []
-            words, answer = ["analyse", "--certificate", *chosen], second_opinion.answer_analyse(data, group, True)
+        words, answer = asked(command, data, group)
         why = differs(program, words, data, answer)
         if why:
             found += 1
             (HERE / "out" / "found").mkdir(parents=True, exist_ok=True)
             (HERE / "out" / "found" / name).write_bytes(data)
-            print(f"{name}: {' '.join(words)}: {why}")
+            print(f"{name}: {words}: {why}")
     print(f"{count} inputs, {found} differences")
     return 1 if found else 0
 

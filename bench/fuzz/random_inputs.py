@@ -142,6 +142,30 @@ def graph(random):
     return data, group if random.random() < 0.6 else None
 
 
+def comment(random, words):
+    """A comment before a line of these words, which mostly names the node that the line says."""
+    node = words[1] if random.random() < 0.95 else b"7"
+    name = random.choice((b"a", b"b", b"c d", b" e", b"1", b"2", b"#", "\u00e9".encode(), b"x\ty", b"host-%d" % random.randrange(99)))
+    between = random.choice((b" ", b" ", b" ", b" ", b"  ", b"\t"))
+    return random.choice((b"", b"", b" ")) + b"# " + node + between + name
+
+
+def named_graph(random):
+    """The bytes of a graph file with comments that name nodes, and a text that may name a group, or None."""
+    data, _ = graph(random)
+    lines, names = [], [b"1", b"3"]
+    for line in data.split(b"\n"):
+        words = [word for word in line.split(b" ") if word]
+        if words[:1] == [b"node"] and len(words) > 1 and random.random() < 0.8:
+            lines.append(comment(random, words))
+            names += [lines[-1].split(words[1] + b" ", 1)[-1], words[1]]
+            if random.random() < 0.03:
+                lines.append(random.choice((b"", b"# a comment")))
+        lines.append(line)
+    group = random.sample(names, random.randint(1, min(4, len(names))))
+    return b"\n".join(lines), b",".join(group) if random.random() < 0.7 else None
+
+
 class GuidedMaker:
     """Makes a scenario beside a world of the second opinion, so that rare events come: timers that run, and reports to
     nodes that know who crashed. Views are small, and the scenario is short."""

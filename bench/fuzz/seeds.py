@@ -34,16 +34,34 @@ DIRECTED = (
     TRIANGLE + ANNOUNCED + b"timer 3 1 1\npackets\ntimer 3 1 1\ntimer 3 1 1\n",
     TRIANGLE + ANNOUNCED + b"deliver 0\ntimer 3 1 1\nshow 3\n",
 )
+# Command lines of the commands that turn one file into another, and of answers in names: a word each.
+COMMANDS = (
+    "import", "import -", "import dump", "import --views", "import --edges", "import --dot", "import --views -",
+    "import --either --entries", "import --edges --either", "import --entries --dot", "import --views --edges",
+    "import --dot --views", "import --edges --edges", "import --views=1", "import --names", "import dump other",
+    "import -- --views", "import --view", "import -h", "picture", "picture -", "picture certificate", "picture --dot",
+    "picture --names", "picture --names graph", "picture --names=graph", "picture --names=", "picture --names -",
+    "picture --names --dot", "picture --names graph certificate", "picture --pair 1,2", "picture --pair=1,2 --dot",
+    "picture --pair 1", "picture --pair 1,2,3", "picture --pair 1,", "picture --pair 0,4294967295",
+    "picture --pair 0,4294967296", "picture --fan 3", "picture --fan=3 certificate", "picture --fan 3,4",
+    "picture --fan a", "picture --fan", "picture --pair 1,2 --fan 3", "picture --fan 3 --names graph", "picture --dot=1",
+    "graph", "graph -", "graph certificate", "graph -- -", "graph --dot", "graph one two", "graph --help",
+    "analyse --names", "analyse --explain", "analyse --names --explain --certificate", "analyse --names --group a",
+    "analyse --group a --names", "analyse --names --group=", "analyse --names --group a,", "analyse --group a",
+    "analyse --names --group 1,2 --workers 2", "analyse --names --workers 0", "analyse --names --names",
+    "analyse --names=1", "analyse --explain --progress graph", "analyse --names --group -a",
+)
 OPTIONS = (b"", b"# --certificate\n", b"# --workers 2 --certificate\n", b"# --group 1,3\n")
 
 
 def of_examples(target):
     """The examples of a target."""
     if target == "arguments":
-        for path in sorted(EXAMPLES.glob("arguments/*.args")):
+        for path in sorted(EXAMPLES.glob("*/*.args")):
             program, _, words = path.read_bytes().partition(b"\n")
             if program == b"overlay":
                 yield words
+        yield from (line.replace(" ", "\n").encode() + b"\n" for line in COMMANDS)
         return
     for path in sorted(EXAMPLES.rglob(f"*{SUFFIXES[target]}")):
         yield path.read_bytes()

@@ -9,6 +9,7 @@ import tempfile
 from command_line import BadArguments, read_arguments
 import second_opinion
 from growing_words import Open, answer_grow, answer_sweep
+from named_answers import answer_named
 from second_opinion import Answer, answer_analyse, answer_run, check, strict_of
 
 SECONDS = 60
@@ -149,6 +150,25 @@ def words_of_graph(data):
     return words if line.startswith(b"#") and fits and b"\0" not in line else []
 
 
+def asked_of_empty(request):
+    """What `import`, `picture` and `graph` should print, if standard input is empty and there is no file.
+
+    An empty dump is one of edges, unless it is to be views or DOT, which it is not. A picture reads the file with the
+    names before anything is judged.
+    """
+    if request.command != "import":
+        return Answer([], "refused 71" if "names" in request.options else "refused 60", 1)
+    if "views" in request.options:
+        return Answer([], "refused 60", 1)
+    return Answer([], "refused 70", 1) if "dot" in request.options else Answer([])
+
+
+def asked_of_analysis(options, data):
+    """What `analyse` should print with these options."""
+    answer = answer_named if "names" in options else answer_analyse
+    return answer(data, options.get("group"), "certificate" in options)
+
+
 def asked(words, data):
     """What `overlay` should print for these arguments, if it reads this on standard input and there is no file."""
     try:
@@ -163,7 +183,9 @@ def asked(words, data):
         return Answer([], "refused 71", 1)
     if request.command == "run":
         return answer_run(data)
-    return answer_analyse(data, request.options.get("group"), "certificate" in request.options)
+    if request.command == "analyse":
+        return asked_of_analysis(request.options, data)
+    return asked_of_empty(request)
 
 
 def graph_cases(data):

@@ -10,6 +10,7 @@ from .answers import Answer, read_answer
 from .checks import check
 from .errors import NotConfirmed
 from .graphs import Graph, NamedGraph, Node, named_graph
+from .pictures import drawn
 from .programs import Program, call, find, lines_of, refuse
 
 
@@ -53,6 +54,27 @@ class Report(Generic[Node]):
         crashes that are sure to leave two members: two less than there are members, or 0.
         """
         return max(self.k - 1, 0)
+
+    def picture(self, *, pair: Optional[Tuple[Node, Node]] = None, fan: Optional[Node] = None,
+                overlay: Optional[Program] = None) -> str:
+        """A picture of the graph as SVG, in the caller's names: the side on the left, the cut in the middle, all other
+        nodes on the right; if every two members are linked, all nodes on a ring.
+
+        `pair` draws the paths between two members that are not linked, and `fan` those from a member to members
+        before it, each in a colour of its own. A certificate has them for some members only; `Refused` (86) is raised
+        for others. `overlay picture` draws it, and only if the certificate holds.
+
+        >>> picture = analyse([("a", "b"), ("b", "c"), ("c", "d"), ("d", "a")]).picture(fan="c")
+        >>> picture.startswith("<svg")
+        True
+        """
+        entry = []
+        if pair is not None:
+            lower, higher = sorted(self.ids[node] for node in pair)
+            entry.append(f"--pair={lower},{higher}")
+        if fan is not None:
+            entry.append(f"--fan={self.ids[fan]}")
+        return drawn(self.certificate, self.graph_file, self.ids, entry, overlay)
 
     def __str__(self) -> str:
         """What it says, in words."""

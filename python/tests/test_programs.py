@@ -11,6 +11,7 @@ import json
 import os
 import pathlib
 import random
+import re
 import stat
 import subprocess
 import sys
@@ -24,7 +25,8 @@ from tagzirk.programs import CHECKOUT, find
 
 EXAMPLES = CHECKOUT / "examples"
 CHECKER = CHECKOUT / "tools" / "check.py"
-MODULES = ("tagzirk", "tagzirk.answers", "tagzirk.checks", "tagzirk.graphs", "tagzirk.reports", "tagzirk.scenarios")
+MODULES = ("tagzirk", "tagzirk.answers", "tagzirk.checks", "tagzirk.graphs", "tagzirk.pictures", "tagzirk.reports",
+           "tagzirk.scenarios")
 RING_WITH_TAIL = [(1, 2), (2, 3), (3, 4), (4, 5), (1, 5), (2, 6)]
 
 
@@ -167,6 +169,31 @@ class Checks(unittest.TestCase):
         self.assertEqual(tagzirk.check(str(EXAMPLES / "square.json")).line, "refused 60")
         with self.assertRaises(FileNotFoundError):
             tagzirk.check(EXAMPLES / "nowhere.json")
+
+
+class Pictures(unittest.TestCase):
+    def test_the_picture_of_the_document(self):
+        lines = (EXAMPLES / "dumps" / "partition.edges").read_text().splitlines()
+        report = tagzirk.analyse([tuple(map(int, line.split()[:2])) for line in lines])
+        self.assertEqual(report.picture(), (CHECKOUT / "docs" / "picture-notebook.svg").read_text())
+
+    def test_names(self):
+        names = {"near": "a\nb", "cut": "\u00e9 <&>", "far": ("x", 1)}
+        report = tagzirk.analyse([(names["near"], names["cut"]), (names["cut"], names["far"])])
+        tips = re.findall(r"<title>node (\d) \((\S+)\): (.*)</title>", report.picture())
+        self.assertEqual({(report.ids[names["near"]], "a\\u{a}b"), (report.ids[names["cut"]], "\u00e9 &lt;&amp;&gt;"),
+                          (report.ids[names["far"]], "(&apos;x&apos;, 1)")}, {(int(at), name) for at, _, name in tips})
+
+    def test_paths(self):
+        report = tagzirk.analyse([(a, b) for b in range(1, 6) for a in range(1, b) if (a, b) != (1, 2)])
+        self.assertEqual(report.k, 3)
+        picture = report.picture(pair=(2, 1))
+        self.assertIn("3 paths from node 1 to node 2 ", picture)
+        self.assertIn("3 paths from node 5 ", report.picture(fan=5))
+        self.assertNotIn("3 paths from node ", report.picture())
+        with self.assertRaises(tagzirk.Refused) as refused:
+            report.picture(fan=1)
+        self.assertEqual(refused.exception.number, 86)
 
 
 class Runs(unittest.TestCase):

@@ -112,10 +112,13 @@ pub run_given : (arguments : List (List ℕ)) → subcommand_of overlay_command 
     → IsOfGiven arguments (Run None (record { explain = false; strict = false; progress = false }))
 run_given arguments none =
     let command : command_given arguments ≡ None = ap (option_map (λ found. found.0)) none in
-    let text : (n : List ℕ) → text_given arguments n ≡ None = λ n. ap (λ f. f >>= λ found. first_of n found.1) none in
-    (
-      ((λ x. none_some _ _ command x), (λ x. none_some _ _ command x), (λ x. none_some _ _ command x),
-        (λ x. none_some _ _ command x)),
+    let text : (n : List ℕ) → text_given arguments n ≡ None = λ n. ap (λ f. f >>= λ found. first_of n found.1) none in (
+      (
+        (λ x. none_some _ _ command x),
+        (λ x. none_some _ _ command x),
+        (λ x. none_some _ _ command x),
+        (λ x. none_some _ _ command x),
+      ),
       ap file_asked (text (codes "file")),
       ap is_flagged (text (codes "explain")),
       ap is_flagged (text (codes "strict")),

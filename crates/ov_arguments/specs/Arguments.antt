@@ -147,11 +147,12 @@ format_asked false true false = Some (Some Edges)
 format_asked false false true = Some (Some Dot)
 format_asked views edges dot = None
 
--- the entry of a pair of ids, and that of one id
+-- the entry of a pair of ids
 abbrev pub pair_asked : Option (List ℕ) → Option AskedEntry
 pair_asked (Some (i ∷ j ∷ [])) = Some (Pair i j)
 pair_asked other = None
 
+-- the entry of one id
 abbrev pub fan_asked : Option (List ℕ) → Option AskedEntry
 fan_asked (Some (j ∷ [])) = Some (Fan j)
 fan_asked other = None

@@ -109,7 +109,7 @@ const PICTURE_EXAMPLES: &str = "\
 Examples:
   overlay analyse net.graph --certificate | tail -1 > net.json
   overlay picture net.json --names net.graph > net.svg
-  overlay picture net.json --pair 1,3 > paths.svg";
+  overlay picture net.json --fan 20 > paths.svg";
 
 /// What help of `overlay picture` says, and of its options.
 const ABOUT_PICTURE: &str = "Draws the graph of a certificate file, with its cut in the middle";
@@ -127,7 +127,7 @@ const DOT_PICTURE: &str = "Prints Graphviz's language DOT in place of SVG";
 /// What help of `overlay graph` begins with, and what it says.
 const GRAPH_EXAMPLES: &str = "\
 Example:
-  overlay graph net.json | cmp - net.graph";
+  overlay graph net.json > sent.graph";
 
 const ABOUT_GRAPH: &str = "Prints the graph of a certificate file as a graph file";
 

@@ -67,13 +67,13 @@ IsPictureRefused bytes names entry number =
 pub record IsDrawable (bytes : List ℕ) (names : Option (List ℕ)) (entry : Option ChosenEntry) : Type 0 where
   pub file : Filed
   pub holds : IsOutcome bytes (Holds file)
-  pub entry : shown_paths file.cert entry ≢ None
-  pub names : NamesGraph names file.graph
+  pub has_entry : shown_paths file.cert entry ≢ None
+  pub named : NamesGraph names file.graph
 
 -- what a writer took of a picture: a text, or a prefix of one if writing failed; and nothing, if the picture is refused
 -- or memory ran out
-abbrev pub WasPicturePrinted : {W : Type 0} → List ℕ → Option (List ℕ) → Option ChosenEntry → (W → Option (List ℕ)) → W → W
-    → Result (Unit {0}) FileCommandFault → Type 0
+abbrev pub WasPicturePrinted : {W : Type 0} → List ℕ → Option (List ℕ) → Option ChosenEntry → (W → Option (List ℕ))
+    → W → W → Result (Unit {0}) FileCommandFault → Type 0
 WasPicturePrinted bytes names entry contents old new (Ok done) =
     IsDrawable bytes names entry × ((text : List ℕ) × Appends (contents old) (contents new) text)
 WasPicturePrinted bytes names entry contents old new (Err Write) =

@@ -42,16 +42,23 @@ pub fn print_picture<W: Write>(
 ) -> Result<(), FileCommandFault>
     requires { sink.old.faults < most_faults }
     ensures holds { OnOk result (SaysExactNumber bytes.now) }
-    ensures printed { WasPicturePrinted bytes.now (option_map (λ file. file.now) names) (chosen_entry request.now.entry)
+    ensures printed { WasPicturePrinted bytes.now (option_map (λ file. file.now) names.entry) (chosen_entry request.now.entry)
         W.contents sink.old.writer sink.new.writer result }
 {
     let filed = held(rt, bytes)?;
-    let drawing = match draw(rt.alloc(), &filed.graph, &filed.cert, chosen(request.entry)) {
+    let drawing = match draw(
+        rt.alloc(),
+        &filed.graph,
+        &filed.cert,
+        chosen(&request.entry),
+    ) {
         Ok(drawing) => drawing,
         Err(fault) => return Err(not_drawn(rt, fault)),
     };
-    let text = picture_text(rt, &filed.graph, &drawing, names, request.dot)?;
-    written(rt, text.as_bytes(), sink)
+    match picture_text(rt, &filed.graph, &drawing, names, request.dot) {
+        Ok(text) => written(rt, text.as_bytes(), sink),
+        Err(fault) => Err(fault),
+    }
 }
 
 /// The certificate file in these bytes, if its certificate holds. Else prints why not.
@@ -83,13 +90,13 @@ fn not_held(rt: &HostRuntime, outcome: &Outcome) -> FileCommandFault
 }
 
 /// The entry whose paths are drawn.
-fn chosen(entry: Option<AskedEntry>) -> Option<ChosenEntry>
-    ensures { result ≡ chosen_entry entry }
+fn chosen(entry: &Option<AskedEntry>) -> Option<ChosenEntry>
+    ensures { result ≡ chosen_entry entry.now }
 {
     match entry {
         None => None,
-        Some(AskedEntry::Pair { i, j }) => Some(ChosenEntry::Pair { i, j }),
-        Some(AskedEntry::Fan { j }) => Some(ChosenEntry::Fan { j }),
+        Some(AskedEntry::Pair { i, j }) => Some(ChosenEntry::Pair { i: *i, j: *j }),
+        Some(AskedEntry::Fan { j }) => Some(ChosenEntry::Fan { j: *j }),
     }
 }
 
@@ -125,8 +132,8 @@ fn picture_text(
     names: Option<&[u8]>,
     is_dot: bool,
 ) -> Result<String, FileCommandFault>
-    ensures { MatchResult result (λ text. NamesGraph (option_map (λ file. file.now) names) graph.now)
-        (IsNotNamed (option_map (λ file. file.now) names) graph.now) }
+    ensures { MatchResult result (λ text. NamesGraph (option_map (λ file. file.now) names.entry) graph.now)
+        (IsNotNamed (option_map (λ file. file.now) names.entry) graph.now) }
 {
     let text = match names {
         None => text_of(rt.alloc(), drawing, &[], is_dot),

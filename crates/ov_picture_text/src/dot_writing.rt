@@ -20,12 +20,11 @@ pub fn dot(
 ) -> Result<String, OutOfMemory> {
     let labels = Labels::new(alloc, drawing, names)?;
     let layout = layout_of(alloc, drawing, &labels, 0.0)?;
-    let sentence = sentence_of(alloc, drawing)?;
+    let sentence = sentence_of(alloc, drawing, &labels)?;
     let mut text = String::new(alloc);
-    write!(
-        text,
-        "graph overlay {{\n  graph [label=\"{sentence}\", outputorder=edgesfirst];\n  node [style=filled];\n"
-    )?;
+    text.push_str("graph overlay {\n  graph [label=\"")?;
+    push_dot(&mut text, sentence.as_str())?;
+    text.push_str("\", outputorder=edgesfirst];\n  node [style=filled];\n")?;
     push_nodes(&mut text, drawing, &layout, &labels)?;
     for link in drawing.links.as_slice() {
         push_link(&mut text, *link)?;

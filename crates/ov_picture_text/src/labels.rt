@@ -65,6 +65,17 @@ impl Labels {
         Ok(labels)
     }
 
+    /// What the node at a place is called in a sentence: its label, or its name if it has none.
+    pub(crate) fn called(&self, at: usize) -> &str {
+        if let Some(Some(text)) = self.texts.get(at) {
+            return text.as_str();
+        }
+        match self.names.get(at) {
+            Some(name) => name.as_str(),
+            None => "",
+        }
+    }
+
     /// Adds the next node.
     fn add(&mut self, alloc: Global, name: String, shown: bool) -> Result<(), AllocError> {
         if shown {

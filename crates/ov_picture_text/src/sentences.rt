@@ -1,17 +1,25 @@
+use crate::labels::Labels;
 use ov_ids::NodeId;
 use ov_picture::{ChosenEntry, Drawing, DrawnNode, NodeClass};
 use std::alloc::{AllocError, Global};
 use std::fmt::Write;
 
-/// How many nodes of a cut are named.
+/// How many nodes of a cut are named at most.
 const MOST_NAMED: usize = 6;
 
-/// What a picture shows, in one sentence, without a full stop.
-pub(crate) fn sentence_of(alloc: Global, drawing: &Drawing) -> Result<String, AllocError> {
+/// From so many bytes of names on no further node of a cut is named.
+const LONG: usize = 60;
+
+/// What a picture shows, in one sentence, without a full stop. It names nodes as labels do.
+pub(crate) fn sentence_of(
+    alloc: Global,
+    drawing: &Drawing,
+    labels: &Labels,
+) -> Result<String, AllocError> {
     let nodes = drawing.nodes.as_slice();
     let (Some(near), Some(far)) = (
-        first_of(nodes, NodeClass::Near),
-        first_of(nodes, NodeClass::Far),
+        name_of_class(nodes, labels, NodeClass::Near),
+        name_of_class(nodes, labels, NodeClass::Far),
     ) else {
         return String::from_str(
             alloc,
@@ -32,22 +40,29 @@ pub(crate) fn sentence_of(alloc: Global, drawing: &Drawing) -> Result<String, Al
     } else {
         "Crashing nodes "
     })?;
-    push_cut(&mut text, nodes, cut)?;
+    push_cut(&mut text, nodes, labels, cut)?;
     write!(text, " separates node {near} from node {far}")?;
     Ok(text)
 }
 
-/// Appends the ids of the cut, which has so many nodes.
-fn push_cut(text: &mut String, nodes: &[DrawnNode], cut: usize) -> Result<(), AllocError> {
+/// Appends the names of the cut, which has so many nodes.
+fn push_cut(
+    text: &mut String,
+    nodes: &[DrawnNode],
+    labels: &Labels,
+    cut: usize,
+) -> Result<(), AllocError> {
     let mut named: usize = 0;
-    for node in nodes {
-        if node.class == NodeClass::Cut && named < MOST_NAMED {
+    let mut length: usize = 0;
+    for (at, node) in nodes.iter().enumerate() {
+        if node.class == NodeClass::Cut && named < MOST_NAMED && length < LONG {
             named += 1;
             if named > 1 {
                 text.push_str(if named == cut { " and " } else { ", " })?;
             }
-            let id = node.id.number();
-            write!(text, "{id}")?;
+            let name = labels.called(at);
+            length = length.saturating_add(name.len());
+            text.push_str(name)?;
         }
     }
     let others = cut.saturating_sub(named);
@@ -73,26 +88,47 @@ pub(crate) fn counts_of(alloc: Global, drawing: &Drawing) -> Result<String, Allo
 }
 
 /// What the paths of the chosen entry are, if one is chosen.
-pub(crate) fn paths_of(alloc: Global, drawing: &Drawing) -> Result<Option<String>, AllocError> {
+pub(crate) fn paths_of(
+    alloc: Global,
+    drawing: &Drawing,
+    labels: &Labels,
+) -> Result<Option<String>, AllocError> {
+    let nodes = drawing.nodes.as_slice();
     let count = drawing.paths;
     let paths = if count == 1 { "path" } else { "paths" };
     let text = match drawing.entry {
         None => return Ok(None),
         Some(ChosenEntry::Pair { i, j }) => {
-            let i = i.number();
-            let j = j.number();
+            let i = name_of(nodes, labels, i);
+            let j = name_of(nodes, labels, j);
             format!(in alloc;
                 "{count} {paths} from node {i} to node {j} that share no other node: each crash breaks one at most"
             )?
         }
         Some(ChosenEntry::Fan { j }) => {
-            let j = j.number();
+            let j = name_of(nodes, labels, j);
             format!(in alloc;
                 "{count} {paths} from node {j} to lower members that share no other node: each crash breaks one at most"
             )?
         }
     };
     Ok(Some(text))
+}
+
+/// What the first node of a class is called.
+fn name_of_class<'a>(nodes: &[DrawnNode], labels: &'a Labels, class: NodeClass) -> Option<&'a str> {
+    match nodes.iter().position(|node| node.class == class) {
+        Some(at) => Some(labels.called(at)),
+        None => None,
+    }
+}
+
+/// What the node with this id is called.
+fn name_of<'a>(nodes: &[DrawnNode], labels: &'a Labels, id: NodeId) -> &'a str {
+    match nodes.iter().position(|node| node.id == id) {
+        Some(at) => labels.called(at),
+        None => "",
+    }
 }
 
 /// The number of the first node of a class.

@@ -1,3 +1,4 @@
+use crate::escaped_texts::push_xml;
 use crate::geometry::number;
 use crate::labels::Labels;
 use crate::layout::{Layout, layout_of};
@@ -26,12 +27,12 @@ struct Heading {
 }
 
 impl Heading {
-    /// What is written above this drawing.
-    fn new(alloc: Global, drawing: &Drawing) -> Result<Heading, AllocError> {
+    /// What is written above this drawing, whose nodes have these labels.
+    fn new(alloc: Global, drawing: &Drawing, labels: &Labels) -> Result<Heading, AllocError> {
         Ok(Heading {
-            sentence: sentence_of(alloc, drawing)?,
+            sentence: sentence_of(alloc, drawing, labels)?,
             counts: counts_of(alloc, drawing)?,
-            paths: paths_of(alloc, drawing)?,
+            paths: paths_of(alloc, drawing, labels)?,
         })
     }
 
@@ -54,7 +55,7 @@ pub fn svg(
     names: &[Option<&str>],
 ) -> Result<String, OutOfMemory> {
     let labels = Labels::new(alloc, drawing, names)?;
-    let heading = Heading::new(alloc, drawing)?;
+    let heading = Heading::new(alloc, drawing, &labels)?;
     let layout = layout_of(alloc, drawing, &labels, heading.width())?;
     let mut text = String::new(alloc);
     push_head(&mut text, drawing, &layout, &heading)?;
@@ -88,17 +89,31 @@ fn push_head(
     write!(
         text,
         "<svg xmlns=\"http://www.w3.org/2000/svg\" width=\"{width:.0}\" height=\"{height:.0}\" \
-         viewBox=\"0 0 {width:.0} {height:.0}\" role=\"img\">\n\
-         <title>{sentence}</title>\n<desc>{sentence}. {counts}.</desc>\n"
+         viewBox=\"0 0 {width:.0} {height:.0}\" role=\"img\">\n<title>"
     )?;
+    push_xml(text, sentence.as_str())?;
+    text.push_str("</title>\n<desc>")?;
+    push_xml(text, sentence.as_str())?;
+    write!(text, ". {counts}.</desc>\n")?;
     push_style(text)?;
     write!(
         text,
-        "<rect class=\"ground\" width=\"100%\" height=\"100%\"/>\n\
-         <text class=\"heading\" x=\"{EDGE}\" y=\"36\">{sentence}</text>\n<text x=\"{EDGE}\" y=\"60\">{counts}</text>\n"
+        "<rect class=\"ground\" width=\"100%\" height=\"100%\"/>\n<text class=\"heading\" x=\"{EDGE}\" y=\"36\">"
     )?;
+    push_xml(text, sentence.as_str())?;
+    write!(
+        text,
+        "</text>\n<text x=\"{EDGE}\" y=\"60\">{counts}</text>\n"
+    )?;
+    push_paths(text, paths.as_deref())
+}
+
+/// Appends what the paths are, if any are shown.
+fn push_paths(text: &mut String, paths: Option<&str>) -> Result<(), AllocError> {
     if let Some(paths) = paths {
-        write!(text, "<text x=\"{EDGE}\" y=\"80\">{paths}</text>\n")?;
+        write!(text, "<text x=\"{EDGE}\" y=\"80\">")?;
+        push_xml(text, paths)?;
+        text.push_str("</text>\n")?;
     }
     Ok(())
 }

@@ -2,10 +2,12 @@
 ghost use Rattle.std.specs.Prelude.{◌≡◌, IfOk, IfErr};
 ghost use Rattle.overlay.specs.Program.{IsOfRequest};
 
-use crate::{bytes_asked, bytes_of_file};
 use crate::program_outcome::ProgramFault;
+use crate::tips::print_file_tip;
+use crate::{bytes_asked, bytes_of_file};
 use ov_arguments::{ImportRequest, PictureRequest};
-use ov_file_commands::{print_dump, print_graph, print_picture};
+use ov_file_commands::{FileCommandFault, print_dump, print_graph, print_picture};
+use ov_hints::FileKind;
 use ov_io::Sink;
 
 /// Makes a graph file of the dump of a file, or of standard input.
@@ -19,7 +21,8 @@ pub(crate) fn import_asked(
 {
     let bytes = bytes_asked(rt, file.as_deref())?;
     let mut sink = Sink::new(rt.stdout());
-    print_dump(rt, &bytes, dump, &mut sink)?;
+    let printed = print_dump(rt, &bytes, dump, &mut sink);
+    with_tip(rt, &bytes, file.as_deref(), FileKind::Dump, printed)?;
     Ok(0)
 }
 
@@ -34,13 +37,14 @@ pub(crate) fn picture_asked(
 {
     let bytes = bytes_asked(rt, file.as_deref())?;
     let mut sink = Sink::new(rt.stdout());
-    match &picture.names {
-        None => print_picture(rt, &bytes, None, &picture, &mut sink)?,
+    let printed = match &picture.names {
+        None => print_picture(rt, &bytes, None, &picture, &mut sink),
         Some(path) => {
             let names = bytes_of_file(rt, path.as_str())?;
-            print_picture(rt, &bytes, Some(&names), &picture, &mut sink)?;
+            print_picture(rt, &bytes, Some(&names), &picture, &mut sink)
         }
-    }
+    };
+    with_tip(rt, &bytes, file.as_deref(), FileKind::Certificate, printed)?;
     Ok(0)
 }
 
@@ -51,6 +55,23 @@ pub(crate) fn graph_asked(rt: &HostRuntime, file: Option<String>) -> Result<u8, 
 {
     let bytes = bytes_asked(rt, file.as_deref())?;
     let mut sink = Sink::new(rt.stdout());
-    print_graph(rt, &bytes, &mut sink)?;
+    let printed = print_graph(rt, &bytes, &mut sink);
+    with_tip(rt, &bytes, file.as_deref(), FileKind::Certificate, printed)?;
     Ok(0)
+}
+
+/// The same answer. If these bytes are refused, and do not look like this kind of file, prints which command reads them.
+fn with_tip(
+    rt: &HostRuntime,
+    bytes: &[u8],
+    file: Option<&str>,
+    wanted: FileKind,
+    printed: Result<(), FileCommandFault>,
+) -> Result<(), FileCommandFault>
+    ensures { result ≡ printed }
+{
+    if let Err(FileCommandFault::Refused { .. }) = &printed {
+        print_file_tip(rt, bytes, file, wanted);
+    }
+    printed
 }

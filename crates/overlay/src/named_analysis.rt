@@ -112,7 +112,12 @@ fn no_group(rt: &HostRuntime, text: &str, fault: GroupFault) -> FileCommandFault
     let ended = FileCommandFault::Refused { number };
     let _ = eprintln!(rt; "{ended}");
     match fault {
-        GroupFault::NoSuchName(place) => tell_part(rt, text, place, "is the name of no node, nor an id"),
+        GroupFault::NoSuchName(place) => tell_part(
+            rt,
+            text,
+            place,
+            "is the name of no node, nor an id",
+        ),
         GroupFault::SharedName(place) => tell_part(rt, text, place, "is the name of two nodes"),
         GroupFault::NamedTwice(node) => {
             let id = node.number();

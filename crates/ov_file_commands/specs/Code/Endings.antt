@@ -1,5 +1,5 @@
 -- How parts of a command end.
-use Rattle.std.specs.Prelude.{◌≡◌, ℕ, ⊤, List, Option, Result, Ok, Err}
+use Rattle.std.specs.Prelude.{ℕ, ⊤, List, Option, Result, Ok, Err}
 use Rattle.std.specs.Io.KnownBytes.{Appends}
 use Rattle.ov_graph.specs.Links.{LinkGraph}
 use Rattle.ov_io.specs.Device.{AppendsPrefixOf}

@@ -55,9 +55,8 @@ returns-in-None-clause-given c =
 pub returns-in-None-clause-only : goal.returns-in-None-clause-only
 returns-in-None-clause-only c =
     let arguments = map (λ argument. string_bytes argument) c.args.arguments.now in
-    let app = app_of c.in_ok-command.field-0 in
-    (
+    let app = app_of c.in_ok-command.field-0 in (
       no_fault_found app arguments c.in_ok-command.ensures c.in_ok-matches.ensures.kinds,
       none_readable arguments (none_found app arguments c.in_ok-matches.matches c.in_ok-command.ensures
-      c.in_ok-matches.ensures.matches c.in-None.ensures.name),
+          c.in_ok-matches.ensures.matches c.in-None.ensures.name),
     )

@@ -1,0 +1,295 @@
+#!/usr/bin/env python3
+"""test_pictures.py [--write]: tests of `overlay picture`, and of the pictures that docs/ keeps.
+
+TAGZIRK_OVERLAY names the program overlay. What a picture shows is held against a reading of the certificate that is
+written here: which class each node and each link has, which path goes along which link, and what nodes are called.
+Where things stand is looked at only roughly. The pictures of docs/ are made again, and compared; with --write they
+are written.
+"""
+
+import json
+import os
+import pathlib
+import re
+import subprocess
+import sys
+import tempfile
+import unittest
+import xml.etree.ElementTree as xml
+
+ROOT = pathlib.Path(__file__).resolve().parent.parent
+DOCS, DUMPS = ROOT / "docs", ROOT / "examples" / "dumps"
+OVERLAY = os.environ.get("TAGZIRK_OVERLAY")
+SVG = "{http://www.w3.org/2000/svg}"
+TIP = re.compile(r"node (\d+) \(([a-z-]+)\): (.*)")
+DOT_NODE = re.compile(r'  (\d+) \[class="([a-z-]+)", .*label="(.*)", pos="[\d.,-]+"\];')
+DOT_LINK = re.compile(r'  (\d+) -- (\d+) \[class="([a-z-]+)", color="#[0-9a-f]{6}"(?:, penwidth=3, path=(\d+))?\];')
+# What a link is, by what its ends are.
+BETWEEN = {("far", "far"): "within-far", ("near", "near"): "within-side", ("cut", "cut"): "within-cut",
+           ("cut", "near"): "side-to-cut", ("cut", "far"): "cut-to-far", ("unparted", "unparted"): "unparted"}
+
+
+def overlay(*words, given=""):
+    """What the program prints on standard output, if its status is 0."""
+    given = given if isinstance(given, bytes) else given.encode()
+    run = subprocess.run([OVERLAY, *map(str, words)], input=given, stdout=subprocess.PIPE, timeout=60, check=True)
+    return run.stdout.decode()
+
+
+def certificate_of(graph):
+    """The certificate file of a graph file."""
+    return overlay("analyse", "--certificate", given=graph).splitlines()[-1]
+
+
+def picture_with_names(certificate, graph, *words):
+    """The picture of a certificate, with the names of a graph file."""
+    with tempfile.NamedTemporaryFile(suffix=".graph") as names:
+        names.write(graph.encode())
+        names.flush()
+        return overlay("picture", "--names", names.name, *words, given=certificate)
+
+
+# ---- what a certificate says
+
+
+def classes_of(said):
+    """The class of each node."""
+    if said["verdict"] == "linked":
+        return dict.fromkeys(said["nodes"], "unparted")
+    found = dict.fromkeys(said["nodes"], "far-side")
+    found |= dict.fromkeys(said["side"], "near-side") | dict.fromkeys(said["cut"], "cut")
+    return found | {said["near"]: "near", said["far"]: "far"}
+
+
+def class_of_link(classes, a, b):
+    """The class of a link."""
+    return BETWEEN[tuple(sorted(classes[node].removesuffix("-side") for node in (a, b)))]
+
+
+def steps_of(paths):
+    """The number of the path, from 1, that goes along each link."""
+    found = {}
+    for number, path in enumerate(paths, 1):
+        for a, b in zip(path, path[1:]):
+            found.setdefault((min(a, b), max(a, b)), number)
+    return found
+
+
+def names_in(graph):
+    """The names of the nodes of a graph file."""
+    return {int(at): name for at, name in re.findall(r"(?m)^# (\d+) (.*)\nnode \1$", graph)}
+
+
+def sentence_of(said, names):
+    """What stands above a picture whose names are short."""
+    if said["verdict"] == "linked":
+        return "Every two members are linked: no crash separates survivors"
+    near, far, *cut = (names.get(it, str(it)) for it in (said["near"], said["far"], *said["cut"]))
+    near, far = f"node {near}", f"node {far}"
+    if not cut:
+        return f"N{near[1:]} is separated from {far} without any crash"
+    shown = [*cut[:6], f"{len(cut) - 6} more"] if len(cut) > 6 else cut
+    listed = " and ".join(filter(None, [", ".join(shown[:-1]), shown[-1]]))
+    return f"Crashing node{'s' * (len(cut) > 1)} {listed} separates {near} from {far}"
+
+
+# ---- what a picture shows
+
+
+class Picture:
+    """The nodes, the links and the texts of a picture as SVG."""
+
+    def __init__(self, text):
+        self.top = xml.fromstring(text)
+        self.shapes = {}
+        for shape in [*self.top.iter(f"{SVG}circle"), *self.top.iter(f"{SVG}rect")]:
+            if (tip := shape.find(f"{SVG}title")) is not None:
+                node, kind, name = TIP.fullmatch(tip.text).groups()
+                self.shapes[int(node)] = (shape, kind, name)
+        self.places = {node: self.place(shape) for node, (shape, _, _) in self.shapes.items()}
+        groups = self.top.findall(f"{SVG}g")
+        self.links = [it for group in groups if group.get("class") == "links" for it in group]
+        first = next((group for group in groups if group.get("class") == "paths"), None)
+        self.steps = [] if first is None else list(first)
+        self.labels = [it.text for group in groups if group.get("class") == "labels" for it in group]
+
+    @staticmethod
+    def place(shape):
+        """The middle of a shape."""
+        if shape.tag == f"{SVG}circle":
+            return float(shape.get("cx")), float(shape.get("cy"))
+        half = float(shape.get("width")) / 2
+        return round(float(shape.get("x")) + half, 1), round(float(shape.get("y")) + half, 1)
+
+    def ends(self, line):
+        """The two places that a line joins."""
+        numbers = [float(it) for it in re.findall(r"[\d.]+", line.get("d"))]
+        return tuple(numbers[:2]), tuple(numbers[-2:])
+
+
+def near_by(one, other):
+    """Whether two places are the same, but for what is rounded."""
+    return abs(one[0] - other[0]) < 0.3 and abs(one[1] - other[1]) < 0.3
+
+
+@unittest.skipUnless(OVERLAY, "TAGZIRK_OVERLAY names no program")
+class Pictures(unittest.TestCase):
+    def judge_nodes(self, picture, said, names):
+        """Each node has one shape, of its class, with its name, within the picture."""
+        classes = classes_of(said)
+        self.assertEqual({node: kind for node, (_, kind, _) in picture.shapes.items()}, classes)
+        called = {node: names.get(node, str(node)) for node in said["nodes"]}
+        self.assertEqual({node: name for node, (_, _, name) in picture.shapes.items()}, called)
+        width, height = (float(picture.top.get(it)) for it in ("width", "height"))
+        for node, (shape, kind, _) in picture.shapes.items():
+            x, y = picture.places[node]
+            self.assertTrue(0 < x < width and 0 < y < height)
+            self.assertEqual(shape.tag == f"{SVG}rect", kind == "cut")
+
+    def judge_sides(self, picture, said):
+        """The near side is on the left, the cut between, the other survivors on the right."""
+        if said["verdict"] == "linked":
+            return
+        parts = {"near": [], "cut": [], "far": []}
+        for node, kind in classes_of(said).items():
+            parts[kind.removesuffix("-side")].append(picture.places[node][0])
+        self.assertLess(max(parts["near"]), min(parts["cut"] + parts["far"]))
+        self.assertLess(max(parts["near"] + parts["cut"]), min(parts["far"]))
+
+    def judge_links(self, picture, said, paths):
+        """Each link has one line, of its class or of its path, from node to node."""
+        classes, steps = classes_of(said), steps_of(paths)
+        plain = [link for link in said["links"] if tuple(link) not in steps]
+        wanted = sorted((class_of_link(classes, a, b), a, b) for a, b in plain)
+        self.assertEqual(sorted(line.get("class") for line in picture.links), [it[0] for it in wanted])
+        lines = [(line.get("class"), picture.ends(line)) for line in picture.links]
+        lines += [(line.get("class"), picture.ends(line)) for line in picture.steps]
+        wanted += [(f"p{(number - 1) % 12}", a, b) for (a, b), number in steps.items()]
+        self.assertEqual(len(lines), len(wanted))
+        for kind, a, b in wanted:
+            here = [it for it in lines if it[0] == kind and near_by(it[1][0], picture.places[a])
+                    and near_by(it[1][1], picture.places[b])]
+            self.assertEqual(len(here), 1, (kind, a, b))
+
+    def judge(self, text, said, names=None, paths=()):
+        """A picture as SVG shows the certificate."""
+        picture, names = Picture(text), names or {}
+        self.assertEqual(picture.top.find(f"{SVG}title").text, sentence_of(said, names))
+        self.judge_nodes(picture, said, names)
+        self.judge_sides(picture, said)
+        self.judge_links(picture, said, paths)
+        if len(said["nodes"]) <= 60 and not any(len(name) > 24 for name in names.values()):
+            self.assertEqual(sorted(picture.labels), sorted(names.get(it, str(it)) for it in said["nodes"]))
+        self.assertNotIn("script", text)
+
+    def judge_dot(self, text, said, names=None, paths=()):
+        """A picture in DOT shows the certificate."""
+        classes, steps, names = classes_of(said), steps_of(paths), names or {}
+        nodes = {int(at): (kind, name) for at, kind, name in DOT_NODE.findall(text)}
+        self.assertEqual(nodes, {it: (classes[it], names.get(it, str(it))) for it in said["nodes"]})
+        links = [(int(a), int(b), kind, int(path or 0)) for a, b, kind, path in DOT_LINK.findall(text)]
+        self.assertEqual(links, [(a, b, class_of_link(classes, a, b), steps.get((a, b), 0)) for a, b in said["links"]])
+        self.assertEqual(len(text.splitlines()), 4 + len(nodes) + len(links))
+
+    def test_each_entry_of_the_examples(self):
+        paths = sorted([*ROOT.glob("examples/*.json"), DUMPS / "certificate.json"])
+        held = [it for it in paths if subprocess.run([OVERLAY, "picture", it], capture_output=True).returncode == 0]
+        self.assertEqual(len(held), 9)
+        for path in held:
+            said = json.loads(path.read_text())
+            entries = [((), [])]
+            entries += [(("--pair", f"{it['i']},{it['j']}"), it["paths"]) for it in said.get("pairs", [])]
+            entries += [(("--fan", it["j"]), it["paths"]) for it in said.get("fans", [])][:6]
+            for words, of_entry in entries:
+                with self.subTest(path=path.name, words=words):
+                    self.judge(overlay("picture", path, *words), said, paths=of_entry)
+                    self.judge_dot(overlay("picture", path, "--dot", *words), said, paths=of_entry)
+
+    def test_kept_examples(self):
+        for name, dot in ("picture", False), ("picture-dot", True):
+            text, graph = (DUMPS / f"{name}.out").read_text(), (DUMPS / "import-entries.out").read_text()
+            said = json.loads((DUMPS / "certificate.json").read_text())
+            (self.judge_dot if dot else self.judge)(text, said, names_in(graph))
+
+    def test_signs(self):
+        said = {"verdict": "linked", "nodes": [1, 2], "links": [[1, 2]]}
+        self.judge((DUMPS / "picture-of-signs.out").read_text(), said, {1: "a\\u{1b}[31m<&>\"\\'"})
+        self.judge_dot((DUMPS / "picture-dot-of-signs.out").read_text(), said, {1: "a\\\\u{1b}[31m<&amp;>\\\"\\\\'"})
+
+    def test_pictures_of_the_documents(self):
+        for name, (graph, words) in kept_pictures().items():
+            with self.subTest(name=name):
+                certificate = certificate_of(graph)
+                said = json.loads(certificate)
+                entry = [it["paths"] for it in said["pairs"] if words == ("--pair", f"{it['i']},{it['j']}")]
+                text = picture_with_names(certificate, graph, *words)
+                self.judge(text, said, names_in(graph), entry[0] if entry else ())
+                self.assertEqual((DOCS / name).read_text(), text, f"{name} is kept otherwise")
+
+
+# ---- the pictures of the documents
+
+
+def graph_of(names, pairs):
+    """The graph file that `overlay import` makes of these names, in which each has a link to the next of its pairs."""
+    views = {name: [] for name in names}
+    for a, b in pairs:
+        views[a].append(b)
+        views[b].append(a)
+    return overlay("import", "--views", given=json.dumps(views))
+
+
+def cube():
+    """The graph of the corners and edges of a cube in four dimensions, with letters for names."""
+    names = "abcdefghijklmnop"
+    return graph_of(names, [(names[a], names[a | 1 << bit]) for a in range(16) for bit in range(4) if not a & 1 << bit])
+
+
+def hall(name, count, chords):
+    """The names of the hosts of a hall, and links: a ring with the two next ones, and chords that look random."""
+    hosts = [f"{name}-{at:03}" for at in range(count)]
+    links = {frozenset((at, (at + step) % count)) for at in range(count) for step in (1, 2)}
+    state = count
+    while len(links) < 2 * count + chords:
+        state = (state * 1103515245 + 12345) % 2**31
+        links.add(frozenset((state // 7 % count, state // 1009 % count)))
+    return hosts, [[hosts[at] for at in sorted(link)] for link in sorted(map(sorted, links)) if len(link) == 2]
+
+
+def two_halls():
+    """Two halls of 120 and 77 hosts, which three gateways join."""
+    (one, of_one), (other, of_other) = hall("hall-a", 120, 150), hall("hall-b", 77, 100)
+    gates = [f"gate-{at}" for at in range(1, 4)]
+    links = [(gate, hosts[(7 + 29 * at + 11 * step) % len(hosts)])
+             for at, gate in enumerate(gates) for hosts in (one, other) for step in range(5)]
+    return graph_of([*one, *other, *gates], [*of_one, *of_other, *links])
+
+
+def random_partition():
+    """The graph of docs/NOTEBOOK.md, whose names are whole numbers, from the edges that networkx wrote."""
+    lines = (DUMPS / "partition.edges").read_text().splitlines()
+    links = sorted(sorted(map(int, line.split()[:2])) for line in lines)
+    nodes = sorted({node for link in links for node in link})
+    return "".join([*(f"# {it} {it}\nnode {it}\n" for it in nodes), *(f"link {a} {b}\n" for a, b in links)])
+
+
+def kept_pictures():
+    """The graph file and the options of each picture of the documents."""
+    return {
+        "picture-cluster.svg": ((DUMPS / "import-entries.out").read_text(), ()),
+        "picture-paths.svg": (cube(), ("--pair", "1,4")),
+        "picture-halls.svg": (two_halls(), ()),
+        "picture-notebook.svg": (random_partition(), ()),
+    }
+
+
+def write():
+    """Writes the pictures of the documents."""
+    for name, (graph, words) in kept_pictures().items():
+        (DOCS / name).write_text(picture_with_names(certificate_of(graph), graph, *words))
+
+
+if __name__ == "__main__":
+    if sys.argv[1:] == ["--write"]:
+        sys.exit(write())
+    unittest.main()
