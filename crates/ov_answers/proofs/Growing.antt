@@ -2,19 +2,7 @@
 use Rattle.std.proofs.Common.{◌≡◌, ◌∙◌, ℕ, List, [], ◌∷◌, ◌++◌, refl, sym, ap, append_assoc, append-nil}
 use Rattle.ov_names.specs.NamesState.{NamesState}
 use Rattle.ov_answers.specs.Lines.{IsNodeLine, AreNodeLines}
-use Rattle.ov_answers.specs.Code.Begun.{Gains, Grows}
-
-pub grows_not : (t : List ℕ) → Grows t t
-grows_not t = ([], sym (append-nil t))
-
-pub grows_by : (a b c more : List ℕ) → Grows a b → c ≡ b ++ more → Grows a c
-grows_by a b c more g e = (g.0 ++ more, e ∙ ap (λ t. t ++ more) g.1 ∙ append_assoc a g.0 more)
-
-pub grows_on : (a b c : List ℕ) → Grows a b → Grows b c → Grows a c
-grows_on a b c g h = grows_by a b c h.0 g h.1
-
-pub gains_grows : (P : List ℕ → Type 0) (a b : List ℕ) → Gains P a b → Grows a b
-gains_grows P a b g = (g.0, g.2)
+use Rattle.ov_answers.specs.Code.Begun.{Gains}
 
 -- no line, and one line more
 pub no_lines : (words : List ℕ) (names : NamesState) (t : List ℕ) → Gains (AreNodeLines words names []) t t
@@ -43,19 +31,21 @@ lines_more words names ns n a b c g h = (
 )
 
 -- the lines of a split, one after the other
-pub split_lines : (P Q R : List ℕ → Type 0) (a b c d e : List ℕ) → Gains P a b → Gains Q b c → Gains R c d → Grows d e
-    → (cut : List ℕ) × (near : List ℕ) × (far : List ℕ) × (pieces : List ℕ) × P cut × Q near × R far
-    × (e ≡ a ++ (cut ++ (near ++ (far ++ pieces))))
-split_lines P Q R a b c d e p q r g = (
+pub split_lines : (P Q R S : List ℕ → Type 0) (a b c d e : List ℕ) → Gains P a b → Gains Q b c → Gains R c d
+    → Gains S d e
+    → (cut : List ℕ) × (near : List ℕ) × (far : List ℕ) × (told : List ℕ) × P cut × Q near × R far × S told
+    × (e ≡ a ++ (cut ++ (near ++ (far ++ told))))
+split_lines P Q R S a b c d e p q r s = (
   p.0,
   q.0,
   r.0,
-  g.0,
+  s.0,
   p.1,
   q.1,
   r.1,
-  g.1 ∙ ap (λ t. t ++ g.0) (r.2 ∙ ap (λ t. t ++ r.0) (q.2 ∙ ap (λ t. t ++ q.0) p.2))
-      ∙ append_assoc ((a ++ p.0) ++ q.0) r.0 g.0
-      ∙ append_assoc (a ++ p.0) q.0 (r.0 ++ g.0)
-      ∙ append_assoc a p.0 (q.0 ++ (r.0 ++ g.0)),
+  s.1,
+  s.2 ∙ ap (λ t. t ++ s.0) (r.2 ∙ ap (λ t. t ++ r.0) (q.2 ∙ ap (λ t. t ++ q.0) p.2))
+      ∙ append_assoc ((a ++ p.0) ++ q.0) r.0 s.0
+      ∙ append_assoc (a ++ p.0) q.0 (r.0 ++ s.0)
+      ∙ append_assoc a p.0 (q.0 ++ (r.0 ++ s.0)),
 )

@@ -28,17 +28,17 @@ use Rattle.ov_answers.specs.Telling.{answered_of}
 use Rattle.ov_answers.specs.declared.request.Told.{Told}
 
 -- certificates that agree in everything but their paths have the same lines
-alike_lines : (c d : Cert) (names : NamesState) (named : Bool) (lines : List ℕ) → AreAlike c d
-    → AreLinesBetween named d names lines → AreLinesBetween named c names lines
-alike_lines c d names false lines same are = are
-alike_lines (cert.Linked k) (cert.Linked l) names true lines same are = are
-alike_lines (cert.Split c) (cert.Split d) names true lines same are = rw (same.cut, same.near, same.far) are
-alike_lines (cert.Linked k) (cert.Split d) names true lines same are = absurd same
-alike_lines (cert.Split c) (cert.Linked l) names true lines same are = absurd same
+alike_lines : (g : LinkGraph) (c d : Cert) (names : NamesState) (named : Bool) (lines : List ℕ) → AreAlike c d
+    → AreLinesBetween named g d names lines → AreLinesBetween named g c names lines
+alike_lines g c d names false lines same are = are
+alike_lines g (cert.Linked k) (cert.Linked l) names true lines same are = are
+alike_lines g (cert.Split c) (cert.Split d) names true lines same are = rw (same.cut, same.near, same.far) are
+alike_lines g (cert.Linked k) (cert.Split d) names true lines same are = absurd same
+alike_lines g (cert.Split c) (cert.Linked l) names true lines same are = absurd same
 
 -- the line of an outline, and the lines behind it, are those of a valid answer
 pub outlined : (g : LinkGraph) (q : List ℕ) (c : Cert) (names : NamesState) (named : Bool) (lines text : List ℕ)
-    → IsOutline g q c → AreLinesBetween named c names lines → text ≡ report_line 0 c g q ++ lines
+    → IsOutline g q c → AreLinesBetween named g c names lines → text ≡ report_line 0 c g q ++ lines
     → TellsReport g q names false named text
 outlined g q c names named lines text outline are is =
     let full = outline.full.1 in
@@ -47,14 +47,15 @@ outlined g q c names named lines text outline are is =
       lines,
       full.answer,
       full.valid,
-      alike_lines outline.full.0 c names named lines full.alike are,
+      alike_lines g outline.full.0 c names named lines full.alike are,
       is ∙ ap (λ (t : List ℕ). t ++ lines) (sym line)
           ∙ ap (λ (t : List ℕ). report_line 0 outline.full.0 g q ++ t) (sym (append-nil lines)),
     )
 
 -- a valid answer for this graph and this group, with its certificate file
 pub checked : (g : LinkGraph) (q : List ℕ) (c : CheckedState) (names : NamesState) (named : Bool) (lines text : List ℕ)
-    → IsCheckedAnswer g q c → IsValidForGroup c.graph c.members c.cert → AreLinesBetween named c.cert names lines
+    → IsCheckedAnswer g q c → IsValidForGroup c.graph c.members c.cert
+    → AreLinesBetween named c.graph c.cert names lines
     → text ≡ report_line 0 c.cert c.graph c.members ++ (lines ++ file_text c.cert c.graph c.members 0)
     → TellsReport g q names true named text
 checked g q c names named lines text answer valid are is =
@@ -65,21 +66,23 @@ checked g q c names named lines text answer valid are is =
     subst (λ r. text ≡ report_line 0 c.cert g r ++ (lines ++ file_text c.cert g r 0)) answer.members
     (subst (λ f. text ≡ report_line 0 c.cert f c.members ++ (lines ++ file_text c.cert f c.members 0)) answer.graph is)
     in
-    (c.cert, lines, answer.answer, here, are, line)
+    let between = subst (λ f. AreLinesBetween named f c.cert names lines) answer.graph are in
+    (c.cert, lines, answer.answer, here, between, line)
 
 -- the line of an answer and the lines behind it, with the certificate file behind them
 pub with_file : (c : CheckedState) (cert : Cert) (g : LinkGraph) (q : List ℕ) (names : NamesState) (named : Bool)
     (text new : List ℕ) → cert ≡ c.cert → g ≡ c.graph → q ≡ c.members
-    → ((lines : List ℕ) × AreLinesBetween named cert names lines × (text ≡ report_line 0 cert g q ++ lines))
+    → ((lines : List ℕ) × AreLinesBetween named g cert names lines × (text ≡ report_line 0 cert g q ++ lines))
     → new ≡ text ++ file_text c.cert c.graph c.members 0
-    → (lines : List ℕ) × AreLinesBetween named c.cert names lines
+    → (lines : List ℕ) × AreLinesBetween named c.graph c.cert names lines
     × (new ≡ report_line 0 c.cert c.graph c.members ++ (lines ++ file_text c.cert c.graph c.members 0))
 with_file c cert g q names named text new is_cert is_graph is_members b e =
     let line = subst (λ (r : List ℕ). text ≡ report_line 0 c.cert c.graph r ++ b.0) is_members
     (subst (λ (h : LinkGraph). text ≡ report_line 0 c.cert h q ++ b.0) is_graph
     (subst (λ (d : Cert). text ≡ report_line 0 d g q ++ b.0) is_cert b.2)) in (
       b.0,
-      subst (λ (d : Cert). AreLinesBetween named d names b.0) is_cert b.1,
+      subst (λ (h : LinkGraph). AreLinesBetween named h c.cert names b.0) is_graph
+          (subst (λ (d : Cert). AreLinesBetween named g d names b.0) is_cert b.1),
       e ∙ ap (λ (t : List ℕ). t ++ file_text c.cert c.graph c.members 0) line
           ∙ append_assoc (report_line 0 c.cert c.graph c.members) b.0 (file_text c.cert c.graph c.members 0),
     )

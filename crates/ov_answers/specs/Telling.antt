@@ -25,9 +25,9 @@ use Rattle.ov_answers.specs.declared.request.Told.{Told}
 
 -- the lines between the line of an answer and its certificate file: those that name its nodes if names are asked for,
 -- and otherwise none
-abbrev pub AreLinesBetween : Bool → Cert → NamesState → List ℕ → Type 0
-AreLinesBetween true c names lines = AreNameLines c names lines
-AreLinesBetween false c names lines = lines ≡ []
+abbrev pub AreLinesBetween : Bool → LinkGraph → Cert → NamesState → List ℕ → Type 0
+AreLinesBetween true g c names lines = AreNameLines g c names lines
+AreLinesBetween false g c names lines = lines ≡ []
 
 -- the certificate file if it is asked for, and otherwise nothing
 abbrev pub file_asked : Bool → Cert → LinkGraph → List ℕ → List ℕ
@@ -37,7 +37,7 @@ file_asked false c g q = []
 -- the text of an answer, a certificate that is valid for the group: its line, the lines between, and its file
 abbrev pub TellsReport : LinkGraph → List ℕ → NamesState → Bool → Bool → List ℕ → Type 0
 TellsReport g q names certificate named text =
-    (c : Cert) × (lines : List ℕ) × IsAnswer g q c × IsValidForGroup g q c × AreLinesBetween named c names lines
+    (c : Cert) × (lines : List ℕ) × IsAnswer g q c × IsValidForGroup g q c × AreLinesBetween named g c names lines
     × (text ≡ report_line 0 c g q ++ (lines ++ file_asked certificate c g q))
 
 -- what is told of an analysis, and its text. A graph without nodes is refused with 30, and ids that are no group of the

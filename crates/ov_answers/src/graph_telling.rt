@@ -188,7 +188,7 @@ fn checked_report(
     request: &Request<'_>,
 ) -> Result<Report, OutOfMemory>
     ensures tells { IfOk result (λ report. (lines : List ℕ)
-        × AreLinesBetween request.now.names checked.now.cert names.now lines
+        × AreLinesBetween request.now.names checked.now.graph checked.now.cert names.now lines
         × (report.text.items ≡ report_line 0 checked.now.cert checked.now.graph checked.now.members
         ++ (lines ++ file_text checked.now.cert checked.now.graph checked.now.members 0))) }
     ensures valid { IsValidForGroup checked.now.graph checked.now.members checked.now.cert }
@@ -229,7 +229,8 @@ fn begun_report(
     names: &Names<'_>,
     request: &Request<'_>,
 ) -> Result<Report, OutOfMemory>
-    ensures { IfOk result (λ report. (lines : List ℕ) × AreLinesBetween request.now.names cert.now names.now lines
+    ensures { IfOk result (λ report. (lines : List ℕ)
+        × AreLinesBetween request.now.names graph.now cert.now names.now lines
         × (report.text.items ≡ report_line 0 cert.now graph.now group.now ++ lines)) }
 {
     let line = cert_line(alloc, FILE_MOMENT, cert, graph, group)?;
@@ -249,7 +250,7 @@ fn write_between(
     request: &Request<'_>,
 ) -> Result<(), OutOfMemory>
     ensures { OnOk result
-        (Gains (AreLinesBetween request.now.names cert.now names.now) text.old.items text.new.items) }
+        (Gains (AreLinesBetween request.now.names graph.now cert.now names.now) text.old.items text.new.items) }
 {
     if !request.names {
         return Ok(());

@@ -22,7 +22,7 @@ pub(crate) fn write_lines(
     graph: &Graph,
     names: &Names<'_>,
 ) -> Result<(), OutOfMemory>
-    ensures { OnOk result (Gains (AreNameLines cert.now names.now) text.old.items text.new.items) }
+    ensures { OnOk result (Gains (AreNameLines graph.now cert.now names.now) text.old.items text.new.items) }
 {
     match cert {
         Cert::Linked { .. } => Ok(()),
@@ -38,14 +38,15 @@ fn write_split(
     graph: &Graph,
     names: &Names<'_>,
 ) -> Result<(), OutOfMemory>
-    ensures { OnOk result (Gains (AreNameLines (Cert.Split split.now) names.now) text.old.items text.new.items) }
+    ensures { OnOk result
+        (Gains (AreNameLines graph.now (Cert.Split split.now) names.now) text.old.items text.new.items) }
 {
     let cut = split.cut.as_slice();
     let pieces = pieces_without(alloc, graph, cut)?;
     write_nodes(text, b"cut ", cut, names)?;
     write_node(text, b"near ", split.near, names)?;
     write_node(text, b"far ", split.far, names)?;
-    write_pieces(text, &pieces, names)?;
+    write_pieces(alloc, text, &pieces, names)?;
     Ok(())
 }
 

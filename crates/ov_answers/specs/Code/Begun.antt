@@ -4,7 +4,3 @@ use Rattle.std.specs.Prelude.{◌≡◌, ℕ, List, ◌++◌}
 -- the text got more bytes at its end, of which P holds
 abbrev pub Gains : (List ℕ → Type 0) → List ℕ → List ℕ → Type 0
 Gains P old new = (more : List ℕ) × P more × (new ≡ old ++ more)
-
--- the text got more bytes at its end
-abbrev pub Grows : List ℕ → List ℕ → Type 0
-Grows old new = (more : List ℕ) × (new ≡ old ++ more)

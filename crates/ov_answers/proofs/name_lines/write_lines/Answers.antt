@@ -8,11 +8,11 @@ use Rattle.ov_answers.proofs.name_lines.write_lines.Goals as goal
 pub returns-in-Linked : goal.returns-in-Linked
 returns-in-Linked c =
     let t = c.args.text.now.items in
-    subst (λ (d : Cert). Gains (AreNameLines d c.args.names.now) t t) (sym c.in-Linked.is)
+    subst (λ (d : Cert). Gains (AreNameLines c.args.graph.now d c.args.names.now) t t) (sym c.in-Linked.is)
     ([], refl, sym (append-nil t))
 
 pub returns-in-Split : goal.returns-in-Split
 returns-in-Split c =
     subst (λ (d : Cert). OnOk c.write_split.result
-    (Gains (AreNameLines d c.args.names.now) c.args.text.now.items c.write_split.new.text.items)) (sym c.in-Split.is)
-    c.write_split.ensures
+    (Gains (AreNameLines c.args.graph.now d c.args.names.now) c.args.text.now.items c.write_split.new.text.items))
+    (sym c.in-Split.is) c.write_split.ensures

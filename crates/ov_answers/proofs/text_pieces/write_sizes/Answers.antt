@@ -1,17 +1,25 @@
--- The text grows with each size.
-use Rattle.std.proofs.Common.{[], ◌∷◌}
-use Rattle.ov_answers.proofs.Growing.{grows_not, grows_by}
+-- One size more, with a comma before it if it is not the first.
+use Rattle.std.proofs.Common.{◌∙◌, ◌<◌, length, ap, arith}
+use Rattle.ov_answers.proofs.Piecewise.{first_size, next_size}
+use Rattle.ov_answers.proofs.text_pieces.write_sizes.Goals.{then-place-gt0+in_ok-push, else-place-gt0}
 use Rattle.ov_answers.proofs.text_pieces.write_sizes.Goals as goal
-
-pub loop-place-init : goal.loop-place-init
-loop-place-init c = grows_not c.args.text.now.items
 
 pub loop-place-preserved : goal.loop-place-preserved
 loop-place-preserved c =
-    grows_by c.args.text.now.items c.loop-place.text.items c.write_count.new.text.items _ c.loop-place.invariant
-    c.in_ok-write_count.ensures
-
-pub returns : goal.returns
-returns c =
-    grows_by c.args.text.now.items c.loop-place.text.items c.push.new.self.items (10 ∷ []) c.loop-place.invariant
-    c.in_ok-push.ensures.items
+    let pieces = c.args.pieces.now in
+    let i = c.loop-place.place in
+    let piece = c.piece_at.result.now in
+    let old = c.args.text.now.items in
+    let before = c.loop-place.text.items in
+    let begun = c.if-place-gt0.text.items in
+    let new = c.write_count.new.text.items in
+    let at : i < length pieces = omega (arith, c.loop-place-test.true, c.len-place-end.ensures) in
+    elim c.if-place-gt0.branch [
+      | then-place-gt0+in_ok-push w ↦
+          next_size pieces i piece old before begun new at w.if-place-gt0.true c.piece_at.ensures
+          c.loop-place.invariant (ap (λ v. v.items) w.text-is ∙ w.in_ok-push.ensures.items)
+          c.in_ok-write_count.ensures
+      | else-place-gt0 w ↦
+          first_size pieces i piece old begun new at (λ l. omega (arith, l, w.if-place-gt0.false)) c.piece_at.ensures
+          (ap (λ v. v.items) w.text-is ∙ c.loop-place.invariant) c.in_ok-write_count.ensures
+    ]

@@ -1,6 +1,7 @@
--- The text so far has only grown.
-use Rattle.ov_answers.specs.Code.Begun.{Grows}
+-- The sizes of the pieces so far.
+use Rattle.std.proofs.Common.{◌≡◌, ◌++◌, take}
+use Rattle.ov_answers.specs.Lines.{sizes_text}
 use Rattle.ov_answers.proofs.text_pieces.write_sizes.Given as goal
 
 abbrev pub invariant-loop-place : goal.invariant-loop-place
-invariant-loop-place l = Grows l.fn.text.items l.text.items
+invariant-loop-place l = l.text.items ≡ l.fn.text.items ++ sizes_text (take l.place l.pieces)
