@@ -4,7 +4,7 @@ ghost use Rattle.ov_file_commands.specs.declared.file_command_fault.FileCommandF
 ghost use Rattle.ov_io.specs.Device.{most_faults};
 ghost use Rattle.ov_names.specs.Groups.{number_of};
 ghost use Rattle.overlay.specs.Naming.{WasTold};
-ghost use Rattle.overlay.specs.Code.Named.{IsFound, IsNotFound};
+ghost use Rattle.overlay.specs.Code.Named.{IsFound, IsNotFound, picked};
 
 use crate::fault_reasons::analysis_reason;
 use crate::program_outcome::ProgramFault;
@@ -38,10 +38,7 @@ pub(crate) fn analyse_in_words<T: Threads + Sync, W: Write>(
         analysis.now.names sink.new result }
 {
     let named = named_group(rt, bytes, analysis)?;
-    let group = match &named {
-        Some(ids) => Some(ids.as_slice()),
-        None => analysis.group.as_deref(),
-    };
+    let group = picked_group(&named, &analysis.group);
     let request = Request {
         group,
         workers: analysis.workers,
@@ -61,6 +58,20 @@ pub(crate) fn analyse_in_words<T: Threads + Sync, W: Write>(
             tell_kind(rt, bytes, file, &fault, FileKind::Graph);
             Err(fault.into())
         }
+    }
+}
+
+/// The group that is named, or else that of these ids.
+fn picked_group<'a>(
+    named: &'a Option<Vec<NodeId>>,
+    ids: &'a Option<Vec<NodeId>>,
+) -> Option<&'a [NodeId]>
+    ensures { option_map (λ group. group.now) result
+        ≡ picked (option_map (λ group. group.items) named.now) (option_map (λ group. group.items) ids.now) }
+{
+    match named {
+        Some(group) => Some(group.as_slice()),
+        None => ids.as_deref(),
     }
 }
 

@@ -20,3 +20,8 @@ abbrev pub IsNotFound : List ℕ → Option (List ℕ) → ProgramFault → Type
 IsNotFound bytes text (Run fault) = fault ≡ run.OutOfMemory
 IsNotFound bytes text (OfFile (Refused number)) = NamesNoGroup bytes text number
 IsNotFound bytes text other = ⊥
+
+-- the group that is named, or else that of these ids
+abbrev pub picked : Option (List ℕ) → Option (List ℕ) → Option (List ℕ)
+picked (Some members) ids = Some members
+picked None ids = ids
