@@ -8,10 +8,7 @@ returns-in-Ok g c =
     let ids = option_map (λ ids. ids.items) c.args.analysis.now.group in
     let text = option_map string_bytes c.args.analysis.now.group_names in
     let found = option_map (λ ids. ids.items) c.in_ok-named.named in
-    let group = option_map (λ ids. ids.now) c.picked_group.result in (
-      refl,
-      group,
-      c.in-Ok.told,
-      picked_asked c.args.bytes.now ids text found group c.in_ok-named.ensures.found c.picked_group.ensures,
-      c.in-Ok.ensures.told,
-    )
+    let group = option_map (λ ids. ids.now) c.picked_group-group.result in
+    let asked =
+    picked_asked c.args.bytes.now ids text found group c.in_ok-named.ensures.found c.picked_group-group.ensures in
+    (refl, (group, c.in-Ok.told, asked, c.in-Ok.ensures.told))
