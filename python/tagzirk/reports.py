@@ -8,7 +8,7 @@ from typing import Any, Dict, Generic, Iterable, List, Optional, Tuple
 
 from .answers import Answer, read_answer
 from .checks import check
-from .errors import NotConfirmed
+from .errors import BadGraph, NotConfirmed
 from .graphs import Graph, NamedGraph, Node, named_graph
 from .pictures import drawn
 from .programs import Program, call, find, lines_of, refuse
@@ -62,7 +62,7 @@ class Report(Generic[Node]):
 
         `pair` draws the paths between two members that are not linked, and `fan` those from a member to members
         before it, each in a colour of its own. A certificate has them for some members only; `Refused` (86) is raised
-        for others. `overlay picture` draws it, and only if the certificate holds.
+        for others, and `BadGraph` for what is no node. `overlay picture` draws it, and only if the certificate holds.
 
         >>> picture = analyse([("a", "b"), ("b", "c"), ("c", "d"), ("d", "a")]).picture(fan="c")
         >>> picture.startswith("<svg")
@@ -70,11 +70,19 @@ class Report(Generic[Node]):
         """
         entry = []
         if pair is not None:
-            lower, higher = sorted(self.ids[node] for node in pair)
-            entry.append(f"--pair={lower},{higher}")
+            members = sorted(self._id_of(node) for node in pair)
+            if len(members) != 2:
+                raise BadGraph(f"a pair is two nodes, and not {len(members)}")
+            entry.append(f"--pair={members[0]},{members[1]}")
         if fan is not None:
-            entry.append(f"--fan={self.ids[fan]}")
+            entry.append(f"--fan={self._id_of(fan)}")
         return drawn(self.certificate, self.graph_file, self.ids, entry, overlay)
+
+    def _id_of(self, node: Node) -> int:
+        """The id of a node."""
+        if node not in self.ids:
+            raise BadGraph(f"{node!r} is no node of the graph")
+        return self.ids[node]
 
     def __str__(self) -> str:
         """What it says, in words."""

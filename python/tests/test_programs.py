@@ -194,6 +194,9 @@ class Pictures(unittest.TestCase):
         with self.assertRaises(tagzirk.Refused) as refused:
             report.picture(fan=1)
         self.assertEqual(refused.exception.number, 86)
+        for entry in ({"fan": "zz"}, {"pair": (2, "zz")}, {"pair": (2,)}):
+            with self.subTest(entry), self.assertRaises(tagzirk.BadGraph):
+                report.picture(**entry)
 
 
 class Runs(unittest.TestCase):

@@ -82,7 +82,7 @@ pub(crate) fn counts_of(alloc: Global, drawing: &Drawing) -> Result<String, Allo
     let claim = if k == 0 || count_of(drawing.nodes.as_slice(), NodeClass::Cut) == 0 {
         ""
     } else {
-        ": fewer crashes do not split the group"
+        ": fewer crashes separate no two members that survive"
     };
     format!(in alloc; "{nodes} {node_word}, {links} {link_word}, k = {k}{claim}")
 }

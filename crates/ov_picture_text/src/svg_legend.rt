@@ -36,11 +36,7 @@ const CLASSES: [(NodeClass, &str, &str); 6] = [
     ),
     (NodeClass::Cut, "in the cut", "in the cut"),
     (NodeClass::Far, "far", "far"),
-    (
-        NodeClass::FarSide,
-        "other on the far side",
-        "others on the far side",
-    ),
+    (NodeClass::FarSide, "other survivor", "other survivors"),
     (NodeClass::Unparted, "node", "nodes"),
 ];
 

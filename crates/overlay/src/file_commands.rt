@@ -1,5 +1,5 @@
 //! The commands that turn one file into another.
-ghost use Rattle.std.specs.Prelude.{◌≡◌, IfOk, IfErr};
+ghost use Rattle.std.specs.Prelude.{◌≡◌, ◌⊎◌, ◌∷◌, IfOk, IfErr};
 ghost use Rattle.overlay.specs.Program.{IsOfRequest};
 
 use crate::program_outcome::ProgramFault;
@@ -21,9 +21,19 @@ pub(crate) fn import_asked(
 {
     let bytes = bytes_asked(rt, file.as_deref())?;
     let mut sink = Sink::new(rt.stdout());
-    let printed = print_dump(rt, &bytes, dump, &mut sink);
+    let printed = print_dump(rt, behind_mark(&bytes), dump, &mut sink);
     with_tip(rt, &bytes, file.as_deref(), FileKind::Dump, printed)?;
     Ok(0)
+}
+
+/// These bytes without the byte order mark that they may begin with, as some editors write it.
+fn behind_mark(bytes: &[u8]) -> &[u8]
+    ensures { (result.now ≡ bytes.now) ⊎ (bytes.now ≡ 239 ∷ 187 ∷ 191 ∷ result.now) }
+{
+    match bytes {
+        [0xEF, 0xBB, 0xBF, rest @ ..] => rest,
+        _ => bytes,
+    }
 }
 
 /// Draws the graph of the certificate file of this name, or of standard input, with the names that another file gives.
