@@ -95,11 +95,6 @@ fn push_crash(
     if count == 0 {
         return text.push_str("the graph is split already: ");
     }
-    if count == 1 {
-        text.push_str("crashing node ")?;
-        push_list(text, cut, names)?;
-        return write!(text, " of {all} parts ");
-    }
     write!(text, "crashing {count} of {all} nodes, ")?;
     push_list(text, cut, names)?;
     text.push_str(", parts ")
@@ -135,8 +130,11 @@ fn push_parted(
 /// Appends which crashes part nobody. `count` crashes are the fewest that do.
 fn push_fewer(text: &mut String, count: usize) -> Result<(), AllocError> {
     let fewer = count.saturating_sub(1);
-    if fewer == 0 {
+    if count == 0 {
         return text.push_str("\n");
+    }
+    if fewer == 0 {
+        return text.push_str("\nit does not survive every crash of one node\n");
     }
     if fewer == 1 {
         return text.push_str("; no single crash does\nit survives any 1 crash\n");

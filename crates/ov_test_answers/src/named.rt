@@ -80,7 +80,8 @@ fn nodes_are_named(rt: HostRuntime) {
         "report 0 split k 1 cut 3 near 4 far 1 side 4,5\ncut 3 hub of all\nnear 4 east\nfar 1 west\n\
         pieces 2 sizes 2,2\npiece 2 4 east\npiece 2 5 east\n";
     let explained =
-        "crashing node hub of all (3) of 5 parts nodes east (4) and east (5) from 2 others\n\
+        "crashing 1 of 5 nodes, hub of all (3), parts nodes east (4) and east (5) from 2 others\n\
+        it does not survive every crash of one node\n\
         least degree 2: nodes west (1), 2, east (4) and east (5)\n";
     assert!(rt; tells(&rt, TRIANGLES, None, true, text, explained));
 }
@@ -99,7 +100,8 @@ fn comments_that_stand_elsewhere_name_nobody(rt: HostRuntime) {
 fn without_names_only_the_answer_is_written(rt: HostRuntime) -> Result<(), Fail> {
     let group = ids(rt.alloc(), &[1, 4])?;
     let text = "report 0 split k 1 cut 3 near 1 far 4 side 1,2 group 1,4\n";
-    let explained = "crashing node hub of all (3) of 5 parts member west (1) from 1 other\n\
+    let explained = "crashing 1 of 5 nodes, hub of all (3), parts member west (1) from 1 other\n\
+        it does not survive every crash of one node\n\
         least degree 2: members west (1) and east (4)\n";
     assert!(rt;
         tells(
