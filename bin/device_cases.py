@@ -23,7 +23,7 @@ from device_lab import read_again, told
 NOBODY = 65534
 
 
-def each(name, done, promised, wanted, commands=COMMANDS, file="", **how):
+def each(name, done, promised, wanted, commands=COMMANDS, file="", group="devices", **how):
     """Adds a case in which commands are run on their examples, or on a file, or None, all in the same way. What opens a
     stream, in `how`, is called for each run."""
 
@@ -37,7 +37,7 @@ def each(name, done, promised, wanted, commands=COMMANDS, file="", **how):
                 seen = lab.run(lab.words(command, lab.example(command) if file == "" else file), **given)
             yield command.name, told(seen, b"" if "stdout" in given else lab.right(command), command.explains), wanted
 
-    CASES.append(Case("devices", name, done, promised, act))
+    CASES.append(Case(group, name, done, promised, act))
 
 
 def opened(name, mode):
@@ -373,16 +373,16 @@ def progress(lab):
 # Names
 
 
-def by_name(name, done, promised, wanted, make):
+def by_name(name, done, promised, wanted, make, commands=COMMANDS, group="names"):
     """Adds a case in which the commands are given the words that a function makes."""
 
     def act(lab):
-        for command in COMMANDS:
+        for command in commands:
             seen = lab.run(lab.words(command) + make(lab, command))
             there = wanted[command.program] if isinstance(wanted, dict) else wanted
             yield command.name, told(seen, lab.right(command), command.explains), there
 
-    CASES.append(Case("names", name, done, promised, act))
+    CASES.append(Case(group, name, done, promised, act))
 
 
 def copied(name):

@@ -41,7 +41,7 @@ class Command(NamedTuple):
     @property
     def explains(self):
         """Whether it prints words on standard error although all is well."""
-        return self.name == "run --explain"
+        return "--explain" in self.words or self.kind == "dump"
 
 
 COMMANDS = [
@@ -326,7 +326,8 @@ MAKERS = {
     "small-ring": make_small_ring,
     "world": make_world,
 }
-# How the output of each input begins, or the whole of it if it ends with a line feed.
+# How the output of each input begins, or the whole of it if it ends with a line feed. Where commands print different
+# things of an input, the command stands before its name.
 KNOWN = {
     "scenario": "refused 10\n" * LINES,
     "graph": f"report 0 split k {SHARED} cut {SHARED_IDS} near ",
@@ -347,7 +348,8 @@ KNOWN = {
 def confirm(lab, command, file, seen):
     """Holds an output against what is known of it, and a certificate against `overlay-check`."""
     name = os.path.basename(file)
-    known, asks = KNOWN[name.removeprefix("large.")].encode(), "--certificate" in command.words
+    short, asks = name.removeprefix("large."), "--certificate" in command.words
+    known = (KNOWN.get(f"{command.name} {short}") or KNOWN[short]).encode()
     fits = seen.out == known if known.endswith(b"\n") and not asks else seen.out.startswith(known)
     if seen.status or not fits:
         raise Differs(f"`{command.name} {name}`: {ending_of(seen.status)}, {seen.out[:80]!r}, and not {known[:80]!r}")

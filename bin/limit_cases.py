@@ -79,10 +79,9 @@ def feed(process, flood):
     return written
 
 
-@case("floods", "1 GB from a pipe", "1 GB, or 100 MB, on standard input, with 3 GB of addresses",
-      "the line and the status of FORMATS.md, and memory as FORMATS.md, devices, says")
-def floods(lab):
-    for flood in FLOODS:
+def flooded(lab, floods):
+    """What is seen of commands that get long inputs."""
+    for flood in floods:
         fed = []
         seen = lab.run(lab.words(flood.command), stdin=subprocess.PIPE, bufsize=0,
                        during=lambda process: fed.append(feed(process, flood)))
@@ -90,6 +89,12 @@ def floods(lab):
         within = "" if seen.peak <= bound else f", takes more than {bound / 1e6:.0f} MB"
         note = f"{fed[0] / 1e6:.0f} MB were read, peak {seen.peak / 1e6:.0f} MB, {seen.seconds:.1f} s"
         yield f"{flood.command.name}, {flood.what}", told(seen) + within, flood.wanted, note
+
+
+@case("floods", "1 GB from a pipe", "1 GB, or 100 MB, on standard input, with 3 GB of addresses",
+      "the line and the status of FORMATS.md, and memory as FORMATS.md, devices, says")
+def floods(lab):
+    yield from flooded(lab, FLOODS)
 
 
 @case("floods", "an input that does not end", "FILE is /dev/zero, with 512 MB of addresses",
@@ -106,12 +111,12 @@ PARTLY = "status 1, whole lines, and then `refused 99`"
 
 
 def memory_steps():
-    """Limits on addresses in bytes, falling: by a twentieth down to 4 MB, and then by two pages."""
+    """Limits on addresses in bytes, falling: by a twentieth down to 6 MB, and then by two pages."""
     step = 64 * MB
-    while step > 4 * MB:
+    while step > 6 * MB:
         yield step
         step = step * 19 // 20
-    yield from range(4 * MB, MB, -2 * resource.getpagesize())
+    yield from range(6 * MB, MB, -2 * resource.getpagesize())
 
 
 def has_not_started(seen):
@@ -172,7 +177,7 @@ LITTLE = ("the right output, or out of memory: `refused 99`, status 1; in a run 
           "of a line (FORMATS.md, devices)")
 
 
-@case("memory", "little memory, small input", "64 MB of addresses, 5% less again and again, from 4 MB on 8 KB less, "
+@case("memory", "little memory, small input", "64 MB of addresses, 5% less again and again, from 6 MB on 8 KB less, "
       "until it can't start", LITTLE)
 def little_small(lab):
     yield from little_memory(lab, [(command, lab.example(command)) for command in [*COMMANDS, WORKERS]])
