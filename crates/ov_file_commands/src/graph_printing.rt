@@ -17,8 +17,8 @@ use std::io::Write;
 /// Writes the graph of a certificate file of these bytes as a graph file. Whether the certificate holds is not asked.
 /// If nothing is written, standard error says why.
 ///
-/// `Refused` has the number of the first fault of the bytes as a certificate file (60 to 64, 31 to 33). `Write` (72): the
-/// writer failed. `OutOfMemory` (99): an allocation was refused.
+/// `Refused` has the number of the first fault of the bytes as a certificate file (60 to 64, 31 to 33). `Write` (72):
+/// the writer failed. `OutOfMemory` (99): an allocation was refused.
 pub fn print_graph<W: Write>(
     rt: &HostRuntime,
     bytes: &[u8],

@@ -42,8 +42,8 @@ pub fn print_picture<W: Write>(
 ) -> Result<(), FileCommandFault>
     requires { sink.old.faults < most_faults }
     ensures holds { OnOk result (SaysExactNumber bytes.now) }
-    ensures printed { WasPicturePrinted bytes.now (option_map (λ file. file.now) names.entry) (chosen_entry request.now.entry)
-        W.contents sink.old.writer sink.new.writer result }
+    ensures printed { WasPicturePrinted bytes.now (option_map (λ file. file.now) names.entry)
+        (chosen_entry request.now.entry) W.contents sink.old.writer sink.new.writer result }
 {
     let filed = held(rt, bytes)?;
     let drawing = match draw(
