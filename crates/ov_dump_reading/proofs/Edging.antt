@@ -4,12 +4,13 @@ use Rattle.std.proofs.Common.{append_assoc, append-nil}
 use Rattle.std.specs.List.{flat_map}
 use Rattle.ov_ids.specs.Members.{Has}
 use Rattle.ov_lines.specs.Lines.{kept_lines}
+use Rattle.ov_dump.specs.FirstEntries.{AreFirsts}
 use Rattle.ov_dump.specs.declared.dump_values.Dump.{Dump}
 use Rattle.ov_dump.specs.declared.dump_values.Entry.{Entry}
 use Rattle.ov_dump.specs.declared.dump_values.Listing.{Listing}
 use Rattle.ov_dump_reading.specs.Code.Reading.{TakesEnds, TakesEntry}
 use Rattle.ov_dump_reading.specs.EdgeLines.{IsBlankLine, IsEdge, IsReadable}
-use Rattle.ov_dump_reading.specs.Edges.{AreFirsts, Edge, IsEdgesFault, IsUnreadAt, SayEdges, SaysEdges, ends_of}
+use Rattle.ov_dump_reading.specs.Edges.{Edge, IsEdgesFault, IsUnreadAt, SayEdges, SaysEdges, ends_of}
 use Rattle.ov_dump_reading.specs.Edges.{listings_of}
 use Rattle.ov_dump_reading.specs.declared.reading_fault.ReadingFault.{ReadingFault}
 use Rattle.ov_dump_reading.specs.declared.reading_fault.ReadingFault.TheVariants.{UnreadLine, OutOfMemory}

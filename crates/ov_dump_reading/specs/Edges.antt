@@ -1,8 +1,8 @@
 -- Dumps as lines of two names, each of which lists the other.
 use Rattle.std.specs.Prelude.{◌≡◌, ◌⊎◌, ⊤, ℕ, List, [], ◌∷◌, map}
 use Rattle.std.specs.List.{flat_map}
-use Rattle.ov_ids.specs.Members.{Has}
 use Rattle.ov_lines.specs.Lines.{kept_lines}
+use Rattle.ov_dump.specs.FirstEntries.{AreFirsts}
 use Rattle.ov_dump.specs.declared.dump_values.Dump.{Dump}
 use Rattle.ov_dump.specs.declared.dump_values.Entry.{Entry}
 use Rattle.ov_dump.specs.declared.dump_values.Listing.{Listing}
@@ -32,14 +32,6 @@ listings_of e = record { at = e.line; from = e.a; to = e.b } ∷ record { at = e
 -- the ends, each as an entry on the line of the edge
 abbrev pub ends_of : Edge → List Entry
 ends_of e = record { at = e.line; name = e.a } ∷ record { at = e.line; name = e.b } ∷ []
-
--- `entries` are those of `all` that are the first of their name, in order; the names that were seen before are not
--- among them
-abbrev pub AreFirsts : List (List ℕ) → List Entry → List Entry → Type 0
-AreFirsts seen [] entries = entries ≡ []
-AreFirsts seen (e ∷ all) entries =
-    (Has seen e.name × AreFirsts seen all entries)
-    ⊎ ((rest : List Entry) × (¬ Has seen e.name) × (entries ≡ e ∷ rest) × AreFirsts (e.name ∷ seen) all rest)
 
 -- a file of these bytes says this dump: each end of an edge has one entry, at its first line, and each end lists the
 -- other
