@@ -370,6 +370,27 @@ def progress(lab):
             yield f"--workers {workers} 2>/dev/full", told(lab.run(words, stderr=full), right), RIGHT
 
 
+LINE = re.compile(rb"line (\d+) of (\d+)")
+# A run of so many lines takes more than the second in which nothing is told.
+MANY_LINES = 6_000_000
+
+
+@case("devices", "progress of a run", f"`run --progress` of {MANY_LINES:,} lines `show 1`, the last one without a line feed",
+      "lines `line N of M`, none in the first second, at most two a second; N rises, and M counts all lines (FORMATS.md)")
+def run_progress(lab):
+    path = pathlib.Path(lab.room, "many-lines")
+    path.write_text("\n".join(["show 1"] * MANY_LINES))
+    seen = lab.run(lab.words(RUN, str(path)) + ["--progress"])
+    path.unlink()
+    found = [LINE.fullmatch(line) for line in seen.err.splitlines()]
+    numbers = [int(it[1]) for it in found if it and int(it[2]) == MANY_LINES]
+    has_form = len(numbers) == len(found) > 0 and numbers == sorted(set(numbers)) and numbers[-1] <= MANY_LINES
+    text = "lines in this form, as seldom" if has_form and len(found) <= 2 * seen.seconds else repr(seen.err[:80])
+    right = "each look refused" if seen.out == b"refused 10\n" * MANY_LINES and seen.status == 0 else f"status {seen.status}"
+    note = f"{len(found)} lines in {seen.seconds:.1f} s"
+    yield "run --progress", f"{right}, {text}", "each look refused, lines in this form, as seldom", note
+
+
 # Names
 
 

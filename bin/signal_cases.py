@@ -242,13 +242,23 @@ def with_threads(lab, most):
 FEWER = "a thread that can't be started is no fault: the output is the same (FORMATS.md, devices)"
 
 
-@case("threads", "threads are there to be refused", "`analyse --workers 64`, and the most threads that were seen",
+@case("workers", "threads are there to be refused", "`analyse --workers 64`, and the most threads that were seen",
       "at most N threads (FORMATS.md)")
 def many_threads(lab):
     counted = Counted()
     lab.run([*lab.words(ANALYSE), "--workers", "64", lab.large("dense")], during=counted)
     text = "2 to 64 threads" if 2 <= counted.most <= 64 else f"{counted.most} threads"
     yield "analyse --workers 64", text, "2 to 64 threads", f"{counted.most} threads"
+
+
+@case("workers", "a certificate is checked by several threads", "`overlay-check` of a certificate of a thousand entries, "
+      "and the most threads that were seen", "several threads share the entries, if there are several processors (PROVED.md)")
+def threads_of_checker(lab):
+    counted = Counted()
+    lab.run(lab.words(CHECK, lab.large("entries")), during=counted)
+    least = min(2, len(os.sched_getaffinity(0)))
+    text = "several threads" if counted.most >= least else f"{counted.most} threads"
+    yield "overlay-check", text, "several threads", f"{counted.most} threads"
 
 
 @case("threads", "no thread can be started", "64 workers, sections, a large certificate, `ulimit -u 1`; for root "
