@@ -24,13 +24,23 @@ KeepsNames bytes names = (g : LinkGraph) × IsGraphFile bytes g × AreNamesOf by
 abbrev pub IsNoGraphFile : List ℕ → Type 0
 IsNoGraphFile bytes = (fault : GraphFileFault) × (fault ≢ graph_file.OutOfMemory) × IsGraphFileFault bytes fault
 
--- a group is asked for: that of these ids, if none is named; or that of the nodes which a text names, by the names that
--- the graph file of these bytes keeps. In bytes that are no graph file nothing is named
+-- the group that a text names, by the names that the graph file of these bytes keeps: none without a text, and none in
+-- bytes that are no graph file
+abbrev pub IsGroupIn : List ℕ → Option (List ℕ) → Option (List ℕ) → Type 0
+IsGroupIn bytes None named = named ≡ None
+IsGroupIn bytes (Some text) None = IsNoGraphFile bytes
+IsGroupIn bytes (Some text) (Some members) =
+    (names : NamesState) × KeepsNames bytes names × IsGroupNamed names (parts_of text) members
+
+-- the group that is named, or else that of these ids
+abbrev pub picked : Option (List ℕ) → Option (List ℕ) → Option (List ℕ)
+picked (Some members) ids = Some members
+picked None ids = ids
+
+-- a group is asked for: the one that a text names, or else that of these ids
 abbrev pub IsGroupAsked : List ℕ → Option (List ℕ) → Option (List ℕ) → Option (List ℕ) → Type 0
-IsGroupAsked bytes ids None group = group ≡ ids
-IsGroupAsked bytes ids (Some text) group =
-    ((names : NamesState) × (members : List ℕ) × KeepsNames bytes names × IsGroupNamed names (parts_of text) members
-    × (group ≡ Some members)) ⊎ (IsNoGraphFile bytes × (group ≡ ids))
+IsGroupAsked bytes ids text group =
+    (named : Option (List ℕ)) × IsGroupIn bytes text named × (group ≡ picked named ids)
 
 -- a text names no group, by the names that the graph file of these bytes keeps, and this is the number of the fault
 abbrev pub NamesNoGroup : List ℕ → Option (List ℕ) → ℕ → Type 0

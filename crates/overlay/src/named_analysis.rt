@@ -3,8 +3,8 @@ ghost use Rattle.std.specs.Prelude.{◌≡◌, ◌<◌, option_map, string_bytes
 ghost use Rattle.ov_file_commands.specs.declared.file_command_fault.FileCommandFault.TheVariants.{Refused};
 ghost use Rattle.ov_io.specs.Device.{most_faults};
 ghost use Rattle.ov_names.specs.Groups.{number_of};
-ghost use Rattle.overlay.specs.Naming.{WasTold};
-ghost use Rattle.overlay.specs.Code.Named.{IsFound, IsNotFound, picked};
+ghost use Rattle.overlay.specs.Naming.{IsGroupIn, WasTold, picked};
+ghost use Rattle.overlay.specs.Code.Named.{IsNotFound};
 
 use crate::fault_reasons::analysis_reason;
 use crate::program_outcome::ProgramFault;
@@ -93,7 +93,7 @@ fn named_group(
     bytes: &[u8],
     analysis: &AnalysisRequest,
 ) -> Result<Option<Vec<NodeId>>, ProgramFault>
-    ensures found { IfOk result (λ named. IsFound bytes.now (option_map string_bytes analysis.now.group_names)
+    ensures found { IfOk result (λ named. IsGroupIn bytes.now (option_map string_bytes analysis.now.group_names)
         (option_map (λ ids. ids.items) named)) }
     ensures fault { IfErr result (IsNotFound bytes.now (option_map string_bytes analysis.now.group_names)) }
 {
