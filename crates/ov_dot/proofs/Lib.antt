@@ -1,4 +1,5 @@
 pub mod Stepping
 pub mod Entries
 pub mod Parsing
+pub mod Completing
 pub mod Refusing
