@@ -21,15 +21,16 @@ use Rattle.ov_dot.specs.declared.fault.Why.TheVariants.{WrongEdge}
 use Rattle.ov_dot.specs.Diagram.{attribute, beginning, behind_attribute, behind_first, behind_list, behind_name}
 use Rattle.ov_dot.specs.Diagram.{behind_node, behind_port, behind_value, follows, heading, name_to, opening, statement}
 use Rattle.ov_dot.specs.Diagram.{list_opening, title_to, value}
-use Rattle.ov_dot.specs.Statements.{Reading, Said, at_beginning, depth_behind, directed_behind, ended, is_wrong_edge}
-use Rattle.ov_dot.specs.Statements.{moved, nothing_said, place_behind, read_on, said_behind, statements_of, step_to}
-use Rattle.ov_dot.specs.Grammar.{Spot, token, NodeName, Word, Text, named, Value, NoValue, NameValue, HtmlValue}
-use Rattle.ov_dot.specs.Grammar.{spell_value, Ending, NoEnding, CommaEnding, SemicolonEnding, spell_ending, Item}
-use Rattle.ov_dot.specs.Grammar.{spell_item, spell_items, Attributes, spell_attributes, spell_lists, Port, NoPort}
-use Rattle.ov_dot.specs.Grammar.{AtPort, AtSide, spell_port, End, edge_kind, spell_ends, Whose, OfGraph, OfNodes}
+use Rattle.ov_dot.specs.Sayings.{Said, nothing_said}
+use Rattle.ov_dot.specs.Statements.{Reading, at_beginning, depth_behind, directed_behind, ended, is_wrong_edge}
+use Rattle.ov_dot.specs.Statements.{moved, place_behind, read_on, said_behind, statements_of, step_to}
+use Rattle.ov_dot.specs.Grammar.{Spot, token, NodeName, Word, Text, named, NoValue, NameValue, HtmlValue}
+use Rattle.ov_dot.specs.Grammar.{spell_value, NoEnding, CommaEnding, SemicolonEnding, spell_ending}
+use Rattle.ov_dot.specs.Grammar.{spell_item, spell_items, spell_attributes, spell_lists, NoPort}
+use Rattle.ov_dot.specs.Grammar.{AtPort, AtSide, spell_port, edge_kind, spell_ends, Whose, OfGraph, OfNodes}
 use Rattle.ov_dot.specs.Grammar.{OfEdges, whose_kind, NoTitle, Untitled, Titled, Statement, Nothing, Chain, Defaults}
 use Rattle.ov_dot.specs.Grammar.{Assignment, Opening, Closing, spell_statement, spell_statements, IsBalanced}
-use Rattle.ov_dot.specs.Grammar.{Strictness, Lax, IsStrict, GraphName, Unnamed, IsNamed, File, spell_strictness}
+use Rattle.ov_dot.specs.Grammar.{Lax, IsStrict, GraphName, Unnamed, IsNamed, File, spell_strictness}
 use Rattle.ov_dot.specs.Grammar.{spell_name, graph_kind, spell_file}
 
 -- ---- parts of a file, and what is left behind them
@@ -259,7 +260,7 @@ bracket d n s ts left =
       closing.1,
       closing.2,
       ap (λ l. token OpenBracket s ∷ l)
-      (glue (spell_items left.0) (token CloseBracket closing.0 ∷ []) closing.1 left.1 ts closing.3 left.3),
+          (glue (spell_items left.0) (token CloseBracket closing.0 ∷ []) closing.1 left.1 ts closing.3 left.3),
     )
 
 by_bracket :
@@ -287,8 +288,9 @@ edge d n s ts left =
       ends.1,
       ends.2,
       ap (λ l. token (edge_kind d) s ∷ l)
-      (ap (λ l. named left.0 ∷ l) (glue (spell_port port.0) (spell_ends d ends.0) ends.1 port.1 left.1 ends.3 port.3)
-      ∙ left.3),
+          (ap (λ l. named left.0 ∷ l)
+          (glue (spell_port port.0) (spell_ends d ends.0) ends.1 port.1 left.1 ends.3 port.3)
+          ∙ left.3),
     )
 
 by_node :
@@ -311,7 +313,7 @@ ported d n s name us ts (inr left) spelled =
       side.1,
       side.2,
       ap (λ l. token Colon s ∷ l)
-      (ap (λ l. named name ∷ l) (ap (λ l. token Colon left.0 ∷ l) side.3 ∙ left.3) ∙ spelled),
+          (ap (λ l. named name ∷ l) (ap (λ l. token Colon left.0 ∷ l) side.3 ∙ left.3) ∙ spelled),
     )
 
 by_member :
@@ -342,7 +344,7 @@ item d n name ts left =
       ending.1,
       ending.2,
       ap (λ l. named name ∷ l)
-      (glue (spell_value left.0) (spell_ending ending.0) ending.1 left.1 ts ending.3 left.3),
+          (glue (spell_value left.0) (spell_ending ending.0) ending.1 left.1 ts ending.3 left.3),
     )
 
 by_attribute :
@@ -434,18 +436,18 @@ by_place Over kind s d n ts goes = absurd goes
 
 -- ---- all tokens
 
-abbrev Failed : Result Said DotFault → Type 0
-Failed (Ok said) = ⊥
-Failed (Err fault) = Unit {0}
+abbrev Fails : {X : Type 0} → Result X DotFault → Type 0
+Fails (Ok x) = ⊥
+Fails (Err fault) = Unit {0}
 
-pub not_read : (fault : DotFault) (said : Said) → Err fault ≡ Ok said → ⊥
-not_read fault said is = subst Failed is tt
+pub not_ok : {X : Type 0} (fault : DotFault) (x : X) → Err fault ≡ Ok x → ⊥
+not_ok {X} fault x is = subst (λ (r : Result X DotFault). Fails r) is tt
 
 -- the end of the text
 none_left :
     (place : Place) (r : Reading) (d : Bool) (n : ℕ) (said now : Said) → ended r place said ≡ Ok now → Left d n place []
 none_left Over r d n said now is = refl
-none_left place r d n said now is = absurd (not_read _ now is)
+none_left place r d n said now is = absurd (not_ok _ now is)
 
 -- the next token, if all that are left are read
 edge_fits :
@@ -455,7 +457,7 @@ edge_fits :
     → read_on (cond wrong (Err (UnreadLine t.line WrongEdge)) (Ok (moved r t place))) said ts ≡ Ok now
     → Goes r.directed r.depth t.kind ts (Some place)
 unfolding read_on
-edge_fits true r t place said now ts later is reads = absurd (not_read _ now reads)
+edge_fits true r t place said now ts later is reads = absurd (not_ok _ now reads)
 edge_fits false r t place said now ts later is reads = (is, later (moved r t place) reads)
 
 goes_on :
@@ -463,7 +465,7 @@ goes_on :
     → ((next : Reading) → read_on (Ok next) said ts ≡ Ok now → Left next.directed next.depth next.place ts)
     → read_on (step_to r t place) said ts ≡ Ok now → Goes r.directed r.depth t.kind ts place
 unfolding read_on
-goes_on None r t said now ts later reads = absurd (not_read _ now reads)
+goes_on None r t said now ts later reads = absurd (not_ok _ now reads)
 goes_on (Some place) r t said now ts later reads =
     edge_fits (is_wrong_edge r.directed t.kind) r t place said now ts later refl reads
 
@@ -501,7 +503,7 @@ balanced depth (Assignment name equals value ∷ statements) is = balanced depth
 pub file_of :
     (tokens : List Lexeme) (said : Said) → statements_of tokens ≡ Ok said
     → (file : File) × IsBalanced 0 file.statements × (spell_file file ≡ tokens)
-file_of [] said reads = absurd (not_read _ said reads)
+file_of [] said reads = absurd (not_ok _ said reads)
 file_of (t ∷ ts) said reads =
     let strict = left_by (t ∷ ts) (at_beginning t) nothing_said said reads in
     let graph = strict.2 refl in
@@ -520,8 +522,8 @@ file_of (t ∷ ts) said reads =
       },
       balanced 0 body.0 body.2,
       ap (λ l. spell_strictness strict.0 ++ l)
-      (ap (λ l. token (graph_kind graph.0) heading.0 ∷ l)
-      (ap (λ l. spell_name title.0 ++ l) (ap (λ l. token OpenBrace brace.0 ∷ l) body.3 ∙ brace.3) ∙ title.3)
-      ∙ heading.3)
-      ∙ strict.3,
+          (ap (λ l. token (graph_kind graph.0) heading.0 ∷ l)
+          (ap (λ l. spell_name title.0 ++ l) (ap (λ l. token OpenBrace brace.0 ∷ l) body.3 ∙ brace.3) ∙ title.3)
+          ∙ heading.3)
+          ∙ strict.3,
     )

@@ -2,4 +2,5 @@ pub mod Stepping
 pub mod Entries
 pub mod Parsing
 pub mod Completing
+pub mod Stopping
 pub mod Refusing

@@ -1,33 +1,33 @@
 -- A file that the grammar has is read, and says what its statements say.
-use Rattle.std.proofs.Common.{◌≡◌, ◌∙◌, ◌+◌, ◌-◌, ◌<◌, ◌≤◌, ◌++◌, ℕ, zero, suc, Bool, true, false, nat_le, cond, List}
-use Rattle.std.proofs.Common.{[], ◌∷◌, Option, Some, None}
+use Rattle.std.proofs.Common.{◌≡◌, ◌∙◌, ◌+◌, ◌-◌, ◌<◌, ◌++◌, ℕ, Bool, true, false, nat_le, cond, List}
+use Rattle.std.proofs.Common.{[], ◌∷◌}
 use Rattle.std.proofs.lemmas.Bool.Decides.{nat_tests}
-use Rattle.std.proofs.Common.{Result, Ok, Err, refl, sym, ap, subst, arith, append_assoc}
+use Rattle.std.proofs.Common.{Ok, refl, sym, ap, subst, arith, append_assoc}
 use Rattle.ov_dot_tokens.specs.Tokens.{Lexeme}
 use Rattle.ov_dot_tokens.specs.declared.token.Kind.{Kind}
 use Rattle.ov_dot_tokens.specs.declared.token.Kind.TheVariants.{Strict, Graph, Digraph, Node, Edge, Subgraph, Bare}
 use Rattle.ov_dot_tokens.specs.declared.token.Kind.TheVariants.{Quoted, OpenBrace}
-use Rattle.ov_dot_tokens.specs.declared.token.Kind.TheVariants.{CloseBrace, OpenBracket, CloseBracket, Semicolon}
+use Rattle.ov_dot_tokens.specs.declared.token.Kind.TheVariants.{CloseBrace, CloseBracket, Semicolon}
 use Rattle.ov_dot.specs.declared.place.Place.{Place}
-use Rattle.ov_dot.specs.declared.place.Place.TheVariants.{Body, Named, Member, Ported, Directed, EndNext, ListNext}
+use Rattle.ov_dot.specs.declared.place.Place.TheVariants.{Body, Named, Member, Ported, Directed}
 use Rattle.ov_dot.specs.declared.place.Place.TheVariants.{InList}
 use Rattle.ov_dot.specs.declared.place.Place.TheVariants.{Attribute, Valued, Listed, Over}
-use Rattle.ov_dot.specs.declared.place.Place.TheVariants.{Beginning, BehindStrict, BehindKind, BehindTitle}
-use Rattle.ov_dot.specs.Statements.{Reading, Said, nothing_said, read_on, statements_of, with_edge}
+use Rattle.ov_dot.specs.Sayings.{Said, nothing_said, with_edge}
+use Rattle.ov_dot.specs.Statements.{Reading, read_on, statements_of}
 use Rattle.ov_dot.specs.Grammar.{Spot, token, NodeName, Word, Text, named, Value, NoValue, NameValue, HtmlValue}
 use Rattle.ov_dot.specs.Grammar.{spell_value}
 use Rattle.ov_dot.specs.Grammar.{Ending, NoEnding, CommaEnding, SemicolonEnding, spell_ending, Item, spell_item}
 use Rattle.ov_dot.specs.Grammar.{spell_items}
 use Rattle.ov_dot.specs.Grammar.{Attributes, spell_attributes, spell_lists, Port, NoPort, AtPort, AtSide, spell_port}
 use Rattle.ov_dot.specs.Grammar.{End, edge_kind, spell_ends, Whose, OfGraph, OfNodes, OfEdges, whose_kind}
-use Rattle.ov_dot.specs.Grammar.{Title, NoTitle, Untitled, Titled, spell_title, Statement, Nothing, Chain, Defaults}
+use Rattle.ov_dot.specs.Grammar.{Title, NoTitle, Untitled, Titled, Statement, Nothing, Chain, Defaults}
 use Rattle.ov_dot.specs.Grammar.{Assignment, Opening, Closing, spell_statement, spell_statements, IsBalanced}
 use Rattle.ov_dot.specs.Grammar.{with_entry, with_ends, with_statement, with_statements, Strictness, Lax, IsStrict}
 use Rattle.ov_dot.specs.Grammar.{GraphName, Unnamed, IsNamed, File, spell_strictness, spell_name, graph_kind}
 use Rattle.ov_dot.specs.Grammar.{spell_file, said_by}
 
 -- where a reading stands
-abbrev here : Bool → ℕ → Place → Lexeme → ℕ → Reading
+abbrev pub here : Bool → ℕ → Place → Lexeme → ℕ → Reading
 here d n p o l = record { directed = d; depth = n; place = p; name = o; line = l }
 
 -- ---- attributes

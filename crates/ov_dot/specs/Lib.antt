@@ -1,10 +1,11 @@
 pub mod FaultNumbers
 pub mod Faults
+pub mod Sayings
+pub mod Grammar
+pub mod Names
+pub mod Dumps
 pub mod Diagram
 pub mod Reasons
 pub mod Statements
-pub mod Names
-pub mod Dumps
 pub mod Readings
-pub mod Grammar
 pub mod Code
