@@ -18,20 +18,21 @@ use Rattle.ov_dot.specs.declared.place.Place.TheVariants.{AssignedNext, Subgraph
 use Rattle.ov_dot.specs.declared.fault.DotFault.{DotFault}
 use Rattle.ov_dot.specs.declared.fault.DotFault.TheVariants.{UnreadLine}
 use Rattle.ov_dot.specs.declared.fault.Why.TheVariants.{WrongEdge}
-use Rattle.ov_dot.specs.Diagram.{attribute, beginning, behind_attribute, behind_first, behind_list, behind_name}
-use Rattle.ov_dot.specs.Diagram.{behind_node, behind_port, behind_value, follows, heading, name_to, opening, statement}
-use Rattle.ov_dot.specs.Diagram.{list_opening, title_to, value}
+use Rattle.ov_dot.specs.Code.Diagram.{attribute, beginning, behind_attribute, behind_first, behind_list, behind_name}
+use Rattle.ov_dot.specs.Code.Diagram.{behind_node, behind_port, behind_value, follows, heading, name_to, opening, statement}
+use Rattle.ov_dot.specs.Code.Diagram.{list_opening, title_to, value}
 use Rattle.ov_dot.specs.Sayings.{Said, nothing_said}
-use Rattle.ov_dot.specs.Statements.{Reading, at_beginning, depth_behind, directed_behind, ended, is_wrong_edge}
-use Rattle.ov_dot.specs.Statements.{moved, place_behind, read_on, said_behind, statements_of, step_to}
+use Rattle.ov_dot.specs.Code.Statements.{Reading, at_beginning, depth_behind, directed_behind, ended, is_wrong_edge}
+use Rattle.ov_dot.specs.Code.Statements.{moved, place_behind, read_on, said_behind, statements_of, step_to}
 use Rattle.ov_dot.specs.Grammar.{Spot, token, NodeName, Word, Text, named, NoValue, NameValue, HtmlValue}
 use Rattle.ov_dot.specs.Grammar.{spell_value, NoEnding, CommaEnding, SemicolonEnding, spell_ending}
 use Rattle.ov_dot.specs.Grammar.{spell_item, spell_items, spell_attributes, spell_lists, NoPort}
 use Rattle.ov_dot.specs.Grammar.{AtPort, AtSide, spell_port, edge_kind, spell_ends, Whose, OfGraph, OfNodes}
 use Rattle.ov_dot.specs.Grammar.{OfEdges, whose_kind, NoTitle, Untitled, Titled, Statement, Nothing, Chain, Defaults}
 use Rattle.ov_dot.specs.Grammar.{Assignment, Opening, Closing, spell_statement, spell_statements, IsBalanced}
-use Rattle.ov_dot.specs.Grammar.{Lax, IsStrict, GraphName, Unnamed, IsNamed, File, spell_strictness}
-use Rattle.ov_dot.specs.Grammar.{spell_name, graph_kind, spell_file}
+use Rattle.ov_dot.specs.Grammar.{Lax, IsStrict, GraphName, Unnamed, IsNamed, spell_strictness}
+use Rattle.ov_dot.proofs.Parsing.{begun_by}
+use Rattle.ov_dot.specs.Grammar.{AreFile, spell_name, graph_kind}
 
 -- ---- parts of a file, and what is left behind them
 
@@ -500,12 +501,11 @@ balanced depth (Defaults whose spot list lists ∷ statements) is = balanced dep
 balanced depth (Assignment name equals value ∷ statements) is = balanced depth statements is
 
 -- tokens that are read to their end are those of a file
-pub file_of :
-    (tokens : List Lexeme) (said : Said) → statements_of tokens ≡ Ok said
-    → (file : File) × IsBalanced 0 file.statements × (spell_file file ≡ tokens)
-file_of [] said reads = absurd (not_ok _ said reads)
-file_of (t ∷ ts) said reads =
-    let strict = left_by (t ∷ ts) (at_beginning t) nothing_said said reads in
+pub file_from :
+    (o : Lexeme) (tokens : List Lexeme) (said : Said) → read_on (Ok (at_beginning o)) nothing_said tokens ≡ Ok said
+    → AreFile tokens
+file_from o tokens said reads =
+    let strict = left_by tokens (at_beginning o) nothing_said said reads in
     let graph = strict.2 refl in
     let heading = graph.1 in
     let title = heading.2 in
@@ -520,10 +520,17 @@ file_of (t ∷ ts) said reads =
         statements = body.0;
         closing = body.1;
       },
-      balanced 0 body.0 body.2,
-      ap (λ l. spell_strictness strict.0 ++ l)
-          (ap (λ l. token (graph_kind graph.0) heading.0 ∷ l)
-          (ap (λ l. spell_name title.0 ++ l) (ap (λ l. token OpenBrace brace.0 ∷ l) body.3 ∙ brace.3) ∙ title.3)
-          ∙ heading.3)
-          ∙ strict.3,
+      record {
+        balanced = balanced 0 body.0 body.2;
+        spelled =
+            ap (λ l. spell_strictness strict.0 ++ l)
+            (ap (λ l. token (graph_kind graph.0) heading.0 ∷ l)
+            (ap (λ l. spell_name title.0 ++ l) (ap (λ l. token OpenBrace brace.0 ∷ l) body.3 ∙ brace.3) ∙ title.3)
+            ∙ heading.3)
+            ∙ strict.3;
+      },
     )
+
+pub file_of : (tokens : List Lexeme) (said : Said) → statements_of tokens ≡ Ok said → AreFile tokens
+file_of tokens said reads =
+    let begun = begun_by tokens in file_from begun.0 tokens said (sym begun.1 ∙ reads)

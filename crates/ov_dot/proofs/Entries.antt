@@ -73,14 +73,14 @@ entry_step names i d entries now all name within left is made =
 abbrev AreSeen : List (List ℕ) → List Entry → Type 0
 AreSeen seen entries = (n : List ℕ) → Has seen n ↔ (has_entry n entries ≡ true)
 
-or_either : (a b : Bool) → (a || b) ≡ true → (a ≡ true) ⊎ (b ≡ true)
+pub or_either : (a b : Bool) → (a || b) ≡ true → (a ≡ true) ⊎ (b ≡ true)
 or_either true b is = inl refl
 or_either false b is = inr is
 
-or_first : (a b : Bool) → a ≡ true → (a || b) ≡ true
+pub or_first : (a b : Bool) → a ≡ true → (a || b) ≡ true
 or_first a b is = ap (λ v. v || b) is
 
-or_second : (a b : Bool) → b ≡ true → (a || b) ≡ true
+pub or_second : (a b : Bool) → b ≡ true → (a || b) ≡ true
 or_second true b is = refl
 or_second false b is = is
 

@@ -3,4 +3,5 @@ pub mod Entries
 pub mod Parsing
 pub mod Completing
 pub mod Stopping
+pub mod Reasoning
 pub mod Refusing

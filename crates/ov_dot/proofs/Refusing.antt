@@ -15,12 +15,12 @@ use Rattle.ov_dot.specs.declared.fault.DotFault.TheVariants.{UnreadLine, OutOfMe
 use Rattle.ov_dot.specs.Faults.{fault_of}
 use Rattle.ov_dot.specs.Sayings.{Said}
 use Rattle.ov_dot.specs.Grammar.{File, Spells, said_by}
-use Rattle.ov_dot.specs.Statements.{statements_of}
+use Rattle.ov_dot.specs.Code.Statements.{statements_of}
 use Rattle.ov_dot.specs.Dumps.{both_ends, HasBadName, IsDumpOf}
 use Rattle.ov_dot.specs.Readings.{IsRefused, IsTextOf, SaysDump}
 use Rattle.ov_dot.proofs.Completing.{file_of}
 use Rattle.ov_dot.proofs.Parsing.{file_read}
-use Rattle.ov_dot.proofs.Stopping.{in_line, no_file}
+use Rattle.ov_dot.proofs.Reasoning.{refused}
 use Rattle.ov_dot.specs.Code.Seen.{ends, Fails, IsBadName, AreBadNames, IsNameless}
 
 -- a text without tokens
@@ -33,13 +33,8 @@ pub no_statements :
     (bytes : List ℕ) (tokens : List Lexeme) (e : DotFault) → HasTokens bytes tokens → Fails e (statements_of tokens)
     → IsRefused bytes e
 no_statements bytes tokens (UnreadLine line why) are fails =
-    inr (inl (record {
-      tokens = tokens;
-      are_tokens = are;
-      no_file = no_file tokens (UnreadLine line why) fails;
-      in_line = in_line tokens line why fails;
-      reason = fails;
-    }))
+    let is = refused tokens line why fails in
+    inr (inl (record { tokens = tokens; are_tokens = are; no_file = is.0; in_line = is.1 }))
 no_statements bytes tokens OutOfMemory are fails = tt
 
 -- tokens say what their file says
@@ -59,8 +54,7 @@ is_file :
     → IsFileOf bytes said
 is_file bytes tokens said are says =
     let is = file_of tokens said says in
-    let spells : Spells is.0 tokens = record { balanced = is.1; spelled = is.2 } in
-    (is.0, record { tokens = tokens; are_tokens = are; spells = spells }, said_of tokens said is.0 says spells)
+    (is.0, record { tokens = tokens; are_tokens = are; spells = is.1 }, said_of tokens said is.0 says is.1)
 
 -- files with the same tokens say the same
 pub same_saying : (a b : File) (tokens : List Lexeme) → Spells a tokens → Spells b tokens → said_by a ≡ said_by b

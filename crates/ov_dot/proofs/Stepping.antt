@@ -7,7 +7,7 @@ use Rattle.ov_dot.specs.declared.fault.DotFault.{DotFault}
 use Rattle.ov_dot.specs.declared.fault.DotFault.TheVariants.{UnreadLine, OutOfMemory}
 use Rattle.std.proofs.Math.ListN.{drop_of_length-le}
 use Rattle.ov_dot.specs.Sayings.{Said}
-use Rattle.ov_dot.specs.Statements.{Reading, ended, read_on, said_behind, step}
+use Rattle.ov_dot.specs.Code.Statements.{Reading, ended, read_on, said_behind, step}
 use Rattle.ov_dot.specs.Code.Seen.{Fails}
 
 -- a step that fails ends the reading

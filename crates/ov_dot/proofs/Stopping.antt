@@ -1,11 +1,12 @@
--- Where the reading of tokens stops: a file begins with the tokens before, and no file goes on as these do.
+-- Where the reading of tokens stops, and which files begin with the tokens before.
 use Rattle.std.proofs.Common.{◌≡◌, ◌∙◌, ◌⊎◌, ◌+◌, ◌-◌, ◌++◌, ℕ, zero, suc, Bool, true, false, nat_le, cond, List, []}
-use Rattle.std.proofs.Common.{◌∷◌, Option, Some, None, Result, Ok, Err, inl, inr, refl, sym, ap, subst, arith}
+use Rattle.std.proofs.Common.{◌∷◌, Option, Some, None, Result, Ok, Err, inl, inr, refl, sym, ap, arith}
 use Rattle.std.proofs.Common.{append_assoc}
 use Rattle.std.proofs.lemmas.Bool.Decides.{nat_tests}
 use Rattle.ov_dot_tokens.specs.Tokens.{Lexeme}
-use Rattle.ov_dot_tokens.specs.declared.token.Kind.TheVariants.{Graph, Bare, OpenBrace, CloseBrace, OpenBracket}
-use Rattle.ov_dot_tokens.specs.declared.token.Kind.TheVariants.{CloseBracket, Semicolon}
+use Rattle.ov_dot_tokens.specs.declared.token.Kind.{Kind}
+use Rattle.ov_dot_tokens.specs.declared.token.Kind.TheVariants.{Strict, Graph, Bare, OpenBrace, CloseBrace}
+use Rattle.ov_dot_tokens.specs.declared.token.Kind.TheVariants.{OpenBracket, CloseBracket, Semicolon, Line, Arrow}
 use Rattle.ov_dot.specs.declared.place.Place.{Place}
 use Rattle.ov_dot.specs.declared.place.Place.TheVariants.{Beginning, BehindStrict, BehindKind, BehindTitle, Body, Named}
 use Rattle.ov_dot.specs.declared.place.Place.TheVariants.{Member, PortNext, Ported, CompassNext, Directed, EndNext}
@@ -15,14 +16,14 @@ use Rattle.ov_dot.specs.declared.fault.DotFault.{DotFault}
 use Rattle.ov_dot.specs.declared.fault.DotFault.TheVariants.{UnreadLine}
 use Rattle.ov_dot.specs.declared.fault.Why.{Why}
 use Rattle.ov_dot.specs.declared.fault.Why.TheVariants.{WrongEdge}
-use Rattle.ov_dot.specs.Diagram.{follows}
+use Rattle.ov_dot.specs.Code.Diagram.{follows}
 use Rattle.ov_dot.specs.Sayings.{Said, nothing_said, with_edge}
-use Rattle.ov_dot.specs.Statements.{Reading, at_beginning, ended, is_wrong_edge, moved, read_on, said_behind}
-use Rattle.ov_dot.specs.Statements.{statements_of, step, step_to, with_first}
-use Rattle.ov_dot.specs.Grammar.{BeginFile, File, Lax, Spells, Spot, Unnamed, spell_file, token}
-use Rattle.ov_dot.specs.Readings.{EndEarly, HasMisplaced, last_line}
-use Rattle.ov_dot.proofs.Completing.{file_of, not_ok}
-use Rattle.ov_dot.proofs.Parsing.{file_read, here}
+use Rattle.ov_dot.specs.Code.Statements.{Reading, at_beginning, ended, is_wrong_edge, moved, read_on, said_behind}
+use Rattle.ov_dot.specs.Code.Statements.{place_behind, step, step_to, with_first}
+use Rattle.ov_dot.specs.Grammar.{AreFile, BeginFile, Spot, token}
+use Rattle.ov_dot.specs.Readings.{last_line}
+use Rattle.ov_dot.proofs.Completing.{file_from, not_ok}
+use Rattle.ov_dot.proofs.Parsing.{file_read_from, here}
 
 -- ---- at each place a file can be completed
 
@@ -135,28 +136,120 @@ completed SubgraphTitled d n o l said =
     via (here d n SubgraphTitled o l) said (opening ∷ []) d (n + 1) o 1 said (λ rest. refl)
 completed Over d n o l said = ([], said, refl)
 
+-- ---- behind an edge
+
+-- the place behind an edge
+abbrev pub is_end : Place → Bool
+is_end EndNext = true
+is_end place = false
+
+-- an edge of either kind of graph
+abbrev pub is_edge : Kind → Bool
+is_edge Line = true
+is_edge Arrow = true
+is_edge kind = false
+
+-- the last of these tokens is an edge; without one, what the flag says
+abbrev pub ends_in_edge : Bool → List Lexeme → Bool
+ends_in_edge edge [] = edge
+ends_in_edge edge (t ∷ ts) = ends_in_edge (is_edge t.kind) ts
+
+abbrev leads_to_end : Bool → Option Place → Bool
+leads_to_end edge None = edge
+leads_to_end edge (Some place) = is_end place
+
+-- a token leads behind an edge exactly if it is one
+leads_by_edge : (place : Place) (kind : Kind) → leads_to_end (is_edge kind) (follows place kind) ≡ is_edge kind
+leads_by_edge Beginning Strict = refl
+leads_by_edge Beginning kind = refl
+leads_by_edge BehindStrict Strict = refl
+leads_by_edge BehindStrict kind = refl
+leads_by_edge BehindKind Strict = refl
+leads_by_edge BehindKind kind = refl
+leads_by_edge BehindTitle Strict = refl
+leads_by_edge BehindTitle kind = refl
+leads_by_edge Body Strict = refl
+leads_by_edge Body kind = refl
+leads_by_edge Named Strict = refl
+leads_by_edge Named kind = refl
+leads_by_edge Member Strict = refl
+leads_by_edge Member kind = refl
+leads_by_edge PortNext Strict = refl
+leads_by_edge PortNext kind = refl
+leads_by_edge Ported Strict = refl
+leads_by_edge Ported kind = refl
+leads_by_edge CompassNext Strict = refl
+leads_by_edge CompassNext kind = refl
+leads_by_edge Directed Strict = refl
+leads_by_edge Directed kind = refl
+leads_by_edge EndNext Strict = refl
+leads_by_edge EndNext kind = refl
+leads_by_edge ListNext Strict = refl
+leads_by_edge ListNext kind = refl
+leads_by_edge InList Strict = refl
+leads_by_edge InList kind = refl
+leads_by_edge Attribute Strict = refl
+leads_by_edge Attribute kind = refl
+leads_by_edge ValueNext Strict = refl
+leads_by_edge ValueNext kind = refl
+leads_by_edge Valued Strict = refl
+leads_by_edge Valued kind = refl
+leads_by_edge Listed Strict = refl
+leads_by_edge Listed kind = refl
+leads_by_edge AssignedNext Strict = refl
+leads_by_edge AssignedNext kind = refl
+leads_by_edge SubgraphNext Strict = refl
+leads_by_edge SubgraphNext kind = refl
+leads_by_edge SubgraphTitled Strict = refl
+leads_by_edge SubgraphTitled kind = refl
+leads_by_edge Over Strict = refl
+leads_by_edge Over kind = refl
+
+place_end :
+    (kind : Kind) (n : ℕ) (place : Place) → is_end place ≡ is_edge kind
+    → is_end (place_behind n kind place) ≡ is_edge kind
+place_end CloseBrace n place is =
+    elim (nat_le n 1) as (λ v. is_end (cond v Over place) ≡ false) [ true ↦ refl | false ↦ is ]
+place_end kind n place is = is
+
+edge_end :
+    (wrong : Bool) (r next : Reading) (t : Lexeme) (place : Place) → is_end place ≡ is_edge t.kind
+    → cond wrong (Err (UnreadLine t.line WrongEdge)) (Ok (moved r t place)) ≡ Ok next
+    → is_end next.place ≡ is_edge t.kind
+edge_end true r next t place ends is = absurd (not_ok _ next is)
+edge_end false r next t place ends is =
+    let e : moved r t place ≡ next = cc in
+    ap (λ (n : Reading). is_end n.place) (sym e) ∙ place_end t.kind r.depth place ends
+
+step_end :
+    (place : Option Place) (r next : Reading) (t : Lexeme) → leads_to_end (is_edge t.kind) place ≡ is_edge t.kind
+    → step_to r t place ≡ Ok next → is_end next.place ≡ is_edge t.kind
+step_end None r next t leads is = absurd (not_ok _ next is)
+step_end (Some place) r next t leads is = edge_end (is_wrong_edge r.directed t.kind) r next t place leads is
+
 -- ---- where the reading stops
 
 -- a token that can't follow those before it
-record StopsAt (r : Reading) (said : Said) (ts : List Lexeme) (fault : DotFault) : Type 0 where
-  before : List Lexeme
-  wrong : Lexeme
-  later : List Lexeme
-  parts : ts ≡ before ++ wrong ∷ later
-  behind : Reading
-  so_far : Said
-  reads : (rest : List Lexeme) → read_on (Ok r) said (before ++ rest) ≡ read_on (Ok behind) so_far rest
-  fails : step behind wrong ≡ Err fault
+pub record StopsAt (r : Reading) (said : Said) (ts : List Lexeme) (fault : DotFault) : Type 0 where
+  pub before : List Lexeme
+  pub wrong : Lexeme
+  pub later : List Lexeme
+  pub parts : ts ≡ before ++ wrong ∷ later
+  pub behind : Reading
+  pub so_far : Said
+  pub reads : (rest : List Lexeme) → read_on (Ok r) said (before ++ rest) ≡ read_on (Ok behind) so_far rest
+  pub fails : step behind wrong ≡ Err fault
+  pub last : ends_in_edge (is_end r.place) before ≡ is_end behind.place
 
 -- the end of the text
-record StopsBehind (r : Reading) (said : Said) (ts : List Lexeme) (fault : DotFault) : Type 0 where
-  behind : Reading
-  so_far : Said
-  reads : (rest : List Lexeme) → read_on (Ok r) said (ts ++ rest) ≡ read_on (Ok behind) so_far rest
-  fails : ended behind behind.place so_far ≡ Err fault
-  is_line : behind.line ≡ last_line r.line ts
+pub record StopsBehind (r : Reading) (said : Said) (ts : List Lexeme) (fault : DotFault) : Type 0 where
+  pub behind : Reading
+  pub so_far : Said
+  pub reads : (rest : List Lexeme) → read_on (Ok r) said (ts ++ rest) ≡ read_on (Ok behind) so_far rest
+  pub fails : ended behind behind.place so_far ≡ Err fault
+  pub is_line : behind.line ≡ last_line r.line ts
 
-abbrev Stops : Reading → Said → List Lexeme → DotFault → Type 0
+abbrev pub Stops : Reading → Said → List Lexeme → DotFault → Type 0
 Stops r said ts fault = StopsAt r said ts fault ⊎ StopsBehind r said ts fault
 
 -- the line behind one token more, and the line of one that is refused
@@ -178,13 +271,13 @@ edge_fault :
 edge_fault true r t place line why is = let e : t.line ≡ line = cc in sym e
 edge_fault false r t place line why is = absurd (not_ok _ (moved r t place) (sym is))
 
-step_fault :
+pub step_fault :
     (place : Option Place) (r : Reading) (t : Lexeme) (line : ℕ) (why : Why)
     → step_to r t place ≡ Err (UnreadLine line why) → line ≡ t.line
 step_fault None r t line why is = let e : t.line ≡ line = cc in sym e
 step_fault (Some place) r t line why is = edge_fault (is_wrong_edge r.directed t.kind) r t place line why is
 
-end_fault :
+pub end_fault :
     (place : Place) (r : Reading) (said : Said) (line : ℕ) (why : Why)
     → ended r place said ≡ Err (UnreadLine line why) → line ≡ r.line
 end_fault Over r said line why is = absurd (not_ok _ said (sym is))
@@ -208,6 +301,7 @@ stops_next (Err e) t ts r said fault is fails later =
       so_far = said;
       reads = λ rest. refl;
       fails = is ∙ ap (λ x. Err x) same;
+      last = refl;
     })
 stops_next (Ok next) t ts r said fault is fails later = elim (later next fails) [
   | inl at ↦ inl (record {
@@ -219,6 +313,9 @@ stops_next (Ok next) t ts r said fault is fails later = elim (later next fails) 
     so_far = at.so_far;
     reads = λ rest. ap (λ s. read_on s (said_behind r t said) (at.before ++ rest)) is ∙ at.reads rest;
     fails = at.fails;
+    last =
+        ap (λ e. ends_in_edge e at.before)
+        (sym (step_end (follows r.place t.kind) r next t (leads_by_edge r.place t.kind) is)) ∙ at.last;
   })
   | inr end ↦ inr (record {
     behind = end.behind;
@@ -229,7 +326,7 @@ stops_next (Ok next) t ts r said fault is fails later = elim (later next fails) 
   })
 ]
 
-stops :
+pub stops :
     (ts : List Lexeme) (r : Reading) (said : Said) (fault : DotFault) → read_on (Ok r) said ts ≡ Err fault
     → Stops r said ts fault
 unfolding read_on
@@ -241,96 +338,31 @@ stops (t ∷ ts) r said fault is =
 
 -- ---- which files begin so
 
--- a file that says nothing
-abbrev empty_file : File
-empty_file = record {
-  strictness = Lax;
-  directed = false;
-  spot = spot;
-  name = Unnamed;
-  opening = spot;
-  statements = [];
-  closing = spot;
-}
-
-nothing_begins : BeginFile []
-nothing_begins = record {
-  file = empty_file;
-  rest = spell_file empty_file;
-  spells = record { balanced = refl; spelled = refl };
-}
-
-some_begin :
-    (t : Lexeme) (ts : List Lexeme) (behind : Reading) (so_far : Said)
+pub some_begin :
+    (o : Lexeme) (before : List Lexeme) (behind : Reading) (so_far : Said)
     → ((rest : List Lexeme) →
-    read_on (Ok (at_beginning t)) nothing_said ((t ∷ ts) ++ rest) ≡ read_on (Ok behind) so_far rest)
-    → BeginFile (t ∷ ts)
-some_begin t ts behind so_far reads =
+    read_on (Ok (at_beginning o)) nothing_said (before ++ rest) ≡ read_on (Ok behind) so_far rest)
+    → BeginFile before
+some_begin o before behind so_far reads =
     let end = completed behind.place behind.directed behind.depth behind.name behind.line so_far in
-    let is = file_of ((t ∷ ts) ++ end.0) end.1 (reads end.0 ∙ end.2) in
-    record { file = is.0; rest = end.0; spells = record { balanced = is.1; spelled = is.2 } }
+    let is = file_from o (before ++ end.0) end.1 (reads end.0 ∙ end.2) in
+    record { file = is.0; rest = end.0; spells = is.1 }
 
 -- tokens that are refused are those of no file
 pub no_file :
-    (tokens : List Lexeme) (fault : DotFault) → statements_of tokens ≡ Err fault → (file : File) → ¬ Spells file tokens
-no_file tokens fault fails file spells =
+    (o : Lexeme) (tokens : List Lexeme) (fault : DotFault)
+    → read_on (Ok (at_beginning o)) nothing_said tokens ≡ Err fault → ¬ AreFile tokens
+no_file o tokens fault fails are =
     not_ok fault _
-    (sym fails ∙ ap (λ ts. statements_of ts) (sym spells.spelled) ∙ file_read file spells.balanced)
+    (sym fails ∙ ap (λ ts. read_on (Ok (at_beginning o)) nothing_said ts) (sym are.1.spelled)
+    ∙ file_read_from o are.0 are.1.balanced)
 
-none_begins :
-    (before : List Lexeme) (t : Lexeme) (fault : DotFault)
-    → ((rest : List Lexeme) → statements_of (before ++ t ∷ rest) ≡ Err fault) → ¬ BeginFile (before ++ t ∷ [])
-none_begins before t fault fails begin =
-    no_file ((before ++ t ∷ []) ++ begin.rest) fault
-    (ap (λ ts. statements_of ts) (append_assoc before (t ∷ []) begin.rest) ∙ fails begin.rest) begin.file begin.spells
-
-misplaced :
-    (before : List Lexeme) (first t : Lexeme) (more later : List Lexeme) (behind : Reading) (so_far : Said)
-    (line : ℕ) (why : Why)
-    → first ∷ more ≡ before ++ t ∷ later
-    → ((rest : List Lexeme) →
-    read_on (Ok (at_beginning first)) nothing_said (before ++ rest) ≡ read_on (Ok behind) so_far rest)
-    → step behind t ≡ Err (UnreadLine line why) → HasMisplaced (first ∷ more) line
-unfolding read_on
-misplaced [] first t more later behind so_far line why parts reads fails =
-    let same : first ≡ t = cc in
-    record {
-      before = [];
-      misplaced = t;
-      later = later;
-      parts = parts;
-      begin = nothing_begins;
-      no_further = none_begins [] t (UnreadLine line why) (λ rest.
-          ap (λ o. read_on (Ok (at_beginning o)) nothing_said (t ∷ rest)) (sym same)
-          ∙ reads (t ∷ rest)
-          ∙ ap (λ s. read_on s (said_behind behind t so_far) rest) fails);
-      is_line = step_fault (follows behind.place t.kind) behind t line why fails;
-    }
-misplaced (x ∷ xs) first t more later behind so_far line why parts reads fails =
-    let same : first ≡ x = cc in
-    let reads_same =
-    subst (λ (o : Lexeme). (rest : List Lexeme) →
-    read_on (Ok (at_beginning o)) nothing_said ((x ∷ xs) ++ rest) ≡ read_on (Ok behind) so_far rest) same reads in
-    record {
-      before = x ∷ xs;
-      misplaced = t;
-      later = later;
-      parts = parts;
-      begin = some_begin x xs behind so_far reads_same;
-      no_further = none_begins (x ∷ xs) t (UnreadLine line why) (λ rest.
-          reads_same (t ∷ rest) ∙ ap (λ s. read_on s (said_behind behind t so_far) rest) fails);
-      is_line = step_fault (follows behind.place t.kind) behind t line why fails;
-    }
-
--- in which line tokens are refused
-pub in_line :
-    (tokens : List Lexeme) (line : ℕ) (why : Why) → statements_of tokens ≡ Err (UnreadLine line why)
-    → HasMisplaced tokens line ⊎ EndEarly tokens line
-in_line [] line why is = let e : 1 ≡ line = cc in inr (record { begin = nothing_begins; is_line = sym e })
-in_line (t ∷ ts) line why is = elim (stops (t ∷ ts) (at_beginning t) nothing_said (UnreadLine line why) is) [
-  | inl at ↦ inl (misplaced at.before t at.wrong ts at.later at.behind at.so_far line why at.parts at.reads at.fails)
-  | inr end ↦ inr (record {
-    begin = some_begin t ts end.behind end.so_far end.reads;
-    is_line = end_fault end.behind.place end.behind end.so_far line why end.fails ∙ end.is_line;
-  })
-]
+pub none_begins :
+    (o : Lexeme) (before : List Lexeme) (t : Lexeme) (fault : DotFault)
+    → ((rest : List Lexeme) → read_on (Ok (at_beginning o)) nothing_said (before ++ t ∷ rest) ≡ Err fault)
+    → ¬ BeginFile (before ++ t ∷ [])
+none_begins o before t fault fails begin =
+    no_file o ((before ++ t ∷ []) ++ begin.rest) fault
+    (ap (λ ts. read_on (Ok (at_beginning o)) nothing_said ts) (append_assoc before (t ∷ []) begin.rest)
+    ∙ fails begin.rest)
+    (begin.file, begin.spells)

@@ -4,8 +4,6 @@ pub mod Sayings
 pub mod Grammar
 pub mod Names
 pub mod Dumps
-pub mod Diagram
 pub mod Reasons
-pub mod Statements
 pub mod Readings
 pub mod Code

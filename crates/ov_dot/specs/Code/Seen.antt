@@ -11,7 +11,7 @@ use Rattle.ov_dot.specs.declared.statement_reading.Statements.{Statements}
 use Rattle.ov_dot.specs.declared.fault.Why.TheVariants.{NotUtf8}
 use Rattle.ov_dot.specs.Names.{text_of}
 use Rattle.ov_dot.specs.Sayings.{Said}
-use Rattle.ov_dot.specs.Statements.{Reading}
+use Rattle.ov_dot.specs.Code.Statements.{Reading}
 use Rattle.ov_dot.specs.Dumps.{HasBadName}
 
 -- how far the code has read

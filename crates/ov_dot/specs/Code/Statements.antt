@@ -1,5 +1,5 @@
--- How a DOT file is read by the diagram, token by token. Of the contract of the reader only the reason of a fault is
--- said so: that a file is read, what it says and which line is at fault are said by the grammar.
+-- How the code reads a DOT file: by the diagram, token by token. That what is read so are the files of the grammar is
+-- proved.
 use Rattle.std.specs.Prelude.{ℕ, ◌+◌, ◌-◌, Bool, true, false, not, nat_le, List, [], ◌∷◌, ◌++◌, Option, Some}
 use Rattle.std.specs.Prelude.{None, Result, Ok, Err}
 use Rattle.std.specs.Prelude.{if◌then◌else◌}
@@ -11,8 +11,8 @@ use Rattle.ov_dot.specs.declared.place.Place.TheVariants.{Beginning, Named, Memb
 use Rattle.ov_dot.specs.declared.fault.DotFault.{DotFault}
 use Rattle.ov_dot.specs.declared.fault.DotFault.TheVariants.{UnreadLine}
 use Rattle.ov_dot.specs.declared.fault.Why.TheVariants.{WrongEdge, Unclosed}
-use Rattle.ov_dot.specs.Diagram.{follows}
-use Rattle.ov_dot.specs.Reasons.{why_not}
+use Rattle.ov_dot.specs.Code.Diagram.{follows}
+use Rattle.ov_dot.specs.Code.PlaceReasons.{why_not}
 use Rattle.ov_dot.specs.Sayings.{Said, nothing_said, with_edge}
 
 -- how far a file was read
