@@ -1,33 +1,33 @@
 -- A file that the grammar has is read, and says what its statements say.
-use Rattle.std.proofs.Common.{◌≡◌, ◌∙◌, ◌+◌, ◌-◌, ◌<◌, ◌≤◌, ◌++◌, ℕ, zero, suc, Bool, true, false, nat_le, cond, List}
-use Rattle.std.proofs.Common.{[], ◌∷◌, Option, Some, None}
+use Rattle.std.proofs.Common.{◌≡◌, ◌∙◌, ◌+◌, ◌-◌, ◌<◌, ◌++◌, ℕ, Bool, true, false, nat_le, cond, List}
+use Rattle.std.proofs.Common.{[], ◌∷◌}
 use Rattle.std.proofs.lemmas.Bool.Decides.{nat_tests}
-use Rattle.std.proofs.Common.{Result, Ok, Err, refl, sym, ap, subst, arith, append_assoc}
+use Rattle.std.proofs.Common.{Ok, refl, sym, ap, subst, arith, append_assoc}
 use Rattle.ov_dot_tokens.specs.Tokens.{Lexeme}
 use Rattle.ov_dot_tokens.specs.declared.token.Kind.{Kind}
-use Rattle.ov_dot_tokens.specs.declared.token.Kind.TheVariants.{Strict, Graph, Digraph, Node, Edge, Subgraph, Bare}
+use Rattle.ov_dot_tokens.specs.declared.token.Kind.TheVariants.{Graph, Node, Edge, Subgraph, Bare}
 use Rattle.ov_dot_tokens.specs.declared.token.Kind.TheVariants.{Quoted, OpenBrace}
-use Rattle.ov_dot_tokens.specs.declared.token.Kind.TheVariants.{CloseBrace, OpenBracket, CloseBracket, Semicolon}
+use Rattle.ov_dot_tokens.specs.declared.token.Kind.TheVariants.{CloseBrace, CloseBracket, Semicolon}
 use Rattle.ov_dot.specs.declared.place.Place.{Place}
-use Rattle.ov_dot.specs.declared.place.Place.TheVariants.{Body, Named, Member, Ported, Directed, EndNext, ListNext}
+use Rattle.ov_dot.specs.declared.place.Place.TheVariants.{Body, Named, Member, Ported, Directed}
 use Rattle.ov_dot.specs.declared.place.Place.TheVariants.{InList}
 use Rattle.ov_dot.specs.declared.place.Place.TheVariants.{Attribute, Valued, Listed, Over}
-use Rattle.ov_dot.specs.declared.place.Place.TheVariants.{Beginning, BehindStrict, BehindKind, BehindTitle}
-use Rattle.ov_dot.specs.Statements.{Reading, Said, nothing_said, read_on, statements_of, with_edge}
+use Rattle.ov_dot.specs.Sayings.{Said, nothing_said, with_edge}
+use Rattle.ov_dot.specs.Code.Statements.{Reading, at_beginning, read_on, statements_of}
 use Rattle.ov_dot.specs.Grammar.{Spot, token, NodeName, Word, Text, named, Value, NoValue, NameValue, HtmlValue}
 use Rattle.ov_dot.specs.Grammar.{spell_value}
 use Rattle.ov_dot.specs.Grammar.{Ending, NoEnding, CommaEnding, SemicolonEnding, spell_ending, Item, spell_item}
 use Rattle.ov_dot.specs.Grammar.{spell_items}
 use Rattle.ov_dot.specs.Grammar.{Attributes, spell_attributes, spell_lists, Port, NoPort, AtPort, AtSide, spell_port}
 use Rattle.ov_dot.specs.Grammar.{End, edge_kind, spell_ends, Whose, OfGraph, OfNodes, OfEdges, whose_kind}
-use Rattle.ov_dot.specs.Grammar.{Title, NoTitle, Untitled, Titled, spell_title, Statement, Nothing, Chain, Defaults}
+use Rattle.ov_dot.specs.Grammar.{Title, NoTitle, Untitled, Titled, Statement, Nothing, Chain, Defaults}
 use Rattle.ov_dot.specs.Grammar.{Assignment, Opening, Closing, spell_statement, spell_statements, IsBalanced}
 use Rattle.ov_dot.specs.Grammar.{with_entry, with_ends, with_statement, with_statements, Strictness, Lax, IsStrict}
 use Rattle.ov_dot.specs.Grammar.{GraphName, Unnamed, IsNamed, File, spell_strictness, spell_name, graph_kind}
 use Rattle.ov_dot.specs.Grammar.{spell_file, said_by}
 
 -- where a reading stands
-abbrev here : Bool → ℕ → Place → Lexeme → ℕ → Reading
+abbrev pub here : Bool → ℕ → Place → Lexeme → ℕ → Reading
 here d n p o l = record { directed = d; depth = n; place = p; name = o; line = l }
 
 -- ---- attributes
@@ -531,30 +531,43 @@ statements_read d depth n o l (Closing brace ∷ statements) closing said is bal
 
 -- a file, from its beginning to its outer brace
 heading_read :
-    (d : Bool) (strictness : Strictness) (spot : Spot) (name : GraphName) (opening : Spot) (rest : List Lexeme)
-    → (o : Lexeme) × (
-    statements_of (spell_strictness strictness ++ (token (graph_kind d) spot ∷ (spell_name name ++
-    (token OpenBrace opening ∷ rest))))
-    ≡ read_on (Ok (here d (0 + 1) Body o opening.line)) nothing_said rest)
+    (d : Bool) (strictness : Strictness) (spot : Spot) (name : GraphName) (opening : Spot) (o : Lexeme)
+    (rest : List Lexeme)
+    → read_on (Ok (at_beginning o)) nothing_said (spell_strictness strictness ++ (token (graph_kind d) spot ∷
+    (spell_name name ++ (token OpenBrace opening ∷ rest))))
+    ≡ read_on (Ok (here d (0 + 1) Body o opening.line)) nothing_said rest
 unfolding read_on
-heading_read true Lax spot Unnamed opening rest = (token Digraph spot, refl)
-heading_read true Lax spot (IsNamed (Word s)) opening rest = (token Digraph spot, refl)
-heading_read true Lax spot (IsNamed (Text s)) opening rest = (token Digraph spot, refl)
-heading_read true (IsStrict t) spot Unnamed opening rest = (token Strict t, refl)
-heading_read true (IsStrict t) spot (IsNamed (Word s)) opening rest = (token Strict t, refl)
-heading_read true (IsStrict t) spot (IsNamed (Text s)) opening rest = (token Strict t, refl)
-heading_read false Lax spot Unnamed opening rest = (token Graph spot, refl)
-heading_read false Lax spot (IsNamed (Word s)) opening rest = (token Graph spot, refl)
-heading_read false Lax spot (IsNamed (Text s)) opening rest = (token Graph spot, refl)
-heading_read false (IsStrict t) spot Unnamed opening rest = (token Strict t, refl)
-heading_read false (IsStrict t) spot (IsNamed (Word s)) opening rest = (token Strict t, refl)
-heading_read false (IsStrict t) spot (IsNamed (Text s)) opening rest = (token Strict t, refl)
+heading_read true Lax spot Unnamed opening o rest = refl
+heading_read true Lax spot (IsNamed (Word s)) opening o rest = refl
+heading_read true Lax spot (IsNamed (Text s)) opening o rest = refl
+heading_read true (IsStrict t) spot Unnamed opening o rest = refl
+heading_read true (IsStrict t) spot (IsNamed (Word s)) opening o rest = refl
+heading_read true (IsStrict t) spot (IsNamed (Text s)) opening o rest = refl
+heading_read false Lax spot Unnamed opening o rest = refl
+heading_read false Lax spot (IsNamed (Word s)) opening o rest = refl
+heading_read false Lax spot (IsNamed (Text s)) opening o rest = refl
+heading_read false (IsStrict t) spot Unnamed opening o rest = refl
+heading_read false (IsStrict t) spot (IsNamed (Word s)) opening o rest = refl
+heading_read false (IsStrict t) spot (IsNamed (Text s)) opening o rest = refl
+
+-- a file, from any token that is remembered before its first name
+pub file_read_from :
+    (o : Lexeme) (file : File) → IsBalanced 0 file.statements
+    → read_on (Ok (at_beginning o)) nothing_said (spell_file file) ≡ Ok (said_by file)
+file_read_from o file balanced =
+    let all = spell_statements file.directed file.statements ++ token CloseBrace file.closing ∷ [] in
+    heading_read file.directed file.strictness file.spot file.name file.opening o all
+    ∙ statements_read file.directed 0
+    (0 + 1) o file.opening.line file.statements file.closing nothing_said refl balanced
+
+-- tokens are read from some token that is remembered
+pub begun_by :
+    (tokens : List Lexeme) → (o : Lexeme) × (statements_of tokens ≡ read_on (Ok (at_beginning o)) nothing_said tokens)
+unfolding read_on
+begun_by [] = (token Graph (record { line = 1; text = [] }), refl)
+begun_by (t ∷ ts) = (t, refl)
 
 -- the theorem
 pub file_read : (file : File) → IsBalanced 0 file.statements → statements_of (spell_file file) ≡ Ok (said_by file)
 file_read file balanced =
-    let all = spell_statements file.directed file.statements ++ token CloseBrace file.closing ∷ [] in
-    let heading = heading_read file.directed file.strictness file.spot file.name file.opening all in
-    heading.1
-    ∙ statements_read file.directed 0
-    (0 + 1) heading.0 file.opening.line file.statements file.closing nothing_said refl balanced
+    let begun = begun_by (spell_file file) in begun.1 ∙ file_read_from begun.0 file balanced

@@ -1,9 +1,9 @@
 -- From what is refused of tokens, of statements and of names to what is refused of a text.
-use Rattle.std.proofs.Common.{◌≡◌, ◌<◌, ℕ, List, [], ◌∷◌, Ok, length, get_or, inl, inr, refl, sym, ap, subst}
+use Rattle.std.proofs.Common.{◌≡◌, ◌∙◌, ◌<◌, ℕ, List, [], ◌∷◌, Ok, length, get_or, inl, inr, refl, sym, ap, subst}
 use Rattle.ov_ids.proofs.Members.{has_place}
 use Rattle.ov_dot_tokens.specs.declared.token.Token.{Token}
 use Rattle.ov_dot.specs.declared.statement_reading.Link.{Link}
-use Rattle.std.specs.Prelude.{map}
+use Rattle.std.specs.Prelude.{map, Result, Err, IfOk}
 use Rattle.ov_ids.specs.Members.{Has}
 use Rattle.ov_dump.specs.declared.dump_values.Dump.{Dump}
 use Rattle.ov_dot_tokens.specs.Tokens.{Lexeme, lexeme, lexemes, HasTokens}
@@ -13,9 +13,14 @@ use Rattle.ov_dot_tokens.specs.declared.token_reading.TextFault.TheVariants as t
 use Rattle.ov_dot.specs.declared.fault.DotFault.{DotFault}
 use Rattle.ov_dot.specs.declared.fault.DotFault.TheVariants.{UnreadLine, OutOfMemory}
 use Rattle.ov_dot.specs.Faults.{fault_of}
-use Rattle.ov_dot.specs.Statements.{Said, statements_of}
-use Rattle.ov_dot.specs.Dumps.{both_ends, IsDumpOf}
-use Rattle.ov_dot.specs.Readings.{IsRefused, SaysDump}
+use Rattle.ov_dot.specs.Sayings.{Said}
+use Rattle.ov_dot.specs.Grammar.{File, Spells, said_by}
+use Rattle.ov_dot.specs.Code.Statements.{statements_of}
+use Rattle.ov_dot.specs.Dumps.{both_ends, HasBadName, IsDumpOf}
+use Rattle.ov_dot.specs.Readings.{IsRefused, IsTextOf, SaysDump}
+use Rattle.ov_dot.proofs.Completing.{file_of}
+use Rattle.ov_dot.proofs.Parsing.{file_read}
+use Rattle.ov_dot.proofs.Reasoning.{refused}
 use Rattle.ov_dot.specs.Code.Seen.{ends, Fails, IsBadName, AreBadNames, IsNameless}
 
 -- a text without tokens
@@ -28,8 +33,34 @@ pub no_statements :
     (bytes : List ℕ) (tokens : List Lexeme) (e : DotFault) → HasTokens bytes tokens → Fails e (statements_of tokens)
     → IsRefused bytes e
 no_statements bytes tokens (UnreadLine line why) are fails =
-    inr (inl (record { tokens = tokens; are_tokens = are; no_file = fails }))
+    let is = refused tokens line why fails in
+    inr (inl (record { tokens = tokens; are_tokens = are; no_file = is.0; in_line = is.1 }))
 no_statements bytes tokens OutOfMemory are fails = tt
+
+-- tokens say what their file says
+pub said_of : (tokens : List Lexeme) (said : Said) (file : File) → statements_of tokens ≡ Ok said → Spells file tokens
+    → said ≡ said_by file
+said_of tokens said file says spells =
+    let same : Ok said ≡ Ok (said_by file) =
+    sym says ∙ ap (λ ts. statements_of ts) (sym spells.spelled) ∙ file_read file spells.balanced in
+    cc
+
+-- tokens that are read are those of a file, which says this
+abbrev IsFileOf : List ℕ → Said → Type 0
+IsFileOf bytes said = (file : File) × IsTextOf file bytes × (said ≡ said_by file)
+
+is_file :
+    (bytes : List ℕ) (tokens : List Lexeme) (said : Said) → HasTokens bytes tokens → statements_of tokens ≡ Ok said
+    → IsFileOf bytes said
+is_file bytes tokens said are says =
+    let is = file_of tokens said says in
+    (is.0, record { tokens = tokens; are_tokens = are; spells = is.1 }, said_of tokens said is.0 says is.1)
+
+-- files with the same tokens say the same
+pub same_saying : (a b : File) (tokens : List Lexeme) → Spells a tokens → Spells b tokens → said_by a ≡ said_by b
+same_saying a b tokens of_a of_b =
+    said_of tokens (said_by a) b
+    (ap (λ ts. statements_of ts) (sym of_a.spelled) ∙ file_read a of_a.balanced) of_b
 
 -- a file with a name that can't be read
 pub no_names :
@@ -37,19 +68,40 @@ pub no_names :
     → statements_of tokens ≡ Ok said
     → IsNameless said e → IsRefused bytes e
 no_names bytes tokens said (UnreadLine line why) are says is =
-    inr (inr (is.0, record { tokens = tokens; are_tokens = are; said = said; are_said = says; bad = is.1 }))
+    let read = is_file bytes tokens said are says in
+    inr (inr (
+      is.0,
+      record {
+        file = read.0;
+        is_text = read.1;
+        bad = subst (λ (s : Said). HasBadName s line) read.2 is.1;
+      },
+    ))
 no_names bytes tokens said OutOfMemory are says is = tt
 
 -- a file
-pub says_dump :
+says_dump :
     (bytes : List ℕ) (tokens : List Lexeme) (said : Said) (dump : Dump) → HasTokens bytes tokens
     → statements_of tokens ≡ Ok said
     → IsDumpOf said dump → SaysDump bytes dump
 says_dump bytes tokens said dump are says is =
-    record { tokens = tokens; are_tokens = are; said = said; are_said = says; is_dump = is }
+    let read = is_file bytes tokens said are says in
+    record {
+      file = read.0;
+      is_text = read.1;
+      is_dump = subst (λ (s : Said). IsDumpOf s dump) read.2 is;
+    }
 
--- what is said and what is refused of a text
-pub ruleset of_texts = (no_tokens, no_statements, no_names, says_dump)
+-- and if there is a dump, it is said
+pub dump_said :
+    (bytes : List ℕ) (tokens : List Lexeme) (said : Said) (made : Result Dump DotFault) → HasTokens bytes tokens
+    → statements_of tokens ≡ Ok said
+    → IfOk made (λ dump. IsDumpOf said dump) → IfOk made (λ dump. SaysDump bytes dump)
+dump_said bytes tokens said (Ok dump) are says is = says_dump bytes tokens said dump are says is
+dump_said bytes tokens said (Err e) are says is = tt
+
+-- what is refused of a text
+pub ruleset of_texts = (no_tokens, no_statements, no_names)
 
 -- ---- names
 

@@ -6,7 +6,8 @@ use Rattle.ov_dot_tokens.specs.Tokens.{Lexeme, lexeme, lexemes}
 use Rattle.ov_dot.specs.declared.fault.DotFault.{DotFault}
 use Rattle.ov_dot.specs.declared.fault.DotFault.TheVariants.{UnreadLine, OutOfMemory}
 use Rattle.std.proofs.Math.ListN.{drop_of_length-le}
-use Rattle.ov_dot.specs.Statements.{Reading, Said, ended, read_on, said_behind, step}
+use Rattle.ov_dot.specs.Sayings.{Said}
+use Rattle.ov_dot.specs.Code.Statements.{Reading, ended, read_on, said_behind, step}
 use Rattle.ov_dot.specs.Code.Seen.{Fails}
 
 -- a step that fails ends the reading

@@ -1,2 +1,5 @@
--- What only the contracts of private functions use. A reader of the public contracts need not rely on it.
+pub mod Diagram
+pub mod PlaceReasons
+pub mod Statements
 pub mod Seen
+pub mod Entered

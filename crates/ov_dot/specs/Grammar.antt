@@ -1,6 +1,7 @@
 -- Files in DOT as trees, by the grammar of the page "The DOT Language" of Graphviz: the tokens that spell each part,
 -- and what it says. Statements of subgraphs stand in one list with those outside, between the opening and the closing
--- brace.
+-- brace. The page is https://graphviz.org/doc/info/lang.html. Chosen here: there may be semicolons without a statement,
+-- an attribute without a value, and no subgraph as the end of an edge.
 use Rattle.std.specs.Prelude.{◌≡◌, ◌<◌, ℕ, ◌+◌, ◌-◌, Bool, true, false, List, [], ◌∷◌, ◌++◌}
 use Rattle.ov_dot_tokens.specs.Tokens.{Lexeme}
 use Rattle.ov_dot_tokens.specs.declared.token.Kind.{Kind}
@@ -8,7 +9,7 @@ use Rattle.ov_dot_tokens.specs.declared.token.Kind.TheVariants.{Strict, Graph, D
 use Rattle.ov_dot_tokens.specs.declared.token.Kind.TheVariants.{Quoted}
 use Rattle.ov_dot_tokens.specs.declared.token.Kind.TheVariants.{Html, OpenBrace, CloseBrace, OpenBracket, CloseBracket}
 use Rattle.ov_dot_tokens.specs.declared.token.Kind.TheVariants.{Semicolon, Comma, Equals, Colon, Line, Arrow}
-use Rattle.ov_dot.specs.Statements.{Said, nothing_said, with_edge}
+use Rattle.ov_dot.specs.Sayings.{Said, nothing_said, with_edge}
 
 -- where a token stands, and its bytes
 pub record Spot : Type 0 where
@@ -245,3 +246,18 @@ spell_file file =
 -- what a file says
 abbrev pub said_by : File → Said
 said_by file = with_statements file.directed file.statements nothing_said
+
+-- the tokens are those of the file, and its braces are balanced
+pub record Spells (file : File) (tokens : List Lexeme) : Type 0 where
+  pub balanced : IsBalanced 0 file.statements
+  pub spelled : spell_file file ≡ tokens
+
+-- the tokens are those of a file
+abbrev pub AreFile : List Lexeme → Type 0
+AreFile tokens = (file : File) × Spells file tokens
+
+-- some file begins with these tokens
+pub record BeginFile (tokens : List Lexeme) : Type 0 where
+  pub file : File
+  pub rest : List Lexeme
+  pub spells : Spells file (tokens ++ rest)

@@ -1,10 +1,9 @@
 pub mod FaultNumbers
 pub mod Faults
-pub mod Diagram
-pub mod Reasons
-pub mod Statements
+pub mod Sayings
+pub mod Grammar
 pub mod Names
 pub mod Dumps
+pub mod Reasons
 pub mod Readings
-pub mod Grammar
 pub mod Code

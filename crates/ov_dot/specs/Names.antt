@@ -1,5 +1,5 @@
 -- The text of a name: what an identifier, a numeral or a quoted text of DOT says.
-use Rattle.std.specs.Prelude.{ℕ, ◌-◌, Bool, true, false, not, ◌&&◌, ◌==◌, nat_lt, List, [], ◌∷◌, ◌++◌, length}
+use Rattle.std.specs.Prelude.{ℕ, ◌-◌, Bool, false, not, ◌&&◌, ◌==◌, nat_lt, List, [], ◌∷◌, ◌++◌, length}
 use Rattle.std.specs.Prelude.{slice_range, if◌then◌else◌}
 use Rattle.ov_dot_tokens.specs.Tokens.{Lexeme}
 use Rattle.ov_dot_tokens.specs.declared.token.Kind.{Kind}

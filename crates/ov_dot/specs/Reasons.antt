@@ -1,64 +1,55 @@
--- Why a token can't stand at a place.
+-- Why tokens are no file in DOT, where a file begins with those before: by what may come there, and what came.
+use Rattle.std.specs.Prelude.{◌≡◌, ◌⊎◌, List, [], ◌∷◌, ◌++◌}
+use Rattle.ov_dot_tokens.specs.Tokens.{Lexeme}
 use Rattle.ov_dot_tokens.specs.declared.token.Kind.{Kind}
-use Rattle.ov_dot_tokens.specs.declared.token.Kind.TheVariants.{Subgraph, Html, OpenBrace, Line, Arrow}
-use Rattle.ov_dot.specs.declared.place.Place.{Place}
-use Rattle.ov_dot.specs.declared.place.Place.TheVariants.{Beginning, BehindStrict, BehindKind, BehindTitle, Body, Named}
-use Rattle.ov_dot.specs.declared.place.Place.TheVariants.{Member, PortNext, Ported, CompassNext, Directed, EndNext}
-use Rattle.ov_dot.specs.declared.place.Place.TheVariants.{ListNext, InList, Attribute, ValueNext, Valued, Listed}
-use Rattle.ov_dot.specs.declared.place.Place.TheVariants.{AssignedNext}
-use Rattle.ov_dot.specs.declared.place.Place.TheVariants.{SubgraphNext, SubgraphTitled, Over}
+use Rattle.ov_dot_tokens.specs.declared.token.Kind.TheVariants.{Graph, Subgraph, Bare, Html, OpenBrace, CloseBrace}
+use Rattle.ov_dot_tokens.specs.declared.token.Kind.TheVariants.{OpenBracket, CloseBracket, Line, Arrow}
 use Rattle.ov_dot.specs.declared.fault.Why.{Why}
-use Rattle.ov_dot.specs.declared.fault.Why.TheVariants.{NoGraph, NoBrace, NoName, NoStatement, BadAttributes}
-use Rattle.ov_dot.specs.declared.fault.Why.TheVariants.{SubgraphAsEnd}
-use Rattle.ov_dot.specs.declared.fault.Why.TheVariants.{HtmlText, BehindGraph}
+use Rattle.ov_dot.specs.declared.fault.Why.TheVariants.{NoGraph, NoBrace, NoName, NoStatement, BadAttributes, WrongEdge}
+use Rattle.ov_dot.specs.declared.fault.Why.TheVariants.{SubgraphAsEnd, HtmlText, BehindGraph}
+use Rattle.ov_dot.specs.Grammar.{AreFile, BeginFile, Spot, token}
 
--- what was wanted at a place
-abbrev pub lacking : Place → Why
-lacking Beginning = NoGraph
-lacking BehindStrict = NoGraph
-lacking BehindKind = NoBrace
-lacking BehindTitle = NoBrace
-lacking SubgraphNext = NoBrace
-lacking SubgraphTitled = NoBrace
-lacking PortNext = NoName
-lacking CompassNext = NoName
-lacking EndNext = NoName
-lacking AssignedNext = NoName
-lacking ListNext = BadAttributes
-lacking InList = BadAttributes
-lacking Attribute = BadAttributes
-lacking ValueNext = BadAttributes
-lacking Valued = BadAttributes
-lacking Body = NoStatement
-lacking Named = NoStatement
-lacking Member = NoStatement
-lacking Ported = NoStatement
-lacking Directed = NoStatement
-lacking Listed = NoStatement
-lacking Over = BehindGraph
+-- some file begins with these tokens and one of this kind behind them
+abbrev pub MayCome : List Lexeme → Kind → Type 0
+MayCome before kind = (spot : Spot) × BeginFile (before ++ token kind spot ∷ [])
 
--- at the end of an edge a subgraph stands, or an HTML text, or else no name
-abbrev pub no_end : Kind → Why
-no_end Subgraph = SubgraphAsEnd
-no_end OpenBrace = SubgraphAsEnd
-no_end Html = HtmlText
-no_end kind = NoName
+-- the kind of an edge, in a graph or in a digraph
+abbrev pub IsEdge : Kind → Type 0
+IsEdge kind = (kind ≡ Line) ⊎ (kind ≡ Arrow)
 
--- where a statement may begin, an edge begins behind a subgraph, or an HTML text stands, or else something that is none
-abbrev pub no_statement : Kind → Why
-no_statement Line = SubgraphAsEnd
-no_statement Arrow = SubgraphAsEnd
-no_statement Html = HtmlText
-no_statement kind = NoStatement
+-- the last of these tokens is an edge
+pub record EndInEdge (tokens : List Lexeme) : Type 0 where
+  pub first : List Lexeme
+  pub edge : Lexeme
+  pub parts : tokens ≡ first ++ edge ∷ []
+  pub is_edge : IsEdge edge.kind
 
--- elsewhere an HTML text stands, or else not what was wanted
-abbrev pub not_wanted : Why → Kind → Why
-not_wanted why Html = HtmlText
-not_wanted why kind = why
+-- what came is a reason of its own: it stands behind a file; it is an HTML text; it is an edge where one may come, so
+-- one of the other kind of graph; it begins a subgraph behind an edge, or is an edge where a brace may close, but no list
+-- of attributes may begin, so behind a subgraph
+abbrev pub HasReason : List Lexeme → Kind → Why → Type 0
+HasReason before kind BehindGraph = AreFile before
+HasReason before kind HtmlText = (kind ≡ Html) × ¬ AreFile before
+HasReason before kind WrongEdge = IsEdge kind × (MayCome before Line ⊎ MayCome before Arrow)
+HasReason before kind SubgraphAsEnd =
+    (((kind ≡ Subgraph) ⊎ (kind ≡ OpenBrace)) × EndInEdge before)
+    ⊎ (IsEdge kind × MayCome before CloseBrace × ¬ MayCome before OpenBracket)
+HasReason before kind why = ⊥
 
--- why a token of this kind can't stand at a place
-abbrev pub why_not : Place → Kind → Why
-why_not EndNext kind = no_end kind
-why_not Body kind = no_statement kind
-why_not Over kind = BehindGraph
-why_not place kind = not_wanted (lacking place) kind
+-- what is lacking behind these tokens: a statement, where a brace may close; the beginning of a graph, or an opening
+-- brace, where none may close; attributes, or a list of them; or else a name
+abbrev pub Lack : List Lexeme → Why → Type 0
+Lack before NoStatement = MayCome before CloseBrace
+Lack before NoGraph = MayCome before Graph × ¬ MayCome before CloseBrace
+Lack before NoBrace = MayCome before OpenBrace × ¬ MayCome before CloseBrace
+Lack before BadAttributes =
+    MayCome before CloseBracket
+    ⊎ (MayCome before Html ⊎ (MayCome before OpenBracket × ¬ MayCome before CloseBrace))
+Lack before NoName =
+    MayCome before Bare × (¬ MayCome before OpenBrace) × (¬ MayCome before CloseBracket) × ¬ MayCome before Html
+Lack before why = ⊥
+
+-- why a token of this kind can't stand behind these tokens: for a reason of its own; without one, for what is lacking
+abbrev pub IsReason : List Lexeme → Kind → Why → Type 0
+IsReason before kind why =
+    HasReason before kind why ⊎ (((other : Why) → ¬ HasReason before kind other) × Lack before why)

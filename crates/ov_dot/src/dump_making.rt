@@ -3,7 +3,9 @@ ghost use Rattle.std.specs.Prelude.{OnOk};
 ghost use Rattle.std.proofs.Common.{Global, String};
 ghost use Rattle.std.specs.BTreeSet.{contains};
 ghost use Rattle.ov_dot_tokens.specs.Tokens.{lexemes};
-ghost use Rattle.ov_dot.specs.Dumps.{both_ends, entries_with, has_entry, listing_of, IsDumpOf};
+ghost use Rattle.ov_dump.specs.FirstEntries.{AreFirsts};
+ghost use Rattle.ov_dot.specs.Dumps.{both_ends, entry_of, listing_of, IsDumpOf};
+ghost use Rattle.ov_dot.specs.Code.Entered.{has_entry};
 ghost use Rattle.ov_dot.specs.Code.Seen.{ends, said_in, AreBadNames, IsNameless};
 
 use crate::fault::DotFault;
@@ -32,7 +34,7 @@ pub(crate) fn make_dump(alloc: Global, said: &Statements<'_>) -> Result<Dump, Do
 
 /// One entry for each name.
 fn make_entries(alloc: Global, names: &[Token<'_>]) -> Result<Vec<Entry>, DotFault>
-    ensures entries { IfOk result (λ entries. entries.items ≡ entries_with [] (lexemes names.now)) }
+    ensures entries { IfOk result (λ entries. AreFirsts [] (map entry_of (lexemes names.now)) entries.items) }
     ensures fault { IfErr result (λ fault. AreBadNames (lexemes names.now) fault) }
 {
     let mut entries = Vec::new(alloc);

@@ -11,4 +11,4 @@ mod theorems;
 
 pub use dot_reading::read_dot;
 pub use fault::{DotFault, Why};
-pub use theorems::every_file_is_read;
+pub use theorems::one_saying;

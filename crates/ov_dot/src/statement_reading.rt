@@ -1,8 +1,8 @@
 ghost use Rattle.std.specs.Prelude.{◌≡◌, ◌+◌, ◌-◌, ◌<◌, ◌≤◌, ◌^◌, IfErr, IfOk, OnOk};
 ghost use Rattle.ov_dot_tokens.specs.Tokens.{lexeme, lexemes};
-ghost use Rattle.ov_dot.specs.Statements.{at_beginning, depth_behind, directed_behind, is_wrong_edge};
-ghost use Rattle.ov_dot.specs.Statements.{name_behind, place_behind, with_edge, with_first};
-ghost use Rattle.ov_dot.specs.Statements.{ended, nothing_said, said_behind, statements_of, step, Said};
+ghost use Rattle.ov_dot.specs.Code.Statements.{at_beginning, depth_behind, directed_behind, ended, is_wrong_edge};
+ghost use Rattle.ov_dot.specs.Code.Statements.{name_behind, place_behind, said_behind, statements_of, step, with_first};
+ghost use Rattle.ov_dot.specs.Sayings.{nothing_said, with_edge, Said};
 ghost use Rattle.ov_dot.specs.Code.Seen.{reading, said_in, Gives};
 
 use crate::fault::{DotFault, Why};

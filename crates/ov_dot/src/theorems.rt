@@ -1,8 +1,8 @@
-ghost use Rattle.std.specs.Prelude.{◌≡◌, Ok};
-ghost use Rattle.ov_dot.specs.Grammar.{said_by, spell_file, File, IsBalanced};
-ghost use Rattle.ov_dot.specs.Statements.{statements_of};
+ghost use Rattle.std.specs.Prelude.{◌≡◌, List};
+ghost use Rattle.ov_dot_tokens.specs.Tokens.{Lexeme};
+ghost use Rattle.ov_dot.specs.Grammar.{said_by, File, Spells};
 
-/// Each file that the grammar has is read, and says what its statements say.
-pub fn every_file_is_read()
-    ensures { (file : File) → IsBalanced 0 file.statements → statements_of (spell_file file) ≡ Ok (said_by file) }
+/// Files with the same tokens say the same.
+pub fn one_saying()
+    ensures { (a b : File) → (tokens : List Lexeme) → Spells a tokens → Spells b tokens → said_by a ≡ said_by b }
 {}

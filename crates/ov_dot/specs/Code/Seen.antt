@@ -1,5 +1,5 @@
 -- Values of the code, without where they lie in memory.
-use Rattle.std.specs.Prelude.{◌≡◌, ℕ, List, map, Result, Ok, Err}
+use Rattle.std.specs.Prelude.{◌≡◌, List, map, Result, Ok, Err}
 use Rattle.std.specs.Str.{IsUtf8}
 use Rattle.ov_ids.specs.Members.{Has}
 use Rattle.ov_dot_tokens.specs.Tokens.{Lexeme, lexeme, lexemes}
@@ -10,7 +10,8 @@ use Rattle.ov_dot.specs.declared.statement_reading.Link.{Link}
 use Rattle.ov_dot.specs.declared.statement_reading.Statements.{Statements}
 use Rattle.ov_dot.specs.declared.fault.Why.TheVariants.{NotUtf8}
 use Rattle.ov_dot.specs.Names.{text_of}
-use Rattle.ov_dot.specs.Statements.{Reading, Said}
+use Rattle.ov_dot.specs.Sayings.{Said}
+use Rattle.ov_dot.specs.Code.Statements.{Reading}
 use Rattle.ov_dot.specs.Dumps.{HasBadName}
 
 -- how far the code has read

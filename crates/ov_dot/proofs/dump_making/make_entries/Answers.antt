@@ -1,8 +1,6 @@
 -- one name more, and none
 use Rattle.std.proofs.lemmas.Result.{err_from_is_err_and}
 use Rattle.std.proofs.Common.{arith}
-use Rattle.ov_dot_tokens.specs.Tokens.{lexemes}
-use Rattle.ov_dot.specs.Dumps.{entries_with}
 use Rattle.ov_dot.proofs.Entries.{entry_step, entries_end}
 use Rattle.ov_dot.proofs.Refusing.{bad_at}
 use Rattle.ov_dot.proofs.dump_making.make_entries.Goals as goal
@@ -22,5 +20,5 @@ loop-token-preserved c = record {
 
 pub returns-clause-entries : goal.returns-clause-entries
 returns-clause-entries c =
-    entries_end c.args.names.now c.loop-token.token-index c.loop-token.entries.items _
+    entries_end c.args.names.now c.loop-token.token-index c.loop-token.entries.items
     (omega arith) c.loop-token.invariant.left

@@ -1,5 +1,6 @@
--- What the statements of a DOT file say.
-use Rattle.std.specs.Prelude.{ℕ, ◌+◌, ◌-◌, Bool, true, false, not, ◌&&◌, nat_le, List, [], ◌∷◌, ◌++◌, Option, Some}
+-- How the code reads a DOT file: by the diagram, token by token. That what is read so are the files of the grammar is
+-- proved.
+use Rattle.std.specs.Prelude.{ℕ, ◌+◌, ◌-◌, Bool, true, false, not, nat_le, List, [], ◌∷◌, ◌++◌, Option, Some}
 use Rattle.std.specs.Prelude.{None, Result, Ok, Err}
 use Rattle.std.specs.Prelude.{if◌then◌else◌}
 use Rattle.ov_dot_tokens.specs.Tokens.{Lexeme}
@@ -10,8 +11,9 @@ use Rattle.ov_dot.specs.declared.place.Place.TheVariants.{Beginning, Named, Memb
 use Rattle.ov_dot.specs.declared.fault.DotFault.{DotFault}
 use Rattle.ov_dot.specs.declared.fault.DotFault.TheVariants.{UnreadLine}
 use Rattle.ov_dot.specs.declared.fault.Why.TheVariants.{WrongEdge, Unclosed}
-use Rattle.ov_dot.specs.Diagram.{follows}
-use Rattle.ov_dot.specs.Reasons.{why_not}
+use Rattle.ov_dot.specs.Code.Diagram.{follows}
+use Rattle.ov_dot.specs.Code.PlaceReasons.{why_not}
+use Rattle.ov_dot.specs.Sayings.{Said, nothing_said, with_edge}
 
 -- how far a file was read
 pub record Reading : Type 0 where
@@ -25,11 +27,6 @@ pub record Reading : Type 0 where
   pub name : Lexeme
   -- the line of the last token
   pub line : ℕ
-
--- what statements say: names that have entries, and which name lists which, in their order
-pub record Said : Type 0 where
-  pub entries : List Lexeme
-  pub listings : List (Lexeme × Lexeme)
 
 -- at the beginning of the text, before its first token
 abbrev pub at_beginning : Lexeme → Reading
@@ -89,15 +86,6 @@ abbrev pub with_first : Lexeme → Kind → Said → Said
 with_first name Equals said = said
 with_first name kind said = record { entries = said.entries ++ name ∷ []; listings = said.listings }
 
--- an edge is said: in a digraph the first end has an entry and lists the second; in a graph both have entries, and each
--- lists the other
-abbrev pub with_edge : Bool → Lexeme → Lexeme → Said → Said
-with_edge true a b said = record { entries = said.entries ++ a ∷ []; listings = said.listings ++ (a, b) ∷ [] }
-with_edge false a b said = record {
-  entries = said.entries ++ a ∷ b ∷ [];
-  listings = said.listings ++ (a, b) ∷ (b, a) ∷ [];
-}
-
 -- what was said, and what one token more says at a place: that the last name is one of a node, or an edge to this token
 abbrev pub said_at : Bool → Place → Lexeme → Lexeme → Said → Said
 said_at directed Named name t said = with_first name t.kind said
@@ -118,10 +106,6 @@ unfoldable pub read_on : Result Reading DotFault → Said → List Lexeme → Re
 read_on (Err fault) said ts = Err fault
 read_on (Ok r) said [] = ended r r.place said
 read_on (Ok r) said (t ∷ ts) = read_on (step r t) (said_behind r t said) ts
-
--- nothing
-abbrev pub nothing_said : Said
-nothing_said = record { entries = []; listings = [] }
 
 -- what the tokens of a file say, or why they are no file in DOT; without a token the text ends in line 1
 abbrev pub statements_of : List Lexeme → Result Said DotFault

@@ -1,8 +1,7 @@
 -- The grammar of DOT as a diagram: at each place of a file, which kinds of tokens may come next, and where they lead.
--- A file in DOT is a way through the diagram from its beginning to its last brace. The source is the page "The DOT
--- Language" of Graphviz, https://graphviz.org/doc/info/lang.html. Chosen here: there may be semicolons without a
--- statement, an attribute without a value, and no subgraph as the end of an edge.
-use Rattle.std.specs.Prelude.{Bool, true, false, Option, Some, None, if◌then◌else◌}
+-- A file is a way through the diagram from its beginning to its last brace. That the grammar has the same files is
+-- proved.
+use Rattle.std.specs.Prelude.{Option, Some, None}
 use Rattle.ov_dot_tokens.specs.declared.token.Kind.{Kind}
 use Rattle.ov_dot_tokens.specs.declared.token.Kind.TheVariants.{Strict, Graph, Digraph, Node, Edge, Subgraph, Bare}
 use Rattle.ov_dot_tokens.specs.declared.token.Kind.TheVariants.{Quoted}
