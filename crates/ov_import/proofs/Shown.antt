@@ -1,8 +1,11 @@
 -- A name as it is shown stands on one line.
-use Rattle.std.proofs.Common.{◌≡◌, ◌∙◌, ◌<◌, ◌≤◌, ◌+◌, ◌%◌, ◌/◌, ℕ, zero, suc, List, [], ◌∷◌, ◌++◌, inl, inr, Bool, true}
+use Rattle.std.proofs.Common.{◌≡◌, ◌∙◌, ◌<◌, ◌≤◌, ◌+◌, ◌%◌, ◌/◌, ℕ, zero, suc, List, [], ◌∷◌, ◌++◌, inl, inr, true}
 use Rattle.std.proofs.Common.{false, cond, ltb, map, codes, sym, ap, subst, refl, arith, encode_utf8, chars}
 use Rattle.std.proofs.Common.{String, Global, string_bytes, nat_lt, ◌==◌, if◌then◌else◌, get_or, drop}
-use Rattle.std.proofs.Common.{length, length-append, ap₂}
+use Rattle.std.proofs.Common.{length, length-append, ap₂, ◌≢◌, IsUtf8}
+use Rattle.std.proofs.lemmas.List.{drop_more}
+use Rattle.std.proofs.lemmas.Str.{encodes-chars, len_utf8_bounds, length-encode}
+use Rattle.std.specs.Str.{encode_utf8_all}
 use lib.Utf8.{encode}
 use Rattle.std.proofs.lemmas.Bool.{both_ways}
 use Rattle.std.specs.Char.{is_control}
@@ -109,6 +112,27 @@ on_one_line name = (
   (λ h. chars_clean (chars name) 13 (omega arith) refl h),
 )
 
+-- a character is shown by one byte at least
+char_some : (c : ℕ) → 0 < length (shown_char c)
+char_some c =
+    let bytes = length-encode c in
+    let some = (len_utf8_bounds c).0 in
+    elim (is_control c) as (λ t. 0 < length (cond t (codes "\\u{" ++ (digits 16 false c ++ codes "}")) (encode_utf8 c))) [
+      | true ↦ omega arith
+      | false ↦ omega (arith, bytes, some)
+    ]
+
+-- a name that is not empty is shown by one byte at least
+pub shown_some : (name : List ℕ) → IsUtf8 name → name ≢ [] → 0 < length (shown_text name)
+shown_some name utf8 some = by (chars name) (encodes-chars name utf8) where
+  by : (cs : List ℕ) → encode_utf8_all cs ≡ name → 0 < length (shown_chars cs)
+  by [] e = absurd (some (sym e))
+  by (c ∷ cs) e =
+      let first = char_some c in
+      let long : length (shown_char c ++ shown_chars cs) ≡ length (shown_char c) + length (shown_chars cs) =
+      length-append (shown_char c) (shown_chars cs) in
+      omega (arith, first, long)
+
 -- each name as it is shown stands on one line
 pub all_on_one_line : (shown : List (String Global)) (names : List (List ℕ))
     → map (λ name. string_bytes name) shown ≡ map shown_text names
@@ -138,6 +162,12 @@ shown_more (r ∷ before) [] s n e same = absurd (cc)
 shown_more (r ∷ before) (m ∷ names) s n e same =
     let first : string_bytes r ≡ shown_text m = ap (λ (l : List (List ℕ)). get_or l 0 []) e in
     ap₂ (λ (t : List ℕ) (ts : List (List ℕ)). t ∷ ts) first (shown_more before names s n (ap (drop 1) e) same)
+
+-- if the items from the next one on pass, and this one does, those from this one on pass
+pub all_more : {X : Type 0} (P : X → Type 0) (xs : List X) (i : ℕ) (x : X) → i < length xs → x ≡ get_or xs i x → P x
+    → AllByRecursion P (drop (i + 1) xs) → AllByRecursion P (drop i xs)
+all_more P xs i x l at here rest =
+    subst (AllByRecursion P) (ap (λ y. y ∷ drop (i + 1) xs) at ∙ sym (drop_more xs i x l)) (here, rest)
 
 -- there are n numbers from 1 to n
 pub numbered : (n : ℕ) → length (numbers n) ≡ n

@@ -1,4 +1,5 @@
-ghost use Rattle.std.specs.Prelude.{◌≡◌, ◌+◌, ◌<◌, length, map, string_bytes, IfErr, IfOk};
+ghost use Rattle.std.specs.Prelude.{◌≡◌, ◌+◌, ◌<◌, length, map, string_bytes, IfErr, IfOk, IsUtf8, OnOk};
+ghost use Rattle.std.specs.List.{AllByRecursion};
 ghost use Rattle.ov_graph_text.specs.GraphTexts.{named_graph_text};
 ghost use Rattle.ov_io.specs.Device.{most_faults};
 ghost use Rattle.ov_import.specs.Importing.{WasImported, shown_text};
@@ -10,7 +11,7 @@ use ov_graph::Graph;
 use ov_graph_text::named_graph_text;
 use ov_ids::OutOfMemory;
 use ov_io::{Sink, shown_name};
-use std::alloc::Global;
+use std::alloc::{AllocError, Global};
 use std::io::Write;
 
 /// Writes the graph that follows from a dump as a graph file, in which a comment before each node says its name, with
@@ -40,18 +41,29 @@ pub fn import_dump<W: Write>(
 /// The graph file of a graph whose nodes have these names.
 fn text_of(alloc: Global, graph: &Graph, names: &[Name]) -> Result<Vec<u8>, OutOfMemory>
     requires each { length names.now ≡ length graph.now.nodes }
-    ensures { IfOk result (λ text. text.items ≡ named_graph_text graph.now (map shown_text names.now)) }
+    ensures text { IfOk result (λ text. text.items ≡ named_graph_text graph.now (map shown_text names.now)) }
+    ensures utf8 { OnOk result (AllByRecursion IsUtf8 names.now) }
 {
     let shown = shown_names(alloc, names)?;
     named_graph_text(alloc, graph, &shown)
 }
 
+/// The names as they are shown.
 fn shown_names(alloc: Global, names: &[Name]) -> Result<Vec<String>, OutOfMemory>
-    ensures { IfOk result (λ shown. map (λ name. string_bytes name) shown.items ≡ map shown_text names.now) }
+    ensures shown { IfOk result (λ shown. map (λ name. string_bytes name) shown.items ≡ map shown_text names.now) }
+    ensures utf8 { OnOk result (AllByRecursion IsUtf8 names.now) }
 {
     let mut shown = Vec::new(alloc);
     for name in names {
-        shown.push(shown_name(alloc, name.as_str())?)?;
+        shown.push(one_shown(alloc, name)?)?;
     }
     Ok(shown)
+}
+
+/// A name as it is shown.
+fn one_shown(alloc: Global, name: &Name) -> Result<String, AllocError>
+    ensures shown { IfOk result (λ shown. string_bytes shown ≡ shown_text name.now) }
+    ensures utf8 { IsUtf8 name.now }
+{
+    shown_name(alloc, name.as_str())
 }

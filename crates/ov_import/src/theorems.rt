@@ -1,0 +1,12 @@
+ghost use Rattle.ov_import.specs.Theorems.{NamesAreRead, NamesComeBack};
+
+/// The graph file that is made of a dump gives each node the name that the dump gives it, as it is shown, and gives no
+/// other names.
+pub fn names_come_back()
+    ensures { NamesComeBack }
+{}
+
+/// Who reads the names of such a file finds these names, and no others.
+pub fn names_are_read()
+    ensures { NamesAreRead }
+{}
