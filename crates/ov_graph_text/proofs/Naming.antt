@@ -1,6 +1,7 @@
 -- What a text with names in comments says.
 use Rattle.std.proofs.Common.{◌≡◌, ◌∙◌, ◌≢◌, ◌<◌, ◌+◌, inl, inr, ℕ, true, List, [], ◌∷◌, ◌++◌, length, map}
-use Rattle.std.proofs.Common.{codes, decimal, String, Global, string_bytes, is_none, refl, ap, sym, subst, append_assoc, arith}
+use Rattle.std.proofs.Common.{codes, decimal, String, Global, string_bytes, is_none, refl, ap, sym, subst, append_assoc}
+use Rattle.std.proofs.Common.{arith}
 use Rattle.std.specs.List.{AllByRecursion, flat_map, list_all, zip}
 use Rattle.std.specs.Str.Lines.{lines}
 use Rattle.std.proofs.lemmas.Bool.{and_from}

@@ -1,14 +1,14 @@
 -- The names of a dump come back from the file that is made of it.
 use Rattle.std.proofs.Common.{◌≡◌, ◌≢◌, ◌∙◌, ◌↔◌, ◌<◌, ◌≤◌, ℕ, zero, suc, inl, inr, List, [], ◌∷◌, ◌++◌}
-use Rattle.std.proofs.Common.{Option, Some, None, unwrap_or, option_map, slice_get, get_or, length, map, IsUtf8, MatchBool}
-use Rattle.std.proofs.Common.{true, false, append_assoc, refl, sym, ap, ap₂, subst, arith, eq-or-lt_of_le}
+use Rattle.std.proofs.Common.{Option, Some, None, unwrap_or, option_map, slice_get, get_or, length, map, IsUtf8}
+use Rattle.std.proofs.Common.{MatchBool, true, false, append_assoc, refl, sym, ap, ap₂, subst, arith, eq-or-lt_of_le}
 use Rattle.std.specs.List.{AllByRecursion, flat_map, zip}
 use Rattle.std.specs.Str.Lines.{lines}
 use Rattle.std.proofs.lemmas.List.{length-map}
 use Rattle.std.proofs.lemmas.Option.{slice_get_within, slice_get-get_or, slice_get-map}
 use Rattle.ov_ids.specs.Limits.{number_limit}
 use Rattle.ov_ids.specs.Members.{Has}
-use Rattle.ov_ids.proofs.Members.{all_from_members, has_append_cases}
+use Rattle.ov_ids.proofs.Members.{all_from_members, all_member, has_append_cases}
 use Rattle.ov_lines.specs.Lines.{words_of}
 use Rattle.ov_graphfile.specs.GraphFiles.{graph_line, node_said}
 use Rattle.ov_graph_text.specs.GraphTexts.{IsOnOneLine, link_line, named_node_line}
@@ -27,9 +27,10 @@ use Rattle.ov_dump.specs.declared.dump_values.Choice.{Choice}
 use Rattle.ov_dump.specs.declared.dump_values.Dump.{Dump}
 use Rattle.ov_dump.specs.declared.dump_values.Entry.{Entry}
 use Rattle.ov_dump.specs.declared.dump_values.Listing.{Listing}
-use Rattle.ov_dump.proofs.Numbered.{name_one, named_node}
-use Rattle.ov_import.specs.Importing.{shown_text}
-use Rattle.ov_import.specs.Theorems.{IsShownNameOf, NamesAreRead, NamesComeBack}
+use Rattle.ov_dump.proofs.Numbered.{name_is, name_one, named_node, node_one}
+use Rattle.ov_import.specs.ShownNames.{shown_text}
+use Rattle.ov_import.specs.Theorems.{IsShownNameOf, NamesAreRead, NamesComeBack, NamesDiffer}
+use Rattle.ov_import.proofs.OneShown.{one_shown}
 use Rattle.ov_import.proofs.Shown.{numbered, on_one_line, shown_some}
 
 -- ---- names are not empty
@@ -236,3 +237,13 @@ are_read choice d text import names are n s = (
       let same : back.0 ≡ h.0 = name_one import.names n back.0 h.0 back.1 h.1 in
       subst (IsNamed names n) (back.2 ∙ ap shown_text same ∙ sym h.2) read.1),
 )
+
+pub differ : NamesDiffer
+differ choice d text import m n s of_m of_n =
+    let names = import.names in
+    let a = (come_back choice d text import m s).0 of_m in
+    let b = (come_back choice d text import n s).0 of_n in
+    let utf8 = λ (i : ℕ) (name : List ℕ) (is : IsNameOf names i name).
+    all_member IsUtf8 names name import.utf8 (name_is names i name is) in
+    let same : a.0 ≡ b.0 = one_shown a.0 b.0 (utf8 m a.0 a.1) (utf8 n b.0 b.1) (sym a.2 ∙ b.2) in
+    node_one names m n b.0 import.follows.ascend (subst (IsNameOf names m) same a.1) b.1

@@ -2,21 +2,24 @@ ghost use Rattle.std.specs.Prelude.{◌≡◌, ◌+◌, ◌<◌, length, map, st
 ghost use Rattle.std.specs.List.{AllByRecursion};
 ghost use Rattle.ov_graph_text.specs.GraphTexts.{named_graph_text};
 ghost use Rattle.ov_io.specs.Device.{most_faults};
-ghost use Rattle.ov_import.specs.Importing.{WasImported, shown_text};
+ghost use Rattle.ov_import.specs.Importing.{WasImported};
+ghost use Rattle.ov_import.specs.ShownNames.{shown_text};
 ghost use Rattle.ov_import.specs.declared.import_fault.ImportFault.TheVariants.{Write as write_failed};
 
 use crate::import_fault::ImportFault;
+use crate::name_showing::shown_name;
 use ov_dump::{Choice, Dump, Name, NamedGraph, named_graph};
 use ov_graph::Graph;
 use ov_graph_text::named_graph_text;
 use ov_ids::OutOfMemory;
-use ov_io::{Sink, shown_name};
-use std::alloc::{AllocError, Global};
+use ov_io::Sink;
+use std::alloc::Global;
 use std::io::Write;
 
-/// Writes the graph that follows from a dump as a graph file, in which a comment before each node says its name, with
-/// control characters shown as `shown_name` does. Nothing is written if no graph follows: Refused says why. Write (72) is
-/// returned if writing failed, and OutOfMemory (99) if an allocation was refused, before anything was written.
+/// Writes the graph that follows from a dump as a graph file, in which a comment before each node says its name. Control
+/// characters, and a backslash before `u{`, are shown by their codes, so no two nodes have one name. Nothing is written
+/// if no graph follows: Refused says why. Write (72) is returned if writing failed, and OutOfMemory (99) if an
+/// allocation was refused, before anything was written.
 pub fn import_dump<W: Write>(
     alloc: Global,
     dump: &Dump,
@@ -55,15 +58,7 @@ fn shown_names(alloc: Global, names: &[Name]) -> Result<Vec<String>, OutOfMemory
 {
     let mut shown = Vec::new(alloc);
     for name in names {
-        shown.push(one_shown(alloc, name)?)?;
+        shown.push(shown_name(alloc, name.as_str())?)?;
     }
     Ok(shown)
-}
-
-/// A name as it is shown.
-fn one_shown(alloc: Global, name: &Name) -> Result<String, AllocError>
-    ensures shown { IfOk result (λ shown. string_bytes shown ≡ shown_text name.now) }
-    ensures utf8 { IsUtf8 name.now }
-{
-    shown_name(alloc, name.as_str())
 }

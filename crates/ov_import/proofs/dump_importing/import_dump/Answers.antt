@@ -3,7 +3,7 @@ use Rattle.std.proofs.Common.{◌∙◌, ℕ, List, IsUtf8, ap, length, map, sub
 use Rattle.std.specs.List.{AllByRecursion}
 use Rattle.ov_graph_text.specs.GraphTexts.{named_graph_text}
 use Rattle.ov_io.specs.Device.{AppendsPrefixOf}
-use Rattle.ov_import.specs.Importing.{shown_text}
+use Rattle.ov_import.specs.ShownNames.{shown_text}
 use Rattle.ov_import.proofs.Shown.{numbered}
 use Rattle.ov_import.proofs.dump_importing.import_dump.Goals as goal
 

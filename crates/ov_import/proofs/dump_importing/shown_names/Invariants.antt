@@ -1,7 +1,7 @@
 -- the names so far, as they are shown; if the names that are left are UTF-8, all are
 use Rattle.std.proofs.Common.{◌≡◌, map, string_bytes, take, drop, IsUtf8}
 use Rattle.std.specs.List.{AllByRecursion}
-use Rattle.ov_import.specs.Importing.{shown_text}
+use Rattle.ov_import.specs.ShownNames.{shown_text}
 use Rattle.ov_import.proofs.dump_importing.shown_names.Given as goal
 
 abbrev pub invariant-loop-name : goal.invariant-loop-name
