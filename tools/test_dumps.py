@@ -10,6 +10,7 @@ import io
 import json
 import os
 import random
+import re
 import subprocess
 import unittest
 import warnings
@@ -33,12 +34,23 @@ def overlay(*words, given=""):
     return run.stdout.decode(), run.stderr.decode(), run.returncode
 
 
+def shown(name):
+    """A name as a graph file shows it: a backslash before `u{`, and control characters, by their codes."""
+    text = name.replace("\\u{", "\\u{5c}u{")
+    return re.sub("[\0-\x1f\x7f-\x9f]", lambda it: f"\\u{{{ord(it[0]):x}}}", text)
+
+
+def named(text):
+    """The name that a graph file shows so."""
+    return re.sub(r"\\u\{([0-9a-f]+)\}", lambda it: chr(int(it[1], 16)), text)
+
+
 def graph_file(names, links):
     """The graph file of these names and pairs of names: ids in the order of the bytes of names, from 1."""
     names = sorted(names, key=str.encode)
     ids = {name: at for at, name in enumerate(names, 1)}
     pairs = sorted({tuple(sorted((ids[a], ids[b]))) for a, b in links})
-    nodes = (f"# {at} {name}\nnode {at}\n" for name, at in ids.items())
+    nodes = (f"# {at} {shown(name)}\nnode {at}\n" for name, at in ids.items())
     return "".join([*nodes, *(f"link {a} {b}\n" for a, b in pairs)])
 
 
@@ -139,6 +151,15 @@ class Dumps(unittest.TestCase):
         cut = report.split(" cut ")[1].split()[0].split(",")
         ids = dict(line[2:].split(" ", 1) for line in text.splitlines() if line.startswith("# "))
         self.assertEqual([line for line in told if line.startswith("cut ")], [f"cut {it} {ids[it]}" for it in cut])
+
+    def test_no_two_names_look_alike(self):
+        chance = random.Random(5)
+        names = {"".join(chance.choices("\\u{}a5c\n\x85 #", k=chance.randint(1, 8))) for _ in range(200)}
+        names |= {"a\nb", "a\\u{a}b", "a\\u{5c}u{a}b", "\\", "\\u", "\\\\u{", "\\u{\n"}
+        text, _, status = overlay("import", given=views_of(names, []))
+        self.assertEqual((text, status), (graph_file(names, []), 0))
+        told = [line.split(" ", 2)[2] for line in text.split("\n") if line.startswith("# ")]
+        self.assertEqual([named(it) for it in told], sorted(names, key=str.encode))
 
     def test_the_graph_of_a_certificate_is_the_one_analysed(self):
         names, pairs = some_overlay(40, 60, 2)

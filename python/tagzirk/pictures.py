@@ -10,8 +10,9 @@ from .programs import Program, call, find, lines_of
 
 
 def shown(name: Any) -> str:
-    """A name as one line, with each control character as its code, as `overlay import` shows it."""
-    letters = (f"\\u{{{ord(it):x}}}" if unicodedata.category(it) == "Cc" else it for it in str(name))
+    """A name as one line, as `overlay import` shows it: control characters, and a backslash before `u{`, as codes."""
+    text = str(name).replace("\\u{", "\\u{5c}u{")
+    letters = (f"\\u{{{ord(it):x}}}" if unicodedata.category(it) == "Cc" else it for it in text)
     return "".join(letters)
 
 

@@ -1,2 +1,3 @@
-mod Sayings
-mod Naming
+pub mod Sayings
+pub mod Naming
+pub mod Lined

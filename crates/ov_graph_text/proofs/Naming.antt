@@ -1,6 +1,7 @@
 -- What a text with names in comments says.
 use Rattle.std.proofs.Common.{◌≡◌, ◌∙◌, ◌≢◌, ◌<◌, ◌+◌, inl, inr, ℕ, true, List, [], ◌∷◌, ◌++◌, length, map}
-use Rattle.std.proofs.Common.{codes, decimal, String, Global, string_bytes, is_none, refl, ap, sym, subst, append_assoc, arith}
+use Rattle.std.proofs.Common.{codes, decimal, String, Global, string_bytes, is_none, refl, ap, sym, subst, append_assoc}
+use Rattle.std.proofs.Common.{arith}
 use Rattle.std.specs.List.{AllByRecursion, flat_map, list_all, zip}
 use Rattle.std.specs.Str.Lines.{lines}
 use Rattle.std.proofs.lemmas.Bool.{and_from}
@@ -40,6 +41,21 @@ name_clean (b ∷ name) (no_feed, no_return) =
     and_from (in_line b) (list_all in_line name) (name_byte b (λ e. no_feed (inl e)) (λ e. no_return (inl e)))
     (name_clean name ((λ h. no_feed (inr h)), (λ h. no_return (inr h))))
 
+-- the comment that names a node, without its line feed
+abbrev pub comment_text : ℕ → List ℕ → List ℕ
+comment_text n name = codes "# " ++ (decimal n ++ 32 ∷ name)
+
+-- it stands on one line
+pub comment_clean :
+    (n : ℕ) (name : List ℕ) → n < number_limit → IsOnOneLine name → list_all in_line (comment_text n name) ≡ true
+comment_clean n name low alone =
+    all_joined in_line (codes "# ") (decimal n ++ 32 ∷ name) refl
+    (all_joined in_line (decimal n) (32 ∷ name) (word_clean (decimal n) (id_word n low)) (name_clean name alone))
+
+-- and is skipped
+pub comment_skipped : (n : ℕ) (name : List ℕ) → is_skipped (comment_text n name) ≡ true
+comment_skipped n name = ap skips (words_next (codes "#") (decimal n ++ 32 ∷ name) refl)
+
 -- the line of a node in front, behind a comment that names it
 named_more :
     (n : ℕ) (name rest nodes : List ℕ) (links : List (ℕ × ℕ)) → n < number_limit → IsOnOneLine name
@@ -50,12 +66,9 @@ named_more n name rest nodes links low alone says =
     let split : said ++ 10 ∷ (node_line n ++ rest) ≡ (decimal n ++ 32 ∷ (name ++ 10 ∷ node_line n)) ++ rest =
     sym (append_assoc said (10 ∷ node_line n) rest)
     ∙ ap (λ t. t ++ rest) (append_assoc (decimal n) (32 ∷ name) (10 ∷ node_line n)) in
-    let clean : list_all in_line (codes "# " ++ said) ≡ true =
-    all_joined in_line (codes "# ") said refl
-    (all_joined in_line (decimal n) (32 ∷ name) (word_clean (decimal n) (id_word n low)) (name_clean name alone)) in
     subst (λ t. Says (codes "# " ++ t) (n ∷ nodes) links) split
-    (skipped_more (codes "# " ++ said) (node_line n ++ rest) (n ∷ nodes) links clean
-    (ap skips (words_next (codes "#") said refl)) (node_more n rest nodes links low says))
+    (skipped_more (comment_text n name) (node_line n ++ rest) (n ∷ nodes) links (comment_clean n name low alone)
+    (comment_skipped n name) (node_more n rest nodes links low says))
 
 -- the lines of nodes in front, with as many names
 named_first :

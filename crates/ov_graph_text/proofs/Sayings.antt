@@ -25,12 +25,12 @@ pub record Says (text nodes : List ℕ) (links : List (ℕ × ℕ)) : Type 0 whe
   pub has_links : (k : ℕ) → links_said (map graph_line_at (kept_from k (lines text))) ≡ links
 
 -- a line stands alone, is not skipped, can be read, and says these nodes and these links
-record SaysLine (line nodes : List ℕ) (links : List (ℕ × ℕ)) : Type 0 where
-  clean : list_all in_line line ≡ true
-  kept : is_skipped line ≡ false
-  readable : is_none (graph_line line) ≡ false
-  node : node_said (graph_line line) ≡ nodes
-  link : link_said (graph_line line) ≡ links
+pub record SaysLine (line nodes : List ℕ) (links : List (ℕ × ℕ)) : Type 0 where
+  pub clean : list_all in_line line ≡ true
+  pub kept : is_skipped line ≡ false
+  pub readable : is_none (graph_line line) ≡ false
+  pub node : node_said (graph_line line) ≡ nodes
+  pub link : link_said (graph_line line) ≡ links
 
 -- ---- one line
 
@@ -40,7 +40,7 @@ id_said :
     → said (option_map line o) ≡ said (Some (line n))
 id_said line said o n is = ap (λ p. said (option_map line p)) is
 
-node_line_says : (n : ℕ) → n < number_limit → SaysLine (codes "node " ++ decimal n) (n ∷ []) []
+pub node_line_says : (n : ℕ) → n < number_limit → SaysLine (codes "node " ++ decimal n) (n ∷ []) []
 node_line_says n low =
     let words : words_of (codes "node " ++ decimal n) ≡ codes "node" ∷ decimal n ∷ [] =
     words_next (codes "node") (decimal n) refl
@@ -55,7 +55,7 @@ node_line_says n low =
     }
 
 -- the line of a link, without its line feed
-ids_text : ℕ × ℕ → List ℕ
+unfoldable pub ids_text : ℕ × ℕ → List ℕ
 ids_text l = decimal l.0 ++ 32 ∷ decimal l.1
 
 link_words :
@@ -72,7 +72,7 @@ link_words l low high =
     (id_read l.0 low)
     ∙ ap (λ o. option_map link_of (o >>= λ b. Some (l.0, b))) (id_read l.1 high)
 
-link_line_says :
+pub link_line_says :
     (l : ℕ × ℕ) → l.0 < number_limit → l.1 < number_limit
     → SaysLine (codes "link " ++ ids_text l) [] (l ∷ [])
 unfolding ids_text

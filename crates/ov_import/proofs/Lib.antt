@@ -1,1 +1,3 @@
 pub mod Shown
+pub mod OneShown
+pub mod Returning

@@ -1,15 +1,15 @@
 -- What is written when a dump is imported.
-use Rattle.std.specs.Prelude.{◌≡◌, ℕ, List, map, Option, Result, Ok, Err}
+use Rattle.std.specs.Prelude.{◌≡◌, ℕ, List, map, Option, Result, Ok, Err, IsUtf8}
 use Rattle.std.specs.Io.KnownBytes.{Appends}
-use Rattle.std.specs.Str.{chars}
+use Rattle.std.specs.List.{AllByRecursion}
 use Rattle.ov_io.specs.Device.{AppendsPrefixOf}
-use Rattle.ov_io.specs.Name.{shown_chars}
-use Rattle.ov_graph.specs.Links.{LinkGraph}
+use Rattle.ov_graph.specs.Links.{LinkGraph, IsWithinLimit}
 use Rattle.ov_graph_text.specs.GraphTexts.{named_graph_text}
 use Rattle.ov_dump.specs.Dumps.{IsGraphOf}
-use Rattle.ov_dump.specs.Faults.{IsDumpFault, number_of}
+use Rattle.ov_dump.specs.Faults.{IsDumpFault, IsSound, number_of}
 use Rattle.ov_dump.specs.declared.dump_values.Choice.{Choice}
 use Rattle.ov_dump.specs.declared.dump_values.Dump.{Dump}
+use Rattle.ov_import.specs.ShownNames.{shown_text}
 use Rattle.ov_import.specs.declared.import_fault.ImportFault.{ImportFault}
 use Rattle.ov_import.specs.declared.import_fault.ImportFault.TheVariants.{Refused, Write, OutOfMemory}
 
@@ -19,21 +19,21 @@ import_number (Refused fault) = number_of fault
 import_number Write = 72
 import_number OutOfMemory = 99
 
--- a name as it is shown: control characters by their codes, so that it stands on one line
-abbrev pub shown_text : List ℕ → List ℕ
-shown_text name = shown_chars (chars name)
-
--- the text is the graph file of the graph that follows from the dump, with the names of its nodes. There is one such
--- text at most, by `OneGraph` of ov_dump
+-- the text is the graph file of the graph that follows from a dump without fault, with the names of its nodes, each of
+-- which is UTF-8. There is one such text at most, by `OneGraph` of ov_dump
 pub record IsImportOf (choice : Choice) (d : Dump) (text : List ℕ) : Type 0 where
   pub graph : LinkGraph
   pub names : List (List ℕ)
+  pub sound : IsSound d
   pub follows : IsGraphOf choice d graph names
+  pub within : IsWithinLimit graph
+  pub utf8 : AllByRecursion IsUtf8 names
   pub written : text ≡ named_graph_text graph (map shown_text names)
 
--- what a writer took: all of that text; a prefix of it, if writing failed; and nothing, if no graph follows from the dump
--- or memory ran out
-abbrev pub WasImported : {W : Type 0} → Choice → Dump → (W → Option (List ℕ)) → W → W → Result (Unit {0}) ImportFault → Type 0
+-- what a writer took: all of that text; a prefix of it, if writing failed; and nothing, if no graph follows from the
+-- dump or memory ran out
+abbrev pub WasImported : {W : Type 0} → Choice → Dump → (W → Option (List ℕ)) → W → W
+    → Result (Unit {0}) ImportFault → Type 0
 WasImported choice d contents old new (Ok done) =
     (text : List ℕ) × IsImportOf choice d text × Appends (contents old) (contents new) text
 WasImported choice d contents old new (Err Write) =

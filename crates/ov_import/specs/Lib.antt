@@ -1,1 +1,3 @@
+pub mod ShownNames
 pub mod Importing
+pub mod Theorems

@@ -3,8 +3,11 @@
 
 mod dump_importing;
 mod import_fault;
+mod name_showing;
 mod note_texts;
+mod theorems;
 
 pub use dump_importing::import_dump;
 pub use import_fault::ImportFault;
 pub use note_texts::import_notes;
+pub use theorems::{names_are_read, names_come_back, names_differ, one_shown_name};

@@ -1,6 +1,6 @@
 -- What parts of a text mean, and the places that are marked for them.
 use Rattle.std.proofs.Common.{◌≡◌, ◌≢◌, ◌∙◌, ◌↔◌, ◌⊎◌, ℕ, ◌+◌, ◌<◌, ◌≤◌, List, length, get_or, Some, None, inl, inr}
-use Rattle.std.proofs.Common.{refl, sym, ap, subst, arith}
+use Rattle.std.proofs.Common.{Bool, true, Option, IsTrue, is_some, refl, sym, ap, subst, arith}
 use Rattle.std.proofs.lemmas.Bool.{cases_eq, cases_order}
 use Rattle.ov_ids.specs.Members.{Has}
 use Rattle.ov_ids.proofs.Members.{has_place, place_of}
@@ -12,9 +12,11 @@ use Rattle.ov_graph.proofs.BitRows.Bits.{bit_moved, empty_bit}
 use Rattle.ov_graph.proofs.BitRows.Read.{has_picked, in_picked, ascends_picked, one_place}
 use Rattle.ov_lines.specs.Lines.{words_of, one, short_bits}
 use Rattle.ov_names.specs.NamesState.{NamesState, IsNamed}
-use Rattle.ov_names.specs.Groups.{part_at, Means, MeansAt, IsShared, IsGroupNamed, IsGroupFault}
-use Rattle.ov_names.specs.Code.Owners.{IsFirstNamed, AreMarked}
+use Rattle.ov_names.specs.Groups.{part_at, HasNumeralName, Means, MeansAt, IsShared, IsGroupNamed}
+use Rattle.ov_names.specs.Groups.{IsGroupFault}
+use Rattle.ov_names.specs.Code.Owners.{IsNumeralAt, IsFirstNamed, AreMarked}
 use Rattle.ov_names.specs.declared.group_fault.GroupFault.TheVariants.{NamedTwice}
+use Rattle.ov_names.proofs.Tables.{some_one}
 
 -- ---- one part
 
@@ -52,15 +54,16 @@ two_named names part p q graph first second = (
 )
 
 -- the id of a node
-pub spelled : (names : NamesState) (part text : List ℕ) (g : LinkGraph) (place id number : ℕ)
+pub spelled : (names : NamesState) (part : List ℕ) (g : LinkGraph) (place id : ℕ) → ¬ HasNumeralName names
     → ((p : ℕ) → p < length names.graph.nodes → ¬ (get_or names.told p None ≡ Some part))
-    → text ≡ part → Some number ≡ one short_bits (words_of text) → g ≡ names.graph → place < length g.nodes
-    → node_at g place ≡ id → id ≡ number → Means names part (node_at names.graph place)
-spelled names part text g place id number none same spells graph below node is =
-    let e : node_at names.graph place ≡ number = ap (λ (h : LinkGraph). node_at h place) (sym graph) ∙ node ∙ is in
+    → Some id ≡ one short_bits (words_of part) → g ≡ names.graph → place < length g.nodes
+    → node_at g place ≡ id → Means names part (node_at names.graph place)
+spelled names part g place id words none spells graph below node =
+    let e : node_at names.graph place ≡ id = ap (λ (h : LinkGraph). node_at h place) (sym graph) ∙ node in
     inr (
       none_named names part none,
-      sym (ap (λ (t : List ℕ). one short_bits (words_of t)) same) ∙ sym spells ∙ ap (λ (n : ℕ). Some n) (sym e),
+      words,
+      sym spells ∙ ap (λ (n : ℕ). Some n) (sym e),
       has_place names.graph.nodes place 0 (subst (λ (h : LinkGraph). place < length h.nodes) graph below),
     )
 
@@ -69,12 +72,43 @@ pub means_one : (names : NamesState) (part : List ℕ) (m n : ℕ) → Means nam
 means_one names part m n (inl a) (inl b) = b.1 m a.0
 means_one names part m n (inl a) (inr b) = absurd (b.0 m a.0)
 means_one names part m n (inr a) (inl b) = absurd (a.0 n b.0)
-means_one names part m n (inr a) (inr b) = let e : Some m ≡ Some n = sym a.1 ∙ b.1 in cc
+means_one names part m n (inr a) (inr b) = let e : Some m ≡ Some n = sym a.2 ∙ b.2 in cc
 
 means_node : (names : NamesState) (part : List ℕ) (n : ℕ) → Means names part n → Has names.graph.nodes n
 means_node names part n (inl a) =
     subst (Has names.graph.nodes) a.0.2 (has_place names.graph.nodes a.0.0 0 a.0.1)
-means_node names part n (inr b) = b.2
+means_node names part n (inr b) = b.3
+
+-- ---- names that are numerals
+
+-- a name at a place is one exactly if it spells an id
+pub numeral_tested : (names : NamesState) (p : ℕ) (name : List ℕ) (b : Bool) → get_or names.told p None ≡ Some name
+    → b ≡ is_some (one short_bits (words_of name)) → IsTrue b ↔ IsNumeralAt names p
+numeral_tested names p name b told is = (
+  (λ t.
+      let id = some_id (one short_bits (words_of name)) (sym is ∙ t) in
+      (id.0, name, told, id.1)),
+  (λ h.
+      let e : Some h.1 ≡ Some name = sym h.2 ∙ told in
+      let same : h.1 ≡ name = some_one h.1 name e in
+      is ∙ ap (λ (t : List ℕ). is_some (one short_bits (words_of t))) (sym same) ∙ ap is_some h.3),
+) where
+  some_id : (o : Option ℕ) → is_some o ≡ true → (n : ℕ) × (o ≡ Some n)
+  some_id None t = absurd (cc)
+  some_id (Some n) t = (n, refl)
+
+-- the name at a place is one
+pub numeral_here : (names : NamesState) (p : ℕ) → p < length names.graph.nodes → IsNumeralAt names p
+    → HasNumeralName names
+numeral_here names p below h = (node_at names.graph p, h.0, h.1, (p, below, refl, h.2), h.3)
+
+-- none is
+pub no_numeral : (names : NamesState) (count : ℕ) → length names.graph.nodes ≤ count
+    → ((q : ℕ) → q < count → ¬ IsNumeralAt names q) → ¬ HasNumeralName names
+no_numeral names count all none h =
+    let at = h.3 in
+    let below = at.1 in
+    none at.0 (omega (arith, below, all)) (h.1, h.2, at.3, h.4)
 
 -- ---- the parts so far
 

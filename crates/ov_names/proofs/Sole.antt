@@ -59,7 +59,7 @@ one_of before (l ∷ ls) n s t d a b =
       ]
     ]
 
--- a comment says no node
+-- a comment says no node, and no skipped line does
 comment_none : (word : List ℕ) (more : List (List ℕ)) → skips (word ∷ more) ≡ true
     → node_said (graph_line_of (word ∷ more)) ≡ []
 comment_none [] more e = absurd (cc)
@@ -67,7 +67,7 @@ comment_none (b ∷ bs) more e =
     let is : 35 ≡ b = eqb-true 35 b (and_parts (nat_eq 35 b) true e).0 in
     subst (λ (a : ℕ). node_said (graph_line_of ((a ∷ bs) ∷ more)) ≡ []) is refl
 
-skipped_none : (ws : List (List ℕ)) → skips ws ≡ true → node_said (graph_line_of ws) ≡ []
+pub skipped_none : (ws : List (List ℕ)) → skips ws ≡ true → node_said (graph_line_of ws) ≡ []
 skipped_none [] e = refl
 skipped_none (word ∷ more) e = comment_none word more e
 

@@ -1,5 +1,5 @@
 -- Groups of nodes that a text names: parts with commas between them, each of which is the name or the id of one node.
--- The form is chosen here.
+-- Where a name is a numeral, each part is a name. The form is chosen here.
 use Rattle.std.specs.Prelude.{◌≡◌, ◌≢◌, ◌⊎◌, ℕ, ◌<◌, ◌↔◌, List, [], length, slice_index_or, Some}
 use Rattle.std.specs.List.{slice_split}
 use Rattle.ov_ids.specs.Members.{Has, Ascends}
@@ -20,10 +20,18 @@ part_at parts i = slice_index_or parts i []
 abbrev pub IsOnlyNamed : NamesState → List ℕ → ℕ → Type 0
 IsOnlyNamed names part n = IsNamed names n part × ((m : ℕ) → IsNamed names m part → m ≡ n)
 
--- no node has this name, and the part is one word, which spells the id n of a node
+-- a text is one word, which spells the id n
+abbrev pub SpellsId : List ℕ → ℕ → Type 0
+SpellsId text n = one short_bits (words_of text) ≡ Some n
+
+-- some node has a name that spells an id. So a numeral may be meant as a name, and no part is an id
+abbrev pub HasNumeralName : NamesState → Type 0
+HasNumeralName names = (m n : ℕ) × (name : List ℕ) × IsNamed names m name × SpellsId name n
+
+-- no node has this name, no name is a numeral, and the part spells the id n of a node
 abbrev pub SpellsNode : NamesState → List ℕ → ℕ → Type 0
 SpellsNode names part n =
-    ((m : ℕ) → ¬ IsNamed names m part) × (one short_bits (words_of part) ≡ Some n) × Has names.graph.nodes n
+    ((m : ℕ) → ¬ IsNamed names m part) × (¬ HasNumeralName names) × SpellsId part n × Has names.graph.nodes n
 
 -- the part means the node n: by its name, or else by its id
 abbrev pub Means : NamesState → List ℕ → ℕ → Type 0
@@ -33,10 +41,9 @@ Means names part n = IsOnlyNamed names part n ⊎ SpellsNode names part n
 abbrev pub MeansAt : NamesState → List (List ℕ) → ℕ → ℕ → Type 0
 MeansAt names parts i n = (i < length parts) × Means names (part_at parts i) n
 
--- no node has this name, and no node has the id that the part spells, if it spells one
+-- no node has this name, and the part spells the id of no node
 abbrev pub IsNobodys : NamesState → List ℕ → Type 0
-IsNobodys names part =
-    ((m : ℕ) → ¬ IsNamed names m part) × ((n : ℕ) → one short_bits (words_of part) ≡ Some n → ¬ Has names.graph.nodes n)
+IsNobodys names part = ((m : ℕ) → ¬ IsNamed names m part) × ((n : ℕ) → ¬ SpellsNode names part n)
 
 -- two different nodes have this name
 abbrev pub IsShared : NamesState → List ℕ → Type 0

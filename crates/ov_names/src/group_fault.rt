@@ -8,7 +8,7 @@ use std::alloc::{AllocError, AllocFailed};
 /// Why a text names no group. Places count from 0. The numbers are chosen here.
 #[derive(Clone, Copy, Debug, PartialEq, Eq)]
 pub enum GroupFault {
-    /// 84: no node has the name that the part at this place is, and none has it as its id.
+    /// 84: no node has the name that the part at this place is; and none has it as its id, or some name is a numeral.
     NoSuchName(usize),
     /// 85: two nodes have the name that the part at this place is.
     SharedName(usize),

@@ -1,11 +1,11 @@
 ghost use Rattle.std.specs.Prelude.{◌≡◌, ℕ, ◌<◌, ◌≤◌, List, length, map, slice_index_or, Some, None};
-ghost use Rattle.std.specs.Prelude.{IfOk, IfErr, IfSome, IfNone};
+ghost use Rattle.std.specs.Prelude.{IfOk, IfErr, IfSome, IfNone, IsTrue, ◌↔◌};
 ghost use Rattle.std.specs.List.{slice_split};
 ghost use Rattle.ov_graph.specs.Links.{IsGraph, IsWithinLimit};
 ghost use Rattle.ov_graph.specs.Row.{HasBit, picked};
-ghost use Rattle.ov_lines.specs.Lines.{is_comma};
-ghost use Rattle.ov_names.specs.Groups.{parts_of, part_at, IsGroupNamed, IsGroupFault};
-ghost use Rattle.ov_names.specs.Code.Owners.{IsOwner, IsFirstNamed, AreMarked};
+ghost use Rattle.ov_lines.specs.Lines.{is_comma, one, short_bits, words_of};
+ghost use Rattle.ov_names.specs.Groups.{parts_of, part_at, HasNumeralName, IsGroupNamed, IsGroupFault};
+ghost use Rattle.ov_names.specs.Code.Owners.{IsOwner, IsNumeralAt, IsFirstNamed, AreMarked};
 
 use crate::group_fault::GroupFault;
 use crate::name_table::Names;
@@ -19,9 +19,10 @@ use std::alloc::{AllocError, Global};
 const NODE_ID: &[Kind] = &[ID];
 
 /// The group that a text names: parts with commas between them, each the name of exactly one node, or else the id of a
-/// node. The ids ascend. NoSuchName (84), SharedName (85) or NamedTwice (34) is returned for the first part that is at
-/// fault, OutOfMemory (99) if an allocation is refused. The form is chosen here. Each part is looked for among the
-/// names of all nodes; as no node is meant twice, there are no more parts to look for than nodes, and one.
+/// node. If some name is a numeral, no part is an id, so that a wrong name never means another node. The ids ascend.
+/// NoSuchName (84), SharedName (85) or NamedTwice (34) is returned for the first part that is at fault, OutOfMemory
+/// (99) if an allocation is refused. The form is chosen here. Each part is looked for among the names of all nodes; as
+/// no node is meant twice, there are no more parts to look for than nodes, and one.
 pub fn ids_of_group(
     alloc: Global,
     names: &Names<'_>,
@@ -48,10 +49,11 @@ fn marked_members(names: &Names<'_>, parts: &[&[u8]]) -> Result<[u64; WORDS], Gr
         AreMarked names.now (map (λ part. part.now) parts.now) row (length parts.now)) }
     ensures fault { IfErr result (IsGroupFault names.now (map (λ part. part.now) parts.now)) }
 {
+    let numerals = has_numeral_name(names);
     let mut row = EMPTY;
     for at in 0..parts.len() {
         let part = part_at(parts, at);
-        let place = match owner_of(names, part) {
+        let place = match owner_of(names, numerals, part) {
             Owner::One(place) => place,
             Owner::Nobody => return Err(GroupFault::NoSuchName(at)),
             Owner::Several => return Err(GroupFault::SharedName(at)),
@@ -83,14 +85,49 @@ enum Owner {
     Several,
 }
 
-/// Whom a part means.
-fn owner_of(names: &Names<'_>, part: &[u8]) -> Owner
+/// Whether some name is a numeral.
+fn has_numeral_name(names: &Names<'_>) -> bool
+    ensures { IsTrue result ↔ HasNumeralName names.now }
+{
+    let count = names.graph().nodes().len();
+    for place in 0..count {
+        if is_numeral_at(names, place) {
+            return true;
+        }
+    }
+    false
+}
+
+/// Whether the name of the node at a place is a numeral.
+fn is_numeral_at(names: &Names<'_>, place: usize) -> bool
+    requires { place < length names.now.graph.nodes }
+    ensures { IsTrue result ↔ IsNumeralAt names.now place }
+{
+    match names.name_at(place) {
+        Some(name) => id_spelled(name).is_some(),
+        None => false,
+    }
+}
+
+/// The id that a text spells, if it is one word and spells one.
+fn id_spelled(text: &[u8]) -> Option<NodeId>
+    ensures { result ≡ one short_bits (words_of text.now) }
+{
+    match LineCursor::new(text).last_short_number(NODE_ID) {
+        Ok(number) => Some(NodeId::new(number)),
+        Err(_) => None,
+    }
+}
+
+/// Whom a part means, if it is known whether some name is a numeral.
+fn owner_of(names: &Names<'_>, numerals: bool, part: &[u8]) -> Owner
+    requires { IsTrue numerals ↔ HasNumeralName names.now }
     ensures owner { IsOwner names.now part.now result }
     ensures graph { IsGraph names.now.graph }
     ensures few { IsWithinLimit names.now.graph }
 {
     let Some(place) = place_named(names, part, 0) else {
-        return owner_spelled(names, part);
+        return owner_spelled(names, numerals, part);
     };
     match place_named(names, part, place + 1) {
         None => Owner::One(place),
@@ -115,15 +152,20 @@ fn place_named(names: &Names<'_>, part: &[u8], from: usize) -> Option<usize>
     None
 }
 
-/// Whose id a part spells. No node has the part as its name.
-fn owner_spelled(names: &Names<'_>, part: &[u8]) -> Owner
-    requires { (p : ℕ) → p < length names.now.graph.nodes → ¬ (slice_index_or names.now.told p None ≡ Some part.now) }
+/// Whose id a part spells, if no name is a numeral. No node has the part as its name.
+fn owner_spelled(names: &Names<'_>, numerals: bool, part: &[u8]) -> Owner
+    requires numerals { IsTrue numerals ↔ HasNumeralName names.now }
+    requires unnamed { (p : ℕ) → p < length names.now.graph.nodes
+        → ¬ (slice_index_or names.now.told p None ≡ Some part.now) }
     ensures { IsOwner names.now part.now result }
 {
-    let Ok(number) = LineCursor::new(part).last_short_number(NODE_ID) else {
+    if numerals {
+        return Owner::Nobody;
+    }
+    let Some(id) = id_spelled(part) else {
         return Owner::Nobody;
     };
-    match names.graph().place(NodeId::new(number)) {
+    match names.graph().place(id) {
         Some(place) => Owner::One(place),
         None => Owner::Nobody,
     }

@@ -54,12 +54,20 @@ impl<'a> Names<'a> {
         self.told[place]
     }
 
+    /// The name of the node at a place, if it has one.
+    pub(crate) fn name_at(&self, place: usize) -> Option<&'a [u8]>
+        requires { place < length self.now.graph.nodes }
+        ensures { option_copied result ≡ slice_index_or self.now.told place None }
+    {
+        self.told[place]
+    }
+
     /// Whether the node at a place has this name.
     pub(crate) fn is_named_at(&self, place: usize, text: &[u8]) -> bool
         requires { place < length self.now.graph.nodes }
         ensures { IsTrue result ↔ slice_index_or self.now.told place None ≡ Some text.now }
     {
-        match self.told[place] {
+        match self.name_at(place) {
             Some(name) => are_equal(name, text),
             None => false,
         }

@@ -69,12 +69,13 @@ fn edges(rt: HostRuntime) -> Result<(), Fail> {
     Ok(())
 }
 
-/// A name with a line feed stands on one line.
+/// A name with a line feed stands on one line, and no other name looks like it.
 #[test]
 fn control_characters(rt: HostRuntime) -> Result<(), Fail> {
     let alloc = rt.alloc();
-    let dump = read_views(alloc, b"{\"a\\nnode 7\": []}")?;
-    assert!(rt; is_imported(alloc, &dump, MUTUAL, "# 1 a\\u{a}node 7\nnode 1\n"));
+    let dump = read_views(alloc, b"{\"a\\nnode 7\": [], \"a\\\\u{a}node 7\": []}")?;
+    let text = "# 1 a\\u{a}node 7\nnode 1\n# 2 a\\u{5c}u{a}node 7\nnode 2\n";
+    assert!(rt; is_imported(alloc, &dump, MUTUAL, text));
     Ok(())
 }
 

@@ -3,7 +3,7 @@ use Rattle.std.specs.Prelude.{◌≡◌, ℕ, ◌<◌, ◌≤◌, ◌↔◌, Lis
 use Rattle.ov_graph.specs.Paths.{node_at}
 use Rattle.ov_graph.specs.Row.{HasBit}
 use Rattle.ov_names.specs.NamesState.{NamesState}
-use Rattle.ov_names.specs.Groups.{Means, MeansAt, IsNobodys, IsShared}
+use Rattle.ov_names.specs.Groups.{Means, MeansAt, IsNobodys, IsShared, SpellsId}
 use Rattle.ov_names.specs.declared.group_reading.Owner.{Owner}
 use Rattle.ov_names.specs.declared.group_reading.Owner.TheVariants.{One, Nobody, Several}
 
@@ -12,6 +12,11 @@ abbrev pub IsOwner : NamesState → List ℕ → Owner → Type 0
 IsOwner names part (One p) = (p < length names.graph.nodes) × Means names part (node_at names.graph p)
 IsOwner names part Nobody = IsNobodys names part
 IsOwner names part Several = IsShared names part
+
+-- the node at place p has a name that spells an id
+abbrev pub IsNumeralAt : NamesState → ℕ → Type 0
+IsNumeralAt names p =
+    (n : ℕ) × (name : List ℕ) × (slice_index_or names.told p None ≡ Some name) × SpellsId name n
 
 -- p is the first place from `from` on with this name
 pub record IsFirstNamed (names : NamesState) (part : List ℕ) (from p : ℕ) : Type 0 where

@@ -1,8 +1,9 @@
 -- There is a name for each node, and what was written is the text of the graph that follows.
-use Rattle.std.proofs.Common.{◌∙◌, ℕ, List, ap, length, map, subst, sym}
+use Rattle.std.proofs.Common.{◌∙◌, ℕ, List, IsUtf8, ap, length, map, subst, sym}
+use Rattle.std.specs.List.{AllByRecursion}
 use Rattle.ov_graph_text.specs.GraphTexts.{named_graph_text}
 use Rattle.ov_io.specs.Device.{AppendsPrefixOf}
-use Rattle.ov_import.specs.Importing.{shown_text}
+use Rattle.ov_import.specs.ShownNames.{shown_text}
 use Rattle.ov_import.proofs.Shown.{numbered}
 use Rattle.ov_import.proofs.dump_importing.import_dump.Goals as goal
 
@@ -22,8 +23,11 @@ returns-clause-written g c =
       record {
         graph = named.graph;
         names = named.names;
+        sound = c.in-Ok.ensures.sound;
         follows = c.in-Ok.ensures.graph;
-        written = c.in_ok-text.ensures
+        within = c.in-Ok.ensures.within;
+        utf8 = subst (AllByRecursion IsUtf8) c.as_slice.ensures c.in_ok-text.ensures.utf8;
+        written = c.in_ok-text.ensures.text
             ∙ ap (λ ns. named_graph_text named.graph (map shown_text ns)) c.as_slice.ensures;
       },
       subst (λ (bytes : List ℕ). AppendsPrefixOf bytes (g.W.Write.contents c.args.sink.now.writer)

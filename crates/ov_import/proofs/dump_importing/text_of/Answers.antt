@@ -7,4 +7,4 @@ use Rattle.ov_import.proofs.dump_importing.text_of.Goals as goal
 pub named_graph_text-requires-clause-lines : goal.named_graph_text-requires-clause-lines
 named_graph_text-requires-clause-lines c =
     subst (AllByRecursion (λ name. IsOnOneLine (string_bytes name))) (sym c.deref.ensures.value)
-    (all_on_one_line c.in_ok-shown.shown.items c.args.names.now c.in_ok-shown.ensures)
+    (all_on_one_line c.in_ok-shown.shown.items c.args.names.now c.in_ok-shown.ensures.shown)
