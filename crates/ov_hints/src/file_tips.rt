@@ -46,7 +46,7 @@ fn push_kind(
             "tip: {name} looks like a certificate file: `overlay-check{behind}` checks it, \
              and `overlay graph{behind}` prints its graph\n"
         ),
-        FileKind::Dump => write!(
+        FileKind::Views | FileKind::Dot => write!(
             text,
             "tip: {name} looks like a dump: `overlay import{behind}` makes a graph file of it\n"
         ),
