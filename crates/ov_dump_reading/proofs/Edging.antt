@@ -12,7 +12,8 @@ use Rattle.ov_dump_reading.specs.EdgeLines.{IsBlankLine, IsEdge, IsReadable}
 use Rattle.ov_dump_reading.specs.Edges.{Edge, IsEdgesFault, IsUnreadAt, SayEdges, SaysEdges, ends_of}
 use Rattle.ov_dump_reading.specs.Edges.{listings_of}
 use Rattle.ov_dump_reading.specs.declared.reading_fault.ReadingFault.{ReadingFault}
-use Rattle.ov_dump_reading.specs.declared.reading_fault.ReadingFault.TheVariants.{NotJson, NotViews, NoView, UnreadLine, OutOfMemory}
+use Rattle.ov_dump_reading.specs.declared.reading_fault.ReadingFault.TheVariants.{NotJson, NotViews, NoView, UnreadLine}
+use Rattle.ov_dump_reading.specs.declared.reading_fault.ReadingFault.TheVariants.{OutOfMemory}
 use Rattle.ov_dump_reading.specs.declared.unread_line.Why.{Why}
 
 -- ---- the first entries

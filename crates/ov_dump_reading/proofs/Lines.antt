@@ -5,8 +5,8 @@ use Rattle.std.proofs.Common.{MatchResult, Result, Ok, Err}
 use Rattle.std.specs.Prelude.{⊤}
 use Rattle.std.specs.List.{AllByRecursion}
 use Rattle.std.proofs.lemmas.Bool.{both_ways}
-use Rattle.ov_dump_reading.specs.Code.Reading.{behind_comma, behind_gap, end_of, first_name, last_of, next_of, second_name}
-use Rattle.ov_dump_reading.specs.Code.Reading.{text_of}
+use Rattle.ov_dump_reading.specs.Code.Reading.{behind_comma, behind_gap, end_of, first_name, last_of, next_of}
+use Rattle.ov_dump_reading.specs.Code.Reading.{second_name, text_of}
 use Rattle.ov_dump_reading.specs.EdgeLines.{AreBlanks, HasTwoNames, IsBlankLine, IsEdge, IsGap, IsReadable, IsWord}
 use Rattle.ov_dump_reading.specs.EdgeLines.{before_mark, is_blank, is_name_byte}
 use Rattle.ov_dump_reading.specs.Code.Reading.{behind, front_of}

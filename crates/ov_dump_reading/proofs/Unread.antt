@@ -7,8 +7,8 @@ use Rattle.ov_dump_reading.specs.EdgeLines.{AreBlanks, EndsName, IsComma, IsRead
 use Rattle.ov_dump_reading.specs.EdgeLines.{is_name_byte}
 use Rattle.ov_dump_reading.specs.declared.unread_line.Why.TheVariants.{CommaFirst, TwoCommas, CommaLast, OneName}
 use Rattle.ov_dump_reading.specs.declared.unread_line.Why.TheVariants.{ThirdWord, NoText}
-use Rattle.ov_dump_reading.proofs.Lines.{StopsAt, all_pass, behind_stopped, behind_stops, blank, edge, front_passes, gap_of}
-use Rattle.ov_dump_reading.proofs.Lines.{other_name, parts, two_names}
+use Rattle.ov_dump_reading.proofs.Lines.{StopsAt, all_pass, behind_stopped, behind_stops, blank, edge, front_passes}
+use Rattle.ov_dump_reading.proofs.Lines.{gap_of, other_name, parts, two_names}
 
 -- ---- commas
 

@@ -1,7 +1,7 @@
 -- A line that says that two names are peers of each other, as `a b`, `a,b` or `a b {'weight': 3}`. The last is what
 -- NetworkX writes. The form is chosen here.
-use Rattle.std.specs.Prelude.{◌≡◌, ◌≢◌, ◌⊎◌, ⊤, ℕ, Bool, true, false, IsTrue, not, nat_eq, ◌&&◌, ◌||◌, List, [], ◌∷◌, ◌++◌}
-use Rattle.std.specs.Prelude.{IsUtf8, if◌then◌else◌}
+use Rattle.std.specs.Prelude.{◌≡◌, ◌≢◌, ◌⊎◌, ⊤, ℕ, Bool, true, false, IsTrue, not, nat_eq, ◌&&◌, ◌||◌}
+use Rattle.std.specs.Prelude.{List, [], ◌∷◌, ◌++◌, IsUtf8, if◌then◌else◌}
 use Rattle.std.specs.List.{AllByRecursion}
 use Rattle.ov_dump_reading.specs.declared.unread_line.Why.{Why}
 use Rattle.ov_dump_reading.specs.declared.unread_line.Why.TheVariants.{CommaFirst, TwoCommas, CommaLast, OneName}
@@ -76,7 +76,8 @@ HasTwoNames line a b back = (front gap : List ℕ) × (before_mark true line ≡
 -- has two names that are not both text
 abbrev pub IsWhy : List ℕ → Why → Type 0
 IsWhy line CommaFirst = (front rest : List ℕ) × (before_mark true line ≡ front ++ 44 ∷ rest) × AreBlanks front
-IsWhy line TwoCommas = (front gap rest : List ℕ) × (before_mark true line ≡ front ++ 44 ∷ (gap ++ 44 ∷ rest)) × AreBlanks gap
+IsWhy line TwoCommas =
+    (front gap rest : List ℕ) × (before_mark true line ≡ front ++ 44 ∷ (gap ++ 44 ∷ rest)) × AreBlanks gap
 IsWhy line CommaLast = (a b back : List ℕ) × HasTwoNames line a b back × IsComma back
 IsWhy line OneName = (front name back : List ℕ) × (before_mark true line ≡ front ++ (name ++ back)) × AreBlanks front
     × IsSpelled name × (AreBlanks back ⊎ IsComma back)

@@ -25,8 +25,8 @@ struct EdgeParts {
 /// follows from a word on that begins with `#` or `{` is skipped; a line without a word before that says nothing. Each
 /// name has an entry, at its first line.
 ///
-/// UnreadLine (70) says the first line of another form, or with a name that is no UTF-8, and why. OutOfMemory (99) is returned if
-/// an allocation was refused.
+/// UnreadLine (70) says the first line of another form, or with a name that is no UTF-8, and why. OutOfMemory (99) is
+/// returned if an allocation was refused.
 pub fn read_edges(alloc: Global, bytes: &[u8]) -> Result<Dump, ReadingFault>
     ensures dump { IfOk result (SaysEdges bytes.now) }
     ensures fault { IfErr result (IsEdgesFault bytes.now) }

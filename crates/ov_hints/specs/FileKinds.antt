@@ -1,6 +1,6 @@
--- What the bytes of a file look like, or those that it begins with: by the first line that says something, and how that
--- begins. It is a guess, from which `overlay import` takes the form of a dump, and by which a person is told which command
--- reads such a file. Chosen here.
+-- What the bytes of a file look like, or those that it begins with: by the first line that says something, and how
+-- that begins. It is a guess, from which `overlay import` takes the form of a dump, and by which a person is told which
+-- command reads such a file. Chosen here.
 use Rattle.std.specs.Prelude.{ℕ, Bool, true, false, ◌&&◌, ◌||◌, nat_eq, List, [], ◌∷◌, codes, drop, map, if◌then◌else◌}
 use Rattle.std.specs.Prelude.{is_some}
 use Rattle.std.specs.Char.{to_ascii_lowercase}
@@ -71,7 +71,8 @@ is_keyword keyword word = same (map to_ascii_lowercase word) keyword
 
 -- the word is one with which DOT begins
 abbrev pub is_dot_word : List ℕ → Bool
-is_dot_word word = is_keyword (codes "graph") word || (is_keyword (codes "digraph") word || is_keyword (codes "strict") word)
+is_dot_word word =
+    is_keyword (codes "graph") word || (is_keyword (codes "digraph") word || is_keyword (codes "strict") word)
 
 -- a keyword of DOT ends before this byte. With it `graph{` begins DOT, and `graph-1` does not
 abbrev pub ends_keyword : ℕ → Bool
@@ -80,7 +81,8 @@ ends_keyword b = is_blank b || list_any (λ sign. nat_eq b sign) (codes "{\"</")
 -- the text begins like DOT: with a comment or a word of DOT. A name as `/dc1/a` does not
 abbrev pub begins_dot : List ℕ → Bool
 begins_dot text =
-    (starts_with nat_eq text (codes "//") || starts_with nat_eq text (codes "/*")) || is_dot_word (before ends_keyword text)
+    (starts_with nat_eq text (codes "//") || starts_with nat_eq text (codes "/*"))
+    || is_dot_word (before ends_keyword text)
 
 -- ---- files of lines
 

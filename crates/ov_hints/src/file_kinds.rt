@@ -39,12 +39,23 @@ impl FileKind {
     pub fn is_dump(self) -> bool {
         matches!(self, FileKind::Views | FileKind::Dot)
     }
+
+    /// What such a file is called.
+    pub fn words(self) -> &'static str {
+        match self {
+            FileKind::Certificate => "a certificate file",
+            FileKind::Views | FileKind::Dot => "a dump",
+            FileKind::Graph => "a graph file",
+            FileKind::Scenario => "a scenario",
+            FileKind::Unknown => "another file",
+        }
+    }
 }
 
-/// What the bytes of a file look like, or those that it begins with. It is told from the first line that is neither blank
-/// nor a comment, and from how that begins; a byte order mark is passed over. An object of JSON is a certificate file if
-/// it has the key `verdict`, or begins with the key with which a certificate file is written here; else it is a dump of
-/// views. (The signs are chosen here.)
+/// What the bytes of a file look like, or those that it begins with. It is told from the first line that is neither
+/// blank nor a comment, and from how that begins; a byte order mark is passed over. An object of JSON is a certificate
+/// file if it has the key `verdict`, or begins with the key with which a certificate file is written here; else it is a
+/// dump of views. (The signs are chosen here.)
 pub fn looks_like(bytes: &[u8]) -> FileKind
     ensures { result ≡ kind_of bytes.now }
 {

@@ -1,6 +1,6 @@
 //! What is written of dumps, by hand from the definitions.
 use ov_dump::{Choice, Dump};
-use ov_dump_reading::{Format, guessed_format, read_edges, read_views};
+use ov_dump_reading::{read_edges, read_views};
 use ov_import::{ImportFault, import_dump};
 use ov_io::Sink;
 use std::alloc::Global;
@@ -75,17 +75,5 @@ fn control_characters(rt: HostRuntime) -> Result<(), Fail> {
     let alloc = rt.alloc();
     let dump = read_views(alloc, b"{\"a\\nnode 7\": []}")?;
     assert!(rt; is_imported(alloc, &dump, MUTUAL, "# 1 a\\u{a}node 7\nnode 1\n"));
-    Ok(())
-}
-
-#[test]
-fn formats(rt: HostRuntime) -> Result<(), Fail> {
-    assert_eq!(rt; guessed_format(b" \n{\"a\": []}"), Format::Views);
-    assert_eq!(rt; guessed_format(b"strict graph { a -- b }"), Format::Dot);
-    assert_eq!(rt; guessed_format(b"DiGraph { a -> b }"), Format::Dot);
-    assert_eq!(rt; guessed_format(b"// a comment\ngraph { }"), Format::Dot);
-    assert_eq!(rt; guessed_format(b"graphite a\n"), Format::Edges);
-    assert_eq!(rt; guessed_format(b"# edges\na b\n"), Format::Edges);
-    assert_eq!(rt; guessed_format(b""), Format::Edges);
     Ok(())
 }
