@@ -1,19 +1,20 @@
 -- Lines that are read one after another.
-use Rattle.std.proofs.Common.{◌≡◌, ◌≢◌, ◌∙◌, ◌↔◌, ◌⊎◌, ℕ, List, [], ◌∷◌, ◌++◌, inl, inr, sym, ap, subst, refl}
+use Rattle.std.proofs.Common.{◌≡◌, ◌∙◌, ◌↔◌, ℕ, List, [], ◌∷◌, ◌++◌, inl, inr, sym, ap, subst, refl}
 use Rattle.std.proofs.Common.{append_assoc, append-nil}
 use Rattle.std.specs.List.{flat_map}
 use Rattle.ov_ids.specs.Members.{Has}
 use Rattle.ov_lines.specs.Lines.{kept_lines}
 use Rattle.ov_dump.specs.FirstEntries.{AreFirsts}
-use Rattle.ov_dump.specs.declared.dump_values.Dump.{Dump}
 use Rattle.ov_dump.specs.declared.dump_values.Entry.{Entry}
 use Rattle.ov_dump.specs.declared.dump_values.Listing.{Listing}
-use Rattle.ov_dump_reading.specs.Code.Reading.{TakesEnds, TakesEntry}
+use Rattle.ov_dump_reading.specs.Code.Reading.{FailsAtLine, TakesEnds, TakesEntry}
 use Rattle.ov_dump_reading.specs.EdgeLines.{IsBlankLine, IsEdge, IsReadable}
 use Rattle.ov_dump_reading.specs.Edges.{Edge, IsEdgesFault, IsUnreadAt, SayEdges, SaysEdges, ends_of}
 use Rattle.ov_dump_reading.specs.Edges.{listings_of}
 use Rattle.ov_dump_reading.specs.declared.reading_fault.ReadingFault.{ReadingFault}
-use Rattle.ov_dump_reading.specs.declared.reading_fault.ReadingFault.TheVariants.{UnreadLine, OutOfMemory}
+use Rattle.ov_dump_reading.specs.declared.reading_fault.ReadingFault.TheVariants.{NotJson, NotViews, NoView, UnreadLine}
+use Rattle.ov_dump_reading.specs.declared.reading_fault.ReadingFault.TheVariants.{OutOfMemory}
+use Rattle.ov_dump_reading.specs.declared.unread_line.Why.{Why}
 
 -- ---- the first entries
 
@@ -60,7 +61,7 @@ pub record Gathers (bytes : List ℕ) (seen : List (List ℕ)) (entries : List E
   pub says : (edges : List Edge) (more : List Entry) → SayEdges left edges
       → AreFirsts seen (flat_map ends_of edges) more
       → SaysEdges bytes (record { entries = entries ++ more; listings = listings ++ flat_map listings_of edges })
-  pub fails : (n : ℕ) → IsUnreadAt left n → IsUnreadAt (kept_lines bytes) n
+  pub fails : (n : ℕ) (why : Why) → IsUnreadAt left n why → IsUnreadAt (kept_lines bytes) n why
 
 pub begun : (bytes : List ℕ) (seen : List (List ℕ)) (entries : List Entry) (listings : List Listing)
     (left : List (ℕ × List ℕ)) → seen ≡ [] → entries ≡ [] → listings ≡ [] → left ≡ kept_lines bytes
@@ -73,7 +74,7 @@ begun bytes seen entries listings left no_name no_entry no_listing all = record 
         (subst (λ (ns : List (List ℕ)). AreFirsts ns (flat_map ends_of edges) more) no_name f);
     listings = ap (λ ls. ls ++ flat_map listings_of edges) no_listing;
   };
-  fails = λ n f. subst (λ (ls : List (ℕ × List ℕ)). IsUnreadAt ls n) all f;
+  fails = λ n why f. subst (λ (ls : List (ℕ × List ℕ)). IsUnreadAt ls n why) all f;
 }
 
 -- a line that says nothing
@@ -84,8 +85,8 @@ pub passed : (bytes : List ℕ) (seen : List (List ℕ)) (entries : List Entry) 
 passed bytes seen entries listings left rest n line g first blank = record {
   says = λ edges more s f.
       g.says edges more (subst (λ (ls : List (ℕ × List ℕ)). SayEdges ls edges) (sym first) (inl (blank, s))) f;
-  fails = λ m f.
-      g.fails m (subst (λ (ls : List (ℕ × List ℕ)). IsUnreadAt ls m) (sym first) (inr (inl blank, f)));
+  fails = λ m why f.
+      g.fails m why (subst (λ (ls : List (ℕ × List ℕ)). IsUnreadAt ls m why) (sym first) (inr (inl blank, f)));
 }
 
 -- a line that says an edge
@@ -113,17 +114,22 @@ added bytes seen seen' entries entries' listings listings' left rest n line a b 
       (record { entries = es; listings = listings' ++ flat_map listings_of edges })) (one.2 ∙ two.2)
       (subst (λ (ls : List Listing). SaysEdges bytes (record { entries = entries ++ one.0; listings = ls })) listings_are
       whole);
-  fails = λ m f.
-      g.fails m (subst (λ (ls : List (ℕ × List ℕ)). IsUnreadAt ls m) (sym first) (inr (inr (a, b, said), f)));
+  fails = λ m why f.
+      g.fails m why (subst (λ (ls : List (ℕ × List ℕ)). IsUnreadAt ls m why) (sym first) (inr (inr (a, b, said), f)));
 }
 
 -- the next line can't be read
 pub unread : (bytes : List ℕ) (seen : List (List ℕ)) (entries : List Entry) (listings : List Listing)
-    (left rest : List (ℕ × List ℕ)) (n : ℕ) (line : List ℕ)
-    → Gathers bytes seen entries listings left → left ≡ (n, line) ∷ rest → ¬ IsReadable line
-    → IsEdgesFault bytes (UnreadLine n)
-unread bytes seen entries listings left rest n line g first none =
-    g.fails n (subst (λ (ls : List (ℕ × List ℕ)). IsUnreadAt ls n) (sym first) (inl (none, refl)))
+    (left rest : List (ℕ × List ℕ)) (n : ℕ) (line : List ℕ) (fault : ReadingFault)
+    → Gathers bytes seen entries listings left → left ≡ (n, line) ∷ rest → ¬ IsReadable line → FailsAtLine n line fault
+    → IsEdgesFault bytes fault
+unread bytes seen entries listings left rest n line (UnreadLine m why) g first none fails =
+    g.fails m why
+    (subst (λ (ls : List (ℕ × List ℕ)). IsUnreadAt ls m why) (sym first) (inl (none, fails.0, fails.1)))
+unread bytes seen entries listings left rest n line NotJson g first none fails = absurd fails
+unread bytes seen entries listings left rest n line NotViews g first none fails = absurd fails
+unread bytes seen entries listings left rest n line (NoView entry name) g first none fails = absurd fails
+unread bytes seen entries listings left rest n line OutOfMemory g first none fails = tt
 
 -- no line is left
 pub all_read : (bytes : List ℕ) (seen : List (List ℕ)) (entries : List Entry) (listings : List Listing)

@@ -1,3 +1,4 @@
 pub mod Viewing
 pub mod Lines
+pub mod Unread
 pub mod Edging

@@ -1,15 +1,15 @@
 -- The two names of a line.
-use Rattle.std.proofs.Common.{◌≡◌, ◌≢◌, ◌∙◌, ◌⊎◌, ℕ, List, [], ◌∷◌, ◌++◌, inl, inr, sym, ap, subst, refl, Bool, true, false}
+use Rattle.std.proofs.Common.{◌≡◌, ◌≢◌, ◌∙◌, ℕ, List, [], ◌∷◌, ◌++◌, inl, inr, sym, ap, subst, refl, Bool, true, false}
 use Rattle.std.proofs.Common.{cond, not, nat_eq, ◌||◌, IsTrue, IsUtf8, append_assoc, append-nil, eqb-true}
 use Rattle.std.proofs.Common.{MatchResult, Result, Ok, Err}
 use Rattle.std.specs.Prelude.{⊤}
 use Rattle.std.specs.List.{AllByRecursion}
 use Rattle.std.proofs.lemmas.Bool.{both_ways}
-use Rattle.ov_dump_reading.specs.Code.Reading.{behind_comma, behind_gap, first_name, last_of, next_of, second_name}
-use Rattle.ov_dump_reading.specs.Code.Reading.{text_of}
-use Rattle.ov_dump_reading.specs.EdgeLines.{AreBlanks, IsBlankLine, IsEdge, IsGap, IsReadable, IsWord, before_mark}
-use Rattle.ov_dump_reading.specs.EdgeLines.{is_blank, is_name_byte}
-use Rattle.ov_dump_reading.specs.Formats.{behind, front_of}
+use Rattle.ov_dump_reading.specs.Code.Reading.{behind_comma, behind_gap, end_of, first_name, last_of, next_of}
+use Rattle.ov_dump_reading.specs.Code.Reading.{second_name, text_of}
+use Rattle.ov_dump_reading.specs.EdgeLines.{AreBlanks, HasTwoNames, IsBlankLine, IsEdge, IsGap, IsReadable, IsWord}
+use Rattle.ov_dump_reading.specs.EdgeLines.{before_mark, is_blank, is_name_byte}
+use Rattle.ov_dump_reading.specs.Code.Reading.{behind, front_of}
 
 -- ---- the bytes that pass, and those behind them
 
@@ -28,7 +28,7 @@ front_all p [] (y ∷ ys) all stops = ap (λ t. cond t (y ∷ front_of p ys) [])
 front_all p (x ∷ xs) ys all stops =
     ap (λ t. cond t (x ∷ front_of p (xs ++ ys)) []) all.0 ∙ ap (λ r. x ∷ r) (front_all p xs ys all.1 stops)
 
-behind_stopped : (p : ℕ → Bool) (ys : List ℕ) → StopsAt p ys → behind p ys ≡ ys
+pub behind_stopped : (p : ℕ → Bool) (ys : List ℕ) → StopsAt p ys → behind p ys ≡ ys
 behind_stopped p [] stops = refl
 behind_stopped p (y ∷ ys) stops = ap (λ t. cond t (behind p ys) (y ∷ ys)) stops
 
@@ -37,7 +37,7 @@ behind_all p [] ys all stops = behind_stopped p ys stops
 behind_all p (x ∷ xs) ys all stops =
     ap (λ t. cond t (behind p (xs ++ ys)) (x ∷ (xs ++ ys))) all.0 ∙ behind_all p xs ys all.1 stops
 
-parts : (p : ℕ → Bool) (xs : List ℕ) → xs ≡ front_of p xs ++ behind p xs
+pub parts : (p : ℕ → Bool) (xs : List ℕ) → xs ≡ front_of p xs ++ behind p xs
 parts p [] = refl
 parts p (x ∷ xs) =
     elim (p x) as (λ t. x ∷ xs ≡ cond t (x ∷ front_of p xs) [] ++ cond t (behind p xs) (x ∷ xs)) [
@@ -45,7 +45,7 @@ parts p (x ∷ xs) =
       | false ↦ refl
     ]
 
-front_passes : (p : ℕ → Bool) (xs : List ℕ) → Pass p (front_of p xs)
+pub front_passes : (p : ℕ → Bool) (xs : List ℕ) → Pass p (front_of p xs)
 front_passes p [] = tt
 front_passes p (x ∷ xs) =
     elim (p x) as (λ t. p x ≡ t → Pass p (cond t (x ∷ front_of p xs) [])) [
@@ -53,7 +53,7 @@ front_passes p (x ∷ xs) =
       | false ↦ λ e. tt
     ] refl
 
-behind_stops : (p : ℕ → Bool) (xs : List ℕ) → StopsAt p (behind p xs)
+pub behind_stops : (p : ℕ → Bool) (xs : List ℕ) → StopsAt p (behind p xs)
 behind_stops p [] = tt
 behind_stops p (x ∷ xs) =
     elim (p x) as (λ t. p x ≡ t → StopsAt p (cond t (behind p xs) (x ∷ xs))) [
@@ -62,7 +62,7 @@ behind_stops p (x ∷ xs) =
     ] refl
 
 -- if nothing is behind them, all bytes pass
-all_pass : (p : ℕ → Bool) (xs : List ℕ) → behind p xs ≡ [] → Pass p xs
+pub all_pass : (p : ℕ → Bool) (xs : List ℕ) → behind p xs ≡ [] → Pass p xs
 all_pass p xs none =
     subst (Pass p) (sym (parts p xs ∙ ap (λ r. front_of p xs ++ r) none ∙ append-nil (front_of p xs)))
     (front_passes p xs)
@@ -84,7 +84,7 @@ name_no_comma b e = elim (is_blank b) as (λ t. not (t || nat_eq b 44) ≡ true 
 blank_no_name : (b : ℕ) → is_blank b ≡ true → is_name_byte b ≡ false
 blank_no_name b e = ap (λ t. not (t || nat_eq b 44)) e
 
-other_name : (b : ℕ) → is_blank b ≡ false → nat_eq b 44 ≡ false → is_name_byte b ≡ true
+pub other_name : (b : ℕ) → is_blank b ≡ false → nat_eq b 44 ≡ false → is_name_byte b ≡ true
 other_name b e f = ap (λ t. not (t || nat_eq b 44)) e ∙ ap not f
 
 word_stops : (a rest : List ℕ) → IsWord a → StopsAt is_blank (a ++ rest)
@@ -152,7 +152,7 @@ gap_from x (b ∷ rest) r whole blanks stops ends some =
       )
     ] refl
 
-gap_of : (r : List ℕ) → StopsAt is_name_byte r → behind_gap r ≢ []
+pub gap_of : (r : List ℕ) → StopsAt is_name_byte r → behind_gap r ≢ []
     → (gap : List ℕ) × (r ≡ gap ++ behind_gap r) × IsGap gap
 gap_of r ends some =
     gap_from (front_of is_blank r) (behind is_blank r) r (parts is_blank r) (front_passes is_blank r)
@@ -234,27 +234,39 @@ second_no_text line some none = unread line some
     edge_text : (line a b : List ℕ) → IsEdge line a b → IsUtf8 b
     edge_text line a b (front, gap, back, whole, blanks, first, between, second, ends) = second.text
 
+-- two names are found, and what stands behind them
+pub two_names : (line : List ℕ) → first_name line ≢ [] → second_name line ≢ []
+    → HasTwoNames line (first_name line) (second_name line) (end_of line)
+two_names line first second =
+    let u = before_mark true line in
+    let text = text_of line in
+    let next = next_of line in
+    let some : next ≢ [] = λ e. second (ap (front_of is_name_byte) e) in
+    let between = gap_of (behind is_name_byte text) (behind_stops is_name_byte text) some in (
+      front_of is_blank u,
+      between.0,
+      parts is_blank u ∙ ap (λ t. front_of is_blank u ++ t) (parts is_name_byte text
+          ∙ ap (λ r. first_name line ++ r) (between.1 ∙ ap (λ n. between.0 ++ n) (parts is_name_byte next))),
+      front_passes is_blank u,
+      (first, front_passes is_name_byte text),
+      between.2,
+      (second, front_passes is_name_byte next),
+    )
+
 -- the names that are found are those that the line says
 pub edge : (line : List ℕ) → last_of line ≡ [] → first_name line ≢ [] → second_name line ≢ []
     → IsUtf8 (first_name line) → IsUtf8 (second_name line) → IsEdge line (first_name line) (second_name line)
 edge line none first second one two =
-    let u = before_mark true line in
-    let text = text_of line in
-    let rest = behind is_name_byte text in
-    let next = next_of line in
-    let back = behind is_name_byte next in
-    let some : next ≢ [] = λ e. second (ap (front_of is_name_byte) e) in
-    let between = gap_of rest (behind_stops is_name_byte text) some in (
-      front_of is_blank u,
-      between.0,
-      back,
-      parts is_blank u ∙ ap (λ t. front_of is_blank u ++ t) (parts is_name_byte text
-          ∙ ap (λ r. first_name line ++ r) (between.1 ∙ ap (λ n. between.0 ++ n) (parts is_name_byte next))),
-      front_passes is_blank u,
-      record { some = first; bytes = front_passes is_name_byte text; text = one },
-      between.2,
-      record { some = second; bytes = front_passes is_name_byte next; text = two },
-      all_pass is_blank back none,
+    let names = two_names line first second in (
+      names.0,
+      names.1,
+      end_of line,
+      names.2,
+      names.3,
+      record { some = first; bytes = names.4.1; text = one },
+      names.5,
+      record { some = second; bytes = names.6.1; text = two },
+      all_pass is_blank (end_of line) none,
     )
 
 -- what follows from an error, where a result is no value

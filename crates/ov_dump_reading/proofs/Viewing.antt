@@ -1,6 +1,6 @@
 -- Members of an object and items of a list that are read one after another.
 use Rattle.std.proofs.Common.{◌≡◌, ◌≢◌, ◌∙◌, ◌+◌, ◌<◌, ◌≤◌, ℕ, zero, suc, List, [], ◌∷◌, ◌++◌, inl, inr, sym, ap, subst, refl}
-use Rattle.std.proofs.Common.{append_assoc, append-nil, arith, drop, get_or, length, map, Bor, Option, Some, None}
+use Rattle.std.proofs.Common.{append_assoc, append-nil, arith, drop, get_or, length, Bor, Option, Some, None}
 use Rattle.std.proofs.Common.{option_map, unwrap_or}
 use Rattle.json.specs.Find.{as_str}
 use Rattle.json.specs.Json.{Json, null, boolean, number, string, array, object, Items, no_items, item}
@@ -10,8 +10,8 @@ use Rattle.json.specs.declared.value.Value.{Value}
 use Rattle.ov_dump.specs.declared.dump_values.Dump.{Dump}
 use Rattle.ov_dump.specs.declared.dump_values.Entry.{Entry}
 use Rattle.ov_dump.specs.declared.dump_values.Listing.{Listing}
-use Rattle.ov_dump_reading.specs.Code.Reading.{DumpOf, FailsAt, FailsFrom, IsDumpIn, IsNoObject, as_items, as_members}
-use Rattle.ov_dump_reading.specs.Views.{IsJson, IsViewsFault, LacksView, SayDump, SaysViews, listings_of, peers, texts}
+use Rattle.ov_dump_reading.specs.Code.Reading.{FailsAt, FailsFrom, IsDumpIn, IsNoObject, as_items, as_members}
+use Rattle.ov_dump_reading.specs.Views.{IsJson, IsViewsFault, SayDump, SaysViews, listings_of, peers, texts}
 use Rattle.ov_dump_reading.specs.declared.reading_fault.ReadingFault.{ReadingFault}
 use Rattle.ov_dump_reading.specs.declared.reading_fault.ReadingFault.TheVariants.{NotJson, NotViews, NoView, UnreadLine}
 use Rattle.ov_dump_reading.specs.declared.reading_fault.ReadingFault.TheVariants.{OutOfMemory}
@@ -131,7 +131,7 @@ later_fails at name v rest names (NoView entry wrong) e f =
 later_fails at name v rest names OutOfMemory e f = tt
 later_fails at name v rest names NotJson e f = absurd f
 later_fails at name v rest names NotViews e f = absurd f
-later_fails at name v rest names (UnreadLine line) e f = absurd f
+later_fails at name v rest names (UnreadLine line why) e f = absurd f
 
 -- one member more
 pub reads_more : (all : Members) (at : ℕ) (entries entries' : List Entry) (listings listings' : List Listing)
@@ -164,7 +164,7 @@ here_fails at name v rest (NoView entry wrong) f = inl (f.2, f.0, f.1)
 here_fails at name v rest OutOfMemory f = tt
 here_fails at name v rest NotJson f = absurd f
 here_fails at name v rest NotViews f = absurd f
-here_fails at name v rest (UnreadLine line) f = absurd f
+here_fails at name v rest (UnreadLine line why) f = absurd f
 
 -- the next member is no list of texts
 pub reads_wrong : (all : Members) (at : ℕ) (entries : List Entry) (listings : List Listing) (left rest : Members)
@@ -258,7 +258,7 @@ object_fault bytes ms (NoView entry wrong) at f = (ms, at, f)
 object_fault bytes ms OutOfMemory at f = tt
 object_fault bytes ms NotJson at f = absurd f
 object_fault bytes ms NotViews at f = absurd f
-object_fault bytes ms (UnreadLine line) at f = absurd f
+object_fault bytes ms (UnreadLine line why) at f = absurd f
 
 pub is_fault : (bytes : List ℕ) (v : Json) (fault : ReadingFault) → IsJson bytes v → IsNoObject (as_members v) fault
     → IsViewsFault bytes fault

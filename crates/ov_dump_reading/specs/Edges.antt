@@ -1,15 +1,16 @@
 -- Dumps as lines of two names, each of which lists the other.
-use Rattle.std.specs.Prelude.{◌≡◌, ◌⊎◌, ⊤, ℕ, List, [], ◌∷◌, map}
+use Rattle.std.specs.Prelude.{◌≡◌, ◌⊎◌, ⊤, ℕ, List, [], ◌∷◌}
 use Rattle.std.specs.List.{flat_map}
 use Rattle.ov_lines.specs.Lines.{kept_lines}
 use Rattle.ov_dump.specs.FirstEntries.{AreFirsts}
 use Rattle.ov_dump.specs.declared.dump_values.Dump.{Dump}
 use Rattle.ov_dump.specs.declared.dump_values.Entry.{Entry}
 use Rattle.ov_dump.specs.declared.dump_values.Listing.{Listing}
-use Rattle.ov_dump_reading.specs.EdgeLines.{IsBlankLine, IsEdge, IsReadable}
+use Rattle.ov_dump_reading.specs.EdgeLines.{IsBlankLine, IsEdge, IsReadable, IsWhy}
 use Rattle.ov_dump_reading.specs.declared.reading_fault.ReadingFault.{ReadingFault}
-use Rattle.ov_dump_reading.specs.declared.reading_fault.ReadingFault.TheVariants.{NotJson, NotViews, NoView, UnreadLine}
+use Rattle.ov_dump_reading.specs.declared.reading_fault.ReadingFault.TheVariants.{UnreadLine}
 use Rattle.ov_dump_reading.specs.declared.reading_fault.ReadingFault.TheVariants.{OutOfMemory}
+use Rattle.ov_dump_reading.specs.declared.unread_line.Why.{Why}
 
 -- two names, and the number of their line
 pub record Edge : Type 0 where
@@ -41,13 +42,14 @@ pub record SaysEdges (bytes : List ℕ) (d : Dump) : Type 0 where
   pub entries : AreFirsts [] (flat_map ends_of edges) d.entries
   pub listings : d.listings ≡ flat_map listings_of edges
 
--- the first of these lines that can't be read has this number
-abbrev pub IsUnreadAt : List (ℕ × List ℕ) → ℕ → Type 0
-IsUnreadAt [] n = ⊥
-IsUnreadAt (line ∷ more) n = ((¬ IsReadable line.1) × (n ≡ line.0)) ⊎ (IsReadable line.1 × IsUnreadAt more n)
+-- the first of these lines that can't be read has this number, and can't be read for this reason
+abbrev pub IsUnreadAt : List (ℕ × List ℕ) → ℕ → Why → Type 0
+IsUnreadAt [] n why = ⊥
+IsUnreadAt (line ∷ more) n why =
+    ((¬ IsReadable line.1) × (n ≡ line.0) × IsWhy line.1 why) ⊎ (IsReadable line.1 × IsUnreadAt more n why)
 
 -- why a file of these bytes says no dump
 abbrev pub IsEdgesFault : List ℕ → ReadingFault → Type 0
-IsEdgesFault bytes (UnreadLine line) = IsUnreadAt (kept_lines bytes) line
+IsEdgesFault bytes (UnreadLine line why) = IsUnreadAt (kept_lines bytes) line why
 IsEdgesFault bytes OutOfMemory = ⊤
 IsEdgesFault bytes other = ⊥

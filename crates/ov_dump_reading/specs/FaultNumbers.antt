@@ -9,5 +9,5 @@ abbrev pub number_of : ReadingFault → ℕ
 number_of NotJson = 60
 number_of NotViews = 83
 number_of (NoView entry name) = 83
-number_of (UnreadLine line) = 70
+number_of (UnreadLine line why) = 70
 number_of OutOfMemory = 99

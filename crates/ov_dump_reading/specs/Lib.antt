@@ -1,5 +1,4 @@
 pub mod FaultNumbers
-pub mod Formats
 pub mod Views
 pub mod EdgeLines
 pub mod Edges

@@ -1,13 +1,12 @@
 -- Dumps as JSON (RFC 8259): an object, in which each key is a name with an entry, and its value the list of the names
 -- that it lists as its peers. A key that is there twice gives two entries.
 use Rattle.std.specs.Prelude.{◌≡◌, ◌≢◌, ◌⊎◌, ⊤, ℕ, ◌+◌, List, [], ◌∷◌, ◌++◌, map, IsUtf8, Option, Some, None, option_map}
-use Rattle.json.specs.Json.{Json, null, boolean, number, string, array, object, Items, no_items, item}
+use Rattle.json.specs.Json.{Json, string, array, object, Items, no_items, item}
 use Rattle.json.specs.Json.{Members, no_members, member, document}
 use Rattle.ov_dump.specs.declared.dump_values.Dump.{Dump}
-use Rattle.ov_dump.specs.declared.dump_values.Entry.{Entry}
 use Rattle.ov_dump.specs.declared.dump_values.Listing.{Listing}
 use Rattle.ov_dump_reading.specs.declared.reading_fault.ReadingFault.{ReadingFault}
-use Rattle.ov_dump_reading.specs.declared.reading_fault.ReadingFault.TheVariants.{NotJson, NotViews, NoView, UnreadLine}
+use Rattle.ov_dump_reading.specs.declared.reading_fault.ReadingFault.TheVariants.{NotJson, NotViews, NoView}
 use Rattle.ov_dump_reading.specs.declared.reading_fault.ReadingFault.TheVariants.{OutOfMemory}
 
 -- the texts of these items, if each is a text

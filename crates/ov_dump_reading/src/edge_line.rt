@@ -1,8 +1,8 @@
 ghost use Rattle.std.specs.Prelude.{◌≡◌, ◌↔◌, [], IsTrue, true};
 ghost use Rattle.ov_dump_reading.specs.EdgeLines.{before_mark, is_blank, is_mark, is_name_byte};
-ghost use Rattle.ov_dump_reading.specs.Formats.{behind, front_of};
-ghost use Rattle.ov_dump_reading.specs.Code.Reading.{WasRead, behind_comma, behind_gap, first_name, last_of};
-ghost use Rattle.ov_dump_reading.specs.Code.Reading.{second_name, text_of};
+ghost use Rattle.ov_dump_reading.specs.Code.Reading.{behind, front_of};
+ghost use Rattle.ov_dump_reading.specs.Code.Reading.{WasRead, behind_comma, behind_gap, end_of, first_name, last_of};
+ghost use Rattle.ov_dump_reading.specs.Code.Reading.{next_of, second_name, text_of};
 
 use std::str::from_utf8;
 
@@ -19,15 +19,19 @@ pub(crate) enum EdgeLine<'a> {
 
 /// The parts of a line.
 #[derive(Clone, Copy)]
-struct LineParts<'a> {
+pub(crate) struct LineParts<'a> {
     /// What stands before the first mark, without blanks before it.
-    text: &'a [u8],
+    pub(crate) text: &'a [u8],
     /// The name that the text begins with.
-    first: &'a [u8],
-    /// The name behind it.
-    second: &'a [u8],
-    /// What is left behind that, without blanks before it.
-    last: &'a [u8],
+    pub(crate) first: &'a [u8],
+    /// What is left behind that and a gap.
+    pub(crate) next: &'a [u8],
+    /// The name that this begins with.
+    pub(crate) second: &'a [u8],
+    /// What is left behind that.
+    pub(crate) end: &'a [u8],
+    /// The same without blanks before it.
+    pub(crate) last: &'a [u8],
 }
 
 /// Reads what a line says.
@@ -56,25 +60,30 @@ pub(crate) fn read_edge_line<'a>(line: &'a [u8]) -> EdgeLine<'a>
     EdgeLine::Edge(first, second)
 }
 
-fn line_parts<'a>(line: &'a [u8]) -> LineParts<'a>
+pub(crate) fn line_parts<'a>(line: &'a [u8]) -> LineParts<'a>
     ensures text { result.text.now ≡ text_of line.now }
     ensures first { result.first.now ≡ first_name line.now }
+    ensures next { result.next.now ≡ next_of line.now }
     ensures second { result.second.now ≡ second_name line.now }
+    ensures end { result.end.now ≡ end_of line.now }
     ensures last { result.last.now ≡ last_of line.now }
 {
     let text = behind_blanks(before_mark(line));
     let (first, rest) = split_name(text);
-    let (second, end) = split_name(behind_gap(rest));
+    let next = behind_gap(rest);
+    let (second, end) = split_name(next);
     let last = behind_blanks(end);
     LineParts {
         text,
         first,
+        next,
         second,
+        end,
         last,
     }
 }
 
-fn is_none(text: &[u8]) -> bool
+pub(crate) fn is_none(text: &[u8]) -> bool
     ensures { IsTrue result ↔ (text.now ≡ []) }
 {
     text.is_empty()
@@ -108,7 +117,7 @@ fn behind_blanks(text: &[u8]) -> &[u8]
 }
 
 /// The text without what may stand between two names.
-fn behind_gap(text: &[u8]) -> &[u8]
+pub(crate) fn behind_gap(text: &[u8]) -> &[u8]
     ensures { result.now ≡ behind_gap text.now }
 {
     behind_blanks(behind_comma(behind_blanks(text)))
@@ -124,7 +133,7 @@ fn behind_comma(text: &[u8]) -> &[u8]
 }
 
 /// Splits off the bytes that a name may have.
-fn split_name(text: &[u8]) -> (&[u8], &[u8])
+pub(crate) fn split_name(text: &[u8]) -> (&[u8], &[u8])
     ensures name { result.0.now ≡ front_of is_name_byte text.now }
     ensures rest { result.1.now ≡ behind is_name_byte text.now }
 {

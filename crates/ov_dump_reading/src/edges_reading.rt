@@ -1,10 +1,12 @@
 ghost use Rattle.std.specs.Prelude.{◌≡◌, ◌++◌, ◌∷◌, [], IfErr, IfOk, OnOk};
+ghost use Rattle.ov_dump_reading.specs.EdgeLines.{IsReadable};
 ghost use Rattle.ov_dump_reading.specs.Edges.{IsEdgesFault, SaysEdges, listings_of};
-ghost use Rattle.ov_dump_reading.specs.Code.Reading.{TakesEnds, TakesEntry};
+ghost use Rattle.ov_dump_reading.specs.Code.Reading.{FailsAtLine, TakesEnds, TakesEntry};
 
 use crate::dump_parts::{listing_of, name_of};
 use crate::edge_line::{EdgeLine, read_edge_line};
 use crate::reading_fault::ReadingFault;
+use crate::unread_line::why_unread;
 use ov_dump::{Dump, Entry, Listing, NameSet};
 use ov_ids::{OutOfMemory, Seq};
 use ov_lines::KeptLines;
@@ -23,8 +25,8 @@ struct EdgeParts {
 /// follows from a word on that begins with `#` or `{` is skipped; a line without a word before that says nothing. Each
 /// name has an entry, at its first line.
 ///
-/// UnreadLine (70) says the first line of another form, or with a name that is no UTF-8. OutOfMemory (99) is returned if
-/// an allocation was refused.
+/// UnreadLine (70) says the first line of another form, or with a name that is no UTF-8, and why. OutOfMemory (99) is
+/// returned if an allocation was refused.
 pub fn read_edges(alloc: Global, bytes: &[u8]) -> Result<Dump, ReadingFault>
     ensures dump { IfOk result (SaysEdges bytes.now) }
     ensures fault { IfErr result (IsEdgesFault bytes.now) }
@@ -55,10 +57,21 @@ fn read_parts(alloc: Global, bytes: &[u8]) -> Result<EdgeParts, ReadingFault>
         match read_edge_line(line.text) {
             EdgeLine::Blank => {}
             EdgeLine::Edge(a, b) => add_edge(alloc, &mut parts, at, a, b)?,
-            EdgeLine::Unread => return Err(ReadingFault::UnreadLine { line: at }),
+            EdgeLine::Unread => return Err(unread(alloc, at, line.text)),
         }
     }
     Ok(parts)
+}
+
+/// The fault of a line that can't be read.
+fn unread(alloc: Global, at: u64, line: &[u8]) -> ReadingFault
+    requires { ¬ IsReadable line.now }
+    ensures { FailsAtLine at line.now result }
+{
+    match why_unread(alloc, line) {
+        Ok(why) => ReadingFault::UnreadLine { line: at, why },
+        Err(_) => ReadingFault::OutOfMemory,
+    }
 }
 
 /// Adds two names that list each other.

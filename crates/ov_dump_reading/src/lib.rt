@@ -4,11 +4,11 @@
 mod dump_parts;
 mod edge_line;
 mod edges_reading;
-mod format_guessing;
 mod reading_fault;
+mod unread_line;
 mod views_reading;
 
 pub use edges_reading::read_edges;
-pub use format_guessing::{Format, guessed_format};
 pub use reading_fault::ReadingFault;
+pub use unread_line::Why;
 pub use views_reading::read_views;

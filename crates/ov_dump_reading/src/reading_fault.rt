@@ -2,6 +2,7 @@ ghost use Rattle.std.specs.Prelude.{◌≡◌};
 ghost use Rattle.ov_dump_reading.specs.FaultNumbers.{number_of};
 ghost use Rattle.ov_dump_reading.specs.declared.reading_fault.ReadingFault.TheVariants.{OutOfMemory as out_of_memory};
 
+use crate::unread_line::Why;
 use ov_dump::Name;
 use ov_ids::OutOfMemory;
 use std::alloc::{AllocError, AllocFailed};
@@ -20,8 +21,8 @@ pub enum ReadingFault {
     #[error("entry {entry}, of {name}, is no list of names")]
     NoView { entry: u64, name: Name },
     /// 70: the line of this number, counted from 1, is no pair of names.
-    #[error("line {line} is no pair of names")]
-    UnreadLine { line: u64 },
+    #[error("line {line} is no pair of names: {why}")]
+    UnreadLine { line: u64, why: Why },
     /// 99: an allocation was refused.
     #[error("out of memory")]
     OutOfMemory,

@@ -1,7 +1,7 @@
 -- What `overlay import` prints.
 use Rattle.std.specs.Prelude.{◌≡◌, ◌⊎◌, ℕ, List, Option, Some, None, Result, Ok, Err}
 use Rattle.ov_arguments.specs.declared.file_requests.DumpFormat.{DumpFormat}
-use Rattle.ov_arguments.specs.declared.file_requests.DumpFormat.TheVariants as asked
+use Rattle.ov_arguments.specs.declared.file_requests.DumpFormat.TheVariants.{Views, Edges, Dot}
 use Rattle.ov_arguments.specs.declared.file_requests.ImportRequest.{ImportRequest}
 use Rattle.ov_dot.specs.FaultNumbers as dot
 use Rattle.ov_dot.specs.Readings.{SaysDump as SaysDot, IsRefused as IsDotFault}
@@ -13,11 +13,11 @@ use Rattle.ov_dump.specs.declared.dump_values.Dump.{Dump}
 use Rattle.ov_dump.specs.declared.fault.DumpFault.TheVariants as dump_fault
 use Rattle.ov_dump_reading.specs.Edges.{SaysEdges, IsEdgesFault}
 use Rattle.ov_dump_reading.specs.FaultNumbers as reading
-use Rattle.ov_dump_reading.specs.Formats.{behind, is_white, IsTakenFor}
 use Rattle.ov_dump_reading.specs.Views.{SaysViews, IsViewsFault}
-use Rattle.ov_dump_reading.specs.declared.format_guessing.Format.{Format}
-use Rattle.ov_dump_reading.specs.declared.format_guessing.Format.TheVariants.{Views, Edges, Dot}
 use Rattle.ov_dump_reading.specs.declared.reading_fault.ReadingFault.TheVariants as reading_fault
+use Rattle.ov_hints.specs.FileKinds.{kind_of}
+use Rattle.ov_hints.specs.declared.file_kinds.FileKind.{FileKind}
+use Rattle.ov_hints.specs.declared.file_kinds.FileKind.TheVariants as kind
 use Rattle.ov_import.specs.Importing.{WasImported}
 use Rattle.ov_import.specs.declared.import_fault.ImportFault.{ImportFault}
 use Rattle.ov_import.specs.declared.import_fault.ImportFault.TheVariants as import
@@ -28,21 +28,29 @@ use Rattle.ov_file_commands.specs.declared.file_command_fault.FileCommandFault.T
 
 -- ---- the dump
 
--- a dump is read in this form: the one that is asked for, or the one that its bytes suggest
-abbrev pub IsForm : Option DumpFormat → List ℕ → Format → Type 0
-IsForm (Some asked.Views) bytes f = f ≡ Views
-IsForm (Some asked.Edges) bytes f = f ≡ Edges
-IsForm (Some asked.Dot) bytes f = f ≡ Dot
-IsForm None bytes f = IsTakenFor (behind is_white bytes) f
+-- the form in which a file that looks so is read: what looks like nothing else is read as edges, and a file of another
+-- kind in no form
+abbrev pub form_of_kind : FileKind → Option DumpFormat
+form_of_kind kind.Views = Some Views
+form_of_kind kind.Dot = Some Dot
+form_of_kind kind.Unknown = Some Edges
+form_of_kind kind.Certificate = None
+form_of_kind kind.Graph = None
+form_of_kind kind.Scenario = None
+
+-- a dump is read in this form, if in any: the one that is asked for, or else the one of what its bytes look like
+abbrev pub IsForm : Option DumpFormat → List ℕ → Option DumpFormat → Type 0
+IsForm (Some asked) bytes form = form ≡ Some asked
+IsForm None bytes form = form ≡ form_of_kind (kind_of bytes)
 
 -- the bytes say this dump, in this form
-abbrev pub SaysDump : Format → List ℕ → Dump → Type 0
+abbrev pub SaysDump : DumpFormat → List ℕ → Dump → Type 0
 SaysDump Views bytes d = SaysViews bytes d
 SaysDump Edges bytes d = SaysEdges bytes d
 SaysDump Dot bytes d = SaysDot bytes d
 
 -- the bytes say no dump in this form, for this reason
-abbrev pub IsUnreadDump : Format → List ℕ → UnreadDump → Type 0
+abbrev pub IsUnreadDump : DumpFormat → List ℕ → UnreadDump → Type 0
 IsUnreadDump Views bytes (unread.Reading fault) = IsViewsFault bytes fault
 IsUnreadDump Edges bytes (unread.Reading fault) = IsEdgesFault bytes fault
 IsUnreadDump Dot bytes (unread.Dot fault) = IsDotFault bytes fault
@@ -69,19 +77,27 @@ command_fault import.Write = Write
 command_fault import.OutOfMemory = OutOfMemory
 
 -- the bytes say a dump in this form, and this came of its import
-abbrev pub WasDumpImported : {W : Type 0} → Format → ImportRequest → List ℕ → (W → Option (List ℕ)) → W → W
+abbrev pub WasDumpImported : {W : Type 0} → DumpFormat → ImportRequest → List ℕ → (W → Option (List ℕ)) → W → W
     → Result (Unit {0}) ImportFault → Type 0
 WasDumpImported form request bytes contents old new result =
     (d : Dump) × SaysDump form bytes d × WasImported (choice_of request) d contents old new result
 
--- what a writer took of the graph that follows from a dump, by `WasImported`; and nothing, if the bytes are no dump of
--- the form in which they are read
+-- what a writer took of the graph that follows from a dump that is read in this form, by `WasImported`; and nothing, if
+-- the bytes are no dump of this form
+abbrev pub WasReadAndPrinted : {W : Type 0} → DumpFormat → ImportRequest → List ℕ → (W → Option (List ℕ)) → W → W
+    → Result (Unit {0}) FileCommandFault → Type 0
+WasReadAndPrinted form request bytes contents old new (Ok done) =
+    WasDumpImported form request bytes contents old new (Ok done)
+WasReadAndPrinted form request bytes contents old new (Err ended) =
+    ((fault : UnreadDump) × IsUnreadDump form bytes fault × (ended ≡ number_of_unread fault) × (new ≡ old))
+    ⊎ ((fault : ImportFault) × WasDumpImported form request bytes contents old new (Err fault)
+    × (ended ≡ command_fault fault))
+
+-- what the command does: it reads and prints the dump in its form; if it has none, since the bytes look like another file
+-- than a dump and no form is asked for, nothing is written, and 88 is the fault
 abbrev pub WasDumpPrinted : {W : Type 0} → ImportRequest → List ℕ → (W → Option (List ℕ)) → W → W
     → Result (Unit {0}) FileCommandFault → Type 0
-WasDumpPrinted request bytes contents old new (Ok done) =
-    (form : Format) × IsForm request.format bytes form × WasDumpImported form request bytes contents old new (Ok done)
-WasDumpPrinted request bytes contents old new (Err ended) =
-    (form : Format) × IsForm request.format bytes form
-    × (((fault : UnreadDump) × IsUnreadDump form bytes fault × (ended ≡ number_of_unread fault) × (new ≡ old))
-    ⊎ ((fault : ImportFault) × WasDumpImported form request bytes contents old new (Err fault)
-    × (ended ≡ command_fault fault)))
+WasDumpPrinted request bytes contents old new result =
+    ((form : DumpFormat) × IsForm request.format bytes (Some form)
+    × WasReadAndPrinted form request bytes contents old new result)
+    ⊎ (IsForm request.format bytes None × (result ≡ Err (Refused 88)) × (new ≡ old))

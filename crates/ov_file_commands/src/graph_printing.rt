@@ -76,6 +76,20 @@ fn print_reason(rt: &HostRuntime, refusal: Refusal) {
     }
 }
 
+/// Prints where bytes are no JSON. False if this is not known, and nothing was printed.
+pub(crate) fn tell_no_json(rt: &HostRuntime, bytes: &[u8]) -> bool {
+    match filed_in(rt.alloc(), bytes) {
+        Ok(_) => false,
+        Err(refusal) => {
+            if !matches!(&refusal.fault, FileFault::NotJson(_)) {
+                return false;
+            }
+            print_reason(rt, refusal);
+            true
+        }
+    }
+}
+
 /// Prints the line of a fault, and what it means.
 pub(crate) fn told(rt: &HostRuntime, fault: FileCommandFault) -> FileCommandFault
     ensures { result ≡ fault }

@@ -1,45 +1,46 @@
--- What the bytes of a file look like, or those that it begins with. It is a guess, from which a person is told which
+-- What the bytes of a file look like, or those that it begins with: by the first line that says something, and how
+-- that begins. It is a guess, from which `overlay import` takes the form of a dump, and by which a person is told which
 -- command reads such a file. Chosen here.
-use Rattle.std.specs.Prelude.{ℕ, Bool, ◌||◌, nat_eq, List, [], ◌∷◌, codes, if◌then◌else◌, is_some}
+use Rattle.std.specs.Prelude.{ℕ, Bool, true, false, ◌&&◌, ◌||◌, nat_eq, List, [], ◌∷◌, codes, drop, map, if◌then◌else◌}
+use Rattle.std.specs.Prelude.{is_some}
+use Rattle.std.specs.Char.{to_ascii_lowercase}
 use Rattle.std.specs.List.{list_any, starts_with}
 use Rattle.memchr.specs.Find.{first_of, matches}
-use Rattle.ov_lines.specs.Lines.{kept_lines, same, words_of}
+use Rattle.ov_lines.specs.Lines.{kept_lines, same}
 use Rattle.ov_hints.specs.declared.file_kinds.FileKind.{FileKind}
-use Rattle.ov_hints.specs.declared.file_kinds.FileKind.TheVariants.{Certificate, Dump, Graph, Scenario, Unknown}
+use Rattle.ov_hints.specs.declared.file_kinds.FileKind.TheVariants.{Certificate, Views, Dot, Graph, Scenario, Unknown}
 
--- ---- files of lines
+-- ---- the text that a file begins with
 
--- the words that a graph file begins with
-abbrev pub graph_words : List (List ℕ)
-graph_words = codes "node" ∷ codes "link" ∷ []
+-- the bytes without the byte order mark that they may begin with, as some editors write it
+abbrev pub behind_mark : List ℕ → List ℕ
+behind_mark bytes = if starts_with nat_eq bytes (239 ∷ 187 ∷ 191 ∷ []) then drop 3 bytes else bytes
 
--- the words that a scenario begins with: of its settings, of random words, of a birth and of sections
-abbrev pub scenario_words : List (List ℕ)
-scenario_words = codes "params" ∷ codes "seed" ∷ codes "words" ∷ codes "boot" ∷ codes "together" ∷ []
+-- a space, a tab or a carriage return
+abbrev pub is_blank : ℕ → Bool
+is_blank b = (nat_eq b 32 || nat_eq b 9) || nat_eq b 13
 
--- the words that a dump in Graphviz's language DOT begins with
-abbrev pub dot_words : List (List ℕ)
-dot_words = codes "strict" ∷ codes "graph" ∷ codes "digraph" ∷ []
+-- what is left of a text behind the blanks at its beginning
+abbrev pub behind_blanks : List ℕ → List ℕ
+behind_blanks [] = []
+behind_blanks (b ∷ rest) = if is_blank b then behind_blanks rest else b ∷ rest
 
--- the kind of files that begin with this word
-unfoldable pub kind_of_word : List ℕ → FileKind
-kind_of_word word =
-    if list_any (same word) graph_words then Graph
-    else if list_any (same word) scenario_words then Scenario
-    else if list_any (same word) dot_words then Dump
-    else Unknown
+-- a text without blanks before it says nothing: it is empty, or a comment, which begins with `#`
+abbrev pub says_nothing : List ℕ → Bool
+says_nothing [] = true
+says_nothing (b ∷ rest) = nat_eq b 35
 
--- the kind of files whose first line that is not skipped has these words
-abbrev pub kind_of_words : List (List ℕ) → FileKind
-kind_of_words [] = Unknown
-kind_of_words (word ∷ more) = kind_of_word word
+-- the text of the first of these lines that says something, without blanks before it
+abbrev pub first_text : List (ℕ × List ℕ) → List ℕ
+first_text [] = []
+first_text (line ∷ more) = if says_nothing (behind_blanks line.1) then first_text more else behind_blanks line.1
 
--- the kind of files with these lines that are not skipped
-abbrev pub kind_of_lines : List (ℕ × List ℕ) → FileKind
-kind_of_lines [] = Unknown
-kind_of_lines (line ∷ more) = kind_of_words (words_of line.1)
+-- what stands before the first byte that passes
+abbrev pub before : (ℕ → Bool) → List ℕ → List ℕ
+before p [] = []
+before p (b ∷ rest) = if p b then [] else b ∷ before p rest
 
--- ---- files of JSON
+-- ---- JSON
 
 -- the part stands somewhere in the text
 abbrev pub holds : List ℕ → List ℕ → Bool
@@ -52,11 +53,64 @@ is_certificate bytes =
     (starts_with nat_eq bytes (codes "{\"cut\":") || starts_with nat_eq bytes (codes "{\"group\":"))
     || (starts_with nat_eq bytes (codes "{\"k\":") || holds (codes "\"verdict\"") bytes)
 
+-- in a list of JSON this may follow the bracket: nothing, a blank, a text, a list, an object or the end of the list
+abbrev pub opens_list : List ℕ → Bool
+opens_list [] = true
+opens_list (b ∷ rest) = is_blank b || list_any (λ sign. nat_eq b sign) (codes "\"[{]")
+
+-- the text begins like a list of JSON, and not like an address in brackets, as `[::1]:7946`
+abbrev pub begins_list : List ℕ → Bool
+begins_list [] = false
+begins_list (b ∷ rest) = nat_eq b 91 && opens_list rest
+
+-- ---- Graphviz's language DOT
+
+-- the word is this keyword, in capital letters or not
+abbrev pub is_keyword : List ℕ → List ℕ → Bool
+is_keyword keyword word = same (map to_ascii_lowercase word) keyword
+
+-- the word is one with which DOT begins
+abbrev pub is_dot_word : List ℕ → Bool
+is_dot_word word =
+    is_keyword (codes "graph") word || (is_keyword (codes "digraph") word || is_keyword (codes "strict") word)
+
+-- a keyword of DOT ends before this byte. With it `graph{` begins DOT, and `graph-1` does not
+abbrev pub ends_keyword : ℕ → Bool
+ends_keyword b = is_blank b || list_any (λ sign. nat_eq b sign) (codes "{\"</")
+
+-- the text begins like DOT: with a comment or a word of DOT. A name as `/dc1/a` does not
+abbrev pub begins_dot : List ℕ → Bool
+begins_dot text =
+    (starts_with nat_eq text (codes "//") || starts_with nat_eq text (codes "/*"))
+    || is_dot_word (before ends_keyword text)
+
+-- ---- files of lines
+
+-- the words that a graph file begins with
+abbrev pub graph_words : List (List ℕ)
+graph_words = codes "node" ∷ codes "link" ∷ []
+
+-- the words that a scenario begins with: of its settings, of random words, of a birth and of sections
+abbrev pub scenario_words : List (List ℕ)
+scenario_words = codes "params" ∷ codes "seed" ∷ codes "words" ∷ codes "boot" ∷ codes "together" ∷ []
+
+-- the kind of files that begin with this word
+unfoldable pub kind_of_word : List ℕ → FileKind
+kind_of_word word =
+    if list_any (same word) graph_words then Graph
+    else if list_any (same word) scenario_words then Scenario
+    else Unknown
+
 -- ---- files
 
--- the kind of files of these bytes: by its keys if it is an object of JSON, and else by its first word that is in no
--- comment
+-- the kind of files of these bytes, of which this text is the first that says something
+unfoldable pub kind_by_text : List ℕ → List ℕ → FileKind
+kind_by_text bytes text =
+    if starts_with nat_eq text (codes "{") then (if is_certificate bytes then Certificate else Views)
+    else if begins_list text then Views
+    else if begins_dot text then Dot
+    else kind_of_word (before is_blank text)
+
+-- the kind of files of these bytes
 abbrev pub kind_of : List ℕ → FileKind
-kind_of bytes =
-    if starts_with nat_eq bytes (codes "{") then (if is_certificate bytes then Certificate else Dump)
-    else kind_of_lines (kept_lines bytes)
+kind_of bytes = kind_by_text (behind_mark bytes) (first_text (kept_lines (behind_mark bytes)))

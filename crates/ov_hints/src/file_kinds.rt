@@ -1,10 +1,15 @@
-ghost use Rattle.std.specs.Prelude.{◌≡◌};
+ghost use Rattle.std.specs.Prelude.{◌≡◌, nat_eq, map};
+ghost use Rattle.std.specs.Char.{to_ascii_lowercase};
 ghost use Rattle.std.specs.List.{list_any};
-ghost use Rattle.ov_lines.specs.Lines.{kept_lines, same};
-ghost use Rattle.ov_hints.specs.FileKinds.{holds, is_certificate, kind_of, kind_of_lines, kind_of_word};
+ghost use Rattle.ov_lines.specs.Lines.{same};
+ghost use Rattle.ov_hints.specs.FileKinds.{begins_dot, begins_list, holds, is_certificate, is_dot_word, is_keyword};
+ghost use Rattle.ov_hints.specs.FileKinds.{kind_by_text, kind_of, kind_of_word, opens_list};
 
+use crate::first_text::{
+    before_blank, before_keyword_end, behind_mark, first_text, is_blank, is_one_of,
+};
 use memchr::memmem;
-use ov_lines::{KeptLines, LineCursor, is_word};
+use ov_lines::is_word;
 
 /// The words that a graph file begins with.
 const GRAPH_WORDS: [&str; 2] = ["node", "link"];
@@ -12,16 +17,15 @@ const GRAPH_WORDS: [&str; 2] = ["node", "link"];
 /// The words that a scenario begins with: of its settings, of random words, of a birth and of sections.
 const SCENARIO_WORDS: [&str; 5] = ["params", "seed", "words", "boot", "together"];
 
-/// The words that a dump in Graphviz's language DOT begins with.
-const DOT_WORDS: [&str; 3] = ["strict", "graph", "digraph"];
-
 /// What the bytes of a file look like.
 #[derive(Clone, Copy, Debug, PartialEq, Eq)]
 pub enum FileKind {
     /// A certificate file.
     Certificate,
-    /// A dump of what a cluster says of its links: a JSON object, or DOT.
-    Dump,
+    /// A dump of what a cluster says of its links, as JSON.
+    Views,
+    /// A dump in Graphviz's language DOT.
+    Dot,
     /// A graph file.
     Graph,
     /// A scenario file.
@@ -30,19 +34,53 @@ pub enum FileKind {
     Unknown,
 }
 
-/// What the bytes of a file look like, or those that it begins with. An object of JSON is a certificate file if it has
-/// the key `verdict`, or begins with the key with which a certificate file is written here; else it is a dump. Other
-/// files are told by their first word that is in no comment. (The signs are chosen here.)
+impl FileKind {
+    /// Whether these are dumps, which `overlay import` reads.
+    pub fn is_dump(self) -> bool {
+        matches!(self, FileKind::Views | FileKind::Dot)
+    }
+
+    /// What such a file is called.
+    pub fn words(self) -> &'static str {
+        match self {
+            FileKind::Certificate => "a certificate file",
+            FileKind::Views | FileKind::Dot => "a dump",
+            FileKind::Graph => "a graph file",
+            FileKind::Scenario => "a scenario",
+            FileKind::Unknown => "another file",
+        }
+    }
+}
+
+/// What the bytes of a file look like, or those that it begins with. It is told from the first line that is neither
+/// blank nor a comment, and from how that begins; a byte order mark is passed over. An object of JSON is a certificate
+/// file if it has the key `verdict`, or begins with the key with which a certificate file is written here; else it is a
+/// dump of views. (The signs are chosen here.)
 pub fn looks_like(bytes: &[u8]) -> FileKind
     ensures { result ≡ kind_of bytes.now }
 {
-    if !bytes.starts_with(b"{") {
-        return kind_by_word(bytes);
+    let bytes = behind_mark(bytes);
+    kind_by_text(bytes, first_text(bytes))
+}
+
+/// The kind of files of these bytes, of which this text is the first that says something.
+#[tactic(auto, unfolding(crate::specs::FileKinds::kind_by_text))]
+fn kind_by_text(bytes: &[u8], text: &[u8]) -> FileKind
+    ensures { result ≡ kind_by_text bytes.now text.now }
+{
+    if text.starts_with(b"{") {
+        if is_certificate(bytes) {
+            return FileKind::Certificate;
+        }
+        return FileKind::Views;
     }
-    if is_certificate(bytes) {
-        return FileKind::Certificate;
+    if begins_list(text) {
+        return FileKind::Views;
     }
-    FileKind::Dump
+    if begins_dot(text) {
+        return FileKind::Dot;
+    }
+    kind_of_word(before_blank(text))
 }
 
 /// Whether an object of JSON looks like a certificate file.
@@ -63,17 +101,52 @@ fn holds(part: &[u8], text: &[u8]) -> bool
     memmem::find(text, part).is_some()
 }
 
-/// What a file looks like by the first word of its first line that is not skipped.
-fn kind_by_word(bytes: &[u8]) -> FileKind
-    ensures { result ≡ kind_of_lines (kept_lines bytes.now) }
+/// Whether a text begins like a list of JSON, and not like an address in brackets.
+fn begins_list(text: &[u8]) -> bool
+    ensures { result ≡ begins_list text.now }
 {
-    let Some(line) = KeptLines::new(bytes).next_line() else {
-        return FileKind::Unknown;
-    };
-    let Some(word) = LineCursor::new(line.text).word() else {
-        return FileKind::Unknown;
-    };
-    kind_of_word(word)
+    match text.split_first() {
+        Some((first, rest)) => *first == b'[' && opens_list(rest),
+        None => false,
+    }
+}
+
+/// Whether this may follow the bracket of a list of JSON.
+fn opens_list(rest: &[u8]) -> bool
+    ensures { result ≡ opens_list rest.now }
+{
+    match rest.split_first() {
+        Some((first, _)) => is_blank(*first) || is_one_of(*first, b"\"[{]"),
+        None => true,
+    }
+}
+
+/// Whether a text begins like DOT.
+fn begins_dot(text: &[u8]) -> bool
+    ensures { result ≡ begins_dot text.now }
+{
+    if text.starts_with(b"//") || text.starts_with(b"/*") {
+        return true;
+    }
+    is_dot_word(before_keyword_end(text))
+}
+
+/// Whether a word is one with which DOT begins.
+fn is_dot_word(word: &[u8]) -> bool
+    ensures { result ≡ is_dot_word word.now }
+{
+    if is_keyword(b"graph", word) {
+        return true;
+    }
+    is_keyword(b"digraph", word) || is_keyword(b"strict", word)
+}
+
+/// Whether a word is this keyword, which is written in lowercase letters, in any case.
+fn is_keyword(keyword: &[u8], word: &[u8]) -> bool
+    requires { map to_ascii_lowercase keyword.now ≡ keyword.now }
+    ensures { result ≡ is_keyword keyword.now word.now }
+{
+    word.eq_ignore_ascii_case(keyword)
 }
 
 /// The kind of files that begin with this word.
@@ -86,9 +159,6 @@ fn kind_of_word(word: &[u8]) -> FileKind
     }
     if is_among(&SCENARIO_WORDS, word) {
         return FileKind::Scenario;
-    }
-    if is_among(&DOT_WORDS, word) {
-        return FileKind::Dump;
     }
     FileKind::Unknown
 }

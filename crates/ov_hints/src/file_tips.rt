@@ -40,23 +40,24 @@ fn push_kind(
     name: &str,
     behind: &str,
 ) -> Result<(), AllocError> {
+    let what = kind.words();
     match kind {
         FileKind::Certificate => write!(
             text,
-            "tip: {name} looks like a certificate file: `overlay-check{behind}` checks it, \
+            "tip: {name} looks like {what}: `overlay-check{behind}` checks it, \
              and `overlay graph{behind}` prints its graph\n"
         ),
-        FileKind::Dump => write!(
+        FileKind::Views | FileKind::Dot => write!(
             text,
-            "tip: {name} looks like a dump: `overlay import{behind}` makes a graph file of it\n"
+            "tip: {name} looks like {what}: `overlay import{behind}` makes a graph file of it\n"
         ),
         FileKind::Graph => write!(
             text,
-            "tip: {name} looks like a graph file: `overlay analyse{behind}` analyses it\n"
+            "tip: {name} looks like {what}: `overlay analyse{behind}` analyses it\n"
         ),
         FileKind::Scenario => write!(
             text,
-            "tip: {name} looks like a scenario: `overlay run{behind}` runs it\n"
+            "tip: {name} looks like {what}: `overlay run{behind}` runs it\n"
         ),
         FileKind::Unknown => Ok(()),
     }

@@ -1,4 +1,4 @@
-use ov_dump::{Dump, Name, listed_by_one, without_entry};
+use ov_dump::{Choice, Dump, Name, listed_by_one, without_entry};
 use ov_ids::OutOfMemory;
 use std::alloc::{AllocError, Global};
 use std::fmt::Write;
@@ -6,15 +6,22 @@ use std::fmt::Write;
 /// How many listings, and how many names, are told of at most. (Chosen here.)
 const MOST_TOLD: usize = 10;
 
-/// What an operator should know of a dump: how many listings the other end does not answer, and how many names are
-/// listed and have no entry, as those of dead peers; the first ten of each. Empty if there is neither. OutOfMemory (99)
-/// is returned if an allocation was refused.
-pub fn import_notes(alloc: Global, dump: &Dump) -> Result<String, OutOfMemory> {
+/// What an operator should know of a dump: that it has no name; how many listings the other end does not answer, and how
+/// many names are listed and have no entry, as those of dead peers; the first ten of each, and that names without an
+/// entry look alive by this choice. Empty if there is none of it. OutOfMemory (99) is returned if an allocation was
+/// refused.
+pub fn import_notes(alloc: Global, dump: &Dump, choice: Choice) -> Result<String, OutOfMemory> {
     let mut notes = String::new(alloc);
+    if dump.entries.as_slice().is_empty() && dump.listings.as_slice().is_empty() {
+        notes.push_str("the dump has no names\n")?;
+    }
     let places = listed_by_one(alloc, dump)?;
     note_listings(&mut notes, dump, &places)?;
     let names = without_entry(alloc, dump)?;
     note_names(&mut notes, &names)?;
+    if choice.either && !choice.entries_only && !names.is_empty() {
+        notes.push_str("they are linked, and so look alive; --entries leaves them out\n")?;
+    }
     Ok(notes)
 }
 

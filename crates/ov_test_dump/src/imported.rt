@@ -1,6 +1,6 @@
 //! What is written of dumps, by hand from the definitions.
 use ov_dump::{Choice, Dump};
-use ov_dump_reading::{Format, guessed_format, read_edges, read_views};
+use ov_dump_reading::{read_edges, read_views};
 use ov_import::{ImportFault, import_dump};
 use ov_io::Sink;
 use std::alloc::Global;
@@ -76,17 +76,5 @@ fn control_characters(rt: HostRuntime) -> Result<(), Fail> {
     let dump = read_views(alloc, b"{\"a\\nnode 7\": [], \"a\\\\u{a}node 7\": []}")?;
     let text = "# 1 a\\u{a}node 7\nnode 1\n# 2 a\\u{5c}u{a}node 7\nnode 2\n";
     assert!(rt; is_imported(alloc, &dump, MUTUAL, text));
-    Ok(())
-}
-
-#[test]
-fn formats(rt: HostRuntime) -> Result<(), Fail> {
-    assert_eq!(rt; guessed_format(b" \n{\"a\": []}"), Format::Views);
-    assert_eq!(rt; guessed_format(b"strict graph { a -- b }"), Format::Dot);
-    assert_eq!(rt; guessed_format(b"DiGraph { a -> b }"), Format::Dot);
-    assert_eq!(rt; guessed_format(b"// a comment\ngraph { }"), Format::Dot);
-    assert_eq!(rt; guessed_format(b"graphite a\n"), Format::Edges);
-    assert_eq!(rt; guessed_format(b"# edges\na b\n"), Format::Edges);
-    assert_eq!(rt; guessed_format(b""), Format::Edges);
     Ok(())
 }

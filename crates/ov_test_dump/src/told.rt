@@ -11,6 +11,12 @@ const ALL: Choice = Choice {
     entries_only: false,
 };
 
+/// One lists the other, and any name is a node.
+const EITHER: Choice = Choice {
+    either: true,
+    entries_only: false,
+};
+
 /// Why a file of edges gives no graph, in words.
 fn refusal(alloc: Global, text: &str) -> Result<String, Fail> {
     let dump = read_edges(alloc, text.as_bytes())?;
@@ -108,11 +114,38 @@ fn unread(rt: HostRuntime) -> Result<(), Fail> {
             "entry 1, of a, is no list of names"
         )
     );
-    assert!(rt; no_edges(alloc, b"a b\na b c\n", 70, "line 2 is no pair of names"));
-    assert!(rt; no_edges(alloc, b"a,,b\n", 70, "line 1 is no pair of names"));
-    assert!(rt; no_edges(alloc, b"a\n", 70, "line 1 is no pair of names"));
-    assert!(rt; no_edges(alloc, b",a b\n", 70, "line 1 is no pair of names"));
-    assert!(rt; no_edges(alloc, b"a \xff\n", 70, "line 1 is no pair of names"));
+    Ok(())
+}
+
+/// Whether a line of edges is refused for this reason.
+fn is_unread(alloc: Global, line: &[u8], why: &str) -> Result<bool, Fail> {
+    let told = format!(in alloc; "line 1 is no pair of names: {why}")?;
+    Ok(no_edges(alloc, line, 70, told.as_str()))
+}
+
+#[test]
+fn unread_lines(rt: HostRuntime) -> Result<(), Fail> {
+    let alloc = rt.alloc();
+    let hint = "; networkx writes lines of two names with `data=False`";
+    let weight = format!(in alloc; "`0.5` stands behind them{hint}")?;
+    let attributes = format!(in alloc; "`{{'weight':` stands behind them{hint}")?;
+    assert!(rt; is_unread(alloc, b"a b c", "`c` stands behind them")?);
+    assert!(rt; is_unread(alloc, b"a b 10.0.0.1", "`10.0.0.1` stands behind them")?);
+    assert!(rt; is_unread(alloc, b"a b \x1bc", "`\\u{1b}c` stands behind them")?);
+    assert!(rt; is_unread(alloc, b"a b 0.5", weight.as_str())?);
+    assert!(rt; is_unread(alloc, b"a,b,{'weight': 3}", attributes.as_str())?);
+    assert!(rt; is_unread(alloc, b"a,,b", "it has two commas in a row")?);
+    assert!(rt; is_unread(alloc, b"a,b,", "a comma stands behind the second name")?);
+    assert!(rt; is_unread(alloc, b"a ,", "it has one name alone")?);
+    assert!(rt; is_unread(alloc, b",a b", "it begins with a comma")?);
+    assert!(rt; is_unread(alloc, b"a \xff", "a name is no UTF-8")?);
+    assert!(rt;
+        is_unread(
+            alloc,
+            b"a b \xff",
+            "a third word, which is no UTF-8, stands behind them"
+        )?
+    );
     Ok(())
 }
 
@@ -123,14 +156,20 @@ fn notes(rt: HostRuntime) -> Result<(), Fail> {
         alloc,
         b"{\"b\": [\"a\", \"c\"], \"a\": [\"b\", \"dead\"], \"c\": []}",
     )?;
-    let told = import_notes(alloc, &dump)?;
+    let told = import_notes(alloc, &dump, ALL)?;
     let wanted = "listed by one end only: 2\n\
         b lists c, and c does not list b\n\
         a lists dead, and dead does not list a\n\
         listed without an entry: 1\n\
         dead is listed and has no entry\n";
     assert_eq!(rt; told.as_str(), wanted);
-    let quiet = import_notes(alloc, &read_edges(alloc, b"a b\n")?)?;
+    let linked = import_notes(alloc, &dump, EITHER)?;
+    assert!(rt;
+        linked.as_str().ends_with("they are linked, and so look alive; --entries leaves them out\n")
+    );
+    let quiet = import_notes(alloc, &read_edges(alloc, b"a b\n")?, ALL)?;
     assert_eq!(rt; quiet.as_str(), "");
+    let empty = import_notes(alloc, &read_edges(alloc, b"# nobody\n")?, ALL)?;
+    assert_eq!(rt; empty.as_str(), "the dump has no names\n");
     Ok(())
 }

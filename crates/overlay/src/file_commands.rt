@@ -1,5 +1,5 @@
 //! The commands that turn one file into another.
-ghost use Rattle.std.specs.Prelude.{◌≡◌, ◌⊎◌, ◌∷◌, IfOk, IfErr};
+ghost use Rattle.std.specs.Prelude.{◌≡◌, IfOk, IfErr};
 ghost use Rattle.overlay.specs.Program.{IsOfRequest};
 
 use crate::program_outcome::ProgramFault;
@@ -7,7 +7,7 @@ use crate::tips::print_file_tip;
 use crate::{bytes_asked, bytes_of_file};
 use ov_arguments::{ImportRequest, PictureRequest};
 use ov_file_commands::{FileCommandFault, print_dump, print_graph, print_picture};
-use ov_hints::FileKind;
+use ov_hints::{FileKind, behind_mark};
 use ov_io::Sink;
 
 /// Makes a graph file of the dump of a file, or of standard input.
@@ -22,18 +22,8 @@ pub(crate) fn import_asked(
     let bytes = bytes_asked(rt, file.as_deref())?;
     let mut sink = Sink::new(rt.stdout());
     let printed = print_dump(rt, behind_mark(&bytes), dump, &mut sink);
-    with_tip(rt, &bytes, file.as_deref(), FileKind::Dump, printed)?;
+    with_tip(rt, &bytes, file.as_deref(), FileKind::Views, printed)?;
     Ok(0)
-}
-
-/// These bytes without the byte order mark that they may begin with, as some editors write it.
-fn behind_mark(bytes: &[u8]) -> &[u8]
-    ensures { (result.now ≡ bytes.now) ⊎ (bytes.now ≡ 239 ∷ 187 ∷ 191 ∷ result.now) }
-{
-    match bytes {
-        [0xEF, 0xBB, 0xBF, rest @ ..] => rest,
-        _ => bytes,
-    }
 }
 
 /// Draws the graph of the certificate file of this name, or of standard input, with the names that another file gives.

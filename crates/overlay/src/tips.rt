@@ -20,11 +20,11 @@ pub(crate) fn print_command_tip(rt: &HostRuntime, arguments: &[String]) {
     }
 }
 
-/// Prints which command reads a file of these bytes, if they do not look like this kind of file. The file has this
-/// name, or is standard input.
+/// Prints which command reads a file of these bytes, if it is another one than that of this kind of file. The file has
+/// this name, or is standard input.
 pub(crate) fn print_file_tip(rt: &HostRuntime, bytes: &[u8], file: Option<&str>, wanted: FileKind) {
     let kind = looks_like(bytes);
-    if kind != wanted {
+    if kind != wanted && !(kind.is_dump() && wanted.is_dump()) {
         print_tip(rt, file_tip(rt.alloc(), kind, file));
     }
 }

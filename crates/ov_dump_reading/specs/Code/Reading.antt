@@ -1,17 +1,16 @@
 -- Parts of a file as code takes them, and what a part of the reading returns.
-use Rattle.std.specs.Prelude.{◌≡◌, ◌↔◌, ◌⊎◌, ⊤, ℕ, ◌+◌, Bool, true, nat_eq, List, [], ◌∷◌, ◌++◌, if◌then◌else◌, Option, Some, None}
+use Rattle.std.specs.Prelude.{◌≡◌, ◌↔◌, ◌⊎◌, ⊤, ℕ, Bool, true, nat_eq, List, [], ◌∷◌, ◌++◌, if◌then◌else◌, Option, Some, None}
 use Rattle.std.specs.Prelude.{Result, Ok, Err}
 use Rattle.ov_ids.specs.Members.{Has}
-use Rattle.json.specs.Json.{Json, null, boolean, number, string, array, object, Items, Members}
+use Rattle.json.specs.Json.{Json, array, object, Items, Members}
 use Rattle.ov_dump.specs.declared.dump_values.Dump.{Dump}
 use Rattle.ov_dump.specs.declared.dump_values.Entry.{Entry}
-use Rattle.ov_dump_reading.specs.EdgeLines.{IsBlankLine, IsEdge, IsReadable, before_mark, is_blank, is_name_byte}
-use Rattle.ov_dump_reading.specs.Formats.{behind, front_of}
+use Rattle.ov_dump_reading.specs.EdgeLines.{IsBlankLine, IsEdge, IsReadable, IsWhy, before_mark, is_blank, is_name_byte}
 use Rattle.ov_dump_reading.specs.Views.{LacksView, SayDump}
 use Rattle.ov_dump_reading.specs.declared.edge_line.EdgeLine.{EdgeLine}
 use Rattle.ov_dump_reading.specs.declared.edge_line.EdgeLine.TheVariants.{Blank, Edge, Unread}
 use Rattle.ov_dump_reading.specs.declared.reading_fault.ReadingFault.{ReadingFault}
-use Rattle.ov_dump_reading.specs.declared.reading_fault.ReadingFault.TheVariants.{NotJson, NotViews, NoView, UnreadLine}
+use Rattle.ov_dump_reading.specs.declared.reading_fault.ReadingFault.TheVariants.{NotViews, NoView, UnreadLine}
 use Rattle.ov_dump_reading.specs.declared.reading_fault.ReadingFault.TheVariants.{OutOfMemory}
 
 -- ---- views
@@ -54,6 +53,16 @@ DumpOf v (Err fault) = IsNoObject (as_members v) fault
 
 -- ---- lines
 
+-- what is left of a text behind the bytes at its beginning that pass
+abbrev pub behind : (ℕ → Bool) → List ℕ → List ℕ
+behind p [] = []
+behind p (b ∷ rest) = if p b then behind p rest else b ∷ rest
+
+-- the bytes at the beginning of a text that pass
+abbrev pub front_of : (ℕ → Bool) → List ℕ → List ℕ
+front_of p [] = []
+front_of p (b ∷ rest) = if p b then b ∷ front_of p rest else []
+
 -- the text without a comma, if it begins with one
 abbrev pub behind_comma : List ℕ → List ℕ
 behind_comma [] = []
@@ -71,9 +80,13 @@ text_of line = behind is_blank (before_mark true line)
 abbrev pub next_of : List ℕ → List ℕ
 next_of line = behind_gap (behind is_name_byte (text_of line))
 
+-- behind the second name
+abbrev pub end_of : List ℕ → List ℕ
+end_of line = behind is_name_byte (next_of line)
+
 -- behind the second name and blanks
 abbrev pub last_of : List ℕ → List ℕ
-last_of line = behind is_blank (behind is_name_byte (next_of line))
+last_of line = behind is_blank (end_of line)
 
 abbrev pub first_name : List ℕ → List ℕ
 first_name line = front_of is_name_byte (text_of line)
@@ -86,6 +99,12 @@ abbrev pub WasRead : List ℕ → EdgeLine → Type 0
 WasRead line Blank = IsBlankLine line
 WasRead line (Edge a b) = IsEdge line a.now b.now
 WasRead line Unread = ¬ IsReadable line
+
+-- the line with this number can't be read, and why
+abbrev pub FailsAtLine : ℕ → List ℕ → ReadingFault → Type 0
+FailsAtLine at line (UnreadLine n why) = (n ≡ at) × IsWhy line why
+FailsAtLine at line OutOfMemory = ⊤
+FailsAtLine at line other = ⊥
 
 -- ---- edges
 

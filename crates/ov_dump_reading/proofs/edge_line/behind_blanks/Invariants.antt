@@ -1,7 +1,7 @@
 -- what is behind the bytes that are left is behind all
 use Rattle.std.proofs.Common.{◌≡◌, length}
 use Rattle.ov_dump_reading.specs.EdgeLines.{is_blank}
-use Rattle.ov_dump_reading.specs.Formats.{behind}
+use Rattle.ov_dump_reading.specs.Code.Reading.{behind}
 use Rattle.ov_dump_reading.proofs.edge_line.behind_blanks.Given as goal
 
 abbrev pub invariant-loop-first : goal.invariant-loop-first

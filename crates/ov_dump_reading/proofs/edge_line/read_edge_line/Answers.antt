@@ -1,5 +1,4 @@
 -- What each part says of the line.
-use Rattle.std.proofs.Common.{IsUtf8}
 use Rattle.std.proofs.lemmas.Bool.{both_ways}
 use Rattle.ov_dump_reading.proofs.Lines.{edge_read, err_given, first_unread, is_blank_line, lacks_first, lacks_second}
 use Rattle.ov_dump_reading.proofs.Lines.{left_over, second_unread}

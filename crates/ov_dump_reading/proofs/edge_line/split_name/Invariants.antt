@@ -1,7 +1,7 @@
 -- the name so far, and what is left
 use Rattle.std.proofs.Common.{◌≡◌, ◌++◌, drop, take}
 use Rattle.ov_dump_reading.specs.EdgeLines.{is_name_byte}
-use Rattle.ov_dump_reading.specs.Formats.{behind, front_of}
+use Rattle.ov_dump_reading.specs.Code.Reading.{behind, front_of}
 use Rattle.ov_dump_reading.proofs.edge_line.split_name.Given as goal
 
 abbrev pub invariant-loop-i : goal.invariant-loop-i

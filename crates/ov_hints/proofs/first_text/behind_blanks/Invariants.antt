@@ -1,10 +1,10 @@
 -- what is behind the bytes that are left is behind all
 use Rattle.std.proofs.Common.{◌≡◌, length}
-use Rattle.ov_dump_reading.specs.Formats.{behind, is_white}
-use Rattle.ov_dump_reading.proofs.format_guessing.behind_white.Given as goal
+use Rattle.ov_hints.specs.FileKinds.{behind_blanks}
+use Rattle.ov_hints.proofs.first_text.behind_blanks.Given as goal
 
 abbrev pub invariant-loop-first : goal.invariant-loop-first
-invariant-loop-first l = behind is_white l.left ≡ behind is_white l.bytes
+invariant-loop-first l = behind_blanks l.left ≡ behind_blanks l.text
 
 abbrev pub decreases-loop-first : goal.decreases-loop-first
 decreases-loop-first l = length l.left
