@@ -19,8 +19,8 @@ use Rattle.ov_dot.specs.declared.fault.DotFault.{DotFault}
 use Rattle.ov_dot.specs.declared.fault.DotFault.TheVariants.{UnreadLine}
 use Rattle.ov_dot.specs.declared.fault.Why.TheVariants.{WrongEdge}
 use Rattle.ov_dot.specs.Code.Diagram.{attribute, beginning, behind_attribute, behind_first, behind_list, behind_name}
-use Rattle.ov_dot.specs.Code.Diagram.{behind_node, behind_port, behind_value, follows, heading, name_to, opening, statement}
-use Rattle.ov_dot.specs.Code.Diagram.{list_opening, title_to, value}
+use Rattle.ov_dot.specs.Code.Diagram.{behind_node, behind_port, behind_value, follows, heading, list_opening}
+use Rattle.ov_dot.specs.Code.Diagram.{name_to, opening, statement, title_to, value}
 use Rattle.ov_dot.specs.Sayings.{Said, nothing_said}
 use Rattle.ov_dot.specs.Code.Statements.{Reading, at_beginning, depth_behind, directed_behind, ended, is_wrong_edge}
 use Rattle.ov_dot.specs.Code.Statements.{moved, place_behind, read_on, said_behind, statements_of, step_to}

@@ -382,11 +382,13 @@ own_reason false false false true before r kind b o h w s =
           inl (inl (opens_of kind both.0, b.edge both.1))
       | inr ends ↦
           let both = and_parts (is_edge kind) (in_statements r.place) ends in
-          let tests = and_parts (leads (follows r.place CloseBrace)) (not (leads (follows r.place OpenBracket))) both.1 in
+          let closes = leads (follows r.place CloseBrace) in
+          let lists = leads (follows r.place OpenBracket) in
+          let tests = and_parts closes (not lists) both.1 in
           inl (inr (
             edge_of kind both.0,
             b.may CloseBrace (ap (λ v. v && true) tests.0),
-            b.never OpenBracket (ap (λ v. v && true) (is_false (leads (follows r.place OpenBracket)) tests.1)),
+            b.never OpenBracket (ap (λ v. v && true) (is_false lists tests.1)),
           ))
     ]
 own_reason false false false false before r kind b o h w s =

@@ -1,7 +1,7 @@
 ghost use Rattle.std.specs.Prelude.{◌≡◌};
-ghost use Rattle.ov_dot.specs.Code.Diagram.{attribute, beginning, behind_attribute, behind_first, behind_list, behind_name};
-ghost use Rattle.ov_dot.specs.Code.Diagram.{behind_node, behind_port, behind_value, follows, heading, list_opening, name_to};
-ghost use Rattle.ov_dot.specs.Code.Diagram.{opening, statement, title_to, value};
+ghost use Rattle.ov_dot.specs.Code.Diagram.{attribute, beginning, behind_attribute, behind_first, behind_list};
+ghost use Rattle.ov_dot.specs.Code.Diagram.{behind_name, behind_node, behind_port, behind_value, follows, heading};
+ghost use Rattle.ov_dot.specs.Code.Diagram.{list_opening, name_to, opening, statement, title_to, value};
 ghost use Rattle.ov_dot.specs.Code.PlaceReasons.{lacking, no_end, no_statement, not_wanted, why_not};
 
 use crate::fault::Why;
