@@ -2,6 +2,7 @@
 #![tactic(auto)]
 
 mod dump_printing;
+mod entry_listing;
 mod file_command_fault;
 mod graph_printing;
 mod picture_printing;

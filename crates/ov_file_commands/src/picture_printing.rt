@@ -6,9 +6,11 @@ ghost use Rattle.ov_file_commands.specs.Pictures.{WasPicturePrinted, NamesGraph,
 ghost use Rattle.ov_file_commands.specs.Code.Endings.{IsNotHeld, IsNotNamed};
 ghost use Rattle.ov_file_commands.specs.declared.file_command_fault.FileCommandFault.TheVariants as ended;
 
+use crate::entry_listing::entries_of;
 use crate::file_command_fault::FileCommandFault;
 use crate::graph_printing::{told, written};
 use ov_arguments::{AskedEntry, PictureRequest};
+use ov_cert::Cert;
 use ov_certfile::Filed;
 use ov_check::{Outcome, outcome_of};
 use ov_check_reasons::reasons;
@@ -49,11 +51,12 @@ pub fn print_picture<W: Write>(
     let drawing = match draw(
         rt.alloc(),
         &filed.graph,
+        filed.group.as_slice(),
         &filed.cert,
         chosen(&request.entry),
     ) {
         Ok(drawing) => drawing,
-        Err(fault) => return Err(not_drawn(rt, fault)),
+        Err(fault) => return Err(not_drawn(rt, &filed.cert, fault)),
     };
     match picture_text(rt, &filed.graph, &drawing, names, request.dot) {
         Ok(text) => written(rt, text.as_bytes(), sink),
@@ -100,18 +103,20 @@ fn chosen(entry: &Option<AskedEntry>) -> Option<ChosenEntry>
     }
 }
 
-/// Ends since nothing is drawn. Prints why.
-fn not_drawn(rt: &HostRuntime, fault: PictureFault) -> FileCommandFault
+/// Ends since nothing is drawn of this certificate. Prints why, and which entries it has.
+fn not_drawn(rt: &HostRuntime, cert: &Cert, fault: PictureFault) -> FileCommandFault
     ensures memory { fault ≡ PictureFault.OutOfMemory → result ≡ ended.OutOfMemory }
     ensures entry { fault ≡ PictureFault.NoSuchEntry → result ≡ ended.Refused 86 }
 {
     match fault {
         PictureFault::OutOfMemory => told(rt, FileCommandFault::OutOfMemory),
-        PictureFault::NoSuchEntry => refused(
-            rt,
-            fault.number(),
-            "the certificate has no such entry",
-        ),
+        PictureFault::NoSuchEntry => {
+            let ended = refused(rt, fault.number(), "the certificate has no such entry");
+            if let Ok(entries) = entries_of(rt.alloc(), cert) {
+                let _ = eprintln!(rt; "{entries}");
+            }
+            ended
+        }
     }
 }
 

@@ -1,7 +1,9 @@
--- What a drawing has of a graph and a certificate: each node with its class, each link with its class and its path.
+-- What a drawing has of a graph, a group and a certificate: each node with its class, and whether it is a member; each
+-- link with its class and its path.
 use Rattle.std.specs.Prelude.{◌≡◌, ◌≢◌, ◌⊎◌, ℕ, List, ◌∷◌, ◌++◌, map, take, slice_get, Option, Some, None}
 use Rattle.std.specs.List.{AllZip}
 use Rattle.ov_ids.specs.Members.{Has}
+use Rattle.ov_ids.specs.Sets.{has}
 use Rattle.ov_graph.specs.Links.{LinkGraph}
 use Rattle.ov_cert.specs.declared.cert.Cert.{Cert}
 use Rattle.ov_picture.specs.declared.drawing.DrawnNode.{DrawnNode}
@@ -21,9 +23,10 @@ IsPathOn ps l None = (p : List ℕ) → Has ps p → ¬ GoesAlong p l
 IsPathOn ps l (Some at) = (p : List ℕ) × (slice_get ps at ≡ Some p) × GoesAlong p l
     × ((q : List ℕ) → Has (take at ps) q → ¬ GoesAlong q l)
 
--- each node of the graph is there once, in order, with the class that the certificate gives it
-abbrev pub DrawsNodes : LinkGraph → Cert → List DrawnNode → Type 0
-DrawsNodes g c drawn = drawn ≡ map (λ n. record { id = n; class = class_of c n }) g.nodes
+-- each node of the graph is there once, in order, with the class that the certificate gives it; it is a member exactly
+-- if it is in the group q
+abbrev pub DrawsNodes : LinkGraph → List ℕ → Cert → List DrawnNode → Type 0
+DrawsNodes g q c drawn = drawn ≡ map (λ n. record { id = n; class = class_of c n; is_member = has q n }) g.nodes
 
 -- d draws the link l: it has its ends, the class by the classes of the ends, and the path that goes along it
 pub record DrawsLink (c : Cert) (ps : List (List ℕ)) (l : ℕ × ℕ) (d : DrawnLink) : Type 0 where

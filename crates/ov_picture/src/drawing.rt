@@ -1,5 +1,6 @@
 ghost use Rattle.std.specs.Prelude.{◌≡◌, ℕ, List, [], None, Some, length, map, IfOk, MatchResult};
 ghost use Rattle.ov_ids.specs.FaultOrder.{IsRefusedBy};
+ghost use Rattle.ov_ids.specs.Sets.{has};
 ghost use Rattle.ov_cert.specs.Valid.{k_of, IsValidForGroup};
 ghost use Rattle.ov_picture.specs.Chosen.{shown_paths};
 ghost use Rattle.ov_picture.specs.Drawn.{DrawsNodes, DrawsLinks, NoneAcross};
@@ -23,6 +24,8 @@ use std::alloc::Global;
 pub struct DrawnNode {
     pub id: NodeId,
     pub class: NodeClass,
+    /// Whether the node is a member of the group.
+    pub is_member: bool,
 }
 
 /// A link of a picture, its lower end first.
@@ -35,7 +38,7 @@ pub struct DrawnLink {
     pub path: Option<usize>,
 }
 
-/// What a picture shows of a graph and a certificate.
+/// What a picture shows of a graph, a group and a certificate.
 #[derive(Debug, Drop)]
 pub struct Drawing {
     /// The number that the certificate claims.
@@ -50,17 +53,18 @@ pub struct Drawing {
     pub paths: usize,
 }
 
-/// The drawing of a graph with a certificate, and with the paths of an entry if one is chosen. It is not checked
-/// whether the certificate is valid; if it is valid for some group, no link leads across. NoSuchEntry (86): the
-/// certificate has no such entry. OutOfMemory (99): an allocation was refused.
+/// The drawing of a graph with a group and a certificate, and with the paths of an entry if one is chosen. It is not
+/// checked whether the certificate is valid for this group; if it is valid for some group, no link leads across.
+/// NoSuchEntry (86): the certificate has no such entry. OutOfMemory (99): an allocation was refused.
 pub fn draw(
     alloc: Global,
     graph: &Graph,
+    group: &[NodeId],
     cert: &Cert,
     entry: Option<ChosenEntry>,
 ) -> Result<Drawing, PictureFault>
     ensures k { IfOk result (λ d. d.k ≡ k_of cert.now) }
-    ensures nodes { IfOk result (λ d. DrawsNodes graph.now cert.now d.nodes) }
+    ensures nodes { IfOk result (λ d. DrawsNodes graph.now group.now cert.now d.nodes) }
     ensures links { IfOk result (λ d. (ps : List (List ℕ)) × (shown_paths cert.now entry ≡ Some ps)
         × (d.paths ≡ length ps) × DrawsLinks graph.now cert.now ps d.links) }
     ensures parted { IfOk result (λ d. (q : List ℕ) → IsValidForGroup graph.now q cert.now → NoneAcross d.links) }
@@ -69,37 +73,43 @@ pub fn draw(
         (IsRefusedBy out_of_memory (PictureJudged cert.now entry)) }
 {
     let Some(chosen) = entry else {
-        return Ok(plain_drawing(alloc, graph, cert)?);
+        return Ok(plain_drawing(alloc, graph, group, cert)?);
     };
     match entry_paths(cert, chosen) {
-        Some(paths) => Ok(drawing_of(alloc, graph, cert, Some(chosen), paths)?),
+        Some(paths) => Ok(drawing_of(alloc, graph, group, cert, Some(chosen), paths)?),
         None => Err(PictureFault::NoSuchEntry),
     }
 }
 
 /// The drawing of a graph with a certificate, without paths.
-fn plain_drawing(alloc: Global, graph: &Graph, cert: &Cert) -> Result<Drawing, OutOfMemory>
+fn plain_drawing(
+    alloc: Global,
+    graph: &Graph,
+    group: &[NodeId],
+    cert: &Cert,
+) -> Result<Drawing, OutOfMemory>
     ensures k { IfOk result (λ d. d.k ≡ k_of cert.now) }
-    ensures nodes { IfOk result (λ d. DrawsNodes graph.now cert.now d.nodes) }
+    ensures nodes { IfOk result (λ d. DrawsNodes graph.now group.now cert.now d.nodes) }
     ensures links { IfOk result (λ d. DrawsLinks graph.now cert.now [] d.links) }
     ensures parted { IfOk result (λ d. (q : List ℕ) → IsValidForGroup graph.now q cert.now → NoneAcross d.links) }
     ensures entry { IfOk result (λ d. d.entry ≡ None) }
     ensures paths { IfOk result (λ d. d.paths ≡ 0) }
 {
     let none = Paths::new(alloc);
-    drawing_of(alloc, graph, cert, None, &none)
+    drawing_of(alloc, graph, group, cert, None, &none)
 }
 
 /// The drawing of a graph with a certificate and with these paths.
 fn drawing_of(
     alloc: Global,
     graph: &Graph,
+    group: &[NodeId],
     cert: &Cert,
     entry: Option<ChosenEntry>,
     paths: &Paths,
 ) -> Result<Drawing, OutOfMemory>
     ensures k { IfOk result (λ d. d.k ≡ k_of cert.now) }
-    ensures nodes { IfOk result (λ d. DrawsNodes graph.now cert.now d.nodes) }
+    ensures nodes { IfOk result (λ d. DrawsNodes graph.now group.now cert.now d.nodes) }
     ensures links { IfOk result (λ d. DrawsLinks graph.now cert.now paths.now d.links) }
     ensures parted { IfOk result (λ d. (q : List ℕ) → IsValidForGroup graph.now q cert.now → NoneAcross d.links) }
     ensures entry { IfOk result (λ d. d.entry ≡ entry) }
@@ -107,7 +117,7 @@ fn drawing_of(
 {
     let classes = Classes::new(alloc, cert)?;
     let numbers = path_numbers(alloc, paths)?;
-    let nodes = drawn_nodes(alloc, graph.nodes(), &classes)?;
+    let nodes = drawn_nodes(alloc, graph.nodes(), group, &classes)?;
     let links = drawn_links(alloc, graph, &classes, &numbers)?;
     Ok(Drawing {
         k: claimed(cert),
@@ -128,22 +138,31 @@ fn claimed(cert: &Cert) -> u32
     }
 }
 
-/// These nodes with their classes.
+/// These nodes with their classes, members of the group or not.
 fn drawn_nodes(
     alloc: Global,
     nodes: &[NodeId],
+    group: &[NodeId],
     classes: &Classes,
 ) -> Result<Vec<DrawnNode>, OutOfMemory>
-    ensures { IfOk result (λ drawn. drawn.items ≡ map (node_by classes.now) nodes.now) }
+    ensures { IfOk result (λ drawn. drawn.items ≡ map (node_by classes.now group.now) nodes.now) }
 {
     let mut drawn = Vec::with_capacity(alloc, nodes.len())?;
     for id in nodes {
         drawn.push(DrawnNode {
             id: *id,
             class: classes.of(*id),
+            is_member: has(group, *id),
         })?;
     }
     Ok(drawn)
+}
+
+/// Whether an id is among these.
+fn has(ids: &[NodeId], id: NodeId) -> bool
+    ensures { result ≡ has ids.now id }
+{
+    ids.iter().any(|other| *other == id)
 }
 
 /// The links of a graph with their classes and their paths.

@@ -1,29 +1,30 @@
 use crate::class_names::{link_class_name, node_class_name};
 use crate::escaped_texts::push_dot;
+use crate::headings::broken;
 use crate::labels::Labels;
-use crate::layout::{Layout, layout_of};
+use crate::layout::{Layout, Plan};
 use crate::path_colours::light_colour;
-use crate::sentences::sentence_of;
+use crate::sentences::{members_of, sentence_of};
 use ov_ids::OutOfMemory;
 use ov_picture::{Drawing, DrawnLink, DrawnNode, LinkClass, NodeClass};
 use std::alloc::{AllocError, Global};
 use std::fmt::Write;
 
 /// A drawing in DOT, the language of Graphviz: each node by its id with its class, its label and a colour, each link
-/// with its class, and with the number of the path that goes along it, from 1. The places (`pos`) are those of the
-/// picture as SVG, for `neato -n`. `names` are the labels of the nodes, in their order; a node without one is labelled
-/// by its id. OutOfMemory (99): an allocation was refused.
+/// with its class, and with the number of the path that goes along it, from 1. A node that is no member of the group is
+/// hollow, and has the class `no-member` too. The places (`pos`) are those of the picture as SVG, for `neato -n`.
+/// `names` are the labels of the nodes, in their order; a node without one is labelled by its id. OutOfMemory (99): an
+/// allocation was refused.
 pub fn dot(
     alloc: Global,
     drawing: &Drawing,
     names: &[Option<&str>],
 ) -> Result<String, OutOfMemory> {
     let labels = Labels::new(alloc, drawing, names)?;
-    let layout = layout_of(alloc, drawing, &labels, 0.0)?;
-    let sentence = sentence_of(alloc, drawing, &labels)?;
+    let layout = Plan::new(alloc, drawing, &labels)?.layout(alloc, 0.0)?;
     let mut text = String::new(alloc);
     text.push_str("graph overlay {\n  graph [label=\"")?;
-    push_dot(&mut text, sentence.as_str())?;
+    push_heading(alloc, &mut text, drawing, &labels)?;
     text.push_str("\", outputorder=edgesfirst];\n  node [style=filled];\n")?;
     push_nodes(&mut text, drawing, &layout, &labels)?;
     for link in drawing.links.as_slice() {
@@ -31,6 +32,38 @@ pub fn dot(
     }
     text.push_str("}\n")?;
     Ok(text)
+}
+
+/// Appends what the picture shows, and who is a member unless all nodes are, in lines.
+fn push_heading(
+    alloc: Global,
+    text: &mut String,
+    drawing: &Drawing,
+    labels: &Labels,
+) -> Result<(), AllocError> {
+    let sentence = sentence_of(alloc, drawing, labels)?;
+    push_heading_lines(alloc, text, sentence.as_str(), "")?;
+    if let Some(members) = members_of(alloc, drawing)? {
+        push_heading_lines(alloc, text, members.as_str(), "\\n")?;
+    }
+    Ok(())
+}
+
+/// Appends a text in lines of a label, after this sign.
+fn push_heading_lines(
+    alloc: Global,
+    text: &mut String,
+    told: &str,
+    sign: &str,
+) -> Result<(), AllocError> {
+    text.push_str(sign)?;
+    for (at, line) in broken(alloc, told, f64::MAX)?.iter().enumerate() {
+        if at > 0 {
+            text.push_str("\\n")?;
+        }
+        push_dot(text, line.as_str())?;
+    }
+    Ok(())
 }
 
 /// Appends the nodes, each with its place.
@@ -62,9 +95,16 @@ fn push_node(text: &mut String, node: DrawnNode) -> Result<(), AllocError> {
     } else {
         "ellipse"
     };
+    if node.is_member {
+        return write!(
+            text,
+            "  {id} [class=\"{class}\", fillcolor=\"{colour}\", shape={shape}, label=\""
+        );
+    }
+    let edge = edge_colour(node.class);
     write!(
         text,
-        "  {id} [class=\"{class}\", fillcolor=\"{colour}\", shape={shape}, label=\""
+        "  {id} [class=\"{class} no-member\", fillcolor=\"#ffffff\", color=\"{edge}\", penwidth=2, shape={shape}, label=\""
     )
 }
 
@@ -97,6 +137,16 @@ fn node_colour(class: NodeClass) -> &'static str {
         NodeClass::Cut => "#ff8c42",
         NodeClass::Far => "#3ddbb0",
         NodeClass::FarSide => "#c8f7e6",
+    }
+}
+
+/// The colour of the edge of a node of this class that is no member.
+fn edge_colour(class: NodeClass) -> &'static str {
+    match class {
+        NodeClass::Unparted => "#5b6770",
+        NodeClass::Near | NodeClass::NearSide => "#2b8fcb",
+        NodeClass::Cut => "#d55e00",
+        NodeClass::Far | NodeClass::FarSide => "#17a67c",
     }
 }
 

@@ -15,9 +15,6 @@ const APART_OF_RING: f64 = 0.3;
 /// How far what is drawn is from the edges, without labels.
 const MARGIN: f64 = 48.0;
 
-/// How high the heading is.
-const HEADING: f64 = 112.0;
-
 /// How high the room for nodes is at least.
 const LOWEST: f64 = 180.0;
 
@@ -104,38 +101,64 @@ impl Parts {
     }
 }
 
-/// Where everything of a drawing stands: the near side to the left with near at its left end, the cut in the middle,
-/// the other survivors to the right with far at their right end; or all nodes on one ring, if the certificate parts
-/// none. `line` is the width of the longest line of text.
-pub(crate) fn layout_of(
-    alloc: Global,
-    drawing: &Drawing,
-    labels: &Labels,
-    line: f64,
-) -> Result<Layout, AllocError> {
-    let nodes = drawing.nodes.as_slice().len();
-    let bands = Bands::new(alloc, drawing.nodes.as_slice())?;
-    let (apart, reach) = sizes_of(nodes, labels);
-    let parts = Parts::new(&bands, labels, apart);
-    let margin = if labels.are_turned() {
-        parts.margin
-    } else {
-        MARGIN
-    };
-    let width = parts.width().max(NARROWEST).max(line);
-    let middles = parts.middles(width);
-    let middle = HEADING + margin + parts.height() / 2.0;
-    let mut layout = Layout {
-        width,
-        top: HEADING,
-        bottom: middle + parts.height() / 2.0 + margin,
-        places: unplaced(alloc, nodes)?,
-        cut: parts.cut,
-        reach,
-        middles,
-    };
-    layout.put_parts(&bands, parts, middle);
-    Ok(layout)
+/// The parts of a picture, with their sizes.
+#[derive(Drop)]
+pub(crate) struct Plan {
+    bands: Bands,
+    parts: Parts,
+    /// How far a node reaches from its middle.
+    reach: f64,
+    /// How far what is drawn is from the upper edge and from the lower one.
+    margin: f64,
+    /// How wide the picture is.
+    pub(crate) width: f64,
+    nodes: usize,
+}
+
+impl Plan {
+    /// The parts of this drawing, whose nodes have these labels.
+    pub(crate) fn new(
+        alloc: Global,
+        drawing: &Drawing,
+        labels: &Labels,
+    ) -> Result<Plan, AllocError> {
+        let nodes = drawing.nodes.as_slice().len();
+        let bands = Bands::new(alloc, drawing.nodes.as_slice())?;
+        let (apart, reach) = sizes_of(nodes, labels);
+        let parts = Parts::new(&bands, labels, apart);
+        let margin = if labels.are_turned() {
+            parts.margin
+        } else {
+            MARGIN
+        };
+        Ok(Plan {
+            bands,
+            parts,
+            reach,
+            margin,
+            width: parts.width().max(NARROWEST),
+            nodes,
+        })
+    }
+
+    /// Where everything stands below a heading that ends at this height: the near side to the left with near at its
+    /// left end, the cut in the middle, the other survivors to the right with far at their right end; or all nodes on
+    /// one ring, if the certificate parts none.
+    pub(crate) fn layout(&self, alloc: Global, top: f64) -> Result<Layout, AllocError> {
+        let height = self.parts.height();
+        let middle = top + self.margin + height / 2.0;
+        let mut layout = Layout {
+            width: self.width,
+            top,
+            bottom: middle + height / 2.0 + self.margin,
+            places: unplaced(alloc, self.nodes)?,
+            cut: self.parts.cut,
+            reach: self.reach,
+            middles: self.parts.middles(self.width),
+        };
+        layout.put_parts(&self.bands, self.parts, middle);
+        Ok(layout)
+    }
 }
 
 impl Layout {

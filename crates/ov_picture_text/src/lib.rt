@@ -7,6 +7,7 @@ mod columns;
 mod dot_writing;
 mod escaped_texts;
 mod geometry;
+mod headings;
 mod labels;
 mod layout;
 mod path_colours;

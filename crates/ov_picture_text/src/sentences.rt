@@ -87,6 +87,26 @@ pub(crate) fn counts_of(alloc: Global, drawing: &Drawing) -> Result<String, Allo
     format!(in alloc; "{nodes} {node_word}, {links} {link_word}, k = {k}{claim}")
 }
 
+/// Who is a member of the group, unless all nodes are.
+pub(crate) fn members_of(alloc: Global, drawing: &Drawing) -> Result<Option<String>, AllocError> {
+    let nodes = drawing.nodes.as_slice();
+    let others = outside(nodes);
+    if others == 0 {
+        return Ok(None);
+    }
+    let all = nodes.len();
+    let members = all.saturating_sub(others);
+    let text = format!(in alloc;
+        "{members} of the {all} nodes are members of the group, and only they count; the others are hollow"
+    )?;
+    Ok(Some(text))
+}
+
+/// How many nodes are no members of the group.
+pub(crate) fn outside(nodes: &[DrawnNode]) -> usize {
+    nodes.iter().filter(|node| !node.is_member).count()
+}
+
 /// What the paths of the chosen entry are, if one is chosen.
 pub(crate) fn paths_of(
     alloc: Global,

@@ -1,7 +1,7 @@
 use crate::geometry::{Place, RIGHT, number};
 use crate::layout::Layout;
 use crate::path_colours::{colour_of, dashes_of};
-use crate::sentences::count_of;
+use crate::sentences::{count_of, outside};
 use crate::svg_nodes::push_node;
 use ov_ids::NodeId;
 use ov_picture::{Drawing, DrawnNode, NodeClass};
@@ -42,11 +42,13 @@ const CLASSES: [(NodeClass, &str, &str); 6] = [
 
 /// How high the legend of a drawing is, in a picture of this width.
 pub(crate) fn legend_height(drawing: &Drawing, width: f64) -> f64 {
+    let nodes = drawing.nodes.as_slice();
     let classes = CLASSES
         .iter()
-        .filter(|(class, _, _)| count_of(drawing.nodes.as_slice(), *class) > 0)
+        .filter(|(class, _, _)| count_of(nodes, *class) > 0)
         .count();
-    let lines = lines_of(classes, ITEM, width) + lines_of(named_paths(drawing), PATH_ITEM, width);
+    let items = classes.saturating_add(outside(nodes).min(1));
+    let lines = lines_of(items, ITEM, width) + lines_of(named_paths(drawing), PATH_ITEM, width);
     lines * LINE + EDGE
 }
 
@@ -89,9 +91,16 @@ pub(crate) fn push_class_items(
         if nodes > 0 {
             let place = item_place(items, ITEM, layout.width, layout.bottom);
             let name = if nodes == 1 { one } else { several };
-            push_item(text, class, place, nodes, name)?;
+            push_item(text, sign_of(class, true), place, nodes, name)?;
             items = items.saturating_add(1);
         }
+    }
+    let others = outside(drawing.nodes.as_slice());
+    if others > 0 {
+        let place = item_place(items, ITEM, layout.width, layout.bottom);
+        let sign = sign_of(NodeClass::Unparted, false);
+        push_item(text, sign, place, others, "not in the group")?;
+        items = items.saturating_add(1);
     }
     text.push_str("</g>\n")?;
     Ok(layout.bottom + lines_of(items, ITEM, layout.width) * LINE)
@@ -112,18 +121,24 @@ pub(crate) fn push_path_items(
     text.push_str("</g>\n")
 }
 
-/// Appends the sign of a class, with how many nodes it has.
+/// The sign of the members of a class, or of its other nodes.
+fn sign_of(class: NodeClass, is_member: bool) -> DrawnNode {
+    DrawnNode {
+        id: NodeId::new(0),
+        class,
+        is_member,
+    }
+}
+
+/// Appends a sign, with how many nodes are meant.
 fn push_item(
     text: &mut String,
-    class: NodeClass,
+    sign: DrawnNode,
     place: Place,
     nodes: usize,
     name: &str,
 ) -> Result<(), AllocError> {
-    let sign = DrawnNode {
-        id: NodeId::new(0),
-        class,
-    };
+    let class = sign.class;
     push_node(text, sign, place, REACH, false)?;
     text.push_str(if class == NodeClass::Cut {
         "</rect>"

@@ -88,7 +88,11 @@ pub(crate) fn push_node(
 ) -> Result<(), AllocError> {
     let Place { x, y, .. } = place;
     let class = node_class_name(node.class);
-    let more = if chosen { " chosen" } else { "" };
+    let more = match (node.is_member, chosen) {
+        (false, _) => " no-member",
+        (true, true) => " chosen",
+        (true, false) => "",
+    };
     let reach = reach_of(node.class, reach);
     if node.class == NodeClass::Cut {
         let left = x - reach;
@@ -109,7 +113,8 @@ pub(crate) fn push_node(
 fn push_tip(text: &mut String, node: DrawnNode, name: &str) -> Result<(), AllocError> {
     let id = node.id.number();
     let class = node_class_name(node.class);
-    write!(text, "<title>node {id} ({class}): ")?;
+    let outside = if node.is_member { "" } else { ", no member" };
+    write!(text, "<title>node {id} ({class}{outside}): ")?;
     push_xml(text, name)?;
     text.push_str(if node.class == NodeClass::Cut {
         "</title></rect>\n"

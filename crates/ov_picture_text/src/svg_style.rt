@@ -25,6 +25,11 @@ text{font-family:system-ui,sans-serif;font-size:12.5px;fill:#1f2933;unicode-bidi
 .nodes .far-side{fill:#17a67c}
 .nodes .unparted{fill:#5b6770}
 .nodes .chosen{stroke:#111111;stroke-width:3}
+.nodes .no-member{fill:#ffffff;stroke-width:1.8}
+.nodes .near-side.no-member{stroke:#2b8fcb}
+.nodes .cut.no-member{stroke:#d55e00}
+.nodes .far-side.no-member{stroke:#17a67c}
+.nodes .unparted.no-member{stroke:#5b6770}
 ";
 
 /// What is otherwise on a dark ground.
@@ -46,6 +51,11 @@ text{fill:#e6eaee}
 .nodes .far-side{fill:#3ddbb0}
 .nodes .unparted{fill:#98a4ae}
 .nodes .chosen{stroke:#ffffff}
+.nodes .no-member{fill:#14181c}
+.nodes .near-side.no-member{stroke:#56b4e9}
+.nodes .cut.no-member{stroke:#ff8c42}
+.nodes .far-side.no-member{stroke:#3ddbb0}
+.nodes .unparted.no-member{stroke:#98a4ae}
 ";
 
 /// Appends the style of a picture, which is light, or dark where the reader prefers it.

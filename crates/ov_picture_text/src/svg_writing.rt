@@ -1,8 +1,8 @@
 use crate::escaped_texts::push_xml;
-use crate::geometry::number;
+use crate::headings::{EDGE, FIRST, Heading, LINES};
 use crate::labels::Labels;
-use crate::layout::{Layout, layout_of};
-use crate::sentences::{counts_of, first_of, paths_of, sentence_of};
+use crate::layout::{Layout, Plan};
+use crate::sentences::first_of;
 use crate::svg_legend::{legend_height, push_class_items, push_path_items};
 use crate::svg_links::{Layer, push_path_links, push_plain_links};
 use crate::svg_nodes::{push_labels, push_shapes};
@@ -12,42 +12,9 @@ use ov_picture::{Drawing, NodeClass};
 use std::alloc::{AllocError, Global};
 use std::fmt::Write;
 
-/// How wide a letter of the heading is, and of the lines below it.
-const LETTERS: (f64, f64) = (10.8, 6.9);
-
-/// How far texts are from the left edge.
-const EDGE: f64 = 24.0;
-
-/// What is written above a picture.
-#[derive(Drop)]
-struct Heading {
-    sentence: String,
-    counts: String,
-    paths: Option<String>,
-}
-
-impl Heading {
-    /// What is written above this drawing, whose nodes have these labels.
-    fn new(alloc: Global, drawing: &Drawing, labels: &Labels) -> Result<Heading, AllocError> {
-        Ok(Heading {
-            sentence: sentence_of(alloc, drawing, labels)?,
-            counts: counts_of(alloc, drawing)?,
-            paths: paths_of(alloc, drawing, labels)?,
-        })
-    }
-
-    /// How wide the longest line is, with the room beside it.
-    fn width(&self) -> f64 {
-        let (large, small) = LETTERS;
-        let paths = self.paths.as_ref().map_or(0, |paths| paths.len());
-        let below = number(self.counts.len().max(paths)) * small;
-        (number(self.sentence.len()) * large).max(below) + 2.0 * EDGE
-    }
-}
-
 /// A drawing as SVG: the near side to the left, the cut in the middle, the other survivors to the right; or all nodes
 /// on a ring, if the certificate is linked. Links have the colour of their class, or that of the path that goes along
-/// them. `names` are the labels of the nodes, in their order; a node without one is labelled by its id. The picture is
+/// them. A node that is no member of the group is hollow. `names` are the labels of the nodes, in their order; a node without one is labelled by its id. The picture is
 /// light, or dark where the reader prefers it, and has no scripts. OutOfMemory (99): an allocation was refused.
 pub fn svg(
     alloc: Global,
@@ -55,10 +22,9 @@ pub fn svg(
     names: &[Option<&str>],
 ) -> Result<String, OutOfMemory> {
     let labels = Labels::new(alloc, drawing, names)?;
-    let heading = Heading::new(alloc, drawing, &labels)?;
-    let layout = layout_of(alloc, drawing, &labels, heading.width())?;
+    let plan = Plan::new(alloc, drawing, &labels)?;
     let mut text = String::new(alloc);
-    push_head(&mut text, drawing, &layout, &heading)?;
+    let layout = push_head(alloc, &mut text, drawing, &labels, &plan)?;
     push_parts(&mut text, drawing, &layout)?;
     push_plain_links(&mut text, drawing, &layout, Layer::Lasting)?;
     push_plain_links(&mut text, drawing, &layout, Layer::Parting)?;
@@ -72,50 +38,61 @@ pub fn svg(
     Ok(text)
 }
 
-/// Appends what comes before all that is drawn.
+/// Appends what comes before all that is drawn. Returns where everything stands.
 fn push_head(
+    alloc: Global,
     text: &mut String,
     drawing: &Drawing,
-    layout: &Layout,
-    heading: &Heading,
-) -> Result<(), AllocError> {
+    labels: &Labels,
+    plan: &Plan,
+) -> Result<Layout, AllocError> {
+    let heading = Heading::new(alloc, drawing, labels, plan.width)?;
+    let layout = plan.layout(alloc, heading.height())?;
     let width = layout.width;
     let height = layout.bottom + legend_height(drawing, width);
-    let Heading {
-        sentence,
-        counts,
-        paths,
-    } = heading;
     write!(
         text,
         "<svg xmlns=\"http://www.w3.org/2000/svg\" width=\"{width:.0}\" height=\"{height:.0}\" \
-         viewBox=\"0 0 {width:.0} {height:.0}\" role=\"img\">\n<title>"
+         viewBox=\"0 0 {width:.0} {height:.0}\" role=\"img\">\n"
     )?;
-    push_xml(text, sentence.as_str())?;
-    text.push_str("</title>\n<desc>")?;
-    push_xml(text, sentence.as_str())?;
-    write!(text, ". {counts}.</desc>\n")?;
+    push_described(text, &heading)?;
     push_style(text)?;
-    write!(
-        text,
-        "<rect class=\"ground\" width=\"100%\" height=\"100%\"/>\n<text class=\"heading\" x=\"{EDGE}\" y=\"36\">"
-    )?;
-    push_xml(text, sentence.as_str())?;
-    write!(
-        text,
-        "</text>\n<text x=\"{EDGE}\" y=\"60\">{counts}</text>\n"
-    )?;
-    push_paths(text, paths.as_deref())
+    text.push_str("<rect class=\"ground\" width=\"100%\" height=\"100%\"/>\n")?;
+    let (of_large, of_small) = LINES;
+    let next = push_lines(text, &heading.large, "heading", FIRST, of_large)?;
+    push_lines(text, &heading.small, "told", next, of_small)?;
+    Ok(layout)
 }
 
-/// Appends what the paths are, if any are shown.
-fn push_paths(text: &mut String, paths: Option<&str>) -> Result<(), AllocError> {
-    if let Some(paths) = paths {
-        write!(text, "<text x=\"{EDGE}\" y=\"80\">")?;
-        push_xml(text, paths)?;
-        text.push_str("</text>\n")?;
+/// Appends the title of a picture, and what it shows.
+fn push_described(text: &mut String, heading: &Heading) -> Result<(), AllocError> {
+    text.push_str("<title>")?;
+    push_xml(text, heading.sentence.as_str())?;
+    text.push_str("</title>\n<desc>")?;
+    push_xml(text, heading.sentence.as_str())?;
+    for told in &heading.told {
+        text.push_str(". ")?;
+        push_xml(text, told.as_str())?;
     }
-    Ok(())
+    text.push_str(".</desc>\n")
+}
+
+/// Appends these lines from a height on, so far from each other. Returns the height of a line after them.
+fn push_lines(
+    text: &mut String,
+    lines: &[String],
+    class: &str,
+    first: f64,
+    apart: f64,
+) -> Result<f64, AllocError> {
+    let mut y = first;
+    for line in lines {
+        write!(text, "<text class=\"{class}\" x=\"{EDGE}\" y=\"{y}\">")?;
+        push_xml(text, line.as_str())?;
+        text.push_str("</text>\n")?;
+        y += apart;
+    }
+    Ok(y)
 }
 
 /// Appends the names of the parts, unless the certificate is linked.

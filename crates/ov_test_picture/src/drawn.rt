@@ -49,6 +49,19 @@ fn classes_of_the_square(rt: HostRuntime) -> Result<(), Fail> {
     Ok(())
 }
 
+/// A node is drawn as a member exactly if it is in the group.
+#[test]
+fn members_of_the_square(rt: HostRuntime) -> Result<(), Fail> {
+    let drawing = drawn_square(rt.alloc(), None).ok().ok_or("no drawing")?;
+    let nodes = drawing.nodes.as_slice();
+    assert!(rt;
+        nodes
+            .iter()
+            .all(|node| node.is_member == (node.id != NodeId(2)))
+    );
+    Ok(())
+}
+
 /// A link has the path of the chosen entry that goes along it. An entry that there is not is refused.
 #[test]
 fn paths_of_an_entry(rt: HostRuntime) -> Result<(), Fail> {

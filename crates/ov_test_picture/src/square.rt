@@ -6,6 +6,9 @@ use ov_paths::Paths;
 use ov_picture::{ChosenEntry, Drawing, PictureFault, draw};
 use std::alloc::Global;
 
+/// The group: all nodes but 2.
+pub(crate) const MEMBERS: [NodeId; 3] = [NodeId(1), NodeId(3), NodeId(4)];
+
 /// The graph.
 fn graph(alloc: Global) -> Result<Graph, GraphFault> {
     let nodes = [NodeId(1), NodeId(2), NodeId(3), NodeId(4)];
@@ -59,7 +62,7 @@ pub(crate) fn drawn_square(
 ) -> Result<Drawing, PictureFault> {
     let cert = cert(alloc)?;
     match graph(alloc) {
-        Ok(graph) => draw(alloc, &graph, &cert, entry),
+        Ok(graph) => draw(alloc, &graph, &MEMBERS, &cert, entry),
         Err(_) => Err(PictureFault::OutOfMemory),
     }
 }
@@ -68,7 +71,7 @@ pub(crate) fn drawn_square(
 pub(crate) fn drawn_pair(alloc: Global) -> Result<Drawing, PictureFault> {
     let links = [(NodeId(1), NodeId(2))];
     match Graph::new(alloc, &[NodeId(1), NodeId(2)], &links) {
-        Ok(graph) => draw(alloc, &graph, &Cert::Linked { k: 1 }, None),
+        Ok(graph) => draw(alloc, &graph, graph.nodes(), &Cert::Linked { k: 1 }, None),
         Err(_) => Err(PictureFault::OutOfMemory),
     }
 }

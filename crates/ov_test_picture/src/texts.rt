@@ -30,6 +30,22 @@ fn square_as_svg(rt: HostRuntime) -> Result<(), Fail> {
     Ok(())
 }
 
+/// Nodes outside the group are hollow, and say so. If all nodes are members, nothing tells of a group.
+#[test]
+fn group_in_svg(rt: HostRuntime) -> Result<(), Fail> {
+    let drawing = drawn_square(rt.alloc(), None).ok().ok_or("no drawing")?;
+    let picture = svg(rt.alloc(), &drawing, &[]).ok().ok_or("no picture")?;
+    let text = picture.as_str();
+    assert!(rt; text.contains("<title>node 2 (cut, no member): 2</title>"));
+    assert!(rt; text.contains("<title>node 4 (cut): 4</title>"));
+    assert!(rt; text.contains(">3 of the 4 nodes are members of the group, and only they count;"));
+    assert!(rt; text.contains(">1 not in the group</text>"));
+    let whole = drawn_pair(rt.alloc()).ok().ok_or("no drawing")?;
+    let picture = svg(rt.alloc(), &whole, &[]).ok().ok_or("no picture")?;
+    assert_eq!(rt; picture.as_str().matches("group").count(), 0);
+    Ok(())
+}
+
 /// Names are written as XML wants them, control characters by their codes. Labels are short, tips are whole.
 #[test]
 fn names_in_svg(rt: HostRuntime) -> Result<(), Fail> {
@@ -68,7 +84,12 @@ fn square_as_dot(rt: HostRuntime) -> Result<(), Fail> {
     assert!(rt; text.contains("label=\"a<b>&amp;\\\"c\\\"'\\\\u{7}\""));
     assert!(rt;
         text.contains(
-            "2 [class=\"cut\", fillcolor=\"#ff8c42\", shape=box, label=\"x\\\\\\\"y&amp;\""
+            "2 [class=\"cut no-member\", fillcolor=\"#ffffff\", color=\"#d55e00\", penwidth=2, shape=box, label=\"x\\\\\\\"y&amp;\""
+        )
+    );
+    assert!(rt;
+        text.contains(
+            "4 [class=\"cut\", fillcolor=\"#ff8c42\", shape=box, label=\"a name that is far too long for a label\""
         )
     );
     assert!(rt; text.contains("1 -- 2 [class=\"side-to-cut\", color=\"#e08a4b\"];"));

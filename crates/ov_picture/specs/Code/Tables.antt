@@ -1,8 +1,9 @@
 -- What is drawn of a node and of a link by the tables that code looks them up in.
-use Rattle.std.specs.Prelude.{ℕ}
+use Rattle.std.specs.Prelude.{ℕ, List}
 use Rattle.std.specs.Option.{unwrap_or}
 use Rattle.std.specs.Ordering.{nat_cmp}
 use Rattle.std.specs.BTreeMap.{BTreeMap, get}
+use Rattle.ov_ids.specs.Sets.{has}
 use Rattle.ov_picture.specs.declared.classes.NodeClass.{NodeClass}
 use Rattle.ov_picture.specs.declared.drawing.DrawnNode.{DrawnNode}
 use Rattle.ov_picture.specs.declared.drawing.DrawnLink.{DrawnLink}
@@ -14,9 +15,9 @@ use Rattle.ov_picture.specs.Code.PathTests.{link_cmp}
 abbrev pub class_in : Classes → ℕ → NodeClass
 class_in classes n = unwrap_or (get nat_cmp classes.named n) classes.other
 
--- a node as it is drawn
-abbrev pub node_by : Classes → ℕ → DrawnNode
-node_by classes n = record { id = n; class = class_in classes n }
+-- a node as it is drawn beside the group q
+abbrev pub node_by : Classes → List ℕ → ℕ → DrawnNode
+node_by classes q n = record { id = n; class = class_in classes n; is_member = has q n }
 
 -- a link as it is drawn
 abbrev pub link_by : Classes → BTreeMap (ℕ × ℕ) ℕ → ℕ × ℕ → DrawnLink

@@ -4,4 +4,4 @@ use Rattle.ov_picture.specs.Code.Tables.{node_by}
 use Rattle.ov_picture.proofs.drawing.drawn_nodes.Given as goal
 
 abbrev pub invariant-loop-id : goal.invariant-loop-id
-invariant-loop-id l = l.drawn.items ≡ map (node_by l.classes) (take l.id-index l.nodes)
+invariant-loop-id l = l.drawn.items ≡ map (node_by l.classes l.group) (take l.id-index l.nodes)
