@@ -25,9 +25,9 @@ pub record EndInEdge (tokens : List Lexeme) : Type 0 where
   pub is_edge : IsEdge edge.kind
 
 -- what a token of this kind is refused for behind these tokens, whatever is lacking there. BehindGraph: they are a
--- whole file. HtmlText: it is an HTML text, and they are none. WrongEdge: it is an edge where one may come, so one of
--- the other kind of graph. SubgraphAsEnd: it begins a subgraph right behind an edge; or it is an edge with which a
--- statement would begin: where a brace may close, and no list of attributes may begin
+-- whole file. HtmlText: it is an HTML text, and they are no whole file. WrongEdge: it is an edge where one may come, so
+-- one of the other kind of graph. SubgraphAsEnd: it begins a subgraph right behind an edge; or it is an edge with which
+-- a statement would begin: where a brace may close, and no list of attributes may begin
 abbrev pub HasReason : List Lexeme → Kind → Why → Type 0
 HasReason before kind BehindGraph = AreFile before
 HasReason before kind HtmlText = (kind ≡ Html) × ¬ AreFile before
@@ -39,7 +39,7 @@ HasReason before kind why = ⊥
 
 -- what is lacking behind these tokens. A statement, where a brace may close. The beginning of a graph, or an opening
 -- brace, where one may come and no brace may close. Attributes, where their list may end, where an HTML text may be a
--- value, or where a list is to begin. A name, where one may come and none of these
+-- value, or where a list is to begin. A name, where one may come, and no opening brace, end of a list or HTML text
 abbrev pub Lack : List Lexeme → Why → Type 0
 Lack before NoStatement = MayCome before CloseBrace
 Lack before NoGraph = MayCome before Graph × ¬ MayCome before CloseBrace
