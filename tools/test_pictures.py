@@ -21,8 +21,8 @@ ROOT = pathlib.Path(__file__).resolve().parent.parent
 DOCS, DUMPS = ROOT / "docs", ROOT / "examples" / "dumps"
 OVERLAY = os.environ.get("TAGZIRK_OVERLAY")
 SVG = "{http://www.w3.org/2000/svg}"
-TIP = re.compile(r"node (\d+) \(([a-z-]+)\): (.*)")
-DOT_NODE = re.compile(r'  (\d+) \[class="([a-z-]+)", .*label="(.*)", pos="[\d.,-]+"\];')
+TIP = re.compile(r"node (\d+) \(([a-z-]+)(, no member)?\): (.*)")
+DOT_NODE = re.compile(r'  (\d+) \[class="([a-z-]+)( no-member)?", .*label="(.*)", pos="[\d.,-]+"\];')
 DOT_LINK = re.compile(r'  (\d+) -- (\d+) \[class="([a-z-]+)", color="#[0-9a-f]{6}"(?:, penwidth=3, path=(\d+))?\];')
 # What a link is, by what its ends are.
 BETWEEN = {("far", "far"): "within-far", ("near", "near"): "within-side", ("cut", "cut"): "within-cut",
@@ -36,9 +36,9 @@ def overlay(*words, given=""):
     return run.stdout.decode()
 
 
-def certificate_of(graph):
+def certificate_of(graph, *words):
     """The certificate file of a graph file."""
-    return overlay("analyse", "--certificate", given=graph).splitlines()[-1]
+    return overlay("analyse", "--certificate", *words, given=graph).splitlines()[-1]
 
 
 def picture_with_names(certificate, graph, *words):
@@ -59,6 +59,11 @@ def classes_of(said):
     found = dict.fromkeys(said["nodes"], "far-side")
     found |= dict.fromkeys(said["side"], "near-side") | dict.fromkeys(said["cut"], "cut")
     return found | {said["near"]: "near", said["far"]: "far"}
+
+
+def members_of(said):
+    """The members of the group, which is all nodes if none is said."""
+    return set(said.get("group", said["nodes"]))
 
 
 def class_of_link(classes, a, b):
@@ -101,11 +106,12 @@ class Picture:
 
     def __init__(self, text):
         self.top = xml.fromstring(text)
-        self.shapes = {}
+        self.shapes, self.members = {}, set()
         for shape in [*self.top.iter(f"{SVG}circle"), *self.top.iter(f"{SVG}rect")]:
             if (tip := shape.find(f"{SVG}title")) is not None:
-                node, kind, name = TIP.fullmatch(tip.text).groups()
+                node, kind, outside, name = TIP.fullmatch(tip.text).groups()
                 self.shapes[int(node)] = (shape, kind, name)
+                self.members |= set() if outside else {int(node)}
         self.places = {node: self.place(shape) for node, (shape, _, _) in self.shapes.items()}
         groups = self.top.findall(f"{SVG}g")
         self.links = [it for group in groups if group.get("class") == "links" for it in group]
@@ -135,8 +141,13 @@ def near_by(one, other):
 @unittest.skipUnless(OVERLAY, "TAGZIRK_OVERLAY names no program")
 class Pictures(unittest.TestCase):
     def judge_nodes(self, picture, said, names):
-        """Each node has one shape, of its class, with its name, within the picture."""
-        classes = classes_of(said)
+        """Each node has one shape, of its class, with its name, within the picture; the members alone are not hollow."""
+        classes, members = classes_of(said), members_of(said)
+        self.assertEqual(picture.members, members)
+        hollow = {node for node, (shape, _, _) in picture.shapes.items() if "no-member" in shape.get("class").split()}
+        self.assertEqual(hollow, set(said["nodes"]) - members)
+        told = [it.text for it in picture.top.iter(f"{SVG}text") if "not in the group" in (it.text or "")]
+        self.assertEqual(told, [f"{len(hollow)} not in the group"] if hollow else [])
         self.assertEqual({node: kind for node, (_, kind, _) in picture.shapes.items()}, classes)
         called = {node: names.get(node, str(node)) for node in said["nodes"]}
         self.assertEqual({node: name for node, (_, _, name) in picture.shapes.items()}, called)
@@ -185,7 +196,8 @@ class Pictures(unittest.TestCase):
     def judge_dot(self, text, said, names=None, paths=()):
         """A picture in DOT shows the certificate."""
         classes, steps, names = classes_of(said), steps_of(paths), names or {}
-        nodes = {int(at): (kind, name) for at, kind, name in DOT_NODE.findall(text)}
+        nodes = {int(at): (kind, name) for at, kind, _, name in DOT_NODE.findall(text)}
+        self.assertEqual({int(at) for at, _, outside, _ in DOT_NODE.findall(text) if not outside}, members_of(said))
         self.assertEqual(nodes, {it: (classes[it], names.get(it, str(it))) for it in said["nodes"]})
         links = [(int(a), int(b), kind, int(path or 0)) for a, b, kind, path in DOT_LINK.findall(text)]
         self.assertEqual(links, [(a, b, class_of_link(classes, a, b), steps.get((a, b), 0)) for a, b in said["links"]])
@@ -204,6 +216,27 @@ class Pictures(unittest.TestCase):
                 with self.subTest(path=path.name, words=words):
                     self.judge(overlay("picture", path, *words), said, paths=of_entry)
                     self.judge_dot(overlay("picture", path, "--dot", *words), said, paths=of_entry)
+
+    def test_groups(self):
+        graph = two_halls()
+        for group in ("1,2", "3,50,120,121", ",".join(map(str, range(1, 200, 7)))):
+            with self.subTest(group=group):
+                certificate = certificate_of(graph, "--group", group)
+                said, names = json.loads(certificate), names_in(graph)
+                self.judge(picture_with_names(certificate, graph), said, names)
+                self.judge_dot(picture_with_names(certificate, graph, "--dot"), said, names)
+
+    def test_long_names_make_no_picture_wider(self):
+        """No line has more than 90 letters, and each has room in the picture."""
+        for count in 2, 24, 200:
+            names = [f"node-{at:03}-of-a-data-centre-far-away.example.org" for at in range(count)]
+            graph = graph_of(names, zip(names, names[1:]))
+            picture = Picture(picture_with_names(certificate_of(graph), graph))
+            lines = [it for it in picture.top.findall(f"{SVG}text") if it.get("class") in ("heading", "told")]
+            self.assertLessEqual(max(len(it.text) for it in lines), 90)
+            for line in lines:
+                wide = 10.8 if line.get("class") == "heading" else 6.9
+                self.assertLess(len(line.text) * wide, float(picture.top.get("width")))
 
     def test_kept_examples(self):
         for name, dot in ("picture", False), ("picture-dot", True):

@@ -104,7 +104,8 @@ fn push_node(text: &mut String, node: DrawnNode) -> Result<(), AllocError> {
     let edge = edge_colour(node.class);
     write!(
         text,
-        "  {id} [class=\"{class} no-member\", fillcolor=\"#ffffff\", color=\"{edge}\", penwidth=2, shape={shape}, label=\""
+        "  {id} [class=\"{class} no-member\", fillcolor=\"#ffffff\", color=\"{edge}\", penwidth=2, \
+         shape={shape}, label=\""
     )
 }
 

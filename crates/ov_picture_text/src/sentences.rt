@@ -97,7 +97,7 @@ pub(crate) fn members_of(alloc: Global, drawing: &Drawing) -> Result<Option<Stri
     let all = nodes.len();
     let members = all.saturating_sub(others);
     let text = format!(in alloc;
-        "{members} of the {all} nodes are members of the group, and only they count; the others are hollow"
+        "{members} of the {all} nodes are members of the group; the others are hollow, and may be cut off"
     )?;
     Ok(Some(text))
 }

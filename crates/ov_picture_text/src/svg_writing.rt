@@ -14,8 +14,9 @@ use std::fmt::Write;
 
 /// A drawing as SVG: the near side to the left, the cut in the middle, the other survivors to the right; or all nodes
 /// on a ring, if the certificate is linked. Links have the colour of their class, or that of the path that goes along
-/// them. A node that is no member of the group is hollow. `names` are the labels of the nodes, in their order; a node without one is labelled by its id. The picture is
-/// light, or dark where the reader prefers it, and has no scripts. OutOfMemory (99): an allocation was refused.
+/// them. A node that is no member of the group is hollow. `names` are the labels of the nodes, in their order; a node
+/// without one is labelled by its id. The picture is light, or dark where the reader prefers it, and has no scripts.
+/// OutOfMemory (99): an allocation was refused.
 pub fn svg(
     alloc: Global,
     drawing: &Drawing,

@@ -38,7 +38,9 @@ fn group_in_svg(rt: HostRuntime) -> Result<(), Fail> {
     let text = picture.as_str();
     assert!(rt; text.contains("<title>node 2 (cut, no member): 2</title>"));
     assert!(rt; text.contains("<title>node 4 (cut): 4</title>"));
-    assert!(rt; text.contains(">3 of the 4 nodes are members of the group, and only they count;"));
+    assert!(rt;
+        text.contains(">3 of the 4 nodes are members of the group; the others are hollow,")
+    );
     assert!(rt; text.contains(">1 not in the group</text>"));
     let whole = drawn_pair(rt.alloc()).ok().ok_or("no drawing")?;
     let picture = svg(rt.alloc(), &whole, &[]).ok().ok_or("no picture")?;
@@ -84,7 +86,8 @@ fn square_as_dot(rt: HostRuntime) -> Result<(), Fail> {
     assert!(rt; text.contains("label=\"a<b>&amp;\\\"c\\\"'\\\\u{7}\""));
     assert!(rt;
         text.contains(
-            "2 [class=\"cut no-member\", fillcolor=\"#ffffff\", color=\"#d55e00\", penwidth=2, shape=box, label=\"x\\\\\\\"y&amp;\""
+            "2 [class=\"cut no-member\", fillcolor=\"#ffffff\", color=\"#d55e00\", penwidth=2, \
+             shape=box, label=\"x\\\\\\\"y&amp;\""
         )
     );
     assert!(rt;
