@@ -24,7 +24,7 @@ IsOnlyNamed names part n = IsNamed names n part × ((m : ℕ) → IsNamed names 
 abbrev pub SpellsId : List ℕ → ℕ → Type 0
 SpellsId text n = one short_bits (words_of text) ≡ Some n
 
--- some node has a name that spells an id. So a numeral may be meant as a name, and no part is an id
+-- some node has a name that spells an id. Then a numeral may be meant as a name, and no part is taken for an id
 abbrev pub HasNumeralName : NamesState → Type 0
 HasNumeralName names = (m n : ℕ) × (name : List ℕ) × IsNamed names m name × SpellsId name n
 
@@ -41,7 +41,7 @@ Means names part n = IsOnlyNamed names part n ⊎ SpellsNode names part n
 abbrev pub MeansAt : NamesState → List (List ℕ) → ℕ → ℕ → Type 0
 MeansAt names parts i n = (i < length parts) × Means names (part_at parts i) n
 
--- no node has this name, and the part spells the id of no node
+-- no node has this name, and the part is taken for the id of none
 abbrev pub IsNobodys : NamesState → List ℕ → Type 0
 IsNobodys names part = ((m : ℕ) → ¬ IsNamed names m part) × ((n : ℕ) → ¬ SpellsNode names part n)
 
