@@ -1,6 +1,7 @@
 ghost use Rattle.std.specs.Prelude.{◌≡◌, ◌<◌, option_map, Some, MatchResult, OnOk};
 ghost use Rattle.ov_check.specs.Outcome.{SaysExactNumber, IsOutcome};
 ghost use Rattle.ov_check.specs.declared.outcome.Outcome.TheVariants.{Holds};
+ghost use Rattle.ov_graphfile.specs.Faults.{number_of as graph_file_number};
 ghost use Rattle.ov_io.specs.Device.{most_faults};
 ghost use Rattle.ov_file_commands.specs.Pictures.{WasPicturePrinted, NamesGraph, chosen_entry, outcome_number};
 ghost use Rattle.ov_file_commands.specs.Code.Endings.{IsNotHeld, IsNotNamed};
@@ -166,11 +167,29 @@ fn same_graph(rt: &HostRuntime, graph: &Graph, file: &[u8]) -> Result<(), FileCo
             Err(refused(rt, OTHER_GRAPH, why))
         }
         Err(GraphFileFault::OutOfMemory) => Err(told(rt, FileCommandFault::OutOfMemory)),
-        Err(fault) => Err(refused(
-            rt,
-            fault.number(),
-            "the file with the names is no graph file",
-        )),
+        Err(fault) => Err(no_graph_file(rt, &fault)),
+    }
+}
+
+/// Ends since the file with names is no graph file. Prints which line is at fault.
+fn no_graph_file(rt: &HostRuntime, fault: &GraphFileFault) -> FileCommandFault
+    ensures { result ≡ ended.Refused (graph_file_number fault.now) }
+{
+    let number = fault.number();
+    let ended = FileCommandFault::Refused { number };
+    let _ = match line_at_fault(fault) {
+        Some(line) => eprintln!(rt; "{ended}\nline {line} of the file with the names is at fault"),
+        None => eprintln!(rt; "{ended}"),
+    };
+    ended
+}
+
+/// The line of a graph file that is at fault.
+fn line_at_fault(fault: &GraphFileFault) -> Option<usize> {
+    match fault {
+        GraphFileFault::Line(unread) => Some(unread.line),
+        GraphFileFault::Graph { line, .. } => Some(*line),
+        GraphFileFault::OutOfMemory => None,
     }
 }
 
