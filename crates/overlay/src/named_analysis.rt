@@ -127,7 +127,7 @@ fn no_group(rt: &HostRuntime, text: &str, fault: GroupFault) -> FileCommandFault
             rt,
             text,
             place,
-            "is the name of no node, nor an id",
+            "names no node",
         ),
         GroupFault::SharedName(place) => tell_part(rt, text, place, "is the name of two nodes"),
         GroupFault::NamedTwice(node) => {
