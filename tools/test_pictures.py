@@ -141,7 +141,7 @@ def near_by(one, other):
 @unittest.skipUnless(OVERLAY, "TAGZIRK_OVERLAY names no program")
 class Pictures(unittest.TestCase):
     def judge_nodes(self, picture, said, names):
-        """Each node has one shape, of its class, with its name, within the picture; the members alone are not hollow."""
+        """Each node has one shape, of its class, with its name, within the picture; only members are not hollow."""
         classes, members = classes_of(said), members_of(said)
         self.assertEqual(picture.members, members)
         hollow = {node for node, (shape, _, _) in picture.shapes.items() if "no-member" in shape.get("class").split()}
