@@ -24,7 +24,7 @@ pub enum DumpFormat {
 /// What is asked of an import, besides its file.
 #[derive(Clone, Copy, Debug, PartialEq, Eq)]
 pub struct ImportRequest {
-    /// The form of the dump. Without it, the dump itself suggests one.
+    /// The form of the dump. Without it, the form is the one that the dump looks like.
     pub format: Option<DumpFormat>,
     /// Whether a link is where one name lists the other, and not only where both do.
     pub either: bool,

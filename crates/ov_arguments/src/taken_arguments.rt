@@ -89,7 +89,7 @@ const ABOUT_IMPORT: &str =
     "Makes a graph file of what a cluster says of its links, by names, and keeps the names as comments";
 
 const BELOW_IMPORT: &str = "\
-Without --views, --edges or --dot the first byte says which: { begins views, graph or digraph DOT.
+Without --views, --edges or --dot the first line says which: { begins views, graph or digraph DOT.
 What only one of two lists, and who is listed without an entry, is counted on standard error.";
 
 const DUMP_FILE: &str = "The dump; standard input without it, or with -";
