@@ -14,6 +14,9 @@ const LETTERS: (f64, f64) = (10.8, 6.9);
 /// How many letters a line has at most, however wide the picture is.
 const MOST_LETTERS: f64 = 90.0;
 
+/// How many letters longer than the others a line may be.
+const UNEVEN: f64 = 8.0;
+
 /// The height of the first line.
 pub(crate) const FIRST: f64 = 36.0;
 
@@ -109,7 +112,7 @@ fn push_broken(
     text: &str,
     most: f64,
 ) -> Result<(), AllocError> {
-    let most = most.min(MOST_LETTERS);
+    let most = even(text, most.min(MOST_LETTERS));
     let mut line = String::new(alloc);
     let mut letters = 0.0;
     for word in text.split(' ') {
@@ -129,8 +132,15 @@ fn push_broken(
     Ok(())
 }
 
-/// How many letters wide a word is. A letter that is not ASCII counts twice.
-fn letters_of(word: &str) -> f64 {
-    let doubled = word.chars().filter(|c| !c.is_ascii()).count();
-    number(word.chars().count()) + number(doubled)
+/// How many letters a line of a text has at most, if it has this many at most and the lines are about equally long.
+fn even(text: &str, most: f64) -> f64 {
+    let letters = letters_of(text);
+    let lines = (letters / most).ceil().max(1.0);
+    (letters / lines + UNEVEN).min(most)
+}
+
+/// How many letters wide a text is. A letter that is not ASCII counts twice.
+fn letters_of(text: &str) -> f64 {
+    let doubled = text.chars().filter(|c| !c.is_ascii()).count();
+    number(text.chars().count()) + number(doubled)
 }
