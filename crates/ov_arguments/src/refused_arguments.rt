@@ -16,7 +16,7 @@ const VERSION: &str = "overlay 1.0, proved with Rattle's logic dac8208d650f15bf\
 const NO_TEXT: &str = "error: an argument is no UTF-8 text\n";
 
 /// What the texts of `--group` and `--workers` must be. `clap` takes any text; the two are read here.
-const GROUP: &str = "ids from 0 to 4294967295, with one comma between two";
+const GROUP: &str = "ids from 0 to 4294967295, with one comma between two, or names beside --names";
 
 const WORKERS: &str = "a number from 1 to 64";
 

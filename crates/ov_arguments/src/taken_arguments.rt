@@ -67,7 +67,8 @@ const ABOUT_ANALYSE: &str = "Reads a graph file, and prints how few crashes spli
 
 const GRAPH_FILE: &str = "The graph file; standard input without it, or with -";
 
-const GROUP: &str = "For these nodes alone: ids, or names, with one comma between two";
+const GROUP: &str =
+    "For these nodes alone: ids, or names beside --names, with one comma between two";
 
 const WORKERS: &str = "With 1 to 64 workers, and with one without it";
 
@@ -82,7 +83,7 @@ const IMPORT_EXAMPLES: &str = "\
 Examples:
   overlay import views.json > net.graph
   overlay import --edges net.edges | overlay analyse --names
-  overlay import --dot net.dot --either > net.graph";
+  overlay import --dot net.dot --either --entries > net.graph";
 
 /// What help of `overlay import` says, and of its options.
 const ABOUT_IMPORT: &str =

@@ -10,6 +10,9 @@ use ov_file_commands::{FileCommandFault, print_dump, print_graph, print_picture}
 use ov_hints::{FileKind, behind_mark};
 use ov_io::Sink;
 
+/// The number of the fault that a line can't be read. Of a picture only the file with names can have it.
+const UNREAD_LINE: u32 = 70;
+
 /// Makes a graph file of the dump of a file, or of standard input.
 pub(crate) fn import_asked(
     rt: &HostRuntime,
@@ -41,11 +44,30 @@ pub(crate) fn picture_asked(
         None => print_picture(rt, &bytes, None, &picture, &mut sink),
         Some(path) => {
             let names = bytes_of_file(rt, path.as_str())?;
-            print_picture(rt, &bytes, Some(&names), &picture, &mut sink)
+            let printed = print_picture(rt, &bytes, Some(&names), &picture, &mut sink);
+            tip_for_names(rt, &names, path.as_str(), &printed);
+            printed
         }
     };
     with_tip(rt, &bytes, file.as_deref(), FileKind::Certificate, printed)?;
     Ok(0)
+}
+
+/// If a picture is refused since a line of the file with names can't be read, prints which command reads this file.
+fn tip_for_names(
+    rt: &HostRuntime,
+    names: &[u8],
+    path: &str,
+    printed: &Result<(), FileCommandFault>,
+) {
+    if let Err(
+        FileCommandFault::Refused {
+            number: UNREAD_LINE,
+        },
+    ) = printed
+    {
+        print_file_tip(rt, names, Some(path), FileKind::Graph);
+    }
 }
 
 /// Writes the graph of the certificate file of this name, or of standard input, as a graph file.

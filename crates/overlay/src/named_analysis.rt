@@ -14,7 +14,7 @@ use ov_answers::{Request, Told, analyse_told};
 use ov_arguments::AnalysisRequest;
 use ov_file_commands::FileCommandFault;
 use ov_graphfile::{GraphFileFault, read_graph};
-use ov_hints::FileKind;
+use ov_hints::{FileKind, comma_hint};
 use ov_ids::NodeId;
 use ov_io::{Sink, shown_name};
 use ov_names::{GroupFault, ids_of_group, read_names};
@@ -123,12 +123,7 @@ fn no_group(rt: &HostRuntime, text: &str, fault: GroupFault) -> FileCommandFault
     let ended = FileCommandFault::Refused { number };
     let _ = eprintln!(rt; "{ended}");
     match fault {
-        GroupFault::NoSuchName(place) => tell_part(
-            rt,
-            text,
-            place,
-            "names no node",
-        ),
+        GroupFault::NoSuchName(place) => tell_part(rt, text, place, "names no node"),
         GroupFault::SharedName(place) => tell_part(rt, text, place, "is the name of two nodes"),
         GroupFault::NamedTwice(node) => {
             let id = node.number();
@@ -139,12 +134,16 @@ fn no_group(rt: &HostRuntime, text: &str, fault: GroupFault) -> FileCommandFault
     ended
 }
 
-/// Prints what is wrong with a part of the text of a group. Prints nothing if an allocation for it is refused.
+/// Prints what is wrong with a part of the text of a group, or with a comma beside it if the part is empty. Prints nothing if an allocation for it is refused.
 fn tell_part(rt: &HostRuntime, text: &str, place: usize, wrong: &str) {
     let Some(part) = text.split(',').nth(place) else {
         return;
     };
-    if let Ok(shown) = shown_name(rt.alloc(), part) {
-        let _ = eprintln!(rt; "--group: `{shown}` {wrong}");
+    let (told, why) = match comma_hint(text.as_bytes()) {
+        Some(hint) if part.is_empty() => (text, hint),
+        _ => (part, wrong),
+    };
+    if let Ok(shown) = shown_name(rt.alloc(), told) {
+        let _ = eprintln!(rt; "--group: `{shown}` {why}");
     }
 }
