@@ -227,6 +227,17 @@ class Counted:
                 self.most = max(self.most, int(re.search(r"Threads:\s+(\d+)", text)[1]))
 
 
+def most_threads(lab, words):
+    """The most threads that a program was seen to have. It may end before it is looked at, so it is run again, up to 50
+    times, until it has more than one."""
+    counted = Counted()
+    for _ in range(50):
+        lab.run(words, during=counted)
+        if counted.most > 1:
+            break
+    return counted.most
+
+
 def with_threads(lab, most):
     """Runs what starts threads as a user who may have only so many."""
     other, user = without_rights(lab)
@@ -245,20 +256,17 @@ FEWER = "a thread that can't be started is no fault: the output is the same (FOR
 @case("workers", "threads are there to be refused", "`analyse --workers 64`, and the most threads that were seen",
       "at most N threads (FORMATS.md)")
 def many_threads(lab):
-    counted = Counted()
-    lab.run([*lab.words(ANALYSE), "--workers", "64", lab.large("dense")], during=counted)
-    text = "2 to 64 threads" if 2 <= counted.most <= 64 else f"{counted.most} threads"
-    yield "analyse --workers 64", text, "2 to 64 threads", f"{counted.most} threads"
+    most = most_threads(lab, [*lab.words(ANALYSE), "--workers", "64", lab.large("dense")])
+    text = "2 to 64 threads" if 2 <= most <= 64 else f"{most} threads"
+    yield "analyse --workers 64", text, "2 to 64 threads", f"{most} threads"
 
 
 @case("workers", "a certificate is checked by several threads", "`overlay-check` of a certificate of a thousand entries, "
       "and the most threads that were seen", "several threads share the entries, if there are several processors (PROVED.md)")
 def threads_of_checker(lab):
-    counted = Counted()
-    lab.run(lab.words(CHECK, lab.large("entries")), during=counted)
-    least = min(2, len(os.sched_getaffinity(0)))
-    text = "several threads" if counted.most >= least else f"{counted.most} threads"
-    yield "overlay-check", text, "several threads", f"{counted.most} threads"
+    most = most_threads(lab, lab.words(CHECK, lab.large("entries")))
+    text = "several threads" if most >= min(2, len(os.sched_getaffinity(0))) else f"{most} threads"
+    yield "overlay-check", text, "several threads", f"{most} threads"
 
 
 @case("threads", "no thread can be started", "64 workers, sections, a large certificate, `ulimit -u 1`; for root "

@@ -34,16 +34,22 @@ def names_of(data):
     return found
 
 
+def spelled(text):
+    """The id that a text of one word spells, or None."""
+    words = words_of(text)
+    return id_of(words[0]) if len(words) == 1 else None
+
+
 def node_of(part, names, graph):
-    """The node that a part of the text of a group means. Refused if it means none, or two."""
+    """The node that a part of the text of a group means. Refused if it means none, or two. Where a name spells an id, no
+    part is an id."""
     named = [node for node, name in names.items() if name == part]
     if len(named) > 1:
         raise Refused("refused 85")
     if named:
         return named[0]
-    words = words_of(part)
-    node = id_of(words[0]) if len(words) == 1 else None
-    if node not in graph.neighbours:
+    node = spelled(part)
+    if node not in graph.neighbours or any(spelled(name) is not None for name in names.values()):
         raise Refused("refused 84")
     return node
 
