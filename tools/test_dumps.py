@@ -86,15 +86,18 @@ def graph_of_views(views, either, entries):
     return graph_file(names, links)
 
 
-def notes_of_views(views):
+def notes_of_views(views, either, entries):
     """What is told of views on standard error."""
     listings = [(name, peer) for name, peers in views.items() for peer in peers]
     alone = [(a, b) for a, b in listings if (b, a) not in listings]
     missing = sorted({peer for _, peer in listings} - set(views), key=str.encode)
-    told = [f"listed by one end only: {len(alone)}"] if alone else []
+    told = [] if views else ["the dump has no names"]
+    told += [f"listed by one end only: {len(alone)}"] if alone else []
     told += [f"{a} lists {b}, and {b} does not list {a}" for a, b in alone[:10]]
     told += [f"listed without an entry: {len(missing)}"] if missing else []
     told += [f"{name} is listed and has no entry" for name in missing[:10]]
+    if missing and either and not entries:
+        told.append("they are linked, and so look alive; --entries leaves them out")
     return "".join(f"{line}\n" for line in told)
 
 
@@ -139,8 +142,9 @@ class Dumps(unittest.TestCase):
             for form, dump in ("--views", json.dumps(views)), ("--dot", arrows_of(views)):
                 for either in (), ("--either",):
                     for entries in (), ("--entries",):
-                        wanted = graph_of_views(views, either, entries), notes_of_views(views), 0
-                        self.assertEqual(overlay("import", form, *either, *entries, given=dump), wanted, views)
+                        choice = views, either, entries
+                        wanted = graph_of_views(*choice), notes_of_views(*choice), 0
+                        self.assertEqual(overlay("import", form, *either, *entries, given=dump), wanted, choice)
 
     def test_names_come_back(self):
         names, pairs = some_overlay(50, 60, 1)

@@ -15,7 +15,7 @@ True
 
 from .answers import Answer
 from .checks import Verdict, check
-from .errors import BadGraph, NotConfirmed, ProgramFailed, ProgramMissing, Refused, TagzirkError
+from .errors import BadGraph, NotConfirmed, ProgramFailed, ProgramMissing, Refused, TagzirkError, ViewsDiffer
 from .reports import Report, analyse
 from .scenarios import (Certificate, Change, Delivery, Entry, FiledReport, OtherLine, Packet, Refusal, Run, Sections,
                         View, run)
@@ -23,5 +23,5 @@ from .scenarios import (Certificate, Change, Delivery, Entry, FiledReport, Other
 __all__ = [
     "Answer", "BadGraph", "Certificate", "Change", "Delivery", "Entry", "FiledReport", "NotConfirmed", "OtherLine",
     "Packet", "ProgramFailed", "ProgramMissing", "Refusal", "Refused", "Report", "Run", "Sections", "TagzirkError",
-    "Verdict", "View", "analyse", "check", "run",
+    "Verdict", "View", "ViewsDiffer", "analyse", "check", "run",
 ]

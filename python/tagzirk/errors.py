@@ -11,6 +11,12 @@ class BadGraph(TagzirkError, ValueError):
     """What was given is no graph, or no group of its nodes."""
 
 
+class ViewsDiffer(UserWarning):
+    """A warning: some node of a dict of views lists whom lists it not, or whom has no view. It says how many, and the
+    first ten. `warnings.simplefilter("ignore", ViewsDiffer)` silences it, and "error" in place of "ignore" makes it an
+    error."""
+
+
 class ProgramMissing(TagzirkError):
     """A program was not found, or could not be started."""
 

@@ -2,17 +2,34 @@
 
 from __future__ import annotations
 
+import re
+import warnings
 from dataclasses import dataclass
 from typing import (Any, Dict, Generic, Hashable, Iterable, List, Mapping, Optional, Sequence, Set, Tuple, TypeVar,
                     Union)
 
-from .errors import BadGraph
+from .errors import BadGraph, ViewsDiffer
 
 Node = TypeVar("Node", bound=Hashable)
 # A networkx graph is not named, since networkx need not be there.
 Graph = Union[Any, Iterable[Sequence[Node]], Mapping[Node, Iterable[Node]]]
 
 MOST_ID = 2**32 - 1
+# How many names, or listings, a message tells at most.
+MOST_TOLD = 10
+# Control characters, and halves of surrogate pairs.
+UNSHOWN = re.compile("[\0-\x1f\x7f-\x9f\ud800-\udfff]")
+
+
+def shown(name: Any) -> str:
+    """A name as one line, as `overlay import` shows it: control characters, and a backslash before `u{`, as codes. So
+    are halves of surrogate pairs, which UTF-8 has not.
+
+    >>> print(shown("a\\nb"), shown("a\\\\u{a}b"))
+    a\\u{a}b a\\u{5c}u{a}b
+    """
+    text = str(name).replace("\\u{", "\\u{5c}u{")
+    return UNSHOWN.sub(lambda it: f"\\u{{{ord(it[0]):x}}}", text)
 
 
 @dataclass(frozen=True)
@@ -24,15 +41,37 @@ class NamedGraph(Generic[Node]):
     links: List[List[int]]
 
     @property
+    def names(self) -> Dict[int, Node]:
+        """The name that each id has."""
+        return {place: name for name, place in self.ids.items()}
+
+    @property
     def nodes(self) -> List[int]:
         """The ids of all nodes, ascending."""
         return sorted(self.ids.values())
 
     @property
     def text(self) -> str:
-        """The graph as a graph file."""
-        lines = [f"node {a}\n" for a in self.nodes] + [f"link {a} {b}\n" for a, b in self.links]
-        return "".join(lines)
+        """The graph as a graph file, without names."""
+        return "".join([*(f"node {a}\n" for a in self.nodes), *self._link_lines()])
+
+    @property
+    def text_with_names(self) -> str:
+        """The graph as a graph file, with a comment before the line of each node, which names it.
+
+        >>> print(named_graph([("b", "a")]).text_with_names, end="")
+        # 1 a
+        node 1
+        # 2 b
+        node 2
+        link 1 2
+        """
+        names = self.names
+        nodes = (f"# {a} {shown(names[a])}\nnode {a}\n" for a in self.nodes)
+        return "".join([*nodes, *self._link_lines()])
+
+    def _link_lines(self) -> List[str]:
+        return [f"link {a} {b}\n" for a, b in self.links]
 
     def members(self, group: Optional[Iterable[Node]]) -> Optional[List[int]]:
         """The ids of a group, ascending. None is all nodes."""
@@ -58,9 +97,18 @@ def is_name(name: Any) -> bool:
     return True
 
 
+def in_order(names: Iterable[Node]) -> List[Node]:
+    """These names, each once: in the order of their bytes in UTF-8 if all are texts, and else as they are given."""
+    different = list(dict.fromkeys(names))
+    if all(isinstance(name, str) for name in different):
+        different.sort(key=lambda name: name.encode(errors="surrogatepass"))  # type: ignore[attr-defined]
+    return different
+
+
 def numbered(names: Iterable[Node], pairs: Iterable[Tuple[Node, Node]]) -> NamedGraph[Node]:
-    """A graph of these nodes and links. Its ids are the names, if all of these are ids, and else 1, 2, 3, .."""
-    names = list(dict.fromkeys(names))
+    """A graph of these nodes and links. Its ids are the names, if all of these are ids, and else 1, 2, 3, ..: in the
+    order of the bytes of names in UTF-8 if all are texts, as `overlay import` has it, and else as they are given."""
+    names = in_order(names)
     if all(type(name) is int and 0 <= name <= MOST_ID for name in names):
         ids: Dict[Node, int] = {name: name for name in names}  # type: ignore[misc]
     else:
@@ -82,15 +130,33 @@ def of_networkx(graph: Any) -> NamedGraph[Any]:
 
 
 def of_views(views: Mapping[Node, Iterable[Node]]) -> NamedGraph[Node]:
-    peers: Dict[Node, Set[Node]] = {}
+    peers: Dict[Node, Dict[Node, None]] = {}
     for name, view in views.items():
         if isinstance(view, (str, bytes)):
             raise BadGraph(f"a view is a collection of nodes, and that of {name!r} is a text: {view!r}")
         try:
-            peers[name] = set(view)
+            peers[name] = dict.fromkeys(view)
         except TypeError:
             raise BadGraph(f"the view of {name!r} is no collection of names: {view!r}") from None
-    return numbered(peers, ((a, b) for a, view in peers.items() for b in view if a in peers.get(b, ())))
+    graph = numbered(peers, ((a, b) for a, view in peers.items() for b in view if a in peers.get(b, ())))
+    notes = notes_of(peers)
+    if notes:
+        # it is told of the line that calls `analyse`, which calls `named_graph`
+        warnings.warn("\n".join(notes), ViewsDiffer, stacklevel=4)
+    return graph
+
+
+def notes_of(peers: Mapping[Node, Mapping[Node, None]]) -> List[str]:
+    """What should be known of views, in the words of `overlay import`: how many listings the other end does not answer,
+    and how many names are listed and have no view; the first ten of each."""
+    alone = [(a, b) for a, view in peers.items() for b in view if a not in peers.get(b, ())]
+    gone = in_order(b for _, b in alone if b not in peers)
+    notes = [f"listed by one end only: {len(alone)}"] if alone else []
+    for one, other in alone[:MOST_TOLD]:
+        a, b = shown(one), shown(other)
+        notes.append(f"{a} lists {b}, and {b} does not list {a}")
+    notes += [f"listed without an entry: {len(gone)}"] if gone else []
+    return notes + [f"{shown(name)} is listed and has no entry" for name in gone[:MOST_TOLD]]
 
 
 def of_edges(edges: Iterable[Sequence[Node]]) -> NamedGraph[Node]:
@@ -106,7 +172,7 @@ def of_edges(edges: Iterable[Sequence[Node]]) -> NamedGraph[Node]:
 def named_graph(graph: Graph[Any]) -> NamedGraph[Any]:
     """The graph that a caller gives: a networkx graph, a dict of views, or a list of edges.
 
-    >>> named_graph({"a": ["b", "c"], "b": ["a"], "c": []}).text.splitlines()
+    >>> named_graph({"c": [], "b": ["a"], "a": ["b"]}).text.splitlines()
     ['node 1', 'node 2', 'node 3', 'link 1 2']
     >>> named_graph([(7, 5), (5, 7), (5, 9)]).text.splitlines()
     ['node 5', 'node 7', 'node 9', 'link 5 7', 'link 5 9']

@@ -2,30 +2,50 @@
 
 from __future__ import annotations
 
+import json
 import tempfile
-import unicodedata
 from typing import Any, Dict, List, Optional
 
+from .errors import Refused
+from .graphs import MOST_TOLD, shown
 from .programs import Program, call, find, lines_of
 
-
-def shown(name: Any) -> str:
-    """A name as one line, as `overlay import` shows it: control characters, and a backslash before `u{`, as codes."""
-    text = str(name).replace("\\u{", "\\u{5c}u{")
-    letters = (f"\\u{{{ord(it):x}}}" if unicodedata.category(it) == "Cc" else it for it in text)
-    return "".join(letters)
+NO_SUCH_ENTRY = 86
 
 
-def with_names(graph_file: str, ids: Dict[Any, int]) -> str:
-    """A graph file with a comment before the line of each node, which names it."""
-    lines = {f"node {place}": f"# {place} {shown(name)}\n" for name, place in ids.items()}
-    return "".join(f"{lines.get(line, '')}{line}\n" for line in graph_file.splitlines())
+def entries_of(certificate: str, names: Dict[int, Any]) -> str:
+    """Which entries a certificate has: how many pairs and fans, and the first ten of each, by the names of nodes.
+
+    >>> entries_of('{"verdict":"split","pairs":[{"i":1,"j":2}],"fans":[{"j":3},{"j":4}]}', dict(enumerate("nabcd")))
+    'it has 1 pair (a and b) and 2 fans (c, d)'
+    """
+    said = json.loads(certificate)
+    if said["verdict"] == "linked":
+        return "every two members are linked, so it has none"
+    pairs = [f"{shown(names[it['i']])} and {shown(names[it['j']])}" for it in said["pairs"]]
+    fans = [shown(names[it["j"]]) for it in said["fans"]]
+    return f"it has {counted('pair', pairs)} and {counted('fan', fans)}"
 
 
-def drawn(certificate: str, graph_file: str, ids: Dict[Any, int], entry: List[str], overlay: Optional[Program]) -> str:
-    """The picture of a certificate, with the names of its nodes, and with the paths of an entry."""
-    with tempfile.NamedTemporaryFile(suffix=".graph") as names:
-        names.write(with_names(graph_file, ids).encode(errors="replace"))
-        names.flush()
-        ended = call(find("overlay", overlay), ["picture", f"--names={names.name}", *entry], certificate.encode())
-    return "".join(f"{line}\n" for line in lines_of(ended))
+def counted(kind: str, entries: List[str]) -> str:
+    """How many entries of a kind there are, and the first ten."""
+    if not entries:
+        return f"no {kind}s"
+    rest = [".."] if len(entries) > MOST_TOLD else []
+    return f"{len(entries)} {kind}{'s' if len(entries) > 1 else ''} ({', '.join(entries[:MOST_TOLD] + rest)})"
+
+
+def drawn(certificate: str, graph_file: str, names: Dict[int, Any], entry: List[str],
+          overlay: Optional[Program]) -> str:
+    """The picture of a certificate, with the names in a graph file, and with the paths of an entry."""
+    with tempfile.NamedTemporaryFile(suffix=".graph") as file:
+        file.write(graph_file.encode())
+        file.flush()
+        ended = call(find("overlay", overlay), ["picture", f"--names={file.name}", *entry], certificate.encode())
+    try:
+        return "".join(f"{line}\n" for line in lines_of(ended))
+    except Refused as why:
+        if why.number != NO_SUCH_ENTRY:
+            raise
+        first = why.reason.partition("\n")[0]
+        raise Refused(why.number, why.line, f"{first}\n{entries_of(certificate, names)}") from None

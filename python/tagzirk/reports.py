@@ -9,7 +9,7 @@ from typing import Any, Dict, Generic, Iterable, List, Optional, Tuple
 from .answers import Answer, read_answer
 from .checks import check
 from .errors import BadGraph, NotConfirmed
-from .graphs import Graph, NamedGraph, Node, named_graph
+from .graphs import Graph, NamedGraph, Node, is_name, named_graph, shown
 from .pictures import drawn
 from .programs import Program, call, find, lines_of, refuse
 
@@ -26,7 +26,8 @@ class Report(Generic[Node]):
     - `group`: the members, in the order of their ids; None if all nodes are.
     - `certificate`: the text of a certificate file, which proves this. overlay-check has said yes to it.
     - `ids`: which id each node has in the certificate.
-    - `graph_file`: the graph as a graph file, as `tools/check.py --graph` prints it from the certificate.
+    - `graph_file`: the graph as a graph file, with a comment before the line of each node, which names it: a file for
+      `overlay picture --names` and `overlay analyse --names`, and for whoever compares the graph in the certificate.
 
     Print it to read it in words.
     """
@@ -61,8 +62,9 @@ class Report(Generic[Node]):
         nodes on the right; if every two members are linked, all nodes on a ring.
 
         `pair` draws the paths between two members that are not linked, and `fan` those from a member to members
-        before it, each in a colour of its own. A certificate has them for some members only; `Refused` (86) is raised
-        for others, and `BadGraph` for what is no node. `overlay picture` draws it, and only if the certificate holds.
+        before it, each in a colour of its own. A certificate has them for some members only; for others `Refused` (86)
+        is raised, which names those that there are, and `BadGraph` for what is no node. `overlay picture` draws it, and
+        only if the certificate holds.
 
         >>> picture = analyse([("a", "b"), ("b", "c"), ("c", "d"), ("d", "a")]).picture(fan="c")
         >>> picture.startswith("<svg")
@@ -70,17 +72,23 @@ class Report(Generic[Node]):
         """
         entry = []
         if pair is not None:
-            members = sorted(self._id_of(node) for node in pair)
-            if len(members) != 2:
-                raise BadGraph(f"a pair is two nodes, and not {len(members)}")
-            entry.append(f"--pair={members[0]},{members[1]}")
+            entry.append(self._pair(pair))
         if fan is not None:
             entry.append(f"--fan={self._id_of(fan)}")
-        return drawn(self.certificate, self.graph_file, self.ids, entry, overlay)
+        names = {place: name for name, place in self.ids.items()}
+        return drawn(self.certificate, self.graph_file, names, entry, overlay)
+
+    def _pair(self, pair: Tuple[Node, Node]) -> str:
+        """The option that names two nodes."""
+        is_text = isinstance(pair, (str, bytes))
+        members = {self._id_of(node) for node in pair} if isinstance(pair, Iterable) and not is_text else set()
+        if len(members) != 2:
+            raise BadGraph(f"a pair is two nodes, and this is none: {pair!r}")
+        return f"--pair={min(members)},{max(members)}"
 
     def _id_of(self, node: Node) -> int:
         """The id of a node."""
-        if node not in self.ids:
+        if not is_name(node) or node not in self.ids:
             raise BadGraph(f"{node!r} is no node of the graph")
         return self.ids[node]
 
@@ -90,13 +98,13 @@ class Report(Generic[Node]):
         if self.is_linked:
             return f"Every two {who} are linked: no crashes separate two of them."
         if self.k == 0:
-            return f"{self.near} and {self.far} are separated without any crash."
-        cut = f"Crashing {listed(self.cut)} separates {self.near} from {self.far}."
+            return f"{shown(self.near)} and {shown(self.far)} are separated without any crash."
+        cut = f"Crashing {listed(self.cut)} separates {shown(self.near)} from {shown(self.far)}."
         return f"{cut} Fewer crashes separate no two surviving {who}."
 
 
 def listed(names: Iterable[Any]) -> str:
-    return ", ".join(map(str, names))
+    return ", ".join(map(shown, names))
 
 
 def confirmed(certificate: str, overlay_check: Optional[Program]) -> Answer:
@@ -128,7 +136,12 @@ def analyse(graph: Graph[Node], group: Optional[Iterable[Node]] = None, workers:
     - an undirected networkx graph; links that occur twice count once;
     - a list of edges, each a pair of names; the nodes are those that occur;
     - a dict of views, from each node's name to the names of its peers. Two nodes are linked if each lists the other.
-      The nodes are the keys: a peer without a view of its own is none.
+      The nodes are the keys: a peer without a view of its own is none. A warning, `ViewsDiffer`, tells of listings
+      that are not answered, and of such peers.
+
+    In the certificate whole numbers from 0 to 4294967295 are their own ids, if all names are such. Else nodes are
+    numbered 1, 2, 3, ..: in the order of the bytes of names in UTF-8 if all names are texts, as `overlay import`
+    numbers them, and else in the order in which they are given.
 
     With a `group` of nodes only these must stay joined; the cut may have any nodes. `workers` is 1 to 64: at most so
     many threads share out the analysis.
@@ -137,7 +150,7 @@ def analyse(graph: Graph[Node], group: Optional[Iterable[Node]] = None, workers:
     >>> report = analyse(square)
     >>> report.k, report.survives, sorted(report.cut)
     (2, 1, ['b', 'd'])
-    >>> print(analyse({"a": ["b"], "b": ["a", "c"], "c": ["a"]}))
+    >>> print(analyse({"a": ["b"], "b": ["a"], "c": []}))
     c and a are separated without any crash.
 
     What is trusted: overlay-check, Python, and a few lines here. A report is given only after overlay-check said yes
@@ -159,7 +172,7 @@ def analyse(graph: Graph[Node], group: Optional[Iterable[Node]] = None, workers:
     if read_answer(line, "report") != answer:
         raise NotConfirmed(f"the report is not that of the certificate: {line}")
     demand_asked(answer, certificate, named, members)
-    names = {place: name for name, place in named.ids.items()}
+    names = named.names
     return Report(
         k=answer.k,
         is_linked=answer.is_linked,
@@ -170,5 +183,5 @@ def analyse(graph: Graph[Node], group: Optional[Iterable[Node]] = None, workers:
         group=None if members is None else tuple(names[place] for place in members),
         certificate=certificate,
         ids=named.ids,
-        graph_file=named.text,
+        graph_file=named.text_with_names,
     )

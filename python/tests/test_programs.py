@@ -17,6 +17,7 @@ import subprocess
 import sys
 import tempfile
 import unittest
+import warnings
 from unittest import mock
 
 import tagzirk
@@ -63,6 +64,30 @@ def is_split(nodes, links, crashed, members):
     return bool(alive) and not set(alive) <= reached(nodes, links, crashed, alive[0])
 
 
+def without_names(graph_file):
+    """The lines of a graph file that are no comments."""
+    return "".join(line for line in graph_file.splitlines(True) if not line.startswith("# "))
+
+
+def some_views(source):
+    """Views of nodes with odd names, in any order. Some list whom lists them not, and some have crashed."""
+    names = ["10", "9", "oslo-1", "Oslo 2", "a\nb", "a\\u{a}b", "\u00e9 <&>", "\ufffd", "\U0001f600", "#", " ", "\x85"]
+    source.shuffle(names)
+    views = {name: set() for name in names[:source.randint(1, 12)]}
+    for a, b in itertools.combinations(names, 2):
+        for one, other in ((a, b), (b, a)) if source.random() < 0.7 else ((a, b),):
+            if one in views and source.random() < 0.9:
+                views[one].add(other)
+    return {name: source.sample(sorted(peers), len(peers)) for name, peers in views.items()}
+
+
+def printed_by(*words, given=""):
+    """What overlay prints on standard output and on standard error."""
+    ended = subprocess.run([find("overlay", None), *words], input=given.encode(), stdout=subprocess.PIPE,
+                           stderr=subprocess.PIPE, check=True)
+    return ended.stdout.decode(), ended.stderr.decode()
+
+
 class Analyses(unittest.TestCase):
     def test_two_clusters(self):
         report = tagzirk.analyse(two_clusters())
@@ -84,6 +109,13 @@ class Analyses(unittest.TestCase):
         report = tagzirk.analyse([("a", "b"), ("c", "d")])
         self.assertEqual((report.k, report.survives, report.cut, report.is_linked), (0, 0, (), False))
         self.assertEqual(str(report), "c and a are separated without any crash.")
+
+    def test_control_characters_are_not_printed(self):
+        report = tagzirk.analyse([("\x1b[2J", "b\nc"), ("b\nc", "d\r")], group=["\x1b[2J", "d\r"])
+        words = "Crashing b\\u{a}c separates \\u{1b}[2J from d\\u{d}. Fewer crashes separate no two surviving members"
+        self.assertEqual(str(report), f"{words} of the group \\u{{1b}}[2J, d\\u{{d}}.")
+        self.assertEqual(str(tagzirk.analyse([("a\n", "b"), ("c\n", "d")])),
+                         "c\\u{a} and a\\u{a} are separated without any crash.")
 
     def test_groups(self):
         self.assertEqual(tagzirk.analyse(RING_WITH_TAIL).k, 1)
@@ -119,7 +151,7 @@ class Analyses(unittest.TestCase):
 
     def test_other_checkers_agree(self):
         report = tagzirk.analyse(two_clusters())
-        for words, printed in ([], "holds 0 split k 2"), (["--graph"], report.graph_file):
+        for words, printed in ([], "holds 0 split k 2"), (["--graph"], without_names(report.graph_file)):
             ended = subprocess.run([sys.executable, CHECKER, *words], input=report.certificate.encode(),
                                    stdout=subprocess.PIPE)
             self.assertEqual(ended.returncode, 0)
@@ -141,6 +173,57 @@ class Analyses(unittest.TestCase):
                 tagzirk.analyse(graph, workers=workers)
             self.assertEqual((raised.exception.number, raised.exception.line), (number, f"refused {number}"))
             self.assertIn(reason, raised.exception.reason)
+
+
+class Dumps(unittest.TestCase):
+    """A graph has the same ids in the package as `overlay import` gives it."""
+
+    def test_views(self):
+        source = random.Random(7)
+        for _ in range(40):
+            views = some_views(source)
+            with warnings.catch_warnings(record=True) as caught:
+                warnings.simplefilter("always")
+                report = tagzirk.analyse(views)
+            imported, told = printed_by("import", "--views", "--entries", given=json.dumps(views))
+            self.assertEqual(report.graph_file, imported, views)
+            # `overlay import` shows a backslash before `u{` by its code in the graph file only
+            messages = "".join(f"{it.message}\n" for it in caught).replace("\\u{5c}", "\\")
+            self.assertEqual(messages, told, views)
+            self.assertEqual({(it.category, it.filename) for it in caught} - {(tagzirk.ViewsDiffer, __file__)}, set())
+            graph, _ = printed_by("graph", given=report.certificate)
+            self.assertEqual(graph, without_names(imported), views)
+
+    def test_edges(self):
+        edges = [("oslo-1", "Oslo-2"), ("10", "oslo-1"), ("9", "10"), ("9", "\u00e9"), ("10", "9")]
+        imported, _ = printed_by("import", "--edges", given="".join(f"{a} {b}\n" for a, b in edges))
+        self.assertEqual(tagzirk.analyse(edges).graph_file, imported)
+
+    def test_what_the_page_says(self):
+        # the two commands of the page that compare the graph in a certificate with one's own
+        page = (CHECKOUT / "docs" / "CHECK-A-REPORT.md").read_text()
+        compared = page.split("```\n")[3].replace("bin/overlay", find("overlay", None))
+        self.assertIn("cmp", compared)
+        views = {"c\nd": ["b"], "b": ["a", "c\nd", "gone"], "a": ["b"], "\u00e9": ["gone"]}
+        with self.assertWarns(tagzirk.ViewsDiffer):
+            report = tagzirk.analyse(views)
+        mine, _ = printed_by("import", "--views", "--entries", given=json.dumps(views))
+        other, _ = printed_by("import", "--views", given=json.dumps(views))
+        with tempfile.TemporaryDirectory() as room:
+            (pathlib.Path(room) / "certificate.json").write_text(report.certificate)
+            for graph, status in (mine, 0), (report.graph_file, 0), (other, 1):
+                (pathlib.Path(room) / "mine.graph").write_text(graph)
+                ended = subprocess.run(["sh", "-c", compared], cwd=room, stdout=subprocess.PIPE)
+                self.assertEqual((ended.returncode, ended.stdout == b""), (status, status == 0))
+                words = [find("overlay", None), "picture", "certificate.json", "--names", "mine.graph"]
+                ended = subprocess.run(words, cwd=room, stdout=subprocess.PIPE, stderr=subprocess.DEVNULL)
+                self.assertEqual((ended.returncode, b": c\\u{a}d</title>" in ended.stdout), (status, status == 0))
+
+    def test_names_in_the_answer(self):
+        report = tagzirk.analyse(two_clusters())
+        printed, _ = printed_by("analyse", "--names", given=report.graph_file)
+        told = [line for line in printed.splitlines() if line.startswith("cut ")]
+        self.assertEqual(told, [f"cut {report.ids[name]} {name}" for name in report.cut])
 
 
 class Checks(unittest.TestCase):
@@ -194,9 +277,26 @@ class Pictures(unittest.TestCase):
         with self.assertRaises(tagzirk.Refused) as refused:
             report.picture(fan=1)
         self.assertEqual(refused.exception.number, 86)
-        for entry in ({"fan": "zz"}, {"pair": (2, "zz")}, {"pair": (2,)}):
+        no_nodes = {"fan": "zz"}, {"fan": ["x"]}, {"fan": {}}, {"pair": (2, "zz")}, {"pair": (2, [1])}
+        for entry in *no_nodes, {"pair": (2,)}, {"pair": (2, 2)}, {"pair": (1, 2, 3)}, {"pair": 2}, {"pair": "12"}:
             with self.subTest(entry), self.assertRaises(tagzirk.BadGraph):
                 report.picture(**entry)
+
+    def test_the_entries_that_there_are(self):
+        names = ["zero", "one", "two\n", "three", "four", "five"]
+        report = tagzirk.analyse([(names[a], names[b]) for b in range(1, 6) for a in range(b) if (a, b) != (0, 2)])
+        said = json.loads(report.certificate)
+        by_id = {place: name.replace("\n", "\\u{a}") for name, place in report.ids.items()}
+        pairs = ", ".join(f"{by_id[it['i']]} and {by_id[it['j']]}" for it in said["pairs"])
+        fans = ", ".join(by_id[it["j"]] for it in said["fans"])
+        with self.assertRaises(tagzirk.Refused) as refused:
+            report.picture(pair=("three", "four"))
+        reason = refused.exception.reason.split("\n")
+        self.assertEqual(reason[0], "the certificate has no such entry")
+        self.assertEqual(re.sub(r"\d+ (pair|fan)s?", r"\1", reason[1]).replace("no pairs", "pair ()"),
+                         f"it has pair ({pairs}) and fan ({fans})")
+        with self.assertRaisesRegex(tagzirk.Refused, "every two members are linked, so it has none"):
+            tagzirk.analyse([("a", "b")]).picture(fan="a")
 
 
 class Runs(unittest.TestCase):
