@@ -26,6 +26,7 @@ use Rattle.ov_dot.specs.Code.Seen.{ends, Fails, IsBadName, AreBadNames, IsNamele
 -- a text without tokens
 pub no_tokens : (bytes : List ℕ) (fault : TextFault) → Faults bytes fault → IsRefused bytes (fault_of fault)
 no_tokens bytes (text.NoToken line) is = inl (refl, record { tokenless = is })
+no_tokens bytes (text.TornName line) is = inr (inl (refl, is))
 no_tokens bytes text.OutOfMemory is = tt
 
 -- tokens that are no file
@@ -34,7 +35,7 @@ pub no_statements :
     → IsRefused bytes e
 no_statements bytes tokens (UnreadLine line why) are fails =
     let is = refused tokens line why fails in
-    inr (inl (record { tokens = tokens; are_tokens = are; no_file = is.0; in_line = is.1 }))
+    inr (inr (inl (record { tokens = tokens; are_tokens = are; no_file = is.0; in_line = is.1 })))
 no_statements bytes tokens OutOfMemory are fails = tt
 
 -- tokens say what their file says
@@ -69,14 +70,14 @@ pub no_names :
     → IsNameless said e → IsRefused bytes e
 no_names bytes tokens said (UnreadLine line why) are says is =
     let read = is_file bytes tokens said are says in
-    inr (inr (
+    inr (inr (inr (
       is.0,
       record {
         file = read.0;
         is_text = read.1;
         bad = subst (λ (s : Said). HasBadName s line) read.2 is.1;
       },
-    ))
+    )))
 no_names bytes tokens said OutOfMemory are says is = tt
 
 -- a file

@@ -1,11 +1,11 @@
 -- What is read of a DOT text: a dump, or why there is none.
 use Rattle.std.specs.Prelude.{◌≡◌, ℕ, List, [], ◌∷◌, ◌++◌, ◌⊎◌}
 use Rattle.ov_dump.specs.declared.dump_values.Dump.{Dump}
-use Rattle.ov_dot_tokens.specs.Tokens.{Lexeme, HasTokens, HasNoTokensFrom}
+use Rattle.ov_dot_tokens.specs.Tokens.{Lexeme, HasTokens, HasNoTokensFrom, HasTornName}
 use Rattle.ov_dot.specs.declared.fault.DotFault.{DotFault}
 use Rattle.ov_dot.specs.declared.fault.DotFault.TheVariants.{UnreadLine, OutOfMemory}
 use Rattle.ov_dot.specs.declared.fault.Why.{Why}
-use Rattle.ov_dot.specs.declared.fault.Why.TheVariants.{NoToken, NotUtf8, Unclosed}
+use Rattle.ov_dot.specs.declared.fault.Why.TheVariants.{NoToken, TornName, NotUtf8, Unclosed}
 use Rattle.ov_dot.specs.Dumps.{IsDumpOf, HasBadName}
 use Rattle.ov_dot.specs.Grammar.{AreFile, BeginFile, File, Spells, said_by}
 use Rattle.ov_dot.specs.Reasons.{IsReason}
@@ -65,6 +65,7 @@ pub record LacksName (text : List ℕ) (line : ℕ) : Type 0 where
 abbrev pub IsRefused : List ℕ → DotFault → Type 0
 IsRefused text (UnreadLine line why) =
     ((why ≡ NoToken) × LacksToken text line)
+    ⊎ (((why ≡ TornName) × HasTornName text line)
     ⊎ (LacksStatement text line why
-    ⊎ ((why ≡ NotUtf8) × LacksName text line))
+    ⊎ ((why ≡ NotUtf8) × LacksName text line)))
 IsRefused text OutOfMemory = Unit {0}

@@ -22,6 +22,8 @@ pub enum DotFault {
 pub enum Why {
     #[error("no word, mark or quoted text of DOT begins here, or it has no end")]
     NoToken,
+    #[error("two names stand here with nothing between them: write a name such as 10.0.0.1 or oslo-1 in quotes")]
+    TornName,
     #[error("a graph begins with `graph` or `digraph`, maybe with `strict` before it")]
     NoGraph,
     #[error("an opening brace is missing")]
@@ -34,7 +36,7 @@ pub enum Why {
     BadAttributes,
     #[error("an edge of a graph is written --, and an edge of a digraph ->")]
     WrongEdge,
-    #[error("a subgraph can't be the end of an edge here: write an edge for each of its nodes")]
+    #[error("an edge has a name at each end: in place of a subgraph, write an edge for each of its nodes")]
     SubgraphAsEnd,
     #[error("an HTML text can't stand here")]
     HtmlText,
@@ -68,6 +70,10 @@ impl From<TextFault> for DotFault {
             TextFault::NoToken { line } => DotFault::UnreadLine {
                 line,
                 why: Why::NoToken,
+            },
+            TextFault::TornName { line } => DotFault::UnreadLine {
+                line,
+                why: Why::TornName,
             },
             TextFault::OutOfMemory => DotFault::OutOfMemory,
         }

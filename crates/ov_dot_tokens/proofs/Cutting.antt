@@ -1,6 +1,6 @@
 -- The pieces of a text, one more each time, and their tokens.
 use Rattle.std.proofs.Common.{◌≡◌, ◌∙◌, ◌+◌, ◌<◌, ◌≤◌, ◌==◌, ◌&&◌, ◌++◌, ℕ, zero, suc, true, false, not}
-use Rattle.std.proofs.Common.{cond, List, []}
+use Rattle.std.proofs.Common.{cond, Bool, List, []}
 use Rattle.std.proofs.Common.{◌∷◌, length, take, drop, refl, sym, ap, subst, arith}
 use Rattle.std.proofs.Common.{append_assoc}
 use Rattle.std.specs.List.{count_by, list_all}
@@ -8,7 +8,11 @@ use Rattle.std.proofs.lemmas.Bool.{and_parts, eqb-true}
 use Rattle.std.proofs.lemmas.List.{append-nil, take-append-drop, length-take-le, length-drop}
 use Rattle.std.proofs.lemmas.List.Recursion.{is_count_by}
 use Rattle.ov_dot_tokens.specs.Pieces.{line_feed, is_in_line, is_feed_rest, is_piece, IsLongest, IsFirstPiece, IsCut}
-use Rattle.ov_dot_tokens.specs.Tokens.{Lexeme, feeds, kind_of, token_at, tokens_from, line_behind, behind_feed}
+use Rattle.ov_dot_tokens.specs.Pieces.{HasNoPrefix}
+use Rattle.ov_dot_tokens.specs.Tokens.{Lexeme, feeds, kind_of, is_word, token_at, tokens_from, line_behind, behind_feed}
+use Rattle.ov_dot_tokens.specs.Tokens.{HasTokens, HasNoTokensFrom, HasTornName}
+use Rattle.ov_dot_tokens.specs.Code.Neighbours.{ends_in_word, are_apart}
+use Rattle.ov_dot_tokens.proofs.Neighbours.{apart_more, word_more, last_word, none_torn}
 
 pub feeds_counted : (bs : List ℕ) → feeds bs ≡ count_by (λ b. b == line_feed) bs
 feeds_counted bs = is_count_by feeds (λ b. b == line_feed) refl (λ x xs. refl) bs
@@ -37,13 +41,16 @@ no_feeds_behind (b ∷ bs) is =
     let is_hash : b ≡ 35 = eqb-true b 35 hash in
     rw is_hash (no_feeds bs rest)
 
--- what was read of a text: its first pieces, their tokens, the line feeds in them but for the first, and the rest
-pub record SoFar (text : List ℕ) (tokens : List Lexeme) (n : ℕ) (rest : List ℕ) : Type 0 where
+-- what was read of a text: its first pieces, their tokens, the line feeds in them but for the first, the rest, and
+-- whether the last piece is a word
+pub record SoFar (text : List ℕ) (tokens : List Lexeme) (n : ℕ) (rest : List ℕ) (word : Bool) : Type 0 where
   pub pieces : List (List ℕ)
   pub cut : IsCut pieces (behind_feed text) rest
   pub told : tokens ≡ tokens_from 0 pieces
   pub line : n + 1 ≡ line_behind 0 pieces
   pub room : n + length rest ≤ length text
+  pub apart : are_apart false pieces ≡ true
+  pub last : word ≡ ends_in_word false pieces
 
 first_longest :
     (text : List ℕ) (m : ℕ) → IsLongest is_feed_rest m text
@@ -54,7 +61,7 @@ first_longest text m it (suc k) more within =
     it.longer_fail k (omega (arith, length-take-le m text it.within)) (omega arith)
 
 -- the line feed in front, with the comment behind it
-pub begun : (text : List ℕ) (m : ℕ) → IsLongest is_feed_rest m text → SoFar text [] 0 (drop m text)
+pub begun : (text : List ℕ) (m : ℕ) → IsLongest is_feed_rest m text → SoFar text [] 0 (drop m text) false
 unfolding tokens_from line_behind
 begun text m it = record {
   pieces = (line_feed ∷ take m text) ∷ [];
@@ -70,6 +77,8 @@ begun text m it = record {
   told = refl;
   line = ap (λ k. 0 + (1 + k)) (sym (no_feeds_behind (take m text) it.passes));
   room = let within = it.within in omega (arith, length-drop m text);
+  apart = refl;
+  last = refl;
 }
 
 cut_more :
@@ -111,11 +120,12 @@ first_piece n text it = record {
 
 -- one piece more
 pub more :
-    (text : List ℕ) (tokens : List Lexeme) (n : ℕ) (rest : List ℕ) (len : ℕ) → SoFar text tokens n rest
-    → IsLongest is_piece len rest
+    (text : List ℕ) (tokens : List Lexeme) (n : ℕ) (rest : List ℕ) (word : Bool) (len : ℕ)
+    → SoFar text tokens n rest word → IsLongest is_piece len rest
+    → (word && is_word (kind_of (take len rest))) ≡ false
     → SoFar text (tokens ++ token_at (n + 1) (take len rest) (kind_of (take len rest))) (n + feeds (take len rest))
-    (drop len rest)
-more text tokens n rest len so it =
+    (drop len rest) (is_word (kind_of (take len rest)))
+more text tokens n rest word len so it free =
     let piece = take len rest in
     let line = so.line in
     let room = so.room in
@@ -129,4 +139,49 @@ more text tokens n rest len so it =
           ∙ sym (tokens_more 0 so.pieces piece);
       line = omega (arith, behind);
       room = omega (arith, feeds_le piece, length-take-le len rest it.within, length-drop len rest);
+      apart =
+          apart_more false so.pieces piece so.apart
+          (subst (λ v. (v && is_word (kind_of piece)) ≡ false) so.last free);
+      last = sym (word_more false so.pieces piece);
+    }
+
+-- nothing is left
+pub done :
+    (text : List ℕ) (tokens : List Lexeme) (n : ℕ) (rest : List ℕ) (word : Bool) → SoFar text tokens n rest word
+    → (length rest == 0) ≡ true
+    → HasTokens text tokens
+done text tokens n [] word so none = (so.pieces, so.cut, none_torn false so.pieces so.apart, so.told)
+done text tokens n (b ∷ rest) word so none =
+    let empty = eqb-true (length (b ∷ rest)) 0 none in absurd (omega arith)
+
+-- what is left begins with no piece
+pub unread :
+    (text : List ℕ) (tokens : List Lexeme) (n : ℕ) (rest : List ℕ) (word : Bool) → SoFar text tokens n rest word
+    → (length rest == 0) ≡ false → HasNoPrefix is_piece rest
+    → HasNoTokensFrom text (n + 1)
+unread text tokens n [] word so some none = absurd cc
+unread text tokens n (b ∷ rest) word so some none =
+    (so.pieces, b ∷ rest, so.cut, omega arith, none, none_torn false so.pieces so.apart, so.line)
+
+-- the next piece is a word behind a word
+pub torn :
+    (text : List ℕ) (tokens : List Lexeme) (n : ℕ) (rest : List ℕ) (word : Bool) (len : ℕ)
+    → SoFar text tokens n rest word → IsLongest is_piece len rest
+    → word ≡ true → is_word (kind_of (take len rest)) ≡ true
+    → HasTornName text (n + 1)
+torn text tokens n rest word len so it behind is =
+    let piece = take len rest in
+    let end = last_word so.pieces (sym so.last ∙ behind) in
+    record {
+      before = end.0;
+      first = end.1;
+      second = piece;
+      rest = drop len rest;
+      cut =
+          subst (λ (ps : List (List ℕ)). IsCut ps (behind_feed text) (drop len rest))
+          (ap (λ ps. ps ++ piece ∷ []) end.2 ∙ append_assoc end.0 (end.1 ∷ []) (piece ∷ []))
+          (cut_more so.pieces (behind_feed text) rest piece (drop len rest) so.cut (first_piece len rest it));
+      none_before = none_torn false (end.0 ++ end.1 ∷ []) (subst (λ ps. are_apart false ps ≡ true) end.2 so.apart);
+      torn = (end.3, is);
+      is_line = so.line ∙ ap (line_behind 0) end.2;
     }

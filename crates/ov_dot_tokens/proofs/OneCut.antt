@@ -1,11 +1,11 @@
 -- A text is cut into pieces in one way.
 use Rattle.std.proofs.Common.{◌≡◌, ◌∙◌, ◌<◌, ◌≤◌, ℕ, zero, suc, true, false, List, [], ◌∷◌}
 use Rattle.std.proofs.Common.{length, take, drop}
-use Rattle.std.proofs.Common.{refl, sym, ap, subst, arith, length-append, ⊎_elim}
+use Rattle.std.proofs.Common.{◌++◌, refl, sym, ap, subst, arith, append_assoc, length-append, ⊎_elim}
 use Rattle.std.proofs.Math.Seq.{take-append_seam, drop-append_seam}
 use Rattle.std.proofs.str.Laws.{order}
 use Rattle.ov_dot_tokens.specs.Pieces.{is_piece, HasNoPrefix, IsFirstPiece, IsCut}
-use Rattle.ov_dot_tokens.specs.Tokens.{Lexeme, HasTokens, HasNoTokensFrom, tokens_from, behind_feed}
+use Rattle.ov_dot_tokens.specs.Tokens.{Lexeme, HasTokens, HasNoTokensFrom, HasTornName, tokens_from, behind_feed}
 
 prefix : (p text b : List ℕ) → IsFirstPiece p text b → take (length p) text ≡ p
 prefix p text b it = ap (take (length p)) it.parts ∙ take-append_seam p b
@@ -68,7 +68,7 @@ none_left (suc k) within = absurd (omega arith)
 pub one_reading : (text : List ℕ) (ts us : List Lexeme) → HasTokens text ts → HasTokens text us → ts ≡ us
 one_reading text ts us first other =
     let same = one_cut first.0 other.0 (behind_feed text) [] [] first.1 other.1 none_left none_left in
-    first.2 ∙ ap (tokens_from 0) same.0 ∙ sym other.2
+    first.3 ∙ ap (tokens_from 0) same.0 ∙ sym other.3
 
 -- a text that has no tokens from a line on has none
 pub no_reading : (text : List ℕ) (line : ℕ) (ts : List Lexeme) → HasNoTokensFrom text line → HasTokens text ts → ⊥
@@ -77,3 +77,24 @@ no_reading text line ts lacks has =
     let some = lacks.3 in
     let empty = ap length same.1 in
     absurd (omega arith)
+
+-- the first pieces of a text are the first of all its pieces
+first_pieces :
+    (ps qs : List (List ℕ)) (text r : List ℕ) → IsCut ps text r → IsCut qs text []
+    → (later : List (List ℕ)) × (qs ≡ ps ++ later)
+first_pieces [] qs text r cut whole = (qs, refl)
+first_pieces (p ∷ ps) [] text r cut whole =
+    absurd (no_first p text cut.0 cut.1 (subst (HasNoPrefix is_piece) (sym whole) none_left))
+first_pieces (p ∷ ps) (q ∷ qs) text r cut whole =
+    let first = same_piece p q text cut.0 whole.0 cut.1 whole.1 in
+    let rest = same_rest p q text cut.0 whole.0 cut.1 whole.1 in
+    let end = first_pieces ps qs whole.0 r (subst (λ t. IsCut ps t r) rest cut.2) whole.2 in
+    (end.0, λ i. sym first i ∷ end.1 i)
+
+-- a text with a torn name has no tokens
+pub no_torn_reading : (text : List ℕ) (line : ℕ) (ts : List Lexeme) → HasTornName text line → HasTokens text ts → ⊥
+no_torn_reading text line ts torn has =
+    let pieces = torn.before ++ torn.first ∷ torn.second ∷ [] in
+    let end = first_pieces pieces has.0 (behind_feed text) torn.rest torn.cut has.1 in
+    has.2 torn.before torn.first torn.second end.0
+    (end.1 ∙ append_assoc torn.before (torn.first ∷ torn.second ∷ []) end.0) torn.torn

@@ -1,6 +1,6 @@
 -- The tokens of a DOT text, and the lines in which they stand.
-use Rattle.std.specs.Prelude.{◌≡◌, ℕ, ◌+◌, ◌<◌, Bool, ◌==◌, ◌||◌, nat_eq, List, [], ◌∷◌, ◌++◌, map, codes, Option, Some}
-use Rattle.std.specs.Prelude.{None}
+use Rattle.std.specs.Prelude.{◌≡◌, ℕ, ◌+◌, ◌<◌, Bool, true, false, ◌==◌, ◌||◌, nat_eq, List, [], ◌∷◌, ◌++◌, map, codes}
+use Rattle.std.specs.Prelude.{Option, Some, None}
 use Rattle.std.specs.Prelude.{length, if◌then◌else◌}
 use Rattle.std.specs.Cmp.Lexicographic.{pointwise}
 use Rattle.std.specs.Char.{to_ascii_lowercase}
@@ -64,6 +64,17 @@ kind_of (b ∷ bs) =
     else (if b == 45 then Some (dash_kind bs)
     else Some (word_kind (b ∷ bs)))))))))))))
 
+-- a piece is a word or a numeral, by what kind of token it is: a keyword, or a bare text
+abbrev pub is_word : Option Kind → Bool
+is_word (Some Strict) = true
+is_word (Some Graph) = true
+is_word (Some Digraph) = true
+is_word (Some Node) = true
+is_word (Some Edge) = true
+is_word (Some Subgraph) = true
+is_word (Some Bare) = true
+is_word kind = false
+
 -- how many line feeds these bytes have
 abbrev pub feeds : List ℕ → ℕ
 feeds [] = 0
@@ -88,15 +99,40 @@ line_behind line (piece ∷ pieces) = line_behind (line + feeds piece) pieces
 abbrev pub behind_feed : List ℕ → List ℕ
 behind_feed text = line_feed ∷ text
 
--- a text has these tokens: it is cut into pieces, each as long as it can be, and these are the tokens among them
+-- two neighbouring pieces are torn: both are words or numerals, and nothing stands between them. So `10.0.0.1` is cut
+-- into the three numerals `10.0`, `.0` and `.1`, and `oslo-1` into `oslo` and `-1`
+abbrev pub AreTorn : List ℕ → List ℕ → Type 0
+AreTorn first second = (is_word (kind_of first) ≡ true) × (is_word (kind_of second) ≡ true)
+
+-- no two neighbours among these pieces are torn
+abbrev pub HasNoneTorn : List (List ℕ) → Type 0
+HasNoneTorn pieces =
+    (before : List (List ℕ)) (first second : List ℕ) (later : List (List ℕ))
+    → pieces ≡ before ++ first ∷ second ∷ later → ¬ AreTorn first second
+
+-- a text has these tokens: it is cut into pieces, each as long as it can be, no two of them are torn, and these are the
+-- tokens among them
 abbrev pub HasTokens : List ℕ → List Lexeme → Type 0
 HasTokens text tokens =
-    (pieces : List (List ℕ)) × IsCut pieces (behind_feed text) [] × (tokens ≡ tokens_from 0 pieces)
+    (pieces : List (List ℕ)) × IsCut pieces (behind_feed text) [] × HasNoneTorn pieces
+    × (tokens ≡ tokens_from 0 pieces)
 
--- a text has no tokens from this line on: behind its first pieces, in this line, some bytes are left, and no prefix of
--- them is a piece
+-- a text has no tokens from this line on: behind its first pieces, of which no two are torn, some bytes are left, in this
+-- line, and no prefix of them is a piece
 abbrev pub HasNoTokensFrom : List ℕ → ℕ → Type 0
 HasNoTokensFrom text line =
     (pieces : List (List ℕ)) × (rest : List ℕ)
-    × IsCut pieces (behind_feed text) rest × (0 < length rest) × HasNoPrefix is_piece rest
+    × IsCut pieces (behind_feed text) rest × (0 < length rest) × HasNoPrefix is_piece rest × HasNoneTorn pieces
     × (line ≡ line_behind 0 pieces)
+
+-- a text has a torn name, whose second part begins in this line: its first pieces end with two that are torn, and no two
+-- before are
+pub record HasTornName (text : List ℕ) (line : ℕ) : Type 0 where
+  pub before : List (List ℕ)
+  pub first : List ℕ
+  pub second : List ℕ
+  pub rest : List ℕ
+  pub cut : IsCut (before ++ first ∷ second ∷ []) (behind_feed text) rest
+  pub none_before : HasNoneTorn (before ++ first ∷ [])
+  pub torn : AreTorn first second
+  pub is_line : line ≡ line_behind 0 (before ++ first ∷ [])

@@ -7,6 +7,6 @@ mod theorems;
 mod token;
 mod token_reading;
 
-pub use theorems::{no_reading, one_reading};
+pub use theorems::{no_reading, no_torn_reading, one_reading};
 pub use token::{Kind, Token};
 pub use token_reading::{TextFault, read_tokens};

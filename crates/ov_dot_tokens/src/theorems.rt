@@ -1,5 +1,5 @@
 ghost use Rattle.std.specs.Prelude.{◌≡◌, ℕ, List};
-ghost use Rattle.ov_dot_tokens.specs.Tokens.{Lexeme, HasTokens, HasNoTokensFrom};
+ghost use Rattle.ov_dot_tokens.specs.Tokens.{Lexeme, HasTokens, HasNoTokensFrom, HasTornName};
 
 /// A text has one list of tokens.
 pub fn one_reading()
@@ -11,4 +11,10 @@ pub fn one_reading()
 pub fn no_reading()
     ensures { (text : List ℕ) (line : ℕ) (tokens : List Lexeme) →
         HasNoTokensFrom text line → HasTokens text tokens → ⊥ }
+{}
+
+/// A text for which TornName is returned has no list of tokens.
+pub fn no_torn_reading()
+    ensures { (text : List ℕ) (line : ℕ) (tokens : List Lexeme) →
+        HasTornName text line → HasTokens text tokens → ⊥ }
 {}

@@ -1,6 +1,6 @@
 ghost use Rattle.std.specs.Prelude.{◌≡◌, ◌↔◌, IsTrue, map, codes, nat_eq};
 ghost use Rattle.std.specs.Char.{to_ascii_lowercase};
-ghost use Rattle.ov_dot_tokens.specs.Tokens.{kind_of, dash_kind, word_kind, is_keyword};
+ghost use Rattle.ov_dot_tokens.specs.Tokens.{kind_of, dash_kind, is_word, word_kind, is_keyword};
 
 /// What a token is.
 #[derive(Clone, Copy, Debug, PartialEq, Eq)]
@@ -60,6 +60,17 @@ pub(crate) fn kind_of(piece: &[u8]) -> Option<Kind>
         b'<' => Some(Kind::Html),
         b'-' => Some(dash_kind(rest)),
         _ => Some(word_kind(piece)),
+    }
+}
+
+/// Whether a piece of this kind is a word or a numeral: nothing but the next piece says where it ends.
+pub(crate) fn is_word(kind: Option<Kind>) -> bool
+    ensures { result ≡ is_word kind }
+{
+    match kind {
+        Some(Kind::Strict | Kind::Graph | Kind::Digraph) => true,
+        Some(Kind::Node | Kind::Edge | Kind::Subgraph | Kind::Bare) => true,
+        _ => false,
     }
 }
 

@@ -1,9 +1,9 @@
--- how the loop begins, and that it counts no more line feeds than there are bytes
-use Rattle.std.proofs.Common.{◌≡◌, ◌∙◌, ◌-◌, [], length, take, drop, ap, sym, subst, arith}
+-- how the loop begins and ends, and that it counts no more line feeds than there are bytes
+use Rattle.std.proofs.Common.{◌≡◌, ◌∙◌, ◌-◌, false, [], length, take, drop, ap, sym, subst, arith}
 use Rattle.std.proofs.lemmas.List.{length-drop}
 use Rattle.std.proofs.Math.Seq.{take-length}
-use Rattle.ov_dot_tokens.specs.Tokens.{lexemes}
-use Rattle.ov_dot_tokens.proofs.Cutting.{SoFar, begun, feeds_le}
+use Rattle.ov_dot_tokens.specs.Tokens.{lexemes, is_word, kind_of}
+use Rattle.ov_dot_tokens.proofs.Cutting.{SoFar, begun, feeds_le, done, unread, torn}
 use Rattle.ov_dot_tokens.proofs.token_reading.read_tokens.Goals as goal
 
 pub loop-rest-init : goal.loop-rest-init
@@ -12,8 +12,8 @@ loop-rest-init c =
     let len = c.comment_len.result in
     let whole : take (length text - len) (drop len text) ≡ drop len text =
     ap (λ k. take k (drop len text)) (sym (length-drop len text)) ∙ take-length (drop len text) in
-    subst (λ ts. SoFar text (lexemes ts) 0 (take (length text - len) (drop len text))) (sym c.new-tokens.ensures.items)
-    (subst (λ r. SoFar text [] 0 r) (sym whole) (begun text len c.comment_len.ensures))
+    subst (λ ts. SoFar text (lexemes ts) 0 (take (length text - len) (drop len text)) false) (sym c.new-tokens.ensures.items)
+    (subst (λ r. SoFar text [] 0 r false) (sym whole) (begun text len c.comment_len.ensures))
 
 pub overflow_add-feeds-in-loop-rest : goal.overflow_add-feeds-in-loop-rest
 overflow_add-feeds-in-loop-rest c =
@@ -23,3 +23,19 @@ overflow_add-feeds-in-loop-rest c =
     let front = c.split_at.ensures.front_len in
     let within = c.in-Some.ensures.within in
     omega arith
+
+pub returns-in_default-clause-fault : goal.returns-in_default-clause-fault
+returns-in_default-clause-fault c =
+    unread c.args.text.now (lexemes c.loop-rest.tokens.items) c.loop-rest.feeds c.loop-rest.rest.now
+    c.loop-rest.behind_word c.loop-rest.invariant (sym c.is_empty.ensures ∙ c.loop-rest-test.true) c.in_default.ensures
+
+pub returns-then-is_word-clause-fault : goal.returns-then-is_word-clause-fault
+returns-then-is_word-clause-fault c =
+    torn c.args.text.now (lexemes c.loop-rest.tokens.items) c.loop-rest.feeds c.loop-rest.rest.now
+    c.loop-rest.behind_word c.in-Some.len c.loop-rest.invariant c.in-Some.ensures c.if-behind_word.true
+    (sym (c.if-is_word.ensures ∙ ap is_word (c.kind_of-kind.ensures ∙ ap kind_of c.split_at.ensures.front)))
+
+pub returns-clause-tokens : goal.returns-clause-tokens
+returns-clause-tokens c =
+    done c.args.text.now (lexemes c.loop-rest.tokens.items) c.loop-rest.feeds c.loop-rest.rest.now
+    c.loop-rest.behind_word c.loop-rest.invariant (sym c.is_empty.ensures ∙ c.loop-rest-test.false)
