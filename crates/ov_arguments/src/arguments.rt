@@ -3,9 +3,8 @@ ghost use Rattle.std.specs.Prelude.{option_map, IfOk, IfSome, IsErrOf};
 ghost use Rattle.std.specs.IoError.{error_kind};
 ghost use Rattle.clap.specs.Words.{found_of, first_value};
 ghost use Rattle.ov_arguments.specs.Arguments.{AreReadable, AreReadableFor, AreTaken, HasGroupOfIds, IsAsked};
-ghost use Rattle.ov_arguments.specs.Arguments.{IsOfGiven};
-ghost use Rattle.ov_arguments.specs.Arguments.{file_asked, group_asked, group_names_asked, is_flagged, workers_asked};
-ghost use Rattle.ov_arguments.specs.Arguments.{fault_of_parse, fault_of_text, number_of};
+ghost use Rattle.ov_arguments.specs.Arguments.{IsOfGiven, file_asked, group_asked, group_names_asked, is_flagged};
+ghost use Rattle.ov_arguments.specs.Arguments.{workers_asked, fault_of_parse, fault_of_text, number_of};
 ghost use Rattle.ov_arguments.specs.declared.arguments.ArgumentsFault.TheVariants.{BadArguments};
 ghost use Rattle.ov_arguments.specs.declared.arguments.ArgumentsFault.TheVariants.{OutOfMemory as out_of_memory};
 
@@ -162,16 +161,17 @@ impl From<ClapError> for ArgumentsFault {
 /// Reads the arguments that follow the program's name:
 ///
 /// - `run [FILE] [--explain] [--strict] [--progress]`, which no argument asks for too;
-/// - `analyse [FILE] [--group IDS] [--workers N] [--certificate] [--names] [--explain] [--progress]`. IDS are one or more
-///   ids of decimal digits and 32 bits, with commas between them; beside `--names` they may be any text, which is not
-///   read here. N is decimal digits, and from 1 to 64; without it there is one worker;
+/// - `analyse [FILE] [--group IDS] [--workers N] [--certificate] [--names] [--explain] [--progress]`. IDS are one or
+/// more   ids of decimal digits and 32 bits, with commas between them; beside `--names` they may be any text, which is
+/// not   read here. N is decimal digits, and from 1 to 64; without it there is one worker;
 /// - `import [FILE] [--views] [--edges] [--dot] [--either] [--entries]`, with one of the first three flags at most;
-/// - `picture [FILE] [--names GRAPHFILE] [--pair I,J] [--fan J] [--dot]`, with ids, and with `--pair` or `--fan` at most;
+/// - `picture [FILE] [--names GRAPHFILE] [--pair I,J] [--fan J] [--dot]`, with ids, and with `--pair` or `--fan` at
+/// most;
 /// - `graph [FILE]`.
 ///
 /// A file that is absent or `-` is standard input. No option may be given twice. After `--` an argument that begins
-/// with `-` is a file. All other arguments are refused with BadArguments (73), also those that ask for help. OutOfMemory
-/// (99) is returned if an allocation was refused. The arguments and the numbers are chosen here.
+/// with `-` is a file. All other arguments are refused with BadArguments (73), also those that ask for help.
+/// OutOfMemory (99) is returned if an allocation was refused. The arguments and the numbers are chosen here.
 pub fn read_arguments(alloc: Global, arguments: &[String]) -> Result<Request, ArgumentsFault>
     ensures group { IfOk result HasGroupOfIds }
     ensures given { IfOk result (IsOfGiven (map (λ argument. string_bytes argument) arguments.now)) }

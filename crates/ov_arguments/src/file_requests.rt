@@ -55,7 +55,8 @@ pub struct PictureRequest {
 /// The import that is asked for, by what was found after the command.
 pub(crate) fn import_of(found: &ArgMatches) -> Result<ImportRequest, ArgumentsFault>
     ensures asked { IfOk result (λ dump. format_of (first_value (found_of found.now)) ≡ Some dump.format) }
-    ensures either { IfOk result (λ dump. is_flagged (first_value (found_of found.now) (codes "either")) ≡ dump.either) }
+    ensures either { IfOk result (λ dump.
+        is_flagged (first_value (found_of found.now) (codes "either")) ≡ dump.either) }
     ensures entries { IfOk result
         (λ dump. is_flagged (first_value (found_of found.now) (codes "entries")) ≡ dump.entries) }
     ensures bad { IsErrOf result BadArguments → (format_of (first_value (found_of found.now)) ≡ None) }

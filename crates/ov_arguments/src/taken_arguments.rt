@@ -21,8 +21,8 @@ Examples:
   overlay sweep --active 3,5,8 --summary";
 
 /// What help says of `overlay`.
-const ABOUT: &str =
-    "Runs a scenario file of overlay nodes, analyses a graph file, or grows overlays. Imports dumps, draws certificates.";
+const ABOUT: &str = "\
+Runs a scenario file of overlay nodes, analyses a graph file, or grows overlays. Imports dumps, draws certificates.";
 
 /// What help says below the commands.
 const BELOW: &str = "\

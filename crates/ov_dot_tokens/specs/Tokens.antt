@@ -6,9 +6,9 @@ use Rattle.std.specs.Cmp.Lexicographic.{pointwise}
 use Rattle.std.specs.Char.{to_ascii_lowercase}
 use Rattle.ov_dot_tokens.specs.declared.token.Kind.{Kind}
 use Rattle.ov_dot_tokens.specs.declared.token.Kind.TheVariants.{Strict, Graph, Digraph, Node, Edge, Subgraph, Bare}
-use Rattle.ov_dot_tokens.specs.declared.token.Kind.TheVariants.{Quoted}
-use Rattle.ov_dot_tokens.specs.declared.token.Kind.TheVariants.{Html, OpenBrace, CloseBrace, OpenBracket, CloseBracket}
-use Rattle.ov_dot_tokens.specs.declared.token.Kind.TheVariants.{Semicolon, Comma, Equals, Colon, Line, Arrow}
+use Rattle.ov_dot_tokens.specs.declared.token.Kind.TheVariants.{Quoted, Html, OpenBrace, CloseBrace, OpenBracket}
+use Rattle.ov_dot_tokens.specs.declared.token.Kind.TheVariants.{CloseBracket, Semicolon, Comma, Equals, Colon, Line}
+use Rattle.ov_dot_tokens.specs.declared.token.Kind.TheVariants.{Arrow}
 use Rattle.ov_dot_tokens.specs.declared.token.Token.{Token}
 use Rattle.ov_dot_tokens.specs.Pieces.{line_feed, is_blank, IsCut, HasNoPrefix, is_piece}
 
@@ -117,16 +117,16 @@ HasTokens text tokens =
     (pieces : List (List ℕ)) × IsCut pieces (behind_feed text) [] × HasNoneTorn pieces
     × (tokens ≡ tokens_from 0 pieces)
 
--- a text has no tokens from this line on: behind its first pieces, of which no two are torn, some bytes are left, in this
--- line, and no prefix of them is a piece
+-- a text has no tokens from this line on: behind its first pieces, of which no two are torn, some bytes are left, in
+-- this line, and no prefix of them is a piece
 abbrev pub HasNoTokensFrom : List ℕ → ℕ → Type 0
 HasNoTokensFrom text line =
     (pieces : List (List ℕ)) × (rest : List ℕ)
     × IsCut pieces (behind_feed text) rest × (0 < length rest) × HasNoPrefix is_piece rest × HasNoneTorn pieces
     × (line ≡ line_behind 0 pieces)
 
--- a text has a torn name, whose second part begins in this line: its first pieces end with two that are torn, and no two
--- before are
+-- a text has a torn name, whose second part begins in this line: its first pieces end with two that are torn, and no
+-- two before are
 pub record HasTornName (text : List ℕ) (line : ℕ) : Type 0 where
   pub before : List (List ℕ)
   pub first : List ℕ

@@ -1,6 +1,6 @@
 -- Listings that are looked at one after another, for those that are not answered; and names without an entry.
-use Rattle.std.proofs.Common.{◌≡◌, ◌∙◌, ◌↔◌, ◌⊎◌, ◌+◌, ◌<◌, ◌≤◌, ℕ, zero, suc, List, [], ◌∷◌, ◌++◌, inl, inr, sym, ap, subst, refl}
-use Rattle.std.proofs.Common.{take, slice_get, Some, unwrap_or, length, get_or, arith, eq-or-lt_of_le}
+use Rattle.std.proofs.Common.{◌≡◌, ◌∙◌, ◌↔◌, ◌⊎◌, ◌+◌, ◌<◌, ◌≤◌, ℕ, zero, suc, List, [], ◌∷◌, ◌++◌, inl, inr, sym, ap}
+use Rattle.std.proofs.Common.{subst, refl, take, slice_get, Some, unwrap_or, length, get_or, arith, eq-or-lt_of_le}
 use Rattle.ov_ids.specs.Members.{Ascends, Has, Ordered}
 use Rattle.ov_ids.proofs.Members.{has_append_cases, has_append_left, has_append_right}
 use Rattle.ov_dump.specs.Dumps.{AreUnanswered, AreWithoutEntry, IsUnanswered, ends_of, names_of}
@@ -76,7 +76,9 @@ begun listings told places no_pair no_place = record {
   each = λ q. ((λ h. absurd (subst (λ (ps : List ℕ). Has ps q) no_place h)), (λ h. absurd (omega (arith, h.0))));
 }
 
-pub here : (listings : List Listing) (i : ℕ) (d : Listing) → i < length listings → slice_get listings i ≡ Some (get_or listings i d)
+pub here :
+    (listings : List Listing) (i : ℕ) (d : Listing) → i < length listings
+    → slice_get listings i ≡ Some (get_or listings i d)
 here [] i d l = absurd (omega arith)
 here (x ∷ xs) zero d l = refl
 here (x ∷ xs) (suc i) d l = here xs i d (omega arith)

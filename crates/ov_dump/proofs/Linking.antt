@@ -1,6 +1,6 @@
 -- Links that follow from who lists whom.
-use Rattle.std.proofs.Common.{◌≡◌, ◌≢◌, ◌∙◌, ◌↔◌, ◌⊎◌, ◌<◌, ◌≤◌, inl, inr, List, [], ◌∷◌, ◌++◌, ℕ, sym, ap, ap₂, subst, refl}
-use Rattle.std.proofs.Common.{Bool, true, false, MatchBool, length, arith}
+use Rattle.std.proofs.Common.{◌≡◌, ◌≢◌, ◌∙◌, ◌↔◌, ◌⊎◌, ◌<◌, ◌≤◌, inl, inr, List, [], ◌∷◌, ◌++◌, ℕ, sym, ap, ap₂, subst}
+use Rattle.std.proofs.Common.{refl, Bool, true, false, MatchBool, length, arith}
 use Rattle.ov_ids.specs.Members.{Has, Ordered}
 use Rattle.ov_ids.proofs.Members.{same_ordered}
 use Rattle.ov_graph.specs.Changes.{ArePair, GainsLink}
@@ -142,7 +142,8 @@ adds_begun K other old left graph all = record {
   graph = graph;
   own = λ l h. subst (λ (ls : List (ℕ × ℕ)). Has ls l) all h;
   links = λ i j. subst
-      (λ (ls : List (ℕ × ℕ)). ((JoinedBy ls i j × K i j) ⊎ Linked old i j) ↔ ((Linked other i j × K i j) ⊎ Linked old i j))
+      (λ (ls : List (ℕ × ℕ)). ((JoinedBy ls i j × K i j) ⊎ Linked old i j)
+      ↔ ((Linked other i j × K i j) ⊎ Linked old i j))
       (sym all) ((λ h. h), (λ h. h));
 }
 

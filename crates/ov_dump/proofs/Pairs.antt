@@ -1,6 +1,6 @@
 -- Sets of pairs of names.
-use Rattle.std.proofs.Common.{◌≡◌, ◌∙◌, ◌↔◌, ◌⊎◌, inl, inr, List, [], ◌∷◌, ℕ, Bool, true, false, cond, not, ◌&&◌, IsTrue}
-use Rattle.std.proofs.Common.{nat_eq, map, sym, ap, ap₂, subst, refl, Bor}
+use Rattle.std.proofs.Common.{◌≡◌, ◌∙◌, ◌↔◌, ◌⊎◌, inl, inr, List, [], ◌∷◌, ℕ, Bool, true, false, cond, not, ◌&&◌}
+use Rattle.std.proofs.Common.{IsTrue, nat_eq, map, sym, ap, ap₂, subst, refl, Bor}
 use Rattle.std.proofs.lemmas.Bool.{and_from, and_parts, both_ways}
 use Rattle.std.proofs.lemmas.Slice.Eq.{bytes_eq-Decides}
 use Rattle.std.specs.Cmp.Lexicographic.{pointwise}

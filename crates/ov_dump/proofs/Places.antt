@@ -1,6 +1,6 @@
 -- An item of a list, with those before it and those behind it.
-use Rattle.std.proofs.Common.{◌≡◌, ◌∙◌, ◌<◌, ◌≤◌, List, [], ◌∷◌, ◌++◌, ℕ, zero, suc, sym, ap, arith, refl, length, get_or}
-use Rattle.std.proofs.Common.{take, drop, map, slice_get, Some, ◌⊎◌, inl, inr, unwrap_or, IfNone, None, Option}
+use Rattle.std.proofs.Common.{◌≡◌, ◌∙◌, ◌<◌, ◌≤◌, List, [], ◌∷◌, ◌++◌, ℕ, zero, suc, sym, ap, arith, refl, length}
+use Rattle.std.proofs.Common.{get_or, take, drop, map, slice_get, Some, ◌⊎◌, inl, inr, unwrap_or, IfNone, None, Option}
 use Rattle.ov_ids.specs.Members.{Has, Ordered}
 use Rattle.ov_ids.proofs.Members.{all_member, all_from_members}
 use Rattle.std.specs.List.{AllByRecursion}

@@ -93,8 +93,8 @@ abbrev pub namings : Choice → Dump → List Naming
 namings choice d =
     entry_namings d.entries ++ (if choice.entries_only then [] else flat_map listing_namings d.listings)
 
--- with these names taken, the next one is one too many for a graph: `kept` are the different ones among them, as many as
--- a graph may have, and the next one is another
+-- with these names taken, the next one is one too many for a graph: `kept` are the different ones among them, as many
+-- as a graph may have, and the next one is another
 pub record IsOneTooMany (before : List Naming) (name : List ℕ) (kept : List (List ℕ)) : Type 0 where
   pub ascend : Ordered ComesBefore kept
   pub each : (n : List ℕ) → Has kept n ↔ Has (map (λ m. m.1) before) n

@@ -112,7 +112,8 @@ added bytes seen seen' entries entries' listings listings' left rest n line a b 
       ∙ ap (λ ls. ls ++ flat_map listings_of edges) (sym grown) in
       subst (λ (es : List Entry). SaysEdges bytes
       (record { entries = es; listings = listings' ++ flat_map listings_of edges })) (one.2 ∙ two.2)
-      (subst (λ (ls : List Listing). SaysEdges bytes (record { entries = entries ++ one.0; listings = ls })) listings_are
+      (subst (λ (ls : List Listing). SaysEdges bytes (record { entries = entries ++ one.0; listings = ls }))
+      listings_are
       whole);
   fails = λ m why f.
       g.fails m why (subst (λ (ls : List (ℕ × List ℕ)). IsUnreadAt ls m why) (sym first) (inr (inr (a, b, said), f)));
@@ -137,7 +138,8 @@ pub all_read : (bytes : List ℕ) (seen : List (List ℕ)) (entries : List Entry
     → SaysEdges bytes (record { entries = entries; listings = listings })
 all_read bytes seen entries listings left g none =
     subst (λ (es : List Entry). SaysEdges bytes (record { entries = es; listings = listings })) (append-nil entries)
-    (subst (λ (ls : List Listing). SaysEdges bytes (record { entries = entries ++ []; listings = ls })) (append-nil listings)
+    (subst (λ (ls : List Listing). SaysEdges bytes (record { entries = entries ++ []; listings = ls }))
+    (append-nil listings)
     (g.says [] [] (subst (λ (ls : List (ℕ × List ℕ)). SayEdges ls []) (sym none) refl) refl))
 
 pub no_memory : (bytes : List ℕ) (fault : ReadingFault) → fault ≡ OutOfMemory → IsEdgesFault bytes fault

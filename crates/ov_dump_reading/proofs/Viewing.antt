@@ -1,6 +1,6 @@
 -- Members of an object and items of a list that are read one after another.
-use Rattle.std.proofs.Common.{◌≡◌, ◌≢◌, ◌∙◌, ◌+◌, ◌<◌, ◌≤◌, ℕ, zero, suc, List, [], ◌∷◌, ◌++◌, inl, inr, sym, ap, subst, refl}
-use Rattle.std.proofs.Common.{append_assoc, append-nil, arith, drop, get_or, length, Bor, Option, Some, None}
+use Rattle.std.proofs.Common.{◌≡◌, ◌≢◌, ◌∙◌, ◌+◌, ◌<◌, ◌≤◌, ℕ, zero, suc, List, [], ◌∷◌, ◌++◌, inl, inr, sym, ap, subst}
+use Rattle.std.proofs.Common.{refl, append_assoc, append-nil, arith, drop, get_or, length, Bor, Option, Some, None}
 use Rattle.std.proofs.Common.{option_map, unwrap_or}
 use Rattle.json.specs.Find.{as_str}
 use Rattle.json.specs.Json.{Json, null, boolean, number, string, array, object, Items, no_items, item}
@@ -117,7 +117,10 @@ pub reads_begun : (all : Members) (entries : List Entry) (listings : List Listin
     → ReadsOn all 1 entries listings all
 reads_begun all entries listings no_entry no_listing = record {
   says = λ rest s.
-      subst (λ (es : List Entry). SayDump 1 all (record { entries = es ++ rest.entries; listings = listings ++ rest.listings }))
+      subst (λ (es : List Entry). SayDump 1 all (record {
+        entries = es ++ rest.entries;
+        listings = listings ++ rest.listings;
+      }))
       (sym no_entry)
       (subst (λ (ls : List Listing). SayDump 1 all (record { entries = rest.entries; listings = ls ++ rest.listings }))
       (sym no_listing) s);
@@ -151,7 +154,8 @@ reads_more all at entries entries' listings listings' left rest name v names r f
       sym (append_assoc entries (entry ∷ []) d.entries) ∙ ap (λ es. es ++ d.entries) (sym e) in
       let listings_are : listings ++ (listings_of at name names ++ d.listings) ≡ listings' ++ d.listings =
       sym (append_assoc listings (listings_of at name names) d.listings) ∙ ap (λ ls. ls ++ d.listings) (sym f) in
-      subst (λ (es : List Entry). SayDump 1 all (record { entries = es; listings = listings' ++ d.listings })) entries_are
+      subst (λ (es : List Entry). SayDump 1 all (record { entries = es; listings = listings' ++ d.listings }))
+      entries_are
       (subst (λ (ls : List Listing). SayDump 1 all (record { entries = entries ++ (entry ∷ d.entries); listings = ls }))
       listings_are whole);
   fails = λ fault g. r.fails fault
@@ -186,7 +190,8 @@ reads_all all at entries listings left r none =
     let whole = r.says (record { entries = []; listings = [] })
     (subst (λ (ms : Members). SayDump at ms (record { entries = []; listings = [] })) (sym none) (refl, refl)) in
     subst (λ (es : List Entry). SayDump 1 all (record { entries = es; listings = listings })) (append-nil entries)
-    (subst (λ (ls : List Listing). SayDump 1 all (record { entries = entries ++ []; listings = ls })) (append-nil listings)
+    (subst (λ (ls : List Listing). SayDump 1 all (record { entries = entries ++ []; listings = ls }))
+    (append-nil listings)
     whole)
 
 member_at : {A : Type 0} (ms : List (Bor (List ℕ) × Value A)) (i : ℕ) (d : Bor (List ℕ) × Value A) → i < length ms

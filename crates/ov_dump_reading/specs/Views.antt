@@ -1,6 +1,7 @@
 -- Dumps as JSON (RFC 8259): an object, in which each key is a name with an entry, and its value the list of the names
 -- that it lists as its peers. A key that is there twice gives two entries.
-use Rattle.std.specs.Prelude.{◌≡◌, ◌≢◌, ◌⊎◌, ⊤, ℕ, ◌+◌, List, [], ◌∷◌, ◌++◌, map, IsUtf8, Option, Some, None, option_map}
+use Rattle.std.specs.Prelude.{◌≡◌, ◌≢◌, ◌⊎◌, ⊤, ℕ, ◌+◌, List, [], ◌∷◌, ◌++◌, map, IsUtf8, Option, Some, None}
+use Rattle.std.specs.Prelude.{option_map}
 use Rattle.json.specs.Json.{Json, string, array, object, Items, no_items, item}
 use Rattle.json.specs.Json.{Members, no_members, member, document}
 use Rattle.ov_dump.specs.declared.dump_values.Dump.{Dump}

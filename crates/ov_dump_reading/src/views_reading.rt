@@ -21,7 +21,8 @@ struct ViewParts {
 /// names that it lists. A key that is there twice gives two entries.
 ///
 /// NotJson (60): the bytes are no UTF-8 or no JSON. NotViews (83): they are another JSON value than an object. NoView
-/// (83) says the first entry whose value is no list of texts. OutOfMemory (99) is returned if an allocation was refused.
+/// (83) says the first entry whose value is no list of texts. OutOfMemory (99) is returned if an allocation was
+/// refused.
 pub fn read_views(alloc: Global, bytes: &[u8]) -> Result<Dump, ReadingFault>
     ensures dump { IfOk result (SaysViews bytes.now) }
     ensures fault { IfErr result (IsViewsFault bytes.now) }

@@ -93,8 +93,8 @@ WasReadAndPrinted form request bytes contents old new (Err ended) =
     ⊎ ((fault : ImportFault) × WasDumpImported form request bytes contents old new (Err fault)
     × (ended ≡ command_fault fault))
 
--- what the command does: it reads and prints the dump in its form; if it has none, since the bytes look like another file
--- than a dump and no form is asked for, nothing is written, and 88 is the fault
+-- what the command does: it reads and prints the dump in its form; if it has none, since the bytes look like another
+-- file than a dump and no form is asked for, nothing is written, and 88 is the fault
 abbrev pub WasDumpPrinted : {W : Type 0} → ImportRequest → List ℕ → (W → Option (List ℕ)) → W → W
     → Result (Unit {0}) FileCommandFault → Type 0
 WasDumpPrinted request bytes contents old new result =

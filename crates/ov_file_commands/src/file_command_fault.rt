@@ -1,6 +1,7 @@
 ghost use Rattle.std.specs.Prelude.{◌≡◌};
 ghost use Rattle.ov_file_commands.specs.Faults.{command_number};
-ghost use Rattle.ov_file_commands.specs.declared.file_command_fault.FileCommandFault.TheVariants.{OutOfMemory as out_of_memory, Write as write_failed};
+ghost use Rattle.ov_file_commands.specs.declared.file_command_fault.FileCommandFault.TheVariants.{OutOfMemory as out_of_memory};
+ghost use Rattle.ov_file_commands.specs.declared.file_command_fault.FileCommandFault.TheVariants.{Write as write_failed};
 
 use ov_ids::OutOfMemory;
 use ov_io::WriteFault;

@@ -4,7 +4,8 @@ ghost use Rattle.ov_certfile.specs.declared.fault.FileFault.TheVariants.{OutOfMe
 ghost use Rattle.ov_io.specs.Device.{most_faults};
 ghost use Rattle.ov_file_commands.specs.Printing.{WasGraphPrinted};
 ghost use Rattle.ov_file_commands.specs.Code.Endings.{WasWritten};
-ghost use Rattle.ov_file_commands.specs.declared.file_command_fault.FileCommandFault.TheVariants.{OutOfMemory as out_of_memory, Refused};
+ghost use Rattle.ov_file_commands.specs.declared.file_command_fault.FileCommandFault.TheVariants.{OutOfMemory as out_of_memory};
+ghost use Rattle.ov_file_commands.specs.declared.file_command_fault.FileCommandFault.TheVariants.{Refused};
 
 use crate::file_command_fault::FileCommandFault;
 use ov_certfile::FileFault;

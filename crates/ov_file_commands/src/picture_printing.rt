@@ -28,8 +28,8 @@ use std::io::Write;
 /// The number of the fault that a graph file says another graph than the certificate. (Chosen here.)
 const OTHER_GRAPH: u32 = 87;
 
-/// Draws the graph of the certificate file of these bytes, with its cut in the middle, and writes SVG, or DOT if that is
-/// asked for. `names` are the bytes of a graph file that names the nodes. If nothing is written, standard error says
+/// Draws the graph of the certificate file of these bytes, with its cut in the middle, and writes SVG, or DOT if that
+/// is asked for. `names` are the bytes of a graph file that names the nodes. If nothing is written, standard error says
 /// why.
 ///
 /// `Refused` has the number of the first fault of the bytes as a certificate file (60 to 64, 31 to 33) or of its

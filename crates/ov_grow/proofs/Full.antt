@@ -1,4 +1,5 @@
--- Of the world's refusals only that of a full journal and that of too few places for packets end turns, rounds and births.
+-- Of the world's refusals only that of a full journal and that of too few places for packets end turns, rounds and
+-- births.
 use Rattle.std.proofs.Common.{◌≡◌, ◌≢◌, ◌<◌, ◌≤◌, ◌+◌, ℕ, true, false, List, [], ◌∷◌, length, Option, Some, None}
 use Rattle.std.proofs.Common.{refl, sym, ap, subst, ◌∙◌, inl, inr, ◌⊎◌, arith, length-append}
 use Rattle.std.specs.Prelude.{remove}
@@ -19,8 +20,7 @@ use Rattle.ov_net.specs.Limits.{most_world_nodes}
 use Rattle.ov_net.specs.Net.{Net, LivesAs, IsGone}
 use Rattle.ov_net.specs.NetStep.{Received}
 use Rattle.ov_net.specs.Refusals.{BirthLast, ContactThen, EventJudged, HasPlaces, HasTimer, IsBorn, IsRefusal, LiveThen}
-use Rattle.ov_net.specs.Refusals.{MayBroadcast}
-use Rattle.ov_net.specs.Refusals.{PlacesLast}
+use Rattle.ov_net.specs.Refusals.{MayBroadcast, PlacesLast}
 use Rattle.ov_net.specs.declared.event.Event.{Event}
 use Rattle.ov_net.specs.declared.event.Event.TheVariants as event
 use Rattle.ov_net.specs.declared.fault.NetFault.{NetFault}

@@ -165,7 +165,8 @@ pub report_keeps : (s u : Growth) (node crashed : ℕ) → Does s (act.CrashRepo
 report_keeps s u node crashed did =
     let (gone, takes) = did.step.step.2 in
     did_keeps s u (act.CrashReport node crashed) did
-    (live_keeps s.world.net u.world.net node (input.CrashReport crashed) did.words did.entry.changes did.entry.delivery tt
+    (live_keeps s.world.net u.world.net node (input.CrashReport crashed) did.words did.entry.changes
+    did.entry.delivery tt
     takes)
 
 pub shuffle_keeps : (s u : Growth) (node : ℕ) → Does s (act.Shuffle node) u → Keeps s u

@@ -176,9 +176,12 @@ room_next count done s less (k, most, few) = (k + done, most, omega (arith, less
 pub room_more : (count done node : ℕ) (s t u : Growth) (id : MsgId) → t.world ≡ s.world → BroadcastBy node t id u
     → HasRoom count done s → HasRoom count (done + 1) u
 room_more count done node s t u id same (p, lives, is, did) (k, most, few) =
-    let first : HaveMade (k + done) t = subst (λ w. (a : ℕ) (p : PeerState) → LivesAs w.net a p → p.tree.made ≤ k + done)
-    (sym same) most in
-    (k, have_more (k + done + 1) (k + (done + 1)) u (omega arith) ((broadcast_made t u node did).made (k + done) first), few)
+    let first : HaveMade (k + done) t =
+    subst (λ w. (a : ℕ) (p : PeerState) → LivesAs w.net a p → p.tree.made ≤ k + done) (sym same) most in (
+      k,
+      have_more (k + done + 1) (k + (done + 1)) u (omega arith) ((broadcast_made t u node did).made (k + done) first),
+      few,
+    )
 
 pub broadcast_lives : (nodes : List ℕ) (node : ℕ) (s t u : Growth) (id : MsgId) → t.world ≡ s.world
     → BroadcastBy node t id u → AllLive nodes s → AllLive nodes u

@@ -1,5 +1,6 @@
 ghost use Rattle.std.specs.Prelude.{◌≡◌, ◌<◌, IfOk};
-ghost use Rattle.ov_grow.specs.Choices.{IsRandomOrder, after_chance, choices_of, comes_true, later, next_number, one_of};
+ghost use Rattle.ov_grow.specs.Choices.{IsRandomOrder, after_chance, choices_of, comes_true, later, next_number};
+ghost use Rattle.ov_grow.specs.Choices.{one_of};
 
 use ov_ids::{NodeId, OutOfMemory};
 use rand_core::SeedableRng;

@@ -35,7 +35,8 @@ impl Growing {
         self.end_phase(options.broadcasts.count(), &rules)
     }
 
-    /// Nodes crash. A report of the moment at which the overlay had settled must be filed, and who lived then must live.
+    /// Nodes crash. A report of the moment at which the overlay had settled must be filed, and who lived then must
+    /// live.
     pub(crate) fn crash(&mut self, settled: u32, options: &GrowOptions) -> Result<Phase, GrowFault>
         requires answered { IsAnswered self.old.recording.core settled }
         requires live { SomebodyLives (growth_of self.old) }

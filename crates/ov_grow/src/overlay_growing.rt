@@ -45,8 +45,8 @@ impl Drop for Grown {
 /// here.
 ///
 /// A fault ends growing, and nothing is returned: an event is refused since the journal is full (16) or too few places
-/// for packets are free (15), or memory ran out (99). No other fault comes. After 15 and 16 no overlay can be grown with
-/// these options, by whatever scenario.
+/// for packets are free (15), or memory ran out (99). No other fault comes. After 15 and 16 no overlay can be grown
+/// with these options, by whatever scenario.
 pub fn grow(alloc: Global, options: &GrowOptions) -> Result<Grown, GrowFault>
     ensures grows { IfOk result
         (λ g. Grows options.now g.text.items g.core.world g.settled g.crashed g.healed) }

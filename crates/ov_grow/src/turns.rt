@@ -1,6 +1,7 @@
 ghost use Rattle.std.specs.Prelude.{◌≡◌, ◌≢◌, ◌<◌, [], length, slice_get, IfErr, IfOk, OnOk, MatchOption, Some};
 ghost use Rattle.ov_grow.specs.Faults.{IsFull};
-ghost use Rattle.ov_grow.specs.Turns.{Arrives, HasNoPackets, IsDelivered, IsTurnOf, MayBeRepeated, RunOut, Turn, TurnsUpTo};
+ghost use Rattle.ov_grow.specs.Turns.{Arrives, HasNoPackets, IsDelivered, IsTurnOf, MayBeRepeated, RunOut, Turn};
+ghost use Rattle.ov_grow.specs.Turns.{TurnsUpTo};
 ghost use Rattle.ov_grow.specs.Code.Standing.{Fails, Goes, IsNoWay, IsTold, MayBeTold, growth_of};
 
 use crate::fault::GrowFault;

@@ -20,7 +20,8 @@ pub struct SweepRequest {
     pub settings: SettingLists,
     /// How many runs each setting has.
     pub runs: u32,
-    /// The seed of the first run of each setting. Each further run has the next seed, and 0 follows the last of 64 bits.
+    /// The seed of the first run of each setting. Each further run has the next seed, and 0 follows the last of 64
+    /// bits.
     pub first_seed: u64,
     /// How many runs go on at once.
     pub workers: Workers,

@@ -21,10 +21,12 @@ pub record IsGrownBy (o : GrowOptions) (text : List ℕ) : Type 0 where
   pub grows : Grows o text core.world settled crashed healed
   pub replays : Replays text core
 
--- what a writer took: all of such a text; a prefix of it, if writing failed; and nothing, if growing was refused for the
--- fault of this number
-abbrev pub WasPrinted : {W : Type 0} → GrowOptions → (W → Option (List ℕ)) → W → W → Result (Unit {0}) GrowthFault → Type 0
-WasPrinted o contents old new (Ok done) = (text : List ℕ) × IsGrownBy o text × Appends (contents old) (contents new) text
+-- what a writer took: all of such a text; a prefix of it, if writing failed; and nothing, if growing was refused for
+-- the fault of this number
+abbrev pub WasPrinted :
+    {W : Type 0} → GrowOptions → (W → Option (List ℕ)) → W → W → Result (Unit {0}) GrowthFault → Type 0
+WasPrinted o contents old new (Ok done) =
+    (text : List ℕ) × IsGrownBy o text × Appends (contents old) (contents new) text
 WasPrinted o contents old new (Err growth.Write) =
     (text : List ℕ) × IsGrownBy o text × AppendsPrefixOf text (contents old) (contents new)
 WasPrinted o contents old new (Err (growth.Growing number)) =

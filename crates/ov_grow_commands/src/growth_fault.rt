@@ -1,6 +1,7 @@
 ghost use Rattle.std.specs.Prelude.{◌≡◌};
 ghost use Rattle.ov_grow_commands.specs.Faults.{growth_number};
-ghost use Rattle.ov_grow_commands.specs.declared.growth_fault.GrowthFault.TheVariants.{OutOfMemory as out_of_memory, Write as write_failed};
+ghost use Rattle.ov_grow_commands.specs.declared.growth_fault.GrowthFault.TheVariants.{OutOfMemory as out_of_memory};
+ghost use Rattle.ov_grow_commands.specs.declared.growth_fault.GrowthFault.TheVariants.{Write as write_failed};
 
 use ov_grow::GrowFault;
 use ov_ids::OutOfMemory;

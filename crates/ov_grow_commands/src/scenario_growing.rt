@@ -11,8 +11,8 @@ use ov_grow_options::GrowOptions;
 use ov_io::Sink;
 use std::io::Write;
 
-/// Grows an overlay as the words after `overlay grow` ask, and prints its scenario. Prints nothing if growing is refused,
-/// but why on standard error.
+/// Grows an overlay as the words after `overlay grow` ask, and prints its scenario. Prints nothing if growing is
+/// refused, but why on standard error.
 pub fn grow_command(rt: &HostRuntime, words: &[String]) -> Result<(), GrowthFault> {
     let request = match read_grow_arguments(rt.alloc(), words) {
         Ok(request) => request,

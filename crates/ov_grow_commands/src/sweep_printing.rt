@@ -117,8 +117,8 @@ struct Swept {
     done: Result<(), SweepFault>,
 }
 
-/// Grows the overlays of a sweep, and prints their rows, unless a summary is asked for. The rows are returned if a summary
-/// or a picture needs them.
+/// Grows the overlays of a sweep, and prints their rows, unless a summary is asked for. The rows are returned if a
+/// summary or a picture needs them.
 fn rows_swept<T: Threads + Sync, V: RunWatcher>(
     rt: &HostRuntime,
     threads: &T,

@@ -24,8 +24,8 @@ use std::alloc::Global;
 use std::marker::{Model, PhantomData};
 use std::sync::Mutex;
 
-/// A hall at rest: one hand has the core and the passes of all drivers, and there is no lock. Contracts see the log, which
-/// makes the core. What one hand does is marked as driver 0's.
+/// A hall at rest: one hand has the core and the passes of all drivers, and there is no lock. Contracts see the log,
+/// which makes the core. What one hand does is marked as driver 0's.
 #[derive(Drop)]
 pub struct Whole<N: HallName> {
     pub(crate) table: Table<(), View, u64, Law, Global>,

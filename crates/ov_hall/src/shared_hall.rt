@@ -64,8 +64,8 @@ impl Gathered {
 }
 
 impl<N: HallName> Hall<N> {
-    /// Lends the core to `f` while nobody steps it. The pass has then seen that core's log. That it is the newest one is not
-    /// said: a clause can't know what other drivers did.
+    /// Lends the core to `f` while nobody steps it. The pass has then seen that core's log. That it is the newest one
+    /// is not said: a clause can't know what other drivers did.
     pub fn look_at<T, F: FnOnce(&Core) -> T>(
         &self,
         rt: &impl Wait,

@@ -3,8 +3,8 @@ use ov_io::shown_name;
 use std::alloc::{AllocError, Global};
 use std::fmt::Write;
 
-/// The line that says which command reads a file of this kind. Without a name it is standard input. The line ends with a
-/// line feed; for an unknown kind it is empty. AllocError if an allocation is refused.
+/// The line that says which command reads a file of this kind. Without a name it is standard input. The line ends with
+/// a line feed; for an unknown kind it is empty. AllocError if an allocation is refused.
 pub fn file_tip(alloc: Global, kind: FileKind, file: Option<&str>) -> Result<String, AllocError> {
     let mut text = String::new(alloc);
     let Some(path) = file else {

@@ -16,9 +16,9 @@ use ov_io::Sink;
 use std::alloc::Global;
 use std::io::Write;
 
-/// Writes the graph that follows from a dump as a graph file, in which a comment before each node says its name. Control
-/// characters, and a backslash before `u{`, are shown by their codes, so no two nodes have one name. Nothing is written
-/// if no graph follows: Refused says why. Write (72) is returned if writing failed, and OutOfMemory (99) if an
+/// Writes the graph that follows from a dump as a graph file, in which a comment before each node says its name.
+/// Control characters, and a backslash before `u{`, are shown by their codes, so no two nodes have one name. Nothing is
+/// written if no graph follows: Refused says why. Write (72) is returned if writing failed, and OutOfMemory (99) if an
 /// allocation was refused, before anything was written.
 pub fn import_dump<W: Write>(
     alloc: Global,

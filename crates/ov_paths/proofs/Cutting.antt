@@ -1,7 +1,8 @@
 -- Paths whose ids stand one after another: one more path, more ids behind them, and the path at a place.
-use Rattle.std.proofs.Common.{◌≡◌, ◌∙◌, ℕ, ◌+◌, ◌-◌, ◌<◌, ◌≤◌, zero, suc, List, [], ◌∷◌, ◌++◌, length, length-append, take, drop}
-use Rattle.std.proofs.Common.{get_or, Some, refl, sym, ap, ap₂, arith}
-use Rattle.std.proofs.lemmas.List.{length-drop, drop_at, drop_all, take-append-le, drop-append-le, take_rest, get_or_read}
+use Rattle.std.proofs.Common.{◌≡◌, ◌∙◌, ℕ, ◌+◌, ◌-◌, ◌<◌, ◌≤◌, zero, suc, List, [], ◌∷◌, ◌++◌, length, length-append}
+use Rattle.std.proofs.Common.{take, drop, get_or, Some, refl, sym, ap, ap₂, arith}
+use Rattle.std.proofs.lemmas.List.{length-drop, drop_at, drop_all, take-append-le, drop-append-le, take_rest}
+use Rattle.std.proofs.lemmas.List.{get_or_read}
 use Rattle.std.specs.List.{slice_range, slice_get}
 use Rattle.ov_paths.specs.Building.{Building}
 use Rattle.ov_paths.specs.Code.Cut.{paths_from, AreEnds, start_at}

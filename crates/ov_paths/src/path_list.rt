@@ -1,4 +1,5 @@
-ghost use Rattle.std.specs.Prelude.{◌≡◌, ◌==◌, ◌<◌, ◌^◌, [], ◌∷◌, ◌++◌, length, slice_get, Some, None, MatchOption, OnErr, OnOk};
+ghost use Rattle.std.specs.Prelude.{◌≡◌, ◌==◌, ◌<◌, ◌^◌, [], ◌∷◌, ◌++◌, length, slice_get, Some, None, MatchOption};
+ghost use Rattle.std.specs.Prelude.{OnErr, OnOk};
 ghost use Rattle.ov_paths.specs.Code.Cut.{paths_from, AreEnds};
 
 use crate::id_range::{id_range, start_of};
@@ -47,8 +48,8 @@ impl Paths {
         Paths { ids, ends }
     }
 
-    /// Appends a path. OutOfMemory (99) if an allocation is refused, or if there would be more than 2^32 - 1 ids in all.
-    /// The list is unchanged then.
+    /// Appends a path. OutOfMemory (99) if an allocation is refused, or if there would be more than 2^32 - 1 ids in
+    /// all. The list is unchanged then.
     pub fn push(&mut self, path: &[NodeId]) -> Result<(), OutOfMemory>
         ensures pushed { OnOk result (self.new ≡ self.old ++ path.now ∷ []) }
         ensures unchanged { OnErr result (self.new ≡ self.old) }
@@ -79,7 +80,8 @@ impl Paths {
 
     /// The path at a place, counted from 0. None behind the last one.
     pub fn get(&self, place: usize) -> Option<&[NodeId]>
-        ensures { MatchOption result (slice_get self.now place ≡ None) (λ path. slice_get self.now place ≡ Some path.now) }
+        ensures { MatchOption result (slice_get self.now place ≡ None)
+            (λ path. slice_get self.now place ≡ Some path.now) }
     {
         if place >= self.ends.len() {
             return None;

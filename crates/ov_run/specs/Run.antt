@@ -34,8 +34,8 @@ pub record IsRunOf {W : Type 0} (strictness : Strictness) (reader : Option (List
   -- without fault, no line was refused if the run is strict
   pub accepts : strictness ≡ Strict
       → OnOk result (AcceptsScenario reader (contents sink_before.writer) (contents sink_after.writer))
-  -- Refused is returned only if the run is strict: line n is the first that was refused, for this reason, and the writer
-  -- took what the lines before it print, and nothing else
+  -- Refused is returned only if the run is strict: line n is the first that was refused, for this reason, and the
+  -- writer took what the lines before it print, and nothing else
   pub stops : (n : ℕ) (refusal : Refusal) → IsErrOf result (Refused n refusal)
       → (strictness ≡ Strict)
       × StopsScenario reader n refusal (contents sink_before.writer) (contents sink_after.writer)

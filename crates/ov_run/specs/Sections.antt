@@ -48,8 +48,8 @@ abbrev pub HasAnalysed : ParamsState → Ticket → ℕ → Ticket → Type 0
 HasAnalysed params p m q =
     (r : ReportState) × (begun : Ticket) × HasAnswered params p m r begun × HasFiled params begun r q
 
--- an analysis was refused for this fault: in the core in which it would have begun, or, after its report was made, in the
--- core in which that would have been filed
+-- an analysis was refused for this fault: in the core in which it would have begun, or, after its report was made, in
+-- the core in which that would have been filed
 abbrev pub IsRefusedAnalysis : ParamsState → Ticket → ℕ → CoreFault → Ticket → Type 0
 IsRefusedAnalysis params p m fault q =
     (IsRefusedBy OutOfMemory (BeginJudged (core_made params q.seen) m) fault × HasLooked p q)

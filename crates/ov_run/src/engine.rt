@@ -25,7 +25,8 @@ use std::thread::Threads;
 
 /// Reads a scenario to its end, runs its lines in order in a world in which nothing happened, and writes what each
 /// prints. Returns the program's status, 0. A refused event or analysis is a line of what is printed, and no fault
-/// (`run_watched` has strict runs, which end there). The workers of an analysis are threads. The line of its report is the same for any number of them.
+/// (`run_watched` has strict runs, which end there). The workers of an analysis are threads. The line of its report is
+/// the same for any number of them.
 ///
 /// Line (70) or Params (21) is returned if the file says no scenario, and Read (71) if the reader failed in this call:
 /// then nothing ran and nothing was written. Write (72) is returned if the writer failed in this call. In each case
@@ -51,13 +52,13 @@ pub fn run<T: Threads + Wait + Sync, R: Read, W: Write>(
     run_watched(rt, alloc, source, sink, Strictness::Lenient, &mut Unwatched)
 }
 
-/// Does what `run` does, or if it is strict ends at the first line that is refused. The watcher sees what became of each
-/// line that ran, in order, after what the line prints was given to the writer.
+/// Does what `run` does, or if it is strict ends at the first line that is refused. The watcher sees what became of
+/// each line that ran, in order, after what the line prints was given to the writer.
 ///
-/// Refused (74) is returned by a strict run alone. The first line that was refused is named, with its refusal; all lines
-/// before it were accepted, what they print was written, and nothing else was. A block of sections runs whole: its own
-/// line is not written if one of its lines was refused, and the first of these in the file's order is named. An event,
-/// an analysis or a certificate that is out of memory counts as refused.
+/// Refused (74) is returned by a strict run alone. The first line that was refused is named, with its refusal; all
+/// lines before it were accepted, what they print was written, and nothing else was. A block of sections runs whole:
+/// its own line is not written if one of its lines was refused, and the first of these in the file's order is named. An
+/// event, an analysis or a certificate that is out of memory counts as refused.
 pub fn run_watched<T: Threads + Wait + Sync, R: Read, W: Write, V: RunWatcher>(
     rt: &T,
     alloc: Global,

@@ -6,7 +6,8 @@ ghost use Rattle.ov_run.specs.Accepting.{DoesEvent, FilesReport, ShowsLook};
 ghost use Rattle.ov_run.specs.Accepting.{RefusesAnalysis, RefusesEvent, RefusesLook};
 ghost use Rattle.ov_run.specs.Ending.{BeginsLook, EndsLook};
 ghost use Rattle.ov_run.specs.Faults.{write_faults};
-ghost use Rattle.ov_run.specs.Code.Outcomes.{LineRan, RanAsBlock, RanLines, WritesOutcome, WritesRest, rest_of, stop_of};
+ghost use Rattle.ov_run.specs.Code.Outcomes.{LineRan, RanAsBlock, RanLines, WritesOutcome, WritesRest, rest_of};
+ghost use Rattle.ov_run.specs.Code.Outcomes.{stop_of};
 ghost use Rattle.ov_run.specs.Code.Jobs.{HasDrivers};
 ghost use Rattle.ov_run.specs.Code.Writing.{Writes, WritesPrefix, IsOfWriting};
 ghost use Rattle.ov_scenario.specs.RunLines.{drivers_for};
@@ -37,9 +38,9 @@ use std::io::Write;
 use std::sync::Wait;
 use std::thread::Threads;
 
-/// Runs these lines in this hall, and writes what they print. The watcher sees what became of each, after that. A strict
-/// run ends at the first line that is refused. The writer is then asked to hand on what it keeps back, unless it has
-/// failed.
+/// Runs these lines in this hall, and writes what they print. The watcher sees what became of each, after that. A
+/// strict run ends at the first line that is refused. The writer is then asked to hand on what it keeps back, unless it
+/// has failed.
 pub(crate) fn run_lines<
     N: HallName + Send + Sync,
     T: Threads + Wait + Sync,

@@ -12,10 +12,10 @@ pub struct RanLine<'a> {
     pub is_event: bool,
 }
 
-/// Sees what became of each line that ran, after what the line prints was given to the writer. It changes neither the run
-/// nor what is printed. A block of sections is told as one line, which is always done; then each line of its sections is
-/// told, section by section, and those of one section in order. Where a strict run ends, nothing is printed of the line
-/// that was refused, nor of a block that has it, and they are told all the same.
+/// Sees what became of each line that ran, after what the line prints was given to the writer. It changes neither the
+/// run nor what is printed. A block of sections is told as one line, which is always done; then each line of its
+/// sections is told, section by section, and those of one section in order. Where a strict run ends, nothing is printed
+/// of the line that was refused, nor of a block that has it, and they are told all the same.
 pub trait RunWatcher {
     /// This line was done: its event happened, its report was filed, what it looks at was given to the writer, or the
     /// sections of its block ran.

@@ -129,8 +129,8 @@ impl Core {
         Ok(entry)
     }
 
-    /// The links that both ends hold now. If they are those of the last snapshot, its graph is shared, and otherwise the
-    /// world's is copied. If no change was told since that snapshot, the graphs need not be compared.
+    /// The links that both ends hold now. If they are those of the last snapshot, its graph is shared, and otherwise
+    /// the world's is copied. If no change was told since that snapshot, the graphs need not be compared.
     fn links_now(&self) -> Result<SharedGraph, OutOfMemory>
         ensures { IfOk result (λ g. AreLinks self.now.world.journal (length self.now.world.journal) g) }
     {

@@ -1,5 +1,6 @@
 -- How many neighbours nodes have.
-use Rattle.std.proofs.Common.{◌≡◌, ◌∙◌, ◌<◌, ◌≤◌, ◌+◌, ℕ, List, length, get_or, min, refl, sym, ap, subst, inl, inr, arith}
+use Rattle.std.proofs.Common.{◌≡◌, ◌∙◌, ◌<◌, ◌≤◌, ◌+◌, ℕ, List, length, get_or, min, refl, sym, ap, subst, inl, inr}
+use Rattle.std.proofs.Common.{arith}
 use Rattle.ov_graph.specs.Links.{LinkGraph, IsGraph, AreNeighbours}
 use Rattle.ov_graph.proofs.EvenTest.Filtered.{linked_node, neighbours_one}
 use Rattle.ov_ids.specs.Members.{Has}
@@ -10,7 +11,8 @@ use Rattle.ov_sweep.specs.Rows.{HasDegree, IsLeastDegree}
 use Rattle.ov_sweep.proofs.Fitting.{fits}
 
 -- a node has no more neighbours than there are nodes
-pub few_neighbours : (g : LinkGraph) (a : ℕ) (ns : List ℕ) → IsGraph g → AreNeighbours g a ns → length ns ≤ length g.nodes
+pub few_neighbours :
+    (g : LinkGraph) (a : ℕ) (ns : List ℕ) → IsGraph g → AreNeighbours g a ns → length ns ≤ length g.nodes
 few_neighbours g a ns graph are =
     fits (λ x y. x < y) (λ x h. omega (arith, h)) ns g.nodes are.ascend
     (λ b has. linked_node g a b graph ((are.each b).0 has))
@@ -22,7 +24,8 @@ one_degree g a n m graph first second =
     (neighbours_one g a first.0 graph first.1 ∙ sym (neighbours_one g a second.0 graph second.1)) ∙ second.2)
 
 -- the least of the degrees so far, and of one more
-pub least_more : (g : LinkGraph) (least d n i a : ℕ) → IsGraph g → n ≡ min least d → i < length g.nodes → a ≡ get_or g.nodes i a
+pub least_more :
+    (g : LinkGraph) (least d n i a : ℕ) → IsGraph g → n ≡ min least d → i < length g.nodes → a ≡ get_or g.nodes i a
     → HasDegree g a d
     → ((b : ℕ) × Has g.nodes b × HasDegree g b least) → Has g.nodes a
     → ((j m : ℕ) → j < i → HasDegree g (get_or g.nodes j 0) m → least ≤ m)
@@ -38,7 +41,8 @@ least_more g least d n i a graph is within read of_a reached there below =
         | inl less ↦ (let l = below j m less of_j in omega (arith, l, is))
         | inr more ↦
             (let same : j ≡ i = omega (arith, low, more) in
-            let e = one_degree g a d m graph of_a (subst (λ (b : ℕ). HasDegree g b m) (ap (λ (k : ℕ). get_or g.nodes k 0) same ∙ sym at) of_j) in
+            let e = one_degree g a d m graph of_a (subst (λ (b : ℕ). HasDegree g b m)
+            (ap (λ (k : ℕ). get_or g.nodes k 0) same ∙ sym at) of_j) in
             omega (arith, e, is))
       ],
     )

@@ -1,6 +1,7 @@
 -- A list in a strict order, of which each member is in another list, is no longer than that one. So few links fit
 -- between few nodes.
-use Rattle.std.proofs.Common.{◌≡◌, ◌<◌, ◌≤◌, ◌*◌, ◌++◌, ℕ, suc, List, [], ◌∷◌, length, length-append, sym, ap, subst, arith, ◌^◌, ◌∙◌, refl, inl, inr}
+use Rattle.std.proofs.Common.{◌≡◌, ◌<◌, ◌≤◌, ◌*◌, ◌++◌, ℕ, suc, List, [], ◌∷◌, length, length-append, sym, ap, subst}
+use Rattle.std.proofs.Common.{arith, ◌^◌, ◌∙◌, refl, inl, inr}
 use Rattle.ov_ids.specs.Members.{Has, Ordered}
 use Rattle.ov_ids.proofs.Members.{all_member, has_append_left, has_append_right}
 use Rattle.ov_graph.specs.Links.{LinkGraph, IsGraph, IsWithinLimit, Precedes, most_nodes}
@@ -30,7 +31,8 @@ fits R strict [] ys order inside = omega arith
 fits R strict (x ∷ xs) ys order inside =
     let h = inside x (inl refl) in
     let fewer = fits R strict xs (without ys x h) order.1
-    (λ z has. kept ys x z h (λ e. strict x (subst (R x) (sym e) (all_member (R x) xs z order.0 has))) (inside z (inr has))) in
+    (λ z has. kept ys x z h (λ e. strict x (subst (R x) (sym e) (all_member (R x) xs z order.0 has)))
+    (inside z (inr has))) in
     let l = length_without ys x h in
     omega (arith, fewer, l)
 

@@ -24,7 +24,8 @@ snoc_cases (z ∷ xs) x y zero e = inl e
 snoc_cases (z ∷ xs) x y (suc i) e = elim (snoc_cases xs x y i e) [ inl k ↦ inl k | inr p ↦ inr (ap suc p.0, p.1) ]
 
 -- one run more was done
-pub apart_more : (batch : List GrowOptions) (first apart place : ℕ) (share : List Outcome) (x : Outcome) (o : GrowOptions)
+pub apart_more :
+    (batch : List GrowOptions) (first apart place : ℕ) (share : List Outcome) (x : Outcome) (o : GrowOptions)
     → AreApart batch first apart share → place ≡ first + length share * apart → slice_get batch place ≡ Some o
     → IfOk x (λ row. IsRowOf o row) → IfErr x (IsGrowRefusal o) → AreApart batch first apart (share ++ x ∷ [])
 apart_more batch first apart place share x o are at read is refused j y e = elim (snoc_cases share x y j e) [

@@ -1,6 +1,7 @@
 ghost use Rattle.std.specs.Prelude.{◌≡◌};
 ghost use Rattle.ov_sweep.specs.Faults.{number_of};
-ghost use Rattle.ov_sweep.specs.declared.sweep_fault.SweepFault.TheVariants.{OutOfMemory as out_of_memory, Write as write_failed};
+ghost use Rattle.ov_sweep.specs.declared.sweep_fault.SweepFault.TheVariants.{OutOfMemory as out_of_memory};
+ghost use Rattle.ov_sweep.specs.declared.sweep_fault.SweepFault.TheVariants.{Write as write_failed};
 
 use crate::batch::RefusedRun;
 use ov_ids::OutOfMemory;

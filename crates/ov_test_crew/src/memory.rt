@@ -35,8 +35,8 @@ fn is_whole(cert: &Cert, row: &Row, entries: (usize, usize)) -> bool {
     gives(cert, row) && found == entries
 }
 
-/// So many workers find the whole certificate, the second time if memory is refused the first time. Tells whether it was
-/// refused.
+/// So many workers find the whole certificate, the second time if memory is refused the first time. Tells whether it
+/// was refused.
 fn is_refused_once<R: Threads + Sync>(
     rt: &R,
     alloc: Global,

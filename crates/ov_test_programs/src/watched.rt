@@ -7,8 +7,8 @@ use std::sync::Wait;
 use std::test::Fail;
 use std::thread::Threads;
 
-/// What is told of a line: its number, whether it is an event, and if it was refused, the number of the refusal, and the
-/// length of the journal unless the line stands in a section.
+/// What is told of a line: its number, whether it is an event, and if it was refused, the number of the refusal, and
+/// the length of the journal unless the line stands in a section.
 type Told = (usize, bool, Option<(u32, Option<usize>)>);
 
 /// Keeps what it is told.

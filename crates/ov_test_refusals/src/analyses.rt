@@ -36,8 +36,8 @@ fn analysed<R: Threads + Sync>(
     Ok(analyse_group(rt, alloc, &graph, members.as_slice(), workers, &OpenGate))
 }
 
-/// So many workers find the whole certificate, the second time if memory is refused the first time. Tells whether it was
-/// refused.
+/// So many workers find the whole certificate, the second time if memory is refused the first time. Tells whether it
+/// was refused.
 fn is_refused_once<R: Threads + Sync>(
     rt: &R,
     alloc: Global,

@@ -236,8 +236,8 @@ pub(crate) fn all_answer(
     Ok(())
 }
 
-/// Moment 4 has a report that a cut of nobody parts node 2 from node 1, and one that nothing splits node 1; moment 6 has
-/// one that nothing splits its nodes.
+/// Moment 4 has a report that a cut of nobody parts node 2 from node 1, and one that nothing splits node 1; moment 6
+/// has one that nothing splits its nodes.
 fn has_reports(core: &Core) -> bool {
     let (Some(apart), Some(alone), Some(linked)) = (
         core.report(4),

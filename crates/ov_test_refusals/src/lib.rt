@@ -1,4 +1,5 @@
-//! Stories of worlds, cores, desks, analyses and halls. `bin/refuse-allocations` refuses each of their allocations in turn.
+//! Stories of worlds, cores, desks, analyses and halls. `bin/refuse-allocations` refuses each of their allocations in
+//! turn.
 #![tactic(auto)]
 
 #[cfg(test)]

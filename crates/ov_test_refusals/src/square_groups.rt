@@ -18,8 +18,8 @@ pub(crate) struct Group {
     pub(crate) entries: (usize, usize),
 }
 
-/// Of each of the levels 1 and 2 come 3 pieces before, and the pair of nodes 1 and 2. Behind are the pair of nodes 2 and
-/// 3, and the fan of node 4, which comes to a cut too.
+/// Of each of the levels 1 and 2 come 3 pieces before, and the pair of nodes 1 and 2. Behind are the pair of nodes 2
+/// and 3, and the fan of node 4, which comes to a cut too.
 pub(crate) static ALL_NODES: Group = Group {
     members: None,
     before: 7,

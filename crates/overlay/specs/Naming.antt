@@ -49,8 +49,8 @@ NamesNoGroup bytes (Some text) number =
     (names : NamesState) × (fault : GroupFault) × KeepsNames bytes names × IsGroupFault names (parts_of text) fault
     × (number ≡ number_of fault)
 
--- What came of an analysis of the graph file of these bytes, from a sink before it to what it is after it: it is told of
--- the group that is asked for, by `IsToldOf`; or nothing is written, since the group is refused or memory ran out.
+-- What came of an analysis of the graph file of these bytes, from a sink before it to what it is after it: it is told
+-- of the group that is asked for, by `IsToldOf`; or nothing is written, since the group is refused or memory ran out.
 abbrev pub WasTold : {W : Type 0} → List ℕ → Option (List ℕ) → Option (List ℕ) → (W → Option (List ℕ)) → SinkState W
     → Bool → Bool → SinkState W → Result ℕ ProgramFault → Type 0
 WasTold bytes ids text contents old certificate named new (Ok status) =

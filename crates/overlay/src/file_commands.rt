@@ -82,7 +82,8 @@ pub(crate) fn graph_asked(rt: &HostRuntime, file: Option<String>) -> Result<u8, 
     Ok(0)
 }
 
-/// The same answer. If these bytes are refused, and do not look like this kind of file, prints which command reads them.
+/// The same answer. If these bytes are refused, and do not look like this kind of file, prints which command reads
+/// them.
 fn with_tip(
     rt: &HostRuntime,
     bytes: &[u8],

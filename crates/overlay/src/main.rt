@@ -81,8 +81,8 @@ fn overlay<T: Threads + Wait + Sync>(rt: &HostRuntime, threads: &T) -> Result<u8
     }
 }
 
-/// Does what these arguments ask for. If the first is `grow` or `sweep`, those behind it are words of this command; `help`
-/// before one of these asks for its help.
+/// Does what these arguments ask for. If the first is `grow` or `sweep`, those behind it are words of this command;
+/// `help` before one of these asks for its help.
 fn do_command<T: Threads + Wait + Sync>(
     rt: &HostRuntime,
     threads: &T,
@@ -441,8 +441,8 @@ fn analyse_from<T: Threads + Sync, R: Read + Drop, W: Write>(
     analyse_told(rt, threads, &bytes, sink, file, analysis)
 }
 
-/// Analyses the graph file of these bytes, of the file of this name or of standard input. Prints a fault or a refusal of
-/// it, and why.
+/// Analyses the graph file of these bytes, of the file of this name or of standard input. Prints a fault or a refusal
+/// of it, and why.
 fn analyse_told<T: Threads + Sync, W: Write>(
     rt: &HostRuntime,
     threads: &T,

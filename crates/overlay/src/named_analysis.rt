@@ -22,8 +22,8 @@ use ov_run::Answered;
 use std::io::Write;
 use std::thread::Threads;
 
-/// Analyses the graph file of these bytes, of the file of this name or of standard input. Prints the answer in the names
-/// that the file gives, and says it in words, as far as this is asked for. Prints a fault or a refusal, and why.
+/// Analyses the graph file of these bytes, of the file of this name or of standard input. Prints the answer in the
+/// names that the file gives, and says it in words, as far as this is asked for. Prints a fault or a refusal, and why.
 pub(crate) fn analyse_in_words<T: Threads + Sync, W: Write>(
     rt: &HostRuntime,
     threads: &T,
@@ -134,7 +134,8 @@ fn no_group(rt: &HostRuntime, text: &str, fault: GroupFault) -> FileCommandFault
     ended
 }
 
-/// Prints what is wrong with a part of the text of a group, or with a comma beside it if the part is empty. Prints nothing if an allocation for it is refused.
+/// Prints what is wrong with a part of the text of a group, or with a comma beside it if the part is empty. Prints
+/// nothing if an allocation for it is refused.
 fn tell_part(rt: &HostRuntime, text: &str, place: usize, wrong: &str) {
     let Some(part) = text.split(',').nth(place) else {
         return;

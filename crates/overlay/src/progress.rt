@@ -112,7 +112,8 @@ fn line_count(bytes: &[u8]) -> usize {
     }
 }
 
-/// Says on standard error how many runs of a sweep are done, and how long the others will take, at the pace of `Pacing`.
+/// Says on standard error how many runs of a sweep are done, and how long the others will take, at the pace of
+/// `Pacing`.
 #[derive(Drop)]
 pub(crate) struct RunProgress<'a> {
     clock: PacedClock<'a>,

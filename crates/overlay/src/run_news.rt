@@ -20,8 +20,8 @@ impl<'a> RunNews<'a> {
         }
     }
 
-    /// Prints what is still to be said at the end: why lines were refused at which a strict run ended; and if the run is
-    /// explained, how many events happened, and how many were refused.
+    /// Prints what is still to be said at the end: why lines were refused at which a strict run ended; and if the run
+    /// is explained, how many events happened, and how many were refused.
     pub(crate) fn tell_end(&self) {
         self.explaining.tell_end();
     }

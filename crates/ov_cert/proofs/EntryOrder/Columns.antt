@@ -1,7 +1,8 @@
 -- The expected pairs: the computed list is the list of unlinked pairs among the first k members, and it is the only
 -- one.
 use Rattle.std.proofs.Common.{◌≡◌, ◌∙◌, ℕ, zero, suc, ◌+◌, ◌<◌, inl, inr, List, [], ◌∷◌, ◌++◌, length, take, drop}
-use Rattle.std.proofs.Common.{get_or, slice_get, Some, None, true, false, cond, refl, sym, ap, subst, arith, append_assoc, append-nil}
+use Rattle.std.proofs.Common.{get_or, slice_get, Some, None, true, false, cond, refl, sym, ap, subst, arith}
+use Rattle.std.proofs.Common.{append_assoc, append-nil}
 use Rattle.std.proofs.lemmas.Bool.{both_ways}
 use Rattle.std.proofs.lemmas.List.{take_more, at_drop_more}
 use Rattle.ov_ids.specs.Members.{Has, Ordered, Ascends}
@@ -184,7 +185,8 @@ after_sound g earlier (j ∷ rest) p up h = elim (has_append_cases (unlinked_bef
           (subst (λ (l : List ℕ). Has l p.0) (append_assoc earlier (j ∷ []) rest) r.0, inr r.1, r.2, r.3)
     ]
 
-pub after_complete : (g : LinkGraph) (earlier rest : List ℕ) (i j : ℕ) → Ascends (earlier ++ rest) → Has (earlier ++ rest) i
+pub after_complete :
+    (g : LinkGraph) (earlier rest : List ℕ) (i j : ℕ) → Ascends (earlier ++ rest) → Has (earlier ++ rest) i
     → Has rest j → i < j → ¬ Linked g i j → Has (pairs_after g earlier rest) (i, j)
 after_complete g earlier [] i j up h k l n = absurd k
 after_complete g earlier (x ∷ rest) i j up h k l n = elim k [

@@ -100,7 +100,8 @@ side_tested g q c =
     let later = first (option_map Far far) set in
     first_none (option_map Near near) later
     ∙ both _ _ _ _ (map_none Near near ∙ end_none q c.cut c.near) (first_none (option_map Far far) set
-    ∙ both _ _ _ _ (map_none Far far ∙ end_none q c.cut c.far) (first_none (option_map NoSet (set_flaw g c.side)) outside
+    ∙ both _ _ _ _ (map_none Far far ∙ end_none q c.cut c.far)
+    (first_none (option_map NoSet (set_flaw g c.side)) outside
     ∙ both _ _ _ _ (map_none NoSet (set_flaw g c.side) ∙ set_tested g c.side)
     (first_none (in_cut_flaw c.cut 0 c.side) parting
     ∙ both _ _ _ _ (in_cut_none c.cut 0 c.side) (parting_none g c))))

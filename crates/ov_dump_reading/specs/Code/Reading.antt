@@ -1,6 +1,6 @@
 -- Parts of a file as code takes them, and what a part of the reading returns.
-use Rattle.std.specs.Prelude.{◌≡◌, ◌↔◌, ◌⊎◌, ⊤, ℕ, Bool, true, nat_eq, List, [], ◌∷◌, ◌++◌, if◌then◌else◌, Option, Some, None}
-use Rattle.std.specs.Prelude.{Result, Ok, Err}
+use Rattle.std.specs.Prelude.{◌≡◌, ◌↔◌, ◌⊎◌, ⊤, ℕ, Bool, true, nat_eq, List, [], ◌∷◌, ◌++◌, if◌then◌else◌, Option, Some}
+use Rattle.std.specs.Prelude.{None, Result, Ok, Err}
 use Rattle.ov_ids.specs.Members.{Has}
 use Rattle.json.specs.Json.{Json, array, object, Items, Members}
 use Rattle.ov_dump.specs.declared.dump_values.Dump.{Dump}

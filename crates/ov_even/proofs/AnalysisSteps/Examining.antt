@@ -40,7 +40,8 @@ examined_all g q level seen coming are e r at same =
 
 -- the next piece has a cut
 pub examined_cut : (g : LinkGraph) (q : List ℕ) (level : ℕ) (seen coming rest : List Piece) (f : PartedPiece)
-    → IsGraph g → AreExamined g q level seen coming → coming ≡ f.piece ∷ rest → IsPiece g q f.piece × (level_of f.piece ≡ level)
+    → IsGraph g → AreExamined g q level seen coming → coming ≡ f.piece ∷ rest
+    → IsPiece g q f.piece × (level_of f.piece ≡ level)
     → IsParted g q f.piece f.parting.value → IsFirstOfLevel g q level f
 examined_cut g q level seen coming rest f graph are e at parted = record {
   piece = at.0;

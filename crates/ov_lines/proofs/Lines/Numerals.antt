@@ -1,6 +1,7 @@
 -- What decimal digits spell, and a test that finds it.
 use Rattle.std.proofs.Common.{◌≡◌, ◌<◌, ◌^◌, ℕ, Bool, true, false, ◌&&◌, nat_lt, List, [], ◌∷◌, length, Option, Some}
-use Rattle.std.proofs.Common.{None, if◌then◌else◌, IfSome, IfNone, refl, ap, sym, subst, arith, ◌+◌, ◌*◌, ◌≤◌, drop, get_or}
+use Rattle.std.proofs.Common.{None, if◌then◌else◌, IfSome, IfNone, refl, ap, sym, subst, arith, ◌+◌, ◌*◌, ◌≤◌, drop}
+use Rattle.std.proofs.Common.{get_or}
 use Rattle.std.specs.Str.{all_ascii_digits}
 use Rattle.std.specs.Char.{digit_value}
 use Rattle.std.specs.Str.Parse.{IsNumeral, AllDigits, digits_value_after, digits_value}

@@ -1,7 +1,6 @@
 -- What the drivers of a block did, all together.
 use Rattle.std.proofs.Common.{◌≡◌, ◌≢◌, ◌⊎◌, append_assoc, ℕ, zero, suc, ◌+◌, ◌<◌, ◌≤◌, List, [], ◌∷◌, ◌++◌, length}
-use Rattle.std.proofs.Common.{map}
-use Rattle.std.proofs.Common.{refl, sym, ap, ◌∙◌, subst, ⊎_elim, arith}
+use Rattle.std.proofs.Common.{map, refl, sym, ap, ◌∙◌, subst, ⊎_elim, arith}
 use Rattle.ov_ids.specs.ParamsState.{ParamsState}
 use Rattle.ov_snap.specs.CoreState.{CoreState}
 use Rattle.ov_hall.specs.Logs.{AreBelow, Begins, IsLog, core_made, of_driver}
@@ -96,7 +95,8 @@ below_rest n (x ∷ xs) rest a = below_rest n xs rest a.1
 beyond : (n x : ℕ) (ms : List Mark) → n ≤ x → AreBelow n ms → of_driver x ms ≡ 0
 beyond n x [] high below = refl
 beyond n x (m ∷ ms) high below = ⊎_elim
-    (λ (h : (x ≡ m.driver) × (hit x m.driver ≡ 1)). absurd (let e = h.0 in let b = below.0 in omega (arith, e, b, high)))
+    (λ (h : (x ≡ m.driver) × (hit x m.driver ≡ 1)).
+    absurd (let e = h.0 in let b = below.0 in omega (arith, e, b, high)))
     (λ (h : (x ≢ m.driver) × (hit x m.driver ≡ 0)). let none = h.1 in omega (arith, none, beyond n x ms high below.1))
     (hits x m.driver)
 
@@ -144,7 +144,8 @@ ran_together params n seen log b u sections rs told some few at to is ran begin 
       within : (n x : ℕ) → (n ≤ x) ⊎ (x < n)
       within n x = grind (arith)
 
-      mine : (x : ℕ) → length sections ≤ x → x < n → of_driver x (goes_on params seen log n sections rs some ran begin).0 ≡ 0
+      mine : (x : ℕ) → length sections ≤ x → x < n
+          → of_driver x (goes_on params seen log n sections rs some ran begin).0 ≡ 0
       mine x high low =
           let on = goes_on params seen log n sections rs some ran begin in
           let b = idle_begins params seen log x 0 n sections rs (omega (arith, high)) (omega (arith, low)) ran begin in

@@ -1,7 +1,7 @@
 -- What lines printed if they stopped by a fault; and it stays what they printed if the writer hands it on, and if it
 -- fails to.
-use Rattle.std.proofs.Common.{◌≡◌, ◌∙◌, ◌+◌, inl, inr, ℕ, List, Option, Some, None, Result, Ok, Err, IsErrAnd, refl, sym}
-use Rattle.std.proofs.Common.{ap, subst, arith}
+use Rattle.std.proofs.Common.{◌≡◌, ◌∙◌, ◌+◌, inl, inr, ℕ, List, Option, Some, None, Result, Ok, Err, IsErrAnd, refl}
+use Rattle.std.proofs.Common.{sym, ap, subst, arith}
 use Rattle.std.specs.Io.KnownBytes.{Keeps}
 use Rattle.ov_io.specs.Device.{SinkState}
 use Rattle.ov_snap.specs.CoreState.{CoreState}

@@ -18,8 +18,8 @@ use Rattle.ov_run.specs.Running.{PrintsCertificate, PrintsLine, PrintsLook, Prin
 use Rattle.ov_run.specs.Sections.{ToldLine, accepted_in, one_refused, refused_in}
 use Rattle.ov_run.specs.Strict.{AcceptsLine, IsFirstRefused, RefusesLine}
 use Rattle.ov_run.specs.Code.Jobs.{joined}
-use Rattle.ov_run.specs.Code.Outcomes.{LineCame, RanAsBlock, RefusesAlone, first_refused, or_else, refusal_at, refused_of, rest_of}
-use Rattle.ov_run.specs.Code.Outcomes.{stop_of}
+use Rattle.ov_run.specs.Code.Outcomes.{LineCame, RanAsBlock, RefusesAlone, first_refused, or_else, refusal_at}
+use Rattle.ov_run.specs.Code.Outcomes.{refused_of, rest_of, stop_of}
 use Rattle.ov_run.specs.declared.line_outcome.BlockTold.{BlockTold}
 use Rattle.ov_run.specs.declared.line_outcome.Came.{Came}
 use Rattle.ov_run.specs.declared.line_outcome.Came.TheVariants.{Alone, Block}

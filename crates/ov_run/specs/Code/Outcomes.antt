@@ -51,8 +51,8 @@ RanAsBlock b (line.Together sections) u block =
     × (block.refused ≡ refused_in (joined block.told))
 RanAsBlock b other u block = ⊥
 
--- this became of a line: it is no block, and was accepted, or refused without a change; or it is a block, and the writer
--- took nothing
+-- this became of a line: it is no block, and was accepted, or refused without a change; or it is a block, and the
+-- writer took nothing
 abbrev pub LineCame : CoreState → Line → CoreState → Option (List ℕ) → Option (List ℕ) → Came → Type 0
 LineCame b line u before after (Alone outcome) =
     WritesOutcome (AcceptsLine b line u) (λ refusal. RefusesAlone b line refusal × (u ≡ b)) before after outcome

@@ -5,7 +5,8 @@ use Rattle.overlay.proofs.run_from.Goals as goal
 
 pub returns : goal.returns
 returns g c = record {
-  run = run_of_reader (strictness_of c.args.run.strict) g.W.Write.contents c.args.sink.now c.run_told.new.sink (g.R.Read.remaining c.args.reader)
+  run = run_of_reader (strictness_of c.args.run.strict) g.W.Write.contents c.args.sink.now c.run_told.new.sink
+      (g.R.Read.remaining c.args.reader)
       c.in_ok-bytes.bytes.items c.deref.result.now c.run_told.result c.in_ok-bytes.ensures.bytes c.deref.ensures.value
       c.run_told.ensures.run;
 }

@@ -41,7 +41,8 @@ overflow_add-result-then-column c =
     omega (arith, nodes, members, low)
 
 pub returns-then-column : goal.returns-then-column
-returns-then-column c = (fan_reached c.args.nodes c.args.members c.args.number c.args.column c.requires.below c.requires.reached
+returns-then-column c = (
+    fan_reached c.args.nodes c.args.members c.args.number c.args.column c.requires.below c.requires.reached
     c.requires.within c.if-column.true).1
 
 pub overflow_cast-result-2 : goal.overflow_cast-result-2

@@ -70,7 +70,8 @@ examine_piece-done-requires-clause-piece g c =
     let piece = c.piece_at-piece.result in
     let m = length c.args.group.now in
     let own : SettlerState = record { graph = c.args.graph.now; members = c.args.group.now } in
-    let numbered = subst (λ (s : GroupSizes). IsNumbered s.nodes s.members (c.args.first + c.in-Some.number) piece) c.loop-number.invariant.order
+    let numbered = subst (λ (s : GroupSizes). IsNumbered s.nodes s.members (c.args.first + c.in-Some.number) piece)
+    c.loop-number.invariant.order
     c.piece_at-piece.ensures.numbered in
     subst (λ (s : SettlerState). IsPiece s.graph s.members piece) {x = own} (sym c.loop-number.invariant.settler)
     (numbered_piece (length c.args.graph.now.nodes) m (c.args.first + c.in-Some.number) piece numbered)

@@ -51,7 +51,8 @@ turned g c =
       piece = piece;
       taken = taken_here c.args.board.now.total c.loop-number.seat.worker u c.take_number-next.result.0 x c.in-Some.is
           c.take_number-next.ensures.taken;
-      numbered = subst (λ (s : GroupSizes). IsNumbered s.nodes s.members (c.args.first + x) piece) c.loop-number.invariant.order
+      numbered = subst (λ (s : GroupSizes). IsNumbered s.nodes s.members (c.args.first + x) piece)
+          c.loop-number.invariant.order
           c.piece_at-piece.ensures.numbered;
       settled = subst (λ (t : SettlerState). HasSettled t.graph t.members piece x u v before after)
           {y = own} c.loop-number.invariant.settler settled;
@@ -104,7 +105,8 @@ settle_piece-done-requires-clause-piece g c =
     let piece = c.piece_at-piece.result in
     let m = length c.args.group.now in
     let own : SettlerState = record { graph = c.args.graph.now; members = c.args.group.now } in
-    let numbered = subst (λ (s : GroupSizes). IsNumbered s.nodes s.members (c.args.first + c.in-Some.number) piece) c.loop-number.invariant.order
+    let numbered = subst (λ (s : GroupSizes). IsNumbered s.nodes s.members (c.args.first + c.in-Some.number) piece)
+    c.loop-number.invariant.order
     c.piece_at-piece.ensures.numbered in
     subst (λ (s : SettlerState). IsPiece s.graph s.members piece) {x = own} (sym c.loop-number.invariant.settler)
     (numbered_piece (length c.args.graph.now.nodes) m (c.args.first + c.in-Some.number) piece numbered)

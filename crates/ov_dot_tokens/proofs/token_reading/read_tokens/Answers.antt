@@ -12,7 +12,8 @@ loop-rest-init c =
     let len = c.comment_len.result in
     let whole : take (length text - len) (drop len text) ≡ drop len text =
     ap (λ k. take k (drop len text)) (sym (length-drop len text)) ∙ take-length (drop len text) in
-    subst (λ ts. SoFar text (lexemes ts) 0 (take (length text - len) (drop len text)) false) (sym c.new-tokens.ensures.items)
+    subst (λ ts. SoFar text (lexemes ts) 0 (take (length text - len) (drop len text)) false)
+    (sym c.new-tokens.ensures.items)
     (subst (λ r. SoFar text [] 0 r false) (sym whole) (begun text len c.comment_len.ensures))
 
 pub overflow_add-feeds-in-loop-rest : goal.overflow_add-feeds-in-loop-rest

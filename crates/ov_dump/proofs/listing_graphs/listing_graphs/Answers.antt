@@ -28,7 +28,8 @@ loop-listing-preserved c =
     let next = take_more listings i l c.loop-listing-test.true
     ∙ ap (λ (m : Listing). take i listings ++ m ∷ []) (sym c.listing-item.is) in
     let added = c.add_listing.ensures in
-    subst (λ (ls : List Listing). FollowsSoFar c.args.names.now ls c.add_listing.new.up c.add_listing.new.down) (sym next)
+    subst (λ (ls : List Listing). FollowsSoFar c.args.names.now ls c.add_listing.new.up c.add_listing.new.down)
+    (sym next)
     (follows_more c.args.names.now (take i listings) l c.loop-listing.up c.loop-listing.down c.add_listing.new.up
     c.add_listing.new.down c.loop-listing.invariant added.up added.down added.lists)
 

@@ -22,7 +22,8 @@ loop-entry-preserved c =
     ∙ ap (λ (m : Entry). take i all ++ m ∷ []) (sym c.entry-item.is) in
     subst (λ (ms : List Naming). Gains c.args.names.now ms c.take_name.new.names)
     (sym (entries_append (take i all) (e ∷ [])) ∙ ap (λ es. entry_namings (es)) (sym next))
-    (gains_more c.args.names.now c.loop-entry.names c.take_name.new.names (entry_namings (take i all)) ((e.at, e.name) ∷ [])
+    (gains_more c.args.names.now c.loop-entry.names c.take_name.new.names (entry_namings (take i all))
+    ((e.at, e.name) ∷ [])
     c.loop-entry.invariant c.in_ok-take_name.ensures.gains)
 
 pub returns-in_err-take_name-clause-fault : goal.returns-in_err-take_name-clause-fault
@@ -33,6 +34,8 @@ returns-in_err-take_name-clause-fault c =
     let split = parted all i e c.loop-entry-test.true
     ∙ ap (λ (m : Entry). take i all ++ m ∷ drop (suc i) all) (sym c.entry-item.is) in
     let p = err_from_is_err_and c.from_residual.result c.from_residual.ensures.1 in
-    rw (p.1, p.2) (runs_after c.args.names.now c.loop-entry.names (entry_namings (all)) (entry_namings (take i all)) ((e.at, e.name) ∷ [])
+    rw (p.1, p.2) (runs_after c.args.names.now c.loop-entry.names (entry_namings (all)) (entry_namings (take i all))
+    ((e.at, e.name) ∷ [])
     (entry_namings (drop (suc i) all)) c.in_err-take_name.field-0.0 c.loop-entry.invariant
-    (ap (λ es. entry_namings (es)) split ∙ entries_append (take i all) (e ∷ drop (suc i) all)) c.in_err-take_name.ensures.fault)
+    (ap (λ es. entry_namings (es)) split ∙ entries_append (take i all) (e ∷ drop (suc i) all))
+    c.in_err-take_name.ensures.fault)

@@ -22,7 +22,8 @@ loop-listing-preserved c =
     ∙ ap (λ (m : Listing). take i all ++ m ∷ []) (sym c.listing-item.is) in
     subst (λ (ms : List Naming). Gains c.args.names.now ms c.take_ends.new.names)
     (sym (listings_append (take i all) (e ∷ [])) ∙ ap (λ es. flat_map listing_namings (es)) (sym next))
-    (gains_more c.args.names.now c.loop-listing.names c.take_ends.new.names (flat_map listing_namings (take i all)) (listing_namings e)
+    (gains_more c.args.names.now c.loop-listing.names c.take_ends.new.names (flat_map listing_namings (take i all))
+    (listing_namings e)
     c.loop-listing.invariant c.in_ok-take_ends.ensures.gains)
 
 pub returns-in_err-take_ends-clause-fault : goal.returns-in_err-take_ends-clause-fault
@@ -33,6 +34,8 @@ returns-in_err-take_ends-clause-fault c =
     let split = parted all i e c.loop-listing-test.true
     ∙ ap (λ (m : Listing). take i all ++ m ∷ drop (suc i) all) (sym c.listing-item.is) in
     let p = err_from_is_err_and c.from_residual.result c.from_residual.ensures.1 in
-    rw (p.1, p.2) (runs_after c.args.names.now c.loop-listing.names (flat_map listing_namings (all)) (flat_map listing_namings (take i all)) (listing_namings e)
+    rw (p.1, p.2) (runs_after c.args.names.now c.loop-listing.names (flat_map listing_namings (all))
+    (flat_map listing_namings (take i all)) (listing_namings e)
     (flat_map listing_namings (drop (suc i) all)) c.in_err-take_ends.field-0.0 c.loop-listing.invariant
-    (ap (λ es. flat_map listing_namings (es)) split ∙ listings_append (take i all) (e ∷ drop (suc i) all)) c.in_err-take_ends.ensures.fault)
+    (ap (λ es. flat_map listing_namings (es)) split ∙ listings_append (take i all) (e ∷ drop (suc i) all))
+    c.in_err-take_ends.ensures.fault)

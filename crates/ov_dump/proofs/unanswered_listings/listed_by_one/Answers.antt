@@ -32,7 +32,8 @@ loop-place-preserved-then-not-fresh c =
     let at = here listings i l c.loop-place-test.true ∙ ap Some (sym is) in
     let next = take_more listings i l c.loop-place-test.true
     ∙ ap (λ (m : Listing). take i listings ++ m ∷ []) (sym is) in
-    told_before listings i l c.loop-place.told c.insert.new.self c.loop-place.places.items c.loop-place.invariant at next
+    told_before listings i l c.loop-place.told c.insert.new.self c.loop-place.places.items c.loop-place.invariant at
+    next
     (λ h. both_ways _ c.if-contains.false (c.contains.ensures.1 ((c.in_ok-said.ensures (l.to, l.from)).1 h)))
     (λ none. both_ways _ c.if-not-fresh.true (c.in_ok-fresh.ensures.fresh.1 none)) c.in_ok-fresh.ensures.pairs
 

@@ -22,7 +22,8 @@ returns-clause-printed g c =
     let f = c.in_ok-filed.filed in
     unnamed c.args.bytes.now (option_map (λ file. file.now) c.args.names) (chosen_entry c.args.request.now.entry)
     g.W.Write.contents c.args.sink.now.writer f c.in-Err-picture_text.fault c.in_ok-filed.ensures.held
-    (subst (λ e. shown_paths f.cert e ≢ None) c.chosen.ensures (has_entry f.cert c.chosen.result c.in-Ok.ensures.judged))
+    (subst (λ e. shown_paths f.cert e ≢ None) c.chosen.ensures
+    (has_entry f.cert c.chosen.result c.in-Ok.ensures.judged))
     c.in-Err-picture_text.ensures
 
 pub returns-in-Ok-picture_text-clause-printed : goal.returns-in-Ok-picture_text-clause-printed

@@ -13,4 +13,5 @@ returns-clause-says c =
     let text : c.write_links.new.text.items ≡ named_graph_text g names = search rules in
     let ids : AreIds g.nodes = subst AreIds c.nodes.ensures.nodes c.in_ok-write_named_nodes.ensures.ids in
     subst (λ t. IsGraphFile t g) (sym text)
-    (named_text_says g c.args.names.now c.nodes.ensures.graph c.nodes.ensures.within ids c.requires.each c.requires.lines)
+    (named_text_says g c.args.names.now c.nodes.ensures.graph c.nodes.ensures.within ids c.requires.each
+    c.requires.lines)

@@ -32,7 +32,8 @@ returns-in_err-settled-clause-refused c =
     c.from_residual-in_err-settled.ensures.1
     (record {
       full = c.in_err-settled.ensures.full;
-      reason = no_way_settling c.args.options.now c.in_ok-growing.growing c.join.new.self fault c.in_ok-growing.ensures.begins
+      reason = no_way_settling c.args.options.now c.in_ok-growing.growing c.join.new.self fault
+          c.in_ok-growing.ensures.begins
           c.in_ok-join.ensures.goes c.in_err-settled.ensures.refused;
     })
 
@@ -55,7 +56,8 @@ returns-in_err-healed-clause-refused c =
     c.from_residual-in_err-healed.ensures.1
     (record {
       full = c.in_err-healed.ensures.full;
-      reason = no_way_healing c.args.options.now c.in_ok-growing.growing c.join.new.self c.settle.new.self c.crash.new.self
+      reason = no_way_healing c.args.options.now c.in_ok-growing.growing c.join.new.self c.settle.new.self
+          c.crash.new.self
           c.in_ok-settled.settled c.in_ok-crashed.crashed fault c.in_ok-growing.ensures.begins c.in_ok-join.ensures.goes
           c.in_ok-settled.ensures.goes c.in_ok-crashed.ensures.goes c.in_err-healed.ensures.refused;
     })

@@ -39,7 +39,8 @@ returns g c =
 pub returns-in_err-opening : goal.returns-in_err-opening
 returns-in_err-opening g c = record {
   read = search rules;
-  run = without_room c.args.strictness c.args.bytes.now g.W.Write.contents c.args.sink.now c.from_residual-in_err-opening.result
+  run = without_room c.args.strictness c.args.bytes.now g.W.Write.contents c.args.sink.now
+      c.from_residual-in_err-opening.result
       c.from_residual-in_err-opening.ensures.1;
 }
 
@@ -50,7 +51,8 @@ returns-in_err-run_in_hall g c =
     let failed = c.from_residual-in_err-run_in_hall in
     record {
       read = search rules;
-      run = stopped c.args.strictness c.args.bytes.now g.W.Write.contents c.args.sink.now c.run_in_hall.new.sink failed.result
+      run = stopped c.args.strictness c.args.bytes.now g.W.Write.contents c.args.sink.now
+          c.run_in_hall.new.sink failed.result
           c.in_err-run_in_hall.field-0.0 failed.ensures.1 (
             c.args.bytes.now,
             ran.begun.0,
@@ -72,7 +74,8 @@ returns-in_err-run_in_hall g c =
               record {
                 scenario = file.scenario;
                 says = file.ensures.scenario;
-                lines = subst (λ ls. StopsLines (opening_core file.scenario.params) file.scenario.lines.items ls n refusal
+                lines = subst (λ ls. StopsLines (opening_core file.scenario.params) file.scenario.lines.items ls n
+                    refusal
                     own.1.0) file.ensures.file_lines own.1.1;
               },
               own.1.2,

@@ -114,7 +114,8 @@ returns g c =
           (
             printed.0,
             accepted_ended start all all_asked now c.loop-recent.left.file_lines printed.0
-                (subst (λ (ls : List Line). AcceptedSoFar start all all_asked now ls c.loop-recent.left.file_lines printed.0)
+                (subst (λ (ls : List Line). AcceptedSoFar start all all_asked now ls
+                c.loop-recent.left.file_lines printed.0)
                 empty (printed.3 strict)),
             printed.2,
           ),
@@ -244,7 +245,8 @@ returns-in-Some-stop g c =
     (printed.3 at.0)) in
     record {
       ran =
-          stopped_at c.args.strictness g.W.Write.contents start all all_asked c.args.sink.now c.settle.new.sink n refusal
+          stopped_at c.args.strictness g.W.Write.contents start all all_asked c.args.sink.now c.settle.new.sink
+          n refusal
           at.0 (text ++ [], accepted.stops n refusal [] (inl (here, refl)), went)
           (text ++ [], so_far.prefix [] (nothing now (line ∷ lines)), all_went _ _ (text ++ []) went)
           (omega (arith, before, ran, wrote));

@@ -27,7 +27,8 @@ loop-pass-preserved g c =
     let own : Ran = (c.in-Some.pass, c.in-Some.own) in
     let taken : c.loop-pass.pass-iterator.rest.items ≡ own ∷ left = c.in-Some.ensures.steps.0 in
     let pushed : c.push_reserved.new.self.items ≡ passes ++ own.0 ∷ [] = c.push_reserved.ensures.items in
-    let said : c.push_reserved-in-loop-pass.new.self.items ≡ told ++ own.1 ∷ [] = c.push_reserved-in-loop-pass.ensures.items in
+    let said : c.push_reserved-in-loop-pass.new.self.items ≡ told ++ own.1 ∷ [] =
+    c.push_reserved-in-loop-pass.ensures.items in
     let long = ap length taken in
     record {
       passes = ap (λ l. l ++ map (λ (x : Ran). x.0) left) pushed

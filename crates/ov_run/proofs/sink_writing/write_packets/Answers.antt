@@ -21,7 +21,8 @@ loop-packet-preserved g c =
     let said = before.printed in
     let line = c.as_bytes.result.now in
     let line_is = ◌∙◌ {b = string_bytes c.in_ok-line.line}
-    {c = packet_line c.loop-packet.place c.to.result c.bytes.result.now} c.as_bytes.ensures.value c.in_ok-line.ensures in
+    {c = packet_line c.loop-packet.place c.to.result c.bytes.result.now} c.as_bytes.ensures.value
+    c.in_ok-line.ensures in
     let long : length (seen ++ packet ∷ []) ≡ length seen + 1 = length-append seen (packet ∷ []) in
     let at = before.place in
     let failed = c.in_ok-write_all.ensures.faults in
@@ -29,7 +30,8 @@ loop-packet-preserved g c =
     let next = packets_next seen c.loop-packet.place c.to.result packet said.0 c.bytes.result.now line at c.to.ensures
     c.bytes.ensures line_is said.1 in
     record {
-      all = ap (λ s. s ++ rest) more ∙ append_assoc seen (packet ∷ []) rest ∙ ap (λ i. seen ++ i) (sym step) ∙ before.all;
+      all = ap (λ s. s ++ rest) more ∙ append_assoc seen (packet ∷ []) rest ∙ ap (λ i. seen ++ i) (sym step)
+          ∙ before.all;
       place = let count : c.loop-packet.place + 1 ≡ length (seen ++ packet ∷ []) = omega (arith, long, at) in
           count ∙ ap length (sym more);
       printed = (
@@ -70,7 +72,8 @@ returns-in_err-write_all-clause-begun g c =
     let said = before.printed in
     let line = c.as_bytes.result.now in
     let line_is = ◌∙◌ {b = string_bytes c.in_ok-line.line}
-    {c = packet_line c.loop-packet.place c.to.result c.bytes.result.now} c.as_bytes.ensures.value c.in_ok-line.ensures in
+    {c = packet_line c.loop-packet.place c.to.result c.bytes.result.now} c.as_bytes.ensures.value
+    c.in_ok-line.ensures in
     let next = packets_next seen c.loop-packet.place c.to.result packet said.0 c.bytes.result.now line before.place
     c.to.ensures c.bytes.ensures line_is said.1 in
     let all = append_assoc seen (packet ∷ []) rest ∙ ap (λ i. seen ++ i) (sym step) ∙ before.all in (

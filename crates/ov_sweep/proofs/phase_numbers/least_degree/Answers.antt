@@ -9,7 +9,8 @@ degree-requires c =
     let nodes = c.nodes-nodes.ensures.nodes in
     has_at c.args.graph.now.nodes c.loop-node.node-index c.node-item.result
     (subst (λ (ns : List ℕ). c.loop-node.node-index < length ns) nodes c.loop-node-test.true)
-    (subst (λ (ns : List ℕ). c.node-item.result ≡ get_or ns c.loop-node.node-index c.node-item.result) nodes c.node-item.is)
+    (subst (λ (ns : List ℕ). c.node-item.result ≡ get_or ns c.loop-node.node-index c.node-item.result) nodes
+    c.node-item.is)
 
 pub loop-node-preserved : goal.loop-node-preserved
 loop-node-preserved c =
@@ -25,6 +26,7 @@ loop-node-preserved c =
 
 pub returns : goal.returns
 returns c =
-    let end = subst (λ (ns : List ℕ). length ns ≤ c.loop-node.node-index) c.nodes-nodes.ensures.nodes c.loop-node-test.false in
+    let end = subst (λ (ns : List ℕ). length ns ≤ c.loop-node.node-index) c.nodes-nodes.ensures.nodes
+    c.loop-node-test.false in
     least_all c.args.graph.now c.loop-node.least c.loop-node.node-index end c.loop-node.invariant.reached
     c.loop-node.invariant.least

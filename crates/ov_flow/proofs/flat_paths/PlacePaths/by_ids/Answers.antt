@@ -1,6 +1,6 @@
 -- Path by path.
-use Rattle.std.proofs.Common.{◌≡◌, ◌∙◌, ℕ, ◌-◌, ◌∷◌, ◌++◌, get_or, List, [], inl, inr, refl, sym, ap, subst, map, length}
-use Rattle.std.proofs.Common.{reverse, slice_index}
+use Rattle.std.proofs.Common.{◌≡◌, ◌∙◌, ℕ, ◌-◌, ◌∷◌, ◌++◌, get_or, List, [], inl, inr, refl, sym, ap, subst, map}
+use Rattle.std.proofs.Common.{length, reverse, slice_index}
 use Rattle.ov_ids.specs.Members.{Has}
 use Rattle.ov_graph.specs.Paths.{node_at}
 use Rattle.ov_paths.specs.Building.{Building}
@@ -49,7 +49,8 @@ loop-path-preserved c =
       places = λ p h. i.places p (subst (λ (ps : List (List ℕ)). Has ps p) (sym first) (inr h));
       begun = c.in_ok-push_by_ids.ensures.ended;
       paths = path_more f c.loop-path.paths.paths c.push_by_ids.new.paths.paths (map f c.args.self.now)
-          (paths_after s [] c.loop-path.left.now) (paths_after s [] rest) (reverse path) (f (reverse path)) i.paths first
+          (paths_after s [] c.loop-path.left.now) (paths_after s [] rest) (reverse path) (f (reverse path)) i.paths
+          first
           (c.in_ok-push_by_ids.ensures.pushed
           ∙ ap (λ (ns : List ℕ). c.loop-path.paths.paths ++ by_nodes ns ∷ []) c.nodes-nodes.ensures.nodes) refl;
     }

@@ -19,7 +19,8 @@ use Rattle.ov_grow.proofs.Making.{ending_live, ending_made, have_more, lives_kee
 use Rattle.ov_grow.proofs.growing.Growing.crash.Goals as goal
 
 pub to_crash-requires-clause-answered : goal.to_crash-requires-clause-answered
-to_crash-requires-clause-answered c = answered_kept c.args.self.now.recording.core c.comment.new.self.recording.core c.args.settled
+to_crash-requires-clause-answered c = answered_kept c.args.self.now.recording.core c.comment.new.self.recording.core
+    c.args.settled
     c.in_ok-comment.ensures.goes.kept c.requires.answered
 
 pub returns-in_err-comment-clause-refused : goal.returns-in_err-comment-clause-refused

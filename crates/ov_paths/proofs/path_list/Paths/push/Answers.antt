@@ -16,7 +16,8 @@ pub invariant_of-self-2 : goal.invariant_of-self-2
 invariant_of-self-2 c =
     let p = c.self.inside in
     pushed_ends p.ends.items p.ids.items c.args.path.now c.push_reserved.new.self.items
-    c.extend_from_slice.new.self.items c.in-Ok.end c.self.invariant (to c) c.in_ok-extend_from_slice.ensures.items (all c)
+    c.extend_from_slice.new.self.items c.in-Ok.end c.self.invariant (to c) c.in_ok-extend_from_slice.ensures.items
+    (all c)
 
 pub returns-clause-pushed : goal.returns-clause-pushed
 returns-clause-pushed c =
@@ -24,4 +25,5 @@ returns-clause-pushed c =
     subst (λ (ps : List (List ℕ)). paths_from 0 c.push_reserved.new.self.items c.extend_from_slice.new.self.items
     ≡ ps ++ c.args.path.now ∷ []) c.self.view_is
     (pushed_paths p.ends.items p.ids.items c.args.path.now c.push_reserved.new.self.items
-    c.extend_from_slice.new.self.items c.in-Ok.end c.self.invariant (to c) c.in_ok-extend_from_slice.ensures.items (all c))
+    c.extend_from_slice.new.self.items c.in-Ok.end c.self.invariant (to c) c.in_ok-extend_from_slice.ensures.items
+    (all c))
