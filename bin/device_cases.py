@@ -336,8 +336,8 @@ def fifo(lab):
 
 
 PIECE = re.compile(rb"level \d+: piece (\d+) of (\d+)")
-# Several workers tell only the beginning of a level. The last of the ring's levels takes a small part of the time, so it
-# begins after the first second if all take so many.
+# Several workers tell only the beginning of a level. The last of the ring's levels takes a small part of the time, so
+# it begins after the first second if all take so many.
 SURE = 3
 
 
@@ -375,7 +375,8 @@ LINE = re.compile(rb"line (\d+) of (\d+)")
 MANY_LINES = 6_000_000
 
 
-@case("devices", "progress of a run", f"`run --progress` of {MANY_LINES:,} lines `show 1`, the last one without a line feed",
+@case("devices", "progress of a run",
+      f"`run --progress` of {MANY_LINES:,} lines `show 1`, the last one without a line feed",
       "lines `line N of M`, none in the first second, at most two a second; N rises, and M counts all lines (FORMATS.md)")
 def run_progress(lab):
     path = pathlib.Path(lab.room, "many-lines")
@@ -386,7 +387,8 @@ def run_progress(lab):
     numbers = [int(it[1]) for it in found if it and int(it[2]) == MANY_LINES]
     has_form = len(numbers) == len(found) > 0 and numbers == sorted(set(numbers)) and numbers[-1] <= MANY_LINES
     text = "lines in this form, as seldom" if has_form and len(found) <= 2 * seen.seconds else repr(seen.err[:80])
-    right = "each look refused" if seen.out == b"refused 10\n" * MANY_LINES and seen.status == 0 else f"status {seen.status}"
+    all_refused = seen.out == b"refused 10\n" * MANY_LINES and seen.status == 0
+    right = "each look refused" if all_refused else f"status {seen.status}"
     note = f"{len(found)} lines in {seen.seconds:.1f} s"
     yield "run --progress", f"{right}, {text}", "each look refused, lines in this form, as seldom", note
 

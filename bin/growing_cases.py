@@ -88,7 +88,8 @@ def each(name, done, promised, wanted, **how):
     CASES.append(Case("growing", f"growing: {name}", done, promised, act))
 
 
-each("all is well", "the same without any trouble; a summary also of rows that were read", "scenario and rows are those "
+each("all is well", "the same without any trouble; a summary also of rows that were read",
+     "scenario and rows are those "
      "of the second opinion, and the summary of what was grown is that of its rows", RIGHT)
 each("empty environment", "`env -i`", "no variable is looked at (FORMATS.md, devices)", RIGHT, env={})
 each("closed standard output", "`>&-`", NO_WRITE, WRITE, closed=(1,))
@@ -102,7 +103,8 @@ each("256 KB of stack", "`ulimit -s 256`", "the right output: 256 KB of stack ar
      limits={resource.RLIMIT_STACK: ENOUGH})
 
 
-@case("growing", "growing: a picture that can't be written", "`sweep --svg FILE`, where FILE is /dev/full, a folder, in "
+@case("growing", "growing: a picture that can't be written",
+      "`sweep --svg FILE`, where FILE is /dev/full, a folder, in "
       "a folder that is not there, or `''`", "FILE is opened at the end, so the rows come first; then `refused 72`, "
       "status 1 (FORMATS.md)")
 def unwritten_picture(lab):
@@ -123,7 +125,8 @@ def kept_picture(lab):
     yield "sweep --svg", f"{told(seen)}, {same}", f"{WRITE}, FILE is as before"
 
 
-@case("growing", "growing: rows that can't be read", "`sweep --read FILE --summary`, where FILE is not there, a folder, "
+@case("growing", "growing: rows that can't be read",
+      "`sweep --read FILE --summary`, where FILE is not there, a folder, "
       "/proc/self/mem, or `-` with standard input closed", NO_READ)
 def unread_rows(lab):
     for name, file in (("no file", "none"), ("a folder", lab.room), ("a device", "/proc/self/mem")):
@@ -165,8 +168,10 @@ def told_of_rows(command, seen, right):
     return text
 
 
-@case("growing", "growing: little memory", "`grow`, and `sweep` by 1 worker and by 64, with 64 MB of addresses, and fewer in 50 "
-      "steps, until it can't start", "the right output, or out of memory: `refused 99`, status 1; of rows those before (FORMATS.md)")
+@case("growing", "growing: little memory",
+      "`grow`, and `sweep` by 1 worker and by 64, with 64 MB of addresses, and fewer in 50 "
+      "steps, until it can't start",
+      "the right output, or out of memory: `refused 99`, status 1; of rows those before (FORMATS.md)")
 def little_growing(lab):
     for command in (GROW, SWEEP, CROWD):
         right, ranges = right_of(lab, command), {}
@@ -183,7 +188,8 @@ def little_growing(lab):
             yield command.name, text, (RIGHT, MEMORY, *([SOME_ROWS] if command.kind == "rows" else [])), note
 
 
-@case("growing", "growing: no thread can be started, or two", "`sweep --workers 64` under `ulimit -u 1` and `ulimit -u 3`; "
+@case("growing", "growing: no thread can be started, or two",
+      "`sweep --workers 64` under `ulimit -u 1` and `ulimit -u 3`; "
       "for root as another user (65534)", "a thread that can't be started is no fault: the output is the same "
       "(FORMATS.md, devices)")
 def few_growing(lab):

@@ -261,8 +261,10 @@ def many_threads(lab):
     yield "analyse --workers 64", text, "2 to 64 threads", f"{most} threads"
 
 
-@case("workers", "a certificate is checked by several threads", "`overlay-check` of a certificate of a thousand entries, "
-      "and the most threads that were seen", "several threads share the entries, if there are several processors (PROVED.md)")
+@case("workers", "a certificate is checked by several threads",
+      "`overlay-check` of a certificate of a thousand entries, "
+      "and the most threads that were seen",
+      "several threads share the entries, if there are several processors (PROVED.md)")
 def threads_of_checker(lab):
     most = most_threads(lab, lab.words(CHECK, lab.large("entries")))
     text = "several threads" if most >= min(2, len(os.sched_getaffinity(0))) else f"{most} threads"

@@ -120,7 +120,8 @@ def edges_of(links, seed):
 def dot_of(names, links):
     """The graph in the language of Graphviz."""
     nodes = [f'  "{name}" [label="{name}", pos="1,2"];' for name in names]
-    return "\n".join(["strict graph {", "  node [shape=box];", *nodes, *(f'  "{a}" -- "{b}";' for a, b in links), "}", ""])
+    edges = (f'  "{a}" -- "{b}";' for a, b in links)
+    return "\n".join(["strict graph {", "  node [shape=box];", *nodes, *edges, "}", ""])
 
 
 @unittest.skipUnless(OVERLAY, "TAGZIRK_OVERLAY names no program")
@@ -129,7 +130,8 @@ class Dumps(unittest.TestCase):
         for count, links in (3, 1), (200, 700), (800, 4000):
             names, pairs = some_overlay(count, links, count)
             wanted = graph_file(names, pairs)
-            dumps = {"--views": views_of(names, pairs), "--edges": edges_of(pairs, count), "--dot": dot_of(names, pairs)}
+            views, edges, dot = views_of(names, pairs), edges_of(pairs, count), dot_of(names, pairs)
+            dumps = {"--views": views, "--edges": edges, "--dot": dot}
             for form, dump in dumps.items():
                 for words in ("import", form), ("import", form, "-"), ("import",):
                     with self.subTest(count=count, words=words):
@@ -176,7 +178,8 @@ class Dumps(unittest.TestCase):
         self.assertEqual(status, 0)
         again, _, status = overlay("import", "--dot", given=drawn)
         self.assertEqual(status, 0)
-        wanted = graph_file([str(it) for it in range(1, 41)], [line.split()[1:] for line in bare.splitlines() if "link" in line])
+        pairs = [line.split()[1:] for line in bare.splitlines() if "link" in line]
+        wanted = graph_file([str(it) for it in range(1, 41)], pairs)
         self.assertEqual(again, wanted)
 
 

@@ -3,9 +3,9 @@
 the folder that it is run in.
 
 half-1024 has half of all links, at random; regular-64-1024 is a random graph in which each node has 64 links; ring-78
-is a ring of 1,024 nodes, each linked to the 78 next on each side, with its ids shuffled; two-sides-512 links each of 512
-nodes to each of 512 others; all-but-one-1024 has all links but one. `graphs.py ARMS` writes graphs on which an analysis
-that goes down level by level tries nearly all levels.
+is a ring of 1,024 nodes, each linked to the 78 next on each side, with its ids shuffled; two-sides-512 links each of
+512 nodes to each of 512 others; all-but-one-1024 has all links but one. `graphs.py ARMS` writes graphs on which an
+analysis that goes down level by level tries nearly all levels.
 
 Needs networkx (Debian: python3-networkx).
 """

@@ -1,6 +1,6 @@
 #!/usr/bin/env python3
-"""whole.py [--checker CHECKER].. [--certificates] PROGRAM [PROGRAM ..] -- GRAPH ..: times builds of `overlay analyse` on
-the same graphs.
+"""whole.py [--checker CHECKER].. [--certificates] PROGRAM [PROGRAM ..] -- GRAPH ..: times builds of `overlay analyse`
+on the same graphs.
 
 Each graph is analysed by each program with 1 and with 4 workers in turn, as a whole process without a certificate, up
 to RUNS times, or until ENOUGH seconds have gone by. A run that takes longer than LIMIT seconds is ended, and if it

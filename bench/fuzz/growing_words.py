@@ -1,5 +1,5 @@
-"""Reads the words after `overlay grow` and `overlay sweep`, and says what these print, by docs/GROWING.md, by their help,
-and by ../study/grow.py, which grows overlays by that page alone.
+"""Reads the words after `overlay grow` and `overlay sweep`, and says what these print, by docs/GROWING.md, by their
+help, and by ../study/grow.py, which grows overlays by that page alone.
 
 That a number may begin with `+`, as Rust reads numbers, was taken from the program. What `clap` decides is as in
 command_line.py. A summary, a picture and what `--progress` prints are not said.

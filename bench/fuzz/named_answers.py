@@ -41,8 +41,8 @@ def spelled(text):
 
 
 def node_of(part, names, graph):
-    """The node that a part of the text of a group means. Refused if it means none, or two. Where a name spells an id, no
-    part is an id."""
+    """The node that a part of the text of a group means. Refused if it means none, or two. Where a name spells an id,
+    no part is an id."""
     named = [node for node, name in names.items() if name == part]
     if len(named) > 1:
         raise Refused("refused 85")

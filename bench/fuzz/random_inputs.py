@@ -145,7 +145,8 @@ def graph(random):
 def comment(random, words):
     """A comment before a line of these words, which mostly names the node that the line says."""
     node = words[1] if random.random() < 0.95 else b"7"
-    name = random.choice((b"a", b"b", b"c d", b" e", b"1", b"2", b"#", "\u00e9".encode(), b"x\ty", b"host-%d" % random.randrange(99)))
+    host = b"host-%d" % random.randrange(99)
+    name = random.choice((b"a", b"b", b"c d", b" e", b"1", b"2", b"#", "\u00e9".encode(), b"x\ty", host))
     between = random.choice((b" ", b" ", b" ", b" ", b"  ", b"\t"))
     return random.choice((b"", b"", b" ")) + b"# " + node + between + name
 

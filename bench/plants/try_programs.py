@@ -3,9 +3,9 @@
 
 Each edit of overlay/ and overlay_check/ beside this script, or each one named, is applied to a clone of the commit at
 hand. The program is built without proofs, and bin/check-examples, bin/check-corpus, and the workers and the devices of
-bin/check-devices run it beside the other program, which has no bug. A row for each edit says how many lines each of these
-complains of, up to the first that complains. TAGZIRK_OVERLAY and TAGZIRK_OVERLAY_CHECK name the programs without a bug,
-which may be unproved. A row takes one to five minutes. The status is 1 if a bug is not noticed.
+bin/check-devices run it beside the other program, which has no bug. A row for each edit says how many lines each of
+these complains of, up to the first that complains. TAGZIRK_OVERLAY and TAGZIRK_OVERLAY_CHECK name the programs without
+a bug, which may be unproved. A row takes one to five minutes. The status is 1 if a bug is not noticed.
 """
 
 import os
@@ -44,7 +44,8 @@ def complaints(tree, programs):
     for check, *groups in CHECKS:
         run = subprocess.run([tree / "bin" / check, *words, *groups], capture_output=True, text=True)
         if run.returncode:
-            said = [line for line in (run.stdout + run.stderr).splitlines() if "differ" not in line or " 0 " not in line]
+            printed = (run.stdout + run.stderr).splitlines()
+            said = [line for line in printed if "differ" not in line or " 0 " not in line]
             return check, said
     return None
 
@@ -67,7 +68,8 @@ def row(tree, room, edit):
 
 
 def main():
-    edits = [HERE / word for word in sys.argv[1:]] or sorted(it for name in PROGRAMS for it in (HERE / name).glob("*.edit"))
+    named = [HERE / word for word in sys.argv[1:]]
+    edits = named or sorted(it for name in PROGRAMS for it in (HERE / name).glob("*.edit"))
     all_noticed = True
     with tempfile.TemporaryDirectory() as folder:
         room = pathlib.Path(folder)

@@ -1,6 +1,6 @@
 #!/usr/bin/env python3
-"""many_lines.py LINES [NODES]: writes a scenario of LINES lines. 65,000 of them, or all if there are fewer, are those of
-make_scenario.py; the others show nodes, one after another.
+"""many_lines.py LINES [NODES]: writes a scenario of LINES lines. 65,000 of them, or all if there are fewer, are those
+of make_scenario.py; the others show nodes, one after another.
 """
 
 import itertools

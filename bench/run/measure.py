@@ -26,8 +26,8 @@ SCENARIOS = {
 
 
 def run(program, scenario, output):
-    """The seconds and the peak in KB, of 1,024 bytes, of one run of a program. A peak is never told as less than what this
-    process has in memory, so it keeps no scenario and no output.
+    """The seconds and the peak in KB, of 1,024 bytes, of one run of a program. A peak is never told as less than what
+    this process has in memory, so it keeps no scenario and no output.
     """
     with open(scenario, "rb") as given, open(output, "wb") as taken:
         begun = time.monotonic()

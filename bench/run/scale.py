@@ -91,7 +91,8 @@ def drawn(found, memory):
         yield f'<text x="{LEFT + ACROSS + 12}" y="{at}" fill="{colour}">{nodes} nodes</text>'
     yield from axes(right, "peak of memory, over the lines of the scenario", LINES, most, " MB")
     yield from curve(places(LINES), [it[0] for it in memory], most, COLOURS[0], right)
-    said = "Left: each dot is the rate since the length before. Right: 65,000 lines are events, the others look at nodes."
+    said = ("Left: each dot is the rate since the length before. "
+            "Right: 65,000 lines are events, the others look at nodes.")
     yield f'<text x="{LEFT}" y="{HEIGHT - 25}">{said}</text>'
     yield "</svg>"
 

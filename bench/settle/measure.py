@@ -20,7 +20,8 @@ GRAPHS = ["ring-200", "all-but-one-256", "regular-256", "regular-1024", "half-25
 
 
 def run(words, folder):
-    out = subprocess.run(["/usr/bin/time", "-f", "%M KB", *words], cwd=folder, capture_output=True, text=True, check=True)
+    timed = ["/usr/bin/time", "-f", "%M KB", *words]
+    out = subprocess.run(timed, cwd=folder, capture_output=True, text=True, check=True)
     pieces, paths = re.search(r"(\d+) pieces,? (\d+) paths", out.stdout).groups()
     ms = float(re.search(r"([\d.]+) ms", out.stdout)[1])
     return (int(pieces), int(paths)), ms, int(re.search(r"(\d+) KB", out.stderr)[1])

@@ -2,7 +2,8 @@
 """compare.py [--overlay PROGRAM] [--grows] [--simulate PROGRAM] [--count N] [--first SEED]: grows N overlays with
 options drawn at random, and holds others against grow.py:
 
-  --overlay   the scenario, run strictly by this program, prints event for event what growing saw, and no line is refused
+  --overlay   the scenario, run strictly by this program, prints event for event what growing saw, and no line is
+              refused
   --grows     and its `overlay grow` prints the same scenario, and its `overlay sweep` the same row
   --simulate  this simulation prints the same scenario, and the same row
 

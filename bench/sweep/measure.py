@@ -1,9 +1,9 @@
 #!/usr/bin/env python3
 """measure.py OVERLAY [--runs N] [--nodes N] [--workers A,B,..]: how long `overlay sweep` takes by 1, 2 and 4 workers.
 
-It prints a line for each number of workers: the seconds that passed, the seconds of the processors, how many times as fast
-it is as one worker, and the peak of memory. It ends with status 1 where the rows differ. The program should be the proved
-one; the machine should do nothing else.
+It prints a line for each number of workers: the seconds that passed, the seconds of the processors, how many times as
+fast it is as one worker, and the peak of memory. It ends with status 1 where the rows differ. The program should be the
+proved one; the machine should do nothing else.
 """
 
 import argparse

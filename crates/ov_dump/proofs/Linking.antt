@@ -2,9 +2,10 @@
 use Rattle.std.proofs.Common.{◌≡◌, ◌≢◌, ◌∙◌, ◌↔◌, ◌⊎◌, ◌<◌, ◌≤◌, inl, inr, List, [], ◌∷◌, ◌++◌, ℕ, sym, ap, ap₂, subst}
 use Rattle.std.proofs.Common.{refl, Bool, true, false, MatchBool, length, arith}
 use Rattle.ov_ids.specs.Members.{Has, Ordered}
-use Rattle.ov_ids.proofs.Members.{same_ordered}
 use Rattle.ov_graph.specs.Changes.{ArePair, GainsLink}
-use Rattle.ov_graph.specs.Links.{IsGraph, LinkGraph, Linked, Precedes}
+use Rattle.ov_graph.specs.Links.{IsGraph, LinkGraph, Linked}
+use Rattle.ov_graph.proofs.EvenTest.Walks.{linked_sym}
+use Rattle.ov_graph.proofs.GraphValues.OneGraph.{linked_differ, same_graphs}
 use Rattle.ov_dump.specs.Code.Numbering.{Follows, NodeLists}
 use Rattle.ov_dump.specs.Dumps.{AreLinked, IsGraphOf, IsNameOf, IsTaken, Lists, numbers}
 use Rattle.ov_dump.specs.Faults.{AreSoundListings}
@@ -18,23 +19,11 @@ use Rattle.ov_dump.proofs.Places.{cases_lt}
 
 -- ---- one node lists another
 
-pub link_sym : (g : LinkGraph) (i j : ℕ) → Linked g i j → Linked g j i
-unfolding Linked
-link_sym g i j l = elim l [ inl h ↦ inr h | inr h ↦ inl h ]
-
 pub unlinked : (g : LinkGraph) (i j : ℕ) → g.links ≡ [] → Linked g i j → ⊥
 unfolding Linked
 unlinked g i j none l = elim l [
   | inl h ↦ subst (λ (ls : List (ℕ × ℕ)). Has ls (i, j)) none h
   | inr h ↦ subst (λ (ls : List (ℕ × ℕ)). Has ls (j, i)) none h
-]
-
--- linked nodes differ
-pub linked_differ : (g : LinkGraph) (i j : ℕ) → IsGraph g → Linked g i j → i ≢ j
-unfolding Linked
-linked_differ g i j graph l same = elim l [
-  | inl h ↦ let up = (graph.joins (i, j) h).0 in omega (arith, up, same)
-  | inr h ↦ let up = (graph.joins (j, i) h).0 in omega (arith, up, same)
 ]
 
 pub follows_up : (up down after : LinkGraph) (from to : ℕ) → from < to → GainsLink up from to after
@@ -270,16 +259,16 @@ either_links up down g is_up is_down links i j = (
   (λ h. elim ((links i j).0 h) [
     | inl l ↦ elim (cases_lt i j) [
       | inl low ↦ inl (inl (low, l))
-      | inr high ↦ let far = linked_differ up i j is_up l in inr (inl (below i j far high, link_sym up i j l))
+      | inr high ↦ let far = linked_differ up i j is_up l in inr (inl (below i j far high, linked_sym up i j l))
     ]
     | inr l ↦ elim (cases_lt i j) [
-      | inl low ↦ inr (inr (low, link_sym down i j l))
+      | inl low ↦ inr (inr (low, linked_sym down i j l))
       | inr high ↦ let far = linked_differ down i j is_down l in inl (inr (below i j far high, l))
     ]
   ]),
   (λ h. (links i j).1 (elim h [
     | inl f ↦ elim f [ inl l ↦ inl l.1 | inr l ↦ inr l.1 ]
-    | inr f ↦ elim f [ inl l ↦ inl (link_sym up j i l.1) | inr l ↦ inr (link_sym down j i l.1) ]
+    | inr f ↦ elim f [ inl l ↦ inl (linked_sym up j i l.1) | inr l ↦ inr (linked_sym down j i l.1) ]
   ])),
 )
   where
@@ -293,17 +282,17 @@ pub shared_links : (up down g : LinkGraph) → IsGraph up
 shared_links up down g is_up links i j = (
   (λ h. let both = (links i j).0 h in
       elim (cases_lt i j) [
-        | inl low ↦ (inl (low, both.0), inr (low, link_sym down i j both.1))
+        | inl low ↦ (inl (low, both.0), inr (low, linked_sym down i j both.1))
         | inr high ↦ let far = linked_differ up i j is_up both.0 in
-            (inr (below i j far high, both.1), inl (below i j far high, link_sym up i j both.0))
+            (inr (below i j far high, both.1), inl (below i j far high, linked_sym up i j both.0))
       ]),
   (λ h. (links i j).1 (elim h.0 [
     | inl l ↦ elim h.1 [
       | inl m ↦ let p = l.0 in let q = m.0 in absurd (omega (arith, p, q))
-      | inr m ↦ (l.1, link_sym down j i m.1)
+      | inr m ↦ (l.1, linked_sym down j i m.1)
     ]
     | inr l ↦ elim h.1 [
-      | inl m ↦ (link_sym up j i m.1, l.1)
+      | inl m ↦ (linked_sym up j i m.1, l.1)
       | inr m ↦ let p = l.0 in let q = m.0 in absurd (omega (arith, p, q))
     ]
   ])),
@@ -433,35 +422,12 @@ follows_dump choice d g names listings same sound up taken graph nodes one both 
 
 -- ---- one graph
 
-one_way : (l m : ℕ × ℕ) → Precedes l m → Precedes m l → ⊥
-one_way l m (inl p) (inl q) = omega (arith, p, q)
-one_way l m (inl p) (inr q) = let e = q.0 in omega (arith, p, e)
-one_way l m (inr p) (inl q) = let e = p.0 in omega (arith, q, e)
-one_way l m (inr p) (inr q) = let a = p.1 in let b = q.1 in omega (arith, a, b)
-
--- a link of one graph is a link of the other where the same nodes are linked
-link_of : (g h : LinkGraph) → IsGraph g → IsGraph h → ((a b : ℕ) → Linked g a b → Linked h a b) → (l : ℕ × ℕ)
-    → Has g.links l → Has h.links l
-unfolding Linked
-link_of g h first second same l at = elim (same l.0 l.1 (inl at)) [
-  | inl k ↦ k
-  | inr k ↦
-      let up = (first.joins l at).0 in let down = (second.joins (l.1, l.0) k).0 in absurd (omega (arith, up, down))
-]
-
--- graphs with the same nodes, of which the same are linked, are equal
-same_graphs : (g h : LinkGraph) → IsGraph g → IsGraph h → g.nodes ≡ h.nodes
-    → ((a b : ℕ) → Linked g a b ↔ Linked h a b) → g ≡ h
-same_graphs g h first second nodes links =
-    ap₂ (λ (ns : List ℕ) (ls : List (ℕ × ℕ)). record { nodes = ns; links = ls })
-    nodes
-    (same_ordered Precedes one_way g.links h.links first.links_ascend second.links_ascend
-    (link_of g h first second (λ a b. (links a b).0)) (link_of h g second first (λ a b. (links a b).1)))
-
 graphs_one : (choice : Choice) (d : Dump) (g h : LinkGraph) (names : List (List ℕ)) → IsGraphOf choice d g names
     → IsGraphOf choice d h names → g ≡ h
 graphs_one choice d g h names first second =
-    same_graphs g h first.graph second.graph (first.nodes ∙ sym second.nodes)
+    let nodes : g.nodes ≡ h.nodes = first.nodes ∙ sym second.nodes in
+    same_graphs g h first.graph second.graph
+    (λ a. ((λ k. subst (λ ns. Has ns a) nodes k), (λ k. subst (λ ns. Has ns a) (sym nodes) k)))
     (λ a b. ((λ k. (second.links a b).1 ((first.links a b).0 k)), (λ k. (first.links a b).1 ((second.links a b).0 k))))
 
 pub graph_one : (choice : Choice) (d : Dump) (g h : LinkGraph) (names others : List (List ℕ))

@@ -7,6 +7,7 @@ use Rattle.ov_ids.proofs.Members.{has_append_left, has_append_right, has_append_
 use Rattle.ov_graph.specs.Links.{LinkGraph, IsGraph, Linked}
 use Rattle.ov_graph.proofs.EvenTest.Filtered.{linked_node}
 use Rattle.ov_graph.proofs.EvenTest.Walks.{linked_sym}
+use Rattle.ov_graph.proofs.GraphValues.OneGraph.{not_self}
 use Rattle.ov_split.specs.SplitNetState.{SplitNetState, IsSplitNet}
 use Rattle.ov_split.specs.Code.Residual.{Table, IsFree, AreHeld, IsFlow}
 use Rattle.ov_split.specs.Placed.{IsPlaced}
@@ -107,14 +108,6 @@ flow_direct n net from next ends w flow free target unused there others =
         | inr k ↦ elim k [ inl s ↦ subst (Has n.targets) s target | inr z ↦ absurd z ]
       ];
     }
-
--- no node is linked to itself
-pub not_self : (g : LinkGraph) (a : ℕ) → IsGraph g → ¬ Linked g a a
-unfolding Linked
-not_self g a graph l = elim l [
-  | inl h ↦ let m = (graph.joins (a, a) h).0 in omega (arith, m)
-  | inr h ↦ let m = (graph.joins (a, a) h).0 in omega (arith, m)
-]
 
 -- a path of two links to an unused target, over an unused node that is no target
 module _ (n : SplitNetState) (net : IsSplitNet n) (from next : Table) (ends : List ℕ) (u t : ℕ)

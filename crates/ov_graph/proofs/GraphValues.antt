@@ -3,3 +3,4 @@ pub mod Alike
 pub mod Grouped
 pub mod ChangedLinks
 pub mod ChangedNodes
+pub mod OneGraph

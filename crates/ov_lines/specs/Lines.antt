@@ -1,9 +1,8 @@
 -- The lines of a file that count, the words of a line, and the numbers that words spell. These words are pieces of the
 -- line, and not random words. The form of the files is chosen here.
-use Rattle.std.specs.Prelude.{ℕ, ◌+◌, ◌^◌, Bool, true, not, IsTrue, nat_lt, nat_le, nat_eq, ◌&&◌, List, [], ◌∷◌, ◌++◌}
-use Rattle.std.specs.Prelude.{length}
-use Rattle.std.specs.Prelude.{drop, codes, Option, Some, None, unwrap_or, if◌then◌else◌}
-use Rattle.std.specs.List.{filter, position, slice_split, starts_with}
+use Rattle.std.specs.Prelude.{ℕ, ◌+◌, ◌-◌, ◌^◌, Bool, true, not, IsTrue, nat_lt, nat_le, nat_eq, ◌&&◌, List, [], ◌∷◌, ◌++◌}
+use Rattle.std.specs.Prelude.{length, take, drop, codes, Option, Some, None, unwrap_or, if◌then◌else◌}
+use Rattle.std.specs.List.{filter, position, position_or_len, before_first, after_first, slice_split, starts_with}
 use Rattle.std.specs.Cmp.Lexicographic.{pointwise}
 use Rattle.std.specs.Str.{all_ascii_digits}
 use Rattle.std.specs.Str.Lines.{lines}
@@ -56,6 +55,23 @@ row name [] otherwise = otherwise
 row name (first ∷ rows) otherwise = if same name first.0 then first.1 else row name rows otherwise
 
 -- ---- lines
+
+-- the byte of a line feed
+abbrev pub is_feed : ℕ → Bool
+is_feed b = nat_eq b 10
+
+-- the line without one carriage return at its end, if it ends with one
+unfoldable pub without_return : List ℕ → List ℕ
+without_return line =
+    if pointwise nat_eq (drop (length line - 1) line) (13 ∷ []) then take (length line - 1) line else line
+
+-- the first line, without its line feed and one carriage return before that, and what is left after it; without a line
+-- feed all bytes are one line
+unfoldable pub first_line : List ℕ → List ℕ × List ℕ
+first_line bytes =
+    if nat_lt (position_or_len is_feed bytes) (length bytes)
+    then (without_return (before_first is_feed bytes), after_first is_feed bytes)
+    else (bytes, [])
 
 -- a line with these words is skipped: it has no word, or it is a comment, whose first word begins with `#`
 abbrev pub skips : List (List ℕ) → Bool

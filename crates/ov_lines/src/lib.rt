@@ -11,6 +11,7 @@ mod word_cursor;
 mod workers_reading;
 
 pub use id_list_reading::read_ids;
+pub use line_and_word_splitting::split_line;
 pub use numeral::read_number;
 pub use unread::{END, ID, Kind, Unread};
 pub use unskipped_lines::{KeptLine, KeptLines};

@@ -1,12 +1,13 @@
 ghost use Rattle.std.specs.Prelude.{◌≡◌, ◌==◌, ◌<◌, ◌≤◌, length, option_map, IfSome};
 ghost use Rattle.std.specs.List.{position};
 ghost use Rattle.ov_lines.specs.Lines.{is_space, is_no_space, place_or_end, without_spaces, words_of};
-ghost use Rattle.ov_lines.specs.Code.Spaced.{is_feed, without_return, first_line, first_word};
+ghost use Rattle.ov_lines.specs.Lines.{is_feed, without_return, first_line};
+ghost use Rattle.ov_lines.specs.Code.Spaced.{first_word};
 
-/// Splits the first line off, without its line feed and one carriage return before that. Bytes without a line feed are
-/// one line.
-#[tactic(auto, unfolding(crate::specs::Code::Spaced::first_line))]
-pub(crate) fn split_line(bytes: &[u8]) -> (&[u8], &[u8])
+/// Splits the first line off some bytes, without its line feed and one carriage return before that, and returns what is
+/// left too. Bytes without a line feed are one line.
+#[tactic(auto, unfolding(crate::specs::Lines::first_line))]
+pub fn split_line(bytes: &[u8]) -> (&[u8], &[u8])
     requires { 0 < length bytes.now }
     ensures line { (result.0.now, result.1.now) ≡ first_line bytes.now }
     ensures shorter { length result.1.now < length bytes.now }
@@ -24,7 +25,7 @@ fn line_end(bytes: &[u8]) -> Option<usize>
     bytes.iter().position(|byte| *byte == b'\n')
 }
 
-#[tactic(auto, unfolding(crate::specs::Code::Spaced::without_return))]
+#[tactic(auto, unfolding(crate::specs::Lines::without_return))]
 fn drop_return(line: &[u8]) -> &[u8]
     ensures { result.now ≡ without_return line.now }
 {

@@ -4,7 +4,7 @@ use Rattle.std.proofs.Common.{refl, sym, ap, subst, arith}
 use Rattle.std.specs.Str.Lines.{lines}
 use Rattle.ov_ids.specs.Members.{Has}
 use Rattle.ov_graph.specs.Links.{LinkGraph}
-use Rattle.ov_lines.specs.Code.Spaced.{first_line}
+use Rattle.ov_lines.specs.Lines.{first_line}
 use Rattle.ov_lines.proofs.Lines.Lined.{lines_first}
 use Rattle.ov_names.specs.NamesState.{IsNamed}
 use Rattle.ov_names.specs.NameLines.{comment_said, IsNamedBy, AreNaming, NameSaid, AreNamesOf}

@@ -3,7 +3,6 @@
 
 mod group_fault;
 mod group_reading;
-mod line_splitting;
 mod name_comment;
 mod name_reading;
 mod name_table;

@@ -3,11 +3,11 @@ ghost use Rattle.std.specs.Option.{option_copied};
 ghost use Rattle.ov_names.specs.NameLines.{AreNamesOf};
 ghost use Rattle.ov_names.specs.Code.Table.{Keeps, TakesLine};
 
-use crate::line_splitting::split_line;
 use crate::name_comment::name_said;
 use crate::name_table::Names;
 use ov_graph::Graph;
 use ov_ids::{NodeId, OutOfMemory};
+use ov_lines::split_line;
 use std::alloc::{AllocError, Global};
 
 /// The names that a graph file keeps of the nodes of a graph: a comment `# N NAME` right before the line `node N` names

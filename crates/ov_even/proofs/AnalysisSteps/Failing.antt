@@ -8,7 +8,7 @@ use Rattle.ov_graph.specs.Even.{PassesEven}
 use Rattle.ov_graph.proofs.EvenTest.Filtered.{linked_node}
 use Rattle.ov_graph.proofs.EvenTest.Sufficing.{even_suffices}
 use Rattle.ov_graph.proofs.EvenTest.Walks.{AllSurvive, steps_of}
-use Rattle.ov_flow.proofs.Beginning.{not_self}
+use Rattle.ov_graph.proofs.GraphValues.OneGraph.{not_self}
 use Rattle.ov_fans.specs.Pieces.{IsPiece, level_of}
 use Rattle.ov_fans.specs.Cuts.{IsParted, IsFoundFor}
 use Rattle.ov_fans.specs.declared.piece.Piece.{Piece}

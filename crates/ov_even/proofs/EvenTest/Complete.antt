@@ -10,8 +10,8 @@ use Rattle.ov_graph.proofs.EvenTest.Escape.{less}
 use Rattle.ov_graph.proofs.EvenTest.Sufficing.{even_suffices}
 use Rattle.ov_graph.proofs.EvenTest.Tested.{linked_or_not}
 use Rattle.ov_graph.proofs.EvenTest.Walks.{AllSurvive, steps_of}
+use Rattle.ov_graph.proofs.GraphValues.OneGraph.{not_self}
 use Rattle.ov_split.proofs.Augmenting.Lists.{others_of}
-use Rattle.ov_flow.proofs.Beginning.{not_self}
 use Rattle.ov_fans.specs.Pieces.{IsPiece, IsGood, level_of}
 use Rattle.ov_fans.specs.declared.piece.Piece.{Piece}
 use Rattle.ov_even.specs.Levels.{IsLevelGood}

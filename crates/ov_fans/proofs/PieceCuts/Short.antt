@@ -11,9 +11,9 @@ use Rattle.ov_graph.specs.Even.{members_below}
 use Rattle.ov_graph.specs.Row.{HasBit, AreWordsFor}
 use Rattle.ov_graph.proofs.EvenTest.Filtered.{has_filter, has_filtered, linked_node}
 use Rattle.ov_graph.proofs.EvenTest.Walks.{linked_sym}
+use Rattle.ov_graph.proofs.GraphValues.OneGraph.{not_self}
 use Rattle.ov_split.proofs.ByNames.Mapped.{has_map, map_has}
 use Rattle.ov_flow.specs.Flow.{AreBitsOf}
-use Rattle.ov_flow.proofs.Beginning.{not_self}
 use Rattle.ov_fans.specs.Pieces.{member_at, IsPiece, IsGood}
 use Rattle.ov_fans.specs.Counts.{IsNumberOf}
 use Rattle.ov_fans.specs.declared.piece.Piece.TheVariants.{Pair, Fan}

@@ -12,16 +12,10 @@ use Rattle.ov_graph.specs.Code.Kept.{row_at, links_read, graph_kept, IsKept, IsM
 use Rattle.ov_graph.proofs.BitRows.Bits.{bit_moved, no_row}
 use Rattle.ov_graph.proofs.BitRows.Read.{has_read, in_read, ordered_read, one_place, row_below}
 use Rattle.ov_graph.proofs.EvenTest.Walks.{linked_sym}
+use Rattle.ov_graph.proofs.GraphValues.OneGraph.{not_self}
 
 abbrev graph_of : List ℕ → List (ℕ × ℕ) → LinkGraph
 graph_of nodes links = record { nodes = nodes; links = links }
-
-not_itself : (g : LinkGraph) (a : ℕ) → IsGraph g → Linked g a a → ⊥
-unfolding Linked
-not_itself g a graph l = elim l [
-  | inl h ↦ let r : a < a = (graph.joins (a, a) h).0 in omega (arith, r)
-  | inr h ↦ let r : a < a = (graph.joins (a, a) h).0 in omega (arith, r)
-]
 
 -- rows with the bits of a graph's links keep the graph
 pub is_kept : (nodes : List ℕ) (links : List (ℕ × ℕ)) (rows : List (List ℕ)) → length nodes ≤ most_nodes
@@ -35,7 +29,7 @@ is_kept nodes links rows few graph marked = record {
   both = λ p q h. let m = (marked.bits p q).0 h in
       (marked.bits q p).1
       (m.1, m.0, linked_sym (graph_of nodes links) (slice_index nodes p) (slice_index nodes q) m.2);
-  apart = λ p h. not_itself (graph_of nodes links) (slice_index nodes p) graph ((marked.bits p p).0 h).2;
+  apart = λ p h. not_self (graph_of nodes links) (slice_index nodes p) graph ((marked.bits p p).0 h).2;
 }
 
 in_marked : (nodes : List ℕ) (links : List (ℕ × ℕ)) (rows : List (List ℕ)) (x y : ℕ) → IsGraph (graph_of nodes links)

@@ -2,8 +2,7 @@
 use Rattle.std.proofs.Common.{◌≡◌, ◌∙◌, ◌<◌, ◌+◌, ℕ, true, false, if◌then◌else◌, List, [], ◌∷◌, ◌++◌, length, refl, ap}
 use Rattle.std.proofs.Common.{sym, arith}
 use Rattle.std.specs.Str.Lines.{lines}
-use Rattle.ov_lines.specs.Lines.{is_skipped, kept_from}
-use Rattle.ov_lines.specs.Code.Spaced.{first_line}
+use Rattle.ov_lines.specs.Lines.{is_skipped, kept_from, first_line}
 use Rattle.ov_lines.proofs.Lines.Lined.{lines_first}
 
 one_line :

@@ -9,7 +9,7 @@ use Rattle.std.proofs.lemmas.Bool.{ltb-true}
 use Rattle.std.proofs.lemmas.Bool.Decides.{nat_tests}
 use Rattle.std.proofs.lemmas.List.Splits.{slice_split_first, length-slice_split}
 use Rattle.std.proofs.lemmas.List.Sums.{prefix_len-le-length}
-use Rattle.ov_lines.specs.Code.Spaced.{is_feed, without_return, first_line}
+use Rattle.ov_lines.specs.Lines.{is_feed, without_return, first_line}
 use Rattle.ov_lines.proofs.Lines.Parted.{not_empty}
 
 last_alone : (x : ℕ) (xs : List ℕ) → drop (length xs) (x ∷ xs) ≡ slice_index (x ∷ xs) (length xs) ∷ []

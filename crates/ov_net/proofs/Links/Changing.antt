@@ -9,6 +9,7 @@ use Rattle.ov_graph.specs.Links.{LinkGraph, IsGraph, Linked}
 use Rattle.ov_graph.specs.Changes.{ArePair, GainsNode, LosesNode, GainsLink, LosesLink}
 use Rattle.ov_graph.proofs.EvenTest.Filtered.{linked_node}
 use Rattle.ov_graph.proofs.EvenTest.Walks.{linked_sym}
+use Rattle.ov_graph.proofs.GraphValues.OneGraph.{linked_differ, same_graphs}
 use Rattle.ov_peer.specs.PeerState.{PeerState}
 use Rattle.ov_net.specs.Code.LinkChanges.{FitsOne, Gains, GainsMutual, HasAllLive, Holds, IsChanged, IsLive}
 use Rattle.ov_net.specs.Code.LinkChanges.{AreChanged, Fit, MayGain}
@@ -18,15 +19,6 @@ use Rattle.ov_net.specs.declared.member.Member.{Member}
 use Rattle.ov_net.specs.declared.member.Member.TheVariants.{Live}
 use Rattle.ov_net.proofs.Journal.After.{members_adding, members_without}
 use Rattle.ov_net.proofs.Journal.Outcomes.{same_live, same_some}
-use Rattle.ov_net.proofs.Links.OneGraph.{same_graphs}
-
--- linked nodes differ
-pub apart : (g : LinkGraph) (a b : ℕ) → IsGraph g → Linked g a b → a ≢ b
-unfolding Linked
-apart g a b graph l e = elim l [
-  | inl h ↦ let r = (graph.joins (a, b) h).0 in omega (arith, r, e)
-  | inr h ↦ let r = (graph.joins (b, a) h).0 in omega (arith, r, e)
-]
 
 -- two graphs with the same links
 pub same_linked : (g h : LinkGraph) (a b : ℕ) → h.links ≡ g.links → Linked h a b ↔ Linked g a b

@@ -1,7 +1,8 @@
 use Rattle.std.proofs.lemmas.Bool.{both_ways}
 use Rattle.ov_graph.proofs.EvenTest.Filtered.{linked_node}
 use Rattle.ov_graph.proofs.EvenTest.Walks.{linked_sym}
-use Rattle.ov_net.proofs.Links.Changing.{apart, unlinked_rests}
+use Rattle.ov_graph.proofs.GraphValues.OneGraph.{linked_differ}
+use Rattle.ov_net.proofs.Links.Changing.{unlinked_rests}
 use Rattle.ov_net.proofs.kept_links.unlink_if_linked.Goals as goal
 
 pub unlink-requires-clause-a : goal.unlink-requires-clause-a
@@ -17,7 +18,7 @@ unlink-requires-clause-b c =
 
 pub unlink-requires-clause-differ : goal.unlink-requires-clause-differ
 unlink-requires-clause-differ c =
-    apart c.args.graph.now c.args.node c.args.other c.linked.ensures.graph
+    linked_differ c.args.graph.now c.args.node c.args.other c.linked.ensures.graph
     (c.linked.ensures.linked.0 c.if-linked.true)
 
 pub returns-else-linked-clause-change : goal.returns-else-linked-clause-change
