@@ -96,8 +96,9 @@ def notes_of_views(views, either, entries):
     told += [f"{a} lists {b}, and {b} does not list {a}" for a, b in alone[:10]]
     told += [f"listed without an entry: {len(missing)}"] if missing else []
     told += [f"{name} is listed and has no entry" for name in missing[:10]]
-    if missing and either and not entries:
-        told.append("they are linked, and so look alive; --entries leaves them out")
+    if missing and not entries:
+        become = "are linked, and so look alive" if either else "become nodes without links"
+        told.append(f"they {become}; --entries leaves them out")
     return "".join(f"{line}\n" for line in told)
 
 

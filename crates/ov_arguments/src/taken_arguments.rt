@@ -91,6 +91,7 @@ const ABOUT_IMPORT: &str =
 
 const BELOW_IMPORT: &str = "\
 Without --views, --edges or --dot the first line says which: { begins views, graph or digraph DOT.
+In edges each line is a link: leave out a header such as source,target. Quotes are part of a name.
 What only one of two lists, and who is listed without an entry, is counted on standard error.";
 
 const DUMP_FILE: &str = "The dump; standard input without it, or with -";

@@ -35,6 +35,7 @@ form_of_kind kind.Views = Some Views
 form_of_kind kind.Dot = Some Dot
 form_of_kind kind.Unknown = Some Edges
 form_of_kind kind.Certificate = None
+form_of_kind kind.Report = None
 form_of_kind kind.Graph = None
 form_of_kind kind.Scenario = None
 

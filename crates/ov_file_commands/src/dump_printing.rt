@@ -100,7 +100,7 @@ fn form_of_kind(kind: FileKind) -> Option<DumpFormat>
         FileKind::Views => Some(DumpFormat::Views),
         FileKind::Dot => Some(DumpFormat::Dot),
         FileKind::Unknown => Some(DumpFormat::Edges),
-        FileKind::Certificate | FileKind::Graph | FileKind::Scenario => None,
+        FileKind::Certificate | FileKind::Report | FileKind::Graph | FileKind::Scenario => None,
     }
 }
 

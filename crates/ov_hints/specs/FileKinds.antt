@@ -6,9 +6,10 @@ use Rattle.std.specs.Prelude.{is_some}
 use Rattle.std.specs.Char.{to_ascii_lowercase}
 use Rattle.std.specs.List.{list_any, starts_with}
 use Rattle.memchr.specs.Find.{first_of, matches}
-use Rattle.ov_lines.specs.Lines.{kept_lines, same}
+use Rattle.ov_lines.specs.Lines.{kept_lines, same, words_of}
 use Rattle.ov_hints.specs.declared.file_kinds.FileKind.{FileKind}
-use Rattle.ov_hints.specs.declared.file_kinds.FileKind.TheVariants.{Certificate, Views, Dot, Graph, Scenario, Unknown}
+use Rattle.ov_hints.specs.declared.file_kinds.FileKind.TheVariants.{Certificate, Report, Views, Dot, Graph, Scenario}
+use Rattle.ov_hints.specs.declared.file_kinds.FileKind.TheVariants.{Unknown}
 
 -- ---- the text that a file begins with
 
@@ -101,6 +102,16 @@ kind_of_word word =
     else if list_any (same word) scenario_words then Scenario
     else Unknown
 
+-- ---- what `overlay analyse` prints
+
+-- a line of these words begins like one that `overlay analyse` prints: `report`, a moment, and `split` or `linked`
+abbrev pub begins_report : List (List ℕ) → Bool
+begins_report [] = false
+begins_report (name ∷ []) = false
+begins_report (name ∷ moment ∷ []) = false
+begins_report (name ∷ moment ∷ verdict ∷ rest) =
+    same name (codes "report") && (same verdict (codes "split") || same verdict (codes "linked"))
+
 -- ---- files
 
 -- the kind of files of these bytes, of which this text is the first that says something
@@ -109,6 +120,7 @@ kind_by_text bytes text =
     if starts_with nat_eq text (codes "{") then (if is_certificate bytes then Certificate else Views)
     else if begins_list text then Views
     else if begins_dot text then Dot
+    else if begins_report (words_of text) then Report
     else kind_of_word (before is_blank text)
 
 -- the kind of files of these bytes

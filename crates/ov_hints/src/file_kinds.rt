@@ -1,15 +1,15 @@
 ghost use Rattle.std.specs.Prelude.{◌≡◌, nat_eq, map};
 ghost use Rattle.std.specs.Char.{to_ascii_lowercase};
 ghost use Rattle.std.specs.List.{list_any};
-ghost use Rattle.ov_lines.specs.Lines.{same};
-ghost use Rattle.ov_hints.specs.FileKinds.{begins_dot, begins_list, holds, is_certificate, is_dot_word, is_keyword};
-ghost use Rattle.ov_hints.specs.FileKinds.{kind_by_text, kind_of, kind_of_word, opens_list};
+ghost use Rattle.ov_lines.specs.Lines.{same, words_of};
+ghost use Rattle.ov_hints.specs.FileKinds.{begins_dot, begins_list, begins_report, holds, is_certificate};
+ghost use Rattle.ov_hints.specs.FileKinds.{is_dot_word, is_keyword, kind_by_text, kind_of, kind_of_word, opens_list};
 
 use crate::first_text::{
     before_blank, before_keyword_end, behind_mark, first_text, is_blank, is_one_of,
 };
 use memchr::memmem;
-use ov_lines::is_word;
+use ov_lines::{LineCursor, is_word};
 
 /// The words that a graph file begins with.
 const GRAPH_WORDS: [&str; 2] = ["node", "link"];
@@ -22,6 +22,8 @@ const SCENARIO_WORDS: [&str; 5] = ["params", "seed", "words", "boot", "together"
 pub enum FileKind {
     /// A certificate file.
     Certificate,
+    /// What `overlay analyse` prints: the line of a report, and maybe a certificate below it.
+    Report,
     /// A dump of what a cluster says of its links, as JSON.
     Views,
     /// A dump in Graphviz's language DOT.
@@ -44,6 +46,7 @@ impl FileKind {
     pub fn words(self) -> &'static str {
         match self {
             FileKind::Certificate => "a certificate file",
+            FileKind::Report => "the output of `overlay analyse`",
             FileKind::Views | FileKind::Dot => "a dump",
             FileKind::Graph => "a graph file",
             FileKind::Scenario => "a scenario",
@@ -79,6 +82,9 @@ fn kind_by_text(bytes: &[u8], text: &[u8]) -> FileKind
     }
     if begins_dot(text) {
         return FileKind::Dot;
+    }
+    if begins_report(text) {
+        return FileKind::Report;
     }
     kind_of_word(before_blank(text))
 }
@@ -147,6 +153,23 @@ fn is_keyword(keyword: &[u8], word: &[u8]) -> bool
     ensures { result ≡ is_keyword keyword.now word.now }
 {
     word.eq_ignore_ascii_case(keyword)
+}
+
+/// Whether a line begins like one that `overlay analyse` prints.
+fn begins_report(line: &[u8]) -> bool
+    ensures { result ≡ begins_report (words_of line.now) }
+{
+    let mut words = LineCursor::new(line);
+    let Some(name) = words.word() else {
+        return false;
+    };
+    let Some(_) = words.word() else {
+        return false;
+    };
+    let Some(verdict) = words.word() else {
+        return false;
+    };
+    is_word(name, b"report") && (is_word(verdict, b"split") || is_word(verdict, b"linked"))
 }
 
 /// The kind of files that begin with this word.

@@ -47,6 +47,11 @@ fn push_kind(
             "tip: {name} looks like {what}: `overlay-check{behind}` checks it, \
              and `overlay graph{behind}` prints its graph\n"
         ),
+        FileKind::Report => write!(
+            text,
+            "tip: {name} looks like {what}: \
+             if that has a certificate, `tail -n 1{behind}` prints it alone\n"
+        ),
         FileKind::Views | FileKind::Dot => write!(
             text,
             "tip: {name} looks like {what}: `overlay import{behind}` makes a graph file of it\n"

@@ -7,9 +7,9 @@ use std::fmt::Write;
 const MOST_TOLD: usize = 10;
 
 /// What an operator should know of a dump: that it has no name; how many listings the other end does not answer, and
-/// how many names are listed and have no entry, as those of dead peers; the first ten of each, and that names without
-/// an entry look alive by this choice. Empty if there is none of it. OutOfMemory (99) is returned if an allocation was
-/// refused.
+/// how many names are listed and have no entry, as those of dead peers; the first ten of each, and what becomes of names
+/// without an entry, if they are not left out. Empty if there is none of it. OutOfMemory (99) is returned if an
+/// allocation was refused.
 pub fn import_notes(alloc: Global, dump: &Dump, choice: Choice) -> Result<String, OutOfMemory> {
     let mut notes = String::new(alloc);
     if dump.entries.as_slice().is_empty() && dump.listings.as_slice().is_empty() {
@@ -19,10 +19,19 @@ pub fn import_notes(alloc: Global, dump: &Dump, choice: Choice) -> Result<String
     note_listings(&mut notes, dump, &places)?;
     let names = without_entry(alloc, dump)?;
     note_names(&mut notes, &names)?;
-    if choice.either && !choice.entries_only && !names.is_empty() {
-        notes.push_str("they are linked, and so look alive; --entries leaves them out\n")?;
+    if !choice.entries_only && !names.is_empty() {
+        notes.push_str(what_becomes(choice))?;
     }
     Ok(notes)
+}
+
+/// What becomes of names without an entry, if they are not left out.
+fn what_becomes(choice: Choice) -> &'static str {
+    if choice.either {
+        "they are linked, and so look alive; --entries leaves them out\n"
+    } else {
+        "they become nodes without links; --entries leaves them out\n"
+    }
 }
 
 fn note_listings(notes: &mut String, dump: &Dump, places: &[usize]) -> Result<(), AllocError> {

@@ -1,5 +1,6 @@
 use crate::unread_line_texts::bytes_hint;
 use ov_graphfile::LINE_NAMES;
+use ov_hints::{FileKind, looks_like};
 use ov_lines::KeptLine;
 use ov_scenario::line_names;
 use std::alloc::{AllocError, Global};
@@ -35,6 +36,9 @@ pub(crate) fn push_no_line_name(
 fn name_hint(line: &KeptLine<'_>, word: &[u8]) -> Option<&'static str> {
     if line.number == 1 && line.text.starts_with(BYTE_ORDER_MARK) {
         return Some("the file begins with a byte order mark, which no line may have");
+    }
+    if looks_like(line.text) == FileKind::Report {
+        return Some("`overlay analyse` prints such lines");
     }
     bytes_hint(word).or(other_file(word))
 }

@@ -30,6 +30,10 @@ fn edges(rt: HostRuntime) -> Result<(), Fail> {
     assert_eq!(rt; looks_like(b"[::1]:7946 [::2]:7946\n"), FileKind::Unknown);
     assert_eq!(rt; looks_like(b"node-1 node-2\n"), FileKind::Unknown);
     assert_eq!(rt; looks_like(b"# edges\na b\n"), FileKind::Unknown);
+    assert_eq!(rt;
+        looks_like(b"report split\nreport 1 other\n"),
+        FileKind::Unknown
+    );
     assert_eq!(rt; looks_like(b""), FileKind::Unknown);
     Ok(())
 }
@@ -39,5 +43,10 @@ fn other_files(rt: HostRuntime) -> Result<(), Fail> {
     assert_eq!(rt; looks_like(b"# 1 a\nnode 1\n"), FileKind::Graph);
     assert_eq!(rt; looks_like(b"\nboot 1\n"), FileKind::Scenario);
     assert_eq!(rt; looks_like(b"seed\t1\n"), FileKind::Scenario);
+    assert_eq!(rt;
+        looks_like(b"report 0 split k 1 cut 2 near 1 far 3 side 1\n{\"cut\":[2]}\n"),
+        FileKind::Report
+    );
+    assert_eq!(rt; looks_like(b"report 7 linked k 2\n"), FileKind::Report);
     Ok(())
 }

@@ -103,7 +103,7 @@ fn unread(rt: HostRuntime) -> Result<(), Fail> {
             alloc,
             "{\"a\": [], \"b\": [1]}",
             83,
-            "entry 2, of b, is no list of names"
+            "entry 2, of b, is no list of names in quotes"
         )
     );
     assert!(rt;
@@ -111,7 +111,7 @@ fn unread(rt: HostRuntime) -> Result<(), Fail> {
             alloc,
             "{\"a\": \"b\"}",
             83,
-            "entry 1, of a, is no list of names"
+            "entry 1, of a, is no list of names in quotes"
         )
     );
     Ok(())
@@ -161,7 +161,8 @@ fn notes(rt: HostRuntime) -> Result<(), Fail> {
         b lists c, and c does not list b\n\
         a lists dead, and dead does not list a\n\
         listed without an entry: 1\n\
-        dead is listed and has no entry\n";
+        dead is listed and has no entry\n\
+        they become nodes without links; --entries leaves them out\n";
     assert_eq!(rt; told.as_str(), wanted);
     let linked = import_notes(alloc, &dump, EITHER)?;
     assert!(rt;

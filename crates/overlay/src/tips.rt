@@ -1,12 +1,12 @@
 use ov_arguments::is_command;
-use ov_hints::{FileKind, command_tip, file_tip, folder_tip, kind_of_file, looks_like};
+use ov_hints::{FileKind, command_tip, file_tip, folder_tip, is_folder, kind_of_file, looks_like};
 use std::alloc::AllocError;
 
 /// The word that asks for help, in place of a command.
 const HELP: &str = "help";
 
-/// Prints which command reads the file that the first argument names, if it stands where a command must, and such a
-/// file can be read.
+/// Prints which command reads the file that the first argument names, or that it names a folder, if it stands where a
+/// command must, and there is such a file or folder.
 pub(crate) fn print_command_tip(rt: &HostRuntime, arguments: &[String]) {
     let Some(first) = arguments.first() else {
         return;
@@ -15,8 +15,10 @@ pub(crate) fn print_command_tip(rt: &HostRuntime, arguments: &[String]) {
     if is_command(path) || path == HELP || path.starts_with('-') {
         return;
     }
-    if let Some(kind) = kind_of_file(rt, path) {
-        print_tip(rt, command_tip(rt.alloc(), kind, path));
+    match kind_of_file(rt, path) {
+        Some(kind) => print_tip(rt, command_tip(rt.alloc(), kind, path)),
+        None if is_folder(rt, path) => print_folder_tip(rt, path),
+        None => {}
     }
 }
 
