@@ -147,8 +147,9 @@ def of_views(views: Mapping[Node, Iterable[Node]]) -> NamedGraph[Node]:
 
 
 def notes_of(peers: Mapping[Node, Mapping[Node, None]]) -> List[str]:
-    """What should be known of views, in the words of `overlay import`: how many listings the other end does not answer,
-    and how many names are listed and have no view; the first ten of each."""
+    """What should be known of views, in the words of `overlay import --entries`: how many listings the other end does
+    not answer, and how many names are listed and have no view; the first ten of each. Names are shown as in a graph
+    file, so a backslash before `u{` is shown as a code too."""
     alone = [(a, b) for a, view in peers.items() for b in view if a not in peers.get(b, ())]
     gone = in_order(b for _, b in alone if b not in peers)
     notes = [f"listed by one end only: {len(alone)}"] if alone else []
