@@ -377,7 +377,8 @@ MANY_LINES = 6_000_000
 
 @case("devices", "progress of a run",
       f"`run --progress` of {MANY_LINES:,} lines `show 1`, the last one without a line feed",
-      "lines `line N of M`, none in the first second, at most two a second; N rises, and M counts all lines (FORMATS.md)")
+      "lines `line N of M`, none in the first second, at most two a second; N rises, and M counts all lines "
+      "(FORMATS.md)")
 def run_progress(lab):
     path = pathlib.Path(lab.room, "many-lines")
     path.write_text("\n".join(["show 1"] * MANY_LINES))

@@ -20,7 +20,7 @@ pub enum DotFault {
 /// What can't be read of a line.
 #[derive(Clone, Copy, Debug, PartialEq, Eq, Error)]
 pub enum Why {
-    #[error("no word, mark or quoted text of DOT begins here, or it has no end; # begins a comment only at the start of a line")]
+    #[error("no word, mark or quoted text begins here, or it has no end; # begins a comment only at the start of a line")]
     NoToken,
     #[error("two names stand here with nothing between them: write a name such as 10.0.0.1 or oslo-1 in quotes")]
     TornName,

@@ -7,8 +7,8 @@ use std::fmt::Write;
 const MOST_TOLD: usize = 10;
 
 /// What an operator should know of a dump: that it has no name; how many listings the other end does not answer, and
-/// how many names are listed and have no entry, as those of dead peers; the first ten of each, and what becomes of names
-/// without an entry, if they are not left out. Empty if there is none of it. OutOfMemory (99) is returned if an
+/// how many names are listed and have no entry, as those of dead peers; the first ten of each, and what becomes of
+/// names without an entry, if they are not left out. Empty if there is none of it. OutOfMemory (99) is returned if an
 /// allocation was refused.
 pub fn import_notes(alloc: Global, dump: &Dump, choice: Choice) -> Result<String, OutOfMemory> {
     let mut notes = String::new(alloc);

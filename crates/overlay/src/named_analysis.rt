@@ -134,8 +134,8 @@ fn no_group(rt: &HostRuntime, text: &str, fault: GroupFault) -> FileCommandFault
     ended
 }
 
-/// Prints what is wrong with a part of the text of a group; or if the part is empty, with a comma beside it, or that the
-/// text is empty. Prints nothing if an allocation for it is refused.
+/// Prints what is wrong with a part of the text of a group; or if the part is empty, with a comma beside it, or that
+/// the text is empty. Prints nothing if an allocation for it is refused.
 fn tell_part(rt: &HostRuntime, text: &str, place: usize, wrong: &str) {
     let Some(part) = text.split(',').nth(place) else {
         return;
