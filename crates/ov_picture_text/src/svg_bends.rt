@@ -7,9 +7,9 @@ use ov_picture::{Drawing, DrawnLink};
 const CLEAR: f64 = 0.45;
 
 /// How far beside the middle of a link the points are that may bend it, as parts of its length, to its right first.
-const ASIDE: [f64; 20] = [
-    0.05, -0.05, 0.1, -0.1, 0.15, -0.15, 0.2, -0.2, 0.26, -0.26, 0.33, -0.33, 0.42, -0.42, 0.54,
-    -0.54, 0.7, -0.7, 0.9, -0.9,
+const ASIDE: [f64; 24] = [
+    0.04, -0.04, 0.08, -0.08, 0.12, -0.12, 0.16, -0.16, 0.2, -0.2, 0.24, -0.24, 0.28, -0.28, 0.32,
+    -0.32, 0.36, -0.36, 0.4, -0.4, 0.44, -0.44, 0.48, -0.48,
 ];
 
 /// In how many steps the point of a curve is found that is nearest to a node.
