@@ -53,8 +53,8 @@ pub(crate) fn bend_of(
 }
 
 impl Curve {
-    /// How much nearer the line comes to a node than it may, as a negative number, or 0. It is not looked at further
-    /// when it has as little room as this.
+    /// How much nearer the line comes to a node than it may, as a negative number, or 0. No further node is looked at
+    /// once there is as little room as `least`.
     fn room(&self, drawing: &Drawing, layout: &Layout, link: &DrawnLink, least: f64) -> f64 {
         let mut room: f64 = 0.0;
         for (node, place) in drawing.nodes.as_slice().iter().zip(&layout.places) {
@@ -66,8 +66,8 @@ impl Curve {
         room
     }
 
-    /// How far a place is from the line, or a distance that is no more, but more than is asked for. It is reckoned along
-    /// the link and across it, in its lengths.
+    /// How far a place is from the line. If it is further than is asked for, a smaller distance may be told that is
+    /// further too. Places are reckoned along the link and across it, in its lengths.
     fn distance(&self, place: Place, asked: f64) -> f64 {
         let (right, down) = (self.to.x - self.from.x, self.to.y - self.from.y);
         let (x, y) = (place.x - self.from.x, place.y - self.from.y);
