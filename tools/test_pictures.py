@@ -8,8 +8,10 @@ are written.
 """
 
 import json
+import math
 import os
 import pathlib
+import random
 import re
 import subprocess
 import sys
@@ -132,6 +134,28 @@ class Picture:
         numbers = [float(it) for it in re.findall(r"[\d.]+", line.get("d"))]
         return tuple(numbers[:2]), tuple(numbers[-2:])
 
+    def touched(self):
+        """The lines of paths that touch a node which is none of their ends, each with this node."""
+        found = []
+        for line in self.steps:
+            points, ends = points_of(line.get("d")), self.ends(line)
+            for node, place in self.places.items():
+                shape = self.shapes[node][0]
+                reach = float(shape.get("r") or float(shape.get("width")) / 2)
+                nearest = min(math.dist(place, point) for point in points)
+                if nearest < reach and not any(near_by(place, end) for end in ends):
+                    found.append((line.get("d"), node))
+        return found
+
+
+def points_of(line, parts=200):
+    """Points on a line, which is straight or bent by one point."""
+    numbers = [float(it) for it in re.findall(r"-?[\d.]+", line)]
+    (x, y), (right, down) = numbers[:2], numbers[-2:]
+    aside, below = numbers[2:4] if "Q" in line else ((x + right) / 2, (y + down) / 2)
+    shares = [((1 - at) ** 2, 2 * at * (1 - at), at ** 2) for at in (step / parts for step in range(parts + 1))]
+    return [(a * x + b * aside + c * right, a * y + b * below + c * down) for a, b, c in shares]
+
 
 def near_by(one, other):
     """Whether two places are the same, but for what is rounded."""
@@ -226,6 +250,38 @@ class Pictures(unittest.TestCase):
                 self.judge(picture_with_names(certificate, graph), said, names)
                 self.judge_dot(picture_with_names(certificate, graph, "--dot"), said, names)
 
+    def test_no_line_of_a_path_touches_another_node(self):
+        """The line of each link of a path keeps off all nodes but its ends, in each of these pictures."""
+        kept = kept_pictures().values()
+        pictures = [picture_with_names(certificate_of(graph), graph, *words) for graph, words in kept]
+        for count in 10, 14, 20, 24, 30, 40:
+            for seed in 1, 2:
+                certificate = certificate_of(two_rings(count, seed))
+                pictures += [overlay("picture", *words, given=certificate) for words in some_entries(certificate)]
+        touched = [picture.touched() for picture in map(Picture, pictures)]
+        self.assertEqual(len(pictures), 4 + 12 * 8)
+        self.assertEqual([it for it in touched if it], [])
+        self.assertGreater(sum("Q" in line.get("d") for it in pictures for line in Picture(it).steps), 100)
+
+    def test_labels_of_long_names(self):
+        """A name of more than 24 letters has its first ones, its last ones and its id as label; others are whole."""
+        hosts = [f"cassandra-production-eu-west-1{it}" for it in "abc"]
+        others = ["abcdefghijklmnopqrstuvwx", "bcdefghijklmnopqrstuvwxyz", "zürich-rechenzentrum-süd-1"]
+        names = [*hosts, *others, "日" * 12, "月" * 13]
+        graph = graph_of(names, zip(names, names[1:]))
+        certificate = certificate_of(graph)
+        picture = Picture(picture_with_names(certificate, graph))
+        self.assertEqual(sorted(picture.labels), sorted([
+            "abcdefghijklmnopqrstuvwx", "bcdefghijklm…qrstuvwxyz (2)", "cassandra-pr…eu-west-1a (3)",
+            "cassandra-pr…eu-west-1b (4)", "cassandra-pr…eu-west-1c (5)", "zürich-rech…rum-süd-1 (6)",
+            "日日日日日日日日日日日日", "月月月月月月…月月月月月 (8)"]))
+        sentence = ("Crashing node cassandra-pr…eu-west-1b (4) separates node cassandra-pr…eu-west-1a (3) "
+                    "from node abcdefghijklmnopqrstuvwx")
+        self.assertEqual(picture.top.find(f"{SVG}title").text, sentence)
+        text = picture_with_names(certificate, graph, "--dot")
+        self.assertIn(f'label="{sentence}"', text.replace("\\n", " "))
+        self.assertIn('label="cassandra-production-eu-west-1a"', text)
+
     def test_long_names_make_no_picture_wider(self):
         """No line has more than 90 letters, and each has room in the picture."""
         for count in 2, 24, 200:
@@ -296,6 +352,24 @@ def two_halls():
     links = [(gate, hosts[(7 + 29 * at + 11 * step) % len(hosts)])
              for at, gate in enumerate(gates) for hosts in (one, other) for step in range(5)]
     return graph_of([*one, *other, *gates], [*of_one, *of_other, *links])
+
+
+def two_rings(count, seed):
+    """The graph file of nodes on two rings, each in an order of its own: most nodes have four links."""
+    order, links, chance = list(range(1, count + 1)), set(), random.Random(seed)
+    for _ in range(2):
+        chance.shuffle(order)
+        links |= {tuple(sorted(link)) for link in zip(order, [*order[1:], order[0]])}
+    nodes = "".join(f"node {at}\n" for at in range(1, count + 1))
+    return nodes + "".join(f"link {a} {b}\n" for a, b in sorted(links))
+
+
+def some_entries(certificate):
+    """The options for eight entries of a certificate, pairs first, then the last fans."""
+    said = json.loads(certificate)
+    pairs = [("--pair", f"{it['i']},{it['j']}") for it in said["pairs"]][:4]
+    fans = [("--fan", it["j"]) for it in said["fans"]]
+    return [*pairs, *fans[len(pairs) - 8:]]
 
 
 def random_partition():

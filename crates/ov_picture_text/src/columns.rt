@@ -95,12 +95,12 @@ impl Columns {
         }
     }
 
-    /// How far to the right a link of two nodes of the cut has to swing so that it passes no third node of its column.
-    /// It is 0 for neighbours in a column, and for nodes of two columns.
-    pub(crate) fn swing(&self, from: Place, to: Place) -> f64 {
+    /// The point that bends a link of two nodes of the cut so that it passes no third node of its column. There is none
+    /// for neighbours in a column, and for nodes of two columns.
+    pub(crate) fn bend(&self, from: Place, to: Place) -> Option<(f64, f64)> {
         let distance = (to.y - from.y).abs();
         if (to.x - from.x).abs() > 1.0 || distance < 1.5 * self.down {
-            return 0.0;
+            return None;
         }
         let (alone, part) = MOST_SWING;
         let most = if self.columns == 1 {
@@ -109,10 +109,11 @@ impl Columns {
             part * self.across
         };
         let swing = (distance * SWING).min(most);
-        if from.outward == LEFT || self.columns == 1 {
+        let right = if from.outward == LEFT || self.columns == 1 {
             swing
         } else {
             -swing
-        }
+        };
+        Some(((from.x + to.x) / 2.0 + right, (from.y + to.y) / 2.0))
     }
 }

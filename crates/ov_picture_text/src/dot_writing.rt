@@ -1,6 +1,6 @@
 use crate::class_names::{link_class_name, node_class_name};
 use crate::escaped_texts::push_dot;
-use crate::headings::broken;
+use crate::headings::push_broken;
 use crate::labels::Labels;
 use crate::layout::{Layout, Plan};
 use crate::path_colours::light_colour;
@@ -41,26 +41,14 @@ fn push_heading(
     drawing: &Drawing,
     labels: &Labels,
 ) -> Result<(), AllocError> {
+    let mut lines = Vec::new(alloc);
     let sentence = sentence_of(alloc, drawing, labels)?;
-    push_heading_lines(alloc, text, sentence.as_str(), "")?;
+    push_broken(alloc, &mut lines, sentence.as_str(), f64::MAX)?;
     if let Some(members) = members_of(alloc, drawing)? {
-        push_heading_lines(alloc, text, members.as_str(), "\\n")?;
+        push_broken(alloc, &mut lines, members.as_str(), f64::MAX)?;
     }
-    Ok(())
-}
-
-/// Appends a text in lines of a label, after this sign.
-fn push_heading_lines(
-    alloc: Global,
-    text: &mut String,
-    told: &str,
-    sign: &str,
-) -> Result<(), AllocError> {
-    text.push_str(sign)?;
-    for (at, line) in broken(alloc, told, f64::MAX)?.iter().enumerate() {
-        if at > 0 {
-            text.push_str("\\n")?;
-        }
+    for (at, line) in lines.iter().enumerate() {
+        text.push_str(if at > 0 { "\\n" } else { "" })?;
         push_dot(text, line.as_str())?;
     }
     Ok(())

@@ -1,5 +1,5 @@
 use crate::geometry::number;
-use crate::labels::Labels;
+use crate::labels::{Labels, letters_of};
 use crate::sentences::{counts_of, members_of, paths_of, sentence_of};
 use ov_picture::Drawing;
 use std::alloc::{AllocError, Global};
@@ -53,7 +53,8 @@ impl Heading {
         let (of_large, of_small) = LETTERS;
         let room = width - 2.0 * EDGE;
         let sentence = sentence_of(alloc, drawing, labels)?;
-        let large = broken(alloc, sentence.as_str(), room / of_large)?;
+        let mut large = Vec::new(alloc);
+        push_broken(alloc, &mut large, sentence.as_str(), room / of_large)?;
         let told = told_of(alloc, drawing, labels)?;
         let small = small_lines(alloc, &told, room / of_small)?;
         Ok(Heading {
@@ -98,15 +99,8 @@ fn small_lines(alloc: Global, told: &[String], most: f64) -> Result<Vec<String>,
     Ok(lines)
 }
 
-/// A text in lines of so many letters at most. A longer word has a line of its own.
-pub(crate) fn broken(alloc: Global, text: &str, most: f64) -> Result<Vec<String>, AllocError> {
-    let mut lines = Vec::new(alloc);
-    push_broken(alloc, &mut lines, text, most)?;
-    Ok(lines)
-}
-
-/// Appends a text in lines of so many letters at most.
-fn push_broken(
+/// Appends a text in lines of so many letters at most. A longer word has a line of its own.
+pub(crate) fn push_broken(
     alloc: Global,
     lines: &mut Vec<String>,
     text: &str,
@@ -116,7 +110,7 @@ fn push_broken(
     let mut line = String::new(alloc);
     let mut letters = 0.0;
     for word in text.split(' ') {
-        let wide = letters_of(word);
+        let wide = number(letters_of(word));
         if letters > 0.0 && letters + 1.0 + wide > most {
             lines.push(mem::replace(&mut line, String::new(alloc)))?;
             letters = 0.0;
@@ -134,13 +128,7 @@ fn push_broken(
 
 /// How many letters a line of a text has at most, if it has this many at most and the lines are about equally long.
 fn even(text: &str, most: f64) -> f64 {
-    let letters = letters_of(text);
+    let letters = number(letters_of(text));
     let lines = (letters / most).ceil().max(1.0);
     (letters / lines + UNEVEN).min(most)
-}
-
-/// How many letters wide a text is. A letter that is not ASCII counts twice.
-fn letters_of(text: &str) -> f64 {
-    let doubled = text.chars().filter(|c| !c.is_ascii()).count();
-    number(text.chars().count()) + number(doubled)
 }

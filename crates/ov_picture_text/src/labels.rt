@@ -3,6 +3,7 @@ use crate::sentences::is_end;
 use ov_io::shown_name;
 use ov_picture::{Drawing, NodeClass};
 use std::alloc::{AllocError, Global};
+use std::fmt::Write;
 
 /// Up to so many nodes all have labels. In a larger graph near, far, the cut and the nodes of the chosen entry have.
 const MOST_LABELLED: usize = 60;
@@ -10,8 +11,11 @@ const MOST_LABELLED: usize = 60;
 /// Up to so many nodes no label is turned.
 const MOST_UNTURNED: usize = 12;
 
-/// How many letters a label has at most, besides an ellipsis.
+/// How many letters a name has at most that is its own label.
 const MOST_LETTERS: usize = 24;
+
+/// How many first and last letters a longer name keeps in its label, besides an ellipsis.
+const FIRST_LAST: (usize, usize) = (12, 10);
 
 /// How many letters a label has at most that is not turned where there are many.
 const SHORT: usize = 4;
@@ -24,8 +28,8 @@ const LETTER: f64 = 7.2;
 pub(crate) struct Labels {
     /// The names of the nodes, in their order.
     pub(crate) names: Vec<String>,
-    /// The labels, which are short names, of the nodes that have one.
-    pub(crate) texts: Vec<Option<String>>,
+    /// The short names of the nodes, and which of them are shown as labels.
+    pub(crate) texts: Vec<(String, bool)>,
     /// Whether all nodes have labels.
     all: bool,
     /// Whether the nodes of the cut have labels.
@@ -60,31 +64,26 @@ impl Labels {
                 None => node.id.number().to_string(alloc)?,
             };
             let shown = labels.is_shown(node.class) || is_end(drawing, node.id);
-            labels.add(alloc, name, shown)?;
+            labels.add(alloc, name, node.id.number(), shown)?;
         }
         Ok(labels)
     }
 
-    /// What the node at a place is called in a sentence: its label, or its name if it has none.
+    /// What the node at a place is called in a sentence.
     pub(crate) fn called(&self, at: usize) -> &str {
-        if let Some(Some(text)) = self.texts.get(at) {
-            return text.as_str();
-        }
-        match self.names.get(at) {
-            Some(name) => name.as_str(),
+        match self.texts.get(at) {
+            Some((text, _)) => text.as_str(),
             None => "",
         }
     }
 
-    /// Adds the next node.
-    fn add(&mut self, alloc: Global, name: String, shown: bool) -> Result<(), AllocError> {
+    /// Adds the next node, whose label is shown or not.
+    fn add(&mut self, alloc: Global, name: String, id: u32, shown: bool) -> Result<(), AllocError> {
+        let text = shortened(alloc, name.as_str(), id)?;
         if shown {
-            let (text, letters) = shortened(alloc, name.as_str())?;
-            self.longest = self.longest.max(letters);
-            self.texts.push(Some(text))?;
-        } else {
-            self.texts.push(None)?;
+            self.longest = self.longest.max(letters_of(text.as_str()));
         }
+        self.texts.push((text, shown))?;
         self.names.push(name)?;
         Ok(())
     }
@@ -109,17 +108,32 @@ impl Labels {
     }
 }
 
-/// The first letters of a name, and how many letters wide they are.
-fn shortened(alloc: Global, name: &str) -> Result<(String, usize), AllocError> {
+/// A name if it is short, or else its first and its last letters, and its id, which no other node has.
+fn shortened(alloc: Global, name: &str, id: u32) -> Result<String, AllocError> {
+    let all = letters_of(name);
+    if all <= MOST_LETTERS {
+        return String::from_str(alloc, name);
+    }
+    let (first, last) = FIRST_LAST;
     let mut text = String::new(alloc);
     let mut letters: usize = 0;
+    let mut whole = true;
     for c in name.chars() {
-        if letters >= MOST_LETTERS {
-            text.push('…')?;
-            return Ok((text, letters.saturating_add(1)));
-        }
-        text.push(c)?;
+        let before = letters;
         letters = letters.saturating_add(if c.is_ascii() { 1 } else { 2 });
+        if letters <= first || all.saturating_sub(before) <= last {
+            text.push(c)?;
+        } else if whole {
+            text.push('…')?;
+            whole = false;
+        }
     }
-    Ok((text, letters))
+    write!(text, " ({id})")?;
+    Ok(text)
+}
+
+/// How many letters wide a text is. A letter that is not ASCII counts twice.
+pub(crate) fn letters_of(text: &str) -> usize {
+    let doubled = text.chars().filter(|c| !c.is_ascii()).count();
+    text.chars().count().saturating_add(doubled)
 }

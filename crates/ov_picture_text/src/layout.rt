@@ -204,7 +204,7 @@ fn unplaced(alloc: Global, nodes: usize) -> Result<Vec<Place>, AllocError> {
 }
 
 /// A point.
-fn at(x: f64, y: f64) -> Place {
+pub(crate) fn at(x: f64, y: f64) -> Place {
     Place { x, y, outward: UP }
 }
 

@@ -13,6 +13,7 @@ mod layout;
 mod path_colours;
 mod rings;
 mod sentences;
+mod svg_bends;
 mod svg_legend;
 mod svg_links;
 mod svg_nodes;

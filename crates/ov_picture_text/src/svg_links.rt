@@ -1,7 +1,8 @@
 use crate::class_names::link_class_name;
 use crate::geometry::Place;
-use crate::layout::Layout;
+use crate::layout::{Layout, at};
 use crate::path_colours::{colour_of, dashes_of};
+use crate::svg_bends::bend_of;
 use ov_picture::{Drawing, DrawnLink, DrawnNode, LinkClass};
 use std::alloc::AllocError;
 use std::fmt::Write;
@@ -51,8 +52,11 @@ pub(crate) fn push_plain_links(
     for link in links {
         if link.path.is_none() && layer_of(link.class) == layer {
             let class = link_class_name(link.class);
+            let (from, to) = ends_of(drawing.nodes.as_slice(), layout, link);
+            let within_cut = link.class == LinkClass::WithinCut;
+            let bend = layout.cut.bend(from, to).filter(|_| within_cut);
             write!(text, "<path class=\"{class}\" d=\"")?;
-            push_line(text, drawing.nodes.as_slice(), layout, link)?;
+            push_line(text, from, to, bend)?;
         }
     }
     text.push_str("</g>\n")
@@ -84,71 +88,50 @@ pub(crate) fn push_path_links(
 ) -> Result<(), AllocError> {
     write!(text, "<g class=\"paths\" stroke-width=\"{PATH_WIDTH}\">\n")?;
     for link in drawing.links.as_slice() {
-        push_path_link(text, drawing.nodes.as_slice(), layout, link)?;
+        if let Some(path) = link.path {
+            let colour = colour_of(path);
+            let dashes = dashes_of(path);
+            let (from, to) = ends_of(drawing.nodes.as_slice(), layout, link);
+            write!(
+                text,
+                "<path class=\"p{colour}\" stroke-dasharray=\"{dashes}\" d=\""
+            )?;
+            push_line(text, from, to, bend_of(drawing, layout, link, from, to))?;
+        }
     }
     text.push_str("</g>\n")
 }
 
-/// Appends a link that a path goes along, if one does.
-fn push_path_link(
-    text: &mut String,
-    nodes: &[DrawnNode],
-    layout: &Layout,
-    link: &DrawnLink,
-) -> Result<(), AllocError> {
-    let Some(path) = link.path else {
-        return Ok(());
-    };
-    let colour = colour_of(path);
-    let dashes = dashes_of(path);
-    write!(
-        text,
-        "<path class=\"p{colour}\" stroke-dasharray=\"{dashes}\" d=\""
-    )?;
-    push_line(text, nodes, layout, link)
-}
-
-/// Appends the line of a link, and ends its element.
+/// Appends the line of a link, bent by this point if there is one, and ends its element.
 fn push_line(
     text: &mut String,
-    nodes: &[DrawnNode],
-    layout: &Layout,
-    link: &DrawnLink,
+    from: Place,
+    to: Place,
+    bend: Option<(f64, f64)>,
 ) -> Result<(), AllocError> {
-    let from = place_of(nodes, layout, link.from.0);
-    let to = place_of(nodes, layout, link.to.0);
     let Place { x, y, .. } = from;
-    let Place {
-        x: end,
-        y: height,
-        ..
-    } = to;
-    let swing = if link.class == LinkClass::WithinCut {
-        layout.cut.swing(from, to)
+    write!(text, "M{x:.1} {y:.1}")?;
+    if let Some((x, y)) = bend {
+        write!(text, "Q{x:.1} {y:.1} ")?;
     } else {
-        0.0
-    };
-    if swing == 0.0 {
-        return write!(text, "M{x:.1} {y:.1}L{end:.1} {height:.1}\"/>\n");
+        text.push('L')?;
     }
-    let beside = (x + end) / 2.0 + swing;
-    let middle = (y + height) / 2.0;
-    write!(
-        text,
-        "M{x:.1} {y:.1}Q{beside:.1} {middle:.1} {end:.1} {height:.1}\"/>\n"
-    )
+    let Place { x, y, .. } = to;
+    write!(text, "{x:.1} {y:.1}\"/>\n")
+}
+
+/// Where the ends of a link stand.
+fn ends_of(nodes: &[DrawnNode], layout: &Layout, link: &DrawnLink) -> (Place, Place) {
+    let from = place_of(nodes, layout, link.from.0);
+    (from, place_of(nodes, layout, link.to.0))
 }
 
 /// Where the node with this number stands.
 fn place_of(nodes: &[DrawnNode], layout: &Layout, id: u32) -> Place {
-    let at = nodes
+    let number = nodes
         .binary_search_by_key(&id, |node| node.id.0)
         .unwrap_or(0);
-    layout.places.get(at).copied().unwrap_or(Place {
-        x: 0.0,
-        y: 0.0,
-        outward: 0.0,
-    })
+    layout.places.get(number).copied().unwrap_or(at(0.0, 0.0))
 }
 
 /// How wide so many links are, and how much they hide.

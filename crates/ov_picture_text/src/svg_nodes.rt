@@ -51,7 +51,7 @@ pub(crate) fn push_labels(
 ) -> Result<(), AllocError> {
     text.push_str("<g class=\"labels\">\n")?;
     for (at, node) in drawing.nodes.as_slice().iter().enumerate() {
-        if let (Some(place), Some(Some(label))) = (layout.places.get(at), labels.texts.get(at)) {
+        if let (Some(place), Some((label, true))) = (layout.places.get(at), labels.texts.get(at)) {
             let reach = reach_of(node.class, layout.reach);
             push_label(text, node.class, *place, reach, labels.are_turned())?;
             push_xml(text, label.as_str())?;

@@ -57,7 +57,7 @@ fn names_in_svg(rt: HostRuntime) -> Result<(), Fail> {
     assert!(rt; text.contains(">a&lt;b&gt;&amp;&quot;c&quot;&apos;\\u{7}</text>"));
     assert!(rt; text.contains(">x\\&quot;y&amp;</text>"));
     assert!(rt; text.contains(">3</text>"));
-    assert!(rt; text.contains(">a name that is far too l…</text>"));
+    assert!(rt; text.contains(">a name that …or a label (4)</text>"));
     assert!(rt; text.contains("node 4 (cut): a name that is far too long for a label</title>"));
     Ok(())
 }
