@@ -13,8 +13,8 @@ use std::alloc::Global;
 /// lists the second. A name has one entry, where it first stands. Attributes say nothing, and statements of subgraphs
 /// count as those outside. UnreadLine (70) is returned if a line can't be read, with the line, counted from 1, and what
 /// can't be read of it. OutOfMemory (99) is returned if an allocation was refused. The source is the page "The DOT
-/// Language" of Graphviz; that a subgraph can't be the end of an edge is chosen here, and that a word such as
-/// `10.0.0.1` or `oslo-1`, which is two names or more, must stand in quotes.
+/// Language" of Graphviz; that a subgraph can't be the end of an edge is chosen here, and that a name such as
+/// `10.0.0.1`, `oslo-1` or `oslo:7946`, which is more than one word, must stand in quotes.
 #[tactic(auto, using(crate::proofs::Refusing::of_texts))]
 pub fn read_dot(alloc: Global, text: &[u8]) -> Result<Dump, DotFault>
     ensures dump { IfOk result (λ dump. SaysDump text.now dump) }

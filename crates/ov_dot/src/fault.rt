@@ -20,9 +20,9 @@ pub enum DotFault {
 /// What can't be read of a line.
 #[derive(Clone, Copy, Debug, PartialEq, Eq, Error)]
 pub enum Why {
-    #[error("no word, mark or quoted text begins here, or it has no end; # begins a comment only at the start of a line")]
+    #[error("nothing of DOT begins here, or it has no end: a name as a.example.org needs quotes, a # its own line")]
     NoToken,
-    #[error("two names stand here with nothing between them: write a name such as 10.0.0.1 or oslo-1 in quotes")]
+    #[error("it is several words to DOT: a name as 10.0.0.1, oslo-1 or oslo:7946, or a value as 1e-05, needs quotes")]
     TornName,
     #[error("a graph begins with `graph` or `digraph`, maybe with `strict` before it")]
     NoGraph,

@@ -9,8 +9,8 @@ use Rattle.std.proofs.lemmas.List.{append-nil, take-append-drop, length-take-le,
 use Rattle.std.proofs.lemmas.List.Recursion.{is_count_by}
 use Rattle.ov_dot_tokens.specs.Pieces.{line_feed, is_in_line, is_feed_rest, is_piece, IsLongest, IsFirstPiece, IsCut}
 use Rattle.ov_dot_tokens.specs.Pieces.{HasNoPrefix}
-use Rattle.ov_dot_tokens.specs.Tokens.{Lexeme, feeds, kind_of, is_word, token_at, tokens_from, line_behind, behind_feed}
-use Rattle.ov_dot_tokens.specs.Tokens.{HasTokens, HasNoTokensFrom, HasTornName}
+use Rattle.ov_dot_tokens.specs.Tokens.{Lexeme, feeds, kind_of, is_word, sticks, token_at, tokens_from, line_behind}
+use Rattle.ov_dot_tokens.specs.Tokens.{behind_feed, HasTokens, HasNoTokensFrom, HasTornName}
 use Rattle.ov_dot_tokens.specs.Code.Neighbours.{ends_in_word, are_apart}
 use Rattle.ov_dot_tokens.proofs.Neighbours.{apart_more, word_more, last_word, none_torn}
 
@@ -122,7 +122,7 @@ first_piece n text it = record {
 pub more :
     (text : List ℕ) (tokens : List Lexeme) (n : ℕ) (rest : List ℕ) (word : Bool) (len : ℕ)
     → SoFar text tokens n rest word → IsLongest is_piece len rest
-    → (word && is_word (kind_of (take len rest))) ≡ false
+    → (word && sticks (kind_of (take len rest))) ≡ false
     → SoFar text (tokens ++ token_at (n + 1) (take len rest) (kind_of (take len rest))) (n + feeds (take len rest))
     (drop len rest) (is_word (kind_of (take len rest)))
 more text tokens n rest word len so it free =
@@ -141,7 +141,7 @@ more text tokens n rest word len so it free =
       room = omega (arith, feeds_le piece, length-take-le len rest it.within, length-drop len rest);
       apart =
           apart_more false so.pieces piece so.apart
-          (subst (λ v. (v && is_word (kind_of piece)) ≡ false) so.last free);
+          (subst (λ v. (v && sticks (kind_of piece)) ≡ false) so.last free);
       last = sym (word_more false so.pieces piece);
     }
 
@@ -163,11 +163,11 @@ unread text tokens n [] word so some none = absurd cc
 unread text tokens n (b ∷ rest) word so some none =
     (so.pieces, b ∷ rest, so.cut, omega arith, none, none_torn false so.pieces so.apart, so.line)
 
--- the next piece is a word behind a word
+-- the next piece is a word or a colon behind a word
 pub torn :
     (text : List ℕ) (tokens : List Lexeme) (n : ℕ) (rest : List ℕ) (word : Bool) (len : ℕ)
     → SoFar text tokens n rest word → IsLongest is_piece len rest
-    → word ≡ true → is_word (kind_of (take len rest)) ≡ true
+    → word ≡ true → sticks (kind_of (take len rest)) ≡ true
     → HasTornName text (n + 1)
 torn text tokens n rest word len so it behind is =
     let piece = take len rest in

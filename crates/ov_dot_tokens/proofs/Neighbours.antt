@@ -1,18 +1,19 @@
 -- Words that are neighbours: of one piece more, and of pieces that are taken apart.
 use Rattle.std.proofs.Common.{◌≡◌, ◌∙◌, ◌&&◌, ◌++◌, ℕ, Bool, true, false, not, List, [], ◌∷◌, refl, sym, ap, subst}
 use Rattle.std.proofs.lemmas.Bool.{and_parts, and_from}
-use Rattle.ov_dot_tokens.specs.Tokens.{is_word, kind_of, AreTorn, HasNoneTorn}
+use Rattle.ov_dot_tokens.specs.Tokens.{is_word, kind_of, sticks, AreTorn, HasNoneTorn}
 use Rattle.ov_dot_tokens.specs.Code.Neighbours.{ends_in_word, are_apart}
 
 pub apart_more :
     (behind : Bool) (pieces : List (List ℕ)) (piece : List ℕ) → are_apart behind pieces ≡ true
-    → (ends_in_word behind pieces && is_word (kind_of piece)) ≡ false
+    → (ends_in_word behind pieces && sticks (kind_of piece)) ≡ false
     → are_apart behind (pieces ++ piece ∷ []) ≡ true
 apart_more behind [] piece all free = ap (λ v. not v && true) free
 apart_more behind (p ∷ pieces) piece all free =
     let word = is_word (kind_of p) in
-    let (here, later) = and_parts (not (behind && word)) (are_apart word pieces) all in
-    and_from (not (behind && word)) (are_apart word (pieces ++ piece ∷ [])) here
+    let stuck = behind && sticks (kind_of p) in
+    let (here, later) = and_parts (not stuck) (are_apart word pieces) all in
+    and_from (not stuck) (are_apart word (pieces ++ piece ∷ [])) here
     (apart_more word pieces piece later free)
 
 pub word_more :
@@ -44,16 +45,18 @@ not_torn :
     → AreTorn first second → ⊥
 not_torn behind [] first second later all torn =
     let word = is_word (kind_of first) in
-    let next = is_word (kind_of second) in
-    let behind_first = (and_parts (not (behind && word)) (are_apart word (second ∷ later)) all).1 in
-    let apart : not (word && next) ≡ true = (and_parts (not (word && next)) (are_apart next later) behind_first).0 in
+    let next = sticks (kind_of second) in
+    let stuck = behind && sticks (kind_of first) in
+    let behind_first = (and_parts (not stuck) (are_apart word (second ∷ later)) all).1 in
+    let apart : not (word && next) ≡ true =
+    (and_parts (not (word && next)) (are_apart (is_word (kind_of second)) later) behind_first).0 in
     let both : (word && next) ≡ true = and_from word next torn.0 torn.1 in
     let never : false ≡ true = sym (ap not both) ∙ apart in
     cc
 not_torn behind (p ∷ before) first second later all torn =
     let word = is_word (kind_of p) in
     not_torn word before first second later
-    (and_parts (not (behind && word)) (are_apart word (before ++ first ∷ second ∷ later)) all).1 torn
+    (and_parts (not (behind && sticks (kind_of p))) (are_apart word (before ++ first ∷ second ∷ later)) all).1 torn
 
 pub none_torn : (behind : Bool) (pieces : List (List ℕ)) → are_apart behind pieces ≡ true → HasNoneTorn pieces
 none_torn behind pieces all before first second later parts torn =

@@ -75,6 +75,11 @@ is_word (Some Subgraph) = true
 is_word (Some Bare) = true
 is_word kind = false
 
+-- a piece that can't stand right behind a word or a numeral, by what kind of token it is: it is one too, or a colon
+abbrev pub sticks : Option Kind → Bool
+sticks (Some Colon) = true
+sticks kind = is_word kind
+
 -- how many line feeds these bytes have
 abbrev pub feeds : List ℕ → ℕ
 feeds [] = 0
@@ -99,10 +104,11 @@ line_behind line (piece ∷ pieces) = line_behind (line + feeds piece) pieces
 abbrev pub behind_feed : List ℕ → List ℕ
 behind_feed text = line_feed ∷ text
 
--- two neighbouring pieces are torn: both are words or numerals, and nothing stands between them. So `10.0.0.1` is cut
--- into the three numerals `10.0`, `.0` and `.1`, and `oslo-1` into `oslo` and `-1`
+-- two neighbouring pieces are torn: the first is a word or a numeral, and with nothing between them another one
+-- follows, or a colon. So `10.0.0.1` is cut into the three numerals `10.0`, `.0` and `.1`, `oslo-1` into `oslo` and
+-- `-1`, and `oslo:7946` into `oslo`, `:` and `7946`, of which DOT takes the last for a port of a node `oslo`
 abbrev pub AreTorn : List ℕ → List ℕ → Type 0
-AreTorn first second = (is_word (kind_of first) ≡ true) × (is_word (kind_of second) ≡ true)
+AreTorn first second = (is_word (kind_of first) ≡ true) × (sticks (kind_of second) ≡ true)
 
 -- no two neighbours among these pieces are torn
 abbrev pub HasNoneTorn : List (List ℕ) → Type 0

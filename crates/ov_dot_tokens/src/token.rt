@@ -1,6 +1,6 @@
 ghost use Rattle.std.specs.Prelude.{◌≡◌, ◌↔◌, IsTrue, map, codes, nat_eq};
 ghost use Rattle.std.specs.Char.{to_ascii_lowercase};
-ghost use Rattle.ov_dot_tokens.specs.Tokens.{kind_of, dash_kind, is_word, word_kind, is_keyword};
+ghost use Rattle.ov_dot_tokens.specs.Tokens.{kind_of, dash_kind, is_word, sticks, word_kind, is_keyword};
 
 /// What a token is.
 #[derive(Clone, Copy, Debug, PartialEq, Eq)]
@@ -71,6 +71,16 @@ pub(crate) fn is_word(kind: Option<Kind>) -> bool
         Some(Kind::Strict | Kind::Graph | Kind::Digraph) => true,
         Some(Kind::Node | Kind::Edge | Kind::Subgraph | Kind::Bare) => true,
         _ => false,
+    }
+}
+
+/// Whether a piece of this kind can't stand right behind a word or a numeral: it is one too, or a colon.
+pub(crate) fn sticks(kind: Option<Kind>) -> bool
+    ensures { result ≡ sticks kind }
+{
+    match kind {
+        Some(Kind::Colon) => true,
+        _ => is_word(kind),
     }
 }
 

@@ -4,7 +4,7 @@ ghost use Rattle.ov_dot_tokens.specs.declared.token_reading.TextFault.TheVariant
 ghost use Rattle.ov_dot_tokens.specs.Faults.{Faults};
 
 use crate::piece_scanning::{comment_len, piece_len};
-use crate::token::{Kind, Token, is_word, kind_of};
+use crate::token::{Kind, Token, is_word, kind_of, sticks};
 use std::alloc::{AllocError, AllocFailed, Global};
 
 /// Why a text has no tokens.
@@ -13,7 +13,8 @@ pub enum TextFault {
     /// In this line, counted from 1, no token begins where the text goes on: the byte there begins none, or a quoted
     /// text, an HTML text or a comment that begins there has no end.
     NoToken { line: u64 },
-    /// In this line, counted from 1, a word or a numeral begins right behind another one, with nothing between them.
+    /// In this line, counted from 1, a word, a numeral or a colon stands right behind a word or a numeral, with nothing
+    /// between them.
     TornName { line: u64 },
     OutOfMemory,
 }
@@ -41,10 +42,11 @@ impl<T: Drop> From<AllocFailed<T>> for TextFault {
 }
 
 /// The tokens of a DOT text, in order. NoToken is returned if the text can't be cut into tokens, white space and
-/// comments: with the line where the first bytes begin that are no such piece. TornName is returned if two words or
-/// numerals stand with nothing between them, as `10.0` and `.1` in `10.0.1`: with the line of the second. What comes
-/// first in the text is returned. OutOfMemory is returned if an allocation was refused. The source is the page "The DOT
-/// Language" of Graphviz, which reads two names there, and warns of it; that they are refused is chosen here.
+/// comments: with the line where the first bytes begin that are no such piece. TornName is returned if a word or a
+/// numeral has another one right behind it, as `10.0` and `.1` in `10.0.1`, or a colon, as in `oslo:7946`: with the
+/// line of the second. What comes first in the text is returned. OutOfMemory is returned if an allocation was refused.
+/// The source is the page "The DOT Language" of Graphviz, which reads two names or a name with a port there; that they
+/// are refused is chosen here.
 #[tactic(auto, using(crate::proofs::Cutting::more, crate::proofs::Cutting::some_bytes))]
 pub fn read_tokens<'a>(alloc: Global, text: &'a [u8]) -> Result<Vec<Token<'a>>, TextFault>
     ensures tokens { IfOk result (λ tokens. HasTokens text.now (lexemes tokens.items)) }
@@ -60,12 +62,11 @@ pub fn read_tokens<'a>(alloc: Global, text: &'a [u8]) -> Result<Vec<Token<'a>>, 
         };
         let (piece, behind) = rest.split_at(len);
         let kind = kind_of(piece);
-        let is_word = is_word(kind);
-        if behind_word && is_word {
+        if behind_word && sticks(kind) {
             return Err(TextFault::TornName { line: feeds + 1 });
         }
         push_token(&mut tokens, feeds + 1, kind, piece)?;
-        behind_word = is_word;
+        behind_word = is_word(kind);
         feeds += count_feeds(piece);
         rest = behind;
     }

@@ -112,10 +112,11 @@ fn no_dump(rt: &HostRuntime, bytes: &[u8]) -> FileCommandFault
     let kind = looks_like(bytes);
     let what = kind.words();
     let otherwise = match kind {
-        FileKind::Certificate => "--views reads it as views",
-        _ => "--edges reads it as lines of two names",
+        FileKind::Certificate => "; --views reads it as views",
+        FileKind::Report => "",
+        _ => "; --edges reads it as lines of two names",
     };
-    let _ = eprintln!(rt; "{ended}\nthe file looks like {what} and not like a dump; {otherwise}");
+    let _ = eprintln!(rt; "{ended}\nthe file looks like {what} and not like a dump{otherwise}");
     ended
 }
 

@@ -25,14 +25,28 @@ fn bytes_that_are_no_tokens(rt: HostRuntime) {
     refused(&rt, alloc, "graph {\n # no comment\n}", 2, Why::NoToken);
 }
 
-/// Words that are two tokens or more, by the page of DOT: a numeral ends or begins within them.
+/// Names that are two tokens or more, by the page of DOT: a numeral ends or begins within them, or a port.
 #[test]
 fn names_that_are_torn(rt: HostRuntime) {
     let alloc = rt.alloc();
-    refused(&rt, alloc, "graph { 10.0.0.1 -- 10.0.0.2 }", 1, Why::TornName);
+    refused(
+        &rt,
+        alloc,
+        "graph { 10.0.0.1 -- 10.0.0.2 }",
+        1,
+        Why::TornName,
+    );
     refused(&rt, alloc, "graph {\n5f3a -- 9b21\n}", 2, Why::TornName);
-    refused(&rt, alloc, "graph {\na -- b\noslo-1 -- oslo-2\n}", 3, Why::TornName);
+    refused(
+        &rt,
+        alloc,
+        "graph {\na -- b\noslo-1 -- oslo-2\n}",
+        3,
+        Why::TornName,
+    );
     refused(&rt, alloc, "graph {\n\nhost.5}", 3, Why::TornName);
+    refused(&rt, alloc, "graph {\noslo:7946}", 2, Why::TornName);
+    refused(&rt, alloc, "graph { a -- 1:n }", 1, Why::TornName);
     refused(&rt, alloc, "graph {\na [x=1.5px]}", 2, Why::TornName);
     refused(&rt, alloc, "graph { 1.5.5 }\n+", 1, Why::TornName);
     refused(&rt, alloc, "graph { a }\n+ 1.5.5", 2, Why::NoToken);

@@ -112,7 +112,7 @@ fn names_and_attributes(rt: HostRuntime) -> Result<(), Fail> {
 /// Marks, quotes and white space part names and numerals.
 #[test]
 fn names_that_are_whole(rt: HostRuntime) -> Result<(), Fail> {
-    let text = "graph{1--2 a--b:5 \"10.0.0.1\";.5 -5 c/**/6}";
+    let text = "graph{1--2 a--\"b\":5 b :7 \"10.0.0.1\";.5 -5 c/**/6}";
     let expected = "1 1\n1 2\n1 a\n1 b\n1 10.0.0.1\n1 .5\n1 -5\n1 c\n1 6\n\
         1 1 > 2\n1 2 > 1\n1 a > b\n1 b > a\n";
     says(&rt, rt.alloc(), text, expected)

@@ -2,7 +2,7 @@
 use Rattle.std.proofs.Common.{◌≡◌, ◌∙◌, ◌-◌, false, [], length, take, drop, ap, sym, subst, arith}
 use Rattle.std.proofs.lemmas.List.{length-drop}
 use Rattle.std.proofs.Math.Seq.{take-length}
-use Rattle.ov_dot_tokens.specs.Tokens.{lexemes, is_word, kind_of}
+use Rattle.ov_dot_tokens.specs.Tokens.{lexemes, sticks, kind_of}
 use Rattle.ov_dot_tokens.proofs.Cutting.{SoFar, begun, feeds_le, done, unread, torn}
 use Rattle.ov_dot_tokens.proofs.token_reading.read_tokens.Goals as goal
 
@@ -30,11 +30,11 @@ returns-in_default-clause-fault c =
     unread c.args.text.now (lexemes c.loop-rest.tokens.items) c.loop-rest.feeds c.loop-rest.rest.now
     c.loop-rest.behind_word c.loop-rest.invariant (sym c.is_empty.ensures ∙ c.loop-rest-test.true) c.in_default.ensures
 
-pub returns-then-is_word-clause-fault : goal.returns-then-is_word-clause-fault
-returns-then-is_word-clause-fault c =
+pub returns-then-sticks-clause-fault : goal.returns-then-sticks-clause-fault
+returns-then-sticks-clause-fault c =
     torn c.args.text.now (lexemes c.loop-rest.tokens.items) c.loop-rest.feeds c.loop-rest.rest.now
     c.loop-rest.behind_word c.in-Some.len c.loop-rest.invariant c.in-Some.ensures c.if-behind_word.true
-    (sym (c.if-is_word.ensures ∙ ap is_word (c.kind_of-kind.ensures ∙ ap kind_of c.split_at.ensures.front)))
+    (sym (c.if-sticks.ensures ∙ ap sticks (c.kind_of-kind.ensures ∙ ap kind_of c.split_at.ensures.front)))
 
 pub returns-clause-tokens : goal.returns-clause-tokens
 returns-clause-tokens c =
