@@ -140,12 +140,19 @@ fn tell_part(rt: &HostRuntime, text: &str, place: usize, wrong: &str) {
     let Some(part) = text.split(',').nth(place) else {
         return;
     };
-    let (told, why) = match comma_hint(text.as_bytes()) {
+    let (told, why) = match empty_part(text) {
         Some(hint) if part.is_empty() => (text, hint),
-        _ if text.is_empty() => (text, "is empty"),
         _ => (part, wrong),
     };
     if let Ok(shown) = shown_name(rt.alloc(), told) {
         let _ = eprintln!(rt; "--group: `{shown}` {why}");
     }
+}
+
+/// What is wrong with a text of which a part is empty: a comma is too many, or the text is empty.
+fn empty_part(text: &str) -> Option<&'static str> {
+    if text.is_empty() {
+        return Some("is empty");
+    }
+    comma_hint(text.as_bytes())
 }
