@@ -37,6 +37,8 @@ FILE_COMMANDS = list(PRINTED)
 
 each = partial(device_cases.each, commands=FILE_COMMANDS, group="dumps")
 by_name = partial(device_cases.by_name, commands=FILE_COMMANDS, group="dumps")
+# What is seen of a dump without names.
+NO_NAMES = r"status 0, prints nothing, standard error has b'the dump has no names\n'"
 NO_DOOR = "can't be opened or read: `refused 71`, status 1 (FORMATS.md)"
 each("dumps: all is well", "the same without any trouble", "the examples that are kept", RIGHT)
 each("dumps: empty environment", "`env -i .. FILE`", "no variable is looked at (FORMATS.md, devices)", RIGHT, env={})
@@ -62,8 +64,7 @@ each("dumps: 256 KB of stack", "`ulimit -s 256`", "the right output: 256 KB of s
 each("dumps: 64 KB of stack", "`ulimit -s 64`", "about 50 KB are needed (FORMATS.md, devices)", RIGHT,
      limits={resource.RLIMIT_STACK: 64 * 1024})
 each("dumps: full device, and nothing to print", "`/dev/null >/dev/full`", "nothing is written, so nothing fails "
-     "(FORMATS.md, devices)", "status 0, prints nothing", commands=[VIEWS, EDGES], file="/dev/null",
-     stdout=opened("/dev/full", "wb"))
+     "(FORMATS.md, devices)", NO_NAMES, commands=[EDGES], file="/dev/null", stdout=opened("/dev/full", "wb"))
 each("dumps: one descriptor besides the three", "FILE, and GRAPHFILE, under `ulimit -n 4`", "FILE is read (FORMATS.md)",
      RIGHT, limits={resource.RLIMIT_NOFILE: 4})
 by_name("dumps: a name that is no UTF-8", "FILE is `f\\xff`, and is there", "`refused 73`, status 2 (FORMATS.md)",

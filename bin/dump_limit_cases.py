@@ -10,7 +10,7 @@ import tempfile
 
 from device_cases import NO_WRITE
 from device_lab import BARE, EXAMPLES, KNOWN, MB, MEMORY, PREFIX, RIGHT, case, told
-from dump_cases import DOT, DUMPS, EDGES, FILE_COMMANDS, GRAPH, PICTURE, TOLD, VIEWS
+from dump_cases import DOT, DUMPS, EDGES, FILE_COMMANDS, GRAPH, NO_NAMES, PICTURE, TOLD, VIEWS
 from limit_cases import ENOUGH, LITTLE, PART, ROOM, SIZE, STACK, Flood, flooded, little_memory
 
 # Names of hosts, and the shortest ones, with what they take at most for each byte, and the byte itself.
@@ -21,8 +21,8 @@ NO_JSON, NO_LINE = (f"status 1, prints nothing, `refused {it}`" for it in (60, 7
 # Each of these ends with what is a fault only when all of it has been read.
 ITSELF, EMPTY = (f"status 1, prints nothing, `refused {it}`" for it in (81, 82))
 DUMP_FLOODS = [
-    Flood("comments", EDGES, COMMENT, "status 0, prints nothing", 1.1),
-    Flood("spaces", VIEWS, b" ", "status 0, prints nothing", 1.1),
+    Flood("comments", EDGES, COMMENT, NO_NAMES, 1.1),
+    Flood("spaces", VIEWS, b" ", NO_NAMES, 1.1),
     Flood("one line without an end", VIEWS, b"1", NO_LINE, 1.1),
     Flood("`{` without an end", VIEWS, b"{", NO_JSON, 2.2),
     Flood("bytes that are no UTF-8", VIEWS, b"\xff", NO_LINE, 1.1),
