@@ -102,7 +102,7 @@ fn written_by_pydot(rt: HostRuntime) -> Result<(), Fail> {
 #[test]
 fn names_and_attributes(rt: HostRuntime) -> Result<(), Fail> {
     let text =
-        "graph \"g\" { // a comment\n\"a\\\"b\" -- \"c\\\nd\\n\":p:ne -- \u{e9}t\u{e9}_1 /* one\nmore */ \
+        "graph \"g\" { // a comment\n\"a\\\"b\" -- \"c\\\nd\\n\":p :ne -- \u{e9}t\u{e9}_1 /* one\nmore */ \
         [label=<b<i>x</i>>; dir] [];\n# \"no\" -- name\n\"node\":x; k = v NODE [a=b] Edge [x] -1.5}\n#end";
     let expected = "2 a\"b\n2 cd\\n\n3 \u{e9}t\u{e9}_1\n6 node\n6 -1.5\n\
         2 a\"b > cd\\n\n2 cd\\n > a\"b\n2 cd\\n > \u{e9}t\u{e9}_1\n3 \u{e9}t\u{e9}_1 > cd\\n\n";
