@@ -5,16 +5,16 @@ ghost use Rattle.ov_paths.specs.Code.Cut.{start_at};
 use ov_ids::NodeId;
 
 /// The ids from the place `start` to before the place `end`.
-pub(crate) fn id_range(ids: &[NodeId], start: u32, end: u32) -> &[NodeId]
+pub(crate) fn id_range(ids: &[NodeId], start: usize, end: usize) -> &[NodeId]
     requires start { start ≤ end }
     requires end { end ≤ length ids.now }
     ensures { result.now ≡ slice_range ids.now start end }
 {
-    &ids[start as usize..end as usize]
+    &ids[start..end]
 }
 
 /// How many ids there are before the path at a place.
-pub(crate) fn start_of(ends: &[u32], place: usize) -> u32
+pub(crate) fn start_of(ends: &[usize], place: usize) -> usize
     requires { place < length ends.now }
     ensures { result ≡ start_at 0 ends.now place }
 {

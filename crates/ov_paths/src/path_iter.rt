@@ -10,8 +10,8 @@ use std::marker::Model;
 #[derive(Drop)]
 pub struct PathIter<'a> {
     ids: &'a [NodeId],
-    ends: &'a [u32],
-    start: u32,
+    ends: &'a [usize],
+    start: usize,
 }
 
 impl<'a> Model for PathIter<'a> {
@@ -27,7 +27,7 @@ impl<'a> Model for PathIter<'a> {
 
 impl<'a> PathIter<'a> {
     /// The paths that are written in `ids`, each up to one of the ends.
-    pub(crate) fn new(ids: &'a [NodeId], ends: &'a [u32]) -> PathIter<'a>
+    pub(crate) fn new(ids: &'a [NodeId], ends: &'a [usize]) -> PathIter<'a>
         requires { AreEnds 0 ends.now (length ids.now) }
         ensures { result ≡ paths_from 0 ends.now ids.now }
     {

@@ -15,7 +15,7 @@ use std::marker::Model;
 pub struct Paths {
     ids: Vec<NodeId>,
     /// How many ids there are up to the end of each path.
-    ends: Vec<u32>,
+    ends: Vec<usize>,
 }
 
 impl Model for Paths {
@@ -41,25 +41,21 @@ impl Paths {
     }
 
     /// The paths that are written in `ids`, each up to one of the ends. Nothing is allocated.
-    pub(crate) fn of_parts(ids: Vec<NodeId>, ends: Vec<u32>) -> Paths
+    pub(crate) fn of_parts(ids: Vec<NodeId>, ends: Vec<usize>) -> Paths
         requires { AreEnds 0 ends.items (length ids.items) }
         ensures { result ≡ paths_from 0 ends.items ids.items }
     {
         Paths { ids, ends }
     }
 
-    /// Appends a path. OutOfMemory (99) if an allocation is refused, or if there would be more than 2^32 - 1 ids in
-    /// all. The list is unchanged then.
+    /// Appends a path. OutOfMemory (99) if an allocation is refused; the list is unchanged then.
     pub fn push(&mut self, path: &[NodeId]) -> Result<(), OutOfMemory>
         ensures pushed { OnOk result (self.new ≡ self.old ++ path.now ∷ []) }
         ensures unchanged { OnErr result (self.new ≡ self.old) }
     {
-        let Ok(end) = u32::try_from(self.ids.len() + path.len()) else {
-            return Err(OutOfMemory);
-        };
         self.ends.reserve(1)?;
         self.ids.extend_from_slice(path)?;
-        self.ends.push_reserved(end);
+        self.ends.push_reserved(self.ids.len());
         Ok(())
     }
 

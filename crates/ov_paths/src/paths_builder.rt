@@ -10,9 +10,9 @@ use std::marker::Model;
 #[derive(Drop)]
 pub struct PathsBuilder {
     ids: Vec<NodeId>,
-    ends: Vec<u32>,
+    ends: Vec<usize>,
     /// How many ids there are up to the end of the last path.
-    last_end: u32,
+    last_end: usize,
 }
 
 impl Model for PathsBuilder {
@@ -56,16 +56,14 @@ impl PathsBuilder {
         Ok(())
     }
 
-    /// Ends the path that is begun. The next one is empty at first. OutOfMemory (99) if an allocation is refused, or if
-    /// there are more than 2^32 - 1 ids in all; nothing has changed then.
+    /// Ends the path that is begun. The next one is empty at first. OutOfMemory (99) if an allocation is refused;
+    /// nothing has changed then.
     pub fn end_path(&mut self) -> Result<(), OutOfMemory>
         ensures ended { OnOk result (self.new
             ≡ record { paths = self.old.paths ++ self.old.begun ∷ []; begun = [] }) }
         ensures unchanged { OnErr result (self.new ≡ self.old) }
     {
-        let Ok(end) = u32::try_from(self.ids.len()) else {
-            return Err(OutOfMemory);
-        };
+        let end = self.ids.len();
         self.ends.push(end)?;
         self.last_end = end;
         Ok(())

@@ -10,19 +10,17 @@ invariant_of-self-2 c =
     let b = c.self.inside in
     let a = c.self.invariant in
     let l = a.1 in
-    let e = c.in-Ok.ensures in
-    let n = c.len.ensures in (
-      subst (λ (es : List ℕ). AreEnds 0 es c.in-Ok.end) (sym c.in_ok-push.ensures.items)
-          (end_more 0 b.ends.items b.last_end c.in-Ok.end a.0 (omega (arith, l, e, n))),
-      omega (arith, e, n),
+    let n = c.len-end.ensures in (
+      subst (λ (es : List ℕ). AreEnds 0 es c.len-end.result) (sym c.in_ok-push.ensures.items)
+          (end_more 0 b.ends.items b.last_end c.len-end.result a.0 (omega (arith, l, n))),
+      omega (arith, n),
     )
 
 pub returns-clause-ended : goal.returns-clause-ended
 returns-clause-ended c =
     let b = c.self.inside in
-    let e = c.in-Ok.ensures in
-    let n = c.len.ensures in
-    subst (λ (v : Building). built (paths_from 0 c.push.new.self.items b.ids.items) (drop c.in-Ok.end b.ids.items)
+    let n = c.len-end.ensures in
+    subst (λ (v : Building). built (paths_from 0 c.push.new.self.items b.ids.items) (drop c.len-end.result b.ids.items)
     ≡ built (v.paths ++ v.begun ∷ []) []) c.self.view_is
-    (path_ended b.ends.items b.last_end b.ids.items c.push.new.self.items c.in-Ok.end c.self.invariant.0
-    c.in_ok-push.ensures.items (omega (arith, e, n)))
+    (path_ended b.ends.items b.last_end b.ids.items c.push.new.self.items c.len-end.result c.self.invariant.0
+    c.in_ok-push.ensures.items (omega (arith, n)))
