@@ -1,6 +1,6 @@
 -- What a source and a sink are, the bytes that go through them, and the failures that are counted.
 use Rattle.std.specs.Prelude.{◌≡◌, ◌⊎◌, ◌++◌, ◌+◌, ◌-◌, ◌^◌, ◌==◌, if◌then◌else◌, min, ℕ, List, Option, Result, Ok, Err}
-use Rattle.std.specs.Io.KnownBytes.{Appends}
+use Rattle.std.specs.Io.KnownBytes.{append_known, Appends, Keeps}
 use Rattle.ov_io.specs.declared.fault.ReadFault.{ReadFault}
 use Rattle.ov_io.specs.declared.fault.ReadFault.TheVariants.{Read, OutOfMemory}
 use Rattle.ov_io.specs.declared.fault.WriteFault.{WriteFault}
@@ -81,3 +81,7 @@ ReaderFailed before after = OneReadFailed before after ⊎ DidNotEnd before afte
 abbrev pub AppendsPrefixOf : List ℕ → Option (List ℕ) → Option (List ℕ) → Type 0
 AppendsPrefixOf bytes before after =
     (prefix rest : List ℕ) × Appends before after prefix × (prefix ++ rest ≡ bytes)
+
+-- what a writer holds is a prefix of these bytes, if they are known: all, some or none
+abbrev pub HoldsPrefixOf : Option (List ℕ) → Option (List ℕ) → Type 0
+HoldsPrefixOf bytes held = (rest : List ℕ) × Keeps bytes (append_known held rest)

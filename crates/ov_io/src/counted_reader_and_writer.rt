@@ -1,13 +1,16 @@
 // The fields are private to this file. So what is counted is what a reader or a writer answered, and nothing else.
-ghost use Rattle.std.specs.Prelude.{◌≡◌, ◌+◌, ◌<◌, min, length, IfOk};
+ghost use Rattle.std.specs.Prelude.{◌≡◌, ◌+◌, ◌<◌, [], min, length, IfOk, IfErr, IsOk, OnOk};
 ghost use Rattle.std.specs.Io.{ReadsAtMost, WritesAtMost};
+ghost use Rattle.std.specs.Io.Buffered.{writer_buffer, writer_capacity, writer_contents, writer_inner};
 ghost use Rattle.std.specs.Io.KnownBytes.{Keeps, ReadConsumes, WriteAppends};
+ghost use Rattle.std.specs.IoError.{error_kind};
 ghost use Rattle.ov_io.specs.Device.{most_faults, most_counted, read_faults, read_number};
-ghost use Rattle.ov_io.specs.Device.{write_faults, write_number};
+ghost use Rattle.ov_io.specs.Device.{write_faults, write_number, HoldsPrefixOf};
 ghost use Rattle.ov_io.specs.Code.Reads.{end_answers};
 
 use crate::fault::{ReadFault, WriteFault};
-use std::io::{Read, Write};
+use std::alloc::Global;
+use std::io::{self, BufWriter, ErrorKind, Read, Write};
 
 /// A reader, how many reads it answered, how many of these answers were errors, and how many were no byte, which is the
 /// end.
@@ -129,6 +132,61 @@ impl<W: Write> CountedWriter<W> {
             Err(_) => {
                 self.failures += 1;
                 Err(WriteFault)
+            }
+        }
+    }
+}
+
+impl<W: Write + Drop> CountedWriter<W> {
+    /// The writer with a buffer of this many bytes in front of it. If there is no memory for it, the writer is dropped.
+    pub(crate) fn in_blocks(
+        self,
+        alloc: Global,
+        size: usize,
+    ) -> io::Result<CountedWriter<BufWriter<W>>>
+        ensures inner { IfOk result (λ w. writer_inner w.writer ≡ self.writer) }
+        ensures empty { IfOk result (λ w. writer_buffer w.writer ≡ []) }
+        ensures size { IfOk result (λ w. writer_capacity w.writer ≡ size) }
+        ensures failures { IfOk result (λ w. w.failures ≡ self.failures) }
+        ensures fault { IfErr result (λ e. error_kind e ≡ ErrorKind.OutOfMemory) }
+    {
+        let CountedWriter { writer, failures } = self;
+        let writer = BufWriter::with_capacity(alloc, size, writer)?;
+        Ok(CountedWriter { writer, failures })
+    }
+}
+
+impl<W: Write + Drop> CountedWriter<BufWriter<W>> {
+    /// Takes the buffer away, and writes nothing of what it keeps back.
+    pub(crate) fn give_up(self) -> CountedWriter<W>
+        ensures writer { result.writer ≡ writer_inner self.writer }
+        ensures failures { result.failures ≡ self.failures }
+    {
+        let CountedWriter { writer, failures } = self;
+        let (writer, _) = writer.into_parts();
+        CountedWriter { writer, failures }
+    }
+
+    /// Writes what the buffer keeps back, and takes it away. Counts the answer if it is an error.
+    pub(crate) fn hand_on(self) -> (CountedWriter<W>, Result<(), WriteFault>)
+        requires { self.failures < most_faults }
+        ensures bytes { OnOk result.1 (Keeps (writer_contents W.contents self.writer) (W.contents result.0.writer)) }
+        ensures prefix { HoldsPrefixOf (writer_contents W.contents self.writer) (W.contents result.0.writer) }
+        ensures nothing { writer_buffer self.writer ≡ [] → result.0.writer ≡ writer_inner self.writer }
+        ensures ok { writer_buffer self.writer ≡ [] → IsOk result.1 }
+        ensures failures { result.0.failures ≡ self.failures + write_faults write_number result.1 }
+    {
+        if self.writer.buffer().is_empty() {
+            return (self.give_up(), Ok(()));
+        }
+        let CountedWriter { writer, failures } = self;
+        match writer.into_inner() {
+            Ok(writer) => (CountedWriter { writer, failures }, Ok(())),
+            Err(error) => {
+                let (_, writer) = error.into_parts();
+                let (writer, _) = writer.into_parts();
+                let failures = failures + 1;
+                (CountedWriter { writer, failures }, Err(WriteFault))
             }
         }
     }
