@@ -1,29 +1,45 @@
 use crate::cert::Cert;
 use crate::checker::{check, check_group};
 use crate::fault::CheckFault;
+use crate::held_graph::HeldGraph;
+use crate::shared_graph::SharedGraph;
 use ov_graph::Graph;
 use ov_ids::NodeId;
 use std::marker::Model;
 
 /// A graph with a group and a certificate that is valid for them. The type guarantees this.
-#[derive(Drop)]
 pub struct Checked {
-    graph: Graph,
+    graph: HeldGraph,
     /// None means the group of all nodes.
     group: Option<Vec<NodeId>>,
     cert: Cert,
 }
 
+impl Drop for Checked {
+    /// Drops the parts. It is written by hand since a call is proved faster than the same drops at each exit.
+    fn drop(self) {
+        let Checked {
+            graph: _,
+            group: _,
+            cert: _,
+        } = self;
+    }
+}
+
 impl Model for Checked {
     ghost use Rattle.ov_cert.specs.State.{CheckedState};
     ghost use Rattle.ov_cert.specs.Valid.{IsValidForGroup};
-    ghost use Rattle.ov_cert.specs.Code.Kept.{members_kept};
+    ghost use Rattle.ov_cert.specs.Code.Kept.{graph_held, members_kept};
 
     ghost Value = { CheckedState };
 
-    ghost view = { λ c. record { graph = c.graph; members = members_kept c.graph c.group; cert = c.cert } };
+    ghost view = { λ c. record {
+      graph = graph_held c.graph;
+      members = members_kept (graph_held c.graph) c.group;
+      cert = c.cert;
+    } };
 
-    ghost invariant = { λ c. IsValidForGroup c.graph (members_kept c.graph c.group) c.cert };
+    ghost invariant = { λ c. IsValidForGroup (graph_held c.graph) (members_kept (graph_held c.graph) c.group) c.cert };
 }
 
 impl Checked {
@@ -43,7 +59,7 @@ impl Checked {
     {
         match check(&graph, &cert) {
             Ok(()) => Ok(Checked {
-                graph,
+                graph: HeldGraph::Own(graph),
                 group: None,
                 cert,
             }),
@@ -67,7 +83,7 @@ impl Checked {
     {
         match check_group(&graph, &group, &cert) {
             Ok(()) => Ok(Checked {
-                graph,
+                graph: HeldGraph::Own(graph),
                 group: Some(group),
                 cert,
             }),
@@ -80,7 +96,23 @@ impl Checked {
         requires { IsValidForGroup graph group.items cert }
         ensures { result ≡ record { graph = graph; members = group.items; cert = cert } }
     {
+        let graph = HeldGraph::Own(graph);
         let group = Some(group);
+        Checked { graph, group, cert }
+    }
+
+    /// The same, with this equal graph in place of the one that was held. So certificates of one graph share it.
+    /// Allocates nothing.
+    pub fn sharing(self, graph: SharedGraph) -> Checked
+        requires { graph ≡ self.graph }
+        ensures { result ≡ self }
+    {
+        let Checked {
+            graph: _,
+            group,
+            cert,
+        } = self;
+        let graph = HeldGraph::Shared(graph);
         Checked { graph, group, cert }
     }
 
@@ -89,7 +121,7 @@ impl Checked {
         ensures graph { result.now ≡ self.now.graph }
         ensures valid { IsValidForGroup self.now.graph self.now.members self.now.cert }
     {
-        &self.graph
+        self.graph.graph()
     }
 
     /// The members of the group, ascending.
@@ -99,7 +131,7 @@ impl Checked {
     {
         match &self.group {
             Some(group) => group,
-            None => self.graph.nodes(),
+            None => self.graph().nodes(),
         }
     }
 

@@ -13,8 +13,10 @@ mod first_and_later_members;
 mod flaws;
 mod frame;
 mod frame_flaws;
+mod held_graph;
 mod node_set;
 mod paths;
+mod shared_graph;
 mod side_judging;
 mod theorems;
 
@@ -29,4 +31,5 @@ pub use flaws::{EntryFlaw, PathFlaw};
 pub use frame::{check_frame, check_group_frame, frame_flaw};
 pub use frame_flaws::{EndFlaw, FrameFlaw, SetFlaw, SideFlaw};
 pub use ov_paths::Paths;
+pub use shared_graph::SharedGraph;
 pub use theorems::{one_verdict, valid_means};

@@ -3,7 +3,7 @@ ghost use Rattle.ov_ids.specs.Members.{Has, Ordered};
 ghost use Rattle.ov_snap.specs.Snapshots.{WasBefore};
 ghost use Rattle.ov_snap.specs.declared.kept_snapshots.Snapshot.{Snapshot as Kept};
 
-use crate::shared_graph::SharedGraph;
+use ov_cert::SharedGraph;
 use ov_ids::OutOfMemory;
 
 /// A snapshot: the links that both ends held at a moment.

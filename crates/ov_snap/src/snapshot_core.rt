@@ -10,14 +10,14 @@ ghost use Rattle.ov_snap.specs.ReportState.{IsTrueReport, ReportState};
 ghost use Rattle.ov_snap.specs.Filing.{WasFiled};
 ghost use Rattle.ov_snap.specs.Refusals.{BeginJudged, FilingJudged, GroupBeginJudged};
 ghost use Rattle.ov_snap.specs.Run.{Happened, TookSnapshot};
-ghost use Rattle.ov_snap.specs.Snapshots.{IsMoment};
+ghost use Rattle.ov_snap.specs.Snapshots.{AreSnapshots, IsMoment};
 ghost use Rattle.ov_snap.specs.declared.fault.CoreFault.TheVariants.{NoSuchMoment, OutOfMemory as out_of_memory};
 
 use crate::analysis_report::Report;
 use crate::fault::CoreFault;
 use crate::filed_reports::Reports;
 use crate::kept_snapshots::{Snapshot, find, make_room};
-use crate::shared_graph::SharedGraph;
+use ov_cert::SharedGraph;
 use ov_desk::GroupDesk;
 use ov_ids::{NodeId, OutOfMemory, Params};
 use ov_net::{Entry, Event, MOST_ENTRIES, NetFault, World};
@@ -81,6 +81,14 @@ impl Core {
         ensures sound { IsSound self.now }
     {
         &self.world
+    }
+
+    /// The snapshots, in the order of their moments: each moment has one, with the links of that moment.
+    pub fn snapshots(&self) -> &[Snapshot]
+        ensures value { result.now ≡ self.now.snapshots }
+        ensures kept { AreSnapshots self.now.world.journal result.now }
+    {
+        &self.snapshots
     }
 
     /// Takes one event, as the world does, with the random words by which it makes its choices. The links of a snapshot

@@ -248,7 +248,9 @@ impl Core {
         let own = self.judge_filing(desk)?;
         let moment = own.moment();
         let snapshot = self.kept(moment)?;
+        let graph = snapshot.graph.share()?;
         let checked = own.certificate(&snapshot.graph)?;
+        let checked = checked.sharing(graph);
         prove!(!checked.members().is_empty());
         let report = Report::new(*self.desks.allocator(), moment, checked)?;
         Ok(report)

@@ -7,7 +7,7 @@ use std::marker::Model;
 use std::ops::Deref;
 use std::sync::Arc;
 
-/// A graph that snapshots share. Contracts see it as the graph.
+/// A graph that several owners share, as snapshots and reports do. Contracts see it as the graph.
 #[derive(Drop)]
 pub struct SharedGraph {
     graph: Arc<Graph>,
@@ -23,8 +23,8 @@ impl Model for SharedGraph {
 }
 
 impl SharedGraph {
-    /// This graph, which can be shared from now on.
-    pub(crate) fn new(alloc: Global, graph: Graph) -> Result<SharedGraph, OutOfMemory>
+    /// This graph, which can be shared from now on, or out of memory (99).
+    pub fn new(alloc: Global, graph: Graph) -> Result<SharedGraph, OutOfMemory>
         ensures { IfOk result (λ g. g ≡ graph) }
     {
         Ok(SharedGraph {
@@ -34,7 +34,7 @@ impl SharedGraph {
 
     /// The same graph once more, not copied, or out of memory (99). The kit's `Arc` refuses one more owner only if it
     /// can count no more.
-    pub(crate) fn share(&self) -> Result<SharedGraph, OutOfMemory>
+    pub fn share(&self) -> Result<SharedGraph, OutOfMemory>
         ensures { IfOk result (λ g. g ≡ self.now) }
     {
         Ok(SharedGraph {
