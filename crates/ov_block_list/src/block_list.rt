@@ -4,15 +4,12 @@ ghost use Rattle.std.specs.List.{remove};
 ghost use Rattle.ov_block_list.specs.Listed.{Listed};
 
 use crate::block::{BLOCK, Block};
-use crate::blocks::{add_spare, begin, find, take_out, tidy};
+use crate::blocks::{add_spare, begin, countable, find, take_out, tidy};
 use crate::items::Items;
 use ov_ids::OutOfMemory;
 use std::alloc::Global;
 use std::marker::Model;
 use std::mem::replace;
-
-/// How many blocks a list has at most. (Chosen here.)
-const MOST_BLOCKS: usize = 1 << 32;
 
 /// A list from which an item at any place is taken out in little time. Contracts see it as `Listed`.
 ///
@@ -99,8 +96,8 @@ impl<T> BlockList<T> {
         Items::new(&self.full, &self.last)
     }
 
-    /// Makes room for as many more items. OutOfMemory (99) if an allocation is refused, or if that were more than
-    /// `MOST_BLOCKS` blocks; the items are the same then too, and the room is not less than before.
+    /// Makes room for as many more items. OutOfMemory (99) if an allocation is refused; the items are the same then
+    /// too, and the room is not less than before.
     pub fn reserve(&mut self, count: usize) -> Result<(), OutOfMemory>
         ensures items { self.new.items ≡ self.old.items }
         ensures room { OnOk result (count ≤ self.new.room) }
@@ -117,10 +114,8 @@ impl<T> BlockList<T> {
         }
         let more = wanted - spare;
         let full = self.full.len();
-        if more > MOST_BLOCKS - (full + spare) {
-            return Err(OutOfMemory);
-        }
-        self.full.reserve(spare + more)?;
+        self.full
+            .reserve(countable(full + spare + more, spare + more))?;
         self.spare.reserve(full + more)?;
         let alloc = *self.full.allocator();
         add_spare(&mut self.spare, alloc, more)

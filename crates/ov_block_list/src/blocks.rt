@@ -1,5 +1,5 @@
 //! Blocks in order, and those that are spare.
-ghost use Rattle.std.specs.Prelude.{◌≡◌, ◌+◌, ◌≤◌, ◌<◌, ◌⊎◌, ◌++◌, take, length, slice_index_or, OnOk};
+ghost use Rattle.std.specs.Prelude.{◌≡◌, ◌+◌, ◌-◌, ◌*◌, ◌^◌, ◌≤◌, ◌<◌, ◌⊎◌, ◌++◌, take, length, slice_index_or, OnOk};
 ghost use Rattle.std.specs.List.{AllByRecursion, remove};
 ghost use Rattle.ov_block_list.specs.Code.Blocks.{Filled, block_size, joined, IsWhole, IsSpare};
 ghost use Rattle.ov_block_list.specs.Code.Dense.{AreDense, FitsWithNext, sizes, with_more, with_next};
@@ -129,6 +129,19 @@ pub fn begin<T>(full: &mut Vec<Block<T>>, last: &mut Block<T>, spare: &mut Vec<B
         before.release();
     } else {
         full.push_reserved(before);
+    }
+}
+
+/// For how many blocks to reserve memory, if the list is to have `blocks` in all but for the last one: `wanted`, or more
+/// than any memory holds if the items of so many blocks could not be counted in a `usize`.
+pub fn countable(blocks: usize, wanted: usize) -> usize
+    requires { blocks < 2 ^ 64 - 1 }
+    ensures asked { wanted ≤ result }
+    ensures counted { result < 2 ^ 63 → block_size * (blocks + 1) < 2 ^ 64 }
+{
+    match (blocks + 1).checked_mul(BLOCK) {
+        Some(_) => wanted,
+        None => usize::MAX,
     }
 }
 

@@ -1,12 +1,8 @@
 -- How the parts of a list in blocks fit together.
-use Rattle.std.specs.Prelude.{◌≡◌, ℕ, ◌+◌, ◌-◌, ◌*◌, ◌≤◌, ◌^◌, ◌⊎◌, List, ◌++◌, length}
+use Rattle.std.specs.Prelude.{◌≡◌, ℕ, ◌+◌, ◌-◌, ◌*◌, ◌<◌, ◌≤◌, ◌^◌, ◌⊎◌, List, ◌++◌, length}
 use Rattle.std.specs.List.{AllByRecursion}
 use Rattle.ov_block_list.specs.Code.Blocks.{Filled, block_size, joined, IsWhole, IsSpare}
 use Rattle.ov_block_list.specs.Code.Dense.{AreDense, sizes}
-
--- how many blocks a list has at most, but for the last one
-abbrev pub most_blocks : ℕ
-most_blocks = 2 ^ 32
 
 -- the items of a list: those of the full blocks, then those of the last one
 abbrev pub items_of : {T : Type 0} → List (Filled T) → Filled T → List T
@@ -27,5 +23,5 @@ pub record AreKept {T : Type 0} (full : List (Filled T)) (full_room : ℕ) (last
   pub last_fits : length last.items ≤ last.capacity
   pub full_fits : length full + length spare ≤ full_room
   pub spare_fits : length full + length spare ≤ spare_room
-  pub few : length full + length spare ≤ most_blocks
+  pub few : block_size * (length full + length spare + 1) < 2 ^ 64
   pub counted : before_last ≡ length (joined full)
