@@ -3,3 +3,4 @@ pub mod Giving
 pub mod Sampling
 pub mod Integrating
 pub mod Tracking
+pub mod Sufficing

@@ -2,11 +2,12 @@ ghost use Rattle.std.specs.Prelude.{◌≡◌, ◌≤◌, ◌<◌, ◌+◌, ◌�
 ghost use Rattle.std.specs.Prelude.{IsTrue, MatchBool};
 ghost use Rattle.ov_ids.specs.Members.{Has};
 ghost use Rattle.ov_ids.specs.Sets.{IsSet, IsIn, has, without, without_all};
-ghost use Rattle.ov_words.specs.Pick.{Drawn, Choice};
+ghost use Rattle.ov_words.specs.Pick.{Drawn, Suffice, Choice};
 ghost use Rattle.ov_views.specs.ViewsState.{ViewsState, AreViews, has_place, is_close, is_known, members};
 ghost use Rattle.ov_views.specs.Changes.{AddsPassive, DropsRandom, AddsActive, RemovesActive, Forgets};
 ghost use Rattle.ov_views.specs.Code.ChangeOrder.{in_order};
 ghost use Rattle.ov_views.specs.Sampling.{Samples, GivesUp, TakesIn, Integrates};
+ghost use Rattle.ov_views.specs.declared.change.ViewChange.{ViewChange};
 
 use crate::{Changes, Sample};
 use ov_ids::{IdSet, NodeId, Params};
@@ -150,10 +151,11 @@ impl Views {
 
     /// Adds a node to the active view, unless it is the node itself or active already. The node leaves the passive
     /// view. If the active view is full, a random member is dropped first, as by `drop_random`. Returns which nodes
-    /// went down and came up. At most two random words are used. (HyParView's `addNodeActiveView`. That the node leaves
-    /// the passive view, and does so first, is chosen here.)
+    /// went down and came up. At most two random words are used, and one must be left for each pick. (HyParView's
+    /// `addNodeActiveView`. That the node leaves the passive view, and does so first, is chosen here.)
     pub fn add_active(&mut self, id: NodeId, draws: &mut Draws<'_>) -> Changes
-        requires { 2 ≤ length draws.old }
+        requires { Suffice draws.old (λ choices. (w : ViewsState) × (changes : List ViewChange)
+            × AddsActive self.old id choices w changes) }
         ensures drawn { Drawn draws.old draws.new (λ choices. AddsActive self.old id choices self.new result) }
         ensures words { length draws.old ≤ length draws.new + 2 }
         ensures few { length result ≤ 2 }
@@ -172,9 +174,11 @@ impl Views {
     }
 
     /// Drops a random active member, if there is one: it goes down, and then it is added to the passive view. Returns
-    /// which node went down. At most two random words are used. (HyParView's `dropRandomElementFromActiveView`.)
+    /// which node went down. At most two random words are used, and one must be left for each pick. (HyParView's
+    /// `dropRandomElementFromActiveView`.)
     pub fn drop_random(&mut self, draws: &mut Draws<'_>) -> Changes
-        requires { 2 ≤ length draws.old }
+        requires { Suffice draws.old (λ choices. (w : ViewsState) × (changes : List ViewChange)
+            × DropsRandom self.old choices w changes) }
         ensures drawn { Drawn draws.old draws.new (λ choices. DropsRandom self.old choices self.new result) }
         ensures words { length draws.old ≤ length draws.new + 2 }
         ensures few { length result ≤ 1 }
@@ -184,7 +188,8 @@ impl Views {
 
     /// Drops a random active member, if there is one.
     fn drop_one(&mut self, draws: &mut Draws<'_>) -> Option<NodeId>
-        requires { 2 ≤ length draws.old }
+        requires { Suffice draws.old (λ choices. (w : ViewsState) × (changes : List ViewChange)
+            × DropsRandom self.old choices w changes) }
         ensures drawn { Drawn draws.old draws.new
             (λ choices. DropsRandom self.old choices self.new (in_order result None)) }
         ensures words { length draws.old ≤ length draws.new + 2 }
@@ -215,9 +220,10 @@ impl Views {
     }
 
     /// Adds a node to the passive view, unless it is the node itself, active or passive. If that view is full, a random
-    /// member goes out. At most one random word is used. (HyParView's `addNodePassiveView`.)
+    /// member goes out. At most one random word is used, and one must be left for that pick. (HyParView's
+    /// `addNodePassiveView`.)
     pub fn add_passive(&mut self, id: NodeId, draws: &mut Draws<'_>)
-        requires { 1 ≤ length draws.old }
+        requires { Suffice draws.old (λ choices. (w : ViewsState) × AddsPassive self.old id choices w) }
         ensures drawn { Drawn draws.old draws.new (λ choices. AddsPassive self.old id choices self.new) }
         ensures words { length draws.old ≤ length draws.new + 1 }
     {
@@ -227,13 +233,14 @@ impl Views {
     /// Takes the ids of a shuffle into the passive view, in order. The node itself and the members of either view are
     /// passed over. If the passive view is full, an id takes the place of the next id in `sent` that is passive, or, if
     /// there is none, of a random member. `sent` is walked once: an id that was passed over is not looked at again. At
-    /// most one random word is used for each id. (That the members sent go first is HyParView's; how `sent` is walked
-    /// is chosen here.)
+    /// most one random word is used for each id, and one must be left for each pick, whoever is picked. (That the
+    /// members sent go first is HyParView's; how `sent` is walked is chosen here.)
     pub fn integrate(&mut self, ids: &[NodeId], sent: &[NodeId], draws: &mut Draws<'_>)
-        requires { length ids.now ≤ length draws.old }
+        requires { Suffice draws.old (λ choices. (w : ViewsState) × Integrates self.old ids.now sent.now choices w) }
         ensures drawn { Drawn draws.old draws.new (λ choices. Integrates self.old ids.now sent.now choices self.new) }
         ensures words { length draws.old ≤ length draws.new + length ids.now }
     {
+        prove!(self.params.passive() >= 1);
         let mut left = sent;
         for id in ids {
             left = self.take_in(*id, left, draws);
@@ -242,7 +249,8 @@ impl Views {
 
     /// Takes one id of a shuffle in. Returns what is left of `sent`.
     fn take_in<'s>(&mut self, id: NodeId, sent: &'s [NodeId], draws: &mut Draws<'_>) -> &'s [NodeId]
-        requires { 1 ≤ length draws.old }
+        requires { Suffice draws.old (λ choices. (w : ViewsState) × (left : List ℕ)
+            × TakesIn self.old id sent.now choices w left) }
         ensures drawn { Drawn draws.old draws.new
             (λ choices. TakesIn self.old id sent.now choices self.new result.now) }
         ensures words { length draws.old ≤ length draws.new + 1 }
@@ -286,7 +294,8 @@ impl Views {
 /// The passive member to give up for a new one, and what is then left of `sent`.
 fn give_up<'s>(passive: &IdSet, sent: &'s [NodeId], draws: &mut Draws<'_>) -> (NodeId, &'s [NodeId])
     requires some { 0 < length passive.now }
-    requires words { 1 ≤ length draws.old }
+    requires words { Suffice draws.old (λ choices. (d : ℕ) × (left : List ℕ)
+        × GivesUp passive.now sent.now d left choices) }
     ensures drawn { Drawn draws.old draws.new (λ choices. GivesUp passive.now sent.now result.0 result.1.now choices) }
     ensures member { IsIn passive.now result.0 }
     ensures words { length draws.old ≤ length draws.new + 1 }

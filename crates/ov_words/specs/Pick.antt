@@ -1,6 +1,6 @@
 -- Random choices, and the random words that they are drawn from. How a word picks a member is chosen here. A set is
 -- written as its members in ascending order.
-use Rattle.std.specs.Prelude.{◌≡◌, ℕ, ◌%◌, List, [], ◌∷◌, length, slice_get, Some}
+use Rattle.std.specs.Prelude.{◌≡◌, ◌≤◌, ℕ, ◌%◌, List, [], ◌∷◌, length, slice_get, Some}
 
 -- a set and a member chosen from it; the rules of the protocol allow any member
 pub record Choice : Type 0 where
@@ -21,3 +21,7 @@ AreDrawn (c ∷ choices) (word ∷ words) left = IsPick c.from word c.member × 
 -- some choices with the property P are drawn from the words `before`, and leave the words `after`
 abbrev pub Drawn : List ℕ → List ℕ → (List Choice → Type 0) → Type 0
 Drawn before after P = (choices : List Choice) × AreDrawn choices before after × P choices
+
+-- the words suffice for choices with the property P, whatever they are: there is a word for each of them
+abbrev pub Suffice : List ℕ → (List Choice → Type 0) → Type 0
+Suffice words P = (choices : List Choice) → P choices → length choices ≤ length words

@@ -1,5 +1,4 @@
-ghost use Rattle.std.specs.Prelude.{◌≡◌, ◌<◌, ◌↔◌, [], ◌∷◌, length, IfNone, IfSome};
-ghost use Rattle.ov_ids.specs.Sets.{IsSet};
+ghost use Rattle.std.specs.Prelude.{◌≡◌, ◌≢◌, ◌<◌, ◌↔◌, [], ◌∷◌, length, IfNone, IfSome};
 ghost use Rattle.ov_words.specs.Pick.{AreDrawn};
 ghost use Rattle.ov_words.specs.Stream.{words_per_event};
 
@@ -56,11 +55,11 @@ impl<'a> Draws<'a> {
         word
     }
 
-    /// Picks a member of a set by the next word, which is then used up: member number `word % size`, counted from 0.
-    /// The members must ascend. None if the set is empty, and then no word is used. (Chosen here.)
+    /// Picks a member of a set by the next word, which is then used up: member number `word % size`, counted from 0, in
+    /// the order of the slice. None if the set is empty, and then no word is used, and none has to be left. (Chosen
+    /// here.)
     pub fn pick(&mut self, set: &[NodeId]) -> Option<NodeId>
-        requires words { 0 < length self.old }
-        requires set { IsSet set.now }
+        requires { set.now ≢ [] → 0 < length self.old }
         ensures drawn { IfSome result (λ d. AreDrawn (record { from = set.now; member = d } ∷ []) self.old self.new) }
         ensures empty { result ≡ None ↔ set.now ≡ [] }
         ensures no_word { IfNone result (self.new ≡ self.old) }

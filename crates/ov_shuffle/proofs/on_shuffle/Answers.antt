@@ -2,6 +2,7 @@ use Rattle.std.proofs.Common.{◌≡◌, ◌++◌, ◌∷◌, [], length, eqb, f
 use Rattle.ov_ids.specs.Sets.{without}
 use Rattle.ov_words.proofs.PickLemmas.{AreDrawn-append, picked_member}
 use Rattle.ov_views.specs.ShuffleRows.{walks_on}
+use Rattle.ov_views.proofs.Sufficing.{words_integrate}
 use Rattle.ov_shuffle.proofs.Counting.{shuffled_words}
 use Rattle.ov_shuffle.proofs.WalkLemmas.{walks, ends}
 use Rattle.ov_shuffle.proofs.on_shuffle.Goals as goal
@@ -32,6 +33,12 @@ returns-then-walks_on-clause-allowed c =
             (walks v c.args.from c.args.origin c.args.ttl c.args.ids.now c.in-Some.to other on h),
       )),
     )
+
+pub integrate-requires : goal.integrate-requires
+integrate-requires c =
+    let few = c.sample-those.ensures.drawn.2.0 in
+    words_integrate c.args.views.now c.args.ids.now c.as_slice-3.result.now c.sample-those.new.draws
+    (omega (arith, few, c.requires.words, c.requires.ids, c.sample-those.ensures.words))
 
 pub returns-clause-allowed : goal.returns-clause-allowed
 returns-clause-allowed c =

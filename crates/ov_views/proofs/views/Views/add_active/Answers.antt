@@ -1,13 +1,18 @@
 use Rattle.std.proofs.Common.{None, ◌∷◌, ◌++◌, ◌≡◌, ◌<◌, ◌≤◌, [], false, length, refl, sym, ◌∙◌, ap, subst, arith, inl}
 use Rattle.std.proofs.Common.{inr}
 use Rattle.std.proofs.lemmas.Bool.{lt-ltb, le-ltb}
+use Rattle.std.specs.Prelude.{List}
 use Rattle.ov_ids.specs.Sets.{without}
 use Rattle.ov_ids.proofs.Sets.{IsIn-without}
+use Rattle.ov_words.specs.Pick.{Suffice}
 use Rattle.ov_views.specs.ViewsState.{ViewsState, is_close}
+use Rattle.ov_views.specs.Changes.{AddsActive}
 use Rattle.ov_views.specs.Code.ChangeOrder.{in_order}
+use Rattle.ov_views.specs.declared.change.ViewChange.{ViewChange}
 use Rattle.ov_views.specs.declared.change.ViewChange.TheVariants.{Up}
 use Rattle.ov_views.proofs.Keeping.{AreOthers, others, KeepsFewer, AreViews-without_passive, AreViews-adding_active}
 use Rattle.ov_views.proofs.Keeping.{DropsRandom-keeps, enters, comes_up}
+use Rattle.ov_views.proofs.Sufficing.{drops_first}
 use Rattle.ov_views.proofs.views.Views.add_active.Goals as goal
 
 pub invariant_of-self : goal.invariant_of-self
@@ -49,6 +54,24 @@ returns-then-len-active-clause-drawn c =
 
 pub invariant_of-self-else-len-active : goal.invariant_of-self-else-len-active
 invariant_of-self-else-len-active c = rw c.remove.ensures.value (AreViews-without_passive _ _ c.self.invariant)
+
+pub drop_one-down-requires : goal.drop_one-down-requires
+drop_one-down-requires c =
+    let v : ViewsState = record {
+      me = c.self.inside.me;
+      params = c.self.inside.params;
+      active = c.self.inside.active;
+      passive = c.self.inside.passive;
+    } in
+    let P : ViewsState → Type 0 = λ u. Suffice c.args.draws.now
+    (λ cs. (w : ViewsState) × (changes : List ViewChange) × AddsActive u c.args.id cs w changes) in
+    let Q : ViewsState → Type 0 = λ v. is_close v c.args.id ≡ false in
+    let far : is_close v c.args.id ≡ false =
+    subst Q (sym c.self.view_is) (sym c.is_close.ensures.close ∙ c.if-is_close.false) in
+    let full : c.self.inside.params.active ≤ length c.self.inside.active = omega arith in
+    rw c.remove.ensures.value
+    (drops_first v c.args.id c.args.draws.now far (le-ltb (length c.self.inside.active) c.self.inside.params.active full)
+    (subst P (sym c.self.view_is) c.requires))
 
 pub invariant_of-self-2 : goal.invariant_of-self-2
 invariant_of-self-2 c =
