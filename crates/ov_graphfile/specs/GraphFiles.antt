@@ -1,20 +1,22 @@
 -- What a graph file says, the lines of a file that can't be read, and the first fault of a file that says no graph. Its
 -- lines are separated, counted, skipped and split into words as those of a scenario file are. The form of the file is
 -- chosen here.
-use Rattle.std.specs.Prelude.{◌≡◌, ℕ, Bool, true, false, ⊤, List, [], ◌∷◌, ◌++◌, map, slice_get, codes}
-use Rattle.std.specs.Prelude.{Option, Some, None, option_map, is_none}
+use Rattle.std.specs.Prelude.{◌≡◌, ℕ, ◌-◌, ◌^◌, min, Bool, true, false, ⊤, List, [], ◌∷◌, ◌++◌, length, map, take}
+use Rattle.std.specs.Prelude.{slice_get, codes, Option, Some, None, option_map, is_none}
 use Rattle.std.specs.List.{filter}
 use Rattle.ov_graph.specs.Faults.{GraphJudged}
 use Rattle.ov_graph.specs.Links.{LinkGraph, IsGraph, IsWithinLimit}
 use Rattle.ov_graph.specs.declared.fault.GraphFault.{GraphFault}
 use Rattle.ov_graph.specs.declared.fault.GraphFault.TheVariants as graph_fault
-use Rattle.ov_lines.specs.Lines.{kept_lines, words_of, row, short_bits, one, two}
+use Rattle.ov_lines.specs.Lines.{kept_lines, words_of, row, long_bits, short_bits, one, two}
 use Rattle.ov_graphfile.specs.declared.fault.GraphFileFault.{GraphFileFault}
 use Rattle.ov_graphfile.specs.declared.fault.GraphFileFault.TheVariants as fault
+use Rattle.ov_graphfile.specs.declared.fault.UnreadLine.{UnreadLine}
 use Rattle.ov_graphfile.specs.declared.graph_line.GraphLine.{GraphLine}
 use Rattle.ov_graphfile.specs.declared.graph_line.GraphLine.TheVariants.{Node, Link}
 use Rattle.ov_graphfile.specs.declared.graph_line.LineKind.{LineKind}
 use Rattle.ov_graphfile.specs.declared.graph_line.LineKind.TheVariants as kind
+use Rattle.ov_graphfile.specs.declared.unreadable_lines.UnreadLines.{UnreadLines}
 
 -- ---- lines
 
@@ -79,6 +81,16 @@ is_of_kind kind other = false
 -- the numbers of the lines of a file that can't be read, in order
 abbrev pub unread_lines : List ℕ → List ℕ
 unread_lines bytes = lines_where is_none (graph_lines bytes)
+
+-- the most lines that are counted: as many as a number of 64 bits can say, and more than a file in memory has
+abbrev pub most_counted : ℕ
+most_counted = 2 ^ long_bits - 1
+
+-- of the lines with all these numbers the first are kept, in order, this many at most, and all are counted
+abbrev pub AreFirstOf : ℕ → List ℕ → UnreadLines → Type 0
+AreFirstOf most all unread =
+    (map (λ (line : UnreadLine). line.line) unread.first.items ≡ take most all)
+    × (unread.count ≡ min (length all) most_counted)
 
 -- the numbers of the lines of a file that say a node, in order
 abbrev pub node_lines : List ℕ → List ℕ

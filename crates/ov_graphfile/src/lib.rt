@@ -11,4 +11,4 @@ pub use fault::{GraphFileFault, UnreadLine};
 pub use graph_line::LINE_NAMES;
 pub use graph_reading::read_graph;
 pub use line_finding::{line_of_link, line_of_node};
-pub use unreadable_lines::unread_lines;
+pub use unreadable_lines::{UnreadLines, unread_lines};

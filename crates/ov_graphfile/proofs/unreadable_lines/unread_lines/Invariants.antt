@@ -4,7 +4,7 @@ use Rattle.ov_graphfile.proofs.GraphFiles.Unread.{AreUnread}
 use Rattle.ov_graphfile.proofs.unreadable_lines.unread_lines.Given as goal
 
 abbrev pub invariant-loop-line : goal.invariant-loop-line
-invariant-loop-line l = AreUnread l.fn.bytes l.lines.items l.left
+invariant-loop-line l = AreUnread l.fn.bytes l.fn.most l.unread l.left
 
 abbrev pub decreases-loop-line : goal.decreases-loop-line
 decreases-loop-line l = length l.left

@@ -1,4 +1,5 @@
 use Rattle.std.proofs.Common.{◌∙◌, ap, subst, sym}
+use Rattle.ov_cert.specs.State.{CheckedState}
 use Rattle.ov_desk.specs.Sound.{IsSoundDesk}
 use Rattle.ov_graph.specs.Links.{LinkGraph}
 use Rattle.ov_net.specs.Journal.{AreLinks}
@@ -18,7 +19,7 @@ certificate-requires-clause-sound c =
 pub returns-clause-answer : goal.returns-clause-answer
 returns-clause-answer c =
     let own = c.in_ok-checked.ensures.answer in
-    rw c.in_ok-report.ensures (rw (own.graph, own.members) own.answer)
+    rw (c.in_ok-report.ensures, c.sharing-checked.ensures) (rw (own.graph, own.members) own.answer)
 
 pub returns-clause-free : goal.returns-clause-free
 returns-clause-free c =
@@ -28,5 +29,10 @@ returns-clause-free c =
     c.in_ok-snapshot.snapshot.now.graph c.in_ok-report.report own.has own.judged c.moment-moment.ensures
     c.in_ok-snapshot.ensures.ok
     (ap (λ (r : ReportState). r.moment) c.in_ok-report.ensures)
-    (ap (λ (r : ReportState). r.graph) c.in_ok-report.ensures ∙ checked.graph ∙ c.deref.ensures)
-    (ap (λ (r : ReportState). r.members) c.in_ok-report.ensures ∙ checked.members)
+    (ap (λ (r : ReportState). r.graph) c.in_ok-report.ensures
+    ∙ ap (λ (v : CheckedState). v.graph) c.sharing-checked.ensures
+    ∙ checked.graph
+    ∙ c.deref.ensures)
+    (ap (λ (r : ReportState). r.members) c.in_ok-report.ensures
+    ∙ ap (λ (v : CheckedState). v.members) c.sharing-checked.ensures
+    ∙ checked.members)
