@@ -7,3 +7,5 @@ mod analyses_beside;
 mod halls;
 #[cfg(test)]
 mod many_drivers;
+#[cfg(test)]
+mod stories;

@@ -1,4 +1,5 @@
-//! The numbers of the pieces of Even's test. They were worked out by hand from the order of the pieces.
+//! The numbers of the pieces of Even's test. They were worked out by hand from the order of the pieces, and those of
+//! more than ten nodes by a script apart from this tree that lists all pieces in order.
 use ov_even::{Piece, group_piece_at, group_total, total};
 use ov_graph::Graph;
 
@@ -38,7 +39,8 @@ fn pieces_are_counted(rt: HostRuntime) {
 
 /// How many nodes and members, a number, and the piece that has it: its level, and its places, the first of which is 0
 /// of a fan.
-static PIECES: [(usize, usize, u64, u16, u16, u16); 17] = [
+static PIECES: [(usize, usize, u64, u16, u16, u16); 26] = [
+    (2, 2, 0, 1, 0, 2),
     (3, 3, 0, 1, 0, 2),
     (3, 3, 1, 1, 0, 3),
     (3, 3, 2, 2, 1, 2),
@@ -53,9 +55,17 @@ static PIECES: [(usize, usize, u64, u16, u16, u16); 17] = [
     (4, 4, 7, 3, 1, 3),
     (4, 4, 8, 3, 2, 3),
     (4, 4, 9, 3, 0, 4),
+    (5, 5, 6, 2, 0, 4),
+    (5, 5, 13, 4, 1, 2),
     (10, 10, 28, 4, 1, 2),
     (10, 10, 29, 4, 1, 3),
+    (65, 65, 64, 2, 1, 2),
+    (65, 65, 65, 2, 0, 3),
+    (200, 200, 1658, 9, 1, 6),
+    (3, 2, 1, 2, 1, 2),
     (4, 3, 5, 3, 1, 3),
+    (5, 2, 1, 2, 1, 2),
+    (5, 2, 3, 4, 1, 2),
 ];
 
 /// The piece of this level at these places.

@@ -1,5 +1,5 @@
-//! Stories of worlds, cores, desks, analyses and halls. `bin/refuse-allocations` refuses each of their allocations in
-//! turn.
+//! Stories of worlds, cores, desks, pieces, analyses and halls. `bin/refuse-allocations` refuses each of their
+//! allocations in turn.
 #![tactic(auto)]
 
 #[cfg(test)]
@@ -12,6 +12,8 @@ mod desks;
 mod events;
 #[cfg(test)]
 mod halls;
+#[cfg(test)]
+mod pieces;
 #[cfg(test)]
 mod square_groups;
 #[cfg(test)]

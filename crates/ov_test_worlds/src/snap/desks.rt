@@ -87,6 +87,28 @@ fn workers_take_turns_at_a_desk(rt: HostRuntime) -> Result<(), Fail> {
     Ok(())
 }
 
+/// How many desks a core may have.
+const MOST_DESKS: u32 = 65_536;
+
+/// As many desks of moment 4 are opened as there may be, and each has its number.
+fn opens_all(core: &mut Core) -> bool {
+    for place in 0..MOST_DESKS {
+        if core.open_desk(4, 1) != Ok(place) {
+            return false;
+        }
+    }
+    true
+}
+
+#[test]
+fn a_core_has_65536_desks_at_most(rt: HostRuntime) -> Result<(), Fail> {
+    let mut core = new_core(rt.alloc())?;
+    join(&mut core)?;
+    assert!(rt; opens_all(&mut core));
+    assert!(rt; core.open_desk(4, 1) == Err(CoreFault::TooManyDesks));
+    Ok(())
+}
+
 /// A report is filed for node 1 alone, which nothing splits, and none for all nodes.
 fn is_of_one(core: &Core) -> bool {
     let Some(report) = core.group_report(4, &[NodeId(1)]) else {
