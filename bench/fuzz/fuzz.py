@@ -8,7 +8,7 @@ processor is the last one that may be used, or P: afl-fuzz and the program that 
 faster on one. An input may take 2,000 milliseconds by the clock, or MS: where other work has the processor, take more.
 The programs that are fuzzed are built by `build` into FOLDER/loops if they are not there, or are those of --loops. All
 is laid into the room, `out` beside this script without --room; a target's queue of an earlier sitting there is gone on
-with, and what judge.py passed of it is not judged again. A line for the table of README.md is printed for each target.
+with, and what judge.py passed of it is not judged again. A line with the figures of each target is printed.
 The status is 1 if an input differs.
 """
 
