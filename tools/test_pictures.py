@@ -373,7 +373,7 @@ def some_entries(certificate):
 
 
 def random_partition():
-    """The graph of docs/NOTEBOOK.md, whose names are whole numbers, from the edges that networkx wrote."""
+    """The graph of python/README.md, whose names are whole numbers, from the edges that networkx wrote."""
     lines = (DUMPS / "partition.edges").read_text().splitlines()
     links = sorted(sorted(map(int, line.split()[:2])) for line in lines)
     nodes = sorted({node for link in links for node in link})

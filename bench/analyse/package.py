@@ -1,6 +1,6 @@
 #!/usr/bin/env python3
 """package.py: times `analyse` of the Python package beside networkx's `minimum_node_cut` on the graphs of
-docs/NOTEBOOK.md.
+python/README.md.
 
 Each time is processor time of Python and of the programs that it starts, the least of several runs. It ends with an
 error if the two cuts are not of one size. The programs are found as the package finds them. Needs networkx.
