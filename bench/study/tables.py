@@ -3,9 +3,7 @@
 from collections import Counter
 
 from mean_field import WALK, shares_of
-from sweeps import LARGE, SIMULATED, SWEEPS, grouped, mean, numbers, quantile, rows, split, wilson
-
-PHASES = ("settle", "crash", "heal")
+from sweeps import LARGE, SWEEPS, grouped, mean, numbers, quantile, rows, split, wilson
 
 
 def percent(hits, count):
@@ -38,11 +36,11 @@ def table(head, lines):
         yield "| " + " | ".join(map(str, line)) + " |"
 
 
-def command(name):
-    """The command that made rows."""
-    if name in SWEEPS:
-        return f"`overlay sweep {SWEEPS[name]}`"
-    return f"`simulate {SIMULATED[name]}`"
+def made_by(names):
+    """The commands that made rows, or where they stand."""
+    if names[0] in SWEEPS:
+        return "; ".join(f"`overlay sweep {SWEEPS[name]}`" for name in names)
+    return "; ".join(f"`{name}`" for name in names) + " of [sweeps.py](../bench/study/sweeps.py)"
 
 
 def active():
@@ -71,14 +69,7 @@ def fates():
                 len(some) - whole,
                 *(
                     sum(numbers(some, column))
-                    for column in (
-                        "alone",
-                        "never_linked",
-                        "by_own_drop",
-                        "by_disconnect",
-                        "have_passive",
-                        "half_links",
-                    )
+                    for column in ("alone", "by_disconnect", "have_passive")
                 ),
             ]
         )
@@ -88,11 +79,8 @@ def fates():
             "overlays",
             "split",
             "nodes alone",
-            "never linked",
-            "lost the last link by a drop of their own",
-            "by DISCONNECT",
+            "lost the last link by DISCONNECT",
             "with passive members",
-            "links held at one end",
         ],
         lines,
     )
@@ -114,10 +102,10 @@ def changes():
     """What other rules would do."""
     lines = []
     for name, said in (
-        ("whole", "the profile as it is"),
-        ("when-alone", "a DISCONNECT that leaves a node alone starts one"),
-        ("at-disconnect", "each DISCONNECT of a neighbour starts one"),
-        ("at-once", "as it is, but all reports come before a packet moves"),
+        ("whole", "as it is"),
+        ("when-alone", "when alone"),
+        ("at-disconnect", "at each DISCONNECT"),
+        ("at-once", "as it is, reports at once"),
     ):
         for size in ("5", "8"):
             some = [grouped(name, "nodes", "active")[nodes, size] for nodes in ("50", "100", "200")]
@@ -134,7 +122,7 @@ def changes():
             )
     return table(
         [
-            "what starts an attempt",
+            "rule",
             "active size",
             "50 nodes, % split",
             "100 nodes",
@@ -152,8 +140,8 @@ def changes_large():
     """What other rules would do past 256 nodes."""
     lines = []
     for name, said in (
-        ("large-when-alone", "a DISCONNECT that leaves a node alone starts one"),
-        ("large-at-disconnect", "each DISCONNECT of a neighbour starts one"),
+        ("large-when-alone", "when alone"),
+        ("large-at-disconnect", "at each DISCONNECT"),
     ):
         for (size, nodes), some in grouped(name, "active", "nodes").items():
             parts = sum(numbers(some, "components")) - len(some)
@@ -162,22 +150,18 @@ def changes_large():
                     said,
                     size,
                     f"{int(nodes):,}",
-                    len(some),
                     f"{sum(row['components'] != '1' for row in some)}",
                     f"{1e5 * parts / (int(nodes) * len(some)):.1f}",
-                    sum(numbers(some, "alone")),
                     f"{mean(some, 'least_degree'):.1f}",
                 ]
             )
     return table(
         [
-            "what starts an attempt",
+            "rule",
             "active size",
             "nodes",
-            "overlays",
-            "split",
+            "split of 3",
             "components but one, of 100,000",
-            "nodes alone in all",
             "least degree, mean",
         ],
         lines,
@@ -188,13 +172,15 @@ def crash():
     """What crashes do, and healing."""
     lines = []
     for (size, share), some in grouped("crash", "active", "crash").items():
+        if size == "6" or share == "30":
+            continue
         lines.append(
             [
                 size,
                 share,
                 *(
                     part
-                    for phase in PHASES
+                    for phase in ("crash", "heal")
                     for part in (
                         plain(split(some, phase) / len(some)),
                         median(some, phase),
@@ -207,9 +193,6 @@ def crash():
         [
             "active size",
             "of 100 crash",
-            "settled: % split",
-            "median k",
-            "delivered",
             "after the crash: % split",
             "median k",
             "delivered",
@@ -259,8 +242,6 @@ def loss():
         [
             size,
             share,
-            plain(split(some, "settle") / len(some)),
-            f"{mean(some, 'settle_delivered'):.4f}",
             percent(split(some, "heal"), len(some)),
             median(some, "heal"),
             f"{mean(some, 'heal_delivered'):.4f}",
@@ -271,8 +252,6 @@ def loss():
         [
             "active size",
             "of 100 packets lost",
-            "settled: % split",
-            "delivered",
             "healed: % split",
             "median k",
             "delivered",
@@ -314,7 +293,7 @@ def one_option(name, option, said, phase):
                 part
                 for size in ("5", "8")
                 for part in (
-                    percent(split(found[value, size], phase), len(found[value, size])),
+                    plain(split(found[value, size], phase) / len(found[value, size])),
                     median(found[value, size], phase),
                 )
             ),
@@ -335,31 +314,17 @@ def pace():
 
 
 def rounds_of_shuffles():
-    """What rounds of shuffles do."""
-    found, lines = grouped("rounds", "rounds", "heal", "active"), []
-    for before, after in dict.fromkeys(key[:2] for key in found):
-        line = [before, after]
+    """What rounds of shuffles before the crash do; those after it change nothing."""
+    found = grouped("rounds", "rounds", "heal", "active")
+    lines = []
+    for before in dict.fromkeys(key[0] for key in found):
+        line = [before]
         for size in ("5", "8"):
-            some = found[before, after, size]
-            line += [
-                f"{mean(some, 'settle_links'):.1f}",
-                split(some, "settle"),
-                f"{mean(some, 'heal_links'):.1f}",
-                split(some, "heal"),
-            ]
+            some = found[before, "2", size]
+            line += [f"{mean(some, 'heal_links'):.1f}", split(some, "heal")]
         lines.append(line)
-    return table(
-        [
-            "rounds before",
-            "rounds after",
-            *(
-                f"active {size}: {word}"
-                for size in (5, 8)
-                for word in ("links when settled", "split of 200", "links when healed", "split of 200")
-            ),
-        ],
-        lines,
-    )
+    said = (f"active {size}: {word}" for size in (5, 8) for word in ("links when healed", "split of 200"))
+    return table(["rounds before", *said], lines)
 
 
 def large():
@@ -367,7 +332,7 @@ def large():
     lines = []
     for name in LARGE:
         for (nodes, size), some in grouped(name, "nodes", "active").items():
-            if size not in ("5", "8", "10", "12"):
+            if size not in ("5", "8", "10"):
                 continue
             total = int(nodes) * len(some)
             cut_off = sum(numbers(some, "components")) - len(some)
@@ -379,7 +344,6 @@ def large():
                     plain(sum(row["components"] != "1" for row in some) / len(some)),
                     f"{1e5 * sum(numbers(some, 'alone')) / total:.1f}",
                     f"{1e5 * cut_off / total:.1f}",
-                    f"{100 - 100 * sum(numbers(some, 'largest')) / total:.3f}",
                     f"{mean(some, 'least_degree'):.2f}",
                 ]
             )
@@ -391,7 +355,6 @@ def large():
             "% split",
             "alone, of 100,000 nodes",
             "components but one, of 100,000",
-            "% of nodes outside the largest",
             "least degree, mean",
         ],
         lines,
@@ -461,4 +424,4 @@ TABLES = {
 def lines_of(name):
     """A table with the commands of its rows."""
     made, sources = TABLES[name]
-    return [*made(), "", "Rows: " + "; ".join(map(command, sources)) + "."]
+    return [*made(), "", f"Rows: {made_by(sources)}."]
