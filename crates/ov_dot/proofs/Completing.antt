@@ -20,12 +20,12 @@ use Rattle.ov_dot.specs.declared.fault.DotFault.TheVariants.{UnreadLine}
 use Rattle.ov_dot.specs.declared.fault.Why.TheVariants.{WrongEdge}
 use Rattle.ov_dot.specs.Code.Diagram.{attribute, beginning, behind_attribute, behind_first, behind_list, behind_name}
 use Rattle.ov_dot.specs.Code.Diagram.{behind_node, behind_port, behind_value, follows, heading, list_opening}
-use Rattle.ov_dot.specs.Code.Diagram.{name_to, opening, statement, title_to, value}
+use Rattle.ov_dot.specs.Code.Diagram.{name_to, opening, statement, title_to, value_to}
 use Rattle.ov_dot.specs.Sayings.{Said, nothing_said}
 use Rattle.ov_dot.specs.Code.Statements.{Reading, at_beginning, depth_behind, directed_behind, ended, is_wrong_edge}
 use Rattle.ov_dot.specs.Code.Statements.{moved, place_behind, read_on, said_behind, statements_of, step_to}
-use Rattle.ov_dot.specs.Grammar.{Spot, token, NodeName, Word, Text, named, NoValue, NameValue, HtmlValue}
-use Rattle.ov_dot.specs.Grammar.{spell_value, NoEnding, CommaEnding, SemicolonEnding, spell_ending}
+use Rattle.ov_dot.specs.Grammar.{Spot, token, NodeName, Word, Text, named, NameValue, HtmlValue, valued, NoValue}
+use Rattle.ov_dot.specs.Grammar.{HasValue, spell_setting, NoEnding, CommaEnding, SemicolonEnding, spell_ending}
 use Rattle.ov_dot.specs.Grammar.{spell_item, spell_items, spell_attributes, spell_lists, NoPort}
 use Rattle.ov_dot.specs.Grammar.{AtPort, AtSide, spell_port, edge_kind, spell_ends, Whose, OfGraph, OfNodes}
 use Rattle.ov_dot.specs.Grammar.{OfEdges, whose_kind, NoTitle, Untitled, Titled, Statement, Nothing, Chain, Defaults}
@@ -48,6 +48,10 @@ TokenThen kind Rest = Then (λ spot. token kind spot ∷ []) Rest
 -- a name, and then what is left
 abbrev NameThen : (List Lexeme → Type 0) → List Lexeme → Type 0
 NameThen Rest = Then (λ name. named name ∷ []) Rest
+
+-- the value of an attribute, and then what is left
+abbrev ValueThen : (List Lexeme → Type 0) → List Lexeme → Type 0
+ValueThen Rest = Then (λ value. valued value ∷ []) Rest
 
 -- two parts, one behind the other
 glue :
@@ -101,13 +105,9 @@ InListLeft d n = Then spell_items (TokenThen CloseBracket (ListsLeft d n))
 abbrev ValuedLeft : Bool → ℕ → List Lexeme → Type 0
 ValuedLeft d n = Then spell_ending (InListLeft d n)
 
--- the value of an attribute, and its end
+-- `=` and the value of an attribute, or none, and its end
 abbrev AttributeLeft : Bool → ℕ → List Lexeme → Type 0
-AttributeLeft d n = Then spell_value (ValuedLeft d n)
-
--- behind the `=` of an attribute
-abbrev ValueNextLeft : Bool → ℕ → List Lexeme → Type 0
-ValueNextLeft d n ts = NameThen (ValuedLeft d n) ts ⊎ TokenThen Html (ValuedLeft d n) ts
+AttributeLeft d n = Then spell_setting (ValuedLeft d n)
 
 -- further ends of an edge
 abbrev EndsLeft : Bool → ℕ → List Lexeme → Type 0
@@ -123,7 +123,7 @@ MemberLeft d n = Then spell_port (EndsLeft d n)
 
 -- behind the name with which a statement begins
 abbrev NamedLeft : Bool → ℕ → List Lexeme → Type 0
-NamedLeft d n ts = MemberLeft d n ts ⊎ TokenThen Equals (NameThen (BodyLeft d n)) ts
+NamedLeft d n ts = MemberLeft d n ts ⊎ TokenThen Equals (ValueThen (BodyLeft d n)) ts
 
 -- an opening brace, and statements
 abbrev BraceLeft : Bool → ℕ → List Lexeme → Type 0
@@ -154,10 +154,10 @@ Left d n EndNext ts = NameThen (MemberLeft d n) ts
 Left d n ListNext ts = ListNextLeft d n ts
 Left d n InList ts = InListLeft d n ts
 Left d n Attribute ts = AttributeLeft d n ts
-Left d n ValueNext ts = ValueNextLeft d n ts
+Left d n ValueNext ts = ValueThen (ValuedLeft d n) ts
 Left d n Valued ts = ValuedLeft d n ts
 Left d n Listed ts = ListsLeft d n ts
-Left d n AssignedNext ts = NameThen (BodyLeft d n) ts
+Left d n AssignedNext ts = ValueThen (BodyLeft d n) ts
 Left d n SubgraphNext ts = TitleLeft d n ts
 Left d n SubgraphTitled ts = BraceLeft d n ts
 Left d n Over ts = ts ≡ []
@@ -176,6 +176,14 @@ by_name :
 by_name Bare s d n ts place goes = (Word s, ts, goes.1, refl)
 by_name Quoted s d n ts place goes = (Text s, ts, goes.1, refl)
 by_name kind s d n ts place goes = absurd goes
+
+by_text :
+    (kind : Kind) (s : Spot) (d : Bool) (n : ℕ) (ts : List Lexeme) (place : Place)
+    → Goes d n kind ts (value_to place kind) → ValueThen (Left d n place) (token kind s ∷ ts)
+by_text Html s d n ts place goes = (HtmlValue s, ts, goes.1, refl)
+by_text Bare s d n ts place goes = (NameValue (Word s), ts, goes.1, refl)
+by_text Quoted s d n ts place goes = (NameValue (Text s), ts, goes.1, refl)
+by_text kind s d n ts place goes = absurd goes
 
 -- a statement, and those behind it
 statement_more :
@@ -341,11 +349,11 @@ item :
 item d n name ts left =
     let ending = left.2 in
     one_more spell_item spell_items (TokenThen CloseBracket (ListsLeft d n)) (named name ∷ ts) (λ x xs. refl) (
-      record { name = name; value = left.0; ending = ending.0 },
+      record { name = name; setting = left.0; ending = ending.0 },
       ending.1,
       ending.2,
       ap (λ l. named name ∷ l)
-          (glue (spell_value left.0) (spell_ending ending.0) ending.1 left.1 ts ending.3 left.3),
+          (glue (spell_setting left.0) (spell_ending ending.0) ending.1 left.1 ts ending.3 left.3),
     )
 
 by_attribute :
@@ -363,23 +371,12 @@ by_value Comma s d n ts goes = (CommaEnding s, ts, goes.1, refl)
 by_value Semicolon s d n ts goes = (SemicolonEnding s, ts, goes.1, refl)
 by_value kind s d n ts goes = (NoEnding, token kind s ∷ ts, by_attribute kind s d n ts goes, refl)
 
--- behind the `=` of an attribute
-equals :
-    (d : Bool) (n : ℕ) (s : Spot) (ts : List Lexeme) → ValueNextLeft d n ts → AttributeLeft d n (token Equals s ∷ ts)
-equals d n s ts (inl left) = (NameValue s left.0, left.1, left.2, ap (λ l. token Equals s ∷ l) left.3)
-equals d n s ts (inr left) = (HtmlValue s left.0, left.1, left.2, ap (λ l. token Equals s ∷ l) left.3)
-
 by_equals :
     (kind : Kind) (s : Spot) (d : Bool) (n : ℕ) (ts : List Lexeme) → Goes d n kind ts (behind_attribute kind)
     → AttributeLeft d n (token kind s ∷ ts)
-by_equals Equals s d n ts goes = equals d n s ts goes.1
+by_equals Equals s d n ts goes =
+    let left = goes.1 in (HasValue s left.0, left.1, left.2, ap (λ l. token Equals s ∷ l) left.3)
 by_equals kind s d n ts goes = (NoValue, token kind s ∷ ts, by_value kind s d n ts goes, refl)
-
-by_text :
-    (kind : Kind) (s : Spot) (d : Bool) (n : ℕ) (ts : List Lexeme) → Goes d n kind ts (value kind)
-    → ValueNextLeft d n (token kind s ∷ ts)
-by_text Html s d n ts goes = inr (s, ts, goes.1, refl)
-by_text kind s d n ts goes = inl (by_name kind s d n ts Valued goes)
 
 by_brace :
     (kind : Kind) (s : Spot) (d : Bool) (n : ℕ) (ts : List Lexeme) → Goes d n kind ts (opening kind)
@@ -427,10 +424,10 @@ by_place EndNext kind s d n ts goes = by_name kind s d n ts Member goes
 by_place ListNext kind s d n ts goes = by_bracket kind s d n ts goes
 by_place InList kind s d n ts goes = by_attribute kind s d n ts goes
 by_place Attribute kind s d n ts goes = by_equals kind s d n ts goes
-by_place ValueNext kind s d n ts goes = by_text kind s d n ts goes
+by_place ValueNext kind s d n ts goes = by_text kind s d n ts Valued goes
 by_place Valued kind s d n ts goes = by_value kind s d n ts goes
 by_place Listed kind s d n ts goes = by_list kind s d n ts goes
-by_place AssignedNext kind s d n ts goes = by_name kind s d n ts Body goes
+by_place AssignedNext kind s d n ts goes = by_text kind s d n ts Body goes
 by_place SubgraphNext kind s d n ts goes = by_title kind s d n ts SubgraphTitled (λ left. left) goes
 by_place SubgraphTitled kind s d n ts goes = by_brace kind s d n ts goes
 by_place Over kind s d n ts goes = absurd goes

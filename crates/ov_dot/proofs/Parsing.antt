@@ -14,8 +14,8 @@ use Rattle.ov_dot.specs.declared.place.Place.TheVariants.{InList}
 use Rattle.ov_dot.specs.declared.place.Place.TheVariants.{Attribute, Valued, Listed, Over}
 use Rattle.ov_dot.specs.Sayings.{Said, nothing_said, with_edge}
 use Rattle.ov_dot.specs.Code.Statements.{Reading, at_beginning, read_on, statements_of}
-use Rattle.ov_dot.specs.Grammar.{Spot, token, NodeName, Word, Text, named, Value, NoValue, NameValue, HtmlValue}
-use Rattle.ov_dot.specs.Grammar.{spell_value}
+use Rattle.ov_dot.specs.Grammar.{Spot, token, NodeName, Word, Text, named, Value, NameValue, HtmlValue}
+use Rattle.ov_dot.specs.Grammar.{Setting, NoValue, HasValue, spell_setting}
 use Rattle.ov_dot.specs.Grammar.{Ending, NoEnding, CommaEnding, SemicolonEnding, spell_ending, Item, spell_item}
 use Rattle.ov_dot.specs.Grammar.{spell_items}
 use Rattle.ov_dot.specs.Grammar.{Attributes, spell_attributes, spell_lists, Port, NoPort, AtPort, AtSide, spell_port}
@@ -49,22 +49,22 @@ LeadsInside d n o p l tokens =
     × ((said : Said) (rest : List Lexeme) →
     read_on (Ok (here d n p o l)) said (tokens ++ rest) ≡ read_on (Ok (here d n (inside_place j) o m)) said rest)
 
-value_read :
-    (d : Bool) (n : ℕ) (o : Lexeme) (v : Value) (e : Ending) (l : ℕ)
-    → LeadsInside d n o Attribute l (spell_value v ++ spell_ending e)
+setting_read :
+    (d : Bool) (n : ℕ) (o : Lexeme) (v : Setting) (e : Ending) (l : ℕ)
+    → LeadsInside d n o Attribute l (spell_setting v ++ spell_ending e)
 unfolding read_on
-value_read d n o NoValue NoEnding l = (BehindName, l, λ said rest. refl)
-value_read d n o NoValue (CommaEnding s) l = (AtStart, s.line, λ said rest. refl)
-value_read d n o NoValue (SemicolonEnding s) l = (AtStart, s.line, λ said rest. refl)
-value_read d n o (NameValue q (Word t)) NoEnding l = (BehindValue, t.line, λ said rest. refl)
-value_read d n o (NameValue q (Word t)) (CommaEnding s) l = (AtStart, s.line, λ said rest. refl)
-value_read d n o (NameValue q (Word t)) (SemicolonEnding s) l = (AtStart, s.line, λ said rest. refl)
-value_read d n o (NameValue q (Text t)) NoEnding l = (BehindValue, t.line, λ said rest. refl)
-value_read d n o (NameValue q (Text t)) (CommaEnding s) l = (AtStart, s.line, λ said rest. refl)
-value_read d n o (NameValue q (Text t)) (SemicolonEnding s) l = (AtStart, s.line, λ said rest. refl)
-value_read d n o (HtmlValue q t) NoEnding l = (BehindValue, t.line, λ said rest. refl)
-value_read d n o (HtmlValue q t) (CommaEnding s) l = (AtStart, s.line, λ said rest. refl)
-value_read d n o (HtmlValue q t) (SemicolonEnding s) l = (AtStart, s.line, λ said rest. refl)
+setting_read d n o NoValue NoEnding l = (BehindName, l, λ said rest. refl)
+setting_read d n o NoValue (CommaEnding s) l = (AtStart, s.line, λ said rest. refl)
+setting_read d n o NoValue (SemicolonEnding s) l = (AtStart, s.line, λ said rest. refl)
+setting_read d n o (HasValue q (NameValue (Word t))) NoEnding l = (BehindValue, t.line, λ said rest. refl)
+setting_read d n o (HasValue q (NameValue (Word t))) (CommaEnding s) l = (AtStart, s.line, λ said rest. refl)
+setting_read d n o (HasValue q (NameValue (Word t))) (SemicolonEnding s) l = (AtStart, s.line, λ said rest. refl)
+setting_read d n o (HasValue q (NameValue (Text t))) NoEnding l = (BehindValue, t.line, λ said rest. refl)
+setting_read d n o (HasValue q (NameValue (Text t))) (CommaEnding s) l = (AtStart, s.line, λ said rest. refl)
+setting_read d n o (HasValue q (NameValue (Text t))) (SemicolonEnding s) l = (AtStart, s.line, λ said rest. refl)
+setting_read d n o (HasValue q (HtmlValue t)) NoEnding l = (BehindValue, t.line, λ said rest. refl)
+setting_read d n o (HasValue q (HtmlValue t)) (CommaEnding s) l = (AtStart, s.line, λ said rest. refl)
+setting_read d n o (HasValue q (HtmlValue t)) (SemicolonEnding s) l = (AtStart, s.line, λ said rest. refl)
 
 item_named :
     (d : Bool) (n : ℕ) (o : Lexeme) (i : Inside) (name : NodeName) (l : ℕ) (said : Said) (rest : List Lexeme)
@@ -83,14 +83,14 @@ items_read :
     → LeadsInside d n o (inside_place i) l (spell_items items)
 items_read d n o i [] l = (i, l, λ said rest. refl)
 items_read d n o i (item ∷ items) l =
-    let first = value_read d n o item.value item.ending (named item.name).line in
+    let first = setting_read d n o item.setting item.ending (named item.name).line in
     let later = items_read d n o first.0 items first.1 in (
       later.0,
       later.1,
       λ said rest.
           ap (read_on (Ok (here d n (inside_place i) o l)) said)
           (append_assoc (spell_item item) (spell_items items) rest)
-          ∙ item_named d n o i item.name l said ((spell_value item.value ++ spell_ending item.ending) ++
+          ∙ item_named d n o i item.name l said ((spell_setting item.setting ++ spell_ending item.ending) ++
           (spell_items items ++ rest))
           ∙ first.2 said (spell_items items ++ rest)
           ∙ later.2 said rest,
@@ -412,13 +412,15 @@ defaults_read d n o l whose spot list lists said =
     )
 
 assignment_read :
-    (d : Bool) (n : ℕ) (o : Lexeme) (l : ℕ) (name : NodeName) (equals : Spot) (value : NodeName) (said : Said)
+    (d : Bool) (n : ℕ) (o : Lexeme) (l : ℕ) (name : NodeName) (equals : Spot) (value : Value) (said : Said)
     → IsRead d n n o l (spell_statement d (Assignment name equals value)) said said
 unfolding read_on
-assignment_read d n o l (Word s) equals (Word t) said = (token Bare s, t.line, λ rest begins. refl)
-assignment_read d n o l (Word s) equals (Text t) said = (token Bare s, t.line, λ rest begins. refl)
-assignment_read d n o l (Text s) equals (Word t) said = (token Quoted s, t.line, λ rest begins. refl)
-assignment_read d n o l (Text s) equals (Text t) said = (token Quoted s, t.line, λ rest begins. refl)
+assignment_read d n o l (Word s) equals (NameValue (Word t)) said = (token Bare s, t.line, λ rest begins. refl)
+assignment_read d n o l (Word s) equals (NameValue (Text t)) said = (token Bare s, t.line, λ rest begins. refl)
+assignment_read d n o l (Word s) equals (HtmlValue t) said = (token Bare s, t.line, λ rest begins. refl)
+assignment_read d n o l (Text s) equals (NameValue (Word t)) said = (token Quoted s, t.line, λ rest begins. refl)
+assignment_read d n o l (Text s) equals (NameValue (Text t)) said = (token Quoted s, t.line, λ rest begins. refl)
+assignment_read d n o l (Text s) equals (HtmlValue t) said = (token Quoted s, t.line, λ rest begins. refl)
 
 opening_read :
     (d : Bool) (n : ℕ) (o : Lexeme) (l : ℕ) (title : Title) (brace : Spot) (said : Said)

@@ -349,13 +349,12 @@ lacks CompassNext d n o l before b unended =
     (b.may Bare refl, b.never OpenBrace refl, b.never CloseBracket refl, b.never Html refl)
 lacks EndNext d n o l before b unended =
     (b.may Bare refl, b.never OpenBrace refl, b.never CloseBracket refl, b.never Html refl)
-lacks AssignedNext d n o l before b unended =
-    (b.may Bare refl, b.never OpenBrace refl, b.never CloseBracket refl, b.never Html refl)
 lacks ListNext d n o l before b unended = inr (inr (b.may OpenBracket refl, b.never CloseBrace refl))
 lacks InList d n o l before b unended = inl (b.may CloseBracket refl)
 lacks Attribute d n o l before b unended = inl (b.may CloseBracket refl)
 lacks Valued d n o l before b unended = inl (b.may CloseBracket refl)
 lacks ValueNext d n o l before b unended = inr (inl (b.may Html refl))
+lacks AssignedNext d n o l before b unended = inr (inl (b.may Html refl))
 lacks Body d n o l before b unended = b.may CloseBrace refl
 lacks Named d n o l before b unended = b.may CloseBrace refl
 lacks Member d n o l before b unended = b.may CloseBrace refl

@@ -1,7 +1,7 @@
 -- Files in DOT as trees, by the grammar of the page "The DOT Language" of Graphviz: the tokens that spell each part,
 -- and what it says. Statements of subgraphs stand in one list with those outside, between the opening and the closing
 -- brace. The page is https://graphviz.org/doc/info/lang.html. Chosen here: there may be semicolons without a statement,
--- an attribute without a value, and no subgraph as the end of an edge.
+-- an attribute in a list without a value, an HTML text as a value alone, and no subgraph as the end of an edge.
 use Rattle.std.specs.Prelude.{◌≡◌, ◌<◌, ℕ, ◌+◌, ◌-◌, Bool, true, false, List, [], ◌∷◌, ◌++◌}
 use Rattle.ov_dot_tokens.specs.Tokens.{Lexeme}
 use Rattle.ov_dot_tokens.specs.declared.token.Kind.{Kind}
@@ -30,17 +30,25 @@ abbrev pub named : NodeName → Lexeme
 named (Word spot) = token Bare spot
 named (Text spot) = token Quoted spot
 
--- the value of an attribute: none, or behind `=` a name or an HTML text
+-- the value of an attribute: a name, or an HTML text
 pub data Value : Type 0 where
-  NoValue : Value
-  NameValue : (equals : Spot) (name : NodeName) → Value
-  HtmlValue : (equals html : Spot) → Value
+  NameValue : (name : NodeName) → Value
+  HtmlValue : (html : Spot) → Value
 
--- the tokens of a value
-abbrev pub spell_value : Value → List Lexeme
-spell_value NoValue = []
-spell_value (NameValue equals name) = token Equals equals ∷ named name ∷ []
-spell_value (HtmlValue equals html) = token Equals equals ∷ token Html html ∷ []
+-- the token of a value
+abbrev pub valued : Value → Lexeme
+valued (NameValue name) = named name
+valued (HtmlValue html) = token Html html
+
+-- what stands behind the name of an attribute in a list: nothing, or `=` and a value
+pub data Setting : Type 0 where
+  NoValue : Setting
+  HasValue : (equals : Spot) (value : Value) → Setting
+
+-- the tokens of `=` and a value, if there is one
+abbrev pub spell_setting : Setting → List Lexeme
+spell_setting NoValue = []
+spell_setting (HasValue equals value) = token Equals equals ∷ valued value ∷ []
 
 -- what ends an attribute: nothing, a comma or a semicolon
 pub data Ending : Type 0 where
@@ -54,15 +62,15 @@ spell_ending NoEnding = []
 spell_ending (CommaEnding spot) = token Comma spot ∷ []
 spell_ending (SemicolonEnding spot) = token Semicolon spot ∷ []
 
--- an attribute
+-- an attribute in a list
 pub record Item : Type 0 where
   pub name : NodeName
-  pub value : Value
+  pub setting : Setting
   pub ending : Ending
 
--- the tokens of an attribute
+-- the tokens of an attribute in a list
 abbrev pub spell_item : Item → List Lexeme
-spell_item item = named item.name ∷ (spell_value item.value ++ spell_ending item.ending)
+spell_item item = named item.name ∷ (spell_setting item.setting ++ spell_ending item.ending)
 
 -- the tokens of attributes, one behind the other
 abbrev pub spell_items : List Item → List Lexeme
@@ -138,12 +146,13 @@ spell_title NoTitle = []
 spell_title (Untitled subgraph) = token Subgraph subgraph ∷ []
 spell_title (Titled subgraph name) = token Subgraph subgraph ∷ named name ∷ []
 
--- a statement, or a semicolon, or the beginning or the end of a subgraph
+-- a statement, or a semicolon, or the beginning or the end of a subgraph. An assignment gives an attribute of the graph
+-- itself its value
 pub data Statement : Type 0 where
   Nothing : (semicolon : Spot) → Statement
   Chain : (first : NodeName) (port : Port) (ends : List End) (lists : List Attributes) → Statement
   Defaults : (whose : Whose) (spot : Spot) (list : Attributes) (lists : List Attributes) → Statement
-  Assignment : (name : NodeName) (equals : Spot) (value : NodeName) → Statement
+  Assignment : (name : NodeName) (equals : Spot) (value : Value) → Statement
   Opening : (title : Title) (brace : Spot) → Statement
   Closing : (brace : Spot) → Statement
 
@@ -154,7 +163,7 @@ spell_statement directed (Chain first port ends lists) =
     named first ∷ (spell_port port ++ (spell_ends directed ends ++ spell_lists lists))
 spell_statement directed (Defaults whose spot list lists) =
     token (whose_kind whose) spot ∷ (spell_attributes list ++ spell_lists lists)
-spell_statement directed (Assignment name equals value) = named name ∷ token Equals equals ∷ named value ∷ []
+spell_statement directed (Assignment name equals value) = named name ∷ token Equals equals ∷ valued value ∷ []
 spell_statement directed (Opening title brace) = spell_title title ++ token OpenBrace brace ∷ []
 spell_statement directed (Closing brace) = token CloseBrace brace ∷ []
 

@@ -32,7 +32,7 @@ pub enum Why {
     NoName,
     #[error("no statement begins so")]
     NoStatement,
-    #[error("attributes have the form [name=value, name=value]")]
+    #[error("an attribute has the form name=value, and a list of them [name=value, name=value]")]
     BadAttributes,
     #[error("an edge of a graph is written --, and an edge of a digraph ->")]
     WrongEdge,

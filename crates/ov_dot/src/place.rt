@@ -1,7 +1,7 @@
 ghost use Rattle.std.specs.Prelude.{◌≡◌};
 ghost use Rattle.ov_dot.specs.Code.Diagram.{attribute, beginning, behind_attribute, behind_first, behind_list};
 ghost use Rattle.ov_dot.specs.Code.Diagram.{behind_name, behind_node, behind_port, behind_value, follows, heading};
-ghost use Rattle.ov_dot.specs.Code.Diagram.{list_opening, name_to, opening, statement, title_to, value};
+ghost use Rattle.ov_dot.specs.Code.Diagram.{list_opening, name_to, opening, statement, title_to, value_to};
 ghost use Rattle.ov_dot.specs.Code.PlaceReasons.{lacking, no_end, no_statement, not_wanted, why_not};
 
 use crate::fault::Why;
@@ -74,11 +74,11 @@ pub(crate) fn follows(place: Place, kind: Kind) -> Option<Place>
         Place::PortNext => name_to(Place::Ported, kind),
         Place::CompassNext => name_to(Place::Directed, kind),
         Place::EndNext => name_to(Place::Member, kind),
-        Place::AssignedNext => name_to(Place::Body, kind),
+        Place::AssignedNext => value_to(Place::Body, kind),
         Place::ListNext => list_opening(kind),
         Place::InList => attribute(kind),
         Place::Attribute => behind_attribute(kind),
-        Place::ValueNext => value(kind),
+        Place::ValueNext => value_to(Place::Valued, kind),
         Place::Valued => behind_value(kind),
         Place::Listed => behind_list(kind),
         Place::Over => None,
@@ -237,13 +237,13 @@ fn behind_attribute(kind: Kind) -> Option<Place>
     }
 }
 
-/// The value of an attribute.
-fn value(kind: Kind) -> Option<Place>
-    ensures { result ≡ value kind }
+/// The place to which the value of an attribute leads.
+fn value_to(place: Place, kind: Kind) -> Option<Place>
+    ensures { result ≡ value_to place kind }
 {
     match kind {
-        Kind::Html => Some(Place::Valued),
-        _ => name_to(Place::Valued, kind),
+        Kind::Html => Some(place),
+        _ => name_to(place, kind),
     }
 }
 
@@ -299,9 +299,10 @@ fn lacking(place: Place) -> Why
         Place::Beginning | Place::BehindStrict => Why::NoGraph,
         Place::BehindKind | Place::BehindTitle | Place::SubgraphNext | Place::SubgraphTitled =>
             Why::NoBrace,
-        Place::PortNext | Place::CompassNext | Place::EndNext | Place::AssignedNext => Why::NoName,
+        Place::PortNext | Place::CompassNext | Place::EndNext => Why::NoName,
         Place::ListNext | Place::InList | Place::Attribute | Place::ValueNext | Place::Valued =>
             Why::BadAttributes,
+        Place::AssignedNext => Why::BadAttributes,
         Place::Body | Place::Named | Place::Member => Why::NoStatement,
         Place::Ported | Place::Directed | Place::Listed => Why::NoStatement,
         Place::Over => Why::BehindGraph,

@@ -95,10 +95,10 @@ abbrev pub behind_attribute : Kind → Option Place
 behind_attribute Equals = Some ValueNext
 behind_attribute kind = behind_value kind
 
--- a value: a name or an HTML text
-abbrev pub value : Kind → Option Place
-value Html = Some Valued
-value kind = name_to Valued kind
+-- a value: a name or an HTML text; it leads here
+abbrev pub value_to : Place → Kind → Option Place
+value_to place Html = Some place
+value_to place kind = name_to place kind
 
 -- strict, or a heading
 abbrev pub beginning : Kind → Option Place
@@ -122,10 +122,10 @@ follows EndNext kind = name_to Member kind
 follows ListNext kind = list_opening kind
 follows InList kind = attribute kind
 follows Attribute kind = behind_attribute kind
-follows ValueNext kind = value kind
+follows ValueNext kind = value_to Valued kind
 follows Valued kind = behind_value kind
 follows Listed kind = behind_list kind
-follows AssignedNext kind = name_to Body kind
+follows AssignedNext kind = value_to Body kind
 follows SubgraphNext kind = title_to SubgraphTitled kind
 follows SubgraphTitled kind = opening kind
 follows Over kind = None
