@@ -171,8 +171,9 @@ class Progress:
 
 def say(text, end="\n"):
     """Writes to standard error, if there is one."""
-    with contextlib.suppress(OSError, AttributeError):
-        print(text, end=end, file=sys.stderr, flush=True)
+    if sys.stderr:
+        with contextlib.suppress(OSError):
+            print(text, end=end, file=sys.stderr, flush=True)
 
 
 def program_name(crate):
@@ -180,22 +181,23 @@ def program_name(crate):
     return crate.replace("_", "-")
 
 
+def shelves(crate):
+    """Where the programs of a crate are kept: in this repository, or in the user's own folder of such things."""
+    cache = os.environ.get("XDG_CACHE_HOME") or os.path.expanduser("~/.cache")
+    return [top / "unproved" / crate for top in (ROOT / "out", pathlib.Path(cache, "tagzirk"))]
+
+
 def shelf(crate):
-    """The folder of the kept programs of a crate: in this repository, or, where nothing can be written here, in the
-    user's own folder of such things."""
-    here = ROOT / "out" / "unproved" / crate
-    for folder in (here, *here.parents):
-        if folder.exists():
-            if os.access(folder, os.W_OK):
-                return here
-            break
-    cache = os.environ.get("XDG_CACHE_HOME") or pathlib.Path.home() / ".cache"
-    return pathlib.Path(cache) / "tagzirk" / "unproved" / crate
+    """The one of them where a program is put: the first, unless nothing can be written there."""
+    here, other = shelves(crate)
+    found = next(folder for folder in (here, *here.parents) if folder.exists())
+    return here if os.access(found, os.W_OK) else other
 
 
 def kept(crate):
-    """The place of the unproved program of a crate, for its sources as they are. It need not be there."""
-    return shelf(crate) / checksum(ROOT, crate) / program_name(crate)
+    """The unproved program of a crate, of its sources as they are, or None where it is not there yet."""
+    places = [folder / checksum(ROOT, crate) / program_name(crate) for folder in shelves(crate)]
+    return next((place for place in places if os.access(place, os.X_OK)), None)
 
 
 @contextlib.contextmanager
@@ -240,14 +242,14 @@ def program(crate):
     told on standard error, as is that it is not proved."""
     place, name = kept(crate), program_name(crate)
     how = "bin/build makes the proved program"
-    if place.exists():
+    if place:
         say(f"{name}: NOT PROVED: built without a proof; {how}")
         return place
     say(f"{name}: NOT PROVED: it is built once, without a proof, in two minutes on a quiet machine; {how}")
     begun = time.monotonic()
     with ended_by_signals(), alone(crate):
         place = kept(crate)
-        if not place.exists():
+        if not place:
             tidy(crate)
             with Progress(name) as told:
                 place = build_kept(crate, told)
