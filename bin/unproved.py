@@ -22,7 +22,7 @@ import time
 
 from repository import ROOT, below, lay_out_root, lines
 
-# How many builds of a program are kept.
+# How many programs of a crate are left beside a new one.
 KEPT = 3
 # Where the kit has its compiler, its linker and its check.
 COMPILER_AT, LINKER_AT, CHECKER_AT = "toolchain/bin/clang", "toolchain/bin/ld.lld", "bin/rattle"
@@ -196,7 +196,8 @@ def shelf(crate):
 
 def kept(crate):
     """The unproved program of a crate, of its sources as they are, or None where it is not there yet."""
-    places = [folder / checksum(ROOT, crate) / program_name(crate) for folder in shelves(crate)]
+    found = checksum(ROOT, crate)
+    places = (folder / found / program_name(crate) for folder in shelves(crate))
     return next((place for place in places if os.access(place, os.X_OK)), None)
 
 
