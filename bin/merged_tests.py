@@ -6,11 +6,9 @@ has AddressSanitizer. It runs the tests whose names have the word that it is giv
 names.
 """
 
-import pathlib
 import re
 import shutil
 import sys
-import tempfile
 
 import unproved
 from repository import ROOT, below, lay_out_root, lines, uses
@@ -68,12 +66,12 @@ def lay_out(room, crates):
 
 def build(place):
     """Builds the program of all tests, without a proof, and puts it at this place."""
-    with tempfile.TemporaryDirectory(prefix="all-tests-") as room:
-        crate = lay_out(pathlib.Path(room, "sources"), crates_with_tests())
+    with unproved.folder_of_its_own("all-tests-") as room:
+        crate = lay_out(room / "sources", crates_with_tests())
         # no test has this name, so that none runs here
         flags = ["--test", "--", "none of these tests"]
         with unproved.Progress("all tests") as told:
-            made = unproved.build(pathlib.Path(room), crate, flags, unproved.SANITIZED, told)
+            made = unproved.build(room, crate, flags, unproved.SANITIZED, told)
         shutil.copy(made, place)
 
 

@@ -63,6 +63,16 @@ class NotBuilt(Exception):
     """Why there is no program: the text to print."""
 
 
+@contextlib.contextmanager
+def folder_of_its_own(prefix, above=None):
+    """Makes a folder to build in, and removes it, also while processes that were ended still write to it."""
+    room = pathlib.Path(tempfile.mkdtemp(prefix=prefix, dir=above))
+    try:
+        yield room
+    finally:
+        shutil.rmtree(room, ignore_errors=True)
+
+
 def lay_out_kit(room, scripts, **values):
     """Lays out a folder `kit` that is the kit, but for these scripts, by their places in it. Their texts have {kit} for
     the kit, {room} for the folder above, and names of further values."""
@@ -225,12 +235,11 @@ def tidy(crate):
 
 def build_kept(crate, told):
     """Builds the program of a crate from its sources as they are now, and keeps it: its place."""
-    with tempfile.TemporaryDirectory(prefix="building-", dir=shelf(crate)) as folder:
-        room, sources = pathlib.Path(folder), pathlib.Path(folder, "sources")
-        lay_out_sources(ROOT, crate, sources)
+    with folder_of_its_own("building-", shelf(crate)) as room:
+        lay_out_sources(ROOT, crate, room / "sources")
         # of the copy, which nobody changes
-        place = shelf(crate) / checksum(sources, crate) / program_name(crate)
-        made = build(room, sources / "crates" / crate, told=told)
+        place = shelf(crate) / checksum(room / "sources", crate) / program_name(crate)
+        made = build(room, room / "sources" / "crates" / crate, told=told)
         (room / "done").mkdir()
         made.rename(room / "done" / place.name)
         if not place.exists():
