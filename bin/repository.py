@@ -49,21 +49,21 @@ def gate_environment():
     return {"RT_JOBS": str(checks_at_once()), **os.environ}
 
 
-def lines():
-    """The line of each crate in crates.txt, by the crate's name."""
-    texts = [line.split("#")[0] for line in (ROOT / "crates.txt").read_text().splitlines()]
+def lines(top=ROOT):
+    """The line of each crate in crates.txt, by the crate's name: of this repository, or of another checkout."""
+    texts = [line.split("#")[0] for line in (top / "crates.txt").read_text().splitlines()]
     return {line.split()[0].rstrip(":"): line for line in texts if ":" in line}
 
 
-def uses():
-    """The libraries of this repository that each crate uses, by the crate's name."""
-    rows = lines()
+def uses(top=ROOT):
+    """The libraries of the repository that each crate uses, by the crate's name."""
+    rows = lines(top)
     return {name: [it for it in line.partition(":")[2].split() if it in rows] for name, line in rows.items()}
 
 
-def below(name):
-    """The libraries of this repository below a crate, each behind those that it uses."""
-    rows, found = uses(), []
+def below(name, top=ROOT):
+    """The libraries of the repository below a crate, each behind those that it uses."""
+    rows, found = uses(top), []
 
     def take(crate):
         for it in rows[crate]:
@@ -75,10 +75,10 @@ def below(name):
     return found
 
 
-def lay_out_root(room, names):
+def lay_out_root(room, names, top=ROOT):
     """Makes a folder the top of a repository of these crates alone, whose own folders are still to be filled."""
     (room / "crates").mkdir(parents=True)
-    rows = lines()
+    rows = lines(top)
     (room / "crates.txt").write_text("".join(f"{rows[name]}\n" for name in names))
     (room / "HANDLES").write_bytes((ROOT / "HANDLES").read_bytes())
     # so that the search for the top ends here

@@ -38,7 +38,7 @@ def find(crate: str, given: Optional[Program]) -> str:
             return str(place)
     raise ProgramMissing(
         f"the program {name} was not found: name it by the argument {crate} or the variable {variable}, "
-        "put it on PATH, or build it in the checkout by bin/build"
+        "put it on PATH by bin/install, or build it in the checkout by bin/build"
     )
 
 
