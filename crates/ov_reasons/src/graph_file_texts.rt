@@ -4,14 +4,15 @@ use crate::line_heads_and_remark::{MOST_LINES, line_of, push_number, push_remark
 use crate::unread_line_texts::push_unread;
 use ov_graph::{GraphFault, LinkFlaw};
 use ov_graphfile::{
-    GraphFileFault, LINE_NAMES, UnreadLine, line_of_link, line_of_node, unread_lines,
+    GraphFileFault, LINE_NAMES, UnreadLine, UnreadLines, line_of_link, line_of_node, unread_lines,
 };
 use ov_ids::{NodeId, OutOfMemory};
+use ov_lines::KeptLines;
 use std::alloc::{AllocError, Global};
 use std::fmt::Write;
 
-/// Why a graph file of these bytes was refused with this fault. If a line can't be read, such lines are explained, 20
-/// at most, as by `scenario_reasons`. If the graph is at fault, the line of the node or the link at fault is explained.
+/// Why a graph file of these bytes was refused with this fault. If a line can't be read, such lines are explained, and
+/// counted beyond 20, as by `scenario_reasons`. If the graph is at fault, the line of the node or the link at fault is explained.
 /// OutOfMemory (99) if an allocation is refused.
 pub fn graph_reasons(
     alloc: Global,
@@ -38,27 +39,28 @@ pub fn graph_fault_reasons(
     Ok(text)
 }
 
-/// Why lines of a graph file of these bytes can't be read: each such line, but 20 lines at most. OutOfMemory (99) if an
-/// allocation is refused.
+/// Why lines of a graph file of these bytes can't be read. The first 20 are explained, and the others counted.
+/// OutOfMemory (99) if an allocation is refused.
 pub fn unread_line_reasons(alloc: Global, bytes: &[u8]) -> Result<String, OutOfMemory> {
-    let lines = unread_lines(alloc, bytes)?;
+    let lines = unread_lines(alloc, bytes, MOST_LINES)?;
     let mut text = String::new(alloc);
     push_unread_lines(alloc, &mut text, bytes, &lines)?;
     Ok(text)
 }
 
-/// Appends what is wrong with these lines of a file that can't be read.
+/// Appends what is wrong with these lines of a file that can't be read. The file is passed over once.
 fn push_unread_lines(
     alloc: Global,
     text: &mut String,
     bytes: &[u8],
-    lines: &[UnreadLine],
+    lines: &UnreadLines,
 ) -> Result<(), AllocError> {
-    for UnreadLine { line, unread } in lines.iter().take(MOST_LINES) {
+    let mut left = KeptLines::new(bytes);
+    for UnreadLine { line, unread } in lines.first.iter() {
         push_number(text, *line)?;
-        push_unread(alloc, text, &LINE_NAMES, &line_of(bytes, *line), unread)?;
+        push_unread(alloc, text, &LINE_NAMES, &line_of(&mut left, *line), unread)?;
     }
-    push_remark(text, lines.len())
+    push_remark(text, lines.count)
 }
 
 /// Appends what is wrong with the node or the link on the line of this number.
@@ -70,7 +72,8 @@ fn push_graph_line(
 ) -> Result<(), AllocError> {
     push_number(text, number)?;
     push_graph_fault(text, bytes, fault)?;
-    push_marked_word(text, line_of(bytes, number).text, word_at_fault(fault))
+    let line = line_of(&mut KeptLines::new(bytes), number);
+    push_marked_word(text, line.text, word_at_fault(fault))
 }
 
 /// The place of the word at fault on the line of the node or the link at fault.

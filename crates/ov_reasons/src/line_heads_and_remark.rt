@@ -10,17 +10,18 @@ pub(crate) fn push_number(text: &mut String, number: usize) -> Result<(), AllocE
     write!(text, "line {number}: ")
 }
 
-/// Appends that more lines are at fault than are explained, if this is true.
+/// Appends how many lines more are at fault than are explained, if there are any. So many are at fault in all.
 pub(crate) fn push_remark(text: &mut String, count: usize) -> Result<(), AllocError> {
-    if count > MOST_LINES {
-        text.push_str("more lines are at fault\n")?;
+    match count.saturating_sub(MOST_LINES) {
+        0 => Ok(()),
+        1 => text.push_str("1 more line is at fault\n"),
+        more => write!(text, "{more} more lines are at fault\n"),
     }
-    Ok(())
 }
 
-/// The line of this number. For a number that no line has, it is an empty line.
-pub(crate) fn line_of(bytes: &[u8], number: usize) -> KeptLine<'_> {
-    let mut left = KeptLines::new(bytes);
+/// The line of this number, which is looked for from the first of these lines on. Those before it, and the line itself,
+/// are taken from them. For a number that none of them has, it is an empty line.
+pub(crate) fn line_of<'a>(left: &mut KeptLines<'a>, number: usize) -> KeptLine<'a> {
     while let Some(line) = left.next_line() {
         if line.number == number {
             return line;

@@ -19,7 +19,7 @@ pub(crate) fn push_analysis_reason(
     match fault {
         CoreFault::BadGroup => push_bad_group(text, core, subject)?,
         CoreFault::NoNodes => write!(text, "nobody lived at moment {moment}")?,
-        CoreFault::NoSuchMoment => push_no_snapshot(text, core.world().journal(), "", moment)?,
+        CoreFault::NoSuchMoment => push_no_snapshot(text, core.snapshots(), "", moment)?,
         CoreFault::AlreadyFiled => push_report(text, "a report", subject)?,
         _ => write!(text, "{fault}")?,
     }
@@ -57,7 +57,7 @@ pub(crate) fn push_certificate_reason(
     match fault {
         CoreFault::NoSuchMoment => {
             push_report(text, "no report", subject)?;
-            push_no_snapshot(text, core.world().journal(), "; ", subject.moment)
+            push_no_snapshot(text, core.snapshots(), "; ", subject.moment)
         }
         _ => write!(text, "{fault}"),
     }

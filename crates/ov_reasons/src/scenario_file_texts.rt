@@ -3,33 +3,34 @@ use crate::line_heads_and_remark::{MOST_LINES, line_of, push_number, push_remark
 use crate::parameter_limit_texts::push_out_of_limits;
 use crate::unread_line_texts::push_unread;
 use ov_ids::OutOfMemory;
-use ov_lines::KeptLine;
-use ov_scenario::{FaultyLine, LineFault, faulty_lines, line_names};
+use ov_lines::{KeptLine, KeptLines};
+use ov_scenario::{FaultyLine, FaultyLines, LineFault, faulty_lines, line_names};
 use std::alloc::{AllocError, Global};
 use std::fmt::Write;
 
-/// What is wrong with the lines at fault of a scenario file of these bytes, 20 lines at most. What is said of a line
-/// begins with its number and ends with the line and a mark under the word at fault. OutOfMemory (99) if an
-/// allocation is refused.
+/// What is wrong with the lines at fault of a scenario file of these bytes. The first 20 are explained, and the others
+/// counted. What is said of a line begins with its number and ends with the line and a mark under the word at fault.
+/// OutOfMemory (99) if an allocation is refused.
 pub fn scenario_reasons(alloc: Global, bytes: &[u8]) -> Result<String, OutOfMemory> {
     let mut text = String::new(alloc);
-    let faults = faulty_lines(alloc, bytes)?;
-    push_faulty_lines(alloc, &mut text, bytes, &faults)?;
+    let faulty = faulty_lines(alloc, bytes, MOST_LINES)?;
+    push_faulty_lines(alloc, &mut text, bytes, &faulty)?;
     Ok(text)
 }
 
-/// Appends what is wrong with these lines of a file.
+/// Appends what is wrong with these lines of a file, which are passed over once.
 fn push_faulty_lines(
     alloc: Global,
     text: &mut String,
     bytes: &[u8],
-    faults: &[FaultyLine],
+    faulty: &FaultyLines,
 ) -> Result<(), AllocError> {
-    for FaultyLine { line, fault } in faults.iter().take(MOST_LINES) {
+    let mut left = KeptLines::new(bytes);
+    for FaultyLine { line, fault } in faulty.first.iter() {
         push_number(text, *line)?;
-        push_fault(alloc, text, &line_of(bytes, *line), fault)?;
+        push_fault(alloc, text, &line_of(&mut left, *line), fault)?;
     }
-    push_remark(text, faults.len())
+    push_remark(text, faulty.count)
 }
 
 /// Appends what is wrong with a line, and the line with a mark.

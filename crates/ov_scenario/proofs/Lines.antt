@@ -2,3 +2,4 @@
 pub mod Ending
 pub mod Filling
 pub mod InTurn
+pub mod Short

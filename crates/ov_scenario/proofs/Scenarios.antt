@@ -1,5 +1,6 @@
 -- What the lines of a file say together.
 pub mod Asked
+pub mod Counted
 pub mod Drawn
 pub mod Drivers
 pub mod InBlock

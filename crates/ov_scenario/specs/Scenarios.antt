@@ -1,17 +1,18 @@
 -- What a scenario file says, and the first fault of a file that says no scenario. Both are facts of its lines that are
 -- not skipped, each with those before it and those after it. The form of the file is chosen here.
-use Rattle.std.specs.Prelude.{◌≡◌, ◌⊎◌, ℕ, Bool, true, false, List, [], ◌∷◌, ◌++◌, map, Option, Some, None}
-use Rattle.std.specs.Prelude.{if◌then◌else◌}
+use Rattle.std.specs.Prelude.{◌≡◌, ◌⊎◌, ℕ, ◌-◌, ◌^◌, min, Bool, true, false, List, [], ◌∷◌, ◌++◌, length, map, take}
+use Rattle.std.specs.Prelude.{if◌then◌else◌, Option, Some, None}
 use Rattle.rand_core.specs.Stream.{Stream}
 use Rattle.ov_ids.specs.ParamsState.{ParamsState, AreWithinLimits}
 use Rattle.ov_ids.specs.Members.{Has}
 use Rattle.ov_net.specs.declared.event.Event.{Event}
 use Rattle.ov_scenario.specs.Draws.{AreDraws, seeded}
-use Rattle.ov_lines.specs.Lines.{kept_lines}
+use Rattle.ov_lines.specs.Lines.{kept_lines, long_bits}
 use Rattle.ov_lines.specs.declared.unread.Unread.{Unread}
 use Rattle.ov_scenario.specs.RunLines.{drivers_for}
 use Rattle.ov_scenario.specs.Sections.{SectionLine, IsPlain, has_end, most_sections, open_after, section_line}
 use Rattle.ov_scenario.specs.Statements.{Stated, ToldLine, statement_of, told, workers_or_one}
+use Rattle.ov_scenario.specs.declared.fault_listing.FaultyLines.{FaultyLines}
 use Rattle.ov_scenario.specs.declared.line_judging.Before.{Before}
 use Rattle.ov_scenario.specs.declared.open_block.OpenBlock.{OpenBlock}
 use Rattle.ov_scenario.specs.declared.scenario.Line.{Line}
@@ -173,13 +174,34 @@ AreFaulty before (line ∷ after) faulty =
 abbrev pub AreFaultyLines : List ℕ → List FaultyLine → Type 0
 AreFaultyLines bytes faulty = AreFaulty [] (stated_lines bytes) faulty
 
+-- the most lines that are counted: as many as a number of 64 bits can say, and more than a file in memory has
+abbrev pub most_counted : ℕ
+most_counted = 2 ^ long_bits - 1
+
+-- of all these lines at fault the first are kept, in order, this many at most, and all are counted
+abbrev pub AreFirstOf : ℕ → List FaultyLine → FaultyLines → Type 0
+AreFirstOf most all faulty = (faulty.first.items ≡ take most all) × (faulty.count ≡ min (length all) most_counted)
+
+-- of the lines of a file that are at fault the first are kept, in order, this many at most, and all are counted
+abbrev pub AreFirstFaulty : List ℕ → ℕ → FaultyLines → Type 0
+AreFirstFaulty bytes most faulty = (all : List FaultyLine) × AreFaultyLines bytes all × AreFirstOf most all faulty
+
 -- no line is at fault
 abbrev pub AreFaultless : List Stated → Type 0
 AreFaultless lines = AreFaulty [] lines []
 
+-- of these lines, which follow those before, this is the first that is at fault, with its fault: it is the first line, or
+-- the first line has no fault and is passed over
+unfoldable pub IsFirstAfter : List Stated → List Stated → FaultyLine → Type 0
+IsFirstAfter before [] first = ⊥
+IsFirstAfter before (line ∷ after) first =
+    (IsWrong (before_of before) line.says after first.fault × (line.number ≡ first.line))
+    ⊎ (((f : LineFault) → ¬ IsWrong (before_of before) line.says after f)
+    × IsFirstAfter (before ++ line ∷ []) after first)
+
 -- this is the first of these lines that is at fault
-unfoldable pub IsFirstFaulty : List Stated → FaultyLine → Type 0
-IsFirstFaulty lines first = (later : List FaultyLine) × AreFaulty [] lines (first ∷ later)
+abbrev pub IsFirstFaulty : List Stated → FaultyLine → Type 0
+IsFirstFaulty lines first = IsFirstAfter [] lines first
 
 -- this is the first line of a file that is at fault, so that the file says no scenario
 abbrev pub IsScenarioFault : List ℕ → FaultyLine → Type 0

@@ -20,7 +20,7 @@ mod theorems;
 mod whole_run_settings;
 mod words_from_seed;
 
-pub use fault_listing::faulty_lines;
+pub use fault_listing::{FaultyLines, faulty_lines};
 pub use lines_to_run::{LineToRun, LinesToRun, line_asked_by};
 pub use scenario::{Line, Look, Scenario, Subject};
 pub use scenario_fault::{FaultyLine, LineFault, ScenarioFault, Setting};

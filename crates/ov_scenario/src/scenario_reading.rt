@@ -10,9 +10,9 @@ use crate::scenario_fault::ScenarioFault;
 use crate::whole_run_settings::Settings;
 use std::alloc::Global;
 
-/// Reads a scenario file, whose form is chosen here. All lines are judged, and none is kept: a line to run is read
+/// Reads a scenario file, whose form is chosen here. The lines are judged, and none is kept: a line to run is read
 /// again from these bytes when it is taken. If a line is at fault, the first one is returned, and its fault has the
-/// number (70 or 21). OutOfMemory (99) is returned if an allocation was refused.
+/// number (70 or 21); no line after it is judged. OutOfMemory (99) is returned if an allocation was refused.
 pub fn read_scenario<'a>(alloc: Global, bytes: &'a [u8]) -> Result<Scenario<'a>, ScenarioFault>
     ensures scenario { IfOk result (λ s. IsScenario bytes.now s) }
     ensures file_lines { IfOk result (λ s. s.lines.file_lines ≡ lines_that_run bytes.now) }
@@ -34,7 +34,8 @@ pub fn read_scenario<'a>(alloc: Global, bytes: &'a [u8]) -> Result<Scenario<'a>,
     })
 }
 
-/// Judges all lines of a file, and returns what they give for the whole run, or the first one that is at fault.
+/// Judges the lines of a file, and returns what they give for the whole run, or the first one that is at fault. Those
+/// after that are not judged.
 fn read_settings(alloc: Global, bytes: &[u8]) -> Result<Settings, ScenarioFault>
     ensures faultless { IfOk result (λ _. AreFaultless (stated_lines bytes.now)) }
     ensures params { IfOk result (λ settings. settings.params ≡ first_in params_in (stated_lines bytes.now)) }
@@ -44,13 +45,11 @@ fn read_settings(alloc: Global, bytes: &[u8]) -> Result<Settings, ScenarioFault>
 {
     let mut judging = Judging::new(alloc, bytes)?;
     let mut settings = Settings::nothing();
-    let mut first = None;
     while let Some(judged) = judging.next_line(alloc)? {
-        settings = settings.with(&judged.line, judging.open_block());
-        first = first.or(judged.faulty());
+        match judged.faulty() {
+            Some(first) => return Err(ScenarioFault::Line(first)),
+            None => settings = settings.with(&judged.line, judging.open_block()),
+        }
     }
-    match first {
-        Some(first) => Err(ScenarioFault::Line(first)),
-        None => Ok(settings),
-    }
+    Ok(settings)
 }

@@ -53,6 +53,9 @@ pub fn line_names() -> &'static [&'static str]
     ]
 }
 
+/// The length of the shortest name of a line.
+const SHORTEST_NAME: usize = 3;
+
 const ACTIVE_VIEW: &str = "the size of the active view";
 
 const PASSIVE_VIEW: &str = "the size of the passive view";
@@ -164,7 +167,8 @@ pub(crate) fn read_statement<'a>(alloc: Global, text: &'a [u8]) -> Result<Statem
     }
 }
 
-/// Reads what follows the name of a line. Lines that set something for those after them come first.
+/// Reads what follows the name of a line. A name that is too short is not compared with those that there are, so that a
+/// file of very many lines is judged in little time. Lines that set something for those after them come first.
 fn read_named<'a>(
     alloc: Global,
     name: &[u8],
@@ -173,6 +177,9 @@ fn read_named<'a>(
 ) -> Result<Statement<'a>, Unstated>
     ensures { Reads ReadingNeedsMemory result (row name.now (line_rows cursor.old (words_of cursor.old)) None) }
 {
+    if name.len() < SHORTEST_NAME {
+        return Err(Unstated::Unread(unknown));
+    }
     if is_word(name, PARAMS.as_bytes()) {
         return Ok(Statement::Params(read_params(cursor)?));
     }

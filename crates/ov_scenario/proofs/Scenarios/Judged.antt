@@ -2,11 +2,11 @@
 use Rattle.std.proofs.Common.{◌≡◌, ◌∙◌, inl, inr, ℕ, Bool, true, false, if◌then◌else◌, List, [], ◌∷◌, ◌++◌}
 use Rattle.std.proofs.Common.{append_assoc, append-nil, Option, Some, None, refl, ap, sym, subst}
 use Rattle.std.specs.Option.{option_or}
-use Rattle.std.specs.Prelude.{slice_get, option_map, option_to_list}
+use Rattle.std.specs.Prelude.{option_map, option_to_list}
 use Rattle.ov_scenario.specs.Code.Judging.{or_next, with_next, Judges, Tells, faulty_of}
 use Rattle.ov_scenario.specs.Scenarios.{first_of, is_event, is_params, is_seed, before_of, AreWithin, IsTooLate}
 use Rattle.ov_scenario.specs.Scenarios.{IsWrong, IsWrongIn, IsWrongOutside}
-use Rattle.ov_scenario.specs.Scenarios.{AreFaulty, IsFirstFaulty}
+use Rattle.ov_scenario.specs.Scenarios.{AreFaulty, IsFirstAfter, IsFirstFaulty}
 use Rattle.ov_scenario.specs.Sections.{open_from, open_next}
 use Rattle.ov_scenario.specs.Statements.{Stated}
 use Rattle.ov_scenario.specs.declared.judging.Judged.{Judged}
@@ -167,6 +167,10 @@ faultless_more all left after line before next faulty so_far split right steps =
       so_far.whole later (subst (λ (ls : List Stated). AreFaulty so_far.passed ls later) (sym split) own);
 }
 
+-- a line that was judged, with this fault
+abbrev the_line : Judged → LineFault → FaultyLine
+the_line judged f = record { line = judged.line.number; fault = f }
+
 -- one line more, which is at fault or not
 pub judged_more :
     (all : List Stated) (old new : Judging) (judged : Judged) (faulty : List FaultyLine)
@@ -201,63 +205,72 @@ all_judged all left before faulty so_far none =
     subst (λ fs. AreFaulty [] all fs) (append-nil faulty)
     (so_far.whole [] (subst (λ (ls : List Stated). AreFaulty so_far.passed ls []) (sym none) (none_left so_far.passed)))
 
--- ---- a file
-
--- the first of the lines that were judged at fault
-pub first_at_fault :
-    (lines : List Stated) (faulty : List FaultyLine) (first : FaultyLine) → AreFaulty [] lines faulty
-    → slice_get faulty 0 ≡ Some first
-    → IsFirstFaulty lines first
-unfolding IsFirstFaulty
-first_at_fault lines [] first are is = absurd cc
-first_at_fault lines (own ∷ later) first are is =
-    let same : own ≡ first = cc in
-    (later, subst (λ (f : FaultyLine). AreFaulty [] lines (f ∷ later)) same are)
-
 -- ---- the first line at fault
 
--- the lines so far were judged, and this is the first of them that is at fault, if one is
-pub record FirstSoFar (all left : List Stated) (before : Before) (first : Option FaultyLine) : Type 0 where
-  pub faulty : List FaultyLine
-  pub judged : JudgedSoFar all left before faulty
-  pub at_head : first ≡ slice_get faulty 0
+-- no line so far is at fault: if none that is left is, none is at all, and the first of those that are left that is at
+-- fault is the first of all. Of the lines before those that are left this is known
+pub record FaultlessSoFar (all left : List Stated) (before : Before) : Type 0 where
+  pub passed : List Stated
+  pub known : before ≡ before_of passed
+  pub none : AreFaulty passed left [] → AreFaulty [] all []
+  pub first : (f : FaultyLine) → IsFirstAfter passed left f → IsFirstAfter [] all f
 
-pub first_begun :
+pub faultless_begun :
     (all left : List Stated) (before : Before) → left ≡ all → before ≡ before_of []
-    → FirstSoFar all left before None
-first_begun all left before same known =
-    record { faulty = []; judged = begun all left before [] same known refl; at_head = refl }
+    → FaultlessSoFar all left before
+faultless_begun all left before same known = record {
+  passed = [];
+  known = known;
+  none = λ is. subst (λ (ls : List Stated). AreFaulty [] ls []) same is;
+  first = λ f is. subst (λ (ls : List Stated). IsFirstAfter [] ls f) same is;
+}
 
--- one line more, which is at fault or not
-pub first_more :
-    (all : List Stated) (old new : Judging) (judged : Judged) (first : Option FaultyLine)
-    → FirstSoFar all old.ahead old.before first → Judges old (Some judged) new
-    → FirstSoFar all new.ahead new.before (option_or first (faulty_of judged))
-first_more all old new judged first so_far judges = record {
-  faulty = so_far.faulty ++ option_to_list (faulty_of judged);
-  judged = judged_more all old new judged so_far.faulty so_far.judged judges;
-  at_head = ap (λ o. option_or o (faulty_of judged)) so_far.at_head ∙ both so_far.faulty (faulty_of judged);
+-- one line more, which is not at fault
+pub faultless_next :
+    (all : List Stated) (old new : Judging) (judged : Judged) → FaultlessSoFar all old.ahead old.before
+    → Judges old (Some judged) new → faulty_of judged ≡ None
+    → FaultlessSoFar all new.ahead new.before
+unfolding AreFaulty IsFirstAfter
+faultless_next all old new judged so_far (split, steps, told) none = record {
+  passed = so_far.passed ++ judged.line ∷ [];
+  known = steps ∙ ap (λ (b : Before). with_next b judged.line) so_far.known ∙ before_next so_far.passed judged.line;
+  none = λ is. so_far.none
+      (subst (λ (ls : List Stated). AreFaulty so_far.passed ls []) (sym split) (inl (right, is)));
+  first = λ f is. so_far.first f
+      (subst (λ (ls : List Stated). IsFirstAfter so_far.passed ls f) (sym split) (inr (right, is)));
 } where
-  both :
-      (faulty : List FaultyLine) (next : Option FaultyLine)
-      → option_or (slice_get faulty 0) next ≡ slice_get (faulty ++ option_to_list next) 0
-  both [] None = refl
-  both [] (Some f) = refl
-  both (own ∷ faulty) next = refl
+  unfaulty : (own : Option LineFault) → option_map (λ (f : LineFault).
+      the_line judged f) own ≡ None → own ≡ None
+  unfaulty None is = refl
+  unfaulty (Some f) is = absurd cc
 
--- all lines were judged, and none is at fault
-pub none_at_fault :
-    (all left : List Stated) (before : Before) → FirstSoFar all left before None → left ≡ [] → AreFaulty [] all []
-none_at_fault all left before so_far none = by so_far.faulty so_far.at_head so_far.judged where
-  by : (faulty : List FaultyLine) → None ≡ slice_get faulty 0 → JudgedSoFar all left before faulty → AreFaulty [] all []
-  by [] is judged = all_judged all left before [] judged none
-  by (own ∷ later) is judged = absurd cc
+  right : (f : LineFault) → ¬ IsWrong (before_of so_far.passed) judged.line.says new.ahead f
+  right = subst (λ (b : Before). (f : LineFault) → ¬ IsWrong b judged.line.says new.ahead f) so_far.known
+      (subst (λ o. Tells o (λ f. IsWrong old.before judged.line.says new.ahead f)) (unfaulty judged.fault none) told)
 
--- all lines were judged, and this one is the first at fault
-pub one_at_fault :
-    (all left : List Stated) (before : Before) (first : FaultyLine) → FirstSoFar all left before (Some first)
-    → left ≡ []
+-- one line more, which is at fault
+pub first_found :
+    (all : List Stated) (old new : Judging) (judged : Judged) (first : FaultyLine)
+    → FaultlessSoFar all old.ahead old.before → Judges old (Some judged) new → faulty_of judged ≡ Some first
     → IsFirstFaulty all first
-one_at_fault all left before first so_far none =
-    first_at_fault all so_far.faulty first (all_judged all left before so_far.faulty so_far.judged none)
-    (sym so_far.at_head)
+unfolding IsFirstAfter
+first_found all old new judged first so_far (split, steps, told) is =
+    by judged.fault is told where
+      by : (own : Option LineFault) → option_map (λ (f : LineFault). the_line judged f) own ≡ Some first
+          → Tells own (λ f. IsWrong old.before judged.line.says new.ahead f)
+          → IsFirstFaulty all first
+      by None same wrong = absurd cc
+      by (Some f) same wrong =
+          let made : the_line judged f ≡ first = cc in
+          let there : IsWrong (before_of so_far.passed) judged.line.says new.ahead first.fault =
+          subst (λ (b : Before). IsWrong b judged.line.says new.ahead first.fault) so_far.known
+          (subst (λ (g : FaultyLine). IsWrong old.before judged.line.says new.ahead g.fault) made wrong) in
+          so_far.first first
+          (subst (λ (ls : List Stated). IsFirstAfter so_far.passed ls first) (sym split)
+          (inl (there, ap (λ (g : FaultyLine). g.line) made)))
+
+-- no line is left, and none was at fault
+pub none_at_fault :
+    (all left : List Stated) (before : Before) → FaultlessSoFar all left before → left ≡ [] → AreFaulty [] all []
+none_at_fault all left before so_far none =
+    so_far.none (subst (λ (ls : List Stated). AreFaulty so_far.passed ls []) (sym none) (none_left so_far.passed))

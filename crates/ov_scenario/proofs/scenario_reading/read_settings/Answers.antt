@@ -1,11 +1,11 @@
 -- One line more, and all lines.
 use Rattle.std.proofs.Common.{◌≡◌, ◌∙◌, max, [], Some, ap, sym, subst}
 use Rattle.std.specs.Option.{option_or}
-use Rattle.ov_scenario.specs.Code.Judging.{Judges, faulty_of, first_in, params_in, sections_of, seed_in}
+use Rattle.ov_scenario.specs.Code.Judging.{Judges, first_in, params_in, sections_of, seed_in}
 use Rattle.ov_scenario.specs.Scenarios.{stated_lines}
 use Rattle.ov_scenario.specs.declared.line_judging.Before.{Before}
 use Rattle.ov_scenario.proofs.Scenarios.Drivers.{all_needed, needs_begun, needs_more, none_open}
-use Rattle.ov_scenario.proofs.Scenarios.Judged.{FirstSoFar, first_begun, first_more, none_at_fault, one_at_fault}
+use Rattle.ov_scenario.proofs.Scenarios.Judged.{faultless_begun, faultless_next, first_found, none_at_fault}
 use Rattle.ov_scenario.proofs.Scenarios.Settled.{gives_more}
 use Rattle.ov_scenario.proofs.scenario_reading.read_settings.Goals as goal
 
@@ -17,7 +17,7 @@ loop-judging-init c =
     let same = c.in_ok-judging.ensures.lines in
     let settings = c.nothing-settings.result in
     record {
-      judged = first_begun all left before same c.in_ok-judging.ensures.before;
+      judged = faultless_begun all left before same c.in_ok-judging.ensures.before;
       params =
           ap (λ o. option_or o (first_in params_in left)) c.nothing-settings.ensures.params
           ∙ ap (λ ls. first_in params_in ls) same;
@@ -37,12 +37,8 @@ loop-judging-preserved c =
     let judged = c.in-Some.judged in
     let before = c.loop-judging.invariant in
     let judges : Judges old (Some judged) new = subst (λ j. Judges old j new) c.in-Some.is c.in_ok-judged.ensures in
-    let first : c.or-first.result ≡ option_or c.loop-judging.first (faulty_of judged) =
-    c.or-first.ensures ∙ ap (λ f. option_or c.loop-judging.first f) c.faulty.ensures in
     record {
-      judged =
-          subst (λ f. FirstSoFar all new.ahead new.before f) (sym first)
-          (first_more all old new judged c.loop-judging.first before.judged judges);
+      judged = faultless_next all old new judged before.judged judges (sym c.faulty.ensures ∙ c.in-None.is);
       params =
           gives_more params_in all c.loop-judging.settings.params c.with-settings.result.params old.ahead
           new.ahead judged.line before.params judges.0 c.with-settings.ensures.params;
@@ -56,16 +52,14 @@ loop-judging-preserved c =
           new.ahead judged.line before.seed judges.0 c.with-settings.ensures.seed;
     }
 
-pub returns-in-Some-first-clause-fault : goal.returns-in-Some-first-clause-fault
-returns-in-Some-first-clause-fault c =
-    let all = stated_lines c.args.bytes.now in
+pub returns-in-Some-faulty-clause-fault : goal.returns-in-Some-faulty-clause-fault
+returns-in-Some-faulty-clause-fault c =
     let old = c.loop-judging.judging in
-    let first = c.in-Some-first.first in
-    let none : old.ahead ≡ [] =
-    subst (λ j. Judges old j c.next_line.new.self) c.in_default.is c.in_ok-judged.ensures in
-    one_at_fault all old.ahead old.before first
-    (subst (λ f. FirstSoFar all old.ahead old.before f) c.in-Some-first.is c.loop-judging.invariant.judged)
-    none
+    let new = c.next_line.new.self in
+    let judged = c.in-Some.judged in
+    let judges : Judges old (Some judged) new = subst (λ j. Judges old j new) c.in-Some.is c.in_ok-judged.ensures in
+    first_found (stated_lines c.args.bytes.now) old new judged c.in-Some-faulty.first
+    c.loop-judging.invariant.judged judges (sym c.faulty.ensures ∙ c.in-Some-faulty.is)
 
 pub returns-clause-faultless : goal.returns-clause-faultless
 returns-clause-faultless c =
@@ -73,8 +67,7 @@ returns-clause-faultless c =
     let old = c.loop-judging.judging in
     let none : old.ahead ≡ [] =
     subst (λ j. Judges old j c.next_line.new.self) c.in_default.is c.in_ok-judged.ensures in
-    none_at_fault all old.ahead old.before
-    (subst (λ f. FirstSoFar all old.ahead old.before f) c.in-None.is c.loop-judging.invariant.judged) none
+    none_at_fault all old.ahead old.before c.loop-judging.invariant.judged none
 
 pub returns-clause-drivers : goal.returns-clause-drivers
 returns-clause-drivers c =
