@@ -40,7 +40,9 @@ fn push_places(
     later: &[Snapshot],
 ) -> Result<(), AllocError> {
     let mut between = " ";
-    let earlier = earlier.iter().skip(earlier.len().saturating_sub(MOST_NAMED));
+    let earlier = earlier
+        .iter()
+        .skip(earlier.len().saturating_sub(MOST_NAMED));
     for snapshot in earlier.chain(later.iter().take(MOST_NAMED)) {
         let taken = snapshot.moment;
         write!(text, "{between}{taken}")?;
