@@ -315,6 +315,13 @@ def make_world(lab, path):
     pathlib.Path(path).write_text("\n".join(lines) + "\n")
 
 
+def make_wide(lab, path):
+    """A grown overlay of 256 nodes with wide views. Its analyses are by 64 workers, and have levels that pay several."""
+    grow = [lab.words(RUN)[0], "grow", "--nodes", "256", "--active", "16", "--heal", "0"]
+    text = re.sub(rb"(?m)^analyse \d+$", rb"\g<0> workers 64", lab.run(grow).out)
+    pathlib.Path(path).write_bytes(text)
+
+
 MAKERS = {
     "scenario": make_scenario,
     "graph": make_graph,
@@ -325,6 +332,7 @@ MAKERS = {
     "ring": make_ring,
     "small-ring": make_small_ring,
     "world": make_world,
+    "wide": make_wide,
 }
 # How the output of each input begins, or the whole of it if it ends with a line feed. Where commands print different
 # things of an input, the command stands before its name.

@@ -16,8 +16,8 @@ import termios
 import time
 
 from device_cases import without_rights
-from device_lab import ANALYSE, CASES, CHECK, COMMANDS, EXAMPLES, EXPLAIN, MB, MEMORY, RIGHT, RUN, Case, Differs, Skip
-from device_lab import case, read_again, told
+from device_lab import ANALYSE, CASES, CHECK, COMMANDS, EXAMPLES, EXPLAIN, MB, MEMORY, PROGRESS, RIGHT, RUN, SMALL_RING
+from device_lab import Case, Differs, Skip, case, read_again, told
 from limit_cases import PARTLY, threaded, told_of_memory, told_of_threads
 from repository import ROOT
 
@@ -253,12 +253,21 @@ def with_threads(lab, most):
 FEWER = "a thread that can't be started is no fault: the output is the same (FORMATS.md, devices)"
 
 
-@case("workers", "threads are there to be refused", "`analyse --workers 64`, and the most threads that were seen",
+@case("workers", "threads are there to be refused", "`analyse --workers 64`, the same with `--explain`, "
+      "`sweep --workers 64`, a scenario with `analyse M workers 64`, and the most threads that were seen",
       "at most N threads (FORMATS.md)")
 def many_threads(lab):
-    most = most_threads(lab, [*lab.words(ANALYSE), "--workers", "64", lab.large("dense")])
-    text = "2 to 64 threads" if 2 <= most <= 64 else f"{most} threads"
-    yield "analyse --workers 64", text, "2 to 64 threads", f"{most} threads"
+    crew, overlay = ["--workers", "64"], lab.words(RUN)[0]
+    commands = {
+        "analyse --workers 64": [*lab.words(ANALYSE), *crew, lab.large("dense")],
+        "analyse --workers 64 --explain": [*lab.words(ANALYSE), *crew, "--explain", lab.large("dense")],
+        "sweep --workers 64": [overlay, "sweep", "--nodes", "30", "--runs", "64", *crew],
+        "run, analyse M workers 64": lab.words(RUN, lab.large("wide")),
+    }
+    for name, words in commands.items():
+        most = most_threads(lab, words)
+        text = "2 to 64 threads" if 2 <= most <= 64 else f"{most} threads"
+        yield name, text, "2 to 64 threads", f"{most} threads"
 
 
 @case("workers", "a certificate is checked by several threads",
@@ -269,6 +278,35 @@ def threads_of_checker(lab):
     most = most_threads(lab, lab.words(CHECK, lab.large("entries")))
     text = "several threads" if most >= min(2, len(os.sched_getaffinity(0))) else f"{most} threads"
     yield "overlay-check", text, "several threads", f"{most} threads"
+
+
+LEVEL = re.compile(rb"level (\d+): piece (\d+) of (\d+)\n")
+
+
+def first_told(lab, words):
+    """What a program has printed on standard error once a line of it is there, which ends the program, or it ended."""
+    with tempfile.TemporaryFile(dir=lab.room) as err:
+
+        def look(process):
+            # not `read_again`, since the program writes at the place where this file is read
+            while b"\n" not in os.pread(err.fileno(), 1000, 0) and state_of(process)[0] not in "ZX":
+                time.sleep(0.01)
+            os.kill(process.pid, signal.SIGKILL)
+
+        lab.run(words, stderr=err, during=look)
+        return read_again(err)
+
+
+@case("workers", "progress, however the answer is told",
+      f"`analyse --progress` of a ring of {SMALL_RING[0]} nodes, the same with `--names` and with `--explain`, up to "
+      "the first line", "lines `level L: piece P of S`, of which the first comes after a second (FORMATS.md)")
+def told_progress(lab):
+    for more in ([], ["--names"], ["--explain"]):
+        told_first = first_told(lab, [*lab.words(PROGRESS), *more, lab.large("small-ring")])
+        level, piece, size = map(int, line.groups()) if (line := LEVEL.match(told_first)) else (0, 0, 0)
+        is_right = 1 <= piece <= size == level * (level - 1) // 2 + SMALL_RING[0] - level
+        text = "a line of the right size" if is_right else f"{told_first!r}"
+        yield " ".join(["analyse --progress", *more]), text, "a line of the right size"
 
 
 @case("threads", "no thread can be started", "64 workers, sections, a large certificate, `ulimit -u 1`; for root "

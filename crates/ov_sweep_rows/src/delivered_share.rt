@@ -1,4 +1,5 @@
 ghost use Rattle.std.specs.Prelude.{◌≡◌, ◌≢◌, ◌*◌, ◌/◌, ◌<◌, IfSome, IfNone};
+ghost use Rattle.ov_sweep_rows.specs.RowTexts.{SpellsParts};
 
 use ov_lines::read_number;
 use std::fmt::{Display, Formatter, Result, Write};
@@ -32,7 +33,9 @@ impl DeliveredShare {
 
     /// The share that a text spells, a number with four decimal digits. None is returned if it spells none, or one past
     /// 64 bits.
-    pub fn read(text: &[u8]) -> Option<DeliveredShare> {
+    pub fn read(text: &[u8]) -> Option<DeliveredShare>
+        ensures { IfSome result (λ share. SpellsParts text.now share.parts) }
+    {
         let point = text.len().checked_sub(5)?;
         let (whole, rest) = text.split_at(point);
         if rest.first() != Some(&b'.') {

@@ -1,54 +1,56 @@
+ghost use Rattle.std.specs.Prelude.{◌≡◌, IfOk, IfSome};
+ghost use Rattle.csv.specs.Records.{fields_of};
+ghost use Rattle.ov_sweep_rows.specs.Code.Fields.{text_at};
+ghost use Rattle.ov_sweep_rows.specs.RowTexts.{Spells};
+
 use crate::{FieldFault, FieldForm, RowFault};
 use csv::ByteRecord;
 use ov_lines::read_number;
 
-/// The fields of a row that are still to be read, one after the other.
-#[derive(Drop)]
-pub(crate) struct FieldCursor<'a> {
-    record: &'a ByteRecord,
-    line: u64,
-    place: usize,
+/// The fields of the row at a line, by the places of their columns, which count from 0.
+#[derive(Clone, Copy)]
+pub(crate) struct RowFields<'a> {
+    pub(crate) record: &'a ByteRecord,
+    pub(crate) line: u64,
 }
 
-impl<'a> FieldCursor<'a> {
-    /// All fields of the row at this line.
-    pub(crate) fn new(record: &'a ByteRecord, line: u64) -> FieldCursor<'a> {
-        FieldCursor {
-            record,
-            line,
-            place: 0,
+impl<'a> RowFields<'a> {
+    /// The text in the column at this place; it is empty behind the last.
+    pub(crate) fn text(&self, place: usize) -> &'a [u8]
+        ensures { result.now ≡ text_at (fields_of self.now.record.now) place }
+    {
+        match self.record.get(place) {
+            Some(text) => text,
+            None => &[],
         }
     }
 
-    /// The text of the next field; it is empty behind the last.
-    pub(crate) fn text(&mut self) -> &'a [u8] {
-        let place = self.place;
-        self.place = place.saturating_add(1);
-        self.record.get(place).unwrap_or(&[])
-    }
-
-    /// The value, if the last field has one; else that the field is not what its column takes.
-    pub(crate) fn value<T>(&self, value: Option<T>, takes: FieldForm) -> Result<T, RowFault> {
-        match value {
-            Some(value) => Ok(value),
-            None => Err(RowFault::Field {
-                line: self.line,
-                field: FieldFault {
-                    place: self.place.saturating_sub(1),
-                    takes,
-                },
-            }),
+    /// That the field at this place is not what its column takes.
+    pub(crate) fn fault(&self, place: usize, takes: FieldForm) -> RowFault {
+        RowFault::Field {
+            line: self.line,
+            field: FieldFault { place, takes },
         }
     }
 
-    /// The next field, which is a number of 32 bits.
-    pub(crate) fn number(&mut self) -> Result<u32, RowFault> {
-        let number = short_number(self.text());
-        self.value(number, FieldForm::Number)
+    /// The number of 32 bits in the column at this place.
+    pub(crate) fn number(&self, place: usize) -> Result<u32, RowFault>
+        ensures { IfOk result (Spells (text_at (fields_of self.now.record.now) place)) }
+    {
+        match short_number(self.text(place)) {
+            Some(number) => Ok(number),
+            None => Err(self.fault(place, FieldForm::Number)),
+        }
     }
 }
 
 /// The number of 32 bits that a text spells.
-pub(crate) fn short_number(text: &[u8]) -> Option<u32> {
-    u32::try_from(read_number(text)?).ok()
+pub(crate) fn short_number(text: &[u8]) -> Option<u32>
+    ensures { IfSome result (Spells text.now) }
+{
+    let number = read_number(text)?;
+    if number > u64::from(u32::MAX) {
+        return None;
+    }
+    Some(number as u32)
 }

@@ -1,10 +1,23 @@
-use crate::row_fields::{FieldCursor, short_number};
+ghost use Rattle.std.specs.Prelude.{◌<◌, IfOk};
+ghost use Rattle.csv.specs.Records.{fields_of};
+ghost use Rattle.ov_sweep_rows.specs.RowTexts.{Spells};
+ghost use Rattle.ov_sweep_rows.specs.Code.Fields.{text_at, SayOptions, SayParams, SayPhase, SayRow, SpellsCrash};
+ghost use Rattle.ov_sweep_rows.specs.Code.Fields.{SpellsDelivered, SpellsOrder, SpellsPace};
+
+use crate::row_fields::{RowFields, short_number};
 use crate::{COLUMNS, DeliveredShare, FieldForm, PhaseRow, Row, RowFault};
 use csv::{ByteRecord, ReaderBuilder};
 use ov_grow_options::{Chance, Count, Crash, GrowOptions, NodeCount, Order, Pace, Share};
 use ov_ids::Params;
 use ov_lines::read_number;
 use std::alloc::Global;
+
+/// The place of the first column of each phase.
+const SETTLE: usize = 18;
+
+const CRASH: usize = 24;
+
+const HEAL: usize = 30;
 
 /// Reads the rows of a text: the header, and one row a line, as `header_text` and `row_text` write them. A header that
 /// stands between rows is skipped, so that files of rows may be put together. A row that is not of this form is refused
@@ -39,32 +52,36 @@ fn is_header(names: &ByteRecord) -> bool {
 }
 
 /// The row that a record says.
-fn row_of(record: &ByteRecord) -> Result<Row, RowFault> {
+fn row_of(record: &ByteRecord) -> Result<Row, RowFault>
+    ensures { IfOk result (SayRow (fields_of record.now)) }
+{
     let line = record.position().map_or(0, |at| at.line);
-    let mut fields = FieldCursor::new(record, line);
-    let options = read_options(&mut fields)?;
-    let settle = read_phase(&mut fields)?;
-    let crash = read_phase(&mut fields)?;
-    let heal = read_phase(&mut fields)?;
+    let fields = RowFields { record, line };
+    let options = read_options(&fields)?;
+    let settle = read_phase(&fields, SETTLE)?;
+    let crash = read_phase(&fields, CRASH)?;
+    let heal = read_phase(&fields, HEAL)?;
     Ok(Row {
         options,
         phases: [settle, crash, heal],
     })
 }
 
-fn read_options(fields: &mut FieldCursor<'_>) -> Result<GrowOptions, RowFault> {
-    let nodes = read_made(fields, NodeCount::new, FieldForm::Nodes)?;
+fn read_options(fields: &RowFields<'_>) -> Result<GrowOptions, RowFault>
+    ensures { IfOk result (SayOptions (fields_of fields.now.record.now)) }
+{
+    let nodes = nodes_at(fields, 0)?;
     let params = read_params(fields)?;
-    let loss_join = read_made(fields, Chance::new, FieldForm::Chance)?;
-    let loss = read_made(fields, Chance::new, FieldForm::Chance)?;
-    let repeat = read_made(fields, Share::new, FieldForm::Share)?;
-    let order = read_order(fields)?;
-    let pace = read_pace(fields)?;
-    let rounds = read_made(fields, Count::new, FieldForm::Count)?;
-    let crash = read_crash(fields)?;
-    let heal = read_made(fields, Count::new, FieldForm::Count)?;
-    let broadcasts = read_made(fields, Count::new, FieldForm::Count)?;
-    let seed = read_seed(fields)?;
+    let loss_join = chance_at(fields, 8)?;
+    let loss = chance_at(fields, 9)?;
+    let repeat = share_at(fields, 10)?;
+    let order = order_at(fields, 11)?;
+    let pace = pace_at(fields, 12)?;
+    let rounds = count_at(fields, 13)?;
+    let crash = crash_at(fields, 14)?;
+    let heal = count_at(fields, 15)?;
+    let broadcasts = count_at(fields, 16)?;
+    let seed = seed_at(fields, 17)?;
     Ok(GrowOptions {
         nodes,
         params,
@@ -81,81 +98,129 @@ fn read_options(fields: &mut FieldCursor<'_>) -> Result<GrowOptions, RowFault> {
     })
 }
 
-/// The next field, which is a number of which a value is made.
-fn read_made<T, F: Fn(u32) -> Option<T>>(
-    fields: &mut FieldCursor<'_>,
-    make: F,
-    takes: FieldForm,
-) -> Result<T, RowFault>
-    requires { F.IsAlwaysCallable make }
+fn nodes_at(fields: &RowFields<'_>, place: usize) -> Result<NodeCount, RowFault>
+    ensures { IfOk result (Spells (text_at (fields_of fields.now.record.now) place)) }
 {
-    match short_number(fields.text()) {
-        None => fields.value(None, takes),
-        Some(number) => fields.value(make(number), takes),
+    if let Some(number) = short_number(fields.text(place))
+        && let Some(nodes) = NodeCount::new(number)
+    {
+        return Ok(nodes);
+    }
+    Err(fields.fault(place, FieldForm::Nodes))
+}
+
+fn chance_at(fields: &RowFields<'_>, place: usize) -> Result<Chance, RowFault>
+    ensures { IfOk result (Spells (text_at (fields_of fields.now.record.now) place)) }
+{
+    if let Some(number) = short_number(fields.text(place))
+        && let Some(chance) = Chance::new(number)
+    {
+        return Ok(chance);
+    }
+    Err(fields.fault(place, FieldForm::Chance))
+}
+
+fn share_at(fields: &RowFields<'_>, place: usize) -> Result<Share, RowFault>
+    ensures { IfOk result (Spells (text_at (fields_of fields.now.record.now) place)) }
+{
+    if let Some(number) = short_number(fields.text(place))
+        && let Some(share) = Share::new(number)
+    {
+        return Ok(share);
+    }
+    Err(fields.fault(place, FieldForm::Share))
+}
+
+fn count_at(fields: &RowFields<'_>, place: usize) -> Result<Count, RowFault>
+    ensures { IfOk result (Spells (text_at (fields_of fields.now.record.now) place)) }
+{
+    if let Some(number) = short_number(fields.text(place))
+        && let Some(count) = Count::new(number)
+    {
+        return Ok(count);
+    }
+    Err(fields.fault(place, FieldForm::Count))
+}
+
+fn seed_at(fields: &RowFields<'_>, place: usize) -> Result<u64, RowFault>
+    ensures { IfOk result (Spells (text_at (fields_of fields.now.record.now) place)) }
+{
+    match read_number(fields.text(place)) {
+        Some(seed) => Ok(seed),
+        None => Err(fields.fault(place, FieldForm::Seed)),
     }
 }
 
-fn read_params(fields: &mut FieldCursor<'_>) -> Result<Params, RowFault> {
-    let active = fields.number()?;
-    let passive = fields.number()?;
-    let arwl = fields.number()?;
-    let prwl = fields.number()?;
-    let ka = fields.number()?;
-    let kp = fields.number()?;
-    let ttl = fields.number()?;
-    let params = Params::new(active, passive, arwl, prwl, ka, kp, ttl);
-    fields.value(params.ok(), FieldForm::Params)
+fn read_params(fields: &RowFields<'_>) -> Result<Params, RowFault>
+    ensures { IfOk result (SayParams (fields_of fields.now.record.now)) }
+{
+    let active = fields.number(1)?;
+    let passive = fields.number(2)?;
+    let arwl = fields.number(3)?;
+    let prwl = fields.number(4)?;
+    let ka = fields.number(5)?;
+    let kp = fields.number(6)?;
+    let ttl = fields.number(7)?;
+    match Params::new(active, passive, arwl, prwl, ka, kp, ttl) {
+        Ok(params) => Ok(params),
+        Err(_) => Err(fields.fault(7, FieldForm::Params)),
+    }
 }
 
-fn read_order(fields: &mut FieldCursor<'_>) -> Result<Order, RowFault> {
-    let text = fields.text();
-    let order = if text == b"random".as_slice() {
-        Some(Order::Random)
-    } else if text == b"oldest".as_slice() {
-        Some(Order::Oldest)
-    } else {
-        None
-    };
-    fields.value(order, FieldForm::Order)
+fn order_at(fields: &RowFields<'_>, place: usize) -> Result<Order, RowFault>
+    ensures { IfOk result (SpellsOrder (text_at (fields_of fields.now.record.now) place)) }
+{
+    let text = fields.text(place);
+    if text == b"random".as_slice() {
+        return Ok(Order::Random);
+    }
+    if text == b"oldest".as_slice() {
+        return Ok(Order::Oldest);
+    }
+    Err(fields.fault(place, FieldForm::Order))
 }
 
-fn read_pace(fields: &mut FieldCursor<'_>) -> Result<Option<Pace>, RowFault> {
-    let text = fields.text();
+fn pace_at(fields: &RowFields<'_>, place: usize) -> Result<Option<Pace>, RowFault>
+    ensures { IfOk result (SpellsPace (text_at (fields_of fields.now.record.now) place)) }
+{
+    let text = fields.text(place);
     if text.is_empty() {
         return Ok(None);
     }
-    let pace = pace_of(text);
-    Ok(Some(fields.value(pace, FieldForm::Pace)?))
-}
-
-fn pace_of(text: &[u8]) -> Option<Pace> {
-    Pace::new(short_number(text)?)
-}
-
-fn read_crash(fields: &mut FieldCursor<'_>) -> Result<Crash, RowFault> {
-    let crash = crash_of(fields.text());
-    fields.value(crash, FieldForm::Crash)
-}
-
-fn crash_of(text: &[u8]) -> Option<Crash> {
-    if text == b"cut".as_slice() {
-        return Some(Crash::Cut);
+    if let Some(number) = short_number(text)
+        && let Some(pace) = Pace::new(number)
+    {
+        return Ok(Some(pace));
     }
-    Some(Crash::Share(Share::new(short_number(text)?)?))
+    Err(fields.fault(place, FieldForm::Pace))
 }
 
-fn read_seed(fields: &mut FieldCursor<'_>) -> Result<u64, RowFault> {
-    let seed = read_number(fields.text());
-    fields.value(seed, FieldForm::Seed)
+fn crash_at(fields: &RowFields<'_>, place: usize) -> Result<Crash, RowFault>
+    ensures { IfOk result (SpellsCrash (text_at (fields_of fields.now.record.now) place)) }
+{
+    let text = fields.text(place);
+    if text == b"cut".as_slice() {
+        return Ok(Crash::Cut);
+    }
+    if let Some(number) = short_number(text)
+        && let Some(share) = Share::new(number)
+    {
+        return Ok(Crash::Share(share));
+    }
+    Err(fields.fault(place, FieldForm::Crash))
 }
 
-fn read_phase(fields: &mut FieldCursor<'_>) -> Result<PhaseRow, RowFault> {
-    let nodes = fields.number()?;
-    let k = fields.number()?;
-    let least_degree = fields.number()?;
-    let links = fields.number()?;
-    let entries = fields.number()?;
-    let delivered = read_delivered(fields)?;
+/// What a run came to after a phase, by the six fields from this place on.
+fn read_phase(fields: &RowFields<'_>, first: usize) -> Result<PhaseRow, RowFault>
+    requires { first < 100 }
+    ensures { IfOk result (SayPhase (fields_of fields.now.record.now) first) }
+{
+    let nodes = fields.number(first)?;
+    let k = fields.number(first + 1)?;
+    let least_degree = fields.number(first + 2)?;
+    let links = fields.number(first + 3)?;
+    let entries = fields.number(first + 4)?;
+    let delivered = delivered_at(fields, first + 5)?;
     Ok(PhaseRow {
         nodes,
         k,
@@ -166,10 +231,15 @@ fn read_phase(fields: &mut FieldCursor<'_>) -> Result<PhaseRow, RowFault> {
     })
 }
 
-fn read_delivered(fields: &mut FieldCursor<'_>) -> Result<Option<DeliveredShare>, RowFault> {
-    let text = fields.text();
+fn delivered_at(fields: &RowFields<'_>, place: usize) -> Result<Option<DeliveredShare>, RowFault>
+    ensures { IfOk result (SpellsDelivered (text_at (fields_of fields.now.record.now) place)) }
+{
+    let text = fields.text(place);
     if text.is_empty() {
         return Ok(None);
     }
-    Ok(Some(fields.value(DeliveredShare::read(text), FieldForm::Delivered)?))
+    match DeliveredShare::read(text) {
+        Some(share) => Ok(Some(share)),
+        None => Err(fields.fault(place, FieldForm::Delivered)),
+    }
 }

@@ -1,11 +1,11 @@
 //! Analyses by several workers, and a board.
-use crate::gates::{Counting, Meeting, Opening};
+use crate::gates::{Counting, Holding, Meeting, Opening};
 use crate::graphs::{Family, of_size};
 use ov_board::Board;
 use ov_cert::Cert;
 use ov_claims::Workers;
 use ov_crew::{Gate, OpenGate, analyse, analyse_group, analyse_group_watched, work};
-use ov_even::{Watcher, analyse_alone, analyse_group_alone, total};
+use ov_even::{Unwatched, Watcher, analyse_alone, analyse_group_alone, total};
 use ov_ids::{NodeId, OutOfMemory};
 use std::alloc::Global;
 use std::test::Fail;
@@ -111,12 +111,29 @@ fn find<R: Threads + Sync, G: Gate>(
 
 /// Counts how often it is told of the beginning of a level, and of other places, for a group of so many members.
 #[derive(Drop)]
-struct Levels {
+pub(crate) struct Levels {
     members: usize,
     begun: u64,
     others: u64,
     /// Each level has been told with its size, and each place is one of its level.
     is_right: bool,
+}
+
+impl Levels {
+    /// Of a group of so many members, before anything is told.
+    pub(crate) fn new(members: usize) -> Levels {
+        Levels {
+            members,
+            begun: 0,
+            others: 0,
+            is_right: true,
+        }
+    }
+
+    /// Whether each level was told with its size, and by so many workers: one tells further pieces too.
+    pub(crate) fn were_told_by(&self, count: u32) -> bool {
+        self.is_right && self.begun > 0 && (self.others > 0) == (count == 1)
+    }
 }
 
 /// The number of pieces of a level: a pair for every two of the first `level` members, and a fan for each later one.
@@ -149,15 +166,9 @@ fn find_watched<R: Threads + Sync>(
     let workers = crew_of(count)?;
     let graph = of_size(alloc, row.family, row.nodes)?;
     let group = graph.nodes();
-    let mut levels = Levels {
-        members: group.len(),
-        begun: 0,
-        others: 0,
-        is_right: true,
-    };
+    let mut levels = Levels::new(group.len());
     let checked = analyse_group_watched(rt, alloc, &graph, group, workers, &OpenGate, &mut levels)?;
-    let is_told = levels.is_right && levels.begun > 0 && (levels.others > 0) == (count == 1);
-    Ok(gives(checked.cert(), row) && is_told)
+    Ok(gives(checked.cert(), row) && levels.were_told_by(count))
 }
 
 #[test]
@@ -199,6 +210,26 @@ fn a_level_that_pays_gets_two_workers(rt: HostRuntime) -> Result<(), Fail> {
         &mut opening,
     )?;
     assert!(rt; gives(checked.cert(), &TWO_SIDES) && meeting.saw_both());
+    Ok(())
+}
+
+/// Of an analysis that hires sparingly, no level of the Petersen graph pays a second worker.
+#[test]
+fn a_level_that_does_not_pay_gets_one_worker(rt: HostRuntime) -> Result<(), Fail> {
+    let gate = Holding::new();
+    let graph = of_size(rt.alloc(), PETERSEN.family, PETERSEN.nodes)?;
+    let group = graph.nodes();
+    let crew = crew_of(4)?;
+    let checked = analyse_group_watched(
+        &rt,
+        rt.alloc(),
+        &graph,
+        group,
+        crew,
+        &gate,
+        &mut Unwatched,
+    )?;
+    assert!(rt; gives(checked.cert(), &PETERSEN) && gate.saw_one() && !gate.saw_another());
     Ok(())
 }
 

@@ -31,6 +31,53 @@ impl Gate for Counting {
     }
 }
 
+/// How often the first worker looks whether another one has passed, at most.
+const FEW_LOOKS: u64 = 20_000_000;
+
+/// Holds the first worker that passes until another one does, for a bounded time.
+#[derive(Drop)]
+pub(crate) struct Holding {
+    passed: AtomicU64,
+    met: AtomicU64,
+}
+
+impl Holding {
+    pub(crate) fn new() -> Holding {
+        Holding {
+            passed: AtomicU64::new(0),
+            met: AtomicU64::new(0),
+        }
+    }
+
+    /// Whether a worker passed.
+    pub(crate) fn saw_one(&self) -> bool {
+        self.passed.load(Ordering::SeqCst) > 0
+    }
+
+    /// Whether another worker passed while the first one was held.
+    pub(crate) fn saw_another(&self) -> bool {
+        self.met.load(Ordering::SeqCst) == 1
+    }
+
+    /// Waits for another worker, in a bounded loop.
+    fn wait_for_another(&self) {
+        for _ in 0..FEW_LOOKS {
+            if self.passed.load(Ordering::SeqCst) > 1 {
+                self.met.store(1, Ordering::SeqCst);
+                return;
+            }
+        }
+    }
+}
+
+impl Gate for Holding {
+    fn pass(&self, _worker: u32, _number: u64) {
+        if self.passed.fetch_add(1, Ordering::SeqCst) == 0 {
+            self.wait_for_another();
+        }
+    }
+}
+
 /// Once it is open, holds the worker with number 0 until another worker has passed with number 1.
 #[derive(Drop)]
 pub(crate) struct Meeting {

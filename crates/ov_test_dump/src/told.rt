@@ -149,6 +149,20 @@ fn unread_lines(rt: HostRuntime) -> Result<(), Fail> {
     Ok(())
 }
 
+/// A word of 40 characters is shown whole, and of a longer one the first 40.
+#[test]
+fn long_words(rt: HostRuntime) -> Result<(), Fail> {
+    let alloc = rt.alloc();
+    let most = "0123456789abcdefghijklmnopqrstuvwxyzABC\u{e9}";
+    let whole = format!(in alloc; "`{most}` stands behind them")?;
+    let cut = format!(in alloc; "`{most}..` stands behind them")?;
+    let line = format!(in alloc; "a b {most}")?;
+    assert!(rt; is_unread(alloc, line.as_bytes(), whole.as_str())?);
+    let longer = format!(in alloc; "a b {most}D")?;
+    assert!(rt; is_unread(alloc, longer.as_bytes(), cut.as_str())?);
+    Ok(())
+}
+
 #[test]
 fn notes(rt: HostRuntime) -> Result<(), Fail> {
     let alloc = rt.alloc();

@@ -1,5 +1,5 @@
 //! Rows of a sweep, written out by hand.
-use ov_grow_options::{Chance, Count, Crash, GrowOptions, NodeCount, Order, Pace};
+use ov_grow_options::{Chance, Count, Crash, GrowOptions, NodeCount, Order, Pace, Share};
 use ov_ids::Params;
 use ov_sweep_rows::{DeliveredShare, PhaseRow, Row, read_rows};
 use std::alloc::Global;
@@ -12,9 +12,9 @@ settle_nodes,settle_k,settle_least_degree,settle_links,settle_entries,settle_del
 crash_nodes,crash_k,crash_least_degree,crash_links,crash_entries,crash_delivered,\
 heal_nodes,heal_k,heal_least_degree,heal_links,heal_entries,heal_delivered\n";
 
-/// Two rows, the second with every option at its default.
+/// Two rows: no two options of the first one have the same number, and all of the second one are at their defaults.
 const ROWS: [&str; 2] = [
-    "60,4,20,5,2,1,2,3,1,5,0,oldest,7,3,cut,2,10,18446744073709551615,\
+    "60,4,20,6,2,1,3,5,8,9,11,oldest,7,12,cut,13,10,18446744073709551615,\
      60,2,3,171,1834,0.9950,58,0,1,160,1836,0.0000,58,3,3,172,2100,1.0000\n",
     "100,5,30,6,3,3,4,4,0,0,0,random,,3,0,2,0,0,100,0,0,200,2000,,100,0,0,200,2000,,100,1,1,210,3000,\n",
 ];
@@ -42,15 +42,17 @@ fn delivered(row: PhaseRow, deliveries: u32) -> PhaseRow {
 fn first_options() -> Option<GrowOptions> {
     Some(GrowOptions {
         nodes: NodeCount::new(60)?,
-        params: Params::new(4, 20, 5, 2, 1, 2, 3).ok()?,
+        params: Params::new(4, 20, 6, 2, 1, 3, 5).ok()?,
         seed: u64::MAX,
-        loss_join: Chance::new(1)?,
-        loss: Chance::new(5)?,
+        loss_join: Chance::new(8)?,
+        loss: Chance::new(9)?,
+        repeat: Share::new(11)?,
         order: Order::Oldest,
         pace: Some(Pace::new(7)?),
+        rounds: Count::new(12)?,
         crash: Crash::Cut,
+        heal: Count::new(13)?,
         broadcasts: Count::new(10)?,
-        ..GrowOptions::default()
     })
 }
 
@@ -97,7 +99,7 @@ fn rows_are_read(rt: HostRuntime) -> Result<(), Fail> {
 }
 
 /// What the second row is changed from and to, and why it is refused then.
-static REFUSED: [(&str, &str, &str); 9] = [
+static REFUSED: [(&str, &str, &str); 12] = [
     (
         "100,5,",
         "257,5,",
@@ -112,6 +114,21 @@ static REFUSED: [(&str, &str, &str); 9] = [
         ",4,4,0,0,0,",
         ",4,0,0,0,0,",
         "line 3: ttl must be a number from 1 to 15, after parameters within their limits",
+    ),
+    (
+        ",4,4,0,0,0,",
+        ",4,4,101,0,0,",
+        "line 3: loss_join must be a number from 0 to 100",
+    ),
+    (
+        ",random,,3,",
+        ",random,,1001,",
+        "line 3: rounds must be a number from 0 to 1000",
+    ),
+    (
+        ",3,0,2,0,0,",
+        ",3,0,2,1001,0,",
+        "line 3: broadcasts must be a number from 0 to 1000",
     ),
     (
         ",random,",

@@ -1,0 +1,84 @@
+-- What the fields of a row say: which value stands in which column.
+use Rattle.std.specs.Prelude.{◌≡◌, ℕ, ◌+◌, List, [], codes, Option, Some, None, IfSome}
+use Rattle.std.specs.Prelude.{slice_get}
+use Rattle.ov_ids.specs.ParamsState.{ParamsState}
+use Rattle.csv.specs.Records.{field_at}
+use Rattle.ov_grow_options.specs.declared.options.Crash.{Crash}
+use Rattle.ov_grow_options.specs.declared.options.Crash.TheVariants.{Share, Cut}
+use Rattle.ov_grow_options.specs.declared.options.GrowOptions.{GrowOptions}
+use Rattle.ov_grow_options.specs.declared.options.Order.{Order}
+use Rattle.ov_grow_options.specs.declared.options.Order.TheVariants.{Random, Oldest}
+use Rattle.ov_sweep_rows.specs.declared.delivered_share.DeliveredShare.{DeliveredShare}
+use Rattle.ov_sweep_rows.specs.declared.row.PhaseRow.{PhaseRow}
+use Rattle.ov_sweep_rows.specs.declared.row.Row.{Row}
+use Rattle.ov_sweep_rows.specs.RowTexts.{Spells, SpellsParts}
+
+-- the text, or none
+abbrev pub or_empty : Option (List ℕ) → List ℕ
+or_empty None = []
+or_empty (Some text) = text
+
+-- the text in the column at a place, counted from 0; behind the last column it is empty
+abbrev pub text_at : List (List ℕ) → ℕ → List ℕ
+text_at fields place = or_empty (field_at fields place)
+
+-- the word for whose turn is next
+abbrev pub SpellsOrder : List ℕ → Order → Type 0
+SpellsOrder text Random = text ≡ codes "random"
+SpellsOrder text Oldest = text ≡ codes "oldest"
+
+-- how many turns there are between two births; nothing if that was not given
+abbrev pub SpellsPace : List ℕ → Option ℕ → Type 0
+SpellsPace text None = text ≡ []
+SpellsPace text (Some turns) = Spells text turns
+
+-- how many of 100 nodes crash, or the word for the cut
+abbrev pub SpellsCrash : List ℕ → Crash → Type 0
+SpellsCrash text (Share share) = Spells text share
+SpellsCrash text Cut = text ≡ codes "cut"
+
+-- the delivered share; nothing without broadcasts
+abbrev pub SpellsDelivered : List ℕ → Option DeliveredShare → Type 0
+SpellsDelivered text None = text ≡ []
+SpellsDelivered text (Some share) = SpellsParts text share.parts
+
+-- the fields behind the first one say these parameters
+pub record SayParams (fields : List (List ℕ)) (p : ParamsState) : Type 0 where
+  pub active : Spells (text_at fields 1) p.active
+  pub passive : Spells (text_at fields 2) p.passive
+  pub arwl : Spells (text_at fields 3) p.arwl
+  pub prwl : Spells (text_at fields 4) p.prwl
+  pub ka : Spells (text_at fields 5) p.ka
+  pub kp : Spells (text_at fields 6) p.kp
+  pub ttl : Spells (text_at fields 7) p.shuffle_ttl
+
+-- the first 18 fields of a row say these options
+pub record SayOptions (fields : List (List ℕ)) (options : GrowOptions) : Type 0 where
+  pub nodes : Spells (text_at fields 0) options.nodes
+  pub parameters : SayParams fields options.params
+  pub loss_joining : Spells (text_at fields 8) options.loss_join
+  pub loss_later : Spells (text_at fields 9) options.loss
+  pub repeated : Spells (text_at fields 10) options.repeat
+  pub turn : SpellsOrder (text_at fields 11) options.order
+  pub birth : SpellsPace (text_at fields 12) options.pace
+  pub settling : Spells (text_at fields 13) options.rounds
+  pub crashing : SpellsCrash (text_at fields 14) options.crash
+  pub healing : Spells (text_at fields 15) options.heal
+  pub told : Spells (text_at fields 16) options.broadcasts
+  pub seeded : Spells (text_at fields 17) options.seed
+
+-- the six fields from a place on say what a run came to after a phase
+pub record SayPhase (fields : List (List ℕ)) (first : ℕ) (phase : PhaseRow) : Type 0 where
+  pub living : Spells (text_at fields first) phase.nodes
+  pub fewest : Spells (text_at fields (first + 1)) phase.k
+  pub degree : Spells (text_at fields (first + 2)) phase.least_degree
+  pub linked : Spells (text_at fields (first + 3)) phase.links
+  pub moment : Spells (text_at fields (first + 4)) phase.entries
+  pub share : SpellsDelivered (text_at fields (first + 5)) phase.delivered
+
+-- the fields say this row: its options, and what it came to after each of its phases
+pub record SayRow (fields : List (List ℕ)) (row : Row) : Type 0 where
+  pub setting : SayOptions fields row.options
+  pub settled : IfSome (slice_get row.phases 0) (SayPhase fields 18)
+  pub crashed : IfSome (slice_get row.phases 1) (SayPhase fields 24)
+  pub healed : IfSome (slice_get row.phases 2) (SayPhase fields 30)
