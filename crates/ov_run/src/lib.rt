@@ -16,6 +16,7 @@ mod report_filing;
 mod run_fault;
 mod run_watcher;
 mod section_running;
+mod section_shifts;
 mod sections_at_once;
 mod sink_writing;
 mod strictness;
