@@ -39,14 +39,17 @@ fn push_places(
     earlier: &[Snapshot],
     later: &[Snapshot],
 ) -> Result<(), AllocError> {
-    let mut between = " ";
+    let mut is_first = true;
     let earlier = earlier
         .iter()
         .skip(earlier.len().saturating_sub(MOST_NAMED));
     for snapshot in earlier.chain(later.iter().take(MOST_NAMED)) {
+        if !is_first {
+            text.push(',')?;
+        }
         let taken = snapshot.moment;
-        write!(text, "{between}{taken}")?;
-        between = ", ";
+        write!(text, " {taken}")?;
+        is_first = false;
     }
     Ok(())
 }

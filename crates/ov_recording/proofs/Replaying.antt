@@ -30,6 +30,7 @@ use Rattle.ov_scenario.proofs.Scenarios.OneScenario.{one_scenario}
 use Rattle.ov_run.specs.Ending.{BeginsLine, BeginsLines}
 use Rattle.ov_run.specs.Printed.{entry_line, refused_line}
 use Rattle.ov_run.specs.Running.{PrintsLine, PrintsLines}
+use Rattle.ov_run.specs.declared.strictness.Strictness.TheVariants.{Lenient}
 use Rattle.ov_run.specs.Subjects.{AnalysisJudged, IsReported, SubjectThen, WasAnalysed, members_of}
 use Rattle.ov_recording.specs.Alike.{AreAlikeCores}
 use Rattle.ov_recording.specs.Replay.{AcceptsAll, AcceptsLine, MayBeAccepted, PrintsAccepted, PrintsAllAccepted}
@@ -240,7 +241,7 @@ some_more b l lines next own others text accepted is some = record {
 }
 
 lines_began : (b d : CoreState) (lines : List Line) (c : CoreState) (text : List ℕ) → AreAlikeCores b d
-    → AcceptsAll d lines c → BeginsLines b lines text → DidSomeOfIt b lines text ⊎ RanOutOfMemory b lines text
+    → AcceptsAll d lines c → BeginsLines Lenient b lines text → DidSomeOfIt b lines text ⊎ RanOutOfMemory b lines text
 lines_began b d [] c text alike grown is = inl (nothing b [] text is)
 lines_began b d (l ∷ lines) c text alike (mid, accepted, more) (inl begins) =
     inl (nothing b (l ∷ lines) text (line_began b d l mid text accepted begins))

@@ -3,11 +3,12 @@
 use Rattle.std.proofs.Common.{◌≡◌, ◌≢◌, ◌⊎◌, inl, inr, ◌∙◌, ◌+◌, ℕ, Bool, List, Option, Some, None, IfSome, Result, Ok}
 use Rattle.std.proofs.Common.{Err}
 use Rattle.std.proofs.Common.{refl, subst}
+use Rattle.std.specs.declared.io.buffered.BufWriter.{BufWriter}
 use Rattle.ov_io.specs.Device.{SinkState}
 use Rattle.ov_run.specs.Analysing.{IsAnalysis, PrintsAnalysis, BeginsAnalysis, IsAnalysisOf}
 use Rattle.ov_run.specs.Ending.{IsBegun, Begins, IsEnded, Ends}
 use Rattle.ov_run.specs.Faults.{IsScenarioFileFault, IsAnalysisFileFault, IsAnalysisFault, IsRunFault, read_faults}
-use Rattle.ov_run.specs.Run.{IsRunOf}
+use Rattle.ov_run.specs.Run.{IsRunInBlocks, IsRunOf, behind_buffer}
 use Rattle.ov_run.specs.Running.{IsOutput, PrintsScenario}
 use Rattle.ov_run.specs.Strict.{AcceptsScenario, IsAcceptedScenario, IsStoppedScenario, StopsScenario}
 use Rattle.ov_run.specs.declared.refusal.Refusal.{Refusal}
@@ -34,21 +35,25 @@ scenario_prints reader before after bytes read had same (own, text, is, output, 
 
 -- what it begins to print, if anything
 pub scenario_begins :
-    {W : Type 0} (sink sink_after : SinkState W) (reader before after : Option (List ℕ)) (bytes read : List ℕ)
-    → IfSome reader (λ xs. bytes ≡ xs) → read ≡ bytes → (sink_after ≡ sink) ⊎ Begins (Some read) before after
-    → (sink_after ≡ sink) ⊎ Begins reader before after
-scenario_begins sink sink_after reader before after bytes read had same (inl unchanged) = inl unchanged
-scenario_begins sink sink_after reader before after bytes read had same (inr (own, text, is, begun, went)) =
-    inr (bytes, text, had, subst (λ bs. IsBegun bs text) (is ∙ same) begun, went)
+    {W : Type 0} (strictness : Strictness) (sink sink_after : SinkState W) (reader before after : Option (List ℕ))
+    (bytes read : List ℕ)
+    → IfSome reader (λ xs. bytes ≡ xs) → read ≡ bytes
+    → (sink_after ≡ sink) ⊎ Begins strictness (Some read) before after
+    → (sink_after ≡ sink) ⊎ Begins strictness reader before after
+scenario_begins strictness sink sink_after reader before after bytes read had same (inl unchanged) = inl unchanged
+scenario_begins strictness sink sink_after reader before after bytes read had same (inr (own, text, is, begun, went)) =
+    inr (bytes, text, had, subst (λ bs. IsBegun strictness bs text) (is ∙ same) begun, went)
 
 -- what it prints before it ends out of memory
 pub scenario_ends :
-    {W : Type 0} (sink sink_after : SinkState W) (reader before after : Option (List ℕ)) (bytes read : List ℕ)
-    → IfSome reader (λ xs. bytes ≡ xs) → read ≡ bytes → (sink_after ≡ sink) ⊎ Ends (Some read) before after
-    → (sink_after ≡ sink) ⊎ Ends reader before after
-scenario_ends sink sink_after reader before after bytes read had same (inl unchanged) = inl unchanged
-scenario_ends sink sink_after reader before after bytes read had same (inr (own, text, is, ended, went)) =
-    inr (bytes, text, had, subst (λ bs. IsEnded bs text) (is ∙ same) ended, went)
+    {W : Type 0} (strictness : Strictness) (sink sink_after : SinkState W) (reader before after : Option (List ℕ))
+    (bytes read : List ℕ)
+    → IfSome reader (λ xs. bytes ≡ xs) → read ≡ bytes
+    → (sink_after ≡ sink) ⊎ Ends strictness (Some read) before after
+    → (sink_after ≡ sink) ⊎ Ends strictness reader before after
+scenario_ends strictness sink sink_after reader before after bytes read had same (inl unchanged) = inl unchanged
+scenario_ends strictness sink sink_after reader before after bytes read had same (inr (own, text, is, ended, went)) =
+    inr (bytes, text, had, subst (λ bs. IsEnded strictness bs text) (is ∙ same) ended, went)
 
 -- the fault of its run
 pub run_fault :
@@ -88,7 +93,7 @@ pub run_of_reader :
 run_of_reader strictness contents sink sink' reader bytes read (Ok status) had same ran = record {
   status = ran.status;
   prints = scenario_prints _ _ _ bytes read had same ran.prints;
-  begun = scenario_begins sink sink' _ _ _ bytes read had same ran.begun;
+  begun = scenario_begins strictness sink sink' _ _ _ bytes read had same ran.begun;
   sink = ran.sink;
   fault = tt;
   unread = tt;
@@ -99,14 +104,28 @@ run_of_reader strictness contents sink sink' reader bytes read (Ok status) had s
 run_of_reader strictness contents sink sink' reader bytes read (Err f) had same ran = record {
   status = tt;
   prints = tt;
-  begun = scenario_begins sink sink' _ _ _ bytes read had same ran.begun;
+  begun = scenario_begins strictness sink sink' _ _ _ bytes read had same ran.begun;
   sink = ran.sink;
   fault = run_fault _ bytes read f had same ran.fault;
   unread = ran.unread;
-  memory = λ e. scenario_ends sink sink' _ _ _ bytes read had same (ran.memory e);
+  memory = λ e. scenario_ends strictness sink sink' _ _ _ bytes read had same (ran.memory e);
   accepts = λ strict. tt;
   stops = λ n refusal e. let own = ran.stops n refusal e in
       (own.0, scenario_stops _ _ _ bytes read n refusal had same own.1);
+}
+
+-- its run in blocks
+pub run_in_blocks_of_reader :
+    {W A : Type 0} (strictness : Strictness) (contents : W → Option (List ℕ)) (sink : SinkState (BufWriter W A))
+    (sink' : SinkState W) (reader : Option (List ℕ)) (bytes read : List ℕ) (result : Result ℕ RunFault)
+    → IfSome reader (λ xs. bytes ≡ xs) → read ≡ bytes → IsRunInBlocks strictness (Some read) contents sink sink' result
+    → IsRunInBlocks strictness reader contents sink sink' result
+run_in_blocks_of_reader strictness contents sink sink' reader bytes read result had same ran = record {
+  run = λ other. run_of_reader strictness contents (behind_buffer sink) sink' reader bytes read result had same
+      (ran.run other);
+  begun = λ write. let own = ran.begun write in
+      (bytes, own.1, had, subst (λ bs. IsBegun strictness bs own.1) (own.2 ∙ same) own.3, own.4);
+  sink = ran.sink;
 }
 
 -- ---- a graph file

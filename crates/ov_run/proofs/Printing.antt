@@ -1,6 +1,7 @@
 -- What a scenario prints.
 pub mod Ending
 pub mod HandedOn
+pub mod InBlocks
 pub mod OneLine
 pub mod Outcomes
 pub mod Running

@@ -9,7 +9,7 @@ use Rattle.ov_scenario.specs.declared.scenario.Line.TheVariants as line
 use Rattle.ov_scenario.specs.declared.scenario.Scenario.{Scenario}
 use Rattle.ov_snap.specs.CoreState.{CoreState, opening_core}
 use Rattle.ov_run.specs.Accepting.{DoesEvent, FilesReport, RefusesAnalysis, RefusesEvent, RefusesLook, ShowsLook}
-use Rattle.ov_run.specs.Running.{RunsBlock}
+use Rattle.ov_run.specs.Running.{PrintsLine, RunsBlock}
 use Rattle.ov_run.specs.Sections.{RunTogether, ToldLine, refused_in}
 use Rattle.ov_run.specs.declared.line_outcome.Outcome.TheVariants.{Refused}
 use Rattle.ov_run.specs.declared.refusal.Refusal.{Refusal}
@@ -30,6 +30,11 @@ AcceptsLine b (line.Look look) u text = (u ≡ b) × ShowsLook b look text
 AcceptsLine b (line.Analyse subject workers) u text = FilesReport b subject u text
 AcceptsLine b (line.Together sections) u text =
     (told : List ToldLine) × RunsBlock b sections told u text × (refused_in told ≡ 0)
+
+-- a line prints this, and the run goes on after it: of a strict run only if the line is accepted
+abbrev pub GoesOn : Strictness → CoreState → Line → CoreState → List ℕ → Type 0
+GoesOn Lenient b line u text = PrintsLine b line u text
+GoesOn Strict b line u text = AcceptsLine b line u text
 
 -- the first of these lines of sections that was refused is line n of the file, and it was refused for this reason
 abbrev pub IsFirstRefused : List ToldLine → ℕ → Refusal → Type 0

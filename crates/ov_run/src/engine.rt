@@ -1,8 +1,9 @@
-ghost use Rattle.std.specs.Prelude.{◌≡◌, ◌<◌, ◌≤◌, ◌≢◌, Some, Err, IfOk, IfErr};
+ghost use Rattle.std.specs.Prelude.{◌≡◌, ◌<◌, ◌≤◌, ◌≢◌, [], Some, Err, IfOk, IfErr};
+ghost use Rattle.std.specs.Io.Buffered.{writer_buffer};
 ghost use Rattle.ov_io.specs.Device.{most_faults};
 ghost use Rattle.ov_run.specs.Code.Outcomes.{RanLines};
-ghost use Rattle.ov_run.specs.Code.Writing.{IsBeforeLines};
-ghost use Rattle.ov_run.specs.Run.{IsRun, IsRunOf};
+ghost use Rattle.ov_run.specs.Code.Writing.{is_write, IsBeforeLines};
+ghost use Rattle.ov_run.specs.Run.{IsRun, IsRunInBlocks, IsRunOf};
 ghost use Rattle.ov_scenario.specs.RunLines.{drivers_for, lines_that_run};
 ghost use Rattle.ov_scenario.specs.Scenarios.{IsScenario};
 ghost use Rattle.ov_snap.specs.CoreState.{opening_core};
@@ -18,7 +19,7 @@ use ov_ids::Params;
 use ov_io::{Sink, Source};
 use ov_scenario::{LinesToRun, Scenario, read_scenario};
 use std::alloc::Global;
-use std::io::{Read, Write};
+use std::io::{BufWriter, Read, Write};
 use std::marker::Brand;
 use std::sync::Wait;
 use std::thread::Threads;
@@ -102,6 +103,42 @@ pub fn run_bytes<T: Threads + Wait + Sync, W: Write, V: RunWatcher>(
         watcher,
     )?;
     Ok(0)
+}
+
+/// Does what `run_bytes` does, and prints in blocks: through a buffer, which is empty. At the end what it keeps back is
+/// written, and it is taken away. So all that is promised is promised of the writer itself, whose sink is returned.
+///
+/// Write (72) is returned too if this last write fails. Nothing more is then written, nor after any other write that
+/// failed: what the buffer keeps back is dropped.
+pub fn run_in_blocks<T: Threads + Wait + Sync, W: Write + Drop, V: RunWatcher>(
+    rt: &T,
+    alloc: Global,
+    bytes: &[u8],
+    mut sink: Sink<BufWriter<W>>,
+    strictness: Strictness,
+    watcher: &mut V,
+) -> (Sink<W>, Result<u8, RunFault>)
+    requires writes { sink.faults < most_faults }
+    requires empty { writer_buffer sink.writer ≡ [] }
+    ensures run { IsRunInBlocks strictness (Some bytes.now) W.contents sink result.0 result.1 }
+    ensures read { result.1 ≢ Err RunFault.Read }
+{
+    let ran = run_bytes(rt, alloc, bytes, &mut sink, strictness, watcher);
+    if failed_to_write(&ran) {
+        return (sink.give_up(), ran);
+    }
+    let (sink, handed_on) = sink.hand_on();
+    match handed_on {
+        Ok(()) => (sink, ran),
+        Err(fault) => (sink, Err(fault.into())),
+    }
+}
+
+/// Whether a run ended since its writer failed.
+fn failed_to_write(ran: &Result<u8, RunFault>) -> bool
+    ensures { result ≡ is_write ran.now }
+{
+    matches!(ran, Err(RunFault::Write))
 }
 
 /// Runs these lines in a new hall, in which nothing happened, and writes what they print.

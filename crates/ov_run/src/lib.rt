@@ -16,13 +16,14 @@ mod report_filing;
 mod run_fault;
 mod run_watcher;
 mod section_running;
+mod section_shifts;
 mod sections_at_once;
 mod sink_writing;
 mod strictness;
 mod theorems;
 
 pub use answered::Answered;
-pub use engine::{run, run_bytes, run_watched};
+pub use engine::{run, run_bytes, run_in_blocks, run_watched};
 pub use graph_analysis::{analyse_bytes, analyse_file, members_of};
 pub use line_texts::{
     cert_line, entry_line, node_line, packet_line, refused_line, report_line, together_line,

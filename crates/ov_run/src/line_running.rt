@@ -1,4 +1,4 @@
-ghost use Rattle.std.specs.Prelude.{◌≡◌, ◌⊎◌, ◌<◌, ◌≤◌, ◌+◌, length, IfOk, IfErr, OnErr, IsErrOf};
+ghost use Rattle.std.specs.Prelude.{◌≡◌, ◌⊎◌, ◌<◌, ◌≤◌, ◌+◌, length, None, IfOk, IfErr, OnErr, IsErrOf};
 ghost use Rattle.ov_io.specs.Device.{AppendsPrefixOf, most_faults, write_faults as sink_faults, write_number};
 ghost use Rattle.ov_net.specs.declared.journal_entry_and_changes.Entry.{Entry};
 ghost use Rattle.ov_snap.specs.Run.{Happened};
@@ -7,7 +7,7 @@ ghost use Rattle.ov_run.specs.Accepting.{RefusesAnalysis, RefusesEvent, RefusesL
 ghost use Rattle.ov_run.specs.Ending.{BeginsLook, EndsLook};
 ghost use Rattle.ov_run.specs.Faults.{write_faults};
 ghost use Rattle.ov_run.specs.Code.Outcomes.{LineRan, RanAsBlock, RanLines, WritesOutcome, WritesRest, rest_of};
-ghost use Rattle.ov_run.specs.Code.Outcomes.{stop_of};
+ghost use Rattle.ov_run.specs.Code.Outcomes.{is_event_line, stop_of};
 ghost use Rattle.ov_run.specs.Code.Jobs.{HasDrivers};
 ghost use Rattle.ov_run.specs.Code.Writing.{Writes, WritesPrefix, IsOfWriting};
 ghost use Rattle.ov_scenario.specs.RunLines.{drivers_for};
@@ -102,6 +102,7 @@ fn run_each<N: HallName + Send + Sync, T: Threads + Wait + Sync, W: Write, V: Ru
 fn ran_line<'a>(next: &LineToRun<'a>) -> RanLine<'a>
     ensures number { result.number ≡ next.now.number }
     ensures text { result.text.now ≡ next.now.text.now }
+    ensures event { result.is_event ≡ is_event_line next.now.line }
 {
     RanLine {
         number: next.number,
@@ -120,6 +121,7 @@ fn settle<W: Write>(
 ) -> Result<Option<(usize, Refusal)>, WriteFault>
     requires faults { sink.old.faults < most_faults }
     ensures stop { IfOk result (λ stop. stop ≡ stop_of strictness number came.now) }
+    ensures goes_on { OnErr result (stop_of strictness number came.now ≡ None) }
     ensures bytes { IfOk result (λ stop. WritesRest (W.contents sink.old.writer) (W.contents sink.new.writer) came.now
         stop) }
     ensures prefix { OnErr result

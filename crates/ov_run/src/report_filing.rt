@@ -137,7 +137,7 @@ fn keep(recent: &mut RecentReports, report: &Report)
     }
 }
 
-/// Makes the report of an analysis of these members of a snapshot.
+/// Makes the report of an analysis of these members of a snapshot. It shares the snapshot's graph.
 fn make_report<T: Threads + Sync>(
     rt: &T,
     alloc: Global,
@@ -151,16 +151,17 @@ fn make_report<T: Threads + Sync>(
     ensures answer { IfOk result (λ r. IsAnswer r.graph r.members r.cert) }
     ensures err { IfErr result (λ f. f ≡ out_of_memory) }
 {
+    let graph = snapshot.graph.share()?;
     match analyse_group_watched(
         rt,
         alloc,
-        &snapshot.graph,
+        &graph,
         members,
         workers,
         &OpenGate,
         &mut Unwatched,
     ) {
-        Ok(checked) => Ok(Report::new(alloc, snapshot.moment, checked)?),
+        Ok(checked) => Ok(Report::new(alloc, snapshot.moment, checked.sharing(graph))?),
         Err(_) => Err(CoreFault::OutOfMemory),
     }
 }

@@ -1,5 +1,5 @@
 //! One section, whose lines a driver runs in order.
-ghost use Rattle.std.specs.Prelude.{◌≡◌, ◌⊎◌, IfOk, IfErr, OnOk};
+ghost use Rattle.std.specs.Prelude.{◌≡◌, ◌⊎◌, ◌↔◌, [], IfOk, IfErr, IsTrue, OnOk};
 ghost use Rattle.ov_hall.specs.Logs.{core_made};
 ghost use Rattle.ov_hall.specs.Passes.{HasFiled, HasLooked};
 ghost use Rattle.ov_ids.specs.FaultOrder.{IsRefusedBy};
@@ -57,6 +57,13 @@ impl<'a> Section<'a> {
         let lines = lines.into_vec();
         let room = Vec::with_capacity(alloc, lines.len())?;
         Ok(Section { lines, room })
+    }
+
+    /// Whether it has no line.
+    pub(crate) fn is_empty(&self) -> bool
+        ensures { IsTrue result ↔ self.now ≡ [] }
+    {
+        self.lines.is_empty()
     }
 }
 

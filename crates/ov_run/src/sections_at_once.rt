@@ -1,17 +1,17 @@
-//! The sections of a block, each in a thread of its own.
+//! The sections of a block, each with lines in a thread of its own.
 ghost use Rattle.std.specs.Prelude.{◌≡◌, ◌≤◌, ◌<◌, ◌+◌, [], length, map, vec_capacity, IfOk};
 ghost use Rattle.ov_run.specs.Sections.{RunTogether, accepted_in, refused_in};
-ghost use Rattle.ov_run.specs.Code.Jobs.{HasRun, HaveRun, jobs_of, joined};
+ghost use Rattle.ov_run.specs.Code.Jobs.{HaveRun, jobs_of, joined};
 
 use crate::hall_of_run::RunHall;
 use crate::line_outcome::{ToldLine, count_accepted};
-use crate::section_running::{Job, Ran, Section, run_section};
+use crate::section_running::{Job, Ran, Section};
+use crate::section_shifts::{Shift, in_one_list, run_shift, run_shifts, shifts_of};
 use ov_hall::{Hall, HallName, Pass};
 use ov_ids::{OutOfMemory, Seq};
 use ov_scenario::SectionLine;
 use std::alloc::Global;
 use std::sync::Wait;
-use std::thread;
 use std::thread::Threads;
 
 /// What came of a block: the hall after it, what is told of the lines of each section, and how many of all lines were
@@ -24,8 +24,9 @@ pub struct BlockRan<'a, N: HallName> {
     pub refused: u128,
 }
 
-/// Runs section i by driver i, all at once, each in a thread of its own. The room for what is told of the lines is made
-/// before any line runs. Out of memory ends the hall, since threads that have no room drop their passes.
+/// Runs section i by driver i, all at once: each section that has lines in a thread of its own, or, if no other one has
+/// lines, in this thread. The room for what is told of the lines is made before any line runs. Out of memory ends the
+/// hall, since the passes are dropped then.
 pub fn run_together<'a, N: HallName + Send + Sync, T: Threads + Wait + Sync>(
     rt: &T,
     alloc: Global,
@@ -73,7 +74,9 @@ fn jobs_of<'a, N: HallName>(
     Ok(jobs)
 }
 
-/// Does each job in a thread of its own. Returns the results in order.
+/// Does each job. If two of them have lines, those with lines are done at once, each in a thread of its own, in which the
+/// jobs without lines that follow it are done too; otherwise all are done here, and no thread is started. Returns the
+/// results in order.
 fn run_jobs<'a, N: HallName + Send + Sync, T: Threads + Wait + Sync>(
     rt: &T,
     alloc: Global,
@@ -82,10 +85,32 @@ fn run_jobs<'a, N: HallName + Send + Sync, T: Threads + Wait + Sync>(
 ) -> Result<Vec<Ran<'a, N>>, OutOfMemory>
     ensures { IfOk result (λ ran. HaveRun N.params jobs.entry.items ran.items) }
 {
-    let work = |job|
-        ensures { HasRun N.params job.entry result }
-    { run_section(rt, alloc, hall, job) };
-    Ok(thread::map_vec(rt, jobs, &work)?)
+    if !have_two_with_lines(&jobs) {
+        let shift = Shift::new(alloc, jobs)?;
+        return Ok(run_shift(rt, alloc, hall, shift));
+    }
+    run_at_once(rt, alloc, hall, jobs)
+}
+
+/// Whether two of these jobs, or more, have lines.
+fn have_two_with_lines<N: HallName>(jobs: &[Job<'_, N>]) -> bool {
+    let mut with_lines = jobs.iter().filter(|job| !job.1.is_empty());
+    with_lines.nth(1).is_some()
+}
+
+/// Does the jobs with lines at once, each in a thread of its own. Returns the results in order.
+fn run_at_once<'a, N: HallName + Send + Sync, T: Threads + Wait + Sync>(
+    rt: &T,
+    alloc: Global,
+    hall: &Hall<N>,
+    jobs: Vec<Job<'a, N>>,
+) -> Result<Vec<Ran<'a, N>>, OutOfMemory>
+    ensures { IfOk result (λ ran. HaveRun N.params jobs.entry.items ran.items) }
+{
+    let room = Vec::with_capacity(alloc, jobs.len())?;
+    let shifts = shifts_of(alloc, jobs)?;
+    let done = run_shifts(rt, alloc, hall, shifts)?;
+    Ok(in_one_list(done, room))
 }
 
 /// The passes of all drivers, and what is told of the lines of each. Both go where there is room for them.

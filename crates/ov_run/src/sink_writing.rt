@@ -5,7 +5,7 @@ ghost use Rattle.ov_certfile.specs.Forms.{last_moment};
 ghost use Rattle.ov_net.specs.Limits.{most_packets};
 ghost use Rattle.ov_net.specs.Net.{LivesAs};
 ghost use Rattle.ov_peer.specs.PeerState.{PeerState};
-ghost use Rattle.ov_run.specs.Ending.{BeginsPackets};
+ghost use Rattle.ov_run.specs.Ending.{BeginsPackets, EndsPackets};
 ghost use Rattle.ov_run.specs.Faults.{write_faults};
 ghost use Rattle.ov_run.specs.Accepting.{HidesCertificate, HidesNode, ShowsCertificate, ShowsNode};
 ghost use Rattle.ov_run.specs.Printed.{entry_line, file_text, node_line};
@@ -165,7 +165,8 @@ fn file_text(alloc: Global, report: &Report) -> Result<String, OutOfMemory>
     Ok(format!(in alloc; "{text}\n")?)
 }
 
-/// Writes the lines of packets. If OutOfMemory is returned, the lines of the first packets were written whole.
+/// Writes the lines of packets. If OutOfMemory is returned, the lines of the first packets were written whole, and at
+/// least one was still to come.
 pub(crate) fn write_packets<W: Write>(
     alloc: Global,
     packets: &BlockList<Packet>,
@@ -178,7 +179,7 @@ pub(crate) fn write_packets<W: Write>(
         (W.contents sink.old.writer) (W.contents sink.new.writer)) }
     ensures begun { WritesPrefix (BeginsPackets packets.now.items)
         (W.contents sink.old.writer) (W.contents sink.new.writer) }
-    ensures memory { IsErrOf result RunFault.OutOfMemory → Writes (BeginsPackets packets.now.items)
+    ensures memory { IsErrOf result RunFault.OutOfMemory → Writes (EndsPackets packets.now.items)
         (W.contents sink.old.writer) (W.contents sink.new.writer) }
     ensures faults { sink.new.faults ≡ sink.old.faults + write_faults result }
     ensures kind { IfErr result IsOfWriting }

@@ -151,10 +151,3 @@ ran_together params n seen log b u sections rs told some few at to is ran begin 
           let b = idle_begins params seen log x 0 n sections rs (omega (arith, high)) (omega (arith, low)) ran begin in
           let same : b.0 ≡ on.0 = same_rest seen b.0 on.0 (sym b.1 ∙ on.1) in
           subst (λ l. of_driver x l ≡ 0) same b.2
-
--- there is a result for each job
-pub ran_length : (params : ParamsState) (js : List Job) (rs : List Ran) → HaveRun params js rs → length rs ≡ length js
-ran_length params [] [] ran = refl
-ran_length params [] (r ∷ rs) ran = absurd ran
-ran_length params (j ∷ js) [] ran = absurd ran
-ran_length params (j ∷ js) (r ∷ rs) ran = omega (arith, ran_length params js rs ran.1)

@@ -1,15 +1,18 @@
 -- What is printed up to some point, and what went to a writer of that.
-use Rattle.std.proofs.Common.{◌≡◌, ◌⊎◌, inl, inr, ℕ, Option, Some, None, List, [], ◌∷◌, ◌++◌, append_assoc, ap, sym}
+use Rattle.std.proofs.Common.{◌≡◌, inl, inr, ℕ, Option, Some, None, List, [], ◌∷◌, ◌++◌, append_assoc, ap, sym}
 use Rattle.std.proofs.Common.{◌∙◌, refl}
 use Rattle.std.proofs.Common.{Result, Ok, Err, OnOk, IsErrAnd, IsErrOf, subst}
 use Rattle.std.proofs.KnownBytes.{Appends-nil, Appends-trans}
 use Rattle.std.proofs.lemmas.List.{append-nil}
 use Rattle.std.specs.Io.KnownBytes.{Appends, Keeps}
 use Rattle.ov_io.specs.Device.{AppendsPrefixOf}
-use Rattle.ov_snap.specs.CoreState.{CoreState, opening_core}
-use Rattle.ov_run.specs.Ending.{BeginsLook, BeginsLine, BeginsLines, IsBegun}
-use Rattle.ov_run.specs.Running.{PrintsLook, PrintsLine, PrintsLines, IsOutput}
+use Rattle.ov_snap.specs.CoreState.{CoreState}
+use Rattle.ov_run.specs.Ending.{BeginsLook, BeginsLine, BeginsLines}
+use Rattle.ov_run.specs.Strict.{GoesOn}
 use Rattle.ov_run.specs.Code.Writing.{Writes}
+use Rattle.ov_run.specs.declared.strictness.Strictness.{Strictness}
+use Rattle.ov_run.specs.declared.strictness.Strictness.TheVariants.{Strict}
+use Rattle.ov_run.proofs.Printing.Settling.{accepted_goes_on}
 use Rattle.ov_scenario.specs.declared.scenario.Line.{Line}
 use Rattle.ov_scenario.specs.declared.scenario.Line.TheVariants as line
 use Rattle.ov_scenario.specs.declared.scenario.Look.{Look}
@@ -26,42 +29,30 @@ line_nothing b (line.Look look) = look_nothing b look
 line_nothing b (line.Analyse subject workers) = refl
 line_nothing b (line.Together sections) = refl
 
--- nothing is printed yet
-pub nothing : (b : CoreState) (lines : List Line) → BeginsLines b lines []
-nothing b [] = refl
-nothing b (line ∷ lines) = inl (line_nothing b line)
+module _ (strictness : Strictness) (b : CoreState) where
+  -- nothing is printed yet
+  pub nothing : (lines : List Line) → BeginsLines strictness b lines []
+  nothing [] = refl
+  nothing (line ∷ lines) = inl (line_nothing b line)
 
--- a line is printed whole, and no other follows it
-pub whole : (b : CoreState) (line : Line) (next : CoreState) (text : List ℕ) → PrintsLine b line next text
-    → BeginsLines b (line ∷ []) text
-whole b line next text prints = inr (next, text, [], prints, refl, sym (append-nil text))
-
--- a look is printed, whole or up to some point
-pub looked : (b : CoreState) (look : Look) (text : List ℕ) → BeginsLook b look text ⊎ PrintsLook b look text
-    → BeginsLines b (line.Look look ∷ []) text
-looked b look text (inl begins) = inl begins
-looked b look text (inr prints) = whole b (line.Look look) b text (refl, prints)
+  -- a line is printed whole, and no other follows it
+  pub whole : (line : Line) (next : CoreState) (text : List ℕ) → GoesOn strictness b line next text
+      → BeginsLines strictness b (line ∷ []) text
+  whole line next text prints = inr (next, text, [], prints, refl, sym (append-nil text))
 
 -- what begins a line begins it also where others follow it
-pub followed : (b : CoreState) (line : Line) (lines : List Line) (text : List ℕ) → BeginsLines b (line ∷ []) text
-    → BeginsLines b (line ∷ lines) text
-followed b line lines text (inl begins) = inl begins
-followed b line lines text (inr (next, own, others, prints, none, is)) =
-    inr (next, own, [], prints, nothing next lines, is ∙ ap (λ t. own ++ t) none)
+pub followed : (strictness : Strictness) (b : CoreState) (line : Line) (lines : List Line) (text : List ℕ)
+    → BeginsLines strictness b (line ∷ []) text → BeginsLines strictness b (line ∷ lines) text
+followed strictness b line lines text (inl begins) = inl begins
+followed strictness b line lines text (inr (next, own, others, prints, none, is)) =
+    inr (next, own, [], prints, nothing strictness next lines, is ∙ ap (λ t. own ++ t) none)
 
--- all lines are printed, so they are up to the last point
-pub all_printed : (b : CoreState) (lines : List Line) (u : CoreState) (text : List ℕ) → PrintsLines b lines u text
-    → BeginsLines b lines text
-all_printed b [] u text prints = prints.1
-all_printed b (line ∷ lines) u text (next, own, others, first, rest, is) =
-    inr (next, own, others, first, all_printed next lines u others rest, is)
-
-pub output_begun : (bytes text : List ℕ) → IsOutput bytes text → IsBegun bytes text
-output_begun bytes text o = record {
-  scenario = o.scenario;
-  says = o.says;
-  lines = all_printed (opening_core o.scenario.params) o.scenario.lines.items o.core text o.lines;
-}
+-- what begins lines of a strict run begins them in any run: of one line
+pub begun_so_too : (strictness : Strictness) (b : CoreState) (line : Line) (text : List ℕ)
+    → BeginsLines Strict b (line ∷ []) text → BeginsLines strictness b (line ∷ []) text
+begun_so_too strictness b line text (inl begins) = inl begins
+begun_so_too strictness b line text (inr (next, own, others, accepts, none, is)) =
+    inr (next, own, others, accepted_goes_on strictness b line next own accepts, none, is)
 
 -- ---- prefixes of what went to a writer
 

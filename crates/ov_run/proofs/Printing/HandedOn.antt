@@ -38,9 +38,9 @@ module _ {A W : Type 0} (strictness : Strictness) (contents : W → Option (List
   -- it stopped by this fault
   pub stopped_by :
       (result : Result A RunFault) (f : RunFault) → IsErrAnd result (λ e. e ≡ f)
-      → WritesPrefix (BeginsLines b lines) (contents before.writer) (contents after.writer) → IsOfWriting f
+      → WritesPrefix (BeginsLines strictness b lines) (contents before.writer) (contents after.writer) → IsOfWriting f
       → after.faults ≡ before.faults + write_faults {A = A} (Err f)
-      → (f ≡ OutOfMemory → Writes (EndsLines b lines) (contents before.writer) (contents after.writer))
+      → (f ≡ OutOfMemory → Writes (EndsLines strictness b lines) (contents before.writer) (contents after.writer))
       → RanLines strictness contents b lines asked before after result
   stopped_by result f is begun kind counted ended =
       subst (RanLines strictness contents b lines asked before after) (sym (failed_by result f is)) (record {
@@ -58,7 +58,7 @@ module _ {A W : Type 0} (strictness : Strictness) (contents : W → Option (List
   pub stopped_at :
       (n : ℕ) (refusal : Refusal) → strictness ≡ Strict
       → Writes (StopsLines b lines asked n refusal) (contents before.writer) (contents after.writer)
-      → WritesPrefix (BeginsLines b lines) (contents before.writer) (contents after.writer)
+      → WritesPrefix (BeginsLines strictness b lines) (contents before.writer) (contents after.writer)
       → after.faults ≡ before.faults + 0
       → RanLines {A = A} strictness contents b lines asked before after (Err (Refused n refusal))
   stopped_at n refusal strict stops begun counted = record {

@@ -24,8 +24,8 @@ use Rattle.ov_run.specs.declared.line_outcome.Outcome.{Outcome}
 use Rattle.ov_run.specs.declared.line_outcome.Outcome.TheVariants.{Accepted, Refused}
 use Rattle.ov_run.specs.declared.run_fault.RunFault.{RunFault}
 use Rattle.ov_run.specs.declared.run_fault.RunFault.TheVariants.{Write, OutOfMemory}
+use Rattle.ov_run.specs.declared.strictness.Strictness.TheVariants.{Strict}
 use Rattle.ov_run.proofs.Printing.Ending.{err_of, failed_by, kept_appended, kept_prefix, none_went, nothing, whole}
-use Rattle.ov_run.proofs.Printing.Settling.{look_shown}
 
 -- what became of a line, and the core after it
 abbrev pub LineDone : Type 0
@@ -46,7 +46,7 @@ module _ {W : Type 0} (contents : W → Option (List ℕ)) (b : CoreState) (line
   -- it ended the run by this fault
   pub ended_by : (before after : SinkState W) (result : Result LineDone RunFault) (f : RunFault)
       → IsErrAnd result (λ e. e ≡ f)
-      → WritesPrefix (BeginsLines b (line ∷ [])) (contents before.writer) (contents after.writer)
+      → WritesPrefix (BeginsLines Strict b (line ∷ [])) (contents before.writer) (contents after.writer)
       → (f ≡ OutOfMemory → Writes (EndsLine b line) (contents before.writer) (contents after.writer))
       → after.faults ≡ before.faults + write_faults {A = LineDone} (Err f) → IsOfWriting f
       → RanWith before after result
@@ -61,7 +61,7 @@ module _ {W : Type 0} (contents : W → Option (List ℕ)) (b : CoreState) (line
 
   -- the writer failed
   pub at_a_write : (before after : SinkState W) (result : Result LineDone RunFault) → IsErrAnd result (λ e. e ≡ Write)
-      → WritesPrefix (BeginsLines b (line ∷ [])) (contents before.writer) (contents after.writer)
+      → WritesPrefix (BeginsLines Strict b (line ∷ [])) (contents before.writer) (contents after.writer)
       → after.faults ≡ before.faults + 1 → RanWith before after result
   at_a_write before after result is begun counted =
       ended_by before after result Write is begun (λ e. absurd cc) counted (inl refl)
@@ -71,7 +71,8 @@ module _ {W : Type 0} (contents : W → Option (List ℕ)) (b : CoreState) (line
       → IsErrAnd result (λ e. e ≡ Write) → Keeps (contents before.writer) (contents after.writer)
       → after.faults ≡ before.faults + 1 → RanWith before after result
   not_handed_on before after result is kept counted =
-      at_a_write before after result is ([], nothing b (line ∷ []), kept_prefix _ _ _ [] kept (none_went _ [])) counted
+      at_a_write before after result is
+      ([], nothing Strict b (line ∷ []), kept_prefix _ _ _ [] kept (none_went _ [])) counted
 
 -- a look that was written whole, or refused
 pub look_came :
@@ -84,10 +85,10 @@ look_came b look a c (Refused refusal) (refuses, went) = ((refuses, refl), went)
 pub look_begun :
     (b : CoreState) (look : Look) (a c : Option (List ℕ))
     → WritesPrefix (λ text. BeginsLook b look text ⊎ ShowsLook b look text) a c
-    → WritesPrefix (BeginsLines b (line.Look look ∷ [])) a c
+    → WritesPrefix (BeginsLines Strict b (line.Look look ∷ [])) a c
 look_begun b look a c (text, inl begins, went) = (text, inl begins, went)
 look_begun b look a c (text, inr shows, went) =
-    (text, whole b (line.Look look) b text (refl, look_shown b look text shows), went)
+    (text, whole Strict b (line.Look look) b text (refl, shows), went)
 
 -- a block whose sections ran, after what the writer took was handed on
 pub block_came :
@@ -105,7 +106,7 @@ module _ {W : Type 0} (contents : W → Option (List ℕ)) (b : CoreState) (befo
       → RanWith contents b (line.Event event words) before after result
   event_ended event words u f is (text, does, went) happened same counted kind =
       ended_by contents b (line.Event event words) before after result f is
-      (text, whole b (line.Event event words) u text (inl does), went)
+      (text, whole Strict b (line.Event event words) u text does, went)
       (λ m. (
         [],
         (((happened m).0, u, (happened m).1), refl),
@@ -119,5 +120,5 @@ module _ {W : Type 0} (contents : W → Option (List ℕ)) (b : CoreState) (befo
       → RanWith contents b (line.Together sections) before after result
   block_ended sections is kept counted =
       ended_by contents b (line.Together sections) before after result OutOfMemory is
-      ([], nothing b (line.Together sections ∷ []), kept_prefix _ _ _ [] kept (none_went _ []))
+      ([], nothing Strict b (line.Together sections ∷ []), kept_prefix _ _ _ [] kept (none_went _ []))
       (λ m. ([], refl, kept_appended _ _ _ [] kept (Appends-nil _))) counted (inr refl)

@@ -1,7 +1,7 @@
 -- What was printed so far, and what is left to print.
 use Rattle.std.proofs.Common.{inl, inr, arith, take, ◌≡◌, ◌≢◌, Option, ◌∙◌, ℕ, suc}
 use Rattle.std.proofs.Common.{◌+◌, List, [], ◌∷◌, ◌++◌, append_assoc, length, Some, None, ap, sym, subst, refl}
-use Rattle.std.proofs.lemmas.List.{append-nil}
+use Rattle.std.proofs.lemmas.List.{append-nil, length-append}
 use Rattle.std.proofs.Math.Seq.{take-append_seam}
 use Rattle.ov_wire.specs.Messages.{Spelling}
 use Rattle.ov_wire.specs.declared.message.Message.{Message}
@@ -9,42 +9,49 @@ use Rattle.ov_net.specs.declared.member.Member.{Member}
 use Rattle.ov_net.specs.declared.member.Member.TheVariants.{Live, Gone}
 use Rattle.ov_peer.specs.PeerState.{PeerState}
 use Rattle.ov_snap.specs.CoreState.{CoreState}
-use Rattle.ov_run.specs.Ending.{BeginsLines, BeginsPackets, EndsLines}
+use Rattle.ov_run.specs.Ending.{BeginsLines, BeginsPackets, EndsLines, EndsPackets}
 use Rattle.ov_run.specs.Printed.{packet_line}
-use Rattle.ov_run.specs.Running.{PrintsLine, PrintsLines, PrintsPackets}
-use Rattle.ov_run.specs.Strict.{AcceptsLine, AcceptsLines, StopsLines}
+use Rattle.ov_run.specs.Running.{PrintsLines, PrintsPackets}
+use Rattle.ov_run.specs.Strict.{AcceptsLine, AcceptsLines, GoesOn, StopsLines}
 use Rattle.ov_run.specs.declared.refusal.Refusal.{Refusal}
+use Rattle.ov_run.specs.declared.strictness.Strictness.{Strictness}
+use Rattle.ov_run.proofs.Printing.Settling.{goes_on_prints}
 use Rattle.ov_scenario.specs.RunLines.{FirstNeedsMemory}
 use Rattle.ov_scenario.specs.declared.scenario.Line.{Line}
 
 -- this text was printed of all lines, and these are left: with what they print now, whole, up to some point or up to
 -- their end out of memory, all lines print this text before it
-pub record SoFar (b : CoreState) (all : List Line) (now : CoreState) (lines : List Line) (text : List ℕ) : Type 0 where
+pub record SoFar (strictness : Strictness) (b : CoreState) (all : List Line) (now : CoreState) (lines : List Line)
+    (text : List ℕ) : Type 0 where
   pub whole : (u : CoreState) (later : List ℕ) → PrintsLines now lines u later → PrintsLines b all u (text ++ later)
-  pub prefix : (later : List ℕ) → BeginsLines now lines later → BeginsLines b all (text ++ later)
-  pub ends : (later : List ℕ) → EndsLines now lines later → EndsLines b all (text ++ later)
+  pub prefix : (later : List ℕ) → BeginsLines strictness now lines later → BeginsLines strictness b all (text ++ later)
+  pub ends : (later : List ℕ) → EndsLines strictness now lines later → EndsLines strictness b all (text ++ later)
 
-pub begun : (b : CoreState) (lines : List Line) → SoFar b lines b lines []
-begun b lines = record { whole = λ u later prints. prints; prefix = λ later begins. begins; ends = λ later ends. ends }
+module _ (strictness : Strictness) (b : CoreState) where
+  pub begun : (lines : List Line) → SoFar strictness b lines b lines []
+  begun lines = record { whole = λ u later prints. prints; prefix = λ later begins. begins; ends = λ later ends. ends }
 
-pub more :
-    (b : CoreState) (all : List Line) (now next : CoreState) (line : Line) (lines : List Line) (text own : List ℕ)
-    → SoFar b all now (line ∷ lines) text → PrintsLine now line next own → SoFar b all next lines (text ++ own)
-more b all now next line lines text own so_far prints = record {
-  whole = λ u later others.
-      subst (λ t. PrintsLines b all u t) (sym (append_assoc text own later))
-      (so_far.whole u (own ++ later) (next, own, later, prints, others, refl));
-  prefix = λ later others.
-      subst (λ t. BeginsLines b all t) (sym (append_assoc text own later))
-      (so_far.prefix (own ++ later) (inr (next, own, later, prints, others, refl)));
-  ends = λ later others.
-      subst (λ t. EndsLines b all t) (sym (append_assoc text own later))
-      (so_far.ends (own ++ later) (inr (inr (next, own, later, prints, others, refl))));
-}
+  pub more :
+      (all : List Line) (now next : CoreState) (line : Line) (lines : List Line) (text own : List ℕ)
+      → SoFar strictness b all now (line ∷ lines) text → GoesOn strictness now line next own
+      → SoFar strictness b all next lines (text ++ own)
+  more all now next line lines text own so_far goes_on = record {
+    whole = λ u later others.
+        subst (λ t. PrintsLines b all u t) (sym (append_assoc text own later))
+        (so_far.whole u (own ++ later)
+        (next, own, later, goes_on_prints strictness now line next own goes_on, others, refl));
+    prefix = λ later others.
+        subst (λ t. BeginsLines strictness b all t) (sym (append_assoc text own later))
+        (so_far.prefix (own ++ later) (inr (next, own, later, goes_on, others, refl)));
+    ends = λ later others.
+        subst (λ t. EndsLines strictness b all t) (sym (append_assoc text own later))
+        (so_far.ends (own ++ later) (inr (inr (next, own, later, goes_on, others, refl))));
+  }
 
-pub ended : (b : CoreState) (all : List Line) (now : CoreState) (text : List ℕ) → SoFar b all now [] text
-    → PrintsLines b all now text
-ended b all now text so_far = subst (λ t. PrintsLines b all now t) (append-nil text) (so_far.whole now [] (refl, refl))
+  pub ended : (all : List Line) (now : CoreState) (text : List ℕ) → SoFar strictness b all now [] text
+      → PrintsLines b all now text
+  ended all now text so_far =
+      subst (λ t. PrintsLines b all now t) (append-nil text) (so_far.whole now [] (refl, refl))
 
 -- all lines so far were accepted: this text was printed of them, and these are left, with the lines of the file that
 -- ask for them
@@ -80,9 +87,10 @@ accepted_ended b all all_asked now asked text so_far =
     subst (λ t. AcceptsLines b all now t) (append-nil text) (so_far.whole now [] (refl, refl))
 
 -- memory is lacking to read the first line
-pub unread : (b : CoreState) (lines : List Line) → FirstNeedsMemory lines → EndsLines b lines []
-unread b [] needs = absurd needs
-unread b (line ∷ lines) needs = inl (needs, refl)
+pub unread : (strictness : Strictness) (b : CoreState) (lines : List Line) → FirstNeedsMemory lines
+    → EndsLines strictness b lines []
+unread strictness b [] needs = absurd needs
+unread strictness b (line ∷ lines) needs = inl (needs, refl)
 
 -- one packet more is printed, at the place behind these
 pub packets_more :
@@ -135,3 +143,15 @@ packets_begun all printed coming text is prints =
     let first : take (length printed) all ≡ printed =
     ap (take (length printed)) (sym is) ∙ take-append_seam printed coming in
     (length printed, subst (λ ps. PrintsPackets 0 ps text) (sym first) prints)
+
+-- and one more was to come
+pub packets_ended :
+    (all printed coming : List (ℕ × Message)) (packet : ℕ × Message) (text : List ℕ)
+    → printed ++ packet ∷ coming ≡ all → PrintsPackets 0 printed text → EndsPackets all text
+packets_ended all printed coming packet text is prints =
+    let first : take (length printed) all ≡ printed =
+    ap (take (length printed)) (sym is) ∙ take-append_seam printed (packet ∷ coming) in
+    let count : length (printed ++ packet ∷ coming) ≡ length printed + suc (length coming) =
+    length-append printed (packet ∷ coming) in
+    let same : length all ≡ length (printed ++ packet ∷ coming) = ap length (sym is) in
+    (length printed, omega (arith, count, same), subst (λ ps. PrintsPackets 0 ps text) (sym first) prints)

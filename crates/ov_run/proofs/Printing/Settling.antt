@@ -16,7 +16,7 @@ use Rattle.ov_run.specs.Printed.{refused_line, together_line}
 use Rattle.ov_run.specs.Refusals.{number_of}
 use Rattle.ov_run.specs.Running.{PrintsCertificate, PrintsLine, PrintsLook, PrintsNode}
 use Rattle.ov_run.specs.Sections.{ToldLine, accepted_in, one_refused, refused_in}
-use Rattle.ov_run.specs.Strict.{AcceptsLine, IsFirstRefused, RefusesLine}
+use Rattle.ov_run.specs.Strict.{AcceptsLine, GoesOn, IsFirstRefused, RefusesLine}
 use Rattle.ov_run.specs.Code.Jobs.{joined}
 use Rattle.ov_run.specs.Code.Outcomes.{LineCame, RanAsBlock, RefusesAlone, first_refused, or_else, refusal_at}
 use Rattle.ov_run.specs.Code.Outcomes.{refused_of, rest_of, stop_of}
@@ -44,6 +44,18 @@ accepted_prints b (line.Event event words) u text does = inl does
 accepted_prints b (line.Look look) u text (same, shows) = (same, look_shown b look text shows)
 accepted_prints b (line.Analyse subject workers) u text files = inl files
 accepted_prints b (line.Together sections) u text (told, runs, none) = (told, runs)
+
+-- any run goes on after a line that is accepted
+pub accepted_goes_on : (strictness : Strictness) (b : CoreState) (line : Line) (u : CoreState) (text : List ℕ)
+    → AcceptsLine b line u text → GoesOn strictness b line u text
+accepted_goes_on Lenient b line u text accepts = accepted_prints b line u text accepts
+accepted_goes_on Strict b line u text accepts = accepts
+
+-- a line after which the run goes on prints its text
+pub goes_on_prints : (strictness : Strictness) (b : CoreState) (line : Line) (u : CoreState) (text : List ℕ)
+    → GoesOn strictness b line u text → PrintsLine b line u text
+goes_on_prints Lenient b line u text prints = prints
+goes_on_prints Strict b line u text accepts = accepted_prints b line u text accepts
 
 node_hidden : (w : Net) (id : ℕ) (refusal : Refusal) → HidesNode w id refusal
     → PrintsNode w id (refused_line (number_of refusal))
@@ -137,6 +149,13 @@ pub went_on : (strictness : Strictness) (n : ℕ) (came : Came) → stop_of stri
     → strictness ≡ Strict → refused_of n came ≡ None
 went_on Lenient n came is strict = absurd cc
 went_on Strict n came is strict = is
+
+-- so it goes on after the line
+pub goes_on : (strictness : Strictness) (b : CoreState) (line : Line) (u : CoreState) (n : ℕ) (came : Came)
+    (text : List ℕ) → PrintsLine b line u text → (refused_of n came ≡ None → AcceptsLine b line u text)
+    → stop_of strictness n came ≡ None → GoesOn strictness b line u text
+goes_on Lenient b line u n came text prints accepts none = prints
+goes_on Strict b line u n came text prints accepts none = accepts none
 
 -- a run that ends at a refused line is strict
 pub ended_at : (strictness : Strictness) (n m : ℕ) (came : Came) (refusal : Refusal)

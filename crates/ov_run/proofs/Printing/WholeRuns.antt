@@ -14,7 +14,7 @@ use Rattle.ov_run.specs.declared.run_fault.RunFault.TheVariants as fault
 use Rattle.ov_run.specs.declared.run_fault.RunFault.TheVariants.{Write, Refused, OutOfMemory}
 use Rattle.ov_run.specs.declared.strictness.Strictness.{Strictness}
 use Rattle.ov_run.specs.declared.strictness.Strictness.TheVariants.{Strict}
-use Rattle.ov_run.proofs.Printing.Ending.{output_begun, all_went, err_of, failed_by}
+use Rattle.ov_run.proofs.Printing.Ending.{err_of, failed_by}
 use Rattle.ov_run.proofs.Printing.HandedOn.{holds_of, refused_in_err}
 
 -- how many failures of its writer a run counts that ends by this fault
@@ -25,27 +25,22 @@ module _ {W : Type 0} (strictness : Strictness) (bytes : List ℕ) (contents : W
     (sink sink' : SinkState W) where
   -- all its lines ran
   pub finished : PrintsScenario (Some bytes) (contents sink.writer) (contents sink'.writer)
+      → Begins strictness (Some bytes) (contents sink.writer) (contents sink'.writer)
       → (strictness ≡ Strict → AcceptsScenario (Some bytes) (contents sink.writer) (contents sink'.writer))
       → sink'.faults ≡ sink.faults + 0 → IsRunOf strictness (Some bytes) contents sink sink' (Ok 0)
-  finished prints accepts writes = record {
+  finished prints begun accepts writes = record {
     status = refl;
     prints = prints;
     accepts = accepts;
     stops = λ n refusal e. absurd cc;
-    begun = inr (
-      prints.0,
-      prints.1,
-      prints.2,
-      output_begun prints.0 prints.1 prints.3,
-      all_went _ _ prints.1 prints.4,
-    );
+    begun = inr begun;
     sink = writes;
     fault = tt;
     unread = tt;
     memory = λ e. absurd cc;
   }
 
-  at_a_write : Begins (Some bytes) (contents sink.writer) (contents sink'.writer)
+  at_a_write : Begins strictness (Some bytes) (contents sink.writer) (contents sink'.writer)
       → sink'.faults ≡ sink.faults + 1 → IsRunOf strictness (Some bytes) contents sink sink' (Err Write)
   at_a_write begun writes = record {
     status = tt;
@@ -59,9 +54,9 @@ module _ {W : Type 0} (strictness : Strictness) (bytes : List ℕ) (contents : W
     memory = λ e. absurd cc;
   }
 
-  without_memory : Begins (Some bytes) (contents sink.writer) (contents sink'.writer)
+  without_memory : Begins strictness (Some bytes) (contents sink.writer) (contents sink'.writer)
       → sink'.faults ≡ sink.faults + 0
-      → Ends (Some bytes) (contents sink.writer) (contents sink'.writer)
+      → Ends strictness (Some bytes) (contents sink.writer) (contents sink'.writer)
       → IsRunOf strictness (Some bytes) contents sink sink' (Err OutOfMemory)
   without_memory begun writes ended = record {
     status = tt;
@@ -76,7 +71,7 @@ module _ {W : Type 0} (strictness : Strictness) (bytes : List ℕ) (contents : W
   }
 
   -- at a refused line
-  at_a_refusal : Begins (Some bytes) (contents sink.writer) (contents sink'.writer) → sink'.faults ≡ sink.faults + 0
+  at_a_refusal : Begins strictness (Some bytes) (contents sink.writer) (contents sink'.writer) → sink'.faults ≡ sink.faults + 0
       → (n : ℕ) (refusal : Refusal) → strictness ≡ Strict
       → StopsScenario (Some bytes) n refusal (contents sink.writer) (contents sink'.writer)
       → IsRunOf strictness (Some bytes) contents sink sink' (Err (Refused n refusal))
@@ -100,9 +95,9 @@ module _ {W : Type 0} (strictness : Strictness) (bytes : List ℕ) (contents : W
   StopsBy f = (n : ℕ) (refusal : Refusal) → f ≡ Refused n refusal
       → (strictness ≡ Strict) × StopsScenario (Some bytes) n refusal (contents sink.writer) (contents sink'.writer)
 
-  ended_by : (f : RunFault) → Begins (Some bytes) (contents sink.writer) (contents sink'.writer)
+  ended_by : (f : RunFault) → Begins strictness (Some bytes) (contents sink.writer) (contents sink'.writer)
       → IsOfRunning f → sink'.faults ≡ sink.faults + counted_of f
-      → (f ≡ OutOfMemory → Ends (Some bytes) (contents sink.writer) (contents sink'.writer))
+      → (f ≡ OutOfMemory → Ends strictness (Some bytes) (contents sink.writer) (contents sink'.writer))
       → StopsBy f → IsRunOf strictness (Some bytes) contents sink sink' (Err f)
   ended_by f begun (inl (inl is)) writes ended stopped =
       subst (λ (g : RunFault). IsRunOf strictness (Some bytes) contents sink sink' (Err g)) (sym is)
@@ -118,9 +113,9 @@ module _ {W : Type 0} (strictness : Strictness) (bytes : List ℕ) (contents : W
 
   -- the fault of the line at which it ended is its own
   pub stopped : (result : Result ℕ RunFault) (f : RunFault) → IsErrAnd result (λ e. e ≡ f)
-      → Begins (Some bytes) (contents sink.writer) (contents sink'.writer) → IsOfRunning f
+      → Begins strictness (Some bytes) (contents sink.writer) (contents sink'.writer) → IsOfRunning f
       → sink'.faults ≡ sink.faults + counted_of f
-      → (f ≡ OutOfMemory → Ends (Some bytes) (contents sink.writer) (contents sink'.writer))
+      → (f ≡ OutOfMemory → Ends strictness (Some bytes) (contents sink.writer) (contents sink'.writer))
       → StopsBy f → IsRunOf strictness (Some bytes) contents sink sink' result
   stopped result f is begun kind writes ended at =
       subst (IsRunOf strictness (Some bytes) contents sink sink') (sym (failed_by result f is))

@@ -40,3 +40,10 @@ HaveRun params [] [] = Unit {0}
 HaveRun params [] (r ∷ rs) = ⊥
 HaveRun params (j ∷ js) [] = ⊥
 HaveRun params (j ∷ js) (r ∷ rs) = HasRun params j r × HaveRun params js rs
+
+-- each job of each shift was done, with the result at its place
+abbrev pub HaveAllRun : ParamsState → List (List Job) → List (List Ran) → Type 0
+HaveAllRun params [] [] = Unit {0}
+HaveAllRun params [] (rs ∷ more) = ⊥
+HaveAllRun params (js ∷ others) [] = ⊥
+HaveAllRun params (js ∷ others) (rs ∷ more) = HaveRun params js rs × HaveAllRun params others more

@@ -1,7 +1,7 @@
 -- What became of a line that ran, what is still to be written of it, and whether it ends a strict run. b is the core
 -- before, and u the core after.
-use Rattle.std.specs.Prelude.{◌≡◌, ◌+◌, ℕ, List, [], ◌∷◌, Option, Some, None, Result, IfOk, OnOk, IfErr}
-use Rattle.std.specs.Prelude.{OnErr, IsErrOf, length}
+use Rattle.std.specs.Prelude.{◌≡◌, ◌+◌, ℕ, Bool, true, false, List, [], ◌∷◌, Option, Some, None, Result, IfOk, OnOk}
+use Rattle.std.specs.Prelude.{IfErr, OnErr, IsErrOf, length}
 use Rattle.std.specs.Io.KnownBytes.{Appends}
 use Rattle.ov_io.specs.Device.{SinkState}
 use Rattle.ov_snap.specs.CoreState.{CoreState}
@@ -29,6 +29,11 @@ use Rattle.ov_run.specs.declared.strictness.Strictness.{Strictness}
 use Rattle.ov_run.specs.declared.strictness.Strictness.TheVariants.{Lenient, Strict}
 
 -- ---- one line
+
+-- whether a line is an event
+abbrev pub is_event_line : Line → Bool
+is_event_line (line.Event event words) = true
+is_event_line other = false
 
 -- the writer took what is printed of a line that was done; or the line was refused, and the writer took nothing
 abbrev pub WritesOutcome :
@@ -64,8 +69,10 @@ pub record LineRan {A W : Type 0} (contents : W → Option (List ℕ)) (b : Core
     (core_of : A → CoreState) (before after : SinkState W) (result : Result A RunFault) : Type 0 where
   -- without fault, this became of the line
   pub came : IfOk result (λ a. LineCame b line (core_of a) (contents before.writer) (contents after.writer) (came_of a))
-  -- after a fault, the writer took a prefix of what the line prints up to some point
-  pub begun : OnErr result (WritesPrefix (BeginsLines b (line ∷ [])) (contents before.writer) (contents after.writer))
+  -- after a fault, the writer took a prefix of what the line prints up to some point, or of what it prints if it is
+  -- accepted
+  pub begun : OnErr result
+      (WritesPrefix (BeginsLines Strict b (line ∷ [])) (contents before.writer) (contents after.writer))
   -- after OutOfMemory it took all that the line prints up to the point at which the run ends
   pub memory : IsErrOf result fault.OutOfMemory
       → Writes (EndsLine b line) (contents before.writer) (contents after.writer)
@@ -126,10 +133,10 @@ pub record RanLines {A W : Type 0} (strictness : Strictness) (contents : W → O
   pub accepts : strictness ≡ Strict → OnOk result
       ((u : CoreState) × Writes (AcceptsLines b lines u) (contents before.writer) (contents after.writer))
   -- however it ends, the writer took a prefix of what the lines print up to some point
-  pub begun : WritesPrefix (BeginsLines b lines) (contents before.writer) (contents after.writer)
+  pub begun : WritesPrefix (BeginsLines strictness b lines) (contents before.writer) (contents after.writer)
   -- after OutOfMemory it took all that the lines print up to the point at which the run ends
   pub memory : IsErrOf result fault.OutOfMemory
-      → Writes (EndsLines b lines) (contents before.writer) (contents after.writer)
+      → Writes (EndsLines strictness b lines) (contents before.writer) (contents after.writer)
   -- after Refused the run is strict, and the writer took all that the lines print before the one that was refused
   pub stops : (n : ℕ) (refusal : Refusal) → IsErrOf result (fault.Refused n refusal)
       → (strictness ≡ Strict)

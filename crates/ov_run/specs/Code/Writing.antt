@@ -1,5 +1,5 @@
 -- What the parts of a run write, and how they fail.
-use Rattle.std.specs.Prelude.{◌≡◌, ◌⊎◌, ℕ, List, Option, Some}
+use Rattle.std.specs.Prelude.{◌≡◌, ◌⊎◌, ℕ, Bool, true, false, List, Option, Some, Result, Err}
 use Rattle.std.specs.Io.KnownBytes.{Appends}
 use Rattle.ov_io.specs.Device.{AppendsPrefixOf}
 use Rattle.ov_run.specs.declared.run_fault.RunFault.{RunFault}
@@ -14,6 +14,11 @@ Writes IsText before after = (text : List ℕ) × IsText text × Appends before 
 -- the writer took a prefix of a text of this kind
 abbrev pub WritesPrefix : (List ℕ → Type 0) → Option (List ℕ) → Option (List ℕ) → Type 0
 WritesPrefix IsText before after = (text : List ℕ) × IsText text × AppendsPrefixOf text before after
+
+-- the writer failed
+abbrev pub is_write : {A : Type 0} → Result A RunFault → Bool
+is_write (Err Write) = true
+is_write other = false
 
 -- the writer failed, or an allocation was refused
 abbrev pub IsOfWriting : RunFault → Type 0

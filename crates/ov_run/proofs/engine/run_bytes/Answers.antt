@@ -9,6 +9,7 @@ pub returns : goal.returns
 returns g c =
     let said = c.in_ok-scenario in
     let printed = c.in_ok-run_in_hall.ensures.ran.prints in
+    let begun = c.in_ok-run_in_hall.ensures.ran.begun in
     record {
       read = λ e. absurd cc;
       run = finished c.args.strictness c.args.bytes.now g.W.Write.contents c.args.sink.now c.run_in_hall.new.sink (
@@ -22,6 +23,12 @@ returns g c =
           lines = printed.1.1;
         },
         printed.1.2,
+      ) (
+        c.args.bytes.now,
+        begun.0,
+        refl,
+        record { scenario = said.scenario; says = said.ensures.scenario; lines = begun.1 },
+        begun.2,
       ) (λ strict. let own = c.in_ok-run_in_hall.ensures.ran.accepts strict in (
         c.args.bytes.now,
         own.1.0,

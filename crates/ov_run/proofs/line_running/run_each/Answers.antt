@@ -9,16 +9,16 @@ use Rattle.ov_run.proofs.Blocks.Drivers.{drivers_more}
 use Rattle.ov_run.specs.Strict.{RefusesLine}
 use Rattle.ov_run.specs.Code.Outcomes.{WritesRest, rest_of}
 use Rattle.ov_run.specs.declared.run_fault.RunFault.TheVariants.{OutOfMemory, Write}
-use Rattle.ov_run.proofs.Printing.Ending.{all_printed, followed, all_went, none_went, nothing, prefix_went, whole}
+use Rattle.ov_run.proofs.Printing.Ending.{begun_so_too, followed, all_went, none_went, nothing, prefix_went, whole}
 use Rattle.ov_run.proofs.Printing.HandedOn.{stopped_at, stopped_by}
 use Rattle.ov_run.proofs.Printing.Running.{AcceptedSoFar, SoFar, accepted_begun, accepted_ended, accepted_more}
 use Rattle.ov_run.proofs.Printing.Running.{begun, more, ended, unread}
-use Rattle.ov_run.proofs.Printing.Settling.{came_refused, ended_at, said, went_on}
+use Rattle.ov_run.proofs.Printing.Settling.{came_refused, ended_at, goes_on, said, went_on}
 use Rattle.ov_run.proofs.line_running.run_each.Goals as goal
 
 pub loop-recent-init : goal.loop-recent-init
 loop-recent-init g c = record {
-  printed = ([], begun _ _, Appends-nil _, λ strict. accepted_begun _ _ _);
+  printed = ([], begun _ _ _, Appends-nil _, λ strict. accepted_begun _ _ _);
   drivers = c.requires.drivers;
   faults = refl;
 }
@@ -74,14 +74,15 @@ loop-recent-preserved g c =
     subst (step_of c.loop-recent.left.items lines) c.in-Some.is c.in_ok-next.ensures.line in
     let asks : c.loop-recent.left.file_lines ≡ own_asked ∷ asked =
     subst (asked_of c.loop-recent.left.file_lines asked) c.in-Some.is c.in_ok-next.ensures.file_line in
-    let so_far = subst (λ (ls : List Line). SoFar start all now ls text) step printed.1 in
+    let so_far = subst (λ (ls : List Line). SoFar c.args.strictness start all now ls text) step printed.1 in
     let ran = c.in_ok-came.ensures.ran.faults in
     let wrote = stop.faults in
     let before = c.loop-recent.invariant.faults in
     record {
       printed = (
         text ++ (own.own ++ rest_of came),
-        more start all now next line lines text (own.own ++ rest_of came) so_far own.prints,
+        more c.args.strictness start all now next line lines text (own.own ++ rest_of came) so_far
+            (goes_on c.args.strictness now line next number came _ own.prints own.accepts (sym stop.stop ∙ none)),
         Appends-trans _ _ _ _ _ printed.2 (Appends-trans _ _ _ _ _ own.went rest),
         λ strict. accepted_more start all all_asked now next line lines own_asked asked text (own.own ++ rest_of came)
             (subst (λ (ls : List Line). AcceptedSoFar start all all_asked now ls (own_asked ∷ asked) text) step
@@ -104,8 +105,8 @@ returns g c =
     let before = c.loop-recent.invariant.faults in
     let empty : c.loop-recent.left.items ≡ [] =
     subst (step_of c.loop-recent.left.items c.next_line.new.self.items) c.in_default.is c.in_ok-next.ensures.line in
-    let so_far = subst (λ (ls : List Line). SoFar start all now ls printed.0) empty printed.1 in
-    let prints = ended start all now printed.0 so_far in
+    let so_far = subst (λ (ls : List Line). SoFar c.args.strictness start all now ls printed.0) empty printed.1 in
+    let prints = ended c.args.strictness start all now printed.0 so_far in
     record {
       ran = record {
         prints = (now, (printed.0, prints, printed.2));
@@ -120,7 +121,7 @@ returns g c =
             printed.2,
           ),
         );
-        begun = (printed.0, all_printed _ _ now printed.0 prints, all_went _ _ printed.0 printed.2);
+        begun = (printed.0 ++ [], so_far.prefix [] refl, prefix_went _ _ _ printed.0 [] printed.2 (none_went _ []));
         memory = λ e. absurd cc;
         stops = λ n refusal e. absurd cc;
         faults = omega (arith, before);
@@ -141,11 +142,11 @@ returns-in_err-next g c =
           stopped_by c.args.strictness g.W.Write.contents start all c.args.lines.file_lines c.args.sink.now
           c.loop-recent.sink c.from_residual.result OutOfMemory c.from_residual.ensures.1 (
             printed.0 ++ [],
-            printed.1.prefix [] (nothing now left),
+            printed.1.prefix [] (nothing c.args.strictness now left),
             prefix_went _ _ _ printed.0 [] printed.2 (none_went _ []),
           ) (inr refl) (omega (arith, before)) (λ is. (
             printed.0 ++ [],
-            printed.1.ends [] (unread now left c.in_err-next.ensures.memory),
+            printed.1.ends [] (unread c.args.strictness now left c.in_err-next.ensures.memory),
             Appends-trans _ _ _ _ _ printed.2 (Appends-nil _),
           ));
     }
@@ -164,13 +165,14 @@ returns-in_err-came g c =
     let failed = c.from_residual-in_err-came in
     let step : c.loop-recent.left.items ≡ line ∷ lines =
     subst (step_of c.loop-recent.left.items lines) c.in-Some.is c.in_ok-next.ensures.line in
-    let so_far = subst (λ (ls : List Line). SoFar start all now ls printed.0) step printed.1 in
+    let so_far = subst (λ (ls : List Line). SoFar c.args.strictness start all now ls printed.0) step printed.1 in
     record {
       ran =
           stopped_by c.args.strictness g.W.Write.contents start all c.args.lines.file_lines c.args.sink.now
           c.run_line.new.sink failed.result c.in_err-came.field-0.0 failed.ensures.1 (
             printed.0 ++ own.begun.0,
-            so_far.prefix own.begun.0 (followed now line lines own.begun.0 own.begun.1),
+            so_far.prefix own.begun.0 (followed c.args.strictness now line lines own.begun.0
+                (begun_so_too c.args.strictness now line own.begun.0 own.begun.1)),
             prefix_went _ _ _ printed.0 own.begun.0 printed.2 own.begun.2,
           ) own.kind (omega (arith, before, counted)) (λ is. let ends = own.memory (ap Err is) in (
             printed.0 ++ ends.0,
@@ -196,14 +198,16 @@ returns-in_err-stop g c =
     let own = said now next c.ran_line-ran.result.number _ _ line came c.in_ok-came.ensures.ran.came in
     let step : c.loop-recent.left.items ≡ line ∷ lines =
     subst (step_of c.loop-recent.left.items lines) c.in-Some.is c.in_ok-next.ensures.line in
-    let so_far = subst (λ (ls : List Line). SoFar start all now ls printed.0) step printed.1 in
+    let so_far = subst (λ (ls : List Line). SoFar c.args.strictness start all now ls printed.0) step printed.1 in
     let text = own.own ++ rest_of came in
     record {
       ran =
           stopped_by c.args.strictness g.W.Write.contents start all c.args.lines.file_lines c.args.sink.now
           c.settle.new.sink failed.result Write failed.ensures.1 (
             printed.0 ++ text,
-            so_far.prefix text (followed now line lines text (whole now line next text own.prints)),
+            so_far.prefix text (followed c.args.strictness now line lines text
+                (whole c.args.strictness now line next text (goes_on c.args.strictness now line next
+                c.ran_line-ran.result.number came text own.prints own.accepts c.in_err-stop.ensures.goes_on))),
             prefix_went _ _ _ printed.0 text printed.2
                 (prefix_went _ _ _ own.own (rest_of came) own.went c.in_err-stop.ensures.prefix),
           ) (inl refl) (omega (arith, before, ran, counted)) (λ is. absurd cc);
@@ -239,7 +243,7 @@ returns-in-Some-stop g c =
     subst (step_of c.loop-recent.left.items lines) c.in-Some.is c.in_ok-next.ensures.line in
     let asks : c.loop-recent.left.file_lines ≡ own_asked ∷ asked =
     subst (asked_of c.loop-recent.left.file_lines asked) c.in-Some.is c.in_ok-next.ensures.file_line in
-    let so_far = subst (λ (ls : List Line). SoFar start all now ls text) step printed.1 in
+    let so_far = subst (λ (ls : List Line). SoFar c.args.strictness start all now ls text) step printed.1 in
     let accepted = subst (λ (ls : List Line). AcceptedSoFar start all all_asked now ls (own_asked ∷ asked) text) step
     (subst (λ (ns : List (ℕ × List ℕ)). AcceptedSoFar start all all_asked now c.loop-recent.left.items ns text) asks
     (printed.3 at.0)) in
@@ -248,6 +252,6 @@ returns-in-Some-stop g c =
           stopped_at c.args.strictness g.W.Write.contents start all all_asked c.args.sink.now c.settle.new.sink
           n refusal
           at.0 (text ++ [], accepted.stops n refusal [] (inl (here, refl)), went)
-          (text ++ [], so_far.prefix [] (nothing now (line ∷ lines)), all_went _ _ (text ++ []) went)
+          (text ++ [], so_far.prefix [] (nothing c.args.strictness now (line ∷ lines)), all_went _ _ (text ++ []) went)
           (omega (arith, before, ran, wrote));
     }

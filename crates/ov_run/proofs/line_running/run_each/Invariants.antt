@@ -8,7 +8,7 @@ use Rattle.ov_run.proofs.line_running.run_each.Given as goal
 
 abbrev pub invariant-loop-recent : goal.invariant-loop-recent
 invariant-loop-recent g l = record {
-  printed : (text : List ℕ) × SoFar l.fn.hall l.fn.lines.items l.hall l.left.items text
+  printed : (text : List ℕ) × SoFar l.fn.strictness l.fn.hall l.fn.lines.items l.hall l.left.items text
       × Appends (g.W.Write.contents l.fn.sink.writer) (g.W.Write.contents l.sink.writer) text
       × (l.fn.strictness ≡ Strict
       → AcceptedSoFar l.fn.hall l.fn.lines.items l.fn.lines.file_lines l.hall l.left.items l.left.file_lines text);

@@ -1,5 +1,5 @@
 -- Each kind of line, with the hall after it.
-use Rattle.std.proofs.Common.{◌≡◌, inl, refl, sym, subst, arith, ap}
+use Rattle.std.proofs.Common.{◌≡◌, refl, sym, subst, arith, ap}
 use Rattle.std.proofs.Common.{Err}
 use Rattle.ov_snap.specs.CoreState.{CoreState}
 use Rattle.ov_scenario.specs.declared.scenario.Line.{Line}
@@ -8,6 +8,7 @@ use Rattle.ov_run.specs.Accepting.{FilesReport, RefusesAnalysis}
 use Rattle.ov_run.specs.Code.Jobs.{HasDrivers}
 use Rattle.ov_run.specs.Code.Outcomes.{LineCame}
 use Rattle.ov_run.specs.declared.line_outcome.Came.TheVariants.{Alone, Block}
+use Rattle.ov_run.specs.declared.strictness.Strictness.TheVariants.{Strict}
 use Rattle.ov_run.proofs.Printing.Ending.{kept_prefix, whole}
 use Rattle.ov_run.proofs.Printing.OneLine.{RanWith, at_a_write, block_came, block_ended, ended_by, event_ended}
 use Rattle.ov_run.proofs.Printing.OneLine.{look_begun, look_came, not_handed_on, ran_as}
@@ -121,7 +122,7 @@ returns-in_err-outcome-in-Analyse g c =
     let counted = own.faults in
     let ended = at_a_write contents c.args.hall asked c.args.sink.now after failed.result failed.ensures.1 (
       own.begun.0,
-      whole c.args.hall asked c.run_analysis.new.hall own.begun.0 (inl own.begun.1),
+      whole Strict c.args.hall asked c.run_analysis.new.hall own.begun.0 own.begun.1,
       kept_prefix _ _ _ own.begun.0 c.flush.ensures.bytes own.begun.2,
     ) (omega (arith, none, counted)) in
     record {

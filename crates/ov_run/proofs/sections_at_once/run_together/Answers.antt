@@ -1,7 +1,8 @@
 -- All drivers have their passes back, and what they did is what the block did.
 use Rattle.std.proofs.Common.{◌∙◌, ap, arith, map, subst, sym}
 use Rattle.ov_hall.specs.Passes.{AllBegin}
-use Rattle.ov_run.proofs.Blocks.AllSections.{drivers_ran, in_order, ran_length, ran_together}
+use Rattle.ov_run.proofs.Blocks.AllSections.{drivers_ran, in_order, ran_together}
+use Rattle.ov_run.proofs.Blocks.Jobs.{ran_length}
 use Rattle.ov_run.proofs.sections_at_once.run_together.Goals as goal
 
 pub sorted_out-back-requires-clause-room : goal.sorted_out-back-requires-clause-room

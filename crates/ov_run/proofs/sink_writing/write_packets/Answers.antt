@@ -6,7 +6,7 @@ use Rattle.std.proofs.lemmas.List.{length-append, map-append}
 use Rattle.ov_run.specs.Printed.{packet_line}
 use Rattle.ov_run.specs.Running.{PrintsPackets}
 use Rattle.ov_run.proofs.Printing.Ending.{all_went, prefix_went}
-use Rattle.ov_run.proofs.Printing.Running.{packets_begun, packets_next}
+use Rattle.ov_run.proofs.Printing.Running.{packets_begun, packets_ended, packets_next}
 use Rattle.ov_run.proofs.sink_writing.write_packets.Goals as goal
 
 pub loop-packet-preserved : goal.loop-packet-preserved
@@ -55,10 +55,12 @@ returns-in_err-line-clause-begun g c =
 pub returns-in_err-line-clause-memory : goal.returns-in_err-line-clause-memory
 returns-in_err-line-clause-memory g c memory =
     let before = c.loop-packet.invariant in
-    let said = before.printed in (
+    let said = before.printed in
+    let seen = map (λ p. p.now) c.loop-packet.yielded in
+    let step : c.loop-packet.packet-iterator ≡ c.in-Some.packet.now ∷ c.next.new.self = c.in-Some.ensures.steps in (
       said.0,
-      packets_begun c.args.packets.now.items (map (λ p. p.now) c.loop-packet.yielded) c.loop-packet.packet-iterator
-          said.0 before.all said.1,
+      packets_ended c.args.packets.now.items seen c.next.new.self c.in-Some.packet.now said.0
+          (ap (λ i. seen ++ i) (sym step) ∙ before.all) said.1,
       said.2,
     )
 
