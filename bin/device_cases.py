@@ -71,11 +71,12 @@ each("closed standard input, with FILE", "`FILE <&-`", "FILE alone is read (FORM
 each("closed standard input", "`<&-`", NO_READ, READ, file=None, closed=(0,))
 each("standard input that can only be written to", "`0>/dev/null`", NO_READ, READ, file=None,
      stdin=opened("/dev/null", "wb"))
-each("FILE `-`", "`- <FILE`", "standard input is read (FORMATS.md)", RIGHT, file=None, stdin=example_opened)
+each("FILE `-`", "`- <FILE`", "standard input is read (COMMANDS.md, FORMATS.md)", RIGHT, file=None,
+     stdin=example_opened)
 each("FILE `/dev/stdin`", "`/dev/stdin <FILE`", "FILE is read (FORMATS.md)", RIGHT, file="/dev/stdin",
      stdin=example_opened)
 each("empty environment", "`env -i .. FILE`", "no variable is looked at (FORMATS.md, devices)", RIGHT, env={})
-each("bare `overlay`", "`<FILE`", "it runs a scenario from standard input (FORMATS.md)", RIGHT, [BARE], file=None,
+each("bare `overlay`", "`<FILE`", "it runs a scenario from standard input (COMMANDS.md)", RIGHT, [BARE], file=None,
      stdin=example_opened)
 each("closed standard output", "`FILE >&-`", NO_WRITE, WRITE, closed=(1,))
 each("standard output that can only be read", "`FILE 1</dev/null`", NO_WRITE, WRITE, stdout=opened("/dev/null", "rb"))
@@ -186,7 +187,7 @@ def slow_reader(lab):
 
 
 @case("devices", "both outputs in one file", "`run --explain FILE >BOTH 2>&1` of lines that are all refused",
-      "a line is explained after its `refused N` is printed (FORMATS.md)")
+      "a line is explained after its `refused N` is printed (COMMANDS.md)")
 def in_one_file(lab):
     with tempfile.TemporaryFile(dir=lab.room) as both:
         seen = lab.run(lab.words(EXPLAIN, lab.large("scenario")), stdout=both, stderr=both)
@@ -273,7 +274,7 @@ def slow_input(lab):
 
 
 @case("devices", "input from a terminal", "lines typed at a terminal, and ^D",
-      "standard input is read; bare `overlay` and `overlay run` say so on standard error (FORMATS.md)")
+      "standard input is read; bare `overlay` and `overlay run` say so on standard error (COMMANDS.md)")
 def typed_input(lab):
     for command in [BARE, *COMMANDS]:
         master, slave = os.openpty()
@@ -357,7 +358,7 @@ def told_of_progress(seen, workers):
 
 @case("devices", "progress", "`analyse --progress` of a ring of 640 nodes, each linked with the 50 next on each side, "
       "by 1 worker and by 4, and the same `2>/dev/full`",
-      "lines `level L: piece P of S`, none in the first second, at most two a second; the answer (FORMATS.md)")
+      "lines `level L: piece P of S`, none in the first second, at most two a second; the answer (COMMANDS.md)")
 def progress(lab):
     right = lab.right(PROGRESS, lab.large("small-ring"))
     for workers in (1, 4):
@@ -378,7 +379,7 @@ MANY_LINES = 6_000_000
 @case("devices", "progress of a run",
       f"`run --progress` of {MANY_LINES:,} lines `show 1`, the last one without a line feed",
       "lines `line N of M`, none in the first second, at most two a second; N rises, and M counts all lines "
-      "(FORMATS.md)")
+      "(COMMANDS.md)")
 def run_progress(lab):
     path = pathlib.Path(lab.room, "many-lines")
     path.write_text("\n".join(["show 1"] * MANY_LINES))
@@ -445,7 +446,7 @@ by_name("an argument that is no UTF-8", "`--\\xff FILE`", "`overlay`: `refused 7
         "more than one argument, whatever its bytes: usage, status 2 (FORMATS.md)",
         {"overlay": ARGUMENTS, "overlay-check": USAGE}, lambda lab, command: [b"--\xff", lab.example(command)])
 by_name("a name with a dash", "`-- -x`; `overlay-check -x`",
-        "after `--` nothing is an option; `overlay-check` has none (FORMATS.md)", RIGHT,
+        "after `--` nothing is an option; `overlay-check` has none (COMMANDS.md)", RIGHT,
         lambda lab, command: [*(["--"] if command is not CHECK else []), *copied(b"-x")(lab, command)])
 
 

@@ -42,8 +42,8 @@ NO_NAMES = r"status 0, prints nothing, standard error has b'the dump has no name
 NO_DOOR = "can't be opened or read: `refused 71`, status 1 (FORMATS.md)"
 each("dumps: all is well", "the same without any trouble", "the examples that are kept", RIGHT)
 each("dumps: empty environment", "`env -i .. FILE`", "no variable is looked at (FORMATS.md, devices)", RIGHT, env={})
-each("dumps: FILE `-`", "`- <FILE`", "standard input is read (FORMATS.md)", RIGHT, file="-", stdin=example_opened)
-each("dumps: no FILE", "`<FILE`", "standard input is read (FORMATS.md)", RIGHT, file=None, stdin=example_opened)
+each("dumps: FILE `-`", "`- <FILE`", "standard input is read (COMMANDS.md)", RIGHT, file="-", stdin=example_opened)
+each("dumps: no FILE", "`<FILE`", "standard input is read (COMMANDS.md)", RIGHT, file=None, stdin=example_opened)
 each("dumps: closed standard input, with FILE", "`FILE <&-`", "FILE alone is read (FORMATS.md)", RIGHT, closed=(0,))
 each("dumps: closed standard input", "`<&-`", NO_READ, READ, file=None, closed=(0,))
 each("dumps: standard input that can only be written to", "`0>/dev/null`", NO_READ, READ, file=None,
@@ -77,7 +77,7 @@ by_name("dumps: GRAPHFILE of a name that is no UTF-8", "`--names f\\xff`, which 
 
 
 @case("dumps", "dumps: GRAPHFILE `/dev/stdin`", "`picture FILE --names /dev/stdin <GRAPHFILE`",
-      "GRAPHFILE is read (FORMATS.md)")
+      "GRAPHFILE is read (COMMANDS.md)")
 def names_of_input(lab):
     with open(GRAPH_FILE, "rb") as given:
         seen = lab.run([*lab.words(PICTURE), "--names", "/dev/stdin", lab.example(PICTURE)], stdin=given)
@@ -100,7 +100,7 @@ def unread_files(lab):
 
 @case("dumps", "dumps: GRAPHFILE that can't be opened or read", "the same as GRAPHFILE of `picture --names`, and "
       "`-`, of a certificate that holds and of one that does not", "both files are read before anything is judged, and "
-      "GRAPHFILE is always a file; `refused 71`, status 1 (FORMATS.md)")
+      "GRAPHFILE is always a file (COMMANDS.md); `refused 71`, status 1 (FORMATS.md)")
 def unread_names(lab):
     for certificate in (lab.example(NAMED), str(EXAMPLES / "two-linked-wrong-count.json")):
         for name, what in {**no_files(lab), "-": "`-`"}.items():

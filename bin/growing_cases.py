@@ -105,8 +105,8 @@ each("256 KB of stack", "`ulimit -s 256`", "the right output: 256 KB of stack ar
 
 @case("growing", "growing: a picture that can't be written",
       "`sweep --svg FILE`, where FILE is /dev/full, a folder, in "
-      "a folder that is not there, or `''`", "FILE is opened at the end, so the rows come first; then `refused 72`, "
-      "status 1 (FORMATS.md)")
+      "a folder that is not there, or `''`", "FILE is opened at the end, so the rows come first (COMMANDS.md); then "
+      "`refused 72`, status 1 (FORMATS.md)")
 def unwritten_picture(lab):
     right = right_of(lab, SWEEP)
     for name, file in (("/dev/full", "/dev/full"), ("a folder", lab.room), ("no folder", "none/p.svg"), ("''", "")):
@@ -115,7 +115,7 @@ def unwritten_picture(lab):
 
 
 @case("growing", "growing: a picture, and a full device", "`sweep --svg FILE >/dev/full`, where FILE is there",
-      "FILE is opened at the end alone (FORMATS.md): it is as before, and `refused 72`, status 1")
+      "FILE is opened at the end alone (COMMANDS.md): it is as before, and `refused 72`, status 1")
 def kept_picture(lab):
     path = pathlib.Path(lab.room, "kept.svg")
     path.write_bytes(b"as before")

@@ -255,7 +255,7 @@ FEWER = "a thread that can't be started is no fault: the output is the same (FOR
 
 @case("workers", "threads are there to be refused", "`analyse --workers 64`, the same with `--explain`, "
       "`sweep --workers 64`, a scenario with `analyse M workers 64`, and the most threads that were seen",
-      "at most N threads (FORMATS.md)")
+      "at most N threads (COMMANDS.md)")
 def many_threads(lab):
     crew, overlay = ["--workers", "64"], lab.words(RUN)[0]
     commands = {
@@ -299,7 +299,7 @@ def first_told(lab, words):
 
 @case("workers", "progress, however the answer is told",
       f"`analyse --progress` of a ring of {SMALL_RING[0]} nodes, the same with `--names` and with `--explain`, up to "
-      "the first line", "lines `level L: piece P of S`, of which the first comes after a second (FORMATS.md)")
+      "the first line", "lines `level L: piece P of S`, of which the first comes after a second (COMMANDS.md)")
 def told_progress(lab):
     for more in ([], ["--names"], ["--explain"]):
         told_first = first_told(lab, [*lab.words(PROGRESS), *more, lab.large("small-ring")])
