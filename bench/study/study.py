@@ -1,6 +1,6 @@
 #!/usr/bin/env python3
 """study.py --simulate PROGRAM [--overlay PROGRAM] [--workers N] [NAME ..]: makes the rows of docs/DESIGN-STUDY.md into
-out/, and writes the document's tables and the figures of docs anew.
+out/, and writes its tables, also those in docs/TABLES.md, and the figures of docs anew.
 
 Rows of overlays of up to 256 nodes come from `overlay sweep` if a program is named, and else from the simulation. Rows
 that are there stay: remove their files, or the folder, to make them anew. With names only these tables and figures are
@@ -17,7 +17,7 @@ from sweeps import make
 from tables import TABLES, lines_of
 
 DOCS = pathlib.Path(__file__).resolve().parents[2] / "docs"
-STUDY = DOCS / "DESIGN-STUDY.md"
+PAGES = (DOCS / "DESIGN-STUDY.md", DOCS / "TABLES.md")
 
 
 def put(text, name):
@@ -41,7 +41,8 @@ def main():
         print(f"{sweep}: {time.monotonic() - begun:.0f} s", flush=True)
     for name in names:
         if name in TABLES:
-            STUDY.write_text(put(STUDY.read_text(), name))
+            for page in PAGES:
+                page.write_text(put(page.read_text(), name))
         else:
             (DOCS / name).write_text(FIGURES[name][0]())
 
