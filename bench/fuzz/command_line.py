@@ -1,4 +1,4 @@
-"""Reads the arguments of `overlay`, by docs/FORMATS.md; those of `grow` and `sweep` are read in growing_words.py.
+"""Reads the arguments of `overlay`, by docs/COMMANDS.md; those of `grow` and `sweep` are read in growing_words.py.
 
 That page leaves some things to `clap`, and so does this reader, from what is commonly known of it: refused are an
 option that occurs twice, a value after `=` of an option without one, and a value that begins with `-` and is not `-`
