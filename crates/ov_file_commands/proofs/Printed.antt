@@ -1,5 +1,5 @@
 -- What came of the parts of a command is what came of the command.
-use Rattle.std.proofs.Common.{◌≡◌, ◌≢◌, ℕ, List, Option, Some, None, Result, Ok, Err, inl, inr, refl, sym, subst}
+use Rattle.std.proofs.Common.{◌≡◌, ◌≢◌, ℕ, Bool, List, Option, Some, None, Result, Ok, Err, inl, inr, refl, sym, subst}
 use Rattle.ov_ids.specs.FaultOrder.{IsRefusedBy}
 use Rattle.ov_ids.proofs.Stepping.{step_none}
 use Rattle.ov_cert.specs.declared.cert.Cert.{Cert}
@@ -12,7 +12,7 @@ use Rattle.ov_picture.specs.declared.chosen_entry.ChosenEntry.{ChosenEntry}
 use Rattle.ov_picture.specs.declared.fault.PictureFault.{PictureFault}
 use Rattle.ov_picture.specs.declared.fault.PictureFault.TheVariants as drawing
 use Rattle.ov_file_commands.specs.Printing.{IsGraphTextOf, WasGraphPrinted}
-use Rattle.ov_file_commands.specs.Pictures.{IsDrawable, WasPicturePrinted}
+use Rattle.ov_file_commands.specs.Pictures.{EndsAsAsked, IsDrawable, WasPicturePrinted}
 use Rattle.ov_file_commands.specs.Code.Endings.{IsNotNamed, WasWritten}
 use Rattle.ov_file_commands.specs.declared.file_command_fault.FileCommandFault.{FileCommandFault}
 use Rattle.ov_file_commands.specs.declared.file_command_fault.FileCommandFault.TheVariants.{Refused, Write, OutOfMemory}
@@ -26,13 +26,14 @@ graph_written bytes text contents old new (Err (Refused number)) is it = absurd 
 graph_written bytes text contents old new (Err OutOfMemory) is it = absurd it
 
 pub picture_written : {W : Type 0} (bytes : List ℕ) (names : Option (List ℕ)) (entry : Option ChosenEntry)
-    (text : List ℕ) (contents : W → Option (List ℕ)) (old new : W) (result : Result (Unit {0}) FileCommandFault)
-    → IsDrawable bytes names entry → WasWritten text contents old new result
-    → WasPicturePrinted bytes names entry contents old new result
-picture_written bytes names entry text contents old new (Ok done) is it = (is, (text, it))
-picture_written bytes names entry text contents old new (Err Write) is it = (is, (text, it))
-picture_written bytes names entry text contents old new (Err (Refused number)) is it = absurd it
-picture_written bytes names entry text contents old new (Err OutOfMemory) is it = absurd it
+    (dot : Bool) (text : List ℕ) (contents : W → Option (List ℕ)) (old new : W)
+    (result : Result (Unit {0}) FileCommandFault)
+    → IsDrawable bytes names entry → EndsAsAsked dot text → WasWritten text contents old new result
+    → WasPicturePrinted bytes names entry dot contents old new result
+picture_written bytes names entry dot text contents old new (Ok done) is ends it = (is, (text, ends, it))
+picture_written bytes names entry dot text contents old new (Err Write) is ends it = (is, (text, ends, it))
+picture_written bytes names entry dot text contents old new (Err (Refused number)) is ends it = absurd it
+picture_written bytes names entry dot text contents old new (Err OutOfMemory) is ends it = absurd it
 
 -- ---- the entry
 
@@ -59,21 +60,21 @@ lacks_entry cert entry judged = elim judged [
 
 -- ---- the refusals
 
-pub undrawn : {W : Type 0} (bytes : List ℕ) (names : Option (List ℕ)) (entry : Option ChosenEntry)
+pub undrawn : {W : Type 0} (bytes : List ℕ) (names : Option (List ℕ)) (entry : Option ChosenEntry) (dot : Bool)
     (contents : W → Option (List ℕ)) (old : W) (f : Filed) (fault : PictureFault) (result : FileCommandFault)
     → IsOutcome bytes (Holds f) → IsRefusedBy drawing.OutOfMemory (PictureJudged f.cert entry) fault
     → (fault ≡ drawing.OutOfMemory → result ≡ OutOfMemory) → (fault ≡ drawing.NoSuchEntry → result ≡ Refused 86)
-    → WasPicturePrinted bytes names entry contents old old (Err result)
-undrawn bytes names entry contents old f drawing.OutOfMemory result holds judged memory missing =
-    subst (λ r. WasPicturePrinted bytes names entry contents old old (Err r)) (sym (memory refl)) refl
-undrawn bytes names entry contents old f drawing.NoSuchEntry result holds judged memory missing =
-    subst (λ r. WasPicturePrinted bytes names entry contents old old (Err r)) (sym (missing refl))
+    → WasPicturePrinted bytes names entry dot contents old old (Err result)
+undrawn bytes names entry dot contents old f drawing.OutOfMemory result holds judged memory missing =
+    subst (λ r. WasPicturePrinted bytes names entry dot contents old old (Err r)) (sym (memory refl)) refl
+undrawn bytes names entry dot contents old f drawing.NoSuchEntry result holds judged memory missing =
+    subst (λ r. WasPicturePrinted bytes names entry dot contents old old (Err r)) (sym (missing refl))
     (inr (f, holds, inl (lacks_entry f.cert entry judged, refl)), refl)
 
-pub unnamed : {W : Type 0} (bytes : List ℕ) (names : Option (List ℕ)) (entry : Option ChosenEntry)
+pub unnamed : {W : Type 0} (bytes : List ℕ) (names : Option (List ℕ)) (entry : Option ChosenEntry) (dot : Bool)
     (contents : W → Option (List ℕ)) (old : W) (f : Filed) (fault : FileCommandFault)
     → IsOutcome bytes (Holds f) → shown_paths f.cert entry ≢ None → IsNotNamed names f.graph fault
-    → WasPicturePrinted bytes names entry contents old old (Err fault)
-unnamed bytes names entry contents old f (Refused number) holds has it = (inr (f, holds, inr (has, it)), refl)
-unnamed bytes names entry contents old f Write holds has it = absurd it
-unnamed bytes names entry contents old f OutOfMemory holds has it = refl
+    → WasPicturePrinted bytes names entry dot contents old old (Err fault)
+unnamed bytes names entry dot contents old f (Refused number) holds has it = (inr (f, holds, inr (has, it)), refl)
+unnamed bytes names entry dot contents old f Write holds has it = absurd it
+unnamed bytes names entry dot contents old f OutOfMemory holds has it = refl

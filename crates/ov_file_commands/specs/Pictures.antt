@@ -1,5 +1,6 @@
--- What `overlay picture` prints. Of the picture's text only its place is said here.
-use Rattle.std.specs.Prelude.{◌≡◌, ◌≢◌, ◌⊎◌, ℕ, ⊤, List, Option, Some, None, Result, Ok, Err}
+-- What `overlay picture` prints. Of the picture's text only its place and its format are said here.
+use Rattle.std.specs.Prelude.{◌≡◌, ◌≢◌, ◌⊎◌, ℕ, Bool, true, false, ⊤, List, ◌++◌, codes, Option, Some, None, Result}
+use Rattle.std.specs.Prelude.{Ok, Err}
 use Rattle.std.specs.Io.KnownBytes.{Appends}
 use Rattle.ov_arguments.specs.declared.file_requests.AskedEntry.{AskedEntry}
 use Rattle.ov_arguments.specs.declared.file_requests.AskedEntry.TheVariants as asked
@@ -63,6 +64,12 @@ IsPictureRefused bytes names entry number =
 
 -- ---- the picture
 
+-- the text of a picture ends as its format does: DOT, if that is asked for, with a brace, and SVG with the end of its
+-- outermost element
+abbrev pub EndsAsAsked : Bool → List ℕ → Type 0
+EndsAsAsked true text = (before : List ℕ) × (text ≡ before ++ codes "}\n")
+EndsAsAsked false text = (before : List ℕ) × (text ≡ before ++ codes "</svg>\n")
+
 -- a picture is drawn: a certificate holds in the bytes, it has the entry, and the file with names says its graph
 pub record IsDrawable (bytes : List ℕ) (names : Option (List ℕ)) (entry : Option ChosenEntry) : Type 0 where
   pub file : Filed
@@ -70,14 +77,16 @@ pub record IsDrawable (bytes : List ℕ) (names : Option (List ℕ)) (entry : Op
   pub has_entry : shown_paths file.cert entry ≢ None
   pub named : NamesGraph names file.graph
 
--- what a writer took of a picture: a text, or a prefix of one if writing failed; and nothing, if the picture is refused
--- or memory ran out
-abbrev pub WasPicturePrinted : {W : Type 0} → List ℕ → Option (List ℕ) → Option ChosenEntry → (W → Option (List ℕ))
-    → W → W → Result (Unit {0}) FileCommandFault → Type 0
-WasPicturePrinted bytes names entry contents old new (Ok done) =
-    IsDrawable bytes names entry × ((text : List ℕ) × Appends (contents old) (contents new) text)
-WasPicturePrinted bytes names entry contents old new (Err Write) =
-    IsDrawable bytes names entry × ((text : List ℕ) × AppendsPrefixOf text (contents old) (contents new))
-WasPicturePrinted bytes names entry contents old new (Err (Refused number)) =
+-- what a writer took of a picture: a text in the format that is asked for, or a prefix of one if writing failed; and
+-- nothing, if the picture is refused or memory ran out
+abbrev pub WasPicturePrinted : {W : Type 0} → List ℕ → Option (List ℕ) → Option ChosenEntry → Bool
+    → (W → Option (List ℕ)) → W → W → Result (Unit {0}) FileCommandFault → Type 0
+WasPicturePrinted bytes names entry dot contents old new (Ok done) =
+    IsDrawable bytes names entry
+    × ((text : List ℕ) × EndsAsAsked dot text × Appends (contents old) (contents new) text)
+WasPicturePrinted bytes names entry dot contents old new (Err Write) =
+    IsDrawable bytes names entry
+    × ((text : List ℕ) × EndsAsAsked dot text × AppendsPrefixOf text (contents old) (contents new))
+WasPicturePrinted bytes names entry dot contents old new (Err (Refused number)) =
     IsPictureRefused bytes names entry number × (new ≡ old)
-WasPicturePrinted bytes names entry contents old new (Err OutOfMemory) = new ≡ old
+WasPicturePrinted bytes names entry dot contents old new (Err OutOfMemory) = new ≡ old

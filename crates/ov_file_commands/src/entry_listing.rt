@@ -1,4 +1,8 @@
+ghost use Rattle.std.specs.Prelude.{◌≡◌, ◌++◌, string_bytes, OnOk};
+ghost use Rattle.ov_file_commands.specs.Code.EntryTexts.{end_text, pair_text};
+
 use ov_cert::{Cert, FanPaths, PairPaths};
+use ov_ids::NodeId;
 use std::alloc::{AllocError, Global};
 use std::fmt::Write;
 
@@ -27,12 +31,20 @@ fn push_pairs(text: &mut String, pairs: &[PairPaths]) -> Result<(), AllocError> 
     push_count(text, pairs.len(), "pair")?;
     for (at, entry) in pairs.iter().enumerate() {
         if at < MOST_NAMED {
-            let i = entry.i.number();
-            let j = entry.j.number();
-            write!(text, " {i},{j}")?;
+            push_pair(text, entry.i, entry.j)?;
         }
     }
     push_end(text, pairs.len())
+}
+
+/// Appends a pair.
+fn push_pair(text: &mut String, i: NodeId, j: NodeId) -> Result<(), AllocError>
+    ensures { OnOk result (string_bytes text.new ≡ string_bytes text.old ++ pair_text i j) }
+{
+    let low = i.number();
+    let high = j.number();
+    write!(text, " {low},")?;
+    write!(text, "{high}")
 }
 
 /// Appends the first fans, and how many there are.
@@ -57,10 +69,15 @@ fn push_count(text: &mut String, count: usize, kind: &str) -> Result<(), AllocEr
 }
 
 /// Appends how many entries are not named, and what ends the names of so many.
-fn push_end(text: &mut String, count: usize) -> Result<(), AllocError> {
-    let others = count.saturating_sub(MOST_NAMED);
-    if others > 0 {
-        write!(text, " and {others} more")?;
+fn push_end(text: &mut String, count: usize) -> Result<(), AllocError>
+    ensures { OnOk result (string_bytes text.new ≡ string_bytes text.old ++ end_text count) }
+{
+    if count == 0 {
+        return Ok(());
     }
-    text.push_str(if count > 0 { ")" } else { "" })
+    if count <= MOST_NAMED {
+        return text.push_str(")");
+    }
+    let others = count - MOST_NAMED;
+    write!(text, " and {others} more)")
 }

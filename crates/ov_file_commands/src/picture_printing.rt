@@ -1,9 +1,10 @@
-ghost use Rattle.std.specs.Prelude.{◌≡◌, ◌<◌, option_map, Some, MatchResult, OnOk};
+ghost use Rattle.std.specs.Prelude.{◌≡◌, ◌<◌, option_map, string_bytes, Some, MatchResult, IfOk, OnOk};
 ghost use Rattle.ov_check.specs.Outcome.{SaysExactNumber, IsOutcome};
 ghost use Rattle.ov_check.specs.declared.outcome.Outcome.TheVariants.{Holds};
 ghost use Rattle.ov_graphfile.specs.Faults.{number_of as graph_file_number};
 ghost use Rattle.ov_io.specs.Device.{most_faults};
-ghost use Rattle.ov_file_commands.specs.Pictures.{WasPicturePrinted, NamesGraph, chosen_entry, outcome_number};
+ghost use Rattle.ov_file_commands.specs.Pictures.{WasPicturePrinted, EndsAsAsked, NamesGraph, chosen_entry};
+ghost use Rattle.ov_file_commands.specs.Pictures.{outcome_number};
 ghost use Rattle.ov_file_commands.specs.Code.Endings.{IsNotHeld, IsNotNamed};
 ghost use Rattle.ov_file_commands.specs.declared.file_command_fault.FileCommandFault.TheVariants as ended;
 
@@ -46,7 +47,7 @@ pub fn print_picture<W: Write>(
     requires { sink.old.faults < most_faults }
     ensures holds { OnOk result (SaysExactNumber bytes.now) }
     ensures printed { WasPicturePrinted bytes.now (option_map (λ file. file.now) names.entry)
-        (chosen_entry request.now.entry) W.contents sink.old.writer sink.new.writer result }
+        (chosen_entry request.now.entry) request.now.dot W.contents sink.old.writer sink.new.writer result }
 {
     let filed = held(rt, bytes)?;
     let drawing = match draw(
@@ -138,8 +139,9 @@ fn picture_text(
     names: Option<&[u8]>,
     is_dot: bool,
 ) -> Result<String, FileCommandFault>
-    ensures { MatchResult result (λ text. NamesGraph (option_map (λ file. file.now) names.entry) graph.now)
+    ensures named { MatchResult result (λ text. NamesGraph (option_map (λ file. file.now) names.entry) graph.now)
         (IsNotNamed (option_map (λ file. file.now) names.entry) graph.now) }
+    ensures format { IfOk result (λ text. EndsAsAsked is_dot (string_bytes text)) }
 {
     let text = match names {
         None => text_of(rt.alloc(), drawing, &[], is_dot),
@@ -200,7 +202,9 @@ fn named_text(
     drawing: &Drawing,
     file: &[u8],
     is_dot: bool,
-) -> Result<String, OutOfMemory> {
+) -> Result<String, OutOfMemory>
+    ensures format { IfOk result (λ text. EndsAsAsked is_dot (string_bytes text)) }
+{
     let names = read_names(alloc, graph, file)?;
     let mut labels = Vec::new(alloc);
     for node in graph.nodes() {
@@ -218,7 +222,9 @@ fn text_of(
     drawing: &Drawing,
     labels: &[Option<&str>],
     is_dot: bool,
-) -> Result<String, OutOfMemory> {
+) -> Result<String, OutOfMemory>
+    ensures format { IfOk result (λ text. EndsAsAsked is_dot (string_bytes text)) }
+{
     if is_dot {
         dot(alloc, drawing, labels)
     } else {

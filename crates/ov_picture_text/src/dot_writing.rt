@@ -1,3 +1,5 @@
+ghost use Rattle.std.specs.Prelude.{◌≡◌, ◌++◌, ℕ, List, codes, string_bytes, IfOk};
+
 use crate::class_names::{link_class_name, node_class_name};
 use crate::escaped_texts::push_dot;
 use crate::headings::push_broken;
@@ -15,11 +17,9 @@ use std::fmt::Write;
 /// hollow, and has the class `no-member` too. The places (`pos`) are those of the picture as SVG, for `neato -n`.
 /// `names` are the labels of the nodes, in their order; a node without one is labelled by its id. OutOfMemory (99): an
 /// allocation was refused.
-pub fn dot(
-    alloc: Global,
-    drawing: &Drawing,
-    names: &[Option<&str>],
-) -> Result<String, OutOfMemory> {
+pub fn dot(alloc: Global, drawing: &Drawing, names: &[Option<&str>]) -> Result<String, OutOfMemory>
+    ensures ends { IfOk result (λ text. (before : List ℕ) × (string_bytes text ≡ before ++ codes "}\n")) }
+{
     let labels = Labels::new(alloc, drawing, names)?;
     let layout = Plan::new(alloc, drawing, &labels)?.layout(alloc, 0.0)?;
     let mut text = String::new(alloc);

@@ -1,3 +1,5 @@
+ghost use Rattle.std.specs.Prelude.{◌≡◌, ◌++◌, ℕ, List, codes, string_bytes, IfOk};
+
 use crate::escaped_texts::push_xml;
 use crate::headings::{EDGE, FIRST, Heading, LINES};
 use crate::labels::Labels;
@@ -17,11 +19,9 @@ use std::fmt::Write;
 /// them. A node that is no member of the group is hollow. `names` are the labels of the nodes, in their order; a node
 /// without one is labelled by its id. The picture is light, or dark where the reader prefers it, and has no scripts.
 /// OutOfMemory (99): an allocation was refused.
-pub fn svg(
-    alloc: Global,
-    drawing: &Drawing,
-    names: &[Option<&str>],
-) -> Result<String, OutOfMemory> {
+pub fn svg(alloc: Global, drawing: &Drawing, names: &[Option<&str>]) -> Result<String, OutOfMemory>
+    ensures ends { IfOk result (λ text. (before : List ℕ) × (string_bytes text ≡ before ++ codes "</svg>\n")) }
+{
     let labels = Labels::new(alloc, drawing, names)?;
     let plan = Plan::new(alloc, drawing, &labels)?;
     let mut text = String::new(alloc);

@@ -32,7 +32,7 @@ impl Gate for Counting {
 }
 
 /// How often the first worker looks whether another one has passed, at most.
-const FEW_LOOKS: u64 = 20_000_000;
+const FEW_LOOKS: u64 = 5_000_000;
 
 /// Holds the first worker that passes until another one does, for a bounded time.
 #[derive(Drop)]

@@ -74,8 +74,8 @@ fn outlined_watched<R: Threads + Sync>(
 
 #[test]
 fn each_level_is_told_without_paths(rt: HostRuntime) -> Result<(), Fail> {
-    for count in [1, 2, 5] {
-        for row in [&PETERSEN, &RING, &TWO_SIDES] {
+    for count in [1, 2] {
+        for row in [&PETERSEN, &RING] {
             assert!(rt; outlined_watched(&rt, rt.alloc(), row, count)?);
         }
     }
