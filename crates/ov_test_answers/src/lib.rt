@@ -3,3 +3,5 @@
 
 #[cfg(test)]
 mod named;
+#[cfg(test)]
+mod watched;

@@ -1,8 +1,11 @@
-//! What the watcher of a run is told of each line, and when the writer of a run is asked to hand on what it keeps back.
+//! What the watcher of a run is told of each line, when the writer of a run is asked to hand on what it keeps back, and
+//! runs in blocks.
 use ov_io::{Sink, Source};
-use ov_run::{RanLine, Refusal, RunFault, RunWatcher, Strictness, run, run_watched};
+use ov_run::{
+    RanLine, Refusal, RunFault, RunWatcher, Strictness, run, run_bytes, run_in_blocks, run_watched,
+};
 use ov_snap::Core;
-use std::io::{self, BufWriter, ErrorKind, Write};
+use std::io::{self, ErrorKind, Write};
 use std::sync::Wait;
 use std::test::Fail;
 use std::thread::Threads;
@@ -171,30 +174,154 @@ const BEFORE_ANALYSIS: &str = "entry 1 born 1\nentry 2\n";
 
 const FROM_ANALYSIS: &str = "report 2 linked k 0\nnode 1 active - passive - eager - lazy -\n";
 
-#[test]
-fn a_writer_is_flushed_before_an_analysis_and_at_the_end(rt: HostRuntime) {
-    let mut source = Source::new(ANALYSED.as_bytes());
+/// A scenario with a block after its first line, and a last line that is refused; what it prints up to the block, of
+/// the block, and of the last line.
+const TOGETHER: &str = "boot 1\ntogether\nboot 2\nend\nshow 3\n";
+
+const BEFORE_BLOCK: &str = "entry 1 born 1\n";
+
+const OF_BLOCK: &str = "together 1 accepted 1 refused 0\n";
+
+const OF_REFUSAL: &str = "refused 10\n";
+
+/// The number of a refusal at which a strict run ended, with that of its line.
+fn stop_of(answer: &Result<u8, RunFault>) -> Option<(usize, u32)> {
+    match answer {
+        Err(RunFault::Refused { line, refusal }) => Some((*line, refusal.number())),
+        _ => None,
+    }
+}
+
+/// What a run of this file returns, and how many bytes its writer had taken at each flush.
+fn flushes_of(
+    rt: &(impl AllocGlobal + Threads + Wait + Sync),
+    file: &str,
+    strictness: Strictness,
+) -> (Result<u8, RunFault>, Vec<usize>) {
+    let mut listener = Listener {
+        told: Vec::new(rt.alloc()),
+    };
     let mut sink = Sink::new(Flushed {
         taken: 0,
         flushes: Vec::new(rt.alloc()),
     });
-    let answer = run(&rt, rt.alloc(), &mut source, &mut sink);
-    assert_eq!(rt; answer, Ok(0));
-    let before = BEFORE_ANALYSIS.len();
-    let expected = [before, before + FROM_ANALYSIS.len()];
-    assert_eq!(rt; sink.into_writer().flushes.as_slice(), expected.as_slice());
+    let answer = run_bytes(
+        rt,
+        rt.alloc(),
+        file.as_bytes(),
+        &mut sink,
+        strictness,
+        &mut listener,
+    );
+    (answer, sink.into_writer().flushes)
 }
 
 #[test]
-fn a_run_hands_on_what_its_writer_keeps_back(rt: HostRuntime) -> Result<(), Fail> {
-    let mut source = Source::new(ANALYSED.as_bytes());
-    let mut sink = Sink::new(BufWriter::new(rt.alloc(), Vec::new(rt.alloc()))?);
-    let answer = run(&rt, rt.alloc(), &mut source, &mut sink);
-    assert_eq!(rt; answer, Ok(0));
-    let mut expected = String::from_str(rt.alloc(), BEFORE_ANALYSIS)?;
-    expected.push_str(FROM_ANALYSIS)?;
-    let writer = sink.into_writer();
-    assert_eq!(rt; writer.get_ref().as_slice(), expected.as_bytes());
+fn a_writer_is_flushed_before_an_analysis_and_at_the_end(rt: HostRuntime) {
+    let (answer, flushes) = flushes_of(&rt, ANALYSED, Strictness::Lenient);
+    let before = BEFORE_ANALYSIS.len();
+    let expected = [before, before + FROM_ANALYSIS.len()];
+    assert!(rt; answer == Ok(0) && flushes.as_slice() == expected.as_slice());
+}
+
+#[test]
+fn a_writer_is_flushed_before_a_block_and_at_a_refused_line(rt: HostRuntime) {
+    let before = BEFORE_BLOCK.len();
+    let block = before + OF_BLOCK.len();
+    let (answer, flushes) = flushes_of(&rt, TOGETHER, Strictness::Lenient);
+    let expected = [before, block + OF_REFUSAL.len()];
+    assert!(rt; answer == Ok(0) && flushes.as_slice() == expected.as_slice());
+    let (answer, flushes) = flushes_of(&rt, TOGETHER, Strictness::Strict);
+    let expected = [before, block];
+    assert!(rt; stop_of(&answer) == Some((5, 10)) && flushes.as_slice() == expected.as_slice());
+}
+
+/// Whether a run in blocks of so many bytes writes what the scenario prints into the writer itself.
+fn is_in_the_writer(
+    rt: &(impl AllocGlobal + Threads + Wait + Sync),
+    size: usize,
+) -> Result<bool, Fail> {
+    let mut listener = Listener {
+        told: Vec::new(rt.alloc()),
+    };
+    let sink = Sink::new(Vec::new(rt.alloc())).in_blocks(rt.alloc(), size)?;
+    let (sink, answer) = run_in_blocks(
+        rt,
+        rt.alloc(),
+        ANALYSED.as_bytes(),
+        sink,
+        Strictness::Lenient,
+        &mut listener,
+    );
+    let written = sink.into_writer();
+    let (before, after) = written.split_at(BEFORE_ANALYSIS.len().min(written.len()));
+    Ok(answer == Ok(0) && before == BEFORE_ANALYSIS.as_bytes() && after == FROM_ANALYSIS.as_bytes())
+}
+
+#[test]
+fn a_run_in_blocks_keeps_nothing_back(rt: HostRuntime) -> Result<(), Fail> {
+    for size in [0, 1, 16, 1024] {
+        assert!(rt; is_in_the_writer(&rt, size)?, "blocks of {size} bytes");
+    }
+    Ok(())
+}
+
+/// Takes so many bytes and no more, and counts the writes that it fails.
+#[derive(Drop)]
+struct Full {
+    room: usize,
+    failed: u64,
+}
+
+impl Write for Full {
+    fn write(&mut self, buf: &[u8]) -> io::Result<usize> {
+        let count = buf.len().min(self.room);
+        if count == 0 {
+            self.failed = self.failed.saturating_add(1);
+            return Err(io::Error::from(ErrorKind::Other));
+        }
+        self.room -= count;
+        Ok(count)
+    }
+
+    fn flush(&mut self) -> io::Result<()> {
+        Ok(())
+    }
+}
+
+/// What a run in blocks of so many bytes returns if its writer has so much room, how many writes failed, and how many
+/// faults its sink counts.
+fn in_little_room(
+    rt: &(impl AllocGlobal + Threads + Wait + Sync),
+    size: usize,
+    room: usize,
+) -> Result<(Result<u8, RunFault>, u64, u64), Fail> {
+    let mut listener = Listener {
+        told: Vec::new(rt.alloc()),
+    };
+    let sink = Sink::new(Full { room, failed: 0 }).in_blocks(rt.alloc(), size)?;
+    let (sink, answer) = run_in_blocks(
+        rt,
+        rt.alloc(),
+        ANALYSED.as_bytes(),
+        sink,
+        Strictness::Lenient,
+        &mut listener,
+    );
+    let faults = sink.faults();
+    Ok((answer, sink.into_writer().failed, faults))
+}
+
+#[test]
+fn nothing_is_written_after_a_write_that_failed(rt: HostRuntime) -> Result<(), Fail> {
+    let all = BEFORE_ANALYSIS.len() + FROM_ANALYSIS.len();
+    for size in [0, 16, 1024] {
+        for room in [0, BEFORE_ANALYSIS.len(), all - 1] {
+            let is_ended = in_little_room(&rt, size, room)? == (Err(RunFault::Write), 1, 1);
+            assert!(rt; is_ended, "blocks of {size} bytes, room for {room}");
+        }
+        assert!(rt; in_little_room(&rt, size, all)? == (Ok(0), 0, 0));
+    }
     Ok(())
 }
 
@@ -231,9 +358,31 @@ fn comes_to(
     run(rt, rt.alloc(), &mut source, &mut sink) == answer && sink.faults() == faults
 }
 
+/// What a strict run comes to whose second line is refused, if its writer fails at a flush after so many.
+fn strict_comes_to(
+    rt: &(impl AllocGlobal + Threads + Wait + Sync),
+    flushes_left: usize,
+) -> Result<u8, RunFault> {
+    let mut listener = Listener {
+        told: Vec::new(rt.alloc()),
+    };
+    let mut sink = Sink::new(Unflushed { flushes_left });
+    let file = b"boot 1\nshow 2\n";
+    run_bytes(
+        rt,
+        rt.alloc(),
+        file,
+        &mut sink,
+        Strictness::Strict,
+        &mut listener,
+    )
+}
+
 #[test]
 fn a_flush_that_fails_ends_a_run(rt: HostRuntime) {
     assert!(rt; comes_to(&rt, 0, Err(RunFault::Write), 1));
     assert!(rt; comes_to(&rt, 1, Err(RunFault::Write), 1));
     assert!(rt; comes_to(&rt, 2, Ok(0), 0));
+    assert!(rt; strict_comes_to(&rt, 0) == Err(RunFault::Write));
+    assert!(rt; stop_of(&strict_comes_to(&rt, 1)) == Some((2, 10)));
 }

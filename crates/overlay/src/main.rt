@@ -20,6 +20,7 @@ mod program_outcome;
 mod progress;
 mod refusal_watcher;
 mod run_news;
+mod runs_in_blocks;
 mod tips;
 
 use crate::fault_reasons::{analysis_reason, run_reason};
@@ -28,6 +29,7 @@ use crate::named_analysis::analyse_in_words;
 use crate::program_outcome::{ProgramFault, exit_status};
 use crate::progress::{PieceProgress, RunProgress};
 use crate::run_news::RunNews;
+use crate::runs_in_blocks::run_into_blocks;
 use crate::tips::{print_command_tip, print_file_tip, print_folder_tip};
 use ov_arguments::{
     AnalysisRequest, ArgumentsFault, Request, RunRequest, argument_reasons, read_arguments,
@@ -40,7 +42,7 @@ use ov_reasons::group_reason;
 use ov_run::{Answered, RunFault, Strictness, analyse_bytes, run_bytes};
 use std::env;
 use std::fs::File;
-use std::io::{self, BufWriter, IsTerminal, Read, Write};
+use std::io::{self, IsTerminal, Read, Write};
 use std::process::ExitCode;
 use std::sync::Wait;
 use std::thread::Threads;
@@ -292,8 +294,8 @@ fn run_asked<T: Threads + Wait + Sync>(
     if run.explain || rt.stdout().is_terminal() {
         return run_into(rt, threads, file, rt.stdout(), run);
     }
-    match BufWriter::with_capacity(rt.alloc(), BLOCK, rt.stdout()) {
-        Ok(writer) => run_into(rt, threads, file, writer, run),
+    match Sink::new(rt.stdout()).in_blocks(rt.alloc(), BLOCK) {
+        Ok(sink) => run_into_blocks(rt, threads, file, sink, run),
         Err(_) => Err(without_memory(rt).into()),
     }
 }
@@ -359,11 +361,22 @@ fn run_told<T: Threads + Wait + Sync, W: Write>(
     let mut news = RunNews::new(rt, run, bytes);
     let strictness = Strictness::of(run.strict);
     let answer = run_bytes(threads, rt.alloc(), bytes, sink, strictness, &mut news);
-    tell_fault(rt, bytes, file, &answer);
-    if has_run(&answer) {
+    tell_run(rt, bytes, file, &news, &answer);
+    answer
+}
+
+/// Prints the fault of a run of these bytes, if there is one, and why, and then what is to be told at the end.
+fn tell_run(
+    rt: &HostRuntime,
+    bytes: &[u8],
+    file: Option<&str>,
+    news: &RunNews<'_>,
+    answer: &Result<u8, RunFault>,
+) {
+    tell_fault(rt, bytes, file, answer);
+    if has_run(answer) {
         news.tell_end();
     }
-    answer
 }
 
 /// Whether lines of a scenario may have run: not if a line is at fault. Out of memory, perhaps none ran.
