@@ -1,4 +1,8 @@
-//! The answer of an analysis in sentences. No contract says their words; examples and tests do.
+//! The answer of an analysis in sentences. Of their words contracts say those with numbers of crashes and of nodes that
+//! are not named; examples and tests say the others.
+ghost use Rattle.std.specs.Prelude.{◌≡◌, ◌++◌, string_bytes, OnOk};
+ghost use Rattle.ov_answers.specs.Code.Sentences.{fewer_text, more_text};
+
 use crate::counts::{least_linked, members_beside, survivors_of};
 use ov_cert::{Cert, Split};
 use ov_graph::Graph;
@@ -127,22 +131,22 @@ fn push_parted(
     write!(text, " from {others} {other}")
 }
 
-/// Appends which crashes part nobody. `count` crashes are the fewest that do.
-fn push_fewer(text: &mut String, count: usize) -> Result<(), AllocError> {
-    let fewer = count.saturating_sub(1);
-    if count == 0 {
+/// Appends which crashes part nobody. `fewest` crashes are the fewest that part somebody.
+fn push_fewer(text: &mut String, fewest: usize) -> Result<(), AllocError>
+    ensures { OnOk result (string_bytes text.new ≡ string_bytes text.old ++ fewer_text fewest) }
+{
+    if fewest == 0 {
         return text.push_str("\n");
     }
-    if fewer == 0 {
+    if fewest == 1 {
         return text.push_str("\nit does not survive every crash of one node\n");
     }
-    if fewer == 1 {
+    if fewest == 2 {
         return text.push_str("; no single crash does\nit survives any 1 crash\n");
     }
-    write!(
-        text,
-        "; no {fewer} crashes do\nit survives any {fewer} crashes\n"
-    )
+    let fewer = fewest - 1;
+    write!(text, "; no {fewer} crashes do\n")?;
+    write!(text, "it survives any {fewer} crashes\n")
 }
 
 /// Appends who has the fewest links.
@@ -167,17 +171,24 @@ fn push_least(
 
 /// Appends the first ten of these nodes, and how many more there are.
 fn push_list(text: &mut String, ids: &[NodeId], names: &Names<'_>) -> Result<(), AllocError> {
-    let more = ids.len().saturating_sub(MOST_NAMED);
     let told = ids.len().min(MOST_NAMED);
     for place in 0..told {
         let last = place + 1 == ids.len();
         text.push_str(joint(place, last))?;
         push_node(text, ids[place], names)?;
     }
-    if more > 0 {
-        return write!(text, " and {more} more");
+    push_more(text, ids.len())
+}
+
+/// Appends how many of so many nodes are not named, if some are not.
+fn push_more(text: &mut String, count: usize) -> Result<(), AllocError>
+    ensures { OnOk result (string_bytes text.new ≡ string_bytes text.old ++ more_text count) }
+{
+    if count <= MOST_NAMED {
+        return Ok(());
     }
-    Ok(())
+    let more = count - MOST_NAMED;
+    write!(text, " and {more} more")
 }
 
 /// What stands before the node at a place of a list.

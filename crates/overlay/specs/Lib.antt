@@ -1,3 +1,4 @@
 pub mod Program
 pub mod Naming
+pub mod Statuses
 pub mod Code

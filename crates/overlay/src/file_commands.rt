@@ -1,6 +1,12 @@
 //! The commands that turn one file into another.
-ghost use Rattle.std.specs.Prelude.{◌≡◌, IfOk, IfErr};
+ghost use Rattle.std.specs.Prelude.{◌≡◌, ◌<◌, option_map, IfOk, IfErr};
+ghost use Rattle.ov_file_commands.specs.Dumps.{WasDumpPrinted};
+ghost use Rattle.ov_file_commands.specs.Pictures.{WasPicturePrinted, chosen_entry};
+ghost use Rattle.ov_file_commands.specs.Printing.{WasGraphPrinted};
+ghost use Rattle.ov_hints.specs.FileKinds.{behind_mark};
+ghost use Rattle.ov_io.specs.Device.{most_faults};
 ghost use Rattle.overlay.specs.Program.{IsOfRequest};
+ghost use Rattle.overlay.specs.Statuses.{HasDone, command_status};
 
 use crate::program_outcome::ProgramFault;
 use crate::tips::print_file_tip;
@@ -9,6 +15,8 @@ use ov_arguments::{ImportRequest, PictureRequest};
 use ov_file_commands::{FileCommandFault, print_dump, print_graph, print_picture};
 use ov_hints::{FileKind, behind_mark};
 use ov_io::Sink;
+use ov_run::RunFault;
+use std::io::Write;
 
 /// The number of the fault that a line can't be read. Of a picture only the file with names can have it.
 const UNREAD_LINE: u32 = 70;
@@ -23,10 +31,32 @@ pub(crate) fn import_asked(
     ensures fault { IfErr result IsOfRequest }
 {
     let bytes = bytes_asked(rt, file.as_deref())?;
-    let mut sink = Sink::new(rt.stdout());
-    let printed = print_dump(rt, behind_mark(&bytes), dump, &mut sink);
-    with_tip(rt, &bytes, file.as_deref(), FileKind::Views, printed)?;
-    Ok(0)
+    import_into(
+        rt,
+        &bytes,
+        file.as_deref(),
+        dump,
+        &mut Sink::new(rt.stdout()),
+    )
+}
+
+/// Makes a graph file of the dump in these bytes, of the file of this name or of standard input. A byte order mark
+/// before the dump is passed over.
+fn import_into<W: Write>(
+    rt: &HostRuntime,
+    bytes: &[u8],
+    file: Option<&str>,
+    dump: ImportRequest,
+    sink: &mut Sink<W>,
+) -> Result<u8, ProgramFault>
+    requires { sink.old.faults < most_faults }
+    ensures imported { HasDone
+        (WasDumpPrinted dump (behind_mark bytes.now) W.contents sink.old.writer sink.new.writer) result }
+    ensures status { IfOk result (λ status. status ≡ 0) }
+    ensures fault { IfErr result IsOfRequest }
+{
+    let printed = print_dump(rt, behind_mark(bytes), dump, sink);
+    status_of(with_tip(rt, bytes, file, FileKind::Views, printed))
 }
 
 /// Draws the graph of the certificate file of this name, or of standard input, with the names that another file gives.
@@ -39,34 +69,64 @@ pub(crate) fn picture_asked(
     ensures fault { IfErr result IsOfRequest }
 {
     let bytes = bytes_asked(rt, file.as_deref())?;
+    let names = names_asked(rt, picture.names.as_deref())?;
     let mut sink = Sink::new(rt.stdout());
-    let printed = match &picture.names {
-        None => print_picture(rt, &bytes, None, &picture, &mut sink),
-        Some(path) => {
-            let names = bytes_of_file(rt, path.as_str())?;
-            let printed = print_picture(rt, &bytes, Some(&names), &picture, &mut sink);
-            tip_for_names(rt, &names, path.as_str(), &printed);
-            printed
-        }
-    };
-    with_tip(rt, &bytes, file.as_deref(), FileKind::Certificate, printed)?;
-    Ok(0)
+    picture_into(
+        rt,
+        &bytes,
+        file.as_deref(),
+        names.as_deref(),
+        &picture,
+        &mut sink,
+    )
+}
+
+/// All bytes of the file with names, if there is one. The faults are those of `bytes_asked`.
+fn names_asked(rt: &HostRuntime, path: Option<&str>) -> Result<Option<Vec<u8>>, RunFault> {
+    match path {
+        None => Ok(None),
+        Some(path) => Ok(Some(bytes_of_file(rt, path)?)),
+    }
+}
+
+/// Draws the graph of the certificate file of these bytes, of the file of this name or of standard input, with the
+/// names that the bytes of another file give.
+fn picture_into<W: Write>(
+    rt: &HostRuntime,
+    bytes: &[u8],
+    file: Option<&str>,
+    names: Option<&[u8]>,
+    picture: &PictureRequest,
+    sink: &mut Sink<W>,
+) -> Result<u8, ProgramFault>
+    requires { sink.old.faults < most_faults }
+    ensures drawn { HasDone (WasPicturePrinted bytes.now (option_map (λ file. file.now) names.entry)
+        (chosen_entry picture.now.entry) picture.now.dot W.contents sink.old.writer sink.new.writer) result }
+    ensures status { IfOk result (λ status. status ≡ 0) }
+    ensures fault { IfErr result IsOfRequest }
+{
+    let printed = print_picture(rt, bytes, names, picture, sink);
+    tip_for_names(rt, names, picture.names.as_deref(), &printed);
+    status_of(with_tip(rt, bytes, file, FileKind::Certificate, printed))
 }
 
 /// If a picture is refused since a line of the file with names can't be read, prints which command reads this file.
 fn tip_for_names(
     rt: &HostRuntime,
-    names: &[u8],
-    path: &str,
+    names: Option<&[u8]>,
+    path: Option<&str>,
     printed: &Result<(), FileCommandFault>,
 ) {
-    if let Err(
-        FileCommandFault::Refused {
-            number: UNREAD_LINE,
-        },
-    ) = printed
+    if let (
+        Some(names),
+        Err(
+            FileCommandFault::Refused {
+                number: UNREAD_LINE,
+            },
+        ),
+    ) = (names, printed)
     {
-        print_file_tip(rt, names, Some(path), FileKind::Graph);
+        print_file_tip(rt, names, path, FileKind::Graph);
     }
 }
 
@@ -76,10 +136,36 @@ pub(crate) fn graph_asked(rt: &HostRuntime, file: Option<String>) -> Result<u8, 
     ensures fault { IfErr result IsOfRequest }
 {
     let bytes = bytes_asked(rt, file.as_deref())?;
-    let mut sink = Sink::new(rt.stdout());
-    let printed = print_graph(rt, &bytes, &mut sink);
-    with_tip(rt, &bytes, file.as_deref(), FileKind::Certificate, printed)?;
-    Ok(0)
+    graph_into(rt, &bytes, file.as_deref(), &mut Sink::new(rt.stdout()))
+}
+
+/// Writes the graph of the certificate file of these bytes, of the file of this name or of standard input, as a graph
+/// file.
+fn graph_into<W: Write>(
+    rt: &HostRuntime,
+    bytes: &[u8],
+    file: Option<&str>,
+    sink: &mut Sink<W>,
+) -> Result<u8, ProgramFault>
+    requires { sink.old.faults < most_faults }
+    ensures written { HasDone (WasGraphPrinted bytes.now W.contents sink.old.writer sink.new.writer) result }
+    ensures status { IfOk result (λ status. status ≡ 0) }
+    ensures fault { IfErr result IsOfRequest }
+{
+    let printed = print_graph(rt, bytes, sink);
+    status_of(with_tip(rt, bytes, file, FileKind::Certificate, printed))
+}
+
+/// What the program returns after a command that did so: status 0, or the fault of the command.
+fn status_of(done: Result<(), FileCommandFault>) -> Result<u8, ProgramFault>
+    ensures returned { result ≡ command_status done }
+    ensures status { IfOk result (λ status. status ≡ 0) }
+    ensures fault { IfErr result IsOfRequest }
+{
+    match done {
+        Ok(()) => Ok(0),
+        Err(fault) => Err(ProgramFault::OfFile(fault)),
+    }
 }
 
 /// The same answer. If these bytes are refused, and do not look like this kind of file, prints which command reads

@@ -11,6 +11,7 @@ ghost use Rattle.ov_run.specs.Analysing.{IsAnalysisOf};
 ghost use Rattle.ov_run.specs.Run.{IsRunOf};
 ghost use Rattle.ov_run.specs.Strict.{strictness_of};
 ghost use Rattle.overlay.specs.Program.{IsOfRequest};
+ghost use Rattle.overlay.specs.Statuses.{HasAnalysed, analysis_status};
 ghost use Rattle.overlay.specs.declared.program_outcome.ProgramFault.TheVariants.{Arguments, Run};
 
 mod fault_reasons;
@@ -422,7 +423,7 @@ fn analyse_asked<T: Threads + Sync>(
         return analyse_in_words(rt, threads, &bytes, &mut sink, file.as_deref(), analysis);
     }
     match file.as_deref() {
-        None => analyse_from(rt, threads, rt.stdin(), &mut sink, None, analysis)?,
+        None => analyse_from(rt, threads, rt.stdin(), &mut sink, None, analysis),
         Some(path) => {
             analyse_from(
                 rt,
@@ -431,14 +432,44 @@ fn analyse_asked<T: Threads + Sync>(
                 &mut sink,
                 Some(path),
                 analysis,
-            )?
+            )
         }
-    };
-    Ok(0)
+    }
 }
 
 /// Analyses the graph of a reader: of the file of this name, or of standard input.
 fn analyse_from<T: Threads + Sync, R: Read + Drop, W: Write>(
+    rt: &HostRuntime,
+    threads: &T,
+    reader: R,
+    sink: &mut Sink<W>,
+    file: Option<&str>,
+    analysis: &AnalysisRequest,
+) -> Result<u8, ProgramFault>
+    requires { sink.old.faults < most_faults }
+    ensures analysis { HasAnalysed (IsAnalysisOf (R.remaining reader) W.contents sink.old
+        (option_map (λ ids. ids.items) analysis.now.group) analysis.now.certificate sink.new) result }
+    ensures status { IfOk result (λ status. status ≡ 0) }
+    ensures fault { IfErr result IsOfRequest }
+{
+    let answer = answer_from(rt, threads, reader, sink, file, analysis);
+    status_of_analysis(answer)
+}
+
+/// What the program returns after an analysis: status 0 if it was answered, by a refusal too; or its fault.
+fn status_of_analysis(answer: Result<Answered, RunFault>) -> Result<u8, ProgramFault>
+    ensures returned { result ≡ analysis_status answer }
+    ensures status { IfOk result (λ status. status ≡ 0) }
+    ensures fault { IfErr result IsOfRequest }
+{
+    match answer {
+        Ok(_) => Ok(0),
+        Err(fault) => Err(ProgramFault::Run(fault)),
+    }
+}
+
+/// Analyses the graph of a reader: what was answered, or the fault.
+fn answer_from<T: Threads + Sync, R: Read + Drop, W: Write>(
     rt: &HostRuntime,
     threads: &T,
     reader: R,

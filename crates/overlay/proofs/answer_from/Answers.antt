@@ -1,7 +1,7 @@
 -- What was analysed is the graph file of the bytes that the reader had.
 use Rattle.std.proofs.Common.{option_map}
 use Rattle.ov_run.proofs.OfReader.{analysis_of_reader}
-use Rattle.overlay.proofs.analyse_from.Goals as goal
+use Rattle.overlay.proofs.answer_from.Goals as goal
 
 pub returns : goal.returns
 returns g c = record {
