@@ -30,7 +30,8 @@ use Rattle.ov_scenario.proofs.Scenarios.OneScenario.{one_scenario}
 use Rattle.ov_run.specs.Ending.{BeginsLine, BeginsLines}
 use Rattle.ov_run.specs.Printed.{entry_line, refused_line}
 use Rattle.ov_run.specs.Running.{PrintsLine, PrintsLines}
-use Rattle.ov_run.specs.declared.strictness.Strictness.TheVariants.{Lenient}
+use Rattle.ov_run.specs.declared.strictness.Strictness.{Strictness}
+use Rattle.ov_run.proofs.Printing.Settling.{goes_on_prints}
 use Rattle.ov_run.specs.Subjects.{AnalysisJudged, IsReported, SubjectThen, WasAnalysed, members_of}
 use Rattle.ov_recording.specs.Alike.{AreAlikeCores}
 use Rattle.ov_recording.specs.Replay.{AcceptsAll, AcceptsLine, MayBeAccepted, PrintsAccepted, PrintsAllAccepted}
@@ -240,16 +241,17 @@ some_more b l lines next own others text accepted is some = record {
   prints = (next, own, others, accepted, some.prints, is);
 }
 
-lines_began : (b d : CoreState) (lines : List Line) (c : CoreState) (text : List ℕ) → AreAlikeCores b d
-    → AcceptsAll d lines c → BeginsLines Lenient b lines text → DidSomeOfIt b lines text ⊎ RanOutOfMemory b lines text
-lines_began b d [] c text alike grown is = inl (nothing b [] text is)
-lines_began b d (l ∷ lines) c text alike (mid, accepted, more) (inl begins) =
+lines_began : (strictness : Strictness) (b d : CoreState) (lines : List Line) (c : CoreState) (text : List ℕ)
+    → AreAlikeCores b d → AcceptsAll d lines c → BeginsLines strictness b lines text
+    → DidSomeOfIt b lines text ⊎ RanOutOfMemory b lines text
+lines_began strictness b d [] c text alike grown is = inl (nothing b [] text is)
+lines_began strictness b d (l ∷ lines) c text alike (mid, accepted, more) (inl begins) =
     inl (nothing b (l ∷ lines) text (line_began b d l mid text accepted begins))
-lines_began b d (l ∷ lines) c text alike (mid, accepted, more) (inr (next, own, others, first, rest, is)) =
+lines_began strictness b d (l ∷ lines) c text alike (mid, accepted, more) (inr (next, own, others, first, rest, is)) =
     goes_on b l lines next mid own others text (DidSomeOfIt next lines others) (DidSomeOfIt b (l ∷ lines) text)
     (λ prints some. some_more b l lines next own others text prints is some) is
-    (line_ran b d l next own mid alike accepted first)
-    (λ same. lines_began next mid lines c others same more rest)
+    (line_ran b d l next own mid alike accepted (goes_on_prints strictness b l next own first))
+    (λ same. lines_began strictness next mid lines c others same more rest)
 
 -- ---- lines that are accepted twice
 
@@ -293,9 +295,9 @@ every_run_refuses_nothing = record {
       let start = opening_core run.scenario.params in
       lines_ran start start run.scenario.lines.items run.core c text (alike_itself start)
       (lines_of bytes c run.scenario replays run.says) run.lines;
-  begun = λ bytes text c replays run.
+  begun = λ strictness bytes text c replays run.
       let start = opening_core run.scenario.params in
-      lines_began start start run.scenario.lines.items c text (alike_itself start)
+      lines_began strictness start start run.scenario.lines.items c text (alike_itself start)
       (lines_of bytes c run.scenario replays run.says) run.lines;
   one = λ b lines u v text other prints again.
       lines_one b b lines u v text other (alike_itself b) prints again;

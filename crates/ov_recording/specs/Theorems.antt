@@ -7,7 +7,7 @@ use Rattle.ov_scenario.specs.declared.scenario.Line.{Line}
 use Rattle.ov_run.specs.Ending.{IsBegun}
 use Rattle.ov_run.specs.Printed.{refused_line}
 use Rattle.ov_run.specs.Running.{IsOutput}
-use Rattle.ov_run.specs.declared.strictness.Strictness.TheVariants.{Lenient}
+use Rattle.ov_run.specs.declared.strictness.Strictness.{Strictness}
 use Rattle.ov_recording.specs.Alike.{AreAlikeCores}
 use Rattle.ov_recording.specs.Replay.{MayBeAccepted, PrintsAllAccepted, Replays}
 
@@ -45,8 +45,9 @@ pub record EveryRunRefusesNothing : Type 0 where
   pub whole : (bytes text : List ℕ) (c : CoreState) → Replays bytes c → (run : IsOutput bytes text)
       → DidTheSame (opening_core run.scenario.params) run.scenario.lines.items text run.core c
       ⊎ RanOutOfMemory (opening_core run.scenario.params) run.scenario.lines.items text
-  -- the same of a run that ended early
-  pub begun : (bytes text : List ℕ) (c : CoreState) → Replays bytes c → (run : IsBegun Lenient bytes text)
+  -- the same of a run that ended early, strict or not
+  pub begun : (strictness : Strictness) (bytes text : List ℕ) (c : CoreState) → Replays bytes c
+      → (run : IsBegun strictness bytes text)
       → DidSomeOfIt (opening_core run.scenario.params) run.scenario.lines.items text
       ⊎ RanOutOfMemory (opening_core run.scenario.params) run.scenario.lines.items text
   -- lines that are accepted print one text, and make one core but for the paths of certificates
