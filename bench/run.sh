@@ -3,7 +3,7 @@
 # proves and builds it there, and runs it. Where the bench has the same in plain Rust, that is built too, and runs
 # first. The bench's uses.txt is its program's line in crates.txt, its folder proofs, if there is one, the program's;
 # what those crates use is found in the crates.txt of this repository. With UNPROVED=1 nothing is proved, so that it is
-# built in a minute (see build-unproved); with CRATES=CHECKOUT the crates are those of another checkout, so that commits
+# built soon (see build-unproved); with CRATES=CHECKOUT the crates are those of another checkout, so that commits
 # can be compared by one program; with BUILD_ONLY=1 nothing is run, and the program is
 # FOLDER/crates/bench_BENCH/out/bench_BENCH.
 set -e

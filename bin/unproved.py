@@ -255,7 +255,7 @@ def program(crate):
     if place:
         say(f"{name}: NOT PROVED: built without a proof; {how}")
         return place
-    say(f"{name}: NOT PROVED: it is built once, without a proof, in two minutes on a quiet machine; {how}")
+    say(f"{name}: NOT PROVED: it is built once, without a proof, in some minutes; {how}")
     begun = time.monotonic()
     with ended_by_signals(), alone(crate):
         place = kept(crate)
