@@ -1,5 +1,5 @@
 #!/usr/bin/env python3
-"""Writes the five graphs of the table as graph files, `NAME.graph`, into the folder that it is run in.
+"""Writes five graphs as graph files, `NAME.graph`, into the folder that it is run in.
 
 With a number ARMS it writes one graph instead, `falling-ARMS.graph`, and the ids of a group, `falling-ARMS.group`; with
 `ring RING REACH ARMS` it writes `steps-RING-REACH-ARMS.graph` and its group.
