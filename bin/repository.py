@@ -49,6 +49,16 @@ def gate_environment():
     return {"RT_JOBS": str(checks_at_once()), **os.environ}
 
 
+def ci_command(anew=False):
+    """The words of the kit's `rt ci`. Some kits take over what an earlier run has proved, unless `--anew` tells them to
+    prove it again, which `anew` asks for. The others always prove from nothing, and have no such word."""
+    command = ["rt", "ci"]
+    if anew:
+        told = subprocess.run(["rt", "help"], stdin=subprocess.DEVNULL, capture_output=True, text=True)
+        command += ["--anew"] * ("--anew" in told.stdout + told.stderr)
+    return command
+
+
 def lines(top=ROOT):
     """The line of each crate in crates.txt, by the crate's name: of this repository, or of another checkout."""
     texts = [line.split("#")[0] for line in (top / "crates.txt").read_text().splitlines()]
