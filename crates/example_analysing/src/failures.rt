@@ -3,11 +3,10 @@ ghost use Rattle.ov_even.specs.Answer.{IsAnalysed};
 ghost use Rattle.example_analysing.specs.Withstanding.{Withstands};
 
 use ov_cert::{Cert, Checked, valid_means};
-use ov_claims::Workers;
 use ov_crew::{OpenGate, analyse_group};
 use ov_even::AnalyseFault;
 use ov_graph::Graph;
-use ov_ids::NodeId;
+use ov_ids::{NodeId, Workers};
 use std::alloc::Global;
 use std::thread::Threads;
 

@@ -1,9 +1,8 @@
 //! What the drivers do. Nothing here has a contract: what `drive` promises holds whatever drivers do.
 use anyhow::Result;
-use ov_claims::Workers;
 use ov_crew::{OpenGate, analyse_group};
 use ov_hall::{Hall, HallName, Pass};
-use ov_ids::NodeId;
+use ov_ids::{NodeId, Workers};
 use ov_net::Event;
 use ov_snap::{CoreFault, Report, Snapshot};
 use ov_words::{WORDS_PER_EVENT, Words};

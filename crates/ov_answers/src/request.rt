@@ -1,5 +1,4 @@
-use ov_claims::Workers;
-use ov_ids::NodeId;
+use ov_ids::{NodeId, Workers};
 use ov_run::Answered;
 
 /// What an analysis of a graph file is asked for.

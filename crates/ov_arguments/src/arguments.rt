@@ -12,8 +12,7 @@ use crate::file_requests::{ImportRequest, PictureRequest, import_of, picture_of}
 use crate::taken_arguments::command;
 use clap::error::ErrorKind;
 use clap::{ArgMatches, Error as ClapError};
-use ov_claims::Workers;
-use ov_ids::{NodeId, OutOfMemory};
+use ov_ids::{NodeId, OutOfMemory, Workers};
 use ov_lines::{read_ids, read_workers};
 use std::alloc::{AllocError, Global};
 use std::error::Error;

@@ -5,7 +5,7 @@ ghost use Rattle.ov_block_list.specs.Listed.{Listed};
 
 use crate::block::{BLOCK, Block};
 use crate::blocks::{add_spare, begin, countable, find, take_out, tidy};
-use crate::items::Items;
+use crate::item_iter::Items;
 use ov_ids::OutOfMemory;
 use std::alloc::Global;
 use std::marker::Model;

@@ -4,8 +4,8 @@
 mod block;
 mod block_list;
 mod blocks;
-mod items;
+mod item_iter;
 
 pub use block::BLOCK;
 pub use block_list::BlockList;
-pub use items::Items;
+pub use item_iter::Items;

@@ -11,7 +11,8 @@ use mathlib.Core.Option.{some, some-injective, some-ne-none}
 use lib.ListN.{get_elem?}
 use Rattle.atomic_table.specs.Table.{State, Final, Seen, opening}
 use Rattle.ov_ids.specs.Members.{Has}
-use Rattle.ov_claims.specs.Claims.{WorkerState, HasWorker, MayWork, fresh, opening_claims}
+use Rattle.ov_claims.specs.Claims.{WorkerState, HasWorker, fresh, opening_claims}
+use Rattle.ov_ids.specs.Workers.{MayWork}
 use Rattle.ov_claims.proofs.Changing.{one_worker}
 use Rattle.ov_claims.proofs.Staying.{stays_legal}
 use Rattle.ov_claims.proofs.Ending.{ends_done}

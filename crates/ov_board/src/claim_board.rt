@@ -8,8 +8,7 @@ use crate::exchange_rule::{Apart, Claiming, Entering, Failing, Lawful, Looking, 
 use crate::ghost_views::{BoardSize, SeatView};
 use crate::seat::Seat;
 use atomic_table::{Seat as TableSeat, Table};
-use ov_claims::Workers;
-use ov_ids::OutOfMemory;
+use ov_ids::{OutOfMemory, Workers};
 use std::alloc::Global;
 use std::marker::{Brand, Model};
 

@@ -5,8 +5,8 @@ ghost use Rattle.ov_graph.specs.Code.Tests.{are_joined};
 ghost use Rattle.ov_cert.specs.Code.Tests.{entered, inner, steps};
 ghost use Rattle.ov_cert.specs.Code.Flaws.{chain_flaw, pair_path_flaw, pair_paths_flaw, fan_path_flaw, fan_paths_flaw};
 
-use crate::first_and_later_members::is_earlier;
 use crate::flaws::{EntryFlaw, PathFlaw};
+use crate::member_order::is_earlier;
 use crate::node_set::NodeSet;
 use ov_graph::Graph;
 use ov_ids::NodeId;

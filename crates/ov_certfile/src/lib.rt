@@ -2,7 +2,7 @@
 //! printed of a certificate.
 #![tactic(auto)]
 
-mod cert_summary;
+mod cert_line;
 mod cert_writing;
 mod entry_fields;
 mod fault;
@@ -21,7 +21,7 @@ mod version;
 mod version_and_verdict_reading;
 mod writing;
 
-pub use cert_summary::CertText;
+pub use cert_line::CertText;
 pub use entry_fields::{FAN_KEYS, PAIR_KEYS};
 pub use fault::{BadValue, FileFault};
 pub use file_keys::{Key, keys_of};

@@ -6,7 +6,7 @@ ghost use Rattle.ov_check.specs.Line.{printed_of};
 ghost use Rattle.ov_check.specs.Outcome.{status_of};
 ghost use Rattle.ov_check.specs.Run.{IsRun, Judgement, status_in};
 
-use crate::device_fault::JudgeFault;
+use crate::judge_fault::JudgeFault;
 use crate::outcome::{Outcome, outcome_of, outcome_parallel};
 use ov_io::{Sink, Source};
 use std::alloc::Global;

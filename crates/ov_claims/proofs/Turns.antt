@@ -7,7 +7,8 @@ use Rattle.std.proofs.lemmas.Option.{get_or_from_slice_get}
 use Rattle.std.proofs.lemmas.List.Sums.{length-filter, count_by-le-length}
 use Rattle.ov_ids.specs.Members.{Has, Ascends}
 use Rattle.ov_ids.proofs.Members.{has_append_right}
-use Rattle.ov_claims.specs.Claims.{WorkerState, DeskState, HasWorker, IsLegal, MayWork, count_ended, AreSoundClaims}
+use Rattle.ov_claims.specs.Claims.{WorkerState, DeskState, HasWorker, IsLegal, count_ended, AreSoundClaims}
+use Rattle.ov_ids.specs.Workers.{MayWork}
 use Rattle.ov_claims.specs.Steps.{claiming, looking, failing, IsLast, Claims, Looks, Fails}
 use Rattle.ov_claims.proofs.Changing.{is_ended, after}
 use Rattle.ov_claims.proofs.Staying.{stays_legal}

@@ -6,6 +6,7 @@ use Rattle.std.specs.Prelude.{Option, Some, None, slice_get}
 use Rattle.std.specs.List.{filter}
 use Rattle.ov_ids.specs.Limits.{number_limit}
 use Rattle.ov_ids.specs.Members.{Has, Ascends}
+use Rattle.ov_ids.specs.Workers.{MayWork}
 
 -- a worker: the numbers it has claimed, ascending; those of them that failed, ascending; the number it skipped, if any;
 -- and whether it has ended
@@ -22,14 +23,6 @@ pub record DeskState : Type 0 where
   pub next : ℕ
   pub least : ℕ
   pub workers : List WorkerState
-
--- how many workers may share out numbers, at most: chosen here
-abbrev pub most_workers : ℕ
-most_workers = 64
-
--- this many workers may share out numbers
-abbrev pub MayWork : ℕ → Type 0
-MayWork n = (1 ≤ n) × (n ≤ most_workers)
 
 -- a worker that has not claimed a number yet
 abbrev pub fresh : WorkerState

@@ -1,12 +1,12 @@
 ghost use Rattle.std.specs.Prelude.{◌≡◌, ◌↔◌, ℕ, ◌<◌, false, length, IsTrue, IfOk, OnOk, OnErr};
 ghost use Rattle.ov_ids.specs.Limits.{number_limit};
-ghost use Rattle.ov_claims.specs.Claims.{HasWorker, WorkerState, IsLegal, MayWork, opening_claims};
+ghost use Rattle.ov_claims.specs.Claims.{HasWorker, WorkerState, IsLegal, opening_claims};
+ghost use Rattle.ov_ids.specs.Workers.{MayWork};
 ghost use Rattle.ov_claims.specs.Steps.{Claims, Looks, Fails, IsLast};
 ghost use Rattle.ov_claims.specs.Theorems.{AllEnded, IsDone};
 
 use crate::worker_claims::{Worker, have_ended};
-use crate::worker_count::Workers;
-use ov_ids::OutOfMemory;
+use ov_ids::{OutOfMemory, Workers};
 use std::alloc::Global;
 use std::marker::Model;
 

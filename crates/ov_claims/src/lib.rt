@@ -4,8 +4,6 @@
 mod claim_desk;
 mod theorems;
 mod worker_claims;
-mod worker_count;
 
 pub use claim_desk::Desk;
 pub use theorems::{ends_done, stays_legal};
-pub use worker_count::Workers;

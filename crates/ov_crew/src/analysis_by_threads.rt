@@ -14,13 +14,12 @@ use crate::thread_count::Hiring;
 use crate::worker::work_range;
 use ov_board::{Board, Seat};
 use ov_cert::{Checked, are_all_linked};
-use ov_claims::Workers;
 use ov_even::{
     AnalyseFault, Haul, LevelNumbers, LevelSearch, Searched, Unwatched, Watcher,
     analyse_group_watched as analyse_by_one, assemble_named, level_numbers, wanted_paths,
 };
 use ov_graph::Graph;
-use ov_ids::{NodeId, OutOfMemory};
+use ov_ids::{NodeId, OutOfMemory, Workers};
 use std::alloc::Global;
 use std::thread;
 use std::thread::Threads;

@@ -13,13 +13,12 @@ use crate::hook_after_claim::Gate;
 use crate::thread_count::Hiring;
 use ov_board::{Board, Seat};
 use ov_cert::Cert;
-use ov_claims::Workers;
 use ov_even::{
     AnalyseFault, CutSearch, CutSearched, LevelNumbers, PartedPiece, Watcher, level_numbers,
     linked_cert, outline_group_watched as outline_by_one, outline_of,
 };
 use ov_graph::Graph;
-use ov_ids::{NodeId, OutOfMemory};
+use ov_ids::{NodeId, OutOfMemory, Workers};
 use std::alloc::Global;
 use std::thread;
 use std::thread::Threads;

@@ -1,12 +1,11 @@
 //! How many workers try a level, and how many threads name the paths of a certificate.
 ghost use Rattle.std.specs.Prelude.{◌≡◌, ◌<◌, ◌≤◌, false};
 
-use ov_claims::Workers;
 use ov_even::FoundPaths;
 use ov_fans::shared_bits;
 use ov_graph::Graph;
 use ov_graph::row::{EMPTY, Row, put};
-use ov_ids::NodeId;
+use ov_ids::{NodeId, Workers};
 
 /// How many paths must be sought before one more thread saves time.
 const PATHS_WORTH_A_THREAD: u64 = 1024;

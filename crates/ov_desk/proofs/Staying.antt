@@ -10,7 +10,8 @@ use Rattle.ov_graph.specs.Links.{LinkGraph, IsGroup}
 use Rattle.ov_fans.specs.Theorems.{IsNoCut}
 use Rattle.ov_fans.specs.declared.settled.Found.{Found}
 use Rattle.ov_fans.specs.declared.settled.Settled.{Settled}
-use Rattle.ov_claims.specs.Claims.{WorkerState, DeskState, HasWorker, IsLegal, MayWork, fresh}
+use Rattle.ov_claims.specs.Claims.{WorkerState, DeskState, HasWorker, IsLegal, fresh}
+use Rattle.ov_ids.specs.Workers.{MayWork}
 use Rattle.ov_claims.specs.Steps.{claiming, looking, failing}
 use Rattle.ov_claims.proofs.Changing.{all_same}
 use Rattle.ov_claims.proofs.Staying.{stays_legal, has_added, has_self, has_still}

@@ -14,11 +14,11 @@ ghost use Rattle.ov_desk.specs.Turns.{WasClaimed, WasLookedAt, WasSettled};
 
 use crate::piece_in_hand::Hand;
 use ov_cert::{Checked, are_all_linked};
-use ov_claims::{Desk, Workers};
+use ov_claims::Desk;
 use ov_even::{Haul, assemble_group, group_piece_at, group_total};
 use ov_fans::{Settled, settle_group};
 use ov_graph::Graph;
-use ov_ids::{NodeId, OutOfMemory};
+use ov_ids::{NodeId, OutOfMemory, Workers};
 use std::alloc::Global;
 use std::marker::Model;
 

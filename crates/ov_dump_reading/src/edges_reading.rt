@@ -3,8 +3,8 @@ ghost use Rattle.ov_dump_reading.specs.EdgeLines.{IsReadable};
 ghost use Rattle.ov_dump_reading.specs.Edges.{IsEdgesFault, SaysEdges, listings_of};
 ghost use Rattle.ov_dump_reading.specs.Code.Reading.{FailsAtLine, TakesEnds, TakesEntry};
 
-use crate::dump_parts::{listing_of, name_of};
 use crate::edge_line::{EdgeLine, read_edge_line};
+use crate::names_and_listings::{listing_of, name_of};
 use crate::reading_fault::ReadingFault;
 use crate::unread_line::why_unread;
 use ov_dump::{Dump, Entry, Listing, NameSet};

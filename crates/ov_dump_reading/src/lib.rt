@@ -1,9 +1,9 @@
 //! Dumps of views in two forms: a JSON object of lists of peers, and lines of two names each.
 #![tactic(auto)]
 
-mod dump_parts;
 mod edge_line;
 mod edges_reading;
+mod names_and_listings;
 mod reading_fault;
 mod unread_line;
 mod views_reading;

@@ -3,7 +3,7 @@ ghost use Rattle.json.specs.Value.{items_view, members_view, value_view};
 ghost use Rattle.ov_dump_reading.specs.Views.{IsViewsFault, SayDump, SaysViews, listings_of, peers, texts};
 ghost use Rattle.ov_dump_reading.specs.Code.Reading.{DumpOf, FailsAt, FailsFrom, as_items, as_members};
 
-use crate::dump_parts::{listing_of, name_of};
+use crate::names_and_listings::{listing_of, name_of};
 use crate::reading_fault::ReadingFault;
 use json::{Error, Scratch, Value};
 use ov_dump::{Dump, Entry, Listing};

@@ -3,6 +3,7 @@
 
 mod bit_counts;
 mod bit_row_nodes;
+mod far_member;
 mod group_member_places;
 mod piece;
 mod piece_net;
@@ -10,7 +11,6 @@ mod piece_paths_by_ids;
 mod settled;
 mod settler;
 mod short_paths;
-mod target_past_cut;
 mod theorems;
 
 pub use bit_counts::shared_bits;

@@ -8,12 +8,12 @@ ghost use Rattle.ov_fans.specs.Theorems.{IsNoCut};
 ghost use Rattle.ov_fans.specs.Code.Nets.{net_of};
 
 use crate::bit_row_nodes::nodes_of_row;
+use crate::far_member::far_of;
 use crate::group_member_places::SettlerGroup;
 use crate::piece::Piece;
 use crate::piece_net::{aim_for, is_linked_pair};
 use crate::settled::{Found, Parting, Settled};
 use crate::short_paths::has_short_paths;
-use crate::target_past_cut::far_of;
 use ov_flow::{CutRows, Flow};
 use ov_graph::Graph;
 use ov_graph::row::EMPTY;

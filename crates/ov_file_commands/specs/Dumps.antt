@@ -21,8 +21,8 @@ use Rattle.ov_hints.specs.declared.file_kinds.FileKind.TheVariants as kind
 use Rattle.ov_import.specs.Importing.{WasImported}
 use Rattle.ov_import.specs.declared.import_fault.ImportFault.{ImportFault}
 use Rattle.ov_import.specs.declared.import_fault.ImportFault.TheVariants as import
-use Rattle.ov_file_commands.specs.declared.dump_printing.UnreadDump.{UnreadDump}
-use Rattle.ov_file_commands.specs.declared.dump_printing.UnreadDump.TheVariants as unread
+use Rattle.ov_file_commands.specs.declared.import_command.UnreadDump.{UnreadDump}
+use Rattle.ov_file_commands.specs.declared.import_command.UnreadDump.TheVariants as unread
 use Rattle.ov_file_commands.specs.declared.file_command_fault.FileCommandFault.{FileCommandFault}
 use Rattle.ov_file_commands.specs.declared.file_command_fault.FileCommandFault.TheVariants.{Refused, Write, OutOfMemory}
 

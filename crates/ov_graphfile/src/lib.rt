@@ -2,13 +2,13 @@
 #![tactic(auto)]
 
 mod fault;
+mod first_faulty_lines;
 mod graph_line;
 mod graph_reading;
 mod line_finding;
-mod unreadable_lines;
 
 pub use fault::{GraphFileFault, UnreadLine};
+pub use first_faulty_lines::{UnreadLines, unread_lines};
 pub use graph_line::LINE_NAMES;
 pub use graph_reading::read_graph;
 pub use line_finding::{line_of_link, line_of_node};
-pub use unreadable_lines::{UnreadLines, unread_lines};

@@ -2,8 +2,8 @@ use crate::GrowArgumentsFault;
 use crate::option_forms::limits_of;
 use crate::word_parsing::{bad_value, bad_value_since};
 use clap::ArgMatches;
-use ov_claims::Workers;
 use ov_grow_options::{Chance, Count, Crash, NodeCount, Order, Pace, Share};
+use ov_ids::Workers;
 use std::alloc::{AllocError, Global};
 use std::fmt::Write;
 

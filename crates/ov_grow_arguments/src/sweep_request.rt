@@ -6,8 +6,8 @@ use crate::option_values::{has_flag, value};
 use crate::word_parsing::{bad_value_since, found_in};
 use crate::{GrowArgumentsFault, SettingLists, SweepBlocks, SweepRuns};
 use clap::ArgMatches;
-use ov_claims::Workers;
 use ov_grow_options::GrowOptions;
+use ov_ids::Workers;
 use std::alloc::{AllocError, Global};
 
 /// The most runs of a sweep. (Chosen here.)

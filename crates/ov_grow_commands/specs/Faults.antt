@@ -1,7 +1,7 @@
 -- The faults of `overlay grow` and `overlay sweep`.
 use Rattle.std.specs.Prelude.{ℕ}
-use Rattle.ov_grow_commands.specs.declared.growth_fault.GrowthFault.{GrowthFault}
-use Rattle.ov_grow_commands.specs.declared.growth_fault.GrowthFault.TheVariants as growth
+use Rattle.ov_grow_commands.specs.declared.grow_command_fault.GrowthFault.{GrowthFault}
+use Rattle.ov_grow_commands.specs.declared.grow_command_fault.GrowthFault.TheVariants as growth
 
 -- the number of a fault: that of growing, or one of those that are chosen for all
 -- programs

@@ -9,8 +9,8 @@ use Rattle.ov_grow.specs.declared.phase.Phase.{Phase}
 use Rattle.ov_io.specs.Device.{AppendsPrefixOf}
 use Rattle.ov_recording.specs.Replay.{Replays}
 use Rattle.ov_snap.specs.CoreState.{CoreState}
-use Rattle.ov_grow_commands.specs.declared.growth_fault.GrowthFault.{GrowthFault}
-use Rattle.ov_grow_commands.specs.declared.growth_fault.GrowthFault.TheVariants as growth
+use Rattle.ov_grow_commands.specs.declared.grow_command_fault.GrowthFault.{GrowthFault}
+use Rattle.ov_grow_commands.specs.declared.grow_command_fault.GrowthFault.TheVariants as growth
 
 -- with these options an overlay is grown by the scenario of this text, which replays its core
 pub record IsGrownBy (o : GrowOptions) (text : List ℕ) : Type 0 where

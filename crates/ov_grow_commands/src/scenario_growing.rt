@@ -2,9 +2,9 @@ ghost use Rattle.std.specs.Prelude.{◌≡◌, ◌<◌, ◌+◌, IfErr};
 ghost use Rattle.ov_grow.specs.Faults.{number_of};
 ghost use Rattle.ov_io.specs.Device.{most_faults};
 ghost use Rattle.ov_grow_commands.specs.Growing.{WasPrinted};
-ghost use Rattle.ov_grow_commands.specs.declared.growth_fault.GrowthFault.TheVariants.{Growing, Write as write_failed};
+ghost use Rattle.ov_grow_commands.specs.declared.grow_command_fault.GrowthFault.TheVariants.{Growing, Write as write_failed};
 
-use crate::growth_fault::GrowthFault;
+use crate::grow_command_fault::GrowthFault;
 use ov_grow::{GrowFault, grow};
 use ov_grow_arguments::{GrowArgumentsFault, read_grow_arguments};
 use ov_grow_options::GrowOptions;

@@ -5,9 +5,9 @@ mod command_line;
 mod node_count;
 mod options;
 mod percentages;
-mod repetitions;
+mod round_counts;
 
 pub use node_count::NodeCount;
 pub use options::{Crash, GrowOptions, Order};
 pub use percentages::{Chance, Share};
-pub use repetitions::{Count, Pace};
+pub use round_counts::{Count, Pace};

@@ -5,7 +5,7 @@ ghost use Rattle.ov_lines.specs.Lines.{same, words_of};
 ghost use Rattle.ov_hints.specs.FileKinds.{begins_dot, begins_list, begins_report, holds, is_certificate};
 ghost use Rattle.ov_hints.specs.FileKinds.{is_dot_word, is_keyword, kind_by_text, kind_of, kind_of_word, opens_list};
 
-use crate::first_text::{
+use crate::text_start::{
     before_blank, before_keyword_end, behind_mark, first_text, is_blank, is_one_of,
 };
 use memchr::memmem;

@@ -7,10 +7,10 @@ mod comma_hints;
 mod file_kinds;
 mod file_lookup;
 mod file_tips;
-mod first_text;
+mod text_start;
 
 pub use comma_hints::comma_hint;
 pub use file_kinds::{FileKind, looks_like};
 pub use file_lookup::{is_folder, kind_of_file};
 pub use file_tips::{command_tip, file_tip, folder_tip};
-pub use first_text::behind_mark;
+pub use text_start::behind_mark;

@@ -6,3 +6,4 @@ pub mod Sets
 pub mod ParamsState
 pub mod FaultOrder
 pub mod Text
+pub mod Workers

@@ -1,6 +1,6 @@
 //! What all crates share: ids of nodes and broadcasts, lists of ids as text, lists and sets that contracts see as plain
-//! values, the parameters of a node, the fault of a call that is out of memory, and definitions for the order of
-//! faults.
+//! values, the parameters of a node, how many workers there may be, the fault of a call that is out of memory, and
+//! definitions for the order of faults.
 #![tactic(auto)]
 
 mod ascending_order;
@@ -11,6 +11,7 @@ mod ids_text;
 mod out_of_memory;
 mod params;
 mod plain_list;
+mod worker_count;
 
 pub use ascending_order::is_ascending;
 pub use id::{MsgId, NodeId};
@@ -20,3 +21,4 @@ pub use ids_text::IdsText;
 pub use out_of_memory::OutOfMemory;
 pub use params::{BadParams, LONGEST_WALK, MOST_ACTIVE, MOST_PASSIVE, MOST_SAMPLED, Params};
 pub use plain_list::Seq;
+pub use worker_count::Workers;

@@ -3,12 +3,12 @@
 #![tactic(auto)]
 
 mod counted_reader_and_writer;
+mod counted_source;
 mod fault;
 mod file_name_texts;
 mod sink;
-mod source;
 
+pub use counted_source::Source;
 pub use fault::{ReadFault, WriteFault};
 pub use file_name_texts::{shown_name, unopened_text, unread_text};
 pub use sink::Sink;
-pub use source::Source;

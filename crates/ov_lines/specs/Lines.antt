@@ -7,7 +7,7 @@ use Rattle.std.specs.Cmp.Lexicographic.{pointwise}
 use Rattle.std.specs.Str.{all_ascii_digits}
 use Rattle.std.specs.Str.Lines.{lines}
 use Rattle.std.specs.Str.Parse.{digits_value}
-use Rattle.ov_claims.specs.Claims.{most_workers}
+use Rattle.ov_ids.specs.Workers.{most_workers}
 use Rattle.ov_ids.specs.Options.{◌>>=◌}
 
 -- ---- words

@@ -10,8 +10,7 @@ use crate::line_and_word_splitting::{drop_spaces, has_no_word, split_word};
 use crate::numeral::{read_number, read_short_number};
 use crate::unread::{END, Kind, Unread};
 use crate::workers_reading::read_workers;
-use ov_claims::Workers;
-use ov_ids::{NodeId, OutOfMemory};
+use ov_ids::{NodeId, OutOfMemory, Workers};
 use std::alloc::Global;
 use std::marker::Model;
 

@@ -7,7 +7,7 @@ mod event_judging;
 mod event_planning;
 mod fault;
 mod journal_entry_and_changes;
-mod kept_links;
+mod live_graph;
 mod live_peer;
 mod member;
 mod node_planning;

@@ -11,10 +11,10 @@ mod graph_file_texts;
 mod line_and_mark;
 mod line_heads_and_remark;
 mod look_and_analysis_texts;
-mod moment_texts;
 mod parameter_limit_texts;
 mod refused_lines;
 mod scenario_file_texts;
+mod snapshot_moment_texts;
 mod unknown_line_name_texts;
 mod unread_line_texts;
 

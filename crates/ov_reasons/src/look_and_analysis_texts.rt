@@ -1,6 +1,6 @@
 use crate::bad_group_texts::{first_stranger, push_unordered};
 use crate::event_texts::push_node;
-use crate::moment_texts::push_no_snapshot;
+use crate::snapshot_moment_texts::push_no_snapshot;
 use ov_ids::{NodeId, OutOfMemory};
 use ov_net::NetFault;
 use ov_scenario::Subject;

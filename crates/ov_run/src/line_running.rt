@@ -25,9 +25,8 @@ use crate::sink_writing::{
     write_certificate, write_done, write_entry, write_node, write_packets, write_rest,
 };
 use crate::strictness::Strictness;
-use ov_claims::Workers;
 use ov_hall::HallName;
-use ov_ids::{OutOfMemory, Seq};
+use ov_ids::{OutOfMemory, Seq, Workers};
 use ov_io::{Sink, WriteFault};
 use ov_net::Event;
 use ov_scenario::{Line, LineToRun, LinesToRun, Look, SectionLine, Subject};

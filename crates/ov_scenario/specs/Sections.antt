@@ -2,7 +2,7 @@
 -- own. `together` begins a block of sections with its first section, `also` begins the next one, and `end` ends the
 -- block. That a driver is a thread, and this form of the lines, are chosen here.
 use Rattle.std.specs.Prelude.{◌≡◌, ℕ, ◌+◌, min, Bool, true, false, ◌||◌, List, [], ◌∷◌, Option, Some, None}
-use Rattle.ov_claims.specs.Claims.{most_workers}
+use Rattle.ov_ids.specs.Workers.{most_workers}
 use Rattle.ov_scenario.specs.Statements.{Stated}
 use Rattle.ov_scenario.specs.declared.open_block.OpenBlock.{OpenBlock}
 use Rattle.ov_scenario.specs.declared.scenario.Subject.{Subject}

@@ -4,7 +4,7 @@ ghost use Rattle.ov_scenario.specs.Statements.{told};
 ghost use Rattle.ov_scenario.specs.Code.RunnableLines.{AreReadable, TakesPart, block_to_run, stream_now, to_run};
 ghost use Rattle.ov_scenario.specs.declared.scenario.Line.TheVariants as line;
 
-use crate::given_words::GivenWords;
+use crate::event_words_reading::GivenWords;
 use crate::section::{Deed, SectionLine};
 use crate::statement::{Stated, Statement};
 use crate::statement_reading::state;

@@ -2,8 +2,8 @@
 #![tactic(auto)]
 
 mod block_reading;
+mod event_words_reading;
 mod fault_listing;
-mod given_words;
 mod judging;
 mod line_judging;
 mod lines_ahead;

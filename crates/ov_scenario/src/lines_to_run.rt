@@ -8,13 +8,12 @@ ghost use Rattle.ov_scenario.specs.Code.RunnableLines.{AreReadable, TakesLine, s
 ghost use Rattle.ov_lines.specs.Lines.{kept_lines};
 
 use crate::block_reading::read_sections;
-use crate::given_words::GivenWords;
+use crate::event_words_reading::GivenWords;
 use crate::scenario::Line;
 use crate::statement::{Stated, Statement};
 use crate::statement_reading::{Unstated, read_statement, state};
 use crate::words_from_seed::SeedWords;
-use ov_claims::Workers;
-use ov_ids::{OutOfMemory, Seq};
+use ov_ids::{OutOfMemory, Seq, Workers};
 use ov_lines::{KeptLine, KeptLines};
 use ov_words::{WORDS_PER_EVENT, Words};
 use std::alloc::Global;

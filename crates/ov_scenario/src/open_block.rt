@@ -3,7 +3,7 @@ ghost use Rattle.ov_scenario.specs.Sections.{open_next, with_section};
 ghost use Rattle.ov_scenario.specs.Code.Judging.{sections_of};
 
 use crate::statement::{Stated, Statement};
-use ov_claims::Workers;
+use ov_ids::Workers;
 
 /// A block of sections that has begun and has not ended.
 #[derive(Clone, Copy)]

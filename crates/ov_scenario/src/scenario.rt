@@ -1,7 +1,6 @@
 use crate::lines_to_run::LinesToRun;
 use crate::section::SectionLine;
-use ov_claims::Workers;
-use ov_ids::{NodeId, Params, Seq};
+use ov_ids::{NodeId, Params, Seq, Workers};
 use ov_net::Event;
 use ov_words::Words;
 

@@ -9,7 +9,7 @@ use crate::open_block::OpenBlock;
 use crate::scenario::Subject;
 use crate::scenario_fault::LineFault;
 use crate::statement::Statement;
-use ov_claims::Workers;
+use ov_ids::Workers;
 
 impl OpenBlock {
     /// What is wrong with a line of this block that says this. The lines `after` follow it.

@@ -1,9 +1,9 @@
 ghost use Rattle.std.specs.Prelude.{◌≡◌};
 ghost use Rattle.ov_scenario.specs.Sections.{is_end, is_together};
 
-use crate::given_words::GivenWords;
+use crate::event_words_reading::GivenWords;
 use crate::scenario::{Look, Subject};
-use ov_claims::Workers;
+use ov_ids::Workers;
 use ov_lines::Unread;
 use ov_net::Event;
 use std::marker::Model;

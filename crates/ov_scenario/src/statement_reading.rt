@@ -11,7 +11,7 @@ ghost use Rattle.ov_scenario.specs.Code.Reading.{Reads};
 ghost use Rattle.ov_scenario.specs.declared.statement.Statement.TheVariants as says;
 ghost use Rattle.ov_scenario.specs.declared.statement_reading.Unstated.TheVariants as unstated;
 
-use crate::given_words::GivenWords;
+use crate::event_words_reading::GivenWords;
 use crate::scenario::{Look, Subject};
 use crate::statement::{Stated, Statement};
 use ov_ids::{MsgId, NodeId, OutOfMemory, Seq};

@@ -7,8 +7,7 @@ ghost use Rattle.ov_scenario.specs.Scenarios.{AreFaultless, AreParamsOf, IsSeedO
 use crate::line_judging::params_within_limits;
 use crate::open_block::{OpenBlock, sections_of};
 use crate::statement::{Stated, Statement};
-use ov_claims::Workers;
-use ov_ids::Params;
+use ov_ids::{Params, Workers};
 
 /// What lines give for the whole run: the numbers of the first parameters, and the first seed, if they give any, and
 /// how many drivers they need.

@@ -9,7 +9,7 @@ use Rattle.ov_net.specs.Journal.{AreLinks, Live}
 use Rattle.ov_net.specs.declared.journal_entry_and_changes.Entry.{Entry}
 use Rattle.ov_net.proofs.Links.OneGraph.{links_one}
 use Rattle.ov_net.proofs.Steps.Places.{at_cases}
-use Rattle.ov_claims.specs.Claims.{MayWork}
+use Rattle.ov_ids.specs.Workers.{MayWork}
 use Rattle.ov_even.proofs.AnalysisSteps.Assembling.{whole_group}
 use Rattle.ov_even.proofs.AnalysisSteps.Slotted.{at_set_same, at_set_other}
 use Rattle.ov_desk.specs.Desk.{GroupDeskState}

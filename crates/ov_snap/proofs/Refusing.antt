@@ -8,7 +8,7 @@ use Rattle.ov_ids.proofs.Stepping.{step_none}
 use Rattle.ov_graph.specs.Links.{LinkGraph, IsGroup}
 use Rattle.ov_net.specs.Journal.{AreLinks, Live}
 use Rattle.ov_net.proofs.Links.OneGraph.{links_one}
-use Rattle.ov_claims.specs.Claims.{MayWork}
+use Rattle.ov_ids.specs.Workers.{MayWork}
 use Rattle.ov_snap.specs.CoreState.{CoreState, HasReport, most_desks}
 use Rattle.ov_snap.specs.ReportState.{ReportState}
 use Rattle.ov_snap.specs.Refusals.{BeginJudged, FilingJudged, GroupBeginJudged, GroupThen, IsGroupAt}

@@ -13,9 +13,9 @@ use Rattle.ov_snap.specs.Refusals.{DeskFilingJudged, FilingJudged, GroupOpeningJ
 use Rattle.ov_snap.specs.Run.{Takes, TakesAll, WasRefused}
 use Rattle.ov_snap.specs.declared.fault.CoreFault.{CoreFault}
 use Rattle.ov_snap.specs.declared.fault.CoreFault.TheVariants.{OutOfMemory}
-use Rattle.ov_snap.specs.declared.running_steps.CoreStep.{CoreStep}
-use Rattle.ov_snap.specs.declared.running_steps.CoreStep.TheVariants.{Net, File, OpenDesk, OpenGroupDesk, Claim}
-use Rattle.ov_snap.specs.declared.running_steps.CoreStep.TheVariants.{Look, Settle, FileDesk}
+use Rattle.ov_snap.specs.declared.core_steps.CoreStep.{CoreStep}
+use Rattle.ov_snap.specs.declared.core_steps.CoreStep.TheVariants.{Net, File, OpenDesk, OpenGroupDesk, Claim}
+use Rattle.ov_snap.specs.declared.core_steps.CoreStep.TheVariants.{Look, Settle, FileDesk}
 use Rattle.ov_snap.proofs.DeskKeeping.{sound_desk_opened, sound_group_desk_opened, sound_claimed_at, sound_looked_at}
 use Rattle.ov_snap.proofs.DeskKeeping.{sound_settled_at, sound_desk_filed}
 use Rattle.ov_snap.proofs.Keeping.{sound_begun, sound_filed, sound_happened}

@@ -14,9 +14,9 @@ use Rattle.ov_snap.specs.DeskSteps.{WasOpened, WasOpenedForGroup, ClaimedAt, Loo
 use Rattle.ov_snap.specs.Filing.{WasFiled}
 use Rattle.ov_snap.specs.Refusals.{FilingJudged, OpeningJudged, GroupOpeningJudged, TurnJudged, DeskFilingJudged}
 use Rattle.ov_snap.specs.Snapshots.{SnapshotsAfter}
-use Rattle.ov_snap.specs.declared.running_steps.CoreStep.{CoreStep}
-use Rattle.ov_snap.specs.declared.running_steps.CoreStep.TheVariants.{Net, File, OpenDesk, OpenGroupDesk, Claim}
-use Rattle.ov_snap.specs.declared.running_steps.CoreStep.TheVariants.{Look, Settle, FileDesk}
+use Rattle.ov_snap.specs.declared.core_steps.CoreStep.{CoreStep}
+use Rattle.ov_snap.specs.declared.core_steps.CoreStep.TheVariants.{Net, File, OpenDesk, OpenGroupDesk, Claim}
+use Rattle.ov_snap.specs.declared.core_steps.CoreStep.TheVariants.{Look, Settle, FileDesk}
 
 -- an event happened: no refusal applied, the world took one step by it, and the entry of it is the last of the
 -- journal and is numbered by its place there. A snapshot's links are kept. Desks and reports are the same

@@ -5,7 +5,7 @@ use Rattle.ov_ids.specs.Members.{Has}
 use Rattle.ov_snap.specs.CoreState.{CoreState, KeepsReports}
 use Rattle.ov_snap.specs.ReportState.{ReportState, IsTrueReport}
 use Rattle.ov_snap.specs.Run.{CoreRun, TakesAll}
-use Rattle.ov_snap.specs.declared.running_steps.CoreStep.{CoreStep}
+use Rattle.ov_snap.specs.declared.core_steps.CoreStep.{CoreStep}
 
 -- for every list of steps, and every report that is filed in the core that they make: what the report says is true
 abbrev pub EveryReportIsTrue : Type 0

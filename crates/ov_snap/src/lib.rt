@@ -3,18 +3,18 @@
 #![tactic(auto)]
 
 mod analysis_report;
+mod core_steps;
 mod fault;
 mod filed_reports;
 mod kept_snapshots;
-mod running_steps;
 mod snapshot_core;
 mod theorems;
 mod worker_desk_calls;
 
 pub use analysis_report::Report;
+pub use core_steps::{CoreStep, run_core};
 pub use fault::CoreFault;
 pub use kept_snapshots::Snapshot;
 pub use ov_cert::SharedGraph;
-pub use running_steps::{CoreStep, run_core};
 pub use snapshot_core::Core;
 pub use theorems::{every_report_is_true, every_report_stays};

@@ -5,7 +5,7 @@ ghost use Rattle.ov_ids.specs.FaultOrder.{IsRefusedBy, Passed};
 ghost use Rattle.ov_graph.specs.Links.{LinkGraph};
 ghost use Rattle.ov_cert.specs.Valid.{IsValidForGroup};
 ghost use Rattle.ov_net.specs.Journal.{AreLinks};
-ghost use Rattle.ov_claims.specs.Claims.{MayWork};
+ghost use Rattle.ov_ids.specs.Workers.{MayWork};
 ghost use Rattle.ov_claims.specs.Theorems.{AllEnded};
 ghost use Rattle.ov_even.specs.Answer.{IsAnswer};
 ghost use Rattle.ov_desk.specs.Desk.{GroupDeskState, IsOpened};
@@ -23,9 +23,8 @@ use crate::analysis_report::Report;
 use crate::fault::CoreFault;
 use crate::kept_snapshots::{Snapshot, find};
 use crate::snapshot_core::Core;
-use ov_claims::Workers;
 use ov_desk::GroupDesk;
-use ov_ids::{NodeId, OutOfMemory};
+use ov_ids::{NodeId, OutOfMemory, Workers};
 use std::alloc::Global;
 
 /// The most desks that a core may have. Chosen here.

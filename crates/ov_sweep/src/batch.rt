@@ -1,13 +1,12 @@
 ghost use Rattle.std.specs.Prelude.{◌≡◌, ◌<◌, length, IfOk};
-ghost use Rattle.ov_claims.specs.Claims.{MayWork};
+ghost use Rattle.ov_ids.specs.Workers.{MayWork};
 ghost use Rattle.ov_sweep.specs.Sweeps.{AreRowsOf, IsOutcomeAt};
 ghost use Rattle.ov_sweep.specs.Code.Shares.{AreSharesOf, IsShareOf};
 
 use crate::row_making::row_of;
-use ov_claims::Workers;
 use ov_grow::GrowFault;
 use ov_grow_options::GrowOptions;
-use ov_ids::OutOfMemory;
+use ov_ids::{OutOfMemory, Workers};
 use ov_sweep_rows::Row;
 use std::alloc::Global;
 use std::thread::{self, Threads};

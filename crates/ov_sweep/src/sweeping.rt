@@ -4,8 +4,8 @@ ghost use Rattle.ov_sweep.specs.Sweeps.{AreSwept, IsSweepOf};
 
 use crate::batch::{GrownBatch, grow_batch};
 use crate::sweep_fault::SweepFault;
-use ov_claims::Workers;
 use ov_grow_options::GrowOptions;
+use ov_ids::Workers;
 use ov_sweep_rows::Row;
 use std::alloc::Global;
 use std::thread::Threads;

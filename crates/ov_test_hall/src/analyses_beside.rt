@@ -1,10 +1,9 @@
 //! An analysis goes on while another driver steps the hall.
 ghost use Rattle.std.specs.Prelude.{◌≡◌};
 
-use ov_claims::Workers;
 use ov_crew::{Gate, analyse};
 use ov_hall::{Hall, HallName, Opening, Pass, Whole};
-use ov_ids::{NodeId, Params};
+use ov_ids::{NodeId, Params, Workers};
 use ov_net::Event;
 use ov_snap::Report;
 use ov_test_kit::{sized, words};

@@ -4,9 +4,8 @@ use crate::graphs::{
     FIVE_BUT_ONE, ONE_NODE, PATH_OF_THREE, PETERSEN, SQUARE, TWO_TRIANGLES, TWO_UNLINKED,
 };
 use ov_check::judge;
-use ov_claims::Workers;
 use ov_even::Unwatched;
-use ov_ids::NodeId;
+use ov_ids::{NodeId, Workers};
 use ov_io::{Sink, Source};
 use ov_run::{Answered, RunFault, analyse_file};
 use ov_test_kit::ids;

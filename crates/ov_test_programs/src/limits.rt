@@ -1,6 +1,6 @@
 //! Graph files of the most nodes, and of one more.
 use crate::answers::{analysed, prints};
-use ov_claims::Workers;
+use ov_ids::Workers;
 use std::alloc::{AllocError, Global};
 use std::test::Fail;
 use std::thread::Threads;

@@ -1,6 +1,6 @@
 //! The arguments of the command line, and the random words that a seed gives.
 use ov_arguments::{AnalysisRequest, ArgumentsFault, Request, RunRequest, read_arguments};
-use ov_claims::Workers;
+use ov_ids::Workers;
 use ov_scenario::draw;
 use std::alloc::Global;
 use std::test::Fail;

@@ -1,9 +1,9 @@
 //! What the words after `overlay grow` and `overlay sweep` ask for.
-use ov_claims::Workers;
 use ov_grow_arguments::{
     GrowArgumentsFault, Printed, SweepRequest, read_grow_arguments, read_sweep_arguments,
 };
 use ov_grow_options::GrowOptions;
+use ov_ids::Workers;
 use std::alloc::Global;
 use std::fmt::Write;
 use std::test::Fail;

@@ -2,7 +2,7 @@
 #![tactic(auto)]
 
 mod draws;
-mod event_words;
+mod random_words;
 
 pub use draws::Draws;
-pub use event_words::{WORDS_PER_EVENT, Words};
+pub use random_words::{WORDS_PER_EVENT, Words};

@@ -5,7 +5,7 @@ use Rattle.ov_arguments.specs.Arguments.{number_of}
 use Rattle.ov_run.specs.Faults.{run_fault_text}
 use Rattle.ov_grow_commands.specs.Faults.{growth_number}
 use Rattle.ov_arguments.specs.declared.arguments.ArgumentsFault.TheVariants.{BadArguments, OutOfMemory}
-use Rattle.ov_grow_commands.specs.declared.growth_fault.GrowthFault.TheVariants as growth
+use Rattle.ov_grow_commands.specs.declared.grow_command_fault.GrowthFault.TheVariants as growth
 use Rattle.overlay.specs.declared.program_outcome.ProgramFault.{ProgramFault}
 use Rattle.ov_file_commands.specs.Faults as file
 use Rattle.overlay.specs.declared.program_outcome.ProgramFault.TheVariants.{Arguments, Growth, OfFile, Run}

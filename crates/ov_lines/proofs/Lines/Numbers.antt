@@ -3,7 +3,7 @@ use Rattle.std.proofs.Common.{◌≡◌, ◌==◌, ℕ, List, [], ◌∷◌, len
 use Rattle.std.proofs.Common.{if◌then◌else◌, refl, ap, sym, arith}
 use Rattle.std.proofs.lemmas.Grind.{common_steps}
 use Rattle.ov_ids.specs.Options.{◌>>=◌}
-use Rattle.ov_claims.specs.Claims.{MayWork}
+use Rattle.ov_ids.specs.Workers.{MayWork}
 use Rattle.ov_lines.specs.Lines.{number_within, one, two, three, ids_of, one_list, as_workers}
 use Rattle.ov_lines.specs.Code.Spaced.{first_number, first_list}
 use Rattle.ov_lines.proofs.Lines.Parted.{not_empty}

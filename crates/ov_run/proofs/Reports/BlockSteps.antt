@@ -2,8 +2,8 @@
 use Rattle.std.proofs.Common.{◌≡◌, ◌∙◌, Bool, true, false, List, [], ◌∷◌, inl, sym, ap, subst}
 use Rattle.ov_snap.specs.CoreState.{CoreState, opening_core}
 use Rattle.ov_snap.specs.Run.{TakesAll}
-use Rattle.ov_snap.specs.declared.running_steps.CoreStep.{CoreStep}
-use Rattle.ov_snap.specs.declared.running_steps.CoreStep.TheVariants.{Net, File}
+use Rattle.ov_snap.specs.declared.core_steps.CoreStep.{CoreStep}
+use Rattle.ov_snap.specs.declared.core_steps.CoreStep.TheVariants.{Net, File}
 use Rattle.ov_hall.specs.Logs.{AreSteps, core_after, core_made}
 use Rattle.ov_hall.specs.declared.ghost_views.Mark.{Mark}
 use Rattle.ov_hall.proofs.Exact.{Steps}

@@ -6,7 +6,7 @@ use Rattle.ov_snap.specs.CoreState.{CoreState, opening_core}
 use Rattle.ov_snap.specs.ReportState.{ReportState, IsTrueReport}
 use Rattle.ov_snap.specs.Filing.{WasFiled}
 use Rattle.ov_snap.specs.Refusals.{number_of}
-use Rattle.ov_snap.specs.declared.running_steps.CoreStep.TheVariants.{Net, File}
+use Rattle.ov_snap.specs.declared.core_steps.CoreStep.TheVariants.{Net, File}
 use Rattle.ov_snap.proofs.Running.{every_report_is_true, run_more}
 use Rattle.ov_run.proofs.Reports.BlockSteps.{Leads, block_leads}
 use Rattle.ov_run.specs.Theorems.{EveryPrintedReportIsTrue, IsMade, IsSoOf, Refuses}

@@ -9,7 +9,7 @@ use Rattle.ov_grow.specs.declared.phase.Phase.{Phase}
 use Rattle.ov_recording.specs.Replay.{Replays}
 use Rattle.ov_snap.specs.CoreState.{CoreState}
 use Rattle.ov_grow_commands.specs.Growing.{IsGrownBy, WasPrinted}
-use Rattle.ov_grow_commands.specs.declared.growth_fault.GrowthFault.{GrowthFault}
+use Rattle.ov_grow_commands.specs.declared.grow_command_fault.GrowthFault.{GrowthFault}
 use Rattle.ov_grow_commands.proofs.scenario_growing.print_scenario.Goals as goal
 
 -- what was grown is grown by its text

@@ -1,6 +1,6 @@
 -- A new desk is sound.
 use Rattle.std.proofs.Common.{ℕ, List, subst}
-use Rattle.ov_claims.specs.Claims.{MayWork}
+use Rattle.ov_ids.specs.Workers.{MayWork}
 use Rattle.ov_desk.specs.Desk.{AreToShare}
 use Rattle.ov_desk.proofs.Staying.{sound_opened}
 use Rattle.ov_desk.proofs.analysis_desk.GroupDesk.open.Goals as goal
