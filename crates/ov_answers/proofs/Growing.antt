@@ -1,6 +1,6 @@
 -- Texts that grow.
 use Rattle.std.proofs.Common.{◌≡◌, ◌∙◌, ℕ, List, [], ◌∷◌, ◌++◌, refl, sym, ap, append_assoc, append-nil}
-use Rattle.ov_names.specs.NamesState.{NamesState}
+use Rattle.ov_graphfile.specs.NamesState.{NamesState}
 use Rattle.ov_answers.specs.Lines.{IsNodeLine, AreNodeLines}
 use Rattle.ov_answers.specs.Code.Begun.{Gains}
 

@@ -1,3 +1,7 @@
 pub mod Growing
 pub mod Piecewise
 pub mod Tellings
+pub mod Rows
+pub mod Grown
+pub mod Divided
+pub mod Surviving

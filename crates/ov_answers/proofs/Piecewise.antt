@@ -6,7 +6,7 @@ use Rattle.std.proofs.lemmas.Bool.{eq-eqb, ne_eqb}
 use Rattle.std.proofs.lemmas.List.{take_more, length-take-le}
 use Rattle.std.proofs.lemmas.Option.{get_or_from_slice_get, unwrap_or-slice_get}
 use Rattle.ov_ids.proofs.Cases.{where_true, where_false}
-use Rattle.ov_names.specs.NamesState.{NamesState}
+use Rattle.ov_graphfile.specs.NamesState.{NamesState}
 use Rattle.ov_answers.specs.Lines.{AreNodeLines, sizes_text, AreMemberLines, AreAllMemberLines}
 use Rattle.ov_answers.specs.Code.Begun.{Gains}
 

@@ -11,8 +11,8 @@ use Rattle.ov_io.specs.Device.{SinkState}
 use Rattle.ov_even.specs.Answer.{IsCheckedAnswer}
 use Rattle.ov_even.specs.Outlines.{IsOutline}
 use Rattle.ov_even.specs.Theorems.{AreAlike}
-use Rattle.ov_names.specs.NamesState.{NamesState}
-use Rattle.ov_names.specs.NameLines.{AreNamesOf}
+use Rattle.ov_graphfile.specs.NamesState.{NamesState}
+use Rattle.ov_graphfile.specs.NameLines.{AreNamesOf}
 use Rattle.ov_run.specs.Analysing.{answer_text, PrintsAnswer, IsAnalysis, BeginsAnalysis, IsAnalysisOf}
 use Rattle.ov_run.specs.Faults.{write_faults}
 use Rattle.ov_run.specs.Code.Writing.{IsTextFault}

@@ -2,3 +2,4 @@
 -- it.
 pub mod Begun
 pub mod Sentences
+pub mod Rows

@@ -4,8 +4,8 @@ use Rattle.std.specs.Prelude.{codes, decimal}
 use Rattle.ov_graph.specs.Links.{LinkGraph}
 use Rattle.ov_cert.specs.declared.cert.Cert.{Cert}
 use Rattle.ov_cert.specs.declared.cert.Cert.TheVariants as cert
-use Rattle.ov_names.specs.NamesState.{NamesState, IsNamed}
-use Rattle.ov_pieces.specs.Pieces.{ArePieces}
+use Rattle.ov_graphfile.specs.NamesState.{NamesState, IsNamed}
+use Rattle.ov_answers.specs.Pieces.{ArePieces}
 
 -- a line that says a node: these words, its id, and behind a space its name if it has one
 abbrev pub IsNodeLine : List ℕ → NamesState → ℕ → List ℕ → Type 0

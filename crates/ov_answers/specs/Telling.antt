@@ -11,8 +11,8 @@ use Rattle.ov_io.specs.Device.{AppendsPrefixOf, SinkState}
 use Rattle.ov_even.specs.Answer.{IsAnswer}
 use Rattle.ov_even.specs.Faults as even
 use Rattle.ov_even.specs.declared.fault.AnalyseFault.TheVariants as analysis
-use Rattle.ov_names.specs.NamesState.{NamesState}
-use Rattle.ov_names.specs.NameLines.{AreNamesOf}
+use Rattle.ov_graphfile.specs.NamesState.{NamesState}
+use Rattle.ov_graphfile.specs.NameLines.{AreNamesOf}
 use Rattle.ov_run.specs.Faults.{write_faults, IsAnalysisFault}
 use Rattle.ov_run.specs.Printed.{report_line, file_text, refused_line}
 use Rattle.ov_run.specs.Subjects.{members_of}

@@ -1,11 +1,11 @@
 //! What sentences count: members of pieces, and links of nodes.
 ghost use Rattle.std.specs.Prelude.{◌<◌, length};
 
+use crate::Pieces;
 use crate::text_pieces::piece_at;
 use ov_graph::Graph;
 use ov_graph::row::WORDS;
 use ov_ids::{NodeId, OutOfMemory};
-use ov_pieces::Pieces;
 use std::alloc::Global;
 
 /// The members of the group that are in the piece with this node, ascending.

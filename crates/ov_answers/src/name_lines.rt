@@ -4,13 +4,13 @@ ghost use Rattle.ov_cert.specs.declared.cert.Cert.{Cert};
 ghost use Rattle.ov_answers.specs.Lines.{IsNodeLine, AreNodeLines, AreNameLines};
 ghost use Rattle.ov_answers.specs.Code.Begun.{Gains};
 
+use crate::pieces_without;
 use crate::text_pieces::write_pieces;
 use itoa::Buffer;
 use ov_cert::{Cert, Split};
 use ov_graph::Graph;
+use ov_graphfile::Names;
 use ov_ids::{NodeId, OutOfMemory};
-use ov_names::Names;
-use ov_pieces::pieces_without;
 use std::alloc::{AllocError, Global};
 
 /// Appends the lines that name the nodes of an answer: those of the cut, near and far, and the pieces that the crash of

@@ -4,11 +4,11 @@ ghost use Rattle.std.specs.Prelude.{◌≡◌, ◌++◌, string_bytes, OnOk};
 ghost use Rattle.ov_answers.specs.Code.Sentences.{fewer_text, more_text};
 
 use crate::counts::{least_linked, members_beside, survivors_of};
+use crate::pieces_without;
 use ov_cert::{Cert, Split};
 use ov_graph::Graph;
+use ov_graphfile::Names;
 use ov_ids::{NodeId, OutOfMemory};
-use ov_names::Names;
-use ov_pieces::pieces_without;
 use std::alloc::{AllocError, Global};
 use std::fmt::Write;
 

@@ -3,11 +3,11 @@ ghost use Rattle.std.specs.Prelude.{◌≡◌, ◌++◌, [], codes, decimal, sli
 ghost use Rattle.ov_answers.specs.Code.Begun.{Gains};
 ghost use Rattle.ov_answers.specs.Lines.{sizes_text, IsFirstLargest, AreAllMemberLines, ArePieceLines};
 
+use crate::Pieces;
 use crate::name_lines::write_nodes;
 use itoa::Buffer;
+use ov_graphfile::Names;
 use ov_ids::NodeId;
-use ov_names::Names;
-use ov_pieces::Pieces;
 use std::alloc::{AllocError, Global};
 
 /// Appends how many pieces there are and how large they are, in their order, and a line for each member of all pieces

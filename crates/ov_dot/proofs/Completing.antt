@@ -4,12 +4,12 @@ use Rattle.std.proofs.Common.{◌≡◌, ◌∙◌, ◌⊎◌, ◌+◌, ◌-◌,
 use Rattle.std.proofs.Common.{Option, Some, None, Result, Ok, Err, inl, inr, refl, sym, ap, subst, arith, append_assoc}
 use Rattle.std.proofs.lemmas.Bool.{true≢false}
 use Rattle.std.proofs.lemmas.Bool.Decides.{nat_tests}
-use Rattle.ov_dot_tokens.specs.Tokens.{Lexeme}
-use Rattle.ov_dot_tokens.specs.declared.token.Kind.{Kind}
-use Rattle.ov_dot_tokens.specs.declared.token.Kind.TheVariants.{Strict, Graph, Digraph, Node, Edge, Subgraph, Bare}
-use Rattle.ov_dot_tokens.specs.declared.token.Kind.TheVariants.{Quoted, Html, OpenBrace, CloseBrace, OpenBracket}
-use Rattle.ov_dot_tokens.specs.declared.token.Kind.TheVariants.{CloseBracket, Semicolon, Comma, Equals, Colon, Line}
-use Rattle.ov_dot_tokens.specs.declared.token.Kind.TheVariants.{Arrow}
+use Rattle.ov_dot.specs.Tokens.{Lexeme}
+use Rattle.ov_dot.specs.declared.token.Kind.{Kind}
+use Rattle.ov_dot.specs.declared.token.Kind.TheVariants.{Strict, Graph, Digraph, Node, Edge, Subgraph, Bare}
+use Rattle.ov_dot.specs.declared.token.Kind.TheVariants.{Quoted, Html, OpenBrace, CloseBrace, OpenBracket}
+use Rattle.ov_dot.specs.declared.token.Kind.TheVariants.{CloseBracket, Semicolon, Comma, Equals, Colon, Line}
+use Rattle.ov_dot.specs.declared.token.Kind.TheVariants.{Arrow}
 use Rattle.ov_dot.specs.declared.place.Place.{Place}
 use Rattle.ov_dot.specs.declared.place.Place.TheVariants.{Beginning, BehindStrict, BehindKind, BehindTitle, Body, Named}
 use Rattle.ov_dot.specs.declared.place.Place.TheVariants.{Member, PortNext, Ported, CompassNext, Directed, EndNext}

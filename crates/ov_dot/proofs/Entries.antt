@@ -6,8 +6,8 @@ use Rattle.std.proofs.lemmas.Bool.{true≢false}
 use Rattle.std.proofs.lemmas.Slice.Eq.{bytes_eq-Decides}
 use Rattle.std.proofs.Math.ListN.{drop_of_length-le}
 use Rattle.std.specs.Prelude.{nat_eq, string_cmp, if◌then◌else◌}
-use Rattle.ov_dot_tokens.specs.declared.token.Token.{Token}
-use Rattle.ov_dot_tokens.specs.Tokens.{Lexeme, lexeme, lexemes}
+use Rattle.ov_dot.specs.declared.token.Token.{Token}
+use Rattle.ov_dot.specs.Tokens.{Lexeme, lexeme, lexemes}
 use Rattle.ov_dot.specs.Names.{text_of}
 use Rattle.std.specs.List.{list_any}
 use Rattle.std.specs.BTreeMap.{is_at}

@@ -5,3 +5,9 @@ pub mod Completing
 pub mod Stopping
 pub mod Reasoning
 pub mod Refusing
+pub mod Accepted
+pub mod Scanned
+pub mod Neighbours
+pub mod Cutting
+pub mod Depth
+pub mod OneCut

@@ -3,11 +3,11 @@ use Rattle.std.proofs.Common.{◌≡◌, ◌∙◌, ◌+◌, ◌-◌, ◌<◌, �
 use Rattle.std.proofs.Common.{[], ◌∷◌}
 use Rattle.std.proofs.lemmas.Bool.Decides.{nat_tests}
 use Rattle.std.proofs.Common.{Ok, refl, sym, ap, subst, arith, append_assoc}
-use Rattle.ov_dot_tokens.specs.Tokens.{Lexeme}
-use Rattle.ov_dot_tokens.specs.declared.token.Kind.{Kind}
-use Rattle.ov_dot_tokens.specs.declared.token.Kind.TheVariants.{Graph, Node, Edge, Subgraph, Bare}
-use Rattle.ov_dot_tokens.specs.declared.token.Kind.TheVariants.{Quoted, OpenBrace}
-use Rattle.ov_dot_tokens.specs.declared.token.Kind.TheVariants.{CloseBrace, CloseBracket, Semicolon}
+use Rattle.ov_dot.specs.Tokens.{Lexeme}
+use Rattle.ov_dot.specs.declared.token.Kind.{Kind}
+use Rattle.ov_dot.specs.declared.token.Kind.TheVariants.{Graph, Node, Edge, Subgraph, Bare}
+use Rattle.ov_dot.specs.declared.token.Kind.TheVariants.{Quoted, OpenBrace}
+use Rattle.ov_dot.specs.declared.token.Kind.TheVariants.{CloseBrace, CloseBracket, Semicolon}
 use Rattle.ov_dot.specs.declared.place.Place.{Place}
 use Rattle.ov_dot.specs.declared.place.Place.TheVariants.{Body, Named, Member, Ported, Directed}
 use Rattle.ov_dot.specs.declared.place.Place.TheVariants.{InList}

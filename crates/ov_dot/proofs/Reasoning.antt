@@ -2,10 +2,10 @@
 use Rattle.std.proofs.Common.{◌≡◌, ◌∙◌, ◌⊎◌, ◌++◌, ◌&&◌, ◌||◌, not, ℕ, Bool, true, false, cond, List, [], ◌∷◌, Option}
 use Rattle.std.proofs.Common.{Some, None, Ok, Err, inl, inr, refl, sym, ap, subst, append_assoc, append-nil}
 use Rattle.std.proofs.lemmas.Bool.{and_from, and_parts, true≢false}
-use Rattle.ov_dot_tokens.specs.Tokens.{Lexeme}
-use Rattle.ov_dot_tokens.specs.declared.token.Kind.{Kind}
-use Rattle.ov_dot_tokens.specs.declared.token.Kind.TheVariants.{Strict, Graph, Subgraph, Bare, Html, OpenBrace}
-use Rattle.ov_dot_tokens.specs.declared.token.Kind.TheVariants.{CloseBrace, OpenBracket, CloseBracket, Line, Arrow}
+use Rattle.ov_dot.specs.Tokens.{Lexeme}
+use Rattle.ov_dot.specs.declared.token.Kind.{Kind}
+use Rattle.ov_dot.specs.declared.token.Kind.TheVariants.{Strict, Graph, Subgraph, Bare, Html, OpenBrace}
+use Rattle.ov_dot.specs.declared.token.Kind.TheVariants.{CloseBrace, OpenBracket, CloseBracket, Line, Arrow}
 use Rattle.ov_dot.specs.declared.place.Place.{Place}
 use Rattle.ov_dot.specs.declared.place.Place.TheVariants.{Beginning, BehindStrict, BehindKind, BehindTitle, Body, Named}
 use Rattle.ov_dot.specs.declared.place.Place.TheVariants.{Member, PortNext, Ported, CompassNext, Directed, EndNext}

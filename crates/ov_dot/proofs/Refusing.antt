@@ -1,15 +1,15 @@
 -- From what is refused of tokens, of statements and of names to what is refused of a text.
 use Rattle.std.proofs.Common.{◌≡◌, ◌∙◌, ◌<◌, ℕ, List, [], ◌∷◌, Ok, length, get_or, inl, inr, refl, sym, ap, subst}
 use Rattle.ov_ids.proofs.Members.{has_place}
-use Rattle.ov_dot_tokens.specs.declared.token.Token.{Token}
+use Rattle.ov_dot.specs.declared.token.Token.{Token}
 use Rattle.ov_dot.specs.declared.statement_reading.Link.{Link}
 use Rattle.std.specs.Prelude.{map, Result, Err, IfOk}
 use Rattle.ov_ids.specs.Members.{Has}
 use Rattle.ov_dump.specs.declared.dump_values.Dump.{Dump}
-use Rattle.ov_dot_tokens.specs.Tokens.{Lexeme, lexeme, lexemes, HasTokens}
-use Rattle.ov_dot_tokens.specs.Faults.{Faults}
-use Rattle.ov_dot_tokens.specs.declared.token_reading.TextFault.{TextFault}
-use Rattle.ov_dot_tokens.specs.declared.token_reading.TextFault.TheVariants as text
+use Rattle.ov_dot.specs.Tokens.{Lexeme, lexeme, lexemes, HasTokens}
+use Rattle.ov_dot.specs.TokenFaults.{Faults}
+use Rattle.ov_dot.specs.declared.token_reading.TextFault.{TextFault}
+use Rattle.ov_dot.specs.declared.token_reading.TextFault.TheVariants as text
 use Rattle.ov_dot.specs.declared.fault.DotFault.{DotFault}
 use Rattle.ov_dot.specs.declared.fault.DotFault.TheVariants.{UnreadLine, OutOfMemory}
 use Rattle.ov_dot.specs.Faults.{fault_of}

@@ -1,8 +1,8 @@
 -- What tokens say, one more of them each time.
 use Rattle.std.proofs.Common.{◌≡◌, ◌∙◌, ◌+◌, ◌<◌, ◌≤◌, ℕ, List, ◌∷◌, length, get_or, drop, Result, Ok, sym, ap, subst}
 use Rattle.std.proofs.Common.{add-one, drop-cons}
-use Rattle.ov_dot_tokens.specs.declared.token.Token.{Token}
-use Rattle.ov_dot_tokens.specs.Tokens.{Lexeme, lexeme, lexemes}
+use Rattle.ov_dot.specs.declared.token.Token.{Token}
+use Rattle.ov_dot.specs.Tokens.{Lexeme, lexeme, lexemes}
 use Rattle.ov_dot.specs.declared.fault.DotFault.{DotFault}
 use Rattle.ov_dot.specs.declared.fault.DotFault.TheVariants.{UnreadLine, OutOfMemory}
 use Rattle.std.proofs.Math.ListN.{drop_of_length-le}

@@ -3,10 +3,10 @@ use Rattle.std.proofs.Common.{◌≡◌, ◌∙◌, ◌⊎◌, ◌+◌, ◌-◌,
 use Rattle.std.proofs.Common.{◌∷◌, Option, Some, None, Result, Ok, Err, inl, inr, refl, sym, ap, arith}
 use Rattle.std.proofs.Common.{append_assoc}
 use Rattle.std.proofs.lemmas.Bool.Decides.{nat_tests}
-use Rattle.ov_dot_tokens.specs.Tokens.{Lexeme}
-use Rattle.ov_dot_tokens.specs.declared.token.Kind.{Kind}
-use Rattle.ov_dot_tokens.specs.declared.token.Kind.TheVariants.{Strict, Graph, Bare, OpenBrace, CloseBrace}
-use Rattle.ov_dot_tokens.specs.declared.token.Kind.TheVariants.{OpenBracket, CloseBracket, Semicolon, Line, Arrow}
+use Rattle.ov_dot.specs.Tokens.{Lexeme}
+use Rattle.ov_dot.specs.declared.token.Kind.{Kind}
+use Rattle.ov_dot.specs.declared.token.Kind.TheVariants.{Strict, Graph, Bare, OpenBrace, CloseBrace}
+use Rattle.ov_dot.specs.declared.token.Kind.TheVariants.{OpenBracket, CloseBracket, Semicolon, Line, Arrow}
 use Rattle.ov_dot.specs.declared.place.Place.{Place}
 use Rattle.ov_dot.specs.declared.place.Place.TheVariants.{Beginning, BehindStrict, BehindKind, BehindTitle, Body, Named}
 use Rattle.ov_dot.specs.declared.place.Place.TheVariants.{Member, PortNext, Ported, CompassNext, Directed, EndNext}

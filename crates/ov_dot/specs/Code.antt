@@ -3,3 +3,5 @@ pub mod PlaceReasons
 pub mod Statements
 pub mod Seen
 pub mod Entered
+pub mod Scanning
+pub mod Neighbours

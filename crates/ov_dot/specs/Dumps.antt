@@ -7,7 +7,7 @@ use Rattle.ov_dump.specs.FirstEntries.{AreFirsts}
 use Rattle.ov_dump.specs.declared.dump_values.Dump.{Dump}
 use Rattle.ov_dump.specs.declared.dump_values.Entry.{Entry}
 use Rattle.ov_dump.specs.declared.dump_values.Listing.{Listing}
-use Rattle.ov_dot_tokens.specs.Tokens.{Lexeme}
+use Rattle.ov_dot.specs.Tokens.{Lexeme}
 use Rattle.ov_dot.specs.Names.{text_of}
 use Rattle.ov_dot.specs.Sayings.{Said}
 

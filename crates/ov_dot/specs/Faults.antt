@@ -2,8 +2,8 @@
 use Rattle.ov_dot.specs.declared.fault.DotFault.{DotFault}
 use Rattle.ov_dot.specs.declared.fault.DotFault.TheVariants as fault
 use Rattle.ov_dot.specs.declared.fault.Why.TheVariants as why
-use Rattle.ov_dot_tokens.specs.declared.token_reading.TextFault.{TextFault}
-use Rattle.ov_dot_tokens.specs.declared.token_reading.TextFault.TheVariants as text
+use Rattle.ov_dot.specs.declared.token_reading.TextFault.{TextFault}
+use Rattle.ov_dot.specs.declared.token_reading.TextFault.TheVariants as text
 
 -- a line without a token, or with a torn name, is one that can't be read
 abbrev pub fault_of : TextFault → DotFault

@@ -3,12 +3,12 @@
 -- brace. The page is https://graphviz.org/doc/info/lang.html. Chosen here: there may be semicolons without a statement,
 -- an attribute in a list without a value, an HTML text as a value alone, and no subgraph as the end of an edge.
 use Rattle.std.specs.Prelude.{◌≡◌, ◌<◌, ℕ, ◌+◌, ◌-◌, Bool, true, false, List, [], ◌∷◌, ◌++◌}
-use Rattle.ov_dot_tokens.specs.Tokens.{Lexeme}
-use Rattle.ov_dot_tokens.specs.declared.token.Kind.{Kind}
-use Rattle.ov_dot_tokens.specs.declared.token.Kind.TheVariants.{Strict, Graph, Digraph, Node, Edge, Subgraph, Bare}
-use Rattle.ov_dot_tokens.specs.declared.token.Kind.TheVariants.{Quoted}
-use Rattle.ov_dot_tokens.specs.declared.token.Kind.TheVariants.{Html, OpenBrace, CloseBrace, OpenBracket, CloseBracket}
-use Rattle.ov_dot_tokens.specs.declared.token.Kind.TheVariants.{Semicolon, Comma, Equals, Colon, Line, Arrow}
+use Rattle.ov_dot.specs.Tokens.{Lexeme}
+use Rattle.ov_dot.specs.declared.token.Kind.{Kind}
+use Rattle.ov_dot.specs.declared.token.Kind.TheVariants.{Strict, Graph, Digraph, Node, Edge, Subgraph, Bare}
+use Rattle.ov_dot.specs.declared.token.Kind.TheVariants.{Quoted}
+use Rattle.ov_dot.specs.declared.token.Kind.TheVariants.{Html, OpenBrace, CloseBrace, OpenBracket, CloseBracket}
+use Rattle.ov_dot.specs.declared.token.Kind.TheVariants.{Semicolon, Comma, Equals, Colon, Line, Arrow}
 use Rattle.ov_dot.specs.Sayings.{Said, nothing_said, with_edge}
 
 -- where a token stands, and its bytes

@@ -7,3 +7,6 @@ pub mod Dumps
 pub mod Reasons
 pub mod Readings
 pub mod Code
+pub mod Pieces
+pub mod Tokens
+pub mod TokenFaults

@@ -1,9 +1,9 @@
 -- The text of a name: what an identifier, a numeral or a quoted text of DOT says.
 use Rattle.std.specs.Prelude.{ℕ, ◌-◌, Bool, false, not, ◌&&◌, ◌==◌, nat_lt, List, [], ◌∷◌, ◌++◌, length}
 use Rattle.std.specs.Prelude.{slice_range, if◌then◌else◌}
-use Rattle.ov_dot_tokens.specs.Tokens.{Lexeme}
-use Rattle.ov_dot_tokens.specs.declared.token.Kind.{Kind}
-use Rattle.ov_dot_tokens.specs.declared.token.Kind.TheVariants.{Quoted}
+use Rattle.ov_dot.specs.Tokens.{Lexeme}
+use Rattle.ov_dot.specs.declared.token.Kind.{Kind}
+use Rattle.ov_dot.specs.declared.token.Kind.TheVariants.{Quoted}
 
 -- what a backslash and the byte behind it say: a quote, nothing if a line feed follows, or else both bytes
 abbrev pub escaped : ℕ → List ℕ

@@ -1,9 +1,9 @@
 -- Why tokens are no file in DOT, where a file begins with those before: by what may come there, and what came.
 use Rattle.std.specs.Prelude.{◌≡◌, ◌⊎◌, List, [], ◌∷◌, ◌++◌}
-use Rattle.ov_dot_tokens.specs.Tokens.{Lexeme}
-use Rattle.ov_dot_tokens.specs.declared.token.Kind.{Kind}
-use Rattle.ov_dot_tokens.specs.declared.token.Kind.TheVariants.{Graph, Subgraph, Bare, Html, OpenBrace, CloseBrace}
-use Rattle.ov_dot_tokens.specs.declared.token.Kind.TheVariants.{OpenBracket, CloseBracket, Line, Arrow}
+use Rattle.ov_dot.specs.Tokens.{Lexeme}
+use Rattle.ov_dot.specs.declared.token.Kind.{Kind}
+use Rattle.ov_dot.specs.declared.token.Kind.TheVariants.{Graph, Subgraph, Bare, Html, OpenBrace, CloseBrace}
+use Rattle.ov_dot.specs.declared.token.Kind.TheVariants.{OpenBracket, CloseBracket, Line, Arrow}
 use Rattle.ov_dot.specs.declared.fault.Why.{Why}
 use Rattle.ov_dot.specs.declared.fault.Why.TheVariants.{NoGraph, NoBrace, NoName, NoStatement, BadAttributes, WrongEdge}
 use Rattle.ov_dot.specs.declared.fault.Why.TheVariants.{SubgraphAsEnd, HtmlText, BehindGraph}

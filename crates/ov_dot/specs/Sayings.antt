@@ -1,6 +1,6 @@
 -- What the statements of a file say.
 use Rattle.std.specs.Prelude.{Bool, true, false, List, [], ◌∷◌, ◌++◌}
-use Rattle.ov_dot_tokens.specs.Tokens.{Lexeme}
+use Rattle.ov_dot.specs.Tokens.{Lexeme}
 
 -- names that have entries, and which name lists which, in their order
 pub record Said : Type 0 where

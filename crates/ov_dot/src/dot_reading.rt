@@ -3,8 +3,8 @@ ghost use Rattle.ov_dot.specs.Readings.{IsRefused, SaysDump};
 
 use crate::dump_making::make_dump;
 use crate::fault::DotFault;
+use crate::read_tokens;
 use crate::statement_reading::read_statements;
-use ov_dot_tokens::read_tokens;
 use ov_dump::Dump;
 use std::alloc::Global;
 

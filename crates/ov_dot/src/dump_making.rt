@@ -2,16 +2,16 @@ ghost use Rattle.std.specs.Prelude.{◌≡◌, ◌++◌, ◌∷◌, [], map, str
 ghost use Rattle.std.specs.Prelude.{OnOk};
 ghost use Rattle.std.proofs.Common.{Global, String};
 ghost use Rattle.std.specs.BTreeSet.{contains};
-ghost use Rattle.ov_dot_tokens.specs.Tokens.{lexemes};
+ghost use Rattle.ov_dot.specs.Tokens.{lexemes};
 ghost use Rattle.ov_dump.specs.FirstEntries.{AreFirsts};
 ghost use Rattle.ov_dot.specs.Dumps.{both_ends, entry_of, listing_of, IsDumpOf};
 ghost use Rattle.ov_dot.specs.Code.Entered.{has_entry};
 ghost use Rattle.ov_dot.specs.Code.Seen.{ends, said_in, AreBadNames, IsNameless};
 
+use crate::Token;
 use crate::fault::DotFault;
 use crate::name_reading::read_name;
 use crate::statement_reading::{Link, Statements};
-use ov_dot_tokens::Token;
 use ov_dump::{Dump, Entry, Listing};
 use ov_ids::Seq;
 use std::alloc::Global;

@@ -1,7 +1,7 @@
 ghost use Rattle.std.specs.Prelude.{◌≡◌};
 ghost use Rattle.ov_dot.specs.FaultNumbers.{number_of};
 
-use ov_dot_tokens::TextFault;
+use crate::TextFault;
 use ov_ids::OutOfMemory;
 use std::alloc::{AllocError, AllocFailed};
 use thiserror::Error;

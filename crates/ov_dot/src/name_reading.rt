@@ -1,10 +1,10 @@
 ghost use Rattle.std.specs.Prelude.{◌≡◌, ◌++◌, false, IfErr, IfOk, OnOk};
-ghost use Rattle.ov_dot_tokens.specs.Tokens.{lexeme};
+ghost use Rattle.ov_dot.specs.Tokens.{lexeme};
 ghost use Rattle.ov_dot.specs.Names.{begins_escape, escaped, inside, said_by, text_of, unquoted};
 ghost use Rattle.ov_dot.specs.Code.Seen.{IsBadName};
 
 use crate::fault::{DotFault, Why};
-use ov_dot_tokens::{Kind, Token};
+use crate::{Kind, Token};
 use ov_dump::Name;
 use ov_ids::OutOfMemory;
 use std::alloc::{AllocError, Global};

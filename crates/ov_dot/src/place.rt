@@ -4,8 +4,8 @@ ghost use Rattle.ov_dot.specs.Code.Diagram.{behind_name, behind_node, behind_por
 ghost use Rattle.ov_dot.specs.Code.Diagram.{list_opening, name_to, opening, statement, title_to, value_to};
 ghost use Rattle.ov_dot.specs.Code.PlaceReasons.{lacking, no_end, no_statement, not_wanted, why_not};
 
+use crate::Kind;
 use crate::fault::Why;
-use ov_dot_tokens::Kind;
 
 /// A place in the grammar of DOT: what was read last, and so what may come next.
 #[derive(Clone, Copy, PartialEq, Eq)]

@@ -1,5 +1,5 @@
 ghost use Rattle.std.specs.Prelude.{◌≡◌, ◌+◌, ◌-◌, ◌<◌, ◌≤◌, ◌^◌, IfErr, IfOk, OnOk};
-ghost use Rattle.ov_dot_tokens.specs.Tokens.{lexeme, lexemes};
+ghost use Rattle.ov_dot.specs.Tokens.{lexeme, lexemes};
 ghost use Rattle.ov_dot.specs.Code.Statements.{at_beginning, depth_behind, directed_behind, ended, is_wrong_edge};
 ghost use Rattle.ov_dot.specs.Code.Statements.{name_behind, place_behind, said_behind, statements_of, step, with_first};
 ghost use Rattle.ov_dot.specs.Sayings.{nothing_said, with_edge, Said};
@@ -7,7 +7,7 @@ ghost use Rattle.ov_dot.specs.Code.Seen.{reading, said_in, Gives};
 
 use crate::fault::{DotFault, Why};
 use crate::place::{Place, follows, why_not};
-use ov_dot_tokens::{Kind, Token};
+use crate::{Kind, Token};
 use std::alloc::Global;
 
 /// One name lists another.

@@ -1,5 +1,5 @@
 ghost use Rattle.std.specs.Prelude.{◌≡◌, List};
-ghost use Rattle.ov_dot_tokens.specs.Tokens.{Lexeme};
+ghost use Rattle.ov_dot.specs.Tokens.{Lexeme};
 ghost use Rattle.ov_dot.specs.Grammar.{said_by, File, Spells};
 
 /// Files with the same tokens say the same.

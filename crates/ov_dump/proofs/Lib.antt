@@ -6,3 +6,10 @@ pub mod Numbered
 pub mod Linking
 pub mod Pairs
 pub mod Answering
+pub mod Viewing
+pub mod Lines
+pub mod Unread
+pub mod Edging
+pub mod Shown
+pub mod OneShown
+pub mod Returning

@@ -3,3 +3,4 @@ pub mod Judging
 pub mod Taking
 pub mod Numbering
 pub mod Listed
+pub mod Reading

@@ -4,3 +4,10 @@ pub mod FirstEntries
 pub mod Faults
 pub mod Theorems
 pub mod Code
+pub mod FaultNumbers
+pub mod Views
+pub mod EdgeLines
+pub mod Edges
+pub mod ShownNames
+pub mod Importing
+pub mod ImportTheorems

@@ -1,25 +1,45 @@
-//! What a dump says of the views of nodes, by the names of their hosts, and the graph that follows from it.
+//! Dumps: what hosts list, read from a JSON object of lists of peers or from lines of two names; the graph that
+//! follows from it, as a graph file; and what an operator should know of the dump.
 #![tactic(auto)]
 
+mod dump_importing;
 mod dump_judging;
 mod dump_values;
+mod edge_line;
+mod edges_reading;
 mod fault;
+mod import_fault;
+mod import_theorems;
 mod listing_graphs;
 mod name;
 mod name_graph;
 mod name_set;
+mod name_showing;
 mod name_taking;
+mod names_and_listings;
 mod names_without_entry;
 mod node_numbering;
+mod note_texts;
 mod pair_set;
+mod reading_fault;
 mod theorems;
 mod unanswered_listings;
+mod unread_line;
+mod views_reading;
 
+pub use dump_importing::import_dump;
 pub use dump_values::{Choice, Dump, Entry, Listing, NamedGraph};
+pub use edges_reading::read_edges;
 pub use fault::DumpFault;
+pub use import_fault::ImportFault;
+pub use import_theorems::{names_are_read, names_come_back, names_differ, one_shown_name};
 pub use name::Name;
 pub use name_graph::named_graph;
 pub use name_set::NameSet;
 pub use names_without_entry::without_entry;
+pub use note_texts::import_notes;
+pub use reading_fault::ReadingFault;
 pub use theorems::one_graph;
 pub use unanswered_listings::listed_by_one;
+pub use unread_line::Why;
+pub use views_reading::read_views;

@@ -1,1 +1,9 @@
 pub mod GraphFiles
+pub mod Sayings
+pub mod Naming
+pub mod Lined
+pub mod Tables
+pub mod Readings
+pub mod Meanings
+pub mod Sole
+pub mod Commented

@@ -19,8 +19,8 @@ use Rattle.ov_snap.proofs.Moments.{moment_new, moment_within}
 use Rattle.ov_run.specs.Subjects.{AnalysisJudged, IsReported}
 use Rattle.ov_recording.specs.Recordings.{all_of}
 use Rattle.ov_grow_options.specs.declared.options.GrowOptions.{GrowOptions}
-use Rattle.ov_script.specs.WrittenLines.{comment_line}
-use Rattle.ov_script.specs.declared.act.Act.TheVariants as act
+use Rattle.ov_recording.specs.WrittenLines.{comment_line}
+use Rattle.ov_recording.specs.declared.act.Act.TheVariants as act
 use Rattle.ov_grow.specs.Growth.{Growth, Does, SomebodyLives, Writes}
 use Rattle.ov_grow.specs.Turns.{RunOut}
 use Rattle.ov_grow.specs.Rounds.{DoesEach, Rounds}

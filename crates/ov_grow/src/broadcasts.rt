@@ -11,7 +11,7 @@ use crate::fault::GrowFault;
 use crate::growing::Growing;
 use crate::turn_rules::TurnRules;
 use ov_ids::{MsgId, NodeId};
-use ov_script::Act;
+use ov_recording::Act;
 
 impl Growing {
     /// So many broadcasts, until no packet is on its way and no timer of their messages runs. Some node must live.

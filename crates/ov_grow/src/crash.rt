@@ -1,5 +1,5 @@
 ghost use Rattle.std.specs.Prelude.{◌+◌, IfErr, IfOk, OnOk};
-ghost use Rattle.ov_script.specs.declared.act.Act.TheVariants as act;
+ghost use Rattle.ov_recording.specs.declared.act.Act.TheVariants as act;
 ghost use Rattle.ov_grow_options.specs.Limits.{most_rounds};
 ghost use Rattle.ov_grow.specs.Faults.{IsFull};
 ghost use Rattle.ov_grow.specs.Growth.{SomebodyLives};
@@ -14,7 +14,7 @@ use crate::turn_rules::TurnRules;
 use ov_cert::Cert;
 use ov_grow_options::{Crash, GrowOptions, Share};
 use ov_ids::{NodeId, OutOfMemory};
-use ov_script::Act;
+use ov_recording::Act;
 
 impl Growing {
     /// The overlay settles. Some node must live, and none may have made a broadcast.

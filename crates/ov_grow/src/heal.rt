@@ -13,7 +13,7 @@ use crate::phase::Phase;
 use crate::turn_rules::TurnRules;
 use ov_grow_options::GrowOptions;
 use ov_ids::NodeId;
-use ov_script::Act;
+use ov_recording::Act;
 
 impl Growing {
     /// The overlay heals. Some node must live.

@@ -1,7 +1,7 @@
 ghost use Rattle.std.specs.Prelude.{◌≡◌, ◌≤◌, ◌⊎◌, ℕ, drop, length, IfErr, IfOk, OnOk};
 ghost use Rattle.ov_net.specs.Limits.{most_entries};
-ghost use Rattle.ov_script.specs.WrittenLines.{analysis_line};
-ghost use Rattle.ov_script.specs.declared.act.Act.TheVariants as act;
+ghost use Rattle.ov_recording.specs.WrittenLines.{analysis_line};
+ghost use Rattle.ov_recording.specs.declared.act.Act.TheVariants as act;
 ghost use Rattle.ov_grow.specs.Faults.{IsFull};
 ghost use Rattle.ov_grow.specs.Growth.{Does, SomebodyLives, Writes};
 ghost use Rattle.ov_grow.specs.Phases.{EndsPhase, IsAnalysedAt, deliveries_in};
@@ -12,7 +12,7 @@ use crate::fault::GrowFault;
 use crate::growing::Growing;
 use crate::phase::Phase;
 use crate::turn_rules::TurnRules;
-use ov_script::Act;
+use ov_recording::Act;
 
 impl Growing {
     /// A phase ends: a snapshot is taken and analysed, and then there are so many broadcasts. Some node must live.

@@ -10,7 +10,7 @@ use crate::turn_rules::TurnRules;
 use ov_grow_options::Order;
 use ov_ids::{NodeId, OutOfMemory};
 use ov_net::Packet;
-use ov_script::Act;
+use ov_recording::Act;
 use std::alloc::Global;
 
 impl Growing {

@@ -1,15 +1,35 @@
-//! What a picture of a certificate shows: each node and each link of the graph with its class, and the paths of an
-//! entry.
+//! Pictures of certificates: what a picture shows of each node, each link and the paths of an entry, and its text as
+//! SVG and as DOT.
 #![tactic(auto)]
 
+mod bands;
 mod chosen_entry;
+mod class_names;
 mod classes;
+mod columns;
+mod dot_writing;
 mod drawing;
+mod escaped_texts;
 mod fault;
+mod geometry;
+mod headings;
+mod labels;
+mod layout;
 mod node_classes;
+mod path_colours;
 mod path_numbers;
+mod rings;
+mod sentences;
+mod svg_bends;
+mod svg_legend;
+mod svg_links;
+mod svg_nodes;
+mod svg_style;
+mod svg_writing;
 
 pub use chosen_entry::ChosenEntry;
 pub use classes::{Band, LinkClass, NodeClass};
+pub use dot_writing::dot;
 pub use drawing::{Drawing, DrawnLink, DrawnNode, draw};
 pub use fault::PictureFault;
+pub use svg_writing::svg;

@@ -3,8 +3,8 @@ use Rattle.std.proofs.Common.{◌≡◌, List, [], ◌∷◌, ◌++◌, refl, sy
 use Rattle.ov_ids.specs.ParamsState.{ParamsState}
 use Rattle.ov_snap.specs.CoreState.{CoreState, opening_core}
 use Rattle.ov_scenario.specs.declared.scenario.Line.{Line}
-use Rattle.ov_script.specs.Scripts.{ScriptState}
-use Rattle.ov_recording.specs.Code.Kept.{MadeBy}
+use Rattle.ov_recording.specs.Scripts.{ScriptState}
+use Rattle.ov_recording.specs.Code.KeptRecording.{MadeBy}
 use Rattle.ov_recording.specs.Replay.{AcceptsAll, AcceptsLine}
 
 -- lines are accepted, and then one more

@@ -3,3 +3,6 @@ pub mod Alike
 pub mod Recordings
 pub mod Theorems
 pub mod Code
+pub mod Acts
+pub mod WrittenLines
+pub mod Scripts

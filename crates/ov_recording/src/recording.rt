@@ -8,16 +8,16 @@ ghost use Rattle.ov_snap.specs.ReportState.{ReportState};
 ghost use Rattle.ov_snap.specs.Run.{Happened};
 ghost use Rattle.ov_snap.specs.declared.fault.CoreFault.TheVariants.{OutOfMemory as out_of_memory};
 ghost use Rattle.ov_run.specs.Subjects.{AnalysisJudged, WasAnalysed};
-ghost use Rattle.ov_script.specs.Acts.{act_line, event_of};
-ghost use Rattle.ov_script.specs.Scripts.{opening, scenario_of};
-ghost use Rattle.ov_script.specs.WrittenLines.{analysis_line, comment_line, ended};
+ghost use Rattle.ov_recording.specs.Acts.{act_line, event_of};
+ghost use Rattle.ov_recording.specs.Scripts.{opening, scenario_of};
+ghost use Rattle.ov_recording.specs.WrittenLines.{analysis_line, comment_line, ended};
 ghost use Rattle.ov_recording.specs.Recordings.{HasOneLineMore, all_of};
 ghost use Rattle.ov_recording.specs.Replay.{Replays};
 
 use crate::report_making::report_of;
+use crate::{Act, Script};
 use ov_ids::{OutOfMemory, Params};
 use ov_net::{Entry, NetFault};
-use ov_script::{Act, Script};
 use ov_snap::{Core, CoreFault};
 use std::alloc::Global;
 use std::marker::Model;
@@ -50,7 +50,7 @@ impl Drop for Recording {
 
 impl Model for Recording {
     ghost use Rattle.ov_recording.specs.Recordings.{RecordingState};
-    ghost use Rattle.ov_recording.specs.Code.Kept.{MadeBy, recording_code, recording_of};
+    ghost use Rattle.ov_recording.specs.Code.KeptRecording.{MadeBy, recording_code, recording_of};
 
     ghost Value = { RecordingState };
 

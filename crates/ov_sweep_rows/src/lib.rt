@@ -1,17 +1,35 @@
-//! The rows of a sweep, one for each run, written and read as CSV.
+//! The rows of a sweep, one for each run, written and read as CSV; and what is told of many runs: a summary in plain
+//! text, and a picture.
 #![tactic(auto)]
 
 mod columns;
 mod delivered_share;
+mod dots;
+mod panel;
+mod phase_summary;
+mod picture;
+mod picture_layout;
+mod picture_style;
 mod row;
 mod row_fault;
 mod row_fields;
 mod row_reading;
 mod row_writing;
+mod setting_names;
+mod settings;
+mod summary;
+mod survival;
+mod text_table;
+mod wilson;
 
 pub use columns::{COLUMNS, Cell, SETTING_COLUMNS, setting_cells};
 pub use delivered_share::DeliveredShare;
+pub use picture::svg_text;
 pub use row::{Phase, PhaseRow, Row};
 pub use row_fault::{FieldFault, FieldForm, RowFault};
 pub use row_reading::read_rows;
 pub use row_writing::{header_text, row_text};
+pub use settings::{Setting, settings_of};
+pub use summary::summary_text;
+pub use survival::Survival;
+pub use wilson::{Interval, wilson_interval};

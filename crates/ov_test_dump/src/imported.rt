@@ -1,7 +1,5 @@
 //! What is written of dumps, by hand from the definitions.
-use ov_dump::{Choice, Dump};
-use ov_dump_reading::{read_edges, read_views};
-use ov_import::{ImportFault, import_dump};
+use ov_dump::{Choice, Dump, ImportFault, import_dump, read_edges, read_views};
 use ov_io::Sink;
 use std::alloc::Global;
 use std::test::Fail;

@@ -1,7 +1,5 @@
 //! The words of refusals and of notes.
-use ov_dump::{Choice, DumpFault, named_graph};
-use ov_dump_reading::{ReadingFault, read_edges, read_views};
-use ov_import::import_notes;
+use ov_dump::{Choice, DumpFault, ReadingFault, import_notes, named_graph, read_edges, read_views};
 use std::alloc::Global;
 use std::test::Fail;
 

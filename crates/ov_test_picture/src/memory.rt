@@ -1,8 +1,7 @@
 //! Pictures for which an allocation is refused. `bin/refuse-allocations` refuses each in turn.
 use crate::square::drawn_square;
 use ov_ids::{NodeId, OutOfMemory};
-use ov_picture::{ChosenEntry, PictureFault};
-use ov_picture_text::{dot, svg};
+use ov_picture::{ChosenEntry, PictureFault, dot, svg};
 use std::alloc::Global;
 
 /// The square with the paths of a fan, as SVG and as DOT.

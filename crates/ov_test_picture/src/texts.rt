@@ -1,8 +1,7 @@
 //! The texts of pictures of the square.
 use crate::square::{drawn_pair, drawn_square};
 use ov_ids::NodeId;
-use ov_picture::ChosenEntry;
-use ov_picture_text::{dot, svg};
+use ov_picture::{ChosenEntry, dot, svg};
 use std::test::Fail;
 
 /// Names with letters that XML or DOT reads as something else, and one that is too long for a label.

@@ -1,5 +1,5 @@
 //! What the words after `overlay grow` and `overlay sweep` ask for.
-use ov_grow_arguments::{
+use ov_arguments::{
     GrowArgumentsFault, Printed, SweepRequest, read_grow_arguments, read_sweep_arguments,
 };
 use ov_grow_options::GrowOptions;

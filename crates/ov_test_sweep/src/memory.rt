@@ -1,7 +1,7 @@
 //! Sweeps in which an allocation is refused. `bin/refuse-allocations` refuses each in turn.
 use crate::command_words::sweep;
 use crate::reports::{is_summary, report};
-use ov_grow_arguments::GrowArgumentsFault;
+use ov_arguments::GrowArgumentsFault;
 use ov_sweep_rows::RowFault;
 
 /// The report of the four rows was made.

@@ -1,8 +1,7 @@
 //! The summary and the picture of four rows, and Wilson's interval, reckoned by hand.
 use crate::rows::HEADER;
 use ov_ids::OutOfMemory;
-use ov_sweep_report::{settings_of, summary_text, svg_text, wilson_interval};
-use ov_sweep_rows::{RowFault, read_rows};
+use ov_sweep_rows::{RowFault, read_rows, settings_of, summary_text, svg_text, wilson_interval};
 use std::alloc::Global;
 use std::test::Fail;
 

@@ -4,15 +4,15 @@ use Rattle.ov_graph.specs.Links.{LinkGraph}
 use Rattle.ov_graphfile.specs.GraphFiles.{IsGraphFile, IsGraphFileFault}
 use Rattle.ov_graphfile.specs.declared.fault.GraphFileFault.{GraphFileFault}
 use Rattle.ov_graphfile.specs.declared.fault.GraphFileFault.TheVariants as graph_file
-use Rattle.ov_names.specs.NamesState.{NamesState}
-use Rattle.ov_names.specs.NameLines.{AreNamesOf}
-use Rattle.ov_names.specs.Groups.{IsGroupNamed, IsGroupFault, parts_of, number_of}
-use Rattle.ov_names.specs.declared.group_fault.GroupFault.{GroupFault}
+use Rattle.ov_graphfile.specs.NamesState.{NamesState}
+use Rattle.ov_graphfile.specs.NameLines.{AreNamesOf}
+use Rattle.ov_graphfile.specs.Groups.{IsGroupNamed, IsGroupFault, parts_of, number_of}
+use Rattle.ov_graphfile.specs.declared.group_fault.GroupFault.{GroupFault}
 use Rattle.ov_io.specs.Device.{SinkState}
 use Rattle.ov_answers.specs.Telling.{IsToldOf}
 use Rattle.ov_answers.specs.declared.request.Told.{Told}
 use Rattle.ov_run.specs.declared.run_fault.RunFault.TheVariants as run
-use Rattle.ov_file_commands.specs.declared.file_command_fault.FileCommandFault.TheVariants.{Refused}
+use Rattle.ov_commands.specs.declared.file_command_fault.FileCommandFault.TheVariants.{Refused}
 use Rattle.overlay.specs.declared.program_outcome.ProgramFault.{ProgramFault}
 use Rattle.overlay.specs.declared.program_outcome.ProgramFault.TheVariants.{Run, OfFile}
 

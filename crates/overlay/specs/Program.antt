@@ -3,11 +3,11 @@ use Rattle.std.specs.Prelude.{ℕ, ⊤, List, Result, Ok, Err}
 use Rattle.ov_io.specs.Refusal.{refusal_text}
 use Rattle.ov_arguments.specs.Arguments.{number_of}
 use Rattle.ov_run.specs.Faults.{run_fault_text}
-use Rattle.ov_grow_commands.specs.Faults.{growth_number}
+use Rattle.ov_commands.specs.GrowFaults.{growth_number}
 use Rattle.ov_arguments.specs.declared.arguments.ArgumentsFault.TheVariants.{BadArguments, OutOfMemory}
-use Rattle.ov_grow_commands.specs.declared.grow_command_fault.GrowthFault.TheVariants as growth
+use Rattle.ov_commands.specs.declared.grow_command_fault.GrowthFault.TheVariants as growth
 use Rattle.overlay.specs.declared.program_outcome.ProgramFault.{ProgramFault}
-use Rattle.ov_file_commands.specs.Faults as file
+use Rattle.ov_commands.specs.Faults as file
 use Rattle.overlay.specs.declared.program_outcome.ProgramFault.TheVariants.{Arguments, Growth, OfFile, Run}
 
 -- what is printed of a fault on standard error, without its line feed

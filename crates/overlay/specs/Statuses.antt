@@ -1,6 +1,6 @@
 -- With which status the program ends after what a command did.
 use Rattle.std.specs.Prelude.{◌≡◌, ℕ, Result, Ok, Err}
-use Rattle.ov_file_commands.specs.declared.file_command_fault.FileCommandFault.{FileCommandFault}
+use Rattle.ov_commands.specs.declared.file_command_fault.FileCommandFault.{FileCommandFault}
 use Rattle.ov_run.specs.declared.answered.Answered.{Answered}
 use Rattle.ov_run.specs.declared.run_fault.RunFault.{RunFault}
 use Rattle.overlay.specs.declared.program_outcome.ProgramFault.{ProgramFault}

@@ -1,8 +1,8 @@
 //! The commands that turn one file into another.
 ghost use Rattle.std.specs.Prelude.{◌≡◌, ◌<◌, option_map, IfOk, IfErr};
-ghost use Rattle.ov_file_commands.specs.Dumps.{WasDumpPrinted};
-ghost use Rattle.ov_file_commands.specs.Pictures.{WasPicturePrinted, chosen_entry};
-ghost use Rattle.ov_file_commands.specs.Printing.{WasGraphPrinted};
+ghost use Rattle.ov_commands.specs.Dumps.{WasDumpPrinted};
+ghost use Rattle.ov_commands.specs.Pictures.{WasPicturePrinted, chosen_entry};
+ghost use Rattle.ov_commands.specs.Printing.{WasGraphPrinted};
 ghost use Rattle.ov_hints.specs.FileKinds.{behind_mark};
 ghost use Rattle.ov_io.specs.Device.{most_faults};
 ghost use Rattle.overlay.specs.Program.{IsOfRequest};
@@ -12,7 +12,7 @@ use crate::program_outcome::ProgramFault;
 use crate::tips::print_file_tip;
 use crate::{bytes_asked, bytes_of_file};
 use ov_arguments::{ImportRequest, PictureRequest};
-use ov_file_commands::{FileCommandFault, print_dump, print_graph, print_picture};
+use ov_commands::{FileCommandFault, print_dump, print_graph, print_picture};
 use ov_hints::{FileKind, behind_mark};
 use ov_io::Sink;
 use ov_run::RunFault;

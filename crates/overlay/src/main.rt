@@ -35,7 +35,7 @@ use crate::tips::{print_command_tip, print_file_tip, print_folder_tip};
 use ov_arguments::{
     AnalysisRequest, ArgumentsFault, Request, RunRequest, argument_reasons, read_arguments,
 };
-use ov_grow_commands::{grow_command, sweep_command};
+use ov_commands::{grow_command, sweep_command};
 use ov_hints::{FileKind, is_folder};
 use ov_ids::{NodeId, OutOfMemory};
 use ov_io::{Sink, Source, unopened_text, unread_text};

@@ -1,8 +1,8 @@
 //! Analyses whose answer is told in names, or in words.
 ghost use Rattle.std.specs.Prelude.{◌≡◌, ◌<◌, option_map, string_bytes, IfOk, IfErr};
-ghost use Rattle.ov_file_commands.specs.declared.file_command_fault.FileCommandFault.TheVariants.{Refused};
+ghost use Rattle.ov_commands.specs.declared.file_command_fault.FileCommandFault.TheVariants.{Refused};
 ghost use Rattle.ov_io.specs.Device.{most_faults};
-ghost use Rattle.ov_names.specs.Groups.{number_of};
+ghost use Rattle.ov_graphfile.specs.Groups.{number_of};
 ghost use Rattle.overlay.specs.Naming.{IsGroupIn, WasTold, picked};
 ghost use Rattle.overlay.specs.Code.Named.{IsNotFound};
 
@@ -12,12 +12,11 @@ use crate::progress::PieceProgress;
 use crate::{print_fault, print_reason, print_refusal, tell_kind, without_memory};
 use ov_answers::{Request, Told, analyse_told};
 use ov_arguments::AnalysisRequest;
-use ov_file_commands::FileCommandFault;
-use ov_graphfile::{GraphFileFault, read_graph};
+use ov_commands::FileCommandFault;
+use ov_graphfile::{GraphFileFault, GroupFault, ids_of_group, read_graph, read_names};
 use ov_hints::{FileKind, comma_hint};
 use ov_ids::NodeId;
 use ov_io::{Sink, shown_name};
-use ov_names::{GroupFault, ids_of_group, read_names};
 use ov_run::Answered;
 use std::io::Write;
 use std::thread::Threads;

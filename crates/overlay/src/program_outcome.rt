@@ -3,8 +3,7 @@ ghost use Rattle.overlay.specs.Program.{exit_status};
 ghost use Rattle.overlay.specs.declared.program_outcome.ProgramFault.TheVariants.{Arguments, Growth, OfFile, Run};
 
 use ov_arguments::ArgumentsFault;
-use ov_file_commands::FileCommandFault;
-use ov_grow_commands::GrowthFault;
+use ov_commands::{FileCommandFault, GrowthFault};
 use ov_run::RunFault;
 use std::error::Error;
 use std::fmt::{Display, Formatter, Result as Printed, Write};

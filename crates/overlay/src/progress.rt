@@ -1,5 +1,5 @@
+use ov_commands::RunWatcher;
 use ov_even::Watcher;
-use ov_grow_commands::RunWatcher;
 use ov_run::{Pacing, RanLine};
 use std::io::IsTerminal;
 use std::time::Instant;

@@ -2,7 +2,7 @@
 use Rattle.std.specs.Prelude.{◌≡◌, List, map, Result, Ok, Err}
 use Rattle.std.specs.Str.{IsUtf8}
 use Rattle.ov_ids.specs.Members.{Has}
-use Rattle.ov_dot_tokens.specs.Tokens.{Lexeme, lexeme, lexemes}
+use Rattle.ov_dot.specs.Tokens.{Lexeme, lexeme, lexemes}
 use Rattle.ov_dot.specs.declared.fault.DotFault.{DotFault}
 use Rattle.ov_dot.specs.declared.fault.DotFault.TheVariants.{UnreadLine, OutOfMemory}
 use Rattle.ov_dot.specs.declared.statement_reading.Reader.{Reader}

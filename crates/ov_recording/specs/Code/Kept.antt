@@ -1,24 +1,58 @@
--- How contracts see a recording, and what a recording keeps.
-use Rattle.std.specs.Prelude.{refl}
-use Rattle.std.specs.Coded.{Coded, code_by, coded×}
-use Rattle.ov_snap.specs.CoreState.{CoreState, opening_core}
-use Rattle.ov_snap.specs.Code.Codes.{core_code}
-use Rattle.ov_script.specs.Scripts.{ScriptState}
-use Rattle.ov_script.specs.contracts.script.Script as script
-use Rattle.ov_recording.specs.Recordings.{RecordingState, without_room}
-use Rattle.ov_recording.specs.Replay.{AcceptsAll}
+-- What a script keeps of its text.
+use Rattle.std.specs.Prelude.{◌≡◌, ◌⊎◌, ℕ, List, [], ◌∷◌, ◌++◌, map, Option, Some}
+use Rattle.rand_core.specs.Stream.{Stream}
+use Rattle.ov_ids.specs.ParamsState.{ParamsState}
+use Rattle.ov_lines.specs.Lines.{kept_lines}
+use Rattle.ov_words.specs.Stream.{words_per_event}
+use Rattle.ov_scenario.specs.Draws.{seeded}
+use Rattle.ov_scenario.specs.RunLines.{drivers_for}
+use Rattle.ov_scenario.specs.Scenarios.{AreFaultless, AreParamsOf, IsSeedOf, stated_at}
+use Rattle.ov_scenario.specs.Statements.{ToldLine, told}
+use Rattle.ov_scenario.specs.Code.RunnableLines.{later_words, outputs, to_run}
+use Rattle.ov_scenario.specs.declared.scenario.Line.{Line}
+use Rattle.ov_scenario.specs.declared.statement.Statement.{Statement}
+use Rattle.ov_scenario.specs.declared.statement.Statement.TheVariants as says
 
--- a code of a recording is that of its parts
-abbrev pub recording_code : Coded RecordingState
-recording_code =
-    code_by (ScriptState × CoreState) (coded× script.the_row.coded core_code) (λ r. (r.script, r.core))
-    (λ p. record { script = p.0; core = p.1 })
-    (λ _. refl)
+-- the lines to run that a text with this seed asks for
+unfoldable pub lines_of : ℕ → List ℕ → List Line
+lines_of seed text = to_run (seeded seed) (told (kept_lines text))
 
--- the recording of this script and this core
-abbrev pub recording_of : ScriptState → CoreState → RecordingState
-recording_of s c = record { script = without_room s; core = c }
+-- a line of a script says this: parameters, a seed, an event or an analysis
+abbrev pub IsPlain : Option Statement → Type 0
+IsPlain (Some (says.Params numbers)) = Unit {0}
+IsPlain (Some (says.Seed seed)) = Unit {0}
+IsPlain (Some (says.Event event)) = Unit {0}
+IsPlain (Some (says.Analyse subject workers)) = Unit {0}
+IsPlain other = ⊥
 
--- the core is what the lines of the script make, each accepted, of one in which nothing happened
-pub record MadeBy (s : ScriptState) (c : CoreState) : Type 0 where
-  pub accepted : AcceptsAll (opening_core s.params) s.lines c
+-- each of these lines is one of a script
+unfoldable pub ArePlain : {A : Type 0} → (A → Option Statement) → List A → Type 0
+ArePlain said [] = Unit {0}
+ArePlain said (line ∷ more) = IsPlain (said line) × ArePlain said more
+
+-- what the generator returns after it gave random words to each event of these lines
+unfoldable pub left_after : Stream → List ToldLine → Stream
+left_after stream [] = stream
+left_after stream ((own, Some (says.Event event)) ∷ more) = left_after (later_words stream) more
+left_after stream (other ∷ more) = left_after stream more
+
+-- a text has no line, or its last line has a line feed
+abbrev pub EndsLine : List ℕ → Type 0
+EndsLine text = (text ≡ []) ⊎ ((before : List ℕ) × (text ≡ before ++ 10 ∷ []))
+
+-- the lines of a text that are not skipped say these parameters and this seed. They give events random words of the
+-- seed's generator: the next event has these, and `behind` is what the generator returns after them
+pub record IsTold (kept : List (ℕ × List ℕ)) (p : ParamsState) (seed : ℕ) (next : List ℕ) (behind : Stream) : Type 0
+  where
+    pub plain_stated : ArePlain (λ line. line.says) (map stated_at kept)
+    pub plain_told : ArePlain (λ line. line.1) (told kept)
+    pub faultless : AreFaultless (map stated_at kept)
+    pub params : AreParamsOf (map stated_at kept) p
+    pub seed_said : IsSeedOf (map stated_at kept) seed
+    pub no_block : drivers_for (to_run (seeded seed) (told kept)) ≡ 1
+    pub drawn : outputs words_per_event (left_after (seeded seed) (told kept)) ≡ (next, behind)
+
+-- what a script keeps of its text
+pub record IsScript (text : List ℕ) (p : ParamsState) (seed : ℕ) (next : List ℕ) (behind : Stream) : Type 0 where
+  pub ends : EndsLine text
+  pub said : IsTold (kept_lines text) p seed next behind

@@ -1,6 +1,6 @@
 -- the dump that is made is that of a file
 use Rattle.std.proofs.Common.{sym, subst}
-use Rattle.ov_dot_tokens.specs.Tokens.{lexemes, HasTokens}
+use Rattle.ov_dot.specs.Tokens.{lexemes, HasTokens}
 use Rattle.ov_dot.specs.Code.Seen.{said_in}
 use Rattle.ov_dot.proofs.Refusing.{dump_said}
 use Rattle.ov_dot.proofs.dot_reading.read_dot.Goals as goal

@@ -2,7 +2,7 @@
 use Rattle.std.proofs.Common.{◌≡◌, [], drop, string_bytes, String, Global}
 use Rattle.std.specs.Prelude.{string_cmp}
 use Rattle.std.specs.BTreeSet.{contains}
-use Rattle.ov_dot_tokens.specs.Tokens.{lexemes}
+use Rattle.ov_dot.specs.Tokens.{lexemes}
 use Rattle.ov_dot.specs.Code.Entered.{entries_with, has_entry}
 use Rattle.ov_dot.proofs.dump_making.make_entries.Given as goal
 

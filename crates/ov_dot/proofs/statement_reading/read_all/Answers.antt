@@ -1,7 +1,7 @@
 -- one token more, a token that is refused, and the end
 use Rattle.std.proofs.lemmas.Result.{err_from_is_err_and}
 use Rattle.std.proofs.Common.{◌≡◌, ◌+◌, Ok, drop, sym, subst, arith}
-use Rattle.ov_dot_tokens.specs.Tokens.{lexemes}
+use Rattle.ov_dot.specs.Tokens.{lexemes}
 use Rattle.ov_dot.specs.Code.Statements.{read_on, statements_of}
 use Rattle.ov_dot.specs.Code.Seen.{reading, said_in, Gives}
 use Rattle.ov_dot.proofs.Stepping.{refused_at, passed_at, at_end}

@@ -1,6 +1,6 @@
 -- what is left decides, and no more braces are open than tokens were read
 use Rattle.std.proofs.Common.{◌≡◌, ◌≤◌, drop, Ok}
-use Rattle.ov_dot_tokens.specs.Tokens.{lexemes}
+use Rattle.ov_dot.specs.Tokens.{lexemes}
 use Rattle.ov_dot.specs.Code.Statements.{read_on, statements_of}
 use Rattle.ov_dot.specs.Code.Seen.{reading, said_in}
 use Rattle.ov_dot.proofs.statement_reading.read_all.Given as goal

@@ -1,0 +1,27 @@
+-- What the commands print that turn one file into another.
+use Rattle.std.specs.Prelude.{◌≡◌, ℕ, List, Option, Result, Ok, Err}
+use Rattle.std.specs.Io.KnownBytes.{Appends}
+use Rattle.ov_certfile.specs.Number.{number_of}
+use Rattle.ov_certfile.specs.declared.fault.FileFault.{FileFault}
+use Rattle.ov_certfile.specs.declared.reading.Filed.{Filed}
+use Rattle.ov_check.specs.Outcome.{BytesSay}
+use Rattle.ov_graphfile.specs.GraphTexts.{graph_text}
+use Rattle.ov_io.specs.Device.{AppendsPrefixOf}
+use Rattle.ov_commands.specs.declared.file_command_fault.FileCommandFault.{FileCommandFault}
+use Rattle.ov_commands.specs.declared.file_command_fault.FileCommandFault.TheVariants.{Refused, Write, OutOfMemory}
+
+-- these bytes are a certificate file, and this is the text of its graph as a graph file
+abbrev pub IsGraphTextOf : List ℕ → List ℕ → Type 0
+IsGraphTextOf bytes text = (f : Filed) × BytesSay bytes (Ok f) × (text ≡ graph_text f.graph)
+
+-- what a writer took of the graph of a certificate file: all of its text; a prefix of it, if writing failed; and
+-- nothing, if the bytes are no certificate file, with the number of their first fault, or if memory ran out
+abbrev pub WasGraphPrinted :
+    {W : Type 0} → List ℕ → (W → Option (List ℕ)) → W → W → Result (Unit {0}) FileCommandFault → Type 0
+WasGraphPrinted bytes contents old new (Ok done) =
+    (text : List ℕ) × IsGraphTextOf bytes text × Appends (contents old) (contents new) text
+WasGraphPrinted bytes contents old new (Err Write) =
+    (text : List ℕ) × IsGraphTextOf bytes text × AppendsPrefixOf text (contents old) (contents new)
+WasGraphPrinted bytes contents old new (Err (Refused number)) =
+    (fault : FileFault) × BytesSay bytes (Err fault) × (number ≡ number_of fault) × (new ≡ old)
+WasGraphPrinted bytes contents old new (Err OutOfMemory) = new ≡ old

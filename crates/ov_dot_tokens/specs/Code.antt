@@ -1,3 +1,0 @@
--- What only the contracts of private functions use. A reader of the public contracts need not rely on it.
-pub mod Scanning
-pub mod Neighbours

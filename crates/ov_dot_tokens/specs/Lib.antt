@@ -1,4 +1,0 @@
-pub mod Pieces
-pub mod Tokens
-pub mod Faults
-pub mod Code

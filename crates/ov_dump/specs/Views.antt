@@ -1,0 +1,55 @@
+-- Dumps as JSON (RFC 8259): an object, in which each key is a name with an entry, and its value the list of the names
+-- that it lists as its peers. A key that is there twice gives two entries.
+use Rattle.std.specs.Prelude.{◌≡◌, ◌≢◌, ◌⊎◌, ⊤, ℕ, ◌+◌, List, [], ◌∷◌, ◌++◌, map, IsUtf8, Option, Some, None}
+use Rattle.std.specs.Prelude.{option_map}
+use Rattle.json.specs.Json.{Json, string, array, object, Items, no_items, item}
+use Rattle.json.specs.Json.{Members, no_members, member, document}
+use Rattle.ov_dump.specs.declared.dump_values.Dump.{Dump}
+use Rattle.ov_dump.specs.declared.dump_values.Listing.{Listing}
+use Rattle.ov_dump.specs.declared.reading_fault.ReadingFault.{ReadingFault}
+use Rattle.ov_dump.specs.declared.reading_fault.ReadingFault.TheVariants.{NotJson, NotViews, NoView}
+use Rattle.ov_dump.specs.declared.reading_fault.ReadingFault.TheVariants.{OutOfMemory}
+
+-- the texts of these items, if each is a text
+abbrev pub texts : Items → Option (List (List ℕ))
+texts no_items = Some []
+texts (item (string s) more) = option_map (λ ts. s ∷ ts) (texts more)
+texts (item other more) = None
+
+-- the names that a value lists, if it is a list of texts
+abbrev pub peers : Json → Option (List (List ℕ))
+peers (array js) = texts js
+peers other = None
+
+-- the listings of one entry
+abbrev pub listings_of : ℕ → List ℕ → List (List ℕ) → List Listing
+listings_of at from names = map (λ to. record { at = at; from = from; to = to }) names
+
+-- the members of an object, of which the first has this number, say this dump
+abbrev pub SayDump : ℕ → Members → Dump → Type 0
+SayDump at no_members d = (d.entries ≡ []) × (d.listings ≡ [])
+SayDump at (member name v more) d = (names : List (List ℕ)) × (rest : Dump) × (peers v ≡ Some names)
+    × (d.entries ≡ record { at = at; name = name } ∷ rest.entries)
+    × (d.listings ≡ listings_of at name names ++ rest.listings) × SayDump (at + 1) more rest
+
+-- of these members, the first of which has this number, the first that is no list of texts has this number and name
+abbrev pub LacksView : ℕ → Members → ℕ → List ℕ → Type 0
+LacksView at no_members entry wrong = ⊥
+LacksView at (member name v more) entry wrong =
+    ((peers v ≡ None) × (entry ≡ at) × (wrong ≡ name)) ⊎ ((peers v ≢ None) × LacksView (at + 1) more entry wrong)
+
+-- the bytes are this JSON value
+abbrev pub IsJson : List ℕ → Json → Type 0
+IsJson bytes v = IsUtf8 bytes × (document bytes ≡ Some v)
+
+-- a file of these bytes says this dump
+abbrev pub SaysViews : List ℕ → Dump → Type 0
+SaysViews bytes d = (ms : Members) × IsJson bytes (object ms) × SayDump 1 ms d
+
+-- why a file of these bytes says no dump
+abbrev pub IsViewsFault : List ℕ → ReadingFault → Type 0
+IsViewsFault bytes NotJson = (v : Json) → ¬ IsJson bytes v
+IsViewsFault bytes NotViews = (v : Json) × IsJson bytes v × ((ms : Members) → v ≢ object ms)
+IsViewsFault bytes (NoView entry name) = (ms : Members) × IsJson bytes (object ms) × LacksView 1 ms entry name
+IsViewsFault bytes OutOfMemory = ⊤
+IsViewsFault bytes other = ⊥

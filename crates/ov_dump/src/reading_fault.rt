@@ -1,0 +1,67 @@
+ghost use Rattle.std.specs.Prelude.{◌≡◌};
+ghost use Rattle.ov_dump.specs.FaultNumbers.{number_of};
+ghost use Rattle.ov_dump.specs.declared.reading_fault.ReadingFault.TheVariants.{OutOfMemory as out_of_memory};
+
+use crate::Name;
+use crate::unread_line::Why;
+use ov_ids::OutOfMemory;
+use std::alloc::{AllocError, AllocFailed};
+use thiserror::Error;
+
+/// Why a file is no dump. The numbers 70 and 83 are chosen here.
+#[derive(Debug, Drop, Error)]
+pub enum ReadingFault {
+    /// 60: the file is no JSON, or no UTF-8.
+    #[error("the file is no JSON")]
+    NotJson,
+    /// 83: the file is JSON, but no object.
+    #[error("the file is no JSON object of lists of names")]
+    NotViews,
+    /// 83: the entry of this number, counted from 1, is no list of texts.
+    #[error("entry {entry}, of {name}, is no list of names in quotes")]
+    NoView { entry: u64, name: Name },
+    /// 70: the line of this number, counted from 1, is no pair of names.
+    #[error("line {line} is no pair of names: {why}")]
+    UnreadLine { line: u64, why: Why },
+    /// 99: an allocation was refused.
+    #[error("out of memory")]
+    OutOfMemory,
+}
+
+impl ReadingFault {
+    /// The fault's number.
+    pub fn number(&self) -> u32
+        ensures { result ≡ number_of self.now }
+    {
+        match self {
+            ReadingFault::NotJson => 60,
+            ReadingFault::NotViews | ReadingFault::NoView { .. } => 83,
+            ReadingFault::UnreadLine { .. } => 70,
+            ReadingFault::OutOfMemory => 99,
+        }
+    }
+}
+
+impl From<OutOfMemory> for ReadingFault {
+    ghost from_gives = { λ _ e. e ≡ out_of_memory };
+
+    fn from(_fault: OutOfMemory) -> ReadingFault {
+        ReadingFault::OutOfMemory
+    }
+}
+
+impl From<AllocError> for ReadingFault {
+    ghost from_gives = { λ _ e. e ≡ out_of_memory };
+
+    fn from(_error: AllocError) -> ReadingFault {
+        ReadingFault::OutOfMemory
+    }
+}
+
+impl<T: Drop> From<AllocFailed<T>> for ReadingFault {
+    ghost from_gives = { λ _ e. e ≡ out_of_memory };
+
+    fn from(_error: AllocFailed<T>) -> ReadingFault {
+        ReadingFault::OutOfMemory
+    }
+}

@@ -1,0 +1,145 @@
+ghost use Rattle.std.specs.Prelude.{◌≡◌, ◌++◌, ◌∷◌, [], ℕ, List, IfErr, IfOk, OnOk, None, Some, option_map};
+ghost use Rattle.json.specs.Value.{items_view, members_view, value_view};
+ghost use Rattle.ov_dump.specs.Views.{IsViewsFault, SayDump, SaysViews, listings_of, peers, texts};
+ghost use Rattle.ov_dump.specs.Code.Reading.{DumpOf, FailsAt, FailsFrom, as_items, as_members};
+
+use crate::names_and_listings::{listing_of, name_of};
+use crate::reading_fault::ReadingFault;
+use crate::{Dump, Entry, Listing};
+use json::{Error, Scratch, Value};
+use ov_ids::Seq;
+use std::alloc::Global;
+
+/// The entries and the listings that members say, in order.
+#[derive(Drop)]
+struct ViewParts {
+    entries: Vec<Entry>,
+    listings: Vec<Listing>,
+}
+
+/// Reads a dump that is a JSON object (RFC 8259). Each key is a name with an entry, and its value is the list of the
+/// names that it lists. A key that is there twice gives two entries.
+///
+/// NotJson (60): the bytes are no UTF-8 or no JSON. NotViews (83): they are another JSON value than an object. NoView
+/// (83) says the first entry whose value is no list of texts. OutOfMemory (99) is returned if an allocation was
+/// refused.
+pub fn read_views(alloc: Global, bytes: &[u8]) -> Result<Dump, ReadingFault>
+    ensures dump { IfOk result (SaysViews bytes.now) }
+    ensures fault { IfErr result (IsViewsFault bytes.now) }
+{
+    let mut scratch = Scratch::new(alloc);
+    match Value::from_slice(alloc, bytes, &mut scratch) {
+        Ok(value) => dump_of(alloc, &value),
+        Err(fault) => match fault {
+            Error::Invalid => Err(ReadingFault::NotJson),
+            _ => Err(ReadingFault::OutOfMemory),
+        },
+    }
+}
+
+/// The dump that a value says.
+fn dump_of(alloc: Global, value: &Value<'_>) -> Result<Dump, ReadingFault>
+    ensures { DumpOf (value_view value.now) result }
+{
+    match members_in(value) {
+        Some(members) => {
+            let ViewParts { entries, listings } = read_members(alloc, members)?;
+            let entries = Seq::new(entries);
+            let listings = Seq::new(listings);
+            Ok(Dump { entries, listings })
+        }
+        None => Err(ReadingFault::NotViews),
+    }
+}
+
+/// The members of an object.
+fn members_in<'v, 'a>(value: &'v Value<'a>) -> Option<&'v [(&'a str, Value<'a>)]>
+    ensures { option_map (λ ms. members_view ms.now) result ≡ as_members (value_view value.now) }
+{
+    if let Value::Object(members) = value {
+        Some(members)
+    } else {
+        None
+    }
+}
+
+/// The items of a list.
+fn items_in<'v, 'a>(value: &'v Value<'a>) -> Option<&'v [Value<'a>]>
+    ensures { option_map (λ vs. items_view vs.now) result ≡ as_items (value_view value.now) }
+{
+    if let Value::Array(items) = value {
+        Some(items)
+    } else {
+        None
+    }
+}
+
+fn read_members(alloc: Global, members: &[(&str, Value<'_>)]) -> Result<ViewParts, ReadingFault>
+    ensures dump { IfOk result (λ p. SayDump 1 (members_view members.now)
+        (record { entries = p.entries.items; listings = p.listings.items })) }
+    ensures fault { IfErr result (FailsFrom 1 (members_view members.now)) }
+{
+    let mut parts = ViewParts {
+        entries: Vec::new(alloc),
+        listings: Vec::new(alloc),
+    };
+    for (place, member) in members.iter().enumerate() {
+        add_view(alloc, &mut parts, place as u64 + 1, member.0, &member.1)?;
+    }
+    Ok(parts)
+}
+
+/// Adds an entry with its listings.
+fn add_view(
+    alloc: Global,
+    parts: &mut ViewParts,
+    at: u64,
+    name: &str,
+    view: &Value<'_>,
+) -> Result<(), ReadingFault>
+    ensures entry { OnOk result (parts.new.entries.items
+        ≡ parts.old.entries.items ++ record { at = at; name = name.now } ∷ []) }
+    ensures listings { OnOk result ((names : List (List ℕ)) × (peers (value_view view.now) ≡ Some names)
+        × (parts.new.listings.items ≡ parts.old.listings.items ++ listings_of at name.now names)) }
+    ensures fault { IfErr result (FailsAt at name.now (peers (value_view view.now))) }
+{
+    match items_in(view) {
+        Some(items) => {
+            let entry = name_of(alloc, name)?;
+            parts.entries.push(Entry { at, name: entry })?;
+            add_peers(alloc, &mut parts.listings, at, name, items)
+        }
+        None => Err(no_view(alloc, at, name)),
+    }
+}
+
+/// Adds the listings of an entry.
+fn add_peers(
+    alloc: Global,
+    listings: &mut Vec<Listing>,
+    at: u64,
+    name: &str,
+    items: &[Value<'_>],
+) -> Result<(), ReadingFault>
+    ensures listings { OnOk result ((names : List (List ℕ)) × (texts (items_view items.now) ≡ Some names)
+        × (listings.new.items ≡ listings.old.items ++ listings_of at name.now names)) }
+    ensures fault { IfErr result (FailsAt at name.now (texts (items_view items.now))) }
+{
+    for item in items {
+        match item.as_str() {
+            Some(to) => listings.push(listing_of(alloc, at, name, to)?)?,
+            None => return Err(no_view(alloc, at, name)),
+        }
+    }
+    Ok(())
+}
+
+/// The fault of an entry whose value is no list of texts.
+fn no_view(alloc: Global, entry: u64, name: &str) -> ReadingFault
+    ensures { FailsAt entry name.now None result }
+{
+    match name_of(alloc, name) {
+        Ok(name) => ReadingFault::NoView { entry, name },
+        Err(_) => ReadingFault::OutOfMemory,
+    }
+}

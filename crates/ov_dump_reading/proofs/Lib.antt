@@ -1,4 +1,0 @@
-pub mod Viewing
-pub mod Lines
-pub mod Unread
-pub mod Edging

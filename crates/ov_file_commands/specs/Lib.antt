@@ -1,5 +1,0 @@
-pub mod Faults
-pub mod Printing
-pub mod Pictures
-pub mod Dumps
-pub mod Code

@@ -1,3 +1,0 @@
-pub mod Sayings
-pub mod Naming
-pub mod Lined

@@ -1,2 +1,0 @@
-pub mod GraphTexts
-pub mod Code

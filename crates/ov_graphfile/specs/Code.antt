@@ -1,0 +1,4 @@
+-- What only the contracts of private functions use. A reader of the public contracts need not rely on it.
+pub mod Ids
+pub mod Table
+pub mod Owners

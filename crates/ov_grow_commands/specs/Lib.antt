@@ -1,4 +1,0 @@
-pub mod Faults
-pub mod Growing
-pub mod KeptRows
-pub mod Code

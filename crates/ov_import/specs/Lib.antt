@@ -1,3 +1,0 @@
-pub mod ShownNames
-pub mod Importing
-pub mod Theorems

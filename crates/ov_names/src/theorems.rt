@@ -1,6 +1,0 @@
-ghost use Rattle.ov_names.specs.Theorems.{OneName};
-
-/// A file that says a graph gives a node one name at most.
-pub fn one_name()
-    ensures { OneName }
-{}

@@ -1,0 +1,171 @@
+use crate::geometry::{Place, RIGHT, number};
+use crate::layout::Layout;
+use crate::path_colours::{colour_of, dashes_of};
+use crate::sentences::{count_of, outside};
+use crate::svg_nodes::push_node;
+use crate::{Drawing, DrawnNode, NodeClass};
+use ov_ids::NodeId;
+use std::alloc::AllocError;
+use std::fmt::Write;
+
+/// How far the legend is from the left edge.
+const EDGE: f64 = 28.0;
+
+/// How wide an item is that names a class of nodes.
+const ITEM: f64 = 222.0;
+
+/// How wide an item is that names a path.
+const PATH_ITEM: f64 = 62.0;
+
+/// How high a line is.
+const LINE: f64 = 24.0;
+
+/// How far the signs reach.
+const REACH: f64 = 6.5;
+
+/// How many paths are named.
+const MOST_PATHS: usize = 48;
+
+/// The classes of nodes, with what they are called in the legend, of one and of several nodes.
+const CLASSES: [(NodeClass, &str, &str); 6] = [
+    (NodeClass::Near, "near", "near"),
+    (
+        NodeClass::NearSide,
+        "other on the near side",
+        "others on the near side",
+    ),
+    (NodeClass::Cut, "in the cut", "in the cut"),
+    (NodeClass::Far, "far", "far"),
+    (NodeClass::FarSide, "other survivor", "other survivors"),
+    (NodeClass::Unparted, "node", "nodes"),
+];
+
+/// How high the legend of a drawing is, in a picture of this width.
+pub(crate) fn legend_height(drawing: &Drawing, width: f64) -> f64 {
+    let nodes = drawing.nodes.as_slice();
+    let classes = CLASSES
+        .iter()
+        .filter(|(class, _, _)| count_of(nodes, *class) > 0)
+        .count();
+    let items = classes.saturating_add(outside(nodes).min(1));
+    let lines = lines_of(items, ITEM, width) + lines_of(named_paths(drawing), PATH_ITEM, width);
+    lines * LINE + EDGE
+}
+
+/// How many paths of a drawing are named.
+fn named_paths(drawing: &Drawing) -> usize {
+    drawing.paths.min(MOST_PATHS)
+}
+
+/// How many items stand beside one another.
+fn abreast(item: f64, width: f64) -> f64 {
+    ((width - EDGE) / item).floor().max(1.0)
+}
+
+/// How many lines so many items fill.
+fn lines_of(items: usize, item: f64, width: f64) -> f64 {
+    (number(items) / abreast(item, width)).ceil()
+}
+
+/// Where the item with this number begins, from a height on.
+fn item_place(at: usize, item: f64, width: f64, top: f64) -> Place {
+    let abreast = abreast(item, width);
+    let line = (number(at) / abreast).floor();
+    Place {
+        x: EDGE + (number(at) - line * abreast) * item,
+        y: top + (line + 0.5) * LINE,
+        outward: RIGHT,
+    }
+}
+
+/// Appends what the shapes of nodes mean. Returns where these lines end.
+pub(crate) fn push_class_items(
+    text: &mut String,
+    drawing: &Drawing,
+    layout: &Layout,
+) -> Result<f64, AllocError> {
+    let mut items: usize = 0;
+    text.push_str("<g class=\"nodes\">\n")?;
+    for (class, one, several) in CLASSES {
+        let nodes = count_of(drawing.nodes.as_slice(), class);
+        if nodes > 0 {
+            let place = item_place(items, ITEM, layout.width, layout.bottom);
+            let name = if nodes == 1 { one } else { several };
+            push_item(text, sign_of(class, true), place, nodes, name)?;
+            items = items.saturating_add(1);
+        }
+    }
+    let others = outside(drawing.nodes.as_slice());
+    if others > 0 {
+        let place = item_place(items, ITEM, layout.width, layout.bottom);
+        let sign = sign_of(NodeClass::Unparted, false);
+        push_item(text, sign, place, others, "not in the group")?;
+        items = items.saturating_add(1);
+    }
+    text.push_str("</g>\n")?;
+    Ok(layout.bottom + lines_of(items, ITEM, layout.width) * LINE)
+}
+
+/// Appends what the colours of paths mean, from this height on.
+pub(crate) fn push_path_items(
+    text: &mut String,
+    drawing: &Drawing,
+    layout: &Layout,
+    top: f64,
+) -> Result<(), AllocError> {
+    text.push_str("<g class=\"paths\" stroke-width=\"3.2\">\n")?;
+    for path in 0..named_paths(drawing) {
+        let place = item_place(path, PATH_ITEM, layout.width, top);
+        push_path_item(text, path, place)?;
+    }
+    text.push_str("</g>\n")
+}
+
+/// The sign of the members of a class, or of its other nodes.
+fn sign_of(class: NodeClass, is_member: bool) -> DrawnNode {
+    DrawnNode {
+        id: NodeId::new(0),
+        class,
+        is_member,
+    }
+}
+
+/// Appends a sign, with how many nodes are meant.
+fn push_item(
+    text: &mut String,
+    sign: DrawnNode,
+    place: Place,
+    nodes: usize,
+    name: &str,
+) -> Result<(), AllocError> {
+    let class = sign.class;
+    push_node(text, sign, place, REACH, false)?;
+    text.push_str(if class == NodeClass::Cut {
+        "</rect>"
+    } else {
+        "</circle>"
+    })?;
+    let x = place.x + 14.0;
+    let y = place.y + 4.5;
+    write!(text, "<text x=\"{x:.1}\" y=\"{y:.1}\">")?;
+    if class == NodeClass::Near || class == NodeClass::Far {
+        write!(text, "{name}</text>\n")
+    } else {
+        write!(text, "{nodes} {name}</text>\n")
+    }
+}
+
+/// Appends a line in the colour of a path, with its number from 1.
+fn push_path_item(text: &mut String, path: usize, place: Place) -> Result<(), AllocError> {
+    let Place { x, y, .. } = place;
+    let colour = colour_of(path);
+    let dashes = dashes_of(path);
+    let behind = x + 26.0;
+    let base = y + 4.5;
+    let number = path.saturating_add(1);
+    write!(
+        text,
+        "<path class=\"p{colour}\" stroke-dasharray=\"{dashes}\" d=\"M{x:.1} {y:.1}h20\"/>\
+         <text x=\"{behind:.1}\" y=\"{base:.1}\">{number}</text>\n"
+    )
+}

@@ -1,6 +1,0 @@
-ghost use Rattle.ov_pieces.specs.Theorems.{OneDivision};
-
-/// A crash leaves one list of pieces.
-pub fn one_division()
-    ensures { OneDivision }
-{}

@@ -1,8 +1,0 @@
-pub mod Splitting
-pub mod OneLine
-mod Behind
-pub mod Statements
-pub mod Telling
-mod Keeping
-mod Opening
-mod Appending

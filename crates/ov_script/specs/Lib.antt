@@ -1,4 +1,0 @@
-pub mod Acts
-pub mod WrittenLines
-pub mod Scripts
-pub mod Code

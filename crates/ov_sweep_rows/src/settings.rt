@@ -1,0 +1,117 @@
+use crate::setting_names::{SETTING_NAMES, SettingName};
+use crate::{Cell, Row, setting_cells};
+use indexmap::IndexSet;
+use ov_grow_options::GrowOptions;
+use ov_ids::OutOfMemory;
+use std::alloc::{AllocError, Global};
+use std::fmt::Write;
+
+/// The runs of one setting, whose options are the same but for the seed.
+#[derive(Drop)]
+pub struct Setting<'a> {
+    /// What each column of a setting says.
+    pub(crate) cells: [Cell; 17],
+    /// The runs.
+    pub(crate) runs: Vec<&'a Row>,
+}
+
+/// The settings of rows, in the order of their first appearance, each with its rows in their order. OutOfMemory (99) if
+/// an allocation is refused.
+pub fn settings_of(alloc: Global, rows: &[Row]) -> Result<Vec<Setting<'_>>, OutOfMemory> {
+    let mut keys = IndexSet::new(alloc);
+    let mut settings: Vec<Setting<'_>> = Vec::new(alloc);
+    for row in rows {
+        let cells = setting_cells(&row.options);
+        let (place, is_new) = keys.insert_full(key_of(alloc, &cells)?)?;
+        if is_new {
+            settings.push(Setting {
+                cells,
+                runs: Vec::new(alloc),
+            })?;
+        }
+        if let Some(setting) = settings.get_mut(place) {
+            setting.runs.push(row)?;
+        }
+    }
+    Ok(settings)
+}
+
+/// A text that says a setting.
+fn key_of(alloc: Global, cells: &[Cell]) -> Result<String, AllocError> {
+    let mut key = String::new(alloc);
+    for cell in cells {
+        write!(key, "{cell},")?;
+    }
+    Ok(key)
+}
+
+/// The places of the options in which settings differ.
+pub(crate) fn differing(alloc: Global, settings: &[Setting<'_>]) -> Result<Vec<usize>, AllocError> {
+    let mut places = Vec::new(alloc);
+    for place in 0..SETTING_NAMES.len() {
+        if differ_at(settings, place) {
+            places.push(place)?;
+        }
+    }
+    Ok(places)
+}
+
+/// Whether settings differ in the option at this place.
+fn differ_at(settings: &[Setting<'_>], place: usize) -> bool {
+    let Some(first) = settings.first() else {
+        return false;
+    };
+    let cell = cell_at(&first.cells, place);
+    settings
+        .iter()
+        .any(|setting| cell_at(&setting.cells, place) != cell)
+}
+
+/// The cell at a place of a setting.
+pub(crate) fn cell_at(cells: &[Cell], place: usize) -> Cell {
+    cells.get(place).copied().unwrap_or(Cell::Empty)
+}
+
+/// What people read in a cell of a setting: `none` where nothing is given.
+pub(crate) fn shown_cell(alloc: Global, cell: Cell) -> Result<String, AllocError> {
+    match cell {
+        Cell::Empty => String::from_str(alloc, "none"),
+        cell => format!(in alloc; "{cell}"),
+    }
+}
+
+/// The command of the sweep, with the options that all settings have, as far as they are not at their defaults.
+pub(crate) fn common_command(
+    alloc: Global,
+    settings: &[Setting<'_>],
+    differing: &[usize],
+) -> Result<String, AllocError> {
+    let mut text = String::from_str(alloc, "overlay sweep")?;
+    let Some(first) = settings.first() else {
+        return Ok(text);
+    };
+    let usual = setting_cells(&GrowOptions::default());
+    for (place, SettingName { name, .. }) in SETTING_NAMES.iter().enumerate() {
+        let cell = cell_at(&first.cells, place);
+        if !differing.contains(&place) && cell != cell_at(&usual, place) {
+            write!(text, " --{name} {cell}")?;
+        }
+    }
+    Ok(text)
+}
+
+/// The fewest and the most runs of a setting.
+pub(crate) fn run_counts(settings: &[Setting<'_>]) -> (usize, usize) {
+    let mut fewest = usize::MAX;
+    let mut most = 0;
+    for setting in settings {
+        fewest = fewest.min(setting.runs.len());
+        most = most.max(setting.runs.len());
+    }
+    (fewest.min(most), most)
+}
+
+/// A number of runs, columns or lines, to be reckoned with. There are never more than 32 bits count.
+pub(crate) fn number(count: usize) -> f64 {
+    f64::from(u32::try_from(count).unwrap_or(u32::MAX))
+}

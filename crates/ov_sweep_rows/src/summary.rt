@@ -1,0 +1,172 @@
+use crate::phase_summary::{PhaseSummary, phase_summary};
+use crate::setting_names::SETTING_NAMES;
+use crate::settings::{cell_at, common_command, differing, run_counts, shown_cell};
+use crate::text_table::TextTable;
+use crate::{Phase, Setting, Survival, wilson_interval};
+use ov_ids::OutOfMemory;
+use std::alloc::{AllocError, Global};
+use std::fmt::Write;
+
+/// The heads of the columns behind the options.
+const HEADS: [&str; 10] = [
+    "runs",
+    "split",
+    "share",
+    "95 % interval",
+    "k 25 %",
+    "k 50 %",
+    "k 75 %",
+    "least degree",
+    "mean",
+    "at k 50 %",
+];
+
+/// What the columns mean.
+const MEANING: &str = "
+split: after how many runs the overlay is split, with their share of all runs, and Wilson's interval for it.
+k: how few crashes split the overlay, 0 if it is split or has a single node. k 25 %: a quarter of the runs have this k
+at most; so half of them have k 50 % at most, the median, and the last column says what such an overlay survives.
+least degree: the fewest links of a node, the least of all runs and their mean.
+";
+
+/// The summary of a sweep for people, in plain text: for each phase a table with a line for each setting. Only the
+/// options in which settings differ are columns; the others stand in the first line. Behind them stand how many runs
+/// there are; how many of them are split, their share, and its interval with a confidence of 95 % (Wilson); the
+/// quartiles of k; the least and the mean least degree; and how many crashes an overlay with the median k survives.
+/// OutOfMemory (99) if an allocation is refused.
+pub fn summary_text(alloc: Global, settings: &[Setting<'_>]) -> Result<String, OutOfMemory> {
+    let differing = differing(alloc, settings)?;
+    let mut text = heading(alloc, settings, &differing)?;
+    for phase in Phase::ALL {
+        push_phase(alloc, &mut text, settings, &differing, phase)?;
+    }
+    text.push_str(MEANING)?;
+    Ok(text)
+}
+
+/// The first lines: what was swept, and how many runs there are.
+fn heading(
+    alloc: Global,
+    settings: &[Setting<'_>],
+    differing: &[usize],
+) -> Result<String, AllocError> {
+    let mut text = common_command(alloc, settings, differing)?;
+    let number = settings.len();
+    let (fewest, most) = run_counts(settings);
+    if fewest == most {
+        write!(text, "\nsettings: {number}; runs of each: {most}\n")?;
+    } else {
+        write!(
+            text,
+            "\nsettings: {number}; runs of each: {fewest} to {most}\n"
+        )?;
+    }
+    Ok(text)
+}
+
+/// Appends the table of a phase.
+fn push_phase(
+    alloc: Global,
+    text: &mut String,
+    settings: &[Setting<'_>],
+    differing: &[usize],
+    phase: Phase,
+) -> Result<(), AllocError> {
+    let name = phase_name(phase);
+    write!(text, "\nAfter {name}\n")?;
+    let mut table = TextTable::new(alloc);
+    table.push(heads(alloc, differing)?)?;
+    for setting in settings {
+        table.push(line_of(alloc, setting, differing, phase)?)?;
+    }
+    table.push_to(alloc, text)
+}
+
+/// What ends with a phase.
+pub(crate) fn phase_name(phase: Phase) -> &'static str {
+    match phase {
+        Phase::Settle => "settling",
+        Phase::Crash => "the crash",
+        Phase::Heal => "healing",
+    }
+}
+
+/// The heads of all columns.
+fn heads(alloc: Global, differing: &[usize]) -> Result<Vec<String>, AllocError> {
+    let mut line = Vec::new(alloc);
+    for place in differing {
+        let name = SETTING_NAMES.get(*place).map_or("", |option| option.name);
+        line.push(String::from_str(alloc, name)?)?;
+    }
+    for head in HEADS {
+        line.push(String::from_str(alloc, head)?)?;
+    }
+    Ok(line)
+}
+
+/// The line of a setting.
+fn line_of(
+    alloc: Global,
+    setting: &Setting<'_>,
+    differing: &[usize],
+    phase: Phase,
+) -> Result<Vec<String>, AllocError> {
+    let mut line = Vec::new(alloc);
+    for place in differing {
+        line.push(shown_cell(alloc, cell_at(&setting.cells, *place))?)?;
+    }
+    let summary = phase_summary(alloc, &setting.runs, phase)?;
+    push_split(alloc, &mut line, &summary)?;
+    push_rest(alloc, &mut line, &summary)?;
+    Ok(line)
+}
+
+/// Appends how many runs there are, and how many of them are split.
+fn push_split(
+    alloc: Global,
+    line: &mut Vec<String>,
+    summary: &PhaseSummary,
+) -> Result<(), AllocError> {
+    let PhaseSummary { runs, split, .. } = *summary;
+    line.push(format!(in alloc; "{runs}")?)?;
+    line.push(format!(in alloc; "{split}")?)?;
+    let share = percent(split, runs);
+    line.push(format!(in alloc; "{share:.1} %")?)?;
+    let interval = wilson_interval(split, runs);
+    let low = interval.low * 100.0;
+    let high = interval.high * 100.0;
+    line.push(format!(in alloc; "{low:.1} to {high:.1} %")?)?;
+    Ok(())
+}
+
+/// So many of all runs, in percent.
+pub(crate) fn percent(part: u32, all: u32) -> f64 {
+    if all == 0 {
+        return 0.0;
+    }
+    f64::from(part) * 100.0 / f64::from(all)
+}
+
+/// Appends the quartiles of k, the least degrees, and what an overlay with the median survives.
+fn push_rest(
+    alloc: Global,
+    line: &mut Vec<String>,
+    summary: &PhaseSummary,
+) -> Result<(), AllocError> {
+    for k in summary.quartiles {
+        line.push(format!(in alloc; "{k}")?)?;
+    }
+    let PhaseSummary {
+        least_degree,
+        mean_least_degree,
+        ..
+    } = *summary;
+    line.push(format!(in alloc; "{least_degree}")?)?;
+    line.push(format!(in alloc; "{mean_least_degree:.2}")?)?;
+    let survival = Survival {
+        k: summary.quartiles[1],
+        is_split: summary.split > 0,
+    };
+    line.push(format!(in alloc; "{survival}")?)?;
+    Ok(())
+}
