@@ -1,6 +1,7 @@
 """What the scripts of this folder share: where the repository is, which of its crates uses which, what is built, and
 how many checks the machine has room for."""
 
+import ctypes
 import os
 import pathlib
 import re
@@ -95,6 +96,13 @@ def lay_out_root(room, names, top=ROOT):
     (room / "HANDLES").write_bytes((ROOT / "HANDLES").read_bytes())
     # so that the search for the top ends here
     (room / ".git").mkdir()
+
+
+def end_with_parent():
+    """Has this process, which is about to become another program, end by SIGTERM when the one that started it ends, also
+    when that is killed."""
+    of_the_parent = 1
+    ctypes.CDLL(None).prctl(of_the_parent, signal.SIGTERM, 0, 0, 0)
 
 
 def members_of(session):
