@@ -1,0 +1,3 @@
+//! What analyses of graph files with names print, and how they are explained.
+mod named;
+mod watched;
