@@ -5,7 +5,8 @@ A file NAME.cases of examples/ has cases, with empty lines between them. The fir
     # WORDS         a comment
     $ WORDS         a command of this case, and of those below it; if there are several, each comes to the same
     < TEXT          a line of the input
-    ~ OLD => NEW    the input is that of the last case with such lines, with NEW in place of OLD, which it has once
+    ~ OLD => NEW    the input is that of the last case with such lines, with NEW in place of OLD, which it has once; there
+                    may be more such pairs behind another =>
     | TEXT          this line alone is an input: the case is run with each such line, and each comes to the same
     > TEXT          a line of standard output
     ! TEXT          a line of standard error; a case without such a line says nothing of standard error, and one whose
@@ -52,11 +53,13 @@ def bytes_of(line):
 
 
 def replaced(base, line):
-    """The input with one text in place of another."""
-    old, new = bytes_of(line).removesuffix(b"\n" * (line[1:2] != "\\")).split(b" => ", 1)
-    if base.count(old) != 1:
-        raise ValueError(f"an input has {base.count(old)} times what is to be replaced: {old.decode()}")
-    return base.replace(old, new)
+    """The input with some texts in place of others."""
+    words = bytes_of(line).removesuffix(b"\n" * (line[1:2] != "\\")).split(b" => ")
+    for old, new in zip(words[::2], words[1::2], strict=True):
+        if base.count(old) != 1:
+            raise ValueError(f"an input has {base.count(old)} times what is to be replaced: {old.decode()}")
+        base = base.replace(old, new)
+    return base
 
 
 def blocks(text):

@@ -12,6 +12,8 @@ mod memory;
 #[cfg(test)]
 mod path_judge;
 #[cfg(test)]
+mod piece_numbers;
+#[cfg(test)]
 mod pieces;
 #[cfg(test)]
 mod searches;

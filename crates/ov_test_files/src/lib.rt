@@ -1,22 +1,22 @@
-//! Tests of files: certificates and what the checker says of them, lines of scenarios, arguments, dumps, graphs with
-//! names, pictures, reports of sweeps, and what a person is told of each.
+//! Tests of files: certificates and what the checker says of them, dumps, pictures, rows of sweeps, and what a person is
+//! told. What a program shows of texts is an example.
 #![tactic(auto)]
 
 #[cfg(test)]
-mod answers;
-#[cfg(test)]
 mod certificates;
 #[cfg(test)]
-mod check_reasons;
+mod drawn_words;
 #[cfg(test)]
-mod dot;
+mod dumps;
 #[cfg(test)]
-mod dump;
+mod file_kinds;
+#[cfg(test)]
+mod near_keys;
 #[cfg(test)]
 mod picture;
-#[cfg(test)]
-mod readers;
 #[cfg(test)]
 mod reasons;
 #[cfg(test)]
 mod sweep;
+#[cfg(test)]
+mod watched_analyses;

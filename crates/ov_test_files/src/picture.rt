@@ -1,5 +1,4 @@
-//! Tests of pictures of certificates: what is drawn, and its text as SVG and as DOT.
+//! Tests of pictures of certificates: what is drawn. Their texts are examples.
 mod drawn;
 mod memory;
 mod square;
-mod texts;

@@ -3,4 +3,3 @@
 mod agreement;
 mod long_lines;
 mod refusals;
-mod told_files;

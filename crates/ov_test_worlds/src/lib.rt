@@ -10,8 +10,6 @@ mod net;
 #[cfg(test)]
 mod nodes;
 #[cfg(test)]
-mod programs;
-#[cfg(test)]
 mod run;
 #[cfg(test)]
 mod snap;

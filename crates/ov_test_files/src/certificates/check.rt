@@ -1,9 +1,11 @@
-//! The lines of worked files, and of bytes that are no file.
+//! The lines of worked files, of their changes, and of bytes that are no file. More of them are examples.
 use crate::certificates::files::{self, SQUARE, TWO_LINKED, TWO_LINKED_GROUP};
 use crate::certificates::rows;
-use crate::certificates::told::{has_line, have_lines, is_judged};
+use crate::certificates::told::{has_line, has_row, is_judged};
+use ov_cert::{check, check_frame, check_group};
+use ov_certfile::{Filed, from_text};
+use ov_check::{check_group_parallel, check_parallel};
 use std::alloc::{AllocError, Global};
-use std::test::Fail;
 use std::thread::Threads;
 
 /// Each file, and the rows of its changes. The later ones are of groups.
@@ -23,90 +25,34 @@ static TABLES: [(&str, &str); 12] = [
 ];
 
 #[test]
-fn files_have_their_lines(rt: HostRuntime) -> Result<(), Fail> {
+fn files_have_their_lines(rt: HostRuntime) {
     for (file, rows) in &TABLES {
-        have_lines(&rt, file, rows)?;
+        for row in rows.lines().skip(1) {
+            assert!(rt; has_row(&rt, file, row), "at {row}");
+        }
     }
-    Ok(())
 }
 
-/// A part of a file's text, and what replaces it: a beginning, a number of copies of one text and then of another, and
-/// an end.
-#[derive(Clone, Copy)]
-struct Growth {
-    old: &'static str,
-    begin: &'static str,
-    first: &'static str,
-    second: &'static str,
-    end: &'static str,
-}
-
-fn put_copies(text: &mut String, copy: &str, count: u32) -> Result<(), AllocError> {
-    for _ in 0..count {
-        text.push_str(copy)?;
-    }
-    Ok(())
-}
-
-fn put_grown(text: &mut String, growth: Growth, count: u32) -> Result<(), AllocError> {
-    text.push_str(growth.begin)?;
-    put_copies(text, growth.first, count)?;
-    put_copies(text, growth.second, count)?;
-    text.push_str(growth.end)
-}
-
-/// The file with its part replaced, with this number of copies.
-fn grown(alloc: Global, file: &str, growth: Growth, count: u32) -> Result<String, AllocError> {
-    let mut new = String::new(alloc);
-    put_grown(&mut new, growth, count)?;
-    file.replace(alloc, growth.old, new.as_str())
-}
-
-/// Arrays, one in the other, in place of two linked nodes.
-const ARRAYS: Growth = Growth {
-    old: TWO_LINKED,
-    begin: "",
-    first: "[",
-    second: "]",
-    end: "",
-};
-
-/// Arrays, one in the other, under a key that no file has.
-const DEEP: Growth = Growth {
-    old: "{\"k\"",
-    begin: "{\"deep\":",
-    end: ",\"k\"",
-    ..ARRAYS
-};
-
-/// Arrays, how many they are, and the line.
-static NESTED: [(Growth, u32, &str); 3] = [
-    (ARRAYS, 200, "refused 60"),
-    (DEEP, 126, "refused 62"),
-    (DEEP, 127, "refused 60"),
-];
-
-fn has_line_with_arrays(
-    rt: &(impl AllocGlobal + Threads + Sync),
-    growth: Growth,
-    count: u32,
-    line: &str,
-) -> Result<bool, Fail> {
-    let text = grown(rt.alloc(), TWO_LINKED, growth, count)?;
-    has_line(rt, text.as_str(), line)
+/// Each call that judges a certificate accepts the one that was read.
+fn is_accepted(rt: &(impl AllocGlobal + Threads + Sync), filed: &Filed) -> bool {
+    let group = filed.group.as_slice();
+    check(&filed.graph, &filed.cert).is_ok()
+        && check_frame(&filed.graph, &filed.cert).is_ok()
+        && check_parallel(rt, &filed.graph, &filed.cert).is_ok()
+        && check_group(&filed.graph, group, &filed.cert).is_ok()
+        && check_group_parallel(rt, &filed.graph, group, &filed.cert).is_ok()
 }
 
 #[test]
-fn values_are_nested_up_to_127(rt: HostRuntime) -> Result<(), Fail> {
-    for (growth, count, line) in &NESTED {
-        assert!(rt;
-            has_line_with_arrays(&rt, *growth, *count, line)?,
-            "{count} arrays"
-        );
-    }
-    Ok(())
+fn each_call_accepts_the_square(rt: HostRuntime) {
+    let is_accepted = match from_text(rt.alloc(), SQUARE) {
+        Ok(filed) => is_accepted(&rt, &filed),
+        Err(_) => false,
+    };
+    assert!(rt; is_accepted);
 }
 
+/// Bytes that are no certificate file, and the line of each.
 static HOSTILE: [(&[u8], &str); 4] = [
     (&[b'['; 200], "refused 60"),
     (b"\xff", "refused 60"),
@@ -115,16 +61,43 @@ static HOSTILE: [(&[u8], &str); 4] = [
 ];
 
 #[test]
-fn hostile_bytes(rt: HostRuntime) -> Result<(), Fail> {
+fn hostile_bytes(rt: HostRuntime) {
     for length in 0..SQUARE.len() {
         let bytes = &SQUARE.as_bytes()[..length];
         assert!(rt;
-            is_judged(rt.alloc(), bytes, "refused 60")?,
+            is_judged(rt.alloc(), bytes, "refused 60"),
             "{length} bytes"
         );
     }
     for (bytes, line) in &HOSTILE {
-        assert!(rt; is_judged(rt.alloc(), bytes, line)?, "at {line}");
+        assert!(rt; is_judged(rt.alloc(), bytes, line), "at {line}");
     }
-    Ok(())
+}
+
+/// These bytes, with one between them that no UTF-8 has.
+fn with_byte(alloc: Global, before: &[u8], behind: &[u8]) -> Result<Vec<u8>, AllocError> {
+    let mut bytes = Vec::from_slice(alloc, before)?;
+    bytes.push(0xff)?;
+    bytes.extend_from_slice(behind)?;
+    Ok(bytes)
+}
+
+/// One thread and many say that these bytes, with one between them that no UTF-8 has, are no JSON.
+fn are_no_json(rt: &(impl AllocGlobal + Threads + Sync), before: &[u8], behind: &[u8]) -> bool {
+    match with_byte(rt.alloc(), before, behind) {
+        Ok(bytes) => has_line(rt, &bytes, "refused 60"),
+        Err(_) => false,
+    }
+}
+
+#[test]
+fn a_byte_that_belongs_to_no_text_is_no_json(rt: HostRuntime) {
+    let square = SQUARE.as_bytes();
+    for place in 0..square.len() {
+        assert!(rt;
+            are_no_json(&rt, &square[..place], &square[place + 1..]),
+            "at {place}"
+        );
+    }
+    assert!(rt; are_no_json(&rt, &[], square) && are_no_json(&rt, square, &[]));
 }

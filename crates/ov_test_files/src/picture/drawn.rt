@@ -1,91 +1,100 @@
-//! What is drawn of the square.
+//! What is drawn of the square, and of a pair.
 use crate::picture::square::{drawn_pair, drawn_square};
+use LinkClass::{CutToFar, SideToCut};
 use ov_ids::NodeId;
 use ov_picture::{ChosenEntry, Drawing, LinkClass, NodeClass, PictureFault};
-use std::test::Fail;
 
-/// The places of the paths that go along the links, in the order of links.
-fn has_paths(drawing: &Drawing, paths: [Option<usize>; 4]) -> bool {
-    let links = drawing.links.as_slice();
-    links.len() == 4
-        && links
-            .iter()
-            .zip(&paths)
-            .all(|(link, path)| link.path == *path)
+/// The class of each node, and whether it is drawn as a member.
+type Nodes = [(NodeClass, bool)];
+
+/// The class of each link, and the place of the path that goes along it.
+type Links = [(LinkClass, Option<usize>)];
+
+/// Whether the nodes are drawn so.
+fn has_nodes(drawing: &Drawing, nodes: &Nodes) -> bool {
+    let drawn = drawing.nodes.as_slice();
+    for (node, wanted) in drawn.iter().zip(nodes) {
+        if node.class != wanted.0 || node.is_member != wanted.1 {
+            return false;
+        }
+    }
+    drawn.len() == nodes.len()
 }
 
-/// Each node and each link has its class.
-#[test]
-fn classes_of_the_square(rt: HostRuntime) -> Result<(), Fail> {
-    let drawing = drawn_square(rt.alloc(), None).ok().ok_or("no drawing")?;
-    let classes = [
-        NodeClass::Near,
-        NodeClass::Cut,
-        NodeClass::Far,
-        NodeClass::Cut,
-    ];
-    let nodes = drawing.nodes.as_slice();
-    assert!(rt; nodes.len() == 4);
-    assert!(rt;
-        nodes
-            .iter()
-            .zip(&classes)
-            .all(|(node, class)| node.class == *class)
-    );
-    let classes = [
-        LinkClass::SideToCut,
-        LinkClass::SideToCut,
-        LinkClass::CutToFar,
-        LinkClass::CutToFar,
-    ];
-    let links = drawing.links.as_slice();
-    assert!(rt;
-        links
-            .iter()
-            .zip(&classes)
-            .all(|(link, class)| link.class == *class)
-    );
-    assert!(rt; has_paths(&drawing, [None, None, None, None]));
-    Ok(())
+/// Whether the links are drawn so.
+fn has_links(drawing: &Drawing, links: &Links) -> bool {
+    let drawn = drawing.links.as_slice();
+    for (link, wanted) in drawn.iter().zip(links) {
+        if link.class != wanted.0 || link.path != wanted.1 {
+            return false;
+        }
+    }
+    drawn.len() == links.len()
+}
+
+/// Whether this is drawn, with so many paths.
+fn is_drawn(
+    drawing: &Result<Drawing, PictureFault>,
+    paths: usize,
+    nodes: &Nodes,
+    links: &Links,
+) -> bool {
+    match drawing {
+        Ok(drawing) => {
+            drawing.paths == paths && has_nodes(drawing, nodes) && has_links(drawing, links)
+        }
+        Err(_) => false,
+    }
 }
 
 /// A node is drawn as a member exactly if it is in the group.
+const SQUARE: [(NodeClass, bool); 4] = [
+    (NodeClass::Near, true),
+    (NodeClass::Cut, false),
+    (NodeClass::Far, true),
+    (NodeClass::Cut, true),
+];
+
+/// Each node and each link has its class.
 #[test]
-fn members_of_the_square(rt: HostRuntime) -> Result<(), Fail> {
-    let drawing = drawn_square(rt.alloc(), None).ok().ok_or("no drawing")?;
-    let nodes = drawing.nodes.as_slice();
-    assert!(rt;
-        nodes
-            .iter()
-            .all(|node| node.is_member == (node.id != NodeId(2)))
-    );
-    Ok(())
+fn classes_of_the_square(rt: HostRuntime) {
+    let links = [
+        (SideToCut, None),
+        (SideToCut, None),
+        (CutToFar, None),
+        (CutToFar, None),
+    ];
+    assert!(rt; is_drawn(&drawn_square(rt.alloc(), None), 0, &SQUARE, &links));
 }
 
-/// A link has the path of the chosen entry that goes along it. An entry that there is not is refused.
+/// A link has the path of the chosen entry that goes along it.
 #[test]
-fn paths_of_an_entry(rt: HostRuntime) -> Result<(), Fail> {
+fn paths_of_an_entry(rt: HostRuntime) {
     let third = Some(ChosenEntry::Fan { j: NodeId(3) });
-    let drawing = drawn_square(rt.alloc(), third).ok().ok_or("no drawing")?;
-    assert!(rt; has_paths(&drawing, [None, Some(1), Some(0), Some(1)]));
-    assert!(rt; drawing.paths == 2);
+    let links = [
+        (SideToCut, None),
+        (SideToCut, Some(1)),
+        (CutToFar, Some(0)),
+        (CutToFar, Some(1)),
+    ];
+    assert!(rt; is_drawn(&drawn_square(rt.alloc(), third), 2, &SQUARE, &links));
+}
+
+/// An entry that there is not is refused.
+#[test]
+fn no_such_entry(rt: HostRuntime) {
     let pair = Some(ChosenEntry::Pair {
         i: NodeId(1),
         j: NodeId(2),
     });
-    let refused = drawn_square(rt.alloc(), pair);
-    assert!(rt; matches!(&refused, Err(PictureFault::NoSuchEntry)));
-    Ok(())
+    let refused = matches!(&drawn_square(rt.alloc(), pair), Err(PictureFault::NoSuchEntry));
+    assert!(rt; refused);
 }
 
 /// A linked certificate parts no nodes.
 #[test]
-fn classes_of_a_pair(rt: HostRuntime) -> Result<(), Fail> {
-    let drawing = drawn_pair(rt.alloc()).ok().ok_or("no drawing")?;
-    let nodes = drawing.nodes.as_slice();
-    assert!(rt; nodes.len() == 2);
-    assert!(rt; nodes.iter().all(|node| node.class == NodeClass::Unparted));
-    let links = drawing.links.as_slice();
-    assert!(rt; links.iter().all(|link| link.class == LinkClass::Unparted));
-    Ok(())
+fn classes_of_a_pair(rt: HostRuntime) {
+    let nodes = [(NodeClass::Unparted, true), (NodeClass::Unparted, true)];
+    let links = [(LinkClass::Unparted, None)];
+    assert!(rt; is_drawn(&drawn_pair(rt.alloc()), 0, &nodes, &links));
 }

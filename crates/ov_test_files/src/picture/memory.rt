@@ -1,36 +1,43 @@
 //! Pictures for which an allocation is refused. `bin/refuse-allocations` refuses each in turn.
 use crate::picture::square::drawn_square;
 use ov_ids::{NodeId, OutOfMemory};
-use ov_picture::{ChosenEntry, PictureFault, dot, svg};
+use ov_picture::{ChosenEntry, Drawing, PictureFault, dot, svg};
 use std::alloc::Global;
 
-/// The square with the paths of a fan, as SVG and as DOT.
-fn pictures(alloc: Global) -> Result<(String, String), PictureFault> {
-    let drawing = drawn_square(alloc, Some(ChosenEntry::Fan { j: NodeId(4) }))?;
-    match (svg(alloc, &drawing, &[]), dot(alloc, &drawing, &[])) {
-        (Ok(picture), Ok(text)) => Ok((picture, text)),
-        (Err(OutOfMemory), _) | (_, Err(OutOfMemory)) => Err(PictureFault::OutOfMemory),
+/// Whether a drawing is written whole, as SVG.
+fn is_picture(alloc: Global, drawing: &Drawing) -> Result<bool, OutOfMemory> {
+    Ok(svg(alloc, drawing, &[])?.as_str().ends_with("</svg>\n"))
+}
+
+/// Whether a drawing is written whole, in DOT.
+fn is_text(alloc: Global, drawing: &Drawing) -> Result<bool, OutOfMemory> {
+    Ok(dot(alloc, drawing, &[])?.as_str().ends_with("}\n"))
+}
+
+/// Whether a drawing is written whole in both forms.
+fn is_written(alloc: Global, drawing: &Drawing) -> Result<bool, PictureFault> {
+    match (is_picture(alloc, drawing), is_text(alloc, drawing)) {
+        (Ok(is_picture), Ok(is_text)) => Ok(is_picture && is_text),
+        _ => Err(PictureFault::OutOfMemory),
     }
 }
 
-/// Both texts are whole.
-fn are_whole(pictures: &Result<(String, String), PictureFault>) -> bool {
-    match pictures {
-        Ok((picture, text)) => {
-            picture.as_str().ends_with("</svg>\n") && text.as_str().ends_with("}\n")
-        }
-        Err(_) => false,
+/// Whether the square with the paths of a fan is written whole.
+fn are_whole(alloc: Global) -> Result<bool, PictureFault> {
+    match drawn_square(alloc, Some(ChosenEntry::Fan { j: NodeId(4) })) {
+        Ok(drawing) => is_written(alloc, &drawing),
+        Err(fault) => Err(fault),
     }
 }
 
 /// If an allocation is refused, there is no picture. The same calls, made again, make it.
 #[test]
 fn out_of_memory_makes_no_picture(rt: HostRuntime) {
-    let first = pictures(rt.alloc());
-    if are_whole(&first) {
+    let first = are_whole(rt.alloc());
+    if first == Ok(true) {
         return;
     }
-    assert!(rt; matches!(&first, Err(PictureFault::OutOfMemory)));
-    assert!(rt; are_whole(&pictures(rt.alloc())));
+    assert!(rt; first == Err(PictureFault::OutOfMemory));
+    assert!(rt; are_whole(rt.alloc()) == Ok(true));
     let _ = println!(rt; "seen: pictures of a square: refused 99, then whole");
 }

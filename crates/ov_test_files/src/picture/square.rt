@@ -4,6 +4,7 @@ use ov_graph::{Graph, GraphFault};
 use ov_ids::{NodeId, OutOfMemory, Seq};
 use ov_paths::Paths;
 use ov_picture::{ChosenEntry, Drawing, PictureFault, draw};
+use ov_test_kit::ids;
 use std::alloc::Global;
 
 /// The group: all nodes but 2.
@@ -23,35 +24,43 @@ fn graph(alloc: Global) -> Result<Graph, GraphFault> {
 
 /// A fan of a node: two paths.
 fn fan(alloc: Global, j: u32, one: &[NodeId], other: &[NodeId]) -> Result<FanPaths, OutOfMemory> {
-    let mut paths = Paths::new(alloc);
-    paths.push(one)?;
-    paths.push(other)?;
     Ok(FanPaths {
         j: NodeId(j),
-        paths,
+        paths: two_paths(alloc, one, other)?,
     })
 }
 
-/// The certificate.
-fn cert(alloc: Global) -> Result<Cert, OutOfMemory> {
-    let third = fan(
+fn two_paths(alloc: Global, one: &[NodeId], other: &[NodeId]) -> Result<Paths, OutOfMemory> {
+    let mut paths = Paths::new(alloc);
+    paths.push(one)?;
+    paths.push(other)?;
+    Ok(paths)
+}
+
+/// The fans of 3 and of 4.
+fn fans(alloc: Global) -> Result<Seq<FanPaths>, OutOfMemory> {
+    let mut fans = Vec::new(alloc);
+    fans.push(fan(
         alloc,
         3,
         &[NodeId(3), NodeId(2)],
         &[NodeId(3), NodeId(4), NodeId(1)],
-    )?;
-    let fourth = fan(alloc, 4, &[NodeId(4), NodeId(1)], &[NodeId(4), NodeId(3)])?;
-    let mut fans = Vec::new(alloc);
-    fans.push(third)?;
-    fans.push(fourth)?;
+    )?)?;
+    fans.push(fan(alloc, 4, &[NodeId(4), NodeId(1)], &[NodeId(4), NodeId(3)])?)?;
+    Ok(Seq::new(fans))
+}
+
+/// The certificate.
+fn cert(alloc: Global) -> Result<Cert, OutOfMemory> {
+    let fans = fans(alloc)?;
     Ok(Cert::Split(Split {
         k: 2,
-        cut: Seq::new(Vec::from_slice(alloc, &[NodeId(2), NodeId(4)])?),
+        cut: ids(alloc, &[2, 4])?,
         near: NodeId(1),
         far: NodeId(3),
-        side: Seq::new(Vec::from_slice(alloc, &[NodeId(1)])?),
+        side: ids(alloc, &[1])?,
         pairs: Seq::new(Vec::new(alloc)),
-        fans: Seq::new(fans),
+        fans,
     }))
 }
 

@@ -1,8 +1,7 @@
 //! Of each line that can't be read something is said.
-use crate::reasons::told_files::{graph_told, scenario_told};
-use ov_ids::OutOfMemory;
-use std::alloc::Global;
-use std::test::Fail;
+use ov_graphfile::{GraphFileFault, read_graph};
+use ov_reasons::{graph_reasons, scenario_reasons};
+use std::alloc::{AllocError, Global};
 
 /// What lines may begin with.
 static NAMES: [&str; 24] = [
@@ -82,31 +81,57 @@ static TAILS: [&str; 46] = [
     " 1 group 1 workers 2",
 ];
 
+/// What is said of the second line if nothing is.
+const NOTHING: &str = "line 2: \n";
+
+/// Whether something is said of each line of a scenario file that is at fault.
+fn has_words_of_scenario(alloc: Global, file: &[u8]) -> bool {
+    match scenario_reasons(alloc, file) {
+        Ok(text) => !text.as_str().contains(NOTHING),
+        Err(_) => false,
+    }
+}
+
+/// Whether something is said of each line of a graph file that is at fault, if this is its fault.
+fn has_words_of_fault(alloc: Global, file: &[u8], fault: &GraphFileFault) -> bool {
+    match graph_reasons(alloc, file, fault) {
+        Ok(text) => !text.as_str().contains(NOTHING),
+        Err(_) => false,
+    }
+}
+
+/// Whether something is said of each line of a graph file that is at fault.
+fn has_words_of_graph(alloc: Global, file: &[u8]) -> bool {
+    match read_graph(alloc, file) {
+        Ok(_) => false,
+        Err(fault) => has_words_of_fault(alloc, file, &fault),
+    }
+}
+
 /// A file of this line, behind one that can't be read.
-fn second(alloc: Global, name: &str, tail: &str) -> Result<String, OutOfMemory> {
+fn second(alloc: Global, name: &str, tail: &str) -> Result<String, AllocError> {
     let mut file = String::from_str(alloc, "foo\n")?;
     file.push_str(name)?;
     file.push_str(tail)?;
     Ok(file)
 }
 
-/// What is said of the second line if nothing is.
-const NOTHING: &str = "line 2: \n";
-
 /// Whether something is said of this line in a scenario file and in a graph file, if it is at fault there.
-fn has_words(alloc: Global, name: &str, tail: &str) -> Result<bool, OutOfMemory> {
-    let file = second(alloc, name, tail)?;
-    let scenario = scenario_told(alloc, file.as_bytes())?;
-    let graph = graph_told(alloc, file.as_bytes())?;
-    Ok(!scenario.as_str().contains(NOTHING) && !graph.as_str().contains(NOTHING))
+fn has_words(alloc: Global, name: &str, tail: &str) -> bool {
+    match second(alloc, name, tail) {
+        Ok(file) => {
+            has_words_of_scenario(alloc, file.as_bytes())
+                && has_words_of_graph(alloc, file.as_bytes())
+        }
+        Err(_) => false,
+    }
 }
 
 #[test]
-fn something_is_said_of_each_line_at_fault(rt: HostRuntime) -> Result<(), Fail> {
+fn something_is_said_of_each_line_at_fault(rt: HostRuntime) {
     for name in &NAMES {
         for tail in &TAILS {
-            assert!(rt; has_words(rt.alloc(), name, tail)?, "at {name}{tail}");
+            assert!(rt; has_words(rt.alloc(), name, tail), "at {name}{tail}");
         }
     }
-    Ok(())
 }

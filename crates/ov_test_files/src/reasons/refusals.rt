@@ -3,6 +3,8 @@ use ov_ids::Params;
 use ov_net::NetFault;
 use ov_reasons::world_refusal_reason;
 use ov_snap::Core;
+use ov_test_kit::sized;
+use std::alloc::Global;
 use std::test::Fail;
 
 /// Lines, a fault of a world in which nothing happened, and what is told of it. No line is run.
@@ -33,12 +35,27 @@ static OF_WORLD: [(&[u8], NetFault, &str); 8] = [
     ),
 ];
 
+/// Whether this is said of the fault of a line.
+fn is_said(alloc: Global, core: &Core, line: &[u8], fault: NetFault, text: &str) -> bool {
+    match world_refusal_reason(alloc, core, line, fault) {
+        Ok(said) => said.as_str() == text,
+        Err(_) => false,
+    }
+}
+
+/// Whether what is told of each line is said, in a world of these parameters in which nothing happened.
+fn are_said(alloc: Global, params: Params) -> bool {
+    let core = Core::new(alloc, params);
+    for (line, fault, text) in &OF_WORLD {
+        if !is_said(alloc, &core, line, *fault, text) {
+            return false;
+        }
+    }
+    true
+}
+
 #[test]
 fn refusals_of_a_world_are_told(rt: HostRuntime) -> Result<(), Fail> {
-    let core = Core::new(rt.alloc(), Params::new(5, 30, 6, 3, 3, 4, 4)?);
-    for (line, fault, text) in &OF_WORLD {
-        let said = world_refusal_reason(rt.alloc(), &core, line, *fault)?;
-        assert_eq!(rt; said.as_str(), *text);
-    }
+    assert!(rt; are_said(rt.alloc(), sized(5, 30)?));
     Ok(())
 }

@@ -1,9 +1,11 @@
 //! The summary and the picture of four rows, and Wilson's interval, reckoned by hand.
 use crate::sweep::rows::HEADER;
 use ov_ids::OutOfMemory;
-use ov_sweep_rows::{RowFault, read_rows, settings_of, summary_text, svg_text, wilson_interval};
-use std::alloc::Global;
-use std::test::Fail;
+use ov_sweep_rows::{
+    Interval, Row, RowFault, Setting, read_rows, settings_of, summary_text, svg_text,
+    wilson_interval,
+};
+use std::alloc::{AllocError, Global};
 
 /// Four rows: one with four active members, and three with three. Of the latter k is 2, 0 and 1.
 const FOUR: [&str; 4] = [
@@ -36,54 +38,92 @@ active  runs  split  share  95 % interval  k 25 %  k 50 %  k 75 %  least degree 
 
 split: ";
 
-/// The summary and the picture of the four rows.
-pub(crate) fn report(alloc: Global) -> Result<(String, String), RowFault> {
+/// What stands in the picture, and how often; None for once or more often.
+const PARTS: [(&str, Option<usize>); 7] = [
+    // a dot for each of four runs after each of three phases, and one for each phase in the legend
+    ("h0", Some(15)),
+    ("&lt;", Some(0)),
+    ("width=\"1200\"", None),
+    ("prefers-color-scheme:dark", None),
+    (">33<", None),
+    (">100<", None),
+    ("</svg>\n", None),
+];
+
+/// Whether a part stands in a text so often.
+fn stands(text: &str, part: &str, count: Option<usize>) -> bool {
+    match count {
+        Some(number) => text.matches(part).count() == number,
+        None => text.contains(part),
+    }
+}
+
+/// Whether a text has these parts.
+fn has_parts(text: &str) -> bool {
+    for (part, count) in PARTS {
+        if !stands(text, part, count) {
+            return false;
+        }
+    }
+    true
+}
+
+/// The header and the four rows.
+fn text(alloc: Global) -> Result<String, AllocError> {
     let mut text = String::from_str(alloc, HEADER)?;
     for row in FOUR {
         text.push_str(row)?;
     }
-    let rows = read_rows(alloc, text.as_bytes())?;
-    match told(alloc, &rows) {
-        Ok(texts) => Ok(texts),
-        Err(OutOfMemory) => Err(RowFault::OutOfMemory),
-    }
+    Ok(text)
 }
 
-fn told(alloc: Global, rows: &[ov_sweep_rows::Row]) -> Result<(String, String), OutOfMemory> {
+/// Whether the summary of these settings is that of the four rows.
+fn is_summary(alloc: Global, settings: &[Setting<'_>]) -> Result<bool, OutOfMemory> {
+    Ok(summary_text(alloc, settings)?.as_str().starts_with(SUMMARY))
+}
+
+/// Whether the picture of these settings is that of the four rows.
+fn is_picture(alloc: Global, settings: &[Setting<'_>]) -> Result<bool, OutOfMemory> {
+    Ok(has_parts(svg_text(alloc, settings)?.as_str()))
+}
+
+/// Whether the summary and the picture of rows are those of the four rows.
+fn are_told(alloc: Global, rows: &[Row]) -> Result<bool, OutOfMemory> {
     let settings = settings_of(alloc, rows)?;
-    Ok((summary_text(alloc, &settings)?, svg_text(alloc, &settings)?))
+    Ok(is_summary(alloc, &settings)? && is_picture(alloc, &settings)?)
 }
 
-/// The summary is that of the four rows.
-pub(crate) fn is_summary(text: &str) -> bool {
-    text.starts_with(SUMMARY)
+/// Whether a text has the summary and the picture of the four rows.
+fn is_told(alloc: Global, text: &str) -> Result<bool, RowFault> {
+    let rows = read_rows(alloc, text.as_bytes())?;
+    are_told(alloc, &rows).map_err(|_| RowFault::OutOfMemory)
 }
 
-/// There is a dot for each of four runs after each of three phases, and one for each phase in the legend.
-#[test]
-fn four_rows_are_drawn(rt: HostRuntime) -> Result<(), Fail> {
-    let (_, picture) = report(rt.alloc()).ok().ok_or("no report")?;
-    assert_eq!(rt; picture.as_str().matches("h0").count(), 15);
-    assert_eq!(rt; picture.as_str().matches("&lt;").count(), 0);
-    for part in [
-        "width=\"1200\"",
-        "prefers-color-scheme:dark",
-        ">33<",
-        ">100<",
-        "</svg>\n",
-    ] {
-        assert!(rt; picture.as_str().contains(part), "{part}");
+/// Whether the report of the four rows is theirs.
+pub(crate) fn is_reported(alloc: Global) -> Result<bool, RowFault> {
+    match text(alloc) {
+        Ok(text) => is_told(alloc, text.as_str()),
+        Err(_) => Err(RowFault::OutOfMemory),
     }
-    Ok(())
+}
+
+#[test]
+fn four_rows_have_their_report(rt: HostRuntime) {
+    assert!(rt; is_reported(rt.alloc()) == Ok(true));
+}
+
+/// Whether an interval is this one, to four places.
+fn is_interval(alloc: Global, interval: Interval, shown: &str) -> bool {
+    let low = interval.low;
+    let high = interval.high;
+    match format!(in alloc; "{low:.4} {high:.4}") {
+        Ok(text) => text.as_str() == shown,
+        Err(_) => false,
+    }
 }
 
 /// Three of ten: z is 1.96, the middle (0.3 + z z / 20) / (1 + z z / 10) = 0.3555, and half the width 0.2477.
 #[test]
-fn three_of_ten(rt: HostRuntime) -> Result<(), Fail> {
-    let interval = wilson_interval(3, 10);
-    let low = interval.low;
-    let high = interval.high;
-    let text = format!(in rt.alloc(); "{low:.4} {high:.4}")?;
-    assert!(rt; text.as_str() == "0.1078 0.6032", "{text}");
-    Ok(())
+fn three_of_ten(rt: HostRuntime) {
+    assert!(rt; is_interval(rt.alloc(), wilson_interval(3, 10), "0.1078 0.6032"));
 }

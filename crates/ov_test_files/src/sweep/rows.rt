@@ -1,8 +1,8 @@
 //! Rows of a sweep, written out by hand.
 use ov_grow_options::{Chance, Count, Crash, GrowOptions, NodeCount, Order, Pace, Share};
 use ov_ids::Params;
-use ov_sweep_rows::{DeliveredShare, PhaseRow, Row, read_rows};
-use std::alloc::Global;
+use ov_sweep_rows::{DeliveredShare, PhaseRow, Row, RowFault, read_rows};
+use std::alloc::{AllocError, Global};
 use std::test::Fail;
 
 /// The line that rows begin with.
@@ -79,27 +79,33 @@ fn second_row() -> Row {
 }
 
 /// The header and both rows.
-fn text(alloc: Global) -> Result<String, Fail> {
-    let [first, second] = ROWS;
-    Ok(format!(in alloc; "{HEADER}{first}{second}")?)
+fn text(alloc: Global) -> Result<String, AllocError> {
+    let mut text = String::from_str(alloc, HEADER)?;
+    for row in ROWS {
+        text.push_str(row)?;
+    }
+    Ok(text)
+}
+
+/// Whether a text has these rows.
+fn has_rows(alloc: Global, text: &str, expected: &[Row]) -> bool {
+    match read_rows(alloc, text.as_bytes()) {
+        Ok(rows) => rows.as_slice() == expected,
+        Err(_) => false,
+    }
 }
 
 #[test]
 fn rows_are_read(rt: HostRuntime) -> Result<(), Fail> {
-    let alloc = rt.alloc();
     let options = first_options().ok_or("options out of their limits")?;
-    let text = text(alloc)?;
     let expected = [first_row(options), second_row()];
-    let is_read = match read_rows(alloc, text.as_bytes()) {
-        Ok(rows) => rows.as_slice() == expected.as_slice(),
-        Err(_) => false,
-    };
-    assert!(rt; is_read);
+    let text = text(rt.alloc())?;
+    assert!(rt; has_rows(rt.alloc(), text.as_str(), &expected));
     Ok(())
 }
 
-/// What the second row is changed from and to, and why it is refused then.
-static REFUSED: [(&str, &str, &str); 12] = [
+/// What stands in place of a part of the second row, and why the rows are refused then.
+static CHANGED: [(&str, &str, &str); 12] = [
     (
         "100,5,",
         "257,5,",
@@ -162,30 +168,46 @@ static REFUSED: [(&str, &str, &str); 12] = [
     ),
 ];
 
-/// Why a text of rows is refused.
-fn refused(alloc: Global, text: &str) -> Result<String, Fail> {
+/// Texts that are no rows from their first line on, and why.
+static REFUSED: [&str; 3] = ["", "nodes\n", ROWS[0]];
+
+const NO_HEADER: &str = "line 1 must be the header of the rows, nodes,active,passive and so on";
+
+/// Whether a fault has this reason.
+fn is_reason(alloc: Global, fault: RowFault, reason: &str) -> bool {
+    match fault.to_string(alloc) {
+        Ok(told) => told.as_str() == reason,
+        Err(_) => false,
+    }
+}
+
+/// Whether a text is refused for this reason.
+fn is_refused(alloc: Global, text: &str, reason: &str) -> bool {
     match read_rows(alloc, text.as_bytes()) {
-        Ok(_) => Ok(String::new(alloc)),
-        Err(fault) => Ok(format!(in alloc; "{fault}")?),
+        Ok(_) => false,
+        Err(fault) => is_reason(alloc, fault, reason),
+    }
+}
+
+/// Whether a text with one part in place of another is refused for this reason.
+fn is_refused_with(alloc: Global, text: &str, from: &str, to: &str, reason: &str) -> bool {
+    match text.replace(alloc, from, to) {
+        Ok(changed) => is_refused(alloc, changed.as_str(), reason),
+        Err(_) => false,
     }
 }
 
 #[test]
 fn other_rows_are_refused(rt: HostRuntime) -> Result<(), Fail> {
-    let alloc = rt.alloc();
-    let [first, second] = ROWS;
-    for (from, to, reason) in &REFUSED {
-        let (before, behind) = second.split_once(*from).ok_or("no such field")?;
-        let text = format!(in alloc; "{HEADER}{first}{before}{to}{behind}")?;
-        let told = refused(alloc, text.as_str())?;
-        assert!(rt; told.as_str() == *reason, "{told}");
-    }
-    for text in ["", "nodes\n", first] {
-        let told = refused(alloc, text)?;
+    let text = text(rt.alloc())?;
+    for (from, to, reason) in &CHANGED {
         assert!(rt;
-            told.as_str().starts_with("line 1 must be the header"),
-            "{told}"
+            is_refused_with(rt.alloc(), text.as_str(), from, to, reason),
+            "{reason}"
         );
+    }
+    for text in &REFUSED {
+        assert!(rt; is_refused(rt.alloc(), text, NO_HEADER), "{text}");
     }
     Ok(())
 }

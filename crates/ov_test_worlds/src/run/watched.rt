@@ -1,13 +1,12 @@
 //! What the watcher of a run is told of each line, when the writer of a run is asked to hand on what it keeps back, and
 //! runs in blocks.
-use ov_io::{Sink, Source};
-use ov_run::{
-    RanLine, Refusal, RunFault, RunWatcher, Strictness, run, run_bytes, run_in_blocks, run_watched,
-};
+use Strictness::{Lenient, Strict};
+use ov_io::Sink;
+use ov_run::{RanLine, Refusal, RunFault, RunWatcher, Strictness, run_bytes, run_in_blocks};
 use ov_snap::Core;
+use std::alloc::Global;
 use std::io::{self, ErrorKind, Write};
 use std::sync::Wait;
-use std::test::Fail;
 use std::thread::Threads;
 
 /// What is told of a line: its number, whether it is an event, and if it was refused, the number of the refusal, and
@@ -18,6 +17,14 @@ type Told = (usize, bool, Option<(u32, Option<usize>)>);
 #[derive(Drop)]
 struct Listener {
     told: Vec<Told>,
+}
+
+impl Listener {
+    fn new(alloc: Global) -> Listener {
+        Listener {
+            told: Vec::new(alloc),
+        }
+    }
 }
 
 impl RunWatcher for Listener {
@@ -110,42 +117,37 @@ static RUNS: [(&str, &[Told]); 9] = [
     ),
 ];
 
-/// What a run of this file returns and prints.
-fn printed(
-    rt: &(impl AllocGlobal + Threads + Wait + Sync),
-    file: &str,
-) -> (Result<u8, RunFault>, Vec<u8>) {
-    let mut source = Source::new(file.as_bytes());
-    let mut sink = Sink::new(Vec::new(rt.alloc()));
-    let answer = run(rt, rt.alloc(), &mut source, &mut sink);
-    (answer, sink.into_writer())
-}
-
-/// A run of this file that is watched returns and prints the same, and tells this.
+/// The watcher of a run of this file is told this.
 fn tells(rt: &(impl AllocGlobal + Threads + Wait + Sync), file: &str, told: &[Told]) -> bool {
-    let mut listener = Listener {
-        told: Vec::new(rt.alloc()),
-    };
-    let mut source = Source::new(file.as_bytes());
+    let mut listener = Listener::new(rt.alloc());
     let mut sink = Sink::new(Vec::new(rt.alloc()));
-    let answer = run_watched(
-        rt,
-        rt.alloc(),
-        &mut source,
-        &mut sink,
-        Strictness::Lenient,
-        &mut listener,
-    );
-    let watched = (answer, sink.into_writer());
-    watched == printed(rt, file) && listener.told.as_slice() == told
+    let bytes = file.as_bytes();
+    let _ = run_bytes(rt, rt.alloc(), bytes, &mut sink, Lenient, &mut listener);
+    listener.told.as_slice() == told
 }
 
 #[test]
-fn a_watcher_is_told_of_each_line(rt: HostRuntime) -> Result<(), Fail> {
+fn a_watcher_is_told_of_each_line(rt: HostRuntime) {
     for (file, told) in &RUNS {
         assert!(rt; tells(&rt, file, told), "at {file}");
     }
-    Ok(())
+}
+
+/// How a run ended: the line and the number of the refusal at which a strict run ended, or 0 and 72 if a write failed,
+/// or 0 and 0 after the last line.
+type Ended = (usize, u32);
+
+const AT_THE_END: Ended = (0, 0);
+
+const AT_A_WRITE: Ended = (0, 72);
+
+fn ended(answer: Result<u8, RunFault>) -> Ended {
+    match answer {
+        Ok(0) => AT_THE_END,
+        Err(RunFault::Refused { line, refusal }) => (line, refusal.number()),
+        Err(RunFault::Write) => AT_A_WRITE,
+        _ => (0, 1),
+    }
 }
 
 /// Counts the bytes that it takes, and keeps how many there were at each flush.
@@ -184,86 +186,63 @@ const OF_BLOCK: &str = "together 1 accepted 1 refused 0\n";
 
 const OF_REFUSAL: &str = "refused 10\n";
 
-/// The number of a refusal at which a strict run ended, with that of its line.
-fn stop_of(answer: &Result<u8, RunFault>) -> Option<(usize, u32)> {
-    match answer {
-        Err(RunFault::Refused { line, refusal }) => Some((*line, refusal.number())),
-        _ => None,
-    }
-}
-
-/// What a run of this file returns, and how many bytes its writer had taken at each flush.
-fn flushes_of(
+/// A run of this file ends so, and its writer has taken so many bytes at its two flushes.
+fn flushes_at(
     rt: &(impl AllocGlobal + Threads + Wait + Sync),
     file: &str,
     strictness: Strictness,
-) -> (Result<u8, RunFault>, Vec<usize>) {
-    let mut listener = Listener {
-        told: Vec::new(rt.alloc()),
-    };
+    end: Ended,
+    flushes: [usize; 2],
+) -> bool {
+    let mut listener = Listener::new(rt.alloc());
     let mut sink = Sink::new(Flushed {
         taken: 0,
         flushes: Vec::new(rt.alloc()),
     });
-    let answer = run_bytes(
-        rt,
-        rt.alloc(),
-        file.as_bytes(),
-        &mut sink,
-        strictness,
-        &mut listener,
-    );
-    (answer, sink.into_writer().flushes)
+    let bytes = file.as_bytes();
+    let answer = run_bytes(rt, rt.alloc(), bytes, &mut sink, strictness, &mut listener);
+    ended(answer) == end && sink.into_writer().flushes.as_slice() == flushes.as_slice()
 }
 
 #[test]
 fn a_writer_is_flushed_before_an_analysis_and_at_the_end(rt: HostRuntime) {
-    let (answer, flushes) = flushes_of(&rt, ANALYSED, Strictness::Lenient);
     let before = BEFORE_ANALYSIS.len();
-    let expected = [before, before + FROM_ANALYSIS.len()];
-    assert!(rt; answer == Ok(0) && flushes.as_slice() == expected.as_slice());
+    let all = before + FROM_ANALYSIS.len();
+    assert!(rt; flushes_at(&rt, ANALYSED, Lenient, AT_THE_END, [before, all]));
 }
 
 #[test]
 fn a_writer_is_flushed_before_a_block_and_at_a_refused_line(rt: HostRuntime) {
     let before = BEFORE_BLOCK.len();
     let block = before + OF_BLOCK.len();
-    let (answer, flushes) = flushes_of(&rt, TOGETHER, Strictness::Lenient);
-    let expected = [before, block + OF_REFUSAL.len()];
-    assert!(rt; answer == Ok(0) && flushes.as_slice() == expected.as_slice());
-    let (answer, flushes) = flushes_of(&rt, TOGETHER, Strictness::Strict);
-    let expected = [before, block];
-    assert!(rt; stop_of(&answer) == Some((5, 10)) && flushes.as_slice() == expected.as_slice());
+    let all = block + OF_REFUSAL.len();
+    assert!(rt; flushes_at(&rt, TOGETHER, Lenient, AT_THE_END, [before, all]));
+    assert!(rt; flushes_at(&rt, TOGETHER, Strict, (5, 10), [before, block]));
+}
+
+/// What is printed of the scenario with an analysis stands in these bytes.
+fn is_printed(written: &[u8]) -> bool {
+    let (before, after) = written.split_at(BEFORE_ANALYSIS.len().min(written.len()));
+    before == BEFORE_ANALYSIS.as_bytes() && after == FROM_ANALYSIS.as_bytes()
 }
 
 /// Whether a run in blocks of so many bytes writes what the scenario prints into the writer itself.
-fn is_in_the_writer(
-    rt: &(impl AllocGlobal + Threads + Wait + Sync),
-    size: usize,
-) -> Result<bool, Fail> {
-    let mut listener = Listener {
-        told: Vec::new(rt.alloc()),
+fn is_in_the_writer(rt: &(impl AllocGlobal + Threads + Wait + Sync), size: usize) -> bool {
+    let alloc = rt.alloc();
+    let Ok(sink) = Sink::new(Vec::new(alloc)).in_blocks(alloc, size) else {
+        return false;
     };
-    let sink = Sink::new(Vec::new(rt.alloc())).in_blocks(rt.alloc(), size)?;
-    let (sink, answer) = run_in_blocks(
-        rt,
-        rt.alloc(),
-        ANALYSED.as_bytes(),
-        sink,
-        Strictness::Lenient,
-        &mut listener,
-    );
-    let written = sink.into_writer();
-    let (before, after) = written.split_at(BEFORE_ANALYSIS.len().min(written.len()));
-    Ok(answer == Ok(0) && before == BEFORE_ANALYSIS.as_bytes() && after == FROM_ANALYSIS.as_bytes())
+    let mut listener = Listener::new(alloc);
+    let bytes = ANALYSED.as_bytes();
+    let (sink, answer) = run_in_blocks(rt, alloc, bytes, sink, Lenient, &mut listener);
+    answer == Ok(0) && is_printed(&sink.into_writer())
 }
 
 #[test]
-fn a_run_in_blocks_keeps_nothing_back(rt: HostRuntime) -> Result<(), Fail> {
+fn a_run_in_blocks_keeps_nothing_back(rt: HostRuntime) {
     for size in [0, 1, 16, 1024] {
-        assert!(rt; is_in_the_writer(&rt, size)?, "blocks of {size} bytes");
+        assert!(rt; is_in_the_writer(&rt, size), "blocks of {size} bytes");
     }
-    Ok(())
 }
 
 /// Takes so many bytes and no more, and counts the writes that it fails.
@@ -289,40 +268,35 @@ impl Write for Full {
     }
 }
 
-/// What a run in blocks of so many bytes returns if its writer has so much room, how many writes failed, and how many
-/// faults its sink counts.
-fn in_little_room(
+/// A run in blocks of so many bytes, whose writer has so much room, ends so; so many writes failed, and its sink counts
+/// as many faults.
+fn ends_in_room(
     rt: &(impl AllocGlobal + Threads + Wait + Sync),
     size: usize,
     room: usize,
-) -> Result<(Result<u8, RunFault>, u64, u64), Fail> {
-    let mut listener = Listener {
-        told: Vec::new(rt.alloc()),
+    end: Ended,
+    count: u64,
+) -> bool {
+    let alloc = rt.alloc();
+    let Ok(sink) = Sink::new(Full { room, failed: 0 }).in_blocks(alloc, size) else {
+        return false;
     };
-    let sink = Sink::new(Full { room, failed: 0 }).in_blocks(rt.alloc(), size)?;
-    let (sink, answer) = run_in_blocks(
-        rt,
-        rt.alloc(),
-        ANALYSED.as_bytes(),
-        sink,
-        Strictness::Lenient,
-        &mut listener,
-    );
-    let faults = sink.faults();
-    Ok((answer, sink.into_writer().failed, faults))
+    let mut listener = Listener::new(alloc);
+    let bytes = ANALYSED.as_bytes();
+    let (sink, answer) = run_in_blocks(rt, alloc, bytes, sink, Lenient, &mut listener);
+    ended(answer) == end && sink.faults() == count && sink.into_writer().failed == count
 }
 
 #[test]
-fn nothing_is_written_after_a_write_that_failed(rt: HostRuntime) -> Result<(), Fail> {
+fn nothing_is_written_after_a_write_that_failed(rt: HostRuntime) {
     let all = BEFORE_ANALYSIS.len() + FROM_ANALYSIS.len();
     for size in [0, 16, 1024] {
         for room in [0, BEFORE_ANALYSIS.len(), all - 1] {
-            let is_ended = in_little_room(&rt, size, room)? == (Err(RunFault::Write), 1, 1);
+            let is_ended = ends_in_room(&rt, size, room, AT_A_WRITE, 1);
             assert!(rt; is_ended, "blocks of {size} bytes, room for {room}");
         }
-        assert!(rt; in_little_room(&rt, size, all)? == (Ok(0), 0, 0));
+        assert!(rt; ends_in_room(&rt, size, all, AT_THE_END, 0));
     }
-    Ok(())
 }
 
 /// Takes all bytes, and fails at a flush after so many that do not fail.
@@ -345,44 +319,31 @@ impl Write for Unflushed {
     }
 }
 
-/// With a writer whose flush fails after so many flushes, a run with one analysis comes to this answer and to so many
-/// faults of the writer.
-fn comes_to(
+/// With a writer whose flush fails after so many flushes, a run of this file ends so, and its sink counts so many
+/// faults.
+fn ends_unflushed(
     rt: &(impl AllocGlobal + Threads + Wait + Sync),
+    file: &str,
+    strictness: Strictness,
     flushes_left: usize,
-    answer: Result<u8, RunFault>,
+    end: Ended,
     faults: u64,
 ) -> bool {
-    let mut source = Source::new(ANALYSED.as_bytes());
+    let mut listener = Listener::new(rt.alloc());
     let mut sink = Sink::new(Unflushed { flushes_left });
-    run(rt, rt.alloc(), &mut source, &mut sink) == answer && sink.faults() == faults
+    let bytes = file.as_bytes();
+    let answer = run_bytes(rt, rt.alloc(), bytes, &mut sink, strictness, &mut listener);
+    ended(answer) == end && sink.faults() == faults
 }
 
-/// What a strict run comes to whose second line is refused, if its writer fails at a flush after so many.
-fn strict_comes_to(
-    rt: &(impl AllocGlobal + Threads + Wait + Sync),
-    flushes_left: usize,
-) -> Result<u8, RunFault> {
-    let mut listener = Listener {
-        told: Vec::new(rt.alloc()),
-    };
-    let mut sink = Sink::new(Unflushed { flushes_left });
-    let file = b"boot 1\nshow 2\n";
-    run_bytes(
-        rt,
-        rt.alloc(),
-        file,
-        &mut sink,
-        Strictness::Strict,
-        &mut listener,
-    )
-}
+/// A scenario whose second line is refused.
+const REFUSED: &str = "boot 1\nshow 2\n";
 
 #[test]
 fn a_flush_that_fails_ends_a_run(rt: HostRuntime) {
-    assert!(rt; comes_to(&rt, 0, Err(RunFault::Write), 1));
-    assert!(rt; comes_to(&rt, 1, Err(RunFault::Write), 1));
-    assert!(rt; comes_to(&rt, 2, Ok(0), 0));
-    assert!(rt; strict_comes_to(&rt, 0) == Err(RunFault::Write));
-    assert!(rt; stop_of(&strict_comes_to(&rt, 1)) == Some((2, 10)));
+    assert!(rt; ends_unflushed(&rt, ANALYSED, Lenient, 0, AT_A_WRITE, 1));
+    assert!(rt; ends_unflushed(&rt, ANALYSED, Lenient, 1, AT_A_WRITE, 1));
+    assert!(rt; ends_unflushed(&rt, ANALYSED, Lenient, 2, AT_THE_END, 0));
+    assert!(rt; ends_unflushed(&rt, REFUSED, Strict, 0, AT_A_WRITE, 1));
+    assert!(rt; ends_unflushed(&rt, REFUSED, Strict, 1, (2, 10), 0));
 }
