@@ -1,5 +1,5 @@
-//! Tests of files: certificates and what the checker says of them, dumps, pictures, rows of sweeps, and what a person is
-//! told. What a program shows of texts is an example.
+//! Tests of files: certificates and what the checker says of them, dumps, pictures, rows of sweeps, and what a person
+//! is told. What a program shows of texts is an example.
 #![tactic(auto)]
 
 #[cfg(test)]

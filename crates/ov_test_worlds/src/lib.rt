@@ -1,4 +1,5 @@
-//! Tests of messages, handlers and nodes, of worlds with their snapshots and reports, of runs of scenarios, and of halls.
+//! Tests of messages, handlers and nodes, of worlds with their snapshots and reports, of scenarios that run, and of
+//! halls.
 #![tactic(auto)]
 
 #[cfg(test)]

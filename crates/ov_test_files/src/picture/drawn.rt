@@ -4,14 +4,14 @@ use LinkClass::{CutToFar, SideToCut};
 use ov_ids::NodeId;
 use ov_picture::{ChosenEntry, Drawing, LinkClass, NodeClass, PictureFault};
 
-/// The class of each node, and whether it is drawn as a member.
-type Nodes = [(NodeClass, bool)];
+/// The class of a node, and whether it is drawn as a member.
+type NodeRow = (NodeClass, bool);
 
-/// The class of each link, and the place of the path that goes along it.
-type Links = [(LinkClass, Option<usize>)];
+/// The class of a link, and the place of the path that goes along it.
+type LinkRow = (LinkClass, Option<usize>);
 
 /// Whether the nodes are drawn so.
-fn has_nodes(drawing: &Drawing, nodes: &Nodes) -> bool {
+fn has_nodes(drawing: &Drawing, nodes: &[NodeRow]) -> bool {
     let drawn = drawing.nodes.as_slice();
     for (node, wanted) in drawn.iter().zip(nodes) {
         if node.class != wanted.0 || node.is_member != wanted.1 {
@@ -22,7 +22,7 @@ fn has_nodes(drawing: &Drawing, nodes: &Nodes) -> bool {
 }
 
 /// Whether the links are drawn so.
-fn has_links(drawing: &Drawing, links: &Links) -> bool {
+fn has_links(drawing: &Drawing, links: &[LinkRow]) -> bool {
     let drawn = drawing.links.as_slice();
     for (link, wanted) in drawn.iter().zip(links) {
         if link.class != wanted.0 || link.path != wanted.1 {
@@ -36,8 +36,8 @@ fn has_links(drawing: &Drawing, links: &Links) -> bool {
 fn is_drawn(
     drawing: &Result<Drawing, PictureFault>,
     paths: usize,
-    nodes: &Nodes,
-    links: &Links,
+    nodes: &[NodeRow],
+    links: &[LinkRow],
 ) -> bool {
     match drawing {
         Ok(drawing) => {
@@ -48,7 +48,7 @@ fn is_drawn(
 }
 
 /// A node is drawn as a member exactly if it is in the group.
-const SQUARE: [(NodeClass, bool); 4] = [
+const SQUARE: [NodeRow; 4] = [
     (NodeClass::Near, true),
     (NodeClass::Cut, false),
     (NodeClass::Far, true),
@@ -87,7 +87,10 @@ fn no_such_entry(rt: HostRuntime) {
         i: NodeId(1),
         j: NodeId(2),
     });
-    let refused = matches!(&drawn_square(rt.alloc(), pair), Err(PictureFault::NoSuchEntry));
+    let refused = matches!(
+        &drawn_square(rt.alloc(), pair),
+        Err(PictureFault::NoSuchEntry)
+    );
     assert!(rt; refused);
 }
 

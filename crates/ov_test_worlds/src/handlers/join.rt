@@ -20,7 +20,7 @@ fn is_dropped_for_9(alloc: Global) -> Result<bool, Fail> {
     let draws = &mut Draws::new(&words);
     let moves = on_join(alloc, &mut views, draws, NodeId(9))?;
     let changes = [Change::Down(7), Change::Up(9)];
-    let is_told = are_moves(alloc, &moves, &changes, &FULL_VIEW)?;
+    let is_told = are_moves(alloc, &moves, &changes, &FULL_VIEW);
     Ok(is_told && has(&views, &[3, 9], &[7]) && draws.left() == 63)
 }
 
@@ -39,7 +39,7 @@ fn is_passed_on(alloc: Global) -> Result<bool, Fail> {
     let mut views = views_with(3, sized(5, 30)?, &[1, 5], &[], &words);
     let draws = &mut Draws::new(&words);
     let moves = on_forward_join(alloc, &mut views, draws, NodeId(1), NodeId(9), 3)?;
-    let is_told = are_moves(alloc, &moves, &[], &PASSED_ON)?;
+    let is_told = are_moves(alloc, &moves, &[], &PASSED_ON);
     Ok(is_told && has(&views, &[1, 5], &[9]) && draws.left() == 63)
 }
 
@@ -49,7 +49,7 @@ fn is_taken_up(alloc: Global) -> Result<bool, Fail> {
     let mut views = views_with(1, sized(5, 30)?, &[3, 7], &[4, 6], &words);
     let draws = &mut Draws::new(&words);
     let moves = on_joined(alloc, &mut views, draws, NodeId(4))?;
-    let is_told = are_moves(alloc, &moves, &[Change::Up(4)], &[])?;
+    let is_told = are_moves(alloc, &moves, &[Change::Up(4)], &[]);
     Ok(is_told && has(&views, &[3, 4, 7], &[6]) && draws.left() == 64)
 }
 

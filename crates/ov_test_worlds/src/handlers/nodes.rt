@@ -2,7 +2,7 @@
 use ov_ids::{NodeId, Params};
 use ov_test_kit::is_spelt;
 use ov_views::{Moves, ViewChange, Views};
-use ov_wire::{Message, WireFault};
+use ov_wire::Message;
 use ov_words::{Draws, Words};
 use std::alloc::Global;
 
@@ -58,17 +58,13 @@ pub fn numbered(change: ViewChange) -> Change {
 pub type Spelt = &'static [(u32, &'static [u8])];
 
 /// The sends are these bytes to these nodes.
-fn are_spelt(
-    alloc: Global,
-    sends: &[(NodeId, Message)],
-    expected: Spelt,
-) -> Result<bool, WireFault> {
+fn are_spelt(alloc: Global, sends: &[(NodeId, Message)], expected: Spelt) -> bool {
     for ((to, message), (receiver, bytes)) in sends.iter().zip(expected) {
-        if to.number() != *receiver || !is_spelt(alloc, message, *bytes)? {
-            return Ok(false);
+        if to.number() != *receiver || is_spelt(alloc, message, *bytes) != Ok(true) {
+            return false;
         }
     }
-    Ok(sends.len() == expected.len())
+    sends.len() == expected.len()
 }
 
 fn are_changes(changes: &[ViewChange], expected: &[Change]) -> bool {
@@ -81,14 +77,6 @@ fn are_changes(changes: &[ViewChange], expected: &[Change]) -> bool {
 }
 
 /// The moves are these changes, and these bytes to these nodes.
-pub fn are_moves(
-    alloc: Global,
-    moves: &Moves,
-    changes: &[Change],
-    sends: Spelt,
-) -> Result<bool, WireFault> {
-    if !are_changes(&moves.changes, changes) {
-        return Ok(false);
-    }
-    are_spelt(alloc, &moves.sends, sends)
+pub fn are_moves(alloc: Global, moves: &Moves, changes: &[Change], sends: Spelt) -> bool {
+    are_changes(&moves.changes, changes) && are_spelt(alloc, &moves.sends, sends)
 }

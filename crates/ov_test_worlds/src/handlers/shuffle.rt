@@ -5,7 +5,6 @@ use ov_test_kit::{sized, words};
 use ov_views::Views;
 use ov_words::Draws;
 use std::alloc::Global;
-use std::process::Abort;
 use std::test::Fail;
 
 /// To node 8, SHUFFLE of node 1 by itself with 4 steps left, of 1, 3, 8, 6 and 4.
@@ -20,13 +19,11 @@ static SHUFFLE: [(u32, &'static [u8]); 1] = [(
 /// To node 1, the answer of node 8, of 2 alone.
 static REPLY: [(u32, &'static [u8]); 1] = [(1, &[1, 8, 0, 0, 0, 8, 1, 0, 0, 0, 2])];
 
-/// Node 1 starts a shuffle, and sends `SHUFFLE`. This is a copy of its list.
-fn starts(rt: &impl Abort, alloc: Global, first: &Views) -> Result<Sent, Fail> {
-    let mut sent = Sent::new(alloc);
+/// Node 1 starts a shuffle, and sends `SHUFFLE`. Its list is kept.
+fn starts(alloc: Global, first: &Views, sent: &mut Sent) -> Result<bool, Fail> {
     let words = words(&[1, 0, 0, 1, 0]);
-    let moves = start(alloc, first, &mut sent, &mut Draws::new(&words))?;
-    assert!(rt; are_moves(alloc, &moves, &[], &SHUFFLE)?);
-    Ok(sent.copy()?)
+    let moves = start(alloc, first, sent, &mut Draws::new(&words))?;
+    Ok(are(sent.as_slice(), &[1, 3, 8, 6, 4]) && are_moves(alloc, &moves, &[], &SHUFFLE))
 }
 
 /// Node 8 takes the list of node 1 in, and sends `REPLY`.
@@ -36,24 +33,25 @@ fn is_answered(alloc: Global) -> Result<bool, Fail> {
     let ids = [NodeId(1), NodeId(3), NodeId(8), NodeId(6), NodeId(4)];
     let draws = &mut Draws::new(&words);
     let moves = on_shuffle(alloc, &mut second, draws, NodeId(1), NodeId(1), 4, &ids)?;
-    Ok(has(&second, &[1], &[2, 3, 4, 6]) && are_moves(alloc, &moves, &[], &REPLY)?)
+    Ok(has(&second, &[1], &[2, 3, 4, 6]) && are_moves(alloc, &moves, &[], &REPLY))
 }
 
-/// Node 1 takes 2 in, and sends nothing.
+/// Node 1 takes 2 in by a copy of its list, and sends nothing.
 fn is_taken_in(alloc: Global, first: &mut Views, sent: &Sent) -> Result<bool, Fail> {
     let words = words(&[]);
     let draws = &mut Draws::new(&words);
-    let moves = on_reply(alloc, first, sent, draws, NodeId(8), &[NodeId(2)])?;
-    Ok(has(first, &[3, 8], &[2, 4, 6]) && are_moves(alloc, &moves, &[], &[])?)
+    let copy = sent.copy()?;
+    let moves = on_reply(alloc, first, &copy, draws, NodeId(8), &[NodeId(2)])?;
+    Ok(has(first, &[3, 8], &[2, 4, 6]) && are_moves(alloc, &moves, &[], &[]))
 }
 
 #[test]
 fn a_shuffle_goes_there_and_back(rt: HostRuntime) -> Result<(), Fail> {
     let alloc = rt.alloc();
     let mut first = views_with(1, sized(5, 30)?, &[3, 8], &[4, 6], &words(&[]));
-    let sent = starts(&rt, alloc, &first)?;
-    assert!(&rt; are(sent.as_slice(), &[1, 3, 8, 6, 4]));
-    assert!(&rt; is_answered(alloc)?);
-    assert!(&rt; is_taken_in(alloc, &mut first, &sent)?);
+    let mut sent = Sent::new(alloc);
+    assert!(rt; starts(alloc, &first, &mut sent)?);
+    assert!(rt; is_answered(alloc)?);
+    assert!(rt; is_taken_in(alloc, &mut first, &sent)?);
     Ok(())
 }

@@ -3,7 +3,6 @@ use ov_test_kit::{ids, is_spelt, message_id, payload};
 use ov_wire::{Body, Message, WireFault, decode};
 use std::alloc::Global;
 use std::process::Abort;
-use std::test::Fail;
 
 fn message(from: u32, body: Body) -> Message {
     Message {
@@ -20,45 +19,49 @@ fn fault(alloc: Global, bytes: &[u8]) -> u32 {
     }
 }
 
-/// Each part of the bytes is too short, and one byte more is too long.
-fn ends_there(alloc: Global, bytes: &[u8]) -> Result<bool, OutOfMemory> {
-    for len in 0..bytes.len() {
-        if fault(alloc, &bytes[..len]) != 1 {
-            return Ok(false);
-        }
-    }
+/// One byte more is too long.
+fn is_longer_refused(alloc: Global, bytes: &[u8]) -> Result<bool, OutOfMemory> {
     let mut longer = Vec::from_slice(alloc, bytes)?;
     longer.push(0)?;
     Ok(fault(alloc, &longer) == 5)
 }
 
-/// The message has these bytes, and so do its copy and what is read of them.
-fn is_read_back(alloc: Global, message: &Message, bytes: &[u8]) -> Result<bool, WireFault> {
-    let read = decode(alloc, bytes)?;
-    let copy = message.copy(alloc).map_err(|_| WireFault::OutOfMemory)?;
-    for message in [message, &read, &copy] {
-        if !is_spelt(alloc, message, bytes)? {
-            return Ok(false);
+/// Each part of the bytes is too short, and one byte more is too long.
+fn ends_there(alloc: Global, bytes: &[u8]) -> bool {
+    for len in 0..bytes.len() {
+        if fault(alloc, &bytes[..len]) != 1 {
+            return false;
         }
     }
-    Ok(true)
+    is_longer_refused(alloc, bytes) == Ok(true)
+}
+
+/// The copy of the message has these bytes.
+fn is_copied(alloc: Global, message: &Message, bytes: &[u8]) -> Result<bool, WireFault> {
+    let copy = message.copy(alloc).map_err(|_| WireFault::OutOfMemory)?;
+    is_spelt(alloc, &copy, bytes)
+}
+
+/// What is read of these bytes has them.
+fn is_read_back(alloc: Global, bytes: &[u8]) -> Result<bool, WireFault> {
+    let read = decode(alloc, bytes)?;
+    is_spelt(alloc, &read, bytes)
 }
 
 /// Both ways between the message and its bytes; each part of the bytes is too short, and one byte more is too long.
-fn both_ways(rt: &impl Abort, alloc: Global, message: &Message, bytes: &[u8]) -> Result<(), Fail> {
-    assert!(rt; is_read_back(alloc, message, bytes)?);
-    assert!(rt; ends_there(alloc, bytes)?);
-    Ok(())
+fn both_ways(alloc: Global, message: &Message, bytes: &[u8]) -> bool {
+    is_spelt(alloc, message, bytes) == Ok(true)
+        && is_copied(alloc, message, bytes) == Ok(true)
+        && is_read_back(alloc, bytes) == Ok(true)
+        && ends_there(alloc, bytes)
 }
 
 /// The same of a message with a list.
-fn list_both_ways(
-    rt: &impl Abort,
-    alloc: Global,
-    message: Message,
-    bytes: &[u8],
-) -> Result<(), Fail> {
-    both_ways(rt, alloc, &message, bytes)
+fn list_both_ways(alloc: Global, message: Result<Message, OutOfMemory>, bytes: &[u8]) -> bool {
+    match message {
+        Ok(message) => both_ways(alloc, &message, bytes),
+        Err(_) => false,
+    }
 }
 
 /// Bytes, and the number of their fault or 0.
@@ -79,11 +82,9 @@ static OF_JOIN: [Judged; 5] = [
 ];
 
 #[test]
-fn join_bytes(rt: HostRuntime) -> Result<(), Fail> {
-    let alloc = rt.alloc();
-    both_ways(&rt, alloc, &message(2, Body::Join), &[1, 1, 0, 0, 0, 2])?;
-    are_judged(&rt, alloc, &OF_JOIN);
-    Ok(())
+fn join_bytes(rt: HostRuntime) {
+    assert!(rt; both_ways(rt.alloc(), &message(2, Body::Join), &[1, 1, 0, 0, 0, 2]));
+    are_judged(&rt, rt.alloc(), &OF_JOIN);
 }
 
 fn shuffle(alloc: Global, ttl: u8, numbers: &[u32]) -> Result<Message, OutOfMemory> {
@@ -114,67 +115,75 @@ fn refuses_18(rt: &impl Abort, alloc: Global) {
 }
 
 #[test]
-fn shuffle_bytes(rt: HostRuntime) -> Result<(), Fail> {
+fn shuffle_bytes(rt: HostRuntime) {
     let alloc = rt.alloc();
-    let empty = shuffle(alloc, 4, &[])?;
-    list_both_ways(&rt, alloc, empty, &[1, 7, 0, 0, 0, 1, 0, 0, 0, 1, 4, 0])?;
-    let full = shuffle(alloc, 15, &[0x0102_0304; 17])?;
-    list_both_ways(&rt, alloc, full, &full_shuffle(17))?;
+    let empty = [1, 7, 0, 0, 0, 1, 0, 0, 0, 1, 4, 0];
+    assert!(rt; list_both_ways(alloc, shuffle(alloc, 4, &[]), &empty));
+    let full = shuffle(alloc, 15, &[0x0102_0304; 17]);
+    assert!(rt; list_both_ways(alloc, full, &full_shuffle(17)));
     refuses_18(&rt, alloc);
-    Ok(())
 }
 
-/// A message of each kind without a list, and its bytes.
-fn plain() -> [(Message, &'static [u8]); 10] {
-    let node = NodeId(9);
-    let id = message_id(0x0102_0304, 0x0506_0708);
-    let first = message_id(1, 0);
-    [
-        (
-            message(1, Body::ForwardJoin { node, ttl: 6 }),
-            &[1, 2, 0, 0, 0, 1, 0, 0, 0, 9, 6],
-        ),
-        (message(3, Body::Joined), &[1, 3, 0, 0, 0, 3]),
-        (
-            message(1, Body::Neighbor { high: true }),
-            &[1, 4, 0, 0, 0, 1, 1],
-        ),
-        (
-            message(1, Body::Neighbor { high: false }),
-            &[1, 4, 0, 0, 0, 1, 0],
-        ),
-        (
-            message(1, Body::NeighborReply { accepted: true }),
-            &[1, 5, 0, 0, 0, 1, 1],
-        ),
-        (
-            message(1, Body::NeighborReply { accepted: false }),
-            &[1, 5, 0, 0, 0, 1, 0],
-        ),
-        (
-            message(0xffff_fffe, Body::Disconnect),
-            &[1, 6, 255, 255, 255, 254],
-        ),
-        (
-            message(5, Body::IHave { id }),
-            &[1, 10, 0, 0, 0, 5, 1, 2, 3, 4, 5, 6, 7, 8],
-        ),
-        (
-            message(2, Body::Graft { id: first }),
-            &[1, 0x0b, 0, 0, 0, 2, 0, 0, 0, 1, 0, 0, 0, 0],
-        ),
-        (message(2, Body::Prune), &[1, 0x0c, 0, 0, 0, 2]),
-    ]
+/// What a message without a list says.
+#[derive(Clone, Copy)]
+enum Plain {
+    /// The new node and the steps left.
+    ForwardJoin(u32, u8),
+    Joined,
+    Neighbor(bool),
+    NeighborReply(bool),
+    Disconnect,
+    /// The node and the number of a broadcast.
+    IHave(u32, u32),
+    Graft(u32, u32),
+    Prune,
 }
 
-/// Both ways for each of these.
-fn plain_both_ways(rt: &impl Abort, alloc: Global) -> Result<(), Fail> {
-    let rows = plain();
-    for (message, bytes) in &rows {
-        both_ways(rt, alloc, message, *bytes)?;
+fn body_of(plain: Plain) -> Body {
+    match plain {
+        Plain::ForwardJoin(node, ttl) => Body::ForwardJoin {
+            node: NodeId(node),
+            ttl,
+        },
+        Plain::Joined => Body::Joined,
+        Plain::Neighbor(high) => Body::Neighbor { high },
+        Plain::NeighborReply(accepted) => Body::NeighborReply { accepted },
+        Plain::Disconnect => Body::Disconnect,
+        Plain::IHave(origin, seq) => Body::IHave {
+            id: message_id(origin, seq),
+        },
+        Plain::Graft(origin, seq) => Body::Graft {
+            id: message_id(origin, seq),
+        },
+        Plain::Prune => Body::Prune,
     }
-    Ok(())
 }
+
+/// From whom a message comes, what it says, and its bytes.
+static PLAIN: [(u32, Plain, &'static [u8]); 10] = [
+    (
+        1,
+        Plain::ForwardJoin(9, 6),
+        &[1, 2, 0, 0, 0, 1, 0, 0, 0, 9, 6],
+    ),
+    (3, Plain::Joined, &[1, 3, 0, 0, 0, 3]),
+    (1, Plain::Neighbor(true), &[1, 4, 0, 0, 0, 1, 1]),
+    (1, Plain::Neighbor(false), &[1, 4, 0, 0, 0, 1, 0]),
+    (1, Plain::NeighborReply(true), &[1, 5, 0, 0, 0, 1, 1]),
+    (1, Plain::NeighborReply(false), &[1, 5, 0, 0, 0, 1, 0]),
+    (0xffff_fffe, Plain::Disconnect, &[1, 6, 255, 255, 255, 254]),
+    (
+        5,
+        Plain::IHave(0x0102_0304, 0x0506_0708),
+        &[1, 10, 0, 0, 0, 5, 1, 2, 3, 4, 5, 6, 7, 8],
+    ),
+    (
+        2,
+        Plain::Graft(1, 0),
+        &[1, 0x0b, 0, 0, 0, 2, 0, 0, 0, 1, 0, 0, 0, 0],
+    ),
+    (2, Plain::Prune, &[1, 0x0c, 0, 0, 0, 2]),
+];
 
 fn reply(alloc: Global, numbers: &[u32]) -> Result<Message, OutOfMemory> {
     let ids = ids(alloc, numbers)?;
@@ -206,14 +215,6 @@ fn refuses_1025(alloc: Global) -> bool {
     fault(alloc, &bytes) == 4 && fault(alloc, &bytes[..18]) == 4
 }
 
-/// Both ways for messages with a list or a payload.
-fn lists_both_ways(rt: &impl Abort, alloc: Global) -> Result<(), Fail> {
-    list_both_ways(rt, alloc, reply(alloc, &[5, 9])?, &OF_REPLY)?;
-    list_both_ways(rt, alloc, gossip(alloc, 0, b"hi")?, &OF_GOSSIP)?;
-    let long = gossip(alloc, 0x0203, &[7; 1024])?;
-    list_both_ways(rt, alloc, long, &long_gossip(0))
-}
-
 /// A time to live out of range stands before a count out of range, and both before what is missing or follows.
 static FIRST_FAULTS: [Judged; 10] = [
     (&[1, 2, 0, 0, 0, 1, 0, 0, 0, 9, 0x10], 4),
@@ -229,10 +230,18 @@ static FIRST_FAULTS: [Judged; 10] = [
 ];
 
 #[test]
-fn the_bytes_of_each_kind(rt: HostRuntime) -> Result<(), Fail> {
-    plain_both_ways(&rt, rt.alloc())?;
-    lists_both_ways(&rt, rt.alloc())?;
-    are_judged(&rt, rt.alloc(), &FIRST_FAULTS);
-    assert!(&rt; refuses_1025(rt.alloc()));
-    Ok(())
+fn the_bytes_of_each_kind(rt: HostRuntime) {
+    let alloc = rt.alloc();
+    for (from, plain, bytes) in &PLAIN {
+        assert!(rt;
+            both_ways(alloc, &message(*from, body_of(*plain)), bytes),
+            "of {bytes:?}"
+        );
+    }
+    assert!(rt; list_both_ways(alloc, reply(alloc, &[5, 9]), &OF_REPLY));
+    assert!(rt; list_both_ways(alloc, gossip(alloc, 0, b"hi"), &OF_GOSSIP));
+    let long = gossip(alloc, 0x0203, &[7; 1024]);
+    assert!(rt; list_both_ways(alloc, long, &long_gossip(0)));
+    are_judged(&rt, alloc, &FIRST_FAULTS);
+    assert!(rt; refuses_1025(alloc));
 }

@@ -1,12 +1,12 @@
 ghost use Rattle.std.specs.Prelude.{IfOk};
 ghost use Rattle.ov_peer.specs.Faults.{IsInputInRange};
 
-use crate::nodes::told::{is_whole, put_sends};
-use ov_ids::{BadParams, NodeId};
+use crate::nodes::told::{is_spelt_as, is_whole, put_sends};
+use ov_ids::{IdsText, NodeId};
 use ov_peer::{Delivery, Input, Output, Peer, PeerFault};
-use ov_test_kit::{message_id, payload, put_hex, put_ids, sized};
+use ov_test_kit::{message_id, payload, put_hex, sized};
 use ov_views::ViewChange;
-use ov_wire::{Message, WireFault, decode};
+use ov_wire::{WireFault, decode};
 use ov_words::Words;
 use std::alloc::{AllocError, Global};
 use std::process::Abort;
@@ -40,19 +40,19 @@ fn input_of(alloc: Global, given: Given<'_>) -> Result<Input, Fail>
     })
 }
 
-/// The node's views and branches, the number of its next broadcast, and whether the timer of (7, 0) runs.
-fn state(alloc: Global, peer: &Peer) -> Result<String, AllocError> {
-    let mut told = String::new(alloc);
-    put_ids(&mut told, "active", peer.active())?;
-    put_ids(&mut told, "passive", peer.passive())?;
-    put_ids(&mut told, "eager", peer.eager())?;
-    put_ids(&mut told, "lazy", peer.lazy())?;
+/// Appends the node's views and branches, the number of its next broadcast, and whether the timer of (7, 0) runs.
+fn put_state(told: &mut String, peer: &Peer) -> Result<(), AllocError> {
+    let (active, passive) = (IdsText(peer.active()), IdsText(peer.passive()));
+    let (eager, lazy) = (IdsText(peer.eager()), IdsText(peer.lazy()));
     let made = peer.made();
-    write!(told, "made{made}")?;
+    write!(
+        told,
+        "active{active}passive{passive}eager{eager}lazy{lazy}made{made}"
+    )?;
     if peer.has_timer(message_id(7, 0)) {
         told.push_str("timer")?;
     }
-    Ok(told)
+    Ok(())
 }
 
 fn put_changes(told: &mut String, changes: &[ViewChange]) -> Result<(), AllocError> {
@@ -68,40 +68,19 @@ fn put_changes(told: &mut String, changes: &[ViewChange]) -> Result<(), AllocErr
 
 fn put_delivery(told: &mut String, delivery: &Delivery) -> Result<(), AllocError> {
     let node = delivery.node.number();
-    let origin = delivery.id.origin.number();
-    let seq = delivery.id.seq;
+    let (origin, seq) = (delivery.id.origin.number(), delivery.id.seq);
     write!(told, ";{node}delivers({origin},{seq})")?;
     put_hex(told, delivery.payload.as_slice())
 }
 
-/// What an output or a plan says.
-fn told_of(
-    alloc: Global,
-    sends: &[(NodeId, Message)],
-    changes: &[ViewChange],
-    delivered: Option<&Delivery>,
-) -> Result<String, WireFault> {
-    let mut told = String::new(alloc);
-    put_changes(&mut told, changes)?;
-    put_sends(alloc, &mut told, ";", sends)?;
-    if let Some(delivery) = delivered {
-        put_delivery(&mut told, delivery)?;
+/// Appends what a step did.
+fn put_output(alloc: Global, told: &mut String, output: &Output) -> Result<(), WireFault> {
+    put_changes(told, &output.changes)?;
+    put_sends(alloc, told, ";", &output.sends)?;
+    if let Some(delivery) = &output.delivered {
+        put_delivery(told, delivery)?;
     }
-    Ok(told)
-}
-
-fn done(alloc: Global, output: &Output) -> Result<String, WireFault> {
-    told_of(
-        alloc,
-        &output.sends,
-        &output.changes,
-        output.delivered.as_ref(),
-    )
-}
-
-fn is_done(alloc: Global, output: &Output, planned: &str) -> Result<bool, WireFault> {
-    let done = done(alloc, output)?;
-    Ok(done.as_str() == planned)
+    Ok(())
 }
 
 /// How a step is taken: at once, or as it was planned.
@@ -112,115 +91,66 @@ enum Way {
 }
 
 /// A step by a plan, which says beforehand what the node does.
-fn follow(
-    rt: &impl Abort,
-    alloc: Global,
-    peer: &mut Peer,
-    input: Input,
-    words: &Words,
-) -> Result<Result<Output, PeerFault>, WireFault>
+fn follow(peer: &mut Peer, input: Input, words: &Words) -> Result<Output, PeerFault>
     requires { IsInputInRange input }
 {
-    let plan = match peer.plan(input, words) {
-        Ok(plan) => plan,
-        Err(fault) => return Ok(Err(fault)),
-    };
-    let planned = told_of(alloc, &plan.sends, &plan.changes, plan.delivered.as_ref())?;
+    let plan = peer.plan(input, words)?;
     match peer.apply(plan) {
-        Ok(output) => {
-            assert!(rt; is_done(alloc, &output, planned.as_str())?);
-            Ok(Ok(output))
-        }
-        Err(_) => Ok(Err(PeerFault::OutOfMemory)),
+        Ok(output) => Ok(output),
+        Err(_) => Err(PeerFault::OutOfMemory),
     }
-}
-
-fn fives() -> Words {
-    Words::new([5; 64])
 }
 
 /// One step, where each word of the event is 5.
-fn take(
-    rt: &impl Abort,
-    alloc: Global,
-    peer: &mut Peer,
-    given: Given<'_>,
-    way: Way,
-) -> Result<Result<Output, PeerFault>, Fail> {
-    let words = fives();
-    let input = input_of(alloc, given)?;
+fn take(alloc: Global, peer: &mut Peer, given: Given<'_>, way: Way) -> Result<Output, PeerFault> {
+    let words = Words::new([5; 64]);
+    let Ok(input) = input_of(alloc, given) else {
+        return Err(PeerFault::OutOfMemory);
+    };
     match way {
-        Way::AtOnce => Ok(peer.step(input, &words)),
-        Way::PlumPlan => Ok(follow(rt, alloc, peer, input, &words)?),
+        Way::AtOnce => peer.step(input, &words),
+        Way::PlumPlan => follow(peer, input, &words),
     }
 }
 
-fn is_as(alloc: Global, peer: &Peer, before: &str) -> Result<bool, AllocError> {
-    let now = state(alloc, peer)?;
-    Ok(now.as_str() == before)
-}
-
-/// One step. Where memory is refused the node is as before, and the step is taken anew.
-fn step(
-    rt: &impl Abort,
+/// Appends what is told of a step: the state after it, and what it did.
+fn put_step(
     alloc: Global,
-    peer: &mut Peer,
-    given: Given<'_>,
-    way: Way,
-) -> Result<Result<Output, PeerFault>, Fail> {
-    let before = state(alloc, peer)?;
-    match take(rt, alloc, peer, given, way)? {
-        Err(PeerFault::OutOfMemory) => {
-            assert!(rt; is_as(alloc, peer, before.as_str())?);
-            take(rt, alloc, peer, given, way)
-        }
-        answer => Ok(answer),
-    }
-}
-
-/// The text of one step: the state after it, and its effects.
-fn told_after(
-    rt: &impl Abort,
-    alloc: Global,
-    peer: &mut Peer,
-    given: Given<'_>,
-    way: Way,
-) -> Result<String, Fail> {
-    let answer = step(rt, alloc, peer, given, way)?;
-    let mut told = state(alloc, peer)?;
+    told: &mut String,
+    peer: &Peer,
+    answer: &Result<Output, PeerFault>,
+) -> Result<(), WireFault> {
+    put_state(told, peer)?;
     match answer {
-        Ok(output) => told.push_str(&done(alloc, &output)?)?,
+        Ok(output) => put_output(alloc, told, output),
         Err(fault) => {
             let number = fault.number();
-            write!(told, ";refused{number}")?;
+            Ok(write!(told, ";refused{number}")?)
         }
     }
-    Ok(told)
 }
 
-/// The node does as each row says, one after another. A row has what comes to the node; then its state afterwards,
-/// its changes, what it sends to whom, and what it delivers, where spaces do not count.
-fn goes(
-    rt: &impl Abort,
-    alloc: Global,
-    peer: &mut Peer,
-    rows: &[(Given<'static>, &'static str)],
-    way: Way,
-) -> Result<(), Fail> {
+/// Whether this is told of a step.
+fn does(alloc: Global, peer: &mut Peer, given: Given<'_>, way: Way, expected: &str) -> bool {
+    let answer = take(alloc, peer, given, way);
+    let mut told = String::new(alloc);
+    let is_told = put_step(alloc, &mut told, peer, &answer).is_ok();
+    is_told && is_spelt_as(told.as_str(), expected)
+}
+
+/// What comes to a node; then its state afterwards, its changes, what it sends to whom, and what it delivers, where
+/// spaces do not count.
+type Row = (Given<'static>, &'static str);
+
+/// The node does as each row says, one after another.
+fn goes(rt: &impl Abort, alloc: Global, peer: &mut Peer, rows: &[Row], way: Way) {
     for (given, expected) in rows {
-        let told = told_after(rt, alloc, peer, *given, way)?;
-        let expected = expected.replace(alloc, " ", "")?;
-        assert_eq!(rt; told.as_str(), expected.as_str());
+        assert!(rt; does(alloc, peer, *given, way, expected), "{expected}");
     }
-    Ok(())
-}
-
-fn node(alloc: Global, me: u32, active: u32) -> Result<Peer, BadParams> {
-    Ok(Peer::new(alloc, NodeId(me), sized(active, 30)?))
 }
 
 /// Node 1 with two active places. Word 5 picks the second of two.
-static FULL_VIEW: [(Given<'static>, &'static str); 17] = [
+static FULL_VIEW: [Row; 17] = [
     (Given::Boot, "active - passive - eager - lazy - made 0"),
     (
         Given::BootBy(4),
@@ -289,25 +219,17 @@ static FULL_VIEW: [(Given<'static>, &'static str); 17] = [
     ),
 ];
 
-/// Node 1 with two active places does as each row says.
-fn small_node_goes(
-    rt: &impl Abort,
-    alloc: Global,
-    rows: &[(Given<'static>, &'static str)],
-    way: Way,
-) -> Result<(), Fail> {
-    let mut peer = node(alloc, 1, 2)?;
-    goes(rt, alloc, &mut peer, rows, way)
-}
-
 #[test]
 fn views_and_tree_go_together(rt: HostRuntime) -> Result<(), Fail> {
-    small_node_goes(&rt, rt.alloc(), &FULL_VIEW, Way::AtOnce)?;
-    small_node_goes(&rt, rt.alloc(), &FULL_VIEW, Way::PlumPlan)
+    for way in [Way::AtOnce, Way::PlumPlan] {
+        let mut peer = Peer::new(rt.alloc(), NodeId(1), sized(2, 30)?);
+        goes(&rt, rt.alloc(), &mut peer, &FULL_VIEW, way);
+    }
+    Ok(())
 }
 
 /// Node 2 comes to have neighbours 1 and 5, waits for (7, 0), and loses 1 with its note.
-static WAITS: [(Given<'static>, &'static str); 6] = [
+static WAITS: [Row; 6] = [
     (
         Given::Hears(&[1, 3, 0, 0, 0, 1]),
         "active 1 passive - eager 1 lazy - made 0; up 1",
@@ -335,7 +257,7 @@ static WAITS: [(Given<'static>, &'static str); 6] = [
 ];
 
 /// Node 2 asks 5 for (7, 0), broadcasts, takes 1 in anew, and gets (7, 0) twice.
-static GETS: [(Given<'static>, &'static str); 11] = [
+static GETS: [Row; 11] = [
     (
         Given::Timer(7, 0),
         "active 5 passive 1 eager 5 lazy - made 0 timer; to 5: 01 0b 00000002 00000007 00000000",
@@ -392,23 +314,21 @@ static GETS: [(Given<'static>, &'static str); 11] = [
 
 fn copy_goes(rt: &impl Abort, alloc: Global, peer: &Peer) -> Result<(), Fail> {
     let mut copy = peer.copy()?;
-    goes(rt, alloc, &mut copy, &GETS, Way::PlumPlan)
-}
-
-fn both_go(rt: &impl Abort, alloc: Global, peer: &mut Peer) -> Result<(), Fail> {
-    goes(rt, alloc, peer, &WAITS, Way::AtOnce)?;
-    copy_goes(rt, alloc, peer)?;
-    goes(rt, alloc, peer, &GETS, Way::AtOnce)
+    goes(rt, alloc, &mut copy, &GETS, Way::PlumPlan);
+    Ok(())
 }
 
 #[test]
 fn a_node_and_its_copy_go_their_own_ways(rt: HostRuntime) -> Result<(), Fail> {
-    let mut peer = node(rt.alloc(), 2, 5)?;
-    both_go(&rt, rt.alloc(), &mut peer)
+    let mut peer = Peer::new(rt.alloc(), NodeId(2), sized(5, 30)?);
+    goes(&rt, rt.alloc(), &mut peer, &WAITS, Way::AtOnce);
+    copy_goes(&rt, rt.alloc(), &peer)?;
+    goes(&rt, rt.alloc(), &mut peer, &GETS, Way::AtOnce);
+    Ok(())
 }
 
 /// Node 3 becomes a neighbour.
-static MET: [(Given<'static>, &'static str); 1] = [(
+static MET: [Row; 1] = [(
     Given::Hears(&[1, 3, 0, 0, 0, 3]),
     "active 3 passive - eager 3 lazy - made 0; up 3",
 )];
@@ -435,29 +355,21 @@ fn brings(alloc: Global, output: &Output, head: &[u8], payload: &[u8]) -> Result
     is_whole(alloc, &output.sends[0].1, head, payload)
 }
 
-/// The node takes this in and sends one message: this head and then `MOST`.
-fn sends_most(
-    rt: &impl Abort,
-    alloc: Global,
-    peer: &mut Peer,
-    given: Given<'_>,
-    head: &[u8],
-) -> Result<bool, Fail> {
-    match take(rt, alloc, peer, given, Way::AtOnce)? {
-        Ok(output) => Ok(brings(alloc, &output, head, most())?),
-        Err(_) => Ok(false),
-    }
-}
+/// The bytes of GOSSIP of node 1 before a payload of 1,024 bytes.
+static HEAD: [u8; 18] = [1, 9, 0, 0, 0, 1, 0, 0, 0, 1, 0, 0, 0, 0, 0, 0, 4, 0];
 
-fn broadcasts_most(rt: &impl Abort, alloc: Global, peer: &mut Peer) -> Result<(), Fail> {
-    goes(rt, alloc, peer, &MET, Way::AtOnce)?;
-    let sent = [1, 9, 0, 0, 0, 1, 0, 0, 0, 1, 0, 0, 0, 0, 0, 0, 4, 0];
-    assert!(rt; sends_most(rt, alloc, peer, Given::Broadcast(most()), &sent)?);
-    Ok(())
+/// The node broadcasts `MOST`, and sends one message: the head and then `MOST`.
+fn sends_most(alloc: Global, peer: &mut Peer) -> bool {
+    match take(alloc, peer, Given::Broadcast(most()), Way::AtOnce) {
+        Ok(output) => brings(alloc, &output, &HEAD, most()) == Ok(true),
+        Err(_) => false,
+    }
 }
 
 #[test]
 fn a_broadcast_of_1024_bytes(rt: HostRuntime) -> Result<(), Fail> {
-    let mut peer = node(rt.alloc(), 1, 2)?;
-    broadcasts_most(&rt, rt.alloc(), &mut peer)
+    let mut peer = Peer::new(rt.alloc(), NodeId(1), sized(2, 30)?);
+    goes(&rt, rt.alloc(), &mut peer, &MET, Way::AtOnce);
+    assert!(rt; sends_most(rt.alloc(), &mut peer));
+    Ok(())
 }

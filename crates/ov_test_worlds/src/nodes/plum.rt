@@ -1,7 +1,7 @@
-use crate::nodes::told::put_sends;
-use ov_ids::{MsgId, NodeId, OutOfMemory};
+use crate::nodes::told::{is_spelt_as, put_sends};
+use ov_ids::{IdsText, NodeId};
 use ov_plum::{Plum, Spread, TimerFault};
-use ov_test_kit::{message_id, payload, put_hex, put_ids};
+use ov_test_kit::{message_id, payload, put_hex};
 use ov_wire::WireFault;
 use std::alloc::{AllocError, Global};
 use std::process::Abort;
@@ -27,12 +27,11 @@ fn comes_up(rt: &impl Abort, plum: &mut Plum, id: u32) {
     plum.up(NodeId(id));
 }
 
-/// Node 2 with these neighbours.
-fn node(rt: &impl Abort, alloc: Global, near: &[u32]) -> Plum {
+/// Node 2 with neighbours 1 and 5.
+fn node(rt: &impl Abort, alloc: Global) -> Plum {
     let mut plum = Plum::new(alloc, NodeId(2));
-    for id in near {
-        comes_up(rt, &mut plum, *id);
-    }
+    comes_up(rt, &mut plum, 1);
+    comes_up(rt, &mut plum, 5);
     plum
 }
 
@@ -70,94 +69,58 @@ fn take(
     })
 }
 
-/// The node's neighbours, and which timers of (2,0), (2,1) and (7,0) run.
-fn state(alloc: Global, plum: &Plum) -> Result<String, AllocError> {
-    let mut told = String::new(alloc);
-    put_ids(&mut told, "eager", plum.eager())?;
-    put_ids(&mut told, "lazy", plum.lazy())?;
+/// Appends the node's neighbours, and which timers of (2,0), (2,1) and (7,0) run.
+fn put_state(told: &mut String, plum: &Plum) -> Result<(), AllocError> {
+    let (eager, lazy) = (IdsText(plum.eager()), IdsText(plum.lazy()));
+    write!(told, "eager{eager}lazy{lazy}")?;
     for (origin, seq) in [(2, 0), (2, 1), (7, 0)] {
         if plum.has_timer(message_id(origin, seq)) {
             write!(told, ",timer({origin},{seq})")?;
         }
     }
-    Ok(told)
+    Ok(())
 }
 
-fn put_delivered(told: &mut String, id: MsgId, payload: &[u8]) -> Result<(), AllocError> {
-    let origin = id.origin.number();
-    let seq = id.seq;
-    write!(told, ",delivered({origin},{seq}):")?;
-    put_hex(told, payload)
-}
-
+/// Appends what is sent and what is delivered.
 fn put_spread(alloc: Global, told: &mut String, spread: &Spread) -> Result<(), WireFault> {
     put_sends(alloc, told, ",", &spread.sends)?;
     if let Some((id, payload)) = &spread.delivered {
-        put_delivered(told, *id, payload.as_slice())?;
+        let (origin, seq) = (id.origin.number(), id.seq);
+        write!(told, ",delivered({origin},{seq}):")?;
+        put_hex(told, payload.as_slice())?;
     }
     Ok(())
 }
 
-/// The node's state and number of broadcasts are these.
-fn is_as(alloc: Global, plum: &Plum, before: &str, made: u32) -> Result<bool, AllocError> {
-    let now = state(alloc, plum)?;
-    Ok(now.as_str() == before && plum.made() == made)
-}
-
-/// One step. Where memory is refused the node is as before, and the step is taken anew.
-fn step(
-    rt: &impl Abort,
+/// Appends what is told of a step.
+fn put_step(
     alloc: Global,
-    plum: &mut Plum,
-    input: Input,
-) -> Result<Result<Spread, TimerFault>, AllocError> {
-    let before = state(alloc, plum)?;
-    let made = plum.made();
-    match take(rt, alloc, plum, input) {
-        Err(TimerFault::OutOfMemory) => {
-            assert!(rt; is_as(alloc, plum, before.as_str(), made)?);
-            Ok(take(rt, alloc, plum, input))
-        }
-        answer => Ok(answer),
+    told: &mut String,
+    plum: &Plum,
+    answer: &Result<Spread, TimerFault>,
+) -> Result<(), WireFault> {
+    put_state(told, plum)?;
+    match answer {
+        Ok(spread) => put_spread(alloc, told, spread),
+        Err(TimerFault::NoTimer) => Ok(told.push_str(",refused18")?),
+        Err(TimerFault::OutOfMemory) => Err(WireFault::OutOfMemory),
     }
 }
 
-/// What is told of one step.
-fn told_of(rt: &impl Abort, alloc: Global, plum: &mut Plum, input: Input) -> Result<String, Fail> {
-    let answer = step(rt, alloc, plum, input)?;
-    let mut told = state(alloc, plum)?;
-    match answer {
-        Err(TimerFault::NoTimer) => told.push_str(",refused18")?,
-        spread => put_spread(alloc, &mut told, &spread?)?,
-    }
-    Ok(told)
+/// Whether this is told of a step.
+fn does(rt: &impl Abort, alloc: Global, plum: &mut Plum, input: Input, expected: &str) -> bool {
+    let answer = take(rt, alloc, plum, input);
+    let mut told = String::new(alloc);
+    let is_told = put_step(alloc, &mut told, plum, &answer).is_ok();
+    is_told && is_spelt_as(told.as_str(), expected)
 }
 
 /// The node does as each row says, one after another. A row has what comes to the node; then its state afterwards,
 /// what it sends to whom, and what it delivers, where spaces do not count.
-fn goes(
-    rt: &impl Abort,
-    alloc: Global,
-    plum: &mut Plum,
-    rows: &[(Input, &'static str)],
-) -> Result<(), Fail> {
+fn goes(rt: &impl Abort, alloc: Global, plum: &mut Plum, rows: &[(Input, &'static str)]) {
     for (input, expected) in rows {
-        let told = told_of(rt, alloc, plum, *input)?;
-        let expected = expected.replace(alloc, " ", "")?;
-        assert_eq!(rt; told.as_str(), expected.as_str());
+        assert!(rt; does(rt, alloc, plum, *input, expected), "{expected}");
     }
-    Ok(())
-}
-
-/// Node 2 with these neighbours does as each row says.
-fn node_goes(
-    rt: &impl Abort,
-    alloc: Global,
-    near: &[u32],
-    rows: &[(Input, &'static str)],
-) -> Result<(), Fail> {
-    let mut plum = node(rt, alloc, near);
-    goes(rt, alloc, &mut plum, rows)
 }
 
 static AWAITED: [(Input, &str); 12] = [
@@ -194,8 +157,9 @@ static AWAITED: [(Input, &str); 12] = [
 ];
 
 #[test]
-fn an_awaited_message_comes(rt: HostRuntime) -> Result<(), Fail> {
-    node_goes(&rt, rt.alloc(), &[1, 5], &AWAITED)
+fn an_awaited_message_comes(rt: HostRuntime) {
+    let mut plum = node(&rt, rt.alloc());
+    goes(&rt, rt.alloc(), &mut plum, &AWAITED);
 }
 
 static BEFORE: [(Input, &str); 4] = [
@@ -233,17 +197,15 @@ static AFTER: [(Input, &str); 5] = [
 fn copy_goes(rt: &impl Abort, alloc: Global, plum: &Plum) -> Result<(), Fail> {
     let mut copy = plum.copy()?;
     assert!(rt; copy.made() == 1);
-    goes(rt, alloc, &mut copy, &AFTER)
-}
-
-fn copy_goes_first(rt: &impl Abort, alloc: Global, plum: &mut Plum) -> Result<(), Fail> {
-    goes(rt, alloc, plum, &BEFORE)?;
-    copy_goes(rt, alloc, plum)?;
-    goes(rt, alloc, plum, &AFTER)
+    goes(rt, alloc, &mut copy, &AFTER);
+    Ok(())
 }
 
 #[test]
 fn a_copy_goes_its_own_way(rt: HostRuntime) -> Result<(), Fail> {
-    let mut plum = node(&rt, rt.alloc(), &[1, 5]);
-    copy_goes_first(&rt, rt.alloc(), &mut plum)
+    let mut plum = node(&rt, rt.alloc());
+    goes(&rt, rt.alloc(), &mut plum, &BEFORE);
+    copy_goes(&rt, rt.alloc(), &plum)?;
+    goes(&rt, rt.alloc(), &mut plum, &AFTER);
+    Ok(())
 }

@@ -24,6 +24,18 @@ pub fn put_sends(
     Ok(())
 }
 
+/// The text is the expected one without its spaces.
+pub fn is_spelt_as(told: &str, expected: &str) -> bool {
+    let mut left = told.as_bytes();
+    for part in expected.split(' ') {
+        let Some(rest) = left.strip_prefix(part.as_bytes()) else {
+            return false;
+        };
+        left = rest;
+    }
+    left.is_empty()
+}
+
 /// The message's bytes are this head and then these.
 pub fn is_whole(
     alloc: Global,
