@@ -2,7 +2,7 @@
 use Rattle.std.specs.Prelude.{ℕ, ⊤, List, Result, Ok, Err}
 use Rattle.ov_io.specs.Refusal.{refusal_text}
 use Rattle.ov_arguments.specs.Arguments.{number_of}
-use Rattle.ov_run.specs.Faults.{run_fault_text}
+use Rattle.ov_run_meaning.specs.Faults.{run_fault_text}
 use Rattle.ov_commands.specs.GrowFaults.{growth_number}
 use Rattle.ov_arguments.specs.declared.arguments.ArgumentsFault.TheVariants.{BadArguments, OutOfMemory}
 use Rattle.ov_commands.specs.declared.grow_command_fault.GrowthFault.TheVariants as growth

@@ -10,14 +10,13 @@ use crate::fault_reasons::analysis_reason;
 use crate::program_outcome::ProgramFault;
 use crate::progress::PieceProgress;
 use crate::{print_fault, print_reason, print_refusal, tell_kind, without_memory};
-use ov_answers::{Request, Told, analyse_told};
+use ov_answers::{Answered, Request, Told, analyse_told};
 use ov_arguments::AnalysisRequest;
 use ov_commands::FileCommandFault;
 use ov_graphfile::{GraphFileFault, GroupFault, ids_of_group, read_graph, read_names};
 use ov_hints::{FileKind, comma_hint};
 use ov_ids::NodeId;
 use ov_io::{Sink, shown_name};
-use ov_run::Answered;
 use std::io::Write;
 use std::thread::Threads;
 

@@ -2,8 +2,8 @@
 ghost use Rattle.std.specs.Prelude.{◌≡◌, ◌<◌, [], Some, IfOk, IfErr};
 ghost use Rattle.std.specs.Io.Buffered.{writer_buffer};
 ghost use Rattle.ov_io.specs.Device.{most_faults};
-ghost use Rattle.ov_run.specs.Run.{IsRunInBlocks};
-ghost use Rattle.ov_run.specs.Strict.{strictness_of};
+ghost use Rattle.ov_run_meaning.specs.Run.{IsRunInBlocks};
+ghost use Rattle.ov_run_meaning.specs.Strict.{strictness_of};
 ghost use Rattle.overlay.specs.Program.{IsOfRequest};
 
 use crate::program_outcome::ProgramFault;
