@@ -17,7 +17,6 @@ use ov_graphfile::{GraphFileFault, GroupFault, ids_of_group, read_graph, read_na
 use ov_hints::{FileKind, comma_hint};
 use ov_ids::NodeId;
 use ov_io::{Sink, shown_name};
-use ov_run::Answered;
 use std::io::Write;
 use std::thread::Threads;
 

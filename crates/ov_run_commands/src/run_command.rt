@@ -1,7 +1,7 @@
 ghost use Rattle.std.specs.Prelude.{◌≡◌, ◌<◌, Some, IfOk};
 ghost use Rattle.ov_io.specs.Device.{most_faults};
-ghost use Rattle.ov_run.specs.Run.{IsRunOf};
-ghost use Rattle.ov_run.specs.Strict.{strictness_of};
+ghost use Rattle.ov_run_meaning.specs.Run.{IsRunOf};
+ghost use Rattle.ov_run_meaning.specs.Strict.{strictness_of};
 
 use crate::run_news::RunNews;
 use crate::runs_in_blocks::run_into_blocks;

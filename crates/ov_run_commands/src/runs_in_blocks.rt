@@ -2,8 +2,8 @@
 ghost use Rattle.std.specs.Prelude.{◌≡◌, ◌<◌, [], Some, IfOk};
 ghost use Rattle.std.specs.Io.Buffered.{writer_buffer};
 ghost use Rattle.ov_io.specs.Device.{most_faults};
-ghost use Rattle.ov_run.specs.Run.{IsRunInBlocks};
-ghost use Rattle.ov_run.specs.Strict.{strictness_of};
+ghost use Rattle.ov_run_meaning.specs.Run.{IsRunInBlocks};
+ghost use Rattle.ov_run_meaning.specs.Strict.{strictness_of};
 
 use crate::run_command::tell_run;
 use crate::run_news::RunNews;
