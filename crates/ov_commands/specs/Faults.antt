@@ -2,7 +2,7 @@
 use Rattle.std.specs.Prelude.{ℕ, List}
 use Rattle.ov_graphfile.specs.Groups as group
 use Rattle.ov_io.specs.Refusal.{refusal_text}
-use Rattle.ov_run.specs.Faults.{run_fault_text}
+use Rattle.ov_run_meaning.specs.Faults.{run_fault_text}
 use Rattle.ov_commands.specs.declared.command_fault.CommandFault.{CommandFault}
 use Rattle.ov_commands.specs.declared.command_fault.CommandFault.TheVariants.{Group, OfFile, Run}
 use Rattle.ov_commands.specs.declared.file_command_fault.FileCommandFault.{FileCommandFault}

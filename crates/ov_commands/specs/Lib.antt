@@ -5,3 +5,4 @@ pub mod Printing
 pub mod Pictures
 pub mod Dumps
 pub mod Code
+pub mod Progress

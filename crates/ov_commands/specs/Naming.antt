@@ -11,7 +11,7 @@ use Rattle.ov_graphfile.specs.declared.group_fault.GroupFault.{GroupFault}
 use Rattle.ov_io.specs.Device.{SinkState}
 use Rattle.ov_answers.specs.Telling.{IsToldOf}
 use Rattle.ov_answers.specs.declared.request.Told.{Told}
-use Rattle.ov_run.specs.declared.run_fault.RunFault.TheVariants as run
+use Rattle.ov_run_meaning.specs.declared.run_fault.RunFault.TheVariants as run
 use Rattle.ov_commands.specs.declared.command_fault.CommandFault.{CommandFault}
 use Rattle.ov_commands.specs.declared.command_fault.CommandFault.TheVariants.{Group, Run}
 

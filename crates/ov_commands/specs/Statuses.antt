@@ -1,7 +1,7 @@
 -- With which status the program ends after what a command did.
 use Rattle.std.specs.Prelude.{◌≡◌, ℕ, Result, Ok, Err}
-use Rattle.ov_run.specs.declared.answered.Answered.{Answered}
-use Rattle.ov_run.specs.declared.run_fault.RunFault.{RunFault}
+use Rattle.ov_answers.specs.declared.answered.Answered.{Answered}
+use Rattle.ov_run_meaning.specs.declared.run_fault.RunFault.{RunFault}
 use Rattle.ov_commands.specs.declared.command_fault.CommandFault.{CommandFault}
 use Rattle.ov_commands.specs.declared.command_fault.CommandFault.TheVariants.{OfFile, Run}
 use Rattle.ov_commands.specs.declared.file_command_fault.FileCommandFault.{FileCommandFault}

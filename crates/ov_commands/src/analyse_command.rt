@@ -1,6 +1,6 @@
 ghost use Rattle.std.specs.Prelude.{◌≡◌, ◌<◌, option_map, Some, IfOk};
 ghost use Rattle.ov_io.specs.Device.{most_faults};
-ghost use Rattle.ov_run.specs.Analysing.{IsAnalysisOf};
+ghost use Rattle.ov_answers.specs.Analysing.{IsAnalysisOf};
 ghost use Rattle.ov_commands.specs.Statuses.{HasAnalysed, analysis_status};
 
 use crate::analysis_progress::PieceProgress;
@@ -10,12 +10,13 @@ use crate::fault_reasons::analysis_reason;
 use crate::input_reading::{STANDARD_INPUT, bytes_asked, bytes_of, opened};
 use crate::named_analysis::analyse_in_words;
 use crate::tips::print_unread_tip;
+use ov_answers::{Answered, analyse_bytes};
 use ov_arguments::AnalysisRequest;
 use ov_hints::FileKind;
 use ov_ids::NodeId;
 use ov_io::Sink;
 use ov_reasons::group_reason;
-use ov_run::{Answered, RunFault, analyse_bytes};
+use ov_run_meaning::RunFault;
 use std::io::{Read, Write};
 use std::thread::Threads;
 

@@ -3,7 +3,7 @@ ghost use Rattle.ov_commands.specs.declared.command_fault.CommandFault.TheVarian
 
 use crate::file_command_fault::FileCommandFault;
 use ov_graphfile::GroupFault;
-use ov_run::RunFault;
+use ov_run_meaning::RunFault;
 use std::fmt::{Display, Formatter, Result as Printed, Write};
 
 /// Why a command ended before its end. It is shown as the line that is printed on standard error.

@@ -1,7 +1,7 @@
 ghost use Rattle.std.specs.Prelude.{◌≡◌};
 
 use ov_ids::OutOfMemory;
-use ov_run::RunFault;
+use ov_run_meaning::RunFault;
 
 /// Prints the line of a fault of a run or an analysis.
 pub fn print_fault(rt: &HostRuntime, fault: RunFault) -> RunFault

@@ -3,7 +3,7 @@ use ov_reasons::{
     OUT_OF_MEMORY, READING_FAILED, WRITING_FAILED, graph_fault_reasons, scenario_reasons,
     unread_line_reasons,
 };
-use ov_run::RunFault;
+use ov_run_meaning::RunFault;
 use std::alloc::Global;
 
 /// Why the run of a scenario file of these bytes ended with this fault, in words. The text ends with a line feed. It is

@@ -17,7 +17,7 @@ use crate::tips::print_file_tip;
 use ov_arguments::{ImportRequest, PictureRequest};
 use ov_hints::{FileKind, behind_mark};
 use ov_io::Sink;
-use ov_run::RunFault;
+use ov_run_meaning::RunFault;
 use std::io::Write;
 
 /// Makes a graph file of the dump of a file, or of standard input.

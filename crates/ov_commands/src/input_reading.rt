@@ -4,7 +4,7 @@ use crate::fault_printing::print_fault;
 use crate::tips::print_folder_tip;
 use ov_hints::is_folder;
 use ov_io::{Source, unopened_text, unread_text};
-use ov_run::RunFault;
+use ov_run_meaning::RunFault;
 use std::fs::File;
 use std::io::{self, Read};
 

@@ -16,6 +16,7 @@ mod import_command;
 mod input_reading;
 mod named_analysis;
 mod paced_clock;
+mod pacing;
 mod picture_printing;
 mod tips;
 

@@ -1,4 +1,4 @@
-use ov_run::Pacing;
+use crate::pacing::Pacing;
 use std::io::IsTerminal;
 use std::time::Instant;
 

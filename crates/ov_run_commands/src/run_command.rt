@@ -1,7 +1,7 @@
 ghost use Rattle.std.specs.Prelude.{◌≡◌, ◌<◌, Some, IfOk};
 ghost use Rattle.ov_io.specs.Device.{most_faults};
-ghost use Rattle.ov_run.specs.Run.{IsRunOf};
-ghost use Rattle.ov_run.specs.Strict.{strictness_of};
+ghost use Rattle.ov_run_meaning.specs.Run.{IsRunOf};
+ghost use Rattle.ov_run_meaning.specs.Strict.{strictness_of};
 
 use crate::run_news::RunNews;
 use crate::runs_in_blocks::run_into_blocks;
@@ -12,7 +12,8 @@ use ov_commands::{
 };
 use ov_hints::FileKind;
 use ov_io::Sink;
-use ov_run::{RunFault, Strictness, run_bytes};
+use ov_run::run_bytes;
+use ov_run_meaning::{RunFault, Strictness};
 use std::io::{IsTerminal, Read, Write};
 use std::sync::Wait;
 use std::thread::Threads;

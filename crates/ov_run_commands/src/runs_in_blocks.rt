@@ -2,15 +2,16 @@
 ghost use Rattle.std.specs.Prelude.{◌≡◌, ◌<◌, [], Some, IfOk};
 ghost use Rattle.std.specs.Io.Buffered.{writer_buffer};
 ghost use Rattle.ov_io.specs.Device.{most_faults};
-ghost use Rattle.ov_run.specs.Run.{IsRunInBlocks};
-ghost use Rattle.ov_run.specs.Strict.{strictness_of};
+ghost use Rattle.ov_run_meaning.specs.Run.{IsRunInBlocks};
+ghost use Rattle.ov_run_meaning.specs.Strict.{strictness_of};
 
 use crate::run_command::tell_run;
 use crate::run_news::RunNews;
 use ov_arguments::RunRequest;
 use ov_commands::{STANDARD_INPUT, bytes_of, opened};
 use ov_io::Sink;
-use ov_run::{RunFault, Strictness, run_in_blocks};
+use ov_run::run_in_blocks;
+use ov_run_meaning::{RunFault, Strictness};
 use std::io::{BufWriter, Read, Write};
 use std::sync::Wait;
 use std::thread::Threads;

@@ -1,9 +1,8 @@
 //! Graph files with names. What is told was worked out by hand.
-use ov_answers::{Request, Told, analyse_told};
+use ov_answers::{Request, RunFault, Told, analyse_told};
 use ov_even::Unwatched;
 use ov_ids::{NodeId, Workers};
 use ov_io::Sink;
-use ov_run::RunFault;
 use ov_test_kit::ids;
 use std::alloc::Global;
 use std::test::Fail;

@@ -3,11 +3,11 @@
 use crate::graphs::{
     FIVE_BUT_ONE, ONE_NODE, PATH_OF_THREE, PETERSEN, SQUARE, TWO_TRIANGLES, TWO_UNLINKED,
 };
+use ov_answers::{Answered, RunFault, analyse_file};
 use ov_check::judge;
 use ov_even::Unwatched;
 use ov_ids::{NodeId, Workers};
 use ov_io::{Sink, Source};
-use ov_run::{Answered, RunFault, analyse_file};
 use ov_test_kit::ids;
 use std::alloc::Global;
 use std::test::Fail;

@@ -1,6 +1,6 @@
 -- Why no group is found for a text that names one.
 use Rattle.std.specs.Prelude.{◌≡◌, ℕ, List, Option}
-use Rattle.ov_run.specs.declared.run_fault.RunFault.TheVariants as run
+use Rattle.ov_run_meaning.specs.declared.run_fault.RunFault.TheVariants as run
 use Rattle.ov_commands.specs.Naming.{NamesNoGroup}
 use Rattle.ov_commands.specs.declared.command_fault.CommandFault.{CommandFault}
 use Rattle.ov_commands.specs.declared.command_fault.CommandFault.TheVariants.{Group, Run}

@@ -1,6 +1,6 @@
 -- What was analysed is the graph file of the bytes that the reader had.
 use Rattle.std.proofs.Common.{option_map}
-use Rattle.ov_run.proofs.OfReader.{analysis_of_reader}
+use Rattle.ov_answers.proofs.OfReader.{analysis_of_reader}
 use Rattle.ov_commands.proofs.analyse_command.answer_from.Goals as goal
 
 pub returns : goal.returns

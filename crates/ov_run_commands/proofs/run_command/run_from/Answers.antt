@@ -1,6 +1,6 @@
 -- What ran is the scenario of the bytes that the reader had.
 use Rattle.ov_run.proofs.OfReader.{run_of_reader}
-use Rattle.ov_run.specs.Strict.{strictness_of}
+use Rattle.ov_run_meaning.specs.Strict.{strictness_of}
 use Rattle.ov_run_commands.proofs.run_command.run_from.Goals as goal
 
 pub returns : goal.returns
