@@ -4,12 +4,14 @@ use ov_even::Watcher;
 /// Says on standard error which piece an analysis has come to, at the pace of `Pacing`.
 #[derive(Drop)]
 pub(crate) struct PieceProgress<'a> {
+    rt: &'a HostRuntime,
     clock: PacedClock<'a>,
 }
 
 impl<'a> PieceProgress<'a> {
     pub(crate) fn new(rt: &'a HostRuntime, is_asked: bool) -> PieceProgress<'a> {
         PieceProgress {
+            rt,
             clock: PacedClock::new(rt, is_asked),
         }
     }
@@ -21,6 +23,6 @@ impl<'a> Watcher for PieceProgress<'a> {
             return;
         }
         let piece = place.saturating_add(1);
-        let _ = eprintln!(self.clock.rt; "level {level}: piece {piece} of {size}");
+        let _ = eprintln!(self.rt; "level {level}: piece {piece} of {size}");
     }
 }

@@ -12,7 +12,7 @@ const PAUSE: u64 = 500;
 /// Says when lines that tell how far something has come are due: none in the first second, and then at most two a
 /// second. Contracts see when the next one is due, in milliseconds since the beginning.
 #[derive(Debug, Drop)]
-pub struct Pacing {
+pub(crate) struct Pacing {
     due: u64,
 }
 
@@ -26,7 +26,7 @@ impl Model for Pacing {
 
 impl Pacing {
     /// No line was printed yet.
-    pub fn new() -> Pacing
+    pub(crate) fn new() -> Pacing
         ensures { result ≡ first_due }
     {
         Pacing { due: FIRST }
@@ -34,7 +34,7 @@ impl Pacing {
 
     /// Whether a line is due at this time, in milliseconds since the beginning. If it is, it is printed now, and the
     /// next one is due half a second later.
-    pub fn is_due(&mut self, now: u64) -> bool
+    pub(crate) fn is_due(&mut self, now: u64) -> bool
         ensures due { result ≡ nat_le self.old now }
         ensures next { self.new ≡ (if nat_le self.old now then next_due now else self.old) }
     {

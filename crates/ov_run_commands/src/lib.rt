@@ -2,6 +2,7 @@
 #![tactic(auto)]
 
 mod grow_command_fault;
+mod growing_commands;
 mod line_progress;
 mod refusal_watcher;
 mod row_files;
@@ -14,6 +15,5 @@ mod sweep_command;
 mod sweep_progress;
 
 pub use grow_command_fault::GrowthFault;
+pub use growing_commands::grow_or_sweep;
 pub use run_command::run_asked;
-pub use scenario_growing::grow_command;
-pub use sweep_command::sweep_command;

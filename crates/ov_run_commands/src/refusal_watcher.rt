@@ -1,7 +1,8 @@
 use ov_arguments::RunRequest;
 use ov_ids::OutOfMemory;
 use ov_reasons::{core_refusal_reason, count_line, refusal_line, world_refusal_reason};
-use ov_run::{RanLine, Refusal, RunWatcher};
+use ov_run::{RanLine, RunWatcher};
+use ov_run_meaning::Refusal;
 use ov_snap::Core;
 
 /// Prints on standard error why a run refuses a line, and at its end how many events happened and how many were

@@ -12,7 +12,8 @@ use ov_commands::{
 };
 use ov_hints::FileKind;
 use ov_io::Sink;
-use ov_run::{RunFault, Strictness, run_bytes};
+use ov_run::run_bytes;
+use ov_run_meaning::{RunFault, Strictness};
 use std::io::{IsTerminal, Read, Write};
 use std::sync::Wait;
 use std::thread::Threads;

@@ -1,7 +1,8 @@
 use crate::line_progress::LineProgress;
 use crate::refusal_watcher::Explaining;
 use ov_arguments::RunRequest;
-use ov_run::{RanLine, Refusal, RunWatcher};
+use ov_run::{RanLine, RunWatcher};
+use ov_run_meaning::Refusal;
 use ov_snap::Core;
 
 /// Prints on standard error what is asked of a run besides its lines: why lines are refused, and how far it has come.

@@ -4,19 +4,14 @@ ghost use Rattle.ov_run_commands.specs.Growing.{WasPrinted};
 ghost use Rattle.ov_run_commands.specs.declared.grow_command_fault.GrowthFault.TheVariants.{Growing, Write as write_failed};
 
 use crate::grow_command_fault::GrowthFault;
-use ov_arguments::{GrowArgumentsFault, read_grow_arguments};
+use ov_arguments::GrowRequest;
 use ov_grow::{GrowFault, grow};
 use ov_grow_options::GrowOptions;
 use ov_io::Sink;
 use std::io::Write;
 
-/// Grows an overlay as the words after `overlay grow` ask, and prints its scenario. Prints nothing if growing is
-/// refused, but why on standard error.
-pub fn grow_command(rt: &HostRuntime, words: &[String]) -> Result<(), GrowthFault> {
-    let request = match read_grow_arguments(rt.alloc(), words) {
-        Ok(request) => request,
-        Err(fault) => return Err(unread_words(rt, &fault)),
-    };
+/// Grows an overlay, and prints its scenario. Prints nothing if growing is refused, but why on standard error.
+pub(crate) fn grow_asked(rt: &HostRuntime, request: &GrowRequest) -> Result<(), GrowthFault> {
     let mut sink = Sink::new(rt.stdout());
     print_scenario(rt, &request.options, &mut sink)
 }
@@ -58,18 +53,6 @@ pub(crate) fn print_refusal(rt: &HostRuntime, fault: &GrowFault) {
         GrowFault::Analysis(refusal) => eprintln!(rt; "growing ended: {refusal}"),
         GrowFault::OutOfMemory => eprintln!(rt; "out of memory"),
     };
-}
-
-/// Ends if words can't be read. Prints help, or what is wrong with them.
-pub(crate) fn unread_words(rt: &HostRuntime, fault: &GrowArgumentsFault) -> GrowthFault {
-    match fault {
-        GrowArgumentsFault::BadArguments { reason } => {
-            let ended = GrowthFault::Arguments;
-            let _ = eprint!(rt; "{ended}\n{reason}");
-            ended
-        }
-        GrowArgumentsFault::OutOfMemory => told(rt, GrowthFault::OutOfMemory),
-    }
 }
 
 /// Prints the line of a fault, and what it means. Nothing more is known of it.

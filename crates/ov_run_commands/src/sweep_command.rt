@@ -4,8 +4,8 @@ ghost use Rattle.ov_run_commands.specs.KeptRows.{AreGrown, needs_rows};
 use crate::grow_command_fault::GrowthFault;
 use crate::row_files::rows_of_files;
 use crate::row_printing::{RowPrinter, write_rows};
-use crate::scenario_growing::{print_refusal, told, unread_words};
-use ov_arguments::{Printed, SweepRequest, read_sweep_arguments};
+use crate::scenario_growing::{print_refusal, told};
+use ov_arguments::{Printed, SweepRequest};
 use ov_ids::OutOfMemory;
 use ov_io::{Sink, unopened_text};
 use ov_sweep::{RefusedRun, SweepFault, sweep};
@@ -13,19 +13,15 @@ use ov_sweep_rows::{Row, header_text, settings_of, summary_text, svg_text};
 use std::fs::File;
 use std::thread::Threads;
 
-/// Does what the words after `overlay sweep` ask for.
-pub fn sweep_command<T: Threads + Sync>(
+/// Does what is asked of a sweep.
+pub(crate) fn sweep_asked<T: Threads + Sync>(
     rt: &HostRuntime,
     threads: &T,
-    words: &[String],
+    request: &SweepRequest,
 ) -> Result<(), GrowthFault> {
-    let request = match read_sweep_arguments(rt.alloc(), words) {
-        Ok(request) => request,
-        Err(fault) => return Err(unread_words(rt, &fault)),
-    };
     match request.printed {
-        Printed::List { block } => print_list(rt, &request, block),
-        Printed::Rows | Printed::Summary => print_sweep(rt, threads, &request),
+        Printed::List { block } => print_list(rt, request, block),
+        Printed::Rows | Printed::Summary => print_sweep(rt, threads, request),
     }
 }
 

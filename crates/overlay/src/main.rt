@@ -15,7 +15,7 @@ use ov_arguments::{ArgumentsFault, Request, argument_reasons, read_arguments};
 use ov_commands::{
     analyse_asked, graph_asked, import_asked, picture_asked, print_command_tip, print_reason,
 };
-use ov_run_commands::{grow_command, run_asked, sweep_command};
+use ov_run_commands::{grow_or_sweep, run_asked};
 use std::env;
 use std::process::ExitCode;
 use std::sync::Wait;
@@ -36,8 +36,7 @@ fn overlay<T: Threads + Wait + Sync>(rt: &HostRuntime, threads: &T) -> Result<u8
     }
 }
 
-/// Does what these arguments ask for. If the first is `grow` or `sweep`, those behind it are words of this command;
-/// `help` before one of these asks for its help.
+/// Does what these arguments ask for.
 fn do_command<T: Threads + Wait + Sync>(
     rt: &HostRuntime,
     threads: &T,
@@ -45,47 +44,13 @@ fn do_command<T: Threads + Wait + Sync>(
 ) -> Result<u8, ProgramFault>
     ensures status { IfOk result (λ status. status ≡ 0) }
 {
-    if let Some((command, words)) = arguments.split_first() {
-        if command.as_str() == "grow" {
-            grow_command(rt, words)?;
-            return Ok(0);
-        }
-        if command.as_str() == "sweep" {
-            sweep_command(rt, threads, words)?;
-            return Ok(0);
-        }
-        if command.as_str() == "help" {
-            help_of(rt, threads, words)?;
-        }
+    if grow_or_sweep(rt, threads, arguments)? {
+        return Ok(0);
     }
     answer(rt, threads, arguments)
 }
 
-/// If the first of these words is `grow` or `sweep`, ends with the help of this command.
-fn help_of<T: Threads + Wait + Sync>(
-    rt: &HostRuntime,
-    threads: &T,
-    words: &[String],
-) -> Result<(), ProgramFault> {
-    let Some(command) = words.first() else {
-        return Ok(());
-    };
-    let asked = help_words(rt)?;
-    if command.as_str() == "grow" {
-        grow_command(rt, &asked)?;
-    }
-    if command.as_str() == "sweep" {
-        sweep_command(rt, threads, &asked)?;
-    }
-    Ok(())
-}
-
-/// The words that ask a command for its help.
-fn help_words(rt: &HostRuntime) -> Result<[String; 1], ArgumentsFault> {
-    Ok([String::from_str(rt.alloc(), "--help")?])
-}
-
-/// Does what these arguments ask for.
+/// Does what these arguments ask for, of which the first is neither `grow` nor `sweep`.
 fn answer<T: Threads + Wait + Sync>(
     rt: &HostRuntime,
     threads: &T,
