@@ -4,7 +4,7 @@ use Rattle.ov_ids.specs.Members.{Has, Ordered}
 use Rattle.ov_dump.specs.Dumps.{IsGraphOf, IsTaken}
 use Rattle.ov_dump.specs.Names.{ComesBefore}
 use Rattle.ov_dump.proofs.Linking.{follows_dump}
-use Rattle.ov_dump.proofs.name_graph.named_graph.Goals as goal
+use Rattle.ov_dump.proofs.graph_making.named_graph.Goals as goal
 
 pub returns-clause-graph : goal.returns-clause-graph
 returns-clause-graph c =

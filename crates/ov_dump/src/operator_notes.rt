@@ -1,4 +1,6 @@
-use crate::{Choice, Dump, Name, listed_by_one, without_entry};
+use crate::names_without_entry::without_entry;
+use crate::unanswered_listings::listed_by_one;
+use crate::{Choice, Dump, Name};
 use ov_ids::OutOfMemory;
 use std::alloc::{AllocError, Global};
 use std::fmt::Write;

@@ -4,7 +4,7 @@ use Rattle.std.proofs.lemmas.Bool.{both_ways}
 use Rattle.ov_graph.specs.Links.{Linked}
 use Rattle.ov_graph.proofs.EvenTest.Walks.{linked_sym}
 use Rattle.ov_dump.proofs.Linking.{adds_begun, adds_link, adds_none}
-use Rattle.ov_dump.proofs.name_graph.add_shared_links.Goals as goal
+use Rattle.ov_dump.proofs.graph_making.add_shared_links.Goals as goal
 
 pub loop-a-init : goal.loop-a-init
 loop-a-init c =

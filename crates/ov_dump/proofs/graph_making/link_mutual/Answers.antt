@@ -1,5 +1,5 @@
 use Rattle.ov_dump.proofs.Linking.{added_shared}
-use Rattle.ov_dump.proofs.name_graph.link_mutual.Goals as goal
+use Rattle.ov_dump.proofs.graph_making.link_mutual.Goals as goal
 
 pub returns-clause-links : goal.returns-clause-links
 returns-clause-links c =

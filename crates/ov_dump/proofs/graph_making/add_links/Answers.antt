@@ -2,7 +2,7 @@
 use Rattle.std.proofs.Common.{◌∙◌, arith}
 use Rattle.std.specs.Prelude.{⊤}
 use Rattle.ov_dump.proofs.Linking.{adds_begun, left_nodes}
-use Rattle.ov_dump.proofs.name_graph.add_links.Goals as goal
+use Rattle.ov_dump.proofs.graph_making.add_links.Goals as goal
 
 pub loop-a-init : goal.loop-a-init
 loop-a-init c =

@@ -1,5 +1,5 @@
 use Rattle.ov_dump.proofs.Linking.{added_either}
-use Rattle.ov_dump.proofs.name_graph.link_either.Goals as goal
+use Rattle.ov_dump.proofs.graph_making.link_either.Goals as goal
 
 pub returns-clause-links : goal.returns-clause-links
 returns-clause-links c =
