@@ -1,5 +1,5 @@
 pub mod Growing
-pub mod Piecewise
+pub mod Componentwise
 pub mod Tellings
 pub mod Rows
 pub mod Grown

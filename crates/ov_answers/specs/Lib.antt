@@ -1,5 +1,5 @@
 pub mod Lines
 pub mod Telling
 pub mod Code
-pub mod Pieces
+pub mod Components
 pub mod Theorems
