@@ -1,3 +1,6 @@
+pub mod OfReader
+pub mod Refused
+pub mod SameLines
 pub mod Growing
 pub mod Componentwise
 pub mod Tellings
@@ -5,3 +8,4 @@ pub mod Rows
 pub mod Grown
 pub mod Divided
 pub mod Surviving
+pub mod Written

@@ -1,3 +1,4 @@
+pub mod Analysing
 pub mod Lines
 pub mod Telling
 pub mod Code

@@ -1,5 +1,5 @@
+use crate::answered::Answered;
 use ov_ids::{NodeId, Workers};
-use ov_run::Answered;
 
 /// What an analysis of a graph file is asked for.
 #[derive(Clone, Copy)]
