@@ -1,6 +1,8 @@
-//! Tests of the search for paths, and of the pieces that it settles.
+//! Tests of the search for paths, of the pieces that it settles, and of workers in threads that settle them together.
 #![tactic(auto)]
 
+#[cfg(test)]
+mod crew;
 #[cfg(test)]
 mod drawn;
 #[cfg(test)]
@@ -9,6 +11,8 @@ mod families;
 mod memory;
 #[cfg(test)]
 mod path_judge;
+#[cfg(test)]
+mod piece_numbers;
 #[cfg(test)]
 mod pieces;
 #[cfg(test)]

@@ -1,16 +1,15 @@
 //! What pieces are to come to, and whether they do.
-ghost use Rattle.std.specs.Prelude.{◌≡◌, ◌<◌, ◌≤◌, length, IsTrue, IfOk};
+ghost use Rattle.std.specs.Prelude.{◌≡◌, ◌<◌, ◌≤◌, length, IsTrue};
 ghost use Rattle.ov_graph.specs.Links.{IsGroup};
 ghost use Rattle.ov_fans.specs.Pieces.{IsPiece};
 ghost use Rattle.ov_fans.specs.Cuts.{AreRightPaths, IsRight};
 
 use crate::path_judge::Sought;
-use ov_fans::{Found, Parting, Piece, Settled, Settler, asked_paths, settle, settle_group};
+use ov_fans::{Found, Parting, Piece, Settled, Settler, asked_paths, settle_group};
 use ov_flow::PlacePaths;
 use ov_graph::Graph;
 use ov_ids::{NodeId, OutOfMemory};
 use std::alloc::Global;
-use std::test::Fail;
 
 /// A piece in numbers: the level, and the places of its members.
 #[derive(Clone, Copy)]
@@ -137,34 +136,13 @@ pub(crate) fn comes_to(
     }
 }
 
-/// What `settle_group` answers, the second time where memory was wanted the first time.
-fn settled_in_group(
-    alloc: Global,
-    graph: &Graph,
-    group: &[NodeId],
-    piece: Piece,
-) -> Result<Settled, Fail>
-    requires group { IsGroup graph.now group.now }
-    requires piece { IsPiece graph.now group.now piece }
-    ensures piece { IfOk result (λ s. s.piece ≡ piece) }
-    ensures right { IfOk result (λ s. IsRight graph.now group.now s) }
-{
-    if let Ok(settled) = settle_group(alloc, graph, group, piece) {
-        return Ok(settled);
-    }
-    match settle_group(alloc, graph, group, piece) {
-        Ok(settled) => Ok(settled),
-        Err(_) => Err("memory was wanted twice".into()),
-    }
-}
-
 /// Settles a piece by `settle_group`. Its result is the wanted one, and it is a piece.
 fn is_right_of_group(
     alloc: Global,
     graph: &Graph,
     group: &[NodeId],
     row: &Row<'_>,
-) -> Result<bool, Fail>
+) -> Result<bool, OutOfMemory>
     requires { IsGroup graph.now group.now }
 {
     let (ask, want) = *row;
@@ -172,24 +150,8 @@ fn is_right_of_group(
     if !is_piece(graph, group, piece) {
         return Ok(false);
     }
-    let settled = settled_in_group(alloc, graph, group, piece)?;
-    Ok(comes_to(alloc, graph, group, &settled, want)?)
-}
-
-/// What a settler answers, the second time where memory was wanted the first time.
-fn settled_by(settler: &mut Settler<'_>, piece: Piece) -> Result<Settled, Fail>
-    requires { IsPiece settler.old.graph settler.old.members piece }
-    ensures piece { IfOk result (λ s. s.piece ≡ piece) }
-    ensures right { IfOk result (λ s. IsRight settler.old.graph settler.old.members s) }
-    ensures stays { settler.new ≡ settler.old }
-{
-    if let Ok(settled) = settler.settle(piece) {
-        return Ok(settled);
-    }
-    match settler.settle(piece) {
-        Ok(settled) => Ok(settled),
-        Err(_) => Err("memory was wanted twice".into()),
-    }
+    let settled = settle_group(alloc, graph, group, piece)?;
+    comes_to(alloc, graph, group, &settled, want)
 }
 
 /// The same of a piece that a settler of the group settles.
@@ -199,7 +161,7 @@ fn is_right_by(
     graph: &Graph,
     group: &[NodeId],
     row: &Row<'_>,
-) -> Result<bool, Fail>
+) -> Result<bool, OutOfMemory>
     requires settler { settler.old ≡ record { graph = graph.now; members = group.now } }
     requires group { IsGroup graph.now group.now }
     ensures { settler.new ≡ settler.old }
@@ -209,8 +171,8 @@ fn is_right_by(
     if !is_piece(graph, group, piece) {
         return Ok(false);
     }
-    let settled = settled_by(settler, piece)?;
-    Ok(comes_to(alloc, graph, group, &settled, want)?)
+    let settled = settler.settle(piece)?;
+    comes_to(alloc, graph, group, &settled, want)
 }
 
 /// The first row whose piece of the group comes to something else, or is none.
@@ -219,7 +181,7 @@ pub(crate) fn other_of_group(
     graph: &Graph,
     group: &[NodeId],
     rows: &[Row<'_>],
-) -> Result<Option<usize>, Fail> {
+) -> Result<Option<usize>, OutOfMemory> {
     if !graph.is_group(group) {
         return Ok(Some(0));
     }
@@ -236,7 +198,7 @@ pub(crate) fn other_in_turn(
     alloc: Global,
     graph: &Graph,
     rows: &[Row<'_>],
-) -> Result<Option<usize>, Fail> {
+) -> Result<Option<usize>, OutOfMemory> {
     let group = graph.nodes();
     if !graph.is_group(group) {
         return Ok(Some(0));

@@ -1,8 +1,15 @@
-//! Tests of worlds of nodes, of their snapshots and reports, and of scenarios.
+//! Tests of messages, handlers and nodes, of worlds with their snapshots and reports, of scenarios that run, and of
+//! halls.
 #![tactic(auto)]
 
 #[cfg(test)]
+mod hall;
+#[cfg(test)]
+mod handlers;
+#[cfg(test)]
 mod net;
+#[cfg(test)]
+mod nodes;
 #[cfg(test)]
 mod run;
 #[cfg(test)]

@@ -1,17 +1,16 @@
 //! Worlds of nodes: what events come to, and what is refused.
-use ov_ids::NodeId;
+use ov_ids::{IdsText, NodeId, OutOfMemory};
 use ov_net::{Change, Entry, Event, NetFault, World};
-use ov_test_kit::{message_id, payload, put_hex, put_ids, sized, words};
-use std::alloc::Global;
+use ov_test_kit::{message_id, payload, put_hex, words};
+use std::alloc::{AllocError, Global};
 use std::process::Abort;
-use std::test::Fail;
 
 mod full;
 mod rows;
 
 /// A line of a run: an event, or a look at the world.
 #[derive(Clone, Copy, Drop)]
-enum Line {
+pub(crate) enum Line {
     Boot(u32),
     /// A node starts, and joins by the second one.
     BootBy(u32, u32),
@@ -34,17 +33,8 @@ enum Line {
     Links,
 }
 
-/// A step with the words of every event: 5, and then zeros.
-fn step(world: &mut World, event: Event) -> Result<Entry, NetFault> {
-    world.step(event, &words(&[5]))
-}
-
-fn world(alloc: Global, active: u32) -> Result<World, Fail> {
-    Ok(World::new(alloc, sized(active, 30)?))
-}
-
 /// The event of a line that is one.
-fn event_of(alloc: Global, line: Line) -> Result<Option<Event>, Fail> {
+pub(crate) fn event_of(alloc: Global, line: Line) -> Result<Option<Event>, OutOfMemory> {
     Ok(Some(match line {
         Line::Boot(node) => Event::Boot(NodeId(node), None),
         Line::BootBy(node, contact) => Event::Boot(NodeId(node), Some(NodeId(contact))),
@@ -63,24 +53,28 @@ fn event_of(alloc: Global, line: Line) -> Result<Option<Event>, Fail> {
     }))
 }
 
-/// A node's views and branches; 10 where it was not born, and 12 where it crashed.
-fn put_node(told: &mut String, world: &World, node: u32) -> Result<(), Fail> {
-    let Some(peer) = world.peer(NodeId(node)) else {
-        let number = if world.born(NodeId(node)) { 12 } else { 10 };
-        write!(told, "refused {number}")?;
-        return Ok(());
-    };
-    write!(told, "node {node}")?;
-    put_ids(told, " active ", peer.active())?;
-    put_ids(told, " passive ", peer.passive())?;
-    put_ids(told, " eager ", peer.eager())?;
-    put_ids(told, " lazy ", peer.lazy())?;
-    Ok(())
+/// A step with the words of every event: 5, and then zeros.
+fn step(world: &mut World, event: Event) -> Result<Entry, NetFault> {
+    world.step(event, &words(&[5]))
 }
 
-/// Packets from the first one on, so many at most.
-fn put_packets(told: &mut String, world: &World, most: usize) -> Result<(), Fail> {
-    for (place, packet) in world.packets().iter().take(most).enumerate() {
+/// A node's views and branches; 10 where it was not born, and 12 where it crashed.
+pub(crate) fn put_node(told: &mut String, world: &World, node: u32) -> Result<(), AllocError> {
+    let Some(peer) = world.peer(NodeId(node)) else {
+        let number = if world.born(NodeId(node)) { 12 } else { 10 };
+        return write!(told, "refused {number}");
+    };
+    let (active, passive) = (IdsText(peer.active()), IdsText(peer.passive()));
+    let (eager, lazy) = (IdsText(peer.eager()), IdsText(peer.lazy()));
+    write!(
+        told,
+        "node {node} active {active} passive {passive} eager {eager} lazy {lazy}"
+    )
+}
+
+/// The packets on their way.
+fn put_packets(told: &mut String, world: &World) -> Result<(), AllocError> {
+    for (place, packet) in world.packets().iter().enumerate() {
         let to = packet.to().number();
         write!(told, "packet {place} to {to} ")?;
         put_hex(told, packet.bytes())?;
@@ -90,10 +84,10 @@ fn put_packets(told: &mut String, world: &World, most: usize) -> Result<(), Fail
 }
 
 /// The nodes of the graph of this moment, and its links.
-fn put_links(told: &mut String, world: &World) -> Result<(), Fail> {
+fn put_links(told: &mut String, world: &World) -> Result<(), OutOfMemory> {
     let graph = world.links()?;
-    put_ids(told, "nodes ", graph.nodes())?;
-    told.push_str(" links")?;
+    let nodes = IdsText(graph.nodes());
+    write!(told, "nodes {nodes} links")?;
     for (one, other) in graph.links() {
         let (one, other) = (one.number(), other.number());
         write!(told, " {one}-{other}")?;
@@ -101,174 +95,86 @@ fn put_links(told: &mut String, world: &World) -> Result<(), Fail> {
     Ok(())
 }
 
-fn put_change(told: &mut String, change: Change) -> Result<(), Fail> {
+/// The name of a change, its node, and the other node.
+fn parts_of(change: Change) -> (&'static str, u32, Option<u32>) {
     match change {
-        Change::Born(node) => {
-            let node = node.number();
-            write!(told, " born {node}")?;
-        }
-        Change::Up(node, other) => {
-            let (node, other) = (node.number(), other.number());
-            write!(told, " up {node} {other}")?;
-        }
-        Change::Down(node, other) => {
-            let (node, other) = (node.number(), other.number());
-            write!(told, " down {node} {other}")?;
-        }
-        Change::Gone(node) => {
-            let node = node.number();
-            write!(told, " gone {node}")?;
-        }
+        Change::Born(node) => ("born", node.number(), None),
+        Change::Up(node, other) => ("up", node.number(), Some(other.number())),
+        Change::Down(node, other) => ("down", node.number(), Some(other.number())),
+        Change::Gone(node) => ("gone", node.number(), None),
     }
-    Ok(())
+}
+
+/// Appends a change.
+fn put_change(told: &mut String, change: Change) -> Result<(), AllocError> {
+    let (name, node, other) = parts_of(change);
+    match other {
+        Some(other) => write!(told, " {name} {node} {other}"),
+        None => write!(told, " {name} {node}"),
+    }
 }
 
 /// Appends an entry: its number, its changes, and its delivery.
-fn put_entry(told: &mut String, entry: &Entry) -> Result<(), Fail> {
+fn put_entry(told: &mut String, entry: &Entry) -> Result<(), AllocError> {
     let number = entry.number;
     write!(told, "entry {number}")?;
     for change in entry.changes.as_slice() {
         put_change(told, *change)?;
     }
-    if let Some(delivery) = &entry.delivery {
-        let node = delivery.node.number();
-        let origin = delivery.id.origin.number();
-        let seq = delivery.id.seq;
-        write!(told, " delivered {node} {origin} {seq}")?;
-    }
-    Ok(())
+    let Some(delivery) = &entry.delivery else {
+        return Ok(());
+    };
+    let (node, origin) = (delivery.node.number(), delivery.id.origin.number());
+    let seq = delivery.id.seq;
+    write!(told, " delivered {node} {origin} {seq}")
 }
 
-fn told_of(alloc: Global, entry: &Entry) -> Result<String, Fail> {
-    let mut told = String::new(alloc);
-    put_entry(&mut told, entry)?;
-    Ok(told)
-}
-
-/// How long journal and bag are, the first packets, and the nodes of the ids below ten.
-fn state(alloc: Global, world: &World) -> Result<String, Fail> {
-    let mut told = String::new(alloc);
-    let entries = world.journal().len();
-    let packets = world.packets().len();
-    write!(told, "{entries} entries; {packets} packets; ")?;
-    put_packets(&mut told, world, 10)?;
-    for node in 0..10 {
-        put_node(&mut told, world, node)?;
-        told.push_str("; ")?;
-    }
-    Ok(told)
-}
-
-/// This is told of the entry.
-fn is_told(alloc: Global, entry: &Entry, told: &str) -> Result<bool, Fail> {
-    Ok(told_of(alloc, entry)?.as_str() == told)
-}
-
-/// The same is told of the journal's last entry and of its copy, and the number of the entry is how many there are.
-fn is_kept(alloc: Global, world: &World, entry: &Entry, told: &str) -> Result<bool, Fail> {
-    let last = world.journal().last().ok_or("the journal is empty")?;
-    let is_last = is_told(alloc, last, told)?;
-    let is_copied = is_told(alloc, &last.copy(alloc)?, told)?;
-    Ok(is_last && is_copied && entry.number as usize == world.journal().len())
-}
-
-/// The world is as it was when this was its state.
-fn is_as(alloc: Global, world: &World, before: &str) -> Result<bool, Fail> {
-    Ok(state(alloc, world)?.as_str() == before)
-}
-
-/// What a copy of an event is answered. Where memory was refused the world is as before, and the event is tried again.
-fn answer(
-    rt: &impl Abort,
-    alloc: Global,
-    world: &mut World,
-    event: &Event,
-    before: &str,
-) -> Result<Result<Entry, NetFault>, Fail> {
-    let answer = step(world, event.copy(alloc)?);
-    if !matches!(&answer, Err(NetFault::OutOfMemory)) {
-        return Ok(answer);
-    }
-    assert!(rt; is_as(alloc, world, before)?);
-    Ok(step(world, event.copy(alloc)?))
-}
-
-/// What is told of an entry, which the world keeps.
-fn kept(rt: &impl Abort, alloc: Global, world: &World, entry: &Entry) -> Result<String, Fail> {
-    let told = told_of(alloc, entry)?;
-    assert!(rt; is_kept(alloc, world, entry, &told)?);
-    Ok(told)
-}
-
-/// What is told of a refusal, after which the world is as before.
-fn refused(
-    rt: &impl Abort,
-    alloc: Global,
-    world: &World,
-    fault: NetFault,
-    before: &str,
-) -> Result<String, Fail> {
-    assert!(rt; is_as(alloc, world, before)?);
-    let number = fault.number();
-    Ok(format!(in alloc; "refused {number}")?)
-}
-
-/// What is told of an event's answer.
-fn happens(
-    rt: &impl Abort,
-    alloc: Global,
-    world: &mut World,
-    event: &Event,
-) -> Result<String, Fail> {
-    let before = state(alloc, world)?;
-    match answer(rt, alloc, world, event, &before)? {
-        Ok(entry) => kept(rt, alloc, world, &entry),
-        Err(fault) => refused(rt, alloc, world, fault, &before),
+/// Appends what an event is answered.
+pub(crate) fn put_answer(
+    told: &mut String,
+    answer: Result<Entry, NetFault>,
+) -> Result<(), AllocError> {
+    match answer {
+        Ok(entry) => put_entry(told, &entry),
+        Err(fault) => {
+            let number = fault.number();
+            write!(told, "refused {number}")
+        }
     }
 }
 
-fn look(alloc: Global, world: &World, line: Line) -> Result<String, Fail> {
-    let mut told = String::new(alloc);
+/// Appends what a look at the world shows.
+fn put_look(told: &mut String, world: &World, line: Line) -> Result<(), OutOfMemory> {
     match line {
-        Line::Show(node) => put_node(&mut told, world, node)?,
-        Line::Links => put_links(&mut told, world)?,
-        _ => put_packets(&mut told, world, usize::MAX)?,
+        Line::Show(node) => Ok(put_node(told, world, node)?),
+        Line::Links => put_links(told, world),
+        _ => Ok(put_packets(told, world)?),
     }
-    Ok(told)
 }
 
-/// The result of a line.
-fn comes_of(rt: &impl Abort, alloc: Global, world: &mut World, line: Line) -> Result<String, Fail> {
+/// Appends what a line comes to.
+fn put_told(
+    told: &mut String,
+    alloc: Global,
+    world: &mut World,
+    line: Line,
+) -> Result<(), OutOfMemory> {
     match event_of(alloc, line)? {
-        Some(event) => happens(rt, alloc, world, &event),
-        None => look(alloc, world, line),
+        Some(event) => Ok(put_answer(told, step(world, event))?),
+        None => put_look(told, world, line),
     }
+}
+
+/// Whether a line comes to this.
+fn comes_to(alloc: Global, world: &mut World, line: Line, expected: &str) -> bool {
+    let mut told = String::new(alloc);
+    let is_told = put_told(&mut told, alloc, world, line).is_ok();
+    is_told && told.as_str() == expected
 }
 
 /// The world answers these lines, one after another.
-fn goes(
-    rt: &impl Abort,
-    alloc: Global,
-    world: &mut World,
-    lines: &[(Line, &'static str)],
-) -> Result<(), Fail> {
+fn goes(rt: &impl Abort, alloc: Global, world: &mut World, lines: &[(Line, &'static str)]) {
     for (line, expected) in lines {
-        let told = comes_of(rt, alloc, world, *line)?;
-        assert_eq!(rt; told.as_str(), *expected);
+        assert!(rt; comes_to(alloc, world, *line, expected), "{expected}");
     }
-    Ok(())
-}
-
-/// A world of this many active places answers these lines, one part after another.
-fn all_go(
-    rt: &impl Abort,
-    alloc: Global,
-    active: u32,
-    parts: &[&[(Line, &'static str)]],
-) -> Result<(), Fail> {
-    let mut world = world(alloc, active)?;
-    for lines in parts {
-        goes(rt, alloc, &mut world, lines)?;
-    }
-    Ok(())
 }

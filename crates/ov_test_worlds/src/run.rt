@@ -1,8 +1,6 @@
-//! Scenarios that run, and what they print.
-mod altered_scenarios;
-mod analyses;
+//! Scenarios that run: reads and writes that fail, refused allocations, a full world, and what a watcher is told. What
+//! is printed is an example.
 mod failing_calls;
 mod full_world;
-mod lost_and_repeated;
 mod memory;
-mod runs;
+mod watched;

@@ -64,7 +64,7 @@ fn linked(alloc: Global) -> Result<Checked, Fail> {
 }
 
 /// A report of this moment on nodes 1 and 2, linked or not.
-fn report(alloc: Global, moment: u32, is_linked: bool) -> Result<Report, Fail> {
+pub(crate) fn report(alloc: Global, moment: u32, is_linked: bool) -> Result<Report, Fail> {
     let checked = if is_linked {
         linked(alloc)?
     } else {

@@ -2,8 +2,9 @@ use super::Line::{
     Boot, BootBy, Broadcast, Crash, Deliver, Lose, Repeat, Report, Shuffle, Snapshot, Timer,
 };
 use super::rows::{MISSED, SPREAD, TRIANGLE};
-use super::{Line, event_of, goes, step, world};
+use super::{Line, event_of, goes, step};
 use ov_net::World;
+use ov_test_kit::sized;
 use std::alloc::Global;
 use std::process::Abort;
 use std::test::Fail;
@@ -98,33 +99,41 @@ static JOURNAL_FULL: [(Line, &str); 25] = [
     (Timer(999, 1, 1), "refused 16"),
 ];
 
-/// The same event, so many times.
-fn times(alloc: Global, world: &mut World, line: Line, count: u32) -> Result<(), Fail> {
-    for _ in 0..count {
-        let event = event_of(alloc, line)?.ok_or("a line without an event")?;
-        step(world, event)?;
+/// Whether an event happens.
+fn happens(alloc: Global, world: &mut World, line: Line) -> bool {
+    match event_of(alloc, line) {
+        Ok(Some(event)) => step(world, event).is_ok(),
+        _ => false,
     }
-    Ok(())
+}
+
+/// The same event happens so many times.
+fn times(rt: &impl Abort, alloc: Global, world: &mut World, line: Line, count: u32) {
+    for _ in 0..count {
+        assert!(rt; happens(alloc, world, line));
+    }
 }
 
 /// Fills one world with packets, nodes and entries.
-fn fills(rt: &impl Abort, alloc: Global, world: &mut World) -> Result<(), Fail> {
+fn fills(rt: &impl Abort, alloc: Global, world: &mut World) {
     for lines in [TRIANGLE.as_slice(), &SPREAD, &MISSED, &BAG] {
-        goes(rt, alloc, world, lines)?;
+        goes(rt, alloc, world, lines);
     }
     for node in 11..260 {
-        times(alloc, world, BootBy(node, 1), 1)?;
+        times(rt, alloc, world, BootBy(node, 1), 1);
     }
-    times(alloc, world, Repeat(1), 65221)?;
-    goes(rt, alloc, world, &BAG_FULL)?;
-    goes(rt, alloc, world, &NODES_FULL)?;
-    times(alloc, world, Snapshot, 32)?;
-    goes(rt, alloc, world, &JOURNAL_FULL)
+    times(rt, alloc, world, Repeat(1), 65221);
+    goes(rt, alloc, world, &BAG_FULL);
+    goes(rt, alloc, world, &NODES_FULL);
+    times(rt, alloc, world, Snapshot, 32);
+    goes(rt, alloc, world, &JOURNAL_FULL);
 }
 
 #[test]
 fn a_world_has_its_limits(rt: HostRuntime) -> Result<(), Fail> {
-    fills(&rt, rt.alloc(), &mut world(rt.alloc(), 2)?)
+    let mut world = World::new(rt.alloc(), sized(2, 30)?);
+    fills(&rt, rt.alloc(), &mut world);
+    Ok(())
 }
 
 /// Node 1 with 16 neighbours has made 4,092 broadcasts, and there are 65,472 packets.
@@ -152,26 +161,27 @@ static LAST_BROADCASTS: [(Line, &str); 13] = [
 ];
 
 /// Node 1 gets neighbours 2 to 17, and nothing is on its way.
-fn gathers(alloc: Global, world: &mut World) -> Result<(), Fail> {
-    times(alloc, world, Boot(1), 1)?;
+fn gathers(rt: &impl Abort, alloc: Global, world: &mut World) {
+    times(rt, alloc, world, Boot(1), 1);
     for node in 2..18 {
-        times(alloc, world, BootBy(node, 1), 1)?;
-        times(alloc, world, Deliver(0), 1)?;
-        times(alloc, world, Lose(0), node - 1)?;
+        times(rt, alloc, world, BootBy(node, 1), 1);
+        times(rt, alloc, world, Deliver(0), 1);
+        times(rt, alloc, world, Lose(0), node - 1);
     }
-    Ok(())
 }
 
 /// The bag fills by broadcasts, up to the last that a node may make.
-fn spends(rt: &impl Abort, alloc: Global, world: &mut World) -> Result<(), Fail> {
-    gathers(alloc, world)?;
-    times(alloc, world, Broadcast(1, b""), 4092)?;
-    goes(rt, alloc, world, &SIXTEEN_EACH)?;
-    times(alloc, world, Lose(0), 64)?;
-    goes(rt, alloc, world, &LAST_BROADCASTS)
+fn spends(rt: &impl Abort, alloc: Global, world: &mut World) {
+    gathers(rt, alloc, world);
+    times(rt, alloc, world, Broadcast(1, b""), 4092);
+    goes(rt, alloc, world, &SIXTEEN_EACH);
+    times(rt, alloc, world, Lose(0), 64);
+    goes(rt, alloc, world, &LAST_BROADCASTS);
 }
 
 #[test]
 fn a_node_has_its_limit(rt: HostRuntime) -> Result<(), Fail> {
-    spends(&rt, rt.alloc(), &mut world(rt.alloc(), 16)?)
+    let mut world = World::new(rt.alloc(), sized(16, 30)?);
+    spends(&rt, rt.alloc(), &mut world);
+    Ok(())
 }

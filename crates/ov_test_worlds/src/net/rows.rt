@@ -2,7 +2,9 @@ use super::Line::{
     Boot, BootBy, Broadcast, Crash, Deliver, Links, Lose, Packets, Repeat, Report, Show, Shuffle,
     Snapshot, Timer,
 };
-use super::{Line, all_go};
+use super::{Line, goes};
+use ov_net::World;
+use ov_test_kit::sized;
 use std::test::Fail;
 
 /// Nodes 1, 3 and 7 come to hold each other.
@@ -97,6 +99,9 @@ static ASKED: [(Line, &str); 21] = [
 /// Each kind of event in one run.
 #[test]
 fn every_kind_of_event(rt: HostRuntime) -> Result<(), Fail> {
-    let parts: [&[(Line, &str)]; 4] = [&TRIANGLE, &SPREAD, &MISSED, &ASKED];
-    all_go(&rt, rt.alloc(), 2, &parts)
+    let mut world = World::new(rt.alloc(), sized(2, 30)?);
+    for lines in [TRIANGLE.as_slice(), &SPREAD, &MISSED, &ASKED] {
+        goes(&rt, rt.alloc(), &mut world, lines);
+    }
+    Ok(())
 }

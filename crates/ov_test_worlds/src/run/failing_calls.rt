@@ -1,11 +1,32 @@
 //! Devices of which one call fails and no other one: what a run answers, and what the next run does.
-use super::altered_scenarios::{JOIN_AND_ANALYSE, JOIN_AND_ANALYSE_PRINTS};
 use ov_io::{Sink, Source};
 use ov_run::{RunFault, run};
 use ov_test_kit::FailsOnce;
 use std::io::ErrorKind;
 use std::sync::Wait;
 use std::thread::Threads;
+
+/// Two nodes join, and the two moments are analysed.
+const JOIN_AND_ANALYSE: &str = "boot 1
+boot 2 by 1
+deliver 0
+snapshot
+deliver 0
+snapshot
+analyse 4
+analyse 6
+";
+
+/// A line for each of these lines.
+const JOIN_AND_ANALYSE_PRINTS: &str = "entry 1 born 1
+entry 2 born 2
+entry 3 up 1 2
+entry 4
+entry 5 up 2 1
+entry 6
+report 4 split k 0 cut - near 2 far 1 side 2
+report 6 linked k 1
+";
 
 /// The read after so many others fails. The answer is Read, and nothing was written.
 fn fails_at_read(

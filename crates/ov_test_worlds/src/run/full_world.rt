@@ -1,7 +1,10 @@
 //! A scenario that fills a world with packets, and then its journal.
-use super::runs::comes_to;
+use ov_io::{Sink, Source};
+use ov_run::run;
 use std::alloc::{AllocError, Global};
+use std::sync::Wait;
 use std::test::Fail;
+use std::thread::Threads;
 
 /// How often the one packet is repeated. With it there are 65,473 packets then, and 63 places are left.
 const REPEATS: u32 = 65_472;
@@ -55,10 +58,18 @@ fn printed(alloc: Global) -> Result<String, AllocError> {
     Ok(text)
 }
 
+/// A run of the scenario prints this text.
+fn prints(rt: &(impl AllocGlobal + Threads + Wait + Sync), scenario: &str, text: &str) -> bool {
+    let mut source = Source::new(scenario.as_bytes());
+    let mut sink = Sink::new(Vec::new(rt.alloc()));
+    let answer = run(rt, rt.alloc(), &mut source, &mut sink);
+    answer == Ok(0) && sink.into_writer().as_slice() == text.as_bytes()
+}
+
 #[test]
 fn a_scenario_fills_a_world(rt: HostRuntime) -> Result<(), Fail> {
     let scenario = scenario(rt.alloc())?;
     let printed = printed(rt.alloc())?;
-    assert!(rt; comes_to(&rt, scenario.as_str(), Ok(0), printed.as_str()));
+    assert!(rt; prints(&rt, scenario.as_str(), printed.as_str()));
     Ok(())
 }

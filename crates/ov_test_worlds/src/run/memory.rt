@@ -1,7 +1,8 @@
 //! What a run prints if an allocation is refused.
-use super::runs::{TWO_JOIN, TWO_JOIN_PRINTS};
 use ov_io::{Sink, Source};
 use ov_run::{RunFault, run};
+use std::alloc::AllocError;
+use std::process::Abort;
 use std::sync::Wait;
 use std::test::Fail;
 use std::thread::Threads;
@@ -15,8 +16,8 @@ struct Story {
 }
 
 static TWO_NODES_JOIN: Story = Story {
-    scenario: TWO_JOIN,
-    prints: TWO_JOIN_PRINTS,
+    scenario: "boot 1\nboot 2 by 1\ndeliver 0\nsnapshot\ndeliver 0\nsnapshot\n",
+    prints: "entry 1 born 1\nentry 2 born 2\nentry 3 up 1 2\nentry 4\nentry 5 up 2 1\nentry 6\n",
     one_refused: &[
         "refused 99\nrefused 10\nrefused 14\nentry 1\nrefused 14\nentry 2\n",
         "entry 1 born 1\nrefused 99\nrefused 14\nentry 2\nrefused 14\nentry 3\n",
@@ -48,103 +49,102 @@ static TWO_SECTIONS: Story = Story {
     ],
 };
 
-/// What a run answered, and what it wrote.
-#[derive(Drop)]
-struct Outcome {
-    answer: Result<u8, RunFault>,
-    written: Vec<u8>,
+/// What comes of a run.
+#[derive(Clone, Copy, PartialEq, Eq)]
+enum Came {
+    /// All is printed.
+    Whole,
+    /// One line was refused out of memory, and all else is as without it.
+    OneRefused,
+    /// The run ended out of memory after the first lines of what it prints, or before any.
+    CutOff,
+    Neither,
+}
+
+impl Came {
+    /// As `bin/refuse-allocations` counts it.
+    fn told(self) -> &'static str {
+        match self {
+            Came::Whole => "whole",
+            Came::OneRefused => "one line refused 99",
+            Came::CutOff => "ended out of memory",
+            Came::Neither => "neither",
+        }
+    }
+}
+
+/// Whether one line was refused out of memory, and all else is as without it.
+fn has_refused(written: &[u8], story: &Story) -> bool {
+    for text in story.one_refused {
+        if text.as_bytes() == written {
+            return true;
+        }
+    }
+    false
+}
+
+/// Whether these are whole lines, the first ones of what is printed, or none.
+fn is_cut_off(written: &[u8], story: &Story) -> bool {
+    let ends_a_line = written.is_empty() || written.ends_with(b"\n");
+    ends_a_line && story.prints.as_bytes().starts_with(written)
+}
+
+/// What came of a run that answered so and wrote this.
+fn came(answer: Result<u8, RunFault>, written: &[u8], story: &Story) -> Came {
+    if answer == Ok(0) && written == story.prints.as_bytes() {
+        return Came::Whole;
+    }
+    if answer == Ok(0) && has_refused(written, story) {
+        return Came::OneRefused;
+    }
+    if answer == Err(RunFault::OutOfMemory) && is_cut_off(written, story) {
+        return Came::CutOff;
+    }
+    Came::Neither
 }
 
 /// Runs a scenario with a writer that has room.
-fn outcome_of(
+fn came_of(
     rt: &(impl AllocGlobal + Threads + Wait + Sync),
     story: &Story,
-) -> Result<Outcome, Fail> {
-    let mut source = Source::new(story.scenario.as_bytes());
+) -> Result<Came, AllocError> {
     let mut sink = Sink::new(Vec::with_capacity(rt.alloc(), 256)?);
+    let mut source = Source::new(story.scenario.as_bytes());
     let answer = run(rt, rt.alloc(), &mut source, &mut sink);
-    Ok(Outcome {
-        answer,
-        written: sink.into_writer(),
-    })
+    Ok(came(answer, &sink.into_writer(), story))
 }
 
-impl Outcome {
-    /// All is printed.
-    fn is_whole(&self, story: &Story) -> bool {
-        self.answer == Ok(0) && self.written.as_slice() == story.prints.as_bytes()
-    }
-
-    /// One line was refused out of memory, and all else is as without it.
-    fn has_refused(&self, story: &Story) -> bool {
-        if self.answer != Ok(0) {
-            return false;
-        }
-        for text in story.one_refused {
-            if text.as_bytes() == self.written.as_slice() {
-                return true;
-            }
-        }
-        false
-    }
-
-    /// The run ended out of memory after the first lines of what it prints, or before any.
-    fn is_cut_off(&self, story: &Story) -> bool {
-        let written = self.written.as_slice();
-        let ends_a_line = written.is_empty() || written.ends_with(b"\n");
-        self.answer == Err(RunFault::OutOfMemory)
-            && ends_a_line
-            && story.prints.as_bytes().starts_with(written)
-    }
-}
-
-/// What came of a refused allocation, as `bin/refuse-allocations` counts it.
-fn told(outcome: &Outcome, story: &Story) -> &'static str {
-    if outcome.has_refused(story) {
-        return "one line refused 99";
-    }
-    if outcome.is_cut_off(story) {
-        return "ended out of memory";
-    }
-    "neither"
-}
-
-/// Where an allocation is refused in a run, one event is refused and all else is as without it, or the run is cut off.
+/// Where an allocation is refused in a run, one line is refused and all else is as without it, or the run is cut off.
 /// It prints all when it is made once more.
+fn goes(
+    rt: &(impl AllocGlobal + Threads + Wait + Sync + Print + Abort),
+    name: &str,
+    story: &Story,
+) -> Result<(), Fail> {
+    let first = came_of(rt, story)?;
+    if first == Came::Whole {
+        return Ok(());
+    }
+    let told = first.told();
+    let _ = println!(rt; "seen: {name}: {told}");
+    assert!(rt; first != Came::Neither);
+    assert!(rt; came_of(rt, story)? == Came::Whole);
+    Ok(())
+}
+
 #[test]
 fn out_of_memory_refuses_one_event_or_ends_the_run(rt: HostRuntime) -> Result<(), Fail> {
-    let first = outcome_of(&rt, &TWO_NODES_JOIN)?;
-    if !first.is_whole(&TWO_NODES_JOIN) {
-        let told = told(&first, &TWO_NODES_JOIN);
-        let _ = println!(rt; "seen: join: {told}");
-        assert!(rt; told != "neither");
-        assert!(rt; outcome_of(&rt, &TWO_NODES_JOIN)?.is_whole(&TWO_NODES_JOIN));
-    }
-    Ok(())
+    goes(&rt, "join", &TWO_NODES_JOIN)
 }
 
 /// The same of a scenario with an analysis.
 #[test]
 fn out_of_memory_refuses_an_analysis_or_ends_the_run(rt: HostRuntime) -> Result<(), Fail> {
-    let first = outcome_of(&rt, &ONE_NODE_IS_ANALYSED)?;
-    if !first.is_whole(&ONE_NODE_IS_ANALYSED) {
-        let told = told(&first, &ONE_NODE_IS_ANALYSED);
-        let _ = println!(rt; "seen: analyse: {told}");
-        assert!(rt; told != "neither");
-        assert!(rt; outcome_of(&rt, &ONE_NODE_IS_ANALYSED)?.is_whole(&ONE_NODE_IS_ANALYSED));
-    }
-    Ok(())
+    goes(&rt, "analyse", &ONE_NODE_IS_ANALYSED)
 }
 
 /// The same of a scenario with sections, whose drivers run in threads.
 #[test]
 fn out_of_memory_refuses_a_line_of_a_section_or_ends_the_run(rt: HostRuntime) -> Result<(), Fail> {
-    let first = outcome_of(&rt, &TWO_SECTIONS)?;
-    if !first.is_whole(&TWO_SECTIONS) {
-        let told = told(&first, &TWO_SECTIONS);
-        let _ = println!(rt; "seen: sections: {told}");
-        assert!(rt; told != "neither");
-        assert!(rt; outcome_of(&rt, &TWO_SECTIONS)?.is_whole(&TWO_SECTIONS));
-    }
-    Ok(())
+    goes(&rt, "sections", &TWO_SECTIONS)
 }

@@ -1,6 +1,0 @@
--- What was gathered is exact.
-use Rattle.example_driving.proofs.Telling.{all_told}
-use Rattle.example_driving.proofs.driving.drive_hall.Goals as goal
-
-pub returns : goal.returns
-returns g c = all_told g.N.HallName.drivers c.in-Ok.all c.in-Ok.ensures.gathered.1.exact

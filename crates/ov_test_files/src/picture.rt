@@ -1,0 +1,4 @@
+//! Tests of pictures of certificates: what is drawn. Their texts are examples.
+mod drawn;
+mod memory;
+mod square;

@@ -1,0 +1,213 @@
+//! Rows of a sweep, written out by hand.
+use ov_grow_options::{Chance, Count, Crash, GrowOptions, NodeCount, Order, Pace, Share};
+use ov_ids::Params;
+use ov_sweep_rows::{DeliveredShare, PhaseRow, Row, RowFault, read_rows};
+use std::alloc::{AllocError, Global};
+use std::test::Fail;
+
+/// The line that rows begin with.
+pub(crate) const HEADER: &str = "\
+nodes,active,passive,arwl,prwl,ka,kp,ttl,loss_join,loss,repeat,order,pace,rounds,crash,heal,broadcasts,seed,\
+settle_nodes,settle_k,settle_least_degree,settle_links,settle_entries,settle_delivered,\
+crash_nodes,crash_k,crash_least_degree,crash_links,crash_entries,crash_delivered,\
+heal_nodes,heal_k,heal_least_degree,heal_links,heal_entries,heal_delivered\n";
+
+/// Two rows: no two options of the first one have the same number, and all of the second one are at their defaults.
+const ROWS: [&str; 2] = [
+    "60,4,20,6,2,1,3,5,8,9,11,oldest,7,12,cut,13,10,18446744073709551615,\
+     60,2,3,171,1834,0.9950,58,0,1,160,1836,0.0000,58,3,3,172,2100,1.0000\n",
+    "100,5,30,6,3,3,4,4,0,0,0,random,,3,0,2,0,0,100,0,0,200,2000,,100,0,0,200,2000,,100,1,1,210,3000,\n",
+];
+
+fn phase(nodes: u32, k: u32, least_degree: u32, links: u32, entries: u32) -> PhaseRow {
+    PhaseRow {
+        nodes,
+        k,
+        least_degree,
+        links,
+        entries,
+        delivered: None,
+    }
+}
+
+/// The phase with so many deliveries of ten broadcasts.
+fn delivered(row: PhaseRow, deliveries: u32) -> PhaseRow {
+    PhaseRow {
+        delivered: DeliveredShare::new(deliveries, 10, row.nodes),
+        ..row
+    }
+}
+
+/// The options of the first row. 597 of 600 deliveries are 0.995, and 1 of 580 is less than 0.002.
+fn first_options() -> Option<GrowOptions> {
+    Some(GrowOptions {
+        nodes: NodeCount::new(60)?,
+        params: Params::new(4, 20, 6, 2, 1, 3, 5).ok()?,
+        seed: u64::MAX,
+        loss_join: Chance::new(8)?,
+        loss: Chance::new(9)?,
+        repeat: Share::new(11)?,
+        order: Order::Oldest,
+        pace: Some(Pace::new(7)?),
+        rounds: Count::new(12)?,
+        crash: Crash::Cut,
+        heal: Count::new(13)?,
+        broadcasts: Count::new(10)?,
+    })
+}
+
+fn first_row(options: GrowOptions) -> Row {
+    Row {
+        options,
+        phases: [
+            delivered(phase(60, 2, 3, 171, 1834), 597),
+            delivered(phase(58, 0, 1, 160, 1836), 0),
+            delivered(phase(58, 3, 3, 172, 2100), 580),
+        ],
+    }
+}
+
+fn second_row() -> Row {
+    Row {
+        options: GrowOptions::default(),
+        phases: [
+            phase(100, 0, 0, 200, 2000),
+            phase(100, 0, 0, 200, 2000),
+            phase(100, 1, 1, 210, 3000),
+        ],
+    }
+}
+
+/// The header and both rows.
+fn text(alloc: Global) -> Result<String, AllocError> {
+    let mut text = String::from_str(alloc, HEADER)?;
+    for row in ROWS {
+        text.push_str(row)?;
+    }
+    Ok(text)
+}
+
+/// Whether a text has these rows.
+fn has_rows(alloc: Global, text: &str, expected: &[Row]) -> bool {
+    match read_rows(alloc, text.as_bytes()) {
+        Ok(rows) => rows.as_slice() == expected,
+        Err(_) => false,
+    }
+}
+
+#[test]
+fn rows_are_read(rt: HostRuntime) -> Result<(), Fail> {
+    let options = first_options().ok_or("options out of their limits")?;
+    let expected = [first_row(options), second_row()];
+    let text = text(rt.alloc())?;
+    assert!(rt; has_rows(rt.alloc(), text.as_str(), &expected));
+    Ok(())
+}
+
+/// What stands in place of a part of the second row, and why the rows are refused then.
+static CHANGED: [(&str, &str, &str); 12] = [
+    (
+        "100,5,",
+        "257,5,",
+        "line 3: nodes must be a number from 1 to 256",
+    ),
+    (
+        "100,5,",
+        ",5,",
+        "line 3: nodes must be a number from 1 to 256",
+    ),
+    (
+        ",4,4,0,0,0,",
+        ",4,0,0,0,0,",
+        "line 3: ttl must be a number from 1 to 15, after parameters within their limits",
+    ),
+    (
+        ",4,4,0,0,0,",
+        ",4,4,101,0,0,",
+        "line 3: loss_join must be a number from 0 to 100",
+    ),
+    (
+        ",random,,3,",
+        ",random,,1001,",
+        "line 3: rounds must be a number from 0 to 1000",
+    ),
+    (
+        ",3,0,2,0,0,",
+        ",3,0,2,1001,0,",
+        "line 3: broadcasts must be a number from 0 to 1000",
+    ),
+    (
+        ",random,",
+        ",any,",
+        "line 3: order must be random or oldest",
+    ),
+    (
+        ",random,,",
+        ",random,all,",
+        "line 3: pace must be a number from 0 to 65536, or empty",
+    ),
+    (
+        ",3,0,2,0,0,",
+        ",3,100,2,0,0,",
+        "line 3: crash must be a number from 0 to 99, or cut",
+    ),
+    (
+        ",2000,,100,0,0,",
+        ",2000,1.0,100,0,0,",
+        "line 3: settle_delivered must be a number with four decimal digits, or empty",
+    ),
+    (
+        ",210,3000,",
+        ",-210,3000,",
+        "line 3: heal_links must be a number below 2 to the power of 32",
+    ),
+    (
+        ",210,3000,",
+        ",210,3000",
+        "line 3: the row has 35 fields and must have 36",
+    ),
+];
+
+/// Texts that are no rows from their first line on, and why.
+static REFUSED: [&str; 3] = ["", "nodes\n", ROWS[0]];
+
+const NO_HEADER: &str = "line 1 must be the header of the rows, nodes,active,passive and so on";
+
+/// Whether a fault has this reason.
+fn is_reason(alloc: Global, fault: RowFault, reason: &str) -> bool {
+    match fault.to_string(alloc) {
+        Ok(told) => told.as_str() == reason,
+        Err(_) => false,
+    }
+}
+
+/// Whether a text is refused for this reason.
+fn is_refused(alloc: Global, text: &str, reason: &str) -> bool {
+    match read_rows(alloc, text.as_bytes()) {
+        Ok(_) => false,
+        Err(fault) => is_reason(alloc, fault, reason),
+    }
+}
+
+/// Whether a text with one part in place of another is refused for this reason.
+fn is_refused_with(alloc: Global, text: &str, from: &str, to: &str, reason: &str) -> bool {
+    match text.replace(alloc, from, to) {
+        Ok(changed) => is_refused(alloc, changed.as_str(), reason),
+        Err(_) => false,
+    }
+}
+
+#[test]
+fn other_rows_are_refused(rt: HostRuntime) -> Result<(), Fail> {
+    let text = text(rt.alloc())?;
+    for (from, to, reason) in &CHANGED {
+        assert!(rt;
+            is_refused_with(rt.alloc(), text.as_str(), from, to, reason),
+            "{reason}"
+        );
+    }
+    for text in &REFUSED {
+        assert!(rt; is_refused(rt.alloc(), text, NO_HEADER), "{text}");
+    }
+    Ok(())
+}
