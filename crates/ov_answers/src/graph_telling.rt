@@ -15,9 +15,9 @@ use std::io::Write;
 use std::thread::Threads;
 
 /// Does what `analyse_bytes` does with the graph file of these bytes, and tells more if that is asked for.
-/// With names, lines that name the nodes of the cut, and the members of the pieces that the crash of the cut leaves,
-/// stand between the line of the answer and the certificate file; a linked answer and a refusal have none. Without
-/// names, what is written is the same as there. The faults are the same as there, in the same order.
+/// With names, lines that name the nodes of the cut, and the members of the components that the crash of the cut
+/// leaves, stand between the line of the answer and the certificate file; a linked answer and a refusal have none.
+/// Without names, what is written is the same as there. The faults are the same as there, in the same order.
 pub fn analyse_told<T: Threads + Sync, W: Write, P: Watcher>(
     rt: &T,
     alloc: Global,

@@ -3,7 +3,6 @@ use ov_answers::{Answered, analyse_bytes};
 use ov_even::Watcher;
 use ov_ids::Workers;
 use ov_io::Sink;
-use std::alloc::Global;
 use std::thread::Threads;
 
 /// Two triangles that share the node 3, and what is printed of them, without a certificate.

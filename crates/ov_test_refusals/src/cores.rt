@@ -11,7 +11,7 @@ use ov_ids::{NodeId, Seq};
 use ov_net::Event;
 use ov_snap::{Core, CoreFault, Report};
 use ov_test_kit::{ids, sized, words};
-use std::alloc::Global;
+use std::alloc::{AllocError, Global};
 use std::process::Abort;
 use std::test::Fail;
 
@@ -209,13 +209,29 @@ fn answers(
     expected: Answer,
 ) -> Result<(), Fail> {
     let before = core_told(alloc, core)?;
+    answers_from(rt, alloc, core, call, expected, before.as_str())
+}
+
+/// The core tells this.
+fn tells(alloc: Global, core: &Core, told: &str) -> Result<bool, AllocError> {
+    Ok(core_told(alloc, core)?.as_str() == told)
+}
+
+/// The same, if this is told of the core before the call.
+fn answers_from(
+    rt: &(impl Abort + Print),
+    alloc: Global,
+    core: &mut Core,
+    call: Call,
+    expected: Answer,
+    before: &str,
+) -> Result<(), Fail> {
     let first = made(alloc, core, call)?;
     if first != Refused(99) {
         assert!(rt; first == expected);
         return Ok(());
     }
-    let after = core_told(alloc, core)?;
-    assert!(rt; after.as_str() == before.as_str());
+    assert!(rt; tells(alloc, core, before)?);
     let second = made(alloc, core, call)?;
     assert!(rt; second == expected);
     let name = call.name();

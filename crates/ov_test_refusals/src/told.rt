@@ -1,9 +1,8 @@
 //! All that is seen of a world, and of a core.
 use ov_desk::GroupDesk;
-use ov_ids::NodeId;
+use ov_ids::{IdsText, NodeId};
 use ov_net::World;
 use ov_snap::{Core, Report};
-use ov_test_kit::put_ids;
 use std::alloc::{AllocError, Global};
 
 /// Room for all that is told, so that it takes one allocation.
@@ -24,11 +23,12 @@ fn put_node(told: &mut String, world: &World, node: u32) -> Result<(), AllocErro
         return Ok(());
     };
     let made = peer.made();
-    write!(told, "\nnode {node} made {made}")?;
-    put_ids(told, " active ", peer.active())?;
-    put_ids(told, " passive ", peer.passive())?;
-    put_ids(told, " eager ", peer.eager())?;
-    put_ids(told, " lazy ", peer.lazy())
+    let (active, passive) = (IdsText(peer.active()), IdsText(peer.passive()));
+    let (eager, lazy) = (IdsText(peer.eager()), IdsText(peer.lazy()));
+    write!(
+        told,
+        "\nnode {node} made {made} active {active} passive {passive} eager {eager} lazy {lazy}"
+    )
 }
 
 /// Appends the entries of the journal, whole.
@@ -62,7 +62,8 @@ fn put_graph(told: &mut String, core: &Core, moment: u32) -> Result<(), AllocErr
     let Ok(snapshot) = core.begin(moment) else {
         return Ok(());
     };
-    put_ids(told, "\nnodes ", snapshot.graph.nodes())?;
+    let nodes = IdsText(snapshot.graph.nodes());
+    write!(told, "\nnodes {nodes}")?;
     for link in snapshot.graph.links() {
         write!(told, " {link:?}")?;
     }
@@ -109,8 +110,11 @@ fn put_desk(told: &mut String, core: &Core, place: u32) -> Result<(), AllocError
         return Ok(());
     };
     let (moment, total, least) = (desk.moment(), desk.total(), desk.least());
-    write!(told, "\ndesk {place} of {moment}: {least} of {total}")?;
-    put_ids(told, " for ", desk.members())?;
+    let members = IdsText(desk.members());
+    write!(
+        told,
+        "\ndesk {place} of {moment}: {least} of {total} for {members}"
+    )?;
     for worker in 0..DESKS_AND_WORKERS {
         let turn = next_turn(desk, worker);
         write!(told, " {turn}")?;

@@ -5,7 +5,7 @@ use crate::events::{Line, Tells, told_in};
 use crate::told::world_told;
 use ov_net::{NetFault, World};
 use ov_test_kit::{sized, words};
-use std::alloc::Global;
+use std::alloc::{AllocError, Global};
 use std::process::Abort;
 use std::test::Fail;
 
@@ -52,12 +52,28 @@ fn happens(
     expected: Tells,
 ) -> Result<(), Fail> {
     let before = world_told(alloc, world)?;
+    happens_from(rt, alloc, world, line, expected, before.as_str())
+}
+
+/// The world tells this.
+fn tells(alloc: Global, world: &World, told: &str) -> Result<bool, AllocError> {
+    Ok(world_told(alloc, world)?.as_str() == told)
+}
+
+/// The same, if this is told of the world before the event.
+fn happens_from(
+    rt: &(impl Abort + Print),
+    alloc: Global,
+    world: &mut World,
+    line: Line,
+    expected: Tells,
+    before: &str,
+) -> Result<(), Fail> {
     if let Some(first) = made(alloc, world, line)? {
         assert!(rt; first == expected);
         return Ok(());
     }
-    let after = world_told(alloc, world)?;
-    assert!(rt; after.as_str() == before.as_str());
+    assert!(rt; tells(alloc, world, before)?);
     let second = made(alloc, world, line)?;
     assert!(rt; second == Some(expected));
     let kind = line.kind();

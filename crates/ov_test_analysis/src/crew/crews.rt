@@ -10,10 +10,12 @@ use std::alloc::Global;
 use std::test::Fail;
 use std::thread::Threads;
 
-/// A graph, and the answer for the group of all its nodes: a split, or linked where the cut is empty.
+/// A graph, and the answer for a group of its first nodes: a split, or linked where the cut is empty.
 pub(crate) struct Row {
     pub(crate) family: Family,
     pub(crate) nodes: u32,
+    /// How many nodes are members.
+    pub(crate) members: usize,
     pub(crate) k: u32,
     pub(crate) cut: &'static [u32],
     pub(crate) near: u32,
@@ -24,6 +26,7 @@ pub(crate) struct Row {
 pub(crate) static PETERSEN: Row = Row {
     family: Family::Petersen,
     nodes: 10,
+    members: 10,
     k: 3,
     cut: &[2, 5, 6],
     near: 1,
@@ -34,6 +37,7 @@ pub(crate) static PETERSEN: Row = Row {
 pub(crate) static RING: Row = Row {
     family: Family::Ring,
     nodes: 200,
+    members: 200,
     k: 8,
     cut: &[2, 3, 4, 5, 197, 198, 199, 200],
     near: 1,
@@ -45,6 +49,7 @@ pub(crate) static RING: Row = Row {
 pub(crate) static TWO_SIDES: Row = Row {
     family: Family::TwoSides,
     nodes: 80,
+    members: 80,
     k: 40,
     cut: &[
         2, 4, 6, 8, 10, 12, 14, 16, 18, 20, 22, 24, 26, 28, 30, 32, 34, 36, 38, 40, 42, 44, 46, 48,
@@ -59,6 +64,7 @@ pub(crate) static TWO_SIDES: Row = Row {
 static LINKED: Row = Row {
     family: Family::All,
     nodes: 5,
+    members: 5,
     k: 4,
     cut: &[],
     near: 0,
@@ -154,29 +160,40 @@ impl Watcher for Levels {
     }
 }
 
-/// So many workers find the answer. A watcher is told of each level with its size, and by one worker of further pieces
-/// too.
-fn find_watched<R: Threads + Sync>(
+/// So many workers, who pass this gate, find the answer, and this watcher is told.
+pub(crate) fn find_watched<R: Threads + Sync, G: Gate, W: Watcher>(
+    rt: &R,
+    alloc: Global,
+    row: &Row,
+    count: u32,
+    gate: &G,
+    watcher: &mut W,
+) -> Result<bool, Fail> {
+    let workers = crew_of(count)?;
+    let graph = of_size(alloc, row.family, row.nodes)?;
+    let group = graph.nodes().get(..row.members).ok_or("the members")?;
+    let checked = analyse_group_watched(rt, alloc, &graph, group, workers, gate, watcher)?;
+    Ok(gives(checked.cert(), row))
+}
+
+/// So many workers find the answer, and a watcher is told of each level with its size, and by one worker of further
+/// pieces too. They find it without a watcher as well.
+fn find_both_ways<R: Threads + Sync>(
     rt: &R,
     alloc: Global,
     row: &Row,
     count: u32,
 ) -> Result<bool, Fail> {
-    let workers = crew_of(count)?;
-    let graph = of_size(alloc, row.family, row.nodes)?;
-    let group = graph.nodes();
-    let mut levels = Levels::new(group.len());
-    let checked = analyse_group_watched(rt, alloc, &graph, group, workers, &OpenGate, &mut levels)?;
-    Ok(gives(checked.cert(), row) && levels.were_told_by(count))
+    let mut levels = Levels::new(row.members);
+    let is_found = find_watched(rt, alloc, row, count, &OpenGate, &mut levels)?;
+    Ok(is_found && levels.were_told_by(count) && find(rt, alloc, row, count, &OpenGate)?)
 }
 
 #[test]
 fn the_same_for_1_2_5_and_64_workers(rt: HostRuntime) -> Result<(), Fail> {
     for count in [1, 2, 5, 64] {
         for row in [&PETERSEN, &RING, &TWO_SIDES] {
-            let is_found = find(&rt, rt.alloc(), row, count, &OpenGate)?
-                && find_watched(&rt, rt.alloc(), row, count)?;
-            assert!(rt; is_found);
+            assert!(rt; find_both_ways(&rt, rt.alloc(), row, count)?);
         }
     }
     Ok(())
@@ -196,19 +213,8 @@ fn two_workers_meet(rt: HostRuntime) -> Result<(), Fail> {
 fn a_level_that_pays_gets_two_workers(rt: HostRuntime) -> Result<(), Fail> {
     let meeting = Meeting::new();
     let mut opening = Opening { meeting: &meeting };
-    let graph = of_size(rt.alloc(), TWO_SIDES.family, TWO_SIDES.nodes)?;
-    let group = graph.nodes();
-    let two = crew_of(2)?;
-    let checked = analyse_group_watched(
-        &rt,
-        rt.alloc(),
-        &graph,
-        group,
-        two,
-        &meeting,
-        &mut opening,
-    )?;
-    assert!(rt; gives(checked.cert(), &TWO_SIDES) && meeting.saw_both());
+    let is_found = find_watched(&rt, rt.alloc(), &TWO_SIDES, 2, &meeting, &mut opening)?;
+    assert!(rt; is_found && meeting.saw_both());
     Ok(())
 }
 
@@ -216,19 +222,8 @@ fn a_level_that_pays_gets_two_workers(rt: HostRuntime) -> Result<(), Fail> {
 #[test]
 fn a_level_that_does_not_pay_gets_one_worker(rt: HostRuntime) -> Result<(), Fail> {
     let gate = Holding::new();
-    let graph = of_size(rt.alloc(), PETERSEN.family, PETERSEN.nodes)?;
-    let group = graph.nodes();
-    let crew = crew_of(4)?;
-    let checked = analyse_group_watched(
-        &rt,
-        rt.alloc(),
-        &graph,
-        group,
-        crew,
-        &gate,
-        &mut Unwatched,
-    )?;
-    assert!(rt; gives(checked.cert(), &PETERSEN) && gate.saw_one() && !gate.saw_another());
+    let is_found = find_watched(&rt, rt.alloc(), &PETERSEN, 4, &gate, &mut Unwatched)?;
+    assert!(rt; is_found && gate.saw_one() && !gate.saw_another());
     Ok(())
 }
 

@@ -1,20 +1,8 @@
 //! Which levels an analysis tries.
-use crate::crew::crews::crew_of;
-use crate::crew::graphs::{Family, of_size};
-use ov_crew::{OpenGate, analyse_group_watched};
+use crate::crew::crews::{PETERSEN, RING, TWO_SIDES, find_watched};
+use ov_crew::OpenGate;
 use ov_even::Watcher;
-use std::alloc::Global;
 use std::test::Fail;
-use std::thread::Threads;
-
-/// Graphs all of whose nodes have equally many links: the family, the number of nodes, and that of the links of each.
-/// The neighbours of a node split the graph, and no fewer nodes do. So the level that decides is one above the number
-/// of links, and a higher one can't be good.
-static REGULAR: [(Family, u32, usize); 3] = [
-    (Family::Petersen, 10, 3),
-    (Family::Ring, 200, 8),
-    (Family::TwoSides, 80, 40),
-];
 
 /// Keeps the highest level that it is told of.
 #[derive(Drop)]
@@ -28,31 +16,15 @@ impl Watcher for Highest {
     }
 }
 
-/// The highest level that so many workers try.
-fn highest_tried<R: Threads + Sync>(
-    rt: &R,
-    alloc: Global,
-    family: Family,
-    nodes: u32,
-    count: u32,
-) -> Result<usize, Fail> {
-    let graph = of_size(alloc, family, nodes)?;
-    let group = graph.nodes();
-    let workers = crew_of(count)?;
-    let mut highest = Highest { level: 0 };
-    analyse_group_watched(rt, alloc, &graph, group, workers, &OpenGate, &mut highest)?;
-    Ok(highest.level)
-}
-
+/// Of graphs all of whose nodes have equally many links the neighbours of a node split the graph, and no fewer nodes
+/// do. So the level that decides is one above the number of links, and a higher one can't be good.
 #[test]
 fn no_level_is_tried_that_the_links_rule_out(rt: HostRuntime) -> Result<(), Fail> {
-    for (family, nodes, links) in &REGULAR {
+    for (row, links) in [(&PETERSEN, 3), (&RING, 8), (&TWO_SIDES, 40)] {
         for count in [1, 2] {
-            let level = highest_tried(&rt, rt.alloc(), *family, *nodes, count)?;
-            assert!(rt;
-                level == links.saturating_add(1),
-                "{nodes} nodes, {count} workers: {level}"
-            );
+            let mut highest = Highest { level: 0 };
+            let is_found = find_watched(&rt, rt.alloc(), row, count, &OpenGate, &mut highest)?;
+            assert!(rt; is_found && highest.level == links + 1, "{links} links");
         }
     }
     Ok(())

@@ -13,6 +13,7 @@ use std::thread::Threads;
 static NAMED_BY_TWO: Row = Row {
     family: Family::TwoSides,
     nodes: 64,
+    members: 64,
     k: 32,
     cut: &[
         2, 4, 6, 8, 10, 12, 14, 16, 18, 20, 22, 24, 26, 28, 30, 32, 34, 36, 38, 40, 42, 44, 46, 48,

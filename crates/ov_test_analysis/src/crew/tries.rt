@@ -1,11 +1,9 @@
 //! How many levels an analysis tries.
-use crate::crew::crews::{Row, crew_of, gives};
-use crate::crew::graphs::{Family, of_size};
-use ov_crew::{OpenGate, analyse_group_watched};
+use crate::crew::crews::{Row, find_watched};
+use crate::crew::graphs::Family;
+use ov_crew::OpenGate;
 use ov_even::Watcher;
-use std::alloc::Global;
 use std::test::Fail;
-use std::thread::Threads;
 
 /// The arm with m arms before it has paths to 32 - m of the members before it, and no more: they pass these m arms and
 /// the 32 - 2 m of the first 32 nodes that it is linked to. So at each level from 18 to 32 the first piece with a cut
@@ -13,6 +11,8 @@ use std::thread::Threads;
 static FALLING: Row = Row {
     family: Family::Falling,
     nodes: 80,
+    // the first 32 nodes and the arms; each has 32 links or more
+    members: 48,
     k: 17,
     cut: &[
         1, 2, 33, 34, 35, 36, 37, 38, 39, 40, 41, 42, 43, 44, 45, 46, 47,
@@ -24,9 +24,6 @@ static FALLING: Row = Row {
         71, 72, 73, 74, 75, 76, 77, 78, 79, 80,
     ],
 };
-
-/// The members are the first 32 nodes and the arms. Each has 32 links or more.
-const MEMBERS: usize = 48;
 
 /// There are fewer than 2^7 nodes, so at most 2 * 7 + 1 levels are tried. If levels were doubled up to 32, and then
 /// tried one by one from there down, it would be 22.
@@ -47,19 +44,12 @@ impl Watcher for Tries {
 }
 
 /// So many workers find the answer, and try few levels.
-fn find_by_few_tries<R: Threads + Sync>(rt: &R, alloc: Global, count: u32) -> Result<bool, Fail> {
-    let graph = of_size(alloc, FALLING.family, FALLING.nodes)?;
-    let group = graph.nodes().get(..MEMBERS).ok_or("the members")?;
-    let workers = crew_of(count)?;
-    let mut tries = Tries { begun: 0 };
-    let checked = analyse_group_watched(rt, alloc, &graph, group, workers, &OpenGate, &mut tries)?;
-    Ok(gives(checked.cert(), &FALLING) && tries.begun > 0 && tries.begun <= MOST_TRIES)
-}
-
 #[test]
 fn levels_are_halved(rt: HostRuntime) -> Result<(), Fail> {
     for count in [1, 2] {
-        assert!(rt; find_by_few_tries(&rt, rt.alloc(), count)?);
+        let mut tries = Tries { begun: 0 };
+        let is_found = find_watched(&rt, rt.alloc(), &FALLING, count, &OpenGate, &mut tries)?;
+        assert!(rt; is_found && tries.begun > 0 && tries.begun <= MOST_TRIES);
     }
     Ok(())
 }

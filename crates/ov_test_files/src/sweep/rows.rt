@@ -169,9 +169,7 @@ static CHANGED: [(&str, &str, &str); 12] = [
     ),
 ];
 
-/// Texts that are no rows from their first line on, and why.
-static REFUSED: [&str; 3] = ["", "nodes\n", ROWS[0]];
-
+/// Why texts are no rows from their first line on.
 const NO_HEADER: &str = "line 1 must be the header of the rows, nodes,active,passive and so on";
 
 /// Whether a fault has this reason.
@@ -207,7 +205,8 @@ fn other_rows_are_refused(rt: HostRuntime) -> Result<(), Fail> {
             "{reason}"
         );
     }
-    for text in &REFUSED {
+    let [first, _] = ROWS;
+    for text in ["", "nodes\n", first] {
         assert!(rt; is_refused(rt.alloc(), text, NO_HEADER), "{text}");
     }
     Ok(())
