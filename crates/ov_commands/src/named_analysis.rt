@@ -117,18 +117,23 @@ fn named_group(
 fn no_group(rt: &HostRuntime, text: &str, fault: GroupFault) -> CommandFault
     ensures { result ≡ Group fault }
 {
-    let ended = CommandFault::Group(fault);
-    let _ = eprintln!(rt; "{ended}");
+    let number = fault.number();
+    let _ = eprintln!(rt; "refused {number}");
+    tell_group_fault(rt, text, &fault);
+    CommandFault::Group(fault)
+}
+
+/// Prints why a text names no group.
+fn tell_group_fault(rt: &HostRuntime, text: &str, fault: &GroupFault) {
     match fault {
-        GroupFault::NoSuchName(place) => tell_part(rt, text, place, "names no node"),
-        GroupFault::SharedName(place) => tell_part(rt, text, place, "is the name of two nodes"),
+        GroupFault::NoSuchName(place) => tell_part(rt, text, *place, "names no node"),
+        GroupFault::SharedName(place) => tell_part(rt, text, *place, "is the name of two nodes"),
         GroupFault::NamedTwice(node) => {
             let id = node.number();
             let _ = eprintln!(rt; "node {id} is in the group twice");
         }
         GroupFault::OutOfMemory => {}
     }
-    ended
 }
 
 /// Prints what is wrong with a part of the text of a group; or if the part is empty, with a comma beside it, or that

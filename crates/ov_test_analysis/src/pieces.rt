@@ -130,7 +130,7 @@ fn of_group(
 ) -> Result<Option<usize>, Fail> {
     let graph = graph(alloc, drawn)?;
     let group = ids(alloc, members)?;
-    other_of_group(alloc, &graph, group.as_slice(), rows)
+    Ok(other_of_group(alloc, &graph, group.as_slice(), rows)?)
 }
 
 #[test]
