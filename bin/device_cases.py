@@ -15,7 +15,7 @@ import tempfile
 import termios
 import time
 
-from device_lab import BARE, CASES, CERTIFICATE, CHECK, COMMANDS, EXPLAIN, LINES, LONGEST, PREFIX
+from device_lab import BARE, CASES, CERTIFICATE, CHECK, COMMANDS, EXPLAIN, LINES, LONGEST, MB, PREFIX
 from device_lab import PROGRESS, READ, RIGHT, RUN, WRITE, Case, Differs, Lab, case, ending_of, fault_among
 from device_lab import read_again, told
 
@@ -166,6 +166,40 @@ def gone_after_line(lab):
         seen = lab.run(lab.words(command, file), during=read_line, stdout=subprocess.PIPE, bufsize=0)
         seen = seen._replace(out=line[0], err=fault_among(seen.err))
         yield command.name, told(seen, lab.right(command, file)), PREFIX
+
+
+def writes_of(lab, words):
+    """What was seen of a program, and what it wrote, write by write: its standard output is a socket that keeps these
+    apart."""
+    ours, theirs = socket.socketpair(socket.AF_UNIX, socket.SOCK_SEQPACKET)
+    writes = []
+
+    def take(process):
+        theirs.close()
+        while piece := ours.recv(MB):
+            writes.append(piece)
+
+    with ours:
+        seen = lab.run(words, during=take, stdout=theirs)
+    return seen._replace(out=b"".join(writes)), writes
+
+
+def told_of_writes(writes):
+    """How what was written was parted."""
+    if len(writes) > 2 and all(it.count(b"\n") == 1 for it in writes):
+        return "line by line"
+    most = [len(it) for it in writes]
+    return "in blocks" if all(60_000 < it <= 65_536 for it in most[:-1]) and most[-1] <= 65_536 else f"writes of {most}"
+
+
+@case("devices", "output in blocks", "large output into a socket that keeps writes apart",
+      "blocks of 64 KB, and at the end the rest; with `--explain` line by line (FORMATS.md)")
+def blocks(lab):
+    file = lab.large("scenario")
+    for command, wanted in ((RUN, "in blocks"), (EXPLAIN, "line by line")):
+        seen, writes = writes_of(lab, lab.words(command, file))
+        text = f"{told(seen, lab.right(command, file), command.explains)}, {told_of_writes(writes)}"
+        yield command.name, text, f"{RIGHT}, {wanted}"
 
 
 @case("devices", "a slow reader", "large output into a pipe of 4 KB, of which 777 bytes are taken at a time",

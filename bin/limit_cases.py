@@ -2,7 +2,10 @@
 
 import contextlib
 import fcntl
+import itertools
 import os
+import pathlib
+import re
 import resource
 import select
 import shutil
@@ -12,7 +15,7 @@ import time
 from typing import NamedTuple
 
 from device_lab import ANALYSE, CHECK, COMMANDS, EXAMPLES, EXPLAIN, GB, LIMITS, LONGEST, MB, MEMORY, RIGHT, RUN
-from device_lab import WORKERS, Command, case, confirm_certificate, fault_among, told
+from device_lab import WORKERS, Command, Differs, case, confirm_certificate, fault_among, told
 
 # Floods: bytes in all, what a program may take besides what it takes for each, and the addresses that it has.
 SIZE, PART, BASE = 1_000_000_000, 100_000_000, 32 * MB
@@ -191,6 +194,45 @@ def little_large(lab):
 @case("memory", "little memory, a world", "the same with 200 nodes, 4,600 events, an analysis, its certificate", LITTLE)
 def little_world(lab):
     yield from little_memory(lab, [(command, lab.large("world")) for command in (RUN, EXPLAIN)])
+
+
+# Sharing
+# The nodes of a grown overlay, the size of their active views, how often it is analysed, and the addresses that suffice
+# if analyses share what is the same. Of what is printed of these analyses without a limit each line is looked at.
+GROWN, VIEW, AGAIN, SHARING = 128, 10, 4000, 32 * MB
+ALL_BUT_ONE = ",".join(map(str, range(2, GROWN + 1)))
+PAIRS = list(itertools.islice(itertools.combinations(range(1, GROWN + 1), 2), AGAIN))
+
+
+def analyses(moment):
+    """Scenarios that follow an overlay and analyse it again and again, by their names: their lines, and what their last
+    ones print, or begin with. The next entry has this number."""
+    moments = range(moment, moment + AGAIN)
+    each = [it for at in moments for it in ("snapshot", f"analyse {at} group {ALL_BUT_ONE}")]
+    at_once = [*["snapshot"] * AGAIN, "together", *(f"analyse {at}" for at in moments), "end"]
+    pairs = ["snapshot", *(f"analyse {moment} group {a},{b}" for a, b in PAIRS)]
+    yield "a group, at as many moments", each, [f"report {at} split k " for at in moments]
+    yield "all nodes, at as many moments, in a section", at_once, [f"together 1 accepted {AGAIN} refused 0"]
+    yield "as many pairs, at one moment", pairs, [f"report {moment} "] * AGAIN
+
+
+@case("sharing", "an overlay is analysed again and again", f"a grown overlay of {GROWN} nodes and {AGAIN:,} analyses, "
+      f"outside and within sections, with {SHARING // MB} MB of addresses",
+      "the right output: an analysis that was made lately is not made again, reports of the same nodes share their "
+      "certificate, and snapshots and their reports their graph (DECISIONS.md)")
+def shared(lab):
+    grown = lab.run([lab.words(RUN)[0], "grow", "--nodes", str(GROWN), "--active", str(VIEW), "--heal", "0"]).out
+    path = os.path.join(lab.room, "again.scenario")
+    pathlib.Path(path).write_bytes(grown)
+    entries = re.findall(rb"(?m)^entry (\d+)", lab.run(lab.words(RUN, path)).out)
+    for name, lines, last in analyses(int(entries[-1]) + 1):
+        pathlib.Path(path).write_bytes(grown + "\n".join([*lines, ""]).encode())
+        right = lab.run(lab.words(RUN, path)).out
+        printed = [line for line in right.decode().splitlines() if not line.startswith("entry")][-len(last):]
+        if not all(line.startswith(it) for line, it in zip(printed, last, strict=True)):
+            raise Differs(f"{name}: without a limit {right[-80:]!r}")
+        seen = lab.run(lab.words(RUN, path), limits={resource.RLIMIT_AS: SHARING})
+        yield name, told(seen, right), RIGHT
 
 
 # Stack

@@ -1,6 +1,7 @@
 """What the scripts of this folder share: where the repository is, which of its crates uses which, what is built, and
 how many checks the machine has room for."""
 
+import ctypes
 import os
 import pathlib
 import re
@@ -49,14 +50,16 @@ def gate_environment():
     return {"RT_JOBS": str(checks_at_once()), **os.environ}
 
 
+def ci_takes_words():
+    """Whether the kit's `rt ci` takes words: names of crates, and `--anew`. Such a kit takes over what an earlier run has
+    proved, unless `--anew` tells it to prove that again. Other kits always prove everything from nothing."""
+    told = subprocess.run(["rt", "help"], stdin=subprocess.DEVNULL, capture_output=True, text=True)
+    return "--anew" in told.stdout + told.stderr
+
+
 def ci_command(anew=False):
-    """The words of the kit's `rt ci`. Some kits take over what an earlier run has proved, unless `--anew` tells them to
-    prove it again, which `anew` asks for. The others always prove from nothing, and have no such word."""
-    command = ["rt", "ci"]
-    if anew:
-        told = subprocess.run(["rt", "help"], stdin=subprocess.DEVNULL, capture_output=True, text=True)
-        command += ["--anew"] * ("--anew" in told.stdout + told.stderr)
-    return command
+    """The words of the kit's `rt ci`, which takes nothing from earlier runs if `anew` is set."""
+    return ["rt", "ci", *["--anew"] * (anew and ci_takes_words())]
 
 
 def lines(top=ROOT):
@@ -93,6 +96,13 @@ def lay_out_root(room, names, top=ROOT):
     (room / "HANDLES").write_bytes((ROOT / "HANDLES").read_bytes())
     # so that the search for the top ends here
     (room / ".git").mkdir()
+
+
+def end_with_parent():
+    """Has this process, which is about to become another program, end by SIGTERM when the one that started it ends, also
+    when that is killed."""
+    of_the_parent = 1
+    ctypes.CDLL(None).prctl(of_the_parent, signal.SIGTERM, 0, 0, 0)
 
 
 def members_of(session):

@@ -20,10 +20,12 @@ import sys
 import tempfile
 import time
 
-from repository import ROOT, below, lay_out_root, lines
+from repository import ROOT, below, end_session, end_with_parent, lay_out_root, lines
 
 # How many programs of a crate are left beside a new one.
 KEPT = 3
+# How the name of a folder begins in which one is built.
+BUILDING = "building-"
 # Where the kit has its compiler, its linker and its check.
 COMPILER_AT, LINKER_AT, CHECKER_AT = "toolchain/bin/clang", "toolchain/bin/ld.lld", "bin/rattle"
 # The probe that `rt try` compiles first has no such word.
@@ -128,6 +130,18 @@ def end(process):
         process.wait()
 
 
+def end_what_is_left(place):
+    """Ends what runs of kits that were laid out in folders whose paths begin so: what was killed could not end it."""
+    for file in pathlib.Path("/proc").glob("[0-9]*/cmdline"):
+        process = int(file.parent.name)
+        with contextlib.suppress(OSError):
+            # a script's own path is the word behind its interpreter
+            is_of_kit = any(word.startswith(os.fsencode(place)) for word in file.read_bytes().split(b"\0")[:2])
+            # rt and its translator have a session each
+            if is_of_kit and os.getsid(process) == process:
+                end_session(process)
+
+
 def build(room, crate_folder, flags=("--", "--help"), how=OPTIMISED, told=lambda step: None):
     """Builds the program of a crate in a folder that is the builder's own: the path of the program.
 
@@ -141,7 +155,7 @@ def build(room, crate_folder, flags=("--", "--help"), how=OPTIMISED, told=lambda
         words = [str(room / "kit/bin/rt"), "try", "--steps", "1", *flags]
         # in a session of its own, so that an interrupt reaches this script alone, which ends it
         channels = {"stdin": subprocess.DEVNULL, "stdout": said, "stderr": said, "start_new_session": True}
-        started = subprocess.Popen(words, cwd=crate_folder, env=environment, **channels)
+        started = subprocess.Popen(words, cwd=crate_folder, env=environment, preexec_fn=end_with_parent, **channels)
         try:
             while started.poll() is None and not (room / "program").exists():
                 told("optimising" if (room / "whole.bc").exists() else "translating")
@@ -150,6 +164,7 @@ def build(room, crate_folder, flags=("--", "--help"), how=OPTIMISED, told=lambda
         finally:
             # the program is there, so that it need not be run
             end(started)
+            end_what_is_left(room / "kit")
         if not (room / "program").exists():
             said.seek(0)
             raise NotBuilt(f"{said.read().rstrip()}\nno program was made of {crate_folder.name}")
@@ -226,7 +241,8 @@ def alone(crate):
 
 def tidy(crate):
     """Removes what a build that was killed has left, and all but the last programs."""
-    for left in shelf(crate).glob("building-*"):
+    end_what_is_left(shelf(crate) / BUILDING)
+    for left in shelf(crate).glob(f"{BUILDING}*"):
         shutil.rmtree(left, ignore_errors=True)
     programs = [it for it in shelf(crate).iterdir() if it.is_dir()]
     for old in sorted(programs, key=lambda it: it.stat().st_mtime)[:-KEPT]:
@@ -235,7 +251,7 @@ def tidy(crate):
 
 def build_kept(crate, told):
     """Builds the program of a crate from its sources as they are now, and keeps it: its place."""
-    with folder_of_its_own("building-", shelf(crate)) as room:
+    with folder_of_its_own(BUILDING, shelf(crate)) as room:
         lay_out_sources(ROOT, crate, room / "sources")
         # of the copy, which nobody changes
         place = shelf(crate) / checksum(room / "sources", crate) / program_name(crate)

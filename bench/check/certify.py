@@ -15,7 +15,7 @@ import sys
 import time
 from dataclasses import dataclass
 from itertools import combinations
-from typing import Callable
+from typing import Callable, Optional
 
 import networkx as nx
 
@@ -49,7 +49,7 @@ def half(n, seed):
 class Task:
     links: Callable
     finder: type
-    group: range | None = None  # None is all nodes
+    group: Optional[range] = None  # None is all nodes
 
 
 TASKS = {

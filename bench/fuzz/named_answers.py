@@ -65,8 +65,8 @@ def group_of(text, names, graph):
     return sorted(found)
 
 
-def pieces_of(graph, cut):
-    """The pieces that the crash of a cut leaves, in the order of their lowest ids."""
+def components_of(graph, cut):
+    """The components that the crash of a cut leaves, in the order of their lowest ids."""
     left, found = [node for node in graph.nodes if node not in cut], []
     while left:
         found.append(graph.side(left[0], set(cut)))
@@ -83,13 +83,13 @@ def lines_of(fields, graph, names):
         name = names.get(node)
         return f"{words} {node}" + (f" {name.decode(errors='backslashreplace')}" if name else "")
 
-    pieces = pieces_of(graph, fields["cut"])
-    largest = max(range(len(pieces)), key=lambda at: len(pieces[at]))
+    components = components_of(graph, fields["cut"])
+    largest = max(range(len(components)), key=lambda at: len(components[at]))
     lines = [line("cut", node) for node in fields["cut"]]
     lines += [line("near", fields["near"]), line("far", fields["far"])]
-    lines.append(f"pieces {len(pieces)} sizes {','.join(str(len(piece)) for piece in pieces)}")
+    lines.append(f"pieces {len(components)} sizes {','.join(str(len(it)) for it in components)}")
     return lines + [line(f"piece {at + 1}", node)
-                    for at, piece in enumerate(pieces) if at != largest for node in piece]
+                    for at, it in enumerate(components) if at != largest for node in it]
 
 
 def answer_named(data, text=None, has_certificate=False):

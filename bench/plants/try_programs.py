@@ -18,7 +18,8 @@ HERE = pathlib.Path(__file__).resolve().parent
 ROOT = HERE.parents[1]
 PROGRAMS = {"overlay": "TAGZIRK_OVERLAY", "overlay_check": "TAGZIRK_OVERLAY_CHECK"}
 OPTIONS = {"overlay": "--overlay", "overlay_check": "--overlay-check"}
-CHECKS = (("check-examples",), ("check-corpus",), ("check-devices", "workers"), ("check-devices", "devices"))
+CHECKS = (
+    ("check-examples",), ("check-corpus",), ("check-devices", "workers", "sharing"), ("check-devices", "devices"))
 
 
 def parts_of(edit):

@@ -2,6 +2,7 @@
 
 import argparse
 from dataclasses import dataclass, fields
+from typing import Optional
 
 # The parameters of nodes are judged together, as `Params::new` does; these are their limits.
 LARGEST_ACTIVE, LARGEST_PASSIVE, LONGEST_WALK, LARGEST_SAMPLE, LONGEST_SHUFFLE = 16, 64, 15, 8, 15
@@ -25,7 +26,7 @@ class Options:
     loss: int = 0
     repeat: int = 0
     order: str = "random"
-    pace: int | None = None
+    pace: Optional[int] = None
     rounds: int = 3
     crash: int = 0
     crash_cut: bool = False

@@ -3,7 +3,7 @@ use Rattle.std.specs.Prelude.{ℕ, List}
 use Rattle.ov_cert.specs.Valid.{k_of}
 use Rattle.ov_net.specs.declared.journal_entry_and_changes.Entry.{Entry}
 use Rattle.ov_snap.specs.ReportState.{ReportState, IsTrueReport}
-use Rattle.ov_hall.specs.Logs.{IsExact}
+use Rattle.ov_hall.specs.Histories.{IsExact}
 use Rattle.ov_hall.specs.declared.shared_hall.Gathered.{Gathered}
 use Rattle.example_programs.specs.Outcome.{IsFewestAt, IsOutcome}
 

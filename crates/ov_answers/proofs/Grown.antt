@@ -1,4 +1,4 @@
--- How a piece is grown from one node, by the links of one node after another.
+-- How a component is grown from one node, by the links of one node after another.
 use Rattle.std.proofs.Common.{◌≡◌, ◌≢◌, ◌↔◌, ℕ, ◌*◌, ◌<◌, ◌≤◌, List, [], ◌∷◌, length, inl, inr}
 use Rattle.std.proofs.Common.{refl, sym, subst, arith}
 use Rattle.std.proofs.lemmas.Bool.{cases_eq}
@@ -11,7 +11,7 @@ use Rattle.ov_graph.specs.Row.{HasBit}
 use Rattle.ov_graph.proofs.BitRows.Bits.{bit_moved}
 use Rattle.ov_graph.proofs.BitRows.Read.{one_place}
 use Rattle.ov_graph.proofs.EvenTest.Walks.{AllSurvive, joined_self, joined_step, joined_trans, steps_of}
-use Rattle.ov_answers.specs.Code.Rows.{IsWhole, TakesPiece}
+use Rattle.ov_answers.specs.Code.Rows.{IsWhole, TakesComponent}
 use Rattle.ov_answers.proofs.Rows.{bit_or_not}
 
 -- what passes along links from a survivor to a survivor passes along a walk
@@ -23,7 +23,7 @@ joined_along g s P a b pass h j = let w = steps_of g s a b j in go a w.steps w.l
     go x [] e k stay = subst P e k
     go x (y ∷ ys) l k stay = go y ys l.1 (pass x y k l.0 (stay y (inl refl))) (λ z p. stay z (inr p))
 
--- While a piece is grown, `before` are the places that were left before, `left` those whose links were not followed
+-- While a component is grown, `before` are the places that were left before, `left` those whose links were not followed
 -- yet, and `unseen` those that were not reached. What was reached is joined to the start, and no link leads on from a
 -- place whose links were followed.
 pub record IsGrown (g : LinkGraph) (s before : List ℕ) (start : ℕ) (left unseen : List ℕ) : Type 0 where
@@ -31,7 +31,7 @@ pub record IsGrown (g : LinkGraph) (s before : List ℕ) (start : ℕ) (left uns
   pub closed : (p q : ℕ) → HasBit before p → ¬ HasBit left p → HasBit unseen q
       → ¬ Linked g (node_at g p) (node_at g q)
 
--- the rows while a piece is grown, whatever nodes crash
+-- the rows while a component is grown, whatever nodes crash
 pub record AreRows (g : LinkGraph) (before : List ℕ) (start : ℕ) (left unseen : List ℕ) : Type 0 where
   pub within : (p : ℕ) → HasBit left p → HasBit before p
   pub seen : (p : ℕ) → HasBit unseen p → HasBit left p
@@ -130,26 +130,26 @@ record IsFollowed (g : LinkGraph) (before left : List ℕ) (x : ℕ) : Type 0 wh
 -- at the end no place is reached whose links are still to be followed
 pub record IsGrownOut (before left unseen : List ℕ) (words : ℕ) (row : List ℕ) : Type 0 where
   pub none : (p : ℕ) → p < 64 * words → HasBit left p → HasBit unseen p
-  pub piece : (p : ℕ) → HasBit row p ↔ ((p < 64 * words) × HasBit before p × ¬ HasBit left p)
+  pub component : (p : ℕ) → HasBit row p ↔ ((p < 64 * words) × HasBit before p × ¬ HasBit left p)
 
 pub grown_out : (before left unseen : List ℕ) (words : ℕ) (row reached : List ℕ)
     → ((q : ℕ) → HasBit reached q ↔ ((q < 64 * words) × HasBit left q × ¬ HasBit unseen q))
     → ((q : ℕ) → 0 ≤ q → q < 64 * words → ¬ HasBit reached q)
     → ((q : ℕ) → HasBit row q ↔ ((q < 64 * words) × HasBit before q × ¬ HasBit left q))
     → IsGrownOut before left unseen words row
-grown_out before left unseen words row reached bits none piece = record {
+grown_out before left unseen words row reached bits none component = record {
   none = λ p l h. elim (bit_or_not unseen p) [
     | inl u ↦ u
     | inr n ↦ absurd (none p (omega arith) l ((bits p).1 (l, h, n)))
   ];
-  piece = piece;
+  component = component;
 }
 
-followed_on : (g : LinkGraph) (s before : List ℕ) (start : ℕ) (left unseen : List ℕ) (words : ℕ) (piece : List ℕ)
+followed_on : (g : LinkGraph) (s before : List ℕ) (start : ℕ) (left unseen : List ℕ) (words : ℕ) (component : List ℕ)
     (x y : ℕ) → IsWhole g s before → length g.nodes ≤ 64 * words → IsGrown g s before start left unseen
-    → IsGrownOut before left unseen words piece → IsFollowed g before left x → Linked g x y → Survives g.nodes s y
+    → IsGrownOut before left unseen words component → IsFollowed g before left x → Linked g x y → Survives g.nodes s y
     → IsFollowed g before left y
-followed_on g s before start left unseen words piece x y whole enough grown out h l survives =
+followed_on g s before start left unseen words component x y whole enough grown out h l survives =
     let at = place_of g.nodes y survives.0 in
     let r = at.0 in
     let below : r < length g.nodes = at.1 in
@@ -166,15 +166,16 @@ followed_on g s before start left unseen words piece x y whole enough grown out 
       gone = λ k. grown.closed h.place r h.was h.gone (out.none r (omega (arith, below, enough)) k) link;
     }
 
-pub piece_taken : (g : LinkGraph) (s before : List ℕ) (start : ℕ) (left unseen : List ℕ) (words : ℕ) (piece : List ℕ)
+pub component_taken : (g : LinkGraph) (s before : List ℕ) (start : ℕ) (left unseen : List ℕ) (words : ℕ)
+    (component : List ℕ)
     → IsGraph g → IsWhole g s before → ((q : ℕ) → HasBit before q → q < length g.nodes)
     → length g.nodes ≤ 64 * words → HasBit before start → AreRows g before start left unseen
-    → IsGrown g s before start left unseen → IsGrownOut before left unseen words piece
-    → TakesPiece g s before start left piece
-piece_taken g s before start left unseen words piece graph whole within enough has rows grown out = record {
-  piece = λ p. (
+    → IsGrown g s before start left unseen → IsGrownOut before left unseen words component
+    → TakesComponent g s before start left component
+component_taken g s before start left unseen words component graph whole within enough has rows grown out = record {
+  component = λ p. (
     (λ h.
-        let b = (out.piece p).0 h in
+        let b = (out.component p).0 h in
         (within p b.1, grown.joined p b.1 (λ u. b.2 (rows.seen p u)))),
     (λ h.
         let first : IsFollowed g before left (node_at g start) = record {
@@ -185,22 +186,22 @@ piece_taken g s before start left unseen words piece graph whole within enough h
           gone = λ k. rows.started (out.none start (let l = within start has in omega (arith, l, enough)) k);
         } in
         let last = joined_along g s (IsFollowed g before left) (node_at g start) (node_at g p)
-        (λ x y k l v. followed_on g s before start left unseen words piece x y whole enough grown out k l v)
+        (λ x y k l v. followed_on g s before start left unseen words component x y whole enough grown out k l v)
         first h.1 in
         let e = one_place g.nodes last.place p graph.nodes_ascend last.below h.0 last.node in
         let below = h.0 in
-        (out.piece p).1 (
+        (out.component p).1 (
           omega (arith, below, enough),
           bit_moved before last.place p e last.was,
           (λ k. last.gone (bit_moved left p last.place (sym e) k)),
         )),
   );
-  within = λ p h. ((out.piece p).0 h).1;
+  within = λ p h. ((out.component p).0 h).1;
   left = λ p. (
-    (λ h. (rows.within p h, (λ k. ((out.piece p).0 k).2 h))),
+    (λ h. (rows.within p h, (λ k. ((out.component p).0 k).2 h))),
     (λ h. elim (bit_or_not left p) [
       | inl k ↦ k
-      | inr n ↦ let l = within p h.0 in absurd (h.1 ((out.piece p).1 (omega (arith, l, enough), h.0, n)))
+      | inr n ↦ let l = within p h.0 in absurd (h.1 ((out.component p).1 (omega (arith, l, enough), h.0, n)))
     ]),
   );
 }

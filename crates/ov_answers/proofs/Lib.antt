@@ -1,7 +1,11 @@
+pub mod OfReader
+pub mod Refused
+pub mod SameLines
 pub mod Growing
-pub mod Piecewise
+pub mod Componentwise
 pub mod Tellings
 pub mod Rows
 pub mod Grown
 pub mod Divided
 pub mod Surviving
+pub mod Written

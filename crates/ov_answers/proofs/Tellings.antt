@@ -13,16 +13,16 @@ use Rattle.ov_even.specs.Outlines.{IsOutline}
 use Rattle.ov_even.specs.Theorems.{AreAlike}
 use Rattle.ov_graphfile.specs.NamesState.{NamesState}
 use Rattle.ov_graphfile.specs.NameLines.{AreNamesOf}
-use Rattle.ov_run.specs.Analysing.{answer_text, PrintsAnswer, IsAnalysis, BeginsAnalysis, IsAnalysisOf}
-use Rattle.ov_run.specs.Faults.{write_faults}
-use Rattle.ov_run.specs.Code.Writing.{IsTextFault}
-use Rattle.ov_run.specs.Printed.{report_line, file_text}
-use Rattle.ov_run.specs.Subjects.{members_of}
-use Rattle.ov_run.specs.declared.answered.Answered.{Answered}
-use Rattle.ov_run.specs.declared.answered.Answered.TheVariants.{Report, NoNodes, BadGroup}
-use Rattle.ov_run.specs.declared.run_fault.RunFault.{RunFault}
-use Rattle.ov_run.specs.declared.run_fault.RunFault.TheVariants as fault
-use Rattle.ov_run.proofs.GraphFiles.Lines.{same_line}
+use Rattle.ov_answers.specs.Analysing.{answer_text, PrintsAnswer, IsAnalysis, BeginsAnalysis, IsAnalysisOf}
+use Rattle.ov_run_meaning.specs.Faults.{write_faults}
+use Rattle.ov_answers.specs.Code.TextFaults.{IsTextFault}
+use Rattle.ov_run_meaning.specs.Printed.{report_line, file_text}
+use Rattle.ov_run_meaning.specs.Subjects.{members_of}
+use Rattle.ov_answers.specs.declared.answered.Answered.{Answered}
+use Rattle.ov_answers.specs.declared.answered.Answered.TheVariants.{Report, NoNodes, BadGroup}
+use Rattle.ov_run_meaning.specs.declared.run_fault.RunFault.{RunFault}
+use Rattle.ov_run_meaning.specs.declared.run_fault.RunFault.TheVariants as fault
+use Rattle.ov_answers.proofs.SameLines.{same_line}
 use Rattle.ov_answers.specs.Telling.{AreLinesBetween, TellsReport, TellsAnswer, IsTelling, IsToldOf}
 use Rattle.ov_answers.specs.Telling.{answered_of}
 use Rattle.ov_answers.specs.declared.request.Told.{Told}
@@ -148,6 +148,18 @@ plain_answer g q names false Report text t =
     (t.0, t.2, t.3, t.5 ∙ plain_text (report_line 0 t.0 g q) [] t.1 t.4 ∙ append-nil (report_line 0 t.0 g q))
 plain_answer g q names certificate NoNodes text t = t
 plain_answer g q names certificate BadGroup text t = t
+
+-- of a file whose names were not read
+pub unnamed : (bytes text : List ℕ) (group : Option (List ℕ)) (certificate named : Bool) (answered : Answered)
+    (g : LinkGraph) (q : List ℕ) (names : NamesState) → named ≡ false → IsGraphFile bytes g → q ≡ members_of group g
+    → TellsAnswer g q names certificate named answered text → IsAnalysis bytes group certificate answered text
+unnamed bytes text group certificate named answered g q names plain says members tells = record {
+  graph = g;
+  says = says;
+  prints = subst (λ r. PrintsAnswer g r certificate answered text) members
+      (plain_answer g q names certificate answered text
+      (subst (λ (b : Bool). TellsAnswer g q names certificate b answered text) plain tells));
+}
 
 plain_file : (bytes : List ℕ) (group : Option (List ℕ)) (certificate : Bool) (answered : Answered) (text : List ℕ)
     → IsTelling bytes group certificate false answered text → IsAnalysis bytes group certificate answered text

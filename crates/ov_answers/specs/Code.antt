@@ -3,3 +3,5 @@
 pub mod Begun
 pub mod Sentences
 pub mod Rows
+pub mod GivenNames
+pub mod TextFaults

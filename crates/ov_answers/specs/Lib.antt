@@ -1,5 +1,6 @@
+pub mod Analysing
 pub mod Lines
 pub mod Telling
 pub mod Code
-pub mod Pieces
+pub mod Components
 pub mod Theorems

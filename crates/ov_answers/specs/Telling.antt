@@ -13,13 +13,13 @@ use Rattle.ov_even.specs.Faults as even
 use Rattle.ov_even.specs.declared.fault.AnalyseFault.TheVariants as analysis
 use Rattle.ov_graphfile.specs.NamesState.{NamesState}
 use Rattle.ov_graphfile.specs.NameLines.{AreNamesOf}
-use Rattle.ov_run.specs.Faults.{write_faults, IsAnalysisFault}
-use Rattle.ov_run.specs.Printed.{report_line, file_text, refused_line}
-use Rattle.ov_run.specs.Subjects.{members_of}
-use Rattle.ov_run.specs.declared.answered.Answered.{Answered}
-use Rattle.ov_run.specs.declared.answered.Answered.TheVariants.{Report, NoNodes, BadGroup}
-use Rattle.ov_run.specs.declared.run_fault.RunFault.{RunFault}
-use Rattle.ov_run.specs.declared.run_fault.RunFault.TheVariants.{Write}
+use Rattle.ov_run_meaning.specs.Faults.{write_faults, IsAnalysisFault}
+use Rattle.ov_run_meaning.specs.Printed.{report_line, file_text, refused_line}
+use Rattle.ov_run_meaning.specs.Subjects.{members_of}
+use Rattle.ov_answers.specs.declared.answered.Answered.{Answered}
+use Rattle.ov_answers.specs.declared.answered.Answered.TheVariants.{Report, NoNodes, BadGroup}
+use Rattle.ov_run_meaning.specs.declared.run_fault.RunFault.{RunFault}
+use Rattle.ov_run_meaning.specs.declared.run_fault.RunFault.TheVariants.{Write}
 use Rattle.ov_answers.specs.Lines.{AreNameLines}
 use Rattle.ov_answers.specs.declared.request.Told.{Told}
 

@@ -1,25 +1,25 @@
-//! What sentences count: members of pieces, and links of nodes.
+//! What sentences count: members of components, and links of nodes.
 ghost use Rattle.std.specs.Prelude.{◌<◌, length};
 
-use crate::Pieces;
-use crate::text_pieces::piece_at;
+use crate::component_list::Components;
+use crate::component_texts::component_at;
 use ov_graph::Graph;
 use ov_graph::row::WORDS;
 use ov_ids::{NodeId, OutOfMemory};
 use std::alloc::Global;
 
-/// The members of the group that are in the piece with this node, ascending.
+/// The members of the group that are in the component with this node, ascending.
 pub(crate) fn members_beside(
     alloc: Global,
-    pieces: &Pieces,
+    components: &Components,
     group: &[NodeId],
     node: NodeId,
 ) -> Result<Vec<NodeId>, OutOfMemory> {
     let mut members = Vec::new(alloc);
-    for place in 0..pieces.len() {
-        let piece = piece_at(pieces, place);
-        if is_among(piece, node) {
-            for id in piece {
+    for place in 0..components.len() {
+        let component = component_at(components, place);
+        if is_among(component, node) {
+            for id in component {
                 if is_among(group, *id) {
                     members.push(*id)?;
                 }

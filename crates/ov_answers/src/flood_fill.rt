@@ -1,20 +1,20 @@
-//! How a piece is grown from one of its nodes.
+//! How a component is grown from one of its nodes.
 ghost use Rattle.std.specs.Prelude.{ℕ, ◌<◌, List, length};
 ghost use Rattle.ov_graph.specs.Links.{IsGraph};
 ghost use Rattle.ov_graph.specs.Row.{HasBit};
-ghost use Rattle.ov_answers.specs.Code.Rows.{IsWhole, TakesPiece};
+ghost use Rattle.ov_answers.specs.Code.Rows.{IsWhole, TakesComponent};
 
 use ov_graph::Graph;
 use ov_graph::row::{WORDS, clear, first_from, without};
 
-/// Takes the piece of the node at place `start` out of `left`, and returns the row of its nodes. The nodes in `left`
-/// that are not in `unseen` are joined to the start; their links are still to be followed.
-pub(crate) fn take_piece(graph: &Graph, left: &mut [u64; WORDS], start: usize) -> [u64; WORDS]
+/// Takes the component of the node at place `start` out of `left`, and returns the row of its nodes. The nodes in
+/// `left` that are not in `unseen` are joined to the start; their links are still to be followed.
+pub(crate) fn take_component(graph: &Graph, left: &mut [u64; WORDS], start: usize) -> [u64; WORDS]
     requires graph { IsGraph graph.now }
     requires within { (p : ℕ) → HasBit left.old p → p < length graph.now.nodes }
     requires start { HasBit left.old start }
     ensures taken { (s : List ℕ) → IsWhole graph.now s left.old
-        → TakesPiece graph.now s left.old start left.new result }
+        → TakesComponent graph.now s left.old start left.new result }
 {
     let words = graph.words();
     let before = *left;

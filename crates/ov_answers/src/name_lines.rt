@@ -4,8 +4,8 @@ ghost use Rattle.ov_cert.specs.declared.cert.Cert.{Cert};
 ghost use Rattle.ov_answers.specs.Lines.{IsNodeLine, AreNodeLines, AreNameLines};
 ghost use Rattle.ov_answers.specs.Code.Begun.{Gains};
 
-use crate::pieces_without;
-use crate::text_pieces::write_pieces;
+use crate::component_finding::components_without;
+use crate::component_texts::write_components;
 use itoa::Buffer;
 use ov_cert::{Cert, Split};
 use ov_graph::Graph;
@@ -13,8 +13,8 @@ use ov_graphfile::Names;
 use ov_ids::{NodeId, OutOfMemory};
 use std::alloc::{AllocError, Global};
 
-/// Appends the lines that name the nodes of an answer: those of the cut, near and far, and the pieces that the crash of
-/// the cut leaves.
+/// Appends the lines that name the nodes of an answer: those of the cut, near and far, and the components that the
+/// crash of the cut leaves.
 pub(crate) fn write_lines(
     alloc: Global,
     text: &mut Vec<u8>,
@@ -42,11 +42,11 @@ fn write_split(
         (Gains (AreNameLines graph.now (Cert.Split split.now) names.now) text.old.items text.new.items) }
 {
     let cut = split.cut.as_slice();
-    let pieces = pieces_without(alloc, graph, cut)?;
+    let components = components_without(alloc, graph, cut)?;
     write_nodes(text, b"cut ", cut, names)?;
     write_node(text, b"near ", split.near, names)?;
     write_node(text, b"far ", split.far, names)?;
-    write_pieces(alloc, text, &pieces, names)?;
+    write_components(alloc, text, &components, names)?;
     Ok(())
 }
 

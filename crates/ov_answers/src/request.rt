@@ -1,5 +1,5 @@
+use crate::answered::Answered;
 use ov_ids::{NodeId, Workers};
-use ov_run::Answered;
 
 /// What an analysis of a graph file is asked for.
 #[derive(Clone, Copy)]
@@ -10,7 +10,7 @@ pub struct Request<'a> {
     pub workers: Workers,
     /// The certificate file follows the answer.
     pub certificate: bool,
-    /// Lines that name the nodes of the cut and of the pieces follow the line of the answer.
+    /// Lines that name the nodes of the cut and of the components follow the line of the answer.
     pub names: bool,
     /// The answer is explained in sentences.
     pub explain: bool,

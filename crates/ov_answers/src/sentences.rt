@@ -3,8 +3,8 @@
 ghost use Rattle.std.specs.Prelude.{◌≡◌, ◌++◌, string_bytes, OnOk};
 ghost use Rattle.ov_answers.specs.Code.Sentences.{fewer_text, more_text};
 
+use crate::component_finding::components_without;
 use crate::counts::{least_linked, members_beside, survivors_of};
-use crate::pieces_without;
 use ov_cert::{Cert, Split};
 use ov_graph::Graph;
 use ov_graphfile::Names;
@@ -73,9 +73,9 @@ fn push_split(
     names: &Names<'_>,
 ) -> Result<(), OutOfMemory> {
     let cut = split.cut.as_slice();
-    let pieces = pieces_without(alloc, graph, cut)?;
-    let near = members_beside(alloc, &pieces, group, split.near)?;
-    let far = members_beside(alloc, &pieces, group, split.far)?;
+    let components = components_without(alloc, graph, cut)?;
+    let near = members_beside(alloc, &components, group, split.near)?;
+    let far = members_beside(alloc, &components, group, split.far)?;
     let fewer = if near.len() <= far.len() {
         near.as_slice()
     } else {

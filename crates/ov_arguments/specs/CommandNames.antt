@@ -1,12 +1,9 @@
--- The names of the commands. Chosen here.
-use Rattle.std.specs.Prelude.{ℕ, Bool, List, [], ◌∷◌, codes}
-use Rattle.std.specs.List.{list_any}
-use Rattle.std.specs.Str.{bytes_eq}
+-- The names of the commands.
+use Rattle.std.specs.Prelude.{ℕ, Bool, List, find, is_some}
+use Rattle.clap.specs.Simple.{label_of}
+use Rattle.clap.specs.Walk.{answers_to}
+use Rattle.ov_arguments.specs.Arguments.{overlay_command}
 
--- the names of the commands that arguments may give
-abbrev pub command_names : List (List ℕ)
-command_names = codes "run" ∷ codes "analyse" ∷ codes "import" ∷ codes "picture" ∷ codes "graph" ∷ []
-
--- a command has this name
+-- a command that arguments may give has this name
 abbrev pub is_command : List ℕ → Bool
-is_command word = list_any (bytes_eq word) command_names
+is_command word = is_some (find (λ s. answers_to word (label_of s)) overlay_command.subs)

@@ -1,9 +1,13 @@
-ghost use Rattle.std.specs.Prelude.{◌≡◌};
+ghost use Rattle.std.specs.Prelude.{◌≡◌, IfOk};
 ghost use Rattle.ov_arguments.specs.CommandNames.{is_command};
 
+use crate::taken_arguments::command;
+use std::alloc::{AllocError, Global};
+
 /// Whether a command that `read_arguments` reads has this name.
-pub fn is_command(word: &str) -> bool
-    ensures { result ≡ is_command word.now }
+pub fn is_command(alloc: Global, word: &str) -> Result<bool, AllocError>
+    ensures { IfOk result (λ is. is ≡ is_command word.now) }
 {
-    matches!(word, "run" | "analyse" | "import" | "picture" | "graph")
+    let commands = command(alloc)?;
+    Ok(commands.find_subcommand(word).is_some())
 }

@@ -1,6 +1,12 @@
 use crate::option_forms::{OPTIONS, ORDERS, OptionForm, SWEEP_OPTIONS, Takes};
+use crate::taken_arguments;
 use clap::{Arg, ArgAction, Command};
 use std::alloc::{AllocError, Global};
+
+/// The names of the two commands that grow overlays.
+const GROW: &str = "grow";
+
+const SWEEP: &str = "sweep";
 
 /// What help of `overlay grow` says, with examples first.
 const GROW_EXAMPLES: &str = "\
@@ -41,11 +47,34 @@ const PROGRESS: &str = "Prints on standard error how far it has come";
 /// The option that takes no list in a sweep.
 const SEED: &str = "seed";
 
-/// The commands whose words are read here.
+/// The commands that grow overlays.
 #[derive(Clone, Copy)]
 pub(crate) enum CommandName {
     Grow,
     Sweep,
+}
+
+impl CommandName {
+    /// The command of this name, if it grows overlays.
+    pub(crate) fn of(word: &str) -> Option<CommandName> {
+        if word == GROW {
+            return Some(CommandName::Grow);
+        }
+        if word == SWEEP {
+            return Some(CommandName::Sweep);
+        }
+        None
+    }
+}
+
+/// All commands with their options, of which help is told. Those that grow overlays are not among those that it lists.
+///
+/// The words of these two are parsed by their own part of the tree, and all others by the part without them: `clap` has
+/// exact contracts for commands whose options take no lists and exclude no others.
+pub(crate) fn command_tree<'a>(alloc: Global) -> Result<Command<'a>, AllocError> {
+    taken_arguments::command(alloc)?
+        .subcommand(grow_command(alloc)?.hide(true))?
+        .subcommand(sweep_command(alloc)?.hide(true))
 }
 
 /// The words that a command takes.
@@ -58,7 +87,7 @@ pub(crate) fn command<'a>(alloc: Global, name: CommandName) -> Result<Command<'a
 
 /// The words after `overlay grow`.
 fn grow_command<'a>(alloc: Global) -> Result<Command<'a>, AllocError> {
-    let mut command = Command::new(alloc, "grow")
+    let mut command = Command::new(alloc, GROW)
         .bin_name("overlay grow")?
         .no_binary_name(true)
         .before_help(GROW_EXAMPLES)
@@ -72,7 +101,7 @@ fn grow_command<'a>(alloc: Global) -> Result<Command<'a>, AllocError> {
 
 /// The words after `overlay sweep`.
 fn sweep_command<'a>(alloc: Global) -> Result<Command<'a>, AllocError> {
-    let mut command = Command::new(alloc, "sweep")
+    let mut command = Command::new(alloc, SWEEP)
         .bin_name("overlay sweep")?
         .no_binary_name(true)
         .before_help(SWEEP_EXAMPLES)

@@ -1,7 +1,8 @@
 use crate::certificate_tip::certificate_tip;
+use crate::commands::command_tree;
 use crate::taken_arguments::command;
-use clap::ArgMatches;
 use clap::error::ErrorKind;
+use clap::{ArgMatches, Command};
 use ov_hints::comma_hint;
 use ov_ids::OutOfMemory;
 use ov_io::shown_name;
@@ -11,6 +12,9 @@ use std::fmt::Write;
 
 /// The program with its version, and the logic that it is proved with. Each kit of that logic may build it.
 const VERSION: &str = "overlay 1.0, proved with Rattle's logic dac8208d650f15bf\n";
+
+/// The word that asks for help of a command, in its place.
+const HELP: &str = "help";
 
 /// What is printed of arguments of which one is no text, so that `clap` does not see them.
 const NO_TEXT: &str = "error: an argument is no UTF-8 text\n";
@@ -53,7 +57,7 @@ fn asks_for_version(first: &str) -> bool {
 /// What `clap` says of these arguments, or what is wrong with the texts that it finds in them.
 fn reasons(alloc: Global, arguments: &[String]) -> Result<String, OutOfMemory> {
     let shown = shown(alloc, arguments)?;
-    match command(alloc)?.try_get_matches_from(&shown) {
+    match told_by(alloc, &shown)?.try_get_matches_from(&shown) {
         Ok(matches) => text_reason(alloc, &matches),
         Err(error) if error.kind() == ErrorKind::OutOfMemory => Err(OutOfMemory),
         Err(error) => {
@@ -61,6 +65,15 @@ fn reasons(alloc: Global, arguments: &[String]) -> Result<String, OutOfMemory> {
             reason.push_str(certificate_tip(alloc, &shown)?.as_str())?;
             Ok(reason)
         }
+    }
+}
+
+/// The commands by which these arguments are told. Help is that of any command. Else those that grow overlays are left
+/// out, so that they are not offered in place of what is no command.
+fn told_by<'a>(alloc: Global, arguments: &[String]) -> Result<Command<'a>, AllocError> {
+    match arguments.first() {
+        Some(first) if first.as_str() == HELP => command_tree(alloc),
+        _ => command(alloc),
     }
 }
 

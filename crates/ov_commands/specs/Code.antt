@@ -2,4 +2,4 @@
 -- it.
 pub mod Endings
 pub mod EntryTexts
-pub mod Keeping
+pub mod Named

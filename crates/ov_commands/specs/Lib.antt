@@ -1,8 +1,8 @@
 pub mod Faults
+pub mod Statuses
+pub mod Naming
 pub mod Printing
 pub mod Pictures
 pub mod Dumps
 pub mod Code
-pub mod GrowFaults
-pub mod Growing
-pub mod KeptRows
+pub mod Progress

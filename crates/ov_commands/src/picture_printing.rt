@@ -11,6 +11,7 @@ ghost use Rattle.ov_commands.specs.declared.file_command_fault.FileCommandFault.
 use crate::entry_listing::entries_of;
 use crate::file_command_fault::FileCommandFault;
 use crate::graph_printing::{told, written};
+use crate::tips::print_file_tip;
 use ov_arguments::{AskedEntry, PictureRequest};
 use ov_cert::Cert;
 use ov_certfile::Filed;
@@ -18,6 +19,7 @@ use ov_check::{Outcome, outcome_of};
 use ov_check_reasons::reasons;
 use ov_graph::Graph;
 use ov_graphfile::{GraphFileFault, read_graph, read_names};
+use ov_hints::FileKind;
 use ov_ids::OutOfMemory;
 use ov_io::Sink;
 use ov_picture::{ChosenEntry, Drawing, PictureFault, dot, draw, svg};
@@ -58,7 +60,7 @@ pub fn print_picture<W: Write>(
         Ok(drawing) => drawing,
         Err(fault) => return Err(not_drawn(rt, &filed.cert, fault)),
     };
-    match picture_text(rt, &filed.graph, &drawing, names, request.dot) {
+    match picture_text(rt, &filed.graph, &drawing, names, request) {
         Ok(text) => written(rt, text.as_bytes(), sink),
         Err(fault) => Err(fault),
     }
@@ -135,17 +137,17 @@ fn picture_text(
     graph: &Graph,
     drawing: &Drawing,
     names: Option<&[u8]>,
-    is_dot: bool,
+    request: &PictureRequest,
 ) -> Result<String, FileCommandFault>
     ensures named { MatchResult result (λ text. NamesGraph (option_map (λ file. file.now) names.entry) graph.now)
         (IsNotNamed (option_map (λ file. file.now) names.entry) graph.now) }
-    ensures format { IfOk result (λ text. EndsAsAsked is_dot (string_bytes text)) }
+    ensures format { IfOk result (λ text. EndsAsAsked request.now.dot (string_bytes text)) }
 {
     let text = match names {
-        None => text_of(rt.alloc(), drawing, &[], is_dot),
+        None => text_of(rt.alloc(), drawing, &[], request.dot),
         Some(file) => {
-            same_graph(rt, graph, file)?;
-            named_text(rt.alloc(), graph, drawing, file, is_dot)
+            same_graph(rt, graph, file, request.names.as_deref())?;
+            named_text(rt.alloc(), graph, drawing, file, request.dot)
         }
     };
     match text {
@@ -154,8 +156,13 @@ fn picture_text(
     }
 }
 
-/// Ends if a file with names is no graph file, or says another graph. Prints why.
-fn same_graph(rt: &HostRuntime, graph: &Graph, file: &[u8]) -> Result<(), FileCommandFault>
+/// Ends if a file with names, of this name, is no graph file, or says another graph. Prints why.
+fn same_graph(
+    rt: &HostRuntime,
+    graph: &Graph,
+    file: &[u8],
+    path: Option<&str>,
+) -> Result<(), FileCommandFault>
     ensures { MatchResult result (λ _. NamesGraph (Some file.now) graph.now) (IsNotNamed (Some file.now) graph.now) }
 {
     match read_graph(rt.alloc(), file) {
@@ -167,12 +174,18 @@ fn same_graph(rt: &HostRuntime, graph: &Graph, file: &[u8]) -> Result<(), FileCo
             Err(refused(rt, OTHER_GRAPH, why))
         }
         Err(GraphFileFault::OutOfMemory) => Err(told(rt, FileCommandFault::OutOfMemory)),
-        Err(fault) => Err(no_graph_file(rt, &fault)),
+        Err(fault) => Err(no_graph_file(rt, file, path, &fault)),
     }
 }
 
-/// Ends since the file with names is no graph file. Prints which line is at fault.
-fn no_graph_file(rt: &HostRuntime, fault: &GraphFileFault) -> FileCommandFault
+/// Ends since the file with names, of these bytes and this name, is no graph file. Prints which line is at fault; and if
+/// it can't be read, which command reads such a file.
+fn no_graph_file(
+    rt: &HostRuntime,
+    bytes: &[u8],
+    path: Option<&str>,
+    fault: &GraphFileFault,
+) -> FileCommandFault
     ensures { result ≡ ended.Refused (graph_file_number fault.now) }
 {
     let number = fault.number();
@@ -181,6 +194,9 @@ fn no_graph_file(rt: &HostRuntime, fault: &GraphFileFault) -> FileCommandFault
         Some(line) => eprintln!(rt; "{ended}\nline {line} of the file with the names is at fault"),
         None => eprintln!(rt; "{ended}"),
     };
+    if let GraphFileFault::Line(_) = fault {
+        print_file_tip(rt, bytes, path, FileKind::Graph);
+    }
     ended
 }
 

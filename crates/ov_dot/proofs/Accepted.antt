@@ -1,19 +1,19 @@
--- The bytes by which a piece goes on from a place, and may end, are those that the grammar names.
+-- The bytes by which a part goes on from a place, and may end, are those that the grammar names.
 use Rattle.std.proofs.Common.{◌≡◌, ◌+◌, ◌-◌, ◌==◌, ◌&&◌, ◌||◌, ℕ, Bool, true, false, List, [], ◌∷◌, Option, Some}
 use Rattle.std.proofs.Common.{refl}
 use Rattle.std.specs.Prelude.{if◌then◌else◌}
 use Rattle.std.specs.List.{list_all}
 use Rattle.std.specs.Bool.{then_some}
 use Rattle.std.specs.Char.{is_ascii_digit}
-use Rattle.ov_dot.specs.declared.piece_scanning.Place.{Place}
-use Rattle.ov_dot.specs.declared.piece_scanning.Place.TheVariants.{Start, LineFeed, Slash, LineComment}
-use Rattle.ov_dot.specs.declared.piece_scanning.Place.TheVariants.{BlockComment}
-use Rattle.ov_dot.specs.declared.piece_scanning.Place.TheVariants.{BlockStar, Word, Minus, Point, Digits}
-use Rattle.ov_dot.specs.declared.piece_scanning.Place.TheVariants.{Fraction}
-use Rattle.ov_dot.specs.declared.piece_scanning.Place.TheVariants.{Text, Escaped, Angle, End}
-use Rattle.ov_dot.specs.Pieces.{is_blank, is_mark, is_letter, is_word_byte, is_in_line, line_feed, is_empty}
-use Rattle.ov_dot.specs.Pieces.{ends_comment, is_comment_rest, is_feed_rest, ends_quoted, ends_html, is_digits}
-use Rattle.ov_dot.specs.Pieces.{is_decimal_rest, is_decimal, is_dash_rest, is_piece}
+use Rattle.ov_dot.specs.declared.part_scanning.Place.{Place}
+use Rattle.ov_dot.specs.declared.part_scanning.Place.TheVariants.{Start, LineFeed, Slash, LineComment}
+use Rattle.ov_dot.specs.declared.part_scanning.Place.TheVariants.{BlockComment}
+use Rattle.ov_dot.specs.declared.part_scanning.Place.TheVariants.{BlockStar, Word, Minus, Point, Digits}
+use Rattle.ov_dot.specs.declared.part_scanning.Place.TheVariants.{Fraction}
+use Rattle.ov_dot.specs.declared.part_scanning.Place.TheVariants.{Text, Escaped, Angle, End}
+use Rattle.ov_dot.specs.Parts.{is_blank, is_mark, is_letter, is_word_byte, is_in_line, line_feed, is_empty}
+use Rattle.ov_dot.specs.Parts.{ends_comment, is_comment_rest, is_feed_rest, ends_quoted, ends_html, is_digits}
+use Rattle.ov_dot.specs.Parts.{is_decimal_rest, is_decimal, is_dash_rest, is_part}
 use Rattle.ov_dot.specs.Code.Scanning.{accepts, decimal_place}
 
 -- in both cases of a test
@@ -108,9 +108,9 @@ behind_minus (b ∷ bs) =
     by_test bs (b == 45 || b == 62) (Some End) (decimal_place b) _ _ (at_end bs) (in_decimal b bs)
 
 -- the whole grammar
-pub in_piece : (bs : List ℕ) → accepts (Some Start) bs ≡ is_piece bs
-in_piece [] = refl
-in_piece (b ∷ bs) =
+pub in_part : (bs : List ℕ) → accepts (Some Start) bs ≡ is_part bs
+in_part [] = refl
+in_part (b ∷ bs) =
     by_test bs (is_blank b) (Some End) _ _ _ (at_end bs)
     (by_test bs (is_mark b) (Some End) _ _ _ (at_end bs)
     (by_test bs (b == line_feed) (Some LineFeed) _ _ _ (behind_feed bs)

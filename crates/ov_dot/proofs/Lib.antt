@@ -1,3 +1,9 @@
+pub mod Depth
+pub mod Accepted
+pub mod Scanned
+pub mod Neighbours
+pub mod Cutting
+pub mod OneCut
 pub mod Stepping
 pub mod Entries
 pub mod Parsing
@@ -5,9 +11,3 @@ pub mod Completing
 pub mod Stopping
 pub mod Reasoning
 pub mod Refusing
-pub mod Accepted
-pub mod Scanned
-pub mod Neighbours
-pub mod Cutting
-pub mod Depth
-pub mod OneCut

@@ -1,43 +1,43 @@
--- Words that are neighbours: of one piece more, and of pieces that are taken apart.
+-- Words that are neighbours: of one part more, and of parts that are taken apart.
 use Rattle.std.proofs.Common.{◌≡◌, ◌∙◌, ◌&&◌, ◌++◌, ℕ, Bool, true, false, not, List, [], ◌∷◌, refl, sym, ap, subst}
 use Rattle.std.proofs.lemmas.Bool.{and_parts, and_from}
 use Rattle.ov_dot.specs.Tokens.{is_word, kind_of, sticks, AreTorn, HasNoneTorn}
 use Rattle.ov_dot.specs.Code.Neighbours.{ends_in_word, are_apart}
 
 pub apart_more :
-    (behind : Bool) (pieces : List (List ℕ)) (piece : List ℕ) → are_apart behind pieces ≡ true
-    → (ends_in_word behind pieces && sticks (kind_of piece)) ≡ false
-    → are_apart behind (pieces ++ piece ∷ []) ≡ true
-apart_more behind [] piece all free = ap (λ v. not v && true) free
-apart_more behind (p ∷ pieces) piece all free =
+    (behind : Bool) (parts : List (List ℕ)) (part : List ℕ) → are_apart behind parts ≡ true
+    → (ends_in_word behind parts && sticks (kind_of part)) ≡ false
+    → are_apart behind (parts ++ part ∷ []) ≡ true
+apart_more behind [] part all free = ap (λ v. not v && true) free
+apart_more behind (p ∷ parts) part all free =
     let word = is_word (kind_of p) in
     let stuck = behind && sticks (kind_of p) in
-    let (here, later) = and_parts (not stuck) (are_apart word pieces) all in
-    and_from (not stuck) (are_apart word (pieces ++ piece ∷ [])) here
-    (apart_more word pieces piece later free)
+    let (here, later) = and_parts (not stuck) (are_apart word parts) all in
+    and_from (not stuck) (are_apart word (parts ++ part ∷ [])) here
+    (apart_more word parts part later free)
 
 pub word_more :
-    (behind : Bool) (pieces : List (List ℕ)) (piece : List ℕ)
-    → ends_in_word behind (pieces ++ piece ∷ []) ≡ is_word (kind_of piece)
-word_more behind [] piece = refl
-word_more behind (p ∷ pieces) piece = word_more (is_word (kind_of p)) pieces piece
+    (behind : Bool) (parts : List (List ℕ)) (part : List ℕ)
+    → ends_in_word behind (parts ++ part ∷ []) ≡ is_word (kind_of part)
+word_more behind [] part = refl
+word_more behind (p ∷ parts) part = word_more (is_word (kind_of p)) parts part
 
--- pieces end with a word
+-- parts end with a word
 abbrev EndInWord : List (List ℕ) → Type 0
-EndInWord pieces =
-    (before : List (List ℕ)) × (last : List ℕ) × (pieces ≡ before ++ last ∷ []) × (is_word (kind_of last) ≡ true)
+EndInWord parts =
+    (before : List (List ℕ)) × (last : List ℕ) × (parts ≡ before ++ last ∷ []) × (is_word (kind_of last) ≡ true)
 
 some_last :
-    (behind : Bool) (piece : List ℕ) (pieces : List (List ℕ)) → ends_in_word behind (piece ∷ pieces) ≡ true
-    → EndInWord (piece ∷ pieces)
-some_last behind piece [] is = ([], piece, refl, is)
-some_last behind piece (p ∷ pieces) is =
-    let end = some_last (is_word (kind_of piece)) p pieces is in
-    (piece ∷ end.0, end.1, ap (λ ps. piece ∷ ps) end.2, end.3)
+    (behind : Bool) (part : List ℕ) (parts : List (List ℕ)) → ends_in_word behind (part ∷ parts) ≡ true
+    → EndInWord (part ∷ parts)
+some_last behind part [] is = ([], part, refl, is)
+some_last behind part (p ∷ parts) is =
+    let end = some_last (is_word (kind_of part)) p parts is in
+    (part ∷ end.0, end.1, ap (λ ps. part ∷ ps) end.2, end.3)
 
-pub last_word : (pieces : List (List ℕ)) → ends_in_word false pieces ≡ true → EndInWord pieces
+pub last_word : (parts : List (List ℕ)) → ends_in_word false parts ≡ true → EndInWord parts
 last_word [] is = absurd cc
-last_word (p ∷ pieces) is = some_last false p pieces is
+last_word (p ∷ parts) is = some_last false p parts is
 
 not_torn :
     (behind : Bool) (before : List (List ℕ)) (first second : List ℕ) (later : List (List ℕ))
@@ -58,6 +58,6 @@ not_torn behind (p ∷ before) first second later all torn =
     not_torn word before first second later
     (and_parts (not (behind && sticks (kind_of p))) (are_apart word (before ++ first ∷ second ∷ later)) all).1 torn
 
-pub none_torn : (behind : Bool) (pieces : List (List ℕ)) → are_apart behind pieces ≡ true → HasNoneTorn pieces
-none_torn behind pieces all before first second later parts torn =
-    not_torn behind before first second later (subst (λ ps. are_apart behind ps ≡ true) parts all) torn
+pub none_torn : (behind : Bool) (parts : List (List ℕ)) → are_apart behind parts ≡ true → HasNoneTorn parts
+none_torn behind parts all before first second later is torn =
+    not_torn behind before first second later (subst (λ ps. are_apart behind ps ≡ true) is all) torn

@@ -7,12 +7,11 @@ use Rattle.std.specs.Prelude.{map, Result, Err, IfOk}
 use Rattle.ov_ids.specs.Members.{Has}
 use Rattle.ov_dump.specs.declared.dump_values.Dump.{Dump}
 use Rattle.ov_dot.specs.Tokens.{Lexeme, lexeme, lexemes, HasTokens}
-use Rattle.ov_dot.specs.TokenFaults.{Faults}
 use Rattle.ov_dot.specs.declared.token_reading.TextFault.{TextFault}
 use Rattle.ov_dot.specs.declared.token_reading.TextFault.TheVariants as text
 use Rattle.ov_dot.specs.declared.fault.DotFault.{DotFault}
 use Rattle.ov_dot.specs.declared.fault.DotFault.TheVariants.{UnreadLine, OutOfMemory}
-use Rattle.ov_dot.specs.Faults.{fault_of}
+use Rattle.ov_dot.specs.Code.TokenFaults.{fault_of, Faults}
 use Rattle.ov_dot.specs.Sayings.{Said}
 use Rattle.ov_dot.specs.Grammar.{File, Spells, said_by}
 use Rattle.ov_dot.specs.Code.Statements.{statements_of}

@@ -1,13 +1,13 @@
--- What a scan finds is the longest prefix that is a piece, or there is none.
+-- What a scan finds is the longest prefix that is a part, or there is none.
 use Rattle.std.proofs.Common.{◌≡◌, ◌∙◌, ◌+◌, ◌<◌, ◌≤◌, ℕ, zero, suc, Bool, true, false, List, [], ◌∷◌, Option, Some}
 use Rattle.std.proofs.Common.{None, ◌⊎◌}
 use Rattle.std.proofs.Common.{length, take, inl, inr, refl, sym, ap, subst, arith, add-zero}
 use Rattle.std.specs.Prelude.{if◌then◌else◌, MatchOption, unwrap_or}
-use Rattle.ov_dot.specs.declared.piece_scanning.Place.{Place}
-use Rattle.ov_dot.specs.declared.piece_scanning.Place.TheVariants.{Start, LineFeed}
-use Rattle.ov_dot.specs.Pieces.{HasNoPrefix, IsLongest, is_piece, is_feed_rest}
+use Rattle.ov_dot.specs.declared.part_scanning.Place.{Place}
+use Rattle.ov_dot.specs.declared.part_scanning.Place.TheVariants.{Start, LineFeed}
+use Rattle.ov_dot.specs.Parts.{HasNoPrefix, IsLongest, is_part, is_feed_rest}
 use Rattle.ov_dot.specs.Code.Scanning.{accepts, after, is_whole, marked, longest_from}
-use Rattle.ov_dot.proofs.Accepted.{in_piece, behind_feed}
+use Rattle.ov_dot.proofs.Accepted.{in_part, behind_feed}
 
 -- what a scan from a place answers, where it had this one before
 abbrev Found : ℕ → Option Place → List ℕ → Option ℕ → Option ℕ → Type 0
@@ -20,7 +20,7 @@ none_empty : (test : List ℕ → Bool) → test [] ≡ false → HasNoPrefix te
 none_empty test fails zero within = fails
 none_empty test fails (suc k) within = absurd (omega arith)
 
--- no prefix passes from a place at which no piece ends
+-- no prefix passes from a place at which no part ends
 none_more :
     (place : Place) (b : ℕ) (bs : List ℕ) → is_whole place ≡ false → HasNoPrefix (accepts (after place b)) bs
     → HasNoPrefix (accepts (Some place)) (b ∷ bs)
@@ -116,12 +116,12 @@ from_found p place text (Some n) alike (inr (m, it, is)) =
     let place_is : m ≡ n = omega arith in
     longest_alike (accepts place) p n text alike (subst (λ k. IsLongest (accepts place) k text) place_is it)
 
--- the first piece of a text
-pub piece_found :
+-- the first part of a text
+pub part_found :
     (text : List ℕ) (answer : Option ℕ) → answer ≡ longest_from 0 (Some Start) text None
-    → MatchOption answer (HasNoPrefix is_piece text) (λ n. IsLongest is_piece n text)
-piece_found text answer is =
-    from_found is_piece (Some Start) text answer in_piece (subst (Found 0 (Some Start) text None) (sym is) (found 0
+    → MatchOption answer (HasNoPrefix is_part text) (λ n. IsLongest is_part n text)
+part_found text answer is =
+    from_found is_part (Some Start) text answer in_part (subst (Found 0 (Some Start) text None) (sym is) (found 0
     (Some Start) text None))
 
 -- the comment behind a line feed

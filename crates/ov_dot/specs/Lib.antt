@@ -1,12 +1,10 @@
-pub mod FaultNumbers
-pub mod Faults
-pub mod Sayings
+pub mod Parts
+pub mod Tokens
 pub mod Grammar
 pub mod Names
 pub mod Dumps
+pub mod Sayings
 pub mod Reasons
 pub mod Readings
+pub mod FaultNumbers
 pub mod Code
-pub mod Pieces
-pub mod Tokens
-pub mod TokenFaults

@@ -10,7 +10,7 @@ use Rattle.ov_dot.specs.declared.token.Kind.TheVariants.{Quoted, Html, OpenBrace
 use Rattle.ov_dot.specs.declared.token.Kind.TheVariants.{CloseBracket, Semicolon, Comma, Equals, Colon, Line}
 use Rattle.ov_dot.specs.declared.token.Kind.TheVariants.{Arrow}
 use Rattle.ov_dot.specs.declared.token.Token.{Token}
-use Rattle.ov_dot.specs.Pieces.{line_feed, is_blank, IsCut, HasNoPrefix, is_piece}
+use Rattle.ov_dot.specs.Parts.{line_feed, is_blank, IsCut, HasNoPrefix, is_part}
 
 -- a token without where it lies in memory: the line where it begins, its kind, and its bytes
 pub record Lexeme : Type 0 where
@@ -46,7 +46,7 @@ abbrev pub dash_kind : List ℕ → Kind
 dash_kind [] = Bare
 dash_kind (b ∷ bs) = if b == 45 then Line else (if b == 62 then Arrow else Bare)
 
--- the kind of the token that a piece is; None if it stands between tokens, as white space and comments do
+-- the kind of the token that a part is; None if it stands between tokens, as white space and comments do
 abbrev pub kind_of : List ℕ → Option Kind
 kind_of [] = None
 kind_of (b ∷ bs) =
@@ -64,7 +64,7 @@ kind_of (b ∷ bs) =
     else (if b == 45 then Some (dash_kind bs)
     else Some (word_kind (b ∷ bs)))))))))))))
 
--- a piece is a word or a numeral, by what kind of token it is: a keyword, or a bare text
+-- a part is a word or a numeral, by what kind of token it is: a keyword, or a bare text
 abbrev pub is_word : Option Kind → Bool
 is_word (Some Strict) = true
 is_word (Some Graph) = true
@@ -75,7 +75,7 @@ is_word (Some Subgraph) = true
 is_word (Some Bare) = true
 is_word kind = false
 
--- a piece that can't stand right behind a word or a numeral, by what kind of token it is: it is one too, or a colon
+-- a part that can't stand right behind a word or a numeral, by what kind of token it is: it is one too, or a colon
 abbrev pub sticks : Option Kind → Bool
 sticks (Some Colon) = true
 sticks kind = is_word kind
@@ -85,54 +85,53 @@ abbrev pub feeds : List ℕ → ℕ
 feeds [] = 0
 feeds (b ∷ bs) = if b == line_feed then 1 + feeds bs else feeds bs
 
--- the token that a piece is, in a line
+-- the token that a part is, in a line
 abbrev pub token_at : ℕ → List ℕ → Option Kind → List Lexeme
-token_at line piece None = []
-token_at line piece (Some kind) = record { line = line; kind = kind; text = piece } ∷ []
+token_at line part None = []
+token_at line part (Some kind) = record { line = line; kind = kind; text = part } ∷ []
 
--- the tokens among pieces, of which the first begins in this line
+-- the tokens among parts, of which the first begins in this line
 unfoldable pub tokens_from : ℕ → List (List ℕ) → List Lexeme
 tokens_from line [] = []
-tokens_from line (piece ∷ pieces) = token_at line piece (kind_of piece) ++ tokens_from (line + feeds piece) pieces
+tokens_from line (part ∷ parts) = token_at line part (kind_of part) ++ tokens_from (line + feeds part) parts
 
--- the line behind pieces, of which the first begins in this line
+-- the line behind parts, of which the first begins in this line
 unfoldable pub line_behind : ℕ → List (List ℕ) → ℕ
 line_behind line [] = line
-line_behind line (piece ∷ pieces) = line_behind (line + feeds piece) pieces
+line_behind line (part ∷ parts) = line_behind (line + feeds part) parts
 
 -- a text as it is cut: behind a line feed in line 0. So its lines are counted from 1, and a `#` in front begins a line
 abbrev pub behind_feed : List ℕ → List ℕ
 behind_feed text = line_feed ∷ text
 
--- two neighbouring pieces are torn: the first is a word or a numeral, and with nothing between them another one
+-- two neighbouring parts are torn: the first is a word or a numeral, and with nothing between them another one
 -- follows, or a colon. So `10.0.0.1` is cut into the three numerals `10.0`, `.0` and `.1`, `oslo-1` into `oslo` and
 -- `-1`, and `oslo:7946` into `oslo`, `:` and `7946`, of which DOT takes the last for a port of a node `oslo`
 abbrev pub AreTorn : List ℕ → List ℕ → Type 0
 AreTorn first second = (is_word (kind_of first) ≡ true) × (sticks (kind_of second) ≡ true)
 
--- no two neighbours among these pieces are torn
+-- no two neighbours among these parts are torn
 abbrev pub HasNoneTorn : List (List ℕ) → Type 0
-HasNoneTorn pieces =
+HasNoneTorn parts =
     (before : List (List ℕ)) (first second : List ℕ) (later : List (List ℕ))
-    → pieces ≡ before ++ first ∷ second ∷ later → ¬ AreTorn first second
+    → parts ≡ before ++ first ∷ second ∷ later → ¬ AreTorn first second
 
--- a text has these tokens: it is cut into pieces, each as long as it can be, no two of them are torn, and these are the
+-- a text has these tokens: it is cut into parts, each as long as it can be, no two of them are torn, and these are the
 -- tokens among them
 abbrev pub HasTokens : List ℕ → List Lexeme → Type 0
 HasTokens text tokens =
-    (pieces : List (List ℕ)) × IsCut pieces (behind_feed text) [] × HasNoneTorn pieces
-    × (tokens ≡ tokens_from 0 pieces)
+    (parts : List (List ℕ)) × IsCut parts (behind_feed text) [] × HasNoneTorn parts
+    × (tokens ≡ tokens_from 0 parts)
 
--- a text has no tokens from this line on: behind its first pieces, of which no two are torn, some bytes are left, in
--- this line, and no prefix of them is a piece
+-- a text has no tokens from this line on: behind its first parts, of which no two are torn, some bytes are left, in
+-- this line, and no prefix of them is a part
 abbrev pub HasNoTokensFrom : List ℕ → ℕ → Type 0
 HasNoTokensFrom text line =
-    (pieces : List (List ℕ)) × (rest : List ℕ)
-    × IsCut pieces (behind_feed text) rest × (0 < length rest) × HasNoPrefix is_piece rest × HasNoneTorn pieces
-    × (line ≡ line_behind 0 pieces)
+    (parts : List (List ℕ)) × (rest : List ℕ)
+    × IsCut parts (behind_feed text) rest × (0 < length rest) × HasNoPrefix is_part rest × HasNoneTorn parts
+    × (line ≡ line_behind 0 parts)
 
--- a text has a torn name, whose second part begins in this line: its first pieces end with two that are torn, and no
--- two before are
+-- a text has a torn name, which goes on in this line: its first parts end with two that are torn, and no two before are
 pub record HasTornName (text : List ℕ) (line : ℕ) : Type 0 where
   pub before : List (List ℕ)
   pub first : List ℕ

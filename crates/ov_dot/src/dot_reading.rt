@@ -3,8 +3,8 @@ ghost use Rattle.ov_dot.specs.Readings.{IsRefused, SaysDump};
 
 use crate::dump_making::make_dump;
 use crate::fault::DotFault;
-use crate::read_tokens;
 use crate::statement_reading::read_statements;
+use crate::token_reading::read_tokens;
 use ov_dump::Dump;
 use std::alloc::Global;
 

@@ -1,7 +1,7 @@
 ghost use Rattle.std.specs.Prelude.{◌≡◌};
 ghost use Rattle.ov_dot.specs.FaultNumbers.{number_of};
 
-use crate::TextFault;
+use crate::token_reading::TextFault;
 use ov_ids::OutOfMemory;
 use std::alloc::{AllocError, AllocFailed};
 use thiserror::Error;
@@ -61,7 +61,7 @@ impl DotFault {
 }
 
 impl From<TextFault> for DotFault {
-    ghost use Rattle.ov_dot.specs.Faults.{fault_of};
+    ghost use Rattle.ov_dot.specs.Code.TokenFaults.{fault_of};
 
     ghost from_gives = { λ fault e. e ≡ fault_of fault };
 

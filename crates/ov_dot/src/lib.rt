@@ -2,12 +2,12 @@
 //! them list each other.
 #![tactic(auto)]
 
+mod diagram_place;
 mod dot_reading;
 mod dump_making;
 mod fault;
 mod name_reading;
-mod piece_scanning;
-mod place;
+mod part_scanning;
 mod statement_reading;
 mod theorems;
 mod token;
@@ -18,5 +18,4 @@ pub use dot_reading::read_dot;
 pub use fault::{DotFault, Why};
 pub use theorems::one_saying;
 pub use token::{Kind, Token};
-pub use token_reading::{TextFault, read_tokens};
 pub use token_theorems::{no_reading, no_torn_reading, one_reading};

@@ -41,11 +41,11 @@ pub struct Token<'a> {
     pub text: &'a [u8],
 }
 
-/// The kind of the token that a piece is. None is returned if it stands between tokens.
-pub(crate) fn kind_of(piece: &[u8]) -> Option<Kind>
-    ensures { result ≡ kind_of piece.now }
+/// The kind of the token that a part is. None is returned if it stands between tokens.
+pub(crate) fn kind_of(part: &[u8]) -> Option<Kind>
+    ensures { result ≡ kind_of part.now }
 {
-    let (first, rest) = piece.split_first()?;
+    let (first, rest) = part.split_first()?;
     match *first {
         b'\t' | b'\r' | b' ' | b'\n' | b'/' => None,
         b'{' => Some(Kind::OpenBrace),
@@ -59,11 +59,11 @@ pub(crate) fn kind_of(piece: &[u8]) -> Option<Kind>
         b'"' => Some(Kind::Quoted),
         b'<' => Some(Kind::Html),
         b'-' => Some(dash_kind(rest)),
-        _ => Some(word_kind(piece)),
+        _ => Some(word_kind(part)),
     }
 }
 
-/// Whether a piece of this kind is a word or a numeral: nothing but the next piece says where it ends.
+/// Whether a part of this kind is a word or a numeral: nothing but the next part says where it ends.
 pub(crate) fn is_word(kind: Option<Kind>) -> bool
     ensures { result ≡ is_word kind }
 {
@@ -74,7 +74,7 @@ pub(crate) fn is_word(kind: Option<Kind>) -> bool
     }
 }
 
-/// Whether a piece of this kind can't stand right behind a word or a numeral: it is one too, or a colon.
+/// Whether a part of this kind can't stand right behind a word or a numeral: it is one too, or a colon.
 pub(crate) fn sticks(kind: Option<Kind>) -> bool
     ensures { result ≡ sticks kind }
 {

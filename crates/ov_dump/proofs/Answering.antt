@@ -3,8 +3,8 @@ use Rattle.std.proofs.Common.{◌≡◌, ◌∙◌, ◌↔◌, ◌⊎◌, ◌+�
 use Rattle.std.proofs.Common.{subst, refl, take, slice_get, Some, unwrap_or, length, get_or, arith, eq-or-lt_of_le}
 use Rattle.ov_ids.specs.Members.{Ascends, Has, Ordered}
 use Rattle.ov_ids.proofs.Members.{has_append_cases, has_append_left, has_append_right}
-use Rattle.ov_dump.specs.Dumps.{AreUnanswered, AreWithoutEntry, IsUnanswered, ends_of, names_of}
-use Rattle.ov_dump.specs.Code.Listed.{Missing}
+use Rattle.ov_dump.specs.Dumps.{ends_of, names_of}
+use Rattle.ov_dump.specs.Code.Listed.{AreUnanswered, AreWithoutEntry, IsUnanswered, Missing}
 use Rattle.ov_dump.specs.Names.{ComesBefore}
 use Rattle.ov_dump.specs.declared.dump_values.Dump.{Dump}
 use Rattle.ov_dump.specs.declared.dump_values.Entry.{Entry}

@@ -16,6 +16,7 @@ use Rattle.ov_dump.specs.Dumps.{IsNameOf, ends_of, numbers}
 use Rattle.ov_dump.specs.Faults.{AreSoundListings, IsSoundListing}
 use Rattle.ov_dump.specs.Names.{ComesBefore}
 use Rattle.ov_dump.specs.declared.dump_values.Listing.{Listing}
+use Rattle.ov_dump.proofs.Answering.{ends_append}
 use Rattle.ov_dump.proofs.NameLists.{one_way, tie, ties}
 use Rattle.ov_dump.proofs.Places.{cases_lt, member_at, place_of, within}
 
@@ -145,10 +146,6 @@ nodes_differ names l from to sound f t same =
     sound.differ (name_one names to l.from l.to (subst (λ (x : ℕ). IsNameOf names x l.from) same f) t)
 
 -- ---- several listings
-
-ends_append : (xs ys : List Listing) → ends_of (xs ++ ys) ≡ ends_of xs ++ ends_of ys
-ends_append [] ys = refl
-ends_append (x ∷ xs) ys = ap (λ es. (x.from, x.to) ∷ es) (ends_append xs ys)
 
 pub lists_more : (names : List (List ℕ)) (before : List Listing) (l : Listing) (i j : ℕ)
     → NodeLists names (before ++ l ∷ []) i j ↔ (NodeLists names (l ∷ []) i j ⊎ NodeLists names before i j)

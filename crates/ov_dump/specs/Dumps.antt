@@ -1,7 +1,7 @@
 -- What a dump says of the views of nodes, by the names of their hosts, and the graph that follows from it.
-use Rattle.std.specs.Prelude.{◌≡◌, ◌≢◌, ◌↔◌, ◌⊎◌, ℕ, zero, suc, List, [], ◌∷◌, ◌++◌, map, length, take, slice_get}
+use Rattle.std.specs.Prelude.{◌≡◌, ◌≢◌, ◌↔◌, ◌⊎◌, ℕ, zero, suc, List, [], ◌∷◌, ◌++◌, map, length, slice_get}
 use Rattle.std.specs.Prelude.{Some, MatchBool}
-use Rattle.ov_ids.specs.Members.{Has, Ordered, Ascends}
+use Rattle.ov_ids.specs.Members.{Has, Ordered}
 use Rattle.ov_graph.specs.Links.{LinkGraph, IsGraph, Linked}
 use Rattle.ov_dump.specs.Names.{ComesBefore}
 use Rattle.ov_dump.specs.declared.dump_values.Choice.{Choice}
@@ -63,22 +63,3 @@ pub record IsGraphOf (choice : Choice) (d : Dump) (g : LinkGraph) (names : List 
   pub nodes : g.nodes ≡ numbers (length names)
   pub links : (i j : ℕ) → Linked g i j
       ↔ ((a b : List ℕ) × IsNameOf names i a × IsNameOf names j b × (a ≢ b) × AreLinked choice d a b)
-
--- ---- what an operator should look at
-
--- names are the names that are listed and have no entry, as those of nodes that crashed or were not asked. They
--- strictly ascend
-pub record AreWithoutEntry (d : Dump) (names : List (List ℕ)) : Type 0 where
-  pub ascend : Ordered ComesBefore names
-  pub each : (n : List ℕ) → Has names n ↔ (IsListed d n × ¬ HasEntry d n)
-
--- of these listings, the one at place p, counted from 0, is not answered: the name that it lists does not list the
--- other. No listing before it has the same two names in this order
-abbrev pub IsUnanswered : List Listing → ℕ → Type 0
-IsUnanswered listings p = (l : Listing) × (slice_get listings p ≡ Some l)
-    × (¬ Has (ends_of listings) (l.to, l.from)) × (¬ Has (ends_of (take p listings)) (l.from, l.to))
-
--- places are those of the listings that are not answered, ascending
-pub record AreUnanswered (d : Dump) (places : List ℕ) : Type 0 where
-  pub ascend : Ascends places
-  pub each : (p : ℕ) → Has places p ↔ IsUnanswered d.listings p

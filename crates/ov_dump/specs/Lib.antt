@@ -3,11 +3,11 @@ pub mod Dumps
 pub mod FirstEntries
 pub mod Faults
 pub mod Theorems
-pub mod Code
-pub mod FaultNumbers
 pub mod Views
 pub mod EdgeLines
 pub mod Edges
+pub mod FaultNumbers
 pub mod ShownNames
 pub mod Importing
 pub mod ImportTheorems
+pub mod Code

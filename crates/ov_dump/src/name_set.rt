@@ -10,7 +10,7 @@ use std::marker::Model;
 
 /// A set of names. Contracts see its members in ascending order, byte by byte.
 #[derive(Drop)]
-pub struct NameSet {
+pub(crate) struct NameSet {
     names: BTreeSet<Name>,
 }
 
@@ -24,7 +24,7 @@ impl Model for NameSet {
 
 impl NameSet {
     /// The empty set. Nothing is allocated.
-    pub fn new(alloc: Global) -> NameSet
+    pub(crate) fn new(alloc: Global) -> NameSet
         ensures { result ≡ [] }
     {
         NameSet {
@@ -33,7 +33,7 @@ impl NameSet {
     }
 
     /// The number of members.
-    pub fn len(&self) -> usize
+    pub(crate) fn len(&self) -> usize
         ensures value { result ≡ length self.now }
         ensures ordered { Ordered ComesBefore self.now }
     {
@@ -41,14 +41,14 @@ impl NameSet {
     }
 
     /// Whether the name is a member.
-    pub fn contains(&self, name: &Name) -> bool
+    pub(crate) fn contains(&self, name: &Name) -> bool
         ensures { IsTrue result ↔ Has self.now name.now }
     {
         self.names.contains(name)
     }
 
     /// Inserts a name that is no member. OutOfMemory (99) leaves the set as it was.
-    pub fn insert(&mut self, name: Name) -> Result<(), OutOfMemory>
+    pub(crate) fn insert(&mut self, name: Name) -> Result<(), OutOfMemory>
         requires stranger { ¬ Has self.old name }
         ensures members { OnOk result ((n : List ℕ) → Has self.new n ↔ ((name ≡ n) ⊎ Has self.old n)) }
         ensures len { OnOk result (length self.new ≡ length self.old + 1) }
@@ -59,7 +59,7 @@ impl NameSet {
     }
 
     /// The members, ascending.
-    pub fn into_names(self, alloc: Global) -> Result<Vec<Name>, OutOfMemory>
+    pub(crate) fn into_names(self, alloc: Global) -> Result<Vec<Name>, OutOfMemory>
         ensures names { IfOk result (λ v. v.items ≡ self) }
         ensures ordered { IfOk result (λ v. Ordered ComesBefore v.items) }
     {

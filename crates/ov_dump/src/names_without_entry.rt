@@ -1,7 +1,7 @@
 ghost use Rattle.std.specs.Prelude.{◌≡◌, ◌↔◌, ◌⊎◌, ℕ, List, IfOk, OnOk};
 ghost use Rattle.ov_ids.specs.Members.{Has};
-ghost use Rattle.ov_dump.specs.Dumps.{AreWithoutEntry, names_of};
-ghost use Rattle.ov_dump.specs.Code.Listed.{Missing};
+ghost use Rattle.ov_dump.specs.Dumps.{names_of};
+ghost use Rattle.ov_dump.specs.Code.Listed.{AreWithoutEntry, Missing};
 
 use crate::dump_values::{Dump, Entry, Listing};
 use crate::name::Name;
@@ -10,7 +10,7 @@ use ov_ids::OutOfMemory;
 use std::alloc::Global;
 
 /// The names that are listed and have no entry, ascending. OutOfMemory (99) is returned if an allocation was refused.
-pub fn without_entry(alloc: Global, dump: &Dump) -> Result<Vec<Name>, OutOfMemory>
+pub(crate) fn without_entry(alloc: Global, dump: &Dump) -> Result<Vec<Name>, OutOfMemory>
     ensures { IfOk result (λ names. AreWithoutEntry dump.now names.items) }
 {
     let entries = entry_names(alloc, dump.entries.as_slice())?;

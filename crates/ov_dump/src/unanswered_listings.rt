@@ -1,6 +1,7 @@
 ghost use Rattle.std.specs.Prelude.{◌↔◌, ℕ, List, IfOk};
 ghost use Rattle.ov_ids.specs.Members.{Has};
-ghost use Rattle.ov_dump.specs.Dumps.{AreUnanswered, ends_of};
+ghost use Rattle.ov_dump.specs.Dumps.{ends_of};
+ghost use Rattle.ov_dump.specs.Code.Listed.{AreUnanswered};
 
 use crate::dump_values::{Dump, Listing};
 use crate::pair_set::PairSet;
@@ -10,7 +11,7 @@ use std::alloc::Global;
 /// The places of the listings that the name at the other end does not answer, counted from 0 among all listings of the
 /// dump. Each pair of names is there once, at its first place. OutOfMemory (99) is returned if an allocation was
 /// refused.
-pub fn listed_by_one(alloc: Global, dump: &Dump) -> Result<Vec<usize>, OutOfMemory>
+pub(crate) fn listed_by_one(alloc: Global, dump: &Dump) -> Result<Vec<usize>, OutOfMemory>
     ensures { IfOk result (λ places. AreUnanswered dump.now places.items) }
 {
     let listings = dump.listings.as_slice();

@@ -16,7 +16,7 @@ use Rattle.ov_snap.specs.declared.fault.CoreFault.{CoreFault}
 use Rattle.ov_snap.specs.declared.fault.CoreFault.TheVariants.{AlreadyFiled, NoNodes, NoSuchMoment}
 use Rattle.ov_snap.specs.declared.fault.CoreFault.TheVariants as core_fault
 use Rattle.ov_snap.proofs.Moments.{moment_new, moment_within}
-use Rattle.ov_run.specs.Subjects.{AnalysisJudged, IsReported}
+use Rattle.ov_run_meaning.specs.Subjects.{AnalysisJudged, IsReported}
 use Rattle.ov_recording.specs.Recordings.{all_of}
 use Rattle.ov_grow_options.specs.declared.options.GrowOptions.{GrowOptions}
 use Rattle.ov_recording.specs.WrittenLines.{comment_line}

@@ -3,12 +3,12 @@ use Rattle.std.proofs.Common.{◌≡◌, ◌≢◌, ℕ, zero, suc, ◌+◌, ◌
 use Rattle.std.proofs.Common.{◌∙◌, subst, ⊎_elim, arith}
 use Rattle.std.proofs.lemmas.List.{append-nil}
 use Rattle.ov_ids.specs.ParamsState.{ParamsState}
-use Rattle.ov_hall.specs.declared.ghost_views.Mark.{Mark}
-use Rattle.ov_hall.specs.declared.ghost_views.Ticket.{Ticket}
-use Rattle.ov_hall.specs.Parts.{hit}
-use Rattle.ov_hall.specs.Logs.{AreBelow, Begins, of_driver}
+use Rattle.ov_snap.specs.declared.driver_log.Mark.{Mark}
+use Rattle.ov_snap.specs.declared.driver_log.Ticket.{Ticket}
+use Rattle.ov_snap.specs.Parts.{hit}
+use Rattle.ov_snap.specs.Logs.{AreBelow, Begins, of_driver}
 use Rattle.ov_hall.specs.Passes.{AllBegin, AreOfHall, first_seen, having_seen, numbers_from, seen_alike, standing_for}
-use Rattle.ov_hall.specs.Passes.{ticket}
+use Rattle.ov_snap.specs.DriverSteps.{ticket}
 use Rattle.ov_hall.proofs.Counting.{hits, hits_self}
 
 pub alike_seen : (d n : ℕ) (old log : List Mark) → having_seen log (seen_alike d n old) ≡ seen_alike d n log

@@ -7,11 +7,11 @@ use mathlib.Core.Option.{some, none}
 use lib.ListN.{get_elem?}
 use Rattle.atomic_table.specs.Table.{State, Me, step, keeps, Allows, Splits, Joins, opening}
 use Rattle.ov_snap.specs.CoreState.{CoreState}
-use Rattle.ov_hall.specs.declared.ghost_views.Mark.{Mark}
-use Rattle.ov_hall.specs.declared.ghost_views.Ticket.{Ticket}
+use Rattle.ov_snap.specs.declared.driver_log.Mark.{Mark}
+use Rattle.ov_snap.specs.declared.driver_log.Ticket.{Ticket}
 use Rattle.ov_hall.specs.declared.ghost_views.View.{View}
-use Rattle.ov_hall.specs.Parts.{Each, hit}
-use Rattle.ov_hall.specs.Logs.{Begins, mark}
+use Rattle.ov_snap.specs.Parts.{Each, hit}
+use Rattle.ov_snap.specs.Logs.{Begins, mark}
 use Rattle.ov_hall.specs.Passes.{AllBegin, having_seen, seen_alike, standing_for}
 use Rattle.ov_hall.specs.Code.Rules.{Grows, Kept, Written, both, keeper, kept_all, leaves, meeting, one, opening_view}
 use Rattle.ov_hall.specs.Code.Rules.{others, spent, standing, stays, tickets_all}

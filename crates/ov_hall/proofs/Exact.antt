@@ -1,25 +1,13 @@
 -- What is exact of the core that a log makes.
 use Rattle.std.proofs.Common.{◌≡◌, ℕ, ◌+◌, ◌<◌, Bool, true, false, cond, List, [], ◌∷◌, length, length-append}
-use Rattle.std.proofs.Common.{MatchBool, ap, ◌∙◌, arith}
-use Rattle.ov_net.specs.declared.event.Event.{Event}
-use Rattle.ov_net.specs.declared.journal_entry_and_changes.Entry.{Entry}
+use Rattle.std.proofs.Common.{ap, ◌∙◌, arith}
 use Rattle.ov_snap.specs.CoreState.{CoreState, IsSound, opening_core}
-use Rattle.ov_snap.specs.Filing.{WasFiled}
-use Rattle.ov_snap.specs.ReportState.{ReportState}
-use Rattle.ov_snap.specs.Run.{Happened}
+use Rattle.ov_snap.proofs.DriverLogs.{Steps}
 use Rattle.ov_snap.proofs.Keeping.{sound_begun, sound_filed, sound_happened}
-use Rattle.ov_hall.specs.Parts.{Each}
-use Rattle.ov_hall.specs.Logs.{AreBelow, AreSteps, core_after, entry_drivers}
-use Rattle.ov_hall.specs.Logs.{report_drivers}
+use Rattle.ov_snap.specs.Parts.{Each}
+use Rattle.ov_snap.specs.Logs.{AreBelow, AreSteps, core_after, entry_drivers, report_drivers}
 use Rattle.ov_hall.specs.Theorems.{EveryLogIsExact}
-use Rattle.ov_hall.specs.declared.ghost_views.Mark.{Mark}
-
--- a step, for a mark whose kind is said
-abbrev pub Steps : Bool → CoreState → CoreState → Type 0
-Steps filed b u =
-    MatchBool filed
-    ((r : ReportState) × WasFiled b r u)
-    ((what : Event) × (words : List ℕ) × (e : Entry) × Happened b what words e u)
+use Rattle.ov_snap.specs.declared.driver_log.Mark.{Mark}
 
 sound_step : (filed : Bool) (b u : CoreState) → IsSound b → Steps filed b u → IsSound u
 sound_step true b u sound s = sound_filed b s.0 u sound s.1

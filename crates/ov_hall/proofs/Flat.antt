@@ -4,7 +4,7 @@ use Rattle.std.proofs.Common.{ap, subst, ⊎_elim, arith}
 use mathlib.Core.Option.{some, some-injective, some-ne-none}
 use lib.ListN.{get_elem?}
 use Rattle.atomic_table.proofs.Lists.{at_set}
-use Rattle.ov_hall.specs.Parts.{Each, total}
+use Rattle.ov_snap.specs.Parts.{Each, total}
 use Rattle.ov_hall.specs.Code.Rules.{flat}
 
 -- the same elements, in another order

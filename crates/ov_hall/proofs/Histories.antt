@@ -4,11 +4,12 @@ use Rattle.std.proofs.Common.{⊎_elim, arith}
 use Rattle.std.specs.Prelude.{Result, Ok, Err, IfOk, IfErr}
 use Rattle.ov_ids.specs.ParamsState.{ParamsState}
 use Rattle.ov_snap.specs.CoreState.{CoreState, opening_core}
-use Rattle.ov_hall.specs.declared.ghost_views.Mark.{Mark}
-use Rattle.ov_hall.specs.declared.ghost_views.Ticket.{Ticket}
-use Rattle.ov_hall.specs.Parts.{hit}
-use Rattle.ov_hall.specs.Logs.{AreSteps, IsHistory, IsLog, IsStep, core_after, core_made, entry_drivers, mark}
-use Rattle.ov_hall.specs.Logs.{report_drivers}
+use Rattle.ov_snap.specs.declared.driver_log.Mark.{Mark}
+use Rattle.ov_snap.specs.declared.driver_log.Ticket.{Ticket}
+use Rattle.ov_snap.specs.Parts.{hit}
+use Rattle.ov_snap.specs.Logs.{AreSteps, IsLog, IsStep, core_after, core_made, entry_drivers, mark}
+use Rattle.ov_hall.specs.Histories.{IsHistory}
+use Rattle.ov_snap.specs.Logs.{report_drivers}
 use Rattle.ov_hall.specs.Passes.{AreOfHall, having_seen, standing_for}
 use Rattle.ov_hall.specs.Code.Rules.{keeper, log_in, standing}
 use Rattle.ov_hall.proofs.Flat.{each-append}

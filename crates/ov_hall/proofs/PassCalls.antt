@@ -7,11 +7,12 @@ use Rattle.ov_snap.specs.CoreState.{CoreState}
 use Rattle.ov_snap.specs.Filing.{WasFiled}
 use Rattle.ov_snap.specs.ReportState.{ReportState}
 use Rattle.ov_snap.specs.Run.{Happened}
-use Rattle.ov_hall.specs.Logs.{Begins, core_made, mark}
-use Rattle.ov_hall.specs.Passes.{AllBegin, HasFiled, HasLooked, HasStepped, having_seen, ticket}
+use Rattle.ov_snap.specs.Logs.{Begins, core_made, mark}
+use Rattle.ov_hall.specs.Passes.{AllBegin, having_seen}
+use Rattle.ov_snap.specs.DriverSteps.{HasFiled, HasLooked, HasStepped, ticket}
 use Rattle.ov_hall.specs.Code.Rules.{first_of}
-use Rattle.ov_hall.specs.declared.ghost_views.Mark.{Mark}
-use Rattle.ov_hall.specs.declared.ghost_views.Ticket.{Ticket}
+use Rattle.ov_snap.specs.declared.driver_log.Mark.{Mark}
+use Rattle.ov_snap.specs.declared.driver_log.Ticket.{Ticket}
 
 -- the seat of a pass: ts before the call, us after it; p is the pass that was handed in, and the log was old
 pub record IsPassCall (d : ℕ) (ts us : List Ticket) (p : Ticket) (old new : List Mark) : Type 0 where

@@ -3,10 +3,10 @@ use Rattle.std.proofs.Common.{◌≡◌, ℕ, Bool, true, false, cond, List, [],
 use Rattle.std.proofs.Common.{refl, sym, ap, ◌∙◌, subst}
 use Rattle.ov_net.specs.declared.journal_entry_and_changes.Entry.{Entry}
 use Rattle.ov_snap.specs.CoreState.{CoreState, KeepsReports, opening_core}
-use Rattle.ov_hall.specs.Logs.{AreSteps, core_after, core_made, entry_drivers, report_drivers}
+use Rattle.ov_snap.specs.Logs.{AreSteps, core_after, core_made, entry_drivers, report_drivers}
 use Rattle.ov_hall.specs.Theorems.{WhatIsSeenStays}
-use Rattle.ov_hall.specs.declared.ghost_views.Mark.{Mark}
-use Rattle.ov_hall.proofs.Exact.{Steps}
+use Rattle.ov_snap.specs.declared.driver_log.Mark.{Mark}
+use Rattle.ov_snap.proofs.DriverLogs.{Steps, core_append, steps_behind}
 
 maker_first : (filed : Bool) (d : ℕ) (all xs ys : List ℕ) → all ≡ xs ++ ys
     → cond filed all (d ∷ all) ≡ cond filed xs (d ∷ xs) ++ ys
@@ -55,15 +55,6 @@ reports_kept b (m ∷ ms) s =
     let one = reports_step m.filed b m.after s.0 in
     let all = reports_kept m.after ms s.1 in
     (one.0 ++ all.0, all.1 ∙ (ap (λ l. l ++ all.0) one.1 ∙ append_assoc b.reports one.0 all.0))
-
--- a log is its first marks, and then the others from the core that these make
-pub core_append : (b : CoreState) (xs ys : List Mark) → core_after b (xs ++ ys) ≡ core_after (core_after b xs) ys
-core_append b [] ys = refl
-core_append b (x ∷ xs) ys = core_append x.after xs ys
-
-pub steps_behind : (b : CoreState) (xs ys : List Mark) → AreSteps b (xs ++ ys) → AreSteps (core_after b xs) ys
-steps_behind b [] ys a = a
-steps_behind b (x ∷ xs) ys a = steps_behind x.after xs ys a.1
 
 pub what_is_seen_stays : WhatIsSeenStays
 what_is_seen_stays params n seen more h =

@@ -1,5 +1,4 @@
-pub mod Parts
-pub mod Logs
+pub mod Histories
 pub mod Passes
 pub mod Faults
 pub mod Theorems

@@ -2,8 +2,8 @@ ghost use Rattle.std.specs.Prelude.{IfOk, IfErr};
 ghost use Rattle.ov_ids.specs.FaultOrder.{IsRefusedBy};
 ghost use Rattle.ov_snap.specs.Refusals.{BeginJudged, GroupBeginJudged};
 ghost use Rattle.ov_snap.specs.declared.fault.CoreFault.TheVariants.{OutOfMemory as out_of_memory};
-ghost use Rattle.ov_hall.specs.Logs.{IsLog, core_made};
-ghost use Rattle.ov_hall.specs.Passes.{HasBegun, HasBegunForGroup, HasLooked};
+ghost use Rattle.ov_snap.specs.Logs.{IsLog, core_made};
+ghost use Rattle.ov_snap.specs.DriverSteps.{HasBegun, HasBegunForGroup, HasLooked};
 
 use crate::count_rule::HallName;
 use crate::driver_passes::Pass;

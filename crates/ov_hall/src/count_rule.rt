@@ -1,6 +1,6 @@
 //! One word, by whose steps the views of the passes follow the log of the core.
 ghost use Rattle.std.specs.Prelude.{◌≡◌, ◌<◌, [], ◌∷◌, ◌++◌};
-ghost use Rattle.ov_hall.specs.Logs.{mark};
+ghost use Rattle.ov_snap.specs.Logs.{mark};
 ghost use Rattle.ov_hall.specs.Passes.{AllBegin, standing_for, having_seen};
 ghost use Rattle.ov_hall.specs.Code.Rules.{Grows, keeper, log_in, standing};
 
@@ -46,7 +46,7 @@ impl HallName for Brand {
 /// A log that a step writes.
 pub trait Log {
     ghost use Rattle.std.specs.Prelude.{List};
-    ghost use Rattle.ov_hall.specs.declared.ghost_views.Mark.{Mark};
+    ghost use Rattle.ov_snap.specs.declared.driver_log.Mark.{Mark};
 
     ghost log: { List Mark };
 }

@@ -1,6 +1,7 @@
 ghost use Rattle.std.specs.Prelude.{◌≡◌, ◌<◌, ◌≤◌, length, IfOk, IfErr, OnOk};
 ghost use Rattle.ov_hall.specs.Faults.{number_of};
-ghost use Rattle.ov_hall.specs.Logs.{IsHistory, IsLog};
+ghost use Rattle.ov_hall.specs.Histories.{IsHistory};
+ghost use Rattle.ov_snap.specs.Logs.{IsLog};
 ghost use Rattle.ov_hall.specs.Passes.{AllBegin, AreDrivers};
 
 use crate::count_rule::HallName;

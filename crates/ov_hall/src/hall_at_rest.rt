@@ -6,7 +6,8 @@ ghost use Rattle.ov_snap.specs.Filing.{WasFiled};
 ghost use Rattle.ov_snap.specs.Refusals.{FilingJudged};
 ghost use Rattle.ov_snap.specs.Run.{Happened, TookSnapshot};
 ghost use Rattle.ov_snap.specs.declared.fault.CoreFault.TheVariants.{OutOfMemory as out_of_memory};
-ghost use Rattle.ov_hall.specs.Logs.{IsHistory, IsLog, core_made, mark};
+ghost use Rattle.ov_hall.specs.Histories.{IsHistory};
+ghost use Rattle.ov_snap.specs.Logs.{IsLog, core_made, mark};
 ghost use Rattle.ov_hall.specs.Passes.{AreDrivers, seen_alike};
 
 use crate::count_rule::{HallName, Law, Leave};
@@ -38,7 +39,7 @@ impl<N: HallName> Model for Whole<N> {
     ghost use Rattle.std.specs.Prelude.{◌≡◌, ◌<◌, List};
     ghost use Rattle.ov_hall.specs.Code.Codes.{log_code};
     ghost use Rattle.ov_hall.specs.Passes.{first_seen, seen_alike};
-    ghost use Rattle.ov_hall.specs.declared.ghost_views.Mark.{Mark};
+    ghost use Rattle.ov_snap.specs.declared.driver_log.Mark.{Mark};
 
     ghost Value = { List Mark };
 

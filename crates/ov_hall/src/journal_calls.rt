@@ -1,6 +1,7 @@
 ghost use Rattle.std.specs.Prelude.{IfOk};
-ghost use Rattle.ov_hall.specs.Logs.{IsLog, core_made};
-ghost use Rattle.ov_hall.specs.Passes.{HasLooked, IsEntryOf};
+ghost use Rattle.ov_snap.specs.Logs.{IsLog, core_made};
+ghost use Rattle.ov_snap.specs.DriverSteps.{HasLooked};
+ghost use Rattle.ov_hall.specs.Passes.{IsEntryOf};
 
 use crate::count_rule::HallName;
 use crate::driver_passes::Pass;

@@ -6,7 +6,7 @@ ghost use Rattle.ov_snap.specs.Filing.{WasFiled};
 ghost use Rattle.ov_snap.specs.Refusals.{FilingJudged};
 ghost use Rattle.ov_snap.specs.Run.{Happened};
 ghost use Rattle.ov_snap.specs.declared.fault.CoreFault.TheVariants.{OutOfMemory as out_of_memory};
-ghost use Rattle.ov_hall.specs.Logs.{IsLog, core_made, mark};
+ghost use Rattle.ov_snap.specs.Logs.{IsLog, core_made, mark};
 ghost use Rattle.ov_hall.specs.Passes.{AllBegin, having_seen, standing_for};
 
 use crate::count_rule::{Count, HallName, Leave, Place, add, look};
@@ -29,8 +29,8 @@ pub struct State<N: HallName> {
 
 impl<N: HallName> Model for State<N> {
     ghost use Rattle.std.specs.Prelude.{◌≡◌, List, []};
-    ghost use Rattle.ov_hall.specs.declared.ghost_views.Mark.{Mark};
-    ghost use Rattle.ov_hall.specs.Logs.{IsHistory};
+    ghost use Rattle.ov_snap.specs.declared.driver_log.Mark.{Mark};
+    ghost use Rattle.ov_hall.specs.Histories.{IsHistory};
     ghost use Rattle.ov_hall.specs.Code.Codes.{log_code};
     ghost use Rattle.ov_hall.specs.Code.Rules.{keeper, log_in};
 

@@ -12,8 +12,8 @@ use std::alloc::{AllocError, Global};
 use std::fmt::Write;
 
 /// Why a graph file of these bytes was refused with this fault. If a line can't be read, such lines are explained, and
-/// counted beyond 20, as by `scenario_reasons`. If the graph is at fault, the line of the node or the link at fault is explained.
-/// OutOfMemory (99) if an allocation is refused.
+/// counted beyond 20, as by `scenario_reasons`. If the graph is at fault, the line of the node or the link at fault is
+/// explained. OutOfMemory (99) if an allocation is refused.
 pub fn graph_reasons(
     alloc: Global,
     bytes: &[u8],

@@ -27,12 +27,12 @@ use Rattle.ov_scenario.specs.declared.scenario.Line.TheVariants as line
 use Rattle.ov_scenario.specs.declared.scenario.Scenario.{Scenario}
 use Rattle.ov_scenario.specs.declared.scenario.Subject.{Subject}
 use Rattle.ov_scenario.proofs.Scenarios.OneScenario.{one_scenario}
-use Rattle.ov_run.specs.Ending.{BeginsLine, BeginsLines}
-use Rattle.ov_run.specs.Printed.{entry_line, refused_line}
-use Rattle.ov_run.specs.Running.{PrintsLine, PrintsLines}
-use Rattle.ov_run.specs.declared.strictness.Strictness.{Strictness}
-use Rattle.ov_run.proofs.Printing.Settling.{goes_on_prints}
-use Rattle.ov_run.specs.Subjects.{AnalysisJudged, IsReported, SubjectThen, WasAnalysed, members_of}
+use Rattle.ov_run_meaning.specs.Ending.{BeginsLine, BeginsLines}
+use Rattle.ov_run_meaning.specs.Printed.{entry_line, refused_line}
+use Rattle.ov_run_meaning.specs.Running.{PrintsLine, PrintsLines}
+use Rattle.ov_run_meaning.specs.declared.strictness.Strictness.{Strictness}
+use Rattle.ov_run_meaning.proofs.Accepted.{goes_on_prints}
+use Rattle.ov_run_meaning.specs.Subjects.{AnalysisJudged, IsReported, SubjectThen, WasAnalysed, members_of}
 use Rattle.ov_recording.specs.Alike.{AreAlikeCores}
 use Rattle.ov_recording.specs.Replay.{AcceptsAll, AcceptsLine, MayBeAccepted, PrintsAccepted, PrintsAllAccepted}
 use Rattle.ov_recording.specs.Replay.{Replays}

@@ -4,8 +4,8 @@ use Rattle.ov_ids.specs.FaultOrder.{IsRefusedBy}
 use Rattle.ov_snap.specs.CoreState.{CoreState, HasReportOfAll}
 use Rattle.ov_snap.specs.ReportState.{ReportState, IsTrueReport}
 use Rattle.ov_snap.specs.declared.fault.CoreFault.TheVariants.{AlreadyFiled, OutOfMemory}
-use Rattle.ov_run.specs.Subjects.{AnalysisJudged, IsReportOf}
-use Rattle.ov_run.proofs.Reports.Filed.{filed_refused}
+use Rattle.ov_run_meaning.specs.Subjects.{AnalysisJudged, IsReportOf}
+use Rattle.ov_run_meaning.proofs.Reports.Filed.{filed_refused}
 use Rattle.ov_recording.specs.Recordings.{all_of}
 
 -- one is found: the analysis is refused

@@ -24,8 +24,8 @@ use Rattle.ov_snap.specs.Run.{Happened}
 use Rattle.ov_snap.specs.Snapshots.{IsMoment, SnapshotsAfter}
 use Rattle.ov_snap.specs.declared.fault.CoreFault.TheVariants.{NoSuchMoment, OtherGraph, AlreadyFiled}
 use Rattle.ov_snap.specs.declared.kept_snapshots.Snapshot.{Snapshot}
-use Rattle.ov_run.specs.Printed.{report_line}
-use Rattle.ov_run.specs.Subjects.{members_of, WasAnalysed}
+use Rattle.ov_run_meaning.specs.Printed.{report_line}
+use Rattle.ov_run_meaning.specs.Subjects.{members_of, WasAnalysed}
 use Rattle.ov_scenario.specs.declared.scenario.Subject.{Subject}
 use Rattle.ov_recording.specs.Alike.{AllSayTheSame, AreAlikeCores, SayTheSame}
 

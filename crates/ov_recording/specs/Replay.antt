@@ -10,8 +10,8 @@ use Rattle.ov_scenario.specs.Scenarios.{IsScenario}
 use Rattle.ov_scenario.specs.declared.scenario.Line.{Line}
 use Rattle.ov_scenario.specs.declared.scenario.Line.TheVariants as line
 use Rattle.ov_scenario.specs.declared.scenario.Scenario.{Scenario}
-use Rattle.ov_run.specs.Printed.{entry_line, report_line}
-use Rattle.ov_run.specs.Subjects.{AnalysisJudged, WasAnalysed}
+use Rattle.ov_run_meaning.specs.Printed.{entry_line, report_line}
+use Rattle.ov_run_meaning.specs.Subjects.{AnalysisJudged, WasAnalysed}
 
 -- the line is accepted: its event happens, or its analysis files a report. A recording has no look and no block of
 -- sections, so none is accepted

@@ -4,10 +4,10 @@ use Rattle.ov_snap.specs.CoreState.{CoreState, opening_core}
 use Rattle.ov_snap.specs.Refusals.{number_of}
 use Rattle.ov_snap.specs.declared.fault.CoreFault.TheVariants.{OutOfMemory}
 use Rattle.ov_scenario.specs.declared.scenario.Line.{Line}
-use Rattle.ov_run.specs.Ending.{IsBegun}
-use Rattle.ov_run.specs.Printed.{refused_line}
-use Rattle.ov_run.specs.Running.{IsOutput}
-use Rattle.ov_run.specs.declared.strictness.Strictness.{Strictness}
+use Rattle.ov_run_meaning.specs.Ending.{IsBegun}
+use Rattle.ov_run_meaning.specs.Printed.{refused_line}
+use Rattle.ov_run_meaning.specs.Running.{IsOutput}
+use Rattle.ov_run_meaning.specs.declared.strictness.Strictness.{Strictness}
 use Rattle.ov_recording.specs.Alike.{AreAlikeCores}
 use Rattle.ov_recording.specs.Replay.{MayBeAccepted, PrintsAllAccepted, Replays}
 

@@ -1,6 +1,5 @@
 pub mod Blocks
-pub mod GraphFiles
 pub mod OfReader
 pub mod Printing
+pub mod Recent
 pub mod Refused
-pub mod Reports

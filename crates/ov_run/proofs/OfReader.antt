@@ -1,30 +1,18 @@
--- What is said of the bytes that were read is said of the reader that had them. `read` are these bytes as they were
--- lent.
-use Rattle.std.proofs.Common.{◌≡◌, ◌≢◌, ◌⊎◌, inl, inr, ◌∙◌, ◌+◌, ℕ, Bool, List, Option, Some, None, IfSome, Result, Ok}
-use Rattle.std.proofs.Common.{Err}
-use Rattle.std.proofs.Common.{refl, subst}
+-- What is said of a run of the bytes that were read is said of one of the reader that had them. `read` are these bytes
+-- as they were lent.
+use Rattle.std.proofs.Common.{◌≡◌, ◌⊎◌, inl, inr, ◌∙◌, ℕ, List, Option, Some, IfSome, Result, Ok, Err, refl, subst}
 use Rattle.std.specs.declared.io.buffered.BufWriter.{BufWriter}
 use Rattle.ov_io.specs.Device.{SinkState}
-use Rattle.ov_run.specs.Analysing.{IsAnalysis, PrintsAnalysis, BeginsAnalysis, IsAnalysisOf}
-use Rattle.ov_run.specs.Ending.{IsBegun, Begins, IsEnded, Ends}
-use Rattle.ov_run.specs.Faults.{IsScenarioFileFault, IsAnalysisFileFault, IsAnalysisFault, IsRunFault, read_faults}
-use Rattle.ov_run.specs.Run.{IsRunInBlocks, IsRunOf, behind_buffer}
-use Rattle.ov_run.specs.Running.{IsOutput, PrintsScenario}
-use Rattle.ov_run.specs.Strict.{AcceptsScenario, IsAcceptedScenario, IsStoppedScenario, StopsScenario}
-use Rattle.ov_run.specs.declared.refusal.Refusal.{Refusal}
-use Rattle.ov_run.specs.declared.strictness.Strictness.{Strictness}
-use Rattle.ov_run.specs.declared.answered.Answered.{Answered}
-use Rattle.ov_run.specs.declared.run_fault.RunFault.{RunFault}
-use Rattle.ov_run.specs.declared.run_fault.RunFault.TheVariants as fault
-
--- what is true of the bytes that were read is true of those that the reader had, if these are known
-told :
-    (P : List ℕ → Type 0) (reader : Option (List ℕ)) (bytes read : List ℕ) → IfSome reader (λ xs. bytes ≡ xs)
-    → read ≡ bytes → P read → IfSome reader P
-told P None bytes read had same is = tt
-told P (Some xs) bytes read had same is = subst P (same ∙ had) is
-
--- ---- a scenario
+use Rattle.ov_run_meaning.specs.Ending.{IsBegun, Begins, IsEnded, Ends}
+use Rattle.ov_run_meaning.specs.Faults.{IsScenarioFileFault, IsRunFault}
+use Rattle.ov_run_meaning.specs.Run.{IsRunInBlocks, IsRunOf, behind_buffer}
+use Rattle.ov_run_meaning.specs.Running.{IsOutput, PrintsScenario}
+use Rattle.ov_run_meaning.specs.Strict.{AcceptsScenario, IsAcceptedScenario, IsStoppedScenario, StopsScenario}
+use Rattle.ov_run_meaning.specs.declared.refusal.Refusal.{Refusal}
+use Rattle.ov_run_meaning.specs.declared.strictness.Strictness.{Strictness}
+use Rattle.ov_run_meaning.specs.declared.run_fault.RunFault.{RunFault}
+use Rattle.ov_run_meaning.specs.declared.run_fault.RunFault.TheVariants as fault
+use Rattle.ov_run_meaning.proofs.OfReader.{told}
 
 -- what it prints
 pub scenario_prints :
@@ -127,80 +115,3 @@ run_in_blocks_of_reader strictness contents sink sink' reader bytes read result 
       (bytes, own.1, had, subst (λ bs. IsBegun strictness bs own.1) (own.2 ∙ same) own.3, own.4);
   sink = ran.sink;
 }
-
--- ---- a graph file
-
--- what is printed of its analysis
-pub analysis_prints :
-    (reader before after : Option (List ℕ)) (group : Option (List ℕ)) (certificate : Bool) (answered : Answered)
-    (bytes read : List ℕ)
-    → IfSome reader (λ xs. bytes ≡ xs) → read ≡ bytes
-    → PrintsAnalysis (Some read) group certificate answered before after
-    → PrintsAnalysis reader group certificate answered before after
-analysis_prints reader before after group certificate answered bytes read had same (own, text, is, analysis, went) =
-    (bytes, text, had, subst (λ bs. IsAnalysis bs group certificate answered text) (is ∙ same) analysis, went)
-
--- what its analysis begins to print, if anything
-pub analysis_begins :
-    {W : Type 0} (sink sink_after : SinkState W) (reader before after : Option (List ℕ)) (group : Option (List ℕ))
-    (certificate : Bool) (bytes read : List ℕ)
-    → IfSome reader (λ xs. bytes ≡ xs) → read ≡ bytes
-    → (sink_after ≡ sink) ⊎ BeginsAnalysis (Some read) group certificate before after
-    → (sink_after ≡ sink) ⊎ BeginsAnalysis reader group certificate before after
-analysis_begins sink sink_after reader before after group certificate bytes read had same (inl unchanged) =
-    inl unchanged
-analysis_begins sink sink_after reader before after group certificate bytes read had same
-    (inr (own, answered, text, is, analysis, went)) =
-    let here = subst (λ bs. IsAnalysis bs group certificate answered text) (is ∙ same) analysis in
-    inr (bytes, answered, text, had, here, went)
-
--- the fault of its analysis
-pub analysis_fault :
-    (reader : Option (List ℕ)) (bytes read : List ℕ) (f : RunFault) → IfSome reader (λ xs. bytes ≡ xs) → read ≡ bytes
-    → IsAnalysisFault (Some read) f → IsAnalysisFault reader f
-analysis_fault reader bytes read (fault.Line n) had same is =
-    told (λ bs. IsAnalysisFileFault bs (fault.Line n)) reader bytes read had same is
-analysis_fault reader bytes read (fault.Params n) had same is = is
-analysis_fault reader bytes read (fault.Graph f line) had same is =
-    told (λ bs. IsAnalysisFileFault bs (fault.Graph f line)) reader bytes read had same is
-analysis_fault reader bytes read fault.Read had same is = tt
-analysis_fault reader bytes read fault.Write had same is = tt
-analysis_fault reader bytes read (fault.Refused n refusal) had same is = is
-analysis_fault reader bytes read fault.OutOfMemory had same is = tt
-
--- its analysis
-pub analysis_of_reader :
-    {W : Type 0} (contents : W → Option (List ℕ)) (sink sink' : SinkState W) (group : Option (List ℕ))
-    (certificate : Bool) (reader : Option (List ℕ)) (bytes read : List ℕ) (result : Result Answered RunFault)
-    → IfSome reader (λ xs. bytes ≡ xs) → read ≡ bytes
-    → IsAnalysisOf (Some read) contents sink group certificate sink' result
-    → IsAnalysisOf reader contents sink group certificate sink' result
-analysis_of_reader contents sink sink' group certificate reader bytes read (Ok answered) had same ran = record {
-  prints = analysis_prints _ _ _ group certificate answered bytes read had same ran.prints;
-  begun = analysis_begins sink sink' _ _ _ group certificate bytes read had same ran.begun;
-  sink = ran.sink;
-  unwritten = tt;
-  fault = tt;
-}
-analysis_of_reader contents sink sink' group certificate reader bytes read (Err f) had same ran = record {
-  prints = tt;
-  begun = analysis_begins sink sink' _ _ _ group certificate bytes read had same ran.begun;
-  sink = ran.sink;
-  unwritten = ran.unwritten;
-  fault = analysis_fault _ bytes read f had same ran.fault;
-}
-
--- ---- the counts of the source
-
--- a call that does not return Read counts no fault of its reader
-pub no_read_fault :
-    {A : Type 0} (result : Result A RunFault) → result ≢ Err fault.Read → (n m : ℕ) → n ≡ m + 0
-    → n ≡ m + read_faults result
-no_read_fault (Ok a) other n m reads = reads
-no_read_fault (Err (fault.Line line)) other n m reads = reads
-no_read_fault (Err (fault.Params line)) other n m reads = reads
-no_read_fault (Err (fault.Graph f line)) other n m reads = reads
-no_read_fault (Err fault.Read) other n m reads = absurd (other refl)
-no_read_fault (Err fault.Write) other n m reads = reads
-no_read_fault (Err (fault.Refused line refusal)) other n m reads = reads
-no_read_fault (Err fault.OutOfMemory) other n m reads = reads

@@ -1,16 +1,13 @@
--- What a file that is refused makes of a run and of an analysis.
+-- What a scenario file that is refused makes of a run.
 use Rattle.std.proofs.Common.{ℕ, List, refl}
 use Rattle.ov_scenario.specs.Scenarios.{IsReadingFault}
 use Rattle.ov_scenario.specs.declared.scenario_fault.LineFault.{LineFault}
 use Rattle.ov_scenario.specs.declared.scenario_fault.LineFault.TheVariants as line_fault
 use Rattle.ov_scenario.specs.declared.scenario_fault.ScenarioFault.{ScenarioFault}
 use Rattle.ov_scenario.specs.declared.scenario_fault.ScenarioFault.TheVariants as scenario
-use Rattle.ov_graphfile.specs.GraphFiles.{IsGraphFileFault}
-use Rattle.ov_graphfile.specs.declared.fault.GraphFileFault.{GraphFileFault}
-use Rattle.ov_graphfile.specs.declared.fault.GraphFileFault.TheVariants as graph_file
-use Rattle.ov_run.specs.Faults.{fault_at, fault_of_scenario, fault_of_graph_file, IsScenarioFileFault}
-use Rattle.ov_run.specs.Code.Writing.{IsTextFault, IsBeforeLines}
-use Rattle.ov_run.specs.declared.run_fault.RunFault.TheVariants.{Line, Params}
+use Rattle.ov_run_meaning.specs.Faults.{fault_at, fault_of_scenario, IsScenarioFileFault}
+use Rattle.ov_run.specs.Code.Writing.{IsBeforeLines}
+use Rattle.ov_run_meaning.specs.declared.run_fault.RunFault.TheVariants.{Line, Params}
 
 unread : (bytes : List ℕ) (n : ℕ) → IsScenarioFileFault bytes (Line n) → IsBeforeLines bytes (Line n)
 unread bytes n is = record {
@@ -51,10 +48,3 @@ of_scenario bytes scenario.OutOfMemory is = record {
   not_read = λ e. absurd cc;
   not_refused = λ m refusal e. absurd cc;
 }
-
--- the fault of a graph file
-pub of_graph_file : (bytes : List ℕ) (own : GraphFileFault) → IsGraphFileFault bytes own
-    → IsTextFault bytes (fault_of_graph_file own)
-of_graph_file bytes (graph_file.Line l) is = (graph_file.Line l, is, refl)
-of_graph_file bytes (graph_file.Graph f line) is = (graph_file.Graph f line, is, refl)
-of_graph_file bytes graph_file.OutOfMemory is = tt

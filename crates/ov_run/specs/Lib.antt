@@ -1,14 +1,1 @@
-pub mod Accepting
-pub mod Analysing
-pub mod Ending
-pub mod Faults
-pub mod Progress
-pub mod Theorems
-pub mod Printed
-pub mod Refusals
-pub mod Run
-pub mod Running
-pub mod Sections
-pub mod Strict
-pub mod Subjects
 pub mod Code

@@ -8,11 +8,11 @@ struct ChangeText(Change);
 
 impl Display for ChangeText {
     ghost use Rattle.std.specs.Prelude.{Some};
-    ghost use Rattle.ov_run.specs.Printed.{change_text};
+    ghost use Rattle.ov_run_meaning.specs.Printed.{change_text};
 
     ghost output = { λ t. Some (change_text t.0) };
 
-    #[tactic(auto, unfolding(crate::specs::Printed::change_text))]
+    #[tactic(auto, unfolding(ov_run_meaning::specs::Printed::change_text))]
     fn fmt<W: Write>(&self, f: &mut Formatter<W>) -> Result {
         match self.0 {
             Change::Born(node) => {
@@ -41,7 +41,7 @@ pub(crate) struct ChangesText<'a>(pub(crate) &'a [Change]);
 
 impl<'a> Display for ChangesText<'a> {
     ghost use Rattle.std.specs.Prelude.{Some, flat_map};
-    ghost use Rattle.ov_run.specs.Printed.{change_text};
+    ghost use Rattle.ov_run_meaning.specs.Printed.{change_text};
 
     ghost output = { λ t. Some (flat_map change_text t.0.now) };
 
@@ -61,7 +61,7 @@ pub(crate) struct DeliveryText<'a>(pub(crate) &'a Option<Delivery>);
 
 impl<'a> Display for DeliveryText<'a> {
     ghost use Rattle.std.specs.Prelude.{Some};
-    ghost use Rattle.ov_run.specs.Printed.{delivery_text};
+    ghost use Rattle.ov_run_meaning.specs.Printed.{delivery_text};
 
     ghost output = { λ t. Some (delivery_text t.0.now) };
 

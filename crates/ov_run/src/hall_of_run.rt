@@ -1,6 +1,6 @@
 //! The hall of a run while one hand has it: what lines outside sections need of it.
 ghost use Rattle.std.specs.Prelude.{◌≡◌, length, IfOk, IfErr, OnOk, OnErr};
-ghost use Rattle.ov_hall.specs.Logs.{core_made};
+ghost use Rattle.ov_snap.specs.Logs.{core_made};
 ghost use Rattle.ov_ids.specs.FaultOrder.{IsRefusedBy};
 ghost use Rattle.ov_net.specs.Refusals.{IsRefusal};
 ghost use Rattle.ov_snap.specs.CoreState.{opening_core};
@@ -25,7 +25,7 @@ pub struct RunHall<N: HallName> {
 }
 
 impl<N: HallName> Model for RunHall<N> {
-    ghost use Rattle.ov_hall.specs.Logs.{core_made};
+    ghost use Rattle.ov_snap.specs.Logs.{core_made};
     ghost use Rattle.ov_snap.specs.CoreState.{CoreState};
     ghost use Rattle.ov_snap.specs.Code.Codes.{core_code};
 

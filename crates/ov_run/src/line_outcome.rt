@@ -1,21 +1,12 @@
 ghost use Rattle.std.specs.Prelude.{◌≡◌, ◌+◌, length};
-ghost use Rattle.ov_run.specs.Sections.{accepted_in, one_accepted, refused_in};
+ghost use Rattle.ov_run_meaning.specs.Sections.{accepted_in, one_accepted, refused_in};
 ghost use Rattle.ov_run.specs.Code.Jobs.{joined};
 ghost use Rattle.ov_run.specs.Code.Outcomes.{first_refused, refusal_at, refused_of};
 
-use crate::refusal::Refusal;
 use crate::run_watcher::RanLine;
 use ov_ids::Seq;
+use ov_run_meaning::{Outcome, Refusal};
 use std::marker::Model;
-
-/// What became of a line that ran, and is no block.
-#[derive(Clone, Copy, Debug, PartialEq, Eq)]
-pub(crate) enum Outcome {
-    /// Its event happened, its report was filed, or what it looks at was written.
-    Accepted,
-    /// It was refused, and changed nothing.
-    Refused(Refusal),
-}
 
 /// What became of a line that ran.
 #[derive(Drop)]
@@ -44,7 +35,7 @@ pub(crate) struct ToldLine<'a> {
 }
 
 impl<'a> Model for ToldLine<'a> {
-    ghost use Rattle.ov_run.specs.Sections.{ToldLine};
+    ghost use Rattle.ov_run_meaning.specs.Sections.{ToldLine};
 
     ghost Value = { ToldLine };
 

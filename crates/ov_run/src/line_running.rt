@@ -2,10 +2,10 @@ ghost use Rattle.std.specs.Prelude.{◌≡◌, ◌⊎◌, ◌<◌, ◌≤◌, �
 ghost use Rattle.ov_io.specs.Device.{AppendsPrefixOf, most_faults, write_faults as sink_faults, write_number};
 ghost use Rattle.ov_net.specs.declared.journal_entry_and_changes.Entry.{Entry};
 ghost use Rattle.ov_snap.specs.Run.{Happened};
-ghost use Rattle.ov_run.specs.Accepting.{DoesEvent, FilesReport, ShowsLook};
-ghost use Rattle.ov_run.specs.Accepting.{RefusesAnalysis, RefusesEvent, RefusesLook};
-ghost use Rattle.ov_run.specs.Ending.{BeginsLook, EndsLook};
-ghost use Rattle.ov_run.specs.Faults.{write_faults};
+ghost use Rattle.ov_run_meaning.specs.Accepting.{DoesEvent, FilesReport, ShowsLook};
+ghost use Rattle.ov_run_meaning.specs.Accepting.{RefusesAnalysis, RefusesEvent, RefusesLook};
+ghost use Rattle.ov_run_meaning.specs.Ending.{BeginsLook, EndsLook};
+ghost use Rattle.ov_run_meaning.specs.Faults.{write_faults};
 ghost use Rattle.ov_run.specs.Code.Outcomes.{LineRan, RanAsBlock, RanLines, WritesOutcome, WritesRest, rest_of};
 ghost use Rattle.ov_run.specs.Code.Outcomes.{is_event_line, stop_of};
 ghost use Rattle.ov_run.specs.Code.Jobs.{HasDrivers};
@@ -14,21 +14,19 @@ ghost use Rattle.ov_scenario.specs.RunLines.{drivers_for};
 ghost use Rattle.ov_scenario.specs.declared.scenario.Line.TheVariants as kind;
 
 use crate::hall_of_run::RunHall;
-use crate::line_outcome::{BlockTold, Came, Outcome, ToldLine};
+use crate::line_outcome::{BlockTold, Came, ToldLine};
 use crate::recent_reports::RecentReports;
-use crate::refusal::Refusal;
 use crate::report_filing::file_analysis;
-use crate::run_fault::RunFault;
 use crate::run_watcher::{RanLine, RunWatcher};
 use crate::sections_at_once::{BlockRan, run_together};
 use crate::sink_writing::{
     write_certificate, write_done, write_entry, write_node, write_packets, write_rest,
 };
-use crate::strictness::Strictness;
 use ov_hall::HallName;
 use ov_ids::{OutOfMemory, Seq, Workers};
 use ov_io::{Sink, WriteFault};
 use ov_net::Event;
+use ov_run_meaning::{Outcome, Refusal, RunFault, Strictness};
 use ov_scenario::{Line, LineToRun, LinesToRun, Look, SectionLine, Subject};
 use ov_snap::Core;
 use ov_words::Words;

@@ -1,12 +1,9 @@
 ghost use Rattle.std.specs.Prelude.{◌≡◌, IfOk, string_bytes};
-ghost use Rattle.ov_run.specs.Printed.{entry_line, refused_line, report_line, node_line, packet_line, together_line};
+ghost use Rattle.ov_run_meaning.specs.Printed.{entry_line, node_line, packet_line, together_line};
 
 use crate::change_texts::{ChangesText, DeliveryText};
 use arrayvec::ArrayString;
 use itoa::Buffer;
-use ov_cert::{Cert, Checked};
-use ov_certfile::CertText;
-use ov_graph::Graph;
 use ov_ids::{IdsText, NodeId, OutOfMemory};
 use ov_net::Entry;
 use ov_peer::Peer;
@@ -14,7 +11,7 @@ use std::alloc::Global;
 
 /// The line of an accepted event: `entry N`, the changes in order, and what was delivered. Like every line here it ends
 /// with a line feed, and its form is chosen here. OutOfMemory (99) is returned if an allocation was refused.
-#[tactic(auto, unfolding(crate::specs::Printed::entry_line))]
+#[tactic(auto, unfolding(ov_run_meaning::specs::Printed::entry_line))]
 pub fn entry_line(alloc: Global, entry: &Entry) -> Result<String, OutOfMemory>
     ensures { IfOk result (λ line. string_bytes line ≡ entry_line entry.now) }
 {
@@ -24,21 +21,8 @@ pub fn entry_line(alloc: Global, entry: &Entry) -> Result<String, OutOfMemory>
     Ok(format!(in alloc; "entry {number}{changes}{delivery}\n")?)
 }
 
-/// The line of a refusal by its number: `refused N`. Nothing is allocated, so that out of memory can be printed.
-#[tactic(auto, unfolding(crate::specs::Printed::refused_line))]
-pub fn refused_line(number: u32) -> ArrayString<64>
-    ensures { result.bytes ≡ refused_line number }
-{
-    let mut digits = Buffer::new();
-    let mut line = ArrayString::new();
-    line.push_str("refused ");
-    line.push_str(digits.format(number));
-    line.push_str("\n");
-    line
-}
-
 /// The line of a block: `together D accepted A refused R`. Nothing is allocated.
-#[tactic(auto, unfolding(crate::specs::Printed::together_line))]
+#[tactic(auto, unfolding(ov_run_meaning::specs::Printed::together_line))]
 pub fn together_line(sections: usize, accepted: u128, refused: u128) -> ArrayString<192>
     ensures { result.bytes ≡ together_line sections accepted refused }
 {
@@ -54,40 +38,9 @@ pub fn together_line(sections: usize, accepted: u128, refused: u128) -> ArrayStr
     line
 }
 
-/// The line of a report: `report M`, and what the certificate says of the graph and the group. OutOfMemory (99) if an
-/// allocation is refused.
-pub fn report_line(alloc: Global, moment: u32, checked: &Checked) -> Result<String, OutOfMemory>
-    ensures { IfOk result (λ line. string_bytes line
-        ≡ report_line moment checked.now.cert checked.now.graph checked.now.members) }
-{
-    cert_line(
-        alloc,
-        moment,
-        checked.cert(),
-        checked.graph(),
-        checked.members(),
-    )
-}
-
-/// Makes the line of a report of this moment and this certificate, whose paths it does not look at. OutOfMemory (99) if
-/// an allocation is refused.
-#[tactic(auto, unfolding(crate::specs::Printed::report_line))]
-pub fn cert_line(
-    alloc: Global,
-    moment: u32,
-    cert: &Cert,
-    graph: &Graph,
-    group: &[NodeId],
-) -> Result<String, OutOfMemory>
-    ensures { IfOk result (λ line. string_bytes line ≡ report_line moment cert.now graph.now group.now) }
-{
-    let claim = CertText { cert, graph, group };
-    Ok(format!(in alloc; "report {moment} {claim}\n")?)
-}
-
 /// The line of a node and its views: `node N active L passive L eager L lazy L`. Each list has commas between its
 /// ids, and is `-` without any. OutOfMemory (99) if an allocation is refused.
-#[tactic(auto, unfolding(crate::specs::Printed::node_line))]
+#[tactic(auto, unfolding(ov_run_meaning::specs::Printed::node_line))]
 pub fn node_line(alloc: Global, id: NodeId, peer: &Peer) -> Result<String, OutOfMemory>
     ensures { IfOk result (λ line. string_bytes line ≡ node_line id peer.now) }
 {
@@ -103,7 +56,7 @@ pub fn node_line(alloc: Global, id: NodeId, peer: &Peer) -> Result<String, OutOf
 
 /// The line of a packet by its place among all: `packet I to N HEX`, with two digits for each byte, in lower case.
 /// OutOfMemory (99) if an allocation is refused.
-#[tactic(auto, unfolding(crate::specs::Printed::packet_line))]
+#[tactic(auto, unfolding(ov_run_meaning::specs::Printed::packet_line))]
 pub fn packet_line(
     alloc: Global,
     place: u32,

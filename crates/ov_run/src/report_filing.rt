@@ -6,13 +6,11 @@ ghost use Rattle.ov_snap.specs.ReportState.{ReportState, IsTrueReport};
 ghost use Rattle.ov_ids.specs.FaultOrder.{IsRefusedBy};
 ghost use Rattle.ov_snap.specs.Refusals.{FilingJudged};
 ghost use Rattle.ov_run.specs.Code.Recent.{HasAnswer};
-ghost use Rattle.ov_run.specs.Printed.{report_line};
-ghost use Rattle.ov_run.specs.Subjects.{members_of, IsReportOf, AnalysisJudged, WasAnalysed};
+ghost use Rattle.ov_run_meaning.specs.Printed.{report_line};
+ghost use Rattle.ov_run_meaning.specs.Subjects.{members_of, IsReportOf, AnalysisJudged, WasAnalysed};
 ghost use Rattle.ov_snap.specs.declared.fault.CoreFault.TheVariants.{OutOfMemory as out_of_memory};
 
-use crate::graph_analysis::members_of;
 use crate::hall_of_run::RunHall;
-use crate::line_texts::report_line;
 use crate::recent_reports::RecentReports;
 use ov_crew::{OpenGate, analyse_group_watched};
 use ov_even::Unwatched;
@@ -20,6 +18,7 @@ use ov_graph::Graph;
 use ov_hall::HallName;
 use ov_ids::{NodeId, Seq, Workers};
 use ov_net::MOST_ENTRIES;
+use ov_run_meaning::{members_of, report_line};
 use ov_scenario::Subject;
 use ov_snap::{Core, CoreFault, Report, Snapshot};
 use std::alloc::Global;
@@ -28,7 +27,7 @@ use std::thread::Threads;
 /// Analyses a subject by this number of workers and files the report; if a recent one is about the same graph and
 /// group, its certificate is shared instead. Returns the line of the report, or the first applicable refusal, and then
 /// nothing changed. The line is made before the report is filed, so that out of memory is a refusal too.
-#[tactic(auto, using(crate::proofs::Reports::Filed::filing_refused))]
+#[tactic(auto, using(ov_run_meaning::proofs::Reports::Filed::filing_refused))]
 pub(crate) fn file_analysis<N: HallName, T: Threads + Sync>(
     rt: &T,
     alloc: Global,
@@ -49,7 +48,7 @@ pub(crate) fn file_analysis<N: HallName, T: Threads + Sync>(
 }
 
 /// Makes the report of a subject, or shares a recent one. The report is not filed yet.
-#[tactic(auto, using(crate::proofs::Reports::Filed::filed_refused))]
+#[tactic(auto, using(ov_run_meaning::proofs::Reports::Filed::filed_refused))]
 fn report_for<T: Threads + Sync>(
     rt: &T,
     alloc: Global,

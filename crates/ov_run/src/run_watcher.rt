@@ -1,4 +1,4 @@
-use crate::refusal::Refusal;
+use ov_run_meaning::Refusal;
 use ov_snap::Core;
 
 /// A line of a scenario file that ran.

@@ -1,24 +1,25 @@
 //! One section, whose lines a driver runs in order.
 ghost use Rattle.std.specs.Prelude.{◌≡◌, ◌⊎◌, ◌↔◌, [], IfOk, IfErr, IsTrue, OnOk};
-ghost use Rattle.ov_hall.specs.Logs.{core_made};
-ghost use Rattle.ov_hall.specs.Passes.{HasFiled, HasLooked};
+ghost use Rattle.ov_snap.specs.Logs.{core_made};
+ghost use Rattle.ov_snap.specs.DriverSteps.{HasFiled, HasLooked};
 ghost use Rattle.ov_ids.specs.FaultOrder.{IsRefusedBy};
 ghost use Rattle.ov_snap.specs.Refusals.{FilingJudged};
 ghost use Rattle.ov_snap.specs.ReportState.{ReportState};
 ghost use Rattle.ov_snap.specs.declared.fault.CoreFault.TheVariants.{OutOfMemory as out_of_memory};
-ghost use Rattle.ov_run.specs.Sections.{HasAnalysed, IsRefusedAnalysis, IsReportOn, RunsLine, is_event, told_of};
+ghost use Rattle.ov_run_meaning.specs.Sections.{HasAnalysed, IsRefusedAnalysis, IsReportOn, RunsLine, is_event};
+ghost use Rattle.ov_run_meaning.specs.Sections.{told_of};
 ghost use Rattle.ov_run.specs.Code.Jobs.{HasRun};
-ghost use Rattle.ov_run.specs.declared.line_outcome.Outcome.{Outcome as OutcomeOf};
+ghost use Rattle.ov_run_meaning.specs.declared.outcome.Outcome.{Outcome as OutcomeOf};
 ghost use Rattle.ov_scenario.specs.declared.section.Deed.TheVariants as deed;
 
-use crate::line_outcome::{Outcome, ToldLine};
+use crate::line_outcome::ToldLine;
 use crate::recent_reports::RecentReports;
-use crate::refusal::Refusal;
 use crate::report_filing::report_about;
 use crate::run_watcher::RanLine;
 use ov_hall::{Hall, HallName, Pass};
 use ov_ids::{OutOfMemory, Seq, Workers};
 use ov_net::Event;
+use ov_run_meaning::{Outcome, Refusal};
 use ov_scenario::{Deed, SectionLine, Subject};
 use ov_snap::{CoreFault, Snapshot};
 use ov_words::Words;

@@ -1,6 +1,6 @@
 //! The sections of a block, each with lines in a thread of its own.
 ghost use Rattle.std.specs.Prelude.{◌≡◌, ◌≤◌, ◌<◌, ◌+◌, [], length, map, vec_capacity, IfOk};
-ghost use Rattle.ov_run.specs.Sections.{RunTogether, accepted_in, refused_in};
+ghost use Rattle.ov_run_meaning.specs.Sections.{RunTogether, accepted_in, refused_in};
 ghost use Rattle.ov_run.specs.Code.Jobs.{HaveRun, jobs_of, joined};
 
 use crate::hall_of_run::RunHall;

@@ -6,3 +6,4 @@ pub mod Keeping
 pub mod DeskKeeping
 pub mod DeskCalls
 pub mod Running
+pub mod DriverLogs

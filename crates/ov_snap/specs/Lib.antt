@@ -5,5 +5,8 @@ pub mod Refusals
 pub mod Filing
 pub mod DeskSteps
 pub mod Run
+pub mod Parts
+pub mod Logs
+pub mod DriverSteps
 pub mod Theorems
 pub mod Code

@@ -4,6 +4,7 @@
 
 mod analysis_report;
 mod core_steps;
+mod driver_log;
 mod fault;
 mod filed_reports;
 mod kept_snapshots;
@@ -13,6 +14,7 @@ mod worker_desk_calls;
 
 pub use analysis_report::Report;
 pub use core_steps::{CoreStep, run_core};
+pub use driver_log::{Mark, Ticket};
 pub use fault::CoreFault;
 pub use kept_snapshots::Snapshot;
 pub use ov_cert::SharedGraph;

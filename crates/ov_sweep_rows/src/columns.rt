@@ -2,11 +2,9 @@ use crate::{DeliveredShare, PhaseRow};
 use ov_grow_options::{Crash, GrowOptions, Order, Pace};
 use std::fmt::{Display, Formatter, Result, Write};
 
-/// How many columns say the setting of a row, which is all its options but the seed. They come first.
-pub const SETTING_COLUMNS: usize = 17;
-
-/// The columns of a row: the setting, with the options in the order of their table; the seed; and six for each phase.
-pub const COLUMNS: [&str; 36] = [
+/// The columns of a row: 17 for the setting, which is all options but the seed, in the order of their table; the seed;
+/// and six for each phase.
+pub(crate) const COLUMNS: [&str; 36] = [
     "nodes",
     "active",
     "passive",
@@ -47,7 +45,7 @@ pub const COLUMNS: [&str; 36] = [
 
 /// What stands in one column of a row.
 #[derive(Clone, Copy, Debug, PartialEq, Eq)]
-pub enum Cell {
+pub(crate) enum Cell {
     /// Nothing: an option that was not given, or a share without broadcasts.
     Empty,
     /// A number, in decimal digits.
@@ -70,7 +68,7 @@ impl Display for Cell {
 }
 
 /// The cells of the setting that these options are of, in the order of their columns.
-pub fn setting_cells(options: &GrowOptions) -> [Cell; 17] {
+pub(crate) fn setting_cells(options: &GrowOptions) -> [Cell; 17] {
     let params = options.params;
     [
         number(options.nodes.count()),

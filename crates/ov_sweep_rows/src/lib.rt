@@ -3,6 +3,7 @@
 #![tactic(auto)]
 
 mod columns;
+mod confidence_interval;
 mod delivered_share;
 mod dots;
 mod panel;
@@ -20,9 +21,8 @@ mod settings;
 mod summary;
 mod survival;
 mod text_table;
-mod wilson;
 
-pub use columns::{COLUMNS, Cell, SETTING_COLUMNS, setting_cells};
+pub use confidence_interval::{Interval, wilson_interval};
 pub use delivered_share::DeliveredShare;
 pub use picture::svg_text;
 pub use row::{Phase, PhaseRow, Row};
@@ -32,4 +32,3 @@ pub use row_writing::{header_text, row_text};
 pub use settings::{Setting, settings_of};
 pub use summary::summary_text;
 pub use survival::Survival;
-pub use wilson::{Interval, wilson_interval};

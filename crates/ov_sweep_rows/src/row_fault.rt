@@ -1,7 +1,7 @@
 ghost use Rattle.std.specs.Prelude.{◌≡◌};
 ghost use Rattle.ov_sweep_rows.specs.Rows.{number_of};
 
-use crate::COLUMNS;
+use crate::columns::COLUMNS;
 use csv::{Error as CsvError, ErrorKind};
 use std::alloc::{AllocError, AllocFailed};
 use std::fmt::{Display, Formatter, Result, Write};

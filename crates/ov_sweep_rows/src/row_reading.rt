@@ -4,8 +4,9 @@ ghost use Rattle.ov_sweep_rows.specs.RowTexts.{Spells};
 ghost use Rattle.ov_sweep_rows.specs.Code.Fields.{text_at, SayOptions, SayParams, SayPhase, SayRow, SpellsCrash};
 ghost use Rattle.ov_sweep_rows.specs.Code.Fields.{SpellsDelivered, SpellsOrder, SpellsPace};
 
+use crate::columns::COLUMNS;
 use crate::row_fields::{RowFields, short_number};
-use crate::{COLUMNS, DeliveredShare, FieldForm, PhaseRow, Row, RowFault};
+use crate::{DeliveredShare, FieldForm, PhaseRow, Row, RowFault};
 use csv::{ByteRecord, ReaderBuilder};
 use ov_grow_options::{Chance, Count, Crash, GrowOptions, NodeCount, Order, Pace, Share};
 use ov_ids::Params;

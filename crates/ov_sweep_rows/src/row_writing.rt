@@ -1,5 +1,5 @@
-use crate::columns::phase_cells;
-use crate::{COLUMNS, Cell, Row, setting_cells};
+use crate::Row;
+use crate::columns::{COLUMNS, Cell, phase_cells, setting_cells};
 use csv::{Error as CsvError, Writer, WriterBuilder};
 use ov_ids::OutOfMemory;
 use std::alloc::Global;

@@ -1,5 +1,6 @@
+use crate::Row;
+use crate::columns::{Cell, setting_cells};
 use crate::setting_names::{SETTING_NAMES, SettingName};
-use crate::{Cell, Row, setting_cells};
 use indexmap::IndexSet;
 use ov_grow_options::GrowOptions;
 use ov_ids::OutOfMemory;

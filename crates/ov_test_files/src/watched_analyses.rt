@@ -1,8 +1,8 @@
 //! That the watcher of an analysis of a graph file sees how far it has come, with the certificate and without it.
+use ov_answers::{Answered, analyse_bytes};
 use ov_even::Watcher;
 use ov_ids::Workers;
 use ov_io::Sink;
-use ov_run::{Answered, analyse_bytes};
 use std::thread::Threads;
 
 /// Two triangles that share the node 3, and what is printed of them, without a certificate.

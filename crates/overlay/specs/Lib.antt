@@ -1,4 +1,1 @@
 pub mod Program
-pub mod Naming
-pub mod Statuses
-pub mod Code

@@ -2,25 +2,22 @@
 use Rattle.std.specs.Prelude.{ℕ, ⊤, List, Result, Ok, Err}
 use Rattle.ov_io.specs.Refusal.{refusal_text}
 use Rattle.ov_arguments.specs.Arguments.{number_of}
-use Rattle.ov_run.specs.Faults.{run_fault_text}
-use Rattle.ov_commands.specs.GrowFaults.{growth_number}
 use Rattle.ov_arguments.specs.declared.arguments.ArgumentsFault.TheVariants.{BadArguments, OutOfMemory}
-use Rattle.ov_commands.specs.declared.grow_command_fault.GrowthFault.TheVariants as growth
+use Rattle.ov_commands.specs.Faults.{command_fault_text}
+use Rattle.ov_run_commands.specs.GrowFaults.{growth_number}
+use Rattle.ov_run_commands.specs.declared.grow_command_fault.GrowthFault.TheVariants as growth
 use Rattle.overlay.specs.declared.program_outcome.ProgramFault.{ProgramFault}
-use Rattle.ov_commands.specs.Faults as file
-use Rattle.overlay.specs.declared.program_outcome.ProgramFault.TheVariants.{Arguments, Growth, OfFile, Run}
+use Rattle.overlay.specs.declared.program_outcome.ProgramFault.TheVariants.{Arguments, Command, Growth}
 
 -- what is printed of a fault on standard error, without its line feed
 abbrev pub program_fault_text : ProgramFault → List ℕ
 program_fault_text (Arguments fault) = refusal_text (number_of fault)
-program_fault_text (Run fault) = run_fault_text fault
+program_fault_text (Command fault) = command_fault_text fault
 program_fault_text (Growth fault) = refusal_text (growth_number fault)
-program_fault_text (OfFile fault) = refusal_text (file.command_number fault)
 
 -- the fault is one of what was asked for, and not of the arguments
 abbrev pub IsOfRequest : ProgramFault → Type 0
-IsOfRequest (Run fault) = ⊤
-IsOfRequest (OfFile fault) = ⊤
+IsOfRequest (Command fault) = ⊤
 IsOfRequest other = ⊥
 
 -- the program's status: that of the run or the analysis, 2 if the arguments are refused, and 1 after another fault
@@ -28,10 +25,9 @@ abbrev pub exit_status : Result ℕ ProgramFault → ℕ
 exit_status (Ok status) = status
 exit_status (Err (Arguments BadArguments)) = 2
 exit_status (Err (Arguments OutOfMemory)) = 1
-exit_status (Err (Run fault)) = 1
-exit_status (Err (OfFile fault)) = 1
+exit_status (Err (Command fault)) = 1
 exit_status (Err (Growth growth.Arguments)) = 2
-exit_status (Err (Growth (growth.Growing number))) = 1
+exit_status (Err (Growth (growth.Growing fault))) = 1
 exit_status (Err (Growth growth.Row)) = 1
 exit_status (Err (Growth growth.Read)) = 1
 exit_status (Err (Growth growth.Write)) = 1

@@ -1,10 +1,12 @@
 ghost use Rattle.std.specs.Prelude.{◌≡◌};
 ghost use Rattle.overlay.specs.Program.{exit_status};
-ghost use Rattle.overlay.specs.declared.program_outcome.ProgramFault.TheVariants.{Arguments, Growth, OfFile, Run};
+ghost use Rattle.ov_commands.specs.declared.command_fault.CommandFault.TheVariants.{Run};
+ghost use Rattle.overlay.specs.declared.program_outcome.ProgramFault.TheVariants.{Arguments, Command, Growth};
 
 use ov_arguments::ArgumentsFault;
-use ov_commands::{FileCommandFault, GrowthFault};
-use ov_run::RunFault;
+use ov_commands::CommandFault;
+use ov_run_commands::GrowthFault;
+use ov_run_meaning::RunFault;
 use std::error::Error;
 use std::fmt::{Display, Formatter, Result as Printed, Write};
 
@@ -13,12 +15,10 @@ use std::fmt::{Display, Formatter, Result as Printed, Write};
 pub(crate) enum ProgramFault {
     /// The arguments are refused, or reading them was out of memory.
     Arguments(ArgumentsFault),
-    /// A run or an analysis ended before its end.
-    Run(RunFault),
+    /// `overlay run`, `analyse`, `import`, `picture` or `graph` ended before its end.
+    Command(CommandFault),
     /// `overlay grow` or `overlay sweep` ended before its end.
     Growth(GrowthFault),
-    /// `overlay import`, `overlay picture` or `overlay graph` ended before its end.
-    OfFile(FileCommandFault),
 }
 
 impl From<ArgumentsFault> for ProgramFault {
@@ -29,11 +29,19 @@ impl From<ArgumentsFault> for ProgramFault {
     }
 }
 
+impl From<CommandFault> for ProgramFault {
+    ghost from_gives = { λ fault e. e ≡ Command fault };
+
+    fn from(fault: CommandFault) -> ProgramFault {
+        ProgramFault::Command(fault)
+    }
+}
+
 impl From<RunFault> for ProgramFault {
-    ghost from_gives = { λ fault e. e ≡ Run fault };
+    ghost from_gives = { λ fault e. e ≡ Command (Run fault) };
 
     fn from(fault: RunFault) -> ProgramFault {
-        ProgramFault::Run(fault)
+        ProgramFault::Command(CommandFault::Run(fault))
     }
 }
 
@@ -42,14 +50,6 @@ impl From<GrowthFault> for ProgramFault {
 
     fn from(fault: GrowthFault) -> ProgramFault {
         ProgramFault::Growth(fault)
-    }
-}
-
-impl From<FileCommandFault> for ProgramFault {
-    ghost from_gives = { λ fault e. e ≡ OfFile fault };
-
-    fn from(fault: FileCommandFault) -> ProgramFault {
-        ProgramFault::OfFile(fault)
     }
 }
 
@@ -62,9 +62,8 @@ impl Display for ProgramFault {
     fn fmt<W: Write>(&self, f: &mut Formatter<W>) -> Printed {
         match self {
             ProgramFault::Arguments(fault) => write!(f, "{fault}"),
-            ProgramFault::Run(fault) => write!(f, "{fault}"),
+            ProgramFault::Command(fault) => write!(f, "{fault}"),
             ProgramFault::Growth(fault) => write!(f, "{fault}"),
-            ProgramFault::OfFile(fault) => write!(f, "{fault}"),
         }
     }
 }

@@ -1,4 +1,4 @@
--- Rows of places while pieces are taken out one after another.
+-- Rows of places while components are taken out one after another.
 use Rattle.std.specs.Prelude.{ℕ, ◌<◌, ◌↔◌, List, length}
 use Rattle.ov_ids.specs.Members.{Has}
 use Rattle.ov_graph.specs.Links.{LinkGraph, Linked}
@@ -14,7 +14,7 @@ pub record IsWhole (g : LinkGraph) (s row : List ℕ) : Type 0 where
 
 -- `row` has the places of the nodes that are joined to the one at `start`. All were left before, and `after` has the
 -- others that were
-pub record TakesPiece (g : LinkGraph) (s before : List ℕ) (start : ℕ) (after row : List ℕ) : Type 0 where
-  pub piece : (p : ℕ) → HasBit row p ↔ ((p < length g.nodes) × Joined g s (node_at g start) (node_at g p))
+pub record TakesComponent (g : LinkGraph) (s before : List ℕ) (start : ℕ) (after row : List ℕ) : Type 0 where
+  pub component : (p : ℕ) → HasBit row p ↔ ((p < length g.nodes) × Joined g s (node_at g start) (node_at g p))
   pub within : (p : ℕ) → HasBit row p → HasBit before p
   pub left : (p : ℕ) → HasBit after p ↔ (HasBit before p × ¬ HasBit row p)

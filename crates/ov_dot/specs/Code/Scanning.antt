@@ -1,20 +1,20 @@
--- How the code looks for the end of a piece: byte by byte, from place to place in the piece.
+-- How the code looks for the end of a part: byte by byte, from place to place in the part.
 use Rattle.std.specs.Prelude.{ℕ, ◌+◌, ◌-◌, Bool, true, false, ◌==◌, ◌||◌, List, [], ◌∷◌, Option, Some, None}
 use Rattle.std.specs.Prelude.{if◌then◌else◌}
 use Rattle.std.specs.Bool.{then_some}
 use Rattle.std.specs.Char.{is_ascii_digit}
-use Rattle.ov_dot.specs.declared.piece_scanning.Place.{Place}
-use Rattle.ov_dot.specs.declared.piece_scanning.Place.TheVariants.{Start, LineFeed, Slash, LineComment}
-use Rattle.ov_dot.specs.declared.piece_scanning.Place.TheVariants.{BlockComment, BlockStar}
-use Rattle.ov_dot.specs.declared.piece_scanning.Place.TheVariants.{Word, Minus, Point, Digits, Fraction, Text}
-use Rattle.ov_dot.specs.declared.piece_scanning.Place.TheVariants.{Escaped, Angle, End}
-use Rattle.ov_dot.specs.Pieces.{is_blank, is_mark, is_letter, is_word_byte, is_in_line, line_feed}
+use Rattle.ov_dot.specs.declared.part_scanning.Place.{Place}
+use Rattle.ov_dot.specs.declared.part_scanning.Place.TheVariants.{Start, LineFeed, Slash, LineComment}
+use Rattle.ov_dot.specs.declared.part_scanning.Place.TheVariants.{BlockComment, BlockStar}
+use Rattle.ov_dot.specs.declared.part_scanning.Place.TheVariants.{Word, Minus, Point, Digits, Fraction, Text}
+use Rattle.ov_dot.specs.declared.part_scanning.Place.TheVariants.{Escaped, Angle, End}
+use Rattle.ov_dot.specs.Parts.{is_blank, is_mark, is_letter, is_word_byte, is_in_line, line_feed}
 
 -- the place behind the first byte of a numeral
 abbrev pub decimal_place : ℕ → Option Place
 decimal_place b = if is_ascii_digit b then Some Digits else then_some (b == 46) Point
 
--- the place behind the first byte of a piece
+-- the place behind the first byte of a part
 abbrev pub first_place : ℕ → Option Place
 first_place b =
     if is_blank b then Some End
@@ -27,7 +27,7 @@ first_place b =
     else (if is_letter b then Some Word
     else decimal_place b)))))))
 
--- the place behind one byte more, if the piece may go on by it
+-- the place behind one byte more, if the part may go on by it
 abbrev pub after : Place → ℕ → Option Place
 after Start b = first_place b
 after LineFeed b = then_some (b == 35) LineComment
@@ -48,7 +48,7 @@ after (Angle depth) b =
     else Angle depth))
 after End b = None
 
--- a piece may end at this place
+-- a part may end at this place
 abbrev pub is_whole : Place → Bool
 is_whole LineFeed = true
 is_whole LineComment = true
@@ -66,7 +66,7 @@ is_whole Text = false
 is_whole Escaped = false
 is_whole (Angle depth) = false
 
--- a piece may go on by these bytes from the place, and end behind them
+-- a part may go on by these bytes from the place, and end behind them
 abbrev pub accepts : Option Place → List ℕ → Bool
 accepts None bs = false
 accepts (Some place) [] = is_whole place
@@ -77,11 +77,11 @@ abbrev pub open_at : Place → ℕ
 open_at (Angle depth) = depth
 open_at place = 0
 
--- the end of the longest piece so far, at a place behind this many bytes
+-- the end of the longest part so far, at a place behind this many bytes
 abbrev pub marked : ℕ → Place → Option ℕ → Option ℕ
 marked n place longest = if is_whole place then Some n else longest
 
--- the end of the longest piece, from a place behind this many bytes, with the longest one so far
+-- the end of the longest part, from a place behind this many bytes, with the longest one so far
 unfoldable pub longest_from : ℕ → Option Place → List ℕ → Option ℕ → Option ℕ
 longest_from n None bs longest = longest
 longest_from n (Some place) [] longest = marked n place longest

@@ -16,7 +16,7 @@ use Rattle.ov_net.specs.declared.member.Member.TheVariants.{Live}
 use Rattle.ov_snap.specs.CoreState.{CoreState, HasReportOfAll, KeepsReports}
 use Rattle.ov_snap.specs.ReportState.{ReportState}
 use Rattle.ov_snap.specs.Snapshots.{IsMoment}
-use Rattle.ov_run.specs.Subjects.{IsReported}
+use Rattle.ov_run_meaning.specs.Subjects.{IsReported}
 use Rattle.ov_recording.specs.Recordings.{all_of}
 use Rattle.ov_recording.specs.Acts.{event_of}
 use Rattle.ov_recording.specs.declared.act.Act.{Act}

@@ -3,14 +3,15 @@ use Rattle.std.proofs.Common.{◌≡◌, ◌≢◌, ◌⊎◌, append_assoc, ℕ
 use Rattle.std.proofs.Common.{map, refl, sym, ap, ◌∙◌, subst, ⊎_elim, arith}
 use Rattle.ov_ids.specs.ParamsState.{ParamsState}
 use Rattle.ov_snap.specs.CoreState.{CoreState}
-use Rattle.ov_hall.specs.Logs.{AreBelow, Begins, IsLog, core_made, of_driver}
-use Rattle.ov_hall.specs.Parts.{hit}
-use Rattle.ov_hall.specs.Passes.{AllBegin, numbers_from, seen_alike, ticket}
-use Rattle.ov_hall.specs.declared.ghost_views.Mark.{Mark}
-use Rattle.ov_hall.specs.declared.ghost_views.Ticket.{Ticket}
+use Rattle.ov_snap.specs.Logs.{AreBelow, Begins, IsLog, core_made, of_driver}
+use Rattle.ov_snap.specs.Parts.{hit}
+use Rattle.ov_hall.specs.Passes.{AllBegin, numbers_from, seen_alike}
+use Rattle.ov_snap.specs.DriverSteps.{ticket}
+use Rattle.ov_snap.specs.declared.driver_log.Mark.{Mark}
+use Rattle.ov_snap.specs.declared.driver_log.Ticket.{Ticket}
 use Rattle.ov_hall.proofs.Alike.{same_rest}
 use Rattle.ov_hall.proofs.Counting.{hits}
-use Rattle.ov_run.specs.Sections.{RunSections, RunTogether, ToldLine}
+use Rattle.ov_run_meaning.specs.Sections.{RunSections, RunTogether, ToldLine}
 use Rattle.ov_run.specs.Code.Jobs.{HaveRun, Job, Ran, jobs_of, joined}
 use Rattle.ov_scenario.specs.Sections.{SectionLine}
 use Rattle.ov_run.proofs.Blocks.SectionLines.{Extends, section_on}

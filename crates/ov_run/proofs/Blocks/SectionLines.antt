@@ -9,16 +9,16 @@ use Rattle.ov_snap.specs.ReportState.{ReportState}
 use Rattle.ov_snap.specs.declared.fault.CoreFault.{CoreFault}
 use Rattle.ov_snap.specs.declared.fault.CoreFault.TheVariants.{OutOfMemory}
 use Rattle.ov_snap.specs.declared.kept_snapshots.Snapshot.{Snapshot}
-use Rattle.ov_hall.specs.Logs.{core_made, mark}
-use Rattle.ov_hall.specs.Passes.{HasBegun, HasFiled, HasLooked}
-use Rattle.ov_hall.specs.declared.ghost_views.Mark.{Mark}
-use Rattle.ov_hall.specs.declared.ghost_views.Ticket.{Ticket}
-use Rattle.ov_run.specs.Sections.{HasAnalysed, IsAccepted, IsRefused, IsRefusedAnalysis, IsReportOn, RunsLine}
-use Rattle.ov_run.specs.Sections.{RunsSection, ToldLine, is_event, told_of}
-use Rattle.ov_run.specs.declared.line_outcome.Outcome.{Outcome}
-use Rattle.ov_run.specs.declared.line_outcome.Outcome.TheVariants.{Accepted, Refused}
-use Rattle.ov_run.specs.declared.refusal.Refusal.{Refusal}
-use Rattle.ov_run.specs.declared.refusal.Refusal.TheVariants.{World, Core}
+use Rattle.ov_snap.specs.Logs.{core_made, mark}
+use Rattle.ov_snap.specs.DriverSteps.{HasBegun, HasFiled, HasLooked}
+use Rattle.ov_snap.specs.declared.driver_log.Mark.{Mark}
+use Rattle.ov_snap.specs.declared.driver_log.Ticket.{Ticket}
+use Rattle.ov_run_meaning.specs.Sections.{HasAnalysed, IsAccepted, IsRefused, IsRefusedAnalysis, IsReportOn, RunsLine}
+use Rattle.ov_run_meaning.specs.Sections.{RunsSection, ToldLine, is_event, told_of}
+use Rattle.ov_run_meaning.specs.declared.outcome.Outcome.{Outcome}
+use Rattle.ov_run_meaning.specs.declared.outcome.Outcome.TheVariants.{Accepted, Refused}
+use Rattle.ov_run_meaning.specs.declared.refusal.Refusal.{Refusal}
+use Rattle.ov_run_meaning.specs.declared.refusal.Refusal.TheVariants.{World, Core}
 use Rattle.ov_scenario.specs.declared.section.Deed.{Deed}
 use Rattle.ov_scenario.specs.declared.section.Deed.TheVariants as deed
 use Rattle.ov_scenario.specs.Sections.{SectionLine}

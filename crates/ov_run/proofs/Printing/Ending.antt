@@ -7,12 +7,12 @@ use Rattle.std.proofs.lemmas.List.{append-nil}
 use Rattle.std.specs.Io.KnownBytes.{Appends, Keeps}
 use Rattle.ov_io.specs.Device.{AppendsPrefixOf}
 use Rattle.ov_snap.specs.CoreState.{CoreState}
-use Rattle.ov_run.specs.Ending.{BeginsLook, BeginsLine, BeginsLines}
-use Rattle.ov_run.specs.Strict.{GoesOn}
+use Rattle.ov_run_meaning.specs.Ending.{BeginsLook, BeginsLine, BeginsLines}
+use Rattle.ov_run_meaning.specs.Strict.{GoesOn}
 use Rattle.ov_run.specs.Code.Writing.{Writes}
-use Rattle.ov_run.specs.declared.strictness.Strictness.{Strictness}
-use Rattle.ov_run.specs.declared.strictness.Strictness.TheVariants.{Strict}
-use Rattle.ov_run.proofs.Printing.Settling.{accepted_goes_on}
+use Rattle.ov_run_meaning.specs.declared.strictness.Strictness.{Strictness}
+use Rattle.ov_run_meaning.specs.declared.strictness.Strictness.TheVariants.{Strict}
+use Rattle.ov_run_meaning.proofs.Accepted.{accepted_goes_on}
 use Rattle.ov_scenario.specs.declared.scenario.Line.{Line}
 use Rattle.ov_scenario.specs.declared.scenario.Line.TheVariants as line
 use Rattle.ov_scenario.specs.declared.scenario.Look.{Look}

@@ -6,16 +6,16 @@ use Rattle.std.specs.Io.KnownBytes.{Keeps}
 use Rattle.ov_io.specs.Device.{SinkState}
 use Rattle.ov_snap.specs.CoreState.{CoreState}
 use Rattle.ov_scenario.specs.declared.scenario.Line.{Line}
-use Rattle.ov_run.specs.Ending.{BeginsLines, EndsLines}
-use Rattle.ov_run.specs.Faults.{write_faults}
-use Rattle.ov_run.specs.Strict.{StopsLines}
+use Rattle.ov_run_meaning.specs.Ending.{BeginsLines, EndsLines}
+use Rattle.ov_run_meaning.specs.Faults.{write_faults}
+use Rattle.ov_run_meaning.specs.Strict.{StopsLines}
 use Rattle.ov_run.specs.Code.Outcomes.{RanLines}
 use Rattle.ov_run.specs.Code.Writing.{IsOfWriting, Writes, WritesPrefix}
-use Rattle.ov_run.specs.declared.refusal.Refusal.{Refusal}
-use Rattle.ov_run.specs.declared.run_fault.RunFault.{RunFault}
-use Rattle.ov_run.specs.declared.run_fault.RunFault.TheVariants.{Write, Refused, OutOfMemory}
-use Rattle.ov_run.specs.declared.strictness.Strictness.{Strictness}
-use Rattle.ov_run.specs.declared.strictness.Strictness.TheVariants.{Strict}
+use Rattle.ov_run_meaning.specs.declared.refusal.Refusal.{Refusal}
+use Rattle.ov_run_meaning.specs.declared.run_fault.RunFault.{RunFault}
+use Rattle.ov_run_meaning.specs.declared.run_fault.RunFault.TheVariants.{Write, Refused, OutOfMemory}
+use Rattle.ov_run_meaning.specs.declared.strictness.Strictness.{Strictness}
+use Rattle.ov_run_meaning.specs.declared.strictness.Strictness.TheVariants.{Strict}
 use Rattle.ov_run.proofs.Printing.Ending.{appended_kept, err_of, failed_by, prefix_kept}
 
 -- a fault of writing is none of a refused line

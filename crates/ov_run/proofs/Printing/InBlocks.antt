@@ -8,17 +8,17 @@ use Rattle.std.proofs.KnownBytes.{Keeps-refl}
 use Rattle.std.specs.Io.KnownBytes.{append_known, Appends, Keeps}
 use Rattle.std.specs.declared.io.buffered.BufWriter.{BufWriter}
 use Rattle.ov_io.specs.Device.{AppendsPrefixOf, HoldsPrefixOf, SinkState}
-use Rattle.ov_run.specs.Ending.{Begins, Ends, HoldsBegun}
-use Rattle.ov_run.specs.Faults.{write_faults}
-use Rattle.ov_run.specs.Run.{IsRunInBlocks, IsRunOf, behind_buffer}
-use Rattle.ov_run.specs.Running.{PrintsScenario}
-use Rattle.ov_run.specs.Strict.{AcceptsScenario, StopsScenario}
+use Rattle.ov_run_meaning.specs.Ending.{Begins, Ends, HoldsBegun}
+use Rattle.ov_run_meaning.specs.Faults.{write_faults}
+use Rattle.ov_run_meaning.specs.Run.{IsRunInBlocks, IsRunOf, behind_buffer}
+use Rattle.ov_run_meaning.specs.Running.{PrintsScenario}
+use Rattle.ov_run_meaning.specs.Strict.{AcceptsScenario, StopsScenario}
 use Rattle.ov_run.specs.Code.Writing.{is_write}
-use Rattle.ov_run.specs.declared.refusal.Refusal.{Refusal}
-use Rattle.ov_run.specs.declared.run_fault.RunFault.{RunFault}
-use Rattle.ov_run.specs.declared.run_fault.RunFault.TheVariants as fault
-use Rattle.ov_run.specs.declared.run_fault.RunFault.TheVariants.{Write}
-use Rattle.ov_run.specs.declared.strictness.Strictness.{Strictness}
+use Rattle.ov_run_meaning.specs.declared.refusal.Refusal.{Refusal}
+use Rattle.ov_run_meaning.specs.declared.run_fault.RunFault.{RunFault}
+use Rattle.ov_run_meaning.specs.declared.run_fault.RunFault.TheVariants as fault
+use Rattle.ov_run_meaning.specs.declared.run_fault.RunFault.TheVariants.{Write}
+use Rattle.ov_run_meaning.specs.declared.strictness.Strictness.{Strictness}
 use Rattle.ov_run.proofs.Printing.Ending.{appended_kept, prefix_kept}
 
 -- ---- whether the writer failed

@@ -9,13 +9,13 @@ use Rattle.ov_net.specs.declared.member.Member.{Member}
 use Rattle.ov_net.specs.declared.member.Member.TheVariants.{Live, Gone}
 use Rattle.ov_peer.specs.PeerState.{PeerState}
 use Rattle.ov_snap.specs.CoreState.{CoreState}
-use Rattle.ov_run.specs.Ending.{BeginsLines, BeginsPackets, EndsLines, EndsPackets}
-use Rattle.ov_run.specs.Printed.{packet_line}
-use Rattle.ov_run.specs.Running.{PrintsLines, PrintsPackets}
-use Rattle.ov_run.specs.Strict.{AcceptsLine, AcceptsLines, GoesOn, StopsLines}
-use Rattle.ov_run.specs.declared.refusal.Refusal.{Refusal}
-use Rattle.ov_run.specs.declared.strictness.Strictness.{Strictness}
-use Rattle.ov_run.proofs.Printing.Settling.{goes_on_prints}
+use Rattle.ov_run_meaning.specs.Ending.{BeginsLines, BeginsPackets, EndsLines, EndsPackets}
+use Rattle.ov_run_meaning.specs.Printed.{packet_line}
+use Rattle.ov_run_meaning.specs.Running.{PrintsLines, PrintsPackets}
+use Rattle.ov_run_meaning.specs.Strict.{AcceptsLine, AcceptsLines, GoesOn, StopsLines}
+use Rattle.ov_run_meaning.specs.declared.refusal.Refusal.{Refusal}
+use Rattle.ov_run_meaning.specs.declared.strictness.Strictness.{Strictness}
+use Rattle.ov_run_meaning.proofs.Accepted.{goes_on_prints}
 use Rattle.ov_scenario.specs.RunLines.{FirstNeedsMemory}
 use Rattle.ov_scenario.specs.declared.scenario.Line.{Line}
 

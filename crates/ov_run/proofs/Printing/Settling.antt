@@ -11,51 +11,27 @@ use Rattle.ov_scenario.specs.declared.scenario.Line.TheVariants as line
 use Rattle.ov_scenario.specs.declared.scenario.Look.{Look}
 use Rattle.ov_scenario.specs.declared.scenario.Look.TheVariants.{Show, Packets, Certificate}
 use Rattle.ov_scenario.specs.declared.scenario.Subject.{Subject}
-use Rattle.ov_run.specs.Accepting.{HidesCertificate, HidesNode, RefusesLook, ShowsLook}
-use Rattle.ov_run.specs.Printed.{refused_line, together_line}
-use Rattle.ov_run.specs.Refusals.{number_of}
-use Rattle.ov_run.specs.Running.{PrintsCertificate, PrintsLine, PrintsLook, PrintsNode}
-use Rattle.ov_run.specs.Sections.{ToldLine, accepted_in, one_refused, refused_in}
-use Rattle.ov_run.specs.Strict.{AcceptsLine, GoesOn, IsFirstRefused, RefusesLine}
+use Rattle.ov_run_meaning.specs.Accepting.{HidesCertificate, HidesNode, RefusesLook}
+use Rattle.ov_run_meaning.specs.Printed.{refused_line, together_line}
+use Rattle.ov_run_meaning.specs.Refusals.{number_of}
+use Rattle.ov_run_meaning.specs.Running.{PrintsCertificate, PrintsLine, PrintsLook, PrintsNode}
+use Rattle.ov_run_meaning.specs.Sections.{ToldLine, accepted_in, one_refused, refused_in}
+use Rattle.ov_run_meaning.specs.Strict.{AcceptsLine, GoesOn, IsFirstRefused, RefusesLine}
 use Rattle.ov_run.specs.Code.Jobs.{joined}
 use Rattle.ov_run.specs.Code.Outcomes.{LineCame, RanAsBlock, RefusesAlone, first_refused, or_else, refusal_at}
 use Rattle.ov_run.specs.Code.Outcomes.{refused_of, rest_of, stop_of}
 use Rattle.ov_run.specs.declared.line_outcome.BlockTold.{BlockTold}
 use Rattle.ov_run.specs.declared.line_outcome.Came.{Came}
 use Rattle.ov_run.specs.declared.line_outcome.Came.TheVariants.{Alone, Block}
-use Rattle.ov_run.specs.declared.line_outcome.Outcome.{Outcome}
-use Rattle.ov_run.specs.declared.line_outcome.Outcome.TheVariants.{Accepted, Refused}
-use Rattle.ov_run.specs.declared.refusal.Refusal.{Refusal}
-use Rattle.ov_run.specs.declared.refusal.Refusal.TheVariants.{World, Core}
-use Rattle.ov_run.specs.declared.strictness.Strictness.{Strictness}
-use Rattle.ov_run.specs.declared.strictness.Strictness.TheVariants.{Lenient, Strict}
+use Rattle.ov_run_meaning.specs.declared.outcome.Outcome.{Outcome}
+use Rattle.ov_run_meaning.specs.declared.outcome.Outcome.TheVariants.{Accepted, Refused}
+use Rattle.ov_run_meaning.specs.declared.refusal.Refusal.{Refusal}
+use Rattle.ov_run_meaning.specs.declared.refusal.Refusal.TheVariants.{World, Core}
+use Rattle.ov_run_meaning.specs.declared.strictness.Strictness.{Strictness}
+use Rattle.ov_run_meaning.specs.declared.strictness.Strictness.TheVariants.{Lenient, Strict}
+use Rattle.ov_run_meaning.proofs.Accepted.{accepted_prints}
 
 -- ---- what a line prints
-
-pub look_shown : (b : CoreState) (look : Look) (text : List ℕ) → ShowsLook b look text → PrintsLook b look text
-look_shown b (Show id) text shows = inl shows
-look_shown b Packets text shows = shows
-look_shown b (Certificate subject) text (r, is, said) = inl (r, is, inl said)
-
--- a line that is accepted prints its text
-pub accepted_prints : (b : CoreState) (line : Line) (u : CoreState) (text : List ℕ) → AcceptsLine b line u text
-    → PrintsLine b line u text
-accepted_prints b (line.Event event words) u text does = inl does
-accepted_prints b (line.Look look) u text (same, shows) = (same, look_shown b look text shows)
-accepted_prints b (line.Analyse subject workers) u text files = inl files
-accepted_prints b (line.Together sections) u text (told, runs, none) = (told, runs)
-
--- any run goes on after a line that is accepted
-pub accepted_goes_on : (strictness : Strictness) (b : CoreState) (line : Line) (u : CoreState) (text : List ℕ)
-    → AcceptsLine b line u text → GoesOn strictness b line u text
-accepted_goes_on Lenient b line u text accepts = accepted_prints b line u text accepts
-accepted_goes_on Strict b line u text accepts = accepts
-
--- a line after which the run goes on prints its text
-pub goes_on_prints : (strictness : Strictness) (b : CoreState) (line : Line) (u : CoreState) (text : List ℕ)
-    → GoesOn strictness b line u text → PrintsLine b line u text
-goes_on_prints Lenient b line u text prints = prints
-goes_on_prints Strict b line u text accepts = accepted_prints b line u text accepts
 
 node_hidden : (w : Net) (id : ℕ) (refusal : Refusal) → HidesNode w id refusal
     → PrintsNode w id (refused_line (number_of refusal))

@@ -2,18 +2,18 @@
 use Rattle.std.proofs.Common.{◌≡◌, ◌+◌, inl, inr, List, ℕ, Option, Some, Result, Ok, Err, IsErrAnd, refl, sym, subst}
 use Rattle.std.proofs.Common.{ap, arith}
 use Rattle.ov_io.specs.Device.{SinkState}
-use Rattle.ov_run.specs.Ending.{Begins, Ends}
-use Rattle.ov_run.specs.Faults.{write_faults}
-use Rattle.ov_run.specs.Run.{IsRunOf}
-use Rattle.ov_run.specs.Running.{PrintsScenario}
-use Rattle.ov_run.specs.Strict.{AcceptsScenario, StopsScenario}
+use Rattle.ov_run_meaning.specs.Ending.{Begins, Ends}
+use Rattle.ov_run_meaning.specs.Faults.{write_faults}
+use Rattle.ov_run_meaning.specs.Run.{IsRunOf}
+use Rattle.ov_run_meaning.specs.Running.{PrintsScenario}
+use Rattle.ov_run_meaning.specs.Strict.{AcceptsScenario, StopsScenario}
 use Rattle.ov_run.specs.Code.Writing.{IsOfRunning, IsBeforeLines}
-use Rattle.ov_run.specs.declared.refusal.Refusal.{Refusal}
-use Rattle.ov_run.specs.declared.run_fault.RunFault.{RunFault}
-use Rattle.ov_run.specs.declared.run_fault.RunFault.TheVariants as fault
-use Rattle.ov_run.specs.declared.run_fault.RunFault.TheVariants.{Write, Refused, OutOfMemory}
-use Rattle.ov_run.specs.declared.strictness.Strictness.{Strictness}
-use Rattle.ov_run.specs.declared.strictness.Strictness.TheVariants.{Strict}
+use Rattle.ov_run_meaning.specs.declared.refusal.Refusal.{Refusal}
+use Rattle.ov_run_meaning.specs.declared.run_fault.RunFault.{RunFault}
+use Rattle.ov_run_meaning.specs.declared.run_fault.RunFault.TheVariants as fault
+use Rattle.ov_run_meaning.specs.declared.run_fault.RunFault.TheVariants.{Write, Refused, OutOfMemory}
+use Rattle.ov_run_meaning.specs.declared.strictness.Strictness.{Strictness}
+use Rattle.ov_run_meaning.specs.declared.strictness.Strictness.TheVariants.{Strict}
 use Rattle.ov_run.proofs.Printing.Ending.{err_of, failed_by}
 use Rattle.ov_run.proofs.Printing.HandedOn.{holds_of, refused_in_err}
 

@@ -1,8 +1,8 @@
 -- The jobs of the drivers in a block, and what came of each.
 use Rattle.std.specs.Prelude.{ℕ, ◌≤◌, List, [], ◌∷◌, flat_map, length}
 use Rattle.ov_ids.specs.ParamsState.{ParamsState}
-use Rattle.ov_hall.specs.declared.ghost_views.Ticket.{Ticket}
-use Rattle.ov_run.specs.Sections.{RunsSection, ToldLine}
+use Rattle.ov_snap.specs.declared.driver_log.Ticket.{Ticket}
+use Rattle.ov_run_meaning.specs.Sections.{RunsSection, ToldLine}
 use Rattle.ov_scenario.specs.Sections.{SectionLine}
 use Rattle.ov_scenario.specs.declared.scenario.Line.{Line}
 use Rattle.ov_scenario.specs.declared.scenario.Line.TheVariants as line

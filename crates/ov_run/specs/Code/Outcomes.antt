@@ -7,26 +7,26 @@ use Rattle.ov_io.specs.Device.{SinkState}
 use Rattle.ov_snap.specs.CoreState.{CoreState}
 use Rattle.ov_scenario.specs.declared.scenario.Line.{Line}
 use Rattle.ov_scenario.specs.declared.scenario.Line.TheVariants as line
-use Rattle.ov_run.specs.Accepting.{RefusesAnalysis, RefusesEvent, RefusesLook}
-use Rattle.ov_run.specs.Ending.{BeginsLines, EndsLine, EndsLines}
-use Rattle.ov_run.specs.Faults.{write_faults}
-use Rattle.ov_run.specs.Printed.{refused_line, together_line}
-use Rattle.ov_run.specs.Refusals.{number_of}
-use Rattle.ov_run.specs.Running.{PrintsLines}
-use Rattle.ov_run.specs.Sections.{RunTogether, ToldLine, accepted_in, refused_in}
-use Rattle.ov_run.specs.Strict.{AcceptsLine, AcceptsLines, StopsLines}
+use Rattle.ov_run_meaning.specs.Accepting.{RefusesAnalysis, RefusesEvent, RefusesLook}
+use Rattle.ov_run_meaning.specs.Ending.{BeginsLines, EndsLine, EndsLines}
+use Rattle.ov_run_meaning.specs.Faults.{write_faults}
+use Rattle.ov_run_meaning.specs.Printed.{refused_line, together_line}
+use Rattle.ov_run_meaning.specs.Refusals.{number_of}
+use Rattle.ov_run_meaning.specs.Running.{PrintsLines}
+use Rattle.ov_run_meaning.specs.Sections.{RunTogether, ToldLine, accepted_in, refused_in}
+use Rattle.ov_run_meaning.specs.Strict.{AcceptsLine, AcceptsLines, StopsLines}
 use Rattle.ov_run.specs.Code.Jobs.{joined}
 use Rattle.ov_run.specs.Code.Writing.{IsOfRunning, IsOfWriting, Writes, WritesPrefix}
 use Rattle.ov_run.specs.declared.line_outcome.BlockTold.{BlockTold}
 use Rattle.ov_run.specs.declared.line_outcome.Came.{Came}
 use Rattle.ov_run.specs.declared.line_outcome.Came.TheVariants.{Alone, Block}
-use Rattle.ov_run.specs.declared.line_outcome.Outcome.{Outcome}
-use Rattle.ov_run.specs.declared.line_outcome.Outcome.TheVariants.{Accepted, Refused}
-use Rattle.ov_run.specs.declared.refusal.Refusal.{Refusal}
-use Rattle.ov_run.specs.declared.run_fault.RunFault.{RunFault}
-use Rattle.ov_run.specs.declared.run_fault.RunFault.TheVariants as fault
-use Rattle.ov_run.specs.declared.strictness.Strictness.{Strictness}
-use Rattle.ov_run.specs.declared.strictness.Strictness.TheVariants.{Lenient, Strict}
+use Rattle.ov_run_meaning.specs.declared.outcome.Outcome.{Outcome}
+use Rattle.ov_run_meaning.specs.declared.outcome.Outcome.TheVariants.{Accepted, Refused}
+use Rattle.ov_run_meaning.specs.declared.refusal.Refusal.{Refusal}
+use Rattle.ov_run_meaning.specs.declared.run_fault.RunFault.{RunFault}
+use Rattle.ov_run_meaning.specs.declared.run_fault.RunFault.TheVariants as fault
+use Rattle.ov_run_meaning.specs.declared.strictness.Strictness.{Strictness}
+use Rattle.ov_run_meaning.specs.declared.strictness.Strictness.TheVariants.{Lenient, Strict}
 
 -- ---- one line
 

@@ -2,10 +2,10 @@
 use Rattle.std.specs.Prelude.{◌≡◌, ◌⊎◌, ℕ, Bool, true, false, List, Option, Some, Result, Err}
 use Rattle.std.specs.Io.KnownBytes.{Appends}
 use Rattle.ov_io.specs.Device.{AppendsPrefixOf}
-use Rattle.ov_run.specs.declared.run_fault.RunFault.{RunFault}
-use Rattle.ov_run.specs.Faults.{IsAnalysisFault, IsRunFault}
-use Rattle.ov_run.specs.declared.refusal.Refusal.{Refusal}
-use Rattle.ov_run.specs.declared.run_fault.RunFault.TheVariants.{Read, Write, OutOfMemory, Refused}
+use Rattle.ov_run_meaning.specs.declared.run_fault.RunFault.{RunFault}
+use Rattle.ov_run_meaning.specs.Faults.{IsRunFault}
+use Rattle.ov_run_meaning.specs.declared.refusal.Refusal.{Refusal}
+use Rattle.ov_run_meaning.specs.declared.run_fault.RunFault.TheVariants.{Read, Write, OutOfMemory, Refused}
 
 -- the writer took a whole text of this kind
 abbrev pub Writes : (List ℕ → Type 0) → Option (List ℕ) → Option (List ℕ) → Type 0
@@ -27,13 +27,6 @@ IsOfWriting fault = (fault ≡ Write) ⊎ (fault ≡ OutOfMemory)
 -- the writer failed, an allocation was refused, or a line was refused
 abbrev pub IsOfRunning : RunFault → Type 0
 IsOfRunning fault = IsOfWriting fault ⊎ ((n : ℕ) × (refusal : Refusal) × (fault ≡ Refused n refusal))
-
--- what the making of a text of a graph file returns: the file's fault, or out of memory
-abbrev pub IsTextFault : List ℕ → RunFault → Type 0
-IsTextFault bytes Read = ⊥
-IsTextFault bytes Write = ⊥
-IsTextFault bytes (Refused n refusal) = ⊥
-IsTextFault bytes other = IsAnalysisFault (Some bytes) other
 
 -- a run that returns this fault before any line ran: the file's fault, or out of memory
 pub record IsBeforeLines (bytes : List ℕ) (f : RunFault) : Type 0 where

@@ -12,10 +12,11 @@ settle_nodes,settle_k,settle_least_degree,settle_links,settle_entries,settle_del
 crash_nodes,crash_k,crash_least_degree,crash_links,crash_entries,crash_delivered,\
 heal_nodes,heal_k,heal_least_degree,heal_links,heal_entries,heal_delivered\n";
 
-/// Two rows: no two options of the first one have the same number, and all of the second one are at their defaults.
+/// Two rows: no two options of the first one have the same number, one of its columns has the highest that there is, and
+/// all options of the second one are at their defaults.
 const ROWS: [&str; 2] = [
     "60,4,20,6,2,1,3,5,8,9,11,oldest,7,12,cut,13,10,18446744073709551615,\
-     60,2,3,171,1834,0.9950,58,0,1,160,1836,0.0000,58,3,3,172,2100,1.0000\n",
+     60,2,3,171,1834,0.9950,58,0,1,160,1836,0.0000,58,3,3,4294967295,2100,1.0000\n",
     "100,5,30,6,3,3,4,4,0,0,0,random,,3,0,2,0,0,100,0,0,200,2000,,100,0,0,200,2000,,100,1,1,210,3000,\n",
 ];
 
@@ -62,7 +63,7 @@ fn first_row(options: GrowOptions) -> Row {
         phases: [
             delivered(phase(60, 2, 3, 171, 1834), 597),
             delivered(phase(58, 0, 1, 160, 1836), 0),
-            delivered(phase(58, 3, 3, 172, 2100), 580),
+            delivered(phase(58, 3, 3, u32::MAX, 2100), 580),
         ],
     }
 }

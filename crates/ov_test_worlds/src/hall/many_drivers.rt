@@ -1,6 +1,6 @@
 //! As many drivers as a hall can have.
 ghost use Rattle.std.specs.Prelude.{◌≡◌, IfOk, map};
-ghost use Rattle.ov_hall.specs.declared.ghost_views.Ticket.{Ticket};
+ghost use Rattle.ov_snap.specs.declared.driver_log.Ticket.{Ticket};
 
 use ov_hall::{Hall, HallName, Opening, Pass, Whole};
 use ov_ids::{NodeId, OutOfMemory, Params};

@@ -1,4 +1,4 @@
--- the pieces so far, their tokens, what is left, and whether it stands behind a word
+-- the parts so far, their tokens, what is left, and whether it stands behind a word
 use Rattle.std.proofs.Common.{length}
 use Rattle.ov_dot.specs.Tokens.{lexemes}
 use Rattle.ov_dot.proofs.Cutting.{SoFar}

@@ -1,5 +1,5 @@
 use Rattle.std.specs.Prelude.{[], ◌∷◌, ◌++◌}
-use Rattle.ov_hall.specs.Logs.{mark}
+use Rattle.ov_snap.specs.Logs.{mark}
 use Rattle.ov_hall.specs.Code.Rules.{log_in}
 use Rattle.ov_hall.proofs.count_rule.add.Given as goal
 

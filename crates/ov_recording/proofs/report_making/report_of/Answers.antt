@@ -1,6 +1,6 @@
 -- A report that is filed refuses the analysis, and no refusal stands for the report of what it was given.
 use Rattle.std.proofs.Common.{◌∙◌, None, Ok, refl, sym}
-use Rattle.ov_run.proofs.Reports.Filed.{begun, job_filed}
+use Rattle.ov_run_meaning.proofs.Reports.Filed.{begun, job_filed}
 use Rattle.ov_recording.specs.Recordings.{all_of}
 use Rattle.ov_recording.proofs.Reporting.{none_filed, refused_again}
 use Rattle.ov_recording.proofs.report_making.report_of.Goals as goal

@@ -1,7 +1,7 @@
 -- What was read is a scenario, and what it prints was written; if the run ended early, a prefix of it.
 use Rattle.std.proofs.Common.{rules, Err, ap, arith, refl, subst}
 use Rattle.ov_snap.specs.CoreState.{opening_core}
-use Rattle.ov_run.specs.Strict.{StopsLines}
+use Rattle.ov_run_meaning.specs.Strict.{StopsLines}
 use Rattle.ov_run.proofs.Printing.WholeRuns.{finished, stopped, without_room}
 use Rattle.ov_run.proofs.engine.run_bytes.Goals as goal
 

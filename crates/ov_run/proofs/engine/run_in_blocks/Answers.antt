@@ -4,8 +4,8 @@ use Rattle.std.specs.Io.Buffered.{writer_contents}
 use Rattle.std.specs.Io.KnownBytes.{Keeps}
 use Rattle.ov_io.specs.Device.{write_faults as sink_faults, write_number}
 use Rattle.ov_io.specs.declared.fault.WriteFault.{WriteFault}
-use Rattle.ov_run.specs.Run.{IsRunInBlocks}
-use Rattle.ov_run.specs.declared.run_fault.RunFault.{RunFault}
+use Rattle.ov_run_meaning.specs.Run.{IsRunInBlocks}
+use Rattle.ov_run_meaning.specs.declared.run_fault.RunFault.{RunFault}
 use Rattle.ov_run.proofs.Printing.InBlocks.{gave_up, handed_on, no_write_failed, not_handed_on, write_failed}
 use Rattle.ov_run.proofs.engine.run_in_blocks.Goals as goal
 

@@ -1,5 +1,6 @@
 -- What ran is the scenario of the bytes that the source had.
-use Rattle.ov_run.proofs.OfReader.{run_of_reader, no_read_fault}
+use Rattle.ov_run.proofs.OfReader.{run_of_reader}
+use Rattle.ov_run_meaning.proofs.OfReader.{no_read_fault}
 use Rattle.ov_run.proofs.engine.run_watched.Goals as goal
 
 pub returns : goal.returns

@@ -2,7 +2,7 @@
 use Rattle.std.proofs.Common.{◌≡◌, ◌+◌, [], ◌∷◌, ap, arith, drop}
 use Rattle.std.proofs.Math.ListN.{drop_of_length-le}
 use Rattle.std.proofs.lemmas.Grind.{common_steps}
-use Rattle.ov_run.specs.Sections.{accepted_in}
+use Rattle.ov_run_meaning.specs.Sections.{accepted_in}
 use Rattle.ov_run.proofs.Blocks.Counting.{both_kinds, one_most}
 use Rattle.ov_run.proofs.line_outcome.count_accepted.Goals as goal
 

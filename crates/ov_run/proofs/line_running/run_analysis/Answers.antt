@@ -1,6 +1,6 @@
 -- The line of the report was written, or a prefix of it.
 use Rattle.std.proofs.Common.{◌≡◌, ◌∙◌}
-use Rattle.ov_run.specs.Accepting.{FilesReport, RefusesAnalysis}
+use Rattle.ov_run_meaning.specs.Accepting.{FilesReport, RefusesAnalysis}
 use Rattle.ov_run.proofs.Printing.Outcomes.{begun, done}
 use Rattle.ov_run.proofs.line_running.run_analysis.Goals as goal
 

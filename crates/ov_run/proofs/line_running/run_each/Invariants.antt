@@ -2,7 +2,7 @@
 use Rattle.std.proofs.Common.{◌≡◌, ◌≤◌, ℕ, List, length}
 use Rattle.std.specs.Io.KnownBytes.{Appends}
 use Rattle.ov_scenario.specs.RunLines.{drivers_for}
-use Rattle.ov_run.specs.declared.strictness.Strictness.TheVariants.{Strict}
+use Rattle.ov_run_meaning.specs.declared.strictness.Strictness.TheVariants.{Strict}
 use Rattle.ov_run.proofs.Printing.Running.{AcceptedSoFar, SoFar}
 use Rattle.ov_run.proofs.line_running.run_each.Given as goal
 

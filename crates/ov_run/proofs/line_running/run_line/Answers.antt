@@ -4,11 +4,11 @@ use Rattle.std.proofs.Common.{Err}
 use Rattle.ov_snap.specs.CoreState.{CoreState}
 use Rattle.ov_scenario.specs.declared.scenario.Line.{Line}
 use Rattle.ov_scenario.specs.declared.scenario.Line.TheVariants as line
-use Rattle.ov_run.specs.Accepting.{FilesReport, RefusesAnalysis}
+use Rattle.ov_run_meaning.specs.Accepting.{FilesReport, RefusesAnalysis}
 use Rattle.ov_run.specs.Code.Jobs.{HasDrivers}
 use Rattle.ov_run.specs.Code.Outcomes.{LineCame}
 use Rattle.ov_run.specs.declared.line_outcome.Came.TheVariants.{Alone, Block}
-use Rattle.ov_run.specs.declared.strictness.Strictness.TheVariants.{Strict}
+use Rattle.ov_run_meaning.specs.declared.strictness.Strictness.TheVariants.{Strict}
 use Rattle.ov_run.proofs.Printing.Ending.{kept_prefix, whole}
 use Rattle.ov_run.proofs.Printing.OneLine.{RanWith, at_a_write, block_came, block_ended, ended_by, event_ended}
 use Rattle.ov_run.proofs.Printing.OneLine.{look_begun, look_came, not_handed_on, ran_as}

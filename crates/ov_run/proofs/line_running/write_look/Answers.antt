@@ -4,8 +4,8 @@ use Rattle.std.proofs.KnownBytes.{Appends-nil}
 use Rattle.ov_net.specs.Net.{LivesAs}
 use Rattle.ov_net.specs.World.{WorldState}
 use Rattle.ov_peer.specs.PeerState.{PeerState}
-use Rattle.ov_run.specs.Accepting.{HidesNode, ShowsLook, ShowsNode}
-use Rattle.ov_run.specs.Ending.{BeginsLook, EndsLook}
+use Rattle.ov_run_meaning.specs.Accepting.{HidesNode, ShowsLook, ShowsNode}
+use Rattle.ov_run_meaning.specs.Ending.{BeginsLook, EndsLook}
 use Rattle.ov_run.specs.Code.Outcomes.{WritesOutcome}
 use Rattle.ov_run.proofs.Printing.Outcomes.{begun_as, begun_so}
 use Rattle.ov_run.proofs.line_running.write_look.Goals as goal

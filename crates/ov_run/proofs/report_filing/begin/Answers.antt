@@ -1,6 +1,6 @@
 -- The analysis of a subject begins, or is refused, as that of all nodes of the moment or of the group.
 use Rattle.std.proofs.Common.{◌∙◌, None, Some, ap, sym}
-use Rattle.ov_run.proofs.Reports.Filed.{begun, not_begun}
+use Rattle.ov_run_meaning.proofs.Reports.Filed.{begun, not_begun}
 use Rattle.ov_run.proofs.report_filing.begin.Goals as goal
 
 pub returns-in-None-clause-judged : goal.returns-in-None-clause-judged

@@ -6,8 +6,8 @@ use Rattle.ov_snap.specs.CoreState.{CoreState}
 use Rattle.ov_snap.specs.declared.fault.CoreFault.{CoreFault}
 use Rattle.ov_snap.specs.declared.fault.CoreFault.TheVariants.{OutOfMemory}
 use Rattle.ov_snap.specs.Refusals.{FilingJudged}
-use Rattle.ov_run.specs.Subjects.{AnalysisJudged}
-use Rattle.ov_run.proofs.Reports.Filed.{filing_refused}
+use Rattle.ov_run_meaning.specs.Subjects.{AnalysisJudged}
+use Rattle.ov_run_meaning.proofs.Reports.Filed.{filing_refused}
 use Rattle.ov_run.proofs.report_filing.file_analysis.Goals as goal
 
 pub returns-in_err-line-clause-refused : goal.returns-in_err-line-clause-refused

@@ -1,5 +1,5 @@
 -- No refusal stands for the report of what the analysis was given.
-use Rattle.ov_run.proofs.Reports.Filed.{job_filed}
+use Rattle.ov_run_meaning.proofs.Reports.Filed.{job_filed}
 use Rattle.ov_run.proofs.report_filing.report_for.Goals as goal
 
 pub returns-clause-filing : goal.returns-clause-filing

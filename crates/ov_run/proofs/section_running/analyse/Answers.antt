@@ -1,7 +1,7 @@
 -- The analysis began, and its report was filed or not.
 use Rattle.std.proofs.Common.{IfOk, subst}
-use Rattle.ov_hall.specs.Logs.{core_made}
-use Rattle.ov_hall.specs.Passes.{HasBegun}
+use Rattle.ov_snap.specs.Logs.{core_made}
+use Rattle.ov_snap.specs.DriverSteps.{HasBegun}
 use Rattle.ov_run.proofs.Blocks.SectionLines.{analysed, not_analysed}
 use Rattle.ov_run.proofs.section_running.analyse.Goals as goal
 

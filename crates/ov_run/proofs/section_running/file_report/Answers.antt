@@ -1,5 +1,5 @@
 -- The report was filed, or refused.
-use Rattle.ov_run.specs.Sections.{IsReportOn}
+use Rattle.ov_run_meaning.specs.Sections.{IsReportOn}
 use Rattle.ov_run.proofs.Blocks.SectionLines.{files, files_not}
 use Rattle.ov_run.proofs.section_running.file_report.Goals as goal
 

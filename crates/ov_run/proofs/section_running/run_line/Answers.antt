@@ -1,6 +1,6 @@
 -- What came of the line is told of it.
 use Rattle.std.proofs.Common.{subst}
-use Rattle.ov_run.specs.Sections.{RunsLine}
+use Rattle.ov_run_meaning.specs.Sections.{RunsLine}
 use Rattle.ov_run.proofs.Blocks.SectionLines.{told_as}
 use Rattle.ov_scenario.specs.Sections.{SectionLine}
 use Rattle.ov_run.proofs.section_running.run_line.Goals as goal

@@ -1,6 +1,6 @@
 -- One line more, and all of them.
 use Rattle.std.proofs.Common.{◌≡◌, ◌∙◌, ◌++◌, ◌∷◌, [], List, ap, arith, length, length-append, subst, sym}
-use Rattle.ov_run.specs.Sections.{RunsSection, ToldLine}
+use Rattle.ov_run_meaning.specs.Sections.{RunsSection, ToldLine}
 use Rattle.ov_run.proofs.Blocks.SectionLines.{SectionSoFar, section_ended, section_more}
 use Rattle.ov_run.proofs.section_running.run_section.Goals as goal
 

@@ -3,7 +3,7 @@ use Rattle.std.proofs.Common.{◌≡◌, ◌+◌, [], ◌∷◌, ap, arith, drop
 use Rattle.std.proofs.Math.ListN.{drop_of_length-le}
 use Rattle.std.proofs.lemmas.Grind.{common_steps}
 use Rattle.ov_run.specs.Code.Jobs.{joined}
-use Rattle.ov_run.specs.Sections.{accepted_in, refused_in}
+use Rattle.ov_run_meaning.specs.Sections.{accepted_in, refused_in}
 use Rattle.ov_run.proofs.Blocks.Counting.{accepted_joined, refused_joined}
 use Rattle.ov_run.proofs.sections_at_once.counted.Goals as goal
 

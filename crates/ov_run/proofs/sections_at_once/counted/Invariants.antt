@@ -1,7 +1,7 @@
 -- so many lines of the sections so far, and those of the sections that are left
 use Rattle.std.proofs.Common.{◌≡◌, ◌≤◌, ◌+◌, ◌*◌, drop}
 use Rattle.ov_run.specs.Code.Jobs.{joined}
-use Rattle.ov_run.specs.Sections.{accepted_in, refused_in}
+use Rattle.ov_run_meaning.specs.Sections.{accepted_in, refused_in}
 use Rattle.ov_run.proofs.sections_at_once.counted.Given as goal
 
 abbrev pub invariant-loop-own : goal.invariant-loop-own

@@ -2,7 +2,7 @@
 use Rattle.std.proofs.Common.{◌≡◌, ◌∙◌, ap, length, arith}
 use Rattle.ov_net.specs.World.{WorldState}
 use Rattle.ov_snap.proofs.Moments.{moment_within}
-use Rattle.ov_run.specs.Accepting.{HidesCertificate, ShowsCertificate}
+use Rattle.ov_run_meaning.specs.Accepting.{HidesCertificate, ShowsCertificate}
 use Rattle.ov_run.proofs.Printing.Outcomes.{begun, done}
 use Rattle.ov_run.proofs.sink_writing.write_certificate.Goals as goal
 

@@ -1,6 +1,6 @@
 -- The line of a node that lives was written, or a prefix of it.
 use Rattle.std.proofs.Common.{refl}
-use Rattle.ov_run.specs.Accepting.{HidesNode, ShowsNode}
+use Rattle.ov_run_meaning.specs.Accepting.{HidesNode, ShowsNode}
 use Rattle.ov_run.proofs.Printing.Outcomes.{begun, done}
 use Rattle.ov_run.proofs.sink_writing.write_node.Goals as goal
 

@@ -1,7 +1,7 @@
 -- what was printed so far, of the packets before this place
 use Rattle.std.proofs.Common.{◌≡◌, ◌++◌, ℕ, List, length, map}
 use Rattle.std.specs.Io.KnownBytes.{Appends}
-use Rattle.ov_run.specs.Running.{PrintsPackets}
+use Rattle.ov_run_meaning.specs.Running.{PrintsPackets}
 use Rattle.ov_run.proofs.sink_writing.write_packets.Given as goal
 
 abbrev pub invariant-loop-packet : goal.invariant-loop-packet

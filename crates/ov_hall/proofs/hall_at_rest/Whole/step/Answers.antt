@@ -1,5 +1,5 @@
 use Rattle.std.proofs.Common.{ap, false, sym}
-use Rattle.ov_hall.specs.Logs.{core_made}
+use Rattle.ov_snap.specs.Logs.{core_made}
 use Rattle.ov_hall.specs.Passes.{first_seen}
 use Rattle.ov_hall.proofs.SoleHand.{exact, happened_as, marked}
 use Rattle.ov_hall.proofs.Histories.{if_ok}

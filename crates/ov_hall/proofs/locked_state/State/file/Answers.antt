@@ -4,7 +4,7 @@ use Rattle.ov_ids.specs.FaultOrder.{IsRefusedBy}
 use Rattle.ov_snap.specs.Filing.{WasFiled}
 use Rattle.ov_snap.specs.Refusals.{FilingJudged}
 use Rattle.ov_snap.specs.declared.fault.CoreFault.TheVariants.{OutOfMemory}
-use Rattle.ov_hall.specs.Logs.{core_made, mark}
+use Rattle.ov_snap.specs.Logs.{core_made, mark}
 use Rattle.ov_hall.specs.Passes.{having_seen, standing_for}
 use Rattle.ov_hall.specs.Code.Rules.{log_in}
 use Rattle.ov_hall.proofs.Histories.{history_more, keeps_as, log_more, low_driver, of_hall_seen, stands_as}

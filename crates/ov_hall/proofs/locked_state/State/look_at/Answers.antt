@@ -1,5 +1,5 @@
 use Rattle.std.proofs.Common.{◌∙◌, ap}
-use Rattle.ov_hall.specs.Logs.{core_made}
+use Rattle.ov_snap.specs.Logs.{core_made}
 use Rattle.ov_hall.specs.Passes.{having_seen}
 use Rattle.ov_hall.specs.Code.Rules.{log_in}
 use Rattle.ov_hall.proofs.Histories.{of_hall_seen, stands_as}

@@ -1,7 +1,7 @@
 use Rattle.std.proofs.Common.{◌<◌, [], ◌∷◌, ◌++◌, ◌∙◌, ap, sym, subst, false}
 use Rattle.std.proofs.lemmas.List.{append-nil}
 use Rattle.ov_snap.specs.Run.{Happened}
-use Rattle.ov_hall.specs.Logs.{core_made, mark}
+use Rattle.ov_snap.specs.Logs.{core_made, mark}
 use Rattle.ov_hall.specs.Passes.{having_seen, standing_for}
 use Rattle.ov_hall.specs.Code.Rules.{log_in}
 use Rattle.ov_hall.proofs.Histories.{history_more, keeps_as, log_more, low_driver, of_hall_seen, stands_as}

@@ -1,5 +1,5 @@
 use Rattle.std.proofs.Common.{◌∙◌, ap, sym}
-use Rattle.ov_hall.specs.Logs.{core_made}
+use Rattle.ov_snap.specs.Logs.{core_made}
 use Rattle.ov_hall.proofs.PassCalls as pass
 use Rattle.ov_hall.proofs.shared_hall.Hall.look_at.Given as given
 use Rattle.ov_hall.proofs.shared_hall.Hall.look_at.Goals as goal

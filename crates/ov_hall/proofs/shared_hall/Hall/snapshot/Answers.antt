@@ -1,6 +1,6 @@
 use Rattle.std.proofs.Common.{refl, subst, IfOk}
 use Rattle.ov_net.specs.declared.event.Event.TheVariants as event
-use Rattle.ov_hall.specs.Passes.{HasStepped}
+use Rattle.ov_snap.specs.DriverSteps.{HasStepped}
 use Rattle.ov_hall.proofs.shared_hall.Hall.snapshot.Goals as goal
 
 pub returns-in-Ok-clause-happened : goal.returns-in-Ok-clause-happened

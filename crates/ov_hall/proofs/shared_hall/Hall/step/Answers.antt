@@ -1,6 +1,6 @@
 use Rattle.std.proofs.Common.{length, subst, sym}
 use Rattle.ov_net.specs.Refusals.{IsRefusal}
-use Rattle.ov_hall.specs.Logs.{IsLog, core_made}
+use Rattle.ov_snap.specs.Logs.{IsLog, core_made}
 use Rattle.ov_hall.proofs.Histories.{if_err, if_err_and, if_ok}
 use Rattle.ov_hall.proofs.PassCalls as pass
 use Rattle.ov_hall.proofs.shared_hall.Hall.step.Given as given

@@ -1,5 +1,5 @@
 use Rattle.std.proofs.Common.{◌≡◌, ◌++◌, ◌∙◌, ap, map, subst, sym}
-use Rattle.ov_hall.specs.Logs.{IsLog}
+use Rattle.ov_snap.specs.Logs.{IsLog}
 use Rattle.ov_hall.specs.Passes.{AllBegin, seen_alike}
 use Rattle.ov_hall.proofs.Alike.{drivers_seen, sole_after, sole_first}
 use Rattle.ov_hall.proofs.shared_hall.Hall.unite.Given as given

@@ -6,8 +6,8 @@ use Rattle.ov_scenario.specs.declared.scenario.Line.TheVariants as line
 use Rattle.ov_snap.specs.ReportState.{ReportState}
 use Rattle.ov_snap.specs.declared.fault.CoreFault.{CoreFault}
 use Rattle.ov_snap.specs.declared.fault.CoreFault.TheVariants.{OutOfMemory}
-use Rattle.ov_run.specs.Subjects.{AnalysisJudged, WasAnalysed}
-use Rattle.ov_run.proofs.Reports.Filed.{filing_refused}
+use Rattle.ov_run_meaning.specs.Subjects.{AnalysisJudged, WasAnalysed}
+use Rattle.ov_run_meaning.proofs.Reports.Filed.{filing_refused}
 use Rattle.ov_recording.specs.Recordings.{RecordingState, all_of}
 use Rattle.ov_recording.proofs.Making.{made_more, made_room}
 use Rattle.ov_recording.proofs.recording.Recording.analyse.Goals as goal

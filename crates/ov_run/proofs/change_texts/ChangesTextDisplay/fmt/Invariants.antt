@@ -1,7 +1,7 @@
 -- what has been written of the changes so far
 use Rattle.std.proofs.Common.{flat_map, take}
 use Rattle.std.specs.Fmt.{HasWritten, IsPlainFormatter}
-use Rattle.ov_run.specs.Printed.{change_text}
+use Rattle.ov_run_meaning.specs.Printed.{change_text}
 use Rattle.ov_run.proofs.change_texts.ChangesTextDisplay.fmt.Given as goal
 
 abbrev pub invariant-loop-change : goal.invariant-loop-change

@@ -1,7 +1,7 @@
 -- What is left of the kept reports, one after another.
 use Rattle.std.proofs.Common.{◌∙◌, All, arith, subst, sym}
 use Rattle.ov_run.specs.Code.Recent.{HasAnswer}
-use Rattle.ov_run.proofs.Reports.Recent.{IsLeft, left_begun, left_first, left_more, left_none}
+use Rattle.ov_run.proofs.Recent.{IsLeft, left_begun, left_first, left_more, left_none}
 use Rattle.ov_run.proofs.recent_reports.RecentReports.find.Goals as goal
 
 pub loop-first-init : goal.loop-first-init

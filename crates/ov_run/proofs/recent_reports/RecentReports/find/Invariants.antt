@@ -1,6 +1,6 @@
 -- Those that are left have answers, and each kept report about the graph and the group is among them.
 use Rattle.std.proofs.Common.{length}
-use Rattle.ov_run.proofs.Reports.Recent.{IsLeft}
+use Rattle.ov_run.proofs.Recent.{IsLeft}
 use Rattle.ov_run.proofs.recent_reports.RecentReports.find.Given as goal
 
 abbrev pub invariant-loop-first : goal.invariant-loop-first

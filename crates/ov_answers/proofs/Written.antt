@@ -1,0 +1,73 @@
+-- What was written of the analysis of a graph file, and how one is refused.
+use Rattle.std.proofs.Common.{◌≡◌, ◌⊎◌, ◌+◌, inl, inr, ℕ, Bool, List, Option, Some, Err, refl, sym, subst, arith}
+use Rattle.std.specs.Io.KnownBytes.{Appends}
+use Rattle.ov_graph.specs.Links.{LinkGraph}
+use Rattle.ov_ids.specs.FaultOrder.{IsRefusedBy}
+use Rattle.ov_io.specs.Device.{AppendsPrefixOf, SinkState}
+use Rattle.ov_even.specs.Faults.{GroupJudged}
+use Rattle.ov_even.specs.declared.fault.AnalyseFault.{AnalyseFault}
+use Rattle.ov_even.specs.declared.fault.AnalyseFault.TheVariants as analysis
+use Rattle.ov_run_meaning.specs.declared.run_fault.RunFault.{RunFault}
+use Rattle.ov_run_meaning.specs.declared.run_fault.RunFault.TheVariants as fault
+use Rattle.ov_answers.specs.Analysing.{IsAnalysis, PrintsAnalysis, BeginsAnalysis, IsAnalysisOf}
+use Rattle.ov_answers.specs.Code.TextFaults.{IsTextFault}
+use Rattle.ov_answers.specs.declared.answered.Answered.{Answered}
+
+-- a refusal of an analysis is the first applicable one, or out of memory
+pub refused_or_memory :
+    (g : LinkGraph) (q : List ℕ) (f : AnalyseFault) → IsRefusedBy analysis.OutOfMemory (GroupJudged g q) f
+    → GroupJudged g q (Some f) ⊎ (f ≡ analysis.OutOfMemory)
+refused_or_memory g q f (inl judged) = inl judged
+refused_or_memory g q f (inr memory) = inr memory.0
+
+-- all of the text was written, as it was lent
+pub all_written :
+    (before after : Option (List ℕ)) (bytes text sent : List ℕ) (group : Option (List ℕ)) (certificate : Bool)
+    (answered : Answered)
+    → sent ≡ text → IsAnalysis bytes group certificate answered text → Appends before after sent
+    → PrintsAnalysis (Some bytes) group certificate answered before after
+all_written before after bytes text sent group certificate answered same analysis went =
+    (bytes, sent, refl, subst (λ t. IsAnalysis bytes group certificate answered t) (sym same) analysis, went)
+
+-- a prefix of it was
+pub begun_written :
+    (before after : Option (List ℕ)) (bytes text sent : List ℕ) (group : Option (List ℕ)) (certificate : Bool)
+    (answered : Answered)
+    → sent ≡ text → IsAnalysis bytes group certificate answered text → AppendsPrefixOf sent before after
+    → BeginsAnalysis (Some bytes) group certificate before after
+begun_written before after bytes text sent group certificate answered same analysis went =
+    (bytes, answered, sent, refl, subst (λ t. IsAnalysis bytes group certificate answered t) (sym same) analysis, went)
+
+same : (m : ℕ) → m ≡ m + 0
+same m = omega arith
+
+-- nothing was written of a file that was refused
+pub refused :
+    {W : Type 0} (bytes : List ℕ) (contents : W → Option (List ℕ)) (sink : SinkState W) (group : Option (List ℕ))
+    (certificate : Bool) (f : RunFault)
+    → IsTextFault bytes f → IsAnalysisOf (Some bytes) contents sink group certificate sink (Err f)
+refused bytes contents sink group certificate (fault.Line n) is = record {
+  prints = tt;
+  begun = inl refl;
+  sink = same sink.faults;
+  unwritten = λ other. refl;
+  fault = is;
+}
+refused bytes contents sink group certificate (fault.Params n) is = absurd is
+refused bytes contents sink group certificate (fault.Graph g line) is = record {
+  prints = tt;
+  begun = inl refl;
+  sink = same sink.faults;
+  unwritten = λ other. refl;
+  fault = is;
+}
+refused bytes contents sink group certificate fault.Read is = absurd is
+refused bytes contents sink group certificate fault.Write is = absurd is
+refused bytes contents sink group certificate (fault.Refused n refusal) is = absurd is
+refused bytes contents sink group certificate fault.OutOfMemory is = record {
+  prints = tt;
+  begun = inl refl;
+  sink = same sink.faults;
+  unwritten = λ other. refl;
+  fault = tt;
+}

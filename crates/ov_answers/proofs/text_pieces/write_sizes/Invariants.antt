@@ -1,7 +1,0 @@
--- The sizes of the pieces so far.
-use Rattle.std.proofs.Common.{◌≡◌, ◌++◌, take}
-use Rattle.ov_answers.specs.Lines.{sizes_text}
-use Rattle.ov_answers.proofs.text_pieces.write_sizes.Given as goal
-
-abbrev pub invariant-loop-place : goal.invariant-loop-place
-invariant-loop-place l = l.text.items ≡ l.fn.text.items ++ sizes_text (take l.place l.pieces)

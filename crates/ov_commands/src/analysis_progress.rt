@@ -1,0 +1,28 @@
+use crate::paced_clock::PacedClock;
+use ov_even::Watcher;
+
+/// Says on standard error which piece an analysis has come to, at the pace of `Pacing`.
+#[derive(Drop)]
+pub(crate) struct PieceProgress<'a> {
+    rt: &'a HostRuntime,
+    clock: PacedClock<'a>,
+}
+
+impl<'a> PieceProgress<'a> {
+    pub(crate) fn new(rt: &'a HostRuntime, is_asked: bool) -> PieceProgress<'a> {
+        PieceProgress {
+            rt,
+            clock: PacedClock::new(rt, is_asked),
+        }
+    }
+}
+
+impl<'a> Watcher for PieceProgress<'a> {
+    fn sees(&mut self, level: usize, place: usize, size: usize) {
+        if !self.clock.is_due() {
+            return;
+        }
+        let piece = place.saturating_add(1);
+        let _ = eprintln!(self.rt; "level {level}: piece {piece} of {size}");
+    }
+}

@@ -1,3 +1,0 @@
--- What the analysis of a graph file prints.
-pub mod Lines
-pub mod Answered

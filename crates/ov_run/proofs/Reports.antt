@@ -1,5 +1,0 @@
--- Reports of a scenario.
-pub mod BlockSteps
-pub mod Filed
-pub mod Recent
-pub mod ReportState

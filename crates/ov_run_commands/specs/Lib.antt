@@ -1,0 +1,4 @@
+pub mod GrowFaults
+pub mod Growing
+pub mod KeptRows
+pub mod Code

@@ -1,0 +1,4 @@
+-- Reports of a scenario.
+pub mod BlockSteps
+pub mod Filed
+pub mod ReportState

@@ -1,0 +1,11 @@
+pub mod Accepting
+pub mod Ending
+pub mod Faults
+pub mod Printed
+pub mod Refusals
+pub mod Run
+pub mod Running
+pub mod Sections
+pub mod Strict
+pub mod Subjects
+pub mod Theorems

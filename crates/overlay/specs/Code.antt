@@ -1,2 +1,0 @@
--- What only the contracts of private functions and the proofs use.
-pub mod Named
