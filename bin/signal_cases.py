@@ -270,6 +270,32 @@ def many_threads(lab):
         yield name, text, "2 to 64 threads", f"{most} threads"
 
 
+def blocks_of(lab):
+    """Blocks of 64 sections, of which one or two have lines: their names, what is to be seen, and their scenarios. An
+    overlay grows in the first section that has lines, and in the other one lines are refused for as long."""
+    grown = lab.run([lab.words(RUN)[0], "grow", "--nodes", "256", "--active", "16", "--heal", "0"]).out
+    grown = "".join(f"{line}\n" for line in grown.decode().splitlines() if line and line[0] not in "#ps")
+    empty, refused = "also\n" * 31, "crash 1000\n" * 60_000
+    yield "one section with lines", "one thread", f"together\n{empty}{grown}{empty}also\nend\n"
+    yield "two sections with lines", "a thread each", f"together\n{empty}{grown}{empty}also\n{refused}end\n"
+
+
+@case("workers", "sections with lines have threads", "a block of 64 sections in one of which an overlay grows, and the "
+      "same with lines in the last one, up to ten times, and the most threads that were seen",
+      "each section with lines has a thread of its own, unless only one has any (FORMATS.md, sections)")
+def threads_of_sections(lab):
+    for name, wanted, text in blocks_of(lab):
+        path, counted = os.path.join(lab.room, "block.scenario"), Counted()
+        pathlib.Path(path).write_text(text)
+        for _ in range(10 if wanted == "a thread each" else 1):
+            seen = lab.run(lab.words(RUN, path), during=counted)
+            if counted.most > 1:
+                break
+        ran = "ran whole" if seen.status == 0 and seen.out.startswith(b"together 64 accepted ") else told(seen)
+        threads = {1: "one thread", 2: "a thread each", 3: "a thread each"}.get(counted.most, f"{counted.most} threads")
+        yield name, f"{ran}, {threads}", f"ran whole, {wanted}"
+
+
 @case("workers", "a certificate is checked by several threads",
       "`overlay-check` of a certificate of a thousand entries, "
       "and the most threads that were seen",

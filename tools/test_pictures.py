@@ -230,7 +230,7 @@ class Pictures(unittest.TestCase):
     def test_each_entry_of_the_examples(self):
         paths = sorted([*ROOT.glob("examples/*.json"), DUMPS / "certificate.json"])
         held = [it for it in paths if subprocess.run([OVERLAY, "picture", it], capture_output=True).returncode == 0]
-        self.assertEqual(len(held), 9)
+        self.assertEqual(len(held), 10)
         for path in held:
             said = json.loads(path.read_text())
             entries = [((), [])]

@@ -73,6 +73,17 @@ impl<'a> RowPrinter<'a> {
         Ok(())
     }
 
+    /// Tells how far the sweep has come, once so many runs more are done.
+    fn tell(&mut self, count: usize)
+        ensures rows { self.new.kept.items ≡ self.old.kept.items }
+        ensures request { self.new.request ≡ self.old.request }
+    {
+        self.done = self.done.saturating_add(count as u64);
+        if self.done > 0 {
+            self.progress.sees(self.done, self.request.len());
+        }
+    }
+
     /// The rows that were kept.
     pub(crate) fn into_kept(self) -> Vec<Row>
         ensures { result ≡ self.entry.kept }
@@ -94,13 +105,12 @@ impl<'a> RowTaker for RowPrinter<'a> {
     ghost taken = { λ printer. kept_rows printer.request.now printer.kept.items };
 
     fn take(&mut self, rows: &[Row]) -> Result<(), SweepFault> {
-        self.print(rows)?;
-        self.keep(rows)?;
-        self.done = self.done.saturating_add(rows.len() as u64);
-        if self.done > 0 {
-            self.progress.sees(self.done, self.request.len());
+        let printed = self.print(rows);
+        if printed.is_err() {
+            return printed;
         }
-        Ok(())
+        self.tell(rows.len());
+        self.keep(rows)
     }
 }
 

@@ -6,7 +6,8 @@ use std::alloc::{AllocError, Global};
 
 /// The number of the fault of these nodes and links; 0 where there is none.
 fn number_of(alloc: Global, nodes: &[NodeId], links: &[(NodeId, NodeId)]) -> u32 {
-    match Graph::new(alloc, nodes, links) {
+    let graph = Graph::new(alloc, nodes, links);
+    match &graph {
         Ok(_) => 0,
         Err(fault) => fault.number(),
     }

@@ -102,9 +102,10 @@ fn has_words_of_fault(alloc: Global, file: &[u8], fault: &GraphFileFault) -> boo
 
 /// Whether something is said of each line of a graph file that is at fault.
 fn has_words_of_graph(alloc: Global, file: &[u8]) -> bool {
-    match read_graph(alloc, file) {
+    let read = read_graph(alloc, file);
+    match &read {
         Ok(_) => false,
-        Err(fault) => has_words_of_fault(alloc, file, &fault),
+        Err(fault) => has_words_of_fault(alloc, file, fault),
     }
 }
 

@@ -102,14 +102,17 @@ fn follow(peer: &mut Peer, input: Input, words: &Words) -> Result<Output, PeerFa
 }
 
 /// One step, where each word of the event is 5.
-fn take(alloc: Global, peer: &mut Peer, given: Given<'_>, way: Way) -> Result<Output, PeerFault> {
+fn take(
+    alloc: Global,
+    peer: &mut Peer,
+    given: Given<'_>,
+    way: Way,
+) -> Result<Result<Output, PeerFault>, Fail> {
+    let input = input_of(alloc, given)?;
     let words = Words::new([5; 64]);
-    let Ok(input) = input_of(alloc, given) else {
-        return Err(PeerFault::OutOfMemory);
-    };
     match way {
-        Way::AtOnce => peer.step(input, &words),
-        Way::PlumPlan => follow(peer, input, &words),
+        Way::AtOnce => Ok(peer.step(input, &words)),
+        Way::PlumPlan => Ok(follow(peer, input, &words)),
     }
 }
 
@@ -131,11 +134,17 @@ fn put_step(
 }
 
 /// Whether this is told of a step.
-fn does(alloc: Global, peer: &mut Peer, given: Given<'_>, way: Way, expected: &str) -> bool {
-    let answer = take(alloc, peer, given, way);
+fn does(
+    alloc: Global,
+    peer: &mut Peer,
+    given: Given<'_>,
+    way: Way,
+    expected: &str,
+) -> Result<bool, Fail> {
+    let answer = take(alloc, peer, given, way)?;
     let mut told = String::new(alloc);
     let is_told = put_step(alloc, &mut told, peer, &answer).is_ok();
-    is_told && is_spelt_as(told.as_str(), expected)
+    Ok(is_told && is_spelt_as(told.as_str(), expected))
 }
 
 /// What comes to a node; then its state afterwards, its changes, what it sends to whom, and what it delivers, where
@@ -143,10 +152,17 @@ fn does(alloc: Global, peer: &mut Peer, given: Given<'_>, way: Way, expected: &s
 type Row = (Given<'static>, &'static str);
 
 /// The node does as each row says, one after another.
-fn goes(rt: &impl Abort, alloc: Global, peer: &mut Peer, rows: &[Row], way: Way) {
+fn goes(
+    rt: &impl Abort,
+    alloc: Global,
+    peer: &mut Peer,
+    rows: &[Row],
+    way: Way,
+) -> Result<(), Fail> {
     for (given, expected) in rows {
-        assert!(rt; does(alloc, peer, *given, way, expected), "{expected}");
+        assert!(rt; does(alloc, peer, *given, way, expected)?, "{expected}");
     }
+    Ok(())
 }
 
 /// Node 1 with two active places. Word 5 picks the second of two.
@@ -223,7 +239,7 @@ static FULL_VIEW: [Row; 17] = [
 fn views_and_tree_go_together(rt: HostRuntime) -> Result<(), Fail> {
     for way in [Way::AtOnce, Way::PlumPlan] {
         let mut peer = Peer::new(rt.alloc(), NodeId(1), sized(2, 30)?);
-        goes(&rt, rt.alloc(), &mut peer, &FULL_VIEW, way);
+        goes(&rt, rt.alloc(), &mut peer, &FULL_VIEW, way)?;
     }
     Ok(())
 }
@@ -314,17 +330,15 @@ static GETS: [Row; 11] = [
 
 fn copy_goes(rt: &impl Abort, alloc: Global, peer: &Peer) -> Result<(), Fail> {
     let mut copy = peer.copy()?;
-    goes(rt, alloc, &mut copy, &GETS, Way::PlumPlan);
-    Ok(())
+    goes(rt, alloc, &mut copy, &GETS, Way::PlumPlan)
 }
 
 #[test]
 fn a_node_and_its_copy_go_their_own_ways(rt: HostRuntime) -> Result<(), Fail> {
     let mut peer = Peer::new(rt.alloc(), NodeId(2), sized(5, 30)?);
-    goes(&rt, rt.alloc(), &mut peer, &WAITS, Way::AtOnce);
+    goes(&rt, rt.alloc(), &mut peer, &WAITS, Way::AtOnce)?;
     copy_goes(&rt, rt.alloc(), &peer)?;
-    goes(&rt, rt.alloc(), &mut peer, &GETS, Way::AtOnce);
-    Ok(())
+    goes(&rt, rt.alloc(), &mut peer, &GETS, Way::AtOnce)
 }
 
 /// Node 3 becomes a neighbour.
@@ -359,17 +373,17 @@ fn brings(alloc: Global, output: &Output, head: &[u8], payload: &[u8]) -> Result
 static HEAD: [u8; 18] = [1, 9, 0, 0, 0, 1, 0, 0, 0, 1, 0, 0, 0, 0, 0, 0, 4, 0];
 
 /// The node broadcasts `MOST`, and sends one message: the head and then `MOST`.
-fn sends_most(alloc: Global, peer: &mut Peer) -> bool {
-    match take(alloc, peer, Given::Broadcast(most()), Way::AtOnce) {
-        Ok(output) => brings(alloc, &output, &HEAD, most()) == Ok(true),
-        Err(_) => false,
+fn sends_most(alloc: Global, peer: &mut Peer) -> Result<bool, Fail> {
+    match take(alloc, peer, Given::Broadcast(most()), Way::AtOnce)? {
+        Ok(output) => Ok(brings(alloc, &output, &HEAD, most())?),
+        Err(_) => Ok(false),
     }
 }
 
 #[test]
 fn a_broadcast_of_1024_bytes(rt: HostRuntime) -> Result<(), Fail> {
     let mut peer = Peer::new(rt.alloc(), NodeId(1), sized(2, 30)?);
-    goes(&rt, rt.alloc(), &mut peer, &MET, Way::AtOnce);
-    assert!(rt; sends_most(rt.alloc(), &mut peer));
+    goes(&rt, rt.alloc(), &mut peer, &MET, Way::AtOnce)?;
+    assert!(rt; sends_most(rt.alloc(), &mut peer)?);
     Ok(())
 }

@@ -90,7 +90,7 @@ fn is_cut_off(written: &[u8], story: &Story) -> bool {
 }
 
 /// What came of a run that answered so and wrote this.
-fn came(answer: Result<u8, RunFault>, written: &[u8], story: &Story) -> Came {
+fn how_it_came(answer: Result<u8, RunFault>, written: &[u8], story: &Story) -> Came {
     if answer == Ok(0) && written == story.prints.as_bytes() {
         return Came::Whole;
     }
@@ -111,7 +111,7 @@ fn came_of(
     let mut sink = Sink::new(Vec::with_capacity(rt.alloc(), 256)?);
     let mut source = Source::new(story.scenario.as_bytes());
     let answer = run(rt, rt.alloc(), &mut source, &mut sink);
-    Ok(came(answer, &sink.into_writer(), story))
+    Ok(how_it_came(answer, &sink.into_writer(), story))
 }
 
 /// Where an allocation is refused in a run, one line is refused and all else is as without it, or the run is cut off.
