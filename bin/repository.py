@@ -51,8 +51,8 @@ def gate_environment():
 
 
 def ci_takes_words():
-    """Whether the kit's `rt ci` takes words: names of crates, and `--anew`. Such a kit takes over what an earlier run has
-    proved, unless `--anew` tells it to prove that again. Other kits always prove everything from nothing."""
+    """Whether the kit's `rt ci` takes words: names of crates, and `--anew`. Such a kit takes over what an earlier run
+    has proved, unless `--anew` tells it to prove that again. Other kits always prove everything from nothing."""
     told = subprocess.run(["rt", "help"], stdin=subprocess.DEVNULL, capture_output=True, text=True)
     return "--anew" in told.stdout + told.stderr
 
@@ -99,8 +99,8 @@ def lay_out_root(room, names, top=ROOT):
 
 
 def end_with_parent():
-    """Has this process, which is about to become another program, end by SIGTERM when the one that started it ends, also
-    when that is killed."""
+    """Has this process, which is about to become another program, end by SIGTERM when the one that started it ends,
+    also when that is killed."""
     of_the_parent = 1
     ctypes.CDLL(None).prctl(of_the_parent, signal.SIGTERM, 0, 0, 0)
 
