@@ -3,10 +3,9 @@ use crate::commands::command_tree;
 use crate::taken_arguments::command;
 use clap::error::ErrorKind;
 use clap::{ArgMatches, Command};
-use ov_hints::comma_hint;
 use ov_ids::OutOfMemory;
 use ov_io::shown_name;
-use ov_lines::{read_ids, read_workers};
+use ov_lines::{comma_hint, read_ids, read_workers};
 use std::alloc::{AllocError, Global};
 use std::fmt::Write;
 

@@ -15,9 +15,9 @@ use Rattle.ov_dump.specs.Edges.{SaysEdges, IsEdgesFault}
 use Rattle.ov_dump.specs.FaultNumbers as reading
 use Rattle.ov_dump.specs.Views.{SaysViews, IsViewsFault}
 use Rattle.ov_dump.specs.declared.reading_fault.ReadingFault.TheVariants as reading_fault
-use Rattle.ov_hints.specs.FileKinds.{kind_of}
-use Rattle.ov_hints.specs.declared.file_kinds.FileKind.{FileKind}
-use Rattle.ov_hints.specs.declared.file_kinds.FileKind.TheVariants as kind
+use Rattle.ov_lines.specs.FileKinds.{kind_of}
+use Rattle.ov_lines.specs.declared.file_kinds.FileKind.{FileKind}
+use Rattle.ov_lines.specs.declared.file_kinds.FileKind.TheVariants as kind
 use Rattle.ov_dump.specs.Importing.{WasImported}
 use Rattle.ov_dump.specs.declared.import_fault.ImportFault.{ImportFault}
 use Rattle.ov_dump.specs.declared.import_fault.ImportFault.TheVariants as import

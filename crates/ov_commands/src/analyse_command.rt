@@ -12,7 +12,7 @@ use crate::named_analysis::analyse_in_words;
 use crate::tips::print_unread_tip;
 use ov_answers::{Answered, analyse_bytes};
 use ov_arguments::AnalysisRequest;
-use ov_hints::FileKind;
+use ov_lines::FileKind;
 use ov_ids::NodeId;
 use ov_io::Sink;
 use ov_reasons::group_reason;

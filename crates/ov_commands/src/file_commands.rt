@@ -3,7 +3,7 @@ ghost use Rattle.std.specs.Prelude.{◌≡◌, ◌<◌, option_map, IfOk};
 ghost use Rattle.ov_commands.specs.Dumps.{WasDumpPrinted};
 ghost use Rattle.ov_commands.specs.Pictures.{WasPicturePrinted, chosen_entry};
 ghost use Rattle.ov_commands.specs.Printing.{WasGraphPrinted};
-ghost use Rattle.ov_hints.specs.FileKinds.{behind_mark};
+ghost use Rattle.ov_lines.specs.FileKinds.{behind_mark};
 ghost use Rattle.ov_io.specs.Device.{most_faults};
 ghost use Rattle.ov_commands.specs.Statuses.{HasDone, command_status};
 
@@ -15,7 +15,7 @@ use crate::input_reading::{bytes_asked, bytes_of_file};
 use crate::picture_printing::print_picture;
 use crate::tips::print_file_tip;
 use ov_arguments::{ImportRequest, PictureRequest};
-use ov_hints::{FileKind, behind_mark};
+use ov_lines::{FileKind, behind_mark};
 use ov_io::Sink;
 use ov_run_meaning::RunFault;
 use std::io::Write;

@@ -12,7 +12,7 @@ use ov_dump::{
     Choice, Dump, DumpFault, ImportFault, ReadingFault, import_dump, import_notes, read_edges,
     read_views,
 };
-use ov_hints::{FileKind, looks_like};
+use ov_lines::{FileKind, looks_like};
 use ov_io::Sink;
 use std::alloc::Global;
 use std::io::Write;

@@ -19,7 +19,7 @@ use ov_check::{Outcome, outcome_of};
 use ov_check_reasons::reasons;
 use ov_graph::Graph;
 use ov_graphfile::{GraphFileFault, read_graph, read_names};
-use ov_hints::FileKind;
+use ov_lines::FileKind;
 use ov_ids::OutOfMemory;
 use ov_io::Sink;
 use ov_picture::{ChosenEntry, Drawing, PictureFault, dot, draw, svg};

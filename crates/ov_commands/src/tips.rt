@@ -1,5 +1,5 @@
 use ov_arguments::is_command;
-use ov_hints::{FileKind, command_tip, file_tip, folder_tip, is_folder, kind_of_file, looks_like};
+use ov_lines::{FileKind, command_tip, file_tip, folder_tip, is_folder, kind_of_file, looks_like};
 use ov_run_meaning::RunFault;
 use std::alloc::AllocError;
 

@@ -15,7 +15,8 @@ use ov_arguments::{ArgumentsFault, Request, argument_reasons, read_arguments};
 use ov_commands::{
     analyse_asked, graph_asked, import_asked, picture_asked, print_command_tip, print_reason,
 };
-use ov_run_commands::{grow_or_sweep, run_asked};
+use ov_grow_commands::grow_or_sweep;
+use ov_run_command::run_asked;
 use std::env;
 use std::process::ExitCode;
 use std::sync::Wait;

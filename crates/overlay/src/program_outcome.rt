@@ -5,7 +5,7 @@ ghost use Rattle.overlay.specs.declared.program_outcome.ProgramFault.TheVariants
 
 use ov_arguments::ArgumentsFault;
 use ov_commands::CommandFault;
-use ov_run_commands::GrowthFault;
+use ov_grow_commands::GrowthFault;
 use ov_run_meaning::RunFault;
 use std::error::Error;
 use std::fmt::{Display, Formatter, Result as Printed, Write};

@@ -12,7 +12,7 @@ use ov_check::{
     why_no_input,
 };
 use ov_check_reasons::reasons;
-use ov_hints::{FileKind, file_tip, folder_tip, is_folder, kind_of_file};
+use ov_lines::{FileKind, file_tip, folder_tip, is_folder, kind_of_file};
 use ov_io::{Sink, Source, unopened_text};
 use std::alloc::AllocError;
 use std::env::FillError;
