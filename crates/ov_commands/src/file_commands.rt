@@ -15,8 +15,8 @@ use crate::input_reading::{bytes_asked, bytes_of_file};
 use crate::picture_printing::print_picture;
 use crate::tips::print_file_tip;
 use ov_arguments::{ImportRequest, PictureRequest};
-use ov_lines::{FileKind, behind_mark};
 use ov_io::Sink;
+use ov_lines::{FileKind, behind_mark};
 use ov_run_meaning::RunFault;
 use std::io::Write;
 

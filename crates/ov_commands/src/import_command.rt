@@ -12,8 +12,8 @@ use ov_dump::{
     Choice, Dump, DumpFault, ImportFault, ReadingFault, import_dump, import_notes, read_edges,
     read_views,
 };
-use ov_lines::{FileKind, looks_like};
 use ov_io::Sink;
+use ov_lines::{FileKind, looks_like};
 use std::alloc::Global;
 use std::io::Write;
 

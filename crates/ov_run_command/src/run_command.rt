@@ -10,8 +10,8 @@ use ov_commands::{
     STANDARD_INPUT, bytes_of, opened, print_fault, print_reason, print_unread_tip, run_reason,
     without_memory,
 };
-use ov_lines::FileKind;
 use ov_io::Sink;
+use ov_lines::FileKind;
 use ov_run::run_bytes;
 use ov_run_meaning::{RunFault, Strictness};
 use std::io::{IsTerminal, Read, Write};
