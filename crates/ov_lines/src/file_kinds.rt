@@ -8,8 +8,8 @@ ghost use Rattle.ov_lines.specs.FileKinds.{is_dot_word, is_keyword, kind_by_text
 use crate::text_start::{
     before_blank, before_keyword_end, behind_mark, first_text, is_blank, is_one_of,
 };
+use crate::word_cursor::{LineCursor, is_word};
 use memchr::memmem;
-use ov_lines::{LineCursor, is_word};
 
 /// The words that a graph file begins with.
 const GRAPH_WORDS: [&str; 2] = ["node", "link"];

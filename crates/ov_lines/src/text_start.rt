@@ -5,7 +5,7 @@ ghost use Rattle.ov_lines.specs.Lines.{kept_lines};
 ghost use Rattle.ov_lines.specs.FileKinds.{before, behind_blanks, behind_mark, ends_keyword, first_text, is_blank};
 ghost use Rattle.ov_lines.specs.FileKinds.{says_nothing};
 
-use ov_lines::KeptLines;
+use crate::unskipped_lines::KeptLines;
 
 /// These bytes without the byte order mark that they may begin with, as some editors write it.
 pub fn behind_mark(bytes: &[u8]) -> &[u8]
