@@ -30,6 +30,6 @@ pub use fault::CheckFault;
 pub use flaws::{EntryFlaw, PathFlaw};
 pub use frame::{check_frame, check_group_frame, frame_flaw};
 pub use frame_flaws::{EndFlaw, FrameFlaw, SetFlaw, SideFlaw};
-pub use ov_paths::Paths;
+pub use ov_lists::Paths;
 pub use shared_graph::SharedGraph;
 pub use theorems::{one_verdict, valid_means};

@@ -10,7 +10,7 @@ use crate::member_order::is_earlier;
 use crate::node_set::NodeSet;
 use ov_graph::Graph;
 use ov_ids::NodeId;
-use ov_paths::Paths;
+use ov_lists::Paths;
 
 /// Whether two nodes are linked, as the test `are_joined` computes it.
 pub(crate) fn are_linked(graph: &Graph, a: NodeId, b: NodeId) -> bool

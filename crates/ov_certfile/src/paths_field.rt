@@ -11,7 +11,7 @@ use crate::value_fault::{Misfit, Step, ValueFault, Wanted};
 use crate::value_writing::{write_comma, write_list, write_mark};
 use ov_cert::Paths;
 use ov_ids::NodeId;
-use ov_paths::PathsBuilder;
+use ov_lists::PathsBuilder;
 use serde_json::Value;
 use std::alloc::{AllocError, Global};
 

@@ -1,7 +1,7 @@
 ghost use Rattle.std.specs.Prelude.{◌≡◌, ◌↔◌, ◌<◌, [], length, replicate, IsTrue, IfOk, OnOk, OnErr};
 ghost use Rattle.ov_ids.specs.Limits.{number_limit};
 ghost use Rattle.ov_graph.specs.Links.{IsGroup};
-ghost use Rattle.ov_claims.specs.Theorems.{AllEnded};
+ghost use Rattle.ov_board.specs.Theorems.{AllEnded};
 ghost use Rattle.ov_fans.specs.Cuts.{IsRight};
 ghost use Rattle.ov_even.specs.Answer.{IsCheckedAnswer};
 ghost use Rattle.ov_even.specs.Order.{AreMoreThan, IsNumbered};
@@ -13,8 +13,8 @@ ghost use Rattle.ov_desk.specs.Turns.{ClaimsNext, IsWorkerOf, LooksNext, Settles
 ghost use Rattle.ov_desk.specs.Turns.{WasClaimed, WasLookedAt, WasSettled};
 
 use crate::piece_in_hand::Hand;
+use ov_board::Desk;
 use ov_cert::{Checked, are_all_linked};
-use ov_claims::Desk;
 use ov_even::{Haul, assemble_group, group_piece_at, group_total};
 use ov_fans::{Settled, settle_group};
 use ov_graph::Graph;

@@ -1,12 +1,12 @@
 ghost use Rattle.std.specs.Prelude.{◌≡◌, [], IfErr};
-ghost use Rattle.ov_sweep.specs.Sweeps.{WereGiven};
+ghost use Rattle.ov_grow.specs.Sweeps.{WereGiven};
 ghost use Rattle.ov_grow_commands.specs.KeptRows.{needs_rows};
 ghost use Rattle.ov_grow_commands.specs.Code.Keeping.{IsOfNoRun, kept_rows};
 
 use crate::sweep_progress::RunProgress;
 use ov_arguments::{Printed, SweepRequest};
+use ov_grow::{RowTaker, SweepFault};
 use ov_io::Sink;
-use ov_sweep::{RowTaker, SweepFault};
 use ov_sweep_rows::{Row, header_text, row_text};
 
 /// Prints the rows of a sweep as they come, unless a summary is asked for, and keeps those that are needed at the end.

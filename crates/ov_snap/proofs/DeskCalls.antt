@@ -7,7 +7,7 @@ use Rattle.ov_ids.specs.FaultOrder.{HoldsThen, Passed}
 use Rattle.ov_ids.proofs.Stepping.{step_none}
 use Rattle.ov_graph.specs.Links.{LinkGraph}
 use Rattle.ov_net.specs.Journal.{AreLinks}
-use Rattle.ov_claims.specs.Theorems.{AllEnded}
+use Rattle.ov_board.specs.Theorems.{AllEnded}
 use Rattle.ov_desk.specs.Desk.{GroupDeskState}
 use Rattle.ov_desk.specs.Sound.{IsSoundDesk}
 use Rattle.ov_desk.specs.Turns.{ClaimsNext, LooksNext, SettlesNext, WasClaimed, WasLookedAt, WasSettled}

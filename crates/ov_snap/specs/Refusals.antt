@@ -6,7 +6,7 @@ use Rattle.ov_ids.specs.FaultOrder.{HoldsThen, Passed}
 use Rattle.ov_graph.specs.Links.{LinkGraph, IsGroup}
 use Rattle.ov_net.specs.Journal.{AreLinks, Live}
 use Rattle.ov_ids.specs.Workers.{MayWork}
-use Rattle.ov_claims.specs.Theorems.{AllEnded}
+use Rattle.ov_board.specs.Theorems.{AllEnded}
 use Rattle.ov_desk.specs.Desk.{GroupDeskState}
 use Rattle.ov_desk.specs.Turns.{IsWorkerOf}
 use Rattle.ov_snap.specs.CoreState.{CoreState, HasReport, HasDesk, most_desks}

@@ -6,7 +6,7 @@ ghost use Rattle.ov_graph.specs.Links.{LinkGraph};
 ghost use Rattle.ov_cert.specs.Valid.{IsValidForGroup};
 ghost use Rattle.ov_net.specs.Journal.{AreLinks};
 ghost use Rattle.ov_ids.specs.Workers.{MayWork};
-ghost use Rattle.ov_claims.specs.Theorems.{AllEnded};
+ghost use Rattle.ov_board.specs.Theorems.{AllEnded};
 ghost use Rattle.ov_even.specs.Answer.{IsAnswer};
 ghost use Rattle.ov_desk.specs.Desk.{GroupDeskState, IsOpened};
 ghost use Rattle.ov_desk.specs.Sound.{IsSoundDesk};

@@ -9,7 +9,7 @@ use Rattle.ov_fans.specs.declared.piece.Piece.{Piece}
 use Rattle.ov_fans.specs.declared.settled.Settled.{Settled}
 use Rattle.ov_fans.specs.Group.{SettlerState}
 use Rattle.ov_fans.specs.Pieces.{IsPiece}
-use Rattle.ov_claims.specs.Claims.{WorkerState, fresh}
+use Rattle.ov_board.specs.Claims.{WorkerState, fresh}
 use Rattle.ov_even.specs.Order.{AreMoreThan, IsNumbered}
 use Rattle.ov_even.proofs.AnalysisSteps.Narrowing.{members_few}
 use Rattle.ov_even.proofs.PieceNumbers.Numbering.{numbered_piece}

@@ -1,5 +1,5 @@
 use Rattle.std.proofs.Common.{◌↔◌, IsTrue, subst}
-use Rattle.ov_claims.specs.Theorems.{AllEnded}
+use Rattle.ov_board.specs.Theorems.{AllEnded}
 use Rattle.ov_desk.specs.Desk.{GroupDeskState}
 use Rattle.ov_desk.proofs.analysis_desk.GroupDesk.have_all_ended.Goals as goal
 
